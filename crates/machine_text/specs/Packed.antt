@@ -1,0 +1,83 @@
+-- What a table is: a number of states, and a finite map from pairs (state, symbol read) to entries.
+-- A table is stored with one number for each pair; `entry_of` is the map, and all else is said by it.
+use Rattle.std.specs.Prelude.{◌≡◌, ℕ, zero, suc, ◌+◌, ◌-◌, ◌*◌, ◌/◌, ◌%◌, ◌<◌, ◌≤◌, ◌==◌, if◌then◌else◌, List, Option, Some, None, slice_index, slice_set, length, map}
+use Rattle.std.specs.List.{range_with_len}
+use Rattle.machine_text.specs.declared.limits.TheConstants.{MAX_STATES}
+use Rattle.machine_text.specs.declared.transition.Sym.{Sym}
+use Rattle.machine_text.specs.declared.transition.Sym.TheVariants.{Zero, One}
+use Rattle.machine_text.specs.declared.transition.Dir.{Dir}
+use Rattle.machine_text.specs.declared.transition.Dir.TheVariants.{L, R}
+use Rattle.machine_text.specs.declared.transition.Entry.{Entry}
+
+-- the number of a symbol, and the symbol of a number
+abbrev pub symbol_number : Sym → ℕ
+symbol_number Zero = 0
+symbol_number One = 1
+
+abbrev pub symbol_of : ℕ → Sym
+symbol_of k = if k == 0 then Zero else One
+
+abbrev pub direction_number : Dir → ℕ
+direction_number L = 0
+direction_number R = 1
+
+abbrev pub direction_of : ℕ → Dir
+direction_of k = if k == 0 then L else R
+
+-- how an entry is packed: 0 for none, otherwise the symbol, the direction and the next state, plus one;
+-- so codes rise as the texts of the entries do
+abbrev pub code_of : Option Entry → ℕ
+code_of None = 0
+code_of (Some e) = 16 * symbol_number e.write + 8 * direction_number e.dir + e.next.0 + 1
+
+abbrev pub coded_entry : ℕ → Option Entry
+coded_entry k =
+    if k == 0 then None
+    else Some (record { write = symbol_of ((k - 1) / 16); dir = direction_of ((k - 1) / 8 % 2); next = record { 0 = (k - 1) % 8 } })
+
+-- a table as it is stored: the codes of A0, A1, B0, B1, .., and the number of states
+pub record Packed : Type 0 where
+  pub codes : List ℕ
+  pub states : ℕ
+
+-- the place of a pair among the codes
+abbrev pub pair_place : ℕ → Sym → ℕ
+pair_place q s = 2 * q + symbol_number s
+
+-- the map: the entry of state number q at the symbol s, or none
+unfoldable pub entry_of : Packed → ℕ → Sym → Option Entry
+entry_of p q s = coded_entry (slice_index p.codes (pair_place q s))
+
+-- the table with one more entry, or another one, at a pair
+unfoldable pub with_entry : Packed → ℕ → Sym → Entry → Packed
+with_entry p q s e = record { codes = slice_set p.codes (pair_place q s) (code_of (Some e)); states = p.states }
+
+-- the table of n states that has the entries of a map (which has none at the states from n on)
+unfoldable pub tabulated : ℕ → (ℕ → Sym → Option Entry) → Packed
+tabulated n m = record {
+  codes = map (λ k. code_of (m (k / 2) (symbol_of (k % 2)))) (range_with_len 0 (2 * MAX_STATES));
+  states = n;
+}
+
+-- the table of n states in which every pair is undefined
+abbrev pub empty_table : ℕ → Packed
+empty_table n = tabulated n (λ q s. None)
+
+-- what is true of each table: the number of states is within the limit, each next state is one of them,
+-- and no pair beyond them has an entry
+pub record IsTable (p : Packed) : Type 0 where
+  pub some : 1 ≤ p.states
+  pub limit : p.states ≤ MAX_STATES
+  pub size : length p.codes ≡ 2 * MAX_STATES
+  pub codes : (k : ℕ) → slice_index p.codes k ≤ 32
+  pub nexts : (k : ℕ) → 0 < slice_index p.codes k → (slice_index p.codes k - 1) % 8 < p.states
+  pub beyond : (k : ℕ) → 2 * p.states ≤ k → slice_index p.codes k ≡ 0
+
+-- how many of a map's pairs at the first n states are undefined
+abbrev pub hole : Option Entry → ℕ
+hole None = 1
+hole (Some e) = 0
+
+unfoldable pub holes : ℕ → (ℕ → Sym → Option Entry) → ℕ
+holes zero m = 0
+holes (suc n) m = hole (m n Zero) + hole (m n One) + holes n m

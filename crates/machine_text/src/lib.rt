@@ -1,0 +1,17 @@
+//! Tables of two-symbol Turing machines, and their exact text in the bbchallenge standard format.
+//!
+//! A table is a finite map from pairs (state, symbol read) to entries (symbol written, direction, next
+//! state). A pair without an entry halts. `specs/` says what a table is (`Packed`), what its text is and
+//! which table or fault a text gives (`Text`).
+#![tactic(auto)]
+
+mod faults;
+mod grammar;
+mod limits;
+mod packed;
+mod transition;
+
+pub use faults::TextFault;
+pub use limits::{MAX_STATES, TEXT_BYTES};
+pub use packed::Table;
+pub use transition::{Dir, Entry, State, Sym};

@@ -1,0 +1,10 @@
+// How large a table may be.
+
+/// The greatest number of states of a table.
+pub const MAX_STATES: u8 = 6;
+
+/// The bytes of the longest text, which is that of `MAX_STATES` states: seven a state, less one.
+pub const TEXT_BYTES: usize = 41;
+
+// The pairs of a state and a symbol of the largest table.
+pub const MAX_ENTRIES: usize = 2 * MAX_STATES as usize;

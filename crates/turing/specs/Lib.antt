@@ -1,0 +1,4 @@
+pub mod Program
+pub mod Tape
+pub mod Run
+pub mod Halting

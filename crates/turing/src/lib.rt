@@ -1,0 +1,3 @@
+//! What a two-symbol Turing machine does: definitions in `specs/`, and their laws as contracts of
+//! functions with empty bodies. There is no other code here.
+#![tactic(auto)]

@@ -15,3 +15,34 @@ pub enum TextFault {
     /// There stands no letter of a state, `Z` or `H`, or not `-` in an undefined entry.
     BadState(usize),
 }
+
+impl TextFault {
+    ghost use Rattle.std.specs.Prelude.{◌≡◌};
+    ghost use Rattle.machine_text.specs.Fault.{number_of, place_of};
+
+    /// The refusal number: 101 to 105.
+    pub fn number(&self) -> u16
+        ensures { result ≡ number_of self.now }
+    {
+        match self {
+            TextFault::BadLength => 101,
+            TextFault::BadBar(_) => 102,
+            TextFault::BadSymbol(_) => 103,
+            TextFault::BadDir(_) => 104,
+            TextFault::BadState(_) => 105,
+        }
+    }
+
+    /// The place of the fault; none for a length.
+    pub fn place(&self) -> Option<usize>
+        ensures { result ≡ place_of self.now }
+    {
+        match *self {
+            TextFault::BadLength => None,
+            TextFault::BadBar(place)
+            | TextFault::BadSymbol(place)
+            | TextFault::BadDir(place)
+            | TextFault::BadState(place) => Some(place),
+        }
+    }
+}

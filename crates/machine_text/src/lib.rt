@@ -5,13 +5,19 @@
 //! which table or fault a text gives (`Text`).
 #![tactic(auto)]
 
+mod code;
 mod faults;
 mod grammar;
+mod laws;
 mod limits;
 mod packed;
 mod transition;
 
 pub use faults::TextFault;
+pub use laws::{order_is_of_texts, tables_are_maps};
 pub use limits::{MAX_STATES, TEXT_BYTES};
 pub use packed::Table;
 pub use transition::{Dir, Entry, State, Sym};
+
+#[cfg(test)]
+mod tests;

@@ -1,0 +1,7 @@
+pub mod Ranges
+pub mod Tables
+pub mod Rows
+pub mod Named
+pub mod Holes
+pub mod RoundTrip
+pub mod Order

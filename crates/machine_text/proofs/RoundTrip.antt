@@ -1,0 +1,209 @@
+-- Parsing the text of a table gives the table again.
+use Rattle.std.proofs.Common.{◌≡◌, ◌≢◌, ℕ, zero, suc, ◌+◌, ◌-◌, ◌*◌, ◌/◌, ◌%◌, ◌<◌, ◌≤◌, true, false, eqb, cond, [], length, get_or, Option, Some, None, IfSome, Ok, refl, sym, ap, ◌∙◌, inl, inr, arith}
+use Rattle.std.proofs.lemmas.Bool.{cases_lt}
+use Rattle.std.proofs.lemmas.Bool.Decides.{nat_tests}
+use Rattle.machine_text.specs.declared.limits.TheConstants.{MAX_STATES}
+use Rattle.machine_text.specs.declared.transition.Sym.{Sym}
+use Rattle.machine_text.specs.declared.transition.Sym.TheVariants.{Zero, One}
+use Rattle.machine_text.specs.declared.transition.Dir.{Dir}
+use Rattle.machine_text.specs.declared.transition.Dir.TheVariants.{L, R}
+use Rattle.machine_text.specs.declared.transition.Entry.{Entry}
+use Rattle.machine_text.specs.Packed.{Packed, IsTable, symbol_number, symbol_of, coded_entry, pair_place, entry_of, tabulated}
+use Rattle.machine_text.specs.Text.{symbol_byte, direction_byte, entry_byte, byte_at, text_of, states_in, is_table_length, is_state_letter, may_begin, may_direct, may_end, fault_at, faults_of, entry_named, table_named, table_of}
+use Rattle.machine_text.proofs.Ranges.{found_nowhere}
+use Rattle.machine_text.proofs.Tables.{symbol_number-le, symbol_of-symbol_number, entry_with, same_entry, same_table, IsTable-tabulated, entry_of-tabulated}
+use Rattle.machine_text.proofs.Rows.{length-text_of, get_or-text_of, byte_in_row, byte_of_bar}
+use Rattle.machine_text.proofs.Named.{named, IsMapOf-named, table_of-clean}
+
+-- the entries of a table lead to its states
+pub next_within : (p : Packed) → IsTable p → (q : ℕ) (s : Sym) → IfSome (entry_of p q s) (λ e. e.next.0 < p.states)
+unfolding entry_of
+next_within p table q s =
+    elim (cases_lt 0 (get_or p.codes (pair_place q s) 0)) [
+      | inl some ↦
+          let code = eqb (get_or p.codes (pair_place q s) 0) 0 in
+          let is_some : eqb (get_or p.codes (pair_place q s) 0) 0 ≡ false = grind (arith, nat_tests) in
+          rw is_some (table.nexts (pair_place q s) some)
+      | inr none ↦
+          let is_none : eqb (get_or p.codes (pair_place q s) 0) 0 ≡ true = grind (arith, nat_tests) in
+          rw is_none tt
+    ]
+
+-- a table has no entry beyond its states
+pub none_beyond : (p : Packed) → IsTable p → (q : ℕ) (s : Sym) → p.states ≤ q → entry_of p q s ≡ None
+unfolding entry_of
+none_beyond p table q s past = ap coded_entry (table.beyond (pair_place q s) (omega (arith, symbol_number-le s)))
+
+-- the three bytes of an entry are what may stand there
+pub record BytesFit (n : ℕ) (o : Option Entry) : Type 0 where
+  pub first : may_begin (entry_byte o 0) ≡ true
+  pub second : may_direct (entry_byte o 0) (entry_byte o 1) ≡ true
+  pub third : may_end n (entry_byte o 0) (entry_byte o 2) ≡ true
+
+letter_of_state : (n x : ℕ) → x < n → is_state_letter n (65 + x) ≡ true
+letter_of_state n x below = grind (arith, nat_tests)
+
+begins : (w : Sym) → may_begin (symbol_byte w) ≡ true
+begins Zero = refl
+begins One = refl
+
+directs : (w : Sym) (d : Dir) → may_direct (symbol_byte w) (direction_byte d) ≡ true
+directs Zero L = refl
+directs Zero R = refl
+directs One L = refl
+directs One R = refl
+
+ends : (n x : ℕ) (w : Sym) → x < n → may_end n (symbol_byte w) (65 + x) ≡ true
+ends n x Zero below = rw (letter_of_state n x below) refl
+ends n x One below = rw (letter_of_state n x below) refl
+
+bytes_fit : (n : ℕ) (o : Option Entry) → IfSome o (λ e. e.next.0 < n) → BytesFit n o
+bytes_fit n None inside = record { first = refl; second = refl; third = refl }
+bytes_fit n (Some e) inside = record { first = begins e.write; second = directs e.write e.dir; third = ends n e.next.0 e.write inside }
+
+-- the bytes of an entry name it
+named_by : (w : Sym) → cond (eqb (symbol_byte w) 48) Zero One ≡ w
+named_by Zero = refl
+named_by One = refl
+
+directed_by : (d : Dir) → cond (eqb (direction_byte d) 76) L R ≡ d
+directed_by L = refl
+directed_by R = refl
+
+names_back : (n : ℕ) (o : Option Entry) → IfSome o (λ e. e.next.0 < n)
+    → cond (is_state_letter n (entry_byte o 2)) (Some (entry_with (cond (eqb (entry_byte o 0) 48) Zero One) (cond (eqb (entry_byte o 1) 76) L R) (entry_byte o 2 - 65))) None ≡ o
+names_back n None inside = refl
+names_back n (Some e) inside =
+    let next : 65 + e.next.0 - 65 ≡ e.next.0 = omega arith in
+    rw (letter_of_state n e.next.0 inside) (ap Some (same_entry _ _ _ _ _ _ (named_by e.write) (directed_by e.dir) next))
+
+module _ (p : Packed) (table : IsTable p) where
+  abbrev n : ℕ
+  n = p.states
+
+  -- the byte of the text in a column of a row
+  byte_in : (q c i : ℕ) → i ≡ 7 * q + c → c < 6 → i + 1 < 7 * n → get_or (text_of p) i 0 ≡ entry_byte (entry_of p q (symbol_of (c / 3))) (c % 3)
+  byte_in q c i is column below = get_or-text_of p table.some i below ∙ ap (byte_at p) is ∙ byte_in_row p q c column
+
+  abbrev Clean : ℕ → Type 0
+  Clean i = fault_at n (text_of p) i ≡ None
+
+  clean_bar : (i : ℕ) → i + 1 < 7 * n → i % 7 ≡ 6 → Clean i
+  unfolding fault_at
+  clean_bar i below bar =
+      let byte : get_or (text_of p) i 0 ≡ 95 = get_or-text_of p table.some i below ∙ ap (byte_at p) (let e : i ≡ 7 * (i / 7) + 6 = omega arith in e) ∙ byte_of_bar p (i / 7) in
+      rw (bar, byte) refl
+
+  clean_beside : (i q c : ℕ) → i ≡ 7 * q + c → c < 6 → i + 1 < 7 * n → Clean i
+  unfolding fault_at
+  clean_beside i q c is column below =
+      let o = entry_of p q (symbol_of (c / 3)) in
+      let fits = bytes_fit n o (next_within p table q (symbol_of (c / 3))) in
+      let here : i % 7 ≡ c = omega arith in
+      let no_bar : eqb c 6 ≡ false = grind (arith, nat_tests) in
+      let byte : get_or (text_of p) i 0 ≡ entry_byte o (c % 3) = byte_in q c i is column below in
+      elim (cases_lt (c % 3) 1) [
+        | inl first ↦
+            let zeroth : c % 3 ≡ 0 = omega arith in
+            rw (here, no_bar, byte, zeroth, fits.first) refl
+        | inr later ↦ elim (cases_lt (c % 3) 2) [
+          | inl second ↦
+              let one : c % 3 ≡ 1 = omega arith in
+              let third_same : (c - 1) / 3 ≡ c / 3 = omega arith in
+              let begun : get_or (text_of p) (i - 1) 0 ≡ entry_byte o 0 = byte_in q (c - 1) (i - 1) (omega arith) (omega arith) (omega arith) ∙ (let e : (c - 1) % 3 ≡ 0 = omega arith in rw (e, third_same) refl) in
+              rw (here, no_bar, byte, one, begun, fits.second) refl
+          | inr third ↦
+              let two : c % 3 ≡ 2 = omega arith in
+              let third_same : (c - 2) / 3 ≡ c / 3 = omega arith in
+              let begun : get_or (text_of p) (i - 2) 0 ≡ entry_byte o 0 = byte_in q (c - 2) (i - 2) (omega arith) (omega arith) (omega arith) ∙ (let e : (c - 2) % 3 ≡ 0 = omega arith in rw (e, third_same) refl) in
+              rw (here, no_bar, byte, two, begun, fits.third) refl
+        ]
+      ]
+
+  clean : (i : ℕ) → i + 1 < 7 * n → Clean i
+  clean i below = elim (cases_lt (i % 7) 6) [
+    | inl beside ↦ clean_beside i (i / 7) (i % 7) (omega arith) beside below
+    | inr bar ↦ clean_bar i below (omega arith)
+  ]
+
+  -- no place of the text is faulty
+  pub no_faults : faults_of n (text_of p) ≡ []
+  unfolding faults_of
+  no_faults = found_nowhere (fault_at n (text_of p)) 0 (length (text_of p)) (λ i low high. clean i (omega (arith, length-text_of p table.some)))
+
+  size : 7 * n ≡ length (text_of p) + 1
+  size = sym (length-text_of p table.some)
+
+  named_entries : (q : ℕ) (s : Sym) → named n (text_of p) q s ≡ entry_of p q s
+  unfolding entry_named
+  named_entries q s = elim (cases_lt q n) [
+    | inl within ↦
+        let k = symbol_number s in
+        let k_le : k ≤ 1 = symbol_number-le s in
+        let o = entry_of p q s in
+        let symbol : (c : ℕ) → c / 3 ≡ k → symbol_of (c / 3) ≡ s = λ c e. ap symbol_of e ∙ symbol_of-symbol_number s in
+        let byte : (j : ℕ) → j < 3 → get_or (text_of p) (7 * q + 3 * k + j) 0 ≡ entry_byte o j = λ j small.
+        let column : (3 * k + j) % 3 ≡ j = omega arith in
+        let pair : (3 * k + j) / 3 ≡ k = omega arith in
+        byte_in q (3 * k + j) (7 * q + 3 * k + j) (omega arith) (omega arith) (omega arith)
+        ∙ ap (λ t. entry_byte (entry_of p q t) ((3 * k + j) % 3)) (symbol (3 * k + j) pair)
+        ∙ ap (entry_byte o) column in
+        let first : get_or (text_of p) (7 * q + 3 * k) 0 ≡ entry_byte o 0 = ap (λ i. get_or (text_of p) i 0) (let e : 7 * q + 3 * k ≡ 7 * q + 3 * k + 0 = omega arith in e) ∙ byte 0 (omega arith) in
+        rw (first, byte 1 (omega arith), byte 2 (omega arith)) (names_back n o (next_within p table q s))
+    | inr past ↦ (IsMapOf-named n (text_of p) table.some table.limit size).beyond q s past ∙ sym (none_beyond p table q s past)
+  ]
+
+  pub table_named-text_of : table_named n (text_of p) ≡ p
+  unfolding tabulated
+  table_named-text_of =
+      let map_of = IsMapOf-named n (text_of p) table.some table.limit size in
+      same_table (table_named n (text_of p)) p (IsTable-tabulated n _ map_of) table refl (λ q s. entry_of-tabulated n _ map_of q s ∙ named_entries q s)
+
+  pub table_of-text_of : table_of (text_of p) ≡ Ok p
+  table_of-text_of =
+      let len = length (text_of p) in
+      let states : n ≡ states_in len = omega (arith, length-text_of p table.some) in
+      let is_length : is_table_length len ≡ true = grind (arith, nat_tests, length-text_of p table.some, table.some, table.limit) in
+      table_of-clean (text_of p) n states is_length no_faults ∙ ap Ok table_named-text_of
+
+-- the bytes of an entry are no halting letter
+abbrev NoHaltingLetter : ℕ → Type 0
+NoHaltingLetter byte = (byte ≢ 72) × (byte ≢ 90)
+
+no_halting_symbol : (w : Sym) → NoHaltingLetter (symbol_byte w)
+no_halting_symbol Zero = (omega arith, omega arith)
+no_halting_symbol One = (omega arith, omega arith)
+
+no_halting_direction : (d : Dir) → NoHaltingLetter (direction_byte d)
+no_halting_direction L = (omega arith, omega arith)
+no_halting_direction R = (omega arith, omega arith)
+
+no_halting_byte : (o : Option Entry) (c : ℕ) → IfSome o (λ e. e.next.0 < MAX_STATES) → NoHaltingLetter (entry_byte o c)
+no_halting_byte None c inside = (omega arith, omega arith)
+no_halting_byte (Some e) zero inside = no_halting_symbol e.write
+no_halting_byte (Some e) (suc zero) inside = no_halting_direction e.dir
+no_halting_byte (Some e) (suc (suc c)) inside =
+    let not_first : eqb (suc (suc c)) 0 ≡ false = grind (arith, nat_tests) in
+    let not_second : eqb (suc (suc c)) 1 ≡ false = grind (arith, nat_tests) in
+    rw (not_first, not_second) (omega arith, omega arith)
+
+module _ (p : Packed) (table : IsTable p) where
+  within_limit : (o : Option Entry) → IfSome o (λ e. e.next.0 < p.states) → IfSome o (λ e. e.next.0 < MAX_STATES)
+  within_limit None inside = tt
+  within_limit (Some e) inside = omega (arith, table.limit)
+
+  pub no_halting_letter : (i : ℕ) → i < length (text_of p) → NoHaltingLetter (get_or (text_of p) i 0)
+  no_halting_letter i below =
+      let inside : i + 1 < 7 * p.states = omega (arith, length-text_of p table.some) in
+      let byte = get_or-text_of p table.some i inside in
+      elim (cases_lt (i % 7) 6) [
+        | inl beside ↦
+            let q = i / 7 in
+            let c = i % 7 in
+            let o = entry_of p q (symbol_of (c / 3)) in
+            let here : get_or (text_of p) i 0 ≡ entry_byte o (c % 3) = byte_in p table q c i (omega arith) beside inside in
+            rw here (no_halting_byte o (c % 3) (within_limit o (next_within p table q (symbol_of (c / 3)))))
+        | inr bar ↦
+            let here : get_or (text_of p) i 0 ≡ 95 = byte ∙ ap (byte_at p) (let e : i ≡ 7 * (i / 7) + 6 = omega arith in e) ∙ byte_of_bar p (i / 7) in
+            rw here (omega arith, omega arith)
+      ]

@@ -1,0 +1,22 @@
+// What is true of all tables: laws over the definitions, each the contract of a function without a body.
+ghost use Rattle.std.specs.Prelude.{◌≡◌, ℕ};
+ghost use Rattle.std.specs.Ordering.{nat_cmp};
+ghost use Rattle.std.specs.Cmp.Lexicographic.{slice_cmp};
+ghost use Rattle.machine_text.specs.declared.transition.Sym.{Sym as Symbol};
+ghost use Rattle.machine_text.specs.Packed.{Packed, IsTable, entry_of};
+ghost use Rattle.machine_text.specs.Text.{text_of};
+
+use crate::packed::Table;
+
+/// A table is its number of states and its map: two tables with as many states and the same entry, or
+/// none, at each pair are equal.
+pub fn tables_are_maps()
+    ensures { (a b : Packed) → IsTable a → IsTable b → a.states ≡ b.states
+        → ((q : ℕ) (s : Symbol) → entry_of a q s ≡ entry_of b q s) → a ≡ b }
+{}
+
+/// Tables are in the order of the bytes of their texts.
+pub fn order_is_of_texts()
+    ensures { (a b : Packed) → IsTable a → IsTable b
+        → ⟦<Table as Ord>⟧.cmp a b ≡ slice_cmp nat_cmp (text_of a) (text_of b) }
+{}

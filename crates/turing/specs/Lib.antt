@@ -1,4 +1,10 @@
 pub mod Program
 pub mod Tape
 pub mod Run
+pub mod Step
 pub mod Halting
+pub mod Score
+pub mod Extension
+pub mod Exchange
+pub mod Mirror
+pub mod Shift

@@ -119,11 +119,11 @@ unturned : (o : Option Entry) → o ≡ renamed_entry same_state same_dir o
 unturned None = refl
 unturned (Some e) = refl
 
-shift_moved : (t x : ℤ) (d : Dir) → moved_head (x +ℤ t) d ≡ moved_head x d +ℤ t
+pub shift_moved : (t x : ℤ) (d : Dir) → moved_head (x +ℤ t) d ≡ moved_head x d +ℤ t
 shift_moved t x L = omega (arith, ints)
 shift_moved t x R = omega (arith, ints)
 
-shift_apart : (t x y : ℤ) → x +ℤ t ≡ y +ℤ t → x ≡ y
+pub shift_apart : (t x y : ℤ) → x +ℤ t ≡ y +ℤ t → x ≡ y
 shift_apart t x y e = omega (arith, ints)
 
 shift_renames : (m : Program) (t : ℤ) → Renames same_state (λ x. x +ℤ t) same_dir m m

@@ -5,3 +5,7 @@ pub mod Simulation
 pub mod Extensions
 pub mod Renaming
 pub mod Exchanges
+pub mod CycleLaws
+pub mod TranslatedLaws
+pub mod Heads
+pub mod OneState

@@ -8,3 +8,5 @@ pub mod Extension
 pub mod Exchange
 pub mod Mirror
 pub mod Shift
+pub mod Cycle
+pub mod Translated

@@ -3,9 +3,14 @@
 #![tactic(auto)]
 
 mod alike;
+mod cycles;
+mod rado;
 mod runs;
 
 pub use alike::{exchange_keeps, extension_never, extension_runs, mirror_keeps, shifted_run};
+pub use cycles::{cycle_never, farthest_head, translated_never};
+pub use rado::rado_of_one;
 pub use runs::{
-    earlier_times, halting_ends, never_is_always, one_count, run_continues, step_by_place,
+    earlier_times, halting_ends, head_reach, never_is_always, one_count, one_verdict,
+    run_continues, states_within, step_by_place,
 };

@@ -9,3 +9,7 @@ pub mod CycleLaws
 pub mod TranslatedLaws
 pub mod Heads
 pub mod OneState
+pub mod BackwardLaws
+pub mod PartialTapes
+pub mod Counting
+pub mod Paths

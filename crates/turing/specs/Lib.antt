@@ -10,3 +10,4 @@ pub mod Mirror
 pub mod Shift
 pub mod Cycle
 pub mod Translated
+pub mod Backward

@@ -1,6 +1,6 @@
 -- Halting, what is true of a machine, and Radó's number. The halting step counts (Radó 1962): a run that
 -- comes to a halting pair after k steps stops in k + 1.
-use Rattle.std.specs.Prelude.{◌≡◌, ℕ, suc, ◌≤◌, Option, Some, None}
+use Rattle.std.specs.Prelude.{◌≡◌, ℕ, suc, ◌≤◌, Some, None}
 use Rattle.turing.specs.Program.{Program, IsMachine}
 use Rattle.turing.specs.Run.{Config, next, after}
 

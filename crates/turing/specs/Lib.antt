@@ -1,4 +1,13 @@
 pub mod Program
 pub mod Tape
 pub mod Run
+pub mod Step
 pub mod Halting
+pub mod Score
+pub mod Extension
+pub mod Exchange
+pub mod Mirror
+pub mod Shift
+pub mod Cycle
+pub mod Translated
+pub mod Backward

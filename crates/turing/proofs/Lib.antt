@@ -1,0 +1,15 @@
+pub mod Cells
+pub mod Steps
+pub mod RunLaws
+pub mod Simulation
+pub mod Extensions
+pub mod Renaming
+pub mod Exchanges
+pub mod CycleLaws
+pub mod TranslatedLaws
+pub mod Heads
+pub mod OneState
+pub mod BackwardLaws
+pub mod PartialTapes
+pub mod Counting
+pub mod Paths

@@ -1,0 +1,15 @@
+-- The score of a halting run: the number of ones on its tape after the halting step (Radó 1962).
+use Rattle.std.specs.Prelude.{◌≡◌, ℕ}
+use Rattle.std.specs.FinSet as set
+use Rattle.turing.specs.Program.{Program}
+use Rattle.turing.specs.Run.{Config}
+use Rattle.turing.specs.Halting.{Stops}
+
+-- the ones after the halting step from a configuration: that step writes a one
+abbrev pub score_of : Config → ℕ
+score_of c = set.len (set.insert c.tape.ones c.tape.head)
+
+-- the run from the blank tape stops in k steps, and its score is s
+pub record StopsWith (m : Program) (k s : ℕ) : Type 0 where
+  pub stops : Stops m k
+  pub score : s ≡ score_of stops.at

@@ -1,0 +1,1 @@
+// Whether two tapes, or two half tapes, hold the same.

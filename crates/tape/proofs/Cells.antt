@@ -6,7 +6,7 @@ use Rattle.std.specs.Cmp.{int_cmp_total, tied_itself}
 use Rattle.std.proofs.lemmas.Map.Lookups.{exact_signed}
 use Rattle.machine_text.specs.declared.transition.Sym.{Sym}
 use Rattle.machine_text.specs.declared.transition.Sym.TheVariants.{Zero, One}
-use Rattle.turing.specs.Tape.{cell_of, with_cell}
+use Rattle.turing.specs.Tape.{Tape, cell_of, with_cell}
 
 -- a place is tied with itself
 tied_here : (x : ℤ) → eq_by_cmp int_cmp x x ≡ true
@@ -71,3 +71,7 @@ same_ones s t same =
 pub with_cell-cell_of : (ones : set.FinSet int_cmp) (x : ℤ) → with_cell ones x (cell_of ones x) ≡ ones
 with_cell-cell_of ones x =
     same_ones _ _ (λ q. by_place q x (λ e. cell_same ones x (cell_of ones x) q e ∙ ap (cell_of ones) (sym e)) (cell_other ones x (cell_of ones x) q))
+
+-- two tapes with the same head and ones are one
+pub same_tape : (t u : Tape) → t.head ≡ u.head → t.ones ≡ u.ones → t ≡ u
+same_tape t u head ones = λ i. record { head = head i; ones = ones i }

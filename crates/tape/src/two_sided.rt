@@ -1,5 +1,5 @@
 // The tape: its cells, its head and its moves.
-ghost use Rattle.std.specs.Prelude.{◌≡◌, ◌-◌, ◌≤◌, ◌<◌, IfOk, OnOk, OnErr, length, slice_index_or};
+ghost use Rattle.std.specs.Prelude.{◌≡◌, ◌-◌, ◌≤◌, ◌<◌, ◌+ℤ◌, IfOk, OnOk, OnErr, length, slice_index_or};
 ghost use Rattle.machine_text.specs.declared.transition.Sym.TheVariants.{Zero};
 ghost use Rattle.machine_text.specs.declared.transition.Dir.TheVariants.{L, R};
 
@@ -43,7 +43,7 @@ impl Model for Tape {
 
 impl Tape {
     ghost use Rattle.turing.specs.Tape.{blank, cell_of, symbol_read, written, moved};
-    ghost use Rattle.tape.specs.Places.{IsWithinLimit};
+    ghost use Rattle.tape.specs.Places.{IsWithinLimit, IsVisited, IsReached, HasOnesWithin};
 
     /// The blank tape with its head at 0.
     pub fn new(alloc: Global) -> Tape
@@ -139,6 +139,26 @@ impl Tape {
             Ordering::Equal => self.read,
             Ordering::Greater => at_distance(&self.right, distance),
         }
+    }
+
+    // The symbol `shift` cells to the right of a place. A place beyond the range of `i64` is taken for the
+    // last one of it: both are blank.
+    pub(crate) fn cell_shifted(&self, x: i64, shift: i64) -> Sym
+        ensures { result ≡ cell_of self.now.ones (x +ℤ shift) }
+    {
+        let _ = &self.head;
+        self.cell(x.saturating_add(shift))
+    }
+
+    // The first and the last visited place: all beyond them is blank.
+    pub(crate) fn visited(&self) -> (i64, i64)
+        ensures reached { IsReached self.now.ones }
+        ensures bounds { IsVisited result.0 result.1 }
+        ensures all { HasOnesWithin self.now.ones result.0 result.1 }
+    {
+        let first = self.head - self.left.len() as i64;
+        let last = self.head + self.right.len() as i64;
+        (first, last)
     }
 
     /// Another tape with the same head and cells.

@@ -1,0 +1,13 @@
+//! A two-sided tape with a head, which grows as the head goes past what was visited.
+//!
+//! Contracts see a tape as turing's record `Tape`: where the head stands, and the finite set of places
+//! that hold ones. `specs/` adds which places are within the limit and what it means that two half tapes
+//! are the same (`Places`), and the ones of a word of symbols (`Word`).
+#![tactic(auto)]
+
+mod compared;
+mod limits;
+mod two_sided;
+
+pub use limits::MAX_PLACE;
+pub use two_sided::{NoMemory, Tape};

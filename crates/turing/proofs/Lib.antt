@@ -1,3 +1,4 @@
+pub mod TableMachines
 pub mod Cells
 pub mod Steps
 pub mod RunLaws

@@ -7,6 +7,7 @@ mod backward;
 mod cycles;
 mod rado;
 mod runs;
+mod tables;
 
 pub use alike::{exchange_keeps, extension_never, extension_runs, mirror_keeps, shifted_run};
 pub use backward::{backward_never, path_count, path_needs, path_pairs, paths_end};
@@ -16,3 +17,4 @@ pub use runs::{
     earlier_times, halting_ends, head_reach, never_is_always, one_count, one_verdict,
     run_continues, states_within, step_by_place,
 };
+pub use tables::table_is_machine;

@@ -1,0 +1,4 @@
+pub mod Verdict
+pub mod Standing
+pub mod Inside
+pub mod Steps

@@ -1,0 +1,19 @@
+-- When a verdict is true of a machine, and the refusal numbers of evidence.
+use Rattle.std.specs.Prelude.{ℕ}
+use Rattle.turing.specs.Program.{Program}
+use Rattle.turing.specs.Halting.{Stops, Never}
+use Rattle.run.specs.declared.verdicts.Verdict.{Verdict}
+use Rattle.run.specs.declared.verdicts.Verdict.TheVariants.{Halts, Never as NeverHalts}
+use Rattle.run.specs.declared.verdicts.Refused.{Refused}
+use Rattle.run.specs.declared.verdicts.Refused.TheVariants.{Fails, TooLong, TooWide, NoMemory}
+
+-- the verdict says of the machine's run from the blank tape what is so
+abbrev pub IsTrueOf : Verdict → Program → Type 0
+IsTrueOf (Halts k) m = Stops m k
+IsTrueOf NeverHalts m = Never m
+
+abbrev pub number_of : Refused → ℕ
+number_of Fails = 201
+number_of TooLong = 202
+number_of TooWide = 203
+number_of NoMemory = 0

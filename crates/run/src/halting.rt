@@ -1,0 +1,76 @@
+// The evidence that a table halts: the number of its steps, which are carried out.
+ghost use Rattle.std.specs.Prelude.{◌≡◌, ℕ, ◌≤◌, min, IfSome, IfNone, IfOk};
+ghost use Rattle.machine_text.specs.Packed.{entry_of};
+ghost use Rattle.turing.specs.Halting.{Stops};
+
+use crate::claim::Evidence;
+use crate::limits::{MAX_HALT_STEPS, MAX_RUN_STEPS};
+use crate::stepping::{Runner, Step};
+use crate::verdicts::{Refused, Verdict};
+use machine_text::Table;
+use std::alloc::Global;
+use tape::NoMemory;
+
+/// The claim that a table halts in so many steps. The limit is `MAX_HALT_STEPS`.
+#[derive(Clone, Copy, Debug, PartialEq, Eq)]
+pub struct HaltsIn(pub u64);
+
+impl Evidence for HaltsIn {
+    ghost use Rattle.run.specs.declared.verdicts.Verdict.TheVariants.{Halts};
+    ghost use Rattle.run.specs.declared.limits.TheConstants.{MAX_HALT_STEPS};
+
+    ghost within = { λ e. e.0 ≤ MAX_HALT_STEPS };
+
+    ghost stands = { λ e p. Stops (entry_of p) e.0 };
+
+    ghost is_wide = { λ e p. ⊥ };
+
+    ghost shows = { λ e. Halts e.0 };
+
+    fn check(&self, alloc: Global, t: &Table) -> Result<Verdict, Refused> {
+        if self.0 > MAX_HALT_STEPS {
+            return Err(Refused::TooLong);
+        }
+        let mut runner = Runner::new(alloc, *t)?;
+        let step = runner.run_to(self.0)?;
+        if step == (Step::Halts { count: self.0 }) {
+            Ok(Verdict::Halts(self.0))
+        } else {
+            Err(Refused::Fails)
+        }
+    }
+
+    ghost law = { λ e p is_table stands. stands };
+}
+
+/// Searches the number of steps in which a table halts.
+#[derive(Drop)]
+pub struct HaltFinder {
+    alloc: Global,
+    pub steps: u64,
+}
+
+impl HaltFinder {
+    /// A finder that carries out so many steps at most, and none beyond `MAX_HALT_STEPS`.
+    pub fn new(alloc: Global, steps: u64) -> HaltFinder
+        ensures { result.steps ≡ steps }
+    {
+        HaltFinder { alloc, steps }
+    }
+
+    /// The number of steps in which the table halts; none where it doesn't halt within the finder's
+    /// steps and the budget.
+    pub fn search(&mut self, t: &Table, budget: u64) -> Result<Option<HaltsIn>, NoMemory>
+        ensures found { IfOk result (λ o. IfSome o (λ e. Stops (entry_of t.now) e.0)) }
+        ensures none { IfOk result (λ o. IfNone o ((k : ℕ) → k ≤ min (min self.old.steps budget) MAX_HALT_STEPS → Stops (entry_of t.now) k → ⊥)) }
+        ensures same { self.new.steps ≡ self.old.steps }
+    {
+        let limit = self.steps.min(budget).min(MAX_HALT_STEPS);
+        let mut runner = Runner::new(self.alloc, *t)?;
+        let step = runner.run_to(limit)?;
+        match step {
+            Step::Halts { count } => Ok(Some(HaltsIn(count))),
+            Step::Went => Ok(None),
+        }
+    }
+}

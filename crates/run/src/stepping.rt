@@ -1,0 +1,137 @@
+// A run from the blank tape, step by step.
+ghost use Rattle.std.specs.Prelude.{◌≡◌, ◌+◌, ◌<◌, ◌≤◌, IfOk, OnOk, OnErr};
+ghost use Rattle.turing.specs.Tape.{written, moved};
+ghost use Rattle.tape.specs.Places.{IsWithinLimit};
+
+use crate::limits::MAX_RUN_STEPS;
+use machine_text::{Dir, Entry, State, Table};
+use std::alloc::Global;
+use std::marker::Model;
+use tape::{NoMemory, Tape};
+
+/// What a step came to.
+#[derive(Clone, Copy, Debug, PartialEq, Eq)]
+pub enum Step {
+    /// It was carried out.
+    Went,
+    /// The run stands on a halting pair: it halts in `count` steps, of which this is the last.
+    Halts { count: u64 },
+}
+
+/// A run of a table from the blank tape, at some time of it. It makes at most `MAX_RUN_STEPS` steps.
+#[derive(Drop)]
+pub struct Runner {
+    table: Table,
+    steps: u64,
+    state: State,
+    tape: Tape,
+}
+
+impl Model for Runner {
+    ghost use Rattle.run.specs.Standing.{Standing, standing_code, Stands};
+
+    ghost Value = { Standing };
+
+    ghost coded = { standing_code };
+
+    ghost use Rattle.run.specs.Inside.{standing_of};
+
+    ghost view = { standing_of };
+
+    ghost invariant = { λ a. Stands (standing_of a) };
+}
+
+impl Runner {
+    ghost use Rattle.turing.specs.Run.{start};
+    ghost use Rattle.run.specs.Standing.{Stands};
+    ghost use Rattle.run.specs.Steps.{StepsTo, RunsTo, IsBetween};
+
+    /// The run at time 0.
+    pub fn new(alloc: Global, t: Table) -> Result<Runner, NoMemory>
+        ensures { IfOk result (λ r. r ≡ record { table = t; steps = 0; config = start }) }
+    {
+        let _ = t.states();
+        Ok(Runner {
+            table: t,
+            steps: 0,
+            state: State(0),
+            tape: Tape::new(alloc),
+        })
+    }
+
+    /// Carries out one step, unless the run stands on a halting pair: then nothing changes, and the
+    /// answer is the same again. After an error nothing has changed.
+    #[inline]
+    pub fn step(&mut self) -> Result<Step, NoMemory>
+        requires { self.old.steps < MAX_RUN_STEPS }
+        ensures ok { IfOk result (λ step. StepsTo self.old step self.new) }
+        ensures err { OnErr result (self.new ≡ self.old) }
+        ensures stands { Stands self.new }
+    {
+        let Some(entry) = self.table.get(self.state, self.tape.read()) else {
+            return Ok(Step::Halts {
+                count: self.steps + 1,
+            });
+        };
+        carry_out(&mut self.tape, entry)?;
+        self.state = entry.next;
+        self.steps += 1;
+        Ok(Step::Went)
+    }
+
+    /// Carries out steps up to time k, which isn't before the time of the runner: `Halts` where the run
+    /// halts in at most k steps, and the runner stands at its last time then; otherwise `Went`. After an
+    /// error the runner stands at a time between the two.
+    pub fn run_to(&mut self, k: u64) -> Result<Step, NoMemory>
+        requires onward { self.old.steps ≤ k }
+        requires limit { k ≤ MAX_RUN_STEPS }
+        ensures ok { IfOk result (λ step. RunsTo k self.old step self.new) }
+        ensures err { OnErr result (IsBetween k self.old self.new) }
+    {
+        for time in self.steps..k {
+            let step = self.step()?;
+            if let Step::Halts { count } = step {
+                return Ok(Step::Halts { count });
+            }
+        }
+        Ok(Step::Went)
+    }
+
+    /// How many steps were carried out: the time at which the runner stands.
+    #[inline]
+    pub fn steps(&self) -> u64
+        ensures steps { result ≡ self.now.steps }
+        ensures stands { Stands self.now }
+    {
+        self.steps
+    }
+
+    /// The state at that time.
+    #[inline]
+    pub fn state(&self) -> State
+        ensures { result.0 ≡ self.now.config.state }
+    {
+        self.state
+    }
+
+    /// The tape at that time.
+    #[inline]
+    pub fn tape(&self) -> &Tape
+        ensures { result.now ≡ self.now.config.tape }
+    {
+        &self.tape
+    }
+}
+
+// Writes and moves as an entry says. After an error the tape is as it was.
+#[inline]
+fn carry_out(tape: &mut Tape, e: Entry) -> Result<(), NoMemory>
+    requires { IsWithinLimit tape.old.head }
+    ensures ok { OnOk result (tape.new ≡ moved (written tape.old e.write) e.dir) }
+    ensures err { OnErr result (tape.new ≡ tape.old) }
+{
+    match e.dir {
+        Dir::L => tape.write_left(e.write),
+        Dir::R => tape.write_right(e.write),
+    }
+}

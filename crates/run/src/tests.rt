@@ -1,0 +1,108 @@
+// Step counts and a tape of the field, and runs for which memory is refused.
+use super::{Evidence, HaltFinder, HaltsIn, MAX_HALT_STEPS, Refused, Runner, Step, Verdict};
+use machine_text::{State, Sym, Table};
+use std::alloc::Global;
+use std::process::Abort;
+use std::test::Fail;
+
+fn table_of(rt: &impl Abort, text: &str) -> Table {
+    match Table::parse(text.as_bytes()) {
+        Ok(table) => table,
+        Err(fault) => panic!(rt; "{text}: {fault:?}"),
+    }
+}
+
+// The champions of 1 to 4 states, with Radó's numbers S(1) to S(4).
+const CHAMPIONS: [(&str, u64); 4] = [
+    ("------", 1),
+    ("1RB1LB_1LA1RZ", 6),
+    ("1RB1RZ_1LB0RC_1LC1LA", 21),
+    ("1RB1LB_1LA0LC_1RZ1LD_1RD0RA", 107),
+];
+
+#[test]
+fn champions_halt_in_their_counts(rt: HostRuntime) -> Result<(), Fail> {
+    for (text, count) in CHAMPIONS {
+        let table = table_of(&rt, text);
+        let mut runner = Runner::new(rt.alloc(), table)?;
+        assert!(rt; runner.run_to(1000)? == Step::Halts { count }, "{text}");
+        assert_eq!(rt; runner.steps() + 1, count);
+        if runner.steps() < 1000 {
+            assert!(rt;
+                runner.step()? == Step::Halts { count },
+                "{text}: the same again"
+            );
+        }
+        assert!(rt;
+            HaltFinder::new(rt.alloc(), count).search(&table, 1000)? == Some(HaltsIn(count))
+        );
+        assert!(rt; HaltFinder::new(rt.alloc(), count - 1).search(&table, 1000)? == None);
+    }
+    Ok(())
+}
+
+// At its last time the champion of four states stands in C at -10 on a blank cell, with twelve ones from -8
+// to 3; the halting step writes the thirteenth: 1, a blank and twelve ones (by a simulator apart from this).
+#[test]
+fn the_four_state_champion_leaves_its_tape(rt: HostRuntime) -> Result<(), Fail> {
+    let mut runner = Runner::new(rt.alloc(), table_of(&rt, "1RB1LB_1LA0LC_1RZ1LD_1RD0RA"))?;
+    assert!(rt; runner.run_to(106)? == Step::Went);
+    assert!(rt; runner.state() == State(2));
+    assert_eq!(rt; runner.tape().head(), -10);
+    for x in -20..20 {
+        let one = -8 <= x && x <= 3;
+        assert!(rt; (runner.tape().cell(x) == Sym::One) == one, "{x}");
+    }
+    Ok(())
+}
+
+#[test]
+fn counts_are_checked(rt: HostRuntime) {
+    let alloc = rt.alloc();
+    for (text, count, answer) in [
+        ("------", 1, Ok(Verdict::Halts(1))),
+        ("------", 0, Err(Refused::Fails)),
+        ("1RB1LB_1LA---", 6, Ok(Verdict::Halts(6))),
+        ("1RB1LB_1LA---", 5, Err(Refused::Fails)),
+        ("1RB1LB_1LA---", 7, Err(Refused::Fails)),
+        ("1RB1LB_1LA---", MAX_HALT_STEPS + 1, Err(Refused::TooLong)),
+    ] {
+        let checked = HaltsIn(count).check(alloc, &table_of(&rt, text));
+        if checked != Err(Refused::NoMemory) {
+            assert!(rt; checked == answer, "{text} H {count}");
+        }
+    }
+    for (refused, number) in [
+        (Refused::Fails, 201),
+        (Refused::TooLong, 202),
+        (Refused::TooWide, 203),
+    ] {
+        assert_eq!(rt; refused.number(), number);
+    }
+}
+
+// Grows both sides; where a growth is refused, the runner goes on from where it stands.
+#[test]
+fn a_run_goes_on_after_want_of_memory(rt: HostRuntime) {
+    let table = table_of(&rt, "1RB1LB_1LA0LC_1RZ1LD_1RD0RA");
+    let alloc: Global = rt.alloc();
+    for _ in 0..2 {
+        let Ok(mut runner) = Runner::new(alloc, table) else {
+            continue;
+        };
+        for _ in 0..2 {
+            let before = runner.steps();
+            if before > 106 {
+                panic!(rt; "past the end");
+            }
+            match runner.run_to(107) {
+                Ok(step) => {
+                    assert!(rt; step == Step::Halts { count: 107 });
+                    return;
+                }
+                Err(_) => assert!(rt; before <= runner.steps() && runner.steps() < 107),
+            }
+        }
+    }
+    panic!(rt; "memory was refused more than once");
+}

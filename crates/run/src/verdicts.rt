@@ -1,0 +1,52 @@
+// What is said of a table, and why evidence for it is refused.
+use tape::NoMemory;
+
+/// What is said of a table's run from the blank tape.
+#[derive(Clone, Copy, Debug, PartialEq, Eq)]
+pub enum Verdict {
+    /// It halts in so many steps; the halting step counts (Radó 1962).
+    Halts(u64),
+    /// It never halts.
+    Never,
+}
+
+/// Why evidence was refused.
+#[derive(Clone, Copy, Debug, PartialEq, Eq)]
+pub enum Refused {
+    /// It doesn't stand for the table.
+    Fails,
+    /// It asks for more than its kind's limit, and isn't looked at.
+    TooLong,
+    /// It asks for more paths at one depth than backward reasoning keeps.
+    TooWide,
+    /// Memory was refused.
+    NoMemory,
+}
+
+impl Refused {
+    ghost use Rattle.std.specs.Prelude.{◌≡◌};
+    ghost use Rattle.run.specs.Verdict.{number_of};
+
+    /// The refusal number: 201 to 203; 0 for want of memory, which has none.
+    pub fn number(&self) -> u16
+        ensures { result ≡ number_of self.now }
+    {
+        match self {
+            Refused::Fails => 201,
+            Refused::TooLong => 202,
+            Refused::TooWide => 203,
+            Refused::NoMemory => 0,
+        }
+    }
+}
+
+impl From<NoMemory> for Refused {
+    ghost use Rattle.std.specs.Prelude.{◌≡◌};
+    ghost use Rattle.run.specs.declared.verdicts.Refused.TheVariants.{NoMemory};
+
+    ghost from_gives = { λ _ e. e ≡ NoMemory };
+
+    fn from(_: NoMemory) -> Refused {
+        Refused::NoMemory
+    }
+}

@@ -13,3 +13,8 @@ pub mod BackwardLaws
 pub mod PartialTapes
 pub mod Counting
 pub mod Paths
+pub mod Invariants
+pub mod Words
+pub mod ClosedSets
+pub mod HalfTapes
+pub mod AutomataLaws

@@ -11,3 +11,5 @@ pub mod Shift
 pub mod Cycle
 pub mod Translated
 pub mod Backward
+pub mod PositionSet
+pub mod Automata

@@ -21,3 +21,4 @@ pub mod AutomataLaws
 pub mod Listed
 pub mod LevelLaws
 pub mod Mirrored
+pub mod TableLaws

@@ -8,6 +8,7 @@ mod closed;
 mod cycles;
 mod rado;
 mod runs;
+mod tables;
 
 pub use alike::{
     exchange_keeps, extension_never, extension_runs, mirror_keeps, mirror_sides, shifted_run,
@@ -22,3 +23,4 @@ pub use runs::{
     earlier_times, halting_ends, head_reach, never_is_always, one_count, one_verdict,
     run_continues, states_within, step_by_place,
 };
+pub use tables::table_is_machine;

@@ -11,7 +11,7 @@ use Rattle.turing.specs.Halting.{Stops}
 use Rattle.turing.proofs.RunLaws.{from_zero, next_is, one_count, not_past}
 use Rattle.turing.proofs.Steps.{next_taken}
 use Rattle.turing.proofs.Heads.{head_reach, states_within}
-use Rattle.turing.proofs.TableMachines.{table_is_machine}
+use Rattle.turing.proofs.TableLaws.{table_machine}
 use Rattle.tape.specs.declared.limits.TheConstants.{MAX_PLACE}
 use Rattle.tape.specs.Places.{IsWithinLimit}
 use Rattle.run.specs.declared.limits.TheConstants.{MAX_RUN_STEPS}
@@ -43,7 +43,7 @@ stands_next r d stands room step =
     record {
       is_table = stands.is_table;
       at = later;
-      within = states_within r.table.states (entry_of r.table) (table_is_machine r.table stands.is_table) (r.steps + 1) start d (omega (arith, stands.is_table.some)) later;
+      within = states_within r.table.states (entry_of r.table) (table_machine r.table stands.is_table) (r.steps + 1) start d (omega (arith, stands.is_table.some)) later;
       limit = omega arith;
     }
 

@@ -1,4 +1,3 @@
-pub mod TableMachines
 pub mod Cells
 pub mod Steps
 pub mod RunLaws
@@ -14,3 +13,12 @@ pub mod BackwardLaws
 pub mod PartialTapes
 pub mod Counting
 pub mod Paths
+pub mod Invariants
+pub mod Words
+pub mod ClosedSets
+pub mod HalfTapes
+pub mod AutomataLaws
+pub mod Listed
+pub mod LevelLaws
+pub mod Mirrored
+pub mod TableLaws

@@ -1,0 +1,26 @@
+-- The best of a machine: the greatest worth, as the number of steps, of all its extensions, in the tree or not.
+use Rattle.std.specs.Prelude.{◌≡◌, ℕ, ◌≤◌, ◌⊎◌, Option, Some, None}
+use Rattle.machine_text.specs.declared.transition.Sym.{Sym}
+use Rattle.machine_text.specs.declared.transition.Entry.{Entry}
+use Rattle.turing.specs.Program.{Program, IsMachine}
+use Rattle.tree.specs.Filling.{filled}
+use Rattle.tree.specs.Children.{IsChildEntry}
+use Rattle.turing.specs.Extension.{Extends}
+
+-- some extension of m of n states has this worth: with `Stops`, it stops in so many steps
+pub record Attains (V : Program → ℕ → Type 0) (n : ℕ) (m : Program) (t : ℕ) : Type 0 where
+  pub big : Program
+  pub is_machine : IsMachine n big
+  pub extends : Extends big m
+  pub worth : V big t
+
+-- the greatest worth of an extension; none where no extension has one
+abbrev pub IsBest : (Program → ℕ → Type 0) → ℕ → Program → Option ℕ → Type 0
+IsBest V n m None = (t : ℕ) → Attains V n m t → ⊥
+IsBest V n m (Some s) = Attains V n m s × ((t : ℕ) → Attains V n m t → t ≤ s)
+
+-- s is the greatest of k and of what the children have by b
+pub record IsGreatestOf (n u : ℕ) (m : Program) (k : ℕ) (b : Entry → Option ℕ) (s : ℕ) : Type 0 where
+  pub one : (s ≡ k) ⊎ ((e : Entry) × IsChildEntry n u m e × (b e ≡ Some s))
+  pub own : k ≤ s
+  pub each : (e : Entry) (t : ℕ) → IsChildEntry n u m e → b e ≡ Some t → t ≤ s

@@ -1,0 +1,5 @@
+pub mod Filling
+pub mod Used
+pub mod Children
+pub mod Tree
+pub mod Best

@@ -4,3 +4,7 @@ pub mod Used
 pub mod UsedCount
 pub mod ChildEntries
 pub mod EntryOrder
+pub mod Halts
+pub mod Worth
+pub mod Relabelled
+pub mod Extensions

@@ -3,9 +3,13 @@ use Rattle.std.specs.Prelude.{◌≡◌, ℕ, ◌≤◌, ◌⊎◌, Option, Some
 use Rattle.machine_text.specs.declared.transition.Sym.{Sym}
 use Rattle.machine_text.specs.declared.transition.Entry.{Entry}
 use Rattle.turing.specs.Program.{Program, IsMachine}
-use Rattle.tree.specs.Filling.{filled}
 use Rattle.tree.specs.Children.{IsChildEntry}
 use Rattle.turing.specs.Extension.{Extends}
+use Rattle.turing.specs.Score.{StopsWith}
+
+-- the run from the blank tape stops with this score
+abbrev pub Scores : Program → ℕ → Type 0
+Scores m s = (k : ℕ) × StopsWith m k s
 
 -- some extension of m of n states has this worth: with `Stops`, it stops in so many steps
 pub record Attains (V : Program → ℕ → Type 0) (n : ℕ) (m : Program) (t : ℕ) : Type 0 where

@@ -8,3 +8,5 @@ pub mod Halts
 pub mod Worth
 pub mod Relabelled
 pub mod Extensions
+pub mod Bests
+pub mod Trees

@@ -10,3 +10,5 @@ pub mod Relabelled
 pub mod Extensions
 pub mod Bests
 pub mod Trees
+pub mod Parents
+pub mod Rado

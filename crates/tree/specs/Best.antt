@@ -28,3 +28,10 @@ pub record IsGreatestOf (n u : ℕ) (m : Program) (k : ℕ) (b : Entry → Optio
   pub one : (s ≡ k) ⊎ ((e : Entry) × IsChildEntry n u m e × (b e ≡ Some s))
   pub own : k ≤ s
   pub each : (e : Entry) (t : ℕ) → IsChildEntry n u m e → b e ≡ Some t → t ≤ s
+
+-- the greatest worth of all machines of n states, in any order and with any undefined pairs
+pub record IsGreatestOfAll (V : Program → ℕ → Type 0) (n s : ℕ) : Type 0 where
+  pub champion : Program
+  pub is_machine : IsMachine n champion
+  pub worth : V champion s
+  pub greatest : (m : Program) (k : ℕ) → IsMachine n m → V m k → k ≤ s

@@ -12,3 +12,5 @@ pub mod Bests
 pub mod Trees
 pub mod Parents
 pub mod Rado
+pub mod Codes
+pub mod Packing

@@ -14,3 +14,4 @@ pub mod Parents
 pub mod Rado
 pub mod Codes
 pub mod Packing
+pub mod Tables

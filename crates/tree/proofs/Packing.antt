@@ -37,7 +37,7 @@ code_other : (p : Packed) (q : ℕ) (s : Sym) (e : Entry) (k : ℕ) → k ≢ pa
 unfolding with_entry
 code_other p q s e k other = get_or-set_other p.codes (pair_place q s) k (code_of (Some e)) 0 other
 
-with_entry_states : (p : Packed) (q : ℕ) (s : Sym) (e : Entry) → (with_entry p q s e).states ≡ p.states
+pub with_entry_states : (p : Packed) (q : ℕ) (s : Sym) (e : Entry) → (with_entry p q s e).states ≡ p.states
 unfolding with_entry
 with_entry_states p q s e = refl
 
@@ -116,7 +116,7 @@ same_table p t i j states maps =
     λ x. record { codes = codes x; states = states x }
 
 -- the table of a map
-tabulated_states : (n : ℕ) (m : Program) → (tabulated n m).states ≡ n
+pub tabulated_states : (n : ℕ) (m : Program) → (tabulated n m).states ≡ n
 unfolding tabulated
 tabulated_states n m = refl
 

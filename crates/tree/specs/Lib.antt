@@ -3,3 +3,5 @@ pub mod Used
 pub mod Children
 pub mod Tree
 pub mod Best
+pub mod Tables
+pub mod Closed

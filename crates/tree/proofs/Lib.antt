@@ -15,3 +15,6 @@ pub mod Rado
 pub mod Codes
 pub mod Packing
 pub mod Tables
+pub mod EmptyTable
+pub mod ChildTables
+pub mod Closed

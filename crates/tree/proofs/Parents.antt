@@ -17,10 +17,10 @@ use Rattle.tree.proofs.Filling.{filled_at, extends_itself, extends_twice}
 use Rattle.tree.proofs.Trees.{child_machine, child_extends, child_holes}
 
 -- a machine stops on one pair
-same_state : (m : Program) (j k q p : ℕ) (s r : Sym) → StopsOn m j q s → StopsOn m k p r → q ≡ p
+pub same_state : (m : Program) (j k q p : ℕ) (s r : Sym) → StopsOn m j q s → StopsOn m k p r → q ≡ p
 same_state m j k q p s r g h = sym g.state ∙ ap (λ (c : Config). c.state) (one_end m j k g.stops h.stops) ∙ h.state
 
-same_read : (m : Program) (j k q p : ℕ) (s r : Sym) → StopsOn m j q s → StopsOn m k p r → s ≡ r
+pub same_read : (m : Program) (j k q p : ℕ) (s r : Sym) → StopsOn m j q s → StopsOn m k p r → s ≡ r
 same_read m j k q p s r g h = sym g.symbol ∙ ap (λ (c : Config). symbol_read c.tape) (one_end m j k g.stops h.stops) ∙ h.symbol
 
 -- a machine of the tree extends the root, and has no more undefined pairs

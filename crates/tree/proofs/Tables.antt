@@ -159,10 +159,3 @@ module _ (V : Program → ℕ → Type 0) where
       let same = best_is_greatest V w p.states u (entry_of p) (table_machine p i) o (decided_map p i decided) b in
       let greatest = greatest_of_maps p b i in
       (λ x. greatest.1 (same.0 (best.0 x)), λ x. best.1 (same.1 (greatest.0 x)))
-
--- the empty table's map is the machine without entries
-pub empty_table_map : (n : ℕ) → 1 ≤ n → n ≤ MAX_STATES → entry_of (empty_table n) ≡ empty_machine
-empty_table_map n some limit = tabulated_map n empty_machine (empty_is_machine n some) limit
-
-pub empty_is_table : (n : ℕ) → 1 ≤ n → n ≤ MAX_STATES → IsTable (empty_table n)
-empty_is_table n some limit = tabulated_table n empty_machine (empty_is_machine n some) limit

@@ -1,9 +1,8 @@
 -- The list of the children's entries: its members are exactly those entries, each once, in text order.
-use Rattle.std.proofs.Common.{◌≡◌, ℕ, suc, zero, ◌+◌, ◌-◌, ◌*◌, ◌<◌, ◌≤◌, ◌≢◌, Bool, true, false, cond, ◌==◌, List, [], ◌∷◌, ◌++◌, length, get_or, map, refl, sym, ◌∙◌, ap, subst, ◌⊎◌, inl, inr, arith}
-use Prim.Native.Nat.{min, max}
-use Rattle.std.specs.List.{range_with_len, Contains, AllPairs}
-use Rattle.std.proofs.lemmas.Bool.{cases_lt, cases_eq, eq-eqb, ne_eqb}
-use Rattle.std.proofs.lemmas.List.{length-append}
+use Rattle.std.proofs.Common.{◌≡◌, ℕ, ◌+◌, ◌*◌, ◌<◌, List, ◌++◌, length, get_or, refl, sym, ◌∙◌, ap, subst, inl, inr, arith}
+use Prim.Native.Nat.{min}
+use Rattle.std.specs.List.{Contains}
+use Rattle.std.proofs.lemmas.Bool.{eq-eqb, ne_eqb}
 use Rattle.std.proofs.lemmas.List.FromFn.{length-map-range_with_len, get_or-map-range_with_len}
 use Rattle.std.proofs.lemmas.List.Elements.{Contains-append_left, Contains-append_right, Contains-append_cases}
 use Rattle.machine_text.specs.declared.transition.Sym.{Sym}
@@ -11,10 +10,9 @@ use Rattle.machine_text.specs.declared.transition.Sym.TheVariants.{Zero, One}
 use Rattle.machine_text.specs.declared.transition.Dir.{Dir}
 use Rattle.machine_text.specs.declared.transition.Dir.TheVariants.{L, R}
 use Rattle.machine_text.specs.declared.transition.Entry.{Entry}
-use Rattle.machine_text.specs.Packed.{holes, symbol_number, direction_number, code_of}
+use Rattle.machine_text.specs.Packed.{holes}
 use Rattle.turing.specs.Program.{Program, IsMachine}
-use Rattle.tree.specs.Filling.{IsEmpty}
-use Rattle.tree.specs.Children.{IsChildEntry, entries_to, child_entries, move_number, Precedes}
+use Rattle.tree.specs.Children.{IsChildEntry, entries_to, child_entries}
 use Rattle.tree.proofs.Holes.{cases_empty}
 
 -- two entries with the same parts are one
@@ -109,13 +107,13 @@ list_filled n u m some = rw (ne_eqb (holes n m) (2 * n) some)
 pub listed_is_entry : (n u : ℕ) (m : Program) (e : Entry) → IsMachine n m → Contains (child_entries n u m) e → IsChildEntry n u m e
 listed_is_entry n u m e i c = elim (cases_empty n m i) [
   | inl empty ↦ (
-    let here : Contains (right_entries (min n (u + 1))) e = subst (λ (es : List Entry). Contains es e) (list_empty n u m empty.1) c in
-    let found = right_found (min n (u + 1)) e here in
-    record { within = omega (arith, found.0); target = omega (arith, found.0); right = λ _. found.1 })
+      let here : Contains (right_entries (min n (u + 1))) e = subst (λ (es : List Entry). Contains es e) (list_empty n u m empty.1) c in
+      let found = right_found (min n (u + 1)) e here in
+      record { within = omega (arith, found.0); target = omega (arith, found.0); right = λ _. found.1 })
   | inr some ↦ (
-    let here : Contains (both_entries (min n (u + 1))) e = subst (λ (es : List Entry). Contains es e) (list_filled n u m some.1) c in
-    let found = both_found (min n (u + 1)) e here in
-    record { within = omega arith; target = omega arith; right = λ empty. absurd (some.0 empty) })
+      let here : Contains (both_entries (min n (u + 1))) e = subst (λ (es : List Entry). Contains es e) (list_filled n u m some.1) c in
+      let found = both_found (min n (u + 1)) e here in
+      record { within = omega arith; target = omega arith; right = λ empty. absurd (some.0 empty) })
 ]
 
 -- and each such entry stands in it

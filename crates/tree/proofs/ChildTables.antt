@@ -1,5 +1,5 @@
 -- The list of a table's children: its members are exactly the children, each once.
-use Rattle.std.proofs.Common.{◌≡◌, ℕ, ◌+◌, ◌<◌, ◌≤◌, cond, leb, List, [], ◌∷◌, length, get_or, map, Option, Some, None, refl, sym, ◌∙◌, ap, subst, ◌⊎◌, inl, inr, ◌↔◌, arith}
+use Rattle.std.proofs.Common.{◌≡◌, ℕ, ◌<◌, ◌≤◌, List, [], ◌∷◌, length, get_or, map, Some, sym, ◌∙◌, ap, subst, inl, inr, arith}
 use Rattle.std.specs.List.{Contains, AllPairs}
 use Rattle.std.proofs.lemmas.Bool.{cases_lt, le-leb, lt-leb}
 use Rattle.std.proofs.lemmas.Option.{same_Some}
@@ -15,7 +15,6 @@ use Rattle.tree.specs.Used.{InOrder, used_count}
 use Rattle.tree.specs.Children.{StopsOn, IsChildEntry, child_entries}
 use Rattle.tree.specs.Tables.{IsChildTable, children_at}
 use Rattle.tree.proofs.Filling.{filled_at}
-use Rattle.tree.proofs.Used.{one_used}
 use Rattle.tree.proofs.UsedCount.{used_number}
 use Rattle.tree.proofs.Halts.{pair_within}
 use Rattle.tree.proofs.Parents.{same_state, same_read}
@@ -57,11 +56,11 @@ module _ (p : Packed) (u k q : ℕ) (s : Sym) (i : IsTable p) (o : InOrder u (en
   pub listed_is_child : (t : Packed) → Contains (children_at p q s) t → IsChildTable p t
   listed_is_child t c = elim (cases_lt (holes p.states (entry_of p)) 2) [
     | inl few ↦ (
-      let none : Contains [] t = subst (λ (ts : List Packed). Contains ts t) (no_children p q s few) c in
-      absurd (omega (arith, none.1)))
+        let none : Contains [] t = subst (λ (ts : List Packed). Contains ts t) (no_children p q s few) c in
+        absurd (omega (arith, none.1)))
     | inr two ↦ (
-      let (e, there, is) = contains_map (with_entry p q s) (entries_of p) t (subst (λ (ts : List Packed). Contains ts t) (some_children p q s two) c) in
-      record { used = u; in_order = o; count = k; state = q; symbol = s; stops = h; undefined = two; entry = e; is_entry = entry_from e there; is = sym is })
+        let (e, there, is) = contains_map (with_entry p q s) (entries_of p) t (subst (λ (ts : List Packed). Contains ts t) (some_children p q s two) c) in
+        record { used = u; in_order = o; count = k; state = q; symbol = s; stops = h; undefined = two; entry = e; is_entry = entry_from e there; is = sym is })
   ]
 
   -- each child is listed
@@ -92,10 +91,13 @@ module _ (p : Packed) (u k q : ℕ) (s : Sym) (i : IsTable p) (o : InOrder u (en
     where
       none : Entry
       none = record { write = Zero; dir = L; next = record { 0 = 0 } }
+
       es : List Entry
       es = entries_of p
+
       small : (x : ℕ) → x < length es → (get_or es x none).next.0 < p.states
       small x lt = (entry_from (get_or es x none) (Contains-get_or es x none lt)).within
+
       differ : AllPairs (λ a b. a ≡ b → ⊥) (map (with_entry p q s) es)
       differ x y d less within same =
           let last : y < length es = omega (arith, length-map es (with_entry p q s)) in

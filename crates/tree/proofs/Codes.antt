@@ -1,20 +1,14 @@
 -- How entries are packed, and what the map of a packed table is.
-use Rattle.std.proofs.Common.{◌≡◌, ℕ, zero, suc, ◌+◌, ◌-◌, ◌*◌, ◌/◌, ◌%◌, ◌<◌, ◌≤◌, ◌==◌, cond, List, length, get_or, set, map, Option, Some, None, refl, sym, ◌∙◌, ap, subst, ◌⊎◌, inl, inr, arith, get_or-set_same, get_or-set_other}
-use Rattle.std.proofs.lemmas.Bool.{cases_eq, cases_lt, eq-eqb, ne_eqb}
+use Rattle.std.proofs.Common.{◌≡◌, ℕ, ◌-◌, ◌/◌, ◌%◌, ◌<◌, ◌≤◌, get_or, Option, Some, None, refl, sym, ◌∙◌, ap, inl, inr, arith}
+use Rattle.std.proofs.lemmas.Bool.{cases_eq, eq-eqb, ne_eqb}
 use Rattle.std.proofs.lemmas.Option.{same_Some, none-some}
-use Rattle.std.proofs.lemmas.List.{ext_get_or, length-set}
-use Rattle.std.proofs.lemmas.List.FromFn.{length-map-range_with_len, get_or-map-range_with_len}
-use Rattle.std.specs.List.{range_with_len}
-use Rattle.machine_text.specs.declared.limits.TheConstants.{MAX_STATES}
 use Rattle.machine_text.specs.declared.transition.Sym.{Sym}
 use Rattle.machine_text.specs.declared.transition.Sym.TheVariants.{Zero, One}
 use Rattle.machine_text.specs.declared.transition.Dir.{Dir}
 use Rattle.machine_text.specs.declared.transition.Dir.TheVariants.{L, R}
 use Rattle.machine_text.specs.declared.transition.Entry.{Entry}
-use Rattle.machine_text.specs.Packed.{Packed, IsTable, symbol_number, symbol_of, direction_number, direction_of, code_of, coded_entry, pair_place, entry_of, with_entry, tabulated}
-use Rattle.turing.specs.Program.{Program, IsMachine}
-use Rattle.tree.specs.Filling.{filled}
-use Rattle.tree.proofs.Filling.{cases_option, cases_symbol, Filled, Kept, filled_cases, same_program}
+use Rattle.machine_text.specs.Packed.{Packed, IsTable, symbol_number, symbol_of, direction_number, direction_of, code_of, coded_entry, pair_place, entry_of}
+use Rattle.turing.specs.Program.{IsMachine}
 use Rattle.tree.proofs.ChildEntries.{same_entry}
 
 -- a code of none, and of an entry
@@ -74,9 +68,9 @@ pub entry_back : (k : ℕ) → k ≤ 32 → code_of (coded_entry k) ≡ k
 entry_back k le = elim (cases_eq k 0) [
   | inl none ↦ ap code_of (coded_none k none) ∙ sym none
   | inr some ↦ (
-    let w = number_back ((k - 1) / 16) (omega arith) in
-    let d = direction_number_back ((k - 1) / 8 % 2) (omega arith) in
-    ap code_of (coded_some k some) ∙ omega arith)
+      let w = number_back ((k - 1) / 16) (omega arith) in
+      let d = direction_number_back ((k - 1) / 8 % 2) (omega arith) in
+      ap code_of (coded_some k some) ∙ omega arith)
 ]
 
 -- the map at a pair
@@ -90,6 +84,7 @@ table_machine p t = record { some = t.some; beyond = beyond; inside = inside }
   where
     beyond : (q : ℕ) (s : Sym) → p.states ≤ q → entry_of p q s ≡ None
     beyond q s le = entry_is p q s ∙ coded_none _ (t.beyond (pair_place q s) (omega arith))
+
     inside : (q : ℕ) (s : Sym) (e : Entry) → entry_of p q s ≡ Some e → e.next.0 < p.states
     inside q s e is =
         let k = get_or p.codes (pair_place q s) 0 in
@@ -97,10 +92,10 @@ table_machine p t = record { some = t.some; beyond = beyond; inside = inside }
         elim (cases_eq k 0) [
           | inl none ↦ absurd (none-some e (sym (coded_none k none) ∙ coded))
           | inr some ↦ (
-            let same : entry_at k ≡ e = same_Some (entry_at k) e (sym (coded_some k some) ∙ coded) in
-            let target : (k - 1) % 8 ≡ e.next.0 = ap (λ (x : Entry). x.next.0) same in
-            let small = t.nexts (pair_place q s) (omega arith) in
-            omega arith)
+              let same : entry_at k ≡ e = same_Some (entry_at k) e (sym (coded_some k some) ∙ coded) in
+              let target : (k - 1) % 8 ≡ e.next.0 = ap (λ (x : Entry). x.next.0) same in
+              let small = t.nexts (pair_place q s) (omega arith) in
+              omega arith)
         ]
 
 -- what a code is at most, and which target it tells

@@ -1,7 +1,7 @@
 -- The list of the children's entries rises in text order, so no entry stands in it twice.
-use Rattle.std.proofs.Common.{◌≡◌, ℕ, suc, zero, ◌+◌, ◌-◌, ◌*◌, ◌<◌, ◌≤◌, List, [], ◌∷◌, ◌++◌, length, get_or, map, refl, sym, ◌∙◌, ap, subst, ◌⊎◌, inl, inr, arith}
+use Rattle.std.proofs.Common.{◌≡◌, ℕ, ◌+◌, ◌-◌, ◌*◌, ◌<◌, ◌≤◌, List, ◌++◌, length, get_or, refl, sym, ap, subst, inl, inr, arith}
 use Prim.Native.Nat.{min}
-use Rattle.std.specs.List.{range_with_len, All, AllPairs}
+use Rattle.std.specs.List.{AllPairs}
 use Rattle.std.proofs.lemmas.Bool.{cases_lt, cases_eq}
 use Rattle.std.proofs.lemmas.List.{length-append, get_or_append_left, get_or-append_right}
 use Rattle.machine_text.specs.declared.transition.Sym.{Sym}
@@ -9,10 +9,10 @@ use Rattle.machine_text.specs.declared.transition.Sym.TheVariants.{Zero, One}
 use Rattle.machine_text.specs.declared.transition.Dir.{Dir}
 use Rattle.machine_text.specs.declared.transition.Dir.TheVariants.{L, R}
 use Rattle.machine_text.specs.declared.transition.Entry.{Entry}
-use Rattle.machine_text.specs.Packed.{holes, symbol_number, direction_number, code_of}
+use Rattle.machine_text.specs.Packed.{holes, symbol_number, direction_number}
 use Rattle.turing.specs.Program.{Program}
 use Rattle.tree.specs.Children.{entries_to, child_entries, move_number, Precedes}
-use Rattle.tree.proofs.ChildEntries.{to, length_to, to_at, right_entries, both_entries, list_empty, list_filled}
+use Rattle.tree.proofs.ChildEntries.{length_to, to_at, right_entries, both_entries, list_empty, list_filled}
 
 -- a relation from each element of one list to each of another
 abbrev Across : {X : Type 0} → (X → X → Type 0) → List X → List X → Type 0
@@ -62,13 +62,13 @@ rising_right t = pairs_append Precedes (entries_to t Zero R) (entries_to t One R
 rising_two : (t : ℕ) (w : Sym) → AllPairs Precedes (entries_to t w L ++ entries_to t w R)
 rising_two t w = pairs_append Precedes (entries_to t w L) (entries_to t w R) (rising_to t w L) (rising_to t w R)
     (rising_across (2 * symbol_number w + 1) (entries_to t w L) (entries_to t w R)
-      (moves_to (λ k. k < 2 * symbol_number w + 1) t w L (omega arith)) (moves_to (λ k. 2 * symbol_number w + 1 ≤ k) t w R (omega arith)))
+    (moves_to (λ k. k < 2 * symbol_number w + 1) t w L (omega arith)) (moves_to (λ k. 2 * symbol_number w + 1 ≤ k) t w R (omega arith)))
 
 rising_both : (t : ℕ) → AllPairs Precedes (both_entries t)
 rising_both t = pairs_append Precedes (entries_to t Zero L ++ entries_to t Zero R) (entries_to t One L ++ entries_to t One R) (rising_two t Zero) (rising_two t One)
     (rising_across 2 (entries_to t Zero L ++ entries_to t Zero R) (entries_to t One L ++ entries_to t One R)
-      (moves_append (λ k. k < 2) (entries_to t Zero L) (entries_to t Zero R) (moves_to (λ k. k < 2) t Zero L (omega arith)) (moves_to (λ k. k < 2) t Zero R (omega arith)))
-      (moves_append (λ k. 2 ≤ k) (entries_to t One L) (entries_to t One R) (moves_to (λ k. 2 ≤ k) t One L (omega arith)) (moves_to (λ k. 2 ≤ k) t One R (omega arith))))
+    (moves_append (λ k. k < 2) (entries_to t Zero L) (entries_to t Zero R) (moves_to (λ k. k < 2) t Zero L (omega arith)) (moves_to (λ k. k < 2) t Zero R (omega arith)))
+    (moves_append (λ k. 2 ≤ k) (entries_to t One L) (entries_to t One R) (moves_to (λ k. 2 ≤ k) t One L (omega arith)) (moves_to (λ k. 2 ≤ k) t One R (omega arith))))
 
 -- the children's entries rise
 pub entries_rise : (n u : ℕ) (m : Program) → AllPairs Precedes (child_entries n u m)

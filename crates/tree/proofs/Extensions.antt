@@ -1,13 +1,12 @@
 -- What the extensions of a machine attain: what the machine itself and the extensions of its children attain.
-use Rattle.std.proofs.Common.{◌≡◌, ℕ, ◌+◌, ◌<◌, ◌≤◌, Option, Some, None, refl, sym, ◌∙◌, ap, subst, ◌⊎◌, inl, inr, arith}
+use Rattle.std.proofs.Common.{◌≡◌, ℕ, ◌≤◌, Some, None, refl, ◌⊎◌, inl, inr, arith}
 use Rattle.std.proofs.lemmas.Bool.{cases_lt}
 use Rattle.machine_text.specs.declared.transition.Sym.{Sym}
-use Rattle.machine_text.specs.declared.transition.Dir.{Dir}
-use Rattle.machine_text.specs.declared.transition.Dir.TheVariants.{L, R}
+use Rattle.machine_text.specs.declared.transition.Dir.TheVariants.{R}
 use Rattle.machine_text.specs.declared.transition.Entry.{Entry}
 use Rattle.machine_text.specs.Packed.{holes}
 use Rattle.turing.specs.Program.{Program, IsMachine}
-use Rattle.turing.specs.Halting.{Stops, Never}
+use Rattle.turing.specs.Halting.{Never}
 use Rattle.turing.specs.Extension.{Extends}
 use Rattle.turing.specs.Exchange.{with_exchanged}
 use Rattle.turing.specs.Mirror.{mirrored}
@@ -46,11 +45,11 @@ module _ (V : Program → ℕ → Type 0) (w : IsWorth V) where
   only_attains n m k q s t i one h a = elim (cases_option (a.big q s)) [
     | inl none ↦ w.down a.big m k q s t a.extends h none a.worth
     | inr there ↦ (
-      let within = pair_within n m k q s i h in
-      let undefined = pair_undefined m k q s h in
-      let e = there.0 in
-      let full = full_never n (filled m q s e) (filled_machine n m q s e i within (a.is_machine.inside q s e there.1)) (only_one n m q s e one within undefined) in
-      absurd (never_attains n (filled m q s e) t full (record { big = a.big; is_machine = a.is_machine; extends = extends_filled a.big m q s e a.extends there.1; worth = a.worth })))
+        let within = pair_within n m k q s i h in
+        let undefined = pair_undefined m k q s h in
+        let e = there.0 in
+        let full = full_never n (filled m q s e) (filled_machine n m q s e i within (a.is_machine.inside q s e there.1)) (only_one n m q s e one within undefined) in
+        absurd (never_attains n (filled m q s e) t full (record { big = a.big; is_machine = a.is_machine; extends = extends_filled a.big m q s e a.extends there.1; worth = a.worth })))
   ]
 
   -- m stops in k on a pair, in order; t is attained by m itself or by a child
@@ -68,11 +67,11 @@ module _ (V : Program → ℕ → Type 0) (w : IsWorth V) where
     of_right big e j x v is right = elim (cases_lt u e.next.0) [
       | inr le ↦ of_target big e j x v is le right
       | inl lt ↦ (
-        let within = j.inside q s e is in
-        let new : Entry = record { write = e.write; dir = e.dir; next = record { 0 = u } } in
-        of_target (with_exchanged u e.next.0 big) new (exchanged_machine n u e.next.0 big j (omega arith) within) (exchanged_extends u e.next.0 big m o lt x)
-        (w.exchanged u e.next.0 big t (some_used u m o) (omega arith) v)
-        (exchanged_at u e.next.0 q s big e (pair_used u m k q s o h) lt is refl) (omega arith) right)
+          let within = j.inside q s e is in
+          let new : Entry = record { write = e.write; dir = e.dir; next = record { 0 = u } } in
+          of_target (with_exchanged u e.next.0 big) new (exchanged_machine n u e.next.0 big j (omega arith) within) (exchanged_extends u e.next.0 big m o lt x)
+          (w.exchanged u e.next.0 big t (some_used u m o) (omega arith) v)
+          (exchanged_at u e.next.0 q s big e (pair_used u m k q s o h) lt is refl) (omega arith) right)
     ]
 
     -- one whose entry goes any way: where m is empty, a move to the left is turned round
@@ -82,7 +81,7 @@ module _ (V : Program → ℕ → Type 0) (w : IsWorth V) where
       | inl empty ↦ elim (cases_direction e.dir) [
         | inl right ↦ of_right big e j x v is (λ _. right)
         | inr left ↦ of_right (mirrored big) (record { write = e.write; dir = R; next = e.next }) (mirrored_machine n big j) (extends_any_empty (mirrored big) m empty.0)
-          (w.mirrored big t v) (turned_right q s big e is left) (λ _. refl)
+            (w.mirrored big t v) (turned_right q s big e is left) (λ _. refl)
       ]
     ]
 

@@ -1,12 +1,12 @@
 -- One pair filled: what the machine then does at each pair, and what extends what.
-use Rattle.std.proofs.Common.{◌≡◌, ℕ, suc, zero, ◌+◌, ◌<◌, ◌≤◌, Bool, true, false, ◌&&◌, eqb, Option, Some, None, refl, sym, ◌∙◌, ap, ◌⊎◌, inl, inr, arith}
+use Rattle.std.proofs.Common.{◌≡◌, ℕ, ◌<◌, ◌≤◌, true, false, Option, Some, None, refl, sym, ◌∙◌, ◌⊎◌, inl, inr, arith}
 use Rattle.std.proofs.lemmas.Option.{same_Some}
-use Rattle.std.proofs.lemmas.Bool.{cases_eq, eqb-true, eq-eqb, ne_eqb, cases_lt}
+use Rattle.std.proofs.lemmas.Bool.{cases_eq, eq-eqb, ne_eqb}
 use Rattle.machine_text.specs.declared.transition.Sym.{Sym}
 use Rattle.machine_text.specs.declared.transition.Sym.TheVariants.{Zero, One}
 use Rattle.machine_text.specs.declared.transition.Entry.{Entry}
 use Rattle.turing.specs.Program.{Program, IsMachine}
-use Rattle.tree.specs.Filling.{filled, same_symbol, empty_machine, IsEmpty}
+use Rattle.tree.specs.Filling.{filled, same_symbol, empty_machine}
 use Rattle.turing.specs.Extension.{Extends}
 
 -- two symbols are one, or not
@@ -88,6 +88,7 @@ filled_machine n m p r e is_machine state target = record { some = is_machine.so
       | inl f ↦ let same = f.state in absurd (omega arith)
       | inr k ↦ k.is ∙ is_machine.beyond q s h
     ]
+
     inside : (q : ℕ) (s : Sym) (d : Entry) → filled m p r e q s ≡ Some d → d.next.0 < n
     inside q s d h = elim (filled_cases m p r e q s) [
       | inl f ↦ let same : e ≡ d = same_Some e d (sym f.is ∙ h) in rw (← same) target

@@ -1,6 +1,6 @@
 -- Where a run stops: on an undefined pair of a used state; a full machine never does; and a machine whose
 -- extension leaves that pair undefined stops as the extension does.
-use Rattle.std.proofs.Common.{◌≡◌, ℕ, suc, zero, ◌<◌, ◌≤◌, Option, Some, None, refl, sym, ◌∙◌, ap, subst, ◌⊎◌, inl, inr, arith}
+use Rattle.std.proofs.Common.{◌≡◌, ℕ, suc, zero, ◌<◌, Some, None, refl, sym, ◌∙◌, ap, subst, arith}
 use Rattle.std.proofs.lemmas.Option.{same_Some}
 use Rattle.machine_text.specs.declared.transition.Sym.{Sym}
 use Rattle.machine_text.specs.declared.transition.Entry.{Entry}
@@ -14,7 +14,7 @@ use Rattle.turing.proofs.Steps.{takes, halts_at_pair}
 use Rattle.turing.proofs.RunLaws.{from_zero, next_is, before}
 use Rattle.turing.proofs.Extensions.{same_run}
 use Rattle.tree.specs.Used.{InOrder}
-use Rattle.tree.specs.Used.IsUsed.{Source, Target}
+use Rattle.tree.specs.Used.IsUsed.{Target}
 use Rattle.tree.specs.Children.{StopsOn}
 use Rattle.tree.proofs.Used.{some_used}
 use Rattle.tree.proofs.Holes.{none_open}

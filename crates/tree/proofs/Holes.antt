@@ -1,13 +1,13 @@
 -- How many pairs are undefined: one fewer once a pair is filled, none in a full machine, all in an empty one.
-use Rattle.std.proofs.Common.{◌≡◌, ℕ, suc, zero, ◌+◌, ◌*◌, ◌<◌, ◌≤◌, ◌==◌, Bool, true, false, Option, Some, None, refl, sym, ◌∙◌, ap, subst, ◌⊎◌, inl, inr, arith}
-use Rattle.std.proofs.lemmas.Bool.{cases_eq, cases_lt, cases_Bool, eqb-true, eq-eqb, ne_eqb}
+use Rattle.std.proofs.Common.{◌≡◌, ℕ, suc, zero, ◌+◌, ◌*◌, ◌<◌, ◌≤◌, Option, Some, None, refl, sym, ◌∙◌, ap, subst, ◌⊎◌, inl, inr, arith}
+use Rattle.std.proofs.lemmas.Bool.{cases_eq, cases_lt}
 use Rattle.machine_text.specs.declared.transition.Sym.{Sym}
 use Rattle.machine_text.specs.declared.transition.Sym.TheVariants.{Zero, One}
 use Rattle.machine_text.specs.declared.transition.Entry.{Entry}
 use Rattle.machine_text.specs.Packed.{hole, holes}
 use Rattle.turing.specs.Program.{Program, IsMachine}
 use Rattle.tree.specs.Filling.{filled, empty_machine, IsEmpty}
-use Rattle.tree.proofs.Filling.{Filled, Kept, filled_cases, filled_at, cases_option}
+use Rattle.tree.proofs.Filling.{filled_cases, filled_at, cases_option}
 
 -- what an entry, or none, counts for
 hole_small : (o : Option Entry) → hole o ≤ 1
@@ -105,9 +105,9 @@ holes_filled zero m p r e lt none = absurd (omega arith)
 holes_filled (suc n) m p r e lt none = elim (cases_eq p n) [
   | inl same ↦ subst (λ (x : ℕ). holes (suc n) m ≡ holes (suc n) (filled m x r e) + 1) (sym same) (holes_here n m r e (rw same at none))
   | inr other ↦ (
-    let zeros = ap hole (filled_other m p r e n Zero (λ h _. other (sym h))) in
-    let ones = ap hole (filled_other m p r e n One (λ h _. other (sym h))) in
-    omega (arith, holes_more n m, holes_more n (filled m p r e), holes_filled n m p r e (omega arith) none))
+      let zeros = ap hole (filled_other m p r e n Zero (λ h _. other (sym h))) in
+      let ones = ap hole (filled_other m p r e n One (λ h _. other (sym h))) in
+      omega (arith, holes_more n m, holes_more n (filled m p r e), holes_filled n m p r e (omega arith) none))
 ]
 
 -- where one pair is undefined, the machine that has it filled is full

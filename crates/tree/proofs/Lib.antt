@@ -8,13 +8,13 @@ pub mod Halts
 pub mod Worth
 pub mod Relabelled
 pub mod Extensions
-pub mod Bests
-pub mod Trees
+pub mod BestLaws
+pub mod TreeLaws
 pub mod Parents
 pub mod Rado
 pub mod Codes
 pub mod Packing
-pub mod Tables
+pub mod TableLaws
 pub mod EmptyTable
 pub mod ChildTables
-pub mod Closed
+pub mod ClosedLaws

@@ -1,7 +1,6 @@
 -- Packed tables as machines: one entry more, the table of a map, and tables with one map.
-use Rattle.std.proofs.Common.{◌≡◌, ℕ, zero, suc, ◌+◌, ◌-◌, ◌*◌, ◌/◌, ◌%◌, ◌<◌, ◌≤◌, ◌≢◌, List, length, get_or, set, map, Option, Some, None, refl, sym, ◌∙◌, ap, subst, ◌⊎◌, inl, inr, arith, get_or-set_same, get_or-set_other}
+use Rattle.std.proofs.Common.{◌≡◌, ℕ, ◌-◌, ◌*◌, ◌/◌, ◌%◌, ◌<◌, ◌≤◌, ◌≢◌, length, Option, Some, None, refl, sym, ◌∙◌, ap, subst, inl, inr, arith, get_or-set_same, get_or-set_other}
 use Rattle.std.proofs.lemmas.Bool.{cases_eq, cases_lt}
-use Rattle.std.proofs.lemmas.Option.{none-some}
 use Rattle.std.specs.List.{slice_index}
 use Rattle.std.proofs.lemmas.List.{ext_get_or, length-set, get_or_past}
 use Rattle.std.proofs.lemmas.List.FromFn.{length-map-range_with_len, get_or-map-range_with_len}
@@ -9,10 +8,10 @@ use Rattle.machine_text.specs.declared.limits.TheConstants.{MAX_STATES}
 use Rattle.machine_text.specs.declared.transition.Sym.{Sym}
 use Rattle.machine_text.specs.declared.transition.Sym.TheVariants.{Zero, One}
 use Rattle.machine_text.specs.declared.transition.Entry.{Entry}
-use Rattle.machine_text.specs.Packed.{Packed, IsTable, symbol_number, symbol_of, code_of, coded_entry, pair_place, entry_of, with_entry, tabulated}
+use Rattle.machine_text.specs.Packed.{Packed, IsTable, symbol_of, code_of, coded_entry, pair_place, entry_of, with_entry, tabulated}
 use Rattle.turing.specs.Program.{Program, IsMachine}
 use Rattle.tree.specs.Filling.{filled}
-use Rattle.tree.proofs.Filling.{cases_option, cases_symbol, Filled, Kept, filled_cases, same_program}
+use Rattle.tree.proofs.Filling.{filled_cases, same_program}
 use Rattle.tree.proofs.Codes.{code_back, entry_back, entry_is, symbol_small, code_small, code_target, number_back}
 
 -- each pair has a place of its own
@@ -56,13 +55,13 @@ with_entry_fills p q s e t lq le = same_program (entry_of (with_entry p q s e)) 
     each : (x : ℕ) (r : Sym) → entry_of (with_entry p q s e) x r ≡ filled (entry_of p) q s e x r
     each x r = elim (filled_cases (entry_of p) q s e x r) [
       | inl f ↦ (
-        let place : pair_place x r ≡ pair_place q s = ap (λ y. pair_place y r) f.state ∙ ap (pair_place q) f.symbol in
-        let code : slice_index (with_entry p q s e).codes (pair_place x r) ≡ code_of (Some e) = ap (λ k. slice_index (with_entry p q s e).codes k) place ∙ code_here p q s e (place_in p q s t lq) in
-        let back : coded_entry (code_of (Some e)) ≡ Some e = code_back (Some e) (λ d is. omega (arith, t.limit, le, ap (λ (o : Option Entry). target_of o) is)) in
-        entry_is (with_entry p q s e) x r ∙ ap coded_entry code ∙ back ∙ sym f.is)
+          let place : pair_place x r ≡ pair_place q s = ap (λ y. pair_place y r) f.state ∙ ap (pair_place q) f.symbol in
+          let code : slice_index (with_entry p q s e).codes (pair_place x r) ≡ code_of (Some e) = ap (λ k. slice_index (with_entry p q s e).codes k) place ∙ code_here p q s e (place_in p q s t lq) in
+          let back : coded_entry (code_of (Some e)) ≡ Some e = code_back (Some e) (λ d is. omega (arith, t.limit, le, ap (λ (o : Option Entry). target_of o) is)) in
+          entry_is (with_entry p q s e) x r ∙ ap coded_entry code ∙ back ∙ sym f.is)
       | inr k ↦ (
-        let other : pair_place x r ≢ pair_place q s = λ same. k.other (place_state x q r s same) (place_symbol x q r s same) in
-        entry_is (with_entry p q s e) x r ∙ ap coded_entry (code_other p q s e (pair_place x r) other) ∙ sym (entry_is p x r) ∙ sym k.is)
+          let other : pair_place x r ≢ pair_place q s = λ same. k.other (place_state x q r s same) (place_symbol x q r s same) in
+          entry_is (with_entry p q s e) x r ∙ ap coded_entry (code_other p q s e (pair_place x r) other) ∙ sym (entry_is p x r) ∙ sym k.is)
     ]
       where
         target_of : Option Entry → ℕ
@@ -82,10 +81,10 @@ with_entry_table p q s e t lq le = record {
   nexts = λ k some. elim (cases_eq k (pair_place q s)) [
     | inl here ↦ omega (arith, code_is k here, code_target e (omega (arith, le, t.limit)), with_entry_states p q s e)
     | inr other ↦ (
-      let code = code_other p q s e k other in
-      let below = t.nexts k (omega arith) in
-      let number = ap (λ c. (c - 1) % 8) code in
-      omega (arith, with_entry_states p q s e))
+        let code = code_other p q s e k other in
+        let below = t.nexts k (omega arith) in
+        let number = ap (λ c. (c - 1) % 8) code in
+        omega (arith, with_entry_states p q s e))
   ];
   beyond = λ k past. elim (cases_eq k (pair_place q s)) [
     | inl here ↦ absurd (omega (arith, place_within q p.states s lq, with_entry_states p q s e))
@@ -138,11 +137,11 @@ tabulated_map n m i limit = same_program (entry_of (tabulated n m)) m each
     each : (q : ℕ) (s : Sym) → entry_of (tabulated n m) q s ≡ m q s
     each q s = elim (cases_lt (pair_place q s) (2 * MAX_STATES)) [
       | inl lt ↦ (
-        let k = pair_place q s in
-        let state = place_state (k / 2) q (symbol_of (k % 2)) s (place_of k) in
-        let symbol = place_symbol (k / 2) q (symbol_of (k % 2)) s (place_of k) in
-        let there : m (k / 2) (symbol_of (k % 2)) ≡ m q s = ap (λ x. m x (symbol_of (k % 2))) state ∙ ap (m q) symbol in
-        entry_is (tabulated n m) q s ∙ ap coded_entry (tabulated_code n m k lt) ∙ ap (λ o. coded_entry (code_of o)) there ∙ code_back (m q s) (λ e is. let within = i.inside q s e is in omega arith))
+          let k = pair_place q s in
+          let state = place_state (k / 2) q (symbol_of (k % 2)) s (place_of k) in
+          let symbol = place_symbol (k / 2) q (symbol_of (k % 2)) s (place_of k) in
+          let there : m (k / 2) (symbol_of (k % 2)) ≡ m q s = ap (λ x. m x (symbol_of (k % 2))) state ∙ ap (m q) symbol in
+          entry_is (tabulated n m) q s ∙ ap coded_entry (tabulated_code n m k lt) ∙ ap (λ o. coded_entry (code_of o)) there ∙ code_back (m q s) (λ e is. let within = i.inside q s e is in omega arith))
       | inr past ↦ entry_is (tabulated n m) q s ∙ ap coded_entry (tabulated_past n m (pair_place q s) past) ∙ sym (i.beyond q s (omega (arith, symbol_small s)))
     ]
 
@@ -165,20 +164,23 @@ tabulated_table n m i limit = record {
   where
     at : (k : ℕ) → (code_of (m (k / 2) (symbol_of (k % 2))) ≤ 32) × (0 < code_of (m (k / 2) (symbol_of (k % 2))) → (code_of (m (k / 2) (symbol_of (k % 2))) - 1) % 8 < n)
     at k = code_within n (m (k / 2) (symbol_of (k % 2))) (omega arith) (i.inside (k / 2) (symbol_of (k % 2)))
+
     codes : (k : ℕ) → slice_index (tabulated n m).codes k ≤ 32
     codes k = elim (cases_lt k (2 * MAX_STATES)) [
       | inl lt ↦ omega (arith, tabulated_code n m k lt, (at k).0)
       | inr past ↦ omega (arith, tabulated_past n m k past)
     ]
+
     nexts : (k : ℕ) → 0 < slice_index (tabulated n m).codes k → (slice_index (tabulated n m).codes k - 1) % 8 < (tabulated n m).states
     nexts k some = elim (cases_lt k (2 * MAX_STATES)) [
       | inl lt ↦ (
-        let code = tabulated_code n m k lt in
-        let below = (at k).1 (omega arith) in
-        let number = ap (λ c. (c - 1) % 8) code in
-        omega (arith, tabulated_states n m))
+          let code = tabulated_code n m k lt in
+          let below = (at k).1 (omega arith) in
+          let number = ap (λ c. (c - 1) % 8) code in
+          omega (arith, tabulated_states n m))
       | inr past ↦ absurd (omega (arith, tabulated_past n m k past))
     ]
+
     beyond : (k : ℕ) → 2 * (tabulated n m).states ≤ k → slice_index (tabulated n m).codes k ≡ 0
     beyond k le = elim (cases_lt k (2 * MAX_STATES)) [
       | inl lt ↦ tabulated_code n m k lt ∙ ap code_of (i.beyond (k / 2) (symbol_of (k % 2)) (omega (arith, tabulated_states n m)))

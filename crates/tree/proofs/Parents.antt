@@ -1,8 +1,7 @@
 -- Each machine of a tree but the root is the child of one machine of the tree alone.
-use Rattle.std.proofs.Common.{◌≡◌, ℕ, suc, ◌+◌, ◌<◌, ◌≤◌, Option, Some, None, refl, sym, ◌∙◌, ap, subst, arith}
+use Rattle.std.proofs.Common.{◌≡◌, ℕ, ◌≤◌, Some, refl, sym, ◌∙◌, ap, subst, arith}
 use Rattle.std.proofs.lemmas.Option.{same_Some}
 use Rattle.machine_text.specs.declared.transition.Sym.{Sym}
-use Rattle.machine_text.specs.declared.transition.Entry.{Entry}
 use Rattle.machine_text.specs.Packed.{holes}
 use Rattle.turing.specs.Program.{Program, IsMachine}
 use Rattle.turing.specs.Run.{Config}
@@ -14,7 +13,7 @@ use Rattle.tree.specs.Children.{StopsOn, IsChild}
 use Rattle.tree.specs.Tree.{InTree}
 use Rattle.tree.specs.Tree.InTree.{Root, Below}
 use Rattle.tree.proofs.Filling.{filled_at, extends_itself, extends_twice}
-use Rattle.tree.proofs.Trees.{child_machine, child_extends, child_holes}
+use Rattle.tree.proofs.TreeLaws.{child_machine, child_extends, child_holes}
 
 -- a machine stops on one pair
 pub same_state : (m : Program) (j k q p : ℕ) (s r : Sym) → StopsOn m j q s → StopsOn m k p r → q ≡ p

@@ -1,7 +1,6 @@
 -- An extension with two states exchanged that m doesn't use, and an extension of an empty machine turned round,
 -- are extensions again.
-use Rattle.std.proofs.Common.{◌≡◌, ℕ, ◌<◌, ◌≤◌, Option, Some, None, refl, sym, ◌∙◌, ap, subst, ◌⊎◌, inl, inr, arith}
-use Rattle.std.proofs.lemmas.Bool.{cases_eq, cases_lt}
+use Rattle.std.proofs.Common.{◌≡◌, ℕ, ◌<◌, ◌≤◌, Option, Some, None, refl, sym, ◌∙◌, ap, ◌⊎◌, inl, inr, arith}
 use Rattle.std.proofs.lemmas.Bool.Decides.{nat_tests}
 use Rattle.std.proofs.lemmas.Option.{same_Some}
 use Rattle.machine_text.specs.declared.transition.Sym.{Sym}
@@ -15,7 +14,6 @@ use Rattle.turing.specs.Mirror.{mirrored_entry, mirrored}
 use Rattle.tree.specs.Filling.{IsEmpty}
 use Rattle.tree.specs.Used.{InOrder}
 use Rattle.tree.specs.Used.IsUsed.{Source, Target}
-use Rattle.tree.proofs.Filling.{cases_option}
 use Rattle.tree.proofs.ChildEntries.{same_entry}
 
 -- the exchange of states below n, state by state
@@ -42,6 +40,7 @@ exchanged_machine n a b m i la lb = record { some = i.some; beyond = beyond; ins
   where
     beyond : (q : ℕ) (s : Sym) → n ≤ q → with_exchanged a b m q s ≡ None
     beyond q s le = ap (exchanged_entry a b) (ap (λ p. m p s) (exchanged_past a b q n la lb le) ∙ i.beyond q s le)
+
     inside : (q : ℕ) (s : Sym) (e : Entry) → with_exchanged a b m q s ≡ Some e → e.next.0 < n
     inside q s e h =
         let back = entry_back a b (m (exchanged a b q) s) e h in

@@ -1,18 +1,16 @@
 -- Used states and machines in order: what a filled pair adds, the tests, and the number of used states.
-use Rattle.std.proofs.Common.{◌≡◌, ℕ, suc, zero, ◌+◌, ◌<◌, ◌≤◌, Bool, true, false, cond, ◌||◌, ◌==◌, eqb, ltb, List, [], ◌∷◌, ◌++◌, Option, Some, None, is_some, count_by, refl, sym, ◌∙◌, ap, subst, ◌⊎◌, inl, inr, arith}
-use Prim.Native.Nat.{min, max}
-use Rattle.std.specs.List.{range_with_len}
-use Rattle.std.proofs.lemmas.Bool.{cases_eq, cases_lt, cases_order, cases_Bool, false≢true, eqb-true, eq-eqb, ne_eqb, lt-ltb, le-ltb, or_cases, or_left, or_right, false_from_ne_true}
+use Rattle.std.proofs.Common.{◌≡◌, ℕ, ◌+◌, ◌<◌, ◌≤◌, None, refl, sym, ◌∙◌, ap, inl, inr, arith}
+use Prim.Native.Nat.{max}
+use Rattle.std.proofs.lemmas.Bool.{cases_lt, cases_order}
 use Rattle.std.proofs.lemmas.Option.{same_Some}
 use Rattle.machine_text.specs.declared.transition.Sym.{Sym}
-use Rattle.machine_text.specs.declared.transition.Sym.TheVariants.{Zero, One}
 use Rattle.machine_text.specs.declared.transition.Entry.{Entry}
 use Rattle.turing.specs.Program.{Program, IsMachine}
 use Rattle.turing.specs.Extension.{Extends}
 use Rattle.tree.specs.Filling.{filled, empty_machine}
-use Rattle.tree.specs.Used.{IsUsed, InOrder, leads_to, has_entry, is_target, is_used, used_count}
+use Rattle.tree.specs.Used.{IsUsed, InOrder}
 use Rattle.tree.specs.Used.IsUsed.{Start, Source, Target}
-use Rattle.tree.proofs.Filling.{Filled, Kept, filled_cases, filled_at, filled_extends, cases_option}
+use Rattle.tree.proofs.Filling.{filled_cases, filled_at, filled_extends}
 
 -- A is used, so there is a used state
 pub some_used : (u : ℕ) (m : Program) → InOrder u m → 0 < u
@@ -71,6 +69,7 @@ filled_in_order u m p r e o state none target = record { only = only; each = eac
       | inl f ↦ let same : e ≡ d = same_Some e d (sym f.is ∙ is) in omega (arith, ap (λ (y : Entry). y.next.0) same)
       | inr k ↦ omega (arith, o.only q (Target x s d (sym k.is ∙ is) to))
     ]
+
     each : (q : ℕ) → q < max u (e.next.0 + 1) → IsUsed (filled m p r e) q
     each q lt = elim (cases_lt q u) [
       | inl less ↦ used_extends (filled m p r e) m q (filled_extends m p r e none) (o.each q less)

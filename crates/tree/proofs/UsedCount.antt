@@ -1,8 +1,8 @@
 -- The test of a used state, and how many states pass it.
-use Rattle.std.proofs.Common.{◌≡◌, ℕ, suc, zero, ◌+◌, ◌-◌, ◌<◌, ◌≤◌, Bool, true, false, cond, ◌||◌, ◌==◌, eqb, ltb, List, [], ◌∷◌, ◌++◌, Option, Some, None, is_some, count_by, map, refl, sym, ◌∙◌, ap, subst, ◌⊎◌, inl, inr, arith}
-use Prim.Native.Nat.{min, max}
+use Rattle.std.proofs.Common.{◌≡◌, ℕ, suc, zero, ◌+◌, ◌-◌, ◌<◌, Bool, true, cond, ◌||◌, ◌==◌, ltb, Option, Some, None, is_some, count_by, refl, sym, ◌∙◌, ap, subst, inl, inr, arith}
+use Prim.Native.Nat.{min}
 use Rattle.std.specs.List.{range_with_len}
-use Rattle.std.proofs.lemmas.Bool.{cases_eq, cases_lt, cases_Bool, false≢true, eqb-true, eq-eqb, ltb-true, lt-ltb, le-ltb, or_cases, or_left, or_right, false_from_ne_true}
+use Rattle.std.proofs.lemmas.Bool.{cases_eq, cases_lt, false≢true, eqb-true, eq-eqb, lt-ltb, le-ltb, or_cases, or_left, or_right, false_from_ne_true}
 use Rattle.std.proofs.lemmas.List.Sums.{sum_by-cons}
 use Rattle.machine_text.specs.declared.transition.Sym.{Sym}
 use Rattle.machine_text.specs.declared.transition.Sym.TheVariants.{Zero, One}

@@ -1,5 +1,5 @@
 -- What a halting run is worth: its number of steps, or its score. All that the theorem of the tree asks of it.
-use Rattle.std.proofs.Common.{◌≡◌, ℕ, ◌<◌, ◌≤◌, Some, None, refl, sym, ◌∙◌, ap, subst}
+use Rattle.std.proofs.Common.{◌≡◌, ℕ, ◌<◌, None, sym, ◌∙◌, ap, subst}
 use Rattle.machine_text.specs.declared.transition.Sym.{Sym}
 use Rattle.turing.specs.Program.{Program}
 use Rattle.turing.specs.Halting.{Stops}
@@ -44,3 +44,7 @@ score_worth = record {
   exchanged = λ a b m t pa pb v. (v.0, exchange_keeps_score a b m v.0 t pa pb v.1);
   mirrored = λ m t v. (v.0, mirror_keeps_score m v.0 t v.1);
 }
+
+-- a machine that stops in k and has a score stops in k with it
+pub score_count : (m : Program) (k s : ℕ) → Stops m k → Scores m s → StopsWith m k s
+score_count m k s h v = record { stops = h; score = v.1.score ∙ ap score_of (one_end m v.0 k v.1.stops h) }

@@ -1,6 +1,5 @@
 -- The best of a machine: the greatest worth, as the number of steps, of all its extensions, in the tree or not.
 use Rattle.std.specs.Prelude.{◌≡◌, ℕ, ◌≤◌, ◌⊎◌, Option, Some, None}
-use Rattle.machine_text.specs.declared.transition.Sym.{Sym}
 use Rattle.machine_text.specs.declared.transition.Entry.{Entry}
 use Rattle.turing.specs.Program.{Program, IsMachine}
 use Rattle.tree.specs.Children.{IsChildEntry}

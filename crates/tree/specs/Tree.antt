@@ -1,5 +1,5 @@
 -- The tree of a machine: the machine itself, and the trees of its children.
-use Rattle.std.specs.Prelude.{◌≡◌, ℕ, ◌≤◌, ◌⊎◌, Option, Some, None}
+use Rattle.std.specs.Prelude.{ℕ, ◌≤◌, ◌⊎◌, Option, Some, None}
 use Rattle.turing.specs.Program.{Program}
 use Rattle.turing.specs.Halting.{Stops, Never}
 use Rattle.tree.specs.Children.{IsChild}

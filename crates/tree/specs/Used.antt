@@ -1,6 +1,6 @@
 -- Which states a machine uses: A, each state that has an entry, and each target of an entry; and machines in
 -- order, whose used states are the first letters.
-use Rattle.std.specs.Prelude.{◌≡◌, ℕ, zero, suc, ◌<◌, ◌==◌, ◌||◌, Bool, true, false, Option, Some, None, is_some, count_by}
+use Rattle.std.specs.Prelude.{◌≡◌, ℕ, zero, suc, ◌<◌, ◌==◌, ◌||◌, Bool, false, Option, Some, None, is_some, count_by}
 use Rattle.std.specs.List.{range_with_len}
 use Rattle.machine_text.specs.declared.transition.Sym.{Sym}
 use Rattle.machine_text.specs.declared.transition.Sym.TheVariants.{Zero, One}

@@ -1,26 +1,21 @@
 -- Tables and their maps: the children, the trees and the bests of the one are those of the other.
-use Rattle.std.proofs.Common.{◌≡◌, ℕ, ◌<◌, ◌≤◌, Option, Some, None, refl, sym, ◌∙◌, ap, subst, ◌⊎◌, inl, inr, ◌↔◌, arith}
-use Rattle.machine_text.specs.declared.limits.TheConstants.{MAX_STATES}
-use Rattle.machine_text.specs.declared.transition.Sym.{Sym}
-use Rattle.machine_text.specs.declared.transition.Entry.{Entry}
-use Rattle.machine_text.specs.Packed.{Packed, IsTable, entry_of, with_entry, holes, tabulated, empty_table}
+use Rattle.std.proofs.Common.{◌≡◌, ℕ, ◌+◌, Option, Some, None, refl, sym, ◌∙◌, ap, subst, ◌⊎◌, ◌↔◌}
+use Prim.Native.Nat.{max}
+use Rattle.machine_text.specs.Packed.{Packed, IsTable, entry_of, with_entry, tabulated}
 use Rattle.turing.specs.Program.{Program, IsMachine}
 use Rattle.turing.specs.Halting.{Stops, Never}
 use Rattle.turing.specs.Extension.{Extends}
-use Rattle.tree.specs.Filling.{filled, empty_machine}
 use Rattle.tree.specs.Used.{InOrder}
 use Rattle.tree.specs.Children.{IsChild}
 use Rattle.tree.specs.Tree.{InTree, IsDecided, IsGreatestInTree}
 use Rattle.tree.specs.Tree.InTree.{Root, Below}
-use Rattle.tree.specs.Best.{Attains, IsBest, IsGreatestOfAll}
+use Rattle.tree.specs.Best.{Attains, IsBest}
 use Rattle.tree.specs.Tables.{IsChildTable, InTableTree, IsDecidedTable, TableAttains, IsBestOfTable, IsGreatestInTables}
 use Rattle.tree.specs.Tables.InTableTree.{Itself, OfChild}
 use Rattle.tree.proofs.Halts.{pair_within}
 use Rattle.tree.proofs.Worth.{IsWorth}
-use Rattle.tree.proofs.Trees.{best_is_greatest}
+use Rattle.tree.proofs.TreeLaws.{child_in_order, best_is_greatest}
 use Rattle.tree.proofs.Parents.{one_parent}
-use Rattle.tree.proofs.Filling.{empty_is_machine}
-use Rattle.tree.proofs.Rado.{greatest_of_all}
 use Rattle.tree.proofs.Codes.{table_machine}
 use Rattle.tree.proofs.Packing.{with_entry_states, with_entry_fills, with_entry_table, same_table, tabulated_states, tabulated_map, tabulated_table}
 
@@ -58,21 +53,22 @@ child_map p t i x =
 -- each child of the map is the map of a child
 pub child_table : (p : Packed) (c : Program) → IsTable p → IsChild p.states (entry_of p) c → (t : Packed) × IsChildTable p t × (entry_of t ≡ c)
 child_table p c i x =
-    let within = pair_within p.states (entry_of p) x.count x.state x.symbol (table_machine p i) x.stops in
-    (with_entry p x.state x.symbol x.entry,
-    record {
-      used = x.used;
-      in_order = x.in_order;
-      count = x.count;
-      state = x.state;
-      symbol = x.symbol;
-      stops = x.stops;
-      undefined = x.undefined;
-      entry = x.entry;
-      is_entry = x.is_entry;
-      is = refl;
-    },
-    with_entry_fills p x.state x.symbol x.entry i within x.is_entry.within ∙ sym x.is)
+    let within = pair_within p.states (entry_of p) x.count x.state x.symbol (table_machine p i) x.stops in (
+      with_entry p x.state x.symbol x.entry,
+      record {
+        used = x.used;
+        in_order = x.in_order;
+        count = x.count;
+        state = x.state;
+        symbol = x.symbol;
+        stops = x.stops;
+        undefined = x.undefined;
+        entry = x.entry;
+        is_entry = x.is_entry;
+        is = refl;
+      },
+      with_entry_fills p x.state x.symbol x.entry i within x.is_entry.within ∙ sym x.is,
+    )
 
 -- the tables of a tree are alike, and their maps stand in the tree of the map
 pub tree_alike : (p t : Packed) → IsTable p → InTableTree p t → IsAlike p t
@@ -87,6 +83,13 @@ tree_map p t i Itself = Root
 tree_map p t i (OfChild {c} x below) =
     let child = child_alike p c i x in
     Below (child_map p c i x) (subst (λ n. InTree n (entry_of c) (entry_of t)) child.states (tree_map c t child.is_table below))
+
+-- each table of the tree of a table in order is in order
+pub tree_in_order : (p t : Packed) (u : ℕ) → IsTable p → InOrder u (entry_of p) → InTableTree p t → (v : ℕ) × InOrder v (entry_of t)
+tree_in_order p t u i o Itself = (u, o)
+tree_in_order p t u i o (OfChild {c} x below) =
+    let child = child_map p c i x in
+    tree_in_order c t (max child.used (child.entry.next.0 + 1)) (child_alike p c i x).is_table (child_in_order p.states (entry_of p) (entry_of c) child) below
 
 -- each machine of the tree of the map is the map of a table of the tree
 pub tree_table : (n : ℕ) (m x : Program) (p : Packed) → IsTable p → p.states ≡ n → entry_of p ≡ m → InTree n m x → (t : Packed) × InTableTree p t × (entry_of t ≡ x)
@@ -132,9 +135,10 @@ module _ (V : Program → ℕ → Type 0) where
 
   pub best_of_map : (p : Packed) (b : Option ℕ) → IsTable p → IsBestOfTable V p b ↔ IsBest V p.states (entry_of p) b
   best_of_map p None i = (λ none k a. none k (attains_table p k i a), λ none k a. none k (attains_map p k i a))
-  best_of_map p (Some s) i =
-      (λ best. (attains_map p s i best.0, λ k a. best.1 k (attains_table p k i a)),
-      λ best. (attains_table p s i best.0, λ k a. best.1 k (attains_map p k i a)))
+  best_of_map p (Some s) i = (
+    λ best. (attains_map p s i best.0, λ k a. best.1 k (attains_table p k i a)),
+    λ best. (attains_table p s i best.0, λ k a. best.1 k (attains_map p k i a)),
+  )
 
   -- the greatest over the tables of the tree is that over their maps
   pub greatest_of_maps : (p : Packed) (b : Option ℕ) → IsTable p → IsGreatestInTables V p b ↔ IsGreatestInTree V p.states (entry_of p) b
@@ -144,10 +148,12 @@ module _ (V : Program → ℕ → Type 0) where
       table_of m k x v =
           let (t, below, same) = tree_table p.states (entry_of p) m p i refl refl x in
           (t, below, subst (λ (y : Program). V y k) (sym same) v)
+
       there : (b : Option ℕ) → IsGreatestInTables V p b → IsGreatestInTree V p.states (entry_of p) b
       there None none = λ m k x v. let (t, below, w) = table_of m k x v in none t k below w
       there (Some s) greatest =
           ((entry_of greatest.0.0, tree_map p greatest.0.0 i greatest.0.1, greatest.0.2), λ m k x v. let (t, below, w) = table_of m k x v in greatest.1 t k below w)
+
       back : (b : Option ℕ) → IsGreatestInTree V p.states (entry_of p) b → IsGreatestInTables V p b
       back None none = λ t k x v. none (entry_of t) k (tree_map p t i x) v
       back (Some s) greatest = (table_of greatest.0.0 s greatest.0.1 greatest.0.2, λ t k x v. greatest.1 (entry_of t) k (tree_map p t i x) v)

@@ -7,10 +7,10 @@ use Rattle.turing.proofs.RunLaws.{one_count}
 use Rattle.tree.specs.Used.{InOrder}
 use Rattle.tree.specs.Tables.{IsChildTable, InTableTree, IsDecidedTable, IsBestOfTable, IsGreatestInTables}
 use Rattle.tree.specs.Tables.InTableTree.{Itself, OfChild}
-use Rattle.tree.specs.Closed.{Mark, IsTrueMark, IsVerdict, IsOpen, IsClosed, IsComplete, IsGreatestRecorded}
+use Rattle.tree.specs.Closed.{Mark, IsTrueMark, IsVerdict, IsClosed, IsComplete, IsGreatestRecorded}
 use Rattle.tree.specs.Closed.Mark.{Stopping, NonStopping, Undecided}
 use Rattle.tree.proofs.Worth.{IsWorth}
-use Rattle.tree.proofs.Tables.{table_best}
+use Rattle.tree.proofs.TableLaws.{table_best}
 
 -- a mark that gives a verdict: the table stops in so many steps, or never does
 verdict_cases : (o : Option Mark) → IsVerdict o → ((k : ℕ) × (o ≡ Some (Stopping k))) ⊎ (o ≡ Some NonStopping)
@@ -28,7 +28,7 @@ mark_cases (Some Undecided) = inr (inl refl)
 
 -- the marks are true
 module _ (root : Packed) (marks : Packed → Option Mark) (true_marks : (t : Packed) → IsTrueMark t (marks t)) where
-  stops_marked : (t : Packed) (k : ℕ) → marks t ≡ Some (Stopping k) → Stops (entry_of t) k
+  pub stops_marked : (t : Packed) (k : ℕ) → marks t ≡ Some (Stopping k) → Stops (entry_of t) k
   stops_marked t k is = subst (IsTrueMark t) is (true_marks t)
 
   never_marked : (t : Packed) → marks t ≡ Some NonStopping → Never (entry_of t)
@@ -45,16 +45,20 @@ module _ (root : Packed) (marks : Packed → Option Mark) (true_marks : (t : Pac
   pub closed_child : (p c : Packed) → IsClosed root marks p → IsChildTable p c → IsClosed root marks c
   closed_child p c closed x = elim (mark_cases (marks c)) [
     | inl unmarked ↦ (
-      let stops = stopping_is_marked p x.count closed.verdict x.stops.stops in
-      absurd (closed.none_open c (OfChild x Itself) (record { unmarked = unmarked; place = inr (p, x.count, stops, x) })))
+        let stops = stopping_is_marked p x.count closed.verdict x.stops.stops in
+        absurd (closed.none_open c (OfChild x Itself) (record { unmarked = unmarked; place = inr (p, x.count, stops, x) })))
     | inr (inl held) ↦ absurd (closed.no_holdout c (OfChild x Itself) held)
     | inr (inr verdict) ↦ record { verdict = verdict; none_open = λ t below. closed.none_open t (OfChild x below); no_holdout = λ t below. closed.no_holdout t (OfChild x below) }
   ]
 
-  -- so each table of its tree has a verdict
+  -- and so is each table of its tree
+  pub closed_below : (p t : Packed) → IsClosed root marks p → InTableTree p t → IsClosed root marks t
+  closed_below p t closed Itself = closed
+  closed_below p t closed (OfChild {c} x below) = closed_below c t (closed_child p c closed x) below
+
+  -- so each of them has a verdict
   pub closed_verdict : (p t : Packed) → IsClosed root marks p → InTableTree p t → IsVerdict (marks t)
-  closed_verdict p t closed Itself = closed.verdict
-  closed_verdict p t closed (OfChild {c} x below) = closed_verdict c t (closed_child p c closed x) below
+  closed_verdict p t closed below = (closed_below p t closed below).verdict
 
   pub closed_decided : (p : Packed) → IsClosed root marks p → IsDecidedTable p
   closed_decided p closed t below = elim (verdict_cases (marks t) (closed_verdict p t closed below)) [
@@ -80,18 +84,21 @@ module _ (root : Packed) (marks : Packed → Option Mark) (true_marks : (t : Pac
             let h = w.halts (entry_of t) s v in
             let is = stopping_is_marked t h.0 (closed_verdict p t closed below) h.1 in
             (h.0, is, w.one (entry_of t) s (value t h.0) v (worth t h.0 is))
+
         there : (b : Option ℕ) → IsGreatestInTables V p b → IsGreatestRecorded value marks p b
         there None none = λ t k below is. none t (value t k) below (worth t k is)
         there (Some s) greatest =
             let (t, below, v) = greatest.0 in
             let (k, is, same) = mark_of t s below v in
             ((t, k, below, is, same), λ t k below is. greatest.1 t (value t k) below (worth t k is))
+
         back : (b : Option ℕ) → IsGreatestRecorded value marks p b → IsGreatestInTables V p b
         back None none = λ t s below v. let (k, is, same) = mark_of t s below v in none t k below is
         back (Some s) greatest =
-            let (t, k, below, is, same) = greatest.0 in
-            ((t, below, subst (V (entry_of t)) (sym same) (worth t k is)),
-            λ t x below v. let (k, is, same) = mark_of t x below v in subst (λ y. y ≤ s) (sym same) (greatest.1 t k below is))
+            let (t, k, below, is, same) = greatest.0 in (
+              (t, below, subst (V (entry_of t)) (sym same) (worth t k is)),
+              λ t x below v. let (k, is, same) = mark_of t x below v in subst (λ y. y ≤ s) (sym same) (greatest.1 t k below is),
+            )
 
     -- closed: the greatest recorded is the best of all extensions
     pub closed_best : (p : Packed) (u : ℕ) → IsTable p → InOrder u (entry_of p) → IsClosed root marks p → (b : Option ℕ) → IsBestOfTable V p b ↔ IsGreatestRecorded value marks p b

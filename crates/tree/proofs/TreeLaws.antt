@@ -1,17 +1,14 @@
 -- What the tree of a machine attains, all its extensions attain, and nothing else.
-use Rattle.std.proofs.Common.{◌≡◌, ℕ, zero, suc, ◌+◌, ◌<◌, ◌≤◌, Option, Some, None, refl, sym, ◌∙◌, ap, subst, ◌⊎◌, inl, inr, ◌↔◌, arith}
+use Rattle.std.proofs.Common.{◌≡◌, ℕ, zero, suc, ◌+◌, ◌≤◌, Option, Some, None, refl, inl, inr, ◌↔◌, arith}
 use Prim.Native.Nat.{max}
 use Rattle.std.proofs.lemmas.Bool.{cases_lt}
-use Rattle.machine_text.specs.declared.transition.Sym.{Sym}
-use Rattle.machine_text.specs.declared.transition.Entry.{Entry}
 use Rattle.machine_text.specs.Packed.{holes}
 use Rattle.turing.specs.Program.{Program, IsMachine}
 use Rattle.turing.specs.Tape.{symbol_read}
-use Rattle.turing.specs.Halting.{Stops, Never}
 use Rattle.turing.specs.Extension.{Extends}
 use Rattle.tree.specs.Filling.{filled}
 use Rattle.tree.specs.Used.{InOrder}
-use Rattle.tree.specs.Children.{StopsOn, IsChildEntry, IsChild}
+use Rattle.tree.specs.Children.{IsChild}
 use Rattle.tree.specs.Tree.{InTree, IsDecided, IsGreatestInTree}
 use Rattle.tree.specs.Tree.InTree.{Root, Below}
 use Rattle.tree.specs.Best.{Attains, IsBest}
@@ -53,28 +50,28 @@ module _ (V : Program → ℕ → Type 0) (w : IsWorth V) where
   attained_in_tree zero n u m k le i o decided a = elim (decided m Root) [
     | inr never ↦ absurd (never_attains V w n m k never a)
     | inl stops ↦ (
-      let h = stops_on m stops.0 stops.1 in
-      (m, Root, only_attains V w n m stops.0 stops.1.at.state (symbol_read stops.1.at.tape) k i (omega arith) h a))
+        let h = stops_on m stops.0 stops.1 in
+        (m, Root, only_attains V w n m stops.0 stops.1.at.state (symbol_read stops.1.at.tape) k i (omega arith) h a))
   ]
   attained_in_tree (suc d) n u m k le i o decided a = elim (decided m Root) [
     | inr never ↦ absurd (never_attains V w n m k never a)
     | inl stops ↦ (
-      let q = stops.1.at.state in
-      let s = symbol_read stops.1.at.tape in
-      let h = stops_on m stops.0 stops.1 in
-      elim (cases_lt 1 (holes n m)) [
-        | inr one ↦ (m, Root, only_attains V w n m stops.0 q s k i one h a)
-        | inl two ↦ elim (covered V w n u m stops.0 q s k i o h a) [
-          | inl own ↦ (m, Root, own)
-          | inr found ↦ (
-            let (e, entry, attained) = found in
-            let c = filled m q s e in
-            let x : IsChild n m c = record { used = u; in_order = o; count = stops.0; state = q; symbol = s; stops = h; undefined = two; entry = e; is_entry = entry; is = refl } in
-            let fewer = child_holes n m c i x in
-            let (t, below, v) = attained_in_tree d n (max u (e.next.0 + 1)) c k (omega arith) (child_machine n m c i x) (child_in_order n m c x) (decided_below n m c decided x) attained in
-            (t, Below x below, v))
-        ]
-      ])
+        let q = stops.1.at.state in
+        let s = symbol_read stops.1.at.tape in
+        let h = stops_on m stops.0 stops.1 in
+        elim (cases_lt 1 (holes n m)) [
+          | inr one ↦ (m, Root, only_attains V w n m stops.0 q s k i one h a)
+          | inl two ↦ elim (covered V w n u m stops.0 q s k i o h a) [
+            | inl own ↦ (m, Root, own)
+            | inr found ↦ (
+                let (e, entry, attained) = found in
+                let c = filled m q s e in
+                let x : IsChild n m c = record { used = u; in_order = o; count = stops.0; state = q; symbol = s; stops = h; undefined = two; entry = e; is_entry = entry; is = refl } in
+                let fewer = child_holes n m c i x in
+                let (t, below, v) = attained_in_tree d n (max u (e.next.0 + 1)) c k (omega arith) (child_machine n m c i x) (child_in_order n m c x) (decided_below n m c decided x) attained in
+                (t, Below x below, v))
+          ]
+        ])
   ]
 
   -- so the best of all extensions is the greatest in the tree
@@ -83,9 +80,11 @@ module _ (V : Program → ℕ → Type 0) (w : IsWorth V) where
     where
       in_tree : (k : ℕ) → Attains V n m k → (t : Program) × InTree n m t × V t k
       in_tree k a = attained_in_tree (holes n m) n u m k (omega arith) i o decided a
+
       there : (b : Option ℕ) → IsBest V n m b → IsGreatestInTree V n m b
       there None best = λ t k x v. best k (tree_attains n m t k i x v)
       there (Some s) best = (in_tree s best.0, λ t k x v. best.1 k (tree_attains n m t k i x v))
+
       back : (b : Option ℕ) → IsGreatestInTree V n m b → IsBest V n m b
       back None none = λ t a. let (x, in', v) = in_tree t a in none x t in' v
       back (Some s) greatest = (tree_attains n m greatest.0.0 s i greatest.0.1 greatest.0.2, λ t a. let (x, in', v) = in_tree t a in greatest.1 x t in' v)

@@ -1,17 +1,15 @@
 -- The best of a machine by the bests of its children.
-use Rattle.std.proofs.Common.{◌≡◌, ℕ, zero, suc, ◌+◌, ◌<◌, ◌≤◌, List, [], ◌∷◌, Option, Some, None, refl, sym, ◌∙◌, ap, subst, ◌⊎◌, inl, inr, ◌↔◌, arith}
-use Prim.Native.Nat.{max}
+use Rattle.std.proofs.Common.{◌≡◌, ℕ, ◌≤◌, Option, Some, None, refl, sym, ◌∙◌, ap, subst, inl, inr, ◌↔◌, arith}
 use Rattle.std.proofs.lemmas.Option.{same_Some}
 use Rattle.machine_text.specs.declared.transition.Sym.{Sym}
 use Rattle.machine_text.specs.declared.transition.Entry.{Entry}
 use Rattle.machine_text.specs.Packed.{holes}
 use Rattle.turing.specs.Program.{Program, IsMachine}
-use Rattle.turing.specs.Halting.{Stops, Never}
+use Rattle.turing.specs.Halting.{Never}
 use Rattle.tree.specs.Filling.{filled}
 use Rattle.tree.specs.Used.{InOrder}
 use Rattle.tree.specs.Children.{StopsOn, IsChildEntry}
 use Rattle.tree.specs.Best.{Attains, IsBest, IsGreatestOf}
-use Rattle.tree.proofs.Filling.{cases_option}
 use Rattle.tree.proofs.Halts.{pair_undefined, full_never}
 use Rattle.tree.proofs.Worth.{IsWorth}
 use Rattle.tree.proofs.Extensions.{attains_itself, attains_child, never_attains, only_attains, covered}
@@ -46,9 +44,9 @@ module _ (V : Program → ℕ → Type 0) (w : IsWorth V) where
       one = elim (covered V w n u m k q r s i o h best.0) [
         | inl own ↦ inl (w.one m s x own v)
         | inr child ↦ (
-          let (y, is, le) = best_bounds n (filled m q r child.0) (b child.0) s (bests child.0 child.1) child.2 in
-          let back = best.1 y (attains_child V w n m q r child.0 y (pair_undefined m k q r h) (best_attained n (filled m q r child.0) (b child.0) y (bests child.0 child.1) is)) in
-          inr (child.0, child.1, is ∙ ap Some (omega arith)))
+            let (y, is, le) = best_bounds n (filled m q r child.0) (b child.0) s (bests child.0 child.1) child.2 in
+            let back = best.1 y (attains_child V w n m q r child.0 y (pair_undefined m k q r h) (best_attained n (filled m q r child.0) (b child.0) y (bests child.0 child.1) is)) in
+            inr (child.0, child.1, is ∙ ap Some (omega arith)))
       ];
       own = best.1 x (attains_itself V w n m x i v);
       each = λ e t c is. best.1 t (attains_child V w n m q r e t (pair_undefined m k q r h) (best_attained n (filled m q r e) (b e) t (bests e c) is));
@@ -62,13 +60,14 @@ module _ (V : Program → ℕ → Type 0) (w : IsWorth V) where
           | inl own ↦ attains_itself V w n m s i (subst (V m) (sym own) v)
           | inr child ↦ attains_child V w n m q r child.0 s (pair_undefined m k q r h) (best_attained n (filled m q r child.0) (b child.0) s (bests child.0 child.1) child.2)
         ]
+
         bound : (t : ℕ) → Attains V n m t → t ≤ s
         bound t a = elim (covered V w n u m k q r t i o h a) [
           | inl own ↦ let same = w.one m t x own v in let le = g.own in omega arith
           | inr child ↦ (
-            let (y, is, le) = best_bounds n (filled m q r child.0) (b child.0) t (bests child.0 child.1) child.2 in
-            let below = g.each child.0 y child.1 is in
-            omega arith)
+              let (y, is, le) = best_bounds n (filled m q r child.0) (b child.0) t (bests child.0 child.1) child.2 in
+              let below = g.each child.0 y child.1 is in
+              omega arith)
         ]
 
     -- the best is the greatest of its own worth and of the children's bests

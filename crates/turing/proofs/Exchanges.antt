@@ -1,11 +1,13 @@
 -- Exchanging two states other than the first, mirroring, and moving the tape are renamings.
-use Rattle.std.proofs.Common.{◌≡◌, ℕ, ◌<◌, ℤ, pos, ◌+ℤ◌, ◌-ℤ◌, Option, Some, None, sym, ◌∙◌, ap, refl, arith}
+use Rattle.std.proofs.Common.{◌≡◌, ℕ, ◌<◌, ◌≤◌, ℤ, pos, ◌+ℤ◌, ◌-ℤ◌, Option, Some, None, sym, ◌∙◌, ap, subst, refl, arith}
 use Rattle.std.proofs.lemmas.Bool.Decides.{nat_tests}
 use Rattle.std.proofs.lemmas.Int.{ints}
+use Rattle.std.proofs.lemmas.Option.{same_Some, none-some}
+use Rattle.machine_text.specs.declared.transition.Sym.{Sym}
 use Rattle.machine_text.specs.declared.transition.Dir.{Dir}
 use Rattle.machine_text.specs.declared.transition.Dir.TheVariants.{L, R}
 use Rattle.machine_text.specs.declared.transition.Entry.{Entry}
-use Rattle.turing.specs.Program.{Program}
+use Rattle.turing.specs.Program.{Program, IsMachine}
 use Rattle.turing.specs.Tape.{moved_head}
 use Rattle.turing.specs.Run.{Config, from}
 use Rattle.turing.specs.Halting.{Stops}
@@ -73,6 +75,25 @@ pub exchange_kept_score : (a b : ℕ) (m : Program) (k s : ℕ) → 0 < a → 0 
 exchange_kept_score a b m k s pa pb =
     renamed_stops_with (exchanged a b) same_head same_dir (with_exchanged a b m) m (exchange_renames_back a b m) (exchanged_other a b 0 (λ e. omega arith) (λ e. omega arith)) refl k s
 
+-- an exchange of two of the states keeps their number
+pub exchanged_below : (n a b q : ℕ) → a < n → b < n → q < n → exchanged a b q < n
+exchanged_below n a b q below_a below_b below = grind (arith, nat_tests)
+
+pub exchanged_beyond : (n a b q : ℕ) → a < n → b < n → n ≤ q → n ≤ exchanged a b q
+exchanged_beyond n a b q below_a below_b past = grind (arith, nat_tests)
+
+exchanged_target : (a b n : ℕ) (o : Option Entry) (e : Entry) → a < n → b < n → ((f : Entry) → o ≡ Some f → f.next.0 < n) → exchanged_entry a b o ≡ Some e → e.next.0 < n
+exchanged_target a b n None e below_a below_b inside is = absurd (none-some e is)
+exchanged_target a b n (Some f) e below_a below_b inside is =
+    subst (λ (x : Entry). x.next.0 < n) (same_Some _ e is) (exchanged_below n a b f.next.0 below_a below_b (inside f refl))
+
+pub exchanged_machine : (n a b : ℕ) (m : Program) → a < n → b < n → IsMachine n m → IsMachine n (with_exchanged a b m)
+exchanged_machine n a b m below_a below_b machine = record {
+  some = machine.some;
+  beyond = λ q s past. ap (exchanged_entry a b) (machine.beyond (exchanged a b q) s (exchanged_beyond n a b q below_a below_b past));
+  inside = λ q s e is. exchanged_target a b n (m (exchanged a b q) s) e below_a below_b (machine.inside (exchanged a b q) s) is;
+}
+
 -- the place on the other side of the start
 abbrev back : ℤ → ℤ
 back x = pos 0 -ℤ x
@@ -106,6 +127,22 @@ mirrored_back : (o : Option Entry) → o ≡ renamed_entry same_state opposite (
 mirrored_back None = refl
 mirrored_back (Some e) = ap (λ d. Some (record { write = e.write; dir = d; next = e.next })) (sym (opposite_twice e.dir))
 
+-- the entry of the machine is the mirror image of its mirror image's
+pub unmirrored : (m : Program) (q : ℕ) (s : Sym) (o : Option Entry) → mirrored m q s ≡ o → m q s ≡ mirrored_entry o
+unmirrored m q s o is = mirrored_twice (m q s) ∙ ap mirrored_entry is
+  where
+    mirrored_twice : (o : Option Entry) → o ≡ mirrored_entry (mirrored_entry o)
+    mirrored_twice None = refl
+    mirrored_twice (Some e) = ap (λ d. Some (record { write = e.write; dir = d; next = e.next })) (sym (opposite_twice e.dir))
+
+-- a mirror image has as many states
+pub mirrored_machine : (n : ℕ) (m : Program) → IsMachine n m → IsMachine n (mirrored m)
+mirrored_machine n m machine = record {
+  some = machine.some;
+  beyond = λ q s past. ap mirrored_entry (machine.beyond q s past);
+  inside = λ q s e is. machine.inside q s (record { write = e.write; dir = opposite e.dir; next = e.next }) (unmirrored m q s (Some e) is);
+}
+
 mirror_renames_back : (m : Program) → Renames same_state back opposite (mirrored m) m
 mirror_renames_back m = record { apart = back_apart; moves = back_moved; entries = λ q s. mirrored_back (m q s) }
 
@@ -119,11 +156,11 @@ unturned : (o : Option Entry) → o ≡ renamed_entry same_state same_dir o
 unturned None = refl
 unturned (Some e) = refl
 
-shift_moved : (t x : ℤ) (d : Dir) → moved_head (x +ℤ t) d ≡ moved_head x d +ℤ t
+pub shift_moved : (t x : ℤ) (d : Dir) → moved_head (x +ℤ t) d ≡ moved_head x d +ℤ t
 shift_moved t x L = omega (arith, ints)
 shift_moved t x R = omega (arith, ints)
 
-shift_apart : (t x y : ℤ) → x +ℤ t ≡ y +ℤ t → x ≡ y
+pub shift_apart : (t x y : ℤ) → x +ℤ t ≡ y +ℤ t → x ≡ y
 shift_apart t x y e = omega (arith, ints)
 
 shift_renames : (m : Program) (t : ℤ) → Renames same_state (λ x. x +ℤ t) same_dir m m

@@ -5,3 +5,16 @@ pub mod Simulation
 pub mod Extensions
 pub mod Renaming
 pub mod Exchanges
+pub mod CycleLaws
+pub mod TranslatedLaws
+pub mod Heads
+pub mod OneState
+pub mod BackwardLaws
+pub mod PartialTapes
+pub mod Counting
+pub mod Paths
+pub mod Invariants
+pub mod Words
+pub mod ClosedSets
+pub mod HalfTapes
+pub mod AutomataLaws

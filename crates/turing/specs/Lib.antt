@@ -8,3 +8,8 @@ pub mod Extension
 pub mod Exchange
 pub mod Mirror
 pub mod Shift
+pub mod Cycle
+pub mod Translated
+pub mod Backward
+pub mod PositionSet
+pub mod Automata

@@ -1,7 +1,7 @@
 // The laws of runs that hold for every machine.
-ghost use Rattle.std.specs.Prelude.{◌≡◌, ◌↔◌, ℕ, ◌+◌, ◌<◌, ◌≤◌, Some, None};
+ghost use Rattle.std.specs.Prelude.{◌≡◌, ◌↔◌, ℕ, ◌+◌, ◌<◌, ◌≤◌, pos, ◌+ℤ◌, ◌-ℤ◌, ◌≤ℤ◌, Some, None};
 ghost use Rattle.machine_text.specs.declared.transition.Entry.{Entry};
-ghost use Rattle.turing.specs.Program.{Program};
+ghost use Rattle.turing.specs.Program.{Program, IsMachine};
 ghost use Rattle.turing.specs.Run.{Config, from, after, next, carried_out};
 ghost use Rattle.turing.specs.Tape.{symbol_read};
 ghost use Rattle.turing.specs.Step.{Takes};
@@ -38,4 +38,19 @@ pub fn one_count()
 /// A machine never stops exactly where its run is there at each time.
 pub fn never_is_always()
     ensures { (m : Program) → Never m ↔ ((k : ℕ) → (c : Config) × (after m k ≡ Some c)) }
+{}
+
+/// What is true of a machine is one: a machine that stops is none that never stops.
+pub fn one_verdict()
+    ensures { (m : Program) (k : ℕ) → Stops m k → Never m → ⊥ }
+{}
+
+/// The run of a machine of n states from one of these states stays among them.
+pub fn states_within()
+    ensures { (n : ℕ) (m : Program) → IsMachine n m → (k : ℕ) (c d : Config) → c.state < n → from m k c ≡ Some d → d.state < n }
+{}
+
+/// After k steps the head is at most k cells off.
+pub fn head_reach()
+    ensures { (m : Program) (k : ℕ) (c d : Config) → from m k c ≡ Some d → ((c.tape.head -ℤ pos k) ≤ℤ d.tape.head) × (d.tape.head ≤ℤ (c.tape.head +ℤ pos k)) }
 {}

@@ -1,0 +1,5 @@
+use Rattle.turing.proofs.AutomataLaws.{automata_never}
+use Rattle.turing.proofs.closed.automata_never.Goals as goal
+
+pub returns : goal.returns
+returns c = automata_never

@@ -1,0 +1,22 @@
+// Machines that are kept from halting by a set of what can stand on the tape: closed position sets, and
+// finite automata.
+ghost use Rattle.std.specs.Prelude.{◌≡◌, ℕ, List, Contains, Some};
+ghost use Rattle.machine_text.specs.declared.transition.Sym.{Sym};
+ghost use Rattle.machine_text.specs.declared.transition.Dir.{Dir};
+ghost use Rattle.turing.specs.Program.{Program, IsMachine};
+ghost use Rattle.turing.specs.Run.{Config, from};
+ghost use Rattle.turing.specs.Halting.{Never};
+ghost use Rattle.turing.specs.PositionSet.{Local, IsClosed, IsInside};
+ghost use Rattle.turing.specs.Automata.{Automata, Fits};
+
+/// A machine that has a closed position set never stops. Nor does its run from any other tape whose words
+/// are in the sets: it goes on for ever, within the sets.
+pub fn position_set_never()
+    ensures never { (g : ℕ) (m : Program) (lefts rights : List (List Sym)) (members : List Local) → IsClosed g m (Contains lefts) (Contains rights) (Contains members) → Never m }
+    ensures inside { (g : ℕ) (m : Program) (lefts rights : List (List Sym)) (members : List Local) → IsClosed g m (Contains lefts) (Contains rights) (Contains members) → (c : Config) → IsInside g (Contains lefts) (Contains rights) (Contains members) c → (k : ℕ) → (d : Config) × (from m k c ≡ Some d) × IsInside g (Contains lefts) (Contains rights) (Contains members) d }
+{}
+
+/// A machine of n states that finite automata fit never stops, whichever side is ahead.
+pub fn automata_never()
+    ensures { (n : ℕ) (m : Program) (side : Dir) (a : Automata) → IsMachine n m → Fits n m side a → Never m }
+{}

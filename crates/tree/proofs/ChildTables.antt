@@ -34,20 +34,20 @@ map_contains : {X Y : Type 0} (f : X → Y) (xs : List X) (x : X) → Contains x
 map_contains f xs x c = (c.0, omega (arith, c.1, length-map xs f), get_or-map f xs c.0 x (f x) c.1 ∙ ap f c.2)
 
 -- the list by whether at least two pairs are undefined
-abbrev entries_of : Packed → List Entry
+abbrev pub entries_of : Packed → List Entry
 entries_of p = child_entries p.states (used_count p.states (entry_of p)) (entry_of p)
 
-some_children : (p : Packed) (q : ℕ) (s : Sym) → 2 ≤ holes p.states (entry_of p) → children_at p q s ≡ map (with_entry p q s) (entries_of p)
+pub some_children : (p : Packed) (q : ℕ) (s : Sym) → 2 ≤ holes p.states (entry_of p) → children_at p q s ≡ map (with_entry p q s) (entries_of p)
 unfolding children_at
 some_children p q s two = rw (le-leb 2 (holes p.states (entry_of p)) two)
 
-no_children : (p : Packed) (q : ℕ) (s : Sym) → holes p.states (entry_of p) < 2 → children_at p q s ≡ []
+pub no_children : (p : Packed) (q : ℕ) (s : Sym) → holes p.states (entry_of p) < 2 → children_at p q s ≡ []
 unfolding children_at
 no_children p q s few = rw (lt-leb 2 (holes p.states (entry_of p)) few)
 
 -- p stops on the pair, in order
 module _ (p : Packed) (u k q : ℕ) (s : Sym) (i : IsTable p) (o : InOrder u (entry_of p)) (h : StopsOn (entry_of p) k q s) where
-  entry_from : (e : Entry) → Contains (entries_of p) e → IsChildEntry p.states u (entry_of p) e
+  pub entry_from : (e : Entry) → Contains (entries_of p) e → IsChildEntry p.states u (entry_of p) e
   entry_from e c =
       let m = table_machine p i in
       subst (λ v. IsChildEntry p.states v (entry_of p) e) (used_number p.states u (entry_of p) m o) (listed_is_entry p.states (used_count p.states (entry_of p)) (entry_of p) e m c)

@@ -26,6 +26,22 @@ mark_cases (Some (Stopping k)) = inr (inr tt)
 mark_cases (Some NonStopping) = inr (inr tt)
 mark_cases (Some Undecided) = inr (inl refl)
 
+-- two true verdicts on a table are one
+pub one_mark : (t : Packed) (a b : Option Mark) → IsTrueMark t a → IsTrueMark t b → IsVerdict a → IsVerdict b → a ≡ b
+one_mark t a b p q v w = elim (verdict_cases a v) [
+  | inl x ↦ elim (verdict_cases b w) [
+    | inl y ↦ x.1 ∙ ap (λ j. Some (Stopping j)) (one_count (entry_of t) x.0 y.0 (subst (IsTrueMark t) x.1 p) (subst (IsTrueMark t) y.1 q)) ∙ sym y.1
+    | inr y ↦ absurd (never_stops (subst (IsTrueMark t) y q) x.0 (subst (IsTrueMark t) x.1 p))
+  ]
+  | inr x ↦ elim (verdict_cases b w) [
+    | inl y ↦ absurd (never_stops (subst (IsTrueMark t) x p) y.0 (subst (IsTrueMark t) y.1 q))
+    | inr y ↦ x ∙ sym y
+  ]
+]
+  where
+    never_stops : Never (entry_of t) → (k : ℕ) → Stops (entry_of t) k → ⊥
+    never_stops never k h = never k h
+
 -- the marks are true
 module _ (root : Packed) (marks : Packed → Option Mark) (true_marks : (t : Packed) → IsTrueMark t (marks t)) where
   pub stops_marked : (t : Packed) (k : ℕ) → marks t ≡ Some (Stopping k) → Stops (entry_of t) k

@@ -18,3 +18,6 @@ pub mod TableLaws
 pub mod EmptyTable
 pub mod ChildTables
 pub mod ClosedLaws
+pub mod OneStateTree
+pub mod ChildOrder
+pub mod ListedBests

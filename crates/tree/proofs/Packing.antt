@@ -45,7 +45,7 @@ unfolding with_entry
 with_entry_size p q s e = length-set p.codes (pair_place q s) (code_of (Some e))
 
 -- the place of a table's pair is one of its codes' places
-place_in : (p : Packed) (q : ℕ) (s : Sym) → IsTable p → q < p.states → pair_place q s < length p.codes
+pub place_in : (p : Packed) (q : ℕ) (s : Sym) → IsTable p → q < p.states → pair_place q s < length p.codes
 place_in p q s t lt = omega (arith, t.size, t.limit, place_within q p.states s lt)
 
 -- one entry more in a table fills that pair of its map

@@ -39,7 +39,7 @@ tree_holes n m t i (Below {c} x below) =
     omega arith
 
 -- the child's entry stands at the pair on which the parent stops
-child_at : (n : ℕ) (m c : Program) (x : IsChild n m c) → c x.state x.symbol ≡ Some x.entry
+pub child_at : (n : ℕ) (m c : Program) (x : IsChild n m c) → c x.state x.symbol ≡ Some x.entry
 child_at n m c x = rw x.is (filled_at m x.state x.symbol x.entry)
 
 -- two children of one machine that a third one extends are one

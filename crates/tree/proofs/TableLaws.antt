@@ -84,6 +84,11 @@ tree_map p t i (OfChild {c} x below) =
     let child = child_alike p c i x in
     Below (child_map p c i x) (subst (λ n. InTree n (entry_of c) (entry_of t)) child.states (tree_map c t child.is_table below))
 
+-- a child of a table of the tree stands in the tree
+pub tree_table_child : (r p t : Packed) → InTableTree r p → IsChildTable p t → InTableTree r t
+tree_table_child r p t Itself x = OfChild x Itself
+tree_table_child r p t (OfChild {c} y below) x = OfChild y (tree_table_child c p t below x)
+
 -- each table of the tree of a table in order is in order
 pub tree_in_order : (p t : Packed) (u : ℕ) → IsTable p → InOrder u (entry_of p) → InTableTree p t → (v : ℕ) × InOrder v (entry_of t)
 tree_in_order p t u i o Itself = (u, o)

@@ -35,6 +35,11 @@ pub child_holes : (n : ℕ) (m c : Program) → IsMachine n m → IsChild n m c 
 child_holes n m c i x =
     rw x.is (holes_filled n m x.state x.symbol x.entry (pair_within n m x.count x.state x.symbol i x.stops) (pair_undefined m x.count x.state x.symbol x.stops))
 
+-- a child of a machine of the tree stands in the tree
+pub tree_child : (n : ℕ) (m p t : Program) → InTree n m p → IsChild n p t → InTree n m t
+tree_child n m p t Root x = Below x Root
+tree_child n m p t (Below {c} y below) x = Below y (tree_child n c p t below x)
+
 -- the tree of a child is part of the tree
 pub decided_below : (n : ℕ) (m c : Program) → IsDecided n m → IsChild n m c → IsDecided n c
 decided_below n m c d x t i = d t (Below x i)

@@ -1,8 +1,8 @@
 -- The test of a used state, and how many states pass it.
-use Rattle.std.proofs.Common.{◌≡◌, ℕ, suc, zero, ◌+◌, ◌-◌, ◌<◌, Bool, true, cond, ◌||◌, ◌==◌, ltb, Option, Some, None, is_some, count_by, refl, sym, ◌∙◌, ap, subst, inl, inr, arith}
+use Rattle.std.proofs.Common.{◌≡◌, ℕ, suc, zero, ◌+◌, ◌-◌, ◌<◌, ◌≤◌, Bool, true, cond, ◌||◌, ◌==◌, ltb, Option, Some, None, is_some, count_by, refl, sym, ◌∙◌, ap, subst, inl, inr, arith}
 use Prim.Native.Nat.{min}
 use Rattle.std.specs.List.{range_with_len}
-use Rattle.std.proofs.lemmas.Bool.{cases_eq, cases_lt, false≢true, eqb-true, eq-eqb, lt-ltb, le-ltb, or_cases, or_left, or_right, false_from_ne_true}
+use Rattle.std.proofs.lemmas.Bool.{cases_eq, cases_lt, false≢true, eqb-true, eq-eqb, lt-ltb, ltb-true, le-ltb, or_cases, or_left, or_right, false_from_ne_true}
 use Rattle.std.proofs.lemmas.List.Sums.{sum_by-cons}
 use Rattle.machine_text.specs.declared.transition.Sym.{Sym}
 use Rattle.machine_text.specs.declared.transition.Sym.TheVariants.{Zero, One}
@@ -78,6 +78,19 @@ test_from_used n m q i (Target p s e is to) =
     let found : is_target n m q ≡ true = subst (λ (x : ℕ). is_target n m x ≡ true) to (found_target n m p s e within is) in
     or_right (q == 0) (has_entry m q || is_target n m q) (or_right (has_entry m q) (is_target n m q) found)
 
+-- in order: the test is that of the first u numbers
+pub order_test : (n u : ℕ) (m : Program) → IsMachine n m → InOrder u m → (q : ℕ) → is_used n m q ≡ ltb q u
+order_test n u m i o q = elim (cases_lt q u) [
+  | inl less ↦ test_from_used n m q i (o.each q less) ∙ sym (lt-ltb q u less)
+  | inr ge ↦ false_from_ne_true (is_used n m q) (λ t. let over = o.only q (used_from_test n m q t) in absurd (omega arith)) ∙ sym (le-ltb q u ge)
+]
+
+pub order_from_test : (n u : ℕ) (m : Program) → IsMachine n m → u ≤ n → ((q : ℕ) → q < n → is_used n m q ≡ ltb q u) → InOrder u m
+order_from_test n u m i le same = record {
+  only = λ q used. ltb-true q u (sym (same q (used_within n m q i used)) ∙ test_from_used n m q i used);
+  each = λ q lt. used_from_test n m q (same q (omega arith) ∙ lt-ltb q u lt);
+}
+
 -- how many of the numbers from a on pass, where those below u do
 count_below : (p : ℕ → Bool) (u a n : ℕ) → ((q : ℕ) → q < a + n → p q ≡ ltb q u) → count_by p (range_with_len a n) ≡ min (a + n) u - a
 count_below p u a zero same = omega arith
@@ -95,9 +108,5 @@ count_below p u a (suc n) same =
 pub used_number : (n u : ℕ) (m : Program) → IsMachine n m → InOrder u m → used_count n m ≡ u
 unfolding used_count
 used_number n u m i o =
-    let same : (q : ℕ) → q < 0 + n → is_used n m q ≡ ltb q u = λ q lt. elim (cases_lt q u) [
-      | inl less ↦ test_from_used n m q i (o.each q less) ∙ sym (lt-ltb q u less)
-      | inr ge ↦ false_from_ne_true (is_used n m q) (λ t. let over = o.only q (used_from_test n m q t) in absurd (omega arith)) ∙ sym (le-ltb q u ge)
-    ] in
-    let count = count_below (is_used n m) u 0 n same in
+    let count = count_below (is_used n m) u 0 n (λ q _. order_test n u m i o q) in
     omega (arith, used_bound n u m i o)

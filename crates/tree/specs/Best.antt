@@ -1,5 +1,6 @@
 -- The best of a machine: the greatest worth, as the number of steps, of all its extensions, in the tree or not.
-use Rattle.std.specs.Prelude.{◌≡◌, ℕ, ◌≤◌, ◌⊎◌, Option, Some, None}
+use Rattle.std.specs.Prelude.{◌≡◌, ℕ, ◌≤◌, ◌⊎◌, List, fold, Option, Some, None, unwrap_or}
+use Prim.Native.Nat.{max}
 use Rattle.machine_text.specs.declared.transition.Entry.{Entry}
 use Rattle.turing.specs.Program.{Program, IsMachine}
 use Rattle.tree.specs.Children.{IsChildEntry}
@@ -27,6 +28,10 @@ pub record IsGreatestOf (n u : ℕ) (m : Program) (k : ℕ) (b : Entry → Optio
   pub one : (s ≡ k) ⊎ ((e : Entry) × IsChildEntry n u m e × (b e ≡ Some s))
   pub own : k ≤ s
   pub each : (e : Entry) (t : ℕ) → IsChildEntry n u m e → b e ≡ Some t → t ≤ s
+
+-- the greatest of k and of what the entries of a list have by b
+unfoldable pub greatest_of : ℕ → (Entry → Option ℕ) → List Entry → ℕ
+greatest_of k b es = fold (λ g e. max g (unwrap_or (b e) 0)) k es
 
 -- the greatest worth of all machines of n states, in any order and with any undefined pairs
 pub record IsGreatestOfAll (V : Program → ℕ → Type 0) (n s : ℕ) : Type 0 where

@@ -8,8 +8,8 @@ ghost use Rattle.turing.specs.Halting.{Stops, Never};
 ghost use Rattle.turing.specs.Score.{StopsWith};
 ghost use Rattle.tree.specs.Filling.{filled};
 ghost use Rattle.tree.specs.Used.{InOrder};
-ghost use Rattle.tree.specs.Children.{StopsOn, IsChildEntry};
-ghost use Rattle.tree.specs.Best.{Scores, Attains, IsBest, IsGreatestOf};
+ghost use Rattle.tree.specs.Children.{StopsOn, IsChildEntry, child_entries};
+ghost use Rattle.tree.specs.Best.{Scores, Attains, IsBest, IsGreatestOf, greatest_of};
 
 /// No extension of a machine that never stops does.
 pub fn best_of_never()
@@ -48,4 +48,14 @@ pub fn best_by_children()
     ensures score { (n u k q x s : ℕ) (r : Symbol) (m : Program) (b : Entry → Option ℕ) → IsMachine n m → InOrder u m → StopsOn m k q r → StopsWith m k x →
         ((e : Entry) → IsChildEntry n u m e → IsBest Scores n (filled m q r e) (b e)) →
         IsBest Scores n m (Some s) ↔ IsGreatestOf n u m x b s }
+{}
+
+/// So it is the greatest of its own and of the bests along the list of the children's entries.
+pub fn best_by_list()
+    ensures steps { (n u k q : ℕ) (r : Symbol) (m : Program) (b : Entry → Option ℕ) → IsMachine n m → InOrder u m → StopsOn m k q r →
+        ((e : Entry) → IsChildEntry n u m e → IsBest Stops n (filled m q r e) (b e)) →
+        IsBest Stops n m (Some (greatest_of k b (child_entries n u m))) }
+    ensures score { (n u k q x : ℕ) (r : Symbol) (m : Program) (b : Entry → Option ℕ) → IsMachine n m → InOrder u m → StopsOn m k q r → StopsWith m k x →
+        ((e : Entry) → IsChildEntry n u m e → IsBest Scores n (filled m q r e) (b e)) →
+        IsBest Scores n m (Some (greatest_of x b (child_entries n u m))) }
 {}

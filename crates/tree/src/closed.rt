@@ -11,6 +11,11 @@ ghost use Rattle.tree.specs.Closed.Mark.{Stopping};
 
 use machine_text::MAX_STATES;
 
+/// Two true verdicts on a table are one, so nobody records another number of steps of it.
+pub fn one_true_verdict()
+    ensures { (t : Packed) (a b : Option Mark) → IsTrueMark t a → IsTrueMark t b → IsVerdict a → IsVerdict b → a ≡ b }
+{}
+
 /// Where what is recorded is true, each table of the tree of a closed table has a verdict and is closed.
 /// Where no table is open and none is a holdout, each table of the root's tree is closed.
 pub fn closed_tree()

@@ -1,5 +1,5 @@
 // The order in which machines name their states: used states, and the entries that children get.
-ghost use Rattle.std.specs.Prelude.{◌≡◌, ◌↔◌, ℕ, ◌+◌, ◌<◌, ◌≤◌, ◌≢◌, IsTrue, Contains, AllPairs};
+ghost use Rattle.std.specs.Prelude.{◌≡◌, ◌↔◌, ℕ, ◌+◌, ◌<◌, ◌≤◌, ◌≢◌, nat_lt, IsTrue, Contains, AllPairs};
 ghost use Prim.Native.Nat.{max};
 ghost use Rattle.machine_text.specs.declared.transition.Entry.{Entry};
 ghost use Rattle.turing.specs.Program.{Program, IsMachine};
@@ -7,13 +7,13 @@ ghost use Rattle.turing.specs.Extension.{Extends};
 ghost use Rattle.tree.specs.Used.{IsUsed, InOrder, is_used, used_count};
 ghost use Rattle.tree.specs.Children.{IsChildEntry, IsChild, Precedes, child_entries};
 
-/// The test of a used state is exact, and where the used states are the first u, u is their number: one
-/// number, and at most the number of states.
+/// The test of a used state is exact. A machine is in order where the first u of its states pass the test,
+/// and no other; then u is their number.
 pub fn used_states()
     ensures test { (n q : ℕ) (m : Program) → IsMachine n m → IsTrue (is_used n m q) ↔ IsUsed m q }
     ensures number { (n u : ℕ) (m : Program) → IsMachine n m → InOrder u m → used_count n m ≡ u }
+    ensures order { (n u : ℕ) (m : Program) → IsMachine n m → InOrder u m ↔ ((u ≤ n) × ((q : ℕ) → q < n → is_used n m q ≡ nat_lt q u)) }
     ensures one { (u v : ℕ) (m : Program) → InOrder u m → InOrder v m → u ≡ v }
-    ensures within { (n u : ℕ) (m : Program) → IsMachine n m → InOrder u m → u ≤ n }
 {}
 
 /// A child is a machine of as many states, it extends its parent, and it is in order: its used states are

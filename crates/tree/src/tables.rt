@@ -1,5 +1,8 @@
 // The same of tables, which programs hold.
 ghost use Rattle.std.specs.Prelude.{◌≡◌, ◌↔◌, ℕ, ◌<◌, ◌≤◌, ◌≢◌, Option, Some, Contains, AllPairs};
+ghost use Rattle.std.specs.Ordering.{nat_cmp};
+ghost use Rattle.std.specs.declared.cmp.Ordering.TheVariants.{Less};
+ghost use Rattle.std.specs.Cmp.Lexicographic.{slice_cmp};
 ghost use Rattle.machine_text.specs.declared.transition.Sym.{Sym as Symbol};
 ghost use Rattle.machine_text.specs.declared.transition.Entry.{Entry};
 ghost use Rattle.machine_text.specs.Packed.{Packed, IsTable, entry_of, with_entry, tabulated, empty_table};
@@ -31,19 +34,24 @@ pub fn entry_fills()
     ensures map { (p : Packed) (q : ℕ) (s : Symbol) (e : Entry) → IsTable p → q < p.states → e.next.0 < p.states → entry_of (with_entry p q s e) ≡ filled (entry_of p) q s e }
 {}
 
-/// A child of a table, and so each table of its tree, is a table of as many states, in order.
+/// A child of a table, and so each table of its tree, is a table of as many states, in order. A child of a
+/// table of a tree stands in the tree.
 pub fn child_is_table()
     ensures child { (p t : Packed) → IsTable p → IsChildTable p t → IsTable t × (t.states ≡ p.states) }
     ensures tree { (p t : Packed) → IsTable p → InTableTree p t → IsTable t × (t.states ≡ p.states) }
+    ensures below { (r p t : Packed) → InTableTree r p → IsChildTable p t → InTableTree r t }
     ensures order { (p t : Packed) (u : ℕ) → IsTable p → InOrder u (entry_of p) → InTableTree p t → (v : ℕ) × InOrder v (entry_of t) }
 {}
 
-/// The list of the children of a table in order that stops on a pair has exactly its children, each once.
+/// The list of the children of a table in order that stops on a pair has exactly its children, each once,
+/// and it rises by their codes, as their texts do.
 pub fn children_listed()
     ensures members { (p t : Packed) (u k q : ℕ) (s : Symbol) → IsTable p → InOrder u (entry_of p) → StopsOn (entry_of p) k q s →
         Contains (children_at p q s) t ↔ IsChildTable p t }
     ensures once { (p : Packed) (u k q : ℕ) (s : Symbol) → IsTable p → InOrder u (entry_of p) → StopsOn (entry_of p) k q s →
         AllPairs (λ a b. a ≢ b) (children_at p q s) }
+    ensures rising { (p : Packed) (u k q : ℕ) (s : Symbol) → IsTable p → InOrder u (entry_of p) → StopsOn (entry_of p) k q s →
+        AllPairs (λ a b. slice_cmp nat_cmp a.codes b.codes ≡ Less) (children_at p q s) }
 {}
 
 /// Each table of a tree is the child of one table of the tree at most.

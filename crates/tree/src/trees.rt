@@ -22,7 +22,19 @@ pub fn rado_of_tree()
     ensures score { (n s : ℕ) → 1 ≤ n → IsDecided n empty_machine → IsGreatestInTree Scores n empty_machine (Some s) ↔ IsGreatestOfAll Scores n s }
 {}
 
+/// A child of a machine of a tree stands in the tree.
+pub fn child_in_tree()
+    ensures { (n : ℕ) (m p t : Program) → InTree n m p → IsChild n p t → InTree n m t }
+{}
+
 /// Each machine of a tree is the child of one machine of the tree at most.
 pub fn one_parent()
     ensures { (n : ℕ) (m a b t : Program) → IsMachine n m → InTree n m a → InTree n m b → IsChild n a t → IsChild n b t → a ≡ b }
+{}
+
+/// The tree of the one-state machine without entries: it stops at once, its children never do, and so the
+/// greatest in the tree is 1.
+pub fn tree_of_one_state()
+    ensures decided { IsDecided 1 empty_machine }
+    ensures greatest { IsGreatestInTree Stops 1 empty_machine (Some 1) }
 {}

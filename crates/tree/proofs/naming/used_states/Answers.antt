@@ -1,5 +1,5 @@
 use Rattle.tree.proofs.Used.{one_used, used_bound}
-use Rattle.tree.proofs.UsedCount.{used_from_test, test_from_used, used_number}
+use Rattle.tree.proofs.UsedCount.{used_from_test, test_from_used, used_number, order_test, order_from_test}
 use Rattle.tree.proofs.naming.used_states.Goals as goal
 
 -- the test, and the number
@@ -12,5 +12,5 @@ returns-clause-number c = λ n u m. used_number n u m
 pub returns-clause-one : goal.returns-clause-one
 returns-clause-one c = one_used
 
-pub returns-clause-within : goal.returns-clause-within
-returns-clause-within c = used_bound
+pub returns-clause-order : goal.returns-clause-order
+returns-clause-order c = λ n u m i. (λ o. (used_bound n u m i o, λ q _. order_test n u m i o q), λ same. order_from_test n u m i same.0 same.1)

@@ -2,6 +2,7 @@
 use Rattle.std.specs.Prelude.{◌≡◌, ℕ, ◌≤◌, ◌⊎◌, Option, Some, None}
 use Rattle.machine_text.specs.Packed.{Packed, entry_of}
 use Rattle.turing.specs.Halting.{Stops, Never}
+use Rattle.turing.specs.Score.{StopsWith}
 use Rattle.tree.specs.Tables.{IsChildTable, InTableTree}
 
 -- what is recorded of a table: it stops in so many steps, it never stops, or it wasn't decided (a holdout)
@@ -16,6 +17,13 @@ IsTrueMark t None = Unit {0}
 IsTrueMark t (Some (Stopping k)) = Stops (entry_of t) k
 IsTrueMark t (Some NonStopping) = Never (entry_of t)
 IsTrueMark t (Some Undecided) = Unit {0}
+
+abbrev pub AreTrueMarks : (Packed → Option Mark) → Type 0
+AreTrueMarks marks = (t : Packed) → IsTrueMark t (marks t)
+
+-- each table recorded as stopping stops with the score that is given for it
+abbrev pub AreTrueScores : (Packed → Option Mark) → (Packed → ℕ) → Type 0
+AreTrueScores marks scores = (t : Packed) (k : ℕ) → marks t ≡ Some (Stopping k) → StopsWith (entry_of t) k (scores t)
 
 -- a mark gives a verdict
 abbrev pub IsVerdict : Option Mark → Type 0

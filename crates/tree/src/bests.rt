@@ -34,28 +34,34 @@ pub fn best_of_only_pair()
 /// what the extensions of its children attain.
 pub fn extensions_by_children()
     ensures steps { (n u k q t : ℕ) (s : Symbol) (m : Program) → IsMachine n m → InOrder u m → StopsOn m k q s →
-        Attains Stops n m t ↔ ((t ≡ k) ⊎ ((e : Entry) × IsChildEntry n u m e × Attains Stops n (filled m q s e) t)) }
+        Attains Stops n m t
+        ↔ ((t ≡ k) ⊎ ((e : Entry) × IsChildEntry n u m e × Attains Stops n (filled m q s e) t)) }
     ensures score { (n u k q t : ℕ) (s : Symbol) (m : Program) → IsMachine n m → InOrder u m → StopsOn m k q s →
-        Attains Scores n m t ↔ (StopsWith m k t ⊎ ((e : Entry) × IsChildEntry n u m e × Attains Scores n (filled m q s e) t)) }
+        Attains Scores n m t
+        ↔ (StopsWith m k t ⊎ ((e : Entry) × IsChildEntry n u m e × Attains Scores n (filled m q s e) t)) }
 {}
 
 /// The best of a machine in order that stops on a pair is the greatest of its own and of its children's
 /// bests.
 pub fn best_by_children()
-    ensures steps { (n u k q s : ℕ) (r : Symbol) (m : Program) (b : Entry → Option ℕ) → IsMachine n m → InOrder u m → StopsOn m k q r →
+    ensures steps { (n u k q s : ℕ) (r : Symbol) (m : Program) (b : Entry → Option ℕ) →
+        IsMachine n m → InOrder u m → StopsOn m k q r →
         ((e : Entry) → IsChildEntry n u m e → IsBest Stops n (filled m q r e) (b e)) →
         IsBest Stops n m (Some s) ↔ IsGreatestOf n u m k b s }
-    ensures score { (n u k q x s : ℕ) (r : Symbol) (m : Program) (b : Entry → Option ℕ) → IsMachine n m → InOrder u m → StopsOn m k q r → StopsWith m k x →
+    ensures score { (n u k q x s : ℕ) (r : Symbol) (m : Program) (b : Entry → Option ℕ) →
+        IsMachine n m → InOrder u m → StopsOn m k q r → StopsWith m k x →
         ((e : Entry) → IsChildEntry n u m e → IsBest Scores n (filled m q r e) (b e)) →
         IsBest Scores n m (Some s) ↔ IsGreatestOf n u m x b s }
 {}
 
 /// So it is the greatest of its own and of the bests along the list of the children's entries.
 pub fn best_by_list()
-    ensures steps { (n u k q : ℕ) (r : Symbol) (m : Program) (b : Entry → Option ℕ) → IsMachine n m → InOrder u m → StopsOn m k q r →
+    ensures steps { (n u k q : ℕ) (r : Symbol) (m : Program) (b : Entry → Option ℕ) →
+        IsMachine n m → InOrder u m → StopsOn m k q r →
         ((e : Entry) → IsChildEntry n u m e → IsBest Stops n (filled m q r e) (b e)) →
         IsBest Stops n m (Some (greatest_of k b (child_entries n u m))) }
-    ensures score { (n u k q x : ℕ) (r : Symbol) (m : Program) (b : Entry → Option ℕ) → IsMachine n m → InOrder u m → StopsOn m k q r → StopsWith m k x →
+    ensures score { (n u k q x : ℕ) (r : Symbol) (m : Program) (b : Entry → Option ℕ) →
+        IsMachine n m → InOrder u m → StopsOn m k q r → StopsWith m k x →
         ((e : Entry) → IsChildEntry n u m e → IsBest Scores n (filled m q r e) (b e)) →
         IsBest Scores n m (Some (greatest_of x b (child_entries n u m))) }
 {}

@@ -11,8 +11,9 @@ ghost use Rattle.tree.specs.Children.{IsChildEntry, IsChild, Precedes, child_ent
 /// and no other; then u is their number.
 pub fn used_states()
     ensures test { (n q : ℕ) (m : Program) → IsMachine n m → IsTrue (is_used n m q) ↔ IsUsed m q }
+    ensures order { (n u : ℕ) (m : Program) → IsMachine n m →
+        InOrder u m ↔ ((u ≤ n) × ((q : ℕ) → q < n → is_used n m q ≡ nat_lt q u)) }
     ensures number { (n u : ℕ) (m : Program) → IsMachine n m → InOrder u m → used_count n m ≡ u }
-    ensures order { (n u : ℕ) (m : Program) → IsMachine n m → InOrder u m ↔ ((u ≤ n) × ((q : ℕ) → q < n → is_used n m q ≡ nat_lt q u)) }
     ensures one { (u v : ℕ) (m : Program) → InOrder u m → InOrder v m → u ≡ v }
 {}
 
@@ -27,7 +28,8 @@ pub fn child_keeps_order()
 /// The list of the children's entries has exactly those entries, and it rises in the order of their
 /// texts; so none stands in it twice.
 pub fn child_entries_listed()
-    ensures members { (n u : ℕ) (m : Program) (e : Entry) → IsMachine n m → Contains (child_entries n u m) e ↔ IsChildEntry n u m e }
+    ensures members { (n u : ℕ) (m : Program) (e : Entry) → IsMachine n m →
+        Contains (child_entries n u m) e ↔ IsChildEntry n u m e }
     ensures rising { (n u : ℕ) (m : Program) → AllPairs Precedes (child_entries n u m) }
     ensures once { (n u : ℕ) (m : Program) → AllPairs (λ a b. a ≢ b) (child_entries n u m) }
 {}

@@ -30,8 +30,10 @@ pub fn machine_has_table()
 
 /// One entry more in a table gives a table, whose map has that pair filled.
 pub fn entry_fills()
-    ensures table { (p : Packed) (q : ℕ) (s : Symbol) (e : Entry) → IsTable p → q < p.states → e.next.0 < p.states → IsTable (with_entry p q s e) }
-    ensures map { (p : Packed) (q : ℕ) (s : Symbol) (e : Entry) → IsTable p → q < p.states → e.next.0 < p.states → entry_of (with_entry p q s e) ≡ filled (entry_of p) q s e }
+    ensures table { (p : Packed) (q : ℕ) (s : Symbol) (e : Entry) → IsTable p → q < p.states → e.next.0 < p.states →
+        IsTable (with_entry p q s e) }
+    ensures map { (p : Packed) (q : ℕ) (s : Symbol) (e : Entry) → IsTable p → q < p.states → e.next.0 < p.states →
+        entry_of (with_entry p q s e) ≡ filled (entry_of p) q s e }
 {}
 
 /// A child of a table, and so each table of its tree, is a table of as many states, in order. A child of a
@@ -40,7 +42,8 @@ pub fn child_is_table()
     ensures child { (p t : Packed) → IsTable p → IsChildTable p t → IsTable t × (t.states ≡ p.states) }
     ensures tree { (p t : Packed) → IsTable p → InTableTree p t → IsTable t × (t.states ≡ p.states) }
     ensures below { (r p t : Packed) → InTableTree r p → IsChildTable p t → InTableTree r t }
-    ensures order { (p t : Packed) (u : ℕ) → IsTable p → InOrder u (entry_of p) → InTableTree p t → (v : ℕ) × InOrder v (entry_of t) }
+    ensures order { (p t : Packed) (u : ℕ) → IsTable p → InOrder u (entry_of p) → InTableTree p t →
+        (v : ℕ) × InOrder v (entry_of t) }
 {}
 
 /// The list of the children of a table in order that stops on a pair has exactly its children, each once,
@@ -56,14 +59,17 @@ pub fn children_listed()
 
 /// Each table of a tree is the child of one table of the tree at most.
 pub fn one_parent_table()
-    ensures { (p a b t : Packed) → IsTable p → InTableTree p a → InTableTree p b → IsChildTable a t → IsChildTable b t → a ≡ b }
+    ensures { (p a b t : Packed) → IsTable p → InTableTree p a → InTableTree p b →
+        IsChildTable a t → IsChildTable b t → a ≡ b }
 {}
 
 /// Where each table of the tree stops or never does, the best of all extensions is the greatest in the
 /// tree, and there is none where no table of the tree stops.
 pub fn best_of_table()
-    ensures steps { (p : Packed) (u : ℕ) (b : Option ℕ) → IsTable p → InOrder u (entry_of p) → IsDecidedTable p → IsBestOfTable Stops p b ↔ IsGreatestInTables Stops p b }
-    ensures score { (p : Packed) (u : ℕ) (b : Option ℕ) → IsTable p → InOrder u (entry_of p) → IsDecidedTable p → IsBestOfTable Scores p b ↔ IsGreatestInTables Scores p b }
+    ensures steps { (p : Packed) (u : ℕ) (b : Option ℕ) → IsTable p → InOrder u (entry_of p) → IsDecidedTable p →
+        IsBestOfTable Stops p b ↔ IsGreatestInTables Stops p b }
+    ensures score { (p : Packed) (u : ℕ) (b : Option ℕ) → IsTable p → InOrder u (entry_of p) → IsDecidedTable p →
+        IsBestOfTable Scores p b ↔ IsGreatestInTables Scores p b }
 {}
 
 /// The best of the empty table of n states is the greatest of all machines of n states: Radó's S(n), and
@@ -71,5 +77,6 @@ pub fn best_of_table()
 pub fn rado_of_tables()
     ensures table { (n : ℕ) → 1 ≤ n → n ≤ MAX_STATES → IsTable (empty_table n) × InOrder 1 (entry_of (empty_table n)) }
     ensures steps { (n s : ℕ) → 1 ≤ n → n ≤ MAX_STATES → IsBestOfTable Stops (empty_table n) (Some s) ↔ IsRado n s }
-    ensures score { (n s : ℕ) → 1 ≤ n → n ≤ MAX_STATES → IsBestOfTable Scores (empty_table n) (Some s) ↔ IsGreatestOfAll Scores n s }
+    ensures score { (n s : ℕ) → 1 ≤ n → n ≤ MAX_STATES →
+        IsBestOfTable Scores (empty_table n) (Some s) ↔ IsGreatestOfAll Scores n s }
 {}

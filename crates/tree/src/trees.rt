@@ -11,15 +11,19 @@ ghost use Rattle.tree.specs.Best.{Scores, IsBest, IsGreatestOfAll};
 /// Where each machine of the tree stops or never does, the best of all extensions is the greatest in the
 /// tree, and there is none where no machine of the tree stops.
 pub fn best_of_tree()
-    ensures steps { (n u : ℕ) (m : Program) (b : Option ℕ) → IsMachine n m → InOrder u m → IsDecided n m → IsBest Stops n m b ↔ IsGreatestInTree Stops n m b }
-    ensures score { (n u : ℕ) (m : Program) (b : Option ℕ) → IsMachine n m → InOrder u m → IsDecided n m → IsBest Scores n m b ↔ IsGreatestInTree Scores n m b }
+    ensures steps { (n u : ℕ) (m : Program) (b : Option ℕ) → IsMachine n m → InOrder u m → IsDecided n m →
+        IsBest Stops n m b ↔ IsGreatestInTree Stops n m b }
+    ensures score { (n u : ℕ) (m : Program) (b : Option ℕ) → IsMachine n m → InOrder u m → IsDecided n m →
+        IsBest Scores n m b ↔ IsGreatestInTree Scores n m b }
 {}
 
 /// The greatest in the tree of the machine without entries is the greatest of all machines of n states:
 /// Radó's S(n), and for scores Σ(n).
 pub fn rado_of_tree()
-    ensures steps { (n s : ℕ) → 1 ≤ n → IsDecided n empty_machine → IsGreatestInTree Stops n empty_machine (Some s) ↔ IsRado n s }
-    ensures score { (n s : ℕ) → 1 ≤ n → IsDecided n empty_machine → IsGreatestInTree Scores n empty_machine (Some s) ↔ IsGreatestOfAll Scores n s }
+    ensures steps { (n s : ℕ) → 1 ≤ n → IsDecided n empty_machine →
+        IsGreatestInTree Stops n empty_machine (Some s) ↔ IsRado n s }
+    ensures score { (n s : ℕ) → 1 ≤ n → IsDecided n empty_machine →
+        IsGreatestInTree Scores n empty_machine (Some s) ↔ IsGreatestOfAll Scores n s }
 {}
 
 /// A child of a machine of a tree stands in the tree.
@@ -29,7 +33,8 @@ pub fn child_in_tree()
 
 /// Each machine of a tree is the child of one machine of the tree at most.
 pub fn one_parent()
-    ensures { (n : ℕ) (m a b t : Program) → IsMachine n m → InTree n m a → InTree n m b → IsChild n a t → IsChild n b t → a ≡ b }
+    ensures { (n : ℕ) (m a b t : Program) → IsMachine n m → InTree n m a → InTree n m b →
+        IsChild n a t → IsChild n b t → a ≡ b }
 {}
 
 /// The tree of the one-state machine without entries: it stops at once, its children never do, and so the

@@ -180,17 +180,17 @@ module _ (n : ℕ) (m : Program) (machine : IsMachine n m) (a : Automata) (fits 
       let clash : false ≡ true = sym fits.halt_not_kept ∙ kept in
       absurd (cc)
 
--- automata that fit a machine with the side L fit its mirror image with the side R
-fits_mirrored : (n : ℕ) (m : Program) (a : Automata) → Fits n m L a → Fits n (mirrored m) R a
-fits_mirrored n m a fits = record {
+-- automata that fit a machine fit its mirror image, with the other side ahead
+pub fits_mirrored : (n : ℕ) (m : Program) (side : Dir) (a : Automata) → Fits n m side a → Fits n (mirrored m) (opposite side) a
+fits_mirrored n m side a fits = record {
   some = fits.some;
   states = fits.states;
   blank = fits.blank;
   halted = fits.halted;
   halting = λ q f r small within none. fits.halting q f r small within (unmirrored m f r None none);
-  ahead = λ q f r e small within some is_right. fits.ahead q f r (turned e) small within (unmirrored m f r (Some e) some) (ap opposite is_right);
-  back = λ q f r b e u v small within some not_right first second.
-      fits.back q f r b (turned e) u v small within (unmirrored m f r (Some e) some) (λ is_left. not_right (sym (opposite_twice e.dir) ∙ ap opposite is_left)) first second;
+  ahead = λ q f r e small within some is_ahead. fits.ahead q f r (turned e) small within (unmirrored m f r (Some e) some) (ap opposite is_ahead ∙ opposite_twice side);
+  back = λ q f r b e u v small within some not_ahead first second.
+      fits.back q f r b (turned e) u v small within (unmirrored m f r (Some e) some) (λ is_ahead. not_ahead (sym (opposite_twice e.dir) ∙ ap opposite is_ahead)) first second;
   start_kept = fits.start_kept;
   blank_kept = fits.blank_kept;
   halt_not_kept = fits.halt_not_kept;
@@ -203,4 +203,4 @@ fits_mirrored n m a fits = record {
 pub automata_never : (n : ℕ) (m : Program) (side : Dir) (a : Automata) → IsMachine n m → Fits n m side a → Never m
 automata_never n m R a machine fits = far_right_never n m machine a fits
 automata_never n m L a machine fits =
-    λ k s. far_right_never n (mirrored m) (mirrored_machine n m machine) a (fits_mirrored n m a fits) k (mirror_keeps m k s)
+    λ k s. far_right_never n (mirrored m) (mirrored_machine n m machine) a (fits_mirrored n m L a fits) k (mirror_keeps m k s)

@@ -29,7 +29,7 @@ exchanged_other a b q not_a not_b = grind (arith, nat_tests)
 abbrev same_dir : Dir → Dir
 same_dir d = d
 
-abbrev same_state : ℕ → ℕ
+abbrev pub same_state : ℕ → ℕ
 same_state q = q
 
 abbrev same_head : ℤ → ℤ
@@ -95,7 +95,7 @@ exchanged_machine n a b m below_a below_b machine = record {
 }
 
 -- the place on the other side of the start
-abbrev back : ℤ → ℤ
+abbrev pub back : ℤ → ℤ
 back x = pos 0 -ℤ x
 
 -- to turn round twice is to keep the direction
@@ -114,7 +114,7 @@ back_moved x R = omega (arith, ints)
 back_apart : (x y : ℤ) → back x ≡ back y → x ≡ y
 back_apart x y e = omega (arith, ints)
 
-mirror_renames : (m : Program) → Renames same_state back opposite m (mirrored m)
+pub mirror_renames : (m : Program) → Renames same_state back opposite m (mirrored m)
 mirror_renames m = record { apart = back_apart; moves = back_moved; entries = λ q s. mirrored_is (m q s) }
 
 pub mirror_keeps : (m : Program) (k : ℕ) → Stops m k → Stops (mirrored m) k
@@ -127,13 +127,13 @@ mirrored_back : (o : Option Entry) → o ≡ renamed_entry same_state opposite (
 mirrored_back None = refl
 mirrored_back (Some e) = ap (λ d. Some (record { write = e.write; dir = d; next = e.next })) (sym (opposite_twice e.dir))
 
+pub mirrored_twice : (o : Option Entry) → o ≡ mirrored_entry (mirrored_entry o)
+mirrored_twice None = refl
+mirrored_twice (Some e) = ap (λ d. Some (record { write = e.write; dir = d; next = e.next })) (sym (opposite_twice e.dir))
+
 -- the entry of the machine is the mirror image of its mirror image's
 pub unmirrored : (m : Program) (q : ℕ) (s : Sym) (o : Option Entry) → mirrored m q s ≡ o → m q s ≡ mirrored_entry o
 unmirrored m q s o is = mirrored_twice (m q s) ∙ ap mirrored_entry is
-  where
-    mirrored_twice : (o : Option Entry) → o ≡ mirrored_entry (mirrored_entry o)
-    mirrored_twice None = refl
-    mirrored_twice (Some e) = ap (λ d. Some (record { write = e.write; dir = d; next = e.next })) (sym (opposite_twice e.dir))
 
 -- a mirror image has as many states
 pub mirrored_machine : (n : ℕ) (m : Program) → IsMachine n m → IsMachine n (mirrored m)

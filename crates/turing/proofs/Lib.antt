@@ -18,3 +18,7 @@ pub mod Words
 pub mod ClosedSets
 pub mod HalfTapes
 pub mod AutomataLaws
+pub mod Listed
+pub mod LevelLaws
+pub mod Mirrored
+pub mod TableLaws

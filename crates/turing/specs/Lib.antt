@@ -11,5 +11,6 @@ pub mod Shift
 pub mod Cycle
 pub mod Translated
 pub mod Backward
+pub mod Levels
 pub mod PositionSet
 pub mod Automata

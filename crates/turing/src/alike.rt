@@ -1,14 +1,17 @@
 // Machines that run alike: extensions, machines with two states exchanged, mirror images; and runs of one
 // machine on a tape that is moved.
 ghost use Rattle.std.specs.Prelude.{◌≡◌, ◌↔◌, ℕ, ℤ, ◌<◌, Some};
-ghost use Rattle.turing.specs.Program.{Program};
+ghost use Rattle.machine_text.specs.declared.transition.Dir.{Dir};
+ghost use Rattle.turing.specs.Program.{Program, IsMachine};
 ghost use Rattle.turing.specs.Run.{Config, from, after};
 ghost use Rattle.turing.specs.Halting.{Stops, Never};
 ghost use Rattle.turing.specs.Score.{StopsWith};
 ghost use Rattle.turing.specs.Extension.{Extends};
 ghost use Rattle.turing.specs.Exchange.{with_exchanged};
-ghost use Rattle.turing.specs.Mirror.{mirrored};
+ghost use Rattle.turing.specs.Mirror.{opposite, mirrored};
 ghost use Rattle.turing.specs.Shift.{IsShifted};
+ghost use Rattle.turing.specs.Translated.{Translated};
+ghost use Rattle.turing.specs.Automata.{Automata, Fits};
 
 /// An extension runs as its machine does, until that stops.
 pub fn extension_runs()
@@ -21,16 +24,24 @@ pub fn extension_never()
 {}
 
 /// To exchange the names of two states, neither of them the first, keeps the number of steps in which a
-/// machine stops, and its score.
+/// machine stops, and its score. A machine of n states stays one, where both are among them.
 pub fn exchange_keeps()
+    ensures machine { (n a b : ℕ) (m : Program) → a < n → b < n → IsMachine n m → IsMachine n (with_exchanged a b m) }
     ensures count { (a b : ℕ) (m : Program) (k : ℕ) → 0 < a → 0 < b → Stops m k ↔ Stops (with_exchanged a b m) k }
     ensures score { (a b : ℕ) (m : Program) (k s : ℕ) → 0 < a → 0 < b → StopsWith m k s ↔ StopsWith (with_exchanged a b m) k s }
 {}
 
-/// The mirror image of a machine stops in as many steps, with the same score.
+/// The mirror image of a machine has as many states, and stops in as many steps, with the same score.
 pub fn mirror_keeps()
+    ensures machine { (n : ℕ) (m : Program) → IsMachine n m → IsMachine n (mirrored m) }
     ensures count { (m : Program) (k : ℕ) → Stops m k ↔ Stops (mirrored m) k }
     ensures score { (m : Program) (k s : ℕ) → StopsWith m k s ↔ StopsWith (mirrored m) k s }
+{}
+
+/// What is said of one side of a machine is said of the other side of its mirror image.
+pub fn mirror_sides()
+    ensures translated { (m : Program) (i j : ℕ) (side : Dir) → Translated m i j side ↔ Translated (mirrored m) i j (opposite side) }
+    ensures automata { (n : ℕ) (m : Program) (side : Dir) (a : Automata) → Fits n m side a ↔ Fits n (mirrored m) (opposite side) a }
 {}
 
 /// A run from a configuration whose tape is moved is the run from there, moved.

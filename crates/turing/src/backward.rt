@@ -2,9 +2,10 @@
 ghost use Rattle.std.specs.Prelude.{◌≡◌, ◌↔◌, ℕ, suc, ◌+◌, ◌<◌, List, [], ◌∷◌, length, Some, None};
 ghost use Rattle.machine_text.specs.declared.transition.Entry.{Entry};
 ghost use Rattle.turing.specs.Program.{Program, IsMachine};
-ghost use Rattle.turing.specs.Run.{Config};
+ghost use Rattle.turing.specs.Run.{Config, after};
 ghost use Rattle.turing.specs.Halting.{Never};
 ghost use Rattle.turing.specs.Backward.{Ends, Backward, Pair, RunsThrough, IsPath, IsWider, AllPaths, Partial, IsNeeded, standing_on, before_step, LeadsTo};
+ghost use Rattle.turing.specs.Levels.{level};
 
 /// A machine whose run does d steps never stops, where no configuration at all of its states comes to a
 /// halting pair after exactly d.
@@ -38,4 +39,13 @@ pub fn path_needs()
 /// There are more than so many paths of a depth exactly where a list of all of them, each once, is longer.
 pub fn path_count()
     ensures { (n : ℕ) (m : Program) (k limit : ℕ) (paths : List (List Pair)) → AllPaths n m k paths → IsWider n m k limit ↔ (limit < length paths) }
+{}
+
+/// The level of depth k, computed pair by pair over partly known tapes, has one item for each path of
+/// depth k. So its length tells the width, and backward reasoning stands at a depth that the run reaches
+/// exactly where the level is empty. Below an empty level all are empty.
+pub fn backward_levels()
+    ensures width { (n : ℕ) (m : Program) → IsMachine n m → (k limit : ℕ) → IsWider n m k limit ↔ (limit < length (level n m k)) }
+    ensures stands { (n : ℕ) (m : Program) → IsMachine n m → (d : ℕ) → Backward n m d ↔ (((at : Config) × (after m d ≡ Some at)) × (level n m d ≡ [])) }
+    ensures below { (n : ℕ) (m : Program) (k r : ℕ) → level n m k ≡ [] → level n m (k + r) ≡ [] }
 {}

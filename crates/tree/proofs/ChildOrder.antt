@@ -18,7 +18,7 @@ use Rattle.tree.specs.Children.{StopsOn, Precedes}
 use Rattle.tree.specs.Tables.{children_at}
 use Rattle.tree.proofs.Halts.{pair_within}
 use Rattle.tree.proofs.EntryOrder.{entries_rise}
-use Rattle.tree.proofs.Codes.{table_machine}
+use Rattle.turing.proofs.TableLaws.{table_machine}
 use Rattle.tree.proofs.Packing.{place_in}
 use Rattle.tree.proofs.ChildTables.{entries_of, some_children, no_children, entry_from}
 

@@ -20,7 +20,7 @@ use Rattle.tree.proofs.Halts.{pair_within}
 use Rattle.tree.proofs.Parents.{same_state, same_read}
 use Rattle.tree.proofs.ChildEntries.{listed_is_entry, entry_is_listed}
 use Rattle.tree.proofs.EntryOrder.{entries_differ}
-use Rattle.tree.proofs.Codes.{table_machine}
+use Rattle.turing.proofs.TableLaws.{table_machine}
 use Rattle.tree.proofs.Packing.{with_entry_fills}
 
 -- members of a mapped list

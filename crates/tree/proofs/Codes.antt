@@ -1,14 +1,12 @@
 -- How entries are packed, and what the map of a packed table is.
 use Rattle.std.proofs.Common.{◌≡◌, ℕ, ◌-◌, ◌/◌, ◌%◌, ◌<◌, ◌≤◌, get_or, Option, Some, None, refl, sym, ◌∙◌, ap, inl, inr, arith}
 use Rattle.std.proofs.lemmas.Bool.{cases_eq, eq-eqb, ne_eqb}
-use Rattle.std.proofs.lemmas.Option.{same_Some, none-some}
 use Rattle.machine_text.specs.declared.transition.Sym.{Sym}
 use Rattle.machine_text.specs.declared.transition.Sym.TheVariants.{Zero, One}
 use Rattle.machine_text.specs.declared.transition.Dir.{Dir}
 use Rattle.machine_text.specs.declared.transition.Dir.TheVariants.{L, R}
 use Rattle.machine_text.specs.declared.transition.Entry.{Entry}
-use Rattle.machine_text.specs.Packed.{Packed, IsTable, symbol_number, symbol_of, direction_number, direction_of, code_of, coded_entry, pair_place, entry_of}
-use Rattle.turing.specs.Program.{IsMachine}
+use Rattle.machine_text.specs.Packed.{Packed, symbol_number, symbol_of, direction_number, direction_of, code_of, coded_entry, pair_place, entry_of}
 use Rattle.tree.proofs.ChildEntries.{same_entry}
 
 -- a code of none, and of an entry
@@ -77,26 +75,6 @@ entry_back k le = elim (cases_eq k 0) [
 pub entry_is : (p : Packed) (q : ℕ) (s : Sym) → entry_of p q s ≡ coded_entry (get_or p.codes (pair_place q s) 0)
 unfolding entry_of
 entry_is p q s = refl
-
--- a table's map is a machine of its states
-pub table_machine : (p : Packed) → IsTable p → IsMachine p.states (entry_of p)
-table_machine p t = record { some = t.some; beyond = beyond; inside = inside }
-  where
-    beyond : (q : ℕ) (s : Sym) → p.states ≤ q → entry_of p q s ≡ None
-    beyond q s le = entry_is p q s ∙ coded_none _ (t.beyond (pair_place q s) (omega arith))
-
-    inside : (q : ℕ) (s : Sym) (e : Entry) → entry_of p q s ≡ Some e → e.next.0 < p.states
-    inside q s e is =
-        let k = get_or p.codes (pair_place q s) 0 in
-        let coded : coded_entry k ≡ Some e = sym (entry_is p q s) ∙ is in
-        elim (cases_eq k 0) [
-          | inl none ↦ absurd (none-some e (sym (coded_none k none) ∙ coded))
-          | inr some ↦ (
-              let same : entry_at k ≡ e = same_Some (entry_at k) e (sym (coded_some k some) ∙ coded) in
-              let target : (k - 1) % 8 ≡ e.next.0 = ap (λ (x : Entry). x.next.0) same in
-              let small = t.nexts (pair_place q s) (omega arith) in
-              omega arith)
-        ]
 
 -- what a code is at most, and which target it tells
 pub code_small : (e : Entry) → e.next.0 < 8 → code_of (Some e) ≤ 32

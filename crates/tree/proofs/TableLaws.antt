@@ -16,7 +16,7 @@ use Rattle.tree.proofs.Halts.{pair_within}
 use Rattle.tree.proofs.Worth.{IsWorth}
 use Rattle.tree.proofs.TreeLaws.{child_in_order, best_is_greatest}
 use Rattle.tree.proofs.Parents.{one_parent}
-use Rattle.tree.proofs.Codes.{table_machine}
+use Rattle.turing.proofs.TableLaws.{table_machine}
 use Rattle.tree.proofs.Packing.{with_entry_states, with_entry_fills, with_entry_table, same_table, tabulated_states, tabulated_map, tabulated_table}
 
 -- t is a table of as many states as p

@@ -1,6 +1,5 @@
 -- The best of a machine: the greatest worth, as the number of steps, of all its extensions, in the tree or not.
-use Rattle.std.specs.Prelude.{◌≡◌, ℕ, ◌≤◌, ◌⊎◌, List, fold, Option, Some, None, unwrap_or}
-use Prim.Native.Nat.{max}
+use Rattle.std.specs.Prelude.{◌≡◌, ℕ, ◌≤◌, max, ◌⊎◌, List, fold, Option, Some, None, unwrap_or}
 use Rattle.machine_text.specs.declared.transition.Entry.{Entry}
 use Rattle.turing.specs.Program.{Program, IsMachine}
 use Rattle.tree.specs.Children.{IsChildEntry}

@@ -23,6 +23,6 @@ pub use closed::{best_of_closed, closed_tree, one_true_verdict, rado_of_complete
 pub use naming::{child_entries_listed, child_keeps_order, used_states};
 pub use tables::{
     best_of_table, child_is_table, children_listed, entry_fills, machine_has_table,
-    one_parent_table, rado_of_tables, table_is_machine,
+    one_parent_table, one_table, rado_of_tables,
 };
 pub use trees::{best_of_tree, child_in_tree, one_parent, rado_of_tree, tree_of_one_state};

@@ -1,6 +1,5 @@
 // The order in which machines name their states: used states, and the entries that children get.
-ghost use Rattle.std.specs.Prelude.{◌≡◌, ◌↔◌, ℕ, ◌+◌, ◌<◌, ◌≤◌, ◌≢◌, nat_lt, IsTrue, Contains, AllPairs};
-ghost use Prim.Native.Nat.{max};
+ghost use Rattle.std.specs.Prelude.{◌≡◌, ◌↔◌, ℕ, ◌+◌, ◌<◌, ◌≤◌, ◌≢◌, max, nat_lt, IsTrue, Contains, AllPairs};
 ghost use Rattle.machine_text.specs.declared.transition.Entry.{Entry};
 ghost use Rattle.turing.specs.Program.{Program, IsMachine};
 ghost use Rattle.turing.specs.Extension.{Extends};

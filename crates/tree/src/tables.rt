@@ -16,10 +16,9 @@ ghost use Rattle.tree.specs.Tables.{IsChildTable, InTableTree, IsDecidedTable, I
 
 use machine_text::MAX_STATES;
 
-/// The map of a table is a machine of its states, and tables of as many states with one map are one.
-pub fn table_is_machine()
-    ensures machine { (p : Packed) → IsTable p → IsMachine p.states (entry_of p) }
-    ensures same { (p t : Packed) → IsTable p → IsTable t → p.states ≡ t.states → entry_of p ≡ entry_of t → p ≡ t }
+/// Tables of as many states with one map are one.
+pub fn one_table()
+    ensures { (p t : Packed) → IsTable p → IsTable t → p.states ≡ t.states → entry_of p ≡ entry_of t → p ≡ t }
 {}
 
 /// Every machine within the limit is the map of a table.

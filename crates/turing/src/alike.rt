@@ -15,7 +15,8 @@ ghost use Rattle.turing.specs.Automata.{Automata, Fits};
 
 /// An extension runs as its machine does, until that stops.
 pub fn extension_runs()
-    ensures { (big m : Program) → Extends big m → (k : ℕ) (c : Config) → after m k ≡ Some c → after big k ≡ Some c }
+    ensures { (big m : Program) → Extends big m → (k : ℕ) (c : Config) → after m k ≡ Some c →
+        after big k ≡ Some c }
 {}
 
 /// No extension of a machine that never stops does.
@@ -26,9 +27,11 @@ pub fn extension_never()
 /// To exchange the names of two states, neither of them the first, keeps the number of steps in which a
 /// machine stops, and its score. A machine of n states stays one, where both are among them.
 pub fn exchange_keeps()
-    ensures machine { (n a b : ℕ) (m : Program) → a < n → b < n → IsMachine n m → IsMachine n (with_exchanged a b m) }
+    ensures machine { (n a b : ℕ) (m : Program) → a < n → b < n → IsMachine n m →
+        IsMachine n (with_exchanged a b m) }
     ensures count { (a b : ℕ) (m : Program) (k : ℕ) → 0 < a → 0 < b → Stops m k ↔ Stops (with_exchanged a b m) k }
-    ensures score { (a b : ℕ) (m : Program) (k s : ℕ) → 0 < a → 0 < b → StopsWith m k s ↔ StopsWith (with_exchanged a b m) k s }
+    ensures score { (a b : ℕ) (m : Program) (k s : ℕ) → 0 < a → 0 < b →
+        StopsWith m k s ↔ StopsWith (with_exchanged a b m) k s }
 {}
 
 /// The mirror image of a machine has as many states, and stops in as many steps, with the same score.
@@ -40,11 +43,14 @@ pub fn mirror_keeps()
 
 /// What is said of one side of a machine is said of the other side of its mirror image.
 pub fn mirror_sides()
-    ensures translated { (m : Program) (i j : ℕ) (side : Dir) → Translated m i j side ↔ Translated (mirrored m) i j (opposite side) }
-    ensures automata { (n : ℕ) (m : Program) (side : Dir) (a : Automata) → Fits n m side a ↔ Fits n (mirrored m) (opposite side) a }
+    ensures translated { (m : Program) (i j : ℕ) (side : Dir) →
+        Translated m i j side ↔ Translated (mirrored m) i j (opposite side) }
+    ensures automata { (n : ℕ) (m : Program) (side : Dir) (a : Automata) →
+        Fits n m side a ↔ Fits n (mirrored m) (opposite side) a }
 {}
 
 /// A run from a configuration whose tape is moved is the run from there, moved.
 pub fn shifted_run()
-    ensures { (m : Program) (t : ℤ) (k : ℕ) (c d at : Config) → IsShifted t c d → from m k c ≡ Some at → (there : Config) × (from m k d ≡ Some there) × IsShifted t at there }
+    ensures { (m : Program) (t : ℤ) (k : ℕ) (c d at : Config) → IsShifted t c d → from m k c ≡ Some at →
+        (there : Config) × (from m k d ≡ Some there) × IsShifted t at there }
 {}

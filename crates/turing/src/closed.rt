@@ -12,11 +12,16 @@ ghost use Rattle.turing.specs.Automata.{Automata, Fits};
 /// A machine that has a closed position set never stops. Nor does its run from any other tape whose words
 /// are in the sets: it goes on for ever, within the sets.
 pub fn position_set_never()
-    ensures never { (g : ℕ) (m : Program) (lefts rights : List (List Sym)) (members : List Local) → IsClosed g m (Contains lefts) (Contains rights) (Contains members) → Never m }
-    ensures inside { (g : ℕ) (m : Program) (lefts rights : List (List Sym)) (members : List Local) → IsClosed g m (Contains lefts) (Contains rights) (Contains members) → (c : Config) → IsInside g (Contains lefts) (Contains rights) (Contains members) c → (k : ℕ) → (d : Config) × (from m k c ≡ Some d) × IsInside g (Contains lefts) (Contains rights) (Contains members) d }
+    ensures never { (g : ℕ) (m : Program) (lefts rights : List (List Sym)) (members : List Local) →
+        IsClosed g m (Contains lefts) (Contains rights) (Contains members) → Never m }
+    ensures inside { (g : ℕ) (m : Program) (lefts rights : List (List Sym)) (members : List Local) →
+        IsClosed g m (Contains lefts) (Contains rights) (Contains members) → (c : Config) →
+        IsInside g (Contains lefts) (Contains rights) (Contains members) c → (k : ℕ) →
+        (d : Config) × (from m k c ≡ Some d) × IsInside g (Contains lefts) (Contains rights) (Contains members) d }
 {}
 
 /// A machine of n states that finite automata fit never stops, whichever side is ahead.
 pub fn automata_never()
-    ensures { (n : ℕ) (m : Program) (side : Dir) (a : Automata) → IsMachine n m → Fits n m side a → Never m }
+    ensures { (n : ℕ) (m : Program) (side : Dir) (a : Automata) → IsMachine n m → Fits n m side a →
+        Never m }
 {}

@@ -20,8 +20,12 @@ pub fn translated_never()
 /// The farthest head of some times, one time after another: of one time it is the head; a further head
 /// leaves it, or is itself the farthest. There is only one.
 pub fn farthest_head()
-    ensures first { (m : Program) (side : Dir) (i : ℕ) (c : Config) → after m i ≡ Some c → Farthest m side i (i + 1) c.tape.head }
-    ensures same { (m : Program) (side : Dir) (i j : ℕ) (b : ℤ) (c : Config) → Farthest m side i j b → after m j ≡ Some c → Beyond side b c.tape.head → Farthest m side i (j + 1) b }
-    ensures farther { (m : Program) (side : Dir) (i j : ℕ) (b : ℤ) (c : Config) → Farthest m side i j b → after m j ≡ Some c → Beyond side c.tape.head b → Farthest m side i (j + 1) c.tape.head }
-    ensures one { (m : Program) (side : Dir) (i j : ℕ) (a b : ℤ) → Farthest m side i j a → Farthest m side i j b → a ≡ b }
+    ensures first { (m : Program) (side : Dir) (i : ℕ) (c : Config) → after m i ≡ Some c →
+        Farthest m side i (i + 1) c.tape.head }
+    ensures same { (m : Program) (side : Dir) (i j : ℕ) (b : ℤ) (c : Config) → Farthest m side i j b →
+        after m j ≡ Some c → Beyond side b c.tape.head → Farthest m side i (j + 1) b }
+    ensures farther { (m : Program) (side : Dir) (i j : ℕ) (b : ℤ) (c : Config) → Farthest m side i j b →
+        after m j ≡ Some c → Beyond side c.tape.head b → Farthest m side i (j + 1) c.tape.head }
+    ensures one { (m : Program) (side : Dir) (i j : ℕ) (a b : ℤ) → Farthest m side i j a →
+        Farthest m side i j b → a ≡ b }
 {}

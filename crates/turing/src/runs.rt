@@ -11,7 +11,8 @@ ghost use Rattle.turing.specs.Halting.{Stops, Never};
 /// and changes the state. There is a step wherever there is an entry.
 pub fn step_by_place()
     ensures step { (m : Program) (c d : Config) → next m c ≡ Some d → (e : Entry) × Takes m c e d }
-    ensures entry { (m : Program) (c : Config) (e : Entry) → m c.state (symbol_read c.tape) ≡ Some e → (next m c ≡ Some (carried_out c e)) × Takes m c e (carried_out c e) }
+    ensures entry { (m : Program) (c : Config) (e : Entry) → m c.state (symbol_read c.tape) ≡ Some e →
+        (next m c ≡ Some (carried_out c e)) × Takes m c e (carried_out c e) }
 {}
 
 /// A run goes on from where it stands: i + k steps are i steps, and then k from there.
@@ -21,12 +22,14 @@ pub fn run_continues()
 
 /// After a halting pair there is nothing.
 pub fn halting_ends()
-    ensures { (m : Program) (i j : ℕ) (c d : Config) → from m i c ≡ Some d → next m d ≡ None → i < j → from m j c ≡ None }
+    ensures { (m : Program) (i j : ℕ) (c d : Config) → from m i c ≡ Some d → next m d ≡ None → i < j →
+        from m j c ≡ None }
 {}
 
 /// A run that is there at a time was there at each earlier time.
 pub fn earlier_times()
-    ensures { (m : Program) (i j : ℕ) (c e : Config) → i ≤ j → from m j c ≡ Some e → (d : Config) × (from m i c ≡ Some d) }
+    ensures { (m : Program) (i j : ℕ) (c e : Config) → i ≤ j → from m j c ≡ Some e →
+        (d : Config) × (from m i c ≡ Some d) }
 {}
 
 /// A machine stops in one number of steps at most, and at one configuration.
@@ -47,10 +50,12 @@ pub fn one_verdict()
 
 /// The run of a machine of n states from one of these states stays among them.
 pub fn states_within()
-    ensures { (n : ℕ) (m : Program) → IsMachine n m → (k : ℕ) (c d : Config) → c.state < n → from m k c ≡ Some d → d.state < n }
+    ensures { (n : ℕ) (m : Program) → IsMachine n m → (k : ℕ) (c d : Config) → c.state < n →
+        from m k c ≡ Some d → d.state < n }
 {}
 
 /// After k steps the head is at most k cells off.
 pub fn head_reach()
-    ensures { (m : Program) (k : ℕ) (c d : Config) → from m k c ≡ Some d → ((c.tape.head -ℤ pos k) ≤ℤ d.tape.head) × (d.tape.head ≤ℤ (c.tape.head +ℤ pos k)) }
+    ensures { (m : Program) (k : ℕ) (c d : Config) → from m k c ≡ Some d →
+        ((c.tape.head -ℤ pos k) ≤ℤ d.tape.head) × (d.tape.head ≤ℤ (c.tape.head +ℤ pos k)) }
 {}

@@ -1,0 +1,58 @@
+-- The children of a machine in tree normal form: it stops on a pair, and the pair gets an entry.
+use Rattle.std.specs.Prelude.{◌≡◌, ℕ, ◌+◌, ◌*◌, ◌<◌, ◌≤◌, min, ◌==◌, ◌⊎◌, ◌++◌, if◌then◌else◌, List, map}
+use Rattle.std.specs.List.{range_with_len}
+use Rattle.machine_text.specs.declared.transition.Sym.{Sym}
+use Rattle.machine_text.specs.declared.transition.Sym.TheVariants.{Zero, One}
+use Rattle.machine_text.specs.declared.transition.Dir.{Dir}
+use Rattle.machine_text.specs.declared.transition.Dir.TheVariants.{L, R}
+use Rattle.machine_text.specs.declared.transition.Entry.{Entry}
+use Rattle.machine_text.specs.Packed.{holes, symbol_number, direction_number}
+use Rattle.turing.specs.Program.{Program}
+use Rattle.turing.specs.Tape.{symbol_read}
+use Rattle.turing.specs.Halting.{Stops}
+use Rattle.tree.specs.Filling.{filled, IsEmpty}
+use Rattle.tree.specs.Used.{InOrder}
+
+-- the run from the blank tape stops in k steps, on the pair of state number q and the symbol s
+pub record StopsOn (m : Program) (k q : ℕ) (s : Sym) : Type 0 where
+  pub stops : Stops m k
+  pub state : stops.at.state ≡ q
+  pub symbol : symbol_read stops.at.tape ≡ s
+
+-- an entry that a child gets, where the used states are the first u: its target is one of the n states, and a
+-- used one or the first unused one; the first move of all is to the right
+pub record IsChildEntry (n u : ℕ) (m : Program) (e : Entry) : Type 0 where
+  pub within : e.next.0 < n
+  pub target : e.next.0 ≤ u
+  pub right : IsEmpty m → e.dir ≡ R
+
+-- t is a child of m: m stops on a pair, at least two pairs are undefined, and that pair gets such an entry
+pub record IsChild (n : ℕ) (m t : Program) : Type 0 where
+  pub used : ℕ
+  pub in_order : InOrder used m
+  pub count : ℕ
+  pub state : ℕ
+  pub symbol : Sym
+  pub stops : StopsOn m count state symbol
+  pub undefined : 2 ≤ holes n m
+  pub entry : Entry
+  pub is_entry : IsChildEntry n used m entry
+  pub is : t ≡ filled m state symbol entry
+
+-- the order of the texts of entries: by the symbol, then by the direction, then by the target
+abbrev pub move_number : Entry → ℕ
+move_number e = 2 * symbol_number e.write + direction_number e.dir
+
+abbrev pub Precedes : Entry → Entry → Type 0
+Precedes a b = (move_number a < move_number b) ⊎ ((move_number a ≡ move_number b) × (a.next.0 < b.next.0))
+
+-- the entries to the first so many states that write a symbol and move in a direction
+abbrev pub entries_to : ℕ → Sym → Dir → List Entry
+entries_to targets w d = map (λ q. record { write = w; dir = d; next = record { 0 = q } }) (range_with_len 0 targets)
+
+-- the entries of the children in the order of their texts; where every pair is undefined, to the right alone
+unfoldable pub child_entries : ℕ → ℕ → Program → List Entry
+child_entries n u m =
+    let targets = min n (u + 1) in
+    if holes n m == 2 * n then entries_to targets Zero R ++ entries_to targets One R
+    else (entries_to targets Zero L ++ entries_to targets Zero R) ++ (entries_to targets One L ++ entries_to targets One R)

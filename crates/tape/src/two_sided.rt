@@ -13,7 +13,8 @@ pub type NoMemory = AllocError;
 
 /// A two-sided tape with a head. Each cell is blank, which is `Sym::Zero`, until a one is written there.
 ///
-/// Places are whole numbers: the head starts at 0, a move to the right adds one.
+/// Places are whole numbers: the head starts at 0, a move to the right adds one. A head that is moved stands
+/// at most `MAX_PLACE` cells from 0 before the move, which is the caller's to see to.
 #[derive(Drop)]
 pub struct Tape {
     head: i64,
@@ -163,7 +164,7 @@ impl Tape {
         (first, last)
     }
 
-    /// Another tape with the same head and cells.
+    /// Another tape with the same head and cells, on the allocator given.
     pub fn copied(&self, alloc: Global) -> Result<Tape, NoMemory>
         ensures { IfOk result (λ t. t ≡ self.now) }
     {

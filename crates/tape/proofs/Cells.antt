@@ -6,7 +6,7 @@ use Rattle.std.specs.Cmp.{int_cmp_total, tied_itself}
 use Rattle.std.proofs.lemmas.Map.Lookups.{exact_signed}
 use Rattle.machine_text.specs.declared.transition.Sym.{Sym}
 use Rattle.machine_text.specs.declared.transition.Sym.TheVariants.{Zero, One}
-use Rattle.turing.specs.Tape.{Tape, cell_of, with_cell}
+use Rattle.turing.specs.Tape.{Tape, symbol_read, written, cell_of, with_cell}
 
 -- a place is tied with itself
 tied_here : (x : ℤ) → eq_by_cmp int_cmp x x ≡ true
@@ -18,6 +18,7 @@ same_place q x = go (int_cmp q x) refl
   where
     apart : (o : Ordering) → int_cmp q x ≡ o → is_eq o ≡ false → q ≡ x → ⊥
     apart o is differ e = let t : is_eq o ≡ true = ap is_eq (sym is) ∙ ap (λ y. eq_by_cmp int_cmp y x) e ∙ tied_here x in cc
+
     go : (o : Ordering) → int_cmp q x ≡ o → (q ≡ x) ⊎ ((q ≡ x → ⊥) × (eq_by_cmp int_cmp q x ≡ false))
     go Less is = inr (apart Less is refl, ap is_eq is)
     go Equal is = inl (exact_signed q x is)
@@ -75,3 +76,7 @@ with_cell-cell_of ones x =
 -- two tapes with the same head and ones are one
 pub same_tape : (t u : Tape) → t.head ≡ u.head → t.ones ≡ u.ones → t ≡ u
 same_tape t u head ones = λ i. record { head = head i; ones = ones i }
+
+-- a tape on which what is read is written again is the tape
+pub rewritten : (t : Tape) → written t (symbol_read t) ≡ t
+rewritten t = same_tape _ t refl (with_cell-cell_of t.ones t.head)

@@ -1,6 +1,6 @@
 -- Half tapes by their ones: a loop over the places of a half, and that two halves are the same where each
 -- has the ones of the other.
-use Rattle.std.proofs.Common.{◌≡◌, ℤ, pos, neg_ℤ, ◌+ℤ◌, ◌-ℤ◌, ◌<ℤ◌, ◌≤ℤ◌, sym, ◌∙◌, ap, refl, subst, arith, ◌↔◌, Bool, IsTrue}
+use Rattle.std.proofs.Common.{◌≡◌, ℤ, pos, neg_ℤ, ◌+ℤ◌, ◌<ℤ◌, ◌≤ℤ◌, sym, ◌∙◌, ap, refl, subst, arith, ◌↔◌, Bool, IsTrue}
 use Rattle.std.specs.Int.{w64, saturate_signed}
 use Rattle.std.specs.Ordering.{int_cmp}
 use Rattle.std.specs.FinSet as set
@@ -24,8 +24,8 @@ pub IsLookedAt-more : (ones others : set.FinSet int_cmp) (begin x x' shift : ℤ
 IsLookedAt-more ones others begin x x' shift next before here = record {
   from = omega (arith, ints);
   ones_are_in = λ y from lt one. by_place y x
-    (λ e. ap (λ z. cell_of others (z +ℤ shift)) e ∙ here (ap (cell_of ones) (sym e) ∙ one))
-    (λ apart. by_lt_z y x (λ less. before.ones_are_in y from less one) (λ le. absurd (apart (omega (arith, ints)))));
+      (λ e. ap (λ z. cell_of others (z +ℤ shift)) e ∙ here (ap (cell_of ones) (sym e) ∙ one))
+      (λ apart. by_lt_z y x (λ less. before.ones_are_in y from less one) (λ le. absurd (apart (omega (arith, ints)))));
 }
 
 -- all the places of a half that can hold ones were looked at
@@ -38,7 +38,7 @@ OnesWithin-looked side ones others first last from begin end x shift within part
 pub OnesWithin-saturated : (side : Dir) (ones others : set.FinSet int_cmp) (from shift : ℤ) → IsReached ones → OnesWithin side (saturate_signed w64 from) shift ones others ↔ OnesWithin side from shift ones others
 OnesWithin-saturated side ones others from shift reached = (
   λ within x beyond one. within x ((Beyond-saturated side from x (reached.low x one) (reached.high x one)).1 beyond) one,
-  λ within x beyond one. within x ((Beyond-saturated side from x (reached.low x one) (reached.high x one)).0 beyond) one
+  λ within x beyond one. within x ((Beyond-saturated side from x (reached.low x one) (reached.high x one)).0 beyond) one,
 )
 
 Beyond-shifted : (side : Dir) (from shift x : ℤ) → Beyond side from x → Beyond side (from +ℤ shift) (x +ℤ shift)
@@ -75,7 +75,7 @@ pub SameBeyond-second : (side : Dir) (ones others : set.FinSet int_cmp) (from sh
 SameBeyond-second side ones others from shift begin back r there reached second begins backs =
     let whole = OnesWithin-saturated side others ones (from +ℤ shift) (neg_ℤ shift) reached in
     let looked : IsTrue r ↔ OnesWithin side (saturate_signed w64 (from +ℤ shift)) (neg_ℤ shift) others ones =
-        subst (λ (b : ℤ). IsTrue r ↔ OnesWithin side b (neg_ℤ shift) others ones) begins (subst (λ (s : ℤ). IsTrue r ↔ OnesWithin side begin s others ones) backs second)
+    subst (λ (b : ℤ). IsTrue r ↔ OnesWithin side b (neg_ℤ shift) others ones) begins (subst (λ (s : ℤ). IsTrue r ↔ OnesWithin side begin s others ones) backs second)
     in
     (λ t. SameBeyond-within side ones others from shift there (whole.0 (looked.0 t)), λ same. looked.1 (whole.1 (OnesWithin-back side ones others from shift same)))
 

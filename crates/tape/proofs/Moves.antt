@@ -1,15 +1,13 @@
 -- A tape as it is stored, the visited cells as two lists with the nearest cell last: what is read, written and moved.
-use Rattle.std.proofs.Common.{◌≡◌, ℕ, zero, suc, ℤ, pos, ◌+ℤ◌, ◌-ℤ◌, ◌+◌, List, [], ◌∷◌, ◌++◌, length, reverse, Option, Some, None, sym, ◌∙◌, ap, refl, arith, append_assoc}
+use Rattle.std.proofs.Common.{◌≡◌, ℕ, ℤ, pos, ◌+ℤ◌, ◌-ℤ◌, ◌+◌, List, [], ◌∷◌, ◌++◌, length, reverse, Option, Some, None, sym, ◌∙◌, ap, refl, arith, append_assoc}
 use Rattle.std.specs.Option.{option_to_list, unwrap_or, MatchOption}
 use Rattle.std.specs.Bool.{⊤}
 use Rattle.std.proofs.lemmas.Int.{ints}
-use Rattle.std.proofs.lemmas.List.{append-nil, reverse-append, length-append, length_push}
-use Rattle.std.specs.FinSet as set
-use Rattle.std.specs.Ordering.{int_cmp}
+use Rattle.std.proofs.lemmas.List.{reverse-append, length_push}
 use Rattle.machine_text.specs.declared.transition.Sym.{Sym}
-use Rattle.machine_text.specs.declared.transition.Sym.TheVariants.{Zero, One}
+use Rattle.machine_text.specs.declared.transition.Sym.TheVariants.{Zero}
 use Rattle.machine_text.specs.declared.transition.Dir.TheVariants.{L, R}
-use Rattle.turing.specs.Tape.{Tape, blank, cell_of, symbol_read, written, moved}
+use Rattle.turing.specs.Tape.{Tape, blank, symbol_read, written, moved}
 use Rattle.tape.specs.Word.{ones_of}
 use Rattle.tape.proofs.Cells.{same_tape}
 use Rattle.tape.proofs.Words.{cell_between, with_cell-ones_of, ones_of-blank_before, ones_of-blank_after}

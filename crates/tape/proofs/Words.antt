@@ -1,12 +1,11 @@
 -- The ones of a word: its cells, and the words that leave the same ones.
-use Rattle.std.proofs.Common.{◌≡◌, ℕ, zero, suc, ℤ, pos, ◌+ℤ◌, ◌-ℤ◌, ◌<ℤ◌, ◌<◌, ◌≤◌, List, [], ◌∷◌, ◌++◌, length, get_or, sym, ◌∙◌, ap, refl, arith}
+use Rattle.std.proofs.Common.{◌≡◌, ℕ, zero, suc, ℤ, pos, ◌+ℤ◌, ◌<ℤ◌, List, [], ◌∷◌, ◌++◌, length, get_or, sym, ◌∙◌, ap, refl, arith}
 use Rattle.std.proofs.lemmas.Int.{ints}
-use Rattle.std.specs.FinSet as set
 use Rattle.machine_text.specs.declared.transition.Sym.{Sym}
-use Rattle.machine_text.specs.declared.transition.Sym.TheVariants.{Zero, One}
+use Rattle.machine_text.specs.declared.transition.Sym.TheVariants.{Zero}
 use Rattle.turing.specs.Tape.{cell_of, with_cell}
 use Rattle.tape.specs.Word.{ones_of}
-use Rattle.tape.proofs.Cells.{by_place, cell_here, cell_same, cell_other, cell_blank, same_ones}
+use Rattle.tape.proofs.Cells.{by_place, cell_same, cell_other, cell_blank, same_ones}
 
 -- left of a word all is blank
 pub blank_before : (x : ℤ) (word : List Sym) (q : ℤ) → q <ℤ x → cell_of (ones_of x word) q ≡ Zero

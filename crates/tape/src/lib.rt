@@ -11,3 +11,6 @@ mod two_sided;
 
 pub use limits::MAX_PLACE;
 pub use two_sided::{NoMemory, Tape};
+
+#[cfg(test)]
+mod tests;

@@ -13,7 +13,8 @@ pub type NoMemory = AllocError;
 
 /// A two-sided tape with a head. Each cell is blank, which is `Sym::Zero`, until a one is written there.
 ///
-/// Places are whole numbers: the head starts at 0, a move to the right adds one.
+/// Places are whole numbers: the head starts at 0, a move to the right adds one. A head that is moved stands
+/// at most `MAX_PLACE` cells from 0 before the move, which is the caller's to see to.
 #[derive(Drop)]
 pub struct Tape {
     head: i64,
@@ -34,8 +35,8 @@ impl Model for Tape {
     ghost coded = { tape_code };
 
     ghost view = { λ a. record {
-        head = a.head;
-        ones = ones_of (a.head -ℤ pos (length a.left.items)) (a.left.items ++ a.read ∷ reverse a.right.items)
+      head = a.head;
+      ones = ones_of (a.head -ℤ pos (length a.left.items)) (a.left.items ++ a.read ∷ reverse a.right.items);
     } };
 
     ghost invariant = { λ a. IsVisited (a.head -ℤ pos (length a.left.items)) (a.head +ℤ pos (length a.right.items)) };
@@ -83,22 +84,24 @@ impl Tape {
 
     /// Moves the head by one cell to the left. After an error the tape is as it was.
     #[inline]
+    #[tactic(auto, using(crate::proofs::Cells::rewritten))]
     pub fn left(&mut self) -> Result<(), NoMemory>
         requires { IsWithinLimit self.old.head }
         ensures ok { OnOk result (self.new ≡ moved self.old L) }
         ensures err { OnErr result (self.new ≡ self.old) }
     {
-        self.write_left(self.read)
+        self.write_left(self.read())
     }
 
     /// Moves the head by one cell to the right. After an error the tape is as it was.
     #[inline]
+    #[tactic(auto, using(crate::proofs::Cells::rewritten))]
     pub fn right(&mut self) -> Result<(), NoMemory>
         requires { IsWithinLimit self.old.head }
         ensures ok { OnOk result (self.new ≡ moved self.old R) }
         ensures err { OnErr result (self.new ≡ self.old) }
     {
-        self.write_right(self.read)
+        self.write_right(self.read())
     }
 
     /// Writes a symbol under the head, then moves to the left. After an error the tape is as it was:
@@ -161,15 +164,15 @@ impl Tape {
         (first, last)
     }
 
-    /// Another tape with the same head and cells.
+    /// Another tape with the same head and cells, on the allocator given.
     pub fn copied(&self, alloc: Global) -> Result<Tape, NoMemory>
         ensures { IfOk result (λ t. t ≡ self.now) }
     {
         Ok(Tape {
             head: self.head,
-            left: self.left.iter().copied().collect(alloc)?,
+            left: self.left.to_vec(alloc)?,
             read: self.read,
-            right: self.right.iter().copied().collect(alloc)?,
+            right: self.right.to_vec(alloc)?,
         })
     }
 }

@@ -14,7 +14,7 @@ returns-in-Less c =
     let a = c.self.inside in
     let before = int_ranked _ _ _ (c.in-Less.ensures ∙ ap (λ (z : ℤ). int_cmp z a.head) (to_z-of_z w64 c.args.x c.ranges.x)) in
     let at : IsAtDistance a.left.items c.abs_diff-distance.result c.at_distance.result =
-        subst (λ (side : List Sym). IsAtDistance side c.abs_diff-distance.result c.at_distance.result) c.deref.ensures.value (record { visited = c.at_distance.ensures.visited; blank = c.at_distance.ensures.blank })
+    subst (λ (side : List Sym). IsAtDistance side c.abs_diff-distance.result c.at_distance.result) c.deref.ensures.value (record { visited = c.at_distance.ensures.visited; blank = c.at_distance.ensures.blank })
     in
     cell_left a.head c.args.x a.left.items a.right.items a.read _ _ before (omega (arith, ints)) at ∙ ap (λ (t : Tape). cell_of t.ones c.args.x) c.self.view_is
 
@@ -31,6 +31,6 @@ returns-in-Greater c =
     let a = c.self.inside in
     let after = int_ranked _ _ _ (c.in-Greater.ensures ∙ ap (λ (z : ℤ). int_cmp z a.head) (to_z-of_z w64 c.args.x c.ranges.x)) in
     let at : IsAtDistance a.right.items c.abs_diff-distance.result c.at_distance-in-Greater.result =
-        subst (λ (side : List Sym). IsAtDistance side c.abs_diff-distance.result c.at_distance-in-Greater.result) c.deref-in-Greater.ensures.value (record { visited = c.at_distance-in-Greater.ensures.visited; blank = c.at_distance-in-Greater.ensures.blank })
+    subst (λ (side : List Sym). IsAtDistance side c.abs_diff-distance.result c.at_distance-in-Greater.result) c.deref-in-Greater.ensures.value (record { visited = c.at_distance-in-Greater.ensures.visited; blank = c.at_distance-in-Greater.ensures.blank })
     in
     cell_right a.head c.args.x a.left.items a.right.items a.read _ _ after (omega (arith, ints)) at ∙ ap (λ (t : Tape). cell_of t.ones c.args.x) c.self.view_is

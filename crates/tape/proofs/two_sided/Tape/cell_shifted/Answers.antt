@@ -1,5 +1,5 @@
-use Rattle.std.proofs.Common.{◌≡◌, ◌∙◌, ap, refl, subst, ℤ, ◌+ℤ◌, rules}
-use Rattle.std.specs.Int.{w64, saturate_signed}
+use Rattle.std.proofs.Common.{◌∙◌, ap, refl, subst, ◌+ℤ◌, rules}
+use Rattle.std.specs.Int.{w64}
 use Rattle.std.specs.Int.RustNames.{FitsSigned}
 use Rattle.std.proofs.lemmas.Int.{to_z-of_z}
 use Rattle.turing.specs.Tape.{Tape, cell_of}

@@ -1,5 +1,3 @@
-use Rattle.std.proofs.Common.{◌≡◌, List, []}
-use Rattle.machine_text.specs.declared.transition.Sym.{Sym}
 use Rattle.tape.proofs.Moves.{stored-blank}
 use Rattle.tape.proofs.two_sided.Tape.new.Goals as goal
 

@@ -1,7 +1,6 @@
-use Rattle.std.proofs.Common.{◌≡◌, ℤ, ◌≤ℤ◌, ◌<ℤ◌, w64, to_z, refl, arith, rules}
+use Rattle.std.proofs.Common.{◌≤ℤ◌, ◌<ℤ◌, w64, to_z, refl, arith, rules}
 use Rattle.std.specs.Int.RustNames.{FitsSigned}
 use Rattle.std.proofs.lemmas.Int.{ints, to_z-of_z}
-use Rattle.tape.specs.Places.{Beyond, OnesWithin}
 use Rattle.tape.proofs.Halves.{IsLookedAt-more, OnesWithin-looked}
 use Rattle.tape.proofs.two_sided.Tape.ones_are_in.Goals as goal
 

@@ -1,4 +1,3 @@
-use Rattle.std.proofs.Common.{◌≤ℤ◌}
 use Rattle.tape.proofs.Halves.{IsLookedAt}
 use Rattle.tape.proofs.two_sided.Tape.ones_are_in.Given as goal
 

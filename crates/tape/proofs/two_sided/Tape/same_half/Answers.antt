@@ -1,8 +1,7 @@
-use Rattle.std.proofs.Common.{◌≡◌, ◌+ℤ◌, ◌∙◌, neg_ℤ, refl, arith, rules}
-use Rattle.std.specs.Int.{w64, saturate_signed}
+use Rattle.std.proofs.Common.{◌∙◌, refl, arith, rules}
+use Rattle.std.specs.Int.{w64}
 use Rattle.std.specs.Int.RustNames.{FitsSigned}
 use Rattle.std.proofs.lemmas.Int.{ints, to_z-of_z}
-use Rattle.tape.specs.Places.{SameBeyond, OnesWithin}
 use Rattle.tape.proofs.Halves.{SameBeyond-second}
 use Rattle.tape.proofs.two_sided.Tape.same_half.Goals as goal
 

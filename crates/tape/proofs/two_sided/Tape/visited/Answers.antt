@@ -1,4 +1,4 @@
-use Rattle.std.proofs.Common.{refl, subst, arith, w64, to_z, of_z, ◌≡◌, ◌+ℤ◌, ◌-ℤ◌, ℤ, pos}
+use Rattle.std.proofs.Common.{refl, subst, arith, w64, to_z, of_z, ◌+ℤ◌, ◌-ℤ◌}
 use Rattle.std.proofs.lemmas.Int.{ints}
 use Rattle.turing.specs.Tape.{Tape}
 use Rattle.tape.specs.Places.{IsReached, HasOnesWithin}

@@ -1,4 +1,4 @@
-use Rattle.std.proofs.Common.{◌≡◌, ◌∙◌, ap, sym, subst, arith, pos, ◌-ℤ◌}
+use Rattle.std.proofs.Common.{◌∙◌, ap, sym, subst, arith}
 use Rattle.std.proofs.lemmas.Int.{ints}
 use Rattle.machine_text.specs.declared.transition.Dir.TheVariants.{R}
 use Rattle.turing.specs.Tape.{Tape, written, moved}

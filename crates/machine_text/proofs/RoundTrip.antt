@@ -207,3 +207,31 @@ module _ (p : Packed) (table : IsTable p) where
             let here : get_or (text_of p) i 0 ≡ 95 = byte ∙ ap (byte_at p) (let e : i ≡ 7 * (i / 7) + 6 = omega arith in e) ∙ byte_of_bar p (i / 7) in
             rw here (omega arith, omega arith)
       ]
+
+-- no byte of a text is below that of `-`
+from_45 : (o : Option Entry) (c : ℕ) → 45 ≤ entry_byte o c
+from_45 None c = omega arith
+from_45 (Some e) c = elim (eqb c 0) as (λ b. 45 ≤ cond b (symbol_byte e.write) (cond (eqb c 1) (direction_byte e.dir) (65 + e.next.0))) [
+  | true ↦ symbol_from_45 e.write
+  | false ↦ elim (eqb c 1) as (λ b. 45 ≤ cond b (direction_byte e.dir) (65 + e.next.0)) [ true ↦ direction_from_45 e.dir | false ↦ omega arith ]
+]
+  where
+    symbol_from_45 : (w : Sym) → 45 ≤ symbol_byte w
+    symbol_from_45 Zero = omega arith
+    symbol_from_45 One = omega arith
+    direction_from_45 : (d : Dir) → 45 ≤ direction_byte d
+    direction_from_45 L = omega arith
+    direction_from_45 R = omega arith
+
+pub text_of_from_45 : (p : Packed) → IsTable p → (i : ℕ) → i < length (text_of p) → 45 ≤ get_or (text_of p) i 0
+text_of_from_45 p table i below =
+    let inside : i + 1 < 7 * p.states = omega (arith, length-text_of p table.some) in
+    elim (cases_lt (i % 7) 6) [
+      | inl beside ↦
+          let o = entry_of p (i / 7) (symbol_of (i % 7 / 3)) in
+          let here : get_or (text_of p) i 0 ≡ entry_byte o (i % 7 % 3) = byte_in p table (i / 7) (i % 7) i (omega arith) beside inside in
+          rw here (from_45 o (i % 7 % 3))
+      | inr bar ↦
+          let here : get_or (text_of p) i 0 ≡ 95 = get_or-text_of p table.some i inside ∙ ap (byte_at p) (let e : i ≡ 7 * (i / 7) + 6 = omega arith in e) ∙ byte_of_bar p (i / 7) in
+          rw here (omega arith)
+    ]

@@ -1,0 +1,90 @@
+-- Reading the text of a record gives the record again.
+use Rattle.std.proofs.Common.{◌≡◌, ℕ, zero, suc, ◌+◌, ◌-◌, ◌*◌, ◌%◌, ◌^◌, ◌<◌, ◌≤◌, Bool, true, false, eqb, ltb, List, [], ◌∷◌, ◌++◌, length, get_or, Some, Ok, refl, ap, ◌∙◌, append_assoc, length-append, arith}
+use Rattle.std.specs.Prelude.{codes, decimal, All}
+use Rattle.std.specs.Str.{bytes_eq}
+use Rattle.std.proofs.lemmas.Bool.Decides.{nat_tests}
+use Rattle.std.proofs.lemmas.Fmt.{decimal_by_steps, length-decimal-le}
+use Rattle.std.proofs.lemmas.List.Elements.{All-append, All-from_get_or}
+use Rattle.std.proofs.lemmas.List.Splits.{slice_split_at, slice_split_none}
+use Rattle.std.proofs.lemmas.List.Sums.{fold-append}
+use Rattle.std.proofs.lemmas.Slice.Eq.{bytes_eq-Decides}
+use Rattle.machine_text.specs.Packed.{Packed, IsTable}
+use Rattle.machine_text.specs.Text.{text_of}
+use Rattle.machine_text.proofs.Rows.{length-text_of}
+use Rattle.machine_text.proofs.RoundTrip.{table_of-text_of, text_of_from_45}
+use Rattle.cert.specs.declared.limits.TheConstants.{MAX_RECORD_BYTES}
+use Rattle.cert.specs.Claim.{Claim, HaltsIn, Nothing, Recorded, IsWritable}
+use Rattle.cert.specs.Grammar.{parts_of, worth_of, number_of, with_number, halts_by, claim_from, claim_text, record_with, record_after, record_from, record_of, record_text}
+use Rattle.cert.proofs.Worth.{with_digit}
+
+abbrev IsSpace : ℕ → Bool
+IsSpace b = eqb b 32
+
+abbrev HasNoSpace : List ℕ → Type 0
+HasNoSpace text = All (λ b. IsSpace b ≡ false) text
+
+-- the decimal form of a number is worth it, and is one part
+record IsForm (n : ℕ) (text : List ℕ) : Type 0 where
+  worth : worth_of text ≡ n
+  no_space : HasNoSpace text
+
+digit_is_no_space : (n : ℕ) → n < 10 → IsSpace (48 + n) ≡ false
+digit_is_no_space n small = grind (arith, nat_tests)
+
+one_digit : (n : ℕ) → n < 10 → HasNoSpace ((48 + n) ∷ [])
+one_digit n small = All-from_get_or (λ b. IsSpace b ≡ false) ((48 + n) ∷ []) 0 first
+  where
+    first : (i : ℕ) → i < 1 → IsSpace (get_or ((48 + n) ∷ []) i 0) ≡ false
+    first zero below = digit_is_no_space n small
+    first (suc i) below = absurd (omega arith)
+
+decimal_is_form : (n : ℕ) → n < 2 ^ 64 → IsForm n (decimal n)
+decimal_is_form = decimal_by_steps IsForm
+    (λ n small. record { worth = omega arith; no_space = one_digit n small })
+    (λ n digits large form. record {
+      worth = fold-append with_digit 0 digits ((48 + n % 10) ∷ []) ∙ (let e : 10 * worth_of digits + (48 + n % 10 - 48) ≡ n = omega (arith, form.worth) in e);
+      no_space = All-append (λ b. IsSpace b ≡ false) digits ((48 + n % 10) ∷ []) form.no_space (one_digit (n % 10) (omega arith));
+    })
+
+number_of-decimal : (n : ℕ) → n < 2 ^ 64 → number_of (decimal n) ≡ Some n
+unfolding number_of
+number_of-decimal n small =
+    let worth = (decimal_is_form n small).worth in
+    let within : ltb n (2 ^ 64) ≡ true = grind (arith, nat_tests) in
+    let same : bytes_eq (decimal n) (decimal n) ≡ true = (bytes_eq-Decides (decimal n) (decimal n)).1 refl in
+    rw (worth, within, same) refl
+
+text_has_no_space : (p : Packed) → IsTable p → HasNoSpace (text_of p)
+text_has_no_space p table = All-from_get_or (λ b. IsSpace b ≡ false) (text_of p) 0 (λ i below.
+    let above : 45 ≤ get_or (text_of p) i 0 = text_of_from_45 p table i below in
+    grind (arith, nat_tests))
+
+claim_back : (c : Claim) → IsWritable c → claim_from (parts_of (claim_text c)) ≡ Ok c
+claim_back (HaltsIn k) small =
+    let one : parts_of (decimal k) ≡ decimal k ∷ [] = slice_split_none IsSpace (decimal k) (decimal_is_form k small).no_space in
+    ap halts_by one ∙ ap (λ o. with_number o HaltsIn) (number_of-decimal k small)
+claim_back Nothing small = refl
+
+length_of_claim : (c : Claim) → IsWritable c → length (claim_text c) ≤ 22
+length_of_claim (HaltsIn k) small = omega (arith, length-append (codes "H ") (decimal k), length-decimal-le 20 k (omega arith) (omega arith) small)
+length_of_claim Nothing small = omega arith
+
+short : (r : Recorded) → IsTable r.table → IsWritable r.claim → length (record_text r) ≤ MAX_RECORD_BYTES
+unfolding record_text
+short r table writable =
+    let table_length = length-text_of r.table table.some in
+    let all = length-append (text_of r.table ++ codes " ") (claim_text r.claim) in
+    let begun = length-append (text_of r.table) (codes " ") in
+    omega (arith, table_length, all, begun, length_of_claim r.claim writable, table.limit)
+
+parts_of-record_text : (r : Recorded) → IsTable r.table → parts_of (record_text r) ≡ text_of r.table ∷ parts_of (claim_text r.claim)
+unfolding record_text
+parts_of-record_text r table =
+    ap parts_of (append_assoc (text_of r.table) (codes " ") (claim_text r.claim))
+    ∙ slice_split_at IsSpace (text_of r.table) 32 (claim_text r.claim) (text_has_no_space r.table table) refl
+
+pub record_of-record_text : (r : Recorded) → IsTable r.table → IsWritable r.claim → record_of (record_text r) ≡ Ok r
+unfolding record_of
+record_of-record_text r table writable =
+    let fits : ltb MAX_RECORD_BYTES (length (record_text r)) ≡ false = grind (arith, nat_tests, short r table writable) in
+    rw fits (ap record_from (parts_of-record_text r table) ∙ ap (λ t. record_after t (parts_of (claim_text r.claim))) (table_of-text_of r.table table) ∙ ap (record_with r.table) (claim_back r.claim writable))

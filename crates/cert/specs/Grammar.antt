@@ -1,0 +1,74 @@
+-- The grammar of a record's text: a table, a space, a kind, and so many fields, each after a space. Bytes
+-- are their ASCII codes: 32 is the space, 48 `0`, 72 `H`, 85 `U`.
+use Rattle.std.specs.Prelude.{ℕ, ◌+◌, ◌-◌, ◌*◌, ◌^◌, ◌==◌, ◌&&◌, nat_lt, if◌then◌else◌, List, [], ◌∷◌, ◌++◌, Option, Some, None, Result, Ok, Err, length, fold, codes, decimal}
+use Rattle.std.specs.List.{slice_split}
+use Rattle.std.specs.Str.{bytes_eq}
+use Rattle.machine_text.specs.declared.faults.TextFault.{TextFault}
+use Rattle.machine_text.specs.Packed.{Packed}
+use Rattle.machine_text.specs.Text.{table_of, text_of}
+use Rattle.cert.specs.declared.limits.TheConstants.{MAX_RECORD_BYTES}
+use Rattle.cert.specs.declared.kinds.RecordFault.{RecordFault}
+use Rattle.cert.specs.declared.kinds.RecordFault.TheVariants.{BadTable, BadKind, BadNumber, TooLong}
+use Rattle.cert.specs.Claim.{Claim, HaltsIn, Nothing, Recorded}
+
+-- the parts of a text, cut at every space
+abbrev pub parts_of : List ℕ → List (List ℕ)
+parts_of text = slice_split (λ b. b == 32) text
+
+-- what a row of digits is worth in base ten
+abbrev pub worth_of : List ℕ → ℕ
+worth_of digits = fold (λ n b. 10 * n + (b - 48)) 0 digits
+
+-- the number of which a text is the decimal form: no sign, no leading zero, and at most 64 bits
+unfoldable pub number_of : List ℕ → Option ℕ
+number_of text = if nat_lt (worth_of text) (2 ^ 64) && bytes_eq (decimal (worth_of text)) text then Some (worth_of text) else None
+
+-- a claim made of a field that must be a number
+abbrev pub with_number : Option ℕ → (ℕ → Claim) → Result Claim RecordFault
+with_number None claim = Err BadNumber
+with_number (Some n) claim = Ok (claim n)
+
+-- the claim that the fields of a kind make
+abbrev pub halts_by : List (List ℕ) → Result Claim RecordFault
+halts_by (k ∷ []) = with_number (number_of k) HaltsIn
+halts_by fields = Err BadKind
+
+abbrev pub undecided_by : List (List ℕ) → Result Claim RecordFault
+undecided_by [] = Ok Nothing
+undecided_by fields = Err BadKind
+
+abbrev pub claim_by : List ℕ → List (List ℕ) → Result Claim RecordFault
+claim_by kind fields =
+    if bytes_eq kind (codes "H") then halts_by fields
+    else if bytes_eq kind (codes "U") then undecided_by fields
+    else Err BadKind
+
+-- what follows a table, from the kind on
+abbrev pub claim_from : List (List ℕ) → Result Claim RecordFault
+claim_from [] = Err BadKind
+claim_from (kind ∷ fields) = claim_by kind fields
+
+abbrev pub record_with : Packed → Result Claim RecordFault → Result Recorded RecordFault
+record_with p (Ok claim) = Ok (record { table = p; claim = claim })
+record_with p (Err f) = Err f
+
+abbrev pub record_after : Result Packed TextFault → List (List ℕ) → Result Recorded RecordFault
+record_after (Err f) parts = Err (BadTable f)
+record_after (Ok p) parts = record_with p (claim_from parts)
+
+abbrev pub record_from : List (List ℕ) → Result Recorded RecordFault
+record_from [] = Err BadKind
+record_from (table ∷ parts) = record_after (table_of table) parts
+
+-- what a text is read as: its length is judged first, then its parts from left to right
+unfoldable pub record_of : List ℕ → Result Recorded RecordFault
+record_of text = if nat_lt MAX_RECORD_BYTES (length text) then Err TooLong else record_from (parts_of text)
+
+-- the text of a claim, from the kind on
+abbrev pub claim_text : Claim → List ℕ
+claim_text (HaltsIn k) = codes "H " ++ decimal k
+claim_text Nothing = codes "U"
+
+-- the text of a record
+unfoldable pub record_text : Recorded → List ℕ
+record_text r = text_of r.table ++ codes " " ++ claim_text r.claim

@@ -1,0 +1,34 @@
+-- What the certificates and records of the code claim.
+use Rattle.cert.specs.Claim.{Claim, HaltsIn, Nothing, Recorded}
+use Rattle.std.specs.Prelude.{Result, Ok, Err}
+use Rattle.cert.specs.declared.kinds.Certificate.{Certificate}
+use Rattle.cert.specs.declared.kinds.Certificate.TheVariants.{Halts, Undecided}
+use Rattle.cert.specs.declared.kinds.OwnedCertificate.{OwnedCertificate}
+use Rattle.cert.specs.declared.kinds.OwnedCertificate.TheVariants.{Halts as OwnedHalts, Undecided as OwnedUndecided}
+use Rattle.cert.specs.declared.kinds.Record.{Record}
+use Rattle.cert.specs.declared.kinds.OwnedRecord.{OwnedRecord}
+use Rattle.cert.specs.declared.kinds.RecordFault.{RecordFault}
+
+abbrev pub claim_of : Certificate → Claim
+claim_of (Halts e) = HaltsIn e.0
+claim_of Undecided = Nothing
+
+abbrev pub owned_claim : OwnedCertificate → Claim
+owned_claim (OwnedHalts e) = HaltsIn e.0
+owned_claim OwnedUndecided = Nothing
+
+abbrev pub recorded : Record → Recorded
+recorded r = record { table = r.table; claim = claim_of r.certificate }
+
+abbrev pub owned_recorded : OwnedRecord → Recorded
+owned_recorded r = record { table = r.table; claim = owned_claim r.certificate }
+
+-- what was read, as records apart from how they are kept
+abbrev pub read_as : Result Record RecordFault → Result Recorded RecordFault
+read_as (Ok r) = Ok (recorded r)
+read_as (Err f) = Err f
+
+-- likewise certificates
+abbrev pub claimed_as : Result Certificate RecordFault → Result Claim RecordFault
+claimed_as (Ok c) = Ok (claim_of c)
+claimed_as (Err f) = Err f

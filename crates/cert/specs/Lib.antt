@@ -1,0 +1,5 @@
+pub mod Claim
+pub mod Grammar
+pub mod Kinds
+pub mod PartsLeft
+pub mod Fault

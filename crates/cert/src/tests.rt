@@ -1,0 +1,91 @@
+// Records of the field's champions, and lines that are none.
+use super::{Certificate, OwnedCertificate, OwnedRecord, Record, RecordFault, judge};
+use machine_text::TextFault;
+use run::{HaltsIn, Refused, Verdict};
+use std::test::Fail;
+
+#[test]
+fn records_are_read_or_refused(rt: HostRuntime) {
+    for (text, fault) in [
+        (
+            "1RC1LB_1LA--- H 6",
+            Some(RecordFault::BadTable(TextFault::BadState(2))),
+        ),
+        ("", Some(RecordFault::BadTable(TextFault::BadLength))),
+        ("1RB1LB_1LA---", Some(RecordFault::BadKind)),
+        ("1RB1LB_1LA---  H 6", Some(RecordFault::BadKind)),
+        ("1RB1LB_1LA--- H 06", Some(RecordFault::BadNumber)),
+        ("1RB1LB_1LA--- H +6", Some(RecordFault::BadNumber)),
+        ("1RB1LB_1LA--- H 6\r", Some(RecordFault::BadNumber)),
+        ("1RB1LB_1LA--- H ", Some(RecordFault::BadNumber)),
+        (
+            "1RB1LB_1LA--- H 18446744073709551616",
+            Some(RecordFault::BadNumber),
+        ),
+        ("1RB1LB_1LA--- H 6 ", Some(RecordFault::BadKind)),
+        ("1RB1LB_1LA--- H", Some(RecordFault::BadKind)),
+        ("1RB1LB_1LA--- h 6", Some(RecordFault::BadKind)),
+        ("1RB1LB_1LA--- U 6", Some(RecordFault::BadKind)),
+        ("1RB1LB_1LA--- U", None),
+        ("1RB1LB_1LA--- H 0", None),
+        ("1RB1LB_1LA--- H 18446744073709551615", None),
+    ] {
+        let read = Record::parse(text.as_bytes());
+        assert!(rt; read.err() == fault, "{text}");
+    }
+    for (fault, number) in [
+        (RecordFault::BadTable(TextFault::BadLength), 301),
+        (RecordFault::BadKind, 302),
+        (RecordFault::BadNumber, 303),
+        (RecordFault::BadList, 304),
+        (RecordFault::TooLong, 305),
+    ] {
+        assert_eq!(rt; fault.number(), number);
+    }
+}
+
+#[test]
+fn records_are_written_in_their_printed_form(rt: HostRuntime) -> Result<(), Fail> {
+    for (text, printed) in [
+        ("1RB1RZ_1LB0RC_1LC1LA H 21", "1RB---_1LB0RC_1LC1LA H 21"),
+        ("1RB1RH_1LB0RC_1LC1LA U", "1RB---_1LB0RC_1LC1LA U"),
+        ("------ H 0", "------ H 0"),
+    ] {
+        match Record::parse(text.as_bytes()) {
+            Ok(record) => {
+                let owned = OwnedRecord {
+                    table: record.table,
+                    certificate: OwnedCertificate::of(rt.alloc(), &record.certificate)?,
+                };
+                let mut out = Vec::new(rt.alloc());
+                out.push(b'>')?;
+                owned.lent().write_text(&mut out)?;
+                assert_eq!(rt; &out[1..], printed.as_bytes());
+            }
+            Err(fault) => panic!(rt; "{text}: {fault:?}"),
+        }
+    }
+    Ok(())
+}
+
+#[test]
+fn certificates_are_judged(rt: HostRuntime) {
+    for (text, answer) in [
+        ("1RB1LB_1LA--- H 6", Ok(Some(Verdict::Halts(6)))),
+        ("1RB1LB_1LA--- H 7", Err(Refused::Fails)),
+        ("1RB1LB_1LA--- H 100000001", Err(Refused::TooLong)),
+        ("1RB1LB_1LA--- U", Ok(None)),
+    ] {
+        match Record::parse(text.as_bytes()) {
+            Ok(record) => {
+                let judged = judge(rt.alloc(), &record);
+                assert!(rt;
+                    judged == answer || judged == Err(Refused::NoMemory),
+                    "{text}"
+                );
+            }
+            Err(fault) => panic!(rt; "{text}: {fault:?}"),
+        }
+    }
+    assert!(rt; Certificate::Halts(HaltsIn(1)) != Certificate::Undecided);
+}

@@ -1,0 +1,62 @@
+// Records as they are written.
+ghost use Rattle.std.specs.Prelude.{◌≡◌, ◌++◌, take, length, decimal, OnOk, OnErr};
+ghost use Rattle.cert.specs.Grammar.{record_text, claim_text};
+ghost use Rattle.cert.specs.Kinds.{recorded, claim_of};
+
+use crate::kinds::{Certificate, Record};
+use itoa::Buffer;
+use machine_text::TEXT_BYTES;
+use run::NoMemory;
+
+impl Record {
+    /// Appends the record's text. Where memory is refused, `out` is as it was.
+    pub fn write_text(&self, out: &mut Vec<u8>) -> Result<(), NoMemory>
+        ensures ok { OnOk result (out.new.items ≡ out.old.items ++ record_text (recorded self.now)) }
+        ensures err { OnErr result (out.new.items ≡ out.old.items) }
+    {
+        let len = out.len();
+        match self.append_text(out) {
+            Ok(()) => Ok(()),
+            Err(fault) => {
+                out.truncate(len);
+                Err(fault)
+            }
+        }
+    }
+
+    // Appends the text; where memory is refused, a beginning of it.
+    #[tactic(auto, unfolding(crate::specs::Grammar::record_text))]
+    fn append_text(&self, out: &mut Vec<u8>) -> Result<(), NoMemory>
+        ensures ok { OnOk result (out.new.items ≡ out.old.items ++ record_text (recorded self.now)) }
+        ensures kept { take (length out.old.items) out.new.items ≡ out.old.items }
+    {
+        let mut buf = [0; TEXT_BYTES];
+        let table = self.table.text(&mut buf);
+        out.extend_from_slice(table)?;
+        out.extend_from_slice(b" ")?;
+        append_claim(&self.certificate, out)
+    }
+}
+
+// Appends the text of a certificate, from its kind on; where memory is refused, a beginning of it.
+fn append_claim(c: &Certificate, out: &mut Vec<u8>) -> Result<(), NoMemory>
+    ensures ok { OnOk result (out.new.items ≡ out.old.items ++ claim_text (claim_of c.now)) }
+    ensures kept { take (length out.old.items) out.new.items ≡ out.old.items }
+{
+    match c {
+        Certificate::Halts(claim) => {
+            out.extend_from_slice(b"H ")?;
+            append_number(claim.0, out)
+        }
+        Certificate::Undecided => out.extend_from_slice(b"U"),
+    }
+}
+
+// Appends a number.
+fn append_number(n: u64, out: &mut Vec<u8>) -> Result<(), NoMemory>
+    ensures ok { OnOk result (out.new.items ≡ out.old.items ++ decimal n) }
+    ensures err { OnErr result (out.new.items ≡ out.old.items) }
+{
+    let mut buffer = Buffer::new();
+    out.extend_from_slice(buffer.format(n).as_bytes())
+}

@@ -1,0 +1,48 @@
+// The command line, by clap's builder.
+use crate::asked::{LineFault, Options as Asked};
+use clap::Command;
+use run::NoMemory;
+use std::alloc::Global;
+
+/// What the words of a command line ask for, the program's name first.
+pub fn options(alloc: Global, words: &[&str]) -> Result<Asked, LineFault> {
+    let matches = program(alloc)?.try_get_matches_from(words)?;
+    let _check = matches.subcommand();
+    Ok(Asked::Check)
+}
+
+fn program<'a>(alloc: Global) -> Result<Command<'a>, NoMemory> {
+    Command::new(alloc, "bb")
+        .about("A verified tool for the busy beaver problem.")
+        .after_help(STATUSES)
+        .subcommand_required(true)
+        .arg_required_else_help(true)
+        .subcommand(
+            Command::new(alloc, "check")
+                .about("Checks a record a line on standard input, and prints an answer a line.")
+                .after_help(RECORDS),
+        )
+}
+
+const STATUSES: &str =
+    "Exit status: 0 all accepted; 1 something was refused; 2 a wrong command line; \
+3 want of memory; 4 a stream failed.";
+
+const RECORDS: &str =
+    "A record is a table in the bbchallenge standard format, a space and a certificate:
+  H k   it halts in k steps (the halting step counts)
+  U     nothing is claimed
+
+An answer is one of
+  TABLE halts K      the certificate stands: the table halts in K steps
+  TABLE undecided    nothing was claimed
+  refused 201        the certificate doesn't stand
+  refused 202        it asks for more than its limit
+  refused 301 F P    no table: its fault is F (101 length, 102 bar, 103 symbol, 104 direction,
+                     105 state), at place P
+  refused 302        no such kind, or another number of fields
+  refused 303        no number
+  refused 305        the line is too long
+
+Exit status: 0 all accepted; 1 a line was refused; 2 a wrong command line; 3 want of memory
+(`refused memory` on standard error); 4 a stream failed (`refused 603`).";

@@ -1,10 +1,10 @@
 // Which states a table uses, and whether it names them in order.
-ghost use Rattle.std.specs.Prelude.{◌≡◌, ℕ, ◌+◌, ◌<◌, ◌≤◌, ◌↔◌, ◌||◌, ◌==◌, true, false, IsTrue, length, take, map, slice_get, Some};
+ghost use Rattle.std.specs.Prelude.{◌≡◌, ℕ, ◌+◌, ◌<◌, ◌≤◌, ◌↔◌, ◌||◌, ◌==◌, true, false, IsTrue, length, take, map, slice_index_or, count_by, EachIndex};
 ghost use Rattle.std.specs.List.{range_with_len};
 ghost use Rattle.std.specs.Option.{ForSome};
 ghost use Rattle.machine_text.specs.Packed.{entry_of};
 ghost use Rattle.tree.specs.Used.{InOrder, is_used, used_count};
-ghost use Rattle.tnf.specs.Naming.{IsNumberOfUsed};
+ghost use Rattle.tnf.specs.Naming.{IsNumberOfUsed, is_named};
 
 use machine_text::{Entry, MAX_STATES, State, Sym, Table};
 
@@ -15,8 +15,7 @@ pub fn used(t: &Table) -> u8
     ensures order { (u : ℕ) → InOrder u (entry_of t.now) → result ≡ u }
     ensures most { result ≤ t.now.states }
 {
-    let used = used_states(t);
-    used[..t.states() as usize].iter().filter(|is_used| **is_used).count() as u8
+    count_used(&used_states(t)[..t.states() as usize]) as u8
 }
 
 /// Whether a table names its states in order: those that it uses are the first letters.
@@ -24,9 +23,8 @@ pub fn in_order(t: &Table) -> bool
     ensures { IsTrue result ↔ ((u : ℕ) × InOrder u (entry_of t.now)) }
 {
     let used = used_states(t);
-    let states = t.states() as usize;
-    let first_unused = first_unused(&used[..states]);
-    !used[first_unused..states].iter().any(|is_used| *is_used)
+    let used = &used[..t.states() as usize];
+    none_used(&used[first_unused(used)..])
 }
 
 // Which states a table uses.
@@ -46,6 +44,7 @@ fn used_states(t: &Table) -> [bool; MAX_STATES as usize]
 fn mark(used: &mut [bool], q: u8, entry: Option<Entry>)
     requires state { q < length used.old }
     requires target { ForSome entry (λ e. e.next.0 < length used.old) }
+    ensures { (x : ℕ) → slice_index_or used.new x false ≡ (slice_index_or used.old x false || is_named q entry x) }
 {
     if let Some(e) = entry {
         used[q as usize] = true;
@@ -53,11 +52,26 @@ fn mark(used: &mut [bool], q: u8, entry: Option<Entry>)
     }
 }
 
+// How many of the states are used.
+fn count_used(used: &[bool]) -> usize
+    ensures count { result ≡ count_by (λ is_used. is_used) used.now }
+    ensures most { result ≤ length used.now }
+{
+    used.iter().filter(|is_used| **is_used).count()
+}
+
+// Whether none of the states is used.
+fn none_used(used: &[bool]) -> bool
+    ensures { IsTrue result ↔ EachIndex used.now (λ q. slice_index_or used.now q false ≡ false) }
+{
+    used.iter().all(|is_used| !*is_used)
+}
+
 // The index of the first state that isn't used, or their number where all are.
 fn first_unused(used: &[bool]) -> usize
     ensures within { result ≤ length used.now }
-    ensures before { (q : ℕ) → q < result → slice_get used.now q ≡ Some true }
-    ensures at { result < length used.now → slice_get used.now result ≡ Some false }
+    ensures before { (q : ℕ) → q < result → slice_index_or used.now q false ≡ true }
+    ensures at { result < length used.now → slice_index_or used.now result false ≡ false }
 {
     for (q, is_used) in used.iter().enumerate() {
         if !*is_used {

@@ -1,0 +1,4 @@
+mod EntriesLeft
+mod FirstChildren
+mod Marks
+mod UsedLists

@@ -1,0 +1,33 @@
+use Rattle.std.proofs.Common.{◌≡◌, ◌+◌, Some, None, refl, ◌∙◌, ap, arith}
+use Prim.Native.Nat.{min}
+use Rattle.machine_text.specs.Packed.{entry_of}
+use Rattle.machine_text.specs.declared.transition.Sym.TheVariants.{Zero}
+use Rattle.machine_text.specs.declared.transition.Dir.TheVariants.{L, R}
+use Rattle.tree.specs.Used.{used_count}
+use Rattle.tree.specs.Tables.{children_at}
+use Rattle.tnf.proofs.EntriesLeft.{to}
+use Rattle.tnf.proofs.FirstChildren.{by_parts, empty_children, filled_children, without_children}
+use Rattle.tnf.proofs.offspring.Children.of.Goals as goal
+use Rattle.tnf.proofs.offspring.Children.of.Goals.{then-undefined-states, else-undefined-states, then-undefined-lt2, else-undefined-lt2}
+
+pub returns : goal.returns
+returns c =
+    let p = c.args.parent.now in
+    let q = c.args.state.0 in
+    let s = c.args.symbol in
+    let d = c.if-undefined-states.first_dir in
+    let next = c.if-undefined-lt2.result in
+    let u = min p.states (used_count p.states (entry_of p) + 1) in
+    let targets : c.min.result ≡ u =
+    c.min.ensures ∙ ap (λ n. min n (c.used.result + 1)) c.states-2.ensures.states ∙ ap (λ k. min p.states (k + 1)) c.used.ensures.count in
+    elim c.if-undefined-lt2.branch [
+      | then-undefined-lt2 few ↦ by_parts p q s c.min.result u d d next None (children_at p q s) targets refl few.result-is (without_children p q s u d (omega arith))
+      | else-undefined-lt2 two ↦ elim c.if-undefined-states.branch [
+        | then-undefined-states all ↦
+            by_parts p q s c.min.result u d R next (Some (to Zero R 0)) (children_at p q s) targets all.first_dir-is
+            (two.result-is ∙ ap (λ x. Some (to Zero x 0)) all.first_dir-is) (empty_children p q s (omega arith) (omega arith))
+        | else-undefined-states some ↦
+            by_parts p q s c.min.result u d L next (Some (to Zero L 0)) (children_at p q s) targets some.first_dir-is
+            (two.result-is ∙ ap (λ x. Some (to Zero x 0)) some.first_dir-is) (filled_children p q s (omega arith) (λ h. omega arith))
+      ]
+    ]

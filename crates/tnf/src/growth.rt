@@ -1,0 +1,29 @@
+// The tables of a tree: its root, and the children of a table.
+ghost use Rattle.std.specs.Prelude.{◌≡◌, ◌<◌, ◌≤◌};
+ghost use Rattle.machine_text.specs.Packed.{empty_table};
+ghost use Rattle.tree.specs.Tables.{children_at};
+
+use crate::offspring::Children;
+use machine_text::{MAX_STATES, State, Sym, Table};
+
+/// The root of the tree of n states: the table in which each pair is undefined.
+pub fn root(n: u8) -> Table
+    requires some { 1 ≤ n }
+    requires limit { n ≤ MAX_STATES }
+    ensures { result ≡ empty_table n }
+{
+    Table::empty(n)
+}
+
+/// The children of a table that stops on the pair of the state q and the symbol s, in the order of their
+/// texts. The pair gets each entry whose next state is used or the first unused one, with both symbols
+/// and both directions, and only to the right where the table is empty. There are none where fewer than
+/// two pairs are undefined.
+///
+/// Which pair the run reached is the caller's to say.
+pub fn children(t: &Table, q: State, s: Sym) -> Children
+    requires { q.0 < t.now.states }
+    ensures { result ≡ children_at t.now q.0 s }
+{
+    Children::of(t, q, s)
+}

@@ -39,6 +39,7 @@ impl Code {
     }
 
     /// The entry for which the code stands.
+    #[inline]
     pub fn entry(self) -> Option<Entry>
         ensures { result ≡ coded_entry self }
     {

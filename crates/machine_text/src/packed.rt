@@ -102,6 +102,7 @@ impl Table {
     }
 
     /// The entry at a state of the table and a symbol; none where the pair halts.
+    #[inline]
     #[tactic(auto, unfolding(crate::specs::Packed::entry_of))]
     pub fn get(&self, q: State, s: Sym) -> Option<Entry>
         requires { q.0 < self.now.states }
@@ -144,6 +145,7 @@ fn undefined_among(codes: &[Code]) -> usize
 }
 
 // The place of a pair among the codes.
+#[inline]
 fn pair_place(q: State, s: Sym) -> usize
     ensures { result ≡ pair_place q.0 s }
 {

@@ -82,6 +82,8 @@ impl Runner {
     /// Carries out steps up to time k, which isn't before the time of the runner: `Halts` where the run
     /// halts in at most k steps, and the runner stands at its last time then; otherwise `Went`. After an
     /// error the runner stands at a time between the two.
+    // Kept apart from its callers: among their variables the loop would run out of registers.
+    #[inline(never)]
     pub fn run_to(&mut self, k: u64) -> Result<Step, NoMemory>
         requires onward { self.old.steps ≤ k }
         requires limit { k ≤ MAX_RUN_STEPS }

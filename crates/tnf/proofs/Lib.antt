@@ -2,3 +2,4 @@ mod EntriesLeft
 mod FirstChildren
 mod Marks
 mod UsedLists
+mod Members

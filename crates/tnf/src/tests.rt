@@ -48,6 +48,29 @@ fn children_come_in_the_order_of_their_texts(rt: HostRuntime) {
     children_are(&rt, "------", 0, Sym::Zero, &["0RA---", "1RA---"]);
 }
 
+// The tree of two states has 1, 4, 16 and 40 tables with none to three entries: these stop, on these pairs.
+#[test]
+fn the_tree_of_two_states_has_its_numbers(rt: HostRuntime) {
+    let sizes = [
+        (0, "------_------", 0, Sym::Zero, 4),
+        (1, "0RB---_------", 1, Sym::Zero, 8),
+        (1, "1RB---_------", 1, Sym::Zero, 8),
+        (2, "0RB---_1LA---", 1, Sym::One, 8),
+        (2, "1RB---_0LA---", 0, Sym::One, 8),
+        (2, "1RB---_1LA---", 0, Sym::One, 8),
+        (2, "1RB---_0LB---", 1, Sym::One, 8),
+        (2, "1RB---_1LB---", 1, Sym::One, 8),
+        (3, "0RB---_1LA1RB", 0, Sym::One, 0),
+    ];
+    let mut tables = [1, 0, 0, 0, 0];
+    for (entries, text, q, s, number) in sizes {
+        let count = children(&table_of(&rt, text), State(q), s).count();
+        assert_eq!(rt; count, number, "{text}");
+        tables[entries + 1] += count;
+    }
+    assert!(rt; tables == [1, 4, 16, 40, 0]);
+}
+
 // The last undefined pair has no children.
 #[test]
 fn a_last_pair_gives_none(rt: HostRuntime) {

@@ -3,3 +3,4 @@ mod FirstChildren
 mod Marks
 mod UsedLists
 mod Members
+mod Rising

@@ -1,8 +1,12 @@
 // The children of a table, one by one.
-ghost use Rattle.std.specs.Prelude.{◌≡◌, ◌↔◌, ℕ, ◌<◌, ◌∷◌, Some, Contains};
+ghost use Rattle.std.specs.Prelude.{◌≡◌, ◌↔◌, ℕ, ◌<◌, ◌∷◌, Some, Contains, AllPairs};
 ghost use Rattle.std.specs.Iterator.{YieldsFirst, item_count};
 ghost use Rattle.std.specs.Option.{ForSome};
+ghost use Rattle.std.specs.Ordering.{nat_cmp};
+ghost use Rattle.std.specs.declared.cmp.Ordering.TheVariants.{Less};
+ghost use Rattle.std.specs.Cmp.Lexicographic.{slice_cmp};
 ghost use Rattle.machine_text.specs.Packed.{Packed, entry_of};
+ghost use Rattle.machine_text.specs.Text.{text_of};
 ghost use Rattle.tree.specs.Used.{InOrder};
 ghost use Rattle.tree.specs.Tables.{children_at};
 ghost use Rattle.tnf.specs.Offspring.{IsChildAt, entries_left};
@@ -46,6 +50,7 @@ impl Children {
         ensures list { result ≡ children_at parent.now state.0 symbol }
         ensures members { (u : ℕ) (c : Packed) → InOrder u (entry_of parent.now) →
             Contains result c ↔ IsChildAt parent.now u state.0 symbol c }
+        ensures rising { AllPairs (λ a b. slice_cmp nat_cmp (text_of a) (text_of b) ≡ Less) result }
     {
         let undefined = parent.undefined_count();
         let first_dir = if undefined == 2 * parent.states() {

@@ -1,5 +1,5 @@
 // The tables of a tree: its root, and the children of a table.
-ghost use Rattle.std.specs.Prelude.{◌≡◌, ◌↔◌, ℕ, ◌<◌, ◌≤◌, Contains, AllPairs};
+ghost use Rattle.std.specs.Prelude.{◌≡◌, ◌↔◌, ℕ, ◌*◌, ◌<◌, ◌≤◌, Contains, AllPairs, length};
 ghost use Rattle.std.specs.Ordering.{nat_cmp};
 ghost use Rattle.std.specs.declared.cmp.Ordering.TheVariants.{Less};
 ghost use Rattle.std.specs.Cmp.Lexicographic.{slice_cmp};
@@ -33,6 +33,7 @@ pub fn children(t: &Table, q: State, s: Sym) -> Children
     ensures members { (u : ℕ) (c : Packed) → InOrder u (entry_of t.now) →
         Contains result c ↔ IsChildAt t.now u q.0 s c }
     ensures rising { AllPairs (λ a b. slice_cmp nat_cmp (text_of a) (text_of b) ≡ Less) result }
+    ensures most { length result ≤ 4 * t.now.states }
 {
     Children::of(t, q, s)
 }

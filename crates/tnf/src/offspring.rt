@@ -1,5 +1,5 @@
 // The children of a table, one by one.
-ghost use Rattle.std.specs.Prelude.{◌≡◌, ◌↔◌, ℕ, ◌<◌, ◌∷◌, Some, Contains, AllPairs};
+ghost use Rattle.std.specs.Prelude.{◌≡◌, ◌↔◌, ℕ, ◌*◌, ◌<◌, ◌≤◌, ◌∷◌, Some, Contains, AllPairs, length};
 ghost use Rattle.std.specs.Iterator.{YieldsFirst, item_count};
 ghost use Rattle.std.specs.Option.{ForSome};
 ghost use Rattle.std.specs.Ordering.{nat_cmp};
@@ -51,6 +51,7 @@ impl Children {
         ensures members { (u : ℕ) (c : Packed) → InOrder u (entry_of parent.now) →
             Contains result c ↔ IsChildAt parent.now u state.0 symbol c }
         ensures rising { AllPairs (λ a b. slice_cmp nat_cmp (text_of a) (text_of b) ≡ Less) result }
+        ensures most { length result ≤ 4 * parent.now.states }
     {
         let undefined = parent.undefined_count();
         let first_dir = if undefined == 2 * parent.states() {

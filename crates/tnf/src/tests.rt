@@ -1,5 +1,5 @@
 // Tables of a tree by their texts.
-use super::{children, in_order, root, used};
+use super::{Children, children, in_order, root, used};
 use machine_text::{State, Sym, TEXT_BYTES, Table};
 use std::process::Abort;
 
@@ -10,9 +10,15 @@ fn table_of(rt: &impl Abort, text: &str) -> Table {
     }
 }
 
+fn children_of(rt: &impl Abort, text: &str, q: u8, s: Sym) -> Children {
+    let table = table_of(rt, text);
+    assert!(rt; q < table.states());
+    children(&table, State(q), s)
+}
+
 // The children at a pair have these texts, and there are no others.
 fn children_are(rt: &impl Abort, text: &str, q: u8, s: Sym, expected: &[&str]) {
-    let mut found = children(&table_of(rt, text), State(q), s);
+    let mut found = children_of(rt, text, q, s);
     for child in expected {
         match found.next() {
             Some(table) => {
@@ -64,7 +70,10 @@ fn the_tree_of_two_states_has_its_numbers(rt: HostRuntime) {
     ];
     let mut tables = [1, 0, 0, 0, 0];
     for (entries, text, q, s, number) in sizes {
-        let count = children(&table_of(&rt, text), State(q), s).count();
+        let mut count = 0;
+        for _ in children_of(&rt, text, q, s) {
+            count += 1;
+        }
         assert_eq!(rt; count, number, "{text}");
         tables[entries + 1] += count;
     }
@@ -81,10 +90,9 @@ fn a_last_pair_gives_none(rt: HostRuntime) {
 // A new state is named where there is one, and only the first.
 #[test]
 fn new_states_are_named_in_order(rt: HostRuntime) {
-    let three = table_of(&rt, "1RB---_------_------");
     assert_eq!(rt; children(&root(3), State(0), Sym::Zero).count(), 4);
-    assert_eq!(rt; children(&three, State(1), Sym::Zero).count(), 12);
-    for child in children(&three, State(1), Sym::Zero) {
+    let to_c = ["1RB---_0LC---_------"];
+    for child in children_of(&rt, "1RB---_------_------", 1, Sym::Zero) {
         assert!(rt; in_order(&child));
     }
 }

@@ -1,4 +1,4 @@
-use Rattle.std.proofs.Common.{◌≡◌, ◌+◌, Some, None, refl, sym, ◌∙◌, ap, subst, arith, ◌↔◌}
+use Rattle.std.proofs.Common.{◌≡◌, ◌+◌, Some, None, refl, sym, ◌∙◌, ap, subst, arith, ◌↔◌, length}
 use Rattle.std.specs.List.{Contains, AllPairs}
 use Rattle.std.specs.Ordering.{nat_cmp}
 use Rattle.std.specs.declared.cmp.Ordering.TheVariants.{Less}
@@ -13,7 +13,7 @@ use Rattle.tree.specs.Tables.{children_at}
 use Rattle.tnf.specs.Offspring.{IsChildAt}
 use Rattle.tnf.proofs.EntriesLeft.{to}
 use Rattle.tnf.proofs.Rising.{children_rise}
-use Rattle.tnf.proofs.Members.{children_members}
+use Rattle.tnf.proofs.Members.{children_members, children_bound}
 use Rattle.tnf.proofs.FirstChildren.{by_parts, empty_children, filled_children, without_children}
 use Rattle.tnf.proofs.offspring.Children.of.Goals as goal
 use Rattle.tnf.proofs.offspring.Children.of.Goals.{then-undefined-states, else-undefined-states, then-undefined-lt2, else-undefined-lt2}
@@ -48,4 +48,7 @@ returns-clause-members c = λ u t o.
 pub returns-clause-rising : goal.returns-clause-rising
 returns-clause-rising c =
     subst (λ ts. AllPairs (λ a b. slice_cmp nat_cmp (text_of a) (text_of b) ≡ Less) ts) (sym (returns-clause-list c))
-      (children_rise c.args.parent.now c.args.state.0 c.args.symbol c.states.ensures.table c.requires)
+    (children_rise c.args.parent.now c.args.state.0 c.args.symbol c.states.ensures.table c.requires)
+
+pub returns-clause-most : goal.returns-clause-most
+returns-clause-most c = omega (arith, ap length (returns-clause-list c), children_bound c.args.parent.now c.args.state.0 c.args.symbol)

@@ -62,8 +62,17 @@ module _ (p : Packed) (u q : ℕ) (s : Sym) (i : IsTable p) (o : InOrder u (entr
 length_entries : (n u : ℕ) (m : Program) → length (child_entries n u m) ≤ 4 * n
 length_entries n u m = elim (cases_eq (holes n m) (2 * n)) [
   | inl all ↦ omega (arith, ap length (list_empty n u m all), length-append (entries_to t Zero R) (entries_to t One R), length_to t Zero R, length_to t One R)
-  | inr some ↦ omega (arith, ap length (list_filled n u m some), length-append zeros ones, length-append (entries_to t Zero L) (entries_to t Zero R), length-append (entries_to t One L) (entries_to t One R),
-      length_to t Zero L, length_to t Zero R, length_to t One L, length_to t One R)
+  | inr some ↦ omega (
+    arith,
+    ap length (list_filled n u m some),
+    length-append zeros ones,
+    length-append (entries_to t Zero L) (entries_to t Zero R),
+    length-append (entries_to t One L) (entries_to t One R),
+    length_to t Zero L,
+    length_to t Zero R,
+    length_to t One L,
+    length_to t One R,
+  )
 ]
   where
     t : ℕ

@@ -1,5 +1,5 @@
 -- The children of a table begin with those that write 0, to the left, or to the right where it is empty.
-use Rattle.std.proofs.Common.{◌≡◌, ℕ, ◌+◌, ◌*◌, ◌<◌, ◌≤◌, List, [], ◌++◌, map, Option, Some, None, sym, ◌∙◌, ap, append_assoc}
+use Rattle.std.proofs.Common.{◌≡◌, ℕ, ◌+◌, ◌*◌, ◌<◌, ◌≤◌, List, ◌++◌, map, Option, Some, None, sym, ◌∙◌, ap, append_assoc}
 use Prim.Native.Nat.{min}
 use Rattle.std.proofs.lemmas.List.{append-nil}
 use Rattle.machine_text.specs.declared.transition.Sym.{Sym}

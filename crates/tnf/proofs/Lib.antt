@@ -2,3 +2,5 @@ mod EntriesLeft
 mod FirstChildren
 mod Marks
 mod UsedLists
+mod Members
+mod Rising

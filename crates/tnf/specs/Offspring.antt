@@ -1,13 +1,21 @@
--- The children of a table that are left, from one on.
-use Rattle.std.specs.Prelude.{◌≡◌, ℕ, ◌+◌, ◌-◌, ◌++◌, List, [], map, Option, Some, None}
+-- The children of a table at a pair, and those that are left, from one on.
+use Rattle.std.specs.Prelude.{◌≡◌, ℕ, ◌≤◌, ◌-◌, ◌++◌, List, [], map, Option, Some, None}
 use Rattle.std.specs.List.{range_with_len}
 use Rattle.machine_text.specs.declared.transition.Sym.{Sym}
 use Rattle.machine_text.specs.declared.transition.Sym.TheVariants.{Zero, One}
 use Rattle.machine_text.specs.declared.transition.Dir.{Dir}
 use Rattle.machine_text.specs.declared.transition.Dir.TheVariants.{L, R}
 use Rattle.machine_text.specs.declared.transition.Entry.{Entry}
-use Rattle.machine_text.specs.Packed.{Packed, with_entry}
-use Rattle.tree.specs.Children.{entries_to}
+use Rattle.machine_text.specs.Packed.{Packed, entry_of, with_entry, holes}
+use Rattle.tree.specs.Children.{IsChildEntry, entries_to}
+
+-- t is a child of p at a pair, where the first u states are used: at least two pairs are undefined, and the pair gets
+-- an entry to a used state or the first unused one, to the right where p is empty
+pub record IsChildAt (p : Packed) (u q : ℕ) (s : Sym) (t : Packed) : Type 0 where
+  pub undefined : 2 ≤ holes p.states (entry_of p)
+  pub entry : Entry
+  pub is_entry : IsChildEntry p.states u (entry_of p) entry
+  pub is : t ≡ with_entry p q s entry
 
 -- the entries that write 1 and come after those that move in a direction, and all of them
 abbrev pub ones_after : ℕ → Dir → List Entry

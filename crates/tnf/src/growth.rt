@@ -1,7 +1,13 @@
 // The tables of a tree: its root, and the children of a table.
-ghost use Rattle.std.specs.Prelude.{◌≡◌, ◌<◌, ◌≤◌};
-ghost use Rattle.machine_text.specs.Packed.{empty_table};
+ghost use Rattle.std.specs.Prelude.{◌≡◌, ◌↔◌, ℕ, ◌*◌, ◌<◌, ◌≤◌, Contains, AllPairs, length};
+ghost use Rattle.std.specs.Ordering.{nat_cmp};
+ghost use Rattle.std.specs.declared.cmp.Ordering.TheVariants.{Less};
+ghost use Rattle.std.specs.Cmp.Lexicographic.{slice_cmp};
+ghost use Rattle.machine_text.specs.Packed.{Packed, entry_of, empty_table};
+ghost use Rattle.machine_text.specs.Text.{text_of};
+ghost use Rattle.tree.specs.Used.{InOrder};
 ghost use Rattle.tree.specs.Tables.{children_at};
+ghost use Rattle.tnf.specs.Offspring.{IsChildAt};
 
 use crate::offspring::Children;
 use machine_text::{MAX_STATES, State, Sym, Table};
@@ -23,7 +29,11 @@ pub fn root(n: u8) -> Table
 /// Which pair the run reached is the caller's to say.
 pub fn children(t: &Table, q: State, s: Sym) -> Children
     requires { q.0 < t.now.states }
-    ensures { result ≡ children_at t.now q.0 s }
+    ensures list { result ≡ children_at t.now q.0 s }
+    ensures members { (u : ℕ) (c : Packed) → InOrder u (entry_of t.now) →
+        Contains result c ↔ IsChildAt t.now u q.0 s c }
+    ensures rising { AllPairs (λ a b. slice_cmp nat_cmp (text_of a) (text_of b) ≡ Less) result }
+    ensures most { length result ≤ 4 * t.now.states }
 {
     Children::of(t, q, s)
 }

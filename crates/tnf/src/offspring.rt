@@ -1,9 +1,15 @@
 // The children of a table, one by one.
-ghost use Rattle.std.specs.Prelude.{◌≡◌, ◌<◌, ◌∷◌, Some};
+ghost use Rattle.std.specs.Prelude.{◌≡◌, ◌↔◌, ℕ, ◌*◌, ◌<◌, ◌≤◌, ◌∷◌, Some, Contains, AllPairs, length};
 ghost use Rattle.std.specs.Iterator.{YieldsFirst, item_count};
 ghost use Rattle.std.specs.Option.{ForSome};
+ghost use Rattle.std.specs.Ordering.{nat_cmp};
+ghost use Rattle.std.specs.declared.cmp.Ordering.TheVariants.{Less};
+ghost use Rattle.std.specs.Cmp.Lexicographic.{slice_cmp};
+ghost use Rattle.machine_text.specs.Packed.{Packed, entry_of};
+ghost use Rattle.machine_text.specs.Text.{text_of};
+ghost use Rattle.tree.specs.Used.{InOrder};
 ghost use Rattle.tree.specs.Tables.{children_at};
-ghost use Rattle.tnf.specs.Offspring.{entries_left};
+ghost use Rattle.tnf.specs.Offspring.{IsChildAt, entries_left};
 
 use crate::naming::used;
 use machine_text::{Dir, Entry, State, Sym, Table};
@@ -41,7 +47,11 @@ impl Children {
     // The children of a table at a pair.
     pub(crate) fn of(parent: &Table, state: State, symbol: Sym) -> Children
         requires { state.0 < parent.now.states }
-        ensures { result ≡ children_at parent.now state.0 symbol }
+        ensures list { result ≡ children_at parent.now state.0 symbol }
+        ensures members { (u : ℕ) (c : Packed) → InOrder u (entry_of parent.now) →
+            Contains result c ↔ IsChildAt parent.now u state.0 symbol c }
+        ensures rising { AllPairs (λ a b. slice_cmp nat_cmp (text_of a) (text_of b) ≡ Less) result }
+        ensures most { length result ≤ 4 * parent.now.states }
     {
         let undefined = parent.undefined_count();
         let first_dir = if undefined == 2 * parent.states() {

@@ -1,5 +1,7 @@
 // Tables of a tree by their texts.
-use super::{children, in_order, root, used};
+ghost use Rattle.std.specs.Prelude.{◌≤◌, length};
+
+use super::{Children, children, in_order, root, used};
 use machine_text::{State, Sym, TEXT_BYTES, Table};
 use std::process::Abort;
 
@@ -10,9 +12,17 @@ fn table_of(rt: &impl Abort, text: &str) -> Table {
     }
 }
 
+fn children_of(rt: &impl Abort, text: &str, q: u8, s: Sym) -> Children
+    ensures { length result ≤ 24 }
+{
+    let table = table_of(rt, text);
+    assert!(rt; q < table.states());
+    children(&table, State(q), s)
+}
+
 // The children at a pair have these texts, and there are no others.
 fn children_are(rt: &impl Abort, text: &str, q: u8, s: Sym, expected: &[&str]) {
-    let mut found = children(&table_of(rt, text), State(q), s);
+    let mut found = children_of(rt, text, q, s);
     for child in expected {
         match found.next() {
             Some(table) => {
@@ -48,6 +58,25 @@ fn children_come_in_the_order_of_their_texts(rt: HostRuntime) {
     children_are(&rt, "------", 0, Sym::Zero, &["0RA---", "1RA---"]);
 }
 
+// The tree of two states has 1, 4, 16 and 40 tables with none to three entries: the children of the table that
+// stops first, of the two that stop in the next row, and of the five after them.
+#[test]
+fn the_tree_of_two_states_has_its_numbers(rt: HostRuntime) {
+    for (text, q, s, number) in [
+        ("------_------", 0, Sym::Zero, 4),
+        ("0RB---_------", 1, Sym::Zero, 8),
+        ("1RB---_------", 1, Sym::Zero, 8),
+        ("0RB---_1LA---", 1, Sym::One, 8),
+        ("1RB---_0LA---", 0, Sym::One, 8),
+        ("1RB---_1LA---", 0, Sym::One, 8),
+        ("1RB---_0LB---", 1, Sym::One, 8),
+        ("1RB---_1LB---", 1, Sym::One, 8),
+        ("0RB---_1LA1RB", 0, Sym::One, 0),
+    ] {
+        assert_eq!(rt; children_of(&rt, text, q, s).count(), number, "{text}");
+    }
+}
+
 // The last undefined pair has no children.
 #[test]
 fn a_last_pair_gives_none(rt: HostRuntime) {
@@ -58,10 +87,12 @@ fn a_last_pair_gives_none(rt: HostRuntime) {
 // A new state is named where there is one, and only the first.
 #[test]
 fn new_states_are_named_in_order(rt: HostRuntime) {
-    let three = table_of(&rt, "1RB---_------_------");
     assert_eq!(rt; children(&root(3), State(0), Sym::Zero).count(), 4);
-    assert_eq!(rt; children(&three, State(1), Sym::Zero).count(), 12);
-    for child in children(&three, State(1), Sym::Zero) {
+    assert_eq!(rt;
+        children_of(&rt, "1RB---_------_------", 1, Sym::Zero).count(),
+        12
+    );
+    for child in children_of(&rt, "1RB---_------_------", 1, Sym::Zero) {
         assert!(rt; in_order(&child));
     }
 }

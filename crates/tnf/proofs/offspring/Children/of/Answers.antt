@@ -1,17 +1,25 @@
-use Rattle.std.proofs.Common.{◌≡◌, ◌+◌, Some, None, refl, ◌∙◌, ap, arith}
+use Rattle.std.proofs.Common.{◌≡◌, ◌+◌, Some, None, refl, sym, ◌∙◌, ap, subst, arith, ◌↔◌, length}
+use Rattle.std.specs.List.{Contains, AllPairs}
+use Rattle.std.specs.Ordering.{nat_cmp}
+use Rattle.std.specs.declared.cmp.Ordering.TheVariants.{Less}
+use Rattle.std.specs.Cmp.Lexicographic.{slice_cmp}
+use Rattle.machine_text.specs.Text.{text_of}
 use Prim.Native.Nat.{min}
 use Rattle.machine_text.specs.Packed.{entry_of}
 use Rattle.machine_text.specs.declared.transition.Sym.TheVariants.{Zero}
 use Rattle.machine_text.specs.declared.transition.Dir.TheVariants.{L, R}
 use Rattle.tree.specs.Used.{used_count}
 use Rattle.tree.specs.Tables.{children_at}
+use Rattle.tnf.specs.Offspring.{IsChildAt}
 use Rattle.tnf.proofs.EntriesLeft.{to}
+use Rattle.tnf.proofs.Rising.{children_rise}
+use Rattle.tnf.proofs.Members.{children_members, children_bound}
 use Rattle.tnf.proofs.FirstChildren.{by_parts, empty_children, filled_children, without_children}
 use Rattle.tnf.proofs.offspring.Children.of.Goals as goal
 use Rattle.tnf.proofs.offspring.Children.of.Goals.{then-undefined-states, else-undefined-states, then-undefined-lt2, else-undefined-lt2}
 
-pub returns : goal.returns
-returns c =
+pub returns-clause-list : goal.returns-clause-list
+returns-clause-list c =
     let p = c.args.parent.now in
     let q = c.args.state.0 in
     let s = c.args.symbol in
@@ -31,3 +39,16 @@ returns c =
             (two.result-is ∙ ap (λ x. Some (to Zero x 0)) some.first_dir-is) (filled_children p q s (omega arith) (λ h. omega arith))
       ]
     ]
+
+pub returns-clause-members : goal.returns-clause-members
+returns-clause-members c = λ u t o.
+    subst (λ ts. Contains ts t ↔ IsChildAt c.args.parent.now u c.args.state.0 c.args.symbol t) (sym (returns-clause-list c))
+    (children_members c.args.parent.now u c.args.state.0 c.args.symbol c.states.ensures.table o t)
+
+pub returns-clause-rising : goal.returns-clause-rising
+returns-clause-rising c =
+    subst (λ ts. AllPairs (λ a b. slice_cmp nat_cmp (text_of a) (text_of b) ≡ Less) ts) (sym (returns-clause-list c))
+    (children_rise c.args.parent.now c.args.state.0 c.args.symbol c.states.ensures.table c.requires)
+
+pub returns-clause-most : goal.returns-clause-most
+returns-clause-most c = omega (arith, ap length (returns-clause-list c), children_bound c.args.parent.now c.args.state.0 c.args.symbol)

@@ -69,11 +69,24 @@ impl Snapshot {
         requires farthest { Farthest (entry_of t.now) side self.now.time runner.now.steps bound }
         ensures { IsTrue result ↔ Translated (entry_of t.now) self.now.time runner.now.steps side }
     {
-        let _ = runner.steps();
-        let shift = runner.tape().head() - self.tape.head();
+        let shift = self.shift_to(runner, t);
         self.state == runner.state()
             && is_onward(side, shift)
             && self.tape.same_half(runner.tape(), bound, shift, side)
+    }
+
+    // By how many cells the head of a runner is further to the right.
+    fn shift_to(&self, runner: &Runner, t: &Table) -> i64
+        requires runner { runner.now.table ≡ t.now }
+        requires limit { runner.now.steps ≤ MAX_TIME }
+        requires begin { IsMomentOf t.now self.now }
+        requires early { self.now.time ≤ runner.now.steps }
+        ensures shift { result ≡ runner.now.config.tape.head -ℤ self.now.config.tape.head }
+        ensures within { IsWithinLimit result }
+        ensures stands { Stands runner.now }
+    {
+        let _ = runner.steps();
+        runner.tape().head() - self.tape.head()
     }
 }
 

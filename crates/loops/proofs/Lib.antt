@@ -1,0 +1,3 @@
+pub mod TimeLaws
+pub mod BoundLaws
+pub mod TestLaws

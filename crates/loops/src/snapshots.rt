@@ -31,11 +31,12 @@ impl Model for Snapshot {
 }
 
 impl Snapshot {
-    ghost use Rattle.loops.specs.Moment.{Moment, IsMomentOf};
+    ghost use Rattle.loops.specs.Moment.{moment_of, IsMomentOf};
 
     // Where a runner stands. Takes memory for its tape.
     pub fn taken(alloc: Global, runner: &Runner) -> Result<Snapshot, NoMemory>
-        ensures { IfOk result (λ s. s ≡ record { time = runner.now.steps; config = runner.now.config }) }
+        ensures kept { IfOk result (λ s. s ≡ moment_of runner.now) }
+        ensures stands { Stands runner.now }
     {
         Ok(Snapshot {
             time: runner.steps(),

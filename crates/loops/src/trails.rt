@@ -57,12 +57,13 @@ impl Trail {
         ensures now { IfOk result (λ o. IfSome o (λ e. e.j ≡ runner.now.steps)) }
         ensures follows { IfOk result (λ o. IfNone o (Follows t.now (runner.now.steps + 1) self.new.side self.new.kept self.new.bound)) }
     {
+        let time = runner.steps();
         let head = runner.tape().head();
         if is_past(self.side, self.record, head) {
             if self.kept.is_translated(runner, t, self.bound, self.side) {
                 return Ok(Some(Translated {
                     i: self.kept.time(),
-                    j: runner.steps(),
+                    j: time,
                     side: self.side,
                 }));
             }

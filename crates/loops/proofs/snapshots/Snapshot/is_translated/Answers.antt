@@ -6,7 +6,21 @@ use Rattle.std.proofs.lemmas.Bool.Decides.{nat_tests}
 use Rattle.loops.proofs.TimeLaws.{near_bound, near_within}
 use Rattle.loops.proofs.TestLaws.{compared, test_passed, test_failed}
 use Rattle.loops.proofs.snapshots.Snapshot.is_translated.Goals as goal
+use Rattle.loops.proofs.snapshots.Snapshot.is_translated.Goals.{then-eq, else-eq}
 
 pub same_half-requires-clause-from : goal.same_half-requires-clause-from
 same_half-requires-clause-from c =
     rw (to_z-of_z w64 c.args.bound c.ranges.bound) (near_within _ (near_bound _ _ _ _ c.args.bound c.requires.farthest c.requires.limit))
+
+pub returns-then-is_onward : goal.returns-then-is_onward
+returns-then-is_onward c =
+    let fits : FitsSigned w64 c.shift_to-shift.result = search rules in
+    let fits_bound : FitsSigned w64 c.args.bound = c.ranges.bound in
+    let same = simp to_z-of_z at c.same_half.ensures in
+    let heads = compared c.args.t.now c.args.side c.args.self.now c.args.runner.now c.args.bound c.shift_to-shift.result c.requires.runner c.shift_to-shift.ensures.stands c.requires.begin c.requires.farthest c.shift_to-shift.ensures.shift in
+    elim c.if-eq.branch [
+      | then-eq w ↦
+          let state : c.args.self.now.config.state ≡ c.args.runner.now.config.state = ? in
+          test_passed _ _ _ _ _ _ _ _ c.same_half.result heads state ? ?
+      | else-eq w ↦ absurd ?
+    ]

@@ -25,7 +25,7 @@ returns-clause-shift c =
     let near : IsNear c.head.result = rw here (near_standing _ c.steps.ensures.stands c.requires.limit) in
     let near_kept : IsNear c.head-2.result = rw there (near_moment _ _ c.requires.begin (omega (arith, c.requires.early, c.requires.limit))) in
     let fits_shift = shift_fits _ _ near_kept near in
-    simp to_z-of_z ?
+    simp to_z-of_z (rw (here, there))
 
 pub returns-clause-within : goal.returns-clause-within
 returns-clause-within c =

@@ -1,0 +1,4 @@
+pub mod TimeLaws
+pub mod BoundLaws
+pub mod TestLaws
+pub mod MomentLaws

@@ -1,0 +1,107 @@
+-- What the test for a translated cycle looks at, and what it shows.
+use Rattle.std.proofs.Common.{◌≡◌, ℕ, ◌+◌, ◌<◌, Bool, false, true, ℤ, pos, ◌+ℤ◌, ◌-ℤ◌, ◌≤ℤ◌, Some, sym, ◌∙◌, ap, subst, arith}
+use Rattle.std.specs.Prelude.{◌↔◌, IsTrue}
+use Rattle.std.specs.Ordering.{int_cmp}
+use Rattle.std.specs.FinSet as set
+use Rattle.std.proofs.lemmas.Int.{ints}
+use Rattle.std.proofs.lemmas.Option.{same_Some}
+use Rattle.machine_text.specs.Packed.{Packed, entry_of}
+use Rattle.machine_text.specs.declared.transition.Dir.{Dir}
+use Rattle.machine_text.specs.declared.transition.Dir.TheVariants.{L, R}
+use Rattle.turing.specs.Program.{Program}
+use Rattle.turing.specs.Run.{Config, cell, after}
+use Rattle.turing.specs.Tape.{cell_of}
+use Rattle.turing.specs.Translated.{Beyond, Farthest, Translated}
+use Rattle.turing.proofs.Heads.{one_farthest}
+use Rattle.tape.specs.Places.{SameBeyond}
+use Rattle.run.specs.Standing.{Standing, Stands}
+use Rattle.loops.specs.Moment.{Moment, IsMomentOf}
+
+-- two configurations of a run, and the farthest head in between
+pub record Compared (m : Program) (side : Dir) (i j : ℕ) (begin end : Config) (bound shift : ℤ) : Type 0 where
+  pub begins : after m i ≡ Some begin
+  pub ends : after m j ≡ Some end
+  pub farthest : Farthest m side i j bound
+  pub shift_is : shift ≡ end.tape.head -ℤ begin.tape.head
+
+-- the tests that they pass
+pub record Passes (side : Dir) (begin end : Config) (bound shift : ℤ) : Type 0 where
+  pub state : begin.state ≡ end.state
+  pub onward : Beyond side (pos 0) shift
+  pub cells : SameBeyond side bound shift begin.tape.ones end.tape.ones
+
+-- the two ways to say that cells are the same from a place on
+cells_beyond : (side : Dir) (begin end : Config) (b t : ℤ) → SameBeyond side b t begin.tape.ones end.tape.ones → (x : ℤ) → Beyond side b x → cell begin x ≡ cell end (x +ℤ t)
+cells_beyond L begin end b t same = same
+cells_beyond R begin end b t same = same
+
+beyond_cells : (side : Dir) (begin end : Config) (b t : ℤ) → ((x : ℤ) → Beyond side b x → cell begin x ≡ cell end (x +ℤ t)) → SameBeyond side b t begin.tape.ones end.tape.ones
+beyond_cells L begin end b t same = same
+beyond_cells R begin end b t same = same
+
+pub passed_stands : (m : Program) (side : Dir) (i j : ℕ) (begin end : Config) (bound shift : ℤ) → Compared m side i j begin end bound shift → Passes side begin end bound shift → Translated m i j side
+passed_stands m side i j begin end bound shift c p =
+    let f = c.farthest in
+    let low = f.low in
+    let high = f.high in
+    let shift_is = c.shift_is in
+    record {
+      order = omega arith;
+      begin = begin;
+      end = end;
+      begins = c.begins;
+      ends = c.ends;
+      state = p.state;
+      shift = shift;
+      shifted = omega (arith, ints);
+      onward = p.onward;
+      bound = bound;
+      farthest = f;
+      cells = cells_beyond side begin end bound shift p.cells;
+    }
+
+-- the bound of a translated cycle is the farthest head, and its shift is how far the head moved
+pub stands_passed : (m : Program) (side : Dir) (i j : ℕ) (begin end : Config) (bound shift : ℤ) → Compared m side i j begin end bound shift → Translated m i j side → Passes side begin end bound shift
+stands_passed m side i j begin end bound shift c t =
+    let same_begin : t.begin ≡ begin = same_Some t.begin begin (sym t.begins ∙ c.begins) in
+    let same_end : t.end ≡ end = same_Some t.end end (sym t.ends ∙ c.ends) in
+    let same_bound : t.bound ≡ bound = one_farthest m side i j t.bound bound t.farthest c.farthest in
+    let begin_head : t.begin.tape.head ≡ begin.tape.head = ap (λ (d : Config). d.tape.head) same_begin in
+    let end_head : t.end.tape.head ≡ end.tape.head = ap (λ (d : Config). d.tape.head) same_end in
+    let shifted = t.shifted in
+    let shift_is = c.shift_is in
+    let same_shift : t.shift ≡ shift = omega (arith, ints) in
+    record {
+      state = ap (λ (d : Config). d.state) (sym same_begin) ∙ t.state ∙ ap (λ (d : Config). d.state) same_end;
+      onward = subst (Beyond side (pos 0)) same_shift t.onward;
+      cells =
+          subst (λ (z : ℤ). SameBeyond side bound z begin.tape.ones end.tape.ones) same_shift (subst (λ (z : ℤ). SameBeyond side z t.shift begin.tape.ones end.tape.ones) same_bound
+          (subst (λ (d : Config). SameBeyond side t.bound t.shift begin.tape.ones d.tape.ones) same_end
+          (subst (λ (d : Config). SameBeyond side t.bound t.shift d.tape.ones t.end.tape.ones) same_begin (beyond_cells side t.begin t.end t.bound t.shift t.cells))));
+    }
+
+-- what was kept of a run, and where a runner stands later
+pub compared : (p : Packed) (side : Dir) (kept : Moment) (r : Standing) (bound shift : ℤ) → r.table ≡ p → Stands r → IsMomentOf p kept → Farthest (entry_of p) side kept.time r.steps bound
+    → shift ≡ r.config.tape.head -ℤ kept.config.tape.head → Compared (entry_of p) side kept.time r.steps kept.config r.config bound shift
+compared p side kept r bound shift table stands begins farthest shift_is = record {
+  begins = begins.at;
+  ends = subst (λ (q : Packed). after (entry_of q) r.steps ≡ Some r.config) table stands.at;
+  farthest = farthest;
+  shift_is = shift_is;
+}
+
+-- the last test decides, where the others are passed
+pub test_passed : (m : Program) (side : Dir) (i j : ℕ) (begin end : Config) (bound shift : ℤ) (r : Bool) → Compared m side i j begin end bound shift → begin.state ≡ end.state → Beyond side (pos 0) shift
+    → (IsTrue r ↔ SameBeyond side bound shift begin.tape.ones end.tape.ones) → IsTrue r ↔ Translated m i j side
+test_passed m side i j begin end bound shift r c state onward same = (
+  λ t. passed_stands m side i j begin end bound shift c (record { state = state; onward = onward; cells = same.0 t }),
+  λ s. same.1 (stands_passed m side i j begin end bound shift c s).cells,
+)
+
+-- and where one isn't, there is no translated cycle
+pub test_failed : (m : Program) (side : Dir) (i j : ℕ) (begin end : Config) (bound shift : ℤ) (r : Bool) → Compared m side i j begin end bound shift → r ≡ false
+    → (Passes side begin end bound shift → ⊥) → IsTrue r ↔ Translated m i j side
+test_failed m side i j begin end bound shift r c fails none = (
+  λ t. absurd (let one : r ≡ true = t in cc),
+  λ s. absurd (none (stands_passed m side i j begin end bound shift c s)),
+)

@@ -1,0 +1,32 @@
+use Rattle.std.proofs.Common.{◌≡◌, sym, ◌∙◌, rules}
+use Rattle.std.specs.Int.{w64}
+use Rattle.std.specs.Int.RustNames.{FitsSigned}
+use Rattle.std.proofs.lemmas.Int.{to_z-of_z}
+use Rattle.loops.specs.Trail.{Follows}
+use Rattle.loops.proofs.BoundLaws.{IsFarther}
+use Rattle.loops.proofs.MomentLaws.{follows_first, follows_more}
+use Rattle.loops.proofs.trails.Trail.visit.Goals as goal
+use Rattle.loops.proofs.trails.Trail.visit.Goals.{then-is_past+else-is_translated+else-is_power_of_two, else-is_past}
+
+pub returns-then-is_translated-clause-found : goal.returns-then-is_translated-clause-found
+returns-then-is_translated-clause-found c = rw (c.time.ensures, c.steps-time.ensures.steps) (c.is_translated.ensures.0 c.if-is_translated.true)
+
+pub returns-then-is_power_of_two-clause-follows : goal.returns-then-is_power_of_two-clause-follows
+returns-then-is_power_of_two-clause-follows c =
+    let fits : FitsSigned w64 c.head-head.result = search rules in
+    let here : c.head-head.result ≡ c.args.runner.now.config.tape.head = search rules in
+    rw (to_z-of_z w64 c.head-head.result fits) (follows_first _ _ c.args.runner.now _ _ c.requires.table c.taken.ensures.stands c.in_ok-self.ensures.kept here)
+
+pub returns-clause-follows : goal.returns-clause-follows
+returns-clause-follows c =
+    let fits : FitsSigned w64 c.head-head.result = search rules in
+    let fits_bound : FitsSigned w64 c.if-is_past.self.bound = search rules in
+    let fits_farther : FitsSigned w64 c.farther-self.result = search rules in
+    let here : c.head-head.result ≡ c.args.runner.now.config.tape.head = search rules in
+    let follows : Follows c.args.t.now c.args.runner.now.steps c.if-is_past.self.side c.if-is_past.self.kept c.if-is_past.self.bound =
+    elim c.if-is_past.branch [
+      | then-is_past+else-is_translated+else-is_power_of_two w ↦ rw w.self-is c.requires.follows
+      | else-is_past w ↦ rw w.self-is c.requires.follows
+    ] in
+    let is : IsFarther c.if-is_past.self.side c.if-is_past.self.bound c.args.runner.now.config.tape.head c.farther-self.result = rw (← here) (record { first = simp to_z-of_z at c.farther-self.ensures.first; second = simp to_z-of_z at c.farther-self.ensures.second }) in
+    rw (to_z-of_z w64 c.farther-self.result fits_farther) (follows_more c.args.t.now _ c.args.runner.now _ _ _ c.requires.table c.steps-time.ensures.stands follows is)

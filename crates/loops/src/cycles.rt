@@ -1,0 +1,102 @@
+// Cycles: a run that comes to one configuration twice.
+ghost use Rattle.std.specs.Prelude.{◌≡◌, ◌≤◌, IfSome, IfOk};
+ghost use Rattle.machine_text.specs.Packed.{entry_of};
+ghost use Rattle.turing.specs.Cycle.{Cycle as IsCycle};
+
+use crate::arrivals::{comes_to, goes_on};
+use crate::limits::MAX_TIME;
+use crate::snapshots::Snapshot;
+use machine_text::Table;
+use run::{Evidence, NoMemory, Refused, Runner, Verdict};
+use std::alloc::Global;
+
+/// The claim that a table's run has the same configuration at the times `i` and `j`, of which `i` is the
+/// earlier one: state, head and tape are equal. Times are numbers of steps from the blank tape; the limit
+/// of `j` is `MAX_TIME`.
+#[derive(Clone, Copy, Debug, PartialEq, Eq)]
+pub struct Cycle {
+    pub i: u64,
+    pub j: u64,
+}
+
+impl Evidence for Cycle {
+    ghost use Rattle.turing.proofs.CycleLaws.{cycle_never};
+    ghost use Rattle.run.specs.declared.verdicts.Verdict.TheVariants.{Never};
+    ghost use Rattle.loops.specs.declared.limits.TheConstants.{MAX_TIME};
+
+    ghost within = { λ e. e.j ≤ MAX_TIME };
+
+    ghost stands = { λ e p. IsCycle (entry_of p) e.i e.j };
+
+    ghost is_wide = { λ e p. ⊥ };
+
+    ghost shows = { λ e. Never };
+
+    fn check(&self, alloc: Global, t: &Table) -> Result<Verdict, Refused> {
+        if self.j > MAX_TIME {
+            return Err(Refused::TooLong);
+        }
+        if self.i >= self.j {
+            return Err(Refused::Fails);
+        }
+        let mut runner = Runner::new(alloc, *t)?;
+        if !comes_to(&mut runner, self.i)? {
+            return Err(Refused::Fails);
+        }
+        let begin = Snapshot::taken(alloc, &runner)?;
+        if comes_to(&mut runner, self.j)? && begin.is_same(&runner) {
+            Ok(Verdict::Never)
+        } else {
+            Err(Refused::Fails)
+        }
+    }
+
+    ghost law = { λ e p is_table stands. cycle_never (entry_of p) e.i e.j stands };
+}
+
+/// Searches cycles.
+#[derive(Drop)]
+pub struct CycleFinder {
+    alloc: Global,
+    pub steps: u64,
+}
+
+impl CycleFinder {
+    /// A finder that carries out so many steps at most, and none beyond `MAX_TIME`.
+    pub fn new(alloc: Global, steps: u64) -> CycleFinder
+        ensures { result.steps ≡ steps }
+    {
+        CycleFinder { alloc, steps }
+    }
+
+    /// A cycle of the table within the finder's steps and the budget; none where it finds none. What it
+    /// gives stands, and is within the limit.
+    ///
+    /// It keeps the configuration at each power of two of the time and holds the later ones against it
+    /// (Brent 1980), so it finds each cycle by the time 2^k + p, where p is the period and 2^k isn't less
+    /// than p or the time at which the cycle is entered.
+    pub fn search(&mut self, t: &Table, budget: u64) -> Result<Option<Cycle>, NoMemory>
+        ensures found { IfOk result (λ o. IfSome o (λ e. IsCycle (entry_of t.now) e.i e.j)) }
+        ensures within { IfOk result (λ o. IfSome o (λ e. e.j ≤ MAX_TIME)) }
+        ensures same { self.new.steps ≡ self.old.steps }
+    {
+        let limit = self.steps.min(budget).min(MAX_TIME);
+        let mut runner = Runner::new(self.alloc, *t)?;
+        let mut kept = Snapshot::taken(self.alloc, &runner)?;
+        for time in 0..limit {
+            if !goes_on(&mut runner)? {
+                return Ok(None);
+            }
+            if kept.is_same(&runner) {
+                return Ok(Some(Cycle {
+                    i: kept.time(),
+                    j: runner.steps(),
+                }));
+            }
+            if runner.steps().is_power_of_two() {
+                kept = Snapshot::taken(self.alloc, &runner)?;
+            }
+        }
+        Ok(None)
+    }
+}

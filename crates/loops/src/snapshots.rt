@@ -1,0 +1,102 @@
+// Configurations that are kept, to hold later ones against.
+ghost use Rattle.std.specs.Prelude.{◌≡◌, ◌↔◌, ◌≤◌, IfOk, IsTrue, ℤ, pos, ◌+ℤ◌, ◌-ℤ◌};
+ghost use Rattle.machine_text.specs.Packed.{entry_of};
+ghost use Rattle.turing.specs.Translated.{Beyond, Farthest, Translated};
+ghost use Rattle.run.specs.Standing.{Stands};
+ghost use Rattle.tape.specs.Places.{IsWithinLimit};
+
+use crate::limits::MAX_TIME;
+use machine_text::{Dir, State, Table};
+use run::{NoMemory, Runner};
+use std::alloc::Global;
+use std::marker::Model;
+use tape::Tape;
+
+/// A time of a run, and the configuration at that time.
+#[derive(Drop)]
+pub(crate) struct Snapshot {
+    time: u64,
+    state: State,
+    tape: Tape,
+}
+
+impl Model for Snapshot {
+    ghost use Rattle.loops.specs.Moment.{Moment, moment_code};
+
+    ghost Value = { Moment };
+
+    ghost coded = { moment_code };
+
+    ghost view = { λ a. record { time = a.time; config = record { state = a.state.0; tape = a.tape } } };
+}
+
+impl Snapshot {
+    ghost use Rattle.loops.specs.Moment.{moment_of, IsMomentOf};
+
+    // Where a runner stands. Takes memory for its tape.
+    pub fn taken(alloc: Global, runner: &Runner) -> Result<Snapshot, NoMemory>
+        ensures kept { IfOk result (λ s. s ≡ moment_of runner.now) }
+        ensures stands { Stands runner.now }
+    {
+        Ok(Snapshot {
+            time: runner.steps(),
+            state: runner.state(),
+            tape: runner.tape().copied(alloc)?,
+        })
+    }
+
+    #[inline]
+    pub fn time(&self) -> u64
+        ensures { result ≡ self.now.time }
+    {
+        self.time
+    }
+
+    // Whether a runner stands at the same configuration. What is looked at first mostly differs, so that it
+    // seldom comes to the tapes' cells.
+    #[inline]
+    pub fn is_same(&self, runner: &Runner) -> bool
+        ensures { IsTrue result ↔ (self.now.config ≡ runner.now.config) }
+    {
+        self.state == runner.state() && self.tape.same(runner.tape())
+    }
+
+    // Whether the run has a translated cycle from the snapshot to where a runner stands, on a side. `bound`
+    // is the farthest head in between.
+    pub fn is_translated(&self, runner: &Runner, t: &Table, bound: i64, side: Dir) -> bool
+        requires runner { runner.now.table ≡ t.now }
+        requires limit { runner.now.steps ≤ MAX_TIME }
+        requires begin { IsMomentOf t.now self.now }
+        requires farthest { Farthest (entry_of t.now) side self.now.time runner.now.steps bound }
+        ensures { IsTrue result ↔ Translated (entry_of t.now) self.now.time runner.now.steps side }
+    {
+        let shift = self.shift_to(runner, t);
+        self.state == runner.state()
+            && is_onward(side, shift)
+            && self.tape.same_half(runner.tape(), bound, shift, side)
+    }
+
+    // By how many cells the head of a runner is further to the right.
+    fn shift_to(&self, runner: &Runner, t: &Table) -> i64
+        requires runner { runner.now.table ≡ t.now }
+        requires limit { runner.now.steps ≤ MAX_TIME }
+        requires begin { IsMomentOf t.now self.now }
+        requires early { self.now.time ≤ runner.now.steps }
+        ensures shift { result ≡ runner.now.config.tape.head -ℤ self.now.config.tape.head }
+        ensures within { IsWithinLimit result }
+        ensures stands { Stands runner.now }
+    {
+        let _ = runner.steps();
+        runner.tape().head() - self.tape.head()
+    }
+}
+
+// Whether a shift is 0 or leads to a side.
+fn is_onward(side: Dir, shift: i64) -> bool
+    ensures { IsTrue result ↔ Beyond side (pos 0) shift }
+{
+    match side {
+        Dir::L => shift <= 0,
+        Dir::R => 0 <= shift,
+    }
+}

@@ -1,0 +1,1 @@
+// Certificates and their answers, and machines that are known to loop.

@@ -1,0 +1,90 @@
+// What a run leaves on its way for the search of translated cycles, on one side.
+ghost use Rattle.std.specs.Prelude.{◌≡◌, ◌+◌, ◌≤◌, IfOk, IfSome, IfNone};
+ghost use Rattle.machine_text.specs.Packed.{entry_of};
+ghost use Rattle.turing.specs.Translated.{Translated as IsTranslated};
+
+use crate::heads::farther;
+use crate::limits::MAX_TIME;
+use crate::snapshots::Snapshot;
+use crate::translations::Translated;
+use machine_text::{Dir, Table};
+use run::{NoMemory, Runner};
+use std::alloc::Global;
+
+// How far a run went on a side, and the last record that was kept. A record is a time at which the head is
+// further on that side than ever before.
+#[derive(Drop)]
+pub(crate) struct Trail {
+    side: Dir,
+    kept: Snapshot,
+    // The farthest head on the other side since that record.
+    bound: i64,
+    // Where the last record was, and how many there were.
+    record: i64,
+    count: u64,
+}
+
+impl Trail {
+    ghost use Rattle.loops.specs.Trail.{Follows};
+
+    // The trail of a run from where a runner stands, which is taken for the first record.
+    pub fn begun(alloc: Global, t: &Table, runner: &Runner, side: Dir) -> Result<Trail, NoMemory>
+        requires { runner.now.table ≡ t.now }
+        ensures { IfOk result (λ trail. Follows t.now (runner.now.steps + 1) trail.side trail.kept trail.bound) }
+    {
+        let head = runner.tape().head();
+        Ok(Trail {
+            side,
+            kept: Snapshot::taken(alloc, runner)?,
+            bound: head,
+            record: head,
+            count: 1,
+        })
+    }
+
+    // Looks at the next time of the run. Gives a translated cycle from the record that was kept to this one.
+    #[inline]
+    pub fn visit(
+        &mut self,
+        alloc: Global,
+        t: &Table,
+        runner: &Runner,
+    ) -> Result<Option<Translated>, NoMemory>
+        requires table { runner.now.table ≡ t.now }
+        requires limit { runner.now.steps ≤ MAX_TIME }
+        requires follows { Follows t.now runner.now.steps self.old.side self.old.kept self.old.bound }
+        ensures found { IfOk result (λ o. IfSome o (λ e. IsTranslated (entry_of t.now) e.i e.j e.side)) }
+        ensures now { IfOk result (λ o. IfSome o (λ e. e.j ≡ runner.now.steps)) }
+        ensures follows { IfOk result (λ o. IfNone o (Follows t.now (runner.now.steps + 1) self.new.side self.new.kept self.new.bound)) }
+    {
+        let time = runner.steps();
+        let head = runner.tape().head();
+        if is_past(self.side, self.record, head) {
+            if self.kept.is_translated(runner, t, self.bound, self.side) {
+                return Ok(Some(Translated {
+                    i: self.kept.time(),
+                    j: time,
+                    side: self.side,
+                }));
+            }
+            self.record = head;
+            self.count = self.count.saturating_add(1);
+            if self.count.is_power_of_two() {
+                self.kept = Snapshot::taken(alloc, runner)?;
+                self.bound = head;
+                return Ok(None);
+            }
+        }
+        self.bound = farther(self.side, self.bound, head);
+        Ok(None)
+    }
+}
+
+// Whether a head is further on a side than the last record.
+#[inline]
+fn is_past(side: Dir, record: i64, head: i64) -> bool {
+    match side {
+        Dir::L => head < record,
+        Dir::R => record < head,
+    }
+}

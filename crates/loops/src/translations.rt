@@ -1,0 +1,110 @@
+// Translated cycles: a run that comes to the same configuration moved, but for what it has left behind.
+ghost use Rattle.std.specs.Prelude.{◌≡◌, ◌<◌, ◌≤◌, IfSome, IfOk};
+ghost use Rattle.machine_text.specs.Packed.{entry_of};
+ghost use Rattle.turing.specs.Translated.{Translated as IsTranslated};
+
+use crate::arrivals::{comes_to, goes_on};
+use crate::heads::farthest_head;
+use crate::limits::MAX_TIME;
+use crate::snapshots::Snapshot;
+use crate::trails::Trail;
+use machine_text::{Dir, Table};
+use run::{Evidence, NoMemory, Refused, Runner, Verdict};
+use std::alloc::Global;
+
+/// The claim that a table's run has, at the times `i` and `j`, of which `i` is the earlier one, the same
+/// state and the same tape on a side, but for a shift.
+///
+/// For the side R the shift, head at `j` less head at `i`, is at least 0, and each cell x at or to the
+/// right of the least head of the times from `i` to just before `j` is at time `i` what the cell x + shift
+/// is at time `j`. The side L is the mirror image. Neither time need be a record of the head. Times are
+/// numbers of steps from the blank tape; the limit of `j` is `MAX_TIME`.
+#[derive(Clone, Copy, Debug, PartialEq, Eq)]
+pub struct Translated {
+    pub i: u64,
+    pub j: u64,
+    pub side: Dir,
+}
+
+impl Evidence for Translated {
+    ghost use Rattle.turing.proofs.TranslatedLaws.{translated_never};
+    ghost use Rattle.run.specs.declared.verdicts.Verdict.TheVariants.{Never};
+    ghost use Rattle.loops.specs.declared.limits.TheConstants.{MAX_TIME};
+
+    ghost within = { λ e. e.j ≤ MAX_TIME };
+
+    ghost stands = { λ e p. IsTranslated (entry_of p) e.i e.j e.side };
+
+    ghost is_wide = { λ e p. ⊥ };
+
+    ghost shows = { λ e. Never };
+
+    fn check(&self, alloc: Global, t: &Table) -> Result<Verdict, Refused> {
+        if self.j > MAX_TIME {
+            return Err(Refused::TooLong);
+        }
+        if self.i >= self.j {
+            return Err(Refused::Fails);
+        }
+        let mut runner = Runner::new(alloc, *t)?;
+        if !comes_to(&mut runner, self.i)? {
+            return Err(Refused::Fails);
+        }
+        let begin = Snapshot::taken(alloc, &runner)?;
+        let Some(bound) = farthest_head(&mut runner, self.j, self.side)? else {
+            return Err(Refused::Fails);
+        };
+        if begin.is_translated(&runner, t, bound, self.side) {
+            Ok(Verdict::Never)
+        } else {
+            Err(Refused::Fails)
+        }
+    }
+
+    ghost law = { λ e p is_table stands. translated_never (entry_of p) e.i e.j e.side stands };
+}
+
+/// Searches translated cycles, on both sides at once.
+#[derive(Drop)]
+pub struct TranslatedFinder {
+    alloc: Global,
+    pub steps: u64,
+}
+
+impl TranslatedFinder {
+    /// A finder that carries out so many steps at most, and none beyond `MAX_TIME`.
+    pub fn new(alloc: Global, steps: u64) -> TranslatedFinder
+        ensures { result.steps ≡ steps }
+    {
+        TranslatedFinder { alloc, steps }
+    }
+
+    /// A translated cycle of the table within the finder's steps and the budget; none where it finds none.
+    /// What it gives stands, and is within the limit.
+    ///
+    /// It looks at records alone, the times at which the head is further on a side than ever before. Of
+    /// these it keeps the configuration at each power of two of their number, and holds the later ones
+    /// against it. A translated cycle whose shift isn't 0 makes records for ever.
+    pub fn search(&mut self, t: &Table, budget: u64) -> Result<Option<Translated>, NoMemory>
+        ensures found { IfOk result (λ o. IfSome o (λ e. IsTranslated (entry_of t.now) e.i e.j e.side)) }
+        ensures within { IfOk result (λ o. IfSome o (λ e. e.j ≤ MAX_TIME)) }
+        ensures same { self.new.steps ≡ self.old.steps }
+    {
+        let limit = self.steps.min(budget).min(MAX_TIME);
+        let mut runner = Runner::new(self.alloc, *t)?;
+        let mut left = Trail::begun(self.alloc, t, &runner, Dir::L)?;
+        let mut right = Trail::begun(self.alloc, t, &runner, Dir::R)?;
+        for time in 0..limit {
+            if !goes_on(&mut runner)? {
+                return Ok(None);
+            }
+            if let Some(found) = right.visit(self.alloc, t, &runner)? {
+                return Ok(Some(found));
+            }
+            if let Some(found) = left.visit(self.alloc, t, &runner)? {
+                return Ok(Some(found));
+            }
+        }
+        Ok(None)
+    }
+}

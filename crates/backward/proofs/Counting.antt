@@ -1,11 +1,14 @@
 -- The numbers of paths while they are counted.
 use Rattle.std.proofs.Common.{◌≡◌, ℕ, zero, suc, ◌+◌, ◌-◌, ◌*◌, ◌<◌, ◌≤◌, List, length, get_or, set, Option, Some, None, inl, inr, sym, ◌∙◌, ap, refl, arith, get_or-set_other, get_or-set_same, length-set}
+use Rattle.std.proofs.lemmas.List.{set-set, set-get_or}
 use Rattle.std.proofs.lemmas.Bool.{cases_eq}
 use Rattle.machine_text.specs.Packed.{Packed, entry_of}
+use Rattle.machine_text.specs.declared.transition.Sym.{Sym}
 use Rattle.turing.specs.Backward.{Pair, Partial}
 use Rattle.turing.specs.Levels.{known_before}
 use Rattle.backward.specs.declared.limits.TheConstants.{MAX_PATHS}
-use Rattle.backward.specs.Known.{pair_at}
+use Rattle.turing.proofs.BackwardLaws.{same_pair}
+use Rattle.backward.specs.Known.{known_about, pair_at}
 use Rattle.backward.specs.Paths.{paths_beyond, CountsOn, Exceeds}
 use Rattle.backward.proofs.Sums.{sum_first, sum_first-zero, sum_first-more, sum_first-le, if_known, if_known-none, if_known-some, sum_of_pairs}
 
@@ -85,9 +88,9 @@ unfolding paths_beyond
 only_one p needs = refl
 
 -- after all the pairs, with the path itself counted first
-pub part_all : (p : Packed) (depth : ℕ) (needs : Partial) (old new : List ℕ) → depth < length old → get_or old depth 0 < MAX_PATHS →
-    CountsPart p depth needs (2 * p.states) (set old depth (get_or old depth 0 + 1)) new → CountsOn p depth needs old new
-part_all p depth needs old new within room part =
+pub part_all : (p : Packed) (depth : ℕ) (needs : Partial) (places : ℕ) (old new : List ℕ) → places ≡ 2 * p.states → depth < length old → get_or old depth 0 < MAX_PATHS →
+    CountsPart p depth needs places (set old depth (get_or old depth 0 + 1)) new → CountsOn p depth needs old new
+part_all p depth needs places old new all_gone within room part =
     let size = length-set old depth (get_or old depth 0 + 1) in
     let here = get_or-set_same old depth (get_or old depth 0 + 1) 0 within in
     record {
@@ -111,7 +114,7 @@ part_all p depth needs old new within room part =
         let size = length-set old depth (get_or old depth 0 + 1) in
         let a = part.from k (omega arith) in
         let b = get_or-set_other old depth (depth + suc k) (get_or old depth 0 + 1) 0 (λ e. omega arith) in
-        let c = all_places p k needs in
+        let c = ap (sum_first (by_place p k needs)) all_gone ∙ all_places p k needs in
         omega arith
     small_after : (k : ℕ) → get_or old k 0 ≤ MAX_PATHS → get_or (set old depth (get_or old depth 0 + 1)) k 0 ≤ MAX_PATHS
     small_after k small =
@@ -159,3 +162,16 @@ exceeds_further p depth needs earlier places old new some place part over =
           let more = over.more in
           omega arith;
     }
+
+-- what can come before the cells about a head, by the parts of the pair
+pub at_place : (p : Packed) (cells now : List (Option Sym)) (state head place q : ℕ) (s : Sym) (o : Option Partial) → now ≡ cells → q ≡ (pair_at place).state → s ≡ (pair_at place).symbol →
+    known_before (known_about now state head) (record { state = q; symbol = s }) (entry_of p q s) ≡ o → before_place p (known_about cells state head) place ≡ o
+at_place p cells now state head place q s o same in_state on_symbol is =
+    ap (λ known. before_place p (known_about known state head) place) (sym same)
+    ∙ ap (λ (r : Pair). known_before (known_about now state head) r (entry_of p r.state r.symbol)) (sym (same_pair (record { state = q; symbol = s }) (pair_at place) in_state on_symbol))
+    ∙ is
+
+-- the cells after one was known anew and then was as before
+pub cells_again : (cells now later : List (Option Sym)) (i : ℕ) (o : Option Sym) → now ≡ cells → later ≡ set now i o → set later i (get_or now i None) ≡ cells
+cells_again cells now later i o same later_is =
+    ap (λ known. set known i (get_or now i None)) later_is ∙ set-set now i o (get_or now i None) ∙ set-get_or now i None ∙ same

@@ -1,3 +1,4 @@
 pub mod Tapes
 pub mod Sums
 pub mod Counting
+pub mod Widths

@@ -64,3 +64,21 @@ known_before_is cells state head p e place o leads within behind entry is =
 -- with no entry nothing comes before
 pub nothing_before : (needs : Partial) (p : Pair) (o : Option Entry) → o ≡ None → known_before needs p o ≡ None
 nothing_before needs p o none = ap (known_before needs p) none
+
+-- where no other cell is known, it says what is known on the pair alone
+pub known_alone : (cells : List (Option Sym)) (head : ℕ) (p : Pair) → head < length cells → ((x : ℕ) → x ≢ head → get_or cells x None ≡ None) → known_about (set cells head (Some p.symbol)) p.state head ≡ standing_on p
+unfolding known_about
+known_alone cells head p within unknown =
+    same_known p.state _ _
+    (λ x. by_place x (pos 0)
+    (λ here.
+    known_cell-same cells head (Some p.symbol) (pos head +ℤ x) (let at : pos head +ℤ x ≡ pos head = omega (arith, ints) in at) within
+    ∙ sym (ap (λ y. cond (int_eq y (pos 0)) (Some p.symbol) None) here))
+    (λ other.
+    known_cell-other cells head (Some p.symbol) (pos head +ℤ x) (λ at. other (omega (arith, ints)))
+    ∙ nothing (pos head +ℤ x) (λ at. other (omega (arith, ints)))
+    ∙ sym (ap (λ t. cond t (Some p.symbol) None) (not_tied x (pos 0) other))))
+  where
+    nothing : (y : ℤ) → (y ≡ pos head → ⊥) → known_cell cells y ≡ None
+    nothing (pos j) other = unknown j (λ e. other (ap pos e))
+    nothing (negsuc j) other = refl

@@ -1,5 +1,5 @@
 -- How many paths there are, counted from the halting pairs back.
-use Rattle.std.specs.Prelude.{◌≡◌, ℕ, zero, suc, ◌+◌, ◌<◌, ◌≤◌, List, length, slice_index, Some}
+use Rattle.std.specs.Prelude.{◌≡◌, ℕ, zero, suc, ◌+◌, ◌<◌, ◌≤◌, List, length, slice_index, Some, Result, Ok, Err}
 use Rattle.std.specs.List.{filter_map, sum_by}
 use Rattle.machine_text.specs.Packed.{Packed, entry_of}
 use Rattle.turing.specs.Program.{Program}
@@ -7,6 +7,7 @@ use Rattle.turing.specs.Run.{Config, after}
 use Rattle.turing.specs.Backward.{Pair, Partial, IsWider}
 use Rattle.turing.specs.Levels.{all_pairs, known_before, level}
 use Rattle.backward.specs.declared.limits.TheConstants.{MAX_PATHS}
+use Rattle.backward.specs.declared.paths.TooWide.{TooWide}
 
 -- how many paths go so many pairs further back than a path that needs this
 unfoldable pub paths_beyond : ℕ → Program → ℕ → Partial → ℕ
@@ -36,6 +37,11 @@ pub record HasTooMany (p : Packed) (depths : ℕ) : Type 0 where
   pub depth : ℕ
   pub within : depth < depths
   pub more : MAX_PATHS < length (level p.states (entry_of p) depth)
+
+-- the paths of the depths up to one were counted, or there are too many
+abbrev pub Counted : Packed → ℕ → Result (Unit {0}) TooWide → List ℕ → Type 0
+Counted p depth (Ok _) counts = AreWidths p counts × (length counts ≡ depth + 1)
+Counted p depth (Err _) counts = HasTooMany p (depth + 1)
 
 -- the run does so many steps, and some depth up to them has more paths than the limit
 pub record IsTooWide (p : Packed) (steps : ℕ) : Type 0 where

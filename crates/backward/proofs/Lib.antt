@@ -2,3 +2,4 @@ pub mod Tapes
 pub mod Sums
 pub mod Counting
 pub mod Widths
+pub mod Checked

@@ -1,7 +1,7 @@
 -- How many paths there are, counted from the halting pairs back.
-use Rattle.std.specs.Prelude.{◌≡◌, ℕ, zero, suc, ◌+◌, ◌<◌, ◌≤◌, List, length, slice_index, Some, Result, Ok, Err}
+use Rattle.std.specs.Prelude.{◌≡◌, ℕ, zero, suc, ◌+◌, ◌<◌, ◌≤◌, List, length, slice_index, Some, Result, Ok, Err, Bool, true, false}
 use Rattle.std.specs.List.{filter_map, sum_by}
-use Rattle.machine_text.specs.Packed.{Packed, entry_of}
+use Rattle.machine_text.specs.Packed.{Packed, IsTable, entry_of}
 use Rattle.turing.specs.Program.{Program}
 use Rattle.turing.specs.Run.{Config, after}
 use Rattle.turing.specs.Backward.{Pair, Partial, IsWider}
@@ -42,6 +42,17 @@ pub record HasTooMany (p : Packed) (depths : ℕ) : Type 0 where
 abbrev pub Counted : Packed → ℕ → Result (Unit {0}) TooWide → List ℕ → Type 0
 Counted p depth (Ok _) counts = AreWidths p counts × (length counts ≡ depth + 1)
 Counted p depth (Err _) counts = HasTooMany p (depth + 1)
+
+-- the run of a table does so many steps
+pub record Does (p : Packed) (steps : ℕ) : Type 0 where
+  pub is_table : IsTable p
+  pub at : Config
+  pub runs : after (entry_of p) steps ≡ Some at
+
+-- whether it does
+abbrev pub SaysDone : Packed → ℕ → Bool → Type 0
+SaysDone p steps true = Does p steps
+SaysDone p steps false = (at : Config) → after (entry_of p) steps ≡ Some at → ⊥
 
 -- the run does so many steps, and some depth up to them has more paths than the limit
 pub record IsTooWide (p : Packed) (steps : ℕ) : Type 0 where

@@ -8,12 +8,14 @@
 
 
 
+mod evidence;
 mod limits;
 mod pairs;
 mod paths;
 
 
 
+pub use evidence::Backward;
 pub use limits::{MAX_DEPTH, MAX_PATHS};
 
 

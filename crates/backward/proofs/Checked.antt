@@ -1,13 +1,14 @@
 -- What a run and the counted paths show of a table.
-use Rattle.std.proofs.Common.{◌≡◌, ℕ, ◌+◌, ◌<◌, ◌≤◌, List, [], ◌∷◌, length, get_or, Some, Bool, true, false, Result, Ok, Err, sym, ◌∙◌, ap, subst, refl, arith}
+use Rattle.std.proofs.Common.{◌≡◌, ℕ, ◌+◌, ◌-◌, ◌<◌, ◌≤◌, List, [], ◌∷◌, length, get_or, Some, Bool, true, false, Result, Ok, Err, inl, inr, sym, ◌∙◌, ap, subst, refl, arith}
 use Rattle.std.specs.Result.{is_err}
+use Rattle.std.proofs.lemmas.Bool.{cases_lt}
 use Rattle.machine_text.specs.Packed.{Packed, IsTable, entry_of}
-use Rattle.turing.specs.Run.{Config, after}
+use Rattle.turing.specs.Run.{Config, start, after}
 use Rattle.turing.specs.Backward.{Backward}
 use Rattle.turing.specs.Levels.{level}
-use Rattle.turing.proofs.RunLaws.{not_past}
+use Rattle.turing.proofs.RunLaws.{before, not_past}
 use Rattle.turing.proofs.TableLaws.{table_machine}
-use Rattle.turing.proofs.LevelLaws.{level_wider, longer_level, backward_level, level_backward}
+use Rattle.turing.proofs.LevelLaws.{level_wider, longer_level, backward_level, level_backward, empty_below}
 use Rattle.run.specs.Standing.{Standing, Stands}
 use Rattle.run.specs.Steps.{RunsTo}
 use Rattle.run.specs.declared.stepping.Step.{Step}
@@ -73,8 +74,8 @@ too_wide p d run many = record {
 }
 
 -- none is
-pub not_too_wide : (p : Packed) (d : ℕ) (counts : List ℕ) → Does p d → AreWidths p counts → length counts ≡ d + 1 → IsTooWide p d → ⊥
-not_too_wide p d counts run widths size wide =
+pub not_too_wide : (p : Packed) (d : ℕ) (counts : List ℕ) → Does p d → AreWidths p counts → d < length counts → IsTooWide p d → ⊥
+not_too_wide p d counts run widths inside wide =
     let h = wide.within in
     let more = level_wider p.states (entry_of p) (table_machine p run.is_table) wide.depth MAX_PATHS wide.wider in
     let is = widths.each wide.depth (omega arith) in
@@ -90,3 +91,32 @@ stands_if p d counts run widths inside none =
 pub none_if : (p : Packed) (d : ℕ) (counts : List ℕ) → AreWidths p counts → d < length counts → Backward p.states (entry_of p) d → get_or counts d 0 ≡ 0
 none_if p d counts widths inside stands =
     widths.each d inside ∙ ap length (backward_level p.states (entry_of p) d stands).1
+
+-- below a level that is empty no path is left
+none_below : (p : Packed) (d k : ℕ) → Backward p.states (entry_of p) d → d ≤ k → length (level p.states (entry_of p) k) ≡ 0
+none_below p d k stands early =
+    let e : d + (k - d) ≡ k = omega arith in
+    ap (λ i. length (level p.states (entry_of p) i)) (sym e)
+    ∙ ap length (empty_below p.states (entry_of p) d (k - d) (backward_level p.states (entry_of p) d stands).1)
+
+-- where some depth up to k has too many, a claim of a depth up to k that stands is too wide
+pub many_stands : (p : Packed) (k d : ℕ) → IsTable p → HasTooMany p (k + 1) → d ≤ k → Backward p.states (entry_of p) d → IsTooWide p d
+many_stands p k d is_table many early stands = record {
+  at = stands.at;
+  runs = stands.runs;
+  depth = many.depth;
+  within = elim (cases_lt d many.depth) [
+      | inl less ↦ let none = none_below p d many.depth stands (omega arith) in let more = many.more in absurd (omega arith)
+      | inr not ↦ not
+    ];
+  wider = longer_level p.states (entry_of p) (table_machine p is_table) many.depth MAX_PATHS many.more;
+}
+
+-- where the run doesn't even come to the first depth without a path, no claim stands
+pub not_reached : (p : Packed) (least d : ℕ) (counts : List ℕ) → AreWidths p counts → d < length counts → ((k : ℕ) → k < least → get_or counts k 0 ≡ 0 → ⊥) →
+    ((at : Config) → after (entry_of p) least ≡ Some at → ⊥) → Backward p.states (entry_of p) d → ⊥
+not_reached p least d counts widths inside earlier not stands =
+    elim (cases_lt d least) [
+      | inl less ↦ earlier d less (none_if p d counts widths inside stands)
+      | inr later ↦ let there = before (entry_of p) least d start stands.at later stands.runs in not there.0 there.1
+    ]

@@ -1,5 +1,6 @@
 // The paths of each depth, counted: from each halting pair back, one path at a time.
 ghost use Rattle.std.specs.Prelude.{◌≡◌, ◌+◌, ◌-◌, ◌*◌, ◌<◌, ◌≤◌, ℕ, length, slice_index, slice_index_or, vec_len, IfOk, OnOk, OnErr, None};
+ghost use Rattle.machine_text.specs.Packed.{IsTable};
 ghost use Rattle.backward.specs.Known.{known_about, HasRoom};
 ghost use Rattle.backward.specs.Paths.{CountsOn, Exceeds, AreWidths, HasTooMany, Counted};
 
@@ -34,7 +35,8 @@ impl PathCounter {
     /// Counts the paths of the depths 0 to `depth`, unless one of these has more than `MAX_PATHS`.
     pub fn count(&mut self, table: &Table, depth: u64) -> Result<Result<(), TooWide>, NoMemory>
         requires { depth ≤ MAX_DEPTH }
-        ensures { IfOk result (λ counted. Counted table.now depth counted self.new.counts.items) }
+        ensures counted { IfOk result (λ counted. Counted table.now depth counted self.new.counts.items) }
+        ensures table { IfOk result (λ _. IsTable table.now) }
     {
         let depth = depth as usize;
         self.cells.clear();
@@ -58,6 +60,7 @@ fn count_all(
     requires zeros { (k : ℕ) → slice_index counts.old k ≡ 0 }
     ensures widths { OnOk result (AreWidths table.now counts.new) }
     ensures wide { OnErr result (HasTooMany table.now (length counts.old)) }
+    ensures table { IsTable table.now }
 {
     let head = counts.len() - 1;
     for place in 0..2 * table.states() {

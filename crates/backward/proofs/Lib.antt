@@ -1,0 +1,5 @@
+pub mod Tapes
+pub mod Sums
+pub mod Counting
+pub mod Widths
+pub mod Checked

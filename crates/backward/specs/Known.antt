@@ -1,0 +1,23 @@
+-- A stretch of cells, each known or not, and what it says of a tape around a head.
+use Rattle.std.specs.Prelude.{◌≡◌, ℕ, suc, ◌+◌, ◌*◌, ◌/◌, ◌%◌, ◌<◌, ◌≤◌, ℤ, pos, negsuc, ◌+ℤ◌, List, length, Option, None, slice_index_or}
+use Rattle.machine_text.specs.Packed.{symbol_of}
+use Rattle.machine_text.specs.declared.transition.Sym.{Sym}
+use Rattle.turing.specs.Backward.{Pair, Partial}
+
+-- what is known of a cell by its place; nothing beyond the stretch
+abbrev pub known_cell : List (Option Sym) → ℤ → Option Sym
+known_cell cells (pos i) = slice_index_or cells i None
+known_cell cells (negsuc i) = None
+
+-- what is known of a configuration in a state whose head stands at a place of the stretch
+unfoldable pub known_about : List (Option Sym) → ℕ → ℕ → Partial
+known_about cells state head = record { state = state; cells = λ x. known_cell cells (pos head +ℤ x) }
+
+-- the pairs in their order: A0, A1, B0, and so on
+abbrev pub pair_at : ℕ → Pair
+pair_at place = record { state = place / 2; symbol = symbol_of (place % 2) }
+
+-- from this place the head can go back so many steps, and stay within so many cells
+pub record HasRoom (cells head steps : ℕ) : Type 0 where
+  pub left : steps ≤ head
+  pub right : head + steps < cells

@@ -1,0 +1,67 @@
+// The search for a depth at which backward reasoning shows that a table never halts.
+ghost use Rattle.std.specs.Prelude.{◌≡◌, ◌≢◌, ◌<◌, ◌≤◌, ℕ, min, length, slice_index, EachIndex, IfSome, IfNone, IfOk};
+ghost use Rattle.machine_text.specs.Packed.{entry_of};
+ghost use Rattle.turing.specs.Backward.{Backward as IsBackward};
+ghost use Rattle.backward.specs.Paths.{IsTooWide};
+
+use crate::evidence::{Backward, does_steps};
+use crate::limits::MAX_DEPTH;
+use crate::paths::PathCounter;
+use machine_text::Table;
+use std::alloc::Global;
+use tape::NoMemory;
+
+/// Searches the least depth at which backward reasoning shows that a table never halts.
+#[derive(Drop)]
+pub struct BackwardFinder {
+    alloc: Global,
+    pub depth: u64,
+    // Kept from table to table.
+    paths: PathCounter,
+}
+
+impl BackwardFinder {
+    /// A finder that goes back so many steps at most, and none beyond `MAX_DEPTH`.
+    pub fn new(alloc: Global, depth: u64) -> BackwardFinder
+        ensures { result.depth ≡ depth }
+    {
+        BackwardFinder {
+            alloc,
+            depth,
+            paths: PathCounter::new(alloc),
+        }
+    }
+
+    /// The least depth at which the claim stands; none where none stands within the finder's depth and the
+    /// budget, or where each that stands would be refused as too wide.
+    pub fn search(&mut self, t: &Table, budget: u64) -> Result<Option<Backward>, NoMemory>
+        ensures found { IfOk result (λ o. IfSome o (λ e. IsBackward t.now.states (entry_of t.now) e.depth
+            × (IsTooWide t.now e.depth → ⊥)
+            × (e.depth ≤ min (min self.old.depth budget) MAX_DEPTH))) }
+        ensures least { IfOk result (λ o. IfSome o (λ e. (d : ℕ) → d < e.depth → IsBackward t.now.states (entry_of t.now) d → ⊥)) }
+        ensures none { IfOk result (λ o. IfNone o ((d : ℕ) → d ≤ min (min self.old.depth budget) MAX_DEPTH → IsBackward t.now.states (entry_of t.now) d → IsTooWide t.now d)) }
+        ensures same { self.new.depth ≡ self.old.depth }
+    {
+        let limit = self.depth.min(budget).min(MAX_DEPTH);
+        if self.paths.count(t, limit)?.is_err() {
+            return Ok(None);
+        }
+        let Some(depth) = first_zero(&self.paths.counts) else {
+            return Ok(None);
+        };
+        let depth = depth as u64;
+        if !does_steps(self.alloc, t, depth)? {
+            return Ok(None);
+        }
+        Ok(Some(Backward { depth }))
+    }
+}
+
+// The first place of a 0.
+fn first_zero(counts: &[u64]) -> Option<usize>
+    ensures some { IfSome result (λ i. (i < length counts.now) × (slice_index counts.now i ≡ 0)
+        × ((k : ℕ) → k < i → slice_index counts.now k ≢ 0)) }
+    ensures none { IfNone result (EachIndex counts.now (λ k. slice_index counts.now k ≢ 0)) }
+{
+    counts.iter().position(|count| *count == 0)
+}

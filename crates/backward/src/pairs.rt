@@ -1,0 +1,76 @@
+// Pairs of a state and a symbol, and how one can come before what is known of a tape.
+ghost use Rattle.std.specs.Prelude.{◌≡◌, ◌==◌, ◌&&◌, ◌+◌, ◌^◌, ◌<◌, ◌≤◌, ℤ, pos, ◌+ℤ◌, length, slice_set, IfSome, IfNone, Some, None};
+ghost use Rattle.machine_text.specs.Packed.{entry_of};
+ghost use Rattle.turing.specs.Backward.{left_behind};
+ghost use Rattle.turing.specs.Levels.{may_hold, known_before};
+ghost use Rattle.backward.specs.Known.{known_about, pair_at, HasRoom};
+
+use machine_text::{Dir, Entry, State, Sym, Table};
+
+/// A state and the symbol that is read in it.
+#[derive(Clone, Copy, Debug, PartialEq, Eq)]
+pub struct Pair {
+    pub state: State,
+    pub symbol: Sym,
+}
+
+impl Pair {
+    /// The pair at a place in the order A0, A1, B0, and so on.
+    pub fn at(place: u8) -> Pair
+        ensures state { result.state.0 ≡ (pair_at place).state }
+        ensures symbol { result.symbol ≡ (pair_at place).symbol }
+    {
+        let symbol = if place % 2 == 0 { Sym::Zero } else { Sym::One };
+        Pair {
+            state: State(place / 2),
+            symbol,
+        }
+    }
+
+    /// Where a head stands at this pair, if the step from there can lead to a state with the head at
+    /// `head`, of whose tape so much is known: among `cells`, which stretch to both sides of the head.
+    pub fn before(&self, table: &Table, cells: &[Option<Sym>], state: State, head: usize) -> Option<usize>
+        requires pair { self.now.state.0 < table.now.states }
+        requires room { HasRoom (length cells.now) head 1 }
+        ensures some { IfSome result (λ place. (place < length cells.now) × (place ≤ head + 1) × (head ≤ place + 1)
+            × (known_before (known_about cells.now state.0 head) (record { state = self.now.state.0; symbol = self.now.symbol }) (entry_of table.now self.now.state.0 self.now.symbol)
+                ≡ Some (known_about (slice_set cells.now place (Some self.now.symbol)) self.now.state.0 place))) }
+        ensures none { IfNone result
+            (known_before (known_about cells.now state.0 head) (record { state = self.now.state.0; symbol = self.now.symbol }) (entry_of table.now self.now.state.0 self.now.symbol) ≡ None) }
+    {
+        let entry = table.get(self.state, self.symbol)?;
+        let place = left_behind(entry.dir, head);
+        can_lead_to(entry, cells[place], state).then_some(place)
+    }
+}
+
+// Where a head came from by a move to `head`.
+fn left_behind(dir: Dir, head: usize) -> usize
+    requires some { 1 ≤ head }
+    requires fits { head + 1 < 2 ^ 64 }
+    ensures place { pos result ≡ pos head +ℤ left_behind dir }
+    ensures right { result ≤ head + 1 }
+    ensures left { head ≤ result + 1 }
+{
+    match dir {
+        Dir::L => head + 1,
+        Dir::R => head - 1,
+    }
+}
+
+// Whether a step by an entry can lead to a state, and leave behind a cell of which so much is known.
+fn can_lead_to(entry: Entry, behind: Option<Sym>, state: State) -> bool
+    ensures { result ≡ ((state.0 == entry.next.0) && may_hold behind entry.write) }
+{
+    state == entry.next && may_hold(behind, entry.write)
+}
+
+// Whether a cell can hold a symbol: one that isn't known can.
+fn may_hold(cell: Option<Sym>, symbol: Sym) -> bool
+    ensures { result ≡ may_hold cell symbol }
+{
+    match cell {
+        Some(known) => known == symbol,
+        None => true,
+    }
+}

@@ -1,3 +1,4 @@
 pub mod Cuts
 pub mod Worth
 pub mod RoundTrip
+pub mod TrueClaims

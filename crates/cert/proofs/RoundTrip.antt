@@ -8,13 +8,15 @@ use Rattle.std.proofs.lemmas.List.Elements.{All-append, All-from_get_or}
 use Rattle.std.proofs.lemmas.List.Splits.{slice_split_at, slice_split_none}
 use Rattle.std.proofs.lemmas.List.Sums.{fold-append}
 use Rattle.std.proofs.lemmas.Slice.Eq.{bytes_eq-Decides}
+use Rattle.machine_text.specs.declared.transition.Dir.{Dir}
+use Rattle.machine_text.specs.declared.transition.Dir.TheVariants.{L, R}
 use Rattle.machine_text.specs.Packed.{Packed, IsTable}
 use Rattle.machine_text.specs.Text.{text_of}
 use Rattle.machine_text.proofs.Rows.{length-text_of}
 use Rattle.machine_text.proofs.RoundTrip.{table_of-text_of, text_of_from_45}
 use Rattle.cert.specs.declared.limits.TheConstants.{MAX_RECORD_BYTES}
-use Rattle.cert.specs.Claim.{Claim, HaltsIn, Nothing, Recorded, IsWritable}
-use Rattle.cert.specs.Grammar.{parts_of, worth_of, number_of, with_number, halts_by, claim_from, claim_text, record_with, record_after, record_from, record_of, record_text}
+use Rattle.cert.specs.Claim.{Claim, HaltsIn, CycleAt, TranslatedAt, BackwardFrom, Nothing, Recorded, IsWritable}
+use Rattle.cert.specs.Grammar.{parts_of, worth_of, number_of, side_of, side_text, with_field, halts_by, cycle_by, translated_by, backward_by, claim_from, claim_text, record_with, record_after, record_from, record_of, record_text}
 use Rattle.cert.proofs.Worth.{with_digit}
 
 abbrev IsSpace : ℕ → Bool
@@ -59,14 +61,62 @@ text_has_no_space p table = All-from_get_or (λ b. IsSpace b ≡ false) (text_of
     let above : 45 ≤ get_or (text_of p) i 0 = text_of_from_45 p table i below in
     grind (arith, nat_tests))
 
+-- a number is one part, whatever follows its space
+number_part : (n : ℕ) → n < 2 ^ 64 → parts_of (decimal n) ≡ decimal n ∷ []
+number_part n small = slice_split_none IsSpace (decimal n) (decimal_is_form n small).no_space
+
+number_then : (n : ℕ) (rest : List ℕ) → n < 2 ^ 64 → parts_of (decimal n ++ 32 ∷ rest) ≡ decimal n ∷ parts_of rest
+number_then n rest small = slice_split_at IsSpace (decimal n) 32 rest (decimal_is_form n small).no_space refl
+
+times_parts : (i j : ℕ) → i < 2 ^ 64 → j < 2 ^ 64 → parts_of (decimal i ++ 32 ∷ decimal j) ≡ decimal i ∷ (decimal j ∷ [])
+times_parts i j small_i small_j = number_then i (decimal j) small_i ∙ ap (λ l. decimal i ∷ l) (number_part j small_j)
+
+side_back : (side : Dir) → side_of (side_text side) ≡ Some side
+side_back L = refl
+side_back R = refl
+
+side_part : (side : Dir) → parts_of (side_text side) ≡ side_text side ∷ []
+side_part L = refl
+side_part R = refl
+
+fields_of_translated : (i j : ℕ) (side : Dir) → i < 2 ^ 64 → j < 2 ^ 64
+    → parts_of (decimal i ++ codes " " ++ decimal j ++ codes " " ++ side_text side) ≡ decimal i ∷ (decimal j ∷ (side_text side ∷ []))
+fields_of_translated i j side small_i small_j =
+    ap parts_of (
+    append_assoc (decimal i ++ codes " " ++ decimal j) (codes " ") (side_text side)
+    ∙ ap (λ l. l ++ 32 ∷ side_text side) (append_assoc (decimal i) (codes " ") (decimal j))
+    ∙ append_assoc (decimal i) (32 ∷ decimal j) (32 ∷ side_text side)
+    )
+    ∙ number_then i (decimal j ++ 32 ∷ side_text side) small_i
+    ∙ ap (λ l. decimal i ∷ l) (number_then j (side_text side) small_j ∙ ap (λ l. decimal j ∷ l) (side_part side))
+
 claim_back : (c : Claim) → IsWritable c → claim_from (parts_of (claim_text c)) ≡ Ok c
 claim_back (HaltsIn k) small =
-    let one : parts_of (decimal k) ≡ decimal k ∷ [] = slice_split_none IsSpace (decimal k) (decimal_is_form k small).no_space in
-    ap halts_by one ∙ ap (λ o. with_number o HaltsIn) (number_of-decimal k small)
+    ap halts_by (number_part k small) ∙ ap (λ o. with_field o (λ k. Ok (HaltsIn k))) (number_of-decimal k small)
+claim_back (CycleAt i j) small =
+    ap cycle_by (ap parts_of (append_assoc (decimal i) (codes " ") (decimal j)) ∙ times_parts i j small.0 small.1)
+    ∙ rw (number_of-decimal i small.0, number_of-decimal j small.1) refl
+claim_back (TranslatedAt i j side) small =
+    ap translated_by (fields_of_translated i j side small.0 small.1)
+    ∙ rw (number_of-decimal i small.0, number_of-decimal j small.1, side_back side) refl
+claim_back (BackwardFrom d) small =
+    ap backward_by (number_part d small) ∙ ap (λ o. with_field o (λ d. Ok (BackwardFrom d))) (number_of-decimal d small)
 claim_back Nothing small = refl
 
-length_of_claim : (c : Claim) → IsWritable c → length (claim_text c) ≤ 22
-length_of_claim (HaltsIn k) small = omega (arith, length-append (codes "H ") (decimal k), length-decimal-le 20 k (omega arith) (omega arith) small)
+length_of_number : (n : ℕ) → n < 2 ^ 64 → length (decimal n) ≤ 20
+length_of_number n small = length-decimal-le 20 n (omega arith) (omega arith) small
+
+length_of_side : (side : Dir) → length (side_text side) ≡ 1
+length_of_side L = refl
+length_of_side R = refl
+
+length_of_claim : (c : Claim) → IsWritable c → length (claim_text c) ≤ 50
+length_of_claim (HaltsIn k) small = omega (arith, length-append (codes "H ") (decimal k), length_of_number k small)
+length_of_claim (CycleAt i j) small =
+    omega (arith, length-append (codes "C " ++ decimal i ++ codes " ") (decimal j), length-append (codes "C " ++ decimal i) (codes " "), length-append (codes "C ") (decimal i), length_of_number i small.0, length_of_number j small.1)
+length_of_claim (TranslatedAt i j side) small =
+    omega (arith, length-append (codes "T " ++ decimal i ++ codes " " ++ decimal j ++ codes " ") (side_text side), length-append (codes "T " ++ decimal i ++ codes " " ++ decimal j) (codes " "), length-append (codes "T " ++ decimal i ++ codes " ") (decimal j), length-append (codes "T " ++ decimal i) (codes " "), length-append (codes "T ") (decimal i), length_of_number i small.0, length_of_number j small.1, length_of_side side)
+length_of_claim (BackwardFrom d) small = omega (arith, length-append (codes "B ") (decimal d), length_of_number d small)
 length_of_claim Nothing small = omega arith
 
 short : (r : Recorded) → IsTable r.table → IsWritable r.claim → length (record_text r) ≤ MAX_RECORD_BYTES

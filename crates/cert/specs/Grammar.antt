@@ -1,15 +1,17 @@
 -- The grammar of a record's text: a table, a space, a kind, and so many fields, each after a space. Bytes
--- are their ASCII codes: 32 is the space, 48 `0`, 72 `H`, 85 `U`.
+-- are their ASCII codes: 32 is the space, 48 `0`.
 use Rattle.std.specs.Prelude.{ℕ, ◌+◌, ◌-◌, ◌*◌, ◌^◌, ◌==◌, ◌&&◌, nat_lt, if◌then◌else◌, List, [], ◌∷◌, ◌++◌, Option, Some, None, Result, Ok, Err, length, fold, codes, decimal}
 use Rattle.std.specs.List.{slice_split}
 use Rattle.std.specs.Str.{bytes_eq}
 use Rattle.machine_text.specs.declared.faults.TextFault.{TextFault}
+use Rattle.machine_text.specs.declared.transition.Dir.{Dir}
+use Rattle.machine_text.specs.declared.transition.Dir.TheVariants.{L, R}
 use Rattle.machine_text.specs.Packed.{Packed}
 use Rattle.machine_text.specs.Text.{table_of, text_of}
 use Rattle.cert.specs.declared.limits.TheConstants.{MAX_RECORD_BYTES}
 use Rattle.cert.specs.declared.kinds.RecordFault.{RecordFault}
 use Rattle.cert.specs.declared.kinds.RecordFault.TheVariants.{BadTable, BadKind, BadNumber, TooLong}
-use Rattle.cert.specs.Claim.{Claim, HaltsIn, Nothing, Recorded}
+use Rattle.cert.specs.Claim.{Claim, HaltsIn, CycleAt, TranslatedAt, BackwardFrom, Nothing, Recorded}
 
 -- the parts of a text, cut at every space
 abbrev pub parts_of : List ℕ → List (List ℕ)
@@ -23,15 +25,32 @@ worth_of digits = fold (λ n b. 10 * n + (b - 48)) 0 digits
 unfoldable pub number_of : List ℕ → Option ℕ
 number_of text = if nat_lt (worth_of text) (2 ^ 64) && bytes_eq (decimal (worth_of text)) text then Some (worth_of text) else None
 
--- a claim made of a field that must be a number
-abbrev pub with_number : Option ℕ → (ℕ → Claim) → Result Claim RecordFault
-with_number None claim = Err BadNumber
-with_number (Some n) claim = Ok (claim n)
+-- the side that a text names
+abbrev pub side_of : List ℕ → Option Dir
+side_of text = if bytes_eq text (codes "L") then Some L else if bytes_eq text (codes "R") then Some R else None
+
+-- a claim made of a field that must be a number, or a side
+abbrev pub with_field : {A : Type 0} → Option A → (A → Result Claim RecordFault) → Result Claim RecordFault
+with_field None claim = Err BadNumber
+with_field (Some x) claim = claim x
 
 -- the claim that the fields of a kind make
 abbrev pub halts_by : List (List ℕ) → Result Claim RecordFault
-halts_by (k ∷ []) = with_number (number_of k) HaltsIn
+halts_by (k ∷ []) = with_field (number_of k) (λ k. Ok (HaltsIn k))
 halts_by fields = Err BadKind
+
+abbrev pub cycle_by : List (List ℕ) → Result Claim RecordFault
+cycle_by (i ∷ (j ∷ [])) = with_field (number_of i) (λ i. with_field (number_of j) (λ j. Ok (CycleAt i j)))
+cycle_by fields = Err BadKind
+
+abbrev pub translated_by : List (List ℕ) → Result Claim RecordFault
+translated_by (i ∷ (j ∷ (side ∷ []))) =
+    with_field (number_of i) (λ i. with_field (number_of j) (λ j. with_field (side_of side) (λ side. Ok (TranslatedAt i j side))))
+translated_by fields = Err BadKind
+
+abbrev pub backward_by : List (List ℕ) → Result Claim RecordFault
+backward_by (d ∷ []) = with_field (number_of d) (λ d. Ok (BackwardFrom d))
+backward_by fields = Err BadKind
 
 abbrev pub undecided_by : List (List ℕ) → Result Claim RecordFault
 undecided_by [] = Ok Nothing
@@ -40,6 +59,9 @@ undecided_by fields = Err BadKind
 abbrev pub claim_by : List ℕ → List (List ℕ) → Result Claim RecordFault
 claim_by kind fields =
     if bytes_eq kind (codes "H") then halts_by fields
+    else if bytes_eq kind (codes "C") then cycle_by fields
+    else if bytes_eq kind (codes "T") then translated_by fields
+    else if bytes_eq kind (codes "B") then backward_by fields
     else if bytes_eq kind (codes "U") then undecided_by fields
     else Err BadKind
 
@@ -64,9 +86,16 @@ record_from (table ∷ parts) = record_after (table_of table) parts
 unfoldable pub record_of : List ℕ → Result Recorded RecordFault
 record_of text = if nat_lt MAX_RECORD_BYTES (length text) then Err TooLong else record_from (parts_of text)
 
+abbrev pub side_text : Dir → List ℕ
+side_text L = codes "L"
+side_text R = codes "R"
+
 -- the text of a claim, from the kind on
 abbrev pub claim_text : Claim → List ℕ
 claim_text (HaltsIn k) = codes "H " ++ decimal k
+claim_text (CycleAt i j) = codes "C " ++ decimal i ++ codes " " ++ decimal j
+claim_text (TranslatedAt i j side) = codes "T " ++ decimal i ++ codes " " ++ decimal j ++ codes " " ++ side_text side
+claim_text (BackwardFrom d) = codes "B " ++ decimal d
 claim_text Nothing = codes "U"
 
 -- the text of a record

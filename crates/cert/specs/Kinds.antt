@@ -1,20 +1,26 @@
 -- What the certificates and records of the code claim.
-use Rattle.cert.specs.Claim.{Claim, HaltsIn, Nothing, Recorded}
+use Rattle.cert.specs.Claim.{Claim, HaltsIn, CycleAt, TranslatedAt, BackwardFrom, Nothing, Recorded}
 use Rattle.std.specs.Prelude.{Result, Ok, Err}
 use Rattle.cert.specs.declared.kinds.Certificate.{Certificate}
-use Rattle.cert.specs.declared.kinds.Certificate.TheVariants.{Halts, Undecided}
+use Rattle.cert.specs.declared.kinds.Certificate.TheVariants.{Halts, Cycle, Translated, Backward, Undecided}
 use Rattle.cert.specs.declared.kinds.OwnedCertificate.{OwnedCertificate}
-use Rattle.cert.specs.declared.kinds.OwnedCertificate.TheVariants.{Halts as OwnedHalts, Undecided as OwnedUndecided}
+use Rattle.cert.specs.declared.kinds.OwnedCertificate.TheVariants.{Halts as OwnedHalts, Cycle as OwnedCycle, Translated as OwnedTranslated, Backward as OwnedBackward, Undecided as OwnedUndecided}
 use Rattle.cert.specs.declared.kinds.Record.{Record}
 use Rattle.cert.specs.declared.kinds.OwnedRecord.{OwnedRecord}
 use Rattle.cert.specs.declared.kinds.RecordFault.{RecordFault}
 
 abbrev pub claim_of : Certificate → Claim
 claim_of (Halts e) = HaltsIn e.0
+claim_of (Cycle e) = CycleAt e.i e.j
+claim_of (Translated e) = TranslatedAt e.i e.j e.side
+claim_of (Backward e) = BackwardFrom e.depth
 claim_of Undecided = Nothing
 
 abbrev pub owned_claim : OwnedCertificate → Claim
 owned_claim (OwnedHalts e) = HaltsIn e.0
+owned_claim (OwnedCycle e) = CycleAt e.i e.j
+owned_claim (OwnedTranslated e) = TranslatedAt e.i e.j e.side
+owned_claim (OwnedBackward e) = BackwardFrom e.depth
 owned_claim OwnedUndecided = Nothing
 
 abbrev pub recorded : Record → Recorded

@@ -16,6 +16,9 @@ pub fn judge(alloc: Global, r: &Record) -> Result<Option<Verdict>, Refused>
 {
     match r.certificate {
         Certificate::Halts(claim) => Ok(Some(claim.check(alloc, &r.table)?)),
+        Certificate::Cycle(claim) => Ok(Some(claim.check(alloc, &r.table)?)),
+        Certificate::Translated(claim) => Ok(Some(claim.check(alloc, &r.table)?)),
+        Certificate::Backward(claim) => Ok(Some(claim.check(alloc, &r.table)?)),
         Certificate::Undecided => Ok(None),
     }
 }

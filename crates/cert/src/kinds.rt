@@ -1,6 +1,8 @@
 // Records and their certificates, borrowed and owned.
 ghost use Rattle.std.specs.Prelude.{◌≡◌, IfOk};
 
+use backward::Backward;
+use loops::{Cycle, Translated};
 use machine_text::{Table, TextFault};
 use run::{HaltsIn, NoMemory};
 use std::alloc::Global;
@@ -10,6 +12,12 @@ use std::alloc::Global;
 pub enum Certificate {
     /// `H k`: it halts in k steps.
     Halts(HaltsIn),
+    /// `C i j`: the same configuration at the times i and j.
+    Cycle(Cycle),
+    /// `T i j side`: the same at the times i and j, but for a shift and for what lies behind.
+    Translated(Translated),
+    /// `B d`: no configuration comes to a halting pair after exactly d steps.
+    Backward(Backward),
     /// `U`: nothing is claimed.
     Undecided,
 }
@@ -25,6 +33,9 @@ pub struct Record {
 #[derive(Clone, Copy, Debug, PartialEq, Eq)]
 pub enum OwnedCertificate {
     Halts(HaltsIn),
+    Cycle(Cycle),
+    Translated(Translated),
+    Backward(Backward),
     Undecided,
 }
 
@@ -60,6 +71,9 @@ impl OwnedCertificate {
     {
         Ok(match *certificate {
             Certificate::Halts(claim) => OwnedCertificate::Halts(claim),
+            Certificate::Cycle(claim) => OwnedCertificate::Cycle(claim),
+            Certificate::Translated(claim) => OwnedCertificate::Translated(claim),
+            Certificate::Backward(claim) => OwnedCertificate::Backward(claim),
             Certificate::Undecided => OwnedCertificate::Undecided,
         })
     }
@@ -70,6 +84,9 @@ impl OwnedCertificate {
     {
         match *self {
             OwnedCertificate::Halts(claim) => Certificate::Halts(claim),
+            OwnedCertificate::Cycle(claim) => Certificate::Cycle(claim),
+            OwnedCertificate::Translated(claim) => Certificate::Translated(claim),
+            OwnedCertificate::Backward(claim) => Certificate::Backward(claim),
             OwnedCertificate::Undecided => Certificate::Undecided,
         }
     }

@@ -1,13 +1,15 @@
 // Records as they are read.
 ghost use Rattle.std.specs.Prelude.{◌≡◌, ◌∷◌, [], length, IfSome, IfNone};
-ghost use Rattle.cert.specs.Grammar.{record_of, record_with, claim_from, halts_by, undecided_by};
+ghost use Rattle.cert.specs.Grammar.{record_of, record_with, claim_from, halts_by, cycle_by, translated_by, backward_by, side_of, undecided_by};
 ghost use Rattle.cert.specs.Kinds.{read_as, claimed_as};
 
 use crate::kinds::{Certificate, Record, RecordFault};
 use crate::limits::MAX_RECORD_BYTES;
 use crate::numbers::number_of;
 use crate::parts::Parts;
-use machine_text::Table;
+use backward::Backward;
+use loops::{Cycle, Translated};
+use machine_text::{Dir, Table};
 use run::HaltsIn;
 
 impl Record {
@@ -52,6 +54,12 @@ fn certificate_from(mut parts: Parts<'_>) -> Result<Certificate, RecordFault>
     };
     if kind == b"H".as_slice() {
         halts_by(parts)
+    } else if kind == b"C".as_slice() {
+        cycle_by(parts)
+    } else if kind == b"T".as_slice() {
+        translated_by(parts)
+    } else if kind == b"B".as_slice() {
+        backward_by(parts)
     } else if kind == b"U".as_slice() {
         undecided_by(parts)
     } else {
@@ -72,6 +80,76 @@ fn halts_by(mut fields: Parts<'_>) -> Result<Certificate, RecordFault>
     match number_of(field) {
         Some(k) => Ok(Certificate::Halts(HaltsIn(k))),
         None => Err(RecordFault::BadNumber),
+    }
+}
+
+// `C i j`
+fn cycle_by(mut fields: Parts<'_>) -> Result<Certificate, RecordFault>
+    ensures { claimed_as result ≡ cycle_by fields.entry }
+{
+    let Some(i) = fields.next() else {
+        return Err(RecordFault::BadKind);
+    };
+    let Some(j) = fields.next() else {
+        return Err(RecordFault::BadKind);
+    };
+    if fields.next().is_some() {
+        return Err(RecordFault::BadKind);
+    }
+    match (number_of(i), number_of(j)) {
+        (Some(i), Some(j)) => Ok(Certificate::Cycle(Cycle { i, j })),
+        _ => Err(RecordFault::BadNumber),
+    }
+}
+
+// `T i j side`
+fn translated_by(mut fields: Parts<'_>) -> Result<Certificate, RecordFault>
+    ensures { claimed_as result ≡ translated_by fields.entry }
+{
+    let Some(i) = fields.next() else {
+        return Err(RecordFault::BadKind);
+    };
+    let Some(j) = fields.next() else {
+        return Err(RecordFault::BadKind);
+    };
+    let Some(side) = fields.next() else {
+        return Err(RecordFault::BadKind);
+    };
+    if fields.next().is_some() {
+        return Err(RecordFault::BadKind);
+    }
+    match (number_of(i), number_of(j), side_of(side)) {
+        (Some(i), Some(j), Some(side)) => Ok(Certificate::Translated(Translated { i, j, side })),
+        _ => Err(RecordFault::BadNumber),
+    }
+}
+
+// `B d`
+fn backward_by(mut fields: Parts<'_>) -> Result<Certificate, RecordFault>
+    ensures { claimed_as result ≡ backward_by fields.entry }
+{
+    let Some(field) = fields.next() else {
+        return Err(RecordFault::BadKind);
+    };
+    if fields.next().is_some() {
+        return Err(RecordFault::BadKind);
+    }
+    match number_of(field) {
+        Some(depth) => Ok(Certificate::Backward(Backward { depth })),
+        None => Err(RecordFault::BadNumber),
+    }
+}
+
+// The side that a text names.
+fn side_of(text: &[u8]) -> Option<Dir>
+    ensures { result ≡ side_of text.now }
+{
+    if text == b"L".as_slice() {
+        Some(Dir::L)
+    } else if text == b"R".as_slice() {
+        Some(Dir::R)
+    } else {
+        None
     }
 }
 

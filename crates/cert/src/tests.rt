@@ -26,6 +26,18 @@ fn records_are_read_or_refused(rt: HostRuntime) {
         ("1RB1LB_1LA--- H", Some(RecordFault::BadKind)),
         ("1RB1LB_1LA--- h 6", Some(RecordFault::BadKind)),
         ("1RB1LB_1LA--- U 6", Some(RecordFault::BadKind)),
+        ("1RA--- T 0 1 X", Some(RecordFault::BadNumber)),
+        ("1RA--- T 0 1", Some(RecordFault::BadKind)),
+        ("1RA--- T 0 1 R ", Some(RecordFault::BadKind)),
+        ("1RA--- T 0  R", Some(RecordFault::BadNumber)),
+        ("1RA--- C 0", Some(RecordFault::BadKind)),
+        ("1RA--- C 0 01", Some(RecordFault::BadNumber)),
+        ("1RA--- B", Some(RecordFault::BadKind)),
+        ("1RA--- B -1", Some(RecordFault::BadNumber)),
+        ("1RA--- T 0 1 R", None),
+        ("1RA--- T 0 1 L", None),
+        ("1RA--- C 1 0", None),
+        ("1RA--- B 1001", None),
         ("1RB1LB_1LA--- U", None),
         ("1RB1LB_1LA--- H 0", None),
         ("1RB1LB_1LA--- H 18446744073709551615", None),
@@ -50,6 +62,13 @@ fn records_are_written_in_their_printed_form(rt: HostRuntime) -> Result<(), Fail
         ("1RB1RZ_1LB0RC_1LC1LA H 21", "1RB---_1LB0RC_1LC1LA H 21"),
         ("1RB1RH_1LB0RC_1LC1LA U", "1RB---_1LB0RC_1LC1LA U"),
         ("------ H 0", "------ H 0"),
+        (
+            "1RA1RZ C 0 18446744073709551615",
+            "1RA--- C 0 18446744073709551615",
+        ),
+        ("1RA--- T 12 345 L", "1RA--- T 12 345 L"),
+        ("1RA--- T 0 1 R", "1RA--- T 0 1 R"),
+        ("1RA--- B 7", "1RA--- B 7"),
     ] {
         match Record::parse(text.as_bytes()) {
             Ok(record) => {
@@ -75,6 +94,14 @@ fn certificates_are_judged(rt: HostRuntime) {
         ("1RB1LB_1LA--- H 7", Err(Refused::Fails)),
         ("1RB1LB_1LA--- H 100000001", Err(Refused::TooLong)),
         ("1RB1LB_1LA--- U", Ok(None)),
+        ("0RB---_0LA--- C 0 2", Ok(Some(Verdict::Never))),
+        ("0RB---_0LA--- C 0 1", Err(Refused::Fails)),
+        ("1RA--- T 0 1 R", Ok(Some(Verdict::Never))),
+        ("1RA--- T 0 1 L", Err(Refused::Fails)),
+        ("1RA--- C 0 10000001", Err(Refused::TooLong)),
+        ("1RB---_0RB1RB B 1", Ok(Some(Verdict::Never))),
+        ("1RB---_0RB1RB B 0", Err(Refused::Fails)),
+        ("1RB---_0RB1RB B 1001", Err(Refused::TooLong)),
     ] {
         match Record::parse(text.as_bytes()) {
             Ok(record) => {

@@ -1,0 +1,16 @@
+-- A claim that stands makes its verdict true.
+use Rattle.std.proofs.Common.{IfSome}
+use Rattle.machine_text.specs.Packed.{Packed, IsTable, entry_of}
+use Rattle.turing.proofs.CycleLaws.{cycle_never}
+use Rattle.turing.proofs.TranslatedLaws.{translated_never}
+use Rattle.turing.proofs.BackwardLaws.{backward_never}
+use Rattle.turing.proofs.TableLaws.{table_machine}
+use Rattle.run.specs.Verdict.{IsTrueOf}
+use Rattle.cert.specs.Claim.{Claim, HaltsIn, CycleAt, TranslatedAt, BackwardFrom, Nothing, Stands, shown_by}
+
+pub standing_is_true : (c : Claim) (p : Packed) → IsTable p → Stands c p → IfSome (shown_by c) (λ v. IsTrueOf v (entry_of p))
+standing_is_true (HaltsIn k) p table stands = stands
+standing_is_true (CycleAt i j) p table stands = cycle_never (entry_of p) i j stands
+standing_is_true (TranslatedAt i j side) p table stands = translated_never (entry_of p) i j side stands
+standing_is_true (BackwardFrom d) p table stands = backward_never p.states (entry_of p) d (table_machine p table) stands
+standing_is_true Nothing p table stands = tt

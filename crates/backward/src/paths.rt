@@ -49,11 +49,7 @@ impl PathCounter {
 
 // Counts all the paths of a table, as deep as there are counts, which are 0. No cell is known, and there are
 // as many on both sides of the middle one as there are depths below 0.
-fn count_all(
-    table: &Table,
-    cells: &mut [Option<Sym>],
-    counts: &mut [u64],
-) -> Result<(), TooWide>
+fn count_all(table: &Table, cells: &mut [Option<Sym>], counts: &mut [u64]) -> Result<(), TooWide>
     requires some { 0 < length counts.old }
     requires size { length cells.old + 1 ≡ 2 * length counts.old }
     requires unknown { (x : ℕ) → slice_index_or cells.old x None ≡ None }

@@ -10,6 +10,10 @@ use machine_text::{State, Sym, Table};
 use std::alloc::Global;
 use tape::NoMemory;
 
+// Depths to which the paths are counted first. Each path is followed to the last depth before the next one is
+// looked at, so a depth that is too wide would be found late.
+const FIRST_DEPTHS: [u64; 3] = [16, 64, 256];
+
 /// Some depth has more than `MAX_PATHS` paths.
 #[derive(Clone, Copy, Debug, PartialEq, Eq)]
 pub struct TooWide;
@@ -34,6 +38,20 @@ impl PathCounter {
 
     /// Counts the paths of the depths 0 to `depth`, unless one of these has more than `MAX_PATHS`.
     pub fn count(&mut self, table: &Table, depth: u64) -> Result<Result<(), TooWide>, NoMemory>
+        requires { depth ≤ MAX_DEPTH }
+        ensures counted { IfOk result (λ counted. Counted table.now depth counted self.new.counts.items) }
+        ensures table { IfOk result (λ _. IsTable table.now) }
+    {
+        for first in FIRST_DEPTHS {
+            if first < depth && self.count_once(table, first)?.is_err() {
+                return Ok(Err(TooWide));
+            }
+        }
+        self.count_once(table, depth)
+    }
+
+    // The same, with no look at lesser depths first.
+    fn count_once(&mut self, table: &Table, depth: u64) -> Result<Result<(), TooWide>, NoMemory>
         requires { depth ≤ MAX_DEPTH }
         ensures counted { IfOk result (λ counted. Counted table.now depth counted self.new.counts.items) }
         ensures table { IfOk result (λ _. IsTable table.now) }

@@ -106,9 +106,9 @@ many_stands p k d is_table many early stands = record {
   runs = stands.runs;
   depth = many.depth;
   within = elim (cases_lt d many.depth) [
-      | inl less ↦ let none = none_below p d many.depth stands (omega arith) in let more = many.more in absurd (omega arith)
-      | inr not ↦ not
-    ];
+    | inl less ↦ let none = none_below p d many.depth stands (omega arith) in let more = many.more in absurd (omega arith)
+    | inr not ↦ not
+  ];
   wider = longer_level p.states (entry_of p) (table_machine p is_table) many.depth MAX_PATHS many.more;
 }
 

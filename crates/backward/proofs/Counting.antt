@@ -101,6 +101,7 @@ part_all p depth needs places old new all_gone within room part =
   where
     first : List ℕ
     first = set old depth (get_or old depth 0 + 1)
+
     at : (k : ℕ) → depth + k < length old → get_or new (depth + k) 0 ≡ get_or old (depth + k) 0 + paths_beyond p.states (entry_of p) k needs
     at zero inside =
         let e : depth + 0 ≡ depth = omega arith in
@@ -116,12 +117,13 @@ part_all p depth needs places old new all_gone within room part =
         let b = get_or-set_other old depth (depth + suc k) (get_or old depth 0 + 1) 0 (λ e. omega arith) in
         let c = ap (sum_first (by_place p k needs)) all_gone ∙ all_places p k needs in
         omega arith
+
     small_after : (k : ℕ) → get_or old k 0 ≤ MAX_PATHS → get_or (set old depth (get_or old depth 0 + 1)) k 0 ≤ MAX_PATHS
     small_after k small =
         elim (cases_eq k depth) [
           | inl e ↦ let same = ap (λ i. get_or (set old depth (get_or old depth 0 + 1)) i 0) e in
-            let here = get_or-set_same old depth (get_or old depth 0 + 1) 0 within in
-            omega arith
+              let here = get_or-set_same old depth (get_or old depth 0 + 1) 0 within in
+              omega arith
           | inr other ↦ let as_was = get_or-set_other old depth k (get_or old depth 0 + 1) 0 (λ e. omega arith) in omega arith
         ]
 

@@ -67,7 +67,7 @@ sum_of_pairs f g (suc n) =
     let a : Pair = record { state = n; symbol = Zero } in
     let b : Pair = record { state = n; symbol = One } in
     let last : sum_by f (filter_map g (a ∷ b ∷ [])) ≡ if_known f (g a) + if_known f (g b) =
-        sum_cons f (g a) (cons_option (g b) []) ∙ ap (λ x. if_known f (g a) + x) (sum_cons f (g b) [] ∙ (let z : if_known f (g b) + 0 ≡ if_known f (g b) = omega arith in z)) in
+    sum_cons f (g a) (cons_option (g b) []) ∙ ap (λ x. if_known f (g a) + x) (sum_cons f (g b) [] ∙ (let z : if_known f (g b) + 0 ≡ if_known f (g b) = omega arith in z)) in
     let even : if_known f (g (pair_at (2 * n))) ≡ if_known f (g a) = ap (λ p. if_known f (g p)) (pair_even n) in
     let odd : if_known f (g (pair_at (suc (2 * n)))) ≡ if_known f (g b) = ap (λ p. if_known f (g p)) (pair_odd n) in
     let whole = ap (sum_by f) (filter_map-append g (all_pairs n) (a ∷ b ∷ [])) ∙ sum_by-append f (filter_map g (all_pairs n)) (filter_map g (a ∷ b ∷ [])) in

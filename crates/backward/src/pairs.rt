@@ -29,12 +29,18 @@ impl Pair {
 
     /// Where a head stands at this pair, if the step from there can lead to a state with the head at
     /// `head`, of whose tape so much is known: among `cells`, which stretch to both sides of the head.
-    pub fn before(&self, table: &Table, cells: &[Option<Sym>], state: State, head: usize) -> Option<usize>
+    pub fn before(
+        &self,
+        table: &Table,
+        cells: &[Option<Sym>],
+        state: State,
+        head: usize,
+    ) -> Option<usize>
         requires pair { self.now.state.0 < table.now.states }
         requires room { HasRoom (length cells.now) head 1 }
         ensures some { IfSome result (λ place. (place < length cells.now) × (place ≤ head + 1) × (head ≤ place + 1)
             × (known_before (known_about cells.now state.0 head) (record { state = self.now.state.0; symbol = self.now.symbol }) (entry_of table.now self.now.state.0 self.now.symbol)
-                ≡ Some (known_about (slice_set cells.now place (Some self.now.symbol)) self.now.state.0 place))) }
+            ≡ Some (known_about (slice_set cells.now place (Some self.now.symbol)) self.now.state.0 place))) }
         ensures none { IfNone result
             (known_before (known_about cells.now state.0 head) (record { state = self.now.state.0; symbol = self.now.symbol }) (entry_of table.now self.now.state.0 self.now.symbol) ≡ None) }
     {

@@ -10,6 +10,10 @@ use machine_text::{State, Sym, Table};
 use std::alloc::Global;
 use tape::NoMemory;
 
+// Depths to which the paths are counted first. Each path is followed to the last depth before the next one is
+// looked at, so a depth that is too wide would be found late.
+const FIRST_DEPTHS: [u64; 3] = [16, 64, 256];
+
 /// Some depth has more than `MAX_PATHS` paths.
 #[derive(Clone, Copy, Debug, PartialEq, Eq)]
 pub struct TooWide;
@@ -38,6 +42,20 @@ impl PathCounter {
         ensures counted { IfOk result (λ counted. Counted table.now depth counted self.new.counts.items) }
         ensures table { IfOk result (λ _. IsTable table.now) }
     {
+        for first in FIRST_DEPTHS {
+            if first < depth && self.count_once(table, first)?.is_err() {
+                return Ok(Err(TooWide));
+            }
+        }
+        self.count_once(table, depth)
+    }
+
+    // The same, with no look at lesser depths first.
+    fn count_once(&mut self, table: &Table, depth: u64) -> Result<Result<(), TooWide>, NoMemory>
+        requires { depth ≤ MAX_DEPTH }
+        ensures counted { IfOk result (λ counted. Counted table.now depth counted self.new.counts.items) }
+        ensures table { IfOk result (λ _. IsTable table.now) }
+    {
         let depth = depth as usize;
         self.cells.clear();
         self.cells.resize(2 * depth + 1, None)?;
@@ -49,11 +67,7 @@ impl PathCounter {
 
 // Counts all the paths of a table, as deep as there are counts, which are 0. No cell is known, and there are
 // as many on both sides of the middle one as there are depths below 0.
-fn count_all(
-    table: &Table,
-    cells: &mut [Option<Sym>],
-    counts: &mut [u64],
-) -> Result<(), TooWide>
+fn count_all(table: &Table, cells: &mut [Option<Sym>], counts: &mut [u64]) -> Result<(), TooWide>
     requires some { 0 < length counts.old }
     requires size { length cells.old + 1 ≡ 2 * length counts.old }
     requires unknown { (x : ℕ) → slice_index_or cells.old x None ≡ None }

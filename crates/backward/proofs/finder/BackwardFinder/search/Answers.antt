@@ -33,8 +33,7 @@ returns-clause-found c =
     let counts = c.count.new.self.counts.items in
     let counted = counted_ok c.args.t.now c.min-limit.result c.in_ok-count.field-0 counts c.in_ok-count.ensures.counted (sym c.is_err.ensures.value ∙ c.if-is_err.false) in
     let first = rw c.deref.ensures.value at c.in-Some.ensures.some in
-    let run = done_is c.args.t.now c.in-Some.depth c.in_ok-does_steps.field-0 c.in_ok-does_steps.ensures c.if-not-branch.false in
-    (
+    let run = done_is c.args.t.now c.in-Some.depth c.in_ok-does_steps.field-0 c.in_ok-does_steps.ensures c.if-not-branch.false in (
       stands_if c.args.t.now c.in-Some.depth counts run counted.0 first.0 first.1,
       not_too_wide c.args.t.now c.in-Some.depth counts run counted.0 first.0,
       omega (arith, first.0, counted.1, c.min.ensures, c.min-limit.ensures),

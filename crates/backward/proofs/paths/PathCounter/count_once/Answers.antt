@@ -1,7 +1,7 @@
 use Rattle.std.proofs.Common.{◌≡◌, ◌≤◌, ◌<◌, ◌+◌, ◌*◌, length, inl, inr, refl, ap, arith, None}
 use Rattle.std.proofs.lemmas.Bool.{cases_lt}
 use Rattle.std.proofs.lemmas.List.{get_or_past}
-use Rattle.backward.proofs.paths.PathCounter.count.Goals as goal
+use Rattle.backward.proofs.paths.PathCounter.count_once.Goals as goal
 
 -- each cell is unknown anew, and those beyond them are never known
 pub count_all-requires-clause-unknown : goal.count_all-requires-clause-unknown

@@ -1,1 +1,230 @@
-// Certificates and their answers, and machines that are known to loop.
+// Certificates with their answers, and machines that are known to loop.
+use super::{Cycle, CycleFinder, MAX_TIME, Translated, TranslatedFinder};
+use machine_text::{Dir, Table};
+use run::{Evidence, Refused, Verdict};
+use std::alloc::Global;
+use std::process::Abort;
+
+const NEVER: Result<Verdict, Refused> = Ok(Verdict::Never);
+
+const FAILS: Result<Verdict, Refused> = Err(Refused::Fails);
+
+const TOO_LONG: Result<Verdict, Refused> = Err(Refused::TooLong);
+
+// Machines whose cycle is entered at the first time and is back at the second. A program apart from this one
+// found them, which keeps every configuration of the run.
+const CYCLES: [(&str, u64, u64); 6] = [
+    ("1LB0LB_0LC1LA_1RB0RC", 2, 12),
+    ("1RC0LB_0RC1LB_0RD0LD_1LA0LB", 9, 15),
+    ("0RC0RD_1RD0RD_1LA1RC_1LA1LB", 6, 10),
+    ("1LB0RA_1LD0RE_1RE0LC_1RC1RB_0LD1LB", 15, 19),
+    ("0RE0RC_0LC0LB_1RD1LB_0LA1RE_1LC0LD", 3, 17),
+    ("1RE0RB_1RD1LD_0LE0LB_1LB1RE_0LC0RC", 8, 14),
+];
+
+// Machines with a translated cycle: the first time from which on the tape repeats, the same a period later,
+// and the side. The first time is no record of the head. A program apart from this one found them, which
+// holds configurations against one another as sets of places.
+const TRANSLATED: [(&str, u64, u64, Dir); 8] = [
+    ("0LC1LC_1LA1RA_1RB0RB", 17, 32, Dir::R),
+    ("1LD1LB_0LA1RC_1LB0RC_1RB1LC", 38, 64, Dir::R),
+    ("1RD1RC_1RC1LD_1RA0LE_0LB1LD_---0RB", 25, 41, Dir::R),
+    ("1RB1LA_0LD1RC_1LD0RA_1RA1LC_1LD0RB", 6, 26, Dir::R),
+    ("1LC1LA_1RB0RA_0LB0RA", 11, 23, Dir::L),
+    ("1RC0LD_1RA0LD_1RD0RD_0LB1LD", 15, 37, Dir::L),
+    ("0LD0LB_1RC1LC_1RE1LA_1LB0RA_1RA1RC", 14, 46, Dir::L),
+    ("0LB0LE_1RC1LE_1LE---_0RD1RE_1LA1RD", 5, 32, Dir::L),
+];
+
+fn table_of(rt: &impl Abort, text: &str) -> Table {
+    match Table::parse(text.as_bytes()) {
+        Ok(table) => table,
+        Err(fault) => panic!(rt; "{text}: {fault:?}"),
+    }
+}
+
+// The answer to evidence. Where memory is refused, the check is made once more.
+fn answer_to<E: Evidence>(alloc: Global, evidence: &E, t: &Table) -> Result<Verdict, Refused> {
+    match evidence.check(alloc, t) {
+        Err(Refused::NoMemory) => evidence.check(alloc, t),
+        answer => answer,
+    }
+}
+
+#[test]
+fn cycles_are_judged(rt: HostRuntime) {
+    for (text, i, j, answer) in [
+        ("0RB---_0LA---", 0, 2, NEVER),
+        ("0RB---_0LA---", 0, 1, FAILS),
+        ("0RB---_0LA---", 2, 2, FAILS),
+        ("0RB---_0LA---", 2, 0, FAILS),
+        ("0RB---_0LA---", 5, 1005, NEVER),
+        ("1RA---", 0, MAX_TIME + 1, TOO_LONG),
+        ("1RA---", 0, 1, FAILS),
+        ("------", 0, 1, FAILS),
+        ("------", 0, MAX_TIME + 1, TOO_LONG),
+        ("1RB1LB_1LA---", 5, 6, FAILS),
+    ] {
+        let checked = answer_to(rt.alloc(), &Cycle { i, j }, &table_of(&rt, text));
+        assert!(rt; checked == answer, "{text} C {i} {j}: {checked:?}");
+    }
+    for (text, i, j) in CYCLES {
+        let table = table_of(&rt, text);
+        for (cycle, answer) in [
+            (Cycle { i, j }, NEVER),
+            (Cycle { i: i - 1, j: j - 1 }, FAILS),
+            (Cycle { i, j: j - 1 }, FAILS),
+        ] {
+            let checked = answer_to(rt.alloc(), &cycle, &table);
+            assert!(rt; checked == answer, "{text} {cycle:?}: {checked:?}");
+        }
+    }
+}
+
+#[test]
+fn translated_cycles_are_judged(rt: HostRuntime) {
+    for (text, i, j, side, answer) in [
+        ("1RA---", 0, 1, Dir::R, NEVER),
+        ("1RA---", 0, 1, Dir::L, FAILS),
+        ("1RA---", 1, 0, Dir::R, FAILS),
+        ("1RA---", 1, 1, Dir::R, FAILS),
+        ("1RA---", 0, 63, Dir::R, NEVER),
+        ("1RA---", 0, 64, Dir::R, NEVER),
+        ("1RA---", 3, 67, Dir::R, NEVER),
+        ("1LA---", 3, 67, Dir::L, NEVER),
+        ("1LA---", 3, 67, Dir::R, FAILS),
+        // The shift is 0, which either side allows.
+        ("0RB---_0LA---", 0, 2, Dir::R, NEVER),
+        ("0RB---_0LA---", 0, 2, Dir::L, NEVER),
+        ("0RB---_0LA---", 0, 1, Dir::R, FAILS),
+        // Only the later time has a limit.
+        ("1RA---", MAX_TIME + 1, 5, Dir::R, FAILS),
+        ("1RA---", 5, MAX_TIME + 1, Dir::R, TOO_LONG),
+        ("------", MAX_TIME + 1, 5, Dir::R, FAILS),
+        ("------", 5, MAX_TIME + 1, Dir::R, TOO_LONG),
+        ("------", 0, 1, Dir::R, FAILS),
+        // State and shift are right, cells from the bound on aren't.
+        ("0LC1LC_1LA1RA_1RB0RB", 16, 31, Dir::R, FAILS),
+        ("1LC1LA_1RB0RA_0LB0RA", 9, 21, Dir::L, FAILS),
+    ] {
+        let checked = answer_to(rt.alloc(), &Translated { i, j, side }, &table_of(&rt, text));
+        assert!(rt; checked == answer, "{text} T {i} {j} {side:?}: {checked:?}");
+    }
+    for (text, i, j, side) in TRANSLATED {
+        let table = table_of(&rt, text);
+        let other = match side {
+            Dir::L => Dir::R,
+            Dir::R => Dir::L,
+        };
+        for (translated, answer) in [
+            (Translated { i, j, side }, NEVER),
+            (
+                Translated {
+                    i: i - 1,
+                    j: j - 1,
+                    side,
+                },
+                FAILS,
+            ),
+            (Translated { i, j, side: other }, FAILS),
+        ] {
+            let checked = answer_to(rt.alloc(), &translated, &table);
+            assert!(rt; checked == answer, "{text} {translated:?}: {checked:?}");
+        }
+    }
+}
+
+// What a cycle finder of so many steps finds. Where memory is refused, it is asked once more.
+fn cycle_in(rt: &impl Abort, alloc: Global, steps: u64, budget: u64, t: &Table) -> Option<Cycle> {
+    let mut finder = CycleFinder::new(alloc, steps);
+    for _ in 0..2 {
+        if let Ok(found) = finder.search(t, budget) {
+            return found;
+        }
+    }
+    panic!(rt; "memory was refused twice")
+}
+
+fn translated_in(
+    rt: &impl Abort,
+    alloc: Global,
+    steps: u64,
+    budget: u64,
+    t: &Table,
+) -> Option<Translated> {
+    let mut finder = TranslatedFinder::new(alloc, steps);
+    for _ in 0..2 {
+        if let Ok(found) = finder.search(t, budget) {
+            return found;
+        }
+    }
+    panic!(rt; "memory was refused twice")
+}
+
+#[test]
+fn cycles_are_found(rt: HostRuntime) {
+    let alloc = rt.alloc();
+    for (steps, budget) in [(10, 100), (100, 10)] {
+        let table = table_of(&rt, "0RB---_0LA---");
+        let Some(cycle) = cycle_in(&rt, alloc, steps, budget, &table) else {
+            panic!(rt; "nothing found")
+        };
+        assert!(rt; cycle.j <= 10, "{cycle:?}");
+        assert!(rt; answer_to(alloc, &cycle, &table) == NEVER, "{cycle:?}");
+        assert!(rt; cycle_in(&rt, alloc, steps, 1, &table) == None);
+        assert!(rt; cycle_in(&rt, alloc, 1, budget, &table) == None);
+    }
+    for text in ["1RA---", "------", "1RB1LB_1LA---"] {
+        assert!(rt;
+            cycle_in(&rt, alloc, 100, 100, &table_of(&rt, text)) == None,
+            "{text}"
+        );
+    }
+    for (text, _, j) in CYCLES {
+        let table = table_of(&rt, text);
+        let Some(cycle) = cycle_in(&rt, alloc, 3 * j, 1000, &table) else {
+            panic!(rt; "{text}: nothing found")
+        };
+        assert!(rt;
+            answer_to(alloc, &cycle, &table) == NEVER,
+            "{text} {cycle:?}"
+        );
+        assert!(rt;
+            translated_in(&rt, alloc, 500, 1000, &table) == None,
+            "{text}"
+        );
+    }
+}
+
+#[test]
+fn translated_cycles_are_found(rt: HostRuntime) {
+    let alloc = rt.alloc();
+    for (text, side) in [("1RA---", Dir::R), ("1LA---", Dir::L)] {
+        let table = table_of(&rt, text);
+        let found = translated_in(&rt, alloc, 10, 100, &table);
+        assert!(rt;
+            found == Some(Translated { i: 0, j: 1, side }),
+            "{text} {found:?}"
+        );
+        assert!(rt; translated_in(&rt, alloc, 0, 100, &table) == None);
+        assert!(rt; translated_in(&rt, alloc, 10, 0, &table) == None);
+    }
+    for text in ["0RB---_0LA---", "------", "1RB1LB_1LA---"] {
+        assert!(rt;
+            translated_in(&rt, alloc, 100, 100, &table_of(&rt, text)) == None,
+            "{text}"
+        );
+    }
+    for (text, _, j, side) in TRANSLATED {
+        let table = table_of(&rt, text);
+        let Some(translated) = translated_in(&rt, alloc, 4 * j, 1000, &table) else {
+            panic!(rt; "{text}: nothing found")
+        };
+        assert!(rt; translated.side == side, "{text} {translated:?}");
+        assert!(rt;
+            answer_to(alloc, &translated, &table) == NEVER,
+            "{text} {translated:?}"
+        );
+        assert!(rt; cycle_in(&rt, alloc, 500, 1000, &table) == None, "{text}");
+    }
+}

@@ -19,9 +19,8 @@ pub(crate) struct Trail {
     kept: Snapshot,
     // The farthest head on the other side since that record.
     bound: i64,
-    // Where the last record was, and how many there were.
+    // Where the last record was.
     record: i64,
-    count: u64,
 }
 
 impl Trail {
@@ -38,11 +37,11 @@ impl Trail {
             kept: Snapshot::taken(alloc, runner)?,
             bound: head,
             record: head,
-            count: 1,
         })
     }
 
     // Looks at the next time of the run. Gives a translated cycle from the record that was kept to this one.
+    // Keeps a record in its place where twice the time has come.
     #[inline]
     pub fn visit(
         &mut self,
@@ -68,8 +67,7 @@ impl Trail {
                 }));
             }
             self.record = head;
-            self.count = self.count.saturating_add(1);
-            if self.count.is_power_of_two() {
+            if time / 2 >= self.kept.time() {
                 self.kept = Snapshot::taken(alloc, runner)?;
                 self.bound = head;
                 return Ok(None);

@@ -82,9 +82,10 @@ impl TranslatedFinder {
     /// A translated cycle of the table within the finder's steps and the budget; none where it finds none.
     /// What it gives stands, and is within the limit.
     ///
-    /// It looks at records alone, the times at which the head is further on a side than ever before. Of
-    /// these it keeps the configuration at each power of two of their number, and holds the later ones
-    /// against it. A translated cycle whose shift isn't 0 makes records for ever.
+    /// It looks at records alone, the times at which the head is further on a side than ever before: a
+    /// translated cycle whose shift isn't 0 makes them for ever. It keeps one on each side, the first and
+    /// then each that comes at twice the time of the one before, and holds the later ones against it. So it
+    /// finds each such cycle within a small multiple of the time at which it is entered and its period.
     pub fn search(&mut self, t: &Table, budget: u64) -> Result<Option<Translated>, NoMemory>
         ensures found { IfOk result (λ o. IfSome o (λ e. IsTranslated (entry_of t.now) e.i e.j e.side)) }
         ensures within { IfOk result (λ o. IfSome o (λ e. e.j ≤ MAX_TIME)) }

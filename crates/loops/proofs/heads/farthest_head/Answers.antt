@@ -25,7 +25,7 @@ loop-time-preserved c =
     let fits_head : FitsSigned w64 c.head.result = search rules in
     let here : c.head.result ≡ c.loop-time.runner.config.tape.head = search rules in
     let at : after (entry_of c.loop-time.runner.table) c.loop-time.time ≡ Some c.loop-time.runner.config =
-        subst (λ (k : ℕ). after (entry_of c.loop-time.runner.table) k ≡ Some c.loop-time.runner.config) before.steps before.stands.at in
+    subst (λ (k : ℕ). after (entry_of c.loop-time.runner.table) k ≡ Some c.loop-time.runner.config) before.steps before.stands.at in
     let first = simp to_z-of_z at c.farther-bound.ensures.first in
     let second = simp to_z-of_z at c.farther-bound.ensures.second in
     let is : IsFarther c.args.side (to_z w64 c.loop-time.bound-bits) c.loop-time.runner.config.tape.head c.farther-bound.result = rw (← here) (record { first = first; second = second }) in
@@ -39,8 +39,7 @@ loop-time-preserved c =
 pub returns : goal.returns
 returns c =
     let all : c.loop-time.time ≡ c.args.j = omega (arith, c.loop-time.auto.time-end, c.loop-time-test.false, c.steps-time.ensures.steps, c.requires.onward) in
-    let before = c.loop-time.invariant in
-    (
+    let before = c.loop-time.invariant in (
       record { table = before.table; steps = before.steps ∙ all; stands = before.stands },
       elim before.so_far [
         | inl now ↦ absurd (omega (arith, now.0, all, c.requires.onward))

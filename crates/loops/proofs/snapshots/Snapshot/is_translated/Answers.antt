@@ -21,7 +21,7 @@ returns-then-is_onward c =
     let same = simp to_z-of_z at c.same_half.ensures in
     let heads = compared c.args.t.now c.args.side c.args.self.now c.args.runner.now c.args.bound c.shift_to-shift.result c.requires.runner c.shift_to-shift.ensures.stands c.requires.begin c.requires.farthest c.shift_to-shift.ensures.shift in
     let same_now : IsTrue c.same_half.result ↔ SameBeyond c.args.side c.args.bound c.shift_to-shift.result c.args.self.now.config.tape.ones c.args.runner.now.config.tape.ones =
-        rw (← c.self.view_is, ← c.tape.ensures) same in
+    rw (← c.self.view_is, ← c.tape.ensures) same in
     elim c.if-eq.branch [
       | then-eq w ↦
           let state : c.args.self.now.config.state ≡ c.args.runner.now.config.state = rw (← c.self.view_is) (grind (arith, nat_tests, w.if-eq.true, c.eq.ensures, c.state.ensures)) in

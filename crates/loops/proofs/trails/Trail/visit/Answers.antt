@@ -6,13 +6,13 @@ use Rattle.loops.specs.Trail.{Follows}
 use Rattle.loops.proofs.BoundLaws.{IsFarther}
 use Rattle.loops.proofs.MomentLaws.{follows_first, follows_more}
 use Rattle.loops.proofs.trails.Trail.visit.Goals as goal
-use Rattle.loops.proofs.trails.Trail.visit.Goals.{then-is_past+else-is_translated+else-is_power_of_two, else-is_past}
+use Rattle.loops.proofs.trails.Trail.visit.Goals.{then-is_past+else-is_translated+else-time, else-is_past}
 
 pub returns-then-is_translated-clause-found : goal.returns-then-is_translated-clause-found
 returns-then-is_translated-clause-found c = rw (c.time.ensures, c.steps-time.ensures.steps) (c.is_translated.ensures.0 c.if-is_translated.true)
 
-pub returns-then-is_power_of_two-clause-follows : goal.returns-then-is_power_of_two-clause-follows
-returns-then-is_power_of_two-clause-follows c =
+pub returns-then-time-clause-follows : goal.returns-then-time-clause-follows
+returns-then-time-clause-follows c =
     let fits : FitsSigned w64 c.head-head.result = search rules in
     let here : c.head-head.result ≡ c.args.runner.now.config.tape.head = search rules in
     rw (to_z-of_z w64 c.head-head.result fits) (follows_first _ _ c.args.runner.now _ _ c.requires.table c.taken.ensures.stands c.in_ok-self.ensures.kept here)
@@ -25,7 +25,7 @@ returns-clause-follows c =
     let here : c.head-head.result ≡ c.args.runner.now.config.tape.head = search rules in
     let follows : Follows c.args.t.now c.args.runner.now.steps c.if-is_past.self.side c.if-is_past.self.kept c.if-is_past.self.bound =
     elim c.if-is_past.branch [
-      | then-is_past+else-is_translated+else-is_power_of_two w ↦ rw w.self-is c.requires.follows
+      | then-is_past+else-is_translated+else-time w ↦ rw w.self-is c.requires.follows
       | else-is_past w ↦ rw w.self-is c.requires.follows
     ] in
     let is : IsFarther c.if-is_past.self.side c.if-is_past.self.bound c.args.runner.now.config.tape.head c.farther-self.result = rw (← here) (record { first = simp to_z-of_z at c.farther-self.ensures.first; second = simp to_z-of_z at c.farther-self.ensures.second }) in

@@ -30,18 +30,23 @@ const STATUSES: &str =
 
 const RECORDS: &str =
     "A record is a table in the bbchallenge standard format, a space and a certificate:
-  H k   it halts in k steps (the halting step counts)
-  U     nothing is claimed
+  H k         it halts in k steps (the halting step counts); k up to 100,000,000
+  C i j       the configurations at the times i and j are equal; j up to 10,000,000
+  T i j side  they are, but for a shift to that side (L or R) and for what lies behind it
+  B d         it does d steps, and no configuration at all halts after exactly d; d up to 1,000
+  U           nothing is claimed
 
 An answer is one of
   TABLE halts K      the certificate stands: the table halts in K steps
+  TABLE never        the certificate stands: the table never halts
   TABLE undecided    nothing was claimed
   refused 201        the certificate doesn't stand
   refused 202        it asks for more than its limit
+  refused 203        more than 65,536 paths lead to a halting pair in as many steps
   refused 301 F P    no table: its fault is F (101 length, 102 bar, 103 symbol, 104 direction,
                      105 state), at place P
   refused 302        no such kind, or another number of fields
-  refused 303        no number
+  refused 303        no number, or no side
   refused 305        the line is too long
 
 Exit status: 0 all accepted; 1 a line was refused; 2 a wrong command line; 3 want of memory

@@ -116,6 +116,20 @@ fn answers_are_those_of_the_records(rt: HostRuntime) {
         ("1RB1LB_1LA--- H 6\r", "refused 303"),
         ("1RB1LB_1LA--- H ", "refused 303"),
         ("2RB1LB_1LA--- H 6", "refused 301 103 0"),
+        ("1RA--- T 0 1 R", "1RA--- never"),
+        ("1RA--- T 0 1 L", "refused 201"),
+        ("1RA--- T 1 0 R", "refused 201"),
+        ("1RA--- T 0 1 X", "refused 303"),
+        ("1RA--- C 0 10000001", "refused 202"),
+        ("0RB---_0LA--- C 0 2", "0RB---_0LA--- never"),
+        ("0RB---_0LA--- C 0 1", "refused 201"),
+        ("0RB---_0LA--- T 0 2 R", "0RB---_0LA--- never"),
+        ("0RB---_0LA--- T 0 2 L", "0RB---_0LA--- never"),
+        ("1RB---_0RB1RB B 1", "1RB---_0RB1RB never"),
+        ("1RB---_0RB1RB B 0", "refused 201"),
+        ("1RB---_0RB1RB B 1001", "refused 202"),
+        ("1RB1LA_1LA1RB B 0", "1RB1LA_1LA1RB never"),
+        ("------ B 1", "refused 201"),
     ] {
         let alloc = rt.alloc();
         let refused = answer.starts_with("refused");

@@ -219,6 +219,7 @@ from_45 (Some e) c = elim (eqb c 0) as (λ b. 45 ≤ cond b (symbol_byte e.write
     symbol_from_45 : (w : Sym) → 45 ≤ symbol_byte w
     symbol_from_45 Zero = omega arith
     symbol_from_45 One = omega arith
+
     direction_from_45 : (d : Dir) → 45 ≤ direction_byte d
     direction_from_45 L = omega arith
     direction_from_45 R = omega arith

@@ -48,12 +48,12 @@ fn answer_read(
 }
 
 // Appends what the record's certificate shows, or why it is refused.
-fn answer_record(alloc: Global, record: &Record, out: &mut Vec<u8>) -> Result<Outcome, NoMemory>
-    ensures { IfOk result (λ o. (answer : List ℕ) × AnswersRecord (recorded record.now) o answer × (out.new.items ≡ out.old.items ++ answer)) }
+fn answer_record(alloc: Global, r: &Record, out: &mut Vec<u8>) -> Result<Outcome, NoMemory>
+    ensures { IfOk result (λ o. (answer : List ℕ) × AnswersRecord (recorded r.now) o answer × (out.new.items ≡ out.old.items ++ answer)) }
 {
-    match judge(alloc, record) {
+    match judge(alloc, r) {
         Ok(verdict) => {
-            append_table(record, out)?;
+            append_table(r, out)?;
             append_verdict(verdict, out)?;
             Ok(Outcome::Accepted)
         }
@@ -66,11 +66,11 @@ fn answer_record(alloc: Global, record: &Record, out: &mut Vec<u8>) -> Result<Ou
 }
 
 // Appends the record's table.
-fn append_table(record: &Record, out: &mut Vec<u8>) -> Result<(), NoMemory>
-    ensures { OnOk result (out.new.items ≡ out.old.items ++ text_of record.now.table) }
+fn append_table(r: &Record, out: &mut Vec<u8>) -> Result<(), NoMemory>
+    ensures { OnOk result (out.new.items ≡ out.old.items ++ text_of r.now.table) }
 {
     let mut buf = [0; TEXT_BYTES];
-    out.extend_from_slice(record.table.text(&mut buf))
+    out.extend_from_slice(r.table.text(&mut buf))
 }
 
 // Appends what is said of a table.

@@ -12,7 +12,7 @@ use tape::NoMemory;
 
 // Depths to which the paths are counted first. Each path is followed to the last depth before the next one is
 // looked at, so a depth that is too wide would be found late.
-const FIRST_DEPTHS: [u64; 3] = [16, 64, 256];
+const FIRST_DEPTHS: [u64; 4] = [16, 64, 256, 512];
 
 /// Some depth has more than `MAX_PATHS` paths.
 #[derive(Clone, Copy, Debug, PartialEq, Eq)]

@@ -1,5 +1,5 @@
 -- A stretch of cells, each known or not, and what it says of a tape around a head.
-use Rattle.std.specs.Prelude.{◌≡◌, ℕ, suc, ◌+◌, ◌*◌, ◌/◌, ◌%◌, ◌<◌, ◌≤◌, ℤ, pos, negsuc, ◌+ℤ◌, List, length, Option, None, slice_index_or}
+use Rattle.std.specs.Prelude.{ℕ, ◌+◌, ◌/◌, ◌%◌, ◌<◌, ◌≤◌, ℤ, pos, negsuc, ◌+ℤ◌, List, Option, None, slice_index_or}
 use Rattle.machine_text.specs.Packed.{symbol_of}
 use Rattle.machine_text.specs.declared.transition.Sym.{Sym}
 use Rattle.turing.specs.Backward.{Pair, Partial}

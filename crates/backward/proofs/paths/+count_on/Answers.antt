@@ -1,7 +1,5 @@
-use Rattle.std.proofs.Common.{◌≡◌, ◌*◌, Some, set, refl, arith}
+use Rattle.std.proofs.Common.{◌≡◌, ◌*◌, refl, arith}
 use Rattle.std.proofs.lemmas.Result.{err_from_is_err_and}
-use Rattle.turing.specs.Backward.{Partial}
-use Rattle.backward.specs.Known.{known_about}
 use Rattle.backward.proofs.Counting.{part_none, part_last, part_all, part_passed, part_more, exceeds_here, exceeds_further, at_place, cells_again}
 use Rattle.backward.proofs.paths.+count_on.Goals as goal
 

@@ -1,4 +1,4 @@
-use Rattle.std.proofs.Common.{◌≡◌, ℕ, ◌+◌, ◌<◌, ◌≤◌, ◌==◌, ◌&&◌, Bool, true, false, pos, ◌+ℤ◌, List, length, get_or, set, Option, Some, None, sym, ◌∙◌, refl, arith}
+use Rattle.std.proofs.Common.{◌≡◌, ℕ, ◌+◌, ◌<◌, ◌≤◌, ◌==◌, ◌&&◌, Bool, true, false, pos, ◌+ℤ◌, List, length, get_or, set, Option, Some, None, sym, ◌∙◌, arith}
 use Rattle.std.specs.Bool.{then_some}
 use Rattle.std.specs.Option.{IfSome, IfNone}
 use Rattle.machine_text.specs.declared.transition.Sym.{Sym}
@@ -6,7 +6,7 @@ use Rattle.machine_text.specs.declared.transition.Entry.{Entry}
 use Rattle.turing.specs.Backward.{Pair, left_behind}
 use Rattle.turing.specs.Levels.{may_hold, known_before}
 use Rattle.backward.specs.Known.{known_about}
-use Rattle.backward.proofs.Tapes.{known_before_is, nothing_before}
+use Rattle.backward.proofs.Tapes.{known_before_is}
 use Rattle.backward.proofs.pairs.Pair.before.Goals as goal
 
 -- the place, if the step can be taken, is where the head stands before it

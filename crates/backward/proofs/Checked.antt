@@ -9,7 +9,7 @@ use Rattle.turing.specs.Levels.{level}
 use Rattle.turing.proofs.RunLaws.{before, not_past}
 use Rattle.turing.proofs.TableLaws.{table_machine}
 use Rattle.turing.proofs.LevelLaws.{level_wider, longer_level, backward_level, level_backward, empty_below}
-use Rattle.run.specs.Standing.{Standing, Stands}
+use Rattle.run.specs.Standing.{Standing}
 use Rattle.run.specs.Steps.{RunsTo}
 use Rattle.run.specs.declared.stepping.Step.{Step}
 use Rattle.run.specs.declared.stepping.Step.TheVariants.{Went, Halts}

@@ -1,5 +1,5 @@
 -- What a stretch of known cells says about a head, before a step and after it.
-use Rattle.std.proofs.Common.{◌≡◌, ◌≢◌, ℕ, ◌+◌, ◌<◌, ◌==◌, ◌&&◌, Bool, cond, ℤ, pos, negsuc, ◌+ℤ◌, List, length, get_or, set, Option, Some, None, sym, ◌∙◌, ap, refl, arith, get_or-set_other, get_or-set_same}
+use Rattle.std.proofs.Common.{◌≡◌, ◌≢◌, ℕ, ◌<◌, ◌==◌, ◌&&◌, Bool, cond, ℤ, pos, negsuc, ◌+ℤ◌, List, length, get_or, set, Option, Some, None, sym, ◌∙◌, ap, refl, arith, get_or-set_other, get_or-set_same}
 use Rattle.std.specs.Ordering.{int_eq}
 use Rattle.std.proofs.Math.Path.{fun_ext}
 use Rattle.std.proofs.lemmas.Int.{ints}

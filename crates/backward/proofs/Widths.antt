@@ -1,11 +1,10 @@
 -- The numbers of paths of a table, counted from one halting pair after another.
-use Rattle.std.proofs.Common.{◌≡◌, ◌≢◌, ℕ, zero, suc, ◌+◌, ◌-◌, ◌*◌, ◌<◌, ◌≤◌, List, length, get_or, set, Option, Some, None, sym, ◌∙◌, ap, subst, refl, arith, true, false}
+use Rattle.std.proofs.Common.{◌≡◌, ◌≢◌, ℕ, suc, ◌+◌, ◌-◌, ◌*◌, ◌<◌, ◌≤◌, List, length, get_or, set, Option, Some, None, sym, ◌∙◌, ap, refl, arith, true, false}
 use Rattle.std.specs.Option.{is_some}
 use Rattle.machine_text.specs.Packed.{Packed, entry_of}
 use Rattle.machine_text.specs.declared.transition.Sym.{Sym}
 use Rattle.machine_text.specs.declared.transition.Entry.{Entry}
-use Rattle.turing.specs.Program.{Program}
-use Rattle.turing.specs.Backward.{Pair, Partial, standing_on}
+use Rattle.turing.specs.Backward.{Pair, standing_on}
 use Rattle.turing.specs.Levels.{known_at_end, level}
 use Rattle.turing.proofs.BackwardLaws.{same_pair}
 use Rattle.backward.specs.declared.limits.TheConstants.{MAX_PATHS}

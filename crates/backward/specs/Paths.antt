@@ -4,7 +4,7 @@ use Rattle.std.specs.List.{filter_map, sum_by}
 use Rattle.machine_text.specs.Packed.{Packed, IsTable, entry_of}
 use Rattle.turing.specs.Program.{Program}
 use Rattle.turing.specs.Run.{Config, after}
-use Rattle.turing.specs.Backward.{Pair, Partial, IsWider}
+use Rattle.turing.specs.Backward.{Partial, IsWider}
 use Rattle.turing.specs.Levels.{all_pairs, known_before, level}
 use Rattle.backward.specs.declared.limits.TheConstants.{MAX_PATHS}
 use Rattle.backward.specs.declared.paths.TooWide.{TooWide}

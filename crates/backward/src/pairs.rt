@@ -1,9 +1,8 @@
 // Pairs of a state and a symbol, and how one can come before what is known of a tape.
 ghost use Rattle.std.specs.Prelude.{◌≡◌, ◌==◌, ◌&&◌, ◌+◌, ◌^◌, ◌<◌, ◌≤◌, ℤ, pos, ◌+ℤ◌, length, slice_set, IfSome, IfNone, Some, None};
-ghost use Rattle.machine_text.specs.Packed.{entry_of};
 ghost use Rattle.turing.specs.Backward.{left_behind};
-ghost use Rattle.turing.specs.Levels.{may_hold, known_before};
-ghost use Rattle.backward.specs.Known.{known_about, pair_at, HasRoom};
+ghost use Rattle.turing.specs.Levels.{may_hold};
+ghost use Rattle.backward.specs.Known.{known_about, known_from, pair_at, HasRoom};
 
 use machine_text::{Dir, Entry, State, Sym, Table};
 
@@ -27,8 +26,8 @@ impl Pair {
         }
     }
 
-    /// Where a head stands at this pair, if the step from there can lead to a state with the head at
-    /// `head`, of whose tape so much is known: among `cells`, which stretch to both sides of the head.
+    /// Where the head stands at this pair, if the step from there can lead to a state with the head at
+    /// `head` and these cells, as far as they are known.
     pub fn before(
         &self,
         table: &Table,
@@ -38,11 +37,10 @@ impl Pair {
     ) -> Option<usize>
         requires pair { self.now.state.0 < table.now.states }
         requires room { HasRoom (length cells.now) head 1 }
-        ensures some { IfSome result (λ place. (place < length cells.now) × (place ≤ head + 1) × (head ≤ place + 1)
-            × (known_before (known_about cells.now state.0 head) (record { state = self.now.state.0; symbol = self.now.symbol }) (entry_of table.now self.now.state.0 self.now.symbol)
-            ≡ Some (known_about (slice_set cells.now place (Some self.now.symbol)) self.now.state.0 place))) }
-        ensures none { IfNone result
-            (known_before (known_about cells.now state.0 head) (record { state = self.now.state.0; symbol = self.now.symbol }) (entry_of table.now self.now.state.0 self.now.symbol) ≡ None) }
+        ensures room { IfSome result (λ place. (place < length cells.now) × (place ≤ head + 1) × (head ≤ place + 1)) }
+        ensures some { IfSome result (λ place. known_from table.now self.now.state.0 self.now.symbol (known_about cells.now state.0 head)
+            ≡ Some (known_about (slice_set cells.now place (Some self.now.symbol)) self.now.state.0 place)) }
+        ensures none { IfNone result (known_from table.now self.now.state.0 self.now.symbol (known_about cells.now state.0 head) ≡ None) }
     {
         let entry = table.get(self.state, self.symbol)?;
         let place = left_behind(entry.dir, head);

@@ -29,7 +29,9 @@ pub struct PathCounter {
 
 impl PathCounter {
     /// A counter without counts.
-    pub fn new(alloc: Global) -> PathCounter {
+    pub fn new(alloc: Global) -> PathCounter
+        ensures { vec_len result.counts ≡ 0 }
+    {
         PathCounter {
             cells: Vec::new(alloc),
             counts: Vec::new(alloc),

@@ -1,7 +1,5 @@
-use Rattle.std.proofs.Common.{◌≡◌, ◌*◌, Some, set, refl, arith}
+use Rattle.std.proofs.Common.{◌≡◌, ◌*◌, refl, arith}
 use Rattle.std.proofs.lemmas.Result.{err_from_is_err_and}
-use Rattle.turing.specs.Backward.{Partial}
-use Rattle.backward.specs.Known.{known_about}
 use Rattle.backward.proofs.Counting.{part_none, part_last, part_all, part_passed, part_more, exceeds_here, exceeds_further, at_place, cells_again}
 use Rattle.backward.proofs.paths.+count_on.Goals as goal
 
@@ -25,12 +23,12 @@ loop-place-preserved-in_default t c = record {
 pub returns-in_err-count_on-clause-wide : goal.returns-in_err-count_on-clause-wide
 returns-in_err-count_on-clause-wide t c =
     let p = err_from_is_err_and c.from_residual.result c.from_residual.ensures.1 in
-    rw p.1 (exceeds_further _ _ _ _ _ _ _ (at_place _ _ _ _ _ _ _ _ _ c.loop-place.invariant.cells c.at-pair.ensures.state c.at-pair.ensures.symbol c.in-Some.ensures.some.3) (omega (arith, c.states-place-end.ensures.states)) c.loop-place.invariant.counts c.in_err-count_on.ensures.wide)
+    rw p.1 (exceeds_further _ _ _ _ _ _ _ (at_place _ _ _ _ _ _ _ _ _ c.loop-place.invariant.cells c.at-pair.ensures.state c.at-pair.ensures.symbol c.in-Some.ensures.some) (omega (arith, c.states-place-end.ensures.states)) c.loop-place.invariant.counts c.in_err-count_on.ensures.wide)
 
 pub loop-place-preserved : goal.loop-place-preserved
 loop-place-preserved t c = record {
   cells = cells_again _ _ _ _ _ c.loop-place.invariant.cells c.in_ok-count_on.ensures.cells;
-  counts = part_more _ _ _ _ _ _ _ _ (at_place _ _ _ _ _ _ _ _ _ c.loop-place.invariant.cells c.at-pair.ensures.state c.at-pair.ensures.symbol c.in-Some.ensures.some.3) c.loop-place.invariant.counts c.count_on.auto.counts c.in_ok-count_on.ensures.counts;
+  counts = part_more _ _ _ _ _ _ _ _ (at_place _ _ _ _ _ _ _ _ _ c.loop-place.invariant.cells c.at-pair.ensures.state c.at-pair.ensures.symbol c.in-Some.ensures.some) c.loop-place.invariant.counts c.count_on.auto.counts c.in_ok-count_on.ensures.counts;
 }
 
 pub returns-clause-counts : goal.returns-clause-counts

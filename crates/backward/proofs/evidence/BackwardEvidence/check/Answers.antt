@@ -1,6 +1,5 @@
-use Rattle.std.proofs.Common.{refl, sym, ◌∙◌, arith, ◌≡◌, ◌≤◌, ◌<◌, length, get_or, rules}
+use Rattle.std.proofs.Common.{refl, sym, ◌∙◌, arith, ◌≡◌, ◌<◌, length, get_or, rules}
 use Rattle.std.proofs.lemmas.Grind.{get_or_default_zero}
-use Rattle.backward.specs.declared.limits.TheConstants.{MAX_DEPTH}
 use Rattle.backward.proofs.Checked.{done_is, done_not, counted_err, counted_ok, too_wide, not_too_wide, stands_if, none_if}
 use Rattle.backward.proofs.evidence.BackwardEvidence.check.Goals as goal
 

@@ -1,5 +1,4 @@
-use Rattle.std.proofs.Common.{◌≡◌, ◌∙◌, ◌<◌, ◌≤◌, min, sym, length, arith, rules}
-use Rattle.backward.specs.declared.limits.TheConstants.{MAX_DEPTH}
+use Rattle.std.proofs.Common.{◌∙◌, ◌<◌, sym, length, arith}
 use Rattle.backward.proofs.Checked.{done_is, done_not, counted_err, counted_ok, not_too_wide, stands_if, none_if, many_stands, not_reached}
 use Rattle.backward.proofs.finder.BackwardFinder.search.Goals as goal
 

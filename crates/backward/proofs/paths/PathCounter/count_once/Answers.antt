@@ -1,4 +1,4 @@
-use Rattle.std.proofs.Common.{◌≡◌, ◌≤◌, ◌<◌, ◌+◌, ◌*◌, length, inl, inr, refl, ap, arith, None}
+use Rattle.std.proofs.Common.{◌+◌, ◌*◌, inl, inr, refl, arith, None}
 use Rattle.std.proofs.lemmas.Bool.{cases_lt}
 use Rattle.std.proofs.lemmas.List.{get_or_past}
 use Rattle.backward.proofs.paths.PathCounter.count_once.Goals as goal

@@ -1,5 +1,5 @@
 // Cycles: a run that comes to one configuration twice.
-ghost use Rattle.std.specs.Prelude.{◌≡◌, ◌≤◌, IfSome, IfOk};
+ghost use Rattle.std.specs.Prelude.{◌≡◌, ◌≤◌, min, IfSome, IfOk};
 ghost use Rattle.machine_text.specs.Packed.{entry_of};
 ghost use Rattle.turing.specs.Cycle.{Cycle as IsCycle};
 
@@ -77,7 +77,7 @@ impl CycleFinder {
     /// than p or the time at which the cycle is entered.
     pub fn search(&mut self, t: &Table, budget: u64) -> Result<Option<Cycle>, NoMemory>
         ensures found { IfOk result (λ o. IfSome o (λ e. IsCycle (entry_of t.now) e.i e.j)) }
-        ensures within { IfOk result (λ o. IfSome o (λ e. e.j ≤ MAX_TIME)) }
+        ensures within { IfOk result (λ o. IfSome o (λ e. e.j ≤ min (min self.old.steps budget) MAX_TIME)) }
         ensures same { self.new.steps ≡ self.old.steps }
     {
         let limit = self.steps.min(budget).min(MAX_TIME);

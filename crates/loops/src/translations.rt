@@ -1,5 +1,5 @@
 // Translated cycles: a run that comes to the same configuration moved, but for what it has left behind.
-ghost use Rattle.std.specs.Prelude.{◌≡◌, ◌<◌, ◌≤◌, IfSome, IfOk};
+ghost use Rattle.std.specs.Prelude.{◌≡◌, ◌<◌, ◌≤◌, min, IfSome, IfOk};
 ghost use Rattle.machine_text.specs.Packed.{entry_of};
 ghost use Rattle.turing.specs.Translated.{Translated as IsTranslated};
 
@@ -88,7 +88,7 @@ impl TranslatedFinder {
     /// finds each such cycle within a small multiple of the time at which it is entered and its period.
     pub fn search(&mut self, t: &Table, budget: u64) -> Result<Option<Translated>, NoMemory>
         ensures found { IfOk result (λ o. IfSome o (λ e. IsTranslated (entry_of t.now) e.i e.j e.side)) }
-        ensures within { IfOk result (λ o. IfSome o (λ e. e.j ≤ MAX_TIME)) }
+        ensures within { IfOk result (λ o. IfSome o (λ e. e.j ≤ min (min self.old.steps budget) MAX_TIME)) }
         ensures same { self.new.steps ≡ self.old.steps }
     {
         let limit = self.steps.min(budget).min(MAX_TIME);

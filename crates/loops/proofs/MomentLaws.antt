@@ -1,11 +1,10 @@
 -- What is kept of a run, and what it shows at a later time.
-use Rattle.std.proofs.Common.{◌≡◌, ℕ, ◌+◌, ◌<◌, ◌≤◌, Bool, true, false, ℤ, Some, sym, ◌∙◌, ap, subst, arith}
+use Rattle.std.proofs.Common.{◌≡◌, ℕ, ◌+◌, ◌<◌, ◌≤◌, Bool, true, false, ℤ, Some, sym, ◌∙◌, ap, subst}
 use Rattle.machine_text.specs.Packed.{Packed, entry_of}
 use Rattle.machine_text.specs.declared.transition.Dir.{Dir}
 use Rattle.turing.specs.Program.{Program}
 use Rattle.turing.specs.Run.{Config, start, after}
 use Rattle.turing.specs.Cycle.{Cycle}
-use Rattle.turing.specs.Translated.{Beyond, Farthest, Translated}
 use Rattle.turing.proofs.RunLaws.{before}
 use Rattle.turing.proofs.Heads.{farthest_first}
 use Rattle.run.specs.Standing.{Standing, Stands}

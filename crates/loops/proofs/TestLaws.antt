@@ -1,8 +1,6 @@
 -- What the test for a translated cycle looks at, and what it shows.
-use Rattle.std.proofs.Common.{◌≡◌, ℕ, ◌+◌, ◌<◌, Bool, false, true, ℤ, pos, ◌+ℤ◌, ◌-ℤ◌, ◌≤ℤ◌, Some, sym, ◌∙◌, ap, subst, arith}
+use Rattle.std.proofs.Common.{◌≡◌, ℕ, Bool, false, true, ℤ, pos, ◌+ℤ◌, ◌-ℤ◌, Some, sym, ◌∙◌, ap, subst, arith}
 use Rattle.std.specs.Prelude.{◌↔◌, IsTrue}
-use Rattle.std.specs.Ordering.{int_cmp}
-use Rattle.std.specs.FinSet as set
 use Rattle.std.proofs.lemmas.Int.{ints}
 use Rattle.std.proofs.lemmas.Option.{same_Some}
 use Rattle.machine_text.specs.Packed.{Packed, entry_of}
@@ -10,7 +8,6 @@ use Rattle.machine_text.specs.declared.transition.Dir.{Dir}
 use Rattle.machine_text.specs.declared.transition.Dir.TheVariants.{L, R}
 use Rattle.turing.specs.Program.{Program}
 use Rattle.turing.specs.Run.{Config, cell, after}
-use Rattle.turing.specs.Tape.{cell_of}
 use Rattle.turing.specs.Translated.{Beyond, Farthest, Translated}
 use Rattle.turing.proofs.Heads.{one_farthest}
 use Rattle.tape.specs.Places.{SameBeyond}

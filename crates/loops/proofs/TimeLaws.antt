@@ -1,5 +1,5 @@
 -- Runs that halt before a time, and heads at a time.
-use Rattle.std.proofs.Common.{◌≡◌, ℕ, ◌+◌, ◌<◌, ◌≤◌, ℤ, pos, ◌-ℤ◌, neg_ℤ, ◌≤ℤ◌, Some, ap, sym, ◌∙◌, subst, arith}
+use Rattle.std.proofs.Common.{◌≡◌, ℕ, ◌+◌, ◌<◌, ◌≤◌, ℤ, pos, ◌-ℤ◌, neg_ℤ, ◌≤ℤ◌, Some, ap, subst, arith}
 use Rattle.std.proofs.lemmas.Int.{ints, fits_signed_from_abs}
 use Rattle.std.specs.Int.{w64}
 use Rattle.std.specs.Int.RustNames.{FitsSigned}
@@ -7,11 +7,9 @@ use Rattle.machine_text.specs.Packed.{Packed, entry_of}
 use Rattle.machine_text.specs.declared.transition.Dir.{Dir}
 use Rattle.turing.specs.Program.{Program}
 use Rattle.turing.specs.Run.{Config, start, after}
-use Rattle.turing.specs.Halting.{Stops}
 use Rattle.turing.specs.Translated.{Farthest}
 use Rattle.turing.proofs.RunLaws.{not_past}
 use Rattle.turing.proofs.Heads.{head_reach}
-use Rattle.tape.specs.declared.limits.TheConstants.{MAX_PLACE}
 use Rattle.tape.specs.Places.{IsWithinLimit}
 use Rattle.run.specs.Standing.{Standing, Stands}
 use Rattle.run.specs.Steps.{RunsTo, StepsTo}

@@ -1,5 +1,5 @@
 // Cycles: a run that comes to one configuration twice.
-ghost use Rattle.std.specs.Prelude.{◌≡◌, ◌≤◌, IfSome, IfOk};
+ghost use Rattle.std.specs.Prelude.{◌≡◌, ◌≤◌, min, IfSome, IfOk};
 ghost use Rattle.machine_text.specs.Packed.{entry_of};
 ghost use Rattle.turing.specs.Cycle.{Cycle as IsCycle};
 
@@ -73,11 +73,12 @@ impl CycleFinder {
     /// gives stands, and is within the limit.
     ///
     /// It keeps the configuration at each power of two of the time and holds the later ones against it
-    /// (Brent 1980), so it finds each cycle by the time 2^k + p, where p is the period and 2^k isn't less
-    /// than p or the time at which the cycle is entered.
+    /// (Brent 1980). A cycle is seen by the time 2^k + p, where p is its period and 2^k isn't less than p or
+    /// the time at which it is entered. No contract says what is found.
     pub fn search(&mut self, t: &Table, budget: u64) -> Result<Option<Cycle>, NoMemory>
         ensures found { IfOk result (λ o. IfSome o (λ e. IsCycle (entry_of t.now) e.i e.j)) }
-        ensures within { IfOk result (λ o. IfSome o (λ e. e.j ≤ MAX_TIME)) }
+        ensures within { IfOk result (λ o. IfSome o (λ e.
+            e.j ≤ min (min self.old.steps budget) MAX_TIME)) }
         ensures same { self.new.steps ≡ self.old.steps }
     {
         let limit = self.steps.min(budget).min(MAX_TIME);

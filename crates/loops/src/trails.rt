@@ -29,7 +29,9 @@ impl Trail {
     // The trail of a run from where a runner stands, which is taken for the first record.
     pub fn begun(alloc: Global, t: &Table, runner: &Runner, side: Dir) -> Result<Trail, NoMemory>
         requires { runner.now.table ≡ t.now }
-        ensures { IfOk result (λ trail. Follows t.now (runner.now.steps + 1) trail.side trail.kept trail.bound) }
+        ensures follows { IfOk result (λ trail.
+            Follows t.now (runner.now.steps + 1) side trail.kept trail.bound) }
+        ensures side { IfOk result (λ trail. trail.side ≡ side) }
     {
         let head = runner.tape().head();
         Ok(Trail {
@@ -53,8 +55,10 @@ impl Trail {
         requires limit { runner.now.steps ≤ MAX_TIME }
         requires follows { Follows t.now runner.now.steps self.old.side self.old.kept self.old.bound }
         ensures found { IfOk result (λ o. IfSome o (λ e. IsTranslated (entry_of t.now) e.i e.j e.side)) }
+        ensures side { self.new.side ≡ self.old.side }
         ensures now { IfOk result (λ o. IfSome o (λ e. e.j ≡ runner.now.steps)) }
-        ensures follows { IfOk result (λ o. IfNone o (Follows t.now (runner.now.steps + 1) self.new.side self.new.kept self.new.bound)) }
+        ensures follows { IfOk result (λ o. IfNone o
+            (Follows t.now (runner.now.steps + 1) self.new.side self.new.kept self.new.bound)) }
     {
         let time = runner.steps();
         let head = runner.tape().head();

@@ -1,5 +1,5 @@
 // Translated cycles: a run that comes to the same configuration moved, but for what it has left behind.
-ghost use Rattle.std.specs.Prelude.{◌≡◌, ◌<◌, ◌≤◌, IfSome, IfOk};
+ghost use Rattle.std.specs.Prelude.{◌≡◌, ◌<◌, ◌≤◌, min, IfSome, IfOk};
 ghost use Rattle.machine_text.specs.Packed.{entry_of};
 ghost use Rattle.turing.specs.Translated.{Translated as IsTranslated};
 
@@ -84,11 +84,13 @@ impl TranslatedFinder {
     ///
     /// It looks at records alone, the times at which the head is further on a side than ever before: a
     /// translated cycle whose shift isn't 0 makes them for ever. It keeps one on each side, the first and
-    /// then each that comes at twice the time of the one before, and holds the later ones against it. So it
-    /// finds each such cycle within a small multiple of the time at which it is entered and its period.
+    /// then each that comes at twice the time of the one before, and holds the later ones against it, so
+    /// that a few times the time at which such a cycle is entered and its period are mostly enough. No
+    /// contract says what is found.
     pub fn search(&mut self, t: &Table, budget: u64) -> Result<Option<Translated>, NoMemory>
         ensures found { IfOk result (λ o. IfSome o (λ e. IsTranslated (entry_of t.now) e.i e.j e.side)) }
-        ensures within { IfOk result (λ o. IfSome o (λ e. e.j ≤ MAX_TIME)) }
+        ensures within { IfOk result (λ o. IfSome o (λ e.
+            e.j ≤ min (min self.old.steps budget) MAX_TIME)) }
         ensures same { self.new.steps ≡ self.old.steps }
     {
         let limit = self.steps.min(budget).min(MAX_TIME);

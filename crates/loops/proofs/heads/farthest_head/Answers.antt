@@ -1,4 +1,4 @@
-use Rattle.std.proofs.Common.{◌≡◌, ℕ, ◌+◌, Some, ◌∙◌, inl, inr, sym, ap, subst, rules, arith}
+use Rattle.std.proofs.Common.{◌≡◌, ℕ, ◌+◌, Some, ◌∙◌, inl, inr, subst, rules, arith}
 use Rattle.std.specs.Int.{w64}
 use Rattle.std.specs.Int.RustNames.{FitsSigned}
 use mir.Val.{to_z}
@@ -6,7 +6,7 @@ use Rattle.std.proofs.lemmas.Int.{to_z-of_z}
 use Rattle.machine_text.specs.Packed.{Packed, entry_of}
 use Rattle.turing.specs.Run.{Config, after}
 use Rattle.loops.proofs.BoundLaws.{IsFarther, bound_more}
-use Rattle.loops.proofs.MomentLaws.{arrived, not_arrived, none_after, stands_moment}
+use Rattle.loops.proofs.MomentLaws.{arrived, not_arrived, none_after}
 use Rattle.loops.proofs.heads.farthest_head.Goals as goal
 
 -- a step that isn't carried out leaves no time j

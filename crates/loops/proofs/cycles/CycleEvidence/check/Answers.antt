@@ -1,4 +1,4 @@
-use Rattle.std.proofs.Common.{◌≡◌, ◌∙◌, sym, ap, refl, rules, arith}
+use Rattle.std.proofs.Common.{◌≡◌, ◌∙◌, ap, refl, rules, arith}
 use Rattle.loops.specs.Moment.{Moment}
 use Rattle.run.specs.Standing.{Standing}
 use Rattle.loops.proofs.MomentLaws.{arrived, kept_moment, same_cycle, cycle_at}

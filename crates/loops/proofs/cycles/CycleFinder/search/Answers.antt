@@ -1,4 +1,4 @@
-use Rattle.std.proofs.Common.{◌≡◌, ◌∙◌, sym, ap, refl, rules, arith}
+use Rattle.std.proofs.Common.{◌∙◌, sym, rules, arith}
 use Rattle.loops.proofs.MomentLaws.{arrived, same_cycle, cycle_at}
 use Rattle.loops.proofs.cycles.CycleFinder.search.Goals as goal
 

@@ -1,4 +1,4 @@
-use Rattle.std.proofs.Common.{◌≡◌, pos, sym, ◌∙◌, ap, arith, rules}
+use Rattle.std.proofs.Common.{◌≡◌, sym, ◌∙◌, arith, rules}
 use Rattle.std.specs.Int.{w64}
 use Rattle.std.specs.Int.RustNames.{FitsSigned}
 use Rattle.std.proofs.lemmas.Int.{to_z-of_z}
@@ -6,7 +6,7 @@ use Rattle.std.specs.Prelude.{◌↔◌, IsTrue}
 use Rattle.tape.specs.Places.{SameBeyond}
 use Rattle.std.proofs.lemmas.Bool.Decides.{nat_tests}
 use Rattle.loops.proofs.TimeLaws.{near_bound, near_within}
-use Rattle.loops.proofs.TestLaws.{compared, test_passed, test_failed}
+use Rattle.loops.proofs.TestLaws.{compared, test_passed}
 use Rattle.loops.proofs.snapshots.Snapshot.is_translated.Goals as goal
 use Rattle.loops.proofs.snapshots.Snapshot.is_translated.Goals.{then-eq, else-eq}
 

@@ -1,8 +1,7 @@
-use Rattle.std.proofs.Common.{◌≡◌, ◌∙◌, sym, ap, subst, refl, Some, ℕ, ℤ, Option, rules, arith}
+use Rattle.std.proofs.Common.{◌≡◌, ◌∙◌, ap, subst, refl, ℤ, Option, rules}
 use Rattle.std.specs.Int.{w64}
 use Rattle.std.specs.Int.RustNames.{FitsSigned}
 use Rattle.std.proofs.lemmas.Int.{to_z-of_z}
-use Rattle.machine_text.specs.Packed.{Packed, entry_of}
 use Rattle.run.specs.Standing.{Standing}
 use Rattle.loops.specs.Moment.{Moment}
 use Rattle.loops.specs.Trail.{GoesTo}

@@ -1,4 +1,5 @@
-use Rattle.std.proofs.Common.{◌≡◌, ℕ, ◌+◌, sym, ap, subst, rules}
+use Rattle.std.proofs.Common.{◌≡◌, ℕ, ◌+◌, ap, subst, rules}
+use Rattle.machine_text.specs.declared.transition.Dir.TheVariants.{L, R}
 use Rattle.run.specs.Standing.{Standing}
 use Rattle.loops.specs.Trail.{Follows}
 use Rattle.loops.proofs.translations.TranslatedFinder.search.Goals as goal
@@ -10,6 +11,6 @@ loop-time-init c =
       steps = steps;
       table = ap (λ (r : Standing). r.table) c.in_ok-runner.ensures;
       stands = search rules;
-      left = subst (λ (k : ℕ). Follows c.args.t.now (k + 1) c.in_ok-left.left.side c.in_ok-left.left.kept c.in_ok-left.left.bound) steps c.in_ok-left.ensures;
-      right = subst (λ (k : ℕ). Follows c.args.t.now (k + 1) c.in_ok-right.right.side c.in_ok-right.right.kept c.in_ok-right.right.bound) steps c.in_ok-right.ensures;
+      left = rw c.in_ok-left.ensures.side (subst (λ (k : ℕ). Follows c.args.t.now (k + 1) L c.in_ok-left.left.kept c.in_ok-left.left.bound) steps c.in_ok-left.ensures.follows);
+      right = rw c.in_ok-right.ensures.side (subst (λ (k : ℕ). Follows c.args.t.now (k + 1) R c.in_ok-right.right.kept c.in_ok-right.right.bound) steps c.in_ok-right.ensures.follows);
     }

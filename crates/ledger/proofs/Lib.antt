@@ -1,3 +1,5 @@
 pub mod Same
 pub mod Claims
 pub mod HeldLaws
+pub mod Pairs
+pub mod Sets

@@ -1,5 +1,5 @@
 -- The test of equal tables tells them apart.
-use Rattle.std.proofs.Common.{◌≡◌, ℕ, Bool, true, false, ◌&&◌, refl, sym, ◌∙◌, ap, subst, nat_eq}
+use Rattle.std.proofs.Common.{◌≡◌, ℕ, Bool, true, false, ◌&&◌, refl, sym, ◌∙◌, ap, subst, nat_eq, not, ◌≢◌}
 use Rattle.std.proofs.lemmas.Bool.{eqb-true, eq-eqb}
 use Rattle.std.specs.Bool.{Decides}
 use Rattle.std.specs.Cmp.Lexicographic.{pointwise, pointwise_decides}
@@ -36,3 +36,11 @@ not_same a b apart = elim (same_table a b) as (λ v. same_table a b ≡ v → v 
 
 pub apart : (a b : Packed) → same_table a b ≡ false → a ≡ b → ⊥
 apart a b other e = let yes = same_at a b e in cc
+
+-- what the code's `!=` of two tables says
+pub differ : (a b : Packed) (r : Bool) → r ≡ not (same_table a b) → (r ≡ true → a ≢ b) × (a ≢ b → r ≡ true)
+differ a b r is =
+    elim (same_table a b) as (λ v. same_table a b ≡ v → r ≡ not v → (r ≡ true → a ≢ b) × (a ≢ b → r ≡ true)) [
+      true ↦ λ same no. (λ so. absurd (cc), λ other. absurd (other (same_is a b same)))
+    | false ↦ λ other so. (λ h. apart a b other, λ h. so)
+    ] refl is

@@ -1,3 +1,4 @@
 pub mod Records
 pub mod Held
 pub mod Contents
+pub mod Open

@@ -7,5 +7,6 @@
 
 mod boards;
 mod looking;
+mod opening;
 
 pub use boards::Board;

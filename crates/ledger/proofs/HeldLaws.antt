@@ -58,7 +58,7 @@ record IsRefined (old new : List Recorded) : Type 0 where
   none : (t : Packed) → claim_in old t ≡ None → claim_in new t ≡ None
   stopping : (t : Packed) (k : ℕ) → mark_in old t ≡ Some (Stopping k) → mark_in new t ≡ Some (Stopping k)
 
-unmarked : (o : Option Claim) → option_map mark_of o ≡ None → o ≡ None
+pub unmarked : (o : Option Claim) → option_map mark_of o ≡ None → o ≡ None
 unmarked None e = refl
 unmarked (Some c) e = cc
 
@@ -68,7 +68,7 @@ still_open root old new t refined is_open = record {
   place = elim is_open.place [ inl e ↦ inl e | inr w ↦ inr (w.0, w.1, refined.stopping w.0 w.1 w.2, w.3) ];
 }
 
-mark_kept : (rs ys : List Recorded) (t : Packed) (m : Mark) → mark_in rs t ≡ Some m → mark_in (rs ++ ys) t ≡ Some m
+pub mark_kept : (rs ys : List Recorded) (t : Packed) (m : Mark) → mark_in rs t ≡ Some m → mark_in (rs ++ ys) t ≡ Some m
 mark_kept rs ys t m is =
     elim (claim_in rs t) as (λ o. claim_in rs t ≡ o → mark_in (rs ++ ys) t ≡ Some m) [
       | Some c ↦ λ claimed. ap (option_map mark_of) (claim_kept rs ys t c claimed ∙ sym claimed) ∙ is
@@ -79,7 +79,7 @@ mark_more : (rs ys : List Recorded) (t : Packed) → claim_in rs t ≡ None → 
 mark_more rs ys t none = ap (option_map mark_of) (claim_more rs ys t none)
 
 -- where nothing is claimed by the longer list, nothing is by its two parts
-none_before : (rs ys : List Recorded) (t : Packed) → claim_in (rs ++ ys) t ≡ None → (claim_in rs t ≡ None) × (claim_in ys t ≡ None)
+pub none_before : (rs ys : List Recorded) (t : Packed) → claim_in (rs ++ ys) t ≡ None → (claim_in rs t ≡ None) × (claim_in ys t ≡ None)
 none_before rs ys t none =
     elim (claim_in rs t) as (λ o. claim_in rs t ≡ o → (claim_in rs t ≡ None) × (claim_in ys t ≡ None)) [
       | Some c ↦ λ is. let kept = claim_kept rs ys t c is in (cc, cc)

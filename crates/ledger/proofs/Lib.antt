@@ -1,5 +1,6 @@
 pub mod Same
 pub mod Claims
 pub mod HeldLaws
+pub mod OpenLaws
 pub mod Pairs
 pub mod Sets

@@ -2,3 +2,5 @@ pub mod Records
 pub mod Held
 pub mod Contents
 pub mod Open
+pub mod Offers
+pub mod Faults

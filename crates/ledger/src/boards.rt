@@ -5,6 +5,7 @@ ghost use Rattle.tree.specs.Used.{InOrder};
 ghost use Rattle.run.specs.Verdict.{IsTrueOf};
 
 use crate::looking::verdict_in;
+use crate::outcomes::BoardFault;
 use cert::{OwnedRecord, standing_claims_are_true};
 use machine_text::Table;
 use run::{NoMemory, Verdict};
@@ -30,15 +31,6 @@ impl Model for Board {
     ghost view = { λ a. record { root = a.root; records = map owned_recorded a.records.items } };
 
     ghost invariant = { λ a. IsBoard (record { root = a.root; records = map owned_recorded a.records.items }) };
-}
-
-/// Why there is no board.
-#[derive(Clone, Copy, Debug, PartialEq, Eq)]
-pub enum BoardFault {
-    /// The root doesn't name its states in order.
-    NotInOrder,
-    /// Memory was refused.
-    NoMemory,
 }
 
 impl Board {

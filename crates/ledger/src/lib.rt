@@ -8,5 +8,7 @@
 mod boards;
 mod looking;
 mod opening;
+mod outcomes;
 
 pub use boards::Board;
+pub use outcomes::{BoardFault, OfferFault, Taken};

@@ -130,3 +130,17 @@ brings_none rs parent q A R all = (λ a. all.0 (inl a), λ r. elim (all.1 r) [ i
 -- a copy has the same tables
 pub copied_keys : (xs ys : List Packed) → AllZip (λ (x y : Packed). y ≡ x) xs ys → ys ≡ xs
 copied_keys xs ys same = AllZip-map (λ (x : Packed). x) xs ys same ∙ map-id xs
+
+-- the set of one table
+nowhere : (new : BTreeSet Packed) (t q : Packed) → contains table_cmp new q ≡ cond (is_at (table_cmp t) q) true false → IsTrue (contains table_cmp new q) ↔ (q ≡ t)
+nowhere new t q is =
+    elim (is_at (table_cmp t) q) as (λ v. is_at (table_cmp t) q ≡ v → contains table_cmp new q ≡ cond v true false → IsTrue (contains table_cmp new q) ↔ (q ≡ t)) [
+      true ↦ λ here there. (λ h. sym (at_is t q here), λ h. there)
+    | false ↦ λ other gone. (λ h. let there : contains table_cmp new q ≡ true = h in absurd (cc), λ (e : q ≡ t). let itself = subst (λ (p : Packed). is_at (table_cmp t) p ≡ true) (sym e) (at_itself t) in absurd (cc))
+    ] refl is
+
+pub only_one : (old new : BTreeSet Packed) (t q : Packed) → old.keys ≡ [] → contains table_cmp new q ≡ cond (is_at (table_cmp t) q) true (contains table_cmp old q)
+    → IsTrue (contains table_cmp new q) ↔ (q ≡ t)
+only_one old new t q none is =
+    let empty : contains table_cmp old q ≡ false = subst (λ (l : List Packed). contains table_cmp (record { keys = l }) q ≡ false) (sym none) refl in
+    nowhere new t q (subst (λ (b : Bool). contains table_cmp new q ≡ cond (is_at (table_cmp t) q) true b) empty is)

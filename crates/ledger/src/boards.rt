@@ -5,11 +5,13 @@ ghost use Rattle.tree.specs.Used.{InOrder};
 ghost use Rattle.run.specs.Verdict.{IsTrueOf};
 
 use crate::looking::verdict_in;
+use crate::opening::only;
 use crate::outcomes::BoardFault;
 use cert::{OwnedRecord, standing_claims_are_true};
 use machine_text::Table;
 use run::{NoMemory, Verdict};
 use std::alloc::Global;
+use std::collections::BTreeSet;
 use std::marker::Model;
 use tnf::in_order;
 
@@ -19,18 +21,21 @@ pub struct Board {
     alloc: Global,
     root: Table,
     records: Vec<OwnedRecord>,
+    // exactly the open tables
+    open_tables: BTreeSet<Table>,
 }
 
 impl Model for Board {
     ghost use Rattle.std.specs.Prelude.{map};
     ghost use Rattle.cert.specs.Kinds.{owned_recorded};
-    ghost use Rattle.ledger.specs.Contents.{Contents, IsBoard};
+    ghost use Rattle.ledger.specs.Contents.{Contents, IsBoard, IsOpenSet};
 
     ghost Value = { Contents };
 
     ghost view = { λ a. record { root = a.root; records = map owned_recorded a.records.items } };
 
-    ghost invariant = { λ a. IsBoard (record { root = a.root; records = map owned_recorded a.records.items }) };
+    ghost invariant = { λ a. IsBoard (record { root = a.root; records = map owned_recorded a.records.items })
+        × IsOpenSet a.open_tables (record { root = a.root; records = map owned_recorded a.records.items }) };
 }
 
 impl Board {
@@ -44,15 +49,16 @@ impl Board {
         ensures not_in_order { result ≡ Err BoardFault.NotInOrder → ((u : ℕ) × InOrder u (entry_of root)) → ⊥ }
     {
         let _ = root.states();
-        if in_order(&root) {
-            Ok(Board {
-                alloc,
-                root,
-                records: Vec::new(alloc),
-            })
-        } else {
-            Err(BoardFault::NotInOrder)
+        if !in_order(&root) {
+            return Err(BoardFault::NotInOrder);
         }
+        let open_tables = only(alloc, root)?;
+        Ok(Board {
+            alloc,
+            root,
+            records: Vec::new(alloc),
+            open_tables,
+        })
     }
 
     /// The recorded verdict on a table, which is true of it; none where there is none, as for a holdout.

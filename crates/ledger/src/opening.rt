@@ -6,18 +6,29 @@ ghost use Rattle.turing.specs.Halting.{Stops};
 ghost use Rattle.run.specs.declared.limits.TheConstants.{MAX_RUN_STEPS};
 ghost use Rattle.tree.specs.Used.{InOrder};
 ghost use Rattle.tree.specs.Tables.{IsChildTable};
-ghost use Rattle.cert.specs.Kinds.{owned_recorded};
+ghost use Rattle.cert.specs.Kinds.{owned_recorded, recorded};
 ghost use Rattle.ledger.specs.Records.{claim_in};
+ghost use Rattle.ledger.specs.Held.{IsCertified};
+ghost use Rattle.ledger.specs.Offers.{IsNewChild};
 ghost use Rattle.ledger.specs.Open.{table_cmp, HasUnrecorded};
 
-use crate::looking::certificate_for;
-use cert::OwnedRecord;
+use crate::looking::{certificate_for, verdict_for};
+use cert::{OwnedRecord, Record, standing_claims_are_true};
 use machine_text::Table;
-use run::{NoMemory, Runner};
+use run::{NoMemory, Runner, Verdict};
 use std::alloc::{AllocFailed, Global};
 use std::collections::BTreeSet;
 use tnf::{Children, children};
 use tree::children_listed;
+
+// The set of one table.
+pub fn only(alloc: Global, t: Table) -> Result<BTreeSet<Table>, NoMemory>
+    ensures { IfOk result (λ tables. (q : Packed) → IsTrue (contains table_cmp tables q) ↔ (q ≡ t)) }
+{
+    let mut tables = BTreeSet::new(alloc);
+    tables.insert(t)?;
+    Ok(tables)
+}
 
 // The open tables without one of them.
 pub fn without(tables: &BTreeSet<Table>, t: &Table) -> Result<BTreeSet<Table>, NoMemory>
@@ -67,6 +78,31 @@ fn is_unrecorded(records: &[OwnedRecord], parent: &Table, t: &Table) -> bool
     match certificate_for(records, t) {
         Some(_) => false,
         None => *t != *parent,
+    }
+}
+
+// The tables that are open once a record is taken: those that were, but for the record's own, and its
+// new children.
+pub fn open_after(
+    alloc: Global,
+    tables: &BTreeSet<Table>,
+    records: &[OwnedRecord],
+    r: &Record,
+) -> Result<BTreeSet<Table>, NoMemory>
+    requires in_order { (u : ℕ) × InOrder u (entry_of r.now.table) }
+    requires certified { IsCertified (recorded r.now) }
+    ensures { IfOk result (λ after. (q : Packed) → IsTrue (contains table_cmp after q)
+        ↔ ((IsTrue (contains table_cmp tables.now q) × (q ≢ r.now.table)) ⊎ IsNewChild (map owned_recorded records.now) (recorded r.now) q)) }
+{
+    let left = without(tables, &r.table)?;
+    match verdict_for(&r.certificate) {
+        Some(Verdict::Halts(count)) => {
+            standing_claims_are_true();
+            let _ = r.table.states();
+            let found = children_of(alloc, &r.table, count)?;
+            with_children(left, records, &r.table, found)
+        }
+        _ => Ok(left),
     }
 }
 

@@ -92,3 +92,31 @@ settled_claim (x ∷ xs) r c is =
           ap (λ (l : List Recorded). claim_in l r.table) (settled_past x xs r other) ∙ claim_past x (settled xs r) r.table other
           ∙ settled_claim xs r c (sym (claim_past x xs r.table other) ∙ is)
     ] refl
+
+-- writing at the place of the first record for its table settles
+settled_at_place : (xs : List OwnedRecord) (x : OwnedRecord) (i : ℕ) → i < length xs → same_table (get_or xs i x).table x.table ≡ true
+    → ((k : ℕ) → k < i → same_table (get_or xs k x).table x.table ≡ false)
+    → map owned_recorded (set xs i x) ≡ settled (map owned_recorded xs) (owned_recorded x)
+settled_at_place [] x i within here before = absurd (omega arith)
+settled_at_place (y ∷ xs) x zero within here before = sym (settled_here (owned_recorded y) (map owned_recorded xs) (owned_recorded x) here)
+settled_at_place (y ∷ xs) x (suc i) within here before =
+    ap (λ (l : List Recorded). owned_recorded y ∷ l) (settled_at_place xs x i (omega arith) here (λ k below. before (suc k) (omega arith)))
+    ∙ sym (settled_past (owned_recorded y) (map owned_recorded xs) (owned_recorded x) (before 0 (omega arith)))
+
+pub settled_at : (xs : List OwnedRecord) (x : OwnedRecord) (i : ℕ) → position (λ (r : OwnedRecord). same_table r.table x.table) xs ≡ Some i
+    → map owned_recorded (set xs i x) ≡ settled (map owned_recorded xs) (owned_recorded x)
+settled_at xs x i found =
+    let at = position-Some (λ (r : OwnedRecord). same_table r.table x.table) xs i x found in settled_at_place xs x i at.0 at.1 at.2
+
+settled_none : (rs : List Recorded) (r : Recorded) → claim_in rs r.table ≡ None → settled rs r ≡ rs
+unfolding settled
+settled_none [] r none = refl
+settled_none (x ∷ xs) r none =
+    elim (same_table x.table r.table) as (λ v. same_table x.table r.table ≡ v → settled (x ∷ xs) r ≡ x ∷ xs) [
+      | true ↦ λ here. let claimed = claim_here x xs r.table here in absurd (cc)
+      | false ↦ λ other. settled_past x xs r other ∙ ap (λ (l : List Recorded). x ∷ l) (settled_none xs r (sym (claim_past x xs r.table other) ∙ none))
+    ] refl
+
+pub settled_nowhere : (xs : List OwnedRecord) (x : OwnedRecord) → position (λ (r : OwnedRecord). same_table r.table x.table) xs ≡ None
+    → map owned_recorded xs ≡ settled (map owned_recorded xs) (owned_recorded x)
+settled_nowhere xs x none = sym (settled_none (map owned_recorded xs) (owned_recorded x) (found_no_claim xs x.table none))

@@ -4,5 +4,7 @@ pub mod HeldLaws
 pub mod OpenLaws
 pub mod OpenStart
 pub mod OpenAfter
+pub mod Taking
+pub mod Offering
 pub mod Pairs
 pub mod Sets

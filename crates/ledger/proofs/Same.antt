@@ -41,6 +41,6 @@ apart a b other e = let yes = same_at a b e in cc
 pub differ : (a b : Packed) (r : Bool) → r ≡ not (same_table a b) → (r ≡ true → a ≢ b) × (a ≢ b → r ≡ true)
 differ a b r is =
     elim (same_table a b) as (λ v. same_table a b ≡ v → r ≡ not v → (r ≡ true → a ≢ b) × (a ≢ b → r ≡ true)) [
-      true ↦ λ same no. (λ so. absurd (cc), λ other. absurd (other (same_is a b same)))
-    | false ↦ λ other so. (λ h. apart a b other, λ h. so)
+      | true ↦ λ same no. (λ so. absurd (cc), λ other. absurd (other (same_is a b same)))
+      | false ↦ λ other so. (λ h. apart a b other, λ h. so)
     ] refl is

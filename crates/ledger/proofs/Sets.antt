@@ -47,16 +47,16 @@ pub removed : (old new : BTreeSet Packed) (t q : Packed) → contains table_cmp 
     → IsTrue (contains table_cmp new q) ↔ (IsTrue (contains table_cmp old q) × (q ≢ t))
 removed old new t q is =
     elim (is_at (table_cmp t) q) as (λ v. is_at (table_cmp t) q ≡ v → contains table_cmp new q ≡ cond v false (contains table_cmp old q) → IsTrue (contains table_cmp new q) ↔ (IsTrue (contains table_cmp old q) × (q ≢ t))) [
-      true ↦ λ here no. (λ yes. let there : contains table_cmp new q ≡ true = yes in absurd (cc), λ h. absurd (h.1 (sym (at_is t q here))))
-    | false ↦ λ other same. (λ yes. (sym same ∙ yes, λ (e : q ≡ t). let itself = subst (λ (p : Packed). is_at (table_cmp t) p ≡ true) (sym e) (at_itself t) in absurd (cc)), λ h. same ∙ h.0)
+      | true ↦ λ here no. (λ yes. let there : contains table_cmp new q ≡ true = yes in absurd (cc), λ h. absurd (h.1 (sym (at_is t q here))))
+      | false ↦ λ other same. (λ yes. (sym same ∙ yes, λ (e : q ≡ t). let itself = subst (λ (p : Packed). is_at (table_cmp t) p ≡ true) (sym e) (at_itself t) in absurd (cc)), λ h. same ∙ h.0)
     ] refl is
 
 pub inserted : (old new : BTreeSet Packed) (t q : Packed) → contains table_cmp new q ≡ cond (is_at (table_cmp t) q) true (contains table_cmp old q)
     → IsTrue (contains table_cmp new q) ↔ (IsTrue (contains table_cmp old q) ⊎ (q ≡ t))
 inserted old new t q is =
     elim (is_at (table_cmp t) q) as (λ v. is_at (table_cmp t) q ≡ v → contains table_cmp new q ≡ cond v true (contains table_cmp old q) → IsTrue (contains table_cmp new q) ↔ (IsTrue (contains table_cmp old q) ⊎ (q ≡ t))) [
-      true ↦ λ here yes. (λ h. inr (sym (at_is t q here)), λ h. yes)
-    | false ↦ λ other same. (λ yes. inl (sym same ∙ yes), λ h. elim h [ inl there ↦ same ∙ there | inr e ↦ let itself = subst (λ (p : Packed). is_at (table_cmp t) p ≡ true) (sym e) (at_itself t) in absurd (cc) ])
+      | true ↦ λ here yes. (λ h. inr (sym (at_is t q here)), λ h. yes)
+      | false ↦ λ other same. (λ yes. inl (sym same ∙ yes), λ h. elim h [ inl there ↦ same ∙ there | inr e ↦ let itself = subst (λ (p : Packed). is_at (table_cmp t) p ≡ true) (sym e) (at_itself t) in absurd (cc) ])
     ] refl is
 
 -- the members of a list with one more at its front
@@ -107,15 +107,15 @@ pub brings : (rs : List Recorded) (parent x q : Packed) (all rest : List Packed)
     → (B ⊎ HasUnrecorded rest rs parent q) ↔ R
 brings rs parent x q all rest A B R list before one =
     let more : (h : HasUnrecorded rest rs parent q) → HasUnrecorded all rs parent q = λ h.
-      record { listed = subst (λ (l : List Packed). Contains l q) (sym list) (later_member x rest q h.listed); unrecorded = h.unrecorded; other = h.other } in
+    record { listed = subst (λ (l : List Packed). Contains l q) (sym list) (later_member x rest q h.listed); unrecorded = h.unrecorded; other = h.other } in
     let first : (h : HasUnrecorded (x ∷ []) rs parent q) → HasUnrecorded all rs parent q = λ h.
-      record { listed = subst (λ (l : List Packed). Contains l q) (sym list) (subst (Contains (x ∷ rest)) (sym (alone_is h)) (first_member x rest)); unrecorded = h.unrecorded; other = h.other } in (
+    record { listed = subst (λ (l : List Packed). Contains l q) (sym list) (subst (Contains (x ∷ rest)) (sym (alone_is h)) (first_member x rest)); unrecorded = h.unrecorded; other = h.other } in (
       λ h. elim h [ inl b ↦ elim (one.0 b) [ inl a ↦ before.0 (inl a) | inr u ↦ before.0 (inr (first u)) ] | inr u ↦ before.0 (inr (more u)) ],
       λ r. elim (before.1 r) [
-        inl a ↦ inl (one.1 (inl a))
-      | inr u ↦ elim (first_or_later x rest q (subst (λ (l : List Packed). Contains l q) list u.listed)) [
-          inl same ↦ inl (one.1 (inr (record { listed = subst (Contains (x ∷ [])) same (first_member x []); unrecorded = u.unrecorded; other = u.other })))
-        | inr later ↦ inr (record { listed = later; unrecorded = u.unrecorded; other = u.other })
+        | inl a ↦ inl (one.1 (inl a))
+        | inr u ↦ elim (first_or_later x rest q (subst (λ (l : List Packed). Contains l q) list u.listed)) [
+          | inl same ↦ inl (one.1 (inr (record { listed = subst (Contains (x ∷ [])) same (first_member x []); unrecorded = u.unrecorded; other = u.other })))
+          | inr later ↦ inr (record { listed = later; unrecorded = u.unrecorded; other = u.other })
         ]
       ],
     )
@@ -135,8 +135,8 @@ copied_keys xs ys same = AllZip-map (λ (x : Packed). x) xs ys same ∙ map-id x
 nowhere : (new : BTreeSet Packed) (t q : Packed) → contains table_cmp new q ≡ cond (is_at (table_cmp t) q) true false → IsTrue (contains table_cmp new q) ↔ (q ≡ t)
 nowhere new t q is =
     elim (is_at (table_cmp t) q) as (λ v. is_at (table_cmp t) q ≡ v → contains table_cmp new q ≡ cond v true false → IsTrue (contains table_cmp new q) ↔ (q ≡ t)) [
-      true ↦ λ here there. (λ h. sym (at_is t q here), λ h. there)
-    | false ↦ λ other gone. (λ h. let there : contains table_cmp new q ≡ true = h in absurd (cc), λ (e : q ≡ t). let itself = subst (λ (p : Packed). is_at (table_cmp t) p ≡ true) (sym e) (at_itself t) in absurd (cc))
+      | true ↦ λ here there. (λ h. sym (at_is t q here), λ h. there)
+      | false ↦ λ other gone. (λ h. let there : contains table_cmp new q ≡ true = h in absurd (cc), λ (e : q ≡ t). let itself = subst (λ (p : Packed). is_at (table_cmp t) p ≡ true) (sym e) (at_itself t) in absurd (cc))
     ] refl is
 
 pub only_one : (old new : BTreeSet Packed) (t q : Packed) → old.keys ≡ [] → contains table_cmp new q ≡ cond (is_at (table_cmp t) q) true (contains table_cmp old q)

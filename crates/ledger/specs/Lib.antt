@@ -3,4 +3,5 @@ pub mod Held
 pub mod Contents
 pub mod Open
 pub mod Offers
+pub mod Places
 pub mod Faults

@@ -9,6 +9,11 @@ mod boards;
 mod looking;
 mod opening;
 mod outcomes;
+mod places;
+mod preparing;
 
 pub use boards::Board;
 pub use outcomes::{BoardFault, OfferFault, Taken};
+
+#[cfg(test)]
+mod tests;

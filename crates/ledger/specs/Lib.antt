@@ -3,5 +3,6 @@ pub mod Held
 pub mod Contents
 pub mod Open
 pub mod Offers
+pub mod Lent
 pub mod Places
 pub mod Faults

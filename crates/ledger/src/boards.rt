@@ -5,6 +5,7 @@ ghost use Rattle.tree.specs.Used.{InOrder};
 ghost use Rattle.run.specs.Verdict.{IsTrueOf};
 ghost use Rattle.ledger.specs.Places.{IsPlace};
 
+use crate::listing::Records;
 use crate::looking::{certificate_for, verdict_in};
 use crate::opening::only;
 use crate::outcomes::{BoardFault, OfferFault, Taken};
@@ -68,6 +69,13 @@ impl Board {
             records: Vec::new(alloc),
             open_tables,
         })
+    }
+
+    /// The records, lent, in their order.
+    pub fn records(&self) -> Records<'_>
+        ensures { result ≡ self.now.records }
+    {
+        Records::of(&self.records)
     }
 
     /// The recorded verdict on a table, which is true of it; none where there is none, as for a holdout.

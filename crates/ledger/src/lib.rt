@@ -6,6 +6,7 @@
 #![tactic(auto)]
 
 mod boards;
+mod listing;
 mod looking;
 mod opening;
 mod outcomes;
@@ -13,6 +14,7 @@ mod places;
 mod preparing;
 
 pub use boards::Board;
+pub use listing::Records;
 pub use outcomes::{BoardFault, OfferFault, Taken};
 
 #[cfg(test)]

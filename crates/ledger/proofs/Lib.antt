@@ -6,5 +6,6 @@ pub mod OpenStart
 pub mod OpenAfter
 pub mod Taking
 pub mod Offering
+pub mod OpenListed
 pub mod Pairs
 pub mod Sets

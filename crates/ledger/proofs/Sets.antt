@@ -8,7 +8,8 @@ use Rattle.std.specs.Ordering.{nat_cmp, ordering_then}
 use Rattle.std.specs.declared.cmp.Ordering.{Ordering}
 use Rattle.std.specs.declared.cmp.Ordering.TheVariants.{Less, Equal, Greater}
 use Rattle.std.specs.Cmp.Lexicographic.{slice_cmp, nat_list_cmp_total}
-use Rattle.std.specs.Cmp.{nat_cmp_total, tied_itself}
+use Rattle.std.specs.Cmp.{IsTotalOrder, nat_cmp_total, tied_itself, then_total, on_total}
+use Rattle.std.proofs.lemmas.Map.Views.{btree_set_contains_iff}
 use Rattle.std.specs.BTreeSet.{BTreeSet, contains}
 use Rattle.std.specs.BTreeMap.{is_at}
 use Rattle.std.proofs.lemmas.Map.Lookups.{exact_bytes, exact_unsigned}
@@ -144,3 +145,10 @@ pub only_one : (old new : BTreeSet Packed) (t q : Packed) → old.keys ≡ [] �
 only_one old new t q none is =
     let empty : contains table_cmp old q ≡ false = subst (λ (l : List Packed). contains table_cmp (record { keys = l }) q ≡ false) (sym none) refl in
     nowhere new t q (subst (λ (b : Bool). contains table_cmp new q ≡ cond (is_at (table_cmp t) q) true b) empty is)
+
+-- the order of tables is total, so a set has exactly the tables that it lists
+pub tables_total : IsTotalOrder table_cmp
+tables_total = then_total (on_total (λ (p : Packed). p.codes) nat_list_cmp_total) (on_total (λ (p : Packed). p.states) nat_cmp_total)
+
+pub listed_in_set : (tables : BTreeSet Packed) (t : Packed) → IsTrue (contains table_cmp tables t) ↔ Contains tables.keys t
+listed_in_set tables t = btree_set_contains_iff tables_total exact_tables tables t

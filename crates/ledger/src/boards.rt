@@ -3,6 +3,10 @@ ghost use Rattle.std.specs.Prelude.{◌≡◌, ℕ, IfSome, IfOk, Err};
 ghost use Rattle.machine_text.specs.Packed.{entry_of};
 ghost use Rattle.tree.specs.Used.{InOrder};
 ghost use Rattle.run.specs.Verdict.{IsTrueOf};
+ghost use Rattle.std.specs.Prelude.{◌↔◌, Contains};
+ghost use Rattle.std.specs.List.Sorted.{IsStrictlySortedBy};
+ghost use Rattle.machine_text.specs.Packed.{Packed};
+ghost use Rattle.ledger.specs.Open.{table_cmp};
 ghost use Rattle.ledger.specs.Places.{IsPlace};
 
 use crate::listing::Records;
@@ -16,9 +20,13 @@ use machine_text::Table;
 use run::{NoMemory, Verdict};
 use std::alloc::Global;
 use std::collections::BTreeSet;
+use std::collections::btree_set::Iter;
 use std::marker::Model;
 use tnf::in_order;
 use tree::child_is_table;
+
+/// An iterator over the open tables of a board.
+pub type Open<'a> = Iter<'a, Table>;
 
 /// The records of a tree's tables, from the tree's root, in the order in which they were taken.
 #[derive(Drop)]
@@ -76,6 +84,15 @@ impl Board {
         ensures { result ≡ self.now.records }
     {
         Records::of(&self.records)
+    }
+
+    /// The open tables, in the order of their texts: the root or a child of a table recorded as halting,
+    /// without a record of its own.
+    pub fn open(&self) -> Open<'_>
+        ensures tables { (t : Packed) → Contains result t ↔ IsOpen self.now.root (mark_in self.now.records) t }
+        ensures rising { IsStrictlySortedBy table_cmp result }
+    {
+        self.open_tables.iter()
     }
 
     /// The recorded verdict on a table, which is true of it; none where there is none, as for a holdout.

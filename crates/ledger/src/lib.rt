@@ -13,7 +13,7 @@ mod outcomes;
 mod places;
 mod preparing;
 
-pub use boards::Board;
+pub use boards::{Board, Open};
 pub use listing::Records;
 pub use outcomes::{BoardFault, OfferFault, Taken};
 

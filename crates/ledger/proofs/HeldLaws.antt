@@ -1,0 +1,167 @@
+-- What is true of every held list, and what keeps a list held.
+use Rattle.std.proofs.Common.{◌≡◌, ℕ, Bool, true, false, List, [], ◌∷◌, ◌++◌, Option, Some, None, option_map, IsSome, inl, inr, refl, sym, ◌∙◌, ap, subst, append_assoc, append-nil, IfSome, ◌⊎◌}
+use Rattle.run.specs.Verdict.{IsTrueOf}
+use Rattle.run.specs.declared.verdicts.Verdict.{Verdict}
+use Rattle.machine_text.specs.Packed.{Packed, IsTable, entry_of}
+use Rattle.tree.specs.Closed.{Mark, Stopping, NonStopping, Undecided, IsOpen}
+use Rattle.tree.specs.Tables.{IsChildTable}
+use Rattle.cert.specs.Claim.{Claim, Recorded, Stands, shown_by, HaltsIn, Nothing}
+use Rattle.ledger.specs.Records.{same_table, claim_in, mark_in, mark_of, verdict_in, shown_where}
+use Rattle.ledger.specs.Held.{IsCertified, IsFit, AreFitAfter, IsHeld, Settles, settled}
+use Rattle.ledger.proofs.Same.{same_is, same_itself, same_at, not_same, apart}
+use Rattle.ledger.proofs.Claims.{claim_here, claim_past, claim_none, claim_kept, claim_more, settled_here, settled_past}
+
+-- a certified record of a table
+abbrev of_table : Packed → Claim → Recorded
+of_table t c = record { table = t; claim = c }
+
+-- each claim of records that are fit in their turn is certified
+certified_after : (root : Packed) (earlier rs : List Recorded) (t : Packed) (c : Claim) → AreFitAfter root earlier rs → claim_in rs t ≡ Some c → IsCertified (of_table t c)
+certified_after root earlier [] t c fit is = let none = claim_none t in cc
+certified_after root earlier (r ∷ rs) t c fit is =
+    elim (same_table r.table t) as (λ v. same_table r.table t ≡ v → IsCertified (of_table t c)) [
+      | true ↦ λ same.
+          let table : r.table ≡ t = same_is r.table t same in
+          let claimed = claim_here r rs t same in
+          let claim : r.claim ≡ c = cc in
+          subst (λ (p : Packed). IsCertified (of_table p c)) table (subst (λ (d : Claim). IsCertified (of_table r.table d)) claim fit.0.certified)
+      | false ↦ λ other. certified_after root (earlier ++ (r ∷ [])) rs t c fit.1 (sym (claim_past r rs t other) ∙ is)
+    ] refl
+
+pub held_certified : (root : Packed) (rs : List Recorded) (t : Packed) (c : Claim) → IsHeld root rs → claim_in rs t ≡ Some c → IsCertified (of_table t c)
+held_certified root rs t c held is = certified_after root [] rs t c held.fit is
+
+pub held_stands : (root : Packed) (rs : List Recorded) (t : Packed) (c : Claim) → IsHeld root rs → claim_in rs t ≡ Some c → Stands c t
+held_stands root rs t c held is = (held_certified root rs t c held is).stands
+
+-- so a recorded verdict is true of its table, by the law that a standing claim makes its verdict true
+pub verdict_true : (root : Packed) (rs : List Recorded) (t : Packed) → IsHeld root rs → IsTable t
+    → ((c : Claim) (p : Packed) → IsTable p → Stands c p → IfSome (shown_by c) (λ (v : Verdict). IsTrueOf v (entry_of p)))
+    → IfSome (verdict_in rs t) (λ (v : Verdict). IsTrueOf v (entry_of t))
+verdict_true root rs t held is_table law =
+    elim (claim_in rs t) as (λ o. claim_in rs t ≡ o → IfSome (shown_where o) (λ (v : Verdict). IsTrueOf v (entry_of t))) [
+      | None ↦ λ none. tt
+      | Some c ↦ λ is. law c t is_table (held_stands root rs t c held is)
+    ] refl
+
+-- a further fit record keeps a list held
+fit_more : (root : Packed) (earlier rs : List Recorded) (r : Recorded) → AreFitAfter root earlier rs → IsFit root (earlier ++ rs) r → AreFitAfter root earlier (rs ++ (r ∷ []))
+fit_more root earlier [] r fit last = (subst (λ (l : List Recorded). IsFit root l r) (append-nil earlier) last, tt)
+fit_more root earlier (x ∷ rs) r fit last =
+    (fit.0, fit_more root (earlier ++ (x ∷ [])) rs r fit.1 (subst (λ (l : List Recorded). IsFit root l r) (sym (append_assoc earlier (x ∷ []) rs)) last))
+
+pub held_more : (root : Packed) (rs : List Recorded) (r : Recorded) → IsHeld root rs → IsFit root rs r → IsHeld root (rs ++ (r ∷ []))
+held_more root rs r held fit = record { fit = fit_more root [] rs r held.fit fit }
+
+-- what is fit after some records is fit after others that say no less of halting, and nothing where those say nothing
+record IsRefined (old new : List Recorded) : Type 0 where
+  none : (t : Packed) → claim_in old t ≡ None → claim_in new t ≡ None
+  stopping : (t : Packed) (k : ℕ) → mark_in old t ≡ Some (Stopping k) → mark_in new t ≡ Some (Stopping k)
+
+pub unmarked : (o : Option Claim) → option_map mark_of o ≡ None → o ≡ None
+unmarked None e = refl
+unmarked (Some c) e = cc
+
+still_open : (root : Packed) (old new : List Recorded) (t : Packed) → IsRefined old new → IsOpen root (mark_in old) t → IsOpen root (mark_in new) t
+still_open root old new t refined is_open = record {
+  unmarked = ap (option_map mark_of) (refined.none t (unmarked (claim_in old t) is_open.unmarked));
+  place = elim is_open.place [ inl e ↦ inl e | inr w ↦ inr (w.0, w.1, refined.stopping w.0 w.1 w.2, w.3) ];
+}
+
+pub mark_kept : (rs ys : List Recorded) (t : Packed) (m : Mark) → mark_in rs t ≡ Some m → mark_in (rs ++ ys) t ≡ Some m
+mark_kept rs ys t m is =
+    elim (claim_in rs t) as (λ o. claim_in rs t ≡ o → mark_in (rs ++ ys) t ≡ Some m) [
+      | Some c ↦ λ claimed. ap (option_map mark_of) (claim_kept rs ys t c claimed ∙ sym claimed) ∙ is
+      | None ↦ λ none. let no = ap (option_map mark_of) none in cc
+    ] refl
+
+mark_more : (rs ys : List Recorded) (t : Packed) → claim_in rs t ≡ None → mark_in (rs ++ ys) t ≡ mark_in ys t
+mark_more rs ys t none = ap (option_map mark_of) (claim_more rs ys t none)
+
+-- where nothing is claimed by the longer list, nothing is by its two parts
+pub none_before : (rs ys : List Recorded) (t : Packed) → claim_in (rs ++ ys) t ≡ None → (claim_in rs t ≡ None) × (claim_in ys t ≡ None)
+none_before rs ys t none =
+    elim (claim_in rs t) as (λ o. claim_in rs t ≡ o → (claim_in rs t ≡ None) × (claim_in ys t ≡ None)) [
+      | Some c ↦ λ is. let kept = claim_kept rs ys t c is in (cc, cc)
+      | None ↦ λ no. (no, sym (claim_more rs ys t no) ∙ none)
+    ] refl
+
+-- the mark of a stopping table in a longer list stands in its first part, or there is nothing there and it stands in the rest
+stopping_where : (rs ys : List Recorded) (t : Packed) (k : ℕ) → mark_in (rs ++ ys) t ≡ Some (Stopping k)
+    → (mark_in rs t ≡ Some (Stopping k)) ⊎ ((claim_in rs t ≡ None) × (mark_in ys t ≡ Some (Stopping k)))
+stopping_where rs ys t k is =
+    elim (claim_in rs t) as (λ o. claim_in rs t ≡ o → (mark_in rs t ≡ Some (Stopping k)) ⊎ ((claim_in rs t ≡ None) × (mark_in ys t ≡ Some (Stopping k)))) [
+      | Some c ↦ λ claimed. inl (ap (option_map mark_of) (claimed ∙ sym (claim_kept rs ys t c claimed)) ∙ is)
+      | None ↦ λ none. inr (none, sym (mark_more rs ys t none) ∙ is)
+    ] refl
+
+refined_more : (old new ys : List Recorded) → IsRefined old new → IsRefined (old ++ ys) (new ++ ys)
+refined_more old new ys refined = record {
+  none = λ t e. let parts = none_before old ys t e in claim_more new ys t (refined.none t parts.0) ∙ parts.1;
+  stopping = λ t k e. elim (stopping_where old ys t k e) [
+    | inl here ↦ mark_kept new ys t (Stopping k) (refined.stopping t k here)
+    | inr later ↦ mark_more new ys t (refined.none t later.0) ∙ later.1
+  ];
+}
+
+-- one record of a holdout and another of the same table
+swapped_none : (x r : Recorded) (t : Packed) → x.table ≡ r.table → claim_in (x ∷ []) t ≡ None → claim_in (r ∷ []) t ≡ None
+swapped_none x r t same none =
+    elim (same_table x.table t) as (λ v. same_table x.table t ≡ v → claim_in (r ∷ []) t ≡ None) [
+      | true ↦ λ here. let claimed = claim_here x [] t here in cc
+      | false ↦ λ other. claim_past r [] t (not_same r.table t (λ (e : r.table ≡ t). apart x.table t other (same ∙ e))) ∙ claim_none t
+    ] refl
+
+holdout_alone : (x : Recorded) (t : Packed) (k : ℕ) → mark_of x.claim ≡ Undecided → mark_in (x ∷ []) t ≡ Some (Stopping k) → ⊥
+holdout_alone x t k holdout is =
+    elim (same_table x.table t) as (λ v. same_table x.table t ≡ v → ⊥) [
+      | true ↦ λ here. let claimed = ap (option_map mark_of) (claim_here x [] t here) in cc
+      | false ↦ λ other. let none = ap (option_map mark_of) (claim_past x [] t other ∙ claim_none t) in cc
+    ] refl
+
+refined_swap : (old : List Recorded) (x r : Recorded) → x.table ≡ r.table → mark_of x.claim ≡ Undecided → IsRefined (old ++ (x ∷ [])) (old ++ (r ∷ []))
+refined_swap old x r same holdout = record {
+  none = λ t e. let parts = none_before old (x ∷ []) t e in claim_more old (r ∷ []) t parts.0 ∙ swapped_none x r t same parts.1;
+  stopping = λ t k e. elim (stopping_where old (x ∷ []) t k e) [
+    | inl here ↦ mark_kept old (r ∷ []) t (Stopping k) here
+    | inr later ↦ absurd (holdout_alone x t k holdout later.1)
+  ];
+}
+
+fit_refined : (root : Packed) (old new rs : List Recorded) → IsRefined old new → AreFitAfter root old rs → AreFitAfter root new rs
+fit_refined root old new [] refined fit = tt
+fit_refined root old new (x ∷ rs) refined fit = (
+  record { is_open = still_open root old new x.table refined fit.0.is_open; certified = fit.0.certified },
+  fit_refined root (old ++ (x ∷ [])) (new ++ (x ∷ [])) rs (refined_more old new (x ∷ []) refined) fit.1,
+)
+
+-- a settling record keeps a list held
+fit_settled : (root : Packed) (earlier rs : List Recorded) (r : Recorded) (c : Claim) → AreFitAfter root earlier rs → claim_in rs r.table ≡ Some c → mark_of c ≡ Undecided → IsCertified r
+    → AreFitAfter root earlier (settled rs r)
+fit_settled root earlier [] r c fit is holdout certified = let none = claim_none r.table in cc
+fit_settled root earlier (x ∷ rs) r c fit is holdout certified =
+    elim (same_table x.table r.table) as (λ v. same_table x.table r.table ≡ v → AreFitAfter root earlier (settled (x ∷ rs) r)) [
+      | true ↦ λ here.
+          let same : x.table ≡ r.table = same_is x.table r.table here in
+          let claimed = claim_here x rs r.table here in
+          let claim : x.claim ≡ c = cc in
+          let now : IsFit root earlier r = record { is_open = subst (IsOpen root (mark_in earlier)) same fit.0.is_open; certified = certified } in
+          let later = fit_refined root (earlier ++ (x ∷ [])) (earlier ++ (r ∷ [])) rs (refined_swap earlier x r same (ap mark_of claim ∙ holdout)) fit.1 in
+          subst (AreFitAfter root earlier) (sym (settled_here x rs r here)) (now, later)
+      | false ↦ λ other.
+          let later = fit_settled root (earlier ++ (x ∷ [])) rs r c fit.1 (sym (claim_past x rs r.table other) ∙ is) holdout certified in
+          subst (AreFitAfter root earlier) (sym (settled_past x rs r other)) (fit.0, later)
+    ] refl
+
+none_marked : {o : Option Mark} {m : Mark} → o ≡ Some m → o ≡ None → ⊥
+none_marked some none = cc
+
+pub held_settled : (root : Packed) (rs : List Recorded) (r : Recorded) → IsHeld root rs → Settles rs r → IsHeld root (settled rs r)
+held_settled root rs r held settles =
+    elim (claim_in rs r.table) as (λ o. claim_in rs r.table ≡ o → IsHeld root (settled rs r)) [
+      | Some c ↦ λ is.
+          let marked = ap (option_map mark_of) (sym is) ∙ settles.is_holdout in
+          let holdout : mark_of c ≡ Undecided = cc in
+          record { fit = fit_settled root [] rs r c held.fit is holdout settles.certified }
+      | None ↦ λ none. let marked = ap (option_map mark_of) none in absurd (none_marked settles.is_holdout marked)
+    ] refl

@@ -1,0 +1,11 @@
+pub mod Same
+pub mod Claims
+pub mod HeldLaws
+pub mod OpenLaws
+pub mod OpenStart
+pub mod OpenAfter
+pub mod Taking
+pub mod Offering
+pub mod OpenListed
+pub mod Pairs
+pub mod Sets

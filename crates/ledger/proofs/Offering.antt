@@ -1,0 +1,62 @@
+-- Where an offered record stands, and what becomes of it.
+use Rattle.std.proofs.Common.{◌≡◌, ℕ, List, [], ◌∷◌, ◌++◌, Option, Some, None, option_map, IsSome, inl, inr, ◌⊎◌, Result, Ok, Err, IfOk, IfErr, OnErr, map, refl, sym, ◌∙◌, ap, subst}
+use Rattle.machine_text.specs.Packed.{Packed}
+use Rattle.run.specs.declared.verdicts.Refused.{Refused}
+use Rattle.run.specs.declared.verdicts.Verdict.{Verdict}
+use Rattle.run.specs.declared.verdicts.Verdict.TheVariants.{Halts, Never}
+use Rattle.tree.specs.Closed.{Mark, Stopping, NonStopping, Undecided, IsVerdict, IsOpen}
+use Rattle.cert.specs.Claim.{Claim, Recorded, shown_by}
+use Rattle.ledger.specs.Records.{claim_in, mark_in, mark_of, mark_by}
+use Rattle.ledger.specs.Held.{IsFit, IsHoldout, Settles, settled}
+use Rattle.ledger.specs.Offers.{IsKnown, IsJudged, IsElsewhere, IsRefusal, OfferGives}
+use Rattle.ledger.specs.Contents.{Contents}
+use Rattle.cert.specs.declared.kinds.OwnedRecord.{OwnedRecord}
+use Rattle.cert.specs.Kinds.{owned_recorded}
+use Rattle.ledger.specs.Places.{IsPlace, place_by}
+use Rattle.ledger.specs.declared.places.Place.{Place}
+use Rattle.ledger.specs.declared.places.Place.TheVariants.{Known as KnownPlace, Open, Holdout, Elsewhere}
+use Rattle.ledger.specs.declared.outcomes.Taken.{Taken}
+use Rattle.ledger.specs.declared.outcomes.Taken.TheVariants.{New, Known, Settled}
+use Rattle.ledger.specs.declared.outcomes.OfferFault.{OfferFault}
+use Rattle.ledger.specs.declared.outcomes.OfferFault.TheVariants.{WrongSize, NotOpen, Refused as IsRefused, NoMemory}
+
+by_verdict : (v : Verdict) → IsVerdict (Some (mark_by (Some v)))
+by_verdict (Halts k) = tt
+by_verdict Never = tt
+
+by_shown : (root : Packed) (rs : List Recorded) (r : Recorded) (held offered : Option Verdict) → mark_in rs r.table ≡ Some (mark_by held) → shown_by r.claim ≡ offered → IsPlace root rs r (place_by held offered)
+by_shown root rs r (Some v) offered marked shown = record { is = inl (subst IsVerdict (sym marked) (by_verdict v)) }
+by_shown root rs r None (Some v) marked shown = (marked, subst (λ (o : Option Verdict). IsSome o) (sym shown) refl)
+by_shown root rs r None None marked shown = record { is = inr (marked, shown) }
+
+pub stands_recorded : (root : Packed) (rs : List Recorded) (r : Recorded) (c : Claim) (place : Place) → claim_in rs r.table ≡ Some c → place ≡ place_by (shown_by c) (shown_by r.claim) → IsPlace root rs r place
+stands_recorded root rs r c place claimed is = subst (IsPlace root rs r) (sym is) (by_shown root rs r (shown_by c) (shown_by r.claim) (ap (option_map mark_of) claimed) refl)
+
+pub stands_unrecorded : (root : Packed) (rs : List Recorded) (r : Recorded) (place : Place) → claim_in rs r.table ≡ None
+    → (IsOpen root (mark_in rs) r.table × (place ≡ Open)) ⊎ ((IsOpen root (mark_in rs) r.table → ⊥) × (place ≡ Elsewhere))
+    → IsPlace root rs r place
+stands_unrecorded root rs r place none (inl h) = subst (IsPlace root rs r) (sym h.1) h.0
+stands_unrecorded root rs r place none (inr h) = subst (IsPlace root rs r) (sym h.1) (record { unrecorded = none; not_open = h.0 })
+
+refusal_gives : (root : Packed) (old new : List Recorded) (r : Recorded) (f : OfferFault) → IsRefusal f r → IsJudged root old r → new ≡ old → OfferGives root old r (Err f) new
+refusal_gives root old new r WrongSize refusal judged same = absurd refusal
+refusal_gives root old new r NotOpen refusal judged same = absurd refusal
+refusal_gives root old new r (IsRefused f) refusal judged same = (judged, refusal, same)
+refusal_gives root old new r NoMemory refusal judged same = (judged, same)
+
+pub take_gives : (root : Packed) (old new : List Recorded) (r : Recorded) (result : Result Taken OfferFault) → IsOpen root (mark_in old) r.table
+    → IfOk result (λ (t : Taken). (t ≡ New) × IsFit root old r × (new ≡ old ++ (r ∷ [])))
+    → OnErr result (new ≡ old) → IfErr result (λ (f : OfferFault). IsRefusal f r) → OfferGives root old r result new
+take_gives root old new r (Ok t) is_open ok same refusal = subst (λ (x : Taken). OfferGives root old r (Ok x) new) (sym ok.0) (ok.1, ok.2)
+take_gives root old new r (Err f) is_open ok same refusal = refusal_gives root old new r f refusal (record { is = inl is_open }) same
+
+pub settle_gives : (root : Packed) (old new : List Recorded) (r : Recorded) (result : Result Taken OfferFault) → IsHoldout old r.table × IsSome (shown_by r.claim)
+    → IfOk result (λ (t : Taken). (t ≡ Settled) × Settles old r × (new ≡ settled old r))
+    → OnErr result (new ≡ old) → IfErr result (λ (f : OfferFault). IsRefusal f r) → OfferGives root old r result new
+settle_gives root old new r (Ok t) holdout ok same refusal = subst (λ (x : Taken). OfferGives root old r (Ok x) new) (sym ok.0) (ok.1, ok.2)
+settle_gives root old new r (Err f) holdout ok same refusal = refusal_gives root old new r f refusal (record { is = inr holdout }) same
+
+-- what the code looks at is what the board holds
+pub seen : (b : Contents) (root t : Packed) (items lent : List OwnedRecord) (o : Option Claim) → (record { root = root; records = map owned_recorded items }) ≡ b → lent ≡ items → claim_in (map owned_recorded lent) t ≡ o → claim_in b.records t ≡ o
+seen b root t items lent o view same is =
+    subst (λ (c : Contents). claim_in c.records t ≡ o) view (subst (λ (l : List OwnedRecord). claim_in (map owned_recorded l) t ≡ o) same is)

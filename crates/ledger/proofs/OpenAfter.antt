@@ -1,0 +1,45 @@
+-- What the code's set of open tables is once a record is taken.
+use Rattle.std.proofs.Common.{◌≡◌, ◌≢◌, ℕ, ◌≤◌, ◌⊎◌, inl, inr, ◌↔◌, Some, None, List, Option, Contains, IfSome, IfOk, Result, Ok, Err, refl, sym, ◌∙◌, ap, subst, arith}
+use Rattle.machine_text.specs.Packed.{Packed, entry_of}
+use Rattle.turing.specs.Halting.{Stops}
+use Rattle.run.specs.declared.limits.TheConstants.{MAX_RUN_STEPS, MAX_HALT_STEPS}
+use Rattle.run.specs.declared.verdicts.Verdict.{Verdict}
+use Rattle.run.specs.declared.verdicts.Verdict.TheVariants.{Halts, Never}
+use Rattle.run.specs.Verdict.{IsTrueOf}
+use Rattle.tree.specs.Tables.{IsChildTable}
+use Rattle.cert.specs.Claim.{Claim, HaltsIn, Nothing, Recorded, IsWithin, shown_by}
+use Rattle.ledger.specs.Records.{claim_in}
+use Rattle.ledger.specs.Open.{HasUnrecorded}
+use Rattle.ledger.specs.Offers.{IsNewChild}
+
+-- a halting claim within its limit is within that of a run
+pub halt_limit : (c : Claim) (k : ℕ) → shown_by c ≡ Some (Halts k) → IsWithin c → k ≤ MAX_RUN_STEPS
+halt_limit (HaltsIn j) k is within = let same : j ≡ k = cc in omega arith
+halt_limit Nothing k is within = let none = is in absurd (cc)
+
+pub halts_by : (o : Option Verdict) (p : Packed) (k : ℕ) → IfSome o (λ (v : Verdict). IsTrueOf v (entry_of p)) → o ≡ Some (Halts k) → Stops (entry_of p) k
+halts_by o p k h is = subst (λ (x : Option Verdict). IfSome x (λ (v : Verdict). IsTrueOf v (entry_of p))) is h
+
+one_count : (k j : ℕ) (o : Option Verdict) → o ≡ Some (Halts k) → o ≡ Some (Halts j) → k ≡ j
+one_count k j o a b = cc
+
+-- with a halting claim: what was open, and the unrecorded among the children
+pub after_halting : (rs : List Recorded) (r : Recorded) (k : ℕ) (found : List Packed) (q : Packed) (A B C : Type 0)
+    → shown_by r.claim ≡ Some (Halts k) → ((t : Packed) → Contains found t ↔ IsChildTable r.table t)
+    → B ↔ (A × (q ≢ r.table)) → C ↔ (B ⊎ HasUnrecorded found rs r.table q)
+    → C ↔ ((A × (q ≢ r.table)) ⊎ IsNewChild rs r q)
+after_halting rs r k found q A B C shown children left more = (
+  λ c. elim (more.0 c) [ inl b ↦ inl (left.0 b) | inr u ↦ inr (record { count = k; stops = shown; child = (children q).0 u.listed; unrecorded = u.unrecorded; other = u.other }) ],
+  λ h. elim h [ inl a ↦ more.1 (inl (left.1 a)) | inr u ↦ more.1 (inr (record { listed = (children q).1 u.child; unrecorded = u.unrecorded; other = u.other })) ],
+)
+
+-- with another: what was open
+pub after_other : (rs : List Recorded) (r : Recorded) (q : Packed) (A B : Type 0)
+    → ((k : ℕ) → shown_by r.claim ≡ Some (Halts k) → ⊥) → B ↔ (A × (q ≢ r.table))
+    → B ↔ ((A × (q ≢ r.table)) ⊎ IsNewChild rs r q)
+after_other rs r q A B never left = (λ b. inl (left.0 b), λ h. elim h [ inl a ↦ left.1 a | inr u ↦ absurd (never u.count u.stops) ])
+
+-- what follows of a value follows of it in an answer
+pub if_ok : {T E : Type 0} {P Q : T → Type 0} (r : Result T E) → ((t : T) → P t → Q t) → IfOk r P → IfOk r Q
+if_ok (Ok t) f h = f t h
+if_ok (Err e) f h = tt

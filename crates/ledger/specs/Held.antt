@@ -1,0 +1,42 @@
+-- Which lists of records a board may hold from a root, and how a record changes them.
+use Rattle.std.specs.Prelude.{◌≡◌, if◌then◌else◌, List, [], ◌∷◌, ◌++◌, Option, Some, None, IsSome}
+use Rattle.machine_text.specs.Packed.{Packed}
+use Rattle.tree.specs.Closed.{Undecided, IsOpen}
+use Rattle.cert.specs.Claim.{Recorded, IsWithin, IsWide, Stands, shown_by}
+use Rattle.ledger.specs.Records.{same_table, mark_in}
+
+-- what is claimed stands, within the limits; where nothing is claimed nothing has to
+pub record IsCertified (r : Recorded) : Type 0 where
+  pub within : IsWithin r.claim
+  pub narrow : IsWide r.claim r.table → ⊥
+  pub stands : Stands r.claim r.table
+
+-- fit after earlier records: its table is open by them (the root, or a child of one recorded as halting, without a
+-- record of its own), and it is certified
+pub record IsFit (root : Packed) (earlier : List Recorded) (r : Recorded) : Type 0 where
+  pub is_open : IsOpen root (mark_in earlier) r.table
+  pub certified : IsCertified r
+
+-- each record is fit after the earlier ones and those before it
+abbrev pub AreFitAfter : Packed → List Recorded → List Recorded → Type 0
+AreFitAfter root earlier [] = Unit {0}
+AreFitAfter root earlier (r ∷ rs) = IsFit root earlier r × AreFitAfter root (earlier ++ (r ∷ [])) rs
+
+-- held from a root: each record is fit after those before it
+pub record IsHeld (root : Packed) (rs : List Recorded) : Type 0 where
+  pub fit : AreFitAfter root [] rs
+
+-- a holdout: recorded, without a verdict
+abbrev pub IsHoldout : List Recorded → Packed → Type 0
+IsHoldout rs t = mark_in rs t ≡ Some Undecided
+
+-- the record settles a holdout: it has a verdict, and is certified
+pub record Settles (rs : List Recorded) (r : Recorded) : Type 0 where
+  pub is_holdout : IsHoldout rs r.table
+  pub verdict : IsSome (shown_by r.claim)
+  pub certified : IsCertified r
+
+-- the records with this one in the place of the first for its table
+unfoldable pub settled : List Recorded → Recorded → List Recorded
+settled [] r = []
+settled (x ∷ xs) r = if same_table x.table r.table then r ∷ xs else x ∷ settled xs r

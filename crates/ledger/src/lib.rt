@@ -1,0 +1,21 @@
+//! Boards: the records held of a tree's tables, from its root.
+//!
+//! A board holds a record only where its table was open, and where its certificate stands: so each verdict
+//! on it is true, whatever calls made it. `specs/Records` says what a list of records says of a table, and
+//! `specs/Held` which lists a board may hold.
+#![tactic(auto)]
+
+mod boards;
+mod listing;
+mod looking;
+mod opening;
+mod outcomes;
+mod places;
+mod preparing;
+
+pub use boards::{Board, Open};
+pub use listing::Records;
+pub use outcomes::{BoardFault, OfferFault, Taken};
+
+#[cfg(test)]
+mod tests;

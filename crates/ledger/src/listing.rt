@@ -1,0 +1,51 @@
+// The records of a board, one by one.
+ghost use Rattle.std.specs.Prelude.{◌≡◌};
+
+use cert::{OwnedRecord, Record};
+use std::marker::Model;
+
+/// An iterator over the records of a board, each lent, in the order in which their tables were taken. It
+/// is seen as the list of those that are left.
+#[derive(Drop)]
+pub struct Records<'a> {
+    left: &'a [OwnedRecord],
+}
+
+impl<'a> Model for Records<'a> {
+    ghost use Rattle.std.specs.Prelude.{List, map};
+    ghost use Rattle.cert.specs.Claim.{Recorded};
+    ghost use Rattle.cert.specs.Kinds.{owned_recorded};
+
+    ghost Value = { List Recorded };
+
+    ghost view = { λ a. map owned_recorded a.left.now };
+}
+
+impl<'a> Records<'a> {
+    ghost use Rattle.std.specs.Prelude.{map};
+    ghost use Rattle.cert.specs.Kinds.{owned_recorded};
+
+    // All of a list.
+    pub(crate) fn of(records: &'a [OwnedRecord]) -> Records<'a>
+        ensures { result ≡ map owned_recorded records.now }
+    {
+        Records { left: records }
+    }
+}
+
+impl<'a> Iterator for Records<'a> {
+    type Item = Record;
+
+    ghost use Rattle.std.specs.Iterator.{item_count};
+    ghost use Rattle.ledger.specs.Lent.{GivesRecord};
+
+    ghost next_gives = { GivesRecord };
+
+    ghost remaining = { item_count (λ left. left) };
+
+    fn next(&mut self) -> Option<Record> {
+        let (first, rest) = self.left.split_first()?;
+        self.left = rest;
+        Some(first.lent())
+    }
+}

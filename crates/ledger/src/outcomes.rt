@@ -1,0 +1,89 @@
+// What calls of a board answer.
+ghost use Rattle.std.specs.Prelude.{◌≡◌};
+
+use run::{NoMemory, Refused};
+
+/// Why there is no board.
+#[derive(Clone, Copy, Debug, PartialEq, Eq)]
+pub enum BoardFault {
+    /// The root doesn't name its states in order.
+    NotInOrder,
+    /// Memory was refused.
+    NoMemory,
+}
+
+/// What became of an offered record.
+#[derive(Clone, Copy, Debug, PartialEq, Eq)]
+pub enum Taken {
+    /// Its table was open, and has it as its record now.
+    New,
+    /// Its table had a verdict, or was a holdout for which no verdict was offered. Nothing changed.
+    Known,
+    /// Its table was a holdout, and has a verdict now.
+    Settled,
+}
+
+/// Why an offered record wasn't taken. Nothing changed.
+#[derive(Clone, Copy, Debug, PartialEq, Eq)]
+pub enum OfferFault {
+    /// Its table has another number of states than the root.
+    WrongSize,
+    /// Its table is neither open nor a holdout.
+    NotOpen,
+    /// Its certificate was refused, and not for want of memory.
+    Refused(Refused),
+    /// Memory was refused.
+    NoMemory,
+}
+
+impl BoardFault {
+    ghost use Rattle.ledger.specs.Faults.{board_number};
+
+    /// The refusal number: 401; 0 for want of memory, which has none.
+    pub fn number(&self) -> u16
+        ensures { result ≡ board_number self.now }
+    {
+        match self {
+            BoardFault::NotInOrder => 401,
+            BoardFault::NoMemory => 0,
+        }
+    }
+}
+
+impl OfferFault {
+    ghost use Rattle.ledger.specs.Offers.{number_of};
+
+    /// The refusal number: 402, 403, or that of the certificate; 0 for want of memory, which has none.
+    pub fn number(&self) -> u16
+        ensures { result ≡ number_of self.now }
+    {
+        match self {
+            OfferFault::NotOpen => 402,
+            OfferFault::WrongSize => 403,
+            OfferFault::Refused(refused) => refused.number(),
+            OfferFault::NoMemory => 0,
+        }
+    }
+}
+
+impl From<NoMemory> for BoardFault {
+    ghost use Rattle.std.specs.Prelude.{◌≡◌};
+    ghost use Rattle.ledger.specs.declared.outcomes.BoardFault.TheVariants.{NoMemory};
+
+    ghost from_gives = { λ _ e. e ≡ NoMemory };
+
+    fn from(_: NoMemory) -> BoardFault {
+        BoardFault::NoMemory
+    }
+}
+
+impl From<NoMemory> for OfferFault {
+    ghost use Rattle.std.specs.Prelude.{◌≡◌};
+    ghost use Rattle.ledger.specs.declared.outcomes.OfferFault.TheVariants.{NoMemory};
+
+    ghost from_gives = { λ _ e. e ≡ NoMemory };
+
+    fn from(_: NoMemory) -> OfferFault {
+        OfferFault::NoMemory
+    }
+}

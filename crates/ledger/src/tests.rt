@@ -1,0 +1,93 @@
+// A board of the tree of one state, and offers that it refuses.
+use super::{Board, BoardFault, OfferFault, Taken};
+use cert::Record;
+use machine_text::Table;
+use run::{Refused, Verdict};
+use std::process::Abort;
+use std::test::Fail;
+
+fn table_of(rt: &impl Abort, text: &str) -> Table {
+    match Table::parse(text.as_bytes()) {
+        Ok(table) => table,
+        Err(fault) => panic!(rt; "{text}: {fault:?}"),
+    }
+}
+
+fn record_of(rt: &impl Abort, text: &str) -> Record {
+    match Record::parse(text.as_bytes()) {
+        Ok(record) => record,
+        Err(fault) => panic!(rt; "{text}: {fault:?}"),
+    }
+}
+
+#[test]
+fn a_board_takes_what_is_open_and_stands(rt: HostRuntime) -> Result<(), Fail> {
+    let Ok(mut board) = Board::new(rt.alloc(), table_of(&rt, "------")) else {
+        return Ok(());
+    };
+    for (text, answer) in [
+        ("1RA--- U", Err(OfferFault::NotOpen)),
+        ("------_------ H 1", Err(OfferFault::WrongSize)),
+        ("------ H 7", Err(OfferFault::Refused(Refused::Fails))),
+        (
+            "------ H 100000001",
+            Err(OfferFault::Refused(Refused::TooLong)),
+        ),
+        ("------ H 1", Ok(Taken::New)),
+        ("------ H 7", Ok(Taken::Known)),
+        ("0RA--- U", Ok(Taken::New)),
+        ("1RA--- U", Ok(Taken::New)),
+        ("1RA--- U", Ok(Taken::Known)),
+        ("1RA--- H 1", Err(OfferFault::Refused(Refused::Fails))),
+        ("0LA--- U", Err(OfferFault::NotOpen)),
+    ] {
+        let offered = board.offer(&record_of(&rt, text));
+        if offered == Err(OfferFault::NoMemory) {
+            return Ok(());
+        }
+        assert!(rt; offered == answer, "{text}: {offered:?}");
+    }
+    let verdict = board.verdict(&table_of(&rt, "------"));
+    assert!(rt; verdict == Some(Verdict::Halts(1)));
+    assert!(rt; board.verdict(&table_of(&rt, "1RA---")).is_none());
+    Ok(())
+}
+
+#[test]
+fn a_holdout_is_settled(rt: HostRuntime) -> Result<(), Fail> {
+    let Ok(mut board) = Board::new(rt.alloc(), table_of(&rt, "------_------")) else {
+        return Ok(());
+    };
+    for (text, answer) in [
+        ("------_------ H 1", Taken::New),
+        ("1RB---_------ U", Taken::New),
+        ("1RB---_------ H 2", Taken::Settled),
+        ("1RB---_1LA--- U", Taken::New),
+        ("1RB---_1LA--- H 3", Taken::Settled),
+        ("1RB1LB_1LA--- H 6", Taken::New),
+        ("1RB1LB_1LA--- H 6", Taken::Known),
+    ] {
+        let offered = board.offer(&record_of(&rt, text));
+        if offered == Err(OfferFault::NoMemory) {
+            return Ok(());
+        }
+        assert!(rt; offered == Ok(answer), "{text}: {offered:?}");
+    }
+    let champion = board.verdict(&table_of(&rt, "1RB1LB_1LA---"));
+    assert!(rt; champion == Some(Verdict::Halts(6)));
+    Ok(())
+}
+
+#[test]
+fn a_root_is_in_order(rt: HostRuntime) {
+    let refused = Board::new(rt.alloc(), table_of(&rt, "1RC---_------_------")).err();
+    assert!(rt; refused == Some(BoardFault::NotInOrder));
+    for (fault, number) in [
+        (OfferFault::NotOpen, 402),
+        (OfferFault::WrongSize, 403),
+        (OfferFault::Refused(Refused::Fails), 201),
+    ] {
+        assert_eq!(rt; fault.number(), number);
+    }
+    assert_eq!(rt; BoardFault::NotInOrder.number(), 401);
+}

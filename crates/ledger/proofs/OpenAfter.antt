@@ -7,7 +7,7 @@ use Rattle.run.specs.declared.verdicts.Verdict.{Verdict}
 use Rattle.run.specs.declared.verdicts.Verdict.TheVariants.{Halts, Never}
 use Rattle.run.specs.Verdict.{IsTrueOf}
 use Rattle.tree.specs.Tables.{IsChildTable}
-use Rattle.cert.specs.Claim.{Claim, HaltsIn, Nothing, Recorded, IsWithin, shown_by}
+use Rattle.cert.specs.Claim.{Claim, HaltsIn, CycleAt, TranslatedAt, BackwardFrom, Nothing, Recorded, IsWithin, shown_by}
 use Rattle.ledger.specs.Records.{claim_in}
 use Rattle.ledger.specs.Open.{HasUnrecorded}
 use Rattle.ledger.specs.Offers.{IsNewChild}
@@ -15,6 +15,9 @@ use Rattle.ledger.specs.Offers.{IsNewChild}
 -- a halting claim within its limit is within that of a run
 pub halt_limit : (c : Claim) (k : ℕ) → shown_by c ≡ Some (Halts k) → IsWithin c → k ≤ MAX_RUN_STEPS
 halt_limit (HaltsIn j) k is within = let same : j ≡ k = cc in omega arith
+halt_limit (CycleAt i j) k is within = let never = is in absurd (cc)
+halt_limit (TranslatedAt i j side) k is within = let never = is in absurd (cc)
+halt_limit (BackwardFrom d) k is within = let never = is in absurd (cc)
 halt_limit Nothing k is within = let none = is in absurd (cc)
 
 pub halts_by : (o : Option Verdict) (p : Packed) (k : ℕ) → IfSome o (λ (v : Verdict). IsTrueOf v (entry_of p)) → o ≡ Some (Halts k) → Stops (entry_of p) k

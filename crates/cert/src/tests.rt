@@ -105,11 +105,11 @@ fn certificates_are_judged(rt: HostRuntime) {
     ] {
         match Record::parse(text.as_bytes()) {
             Ok(record) => {
-                let judged = judge(rt.alloc(), &record);
-                assert!(rt;
-                    judged == answer || judged == Err(Refused::NoMemory),
-                    "{text}"
-                );
+                let mut judged = judge(rt.alloc(), &record);
+                if judged == Err(Refused::NoMemory) {
+                    judged = judge(rt.alloc(), &record);
+                }
+                assert!(rt; judged == answer, "{text}");
             }
             Err(fault) => panic!(rt; "{text}: {fault:?}"),
         }

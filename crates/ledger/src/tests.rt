@@ -4,7 +4,6 @@ use cert::Record;
 use machine_text::Table;
 use run::{Refused, Verdict};
 use std::process::Abort;
-use std::test::Fail;
 
 fn table_of(rt: &impl Abort, text: &str) -> Table {
     match Table::parse(text.as_bytes()) {
@@ -21,9 +20,9 @@ fn record_of(rt: &impl Abort, text: &str) -> Record {
 }
 
 #[test]
-fn a_board_takes_what_is_open_and_stands(rt: HostRuntime) -> Result<(), Fail> {
+fn a_board_takes_what_is_open_and_stands(rt: HostRuntime) {
     let Ok(mut board) = Board::new(rt.alloc(), table_of(&rt, "------")) else {
-        return Ok(());
+        panic!(rt; "no board");
     };
     for (text, answer) in [
         ("1RA--- U", Err(OfferFault::NotOpen)),
@@ -41,22 +40,22 @@ fn a_board_takes_what_is_open_and_stands(rt: HostRuntime) -> Result<(), Fail> {
         ("1RA--- H 1", Err(OfferFault::Refused(Refused::Fails))),
         ("0LA--- U", Err(OfferFault::NotOpen)),
     ] {
-        let offered = board.offer(&record_of(&rt, text));
+        // memory may be refused once
+        let mut offered = board.offer(&record_of(&rt, text));
         if offered == Err(OfferFault::NoMemory) {
-            return Ok(());
+            offered = board.offer(&record_of(&rt, text));
         }
         assert!(rt; offered == answer, "{text}: {offered:?}");
     }
     let verdict = board.verdict(&table_of(&rt, "------"));
     assert!(rt; verdict == Some(Verdict::Halts(1)));
     assert!(rt; board.verdict(&table_of(&rt, "1RA---")).is_none());
-    Ok(())
 }
 
 #[test]
-fn a_holdout_is_settled(rt: HostRuntime) -> Result<(), Fail> {
+fn a_holdout_is_settled(rt: HostRuntime) {
     let Ok(mut board) = Board::new(rt.alloc(), table_of(&rt, "------_------")) else {
-        return Ok(());
+        panic!(rt; "no board");
     };
     for (text, answer) in [
         ("------_------ H 1", Taken::New),
@@ -67,15 +66,15 @@ fn a_holdout_is_settled(rt: HostRuntime) -> Result<(), Fail> {
         ("1RB1LB_1LA--- H 6", Taken::New),
         ("1RB1LB_1LA--- H 6", Taken::Known),
     ] {
-        let offered = board.offer(&record_of(&rt, text));
+        // memory may be refused once
+        let mut offered = board.offer(&record_of(&rt, text));
         if offered == Err(OfferFault::NoMemory) {
-            return Ok(());
+            offered = board.offer(&record_of(&rt, text));
         }
         assert!(rt; offered == Ok(answer), "{text}: {offered:?}");
     }
     let champion = board.verdict(&table_of(&rt, "1RB1LB_1LA---"));
     assert!(rt; champion == Some(Verdict::Halts(6)));
-    Ok(())
 }
 
 #[test]

@@ -1,3 +1,4 @@
+pub mod Apart
 pub mod Same
 pub mod Claims
 pub mod HeldLaws
@@ -7,5 +8,8 @@ pub mod OpenAfter
 pub mod Taking
 pub mod Offering
 pub mod OpenListed
-pub mod Pairs
+pub mod Numbers
+pub mod TextOrder
+pub mod BoardLaws
+pub mod HaltingPairs
 pub mod Sets

@@ -10,8 +10,8 @@ use Rattle.ledger.specs.Records.{claim_in, mark_in, mark_of, mark_by}
 use Rattle.ledger.specs.Held.{IsFit, IsHoldout, Settles, settled}
 use Rattle.ledger.specs.Offers.{IsKnown, IsJudged, IsElsewhere, IsRefusal, OfferGives}
 use Rattle.ledger.specs.Contents.{Contents}
-use Rattle.cert.specs.declared.kinds.OwnedRecord.{OwnedRecord}
-use Rattle.cert.specs.Kinds.{owned_recorded}
+use Rattle.ledger.specs.declared.holding.Holding.{Holding}
+use Rattle.ledger.specs.Keeping.{held_recorded}
 use Rattle.ledger.specs.Places.{IsPlace, place_by}
 use Rattle.ledger.specs.declared.places.Place.{Place}
 use Rattle.ledger.specs.declared.places.Place.TheVariants.{Known as KnownPlace, Open, Holdout, Elsewhere}
@@ -57,6 +57,6 @@ settle_gives root old new r (Ok t) holdout ok same refusal = subst (λ (x : Take
 settle_gives root old new r (Err f) holdout ok same refusal = refusal_gives root old new r f refusal (record { is = inr holdout }) same
 
 -- what the code looks at is what the board holds
-pub seen : (b : Contents) (root t : Packed) (items lent : List OwnedRecord) (o : Option Claim) → (record { root = root; records = map owned_recorded items }) ≡ b → lent ≡ items → claim_in (map owned_recorded lent) t ≡ o → claim_in b.records t ≡ o
+pub seen : (b : Contents) (root t : Packed) (items lent : List Holding) (o : Option Claim) → (record { root = root; records = map held_recorded items }) ≡ b → lent ≡ items → claim_in (map held_recorded lent) t ≡ o → claim_in b.records t ≡ o
 seen b root t items lent o view same is =
-    subst (λ (c : Contents). claim_in c.records t ≡ o) view (subst (λ (l : List OwnedRecord). claim_in (map owned_recorded l) t ≡ o) same is)
+    subst (λ (c : Contents). claim_in c.records t ≡ o) view (subst (λ (l : List Holding). claim_in (map held_recorded l) t ≡ o) same is)

@@ -1,5 +1,5 @@
 -- What the code's set of open tables is once a record is taken.
-use Rattle.std.proofs.Common.{◌≡◌, ◌≢◌, ℕ, ◌≤◌, ◌⊎◌, inl, inr, ◌↔◌, Some, None, List, Option, Contains, IfSome, IfOk, Result, Ok, Err, refl, sym, ◌∙◌, ap, subst, arith}
+use Rattle.std.proofs.Common.{◌≡◌, ◌≢◌, ℕ, ◌≤◌, ◌⊎◌, inl, inr, ◌↔◌, Some, None, List, Option, Contains, IfSome, IfNone, option_map, IfOk, Result, Ok, Err, refl, sym, ◌∙◌, ap, subst, arith}
 use Rattle.machine_text.specs.Packed.{Packed, entry_of}
 use Rattle.turing.specs.Halting.{Stops}
 use Rattle.run.specs.declared.limits.TheConstants.{MAX_RUN_STEPS, MAX_HALT_STEPS}
@@ -8,7 +8,12 @@ use Rattle.run.specs.declared.verdicts.Verdict.TheVariants.{Halts, Never}
 use Rattle.run.specs.Verdict.{IsTrueOf}
 use Rattle.tree.specs.Tables.{IsChildTable}
 use Rattle.cert.specs.Claim.{Claim, HaltsIn, CycleAt, TranslatedAt, BackwardFrom, Nothing, Recorded, IsWithin, shown_by}
-use Rattle.ledger.specs.Records.{claim_in}
+use Rattle.tree.specs.Closed.{Stopping}
+use Rattle.ledger.specs.Records.{claim_in, mark_in, mark_of, mark_by}
+use Rattle.ledger.specs.Tally.{HaltsAfter, IsHalting}
+use Rattle.ledger.proofs.OpenLaws.{stopping_verdict}
+use Rattle.ledger.specs.Keeping.{HaltsOn, IsPairOf}
+use Rattle.ledger.specs.declared.pairs.Pair.{Pair}
 use Rattle.ledger.specs.Open.{HasUnrecorded}
 use Rattle.ledger.specs.Offers.{IsNewChild}
 
@@ -41,6 +46,36 @@ pub after_other : (rs : List Recorded) (r : Recorded) (q : Packed) (A B : Type 0
     → ((k : ℕ) → shown_by r.claim ≡ Some (Halts k) → ⊥) → B ↔ (A × (q ≢ r.table))
     → B ↔ ((A × (q ≢ r.table)) ⊎ IsNewChild rs r q)
 after_other rs r q A B never left = (λ b. inl (left.0 b), λ h. elim h [ inl a ↦ left.1 a | inr u ↦ absurd (never u.count u.stops) ])
+
+-- the pair that is known with a verdict
+pub pair_halts : (o : Option Verdict) (t : Packed) (pair : Pair) → IsPairOf o t (Some pair) → (k : ℕ) × (o ≡ Some (Halts k)) × HaltsOn t k pair
+pair_halts None t pair h = cc
+pair_halts (Some Never) t pair h = cc
+pair_halts (Some (Halts k)) t pair h = (k, refl, h)
+
+pub no_pair : (o : Option Verdict) (t : Packed) (k : ℕ) → IsPairOf o t None → o ≡ Some (Halts k) → ⊥
+no_pair None t k h is = cc
+no_pair (Some Never) t k h is = cc
+no_pair (Some (Halts j)) t k h is = h
+
+-- what is known of the pair of a recorded table
+pub pair_some : (rs : List Recorded) (t : Packed) (c : Claim) (o : Option Pair) → claim_in rs t ≡ Some c → IsPairOf (shown_by c) t o
+    → IfSome o (λ (pair : Pair). (k : ℕ) × HaltsAfter rs k t × HaltsOn t k pair)
+pair_some rs t c None claimed h = tt
+pair_some rs t c (Some pair) claimed h =
+    let w = pair_halts (shown_by c) t pair h in
+    (w.0, ap (option_map mark_of) claimed ∙ ap (λ (o : Option Verdict). Some (mark_by o)) w.1, w.2)
+
+pub pair_none : (rs : List Recorded) (t : Packed) (c : Claim) (o : Option Pair) → claim_in rs t ≡ Some c → IsPairOf (shown_by c) t o
+    → IfNone o (IsHalting rs t → ⊥)
+pair_none rs t c (Some pair) claimed h = tt
+pair_none rs t c None claimed h = λ halting.
+    let marked = ap (option_map mark_of) (sym claimed) ∙ halting.1 in
+    let mark : mark_of c ≡ Stopping halting.0 = cc in
+    no_pair (shown_by c) t halting.0 h (stopping_verdict (shown_by c) halting.0 mark)
+
+pub unrecorded_pair : (rs : List Recorded) (t : Packed) → claim_in rs t ≡ None → IsHalting rs t → ⊥
+unrecorded_pair rs t none halting = let marked = ap (option_map mark_of) (sym none) ∙ halting.1 in cc
 
 -- what follows of a value follows of it in an answer
 pub if_ok : {T E : Type 0} {P Q : T → Type 0} (r : Result T E) → ((t : T) → P t → Q t) → IfOk r P → IfOk r Q

@@ -19,7 +19,7 @@ pub record IsTaken (old new : List Recorded) (r : Recorded) : Type 0 where
   pub others : (t : Packed) → t ≢ r.table → claim_in new t ≡ claim_in old t
   pub before : (k : ℕ) → mark_in old r.table ≡ Some (Stopping k) → ⊥
 
-stopping_verdict : (o : Option Verdict) (k : ℕ) → mark_by o ≡ Stopping k → o ≡ Some (Halts k)
+pub stopping_verdict : (o : Option Verdict) (k : ℕ) → mark_by o ≡ Stopping k → o ≡ Some (Halts k)
 stopping_verdict None k e = cc
 stopping_verdict (Some (Halts j)) k e = let same : j ≡ k = cc in ap (λ (n : ℕ). Some (Halts n)) same
 stopping_verdict (Some Never) k e = cc

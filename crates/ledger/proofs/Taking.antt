@@ -2,8 +2,8 @@
 use Rattle.std.proofs.Common.{◌≡◌, ◌≢◌, ℕ, List, [], ◌∷◌, ◌++◌, Option, Some, None, option_map, IsSome, inl, inr, ◌⊎◌, ◌↔◌, IsTrue, refl, sym, ◌∙◌, ap, subst, map, length, take, drop, arith}
 use Rattle.std.proofs.lemmas.List.{map-append}
 use Rattle.std.proofs.lemmas.Grind.{common_steps}
-use Rattle.cert.specs.declared.kinds.OwnedRecord.{OwnedRecord}
-use Rattle.cert.specs.Kinds.{owned_recorded}
+use Rattle.ledger.specs.declared.holding.Holding.{Holding}
+use Rattle.ledger.specs.Keeping.{held_recorded}
 use Rattle.std.specs.BTreeSet.{BTreeSet, contains}
 use Rattle.machine_text.specs.Packed.{Packed, IsTable, entry_of}
 use Rattle.tree.specs.Used.{InOrder}
@@ -80,32 +80,32 @@ board_settled root old new r tables after board exact settles is sets =
 abbrev pub Sets : (tables after : BTreeSet Packed) (rs : List Recorded) (r : Recorded) → Type 0
 Sets tables after rs r = (q : Packed) → IsTrue (contains table_cmp after q) ↔ ((IsTrue (contains table_cmp tables q) × (q ≢ r.table)) ⊎ IsNewChild rs r q)
 
-pub code_more : (b : Contents) (root : Packed) (items lent new : List OwnedRecord) (last : OwnedRecord) (r : Recorded) (tables after : BTreeSet Packed)
-    → (record { root = root; records = map owned_recorded items }) ≡ b → lent ≡ items
-    → IsBoard (record { root = root; records = map owned_recorded items }) × IsOpenSet tables (record { root = root; records = map owned_recorded items })
-    → IsOpen b.root (mark_in b.records) r.table → IsCertified r → new ≡ items ++ (last ∷ []) → owned_recorded last ≡ r
-    → Sets tables after (map owned_recorded lent) r
-    → IsBoard (record { root = root; records = map owned_recorded new }) × IsOpenSet after (record { root = root; records = map owned_recorded new })
+pub code_more : (b : Contents) (root : Packed) (items lent new : List Holding) (last : Holding) (r : Recorded) (tables after : BTreeSet Packed)
+    → (record { root = root; records = map held_recorded items }) ≡ b → lent ≡ items
+    → IsBoard (record { root = root; records = map held_recorded items }) × IsOpenSet tables (record { root = root; records = map held_recorded items })
+    → IsOpen b.root (mark_in b.records) r.table → IsCertified r → new ≡ items ++ (last ∷ []) → held_recorded last ≡ r
+    → Sets tables after (map held_recorded lent) r
+    → IsBoard (record { root = root; records = map held_recorded new }) × IsOpenSet after (record { root = root; records = map held_recorded new })
 code_more b root items lent new last r tables after view same inv is_open certified is copy sets =
-    let here : IsOpen root (mark_in (map owned_recorded items)) r.table = subst (λ (c : Contents). IsOpen c.root (mark_in c.records) r.table) (sym view) is_open in
-    let list : map owned_recorded new ≡ map owned_recorded items ++ (r ∷ []) =
-    ap (map owned_recorded) is ∙ (map-append owned_recorded items (last ∷ []) ∙ ap (λ (x : Recorded). map owned_recorded items ++ (x ∷ [])) copy) in
-    board_more root (map owned_recorded items) (map owned_recorded new) r tables after inv.0 inv.1 here certified list
-    (subst (λ (l : List OwnedRecord). Sets tables after (map owned_recorded l) r) same sets)
+    let here : IsOpen root (mark_in (map held_recorded items)) r.table = subst (λ (c : Contents). IsOpen c.root (mark_in c.records) r.table) (sym view) is_open in
+    let list : map held_recorded new ≡ map held_recorded items ++ (r ∷ []) =
+    ap (map held_recorded) is ∙ (map-append held_recorded items (last ∷ []) ∙ ap (λ (x : Recorded). map held_recorded items ++ (x ∷ [])) copy) in
+    board_more root (map held_recorded items) (map held_recorded new) r tables after inv.0 inv.1 here certified list
+    (subst (λ (l : List Holding). Sets tables after (map held_recorded l) r) same sets)
 
-pub code_settled : (b : Contents) (root : Packed) (items lent lent_mut new : List OwnedRecord) (last : OwnedRecord) (r : Recorded) (tables after : BTreeSet Packed)
-    → (record { root = root; records = map owned_recorded items }) ≡ b → lent ≡ items → lent_mut ≡ items
-    → IsBoard (record { root = root; records = map owned_recorded items }) × IsOpenSet tables (record { root = root; records = map owned_recorded items })
-    → IsHoldout b.records r.table → IsSome (shown_by r.claim) → IsCertified r → map owned_recorded new ≡ settled (map owned_recorded lent_mut) (owned_recorded last) → owned_recorded last ≡ r
-    → Sets tables after (map owned_recorded lent) r
-    → IsBoard (record { root = root; records = map owned_recorded new }) × IsOpenSet after (record { root = root; records = map owned_recorded new })
+pub code_settled : (b : Contents) (root : Packed) (items lent lent_mut new : List Holding) (last : Holding) (r : Recorded) (tables after : BTreeSet Packed)
+    → (record { root = root; records = map held_recorded items }) ≡ b → lent ≡ items → lent_mut ≡ items
+    → IsBoard (record { root = root; records = map held_recorded items }) × IsOpenSet tables (record { root = root; records = map held_recorded items })
+    → IsHoldout b.records r.table → IsSome (shown_by r.claim) → IsCertified r → map held_recorded new ≡ settled (map held_recorded lent_mut) (held_recorded last) → held_recorded last ≡ r
+    → Sets tables after (map held_recorded lent) r
+    → IsBoard (record { root = root; records = map held_recorded new }) × IsOpenSet after (record { root = root; records = map held_recorded new })
 code_settled b root items lent lent_mut new last r tables after view same same_mut inv holdout shown certified is copy sets =
-    let here : IsHoldout (map owned_recorded items) r.table = subst (λ (c : Contents). IsHoldout c.records r.table) (sym view) holdout in
-    let list : map owned_recorded new ≡ settled (map owned_recorded items) r =
-    is ∙ (ap (λ (l : List OwnedRecord). settled (map owned_recorded l) (owned_recorded last)) same_mut ∙ ap (settled (map owned_recorded items)) copy) in
-    board_settled root (map owned_recorded items) (map owned_recorded new) r tables after inv.0 inv.1 (record { is_holdout = here; verdict = shown; certified = certified }) list
-    (subst (λ (l : List OwnedRecord). Sets tables after (map owned_recorded l) r) same sets)
+    let here : IsHoldout (map held_recorded items) r.table = subst (λ (c : Contents). IsHoldout c.records r.table) (sym view) holdout in
+    let list : map held_recorded new ≡ settled (map held_recorded items) r =
+    is ∙ (ap (λ (l : List Holding). settled (map held_recorded l) (held_recorded last)) same_mut ∙ ap (settled (map held_recorded items)) copy) in
+    board_settled root (map held_recorded items) (map held_recorded new) r tables after inv.0 inv.1 (record { is_holdout = here; verdict = shown; certified = certified }) list
+    (subst (λ (l : List Holding). Sets tables after (map held_recorded l) r) same sets)
 
 -- what is written back into a vector of the same length
-pub written_back : (items now new : List OwnedRecord) (n : ℕ) → n ≡ length items → now ≡ items → length new ≡ length now → take n (new ++ drop (length new) items) ≡ new
-written_back items now new n is same len = grind (arith, common_steps, ap (λ (l : List OwnedRecord). length l) same)
+pub written_back : (items now new : List Holding) (n : ℕ) → n ≡ length items → now ≡ items → length new ≡ length now → take n (new ++ drop (length new) items) ≡ new
+written_back items now new n is same len = grind (arith, common_steps, ap (λ (l : List Holding). length l) same)

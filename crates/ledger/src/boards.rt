@@ -3,52 +3,61 @@ ghost use Rattle.std.specs.Prelude.{◌≡◌, ℕ, IfSome, IfOk, Err};
 ghost use Rattle.machine_text.specs.Packed.{entry_of};
 ghost use Rattle.tree.specs.Used.{InOrder};
 ghost use Rattle.run.specs.Verdict.{IsTrueOf};
-ghost use Rattle.std.specs.Prelude.{◌↔◌, Contains};
-ghost use Rattle.std.specs.List.Sorted.{IsStrictlySortedBy};
-ghost use Rattle.machine_text.specs.Packed.{Packed};
-ghost use Rattle.ledger.specs.Open.{table_cmp};
+ghost use Rattle.std.specs.Prelude.{◌↔◌};
+ghost use Rattle.std.specs.Vec.Iter.{into_iter_items};
+ghost use Rattle.tree.specs.Tables.{IsChildTable};
 ghost use Rattle.ledger.specs.Places.{IsPlace};
+ghost use Rattle.ledger.specs.Tally.{AreAll, IsHalting, IsStatus};
 
+use crate::holding::Holding;
 use crate::listing::Records;
-use crate::looking::{certificate_for, verdict_in};
-use crate::opening::only;
-use crate::outcomes::{BoardFault, OfferFault, Taken};
+use crate::looking::{certificate_for, pair_for, verdict_in};
+use crate::opening::{count_of, listed, only};
+use crate::outcomes::{BoardFault, OfferFault, Status, Taken};
+use crate::pairs::children_on;
 use crate::places::{Place, recorded_place};
 use crate::preparing::{append, prepare, put};
-use cert::{OwnedRecord, Record, standing_claims_are_true};
+use crate::tallies::{count_undecided, greatest_count, sorted_tables, undecided_tables};
+use cert::{Record, standing_claims_are_true};
 use machine_text::Table;
 use run::{NoMemory, Verdict};
 use std::alloc::Global;
 use std::collections::BTreeSet;
 use std::collections::btree_set::Iter;
 use std::marker::Model;
-use tnf::in_order;
+use std::vec::IntoIter;
+use tnf::{Children, in_order};
 use tree::child_is_table;
 
 /// An iterator over the open tables of a board.
 pub type Open<'a> = Iter<'a, Table>;
+
+/// An iterator over the holdouts of a board.
+pub type Holdouts = IntoIter<Table>;
 
 /// The records of a tree's tables, from the tree's root, in the order in which they were taken.
 #[derive(Drop)]
 pub struct Board {
     alloc: Global,
     root: Table,
-    records: Vec<OwnedRecord>,
+    records: Vec<Holding>,
     // exactly the open tables
     open_tables: BTreeSet<Table>,
 }
 
 impl Model for Board {
     ghost use Rattle.std.specs.Prelude.{map};
-    ghost use Rattle.cert.specs.Kinds.{owned_recorded};
+    ghost use Rattle.std.specs.List.{All};
+    ghost use Rattle.ledger.specs.Keeping.{held_recorded, KnowsPair};
     ghost use Rattle.ledger.specs.Contents.{Contents, IsBoard, IsOpenSet};
 
     ghost Value = { Contents };
 
-    ghost view = { λ a. record { root = a.root; records = map owned_recorded a.records.items } };
+    ghost view = { λ a. record { root = a.root; records = map held_recorded a.records.items } };
 
-    ghost invariant = { λ a. IsBoard (record { root = a.root; records = map owned_recorded a.records.items })
-        × IsOpenSet a.open_tables (record { root = a.root; records = map owned_recorded a.records.items }) };
+    ghost invariant = { λ a. IsBoard (record { root = a.root; records = map held_recorded a.records.items })
+        × IsOpenSet a.open_tables (record { root = a.root; records = map held_recorded a.records.items })
+        × All KnowsPair a.records.items };
 }
 
 impl Board {
@@ -89,10 +98,52 @@ impl Board {
     /// The open tables, in the order of their texts: the root or a child of a table recorded as halting,
     /// without a record of its own.
     pub fn open(&self) -> Open<'_>
-        ensures tables { (t : Packed) → Contains result t ↔ IsOpen self.now.root (mark_in self.now.records) t }
-        ensures rising { IsStrictlySortedBy table_cmp result }
+        ensures { AreAll (IsOpen self.now.root (mark_in self.now.records)) result }
     {
-        self.open_tables.iter()
+        child_is_table();
+        listed(&self.open_tables)
+    }
+
+    /// The holdouts, in the order of their texts: the tables whose record has no verdict.
+    pub fn holdouts(&self) -> Result<Holdouts, NoMemory>
+        ensures { IfOk result (λ found. AreAll (IsHoldout self.now.records) (into_iter_items found)) }
+    {
+        child_is_table();
+        let tables = undecided_tables(self.alloc, &self.records)?;
+        sorted_tables(self.alloc, tables)
+    }
+
+    /// The children of a table that is recorded as halting, in the order of their texts; none where it
+    /// isn't so recorded.
+    pub fn children(&self, t: &Table) -> Option<Children>
+        ensures halting { IsSome result ↔ IsHalting self.now.records t.now }
+        ensures all { IfSome result (AreAll (IsChildTable t.now)) }
+    {
+        child_is_table();
+        match pair_for(&self.records, t) {
+            Some(pair) => Some(children_on(t, pair)),
+            None => None,
+        }
+    }
+
+    /// How the board stands.
+    pub fn status(&self) -> Status
+        ensures { IsStatus self.now.root self.now.records result }
+    {
+        child_is_table();
+        let open_count = count_of(&self.open_tables);
+        if open_count > 0 {
+            return Status::Working { count: open_count };
+        }
+        let holdout_count = count_undecided(&self.records);
+        if holdout_count > 0 {
+            return Status::Holdouts {
+                count: holdout_count,
+            };
+        }
+        Status::Complete {
+            best: greatest_count(&self.records),
+        }
     }
 
     /// The recorded verdict on a table, which is true of it; none where there is none, as for a holdout.
@@ -157,7 +208,7 @@ impl Board {
     {
         child_is_table();
         let prepared = prepare(self.alloc, &self.open_tables, &self.records, r)?;
-        append(&mut self.records, prepared.record)?;
+        append(&mut self.records, prepared.holding)?;
         self.open_tables = prepared.open_tables;
         Ok(Taken::New)
     }
@@ -173,7 +224,7 @@ impl Board {
     {
         child_is_table();
         let prepared = prepare(self.alloc, &self.open_tables, &self.records, r)?;
-        put(&mut self.records, prepared.record);
+        put(&mut self.records, prepared.holding);
         self.open_tables = prepared.open_tables;
         Ok(Taken::Settled)
     }

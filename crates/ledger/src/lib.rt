@@ -6,16 +6,19 @@
 #![tactic(auto)]
 
 mod boards;
+mod holding;
 mod listing;
 mod looking;
 mod opening;
 mod outcomes;
+mod pairs;
 mod places;
 mod preparing;
+mod tallies;
 
-pub use boards::{Board, Open};
+pub use boards::{Board, Holdouts, Open};
 pub use listing::Records;
-pub use outcomes::{BoardFault, OfferFault, Taken};
+pub use outcomes::{BoardFault, OfferFault, Status, Taken};
 
 #[cfg(test)]
 mod tests;

@@ -1,33 +1,34 @@
 // The records of a board, one by one.
 ghost use Rattle.std.specs.Prelude.{◌≡◌};
 
-use cert::{OwnedRecord, Record};
+use crate::holding::Holding;
+use cert::Record;
 use std::marker::Model;
 
 /// An iterator over the records of a board, each lent, in the order in which their tables were taken. It
 /// is seen as the list of those that are left.
 #[derive(Drop)]
 pub struct Records<'a> {
-    left: &'a [OwnedRecord],
+    left: &'a [Holding],
 }
 
 impl<'a> Model for Records<'a> {
     ghost use Rattle.std.specs.Prelude.{List, map};
     ghost use Rattle.cert.specs.Claim.{Recorded};
-    ghost use Rattle.cert.specs.Kinds.{owned_recorded};
+    ghost use Rattle.ledger.specs.Keeping.{held_recorded};
 
     ghost Value = { List Recorded };
 
-    ghost view = { λ a. map owned_recorded a.left.now };
+    ghost view = { λ a. map held_recorded a.left.now };
 }
 
 impl<'a> Records<'a> {
     ghost use Rattle.std.specs.Prelude.{map};
-    ghost use Rattle.cert.specs.Kinds.{owned_recorded};
+    ghost use Rattle.ledger.specs.Keeping.{held_recorded};
 
     // All of a list.
-    pub(crate) fn of(records: &'a [OwnedRecord]) -> Records<'a>
-        ensures { result ≡ map owned_recorded records.now }
+    pub(crate) fn of(records: &'a [Holding]) -> Records<'a>
+        ensures { result ≡ map held_recorded records.now }
     {
         Records { left: records }
     }
@@ -46,6 +47,6 @@ impl<'a> Iterator for Records<'a> {
     fn next(&mut self) -> Option<Record> {
         let (first, rest) = self.left.split_first()?;
         self.left = rest;
-        Some(first.lent())
+        Some(first.record.lent())
     }
 }

@@ -1,25 +1,42 @@
 // The open tables of a board.
-ghost use Rattle.std.specs.Prelude.{◌≡◌, ◌≢◌, ℕ, ◌↔◌, ◌⊎◌, ◌≤◌, IfOk, IsTrue, Contains, None, map, [], ◌∷◌};
+ghost use Rattle.std.specs.Prelude.{◌≡◌, ◌≢◌, ℕ, ◌↔◌, ◌⊎◌, IfOk, IsTrue, None, map, length, [], ◌∷◌};
+ghost use Rattle.std.specs.List.Sorted.{IsStrictlySortedBy};
 ghost use Rattle.std.specs.BTreeSet.{contains};
 ghost use Rattle.machine_text.specs.Packed.{Packed, entry_of};
-ghost use Rattle.turing.specs.Halting.{Stops};
-ghost use Rattle.run.specs.declared.limits.TheConstants.{MAX_RUN_STEPS};
 ghost use Rattle.tree.specs.Used.{InOrder};
-ghost use Rattle.tree.specs.Tables.{IsChildTable};
-ghost use Rattle.cert.specs.Kinds.{owned_recorded, recorded};
+ghost use Rattle.cert.specs.Claim.{shown_by};
+ghost use Rattle.cert.specs.Kinds.{claim_of, recorded};
+ghost use Rattle.ledger.specs.Keeping.{held_recorded, IsPairOf};
 ghost use Rattle.ledger.specs.Records.{claim_in};
-ghost use Rattle.ledger.specs.Held.{IsCertified};
 ghost use Rattle.ledger.specs.Offers.{IsNewChild};
 ghost use Rattle.ledger.specs.Open.{table_cmp, HasUnrecorded};
 
-use crate::looking::{certificate_for, verdict_for};
-use cert::{OwnedRecord, Record, standing_claims_are_true};
+use crate::holding::Holding;
+use crate::looking::certificate_for;
+use crate::pairs::{Pair, children_on};
+use cert::Record;
 use machine_text::Table;
-use run::{NoMemory, Runner, Verdict};
+use run::NoMemory;
 use std::alloc::{AllocFailed, Global};
 use std::collections::BTreeSet;
-use tnf::{Children, children};
-use tree::children_listed;
+use std::collections::btree_set::Iter;
+use tnf::Children;
+
+// The tables of a set, in their order.
+pub fn listed(tables: &BTreeSet<Table>) -> Iter<'_, Table>
+    ensures tables { result ≡ tables.now.keys }
+    ensures rising { IsStrictlySortedBy table_cmp tables.now.keys }
+{
+    tables.iter()
+}
+
+// How many tables a set has.
+pub fn count_of(tables: &BTreeSet<Table>) -> u64
+    ensures count { result ≡ length tables.now.keys }
+    ensures rising { IsStrictlySortedBy table_cmp tables.now.keys }
+{
+    tables.len() as u64
+}
 
 // The set of one table.
 pub fn only(alloc: Global, t: Table) -> Result<BTreeSet<Table>, NoMemory>
@@ -42,12 +59,12 @@ pub fn without(tables: &BTreeSet<Table>, t: &Table) -> Result<BTreeSet<Table>, N
 // The open tables with those of the children that have no record and aren't the parent.
 pub fn with_children(
     mut tables: BTreeSet<Table>,
-    records: &[OwnedRecord],
+    records: &[Holding],
     parent: &Table,
     found: Children,
 ) -> Result<BTreeSet<Table>, NoMemory>
     ensures { IfOk result (λ more. (q : Packed) → IsTrue (contains table_cmp more q)
-        ↔ (IsTrue (contains table_cmp tables q) ⊎ HasUnrecorded found (map owned_recorded records.now) parent.now q)) }
+        ↔ (IsTrue (contains table_cmp tables q) ⊎ HasUnrecorded found (map held_recorded records.now) parent.now q)) }
 {
     for child in found {
         tables = with_child(tables, records, parent, child)?;
@@ -58,12 +75,12 @@ pub fn with_children(
 // The open tables with a child, unless it has a record or is the parent.
 fn with_child(
     mut tables: BTreeSet<Table>,
-    records: &[OwnedRecord],
+    records: &[Holding],
     parent: &Table,
     child: Table,
 ) -> Result<BTreeSet<Table>, NoMemory>
     ensures { IfOk result (λ more. (q : Packed) → IsTrue (contains table_cmp more q)
-        ↔ (IsTrue (contains table_cmp tables q) ⊎ HasUnrecorded (child ∷ []) (map owned_recorded records.now) parent.now q)) }
+        ↔ (IsTrue (contains table_cmp tables q) ⊎ HasUnrecorded (child ∷ []) (map held_recorded records.now) parent.now q)) }
 {
     if is_unrecorded(records, parent, &child) {
         tables.insert(child)?;
@@ -72,8 +89,8 @@ fn with_child(
 }
 
 // Whether a table has no record and isn't the parent.
-fn is_unrecorded(records: &[OwnedRecord], parent: &Table, t: &Table) -> bool
-    ensures { IsTrue result ↔ ((claim_in (map owned_recorded records.now) t.now ≡ None) × (t.now ≢ parent.now)) }
+fn is_unrecorded(records: &[Holding], parent: &Table, t: &Table) -> bool
+    ensures { IsTrue result ↔ ((claim_in (map held_recorded records.now) t.now ≡ None) × (t.now ≢ parent.now)) }
 {
     match certificate_for(records, t) {
         Some(_) => false,
@@ -82,41 +99,21 @@ fn is_unrecorded(records: &[OwnedRecord], parent: &Table, t: &Table) -> bool
 }
 
 // The tables that are open once a record is taken: those that were, but for the record's own, and its
-// new children.
+// new children. `halts_on` is the pair on which its table halts.
 pub fn open_after(
-    alloc: Global,
     tables: &BTreeSet<Table>,
-    records: &[OwnedRecord],
+    records: &[Holding],
     r: &Record,
+    halts_on: Option<Pair>,
 ) -> Result<BTreeSet<Table>, NoMemory>
     requires in_order { (u : ℕ) × InOrder u (entry_of r.now.table) }
-    requires certified { IsCertified (recorded r.now) }
+    requires pair { IsPairOf (shown_by (claim_of r.now.certificate)) r.now.table halts_on }
     ensures { IfOk result (λ after. (q : Packed) → IsTrue (contains table_cmp after q)
-        ↔ ((IsTrue (contains table_cmp tables.now q) × (q ≢ r.now.table)) ⊎ IsNewChild (map owned_recorded records.now) (recorded r.now) q)) }
+        ↔ ((IsTrue (contains table_cmp tables.now q) × (q ≢ r.now.table)) ⊎ IsNewChild (map held_recorded records.now) (recorded r.now) q)) }
 {
     let left = without(tables, &r.table)?;
-    match verdict_for(&r.certificate) {
-        Some(Verdict::Halts(count)) => {
-            standing_claims_are_true();
-            let _ = r.table.states();
-            let found = children_of(alloc, &r.table, count)?;
-            with_children(left, records, &r.table, found)
-        }
-        _ => Ok(left),
+    match halts_on {
+        Some(pair) => with_children(left, records, &r.table, children_on(&r.table, pair)),
+        None => Ok(left),
     }
-}
-
-// The children of a table in order that halts in so many steps.
-pub fn children_of(alloc: Global, parent: &Table, count: u64) -> Result<Children, NoMemory>
-    requires in_order { (u : ℕ) × InOrder u (entry_of parent.now) }
-    requires halts { Stops (entry_of parent.now) count }
-    requires limit { count ≤ MAX_RUN_STEPS }
-    ensures { IfOk result (λ found. (t : Packed) → Contains found t ↔ IsChildTable parent.now t) }
-{
-    children_listed();
-    let _ = parent.states();
-    let mut runner = Runner::new(alloc, *parent)?;
-    runner.run_to(count)?;
-    let _ = runner.steps();
-    Ok(children(parent, runner.state(), runner.tape().read()))
 }

@@ -1,16 +1,19 @@
 // A record that is to be taken: certified, copied, and the tables that are open then.
-ghost use Rattle.std.specs.Prelude.{◌≡◌, ◌≢◌, ℕ, ◌↔◌, ◌⊎◌, ◌++◌, ◌∷◌, [], IfOk, IfErr, OnOk, OnErr, IsTrue, map, length};
+ghost use Rattle.std.specs.Prelude.{◌≡◌, ◌≢◌, ℕ, ◌↔◌, ◌⊎◌, ◌++◌, ◌∷◌, [], All, IfOk, IfErr, OnOk, OnErr, IsTrue, map, length};
 ghost use Rattle.std.specs.BTreeSet.{contains};
 ghost use Rattle.machine_text.specs.Packed.{Packed, entry_of};
 ghost use Rattle.tree.specs.Used.{InOrder};
-ghost use Rattle.cert.specs.Kinds.{owned_recorded, recorded};
+ghost use Rattle.cert.specs.Kinds.{recorded};
+ghost use Rattle.ledger.specs.Keeping.{held_recorded, KnowsPair};
 ghost use Rattle.ledger.specs.Held.{IsCertified, settled};
 ghost use Rattle.ledger.specs.Open.{table_cmp};
 ghost use Rattle.ledger.specs.Offers.{IsNewChild, IsRefusal};
 
+use crate::holding::Holding;
 use crate::looking::place_of;
 use crate::opening::open_after;
 use crate::outcomes::OfferFault;
+use crate::pairs::halting_pair;
 use cert::{OwnedCertificate, OwnedRecord, Record, judge};
 use machine_text::Table;
 use run::{NoMemory, Refused};
@@ -20,7 +23,7 @@ use std::collections::BTreeSet;
 // A record with the tables that are open once it is taken.
 #[derive(Drop)]
 pub struct Prepared {
-    pub record: OwnedRecord,
+    pub holding: Holding,
     pub open_tables: BTreeSet<Table>,
 }
 
@@ -28,24 +31,27 @@ pub struct Prepared {
 pub fn prepare(
     alloc: Global,
     tables: &BTreeSet<Table>,
-    records: &[OwnedRecord],
+    records: &[Holding],
     r: &Record,
 ) -> Result<Prepared, OfferFault>
     requires { (u : ℕ) × InOrder u (entry_of r.now.table) }
     ensures certified { OnOk result (IsCertified (recorded r.now)) }
-    ensures record { IfOk result (λ p. owned_recorded p.record ≡ recorded r.now) }
+    ensures record { IfOk result (λ p. held_recorded p.holding ≡ recorded r.now) }
+    ensures pair { IfOk result (λ p. KnowsPair p.holding) }
     ensures tables { IfOk result (λ p. (q : Packed) → IsTrue (contains table_cmp p.open_tables q)
-        ↔ ((IsTrue (contains table_cmp tables.now q) × (q ≢ r.now.table)) ⊎ IsNewChild (map owned_recorded records.now) (recorded r.now) q)) }
+        ↔ ((IsTrue (contains table_cmp tables.now q) × (q ≢ r.now.table)) ⊎ IsNewChild (map held_recorded records.now) (recorded r.now) q)) }
     ensures refusal { IfErr result (λ f. IsRefusal f (recorded r.now)) }
 {
     certify(alloc, r)?;
     let certificate = OwnedCertificate::of(alloc, &r.certificate)?;
-    let open_tables = open_after(alloc, tables, records, r)?;
+    let halts_on = halting_pair(alloc, r)?;
+    let open_tables = open_after(tables, records, r, halts_on)?;
+    let record = OwnedRecord {
+        table: r.table,
+        certificate,
+    };
     Ok(Prepared {
-        record: OwnedRecord {
-            table: r.table,
-            certificate,
-        },
+        holding: Holding { record, halts_on },
         open_tables,
     })
 }
@@ -65,7 +71,7 @@ fn certify(alloc: Global, r: &Record) -> Result<(), OfferFault>
 }
 
 // Appends a record.
-pub fn append(records: &mut Vec<OwnedRecord>, r: OwnedRecord) -> Result<(), NoMemory>
+pub fn append(records: &mut Vec<Holding>, r: Holding) -> Result<(), NoMemory>
     ensures ok { OnOk result (records.new.items ≡ records.old.items ++ (r ∷ [])) }
     ensures err { OnErr result (records.new.items ≡ records.old.items) }
 {
@@ -74,11 +80,12 @@ pub fn append(records: &mut Vec<OwnedRecord>, r: OwnedRecord) -> Result<(), NoMe
 }
 
 // Puts a record in the place of the first for its table.
-pub fn put(records: &mut [OwnedRecord], r: OwnedRecord)
+pub fn put(records: &mut [Holding], r: Holding)
     ensures length { length records.new ≡ length records.old }
-    ensures settled { map owned_recorded records.new ≡ settled (map owned_recorded records.old) (owned_recorded r) }
+    ensures pairs { All KnowsPair records.old → KnowsPair r → All KnowsPair records.new }
+    ensures settled { map held_recorded records.new ≡ settled (map held_recorded records.old) (held_recorded r) }
 {
-    if let Some(place) = place_of(records, &r.table) {
+    if let Some(place) = place_of(records, &r.record.table) {
         records[place] = r;
     }
 }

@@ -1,5 +1,5 @@
 // A board of the tree of one state, and offers that it refuses.
-use super::{Board, BoardFault, OfferFault, Taken};
+use super::{Board, BoardFault, OfferFault, Status, Taken};
 use cert::Record;
 use machine_text::Table;
 use run::{Refused, Verdict};
@@ -89,4 +89,23 @@ fn a_root_is_in_order(rt: HostRuntime) {
         assert_eq!(rt; fault.number(), number);
     }
     assert_eq!(rt; BoardFault::NotInOrder.number(), 401);
+}
+
+// Offers a record, which must be taken. Memory may be refused once.
+fn take(rt: &impl Abort, board: &mut Board, text: &str) {
+    let mut offered = board.offer(&record_of(rt, text));
+    if offered == Err(OfferFault::NoMemory) {
+        offered = board.offer(&record_of(rt, text));
+    }
+    assert!(rt; matches!(&offered, Ok(Taken::New | Taken::Settled)), "{text}: {offered:?}");
+}
+
+// Whether these tables, and no others, come in this order.
+fn are_tables<I: Iterator<Item = Table> + Drop>(rt: &impl Abort, tables: I, texts: &[&str]) {
+    let mut expected = texts.iter();
+    for table in tables {
+        let text = expected.next();
+        assert!(rt; text.map(|t| table_of(rt, t)) == Some(table), "{table:?} where {text:?} comes");
+    }
+    assert!(rt; expected.next().is_none());
 }

@@ -1,9 +1,13 @@
-use Rattle.std.proofs.Common.{map, ap, ◌∙◌, sym, Some}
-use Rattle.cert.specs.Kinds.{owned_recorded, recorded}
-use Rattle.ledger.proofs.OpenAfter.{halt_limit, halts_by, after_halting, after_other, if_ok}
-use Rattle.ledger.proofs.OpenLaws.{open_taken}
+use Rattle.std.proofs.Common.{◌≡◌, map, subst, Option, Some}
+use Rattle.cert.specs.Claim.{shown_by}
+use Rattle.cert.specs.Kinds.{claim_of, recorded}
+use Rattle.ledger.specs.Keeping.{held_recorded, IsPairOf}
+use Rattle.ledger.specs.declared.pairs.Pair.{Pair}
+use Rattle.ledger.proofs.OpenAfter.{pair_halts, after_halting, if_ok}
 use Rattle.ledger.proofs.opening.open_after.Goals as goal
 
-pub returns-in_ok-found-in-Some-Halts : goal.returns-in_ok-found-in-Some-Halts
-returns-in_ok-found-in-Some-Halts c = if_ok c.with_children.result (λ after more. λ q.
-    after_halting (map owned_recorded c.args.records.now) (recorded c.args.r.now) c.in-Some-Halts.count c.in_ok-found-in-Some-Halts.found q _ _ _ (sym c.verdict_for.ensures ∙ (c.in-Some-Halts.is ∙ ap Some c.in-Some-Halts.field-0-is)) c.in_ok-found-in-Some-Halts.ensures (c.in_ok-left.ensures q) (more q)) c.with_children.ensures
+pub returns-in-Some : goal.returns-in-Some
+returns-in-Some c =
+    let known = pair_halts (shown_by (claim_of c.args.r.now.certificate)) c.args.r.now.table c.in-Some.pair (subst (λ (o : Option Pair). IsPairOf (shown_by (claim_of c.args.r.now.certificate)) c.args.r.now.table o) c.in-Some.is c.requires.pair) in
+    if_ok c.with_children.result (λ after more. λ q.
+    after_halting (map held_recorded c.args.records.now) (recorded c.args.r.now) known.0 c.children_on.result q _ _ _ known.1 c.children_on.ensures.members (c.in_ok-left.ensures q) (more q)) c.with_children.ensures

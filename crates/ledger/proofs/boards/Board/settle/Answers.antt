@@ -11,5 +11,6 @@ pub invariant_of-self : goal.invariant_of-self
 invariant_of-self c =
     let size : c.self.inside.records.len ≡ length c.self.inside.records.items = omega (arith, c.self.inside.records.ok) in
     rw (written_back c.self.inside.records.items c.deref_mut.result.now c.put.new.records c.self.inside.records.len size c.deref_mut.ensures.value c.put.ensures.length)
-    (code_settled c.args.self.now c.self.inside.root c.self.inside.records.items c.deref.result.now c.deref_mut.result.now c.put.new.records c.in_ok-prepared.prepared.record (recorded c.args.r.now) c.self.inside.open_tables c.in_ok-prepared.prepared.open_tables
-    c.self.view_is c.deref.ensures.value c.deref_mut.ensures.value c.self.invariant c.requires.holdout c.requires.verdict c.in_ok-prepared.ensures.certified c.put.ensures.settled c.in_ok-prepared.ensures.record c.in_ok-prepared.ensures.tables)
+    (let two = code_settled c.args.self.now c.self.inside.root c.self.inside.records.items c.deref.result.now c.deref_mut.result.now c.put.new.records c.in_ok-prepared.prepared.holding (recorded c.args.r.now) c.self.inside.open_tables c.in_ok-prepared.prepared.open_tables
+    c.self.view_is c.deref.ensures.value c.deref_mut.ensures.value (c.self.invariant.0, c.self.invariant.1) c.requires.holdout c.requires.verdict c.in_ok-prepared.ensures.certified c.put.ensures.settled c.in_ok-prepared.ensures.record c.in_ok-prepared.ensures.tables in
+    (two.0, two.1, c.put.ensures.pairs (rw c.deref_mut.ensures.value c.self.invariant.2) c.in_ok-prepared.ensures.pair))

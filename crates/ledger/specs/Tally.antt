@@ -1,0 +1,50 @@
+-- Which tables are of a kind, how many they are, and how a board stands.
+use Rattle.std.specs.Prelude.{◌≡◌, ◌≢◌, ℕ, ◌<◌, ◌≤◌, ◌↔◌, List, Contains, AllPairs, Option, Some, None, length}
+use Rattle.std.specs.Ordering.{nat_cmp}
+use Rattle.std.specs.declared.cmp.Ordering.TheVariants.{Less}
+use Rattle.std.specs.Cmp.Lexicographic.{slice_cmp}
+use Rattle.machine_text.specs.Packed.{Packed}
+use Rattle.machine_text.specs.Text.{text_of}
+use Rattle.tree.specs.Closed.{Stopping, NonStopping, IsOpen, IsComplete}
+use Rattle.cert.specs.Claim.{Recorded}
+use Rattle.ledger.specs.Records.{mark_in}
+use Rattle.ledger.specs.Held.{IsHoldout}
+use Rattle.ledger.specs.declared.outcomes.Status.{Status}
+use Rattle.ledger.specs.declared.outcomes.Status.TheVariants.{Working, Holdouts, Complete}
+
+-- each text comes before the later ones, in the order of their bytes
+abbrev pub AreInTextOrder : List Packed → Type 0
+AreInTextOrder tables = AllPairs (λ a b. slice_cmp nat_cmp (text_of a) (text_of b) ≡ Less) tables
+
+-- the tables of a kind, all of them and no other, in the order of their texts
+pub record AreAll (IsOfKind : Packed → Type 0) (tables : List Packed) : Type 0 where
+  pub exact : (t : Packed) → Contains tables t ↔ IsOfKind t
+  pub rising : AreInTextOrder tables
+
+-- so many tables are of a kind: they can be listed, each once
+pub record AreSoMany (IsOfKind : Packed → Type 0) (number : ℕ) : Type 0 where
+  pub tables : List Packed
+  pub exact : (t : Packed) → Contains tables t ↔ IsOfKind t
+  pub once : AllPairs (λ a b. a ≢ b) tables
+  pub is : number ≡ length tables
+
+-- recorded as halting in so many steps; recorded as halting; recorded as never halting
+abbrev pub HaltsAfter : List Recorded → ℕ → Packed → Type 0
+HaltsAfter rs k t = mark_in rs t ≡ Some (Stopping k)
+
+abbrev pub IsHalting : List Recorded → Packed → Type 0
+IsHalting rs t = (k : ℕ) × HaltsAfter rs k t
+
+abbrev pub IsNonHalting : List Recorded → Packed → Type 0
+IsNonHalting rs t = mark_in rs t ≡ Some NonStopping
+
+-- the greatest number of steps recorded of a table that halts; none where none is
+abbrev pub IsGreatestCount : List Recorded → Option ℕ → Type 0
+IsGreatestCount rs None = (t : Packed) (k : ℕ) → HaltsAfter rs k t → ⊥
+IsGreatestCount rs (Some s) = ((t : Packed) × HaltsAfter rs s t) × ((t : Packed) (k : ℕ) → HaltsAfter rs k t → k ≤ s)
+
+-- how a board stands: tables are open; none is, but there are holdouts; or neither
+abbrev pub IsStatus : Packed → List Recorded → Status → Type 0
+IsStatus root rs (Working count) = (0 < count) × AreSoMany (IsOpen root (mark_in rs)) count
+IsStatus root rs (Holdouts count) = ((t : Packed) → IsOpen root (mark_in rs) t → ⊥) × (0 < count) × AreSoMany (IsHoldout rs) count
+IsStatus root rs (Complete best) = IsComplete root (mark_in rs) × IsGreatestCount rs best

@@ -1,0 +1,88 @@
+// Counts over the records of a board.
+ghost use Rattle.std.specs.Prelude.{◌≡◌, IfOk, filter, filter_map, map, length};
+ghost use Rattle.std.specs.List.Sorted.{IsPermutation, IsSorted};
+ghost use Rattle.std.specs.Vec.Iter.{into_iter_items};
+ghost use Rattle.cert.specs.Claim.{shown_by};
+ghost use Rattle.cert.specs.Kinds.{owned_claim};
+ghost use Rattle.ledger.specs.Counting.{is_undecided, undecided_table, steps_of, greater, greatest};
+ghost use Rattle.ledger.specs.Keeping.{held_recorded};
+ghost use Rattle.ledger.specs.Open.{table_cmp};
+
+use crate::holding::Holding;
+use crate::looking::verdict_for;
+use itertools::Itertools;
+use machine_text::Table;
+use run::{NoMemory, Verdict};
+use std::alloc::Global;
+use std::vec::IntoIter;
+
+// How many of the records have no verdict.
+pub fn count_undecided(records: &[Holding]) -> u64
+    ensures { result ≡ length (filter (λ h. is_undecided (held_recorded h)) records.now) }
+{
+    records.iter().filter(|h| is_undecided(h)).count() as u64
+}
+
+// Whether a record has no verdict.
+fn is_undecided(h: &Holding) -> bool
+    ensures { result ≡ is_undecided (held_recorded h.now) }
+{
+    verdict_for(&h.record.certificate.lent()).is_none()
+}
+
+// The tables of the records without a verdict.
+pub fn undecided_tables(alloc: Global, records: &[Holding]) -> Result<Vec<Table>, NoMemory>
+    ensures { IfOk result (λ found. found.items ≡ filter_map (λ h. undecided_table (held_recorded h)) records.now) }
+{
+    Ok(
+        records
+            .iter()
+            .filter_map(|h| undecided_table(h))
+            .collect(alloc)?,
+    )
+}
+
+// The same tables in the order of their texts.
+pub fn sorted_tables(alloc: Global, tables: Vec<Table>) -> Result<IntoIter<Table>, NoMemory>
+    ensures same { IfOk result (λ found. IsPermutation tables.items (into_iter_items found)) }
+    ensures sorted { IfOk result (λ found. IsSorted table_cmp (into_iter_items found)) }
+{
+    Ok(tables.into_iter().sorted(alloc)?)
+}
+
+// The table of a record without a verdict.
+fn undecided_table(h: &Holding) -> Option<Table>
+    ensures { result ≡ undecided_table (held_recorded h.now) }
+{
+    if is_undecided(h) {
+        Some(h.record.table)
+    } else {
+        None
+    }
+}
+
+// The greatest number of steps of the records that say that their table halts.
+pub fn greatest_count(records: &[Holding]) -> Option<u64>
+    ensures { result ≡ greatest (map held_recorded records.now) }
+{
+    records
+        .iter()
+        .fold(None, |best, h| greater(best, count_of(h)))
+}
+
+// The greater of two numbers of which either may be missing.
+fn greater(a: Option<u64>, b: Option<u64>) -> Option<u64>
+    ensures { result ≡ greater a b }
+{
+    a.max(b)
+}
+
+// The number of steps of a record that says that its table halts.
+fn count_of(h: &Holding) -> Option<u64>
+    ensures { result ≡ steps_of (shown_by (held_recorded h.now).claim) }
+{
+    match verdict_for(&h.record.certificate.lent()) {
+        Some(Verdict::Halts(count)) => Some(count),
+        _ => None,
+    }
+}

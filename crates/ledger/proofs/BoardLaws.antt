@@ -1,27 +1,31 @@
 -- What is so of every board: its tables stand in the tree of its root, and which of them are open or holdouts.
-use Rattle.std.proofs.Common.{◌≡◌, ◌≢◌, Bool, true, false, if◌then◌else◌, ℕ, ◌<◌, ◌≤◌, List, [], ◌∷◌, Option, Some, None, option_map, IsTrue, ◌↔◌, refl, sym, ◌∙◌, ap, subst, map, length, arith, IfOk, Result, Ok, Err}
+use Rattle.std.proofs.Common.{◌≡◌, ◌≢◌, Bool, true, false, if◌then◌else◌, ℕ, ◌+◌, ◌<◌, ◌≤◌, List, [], ◌∷◌, Option, Some, None, option_map, IsTrue, ◌↔◌, refl, sym, ◌∙◌, ap, subst, map, length, get_or, nat_eq, arith, IfOk, Result, Ok, Err}
 use Rattle.std.specs.List.{Contains, AllPairs, filter, filter_map}
 use Rattle.std.specs.List.Sorted.{IsPermutation, IsSorted, IsStrictlySortedBy}
 use Rattle.std.specs.declared.cmp.Ordering.TheVariants.{Less}
 use Rattle.std.specs.BTreeSet.{BTreeSet, contains}
+use Rattle.std.proofs.lemmas.List.{length-map}
+use Rattle.std.proofs.lemmas.List.Sorted.{Contains-permutation, IsPermutation-sym}
+use Rattle.std.proofs.lemmas.List.Elements.{All-contains_itself}
 use Rattle.machine_text.specs.Packed.{Packed, IsTable, entry_of}
 use Rattle.tree.specs.Used.{InOrder}
-use Rattle.tree.specs.Closed.{Mark, Undecided, IsOpen, IsComplete}
+use Rattle.tree.specs.Closed.{Mark, Stopping, Undecided, IsOpen, IsComplete}
 use Rattle.tree.specs.Tables.{InTableTree}
-use Rattle.cert.specs.Claim.{Claim, Recorded}
+use Rattle.cert.specs.Claim.{Claim, Recorded, shown_by}
 use Rattle.ledger.specs.Records.{claim_in, mark_in, mark_of}
 use Rattle.ledger.specs.Held.{IsHoldout}
 use Rattle.ledger.specs.Open.{table_cmp}
 use Rattle.ledger.specs.Contents.{Contents, IsBoard, IsOpenSet}
 use Rattle.ledger.specs.Tally.{AreInTextOrder, AreAll, AreSoMany}
-use Rattle.ledger.specs.Counting.{is_undecided, undecided_table, greatest}
-use Rattle.ledger.specs.Keeping.{held_recorded}
+use Rattle.ledger.specs.Counting.{is_undecided, undecided_table, is_champion, champion_table, steps_of, greatest}
+use Rattle.ledger.specs.Keeping.{held_recorded, tables_with}
 use Rattle.ledger.specs.declared.holding.Holding.{Holding}
-use Rattle.ledger.specs.Tally.{IsGreatestCount}
-use Rattle.ledger.proofs.Apart.{held_apart, chosen_once}
-use Rattle.ledger.proofs.Numbers.{holdouts_listed, holdout_number, counted, greatest_count}
+use Rattle.ledger.specs.Tally.{IsGreatestCount, IsChampion}
+use Rattle.ledger.proofs.Apart.{AreApart, held_apart, chosen_once}
+use Rattle.ledger.proofs.Numbers.{holdouts_listed, halts_listed, counted, greatest_count}
 use Rattle.ledger.proofs.OpenLaws.{open_in_tree, recorded_in_tree}
 use Rattle.ledger.proofs.OpenListed.{open_listed}
+use Rattle.ledger.proofs.Sets.{nobody}
 use Rattle.ledger.proofs.Taking.{Below, KeepsOrder}
 use Rattle.ledger.proofs.TextOrder.{in_text_order, keys_rising, rising_once, all_sorted}
 
@@ -92,13 +96,24 @@ all_holdouts b root items lent xs ys below laws view same board is permuted sort
     (λ t kind. marked_table (record { root = root; records = rs }) t Undecided below laws board kind)
     (subst (λ (l : List Packed). AllPairs (λ (p q : Packed). p ≢ q) l) (sym listed) (chosen_once is_undecided rs apart)) permuted sorted)
 
-pub holdouts_counted : (b : Contents) (root : Packed) (items lent : List Holding) (n : ℕ) → (record { root = root; records = map held_recorded items }) ≡ b → lent ≡ items
-    → IsBoard (record { root = root; records = map held_recorded items }) → n ≡ length (filter (λ (h : Holding). is_undecided (held_recorded h)) lent) → AreSoMany (IsHoldout b.records) n
-holdouts_counted b root items lent n view same board is =
+abbrev pub Counts : (List Recorded → Packed → Type 0) → (Recorded → Bool) → Type 0
+Counts IsOfKind p = (rs : List Recorded) → AreApart rs → AreSoMany (IsOfKind rs) (length (filter p rs))
+
+pub kind_counted : (IsOfKind : List Recorded → Packed → Type 0) (p : Recorded → Bool) → Counts IsOfKind p
+    → (b : Contents) (root : Packed) (items lent : List Holding) (n : ℕ) → (record { root = root; records = map held_recorded items }) ≡ b → lent ≡ items
+    → IsBoard (record { root = root; records = map held_recorded items }) → n ≡ length (filter (λ (h : Holding). p (held_recorded h)) lent) → AreSoMany (IsOfKind b.records) n
+kind_counted IsOfKind p law b root items lent n view same board is =
     let rs = map held_recorded items in
-    let count : length (filter is_undecided rs) ≡ n =
-    sym (is ∙ (ap (λ (l : List Holding). length (filter (λ (h : Holding). is_undecided (held_recorded h)) l)) same ∙ counted held_recorded is_undecided items)) in
-    subst (λ (c : Contents). AreSoMany (IsHoldout c.records) n) view (subst (λ (k : ℕ). AreSoMany (IsHoldout rs) k) count (holdout_number rs (held_apart root rs board.held)))
+    let count : length (filter p rs) ≡ n =
+    sym (is ∙ (ap (λ (l : List Holding). length (filter (λ (h : Holding). p (held_recorded h)) l)) same ∙ counted held_recorded p items)) in
+    subst (λ (c : Contents). AreSoMany (IsOfKind c.records) n) view (subst (λ (k : ℕ). AreSoMany (IsOfKind rs) k) count (law rs (held_apart root rs board.held)))
+
+-- the nodes
+pub nodes_counted : (b : Contents) (root : Packed) (items : List Holding) (n m k : ℕ) → (record { root = root; records = map held_recorded items }) ≡ b
+    → n ≡ length items + k → m ≡ k → n ≡ length b.records + m
+nodes_counted b root items n m k view is same =
+    let count : length b.records ≡ length items = ap (λ (c : Contents). length c.records) (sym view) ∙ length-map items held_recorded in
+    omega (arith, count, is, same)
 
 -- the greatest count, as the code finds it
 pub greatest_counted : (b : Contents) (root : Packed) (items lent : List Holding) (o : Option ℕ) → (record { root = root; records = map held_recorded items }) ≡ b → lent ≡ items
@@ -112,3 +127,65 @@ greatest_counted b root items lent o view same board is =
 pub if_both : {T E : Type 0} {P Q S : T → Type 0} (r : Result T E) → ((t : T) → P t → Q t → S t) → IfOk r P → IfOk r Q → IfOk r S
 if_both (Ok t) f p q = f t p q
 if_both (Err e) f p q = tt
+
+-- the champions, as the code lists them
+champions_listed : (best : ℕ) (xs : List Holding) → filter_map (λ (h : Holding). champion_table best (held_recorded h)) xs ≡ map (λ (r : Recorded). r.table) (filter (is_champion best) (map held_recorded xs))
+champions_listed best [] = refl
+champions_listed best (x ∷ xs) =
+    let later = champions_listed best xs in
+    elim (steps_of (shown_by (held_recorded x).claim)) as (λ o. steps_of (shown_by (held_recorded x).claim) ≡ o
+    → filter_map (λ (h : Holding). champion_table best (held_recorded h)) (x ∷ xs) ≡ map (λ (r : Recorded). r.table) (filter (is_champion best) (map held_recorded (x ∷ xs)))) [
+      | None ↦ λ is. rw is later
+      | Some k ↦ λ is. elim (nat_eq k best) as (λ v. nat_eq k best ≡ v
+          → filter_map (λ (h : Holding). champion_table best (held_recorded h)) (x ∷ xs) ≡ map (λ (r : Recorded). r.table) (filter (is_champion best) (map held_recorded (x ∷ xs)))) [
+            | true ↦ λ same. rw (is, same) (ap (λ (l : List Packed). x.record.table ∷ l) later)
+            | false ↦ λ other. rw (is, other) later
+          ] refl
+    ] refl
+
+pub all_champions : (b : Contents) (root : Packed) (items lent : List Holding) (best : ℕ) (xs ys : List Packed) → Below → OfTables → (record { root = root; records = map held_recorded items }) ≡ b → lent ≡ items
+    → IsBoard (record { root = root; records = map held_recorded items })
+    → xs ≡ filter_map (λ (h : Holding). champion_table best (held_recorded h)) lent → IsPermutation xs ys → IsSorted table_cmp ys
+    → AreAll (IsChampion b.records (Some best)) ys
+all_champions b root items lent best xs ys below laws view same board is permuted sorted =
+    let rs = map held_recorded items in
+    let apart = held_apart root rs board.held in
+    let all = halts_listed best rs apart in
+    let listed : xs ≡ map (λ (r : Recorded). r.table) (filter (is_champion best) rs) =
+    is ∙ (ap (λ (l : List Holding). filter_map (λ (h : Holding). champion_table best (held_recorded h)) l) same ∙ champions_listed best items) in
+    subst (λ (c : Contents). AreAll (IsChampion c.records (Some best)) ys) view
+    (all_sorted (IsChampion rs (Some best)) xs ys
+    (λ t at. (all t).0 (subst (λ (l : List Packed). Contains l t) listed at))
+    (λ t kind. subst (λ (l : List Packed). Contains l t) (sym listed) ((all t).1 kind))
+    (λ t kind. marked_table (record { root = root; records = rs }) t (Stopping best) below laws board kind)
+    (subst (λ (l : List Packed). AllPairs (λ (p q : Packed). p ≢ q) l) (sym listed) (chosen_once (is_champion best) rs apart)) permuted sorted)
+
+pub no_champions : (rs : List Recorded) (xs ys : List Packed) → xs ≡ [] → IsPermutation xs ys → AreAll (IsChampion rs None) ys
+no_champions rs xs ys none permuted =
+    let empty : (t : Packed) → Contains ys t → ⊥ = λ t at. nobody (subst (λ (l : List Packed). Contains l t) none (Contains-permutation ys xs t (IsPermutation-sym xs ys permuted) at)) in record {
+      exact = λ t. (λ at. absurd (empty t at), λ kind. absurd kind);
+      rising = λ i j d less below. absurd (empty (get_or ys i d) (All-contains_itself ys i d (omega arith)));
+    }
+
+one_greatest : (rs : List Recorded) (a b : Option ℕ) → IsGreatestCount rs a → IsGreatestCount rs b → a ≡ b
+one_greatest rs None None x y = refl
+one_greatest rs None (Some s) x y = absurd (x y.0.0 s y.0.1)
+one_greatest rs (Some r) None x y = absurd (y x.0.0 r x.0.1)
+one_greatest rs (Some r) (Some s) x y =
+    let low : r ≤ s = y.1 x.0.0 r x.0.1 in let high : s ≤ r = x.1 y.0.0 s y.0.1 in ap (λ (n : ℕ). Some n) (omega arith)
+
+by_best : (b : Contents) (root : Packed) (items lent : List Holding) (xs ys : List Packed) (best : Option ℕ) → Below → OfTables → (record { root = root; records = map held_recorded items }) ≡ b → lent ≡ items
+    → IsBoard (record { root = root; records = map held_recorded items })
+    → xs ≡ tables_with best lent → IsPermutation xs ys → IsSorted table_cmp ys → AreAll (IsChampion b.records best) ys
+by_best b root items lent xs ys None below laws view same board is permuted sorted = no_champions b.records xs ys is permuted
+by_best b root items lent xs ys (Some best) below laws view same board is permuted sorted = all_champions b root items lent best xs ys below laws view same board is permuted sorted
+
+-- so are those of the greatest
+pub best_champions : (b : Contents) (root : Packed) (items lent : List Holding) (xs ys : List Packed) → Below → OfTables → (record { root = root; records = map held_recorded items }) ≡ b → lent ≡ items
+    → IsBoard (record { root = root; records = map held_recorded items })
+    → xs ≡ tables_with (greatest (map held_recorded lent)) lent → IsPermutation xs ys → IsSorted table_cmp ys
+    → (best : Option ℕ) → IsGreatestCount b.records best → AreAll (IsChampion b.records best) ys
+best_champions b root items lent xs ys below laws view same board is permuted sorted best greatest_one =
+    let counted : IsGreatestCount b.records (greatest (map held_recorded lent)) = greatest_counted b root items lent (greatest (map held_recorded lent)) view same board refl in
+    let found : greatest (map held_recorded lent) ≡ best = one_greatest b.records (greatest (map held_recorded lent)) best counted greatest_one in
+    by_best b root items lent xs ys best below laws view same board (is ∙ ap (λ (o : Option ℕ). tables_with o lent) found) permuted sorted

@@ -10,6 +10,7 @@ use Rattle.std.specs.declared.cmp.Ordering.TheVariants.{Less, Equal, Greater}
 use Rattle.std.specs.Cmp.{tied_itself}
 use Rattle.std.specs.Cmp.Lexicographic.{slice_cmp}
 use Rattle.std.proofs.lemmas.Bool.{ltb-true, ltb-false}
+use Rattle.std.proofs.lemmas.Bool.Decides.{Decides-eqb}
 use Rattle.std.proofs.lemmas.List.{length-map}
 use Rattle.std.proofs.lemmas.List.Sorted.{Contains-permutation, IsPermutation-sym}
 use Rattle.std.proofs.lemmas.List.Elements.{All-contains_itself}
@@ -24,8 +25,8 @@ use Rattle.cert.specs.Claim.{Claim, Recorded, shown_by}
 use Rattle.ledger.specs.Records.{same_table, claim_in, mark_in, mark_of, mark_by}
 use Rattle.ledger.specs.Held.{IsHoldout}
 use Rattle.ledger.specs.Open.{table_cmp}
-use Rattle.ledger.specs.Counting.{is_undecided, undecided_table, steps_of, greater, greatest}
-use Rattle.ledger.specs.Tally.{AreInTextOrder, AreAll, AreSoMany, HaltsAfter, IsGreatestCount}
+use Rattle.ledger.specs.Counting.{is_undecided, is_halting, is_never, says_halts, says_never, is_champion, is_steps, steps_of, greater, greatest}
+use Rattle.ledger.specs.Tally.{AreSoMany, HaltsAfter, IsHalting, IsNonHalting, IsGreatestCount}
 use Rattle.ledger.proofs.Same.{same_is, same_at}
 use Rattle.ledger.proofs.Sets.{exact_tables, tables_total}
 use Rattle.ledger.proofs.OpenLaws.{stopping_verdict}
@@ -85,6 +86,37 @@ holdouts_listed rs apart t = kind_listed (IsHoldout rs) is_undecided rs (λ r at
 
 pub holdout_number : (rs : List Recorded) → AreApart rs → AreSoMany (IsHoldout rs) (length (filter is_undecided rs))
 holdout_number rs apart = number_of_kind (IsHoldout rs) is_undecided rs apart (λ r at pass. holdout_passes rs r apart at pass) (λ t holdout. holdout_found rs t holdout)
+
+-- the halting ones, and those that never halt
+halting_mark : (o : Option Verdict) → says_halts o ≡ true → (k : ℕ) × (mark_by o ≡ Stopping k)
+halting_mark None e = cc
+halting_mark (Some (Halts k)) e = (k, refl)
+halting_mark (Some Never) e = cc
+
+mark_halting : (o : Option Verdict) (k : ℕ) → mark_by o ≡ Stopping k → says_halts o ≡ true
+mark_halting None k e = cc
+mark_halting (Some (Halts j)) k e = refl
+mark_halting (Some Never) k e = cc
+
+never_mark : (o : Option Verdict) → says_never o ≡ true → mark_by o ≡ NonStopping
+never_mark None e = cc
+never_mark (Some (Halts k)) e = cc
+never_mark (Some Never) e = refl
+
+mark_never : (o : Option Verdict) → mark_by o ≡ NonStopping → says_never o ≡ true
+mark_never None e = cc
+mark_never (Some (Halts k)) e = cc
+mark_never (Some Never) e = refl
+
+pub halting_number : (rs : List Recorded) → AreApart rs → AreSoMany (IsHalting rs) (length (filter is_halting rs))
+halting_number rs apart = number_of_kind (IsHalting rs) is_halting rs apart
+    (λ r at pass. let w = halting_mark (shown_by r.claim) pass in (w.0, member_marked rs r apart at ∙ ap (λ (m : Mark). Some m) w.1))
+    (λ t halting. let w = marked_member rs t (Stopping halting.0) halting.1 in (w.0, w.1, mark_halting (shown_by w.0.claim) halting.0 w.2, w.3))
+
+pub never_number : (rs : List Recorded) → AreApart rs → AreSoMany (IsNonHalting rs) (length (filter is_never rs))
+never_number rs apart = number_of_kind (IsNonHalting rs) is_never rs apart
+    (λ r at pass. member_marked rs r apart at ∙ ap (λ (m : Mark). Some m) (never_mark (shown_by r.claim) pass))
+    (λ t never. let w = marked_member rs t NonStopping never in (w.0, w.1, mark_never (shown_by w.0.claim) w.2, w.3))
 
 -- counted along the code's list
 pub counted : {X Y : Type 0} (f : X → Y) (p : Y → Bool) (xs : List X) → length (filter (λ (x : X). p (f x)) xs) ≡ length (filter p (map f xs))
@@ -177,3 +209,19 @@ greatest_is rs (Some s) apart e =
 
 pub greatest_count : (rs : List Recorded) → AreApart rs → IsGreatestCount rs (greatest rs)
 greatest_count rs apart = greatest_is rs (greatest rs) apart refl
+
+-- the tables of a number of steps
+champion_mark : (o : Option Verdict) (best : ℕ) → is_steps best (steps_of o) ≡ true → mark_by o ≡ Stopping best
+champion_mark None best e = cc
+champion_mark (Some (Halts k)) best e = ap (λ (n : ℕ). Stopping n) ((Decides-eqb k best).0 e)
+champion_mark (Some Never) best e = cc
+
+mark_champion : (o : Option Verdict) (best : ℕ) → mark_by o ≡ Stopping best → is_steps best (steps_of o) ≡ true
+mark_champion None best e = cc
+mark_champion (Some (Halts k)) best e = let same : k ≡ best = cc in (Decides-eqb k best).1 same
+mark_champion (Some Never) best e = cc
+
+pub halts_listed : (best : ℕ) (rs : List Recorded) → AreApart rs → (t : Packed) → Contains (map (λ (r : Recorded). r.table) (filter (is_champion best) rs)) t ↔ HaltsAfter rs best t
+halts_listed best rs apart t = kind_listed (HaltsAfter rs best) (is_champion best) rs
+    (λ r at pass. member_marked rs r apart at ∙ ap (λ (m : Mark). Some m) (champion_mark (shown_by r.claim) best pass))
+    (λ q halts. let w = marked_member rs q (Stopping best) halts in (w.0, w.1, mark_champion (shown_by w.0.claim) best w.2, w.3)) t

@@ -121,7 +121,7 @@ brings rs parent x q all rest A B R list before one =
       ],
     )
 
-nobody : {q : Packed} → Contains [] q → ⊥
+pub nobody : {q : Packed} → Contains [] q → ⊥
 nobody (k, below, is) = omega arith
 
 -- no children bring nothing

@@ -1,11 +1,12 @@
 -- How the code keeps a record: beside it the pair on which its table halts, where it says that it does.
-use Rattle.std.specs.Prelude.{◌≡◌, ℕ, ◌<◌, Option, Some, None}
+use Rattle.std.specs.Prelude.{◌≡◌, ℕ, ◌<◌, List, [], Option, Some, None, filter_map}
 use Rattle.machine_text.specs.Packed.{Packed, entry_of}
 use Rattle.tree.specs.Children.{StopsOn}
 use Rattle.run.specs.declared.verdicts.Verdict.{Verdict}
 use Rattle.run.specs.declared.verdicts.Verdict.TheVariants.{Halts, Never}
 use Rattle.cert.specs.Claim.{Recorded, shown_by}
 use Rattle.cert.specs.Kinds.{owned_recorded}
+use Rattle.ledger.specs.Counting.{champion_table}
 use Rattle.ledger.specs.declared.pairs.Pair.{Pair}
 use Rattle.ledger.specs.declared.holding.Holding.{Holding}
 
@@ -26,3 +27,8 @@ IsPairOf None t pair = pair ≡ None
 
 abbrev pub KnowsPair : Holding → Type 0
 KnowsPair h = IsPairOf (shown_by (held_recorded h).claim) h.record.table h.halts_on
+
+-- the tables of the records of so many steps
+abbrev pub tables_with : Option ℕ → List Holding → List Packed
+tables_with None hs = []
+tables_with (Some best) hs = filter_map (λ h. champion_table best (held_recorded h)) hs

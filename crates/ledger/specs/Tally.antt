@@ -1,5 +1,5 @@
 -- Which tables are of a kind, how many they are, and how a board stands.
-use Rattle.std.specs.Prelude.{◌≡◌, ◌≢◌, ℕ, ◌<◌, ◌≤◌, ◌↔◌, List, Contains, AllPairs, Option, Some, None, length}
+use Rattle.std.specs.Prelude.{◌≡◌, ◌≢◌, ℕ, ◌+◌, ◌<◌, ◌≤◌, ◌↔◌, List, Contains, AllPairs, Option, Some, None, length}
 use Rattle.std.specs.Ordering.{nat_cmp}
 use Rattle.std.specs.declared.cmp.Ordering.TheVariants.{Less}
 use Rattle.std.specs.Cmp.Lexicographic.{slice_cmp}
@@ -9,6 +9,7 @@ use Rattle.tree.specs.Closed.{Stopping, NonStopping, IsOpen, IsComplete}
 use Rattle.cert.specs.Claim.{Recorded}
 use Rattle.ledger.specs.Records.{mark_in}
 use Rattle.ledger.specs.Held.{IsHoldout}
+use Rattle.ledger.specs.declared.outcomes.Tally.{Tally}
 use Rattle.ledger.specs.declared.outcomes.Status.{Status}
 use Rattle.ledger.specs.declared.outcomes.Status.TheVariants.{Working, Holdouts, Complete}
 
@@ -42,6 +43,20 @@ IsNonHalting rs t = mark_in rs t ≡ Some NonStopping
 abbrev pub IsGreatestCount : List Recorded → Option ℕ → Type 0
 IsGreatestCount rs None = (t : Packed) (k : ℕ) → HaltsAfter rs k t → ⊥
 IsGreatestCount rs (Some s) = ((t : Packed) × HaltsAfter rs s t) × ((t : Packed) (k : ℕ) → HaltsAfter rs k t → k ≤ s)
+
+-- a table that is recorded with the greatest number of steps
+abbrev pub IsChampion : List Recorded → Option ℕ → Packed → Type 0
+IsChampion rs None t = ⊥
+IsChampion rs (Some s) t = HaltsAfter rs s t
+
+-- how many tables there are of each kind; the nodes are the records and the open tables together
+pub record IsTally (root : Packed) (rs : List Recorded) (tally : Tally) : Type 0 where
+  pub nodes : tally.nodes ≡ length rs + tally.open_count
+  pub open_count : AreSoMany (IsOpen root (mark_in rs)) tally.open_count
+  pub halting : AreSoMany (IsHalting rs) tally.halting
+  pub never : AreSoMany (IsNonHalting rs) tally.never
+  pub holdouts : AreSoMany (IsHoldout rs) tally.holdouts
+  pub best : IsGreatestCount rs tally.best
 
 -- how a board stands: tables are open; none is, but there are holdouts; or neither
 abbrev pub IsStatus : Packed → List Recorded → Status → Type 0

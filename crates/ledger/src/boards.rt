@@ -3,21 +3,24 @@ ghost use Rattle.std.specs.Prelude.{◌≡◌, ℕ, IfSome, IfOk, Err};
 ghost use Rattle.machine_text.specs.Packed.{entry_of};
 ghost use Rattle.tree.specs.Used.{InOrder};
 ghost use Rattle.run.specs.Verdict.{IsTrueOf};
-ghost use Rattle.std.specs.Prelude.{◌↔◌};
+ghost use Rattle.std.specs.Prelude.{◌↔◌, Option};
 ghost use Rattle.std.specs.Vec.Iter.{into_iter_items};
 ghost use Rattle.tree.specs.Tables.{IsChildTable};
 ghost use Rattle.ledger.specs.Places.{IsPlace};
-ghost use Rattle.ledger.specs.Tally.{AreAll, IsHalting, IsStatus};
+ghost use Rattle.ledger.specs.Tally.{AreAll, IsChampion, IsGreatestCount, IsHalting, IsStatus, IsTally};
 
 use crate::holding::Holding;
 use crate::listing::Records;
 use crate::looking::{certificate_for, pair_for, verdict_in};
 use crate::opening::{count_of, listed, only};
-use crate::outcomes::{BoardFault, OfferFault, Status, Taken};
+use crate::outcomes::{BoardFault, OfferFault, Status, Taken, Tally};
 use crate::pairs::children_on;
 use crate::places::{Place, recorded_place};
 use crate::preparing::{append, prepare, put};
-use crate::tallies::{count_undecided, greatest_count, sorted_tables, undecided_tables};
+use crate::tallies::{
+    champion_tables, count_halting, count_never, count_nodes, count_undecided, greatest_count,
+    sorted_tables, undecided_tables,
+};
 use cert::{Record, standing_claims_are_true};
 use machine_text::Table;
 use run::{NoMemory, Verdict};
@@ -34,6 +37,9 @@ pub type Open<'a> = Iter<'a, Table>;
 
 /// An iterator over the holdouts of a board.
 pub type Holdouts = IntoIter<Table>;
+
+/// An iterator over the champions of a board.
+pub type Champions = IntoIter<Table>;
 
 /// The records of a tree's tables, from the tree's root, in the order in which they were taken.
 #[derive(Drop)]
@@ -88,6 +94,13 @@ impl Board {
         })
     }
 
+    /// The root of the tree.
+    pub fn root(&self) -> &Table
+        ensures { result.now ≡ self.now.root }
+    {
+        &self.root
+    }
+
     /// The records, lent, in their order.
     pub fn records(&self) -> Records<'_>
         ensures { result ≡ self.now.records }
@@ -124,6 +137,30 @@ impl Board {
             Some(pair) => Some(children_on(t, pair)),
             None => None,
         }
+    }
+
+    /// How many tables there are of each kind.
+    pub fn tally(&self) -> Tally
+        ensures { IsTally self.now.root self.now.records result }
+    {
+        Tally {
+            nodes: count_nodes(&self.records, &self.open_tables),
+            halting: count_halting(&self.records),
+            never: count_never(&self.records),
+            holdouts: count_undecided(&self.records),
+            open_count: count_of(&self.open_tables),
+            best: greatest_count(&self.records),
+        }
+    }
+
+    /// The tables that are recorded with the greatest number of steps, in the order of their texts.
+    pub fn champions(&self) -> Result<Champions, NoMemory>
+        ensures { IfOk result (λ found. (best : Option ℕ) → IsGreatestCount self.now.records best →
+            AreAll (IsChampion self.now.records best) (into_iter_items found)) }
+    {
+        child_is_table();
+        let tables = champion_tables(self.alloc, &self.records)?;
+        sorted_tables(self.alloc, tables)
     }
 
     /// How the board stands.

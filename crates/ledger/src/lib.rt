@@ -16,9 +16,9 @@ mod places;
 mod preparing;
 mod tallies;
 
-pub use boards::{Board, Holdouts, Open};
+pub use boards::{Board, Champions, Holdouts, Open};
 pub use listing::Records;
-pub use outcomes::{BoardFault, OfferFault, Status, Taken};
+pub use outcomes::{BoardFault, OfferFault, Status, Taken, Tally};
 
 #[cfg(test)]
 mod tests;

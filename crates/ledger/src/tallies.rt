@@ -1,11 +1,11 @@
 // Counts over the records of a board.
-ghost use Rattle.std.specs.Prelude.{◌≡◌, IfOk, filter, filter_map, map, length};
+ghost use Rattle.std.specs.Prelude.{◌≡◌, ◌+◌, IfOk, filter, filter_map, map, length};
 ghost use Rattle.std.specs.List.Sorted.{IsPermutation, IsSorted};
 ghost use Rattle.std.specs.Vec.Iter.{into_iter_items};
 ghost use Rattle.cert.specs.Claim.{shown_by};
 ghost use Rattle.cert.specs.Kinds.{owned_claim};
-ghost use Rattle.ledger.specs.Counting.{is_undecided, undecided_table, steps_of, greater, greatest};
-ghost use Rattle.ledger.specs.Keeping.{held_recorded};
+ghost use Rattle.ledger.specs.Counting.{is_undecided, undecided_table, is_halting, is_never, champion_table, steps_of, greater, greatest};
+ghost use Rattle.ledger.specs.Keeping.{held_recorded, tables_with};
 ghost use Rattle.ledger.specs.Open.{table_cmp};
 
 use crate::holding::Holding;
@@ -14,6 +14,7 @@ use itertools::Itertools;
 use machine_text::Table;
 use run::{NoMemory, Verdict};
 use std::alloc::Global;
+use std::collections::BTreeSet;
 use std::vec::IntoIter;
 
 // How many of the records have no verdict.
@@ -28,6 +29,79 @@ fn is_undecided(h: &Holding) -> bool
     ensures { result ≡ is_undecided (held_recorded h.now) }
 {
     verdict_for(&h.record.certificate.lent()).is_none()
+}
+
+// How many of the records say that their table halts.
+pub fn count_halting(records: &[Holding]) -> u64
+    ensures { result ≡ length (filter (λ h. is_halting (held_recorded h)) records.now) }
+{
+    records.iter().filter(|h| is_halting(h)).count() as u64
+}
+
+// Whether a record says that its table halts.
+fn is_halting(h: &Holding) -> bool
+    ensures { result ≡ is_halting (held_recorded h.now) }
+{
+    matches!(
+        verdict_for(&h.record.certificate.lent()),
+        Some(Verdict::Halts(_))
+    )
+}
+
+// How many of the records say that their table never halts.
+pub fn count_never(records: &[Holding]) -> u64
+    ensures { result ≡ length (filter (λ h. is_never (held_recorded h)) records.now) }
+{
+    records.iter().filter(|h| is_never(h)).count() as u64
+}
+
+// Whether a record says that its table never halts.
+fn is_never(h: &Holding) -> bool
+    ensures { result ≡ is_never (held_recorded h.now) }
+{
+    matches!(
+        verdict_for(&h.record.certificate.lent()),
+        Some(Verdict::Never)
+    )
+}
+
+// How many records and tables there are together.
+pub fn count_nodes(records: &Vec<Holding>, tables: &BTreeSet<Table>) -> u64
+    ensures { result ≡ length records.now.items + length tables.now.keys }
+{
+    records.len() as u64 + tables.len() as u64
+}
+
+// The tables of the records with the greatest number of steps.
+pub fn champion_tables(alloc: Global, records: &[Holding]) -> Result<Vec<Table>, NoMemory>
+    ensures { IfOk result (λ found. found.items ≡ tables_with (greatest (map held_recorded records.now)) records.now) }
+{
+    match greatest_count(records) {
+        Some(best) => tables_with(alloc, records, best),
+        None => Ok(Vec::new(alloc)),
+    }
+}
+
+// The tables of the records of so many steps.
+fn tables_with(alloc: Global, records: &[Holding], best: u64) -> Result<Vec<Table>, NoMemory>
+    ensures { IfOk result (λ found. found.items ≡ filter_map (λ h. champion_table best (held_recorded h)) records.now) }
+{
+    Ok(
+        records
+            .iter()
+            .filter_map(|h| champion_table(best, h))
+            .collect(alloc)?,
+    )
+}
+
+// The table of a record, where it says that the table halts in so many steps.
+fn champion_table(best: u64, h: &Holding) -> Option<Table>
+    ensures { result ≡ champion_table best (held_recorded h.now) }
+{
+    match count_of(h) {
+        Some(count) if count == best => Some(h.record.table),
+        _ => None,
+    }
 }
 
 // The tables of the records without a verdict.

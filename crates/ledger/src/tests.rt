@@ -1,5 +1,5 @@
 // A board of the tree of one state, and offers that it refuses.
-use super::{Board, BoardFault, OfferFault, Status, Taken};
+use super::{Board, BoardFault, Holdouts, OfferFault, Status, Taken};
 use cert::Record;
 use machine_text::Table;
 use run::{Refused, Verdict};
@@ -97,7 +97,10 @@ fn take(rt: &impl Abort, board: &mut Board, text: &str) {
     if offered == Err(OfferFault::NoMemory) {
         offered = board.offer(&record_of(rt, text));
     }
-    assert!(rt; matches!(&offered, Ok(Taken::New | Taken::Settled)), "{text}: {offered:?}");
+    assert!(rt;
+        matches!(&offered, Ok(Taken::New | Taken::Settled)),
+        "{text}: {offered:?}"
+    );
 }
 
 // Whether these tables, and no others, come in this order.
@@ -105,7 +108,83 @@ fn are_tables<I: Iterator<Item = Table> + Drop>(rt: &impl Abort, tables: I, text
     let mut expected = texts.iter();
     for table in tables {
         let text = expected.next();
-        assert!(rt; text.map(|t| table_of(rt, t)) == Some(table), "{table:?} where {text:?} comes");
+        assert!(rt;
+            text.map(|t| table_of(rt, t)) == Some(table),
+            "{table:?} where {text:?} comes"
+        );
     }
     assert!(rt; expected.next().is_none());
+}
+
+#[test]
+fn children_are_open(rt: HostRuntime) {
+    let root = table_of(&rt, "------_1LA---");
+    let Ok(mut board) = Board::new(rt.alloc(), root) else {
+        panic!(rt; "no board");
+    };
+    assert!(rt; board.status() == Status::Working { count: 1 });
+    assert!(rt; board.children(&root).is_none());
+    are_tables(&rt, board.open().copied(), &["------_1LA---"]);
+    take(&rt, &mut board, "------_1LA--- H 1");
+    let texts = [
+        "0LA---_1LA---",
+        "0LB---_1LA---",
+        "0RA---_1LA---",
+        "0RB---_1LA---",
+        "1LA---_1LA---",
+        "1LB---_1LA---",
+        "1RA---_1LA---",
+        "1RB---_1LA---",
+    ];
+    are_tables(&rt, board.open().copied(), &texts);
+    match board.children(&root) {
+        Some(children) => are_tables(&rt, children, &texts),
+        None => panic!(rt; "no children"),
+    }
+    assert!(rt; board.status() == Status::Working { count: 8 });
+    take(&rt, &mut board, "0LA---_1LA--- U");
+    assert!(rt; board.children(&table_of(&rt, "0LA---_1LA---")).is_none());
+    are_tables(&rt, board.open().copied(), &texts[1..]);
+}
+
+// The holdouts of a board. Memory may be refused once.
+fn holdouts_of(rt: &impl Abort, board: &Board) -> Holdouts {
+    for _ in 0..2 {
+        if let Ok(holdouts) = board.holdouts() {
+            return holdouts;
+        }
+    }
+    panic!(rt; "memory was refused twice")
+}
+
+#[test]
+fn a_board_is_complete_without_holdouts(rt: HostRuntime) {
+    let Ok(mut board) = Board::new(rt.alloc(), table_of(&rt, "------")) else {
+        panic!(rt; "no board");
+    };
+    take(&rt, &mut board, "------ H 1");
+    assert!(rt; board.status() == Status::Working { count: 2 });
+    take(&rt, &mut board, "1RA--- U");
+    assert!(rt; board.status() == Status::Working { count: 1 });
+    take(&rt, &mut board, "0RA--- U");
+    assert!(rt; board.status() == Status::Holdouts { count: 2 });
+    are_tables(&rt, holdouts_of(&rt, &board), &["0RA---", "1RA---"]);
+    take(&rt, &mut board, "0RA--- T 0 1 R");
+    assert!(rt; board.status() == Status::Holdouts { count: 1 });
+    are_tables(&rt, holdouts_of(&rt, &board), &["1RA---"]);
+    take(&rt, &mut board, "1RA--- T 0 1 R");
+    assert!(rt; board.status() == Status::Complete { best: Some(1) });
+    are_tables(&rt, holdouts_of(&rt, &board), &[]);
+    assert!(rt; board.verdict(&table_of(&rt, "1RA---")) == Some(Verdict::Never));
+    assert!(rt; board.records().count() == 3);
+}
+
+#[test]
+fn the_greatest_count_is_best(rt: HostRuntime) {
+    // The run never leaves the row that is filled, so this table has no halting extension.
+    let Ok(mut board) = Board::new(rt.alloc(), table_of(&rt, "1RA---_------")) else {
+        panic!(rt; "no board");
+    };
+    take(&rt, &mut board, "1RA---_------ T 0 1 R");
+    assert!(rt; board.status() == Status::Complete { best: None });
 }

@@ -1,3 +1,4 @@
 pub mod Outcome
 pub mod Lines
 pub mod Answer
+pub mod Report

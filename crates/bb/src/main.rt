@@ -10,6 +10,7 @@ mod check;
 mod command_line;
 mod cutter;
 mod outcome;
+mod report;
 
 use asked::LineFault;
 use check::cmd_check;

@@ -2,3 +2,4 @@ pub mod Outcome
 pub mod Lines
 pub mod Answer
 pub mod Report
+pub mod LedgerReport

@@ -6,9 +6,14 @@ use thiserror::Error as Fault;
 
 /// What the command line asks for.
 #[derive(Clone, Copy, Debug, PartialEq, Eq)]
-pub enum Options {
+pub enum Options<'a> {
     /// `bb check`
     Check,
+    /// `bb report FILE`
+    Report {
+        /// The ledger's path.
+        file: &'a str,
+    },
 }
 
 /// Why there are no options: clap refused the words or was asked for help, or memory was refused.

@@ -1,6 +1,7 @@
 // `bb check`: records in, answers out.
 use crate::answers::answer;
 use crate::cutter::{Cutter, cut};
+use crate::ended::Ended;
 use crate::outcome::Outcome;
 use run::NoMemory;
 use std::alloc::Global;
@@ -21,29 +22,7 @@ pub fn cmd_check<R: Read, W: Write, E: Write>(
     let ended = checker.run(input, answers);
     match ended {
         Ok(()) => checker.outcome,
-        Err(Ended::Stream) => told(faults, b"refused 603\n", Outcome::Failed),
-        Err(Ended::NoMemory) => told(faults, b"refused memory\n", Outcome::NoMemory),
-    }
-}
-
-// Says why a command ended; where that can't be said either, a stream has failed.
-fn told<E: Write>(faults: &mut E, line: &[u8], outcome: Outcome) -> Outcome {
-    match faults.write_all(line) {
-        Ok(()) => outcome,
-        Err(_) => Outcome::Failed,
-    }
-}
-
-// What ends a command before its input does.
-#[derive(Clone, Copy)]
-enum Ended {
-    Stream,
-    NoMemory,
-}
-
-impl From<NoMemory> for Ended {
-    fn from(_: NoMemory) -> Ended {
-        Ended::NoMemory
+        Err(ended) => ended.told(faults),
     }
 }
 

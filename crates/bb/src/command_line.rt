@@ -1,14 +1,18 @@
 // The command line, by clap's builder.
 use crate::asked::{LineFault, Options as Asked};
-use clap::Command;
+use clap::{Arg, Command};
 use run::NoMemory;
 use std::alloc::Global;
 
 /// What the words of a command line ask for, the program's name first.
-pub fn options(alloc: Global, words: &[&str]) -> Result<Asked, LineFault> {
+pub fn options<'a>(alloc: Global, words: &'a [&'a str]) -> Result<Asked<'a>, LineFault> {
     let matches = program(alloc)?.try_get_matches_from(words)?;
-    let _check = matches.subcommand();
-    Ok(Asked::Check)
+    match matches.subcommand() {
+        Some(("report", report)) => Ok(Asked::Report {
+            file: report.get_str(FILE).unwrap_or_default(),
+        }),
+        _ => Ok(Asked::Check),
+    }
 }
 
 fn program<'a>(alloc: Global) -> Result<Command<'a>, NoMemory> {
@@ -21,12 +25,44 @@ fn program<'a>(alloc: Global) -> Result<Command<'a>, NoMemory> {
             Command::new(alloc, "check")
                 .about("Checks a record a line on standard input, and prints an answer a line.")
                 .after_help(RECORDS),
+        )?
+        .subcommand(
+            Command::new(alloc, "report")
+                .about("Prints the report of a ledger file.")
+                .after_help(REPORT)
+                .arg(Arg::new(alloc, FILE).required(true).help("The ledger file"))?,
         )
 }
 
+const FILE: &str = "FILE";
+
 const STATUSES: &str =
     "Exit status: 0 all accepted; 1 something was refused; 2 a wrong command line; \
-3 want of memory; 4 a stream failed.";
+3 want of memory; 4 a stream or a file failed.";
+
+const REPORT: &str =
+    "A ledger is the line `bb-ledger 1 TABLE`, which names the root of a tree, and then records, one a
+line. Each record is judged again; what stands behind the first line that can't be taken isn't kept.
+
+The report has these lines
+  root TABLE
+  status working     tables are open: neither recorded nor below a table without a record
+  status holdouts    none is open, but some are recorded without a verdict
+  status complete    neither
+  nodes N            records and open tables together
+  halting N          tables recorded as halting
+  never N            tables recorded as never halting
+  holdouts N         tables recorded without a verdict
+  open N             open tables
+  best K             the greatest recorded number of steps, or `none`
+  champion TABLE     a line for each table recorded with that number
+  holdout TABLE      a line for each holdout
+  left LINE          the number of the first line that wasn't kept, where there is one
+
+Exit status: 0 the report says complete, and all was kept; 1 it doesn't, or the ledger was refused
+(`refused 404` no header with a readable table, `refused 405` its table doesn't name its states in order);
+2 a wrong command line; 3 want of memory (`refused memory`); 4 the file couldn't be read (`refused 605`)
+or a stream failed (`refused 603`).";
 
 const RECORDS: &str =
     "A record is a table in the bbchallenge standard format, a space and a certificate:

@@ -9,15 +9,20 @@ mod asked;
 mod check;
 mod command_line;
 mod cutter;
+mod ended;
 mod outcome;
 mod report;
+mod report_file;
 
-use asked::LineFault;
+use asked::{LineFault, Options};
 use check::cmd_check;
 use command_line::options;
+use ended::Ended;
 use outcome::Outcome;
+use report_file::{Opened, cmd_report};
 use std::process::ExitCode;
-use std::{env, io};
+use std::fs::OpenFile;
+use std::{env, fs, io};
 
 fn main(rt: HostRuntime) -> io::Result<ExitCode> {
     let mut words = Vec::new(rt.alloc());
@@ -29,12 +34,7 @@ fn main(rt: HostRuntime) -> io::Result<ExitCode> {
         line.push(word.as_str())?;
     }
     let outcome = match options(rt.alloc(), &line) {
-        Ok(_check) => cmd_check(
-            rt.alloc(),
-            &mut rt.stdin(),
-            &mut rt.stdout(),
-            &mut rt.stderr(),
-        ),
+        Ok(asked) => obeyed(&rt, asked),
         Err(LineFault::Refused(told)) => {
             told.print(&rt)?;
             if told.use_stderr() {
@@ -44,11 +44,35 @@ fn main(rt: HostRuntime) -> io::Result<ExitCode> {
             }
         }
         Err(LineFault::NoMemory) => {
-            eprintln!(rt; "refused memory")?;
-            Outcome::NoMemory
+            Ended::NoMemory.told(&mut rt.stderr())
         }
     };
     Ok(ExitCode::from(outcome.status()))
+}
+
+// Hands the streams and files to the command that is asked for.
+fn obeyed(rt: &HostRuntime, asked: Options<'_>) -> Outcome {
+    match asked {
+        Options::Check => cmd_check(
+            rt.alloc(),
+            &mut rt.stdin(),
+            &mut rt.stdout(),
+            &mut rt.stderr(),
+        ),
+        Options::Report { file } => cmd_report(
+            rt.alloc(),
+            opened(rt, file),
+            &mut rt.stdout(),
+            &mut rt.stderr(),
+        ),
+    }
+}
+
+// A file, and how long it is now.
+fn opened(rt: &HostRuntime, path: &str) -> io::Result<Opened<fs::File>> {
+    let reader = fs::open(rt, path)?;
+    let length = reader.metadata()?.len();
+    Ok(Opened { reader, length })
 }
 
 #[cfg(test)]

@@ -11,5 +11,6 @@ pub mod OpenListed
 pub mod Numbers
 pub mod TextOrder
 pub mod BoardLaws
+pub mod Completeness
 pub mod HaltingPairs
 pub mod Sets

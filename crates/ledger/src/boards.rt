@@ -3,9 +3,11 @@ ghost use Rattle.std.specs.Prelude.{◌≡◌, ℕ, IfSome, IfOk, Err};
 ghost use Rattle.machine_text.specs.Packed.{entry_of};
 ghost use Rattle.tree.specs.Used.{InOrder};
 ghost use Rattle.run.specs.Verdict.{IsTrueOf};
-ghost use Rattle.std.specs.Prelude.{◌↔◌, Option};
+ghost use Rattle.std.specs.Prelude.{◌↔◌, ◌≤◌, Option, Some};
+ghost use Rattle.machine_text.specs.Packed.{empty_table};
+ghost use Rattle.turing.specs.Halting.{IsRado, Stops};
 ghost use Rattle.std.specs.Vec.Iter.{into_iter_items};
-ghost use Rattle.tree.specs.Tables.{IsChildTable};
+ghost use Rattle.tree.specs.Tables.{IsBestOfTable, IsChildTable};
 ghost use Rattle.ledger.specs.Places.{IsPlace};
 ghost use Rattle.ledger.specs.Tally.{AreAll, IsChampion, IsGreatestCount, IsHalting, IsStatus, IsTally};
 
@@ -22,7 +24,7 @@ use crate::tallies::{
     sorted_tables, undecided_tables,
 };
 use cert::{Record, standing_claims_are_true};
-use machine_text::Table;
+use machine_text::{MAX_STATES, Table};
 use run::{NoMemory, Verdict};
 use std::alloc::Global;
 use std::collections::BTreeSet;
@@ -30,7 +32,7 @@ use std::collections::btree_set::Iter;
 use std::marker::Model;
 use std::vec::IntoIter;
 use tnf::{Children, in_order};
-use tree::child_is_table;
+use tree::{best_of_closed, child_is_table, closed_tree, rado_of_complete};
 
 /// An iterator over the open tables of a board.
 pub type Open<'a> = Iter<'a, Table>;
@@ -163,11 +165,27 @@ impl Board {
         sorted_tables(self.alloc, tables)
     }
 
-    /// How the board stands.
+    /// How the board stands. Where it is complete, its best is the greatest number of steps of all
+    /// extensions of the root that halt, in tree normal form or not; for the empty table of n states that
+    /// is Radó's S(n).
     pub fn status(&self) -> Status
-        ensures { IsStatus self.now.root self.now.records result }
+        ensures stands { IsStatus self.now.root self.now.records result }
+        ensures best { (best : Option ℕ) → result ≡ Status.Complete best → IsBestOfTable Stops self.now.root best }
+        ensures rado { (n s : ℕ) → 1 ≤ n → n ≤ MAX_STATES → self.now.root ≡ empty_table n → result ≡ Status.Complete (Some s) → IsRado n s }
     {
         child_is_table();
+        standing_claims_are_true();
+        closed_tree();
+        best_of_closed();
+        rado_of_complete();
+        let _ = &self.root;
+        self.standing()
+    }
+
+    // Whether tables are open, or there are holdouts, or neither.
+    fn standing(&self) -> Status
+        ensures { IsStatus self.now.root self.now.records result }
+    {
         let open_count = count_of(&self.open_tables);
         if open_count > 0 {
             return Status::Working { count: open_count };

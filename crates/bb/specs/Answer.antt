@@ -5,7 +5,11 @@ use Rattle.machine_text.specs.Fault as text
 use Rattle.machine_text.specs.declared.faults.TextFault.{TextFault}
 use Rattle.run.specs.declared.verdicts.Verdict.{Verdict}
 use Rattle.run.specs.declared.verdicts.Verdict.TheVariants.{Halts, Never}
-use Rattle.cert.specs.Claim.{Recorded, Stands, shown_by}
+use Rattle.run.specs.declared.verdicts.Refused.{Refused as Refusal}
+use Rattle.cert.specs.Claim.{Recorded, shown_by}
+use Rattle.ledger.specs.Held.{IsCertified}
+use Rattle.ledger.specs.Offers.{IsRefusedBy}
+use Rattle.run.specs.Verdict as verdict
 use Rattle.std.specs.Borrow.{Bor}
 use Rattle.cert.specs.Grammar.{record_of}
 use Rattle.cert.specs.Fault as record_fault
@@ -41,11 +45,11 @@ inner_text TooLong = []
 abbrev pub fault_text : RecordFault → List ℕ
 fault_text f = refusal_text (record_fault.number_of f) ++ inner_text f
 
--- an answer to a record: accepted, with its table and what its claim shows, where that stands of the table;
--- or refused
+-- the answer to a record: accepted, with its table and what its claim shows, where that is certified; or why it is
+-- refused
 abbrev pub AnswersRecord : Recorded → Outcome → List ℕ → Type 0
-AnswersRecord r Accepted answer = Stands r.claim r.table × (answer ≡ text_of r.table ++ verdict_text (shown_by r.claim))
-AnswersRecord r Refused answer = (n : ℕ) × (answer ≡ refusal_text n)
+AnswersRecord r Accepted answer = IsCertified r × (answer ≡ text_of r.table ++ verdict_text (shown_by r.claim))
+AnswersRecord r Refused answer = (why : Refusal) × IsRefusedBy why r × (answer ≡ refusal_text (verdict.number_of why))
 AnswersRecord r BadLine answer = ⊥
 AnswersRecord r NoMemory answer = ⊥
 AnswersRecord r Failed answer = ⊥

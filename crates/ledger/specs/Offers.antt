@@ -4,6 +4,7 @@ use Rattle.machine_text.specs.Packed.{Packed}
 use Rattle.run.specs.declared.verdicts.Refused.{Refused}
 use Rattle.run.specs.declared.verdicts.Refused.TheVariants.{Fails, TooLong, TooWide, NoMemory as WantsMemory}
 use Rattle.run.specs.declared.verdicts.Verdict.TheVariants.{Halts}
+use Rattle.run.specs.Verdict as verdict
 use Rattle.tree.specs.Closed.{IsVerdict, IsOpen}
 use Rattle.tree.specs.Tables.{IsChildTable}
 use Rattle.cert.specs.Claim.{Recorded, IsWithin, IsWide, Stands, shown_by}
@@ -60,14 +61,8 @@ pub record IsNewChild (rs : List Recorded) (r : Recorded) (t : Packed) : Type 0 
   pub other : t ≢ r.table
 
 -- the refusal number of each fault
-abbrev pub refused_number : Refused → ℕ
-refused_number Fails = 201
-refused_number TooLong = 202
-refused_number TooWide = 203
-refused_number WantsMemory = 0
-
 abbrev pub number_of : OfferFault → ℕ
 number_of NotOpen = 402
 number_of WrongSize = 403
-number_of (IsRefused f) = refused_number f
+number_of (IsRefused f) = verdict.number_of f
 number_of NoMemory = 0

@@ -9,3 +9,5 @@ pub mod Offering
 pub mod OpenListed
 pub mod Pairs
 pub mod Sets
+pub mod Lines
+pub mod HeaderLaws

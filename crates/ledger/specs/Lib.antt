@@ -6,3 +6,5 @@ pub mod Offers
 pub mod Lent
 pub mod Places
 pub mod Faults
+pub mod LedgerText
+pub mod HeaderRead

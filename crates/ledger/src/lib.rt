@@ -6,7 +6,9 @@
 #![tactic(auto)]
 
 mod boards;
+mod headers;
 mod listing;
+mod loaded;
 mod looking;
 mod opening;
 mod outcomes;
@@ -14,7 +16,9 @@ mod places;
 mod preparing;
 
 pub use boards::{Board, Open};
+pub use headers::peek_root;
 pub use listing::Records;
+pub use loaded::{Left, LoadFault, Unkept};
 pub use outcomes::{BoardFault, OfferFault, Taken};
 
 #[cfg(test)]

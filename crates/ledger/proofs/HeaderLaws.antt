@@ -19,12 +19,13 @@ module _ (text : List ℕ) where
   pub past_words : (r s : Bool) → r ≡ pointwise eqb text (take (length text) header_words) → r ≡ false
       → s ≡ pointwise eqb header_words (take (length header_words) text) → IsTrue s ↔ BeginsAsHeader text
   past_words r s is fails past =
-      let begins = starts_is Decides-eqb text header_words s past in
-      (λ holds. inr (drop (length header_words) text, begins.0 holds),
-      λ h. elim h [
-        | inl w ↦ let holds = (starts_is Decides-eqb header_words text r is).1 w.0 w.1 in absurd (cc)
-        | inr w ↦ begins.1 w.0 w.1
-      ])
+      let begins = starts_is Decides-eqb text header_words s past in (
+        λ holds. inr (drop (length header_words) text, begins.0 holds),
+        λ h. elim h [
+          | inl w ↦ let holds = (starts_is Decides-eqb header_words text r is).1 w.0 w.1 in absurd (cc)
+          | inr w ↦ begins.1 w.0 w.1
+        ],
+      )
 
   -- a text without a newline that doesn't begin as a header
   pub none_begun : HasNoNewline text → (BeginsAsHeader text → ⊥) → HasNoHeader text
@@ -46,9 +47,9 @@ module _ (text : List ℕ) where
       none_read f fails = record {
         whole = λ torn. line_has_newline begins torn.no_newline;
         none = λ root rest' header.
-          let same : name ≡ header.name = append_cancel_left header_words name header.name (sym worded ∙ (same_line begins header.line).0) in
-          let reads = header.reads in
-          absurd (cc);
+            let same : name ≡ header.name = append_cancel_left header_words name header.name (sym worded ∙ (same_line begins header.line).0) in
+            let reads = header.reads in
+            absurd (cc);
       }
 
       pub is_header : (root : Packed) → table_of name ≡ Ok root → HasHeader text root rest

@@ -11,3 +11,5 @@ pub mod Pairs
 pub mod Sets
 pub mod Lines
 pub mod HeaderLaws
+pub mod LinesTaken
+pub mod Loads

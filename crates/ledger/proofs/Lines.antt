@@ -31,9 +31,9 @@ cut_line text at found =
     record {
       is = sym (take-append-drop at text) ∙ ap (λ l. take at text ++ l) (drop_more text at 0 here.0 ∙ ap (λ b. b ∷ drop (at + 1) text) (is_10 (get_or text at 0) here.1) ∙ ap (λ l. 10 ∷ l) (sym rest));
       one_line = λ k d below.
-        let within : k < at = omega (arith, length-take at text) in
-        let before = position-Some is_newline text at d found in
-        subst (λ (b : ℕ). b ≢ 10) (sym (get_or-take at text k d within)) (is_other (get_or text k d) (before.2 k within));
+          let within : k < at = omega (arith, length-take at text) in
+          let before = position-Some is_newline text at d found in
+          subst (λ (b : ℕ). b ≢ 10) (sym (get_or-take at text k d within)) (is_other (get_or text k d) (before.2 k within));
     }
 
 -- a whole line holds a newline, and a text begins with only one line

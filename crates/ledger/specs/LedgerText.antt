@@ -73,6 +73,11 @@ IsUnkeptLine root rs line (Unread f) = record_of line ≡ Err f
 IsUnkeptLine root rs line (Unfit f) = (f ≢ OfferNoMemory) × ((r : Recorded) × (record_of line ≡ Ok r) × OfferGives root rs r (Err f) rs)
 IsUnkeptLine root rs line Repeated = (r : Recorded) × (record_of line ≡ Ok r) × OfferGives root rs r (Ok Known) rs
 
+-- what becomes of the records where a line is offered: it is taken, or there is a reason why not
+abbrev pub LineGives : Packed → List Recorded → List ℕ → Option Unkept → List Recorded → Type 0
+LineGives root old line None new = (r : Recorded) × (record_of line ≡ Ok r) × IsTaken root old r new
+LineGives root old line (Some why) new = IsUnkeptLine root old line why × (new ≡ old)
+
 abbrev pub BeginsUnkept : Packed → List Recorded → List ℕ → Unkept → Type 0
 BeginsUnkept root rs text why = (line : List ℕ) × (rest : List ℕ) × BeginsWithLine text line rest × IsUnkeptLine root rs line why
 
@@ -88,15 +93,20 @@ abbrev pub IsLeft : Packed → List Recorded → ℕ → ℕ → List ℕ → Le
 IsLeft root rs n number rest Nothing = rest ≡ []
 IsLeft root rs n number rest (From line kept why) = (line ≡ number) × (kept + length rest ≡ n) × IsUnkept root rs rest why
 
--- the text stands for the records rs: a header, lines that are taken in turn, and a rest that isn't kept
-pub record StandsFor (root : Packed) (text : List ℕ) (rs : List Recorded) (left : Left) : Type 0 where
-  pub body : List ℕ
-  pub header : HasHeader text root body
+-- what is kept of the body of a text of n bytes: lines that are taken in turn, from the records old to the records
+-- new, up to a rest that isn't kept
+pub record Keeps (root : Packed) (n : ℕ) (body : List ℕ) (old new : List Recorded) (left : Left) : Type 0 where
   pub lines : List (List ℕ)
   pub rest : List ℕ
   pub is : body ≡ joined lines ++ rest
-  pub taken : AreTaken root [] lines rs
-  pub ends : IsLeft root rs (length text) (length lines + 2) rest left
+  pub taken : AreTaken root old lines new
+  pub ends : IsLeft root new n (length lines + 2) rest left
+
+-- the text stands for the records rs: they are kept of what stands behind its header
+pub record StandsFor (root : Packed) (text : List ℕ) (rs : List Recorded) (left : Left) : Type 0 where
+  pub body : List ℕ
+  pub header : HasHeader text root body
+  pub keeps : Keeps root (length text) body [] rs left
 
 -- what is left of a text that is torn off within its header
 abbrev pub IsTornLeft : List ℕ → Left → Type 0

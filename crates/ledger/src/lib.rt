@@ -9,6 +9,7 @@ mod boards;
 mod headers;
 mod listing;
 mod loaded;
+mod loading;
 mod looking;
 mod opening;
 mod outcomes;

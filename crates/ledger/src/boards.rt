@@ -95,6 +95,13 @@ impl Board {
         self.open_tables.iter()
     }
 
+    /// The root of the tree.
+    pub fn root(&self) -> Table
+        ensures { result ≡ self.now.root }
+    {
+        self.root
+    }
+
     /// The recorded verdict on a table, which is true of it; none where there is none, as for a holdout.
     pub fn verdict(&self, t: &Table) -> Option<Verdict>
         ensures recorded { result ≡ verdict_in self.now.records t.now }

@@ -13,3 +13,4 @@ pub mod Lines
 pub mod HeaderLaws
 pub mod LinesTaken
 pub mod Loads
+pub mod Appends

@@ -15,6 +15,7 @@ mod opening;
 mod outcomes;
 mod places;
 mod preparing;
+mod storing;
 
 pub use boards::{Board, Open};
 pub use headers::peek_root;

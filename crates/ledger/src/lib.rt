@@ -24,4 +24,6 @@ pub use loaded::{Left, LoadFault, Unkept};
 pub use outcomes::{BoardFault, OfferFault, Taken};
 
 #[cfg(test)]
+mod ledger_tests;
+#[cfg(test)]
 mod tests;

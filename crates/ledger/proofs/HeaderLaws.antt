@@ -1,5 +1,5 @@
 -- Texts that begin with a header, or with a beginning of one.
-use Rattle.std.proofs.Common.{◌≡◌, ◌≢◌, ℕ, Bool, true, false, eqb, List, ◌++◌, length, take, drop, Result, Ok, Err, inl, inr, ◌↔◌, IsTrue, refl, sym, ap, ◌∙◌, subst}
+use Rattle.std.proofs.Common.{◌≡◌, ◌≢◌, ℕ, Bool, true, false, eqb, List, ◌++◌, length, take, drop, Ok, Err, inl, inr, ◌↔◌, IsTrue, refl, sym, ap, ◌∙◌, subst}
 use Rattle.std.specs.Cmp.Lexicographic.{pointwise}
 use Rattle.std.proofs.lemmas.Bool.Decides.{Decides-eqb}
 use Rattle.std.proofs.lemmas.Slice.Eq.{starts_is, slice_eq-Decides}
@@ -7,7 +7,7 @@ use Rattle.std.proofs.lemmas.List.{append_cancel_left, take-append-drop, take_at
 use Rattle.machine_text.specs.declared.faults.TextFault.{TextFault}
 use Rattle.machine_text.specs.Packed.{Packed}
 use Rattle.machine_text.specs.Text.{table_of}
-use Rattle.ledger.specs.LedgerText.{header_words, HasNoNewline, BeginsWithLine, BeginsAsHeader, IsTornHeader, HasHeader, HasNoHeader}
+use Rattle.ledger.specs.LedgerText.{header_words, HasNoNewline, BeginsWithLine, BeginsAsHeader, HasHeader, HasNoHeader}
 use Rattle.ledger.proofs.Lines.{line_has_newline, same_line}
 
 module _ (text : List ℕ) where

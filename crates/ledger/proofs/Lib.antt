@@ -14,3 +14,5 @@ pub mod HeaderLaws
 pub mod LinesTaken
 pub mod Loads
 pub mod Appends
+pub mod Written
+pub mod Beginnings

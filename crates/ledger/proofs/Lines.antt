@@ -1,5 +1,5 @@
 -- A text that is cut at its first newline.
-use Rattle.std.proofs.Common.{◌≡◌, ◌≢◌, ℕ, ◌+◌, ◌-◌, ◌<◌, ◌≤◌, Bool, true, false, cond, eqb, ltb, List, [], ◌∷◌, ◌++◌, length, take, drop, get_or, Option, Some, None, refl, sym, ap, ◌∙◌, subst, arith, length-drop, length-append, zero, suc}
+use Rattle.std.proofs.Common.{◌≡◌, ◌≢◌, ℕ, ◌+◌, ◌-◌, ◌<◌, ◌≤◌, Bool, true, false, eqb, List, [], ◌∷◌, ◌++◌, length, take, drop, get_or, Some, None, refl, sym, ap, ◌∙◌, subst, arith, length-drop, length-append, suc}
 use Rattle.std.specs.List.{position, position_or_len}
 use Rattle.std.proofs.lemmas.Bool.Decides.{nat_tests}
 use Rattle.std.proofs.lemmas.Grind.{common_steps}
@@ -8,7 +8,7 @@ use Rattle.std.proofs.lemmas.List.Quantifiers.{position-Some}
 use Rattle.std.proofs.lemmas.List.Sums.{fails_before_first}
 use Rattle.ledger.specs.LedgerText.{HasNoNewline, BeginsWithLine}
 
-abbrev is_newline : ℕ → Bool
+abbrev pub is_newline : ℕ → Bool
 is_newline byte = eqb byte 10
 
 none_passes : (text : List ℕ) → position is_newline text ≡ None → length text ≤ position_or_len is_newline text
@@ -45,7 +45,7 @@ line_has_newline {text} {line} {rest} begins none =
 tail_has_none : (byte : ℕ) (text : List ℕ) → HasNoNewline (byte ∷ text) → HasNoNewline text
 tail_has_none byte text none k d below = none (suc k) d (omega arith)
 
-same_cut : (line line' rest rest' : List ℕ) → HasNoNewline line → HasNoNewline line' → line ++ (10 ∷ rest) ≡ line' ++ (10 ∷ rest') → (line ≡ line') × (rest ≡ rest')
+pub same_cut : (line line' rest rest' : List ℕ) → HasNoNewline line → HasNoNewline line' → line ++ (10 ∷ rest) ≡ line' ++ (10 ∷ rest') → (line ≡ line') × (rest ≡ rest')
 same_cut [] [] rest rest' one one' e = (refl, cc)
 same_cut [] (y ∷ ys) rest rest' one one' e = absurd (one' 0 0 (omega arith) cc)
 same_cut (x ∷ xs) [] rest rest' one one' e = absurd (one 0 0 (omega arith) cc)

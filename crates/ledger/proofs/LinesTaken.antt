@@ -1,10 +1,9 @@
 -- Lines that are taken one after another.
-use Rattle.std.proofs.Common.{◌≡◌, ◌≢◌, ℕ, ◌+◌, ◌≤◌, List, [], ◌∷◌, ◌++◌, length, Result, Ok, Err, refl, sym, ap, ◌∙◌, subst, arith, length-append, append_assoc, append-nil}
+use Rattle.std.proofs.Common.{◌≡◌, ◌≢◌, ℕ, ◌+◌, ◌≤◌, List, [], ◌∷◌, ◌++◌, length, Ok, refl, sym, ap, ◌∙◌, subst, arith, length-append, append_assoc}
 use Rattle.machine_text.specs.Packed.{Packed}
 use Rattle.cert.specs.Claim.{Recorded}
 use Rattle.cert.specs.Grammar.{record_of}
-use Rattle.ledger.specs.LedgerText.{HasNoNewline, BeginsWithLine, IsTaken, AreTaken, joined, IsUnkeptLine, IsUnkept, IsLeft, Keeps, HasHeader, header_words}
-use Rattle.ledger.specs.declared.loaded.Left.{Left}
+use Rattle.ledger.specs.LedgerText.{HasNoNewline, BeginsWithLine, IsTaken, AreTaken, joined, IsUnkeptLine, IsUnkept, Keeps, HasHeader, header_words}
 use Rattle.ledger.specs.declared.loaded.Left.TheVariants.{Nothing, From}
 use Rattle.ledger.specs.declared.loaded.Unkept.{Unkept}
 use Rattle.ledger.specs.declared.loaded.Unkept.TheVariants.{Torn, Unread, Unfit, Repeated}

@@ -1,5 +1,5 @@
 -- What loading answers, by the header that was read.
-use Rattle.std.proofs.Common.{◌≡◌, ℕ, Bool, true, false, List, [], Option, Some, Ok, inl, inr, ◌⊎◌, refl, sym, ◌∙◌, ap, subst, length, not}
+use Rattle.std.proofs.Common.{◌≡◌, ℕ, Bool, true, false, List, [], Option, Some, Ok, refl, subst, length, not}
 use Rattle.std.specs.Borrow.{Bor}
 use Rattle.machine_text.specs.Packed.{Packed}
 use Rattle.cert.specs.Claim.{Recorded}

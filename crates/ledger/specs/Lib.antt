@@ -8,3 +8,4 @@ pub mod Places
 pub mod Faults
 pub mod LedgerText
 pub mod HeaderRead
+pub mod LedgerLaws

@@ -3,10 +3,14 @@
 //! A board holds a record only where its table was open, and where its certificate stands: so each verdict
 //! on it is true, whatever calls made it. `specs/Records` says what a list of records says of a table, and
 //! `specs/Held` which lists a board may hold.
+//!
+//! A board's ledger is a text: a header with the root, and a line for each record. `specs/LedgerText` says
+//! for which records a text stands, also where it is cut or spoilt.
 #![tactic(auto)]
 
 mod boards;
 mod headers;
+mod laws;
 mod listing;
 mod loaded;
 mod loading;
@@ -19,6 +23,7 @@ mod storing;
 
 pub use boards::{Board, Open};
 pub use headers::peek_root;
+pub use laws::{beginnings_load, ledgers_load_whole};
 pub use listing::Records;
 pub use loaded::{Left, LoadFault, Unkept};
 pub use outcomes::{BoardFault, OfferFault, Taken};

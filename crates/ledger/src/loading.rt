@@ -94,9 +94,10 @@ fn take_lines(board: &mut Board, bytes: usize, body: &[u8]) -> Result<Left, NoMe
     if rest.is_empty() {
         return Ok(Left::Nothing);
     }
+    let kept = (bytes - rest.len()) as u64;
     Ok(Left::From {
         line,
-        kept: (bytes - rest.len()) as u64,
+        kept,
         why: Unkept::Torn,
     })
 }

@@ -1,5 +1,4 @@
-use Rattle.std.proofs.Common.{sym, ◌∙◌}
-use Rattle.ledger.specs.LedgerText.{HasNoNewline}
+use Rattle.std.proofs.Common.{sym}
 use Rattle.ledger.proofs.Lines.{cut_line, no_newline}
 use Rattle.ledger.proofs.headers.first_line.Goals as goal
 

@@ -1,4 +1,4 @@
-use Rattle.std.proofs.Common.{List, ℕ, Option, subst, ◌∙◌}
+use Rattle.std.proofs.Common.{Option, subst, ◌∙◌}
 use Rattle.machine_text.specs.Packed.{Packed}
 use Rattle.ledger.specs.LedgerText.{IsTaken, LineGives}
 use Rattle.ledger.specs.declared.loaded.Unkept.{Unkept}

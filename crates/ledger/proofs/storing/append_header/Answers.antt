@@ -1,4 +1,4 @@
-use Rattle.std.proofs.Common.{◌≡◌, ◌∷◌, [], ◌∙◌, ap, ◌++◌}
+use Rattle.std.proofs.Common.{◌∷◌, [], ◌∙◌, ap, ◌++◌}
 use Rattle.machine_text.specs.Text.{text_of}
 use Rattle.ledger.specs.LedgerText.{header_words}
 use Rattle.ledger.proofs.Appends.{third}

@@ -1,9 +1,7 @@
-use Rattle.std.proofs.Common.{◌≡◌, sym, ◌∙◌, ap, subst, inl, inr}
+use Rattle.std.proofs.Common.{◌∙◌, ap, inr}
 use Rattle.std.proofs.lemmas.Result.{err_from_is_err_and}
-use Rattle.machine_text.specs.Packed.{Packed}
 use Rattle.ledger.specs.Records.{same_table}
 use Rattle.ledger.specs.Contents.{Contents}
-use Rattle.ledger.proofs.LinesTaken.{behind_header}
 use Rattle.ledger.proofs.Loads.{found_header, is_other_root, is_the_root, of_root, stands}
 use Rattle.ledger.proofs.boards.Board.load.Goals as goal
 

@@ -14,3 +14,10 @@ pub mod BoardLaws
 pub mod Completeness
 pub mod HaltingPairs
 pub mod Sets
+pub mod Lines
+pub mod HeaderLaws
+pub mod LinesTaken
+pub mod Loads
+pub mod Appends
+pub mod Written
+pub mod Beginnings

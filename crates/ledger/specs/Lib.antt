@@ -9,3 +9,6 @@ pub mod Lent
 pub mod Tally
 pub mod Places
 pub mod Faults
+pub mod LedgerText
+pub mod HeaderRead
+pub mod LedgerLaws

@@ -1,0 +1,5 @@
+use Rattle.ledger.proofs.Beginnings.{beginning}
+use Rattle.ledger.proofs.laws.beginnings_load.Goals as goal
+
+pub returns : goal.returns
+returns c = beginning

@@ -1,0 +1,210 @@
+// Ledgers, whole, cut and spoilt. What wants memory is tried again once.
+use super::{Board, Left, LoadFault, OfferFault, Unkept, peek_root};
+use cert::RecordFault;
+use machine_text::{Table, TextFault};
+use run::Refused;
+use std::alloc::Global;
+use std::process::Abort;
+use tnf::in_order;
+
+const LEDGER: &str = "bb-ledger 1 ------\n------ H 1\n0RA--- T 0 1 R\n1RA--- T 0 1 R\n";
+
+// Loads a text with the root of one state.
+fn load(rt: &impl Abort, alloc: Global, text: &[u8]) -> Result<(Board, Left), LoadFault> {
+    load_with(rt, alloc, "------", text)
+}
+
+fn load_with(
+    rt: &impl Abort,
+    alloc: Global,
+    root: &str,
+    text: &[u8],
+) -> Result<(Board, Left), LoadFault> {
+    let Ok(root) = Table::parse(root.as_bytes()) else {
+        panic!(rt; "{root}");
+    };
+    if !in_order(&root) {
+        panic!(rt; "out of order");
+    }
+    match Board::load(alloc, root, text) {
+        Err(LoadFault::NoMemory) => Board::load(alloc, root, text),
+        loaded => loaded,
+    }
+}
+
+// What is left of a text that is loaded with the root of one state, and the ledger of its board.
+fn left_and_written(rt: &impl Abort, alloc: Global, text: &[u8]) -> (Left, Vec<u8>) {
+    match load(rt, alloc, text) {
+        Ok((board, left)) => (left, written(rt, alloc, &board)),
+        Err(fault) => panic!(rt; "{fault:?}"),
+    }
+}
+
+fn written(rt: &impl Abort, alloc: Global, board: &Board) -> Vec<u8> {
+    let mut out = Vec::new(alloc);
+    if board.write_ledger(&mut out).is_err() && board.write_ledger(&mut out).is_err() {
+        panic!(rt; "no memory");
+    }
+    out
+}
+
+// Each beginning of a ledger keeps its whole lines.
+#[test]
+fn a_ledger_is_cut_anywhere(rt: HostRuntime) {
+    let whole = LEDGER.as_bytes();
+    for (first, last, line, kept) in [
+        (0, 18, 1, 0),
+        (19, 29, 2, 19),
+        (30, 44, 3, 30),
+        (45, 59, 4, 45),
+        (60, 60, 5, 60),
+    ] {
+        for len in first..=last {
+            let (left, out) = left_and_written(&rt, rt.alloc(), &whole[..len]);
+            let expected = if len == kept {
+                Left::Nothing
+            } else {
+                Left::From {
+                    line,
+                    kept: kept as u64,
+                    why: Unkept::Torn,
+                }
+            };
+            assert!(rt; left == expected, "at {len}: {left:?}");
+            // an empty board's ledger is the header
+            assert!(rt; out.as_slice() == &whole[..kept.max(19)], "at {len}");
+        }
+    }
+}
+
+#[test]
+fn a_line_that_cant_be_taken_ends_what_is_kept(rt: HostRuntime) {
+    for (text, line, kept, why) in [
+        (
+            "bb-ledger 1 ------\n------ H 1\n0RA---",
+            3,
+            30,
+            Unkept::Torn,
+        ),
+        // torn, though it reads as a record
+        (
+            "bb-ledger 1 ------\n------ H 1\n0RA--- T 0 1 R\n1RA--- T 0 1 R",
+            4,
+            45,
+            Unkept::Torn,
+        ),
+        (
+            "bb-ledger 1 ------\n------ H 2\n0RA--- T 0 1 R\n",
+            2,
+            19,
+            Unkept::Unfit(OfferFault::Refused(Refused::Fails)),
+        ),
+        (
+            "bb-ledger 1 ------\n------ H 1\n------ H 1\n0RA--- T 0 1 R\n",
+            3,
+            30,
+            Unkept::Repeated,
+        ),
+        (
+            "bb-ledger 1 ------\n0RA--- T 0 1 R\n------ H 1\n",
+            2,
+            19,
+            Unkept::Unfit(OfferFault::NotOpen),
+        ),
+        (
+            "bb-ledger 1 ------\n------ H 1\n------_------ H 1\n",
+            3,
+            30,
+            Unkept::Unfit(OfferFault::WrongSize),
+        ),
+        (
+            "bb-ledger 1 ------\n------ Q\n------ H 1\n",
+            2,
+            19,
+            Unkept::Unread(RecordFault::BadKind),
+        ),
+        (
+            "bb-ledger 1 ------\n------ H 1\n\n0RA--- T 0 1 R\n",
+            3,
+            30,
+            Unkept::Unread(RecordFault::BadTable(TextFault::BadLength)),
+        ),
+        ("bb-led", 1, 0, Unkept::Torn),
+        ("bb-ledger 1 ------_-", 1, 0, Unkept::Torn),
+    ] {
+        let (left, out) = left_and_written(&rt, rt.alloc(), text.as_bytes());
+        assert!(rt; left == Left::From { line, kept, why }, "{text}: {left:?}");
+        // the lines that are kept are the first of that ledger
+        let len = if kept < 19 { 19 } else { kept as usize };
+        assert!(rt;
+            LEDGER.as_bytes().get(..len) == Some(out.as_slice()),
+            "{text}"
+        );
+    }
+}
+
+#[test]
+fn a_ledger_has_the_header_of_its_root(rt: HostRuntime) {
+    for (text, fault) in [
+        ("hello\n", LoadFault::BadHeader),
+        ("hello", LoadFault::BadHeader),
+        ("\n", LoadFault::BadHeader),
+        ("bb-ledger 1 \n", LoadFault::BadHeader),
+        ("bb-ledger 2 ------\n", LoadFault::BadHeader),
+        ("bb-ledger 1 ------\r\n", LoadFault::BadHeader),
+        ("bb-ledger 1 ------_------\n", LoadFault::WrongRoot),
+        ("bb-ledger 1 1RC---_------_------\n", LoadFault::WrongRoot),
+    ] {
+        let refused = load(&rt, rt.alloc(), text.as_bytes()).err();
+        assert!(rt; refused == Some(fault), "{text}");
+    }
+    for (text, peeked) in [
+        ("", Ok(None)),
+        ("bb-led", Ok(None)),
+        ("bb-ledger 1 1RC", Ok(None)),
+        ("bb-ledger 1 ------\n------ Q\n", Ok(Some("------"))),
+        ("bb-ledger 1 1RZ---\n", Ok(Some("------"))),
+        ("bb-ledger 1 1RB1RH_------\n", Ok(Some("1RB---_------"))),
+        (
+            "bb-ledger 1 1RC---_------_------\n",
+            Err(LoadFault::WrongRoot),
+        ),
+        ("hello\n", Err(LoadFault::BadHeader)),
+        ("hello", Err(LoadFault::BadHeader)),
+    ] {
+        let expected = match peeked {
+            Ok(Some(root)) => Ok(Table::parse(root.as_bytes()).ok()),
+            Ok(None) => Ok(None),
+            Err(fault) => Err(fault),
+        };
+        assert!(rt; peek_root(text.as_bytes()) == expected, "{text}");
+    }
+    assert_eq!(rt; LoadFault::BadHeader.number(), 404);
+    assert_eq!(rt; LoadFault::WrongRoot.number(), 405);
+    assert_eq!(rt; LoadFault::NoMemory.number(), 0);
+}
+
+// A holdout and its settling are two lines and one record, and a halting entry is written as an undefined
+// one.
+#[test]
+fn a_written_ledger_loads_again(rt: HostRuntime) {
+    let text =
+        "bb-ledger 1 1RZ---_------\n------_------ H 1\n1RB---_------ U\n1RB---_------ H 2\n1RB---_1LA--- U\n";
+    let settled =
+        "bb-ledger 1 ------_------\n------_------ H 1\n1RB---_------ H 2\n1RB---_1LA--- U\n";
+    let Ok((board, left)) = load_with(&rt, rt.alloc(), "------_------", text.as_bytes()) else {
+        panic!(rt; "not loaded");
+    };
+    assert!(rt; left == Left::Nothing);
+    let out = written(&rt, rt.alloc(), &board);
+    assert_eq!(rt; out.as_slice(), settled.as_bytes());
+    let Ok((again, left)) = load_with(&rt, rt.alloc(), "------_------", &out) else {
+        panic!(rt; "not loaded again");
+    };
+    assert!(rt; left == Left::Nothing);
+    let mut others = again.records();
+    for r in board.records() {
+        assert!(rt; others.next() == Some(r));
+    }
+    assert!(rt; others.next().is_none());
+}

@@ -3,6 +3,7 @@ ghost use Rattle.std.specs.Prelude.{◌≡◌, ◌≤◌, min, IfSome, IfOk};
 ghost use Rattle.machine_text.specs.Packed.{entry_of};
 ghost use Rattle.turing.specs.Cycle.{Cycle as IsCycle};
 
+use crate::allowances::Allowance;
 use crate::arrivals::{comes_to, goes_on};
 use crate::limits::MAX_TIME;
 use crate::snapshots::Snapshot;
@@ -72,9 +73,14 @@ impl CycleFinder {
     /// A cycle of the table within the finder's steps and the budget; none where it finds none. What it
     /// gives stands, and is within the limit.
     ///
-    /// It keeps the configuration at each power of two of the time and holds the later ones against it
-    /// (Brent 1980). A cycle is seen by the time 2^k + p, where p is its period and 2^k isn't less than p or
-    /// the time at which it is entered. No contract says what is found.
+    /// It keeps the configuration at each power of two of the time, and compares each later one that has the
+    /// same state and head with it, cell by cell (Brent 1980). With each that it keeps it may compare about
+    /// twice as many cells as steps were taken by then, and passes over what would be more: so a search
+    /// takes time in proportion to its steps.
+    ///
+    /// A cycle is seen by the time 2^k + p, where p is its period, 2^k isn't less than p or the time at which
+    /// it is entered, and twice 2^k isn't less than all the visited cells times how often a period comes to
+    /// the state and head of time 2^k. No contract says what is found or how long it takes.
     pub fn search(&mut self, t: &Table, budget: u64) -> Result<Option<Cycle>, NoMemory>
         ensures found { IfOk result (λ o. IfSome o (λ e. IsCycle (entry_of t.now) e.i e.j)) }
         ensures within { IfOk result (λ o. IfSome o (λ e.
@@ -84,11 +90,17 @@ impl CycleFinder {
         let limit = self.steps.min(budget).min(MAX_TIME);
         let mut runner = Runner::new(self.alloc, *t)?;
         let mut kept = Snapshot::taken(self.alloc, &runner)?;
+        let mut allowance = Allowance::at(0);
+        // Between what places the head has been: all cells that were visited.
+        let (mut first, mut last) = (0, 0);
         for time in 0..limit {
             if !goes_on(&mut runner)? {
                 return Ok(None);
             }
-            if kept.is_same(&runner) {
+            let head = runner.tape().head();
+            first = head.min(first);
+            last = head.max(last);
+            if kept.meets(&runner) && allowance.spend(first, last) && kept.is_same(&runner) {
                 return Ok(Some(Cycle {
                     i: kept.time(),
                     j: runner.steps(),
@@ -96,6 +108,7 @@ impl CycleFinder {
             }
             if runner.steps().is_power_of_two() {
                 kept = Snapshot::taken(self.alloc, &runner)?;
+                allowance = Allowance::at(runner.steps());
             }
         }
         Ok(None)

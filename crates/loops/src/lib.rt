@@ -6,6 +6,7 @@
 //! (`Arrival`), and from where a trail of a run follows it (`Trail`).
 #![tactic(auto)]
 
+mod allowances;
 mod arrivals;
 mod cycles;
 mod heads;

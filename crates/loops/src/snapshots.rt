@@ -52,9 +52,32 @@ impl Snapshot {
         self.time
     }
 
-    // Whether a runner stands at the same configuration. What is looked at first mostly differs, so that it
-    // seldom comes to the tapes' cells.
     #[inline]
+    pub fn head(&self) -> i64
+        ensures { result ≡ self.now.config.tape.head }
+    {
+        self.tape.head()
+    }
+
+    // Whether a runner is in the same state.
+    #[inline]
+    pub fn has_state_of(&self, runner: &Runner) -> bool
+        ensures { IsTrue result ↔ (self.now.config.state ≡ runner.now.config.state) }
+    {
+        self.state == runner.state()
+    }
+
+    // Whether a runner is in the same state at the same place, as mostly it isn't.
+    #[inline]
+    pub fn meets(&self, runner: &Runner) -> bool
+        ensures { IsTrue result ↔ (self.now.config.state ≡ runner.now.config.state)
+            × (self.now.config.tape.head ≡ runner.now.config.tape.head) }
+    {
+        self.has_state_of(runner) && self.head() == runner.tape().head()
+    }
+
+    // Whether a runner stands at the same configuration. It goes over all cells that were visited, up to the
+    // first that differs.
     pub fn is_same(&self, runner: &Runner) -> bool
         ensures { IsTrue result ↔ (self.now.config ≡ runner.now.config) }
     {

@@ -1,8 +1,10 @@
 // What a run leaves on its way for the search of translated cycles, on one side.
 ghost use Rattle.std.specs.Prelude.{◌≡◌, ◌+◌, ◌≤◌, IfOk, IfSome, IfNone};
+ghost use Rattle.std.specs.Bool.{OnTrue};
 ghost use Rattle.machine_text.specs.Packed.{entry_of};
 ghost use Rattle.turing.specs.Translated.{Translated as IsTranslated};
 
+use crate::allowances::Allowance;
 use crate::heads::farther;
 use crate::limits::MAX_TIME;
 use crate::snapshots::Snapshot;
@@ -21,6 +23,8 @@ pub(crate) struct Trail {
     bound: i64,
     // Where the last record was.
     record: i64,
+    // What may still be compared with the record that was kept.
+    allowance: Allowance,
 }
 
 impl Trail {
@@ -28,7 +32,8 @@ impl Trail {
 
     // The trail of a run from where a runner stands, which is taken for the first record.
     pub fn begun(alloc: Global, t: &Table, runner: &Runner, side: Dir) -> Result<Trail, NoMemory>
-        requires { runner.now.table ≡ t.now }
+        requires table { runner.now.table ≡ t.now }
+        requires limit { runner.now.steps ≤ MAX_TIME }
         ensures follows { IfOk result (λ trail.
             Follows t.now (runner.now.steps + 1) side trail.kept trail.bound) }
         ensures side { IfOk result (λ trail. trail.side ≡ side) }
@@ -39,6 +44,7 @@ impl Trail {
             kept: Snapshot::taken(alloc, runner)?,
             bound: head,
             record: head,
+            allowance: Allowance::at(runner.steps()),
         })
     }
 
@@ -63,7 +69,7 @@ impl Trail {
         let time = runner.steps();
         let head = runner.tape().head();
         if is_past(self.side, self.record, head) {
-            if self.kept.is_translated(runner, t, self.bound, self.side) {
+            if self.has_come_back(t, runner) {
                 return Ok(Some(Translated {
                     i: self.kept.time(),
                     j: time,
@@ -74,11 +80,30 @@ impl Trail {
             if time / 2 >= self.kept.time() {
                 self.kept = Snapshot::taken(alloc, runner)?;
                 self.bound = head;
+                self.allowance = Allowance::at(time);
                 return Ok(None);
             }
         }
         self.bound = farther(self.side, self.bound, head);
         Ok(None)
+    }
+
+    // Whether there is a translated cycle from the record that was kept to a new record, at which a runner
+    // stands: no, where the allowance doesn't suffice to compare them. Beyond a record nothing was visited,
+    // so what is compared on either tape are the cells from the bound, or as far from it, to the head.
+    fn has_come_back(&mut self, t: &Table, runner: &Runner) -> bool
+        requires table { runner.now.table ≡ t.now }
+        requires limit { runner.now.steps ≤ MAX_TIME }
+        requires follows { Follows t.now runner.now.steps self.old.side self.old.kept self.old.bound }
+        ensures found { OnTrue result
+            (IsTranslated (entry_of t.now) self.new.kept.time runner.now.steps self.new.side) }
+        ensures kept { self.new.kept ≡ self.old.kept }
+        ensures bound { self.new.bound ≡ self.old.bound }
+        ensures side { self.new.side ≡ self.old.side }
+    {
+        self.kept.has_state_of(runner)
+            && self.allowance.spend(self.bound, self.kept.head())
+            && self.kept.is_translated(runner, t, self.bound, self.side)
     }
 }
 

@@ -84,9 +84,15 @@ impl TranslatedFinder {
     ///
     /// It looks at records alone, the times at which the head is further on a side than ever before: a
     /// translated cycle whose shift isn't 0 makes them for ever. It keeps one on each side, the first and
-    /// then each that comes at twice the time of the one before, and holds the later ones against it, so
-    /// that a few times the time at which such a cycle is entered and its period are mostly enough. No
-    /// contract says what is found.
+    /// then each that comes at twice the time of the one before, and compares the later ones of the same
+    /// state with it, cell by cell from the farthest head in between. With each that it keeps it may compare
+    /// about twice as many cells as steps were taken by then, and passes over what would be more: so a
+    /// search takes time in proportion to its steps.
+    ///
+    /// A few times the time at which such a cycle is entered and its period are mostly enough. More are
+    /// needed where a period has many records of one state and goes far back: the time of the record that
+    /// is kept, twice, is to be no less than the number of the ones times the cells of the other. No
+    /// contract says what is found or how long it takes.
     pub fn search(&mut self, t: &Table, budget: u64) -> Result<Option<Translated>, NoMemory>
         ensures found { IfOk result (λ o. IfSome o (λ e. IsTranslated (entry_of t.now) e.i e.j e.side)) }
         ensures within { IfOk result (λ o. IfSome o (λ e.

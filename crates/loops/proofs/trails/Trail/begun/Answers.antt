@@ -9,4 +9,4 @@ pub returns-clause-follows : goal.returns-clause-follows
 returns-clause-follows c =
     let fits : FitsSigned w64 c.head-head.result = search rules in
     let here : c.head-head.result ≡ c.args.runner.now.config.tape.head = search rules in
-    rw (to_z-of_z w64 c.head-head.result fits) (follows_first _ _ c.args.runner.now _ _ c.requires c.taken.ensures.stands c.in_ok-taken.ensures.kept here)
+    rw (to_z-of_z w64 c.head-head.result fits) (follows_first _ _ c.args.runner.now _ _ c.requires.table c.taken.ensures.stands c.in_ok-taken.ensures.kept here)

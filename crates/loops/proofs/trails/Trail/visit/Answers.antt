@@ -6,10 +6,7 @@ use Rattle.loops.specs.Trail.{Follows}
 use Rattle.loops.proofs.BoundLaws.{IsFarther}
 use Rattle.loops.proofs.MomentLaws.{follows_first, follows_more}
 use Rattle.loops.proofs.trails.Trail.visit.Goals as goal
-use Rattle.loops.proofs.trails.Trail.visit.Goals.{then-is_past+else-is_translated+else-time, else-is_past}
-
-pub returns-then-is_translated-clause-found : goal.returns-then-is_translated-clause-found
-returns-then-is_translated-clause-found c = rw (c.time.ensures, c.steps-time.ensures.steps) (c.is_translated.ensures.0 c.if-is_translated.true)
+use Rattle.loops.proofs.trails.Trail.visit.Goals.{then-is_past+else-has_come_back+else-time, else-is_past}
 
 pub returns-then-time-clause-follows : goal.returns-then-time-clause-follows
 returns-then-time-clause-follows c =
@@ -25,7 +22,7 @@ returns-clause-follows c =
     let here : c.head-head.result ≡ c.args.runner.now.config.tape.head = search rules in
     let follows : Follows c.args.t.now c.args.runner.now.steps c.if-is_past.self.side c.if-is_past.self.kept c.if-is_past.self.bound =
     elim c.if-is_past.branch [
-      | then-is_past+else-is_translated+else-time w ↦ rw w.self-is c.requires.follows
+      | then-is_past+else-has_come_back+else-time w ↦ rw (w.self-is, w.has_come_back.ensures.side, w.has_come_back.ensures.kept, w.has_come_back.ensures.bound) c.requires.follows
       | else-is_past w ↦ rw w.self-is c.requires.follows
     ] in
     let is : IsFarther c.if-is_past.self.side c.if-is_past.self.bound c.args.runner.now.config.tape.head c.farther-self.result = rw (← here) (record { first = simp to_z-of_z at c.farther-self.ensures.first; second = simp to_z-of_z at c.farther-self.ensures.second }) in

@@ -20,8 +20,8 @@ use command_line::options;
 use ended::Ended;
 use outcome::Outcome;
 use report_file::{Opened, cmd_report};
-use std::process::ExitCode;
 use std::fs::OpenFile;
+use std::process::ExitCode;
 use std::{env, fs, io};
 
 fn main(rt: HostRuntime) -> io::Result<ExitCode> {
@@ -43,9 +43,7 @@ fn main(rt: HostRuntime) -> io::Result<ExitCode> {
                 Outcome::Accepted
             }
         }
-        Err(LineFault::NoMemory) => {
-            Ended::NoMemory.told(&mut rt.stderr())
-        }
+        Err(LineFault::NoMemory) => { Ended::NoMemory.told(&mut rt.stderr()) }
     };
     Ok(ExitCode::from(outcome.status()))
 }
@@ -75,5 +73,7 @@ fn opened(rt: &HostRuntime, path: &str) -> io::Result<Opened<fs::File>> {
     Ok(Opened { reader, length })
 }
 
+#[cfg(test)]
+mod report_tests;
 #[cfg(test)]
 mod tests;

@@ -1,5 +1,6 @@
 // `bb report`: a ledger file in, its report out.
-ghost use Rattle.std.specs.Prelude.{◌≡◌, ◌++◌, IfOk, IfErr};
+ghost use Rattle.std.specs.Prelude.{◌≡◌, ◌++◌, OnOk, IfOk, IfErr};
+ghost use Rattle.ledger.specs.LedgerText.{StandsFor};
 ghost use Rattle.bb.specs.LedgerReport.{ReportsLedger, EndsLedger, left_text, outcome_by};
 
 use crate::ended::Ended;
@@ -86,13 +87,25 @@ pub fn report_ledger(alloc: Global, bytes: &[u8], out: &mut Vec<u8>) -> Result<O
     ensures ok { IfOk result (λ o. ReportsLedger bytes.now out.old.items o out.new.items) }
     ensures err { IfErr result (λ e. EndsLedger bytes.now e) }
 {
-    let Some(root) = peek_root(bytes)? else {
-        return Err(Ended::BadHeader);
-    };
-    let (board, left) = Board::load(alloc, root, bytes)?;
+    let (board, left) = loaded(alloc, bytes)?;
     report(&board, out)?;
     append_left(&left, out)?;
     Ok(outcome_by(board.status(), &left))
+}
+
+// The board of a ledger's text with the root that it names, and what of the text wasn't kept.
+fn loaded(alloc: Global, bytes: &[u8]) -> Result<(Board, Left), Ended>
+    ensures ok { IfOk result (λ l. StandsFor l.0.root bytes.now l.0.records l.1) }
+    ensures err { IfErr result (λ e. EndsLedger bytes.now e) }
+{
+    match peek_root(bytes) {
+        Ok(Some(root)) => match Board::load(alloc, root, bytes) {
+            Ok(loaded) => Ok(loaded),
+            Err(fault) => Err(Ended::from(fault)),
+        },
+        Ok(None) => Err(Ended::BadHeader),
+        Err(fault) => Err(Ended::from(fault)),
+    }
 }
 
 // Appends which line wasn't kept, where there is one.

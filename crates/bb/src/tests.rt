@@ -1,5 +1,5 @@
 // `bb check` over streams of the tests' own, line by line as its answers are documented.
-use crate::asked::LineFault;
+use crate::asked::{LineFault, Options};
 use crate::check::cmd_check;
 use crate::command_line::options;
 use crate::outcome::Outcome;
@@ -10,10 +10,10 @@ use std::test::Fail;
 
 // Gives its bytes so many at a time, and fails at a call if it is to.
 #[derive(Drop)]
-struct Source<'a> {
-    left: &'a [u8],
-    at_once: usize,
-    calls_left: u64,
+pub struct Source<'a> {
+    pub left: &'a [u8],
+    pub at_once: usize,
+    pub calls_left: u64,
 }
 
 impl<'a> Read for Source<'a> {
@@ -31,14 +31,14 @@ impl<'a> Read for Source<'a> {
 
 // Keeps what is written, so many bytes at a time, and fails at a call if it is to.
 #[derive(Drop)]
-struct Sink {
-    kept: Vec<u8>,
+pub struct Sink {
+    pub kept: Vec<u8>,
     at_once: usize,
     calls_left: u64,
 }
 
 impl Sink {
-    fn new(alloc: Global, at_once: usize, calls_left: u64) -> Sink {
+    pub fn new(alloc: Global, at_once: usize, calls_left: u64) -> Sink {
         Sink {
             kept: Vec::new(alloc),
             at_once,
@@ -63,7 +63,7 @@ impl Write for Sink {
     }
 }
 
-const ALWAYS: u64 = u64::MAX;
+pub const ALWAYS: u64 = u64::MAX;
 
 // What `bb check` answers to an input that comes so many bytes at a time. Where memory is refused it says
 // so, after answers that stand, and is asked once more: then the answers must come.
@@ -286,11 +286,17 @@ fn statuses_rise_with_gravity(rt: HostRuntime) {
 #[test]
 fn command_lines_are_read_or_refused(rt: HostRuntime) {
     let alloc = rt.alloc();
-    assert!(rt; options(alloc, &["bb", "check"]).is_ok());
+    assert!(rt; matches!(options(alloc, &["bb", "check"]), Ok(Options::Check)));
+    match options(alloc, &["bb", "report", "some file"]) {
+        Ok(Options::Report { file }) => assert_eq!(rt; file, "some file"),
+        _ => panic!(rt; "no report"),
+    }
     for words in [
         ["bb", "chek"].as_slice(),
         ["bb"].as_slice(),
         ["bb", "check", "file"].as_slice(),
+        ["bb", "report"].as_slice(),
+        ["bb", "report", "file", "file"].as_slice(),
         ["bb", "--steps"].as_slice(),
     ] {
         match options(alloc, words) {
@@ -302,6 +308,7 @@ fn command_lines_are_read_or_refused(rt: HostRuntime) {
     for words in [
         ["bb", "--help"].as_slice(),
         ["bb", "check", "--help"].as_slice(),
+        ["bb", "report", "--help"].as_slice(),
     ] {
         match options(alloc, words) {
             Ok(_) => panic!(rt; "{words:?}"),

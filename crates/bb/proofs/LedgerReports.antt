@@ -1,11 +1,10 @@
 -- Which ledgers are reported, and why others aren't.
-use Rattle.std.proofs.Common.{◌≡◌, ◌≢◌, ℕ, List, ◌++◌, Option, Some, None, Result, Ok, Err, inl, inr, ◌⊎◌, refl, sym, ◌∙◌, ap, subst}
+use Rattle.std.proofs.Common.{◌≡◌, ℕ, List, ◌++◌, Some, Ok, Err, inl, inr, sym, ◌∙◌, ap, subst}
 use Rattle.std.proofs.lemmas.List.{append_cancel_left}
-use Rattle.machine_text.specs.Packed.{Packed, entry_of}
+use Rattle.machine_text.specs.Packed.{Packed}
 use Rattle.machine_text.specs.Text.{table_of}
-use Rattle.tree.specs.Used.{InOrder}
 use Rattle.ledger.specs.Contents.{Contents}
-use Rattle.ledger.specs.LedgerText.{header_words, IsTornHeader, HasHeader, HasNoHeader, StandsFor, StandsForNone, LoadGives, PeekGives}
+use Rattle.ledger.specs.LedgerText.{header_words, HasHeader, StandsFor, LoadGives, PeekGives}
 use Rattle.ledger.specs.declared.loaded.Left.{Left}
 use Rattle.ledger.specs.declared.loaded.LoadFault.{LoadFault}
 use Rattle.ledger.specs.declared.loaded.LoadFault.TheVariants.{BadHeader, WrongRoot, NoMemory}

@@ -1,5 +1,5 @@
 -- The answer to a line: what is printed for what its record's certificate shows, or for why it is refused.
-use Rattle.std.specs.Prelude.{◌≡◌, ℕ, List, [], ◌∷◌, ◌++◌, Option, Some, None, Result, Ok, Err, codes, decimal}
+use Rattle.std.specs.Prelude.{◌≡◌, ℕ, List, [], ◌++◌, Option, Some, None, Result, Ok, Err, codes, decimal}
 use Rattle.machine_text.specs.Text.{text_of}
 use Rattle.machine_text.specs.Fault as text
 use Rattle.machine_text.specs.declared.faults.TextFault.{TextFault}

@@ -1,7 +1,6 @@
 -- The lines of a stream that comes in pieces: what stands before each newline, the byte 10. Of a line that is
 -- longer than the limit only that is kept.
-use Rattle.std.specs.Prelude.{◌≡◌, ℕ, ◌≤◌, ◌==◌, nat_le, Bool, if◌then◌else◌, List, [], ◌∷◌, ◌++◌, length, Option, Some, None}
-use Rattle.std.specs.List.{before_first, after_first}
+use Rattle.std.specs.Prelude.{ℕ, ◌==◌, nat_le, Bool, if◌then◌else◌, List, ◌++◌, length, Option, Some, None}
 use Rattle.bb.specs.declared.cutter.TheConstants.{MAX_LINE_BYTES}
 
 -- what is kept of a line, as far as it has come: its bytes, or that there are too many

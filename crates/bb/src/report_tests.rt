@@ -77,8 +77,8 @@ best none\n";
 best 1\nchampion ------\nholdout 0RA---\nholdout 1RA---\n";
     // Champions come in the order of their texts, whatever the order of their records.
     let champions =
-        b"root ------_------\nstatus working\nnodes 19\nhalting 3\nnever 0\nholdouts 0\n\
-open 16\nbest 2\nchampion 0RB---_------\nchampion 1RB---_------\n";
+        b"root ------_------\nstatus working\nnodes 21\nhalting 3\nnever 0\nholdouts 0\n\
+open 18\nbest 2\nchampion 0RB---_------\nchampion 1RB---_------\n";
     for (ledger, report) in [
         (
             b"bb-ledger 1 ------\n------ H 1\n0RA--- U\n".as_slice(),

@@ -1,8 +1,7 @@
-use Rattle.std.proofs.Common.{◌≡◌, Option, Some, Ok, sym, subst}
+use Rattle.std.proofs.Common.{Option, Ok, sym, subst}
 use Rattle.machine_text.specs.Packed.{Packed}
 use Rattle.ledger.specs.LedgerText.{PeekGives}
 use Rattle.bb.specs.LedgerReport.{EndsLedger}
-use Rattle.bb.specs.declared.ended.Ended.{Ended}
 use Rattle.bb.proofs.LedgerReports.{load_ends, load_stands}
 use Rattle.bb.proofs.report_file.loaded.Goals as goal
 

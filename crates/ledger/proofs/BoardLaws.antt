@@ -1,22 +1,22 @@
 -- What is so of every board: its tables stand in the tree of its root, and which of them are open or holdouts.
-use Rattle.std.proofs.Common.{◌≡◌, ◌≢◌, Bool, true, false, if◌then◌else◌, ℕ, ◌+◌, ◌<◌, ◌≤◌, List, [], ◌∷◌, Option, Some, None, option_map, IsTrue, ◌↔◌, refl, sym, ◌∙◌, ap, subst, map, length, get_or, nat_eq, arith, IfOk, Result, Ok, Err}
+use Rattle.std.proofs.Common.{◌≡◌, ◌≢◌, Bool, true, false, ℕ, ◌+◌, ◌≤◌, List, [], ◌∷◌, Option, Some, None, option_map, refl, sym, ◌∙◌, ap, subst, map, length, get_or, nat_eq, arith, IfOk, Result, Ok, Err}
 use Rattle.std.specs.List.{Contains, AllPairs, filter, filter_map}
 use Rattle.std.specs.List.Sorted.{IsPermutation, IsSorted, IsStrictlySortedBy}
 use Rattle.std.specs.declared.cmp.Ordering.TheVariants.{Less}
-use Rattle.std.specs.BTreeSet.{BTreeSet, contains}
+use Rattle.std.specs.BTreeSet.{BTreeSet}
 use Rattle.std.proofs.lemmas.List.{length-map}
 use Rattle.std.proofs.lemmas.List.Sorted.{Contains-permutation, IsPermutation-sym}
 use Rattle.std.proofs.lemmas.List.Elements.{All-contains_itself}
 use Rattle.machine_text.specs.Packed.{Packed, IsTable, entry_of}
 use Rattle.tree.specs.Used.{InOrder}
-use Rattle.tree.specs.Closed.{Mark, Stopping, Undecided, IsOpen, IsComplete}
+use Rattle.tree.specs.Closed.{Mark, Stopping, Undecided, IsOpen}
 use Rattle.tree.specs.Tables.{InTableTree}
-use Rattle.cert.specs.Claim.{Claim, Recorded, shown_by}
+use Rattle.cert.specs.Claim.{Recorded, shown_by}
 use Rattle.ledger.specs.Records.{claim_in, mark_in, mark_of}
 use Rattle.ledger.specs.Held.{IsHoldout}
 use Rattle.ledger.specs.Open.{table_cmp}
 use Rattle.ledger.specs.Contents.{Contents, IsBoard, IsOpenSet}
-use Rattle.ledger.specs.Tally.{AreInTextOrder, AreAll, AreSoMany}
+use Rattle.ledger.specs.Tally.{AreAll, AreSoMany}
 use Rattle.ledger.specs.Counting.{is_undecided, undecided_table, is_champion, champion_table, steps_of, greatest}
 use Rattle.ledger.specs.Keeping.{held_recorded, tables_with}
 use Rattle.ledger.specs.declared.holding.Holding.{Holding}

@@ -1,5 +1,5 @@
 -- What is claimed of a table, by the place of its record.
-use Rattle.std.proofs.Common.{◌≡◌, ℕ, zero, suc, ◌<◌, ◌≤◌, Bool, true, false, cond, if◌then◌else◌, List, [], ◌∷◌, ◌++◌, map, length, get_or, set, Option, Some, None, refl, sym, ◌∙◌, ap, subst, arith, rules, nat_lt}
+use Rattle.std.proofs.Common.{◌≡◌, ℕ, zero, suc, ◌<◌, ◌≤◌, Bool, true, false, List, [], ◌∷◌, ◌++◌, map, length, get_or, set, Some, None, refl, sym, ◌∙◌, ap, arith}
 use Rattle.std.specs.List.{position, position_or_len}
 use Rattle.std.proofs.lemmas.List.Quantifiers.{position-Some}
 use Rattle.std.proofs.lemmas.List.Sums.{fails_before_first}
@@ -11,7 +11,7 @@ use Rattle.ledger.specs.Keeping.{held_recorded}
 use Rattle.ledger.specs.declared.holding.Holding.{Holding}
 use Rattle.ledger.specs.Records.{same_table, claim_in}
 use Rattle.ledger.specs.Held.{settled}
-use Rattle.ledger.proofs.Same.{same_is, same_itself, same_at, not_same, apart}
+use Rattle.ledger.proofs.Same.{same_is, same_itself}
 
 -- a record of a table at the front, and one of another table
 pub claim_here : (r : Recorded) (rs : List Recorded) (t : Packed) → same_table r.table t ≡ true → claim_in (r ∷ rs) t ≡ Some r.claim

@@ -1,5 +1,5 @@
 -- The best of a complete board is that of its root.
-use Rattle.std.proofs.Common.{◌≡◌, ℕ, ◌≤◌, List, Option, Some, None, option_map, IfSome, ◌↔◌, refl, sym, ◌∙◌, ap, subst}
+use Rattle.std.proofs.Common.{◌≡◌, ℕ, ◌≤◌, List, Option, Some, None, option_map, IfSome, ◌↔◌, refl, subst}
 use Rattle.machine_text.specs.Packed.{Packed, IsTable, entry_of, empty_table}
 use Rattle.machine_text.specs.declared.limits.TheConstants.{MAX_STATES}
 use Rattle.turing.specs.Halting.{Stops, IsRado}
@@ -14,7 +14,7 @@ use Rattle.ledger.specs.Records.{claim_in, mark_in, mark_of, mark_by}
 use Rattle.ledger.specs.Contents.{Contents, IsBoard}
 use Rattle.ledger.specs.Tally.{IsGreatestCount, IsStatus}
 use Rattle.ledger.specs.declared.outcomes.Status.{Status}
-use Rattle.ledger.specs.declared.outcomes.Status.TheVariants.{Working, Holdouts, Complete}
+use Rattle.ledger.specs.declared.outcomes.Status.TheVariants.{Complete}
 use Rattle.ledger.proofs.HeldLaws.{held_stands}
 use Rattle.ledger.proofs.OpenLaws.{recorded_in_tree}
 use Rattle.ledger.proofs.Taking.{Below}

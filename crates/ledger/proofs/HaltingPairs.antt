@@ -1,13 +1,13 @@
 -- The pair on which a table's run stops.
-use Rattle.std.proofs.Common.{◌≡◌, ℕ, suc, ◌+◌, ◌≤◌, Some, None, refl, sym, ◌∙◌, ap, subst, arith}
+use Rattle.std.proofs.Common.{◌≡◌, ℕ, ◌+◌, Some, refl, sym, ◌∙◌, ap, subst, arith}
 use Rattle.machine_text.specs.Packed.{Packed, entry_of}
 use Rattle.turing.specs.Tape.{symbol_read}
-use Rattle.turing.specs.Run.{Config, next, after}
+use Rattle.turing.specs.Run.{Config, after}
 use Rattle.turing.specs.Halting.{Stops}
 use Rattle.turing.proofs.RunLaws.{one_count}
 use Rattle.tree.specs.Children.{StopsOn}
-use Rattle.run.specs.Standing.{Standing, Stands}
-use Rattle.run.specs.Steps.{RunsTo, HaltsAt, IsBetween}
+use Rattle.run.specs.Standing.{Standing}
+use Rattle.run.specs.Steps.{RunsTo}
 use Rattle.run.specs.declared.stepping.Step.{Step}
 use Rattle.run.specs.declared.stepping.Step.TheVariants.{Went, Halts}
 use Rattle.run.proofs.Standings.{begun, found_none}

@@ -1,14 +1,13 @@
 -- What is true of every held list, and what keeps a list held.
-use Rattle.std.proofs.Common.{◌≡◌, ℕ, Bool, true, false, List, [], ◌∷◌, ◌++◌, Option, Some, None, option_map, IsSome, inl, inr, refl, sym, ◌∙◌, ap, subst, append_assoc, append-nil, IfSome, ◌⊎◌}
+use Rattle.std.proofs.Common.{◌≡◌, ℕ, true, false, List, [], ◌∷◌, ◌++◌, Option, Some, None, option_map, inl, inr, refl, sym, ◌∙◌, ap, subst, append_assoc, append-nil, IfSome, ◌⊎◌}
 use Rattle.run.specs.Verdict.{IsTrueOf}
 use Rattle.run.specs.declared.verdicts.Verdict.{Verdict}
 use Rattle.machine_text.specs.Packed.{Packed, IsTable, entry_of}
-use Rattle.tree.specs.Closed.{Mark, Stopping, NonStopping, Undecided, IsOpen}
-use Rattle.tree.specs.Tables.{IsChildTable}
-use Rattle.cert.specs.Claim.{Claim, Recorded, Stands, shown_by, HaltsIn, Nothing}
+use Rattle.tree.specs.Closed.{Mark, Stopping, Undecided, IsOpen}
+use Rattle.cert.specs.Claim.{Claim, Recorded, Stands, shown_by}
 use Rattle.ledger.specs.Records.{same_table, claim_in, mark_in, mark_of, verdict_in, shown_where}
 use Rattle.ledger.specs.Held.{IsCertified, IsFit, AreFitAfter, IsHeld, Settles, settled}
-use Rattle.ledger.proofs.Same.{same_is, same_itself, same_at, not_same, apart}
+use Rattle.ledger.proofs.Same.{same_is, not_same, apart}
 use Rattle.ledger.proofs.Claims.{claim_here, claim_past, claim_none, claim_kept, claim_more, settled_here, settled_past}
 
 -- a certified record of a table

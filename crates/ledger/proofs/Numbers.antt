@@ -1,34 +1,19 @@
 -- How many tables of a kind a board has, which they are in order, and the greatest recorded count.
-use Rattle.std.proofs.Common.{◌≡◌, ◌≢◌, ℕ, zero, suc, ◌+◌, ◌-◌, ◌<◌, ◌≤◌, nat_lt, nat_lt, Bool, true, false, if◌then◌else◌, List, [], ◌∷◌, ◌++◌, Option, Some, None, option_map, inl, inr, ◌⊎◌, ◌↔◌, refl, sym, ◌∙◌, ap, subst, map, length, get_or, arith, fold}
-use Rattle.std.specs.List.{Contains, AllPairs, filter, filter_map}
-use Rattle.std.specs.List.Sorted.{IsPermutation, IsSorted, IsStrictlySortedBy}
-use Rattle.std.specs.Bool.{Decides}
+use Rattle.std.proofs.Common.{◌≡◌, ℕ, suc, ◌<◌, ◌≤◌, nat_lt, nat_lt, Bool, true, false, List, [], ◌∷◌, Option, Some, None, option_map, inl, inr, ◌⊎◌, ◌↔◌, refl, sym, ◌∙◌, ap, subst, map, length, arith, fold}
+use Rattle.std.specs.List.{Contains, filter}
 use Rattle.std.specs.Option.{is_none}
-use Rattle.std.specs.Ordering.{nat_cmp, is_lt, ordering_reverse}
-use Rattle.std.specs.declared.cmp.Ordering.{Ordering}
-use Rattle.std.specs.declared.cmp.Ordering.TheVariants.{Less, Equal, Greater}
-use Rattle.std.specs.Cmp.{tied_itself}
-use Rattle.std.specs.Cmp.Lexicographic.{slice_cmp}
 use Rattle.std.proofs.lemmas.Bool.{ltb-true, ltb-false}
 use Rattle.std.proofs.lemmas.Bool.Decides.{Decides-eqb}
 use Rattle.std.proofs.lemmas.List.{length-map}
-use Rattle.std.proofs.lemmas.List.Sorted.{Contains-permutation, IsPermutation-sym}
-use Rattle.std.proofs.lemmas.List.Elements.{All-contains_itself}
-use Rattle.std.proofs.lemmas.Map.Keys.{IsDistinct-IsPermutation, Less-from_sorted}
-use Rattle.std.proofs.lemmas.Map.Made.{AllPairs-from_IsDistinct, IsDistinct-from_AllPairs}
-use Rattle.machine_text.specs.Packed.{Packed, IsTable}
-use Rattle.machine_text.specs.Text.{text_of}
+use Rattle.machine_text.specs.Packed.{Packed}
 use Rattle.run.specs.declared.verdicts.Verdict.{Verdict}
 use Rattle.run.specs.declared.verdicts.Verdict.TheVariants.{Halts, Never}
 use Rattle.tree.specs.Closed.{Mark, Stopping, NonStopping, Undecided}
 use Rattle.cert.specs.Claim.{Claim, Recorded, shown_by}
-use Rattle.ledger.specs.Records.{same_table, claim_in, mark_in, mark_of, mark_by}
+use Rattle.ledger.specs.Records.{claim_in, mark_in, mark_of, mark_by}
 use Rattle.ledger.specs.Held.{IsHoldout}
-use Rattle.ledger.specs.Open.{table_cmp}
 use Rattle.ledger.specs.Counting.{is_undecided, is_halting, is_never, says_halts, says_never, is_champion, is_steps, steps_of, greater, greatest}
 use Rattle.ledger.specs.Tally.{AreSoMany, HaltsAfter, IsHalting, IsNonHalting, IsGreatestCount}
-use Rattle.ledger.proofs.Same.{same_is, same_at}
-use Rattle.ledger.proofs.Sets.{exact_tables, tables_total}
 use Rattle.ledger.proofs.OpenLaws.{stopping_verdict}
 use Rattle.ledger.proofs.Apart.{AreApart, first_or_later, later_member, first_member, claim_member, member_claim, chosen_from, chosen, chosen_once}
 

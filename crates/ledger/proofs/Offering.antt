@@ -1,22 +1,21 @@
 -- Where an offered record stands, and what becomes of it.
-use Rattle.std.proofs.Common.{◌≡◌, ℕ, List, [], ◌∷◌, ◌++◌, Option, Some, None, option_map, IsSome, inl, inr, ◌⊎◌, Result, Ok, Err, IfOk, IfErr, OnErr, map, refl, sym, ◌∙◌, ap, subst}
+use Rattle.std.proofs.Common.{◌≡◌, List, [], ◌∷◌, ◌++◌, Option, Some, None, option_map, IsSome, inl, inr, ◌⊎◌, Result, Ok, Err, IfOk, IfErr, OnErr, map, refl, sym, ap, subst}
 use Rattle.machine_text.specs.Packed.{Packed}
-use Rattle.run.specs.declared.verdicts.Refused.{Refused}
 use Rattle.run.specs.declared.verdicts.Verdict.{Verdict}
 use Rattle.run.specs.declared.verdicts.Verdict.TheVariants.{Halts, Never}
-use Rattle.tree.specs.Closed.{Mark, Stopping, NonStopping, Undecided, IsVerdict, IsOpen}
+use Rattle.tree.specs.Closed.{IsVerdict, IsOpen}
 use Rattle.cert.specs.Claim.{Claim, Recorded, shown_by}
 use Rattle.ledger.specs.Records.{claim_in, mark_in, mark_of, mark_by}
 use Rattle.ledger.specs.Held.{IsFit, IsHoldout, Settles, settled}
-use Rattle.ledger.specs.Offers.{IsKnown, IsJudged, IsElsewhere, IsRefusal, OfferGives}
+use Rattle.ledger.specs.Offers.{IsJudged, IsRefusal, OfferGives}
 use Rattle.ledger.specs.Contents.{Contents}
 use Rattle.ledger.specs.declared.holding.Holding.{Holding}
 use Rattle.ledger.specs.Keeping.{held_recorded}
 use Rattle.ledger.specs.Places.{IsPlace, place_by}
 use Rattle.ledger.specs.declared.places.Place.{Place}
-use Rattle.ledger.specs.declared.places.Place.TheVariants.{Known as KnownPlace, Open, Holdout, Elsewhere}
+use Rattle.ledger.specs.declared.places.Place.TheVariants.{Open, Elsewhere}
 use Rattle.ledger.specs.declared.outcomes.Taken.{Taken}
-use Rattle.ledger.specs.declared.outcomes.Taken.TheVariants.{New, Known, Settled}
+use Rattle.ledger.specs.declared.outcomes.Taken.TheVariants.{New, Settled}
 use Rattle.ledger.specs.declared.outcomes.OfferFault.{OfferFault}
 use Rattle.ledger.specs.declared.outcomes.OfferFault.TheVariants.{WrongSize, NotOpen, Refused as IsRefused, NoMemory}
 

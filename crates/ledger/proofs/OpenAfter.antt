@@ -2,14 +2,14 @@
 use Rattle.std.proofs.Common.{◌≡◌, ◌≢◌, ℕ, ◌≤◌, ◌⊎◌, inl, inr, ◌↔◌, Some, None, List, Option, Contains, IfSome, IfNone, option_map, IfOk, Result, Ok, Err, refl, sym, ◌∙◌, ap, subst, arith}
 use Rattle.machine_text.specs.Packed.{Packed, entry_of}
 use Rattle.turing.specs.Halting.{Stops}
-use Rattle.run.specs.declared.limits.TheConstants.{MAX_RUN_STEPS, MAX_HALT_STEPS}
+use Rattle.run.specs.declared.limits.TheConstants.{MAX_RUN_STEPS}
 use Rattle.run.specs.declared.verdicts.Verdict.{Verdict}
 use Rattle.run.specs.declared.verdicts.Verdict.TheVariants.{Halts, Never}
 use Rattle.run.specs.Verdict.{IsTrueOf}
 use Rattle.tree.specs.Tables.{IsChildTable}
 use Rattle.cert.specs.Claim.{Claim, HaltsIn, CycleAt, TranslatedAt, BackwardFrom, Nothing, Recorded, IsWithin, shown_by}
 use Rattle.tree.specs.Closed.{Stopping}
-use Rattle.ledger.specs.Records.{claim_in, mark_in, mark_of, mark_by}
+use Rattle.ledger.specs.Records.{claim_in, mark_of, mark_by}
 use Rattle.ledger.specs.Tally.{HaltsAfter, IsHalting}
 use Rattle.ledger.proofs.OpenLaws.{stopping_verdict}
 use Rattle.ledger.specs.Keeping.{HaltsOn, IsPairOf}

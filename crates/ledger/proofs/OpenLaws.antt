@@ -1,17 +1,17 @@
 -- Which tables are open once a record is taken.
-use Rattle.std.proofs.Common.{◌≡◌, ◌≢◌, ℕ, Bool, true, false, List, [], ◌∷◌, ◌++◌, Option, Some, None, option_map, inl, inr, ◌⊎◌, ◌↔◌, refl, sym, ◌∙◌, ap, subst, append_assoc, append-nil}
-use Rattle.machine_text.specs.Packed.{Packed, IsTable}
+use Rattle.std.proofs.Common.{◌≡◌, ◌≢◌, ℕ, true, false, List, [], ◌∷◌, ◌++◌, Option, Some, None, option_map, inl, inr, ◌⊎◌, ◌↔◌, refl, sym, ◌∙◌, ap, subst, append_assoc, append-nil}
+use Rattle.machine_text.specs.Packed.{Packed}
 use Rattle.run.specs.declared.verdicts.Verdict.{Verdict}
 use Rattle.run.specs.declared.verdicts.Verdict.TheVariants.{Halts, Never}
-use Rattle.tree.specs.Closed.{Mark, Stopping, NonStopping, Undecided, IsOpen}
+use Rattle.tree.specs.Closed.{Stopping, Undecided, IsOpen}
 use Rattle.tree.specs.Tables.{IsChildTable, InTableTree, Itself}
 use Rattle.cert.specs.Claim.{Claim, Recorded, shown_by}
 use Rattle.ledger.specs.Records.{same_table, claim_in, mark_in, mark_of, mark_by}
-use Rattle.ledger.specs.Held.{IsFit, AreFitAfter, IsHeld, settled}
+use Rattle.ledger.specs.Held.{AreFitAfter, IsHeld, settled}
 use Rattle.ledger.specs.Offers.{IsNewChild}
-use Rattle.ledger.proofs.Same.{same_is, same_itself, same_at, not_same, apart}
+use Rattle.ledger.proofs.Same.{same_is, same_itself, not_same, apart}
 use Rattle.ledger.proofs.Claims.{claim_here, claim_past, claim_none, claim_kept, claim_more, settled_here, settled_past, settled_claim}
-use Rattle.ledger.proofs.HeldLaws.{unmarked, none_before, mark_kept}
+use Rattle.ledger.proofs.HeldLaws.{unmarked}
 
 -- the records now say of one table what a record claims, of the others what they said; and no halting of it was recorded
 pub record IsTaken (old new : List Recorded) (r : Recorded) : Type 0 where

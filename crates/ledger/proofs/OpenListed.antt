@@ -1,7 +1,7 @@
 -- The open tables as a list.
-use Rattle.std.proofs.Common.{◌≡◌, List, ◌↔◌, IsTrue, map, sym, subst}
+use Rattle.std.proofs.Common.{◌≡◌, List, ◌↔◌, sym, subst}
 use Rattle.std.specs.List.{Contains}
-use Rattle.std.specs.BTreeSet.{BTreeSet, contains}
+use Rattle.std.specs.BTreeSet.{BTreeSet}
 use Rattle.machine_text.specs.Packed.{Packed}
 use Rattle.tree.specs.Closed.{IsOpen}
 use Rattle.ledger.specs.Records.{mark_in}

@@ -1,14 +1,12 @@
 -- The open tables of a board without records.
-use Rattle.std.proofs.Common.{◌≡◌, ℕ, List, [], Some, None, option_map, inl, inr, ◌↔◌, IsTrue, refl, sym, ◌∙◌, ap, subst}
+use Rattle.std.proofs.Common.{◌≡◌, ℕ, [], option_map, inl, inr, ◌↔◌, IsTrue, ap}
 use Rattle.std.specs.BTreeSet.{BTreeSet, contains}
 use Rattle.machine_text.specs.Packed.{Packed, IsTable, entry_of}
-use Rattle.tree.specs.Closed.{IsOpen, Stopping}
+use Rattle.tree.specs.Closed.{IsOpen}
 use Rattle.tree.specs.Used.{InOrder}
-use Rattle.cert.specs.Claim.{Recorded}
-use Rattle.ledger.specs.Records.{claim_in, mark_in, mark_of}
-use Rattle.ledger.specs.Held.{IsHeld}
+use Rattle.ledger.specs.Records.{mark_in, mark_of}
 use Rattle.ledger.specs.Open.{table_cmp}
-use Rattle.ledger.specs.Contents.{Contents, IsBoard, IsOpenSet}
+use Rattle.ledger.specs.Contents.{IsBoard, IsOpenSet}
 use Rattle.ledger.proofs.Claims.{claim_none}
 
 open_at_start : (root t : Packed) → (t ≡ root) ↔ IsOpen root (mark_in []) t

@@ -1,5 +1,5 @@
 -- Sets of tables: what is in them.
-use Rattle.std.proofs.Common.{◌≡◌, ◌≢◌, ℕ, Bool, true, false, cond, refl, sym, ◌∙◌, ap, subst, ◌⊎◌, inl, inr, ◌↔◌, IsTrue, List, [], ◌∷◌, nat_eq, zero, suc, ◌+◌, ◌<◌, arith, None, map-id}
+use Rattle.std.proofs.Common.{◌≡◌, ◌≢◌, ℕ, Bool, true, false, cond, refl, sym, ◌∙◌, ap, subst, ◌⊎◌, inl, inr, ◌↔◌, IsTrue, List, [], ◌∷◌, zero, suc, arith, None, map-id}
 use Rattle.std.specs.List.{Contains, AllZip}
 use Rattle.std.proofs.lemmas.Slice.Zip.{AllZip-map}
 use Rattle.cert.specs.Claim.{Recorded}

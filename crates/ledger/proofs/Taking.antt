@@ -1,5 +1,5 @@
 -- A board once a record is taken.
-use Rattle.std.proofs.Common.{◌≡◌, ◌≢◌, ℕ, List, [], ◌∷◌, ◌++◌, Option, Some, None, option_map, IsSome, inl, inr, ◌⊎◌, ◌↔◌, IsTrue, refl, sym, ◌∙◌, ap, subst, map, length, take, drop, arith}
+use Rattle.std.proofs.Common.{◌≡◌, ◌≢◌, ℕ, List, [], ◌∷◌, ◌++◌, Some, None, option_map, IsSome, inl, inr, ◌⊎◌, ◌↔◌, IsTrue, refl, sym, ◌∙◌, ap, subst, map, length, take, drop, arith}
 use Rattle.std.proofs.lemmas.List.{map-append}
 use Rattle.std.proofs.lemmas.Grind.{common_steps}
 use Rattle.ledger.specs.declared.holding.Holding.{Holding}
@@ -11,7 +11,7 @@ use Rattle.tree.specs.Closed.{IsOpen, Undecided}
 use Rattle.tree.specs.Tables.{IsChildTable, InTableTree}
 use Rattle.cert.specs.Claim.{Claim, Recorded, shown_by}
 use Rattle.ledger.specs.Records.{claim_in, mark_in, mark_of}
-use Rattle.ledger.specs.Held.{IsCertified, IsFit, IsHeld, IsHoldout, Settles, settled}
+use Rattle.ledger.specs.Held.{IsCertified, IsFit, IsHoldout, Settles, settled}
 use Rattle.ledger.specs.Open.{table_cmp}
 use Rattle.ledger.specs.Offers.{IsNewChild}
 use Rattle.ledger.specs.Contents.{Contents, IsBoard, IsOpenSet}

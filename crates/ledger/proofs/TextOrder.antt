@@ -1,23 +1,20 @@
 -- The order of tables is that of their texts.
-use Rattle.std.proofs.Common.{◌≡◌, ◌≢◌, ℕ, zero, suc, ◌+◌, ◌-◌, ◌<◌, ◌≤◌, Bool, true, false, List, [], ◌∷◌, refl, sym, ◌∙◌, ap, subst, length, get_or, arith}
+use Rattle.std.proofs.Common.{◌≡◌, ◌≢◌, ℕ, zero, suc, ◌+◌, ◌-◌, ◌<◌, true, false, List, refl, sym, ◌∙◌, ap, subst, length, get_or, arith}
 use Rattle.std.specs.List.{Contains, AllPairs}
 use Rattle.std.specs.List.Sorted.{IsPermutation, IsSorted, IsStrictlySortedBy}
 use Rattle.std.specs.Bool.{Decides}
-use Rattle.std.specs.Ordering.{nat_cmp, is_lt, ordering_reverse}
+use Rattle.std.specs.Ordering.{is_lt, ordering_reverse}
 use Rattle.std.specs.declared.cmp.Ordering.{Ordering}
 use Rattle.std.specs.declared.cmp.Ordering.TheVariants.{Less, Equal, Greater}
-use Rattle.std.specs.Cmp.Lexicographic.{slice_cmp}
-use Rattle.std.proofs.lemmas.List.{get_or_default}
 use Rattle.std.proofs.lemmas.List.Elements.{All-contains_itself}
 use Rattle.std.proofs.lemmas.List.Sorted.{Contains-permutation, IsPermutation-sym}
 use Rattle.std.proofs.lemmas.Map.Keys.{IsDistinct-IsPermutation, Less-from_sorted}
 use Rattle.std.proofs.lemmas.Map.Made.{AllPairs-from_IsDistinct, IsDistinct-from_AllPairs}
 use Rattle.machine_text.specs.Packed.{Packed, IsTable}
-use Rattle.machine_text.specs.Text.{text_of}
 use Rattle.machine_text.proofs.Order.{order_of_texts}
 use Rattle.ledger.specs.Records.{same_table}
 use Rattle.ledger.specs.Open.{table_cmp}
-use Rattle.ledger.specs.Tally.{AreInTextOrder, AreAll, AreSoMany}
+use Rattle.ledger.specs.Tally.{AreInTextOrder, AreAll}
 use Rattle.ledger.proofs.Same.{same_is, same_at}
 use Rattle.ledger.proofs.Sets.{exact_tables, tables_total}
 

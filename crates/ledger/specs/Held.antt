@@ -1,5 +1,5 @@
 -- Which lists of records a board may hold from a root, and how a record changes them.
-use Rattle.std.specs.Prelude.{◌≡◌, if◌then◌else◌, List, [], ◌∷◌, ◌++◌, Option, Some, None, IsSome}
+use Rattle.std.specs.Prelude.{◌≡◌, if◌then◌else◌, List, [], ◌∷◌, ◌++◌, Some, IsSome}
 use Rattle.machine_text.specs.Packed.{Packed}
 use Rattle.tree.specs.Closed.{Undecided, IsOpen}
 use Rattle.cert.specs.Claim.{Recorded, IsWithin, IsWide, Stands, shown_by}

@@ -1,5 +1,5 @@
 -- What an offered record does to the records held, and why it is refused.
-use Rattle.std.specs.Prelude.{◌≡◌, ◌≢◌, ℕ, ◌⊎◌, List, [], ◌∷◌, ◌++◌, Option, Some, None, Result, Ok, Err, IsSome}
+use Rattle.std.specs.Prelude.{◌≡◌, ◌≢◌, ℕ, ◌⊎◌, List, [], ◌∷◌, ◌++◌, Some, None, Result, Ok, Err, IsSome}
 use Rattle.machine_text.specs.Packed.{Packed}
 use Rattle.run.specs.declared.verdicts.Refused.{Refused}
 use Rattle.run.specs.declared.verdicts.Refused.TheVariants.{Fails, TooLong, TooWide, NoMemory as WantsMemory}

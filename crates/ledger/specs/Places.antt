@@ -1,5 +1,5 @@
 -- Where an offered record stands.
-use Rattle.std.specs.Prelude.{◌≡◌, List, Option, Some, None, IsSome}
+use Rattle.std.specs.Prelude.{List, Option, Some, None, IsSome}
 use Rattle.machine_text.specs.Packed.{Packed}
 use Rattle.run.specs.declared.verdicts.Verdict.{Verdict}
 use Rattle.tree.specs.Closed.{IsOpen}

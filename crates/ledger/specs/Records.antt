@@ -1,5 +1,5 @@
 -- What a list of records says of a table.
-use Rattle.std.specs.Prelude.{◌≡◌, ℕ, Bool, ◌&&◌, if◌then◌else◌, List, [], ◌∷◌, Option, Some, None, option_map, nat_eq}
+use Rattle.std.specs.Prelude.{Bool, ◌&&◌, if◌then◌else◌, List, [], ◌∷◌, Option, Some, None, option_map, nat_eq}
 use Rattle.std.specs.Cmp.Lexicographic.{pointwise}
 use Rattle.machine_text.specs.Packed.{Packed}
 use Rattle.run.specs.declared.verdicts.Verdict.{Verdict}

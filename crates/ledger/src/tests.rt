@@ -1,9 +1,11 @@
 // A board of the tree of one state, and offers that it refuses.
-use super::{Board, BoardFault, Holdouts, OfferFault, Status, Taken};
+use super::{Board, BoardFault, OfferFault, Status, Taken};
 use cert::Record;
 use machine_text::Table;
 use run::{Refused, Verdict};
+use std::alloc::Global;
 use std::process::Abort;
+use std::test::Fail;
 
 fn table_of(rt: &impl Abort, text: &str) -> Table {
     match Table::parse(text.as_bytes()) {
@@ -19,11 +21,19 @@ fn record_of(rt: &impl Abort, text: &str) -> Record {
     }
 }
 
+// A board without records. Memory may be refused once.
+fn board_of(rt: &impl Abort, alloc: Global, root: &str) -> Board {
+    for _ in 0..2 {
+        if let Ok(board) = Board::new(alloc, table_of(rt, root)) {
+            return board;
+        }
+    }
+    panic!(rt; "no board")
+}
+
 #[test]
 fn a_board_takes_what_is_open_and_stands(rt: HostRuntime) {
-    let Ok(mut board) = Board::new(rt.alloc(), table_of(&rt, "------")) else {
-        panic!(rt; "no board");
-    };
+    let mut board = board_of(&rt, rt.alloc(), "------");
     for (text, answer) in [
         ("1RA--- U", Err(OfferFault::NotOpen)),
         ("------_------ H 1", Err(OfferFault::WrongSize)),
@@ -54,9 +64,7 @@ fn a_board_takes_what_is_open_and_stands(rt: HostRuntime) {
 
 #[test]
 fn a_holdout_is_settled(rt: HostRuntime) {
-    let Ok(mut board) = Board::new(rt.alloc(), table_of(&rt, "------_------")) else {
-        panic!(rt; "no board");
-    };
+    let mut board = board_of(&rt, rt.alloc(), "------_------");
     for (text, answer) in [
         ("------_------ H 1", Taken::New),
         ("1RB---_------ U", Taken::New),
@@ -103,28 +111,29 @@ fn take(rt: &impl Abort, board: &mut Board, text: &str) {
     );
 }
 
-// Whether these tables, and no others, come in this order.
-fn are_tables<I: Iterator<Item = Table> + Drop>(rt: &impl Abort, tables: I, texts: &[&str]) {
-    let mut expected = texts.iter();
-    for table in tables {
-        let text = expected.next();
+// Whether the tables are those of these texts, in this order.
+fn are_tables(rt: &impl Abort, tables: &[Table], texts: &[&str]) {
+    assert_eq!(rt; tables.len(), texts.len());
+    for (table, text) in tables.iter().zip(texts) {
         assert!(rt;
-            text.map(|t| table_of(rt, t)) == Some(table),
-            "{table:?} where {text:?} comes"
+            *table == table_of(rt, text),
+            "{table:?} where {text} comes"
         );
     }
-    assert!(rt; expected.next().is_none());
+}
+
+// The open tables of a board.
+fn open_tables(alloc: Global, board: &Board) -> Result<Vec<Table>, Fail> {
+    Ok(board.open().copied().collect(alloc)?)
 }
 
 #[test]
-fn children_are_open(rt: HostRuntime) {
+fn children_are_open(rt: HostRuntime) -> Result<(), Fail> {
     let root = table_of(&rt, "------_1LA---");
-    let Ok(mut board) = Board::new(rt.alloc(), root) else {
-        panic!(rt; "no board");
-    };
+    let mut board = board_of(&rt, rt.alloc(), "------_1LA---");
     assert!(rt; board.status() == Status::Working { count: 1 });
     assert!(rt; board.children(&root).is_none());
-    are_tables(&rt, board.open().copied(), &["------_1LA---"]);
+    are_tables(&rt, &open_tables(rt.alloc(), &board)?, &["------_1LA---"]);
     take(&rt, &mut board, "------_1LA--- H 1");
     let texts = [
         "0LA---_1LA---",
@@ -136,55 +145,60 @@ fn children_are_open(rt: HostRuntime) {
         "1RA---_1LA---",
         "1RB---_1LA---",
     ];
-    are_tables(&rt, board.open().copied(), &texts);
+    are_tables(&rt, &open_tables(rt.alloc(), &board)?, &texts);
     match board.children(&root) {
-        Some(children) => are_tables(&rt, children, &texts),
+        Some(children) => {
+            let tables: Vec<Table> = children.collect(rt.alloc())?;
+            are_tables(&rt, &tables, &texts);
+        }
         None => panic!(rt; "no children"),
     }
     assert!(rt; board.status() == Status::Working { count: 8 });
     take(&rt, &mut board, "0LA---_1LA--- U");
     assert!(rt; board.children(&table_of(&rt, "0LA---_1LA---")).is_none());
-    are_tables(&rt, board.open().copied(), &texts[1..]);
+    are_tables(&rt, &open_tables(rt.alloc(), &board)?, &texts[1..]);
+    Ok(())
 }
 
 // The holdouts of a board. Memory may be refused once.
-fn holdouts_of(rt: &impl Abort, board: &Board) -> Holdouts {
+fn holdouts_of(rt: &impl Abort, alloc: Global, board: &Board) -> Result<Vec<Table>, Fail> {
     for _ in 0..2 {
         if let Ok(holdouts) = board.holdouts() {
-            return holdouts;
+            return Ok(holdouts.collect(alloc)?);
         }
     }
     panic!(rt; "memory was refused twice")
 }
 
 #[test]
-fn a_board_is_complete_without_holdouts(rt: HostRuntime) {
-    let Ok(mut board) = Board::new(rt.alloc(), table_of(&rt, "------")) else {
-        panic!(rt; "no board");
-    };
+fn a_board_is_complete_without_holdouts(rt: HostRuntime) -> Result<(), Fail> {
+    let mut board = board_of(&rt, rt.alloc(), "------");
     take(&rt, &mut board, "------ H 1");
     assert!(rt; board.status() == Status::Working { count: 2 });
     take(&rt, &mut board, "1RA--- U");
     assert!(rt; board.status() == Status::Working { count: 1 });
     take(&rt, &mut board, "0RA--- U");
     assert!(rt; board.status() == Status::Holdouts { count: 2 });
-    are_tables(&rt, holdouts_of(&rt, &board), &["0RA---", "1RA---"]);
+    are_tables(
+        &rt,
+        &holdouts_of(&rt, rt.alloc(), &board)?,
+        &["0RA---", "1RA---"],
+    );
     take(&rt, &mut board, "0RA--- T 0 1 R");
     assert!(rt; board.status() == Status::Holdouts { count: 1 });
-    are_tables(&rt, holdouts_of(&rt, &board), &["1RA---"]);
+    are_tables(&rt, &holdouts_of(&rt, rt.alloc(), &board)?, &["1RA---"]);
     take(&rt, &mut board, "1RA--- T 0 1 R");
     assert!(rt; board.status() == Status::Complete { best: Some(1) });
-    are_tables(&rt, holdouts_of(&rt, &board), &[]);
+    are_tables(&rt, &holdouts_of(&rt, rt.alloc(), &board)?, &[]);
     assert!(rt; board.verdict(&table_of(&rt, "1RA---")) == Some(Verdict::Never));
     assert!(rt; board.records().count() == 3);
+    Ok(())
 }
 
 #[test]
 fn the_greatest_count_is_best(rt: HostRuntime) {
     // The run never leaves the row that is filled, so this table has no halting extension.
-    let Ok(mut board) = Board::new(rt.alloc(), table_of(&rt, "1RA---_------")) else {
-        panic!(rt; "no board");
-    };
+    let mut board = board_of(&rt, rt.alloc(), "1RA---_------");
     take(&rt, &mut board, "1RA---_------ T 0 1 R");
     assert!(rt; board.status() == Status::Complete { best: None });
 }

@@ -1,4 +1,4 @@
-use Rattle.std.proofs.Common.{◌≡◌, sym, ◌∙◌, ap, subst, rules}
+use Rattle.std.proofs.Common.{sym, ◌∙◌, ap}
 use Rattle.std.specs.Prelude.{Some}
 use Rattle.ledger.proofs.Claims.{found_claim, found_no_claim}
 use Rattle.ledger.proofs.looking.certificate_for.Goals as goal

@@ -1,4 +1,4 @@
-use Rattle.std.proofs.Common.{◌≡◌, sym, ◌∙◌, ap, subst, option_map}
+use Rattle.std.proofs.Common.{sym, ◌∙◌, ap, option_map}
 use Rattle.cert.specs.Kinds.{claim_of}
 use Rattle.ledger.specs.Records.{same_table}
 use Rattle.ledger.proofs.Same.{differ}

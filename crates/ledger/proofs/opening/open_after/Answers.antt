@@ -1,4 +1,4 @@
-use Rattle.std.proofs.Common.{◌≡◌, map, subst, Option, Some}
+use Rattle.std.proofs.Common.{map, subst, Option}
 use Rattle.cert.specs.Claim.{shown_by}
 use Rattle.cert.specs.Kinds.{claim_of, recorded}
 use Rattle.ledger.specs.Keeping.{held_recorded, IsPairOf}

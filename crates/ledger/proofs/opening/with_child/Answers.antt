@@ -1,4 +1,4 @@
-use Rattle.std.proofs.Common.{◌≡◌, sym, ◌∙◌, ap, subst, map}
+use Rattle.std.proofs.Common.{map}
 use Rattle.ledger.specs.Keeping.{held_recorded}
 use Rattle.ledger.proofs.Sets.{brought, not_brought}
 use Rattle.ledger.proofs.opening.with_child.Goals as goal

@@ -1,6 +1,6 @@
-use Rattle.std.proofs.Common.{◌≡◌, sym, ◌∙◌, ap, subst, map}
+use Rattle.std.proofs.Common.{map}
 use Rattle.ledger.specs.Keeping.{held_recorded}
-use Rattle.ledger.proofs.Sets.{brings, brings_none}
+use Rattle.ledger.proofs.Sets.{brings}
 use Rattle.ledger.proofs.opening.with_children.Goals as goal
 
 pub loop-child-preserved : goal.loop-child-preserved

@@ -1,4 +1,4 @@
-use Rattle.std.proofs.Common.{◌≡◌, sym, ◌∙◌, ap, subst, cond, false, List}
+use Rattle.std.proofs.Common.{◌≡◌, subst, cond, false, List}
 use Rattle.std.specs.BTreeSet.{contains}
 use Rattle.std.specs.BTreeMap.{is_at}
 use Rattle.machine_text.specs.Packed.{Packed}

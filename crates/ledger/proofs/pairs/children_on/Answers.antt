@@ -1,4 +1,4 @@
-use Rattle.std.proofs.Common.{◌≡◌, sym, ◌∙◌, ap, subst, ◌↔◌, Contains}
+use Rattle.std.proofs.Common.{sym, subst, ◌↔◌, Contains}
 use Rattle.std.specs.Prelude.{List}
 use Rattle.machine_text.specs.Packed.{Packed}
 use Rattle.tree.specs.Tables.{IsChildTable}

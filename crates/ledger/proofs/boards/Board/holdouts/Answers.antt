@@ -1,4 +1,3 @@
-use Rattle.std.proofs.Common.{◌≡◌, sym}
 use Rattle.std.specs.Vec.Iter.{into_iter_items}
 use Rattle.ledger.proofs.BoardLaws.{all_holdouts, if_both}
 use Rattle.ledger.proofs.boards.Board.holdouts.Goals as goal

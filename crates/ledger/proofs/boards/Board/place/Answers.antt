@@ -1,4 +1,4 @@
-use Rattle.std.proofs.Common.{subst, sym, ap, ◌∙◌, option_map, Some, None}
+use Rattle.std.proofs.Common.{sym, ap, ◌∙◌, option_map, Some, None}
 use Rattle.cert.specs.Kinds.{claim_of, recorded}
 use Rattle.ledger.proofs.Offering.{stands_recorded, stands_unrecorded, seen}
 use Rattle.ledger.proofs.boards.Board.place.Goals as goal

@@ -1,4 +1,4 @@
-use Rattle.std.proofs.Common.{subst, sym, ◌≡◌, length, arith}
+use Rattle.std.proofs.Common.{subst, ◌≡◌, length, arith}
 use Rattle.cert.specs.Kinds.{recorded}
 use Rattle.ledger.specs.Contents.{IsBoard}
 use Rattle.ledger.proofs.Taking.{holdout_in_order, code_settled, written_back}

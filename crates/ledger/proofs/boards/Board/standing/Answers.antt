@@ -1,4 +1,4 @@
-use Rattle.std.proofs.Common.{◌≡◌, arith, rules}
+use Rattle.std.proofs.Common.{rules}
 use Rattle.tree.specs.Closed.{IsOpen}
 use Rattle.ledger.specs.Records.{mark_in}
 use Rattle.ledger.specs.Held.{IsHoldout}

@@ -1,4 +1,4 @@
-use Rattle.std.proofs.Common.{subst, sym, [], ◌∷◌, rules}
+use Rattle.std.proofs.Common.{subst, [], ◌∷◌, rules}
 use Rattle.std.proofs.lemmas.List.Elements.{All-append}
 use Rattle.ledger.specs.Keeping.{KnowsPair}
 use Rattle.cert.specs.Kinds.{recorded}

@@ -1,4 +1,3 @@
-use Rattle.std.proofs.Common.{◌≡◌, refl}
 use Rattle.ledger.specs.Held.{IsHoldout}
 use Rattle.ledger.specs.Counting.{is_undecided, is_halting, is_never}
 use Rattle.ledger.specs.Tally.{IsHalting, IsNonHalting}

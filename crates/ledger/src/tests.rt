@@ -1,5 +1,5 @@
 // A board of the tree of one state, and offers that it refuses.
-use super::{Board, BoardFault, OfferFault, Status, Taken};
+use super::{Board, BoardFault, OfferFault, Status, Taken, Tally};
 use cert::Record;
 use machine_text::Table;
 use run::{Refused, Verdict};
@@ -187,11 +187,24 @@ fn a_board_is_complete_without_holdouts(rt: HostRuntime) -> Result<(), Fail> {
     take(&rt, &mut board, "0RA--- T 0 1 R");
     assert!(rt; board.status() == Status::Holdouts { count: 1 });
     are_tables(&rt, &holdouts_of(&rt, rt.alloc(), &board)?, &["1RA---"]);
+    assert!(rt; board.offer(&record_of(&rt, "1RA--- U")) == Ok(Taken::Known));
     take(&rt, &mut board, "1RA--- T 0 1 R");
     assert!(rt; board.status() == Status::Complete { best: Some(1) });
     are_tables(&rt, &holdouts_of(&rt, rt.alloc(), &board)?, &[]);
     assert!(rt; board.verdict(&table_of(&rt, "1RA---")) == Some(Verdict::Never));
     assert!(rt; board.records().count() == 3);
+    let tally = Tally {
+        nodes: 3,
+        halting: 1,
+        never: 2,
+        holdouts: 0,
+        open_count: 0,
+        best: Some(1),
+    };
+    assert!(rt; board.tally() == tally);
+    assert!(rt; *board.root() == table_of(&rt, "------"));
+    let champions: Vec<Table> = board.champions()?.collect(rt.alloc())?;
+    are_tables(&rt, &champions, &["------"]);
     Ok(())
 }
 

@@ -2,6 +2,8 @@
 ghost use Rattle.std.specs.Prelude.{◌≡◌, ◌≤◌, min, IfSome, IfOk};
 ghost use Rattle.machine_text.specs.Packed.{entry_of};
 ghost use Rattle.turing.specs.Cycle.{Cycle as IsCycle};
+ghost use Rattle.turing.specs.Run.{start};
+ghost use Rattle.loops.specs.Moment.{moment_of};
 
 use crate::allowances::Allowance;
 use crate::arrivals::{comes_to, goes_on};
@@ -60,6 +62,15 @@ impl Evidence for Cycle {
 pub struct CycleFinder {
     alloc: Global,
     pub steps: u64,
+    // Kept from table to table, for its memory.
+    scratch: Option<Scratch>,
+}
+
+// A run, and the configuration of it that is kept.
+#[derive(Drop)]
+struct Scratch {
+    runner: Runner,
+    kept: Snapshot,
 }
 
 impl CycleFinder {
@@ -67,7 +78,11 @@ impl CycleFinder {
     pub fn new(alloc: Global, steps: u64) -> CycleFinder
         ensures { result.steps ≡ steps }
     {
-        CycleFinder { alloc, steps }
+        CycleFinder {
+            alloc,
+            steps,
+            scratch: None,
+        }
     }
 
     /// A cycle of the table within the finder's steps and the budget; none where it finds none. What it
@@ -88,29 +103,65 @@ impl CycleFinder {
         ensures same { self.new.steps ≡ self.old.steps }
     {
         let limit = self.steps.min(budget).min(MAX_TIME);
-        let mut runner = Runner::new(self.alloc, *t)?;
-        let mut kept = Snapshot::taken(self.alloc, &runner)?;
-        let mut allowance = Allowance::at(0);
-        // Between what places the head has been: all cells that were visited.
-        let (mut first, mut last) = (0, 0);
-        for time in 0..limit {
-            if !goes_on(&mut runner)? {
-                return Ok(None);
-            }
-            let head = runner.tape().head();
-            first = head.min(first);
-            last = head.max(last);
-            if kept.meets(&runner) && allowance.spend(first, last) && kept.is_same(&runner) {
-                return Ok(Some(Cycle {
-                    i: kept.time(),
-                    j: runner.steps(),
-                }));
-            }
-            if runner.steps().is_power_of_two() {
-                kept = Snapshot::taken(self.alloc, &runner)?;
-                allowance = Allowance::at(runner.steps());
-            }
-        }
-        Ok(None)
+        let mut scratch = begun(self.alloc, self.scratch.take(), t)?;
+        let found = cycle_within(&mut scratch.runner, &mut scratch.kept, limit);
+        self.scratch = Some(scratch);
+        found
     }
+}
+
+// The run of a table at its beginning, which is kept; in the memory of an earlier one, if there was one.
+fn begun(alloc: Global, scratch: Option<Scratch>, t: &Table) -> Result<Scratch, NoMemory>
+    ensures runner { IfOk result (λ s. s.runner ≡ record { table = t.now; steps = 0; config = start }) }
+    ensures kept { IfOk result (λ s. s.kept ≡ moment_of s.runner) }
+{
+    match scratch {
+        Some(mut scratch) => {
+            scratch.runner.restart(*t);
+            scratch.kept.retake(&scratch.runner)?;
+            Ok(scratch)
+        }
+        None => {
+            let runner = Runner::new(alloc, *t)?;
+            let kept = Snapshot::taken(alloc, &runner)?;
+            Ok(Scratch { runner, kept })
+        }
+    }
+}
+
+// A cycle of a run, from its beginning up to a time.
+fn cycle_within(
+    runner: &mut Runner,
+    kept: &mut Snapshot,
+    limit: u64,
+) -> Result<Option<Cycle>, NoMemory>
+    requires limit { limit ≤ MAX_TIME }
+    requires begun { runner.old.steps ≡ 0 }
+    requires kept { kept.old ≡ moment_of runner.old }
+    ensures found { IfOk result (λ o. IfSome o (λ e. IsCycle (entry_of runner.old.table) e.i e.j)) }
+    ensures within { IfOk result (λ o. IfSome o (λ e. e.j ≤ limit)) }
+{
+    let _ = runner.steps();
+    let mut allowance = Allowance::at(0);
+    // Between what places the head has been: all cells that were visited.
+    let (mut first, mut last) = (0, 0);
+    for time in 0..limit {
+        if !goes_on(runner)? {
+            return Ok(None);
+        }
+        let head = runner.tape().head();
+        first = head.min(first);
+        last = head.max(last);
+        if kept.meets(runner) && allowance.spend(first, last) && kept.is_same(runner) {
+            return Ok(Some(Cycle {
+                i: kept.time(),
+                j: runner.steps(),
+            }));
+        }
+        if runner.steps().is_power_of_two() {
+            kept.retake(runner)?;
+            allowance = Allowance::at(runner.steps());
+        }
+    }
+    Ok(None)
 }

@@ -1,5 +1,5 @@
 // Configurations that are kept, to hold later ones against.
-ghost use Rattle.std.specs.Prelude.{◌≡◌, ◌↔◌, ◌≤◌, IfOk, IsTrue, ℤ, pos, ◌+ℤ◌, ◌-ℤ◌};
+ghost use Rattle.std.specs.Prelude.{◌≡◌, ◌↔◌, ◌≤◌, IfOk, OnOk, IsTrue, ℤ, pos, ◌+ℤ◌, ◌-ℤ◌};
 ghost use Rattle.machine_text.specs.Packed.{entry_of};
 ghost use Rattle.turing.specs.Translated.{Beyond, Farthest, Translated};
 ghost use Rattle.run.specs.Standing.{Stands};
@@ -43,6 +43,16 @@ impl Snapshot {
             state: runner.state(),
             tape: runner.tape().copied(alloc)?,
         })
+    }
+
+    // Puts where a runner stands in its place, in the memory that it has where that suffices.
+    pub fn retake(&mut self, runner: &Runner) -> Result<(), NoMemory>
+        ensures kept { OnOk result (self.new ≡ moment_of runner.now) }
+        ensures stands { Stands runner.now }
+    {
+        self.time = runner.steps();
+        self.state = runner.state();
+        self.tape.copy_from(runner.tape())
     }
 
     #[inline]

@@ -228,3 +228,38 @@ fn translated_cycles_are_found(rt: HostRuntime) {
         assert!(rt; cycle_in(&rt, alloc, 500, 1000, &table) == None, "{text}");
     }
 }
+
+// What a finder finds of a table doesn't hang on the tables before it.
+#[test]
+fn finders_begin_anew(rt: HostRuntime) {
+    let alloc = rt.alloc();
+    let mut cycles = CycleFinder::new(alloc, 500);
+    let mut translated = TranslatedFinder::new(alloc, 500);
+    // memory may be refused once
+    let mut refused = 0;
+    for _ in 0..2 {
+        for text in CYCLES
+            .iter()
+            .map(|(text, _, _)| *text)
+            .chain(TRANSLATED.iter().map(|(text, _, _, _)| *text))
+        {
+            let table = table_of(&rt, text);
+            match cycles.search(&table, 1000) {
+                Ok(found) => {
+                    assert!(rt; found == cycle_in(&rt, alloc, 500, 1000, &table), "{text}")
+                }
+                Err(_) => refused += 1,
+            }
+            match translated.search(&table, 1000) {
+                Ok(found) => {
+                    assert!(rt;
+                        found == translated_in(&rt, alloc, 500, 1000, &table),
+                        "{text}"
+                    )
+                }
+                Err(_) => refused += 1,
+            }
+        }
+    }
+    assert!(rt; refused <= 1);
+}

@@ -1,5 +1,5 @@
 // What a run leaves on its way for the search of translated cycles, on one side.
-ghost use Rattle.std.specs.Prelude.{◌≡◌, ◌+◌, ◌≤◌, IfOk, IfSome, IfNone};
+ghost use Rattle.std.specs.Prelude.{◌≡◌, ◌+◌, ◌≤◌, IfOk, OnOk, IfSome, IfNone};
 ghost use Rattle.std.specs.Bool.{OnTrue};
 ghost use Rattle.machine_text.specs.Packed.{entry_of};
 ghost use Rattle.turing.specs.Translated.{Translated as IsTranslated};
@@ -48,15 +48,26 @@ impl Trail {
         })
     }
 
+    // Begins anew at where a runner stands, in the memory that the trail has.
+    pub fn restart(&mut self, t: &Table, runner: &Runner, side: Dir) -> Result<(), NoMemory>
+        requires table { runner.now.table ≡ t.now }
+        requires limit { runner.now.steps ≤ MAX_TIME }
+        ensures follows { OnOk result (Follows t.now (runner.now.steps + 1) side self.new.kept self.new.bound) }
+        ensures side { self.new.side ≡ side }
+    {
+        let head = runner.tape().head();
+        self.side = side;
+        self.bound = head;
+        self.record = head;
+        self.allowance = Allowance::at(runner.steps());
+        self.kept.retake(runner)?;
+        Ok(())
+    }
+
     // Looks at the next time of the run. Gives a translated cycle from the record that was kept to this one.
     // Keeps a record in its place where twice the time has come.
     #[inline]
-    pub fn visit(
-        &mut self,
-        alloc: Global,
-        t: &Table,
-        runner: &Runner,
-    ) -> Result<Option<Translated>, NoMemory>
+    pub fn visit(&mut self, t: &Table, runner: &Runner) -> Result<Option<Translated>, NoMemory>
         requires table { runner.now.table ≡ t.now }
         requires limit { runner.now.steps ≤ MAX_TIME }
         requires follows { Follows t.now runner.now.steps self.old.side self.old.kept self.old.bound }
@@ -78,7 +89,7 @@ impl Trail {
             }
             self.record = head;
             if time / 2 >= self.kept.time() {
-                self.kept = Snapshot::taken(alloc, runner)?;
+                self.kept.retake(runner)?;
                 self.bound = head;
                 self.allowance = Allowance::at(time);
                 return Ok(None);

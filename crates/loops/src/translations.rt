@@ -1,7 +1,10 @@
 // Translated cycles: a run that comes to the same configuration moved, but for what it has left behind.
 ghost use Rattle.std.specs.Prelude.{◌≡◌, ◌<◌, ◌≤◌, min, IfSome, IfOk};
 ghost use Rattle.machine_text.specs.Packed.{entry_of};
+ghost use Rattle.machine_text.specs.declared.transition.Dir.TheVariants.{L, R};
+ghost use Rattle.turing.specs.Run.{start};
 ghost use Rattle.turing.specs.Translated.{Translated as IsTranslated};
+ghost use Rattle.loops.specs.Trail.{Follows};
 
 use crate::arrivals::{comes_to, goes_on};
 use crate::heads::farthest_head;
@@ -69,6 +72,16 @@ impl Evidence for Translated {
 pub struct TranslatedFinder {
     alloc: Global,
     pub steps: u64,
+    // Kept from table to table, for its memory.
+    scratch: Option<Scratch>,
+}
+
+// A run, and its trails on both sides.
+#[derive(Drop)]
+struct Scratch {
+    runner: Runner,
+    left: Trail,
+    right: Trail,
 }
 
 impl TranslatedFinder {
@@ -76,7 +89,11 @@ impl TranslatedFinder {
     pub fn new(alloc: Global, steps: u64) -> TranslatedFinder
         ensures { result.steps ≡ steps }
     {
-        TranslatedFinder { alloc, steps }
+        TranslatedFinder {
+            alloc,
+            steps,
+            scratch: None,
+        }
     }
 
     /// A translated cycle of the table within the finder's steps and the budget; none where it finds none.
@@ -100,20 +117,73 @@ impl TranslatedFinder {
         ensures same { self.new.steps ≡ self.old.steps }
     {
         let limit = self.steps.min(budget).min(MAX_TIME);
-        let mut runner = Runner::new(self.alloc, *t)?;
-        let mut left = Trail::begun(self.alloc, t, &runner, Dir::L)?;
-        let mut right = Trail::begun(self.alloc, t, &runner, Dir::R)?;
-        for time in 0..limit {
-            if !goes_on(&mut runner)? {
-                return Ok(None);
-            }
-            if let Some(found) = right.visit(self.alloc, t, &runner)? {
-                return Ok(Some(found));
-            }
-            if let Some(found) = left.visit(self.alloc, t, &runner)? {
-                return Ok(Some(found));
-            }
-        }
-        Ok(None)
+        let mut scratch = begun(self.alloc, self.scratch.take(), t)?;
+        let found = translated_within(
+            t,
+            &mut scratch.runner,
+            &mut scratch.left,
+            &mut scratch.right,
+            limit,
+        );
+        self.scratch = Some(scratch);
+        found
     }
+}
+
+// The run of a table at its beginning, and its trails from there; in the memory of earlier ones, if there
+// were such.
+fn begun(alloc: Global, scratch: Option<Scratch>, t: &Table) -> Result<Scratch, NoMemory>
+    ensures runner { IfOk result (λ s. s.runner ≡ record { table = t.now; steps = 0; config = start }) }
+    ensures left { IfOk result (λ s. (s.left.side ≡ L) × Follows t.now 1 L s.left.kept s.left.bound) }
+    ensures right { IfOk result (λ s. (s.right.side ≡ R) × Follows t.now 1 R s.right.kept s.right.bound) }
+{
+    match scratch {
+        Some(mut scratch) => {
+            scratch.runner.restart(*t);
+            scratch.left.restart(t, &scratch.runner, Dir::L)?;
+            scratch.right.restart(t, &scratch.runner, Dir::R)?;
+            Ok(scratch)
+        }
+        None => {
+            let runner = Runner::new(alloc, *t)?;
+            let left = Trail::begun(alloc, t, &runner, Dir::L)?;
+            let right = Trail::begun(alloc, t, &runner, Dir::R)?;
+            Ok(Scratch {
+                runner,
+                left,
+                right,
+            })
+        }
+    }
+}
+
+// A translated cycle of a run, from its beginning up to a time.
+fn translated_within(
+    t: &Table,
+    runner: &mut Runner,
+    left: &mut Trail,
+    right: &mut Trail,
+    limit: u64,
+) -> Result<Option<Translated>, NoMemory>
+    requires limit { limit ≤ MAX_TIME }
+    requires table { runner.old.table ≡ t.now }
+    requires begun { runner.old.steps ≡ 0 }
+    requires left { Follows t.now 1 left.old.side left.old.kept left.old.bound }
+    requires right { Follows t.now 1 right.old.side right.old.kept right.old.bound }
+    ensures found { IfOk result (λ o. IfSome o (λ e. IsTranslated (entry_of t.now) e.i e.j e.side)) }
+    ensures within { IfOk result (λ o. IfSome o (λ e. e.j ≤ limit)) }
+{
+    let _ = runner.steps();
+    for time in 0..limit {
+        if !goes_on(runner)? {
+            return Ok(None);
+        }
+        if let Some(found) = right.visit(t, runner)? {
+            return Ok(Some(found));
+        }
+        if let Some(found) = left.visit(t, runner)? {
+            return Ok(Some(found));
+        }
+    }
+    Ok(None)
 }

@@ -59,6 +59,17 @@ impl Runner {
         })
     }
 
+    /// Begins the run of a table anew, in the memory that the runner has.
+    pub fn restart(&mut self, t: Table)
+        ensures { self.new ≡ record { table = t; steps = 0; config = start } }
+    {
+        let _ = t.states();
+        self.table = t;
+        self.steps = 0;
+        self.state = State(0);
+        self.tape.clear();
+    }
+
     /// Carries out one step, unless the run stands on a halting pair: then nothing changes, and the
     /// answer is the same again. After an error nothing has changed.
     #[inline]

@@ -53,6 +53,11 @@ fn the_four_state_champion_leaves_its_tape(rt: HostRuntime) -> Result<(), Fail> 
         let one = -8 <= x && x <= 3;
         assert!(rt; (runner.tape().cell(x) == Sym::One) == one, "{x}");
     }
+    runner.restart(table_of(&rt, "1RB1LB_1LA---"));
+    assert_eq!(rt; runner.steps(), 0);
+    assert!(rt; runner.state() == State(0) && runner.tape().head() == 0);
+    assert!(rt; (-20..20).all(|x| runner.tape().cell(x) == Sym::Zero));
+    assert!(rt; runner.run_to(1000)? == Step::Halts { count: 6 });
     Ok(())
 }
 

@@ -1,5 +1,5 @@
 -- A tape as it is stored, the visited cells as two lists with the nearest cell last: what is read, written and moved.
-use Rattle.std.proofs.Common.{◌≡◌, ℕ, ℤ, pos, ◌+ℤ◌, ◌-ℤ◌, ◌+◌, List, [], ◌∷◌, ◌++◌, length, reverse, Option, Some, None, sym, ◌∙◌, ap, refl, arith, append_assoc}
+use Rattle.std.proofs.Common.{◌≡◌, ℕ, ℤ, pos, ◌+ℤ◌, ◌-ℤ◌, ◌+◌, List, [], ◌∷◌, ◌++◌, length, reverse, Option, Some, None, sym, ◌∙◌, ap, refl, arith, append_assoc, Result, Ok, Err, OnErr}
 use Rattle.std.specs.Option.{option_to_list, unwrap_or, MatchOption}
 use Rattle.std.specs.Bool.{⊤}
 use Rattle.std.proofs.lemmas.Int.{ints}
@@ -71,3 +71,8 @@ right_step h h' left left' right right' s s' (Some r) to popped none is pushed =
     let tail : s' ∷ reverse right' ≡ reverse right = ap (λ a. a ∷ reverse right') is ∙ sym (reverse-push right' right r popped) in
     let word : left' ++ s' ∷ reverse right' ≡ left ++ s ∷ reverse right = ap (λ w. w ++ s' ∷ reverse right') pushed ∙ append_assoc left (s ∷ []) (s' ∷ reverse right') ∙ ap (λ w. left ++ s ∷ w) tail in
     same_tape _ _ to (same_word _ _ _ _ first word)
+
+-- what is so is so after an error
+pub on_err : {T E A : Type 0} (r : Result T E) → A → OnErr r A
+on_err (Ok t) h = tt
+on_err (Err e) h = h

@@ -88,6 +88,11 @@ fn same_head_and_cells(rt: HostRuntime) -> Result<(), Fail> {
     assert!(rt; !tape.same(&moved));
     assert!(rt; !tape.same(&shorter) && !shorter.same(&tape));
     assert!(rt; tape.same(&tape.copied(alloc)?));
+    let mut copy = shorter.copied(alloc)?;
+    copy.copy_from(&tape)?;
+    assert!(rt; copy.same(&tape) && !copy.same(&shorter));
+    copy.clear();
+    assert!(rt; copy.same(&Tape::new(alloc)) && !copy.same(&tape));
     Ok(())
 }
 

@@ -164,6 +164,35 @@ impl Tape {
         (first, last)
     }
 
+    /// Makes the tape blank, with its head at 0. It keeps the memory that it has.
+    pub fn clear(&mut self)
+        ensures { self.new ≡ blank }
+    {
+        self.head = 0;
+        self.left.clear();
+        self.read = Sym::Zero;
+        self.right.clear();
+    }
+
+    /// Takes over the head and the cells of another tape, in the memory that it has where that suffices.
+    /// After an error the tape is blank.
+    pub fn copy_from(&mut self, other: &Tape) -> Result<(), NoMemory>
+        ensures ok { OnOk result (self.new ≡ other.now) }
+        ensures err { OnErr result (self.new ≡ blank) }
+    {
+        let copied = copy_cells(&other.left, &mut self.left, &other.right, &mut self.right);
+        if copied.is_ok() {
+            self.head = other.head;
+            self.read = other.read;
+        } else {
+            self.head = 0;
+            self.left.clear();
+            self.read = Sym::Zero;
+            self.right.clear();
+        }
+        copied
+    }
+
     /// Another tape with the same head and cells, on the allocator given.
     pub fn copied(&self, alloc: Global) -> Result<Tape, NoMemory>
         ensures { IfOk result (λ t. t ≡ self.now) }
@@ -175,6 +204,22 @@ impl Tape {
             right: self.right.to_vec(alloc)?,
         })
     }
+}
+
+// Puts the visited cells of a tape in the place of another's.
+fn copy_cells(
+    from_left: &[Sym],
+    left: &mut Vec<Sym>,
+    from_right: &[Sym],
+    right: &mut Vec<Sym>,
+) -> Result<(), NoMemory>
+    ensures left { OnOk result (left.new.items ≡ from_left.now) }
+    ensures right { OnOk result (right.new.items ≡ from_right.now) }
+{
+    left.clear();
+    left.extend_from_slice(from_left)?;
+    right.clear();
+    right.extend_from_slice(from_right)
 }
 
 // The symbol so many cells from the head, on a side whose nearest cell is the last.

@@ -12,7 +12,7 @@ pub returns-then-time-clause-follows : goal.returns-then-time-clause-follows
 returns-then-time-clause-follows c =
     let fits : FitsSigned w64 c.head-head.result = search rules in
     let here : c.head-head.result ≡ c.args.runner.now.config.tape.head = search rules in
-    rw (to_z-of_z w64 c.head-head.result fits) (follows_first _ _ c.args.runner.now _ _ c.requires.table c.taken.ensures.stands c.in_ok-self.ensures.kept here)
+    rw (to_z-of_z w64 c.head-head.result fits) (follows_first _ _ c.args.runner.now _ _ c.requires.table c.retake.ensures.stands c.in_ok-retake.ensures.kept here)
 
 pub returns-clause-follows : goal.returns-clause-follows
 returns-clause-follows c =

@@ -1,14 +1,14 @@
 use Rattle.std.proofs.Common.{◌≡◌, ◌≤◌}
 use Rattle.run.specs.Standing.{Stands}
 use Rattle.loops.specs.Moment.{IsMomentOf}
-use Rattle.loops.proofs.cycles.CycleFinder.search.Given as goal
+use Rattle.loops.proofs.cycles.cycle_within.Given as goal
 
 -- the runner stands at the loop's time, and what is kept is of this time or an earlier one
 abbrev pub invariant-loop-time : goal.invariant-loop-time
 invariant-loop-time l = record {
   steps : l.runner.steps ≡ l.time;
-  table : l.runner.table ≡ l.t;
+  table : l.runner.table ≡ l.fn.runner.table;
   stands : Stands l.runner;
-  kept : IsMomentOf l.t l.kept;
+  kept : IsMomentOf l.fn.runner.table l.kept;
   early : l.kept.time ≤ l.time;
 }

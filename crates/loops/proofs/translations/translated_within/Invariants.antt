@@ -1,7 +1,7 @@
 use Rattle.std.proofs.Common.{◌≡◌, ◌+◌}
 use Rattle.run.specs.Standing.{Stands}
 use Rattle.loops.specs.Trail.{Follows}
-use Rattle.loops.proofs.translations.TranslatedFinder.search.Given as goal
+use Rattle.loops.proofs.translations.translated_within.Given as goal
 
 -- the runner stands at the loop's time, which both trails have seen
 abbrev pub invariant-loop-time : goal.invariant-loop-time

@@ -134,9 +134,27 @@ fn translated_cycles_are_judged(rt: HostRuntime) {
     }
 }
 
-// What a cycle finder of so many steps finds. Where memory is refused, it is asked once more.
+// What a cycle finder finds. Where memory is refused, it is asked once more.
+fn cycle_by(rt: &impl Abort, finder: &mut CycleFinder, budget: u64, t: &Table) -> Option<Cycle> {
+    for _ in 0..2 {
+        if let Ok(found) = finder.search(t, budget) {
+            return found;
+        }
+    }
+    panic!(rt; "memory was refused twice")
+}
+
+// What a new one of so many steps finds.
 fn cycle_in(rt: &impl Abort, alloc: Global, steps: u64, budget: u64, t: &Table) -> Option<Cycle> {
-    let mut finder = CycleFinder::new(alloc, steps);
+    cycle_by(rt, &mut CycleFinder::new(alloc, steps), budget, t)
+}
+
+fn translated_by(
+    rt: &impl Abort,
+    finder: &mut TranslatedFinder,
+    budget: u64,
+    t: &Table,
+) -> Option<Translated> {
     for _ in 0..2 {
         if let Ok(found) = finder.search(t, budget) {
             return found;
@@ -152,13 +170,7 @@ fn translated_in(
     budget: u64,
     t: &Table,
 ) -> Option<Translated> {
-    let mut finder = TranslatedFinder::new(alloc, steps);
-    for _ in 0..2 {
-        if let Ok(found) = finder.search(t, budget) {
-            return found;
-        }
-    }
-    panic!(rt; "memory was refused twice")
+    translated_by(rt, &mut TranslatedFinder::new(alloc, steps), budget, t)
 }
 
 #[test]
@@ -235,31 +247,23 @@ fn finders_begin_anew(rt: HostRuntime) {
     let alloc = rt.alloc();
     let mut cycles = CycleFinder::new(alloc, 500);
     let mut translated = TranslatedFinder::new(alloc, 500);
-    // memory may be refused once
-    let mut refused = 0;
     for _ in 0..2 {
-        for text in CYCLES
-            .iter()
-            .map(|(text, _, _)| *text)
-            .chain(TRANSLATED.iter().map(|(text, _, _, _)| *text))
-        {
+        for (text, _, _) in CYCLES {
             let table = table_of(&rt, text);
-            match cycles.search(&table, 1000) {
-                Ok(found) => {
-                    assert!(rt; found == cycle_in(&rt, alloc, 500, 1000, &table), "{text}")
-                }
-                Err(_) => refused += 1,
-            }
-            match translated.search(&table, 1000) {
-                Ok(found) => {
-                    assert!(rt;
-                        found == translated_in(&rt, alloc, 500, 1000, &table),
-                        "{text}"
-                    )
-                }
-                Err(_) => refused += 1,
-            }
+            let found = cycle_by(&rt, &mut cycles, 1000, &table);
+            assert!(rt; found == cycle_in(&rt, alloc, 500, 1000, &table), "{text}");
+            assert!(rt;
+                found.is_some() && translated_by(&rt, &mut translated, 1000, &table) == None
+            );
+        }
+        for (text, _, _, _) in TRANSLATED {
+            let table = table_of(&rt, text);
+            let found = translated_by(&rt, &mut translated, 1000, &table);
+            assert!(rt;
+                found == translated_in(&rt, alloc, 500, 1000, &table),
+                "{text}"
+            );
+            assert!(rt; found.is_some() && cycle_by(&rt, &mut cycles, 1000, &table) == None);
         }
     }
-    assert!(rt; refused <= 1);
 }

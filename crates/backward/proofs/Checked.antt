@@ -35,7 +35,7 @@ does_not p d old new step began runs other at is = go step (subst (λ (r : Stand
   where
     go : (s : Step) → RunsTo d (begun p) s new → (s ≡ Went → ⊥) → ⊥
     go Went to other = other refl
-    go (Halts count) to other = omega (arith, not_past (entry_of p) d count at is to.1.stops, to.2)
+    go (Halts count) to other = omega (arith, not_past (entry_of p) d count at is to.1.halts, to.2)
 
 -- what the last step that was carried out says of it
 pub says_done : (p : Packed) (d : ℕ) (old new : Standing) (step : Step) (done : Bool) → old ≡ begun p → RunsTo d old step new → (done ≡ true → step ≡ Went) → (done ≡ false → step ≡ Went → ⊥) → SaysDone p d done

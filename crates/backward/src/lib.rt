@@ -15,6 +15,3 @@ mod paths;
 pub use evidence::Backward;
 pub use finder::BackwardFinder;
 pub use limits::{MAX_DEPTH, MAX_PATHS};
-
-#[cfg(test)]
-mod tests;

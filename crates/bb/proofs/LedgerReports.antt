@@ -4,7 +4,7 @@ use Rattle.std.proofs.lemmas.List.{append_cancel_left}
 use Rattle.machine_text.specs.Packed.{Packed}
 use Rattle.machine_text.specs.Text.{table_of}
 use Rattle.ledger.specs.Contents.{Contents}
-use Rattle.ledger.specs.LedgerText.{header_words, HasHeader, StandsFor, LoadGives, PeekGives}
+use Rattle.ledger.specs.LedgerText.{header_words, HasHeader, ReadsAs, LoadGives, PeekGives}
 use Rattle.ledger.specs.declared.loaded.Left.{Left}
 use Rattle.ledger.specs.declared.loaded.LoadFault.{LoadFault}
 use Rattle.ledger.specs.declared.loaded.LoadFault.TheVariants.{BadHeader, WrongRoot, NoMemory}
@@ -32,8 +32,8 @@ load_ends text root BadHeader peek h = inr h
 load_ends text root WrongRoot peek h = absurd (h.3 (one_header text h.0 root h.1 peek.0.0 h.2 peek.0.1))
 load_ends text root NoMemory peek h = tt
 
-pub load_stands : (text : List ℕ) (root : Packed) (loaded : Contents × Left) → PeekGives text (Ok (Some root)) → LoadGives root text (Ok loaded) → StandsFor loaded.0.root text loaded.0.records loaded.1
-load_stands text root loaded peek h = subst (λ (p : Packed). StandsFor p text loaded.0.records loaded.1) (sym h.0) (elim h.1 [
+pub load_stands : (text : List ℕ) (root : Packed) (loaded : Contents × Left) → PeekGives text (Ok (Some root)) → LoadGives root text (Ok loaded) → ReadsAs loaded.0.root text loaded.0.records loaded.1
+load_stands text root loaded peek h = subst (λ (p : Packed). ReadsAs p text loaded.0.records loaded.1) (sym h.0) (elim h.1 [
   | inl none ↦ absurd (line_has_newline peek.0.1.line none.torn.no_newline)
   | inr stands ↦ stands
 ])

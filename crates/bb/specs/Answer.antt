@@ -33,7 +33,7 @@ place_text None = []
 place_text (Some i) = codes " " ++ decimal i
 
 abbrev pub text_fault_text : TextFault → List ℕ
-text_fault_text f = codes " " ++ decimal (text.number_of f) ++ place_text (text.place_of f)
+text_fault_text f = codes " " ++ decimal (text.text_fault_number f) ++ place_text (text.place_of f)
 
 abbrev pub inner_text : RecordFault → List ℕ
 inner_text (BadTable f) = text_fault_text f
@@ -43,13 +43,13 @@ inner_text BadList = []
 inner_text TooLong = []
 
 abbrev pub fault_text : RecordFault → List ℕ
-fault_text f = refusal_text (record_fault.number_of f) ++ inner_text f
+fault_text f = refusal_text (record_fault.record_fault_number f) ++ inner_text f
 
 -- the answer to a record: accepted, with its table and what its claim shows, where that is certified; or why it is
 -- refused
 abbrev pub AnswersRecord : Recorded → Outcome → List ℕ → Type 0
 AnswersRecord r Accepted answer = IsCertified r × (answer ≡ text_of r.table ++ verdict_text (shown_by r.claim))
-AnswersRecord r Refused answer = (why : Refusal) × IsRefusedBy why r × (answer ≡ refusal_text (verdict.number_of why))
+AnswersRecord r Refused answer = (why : Refusal) × IsRefusedBy why r × (answer ≡ refusal_text (verdict.refused_number why))
 AnswersRecord r BadLine answer = ⊥
 AnswersRecord r NoMemory answer = ⊥
 AnswersRecord r Failed answer = ⊥

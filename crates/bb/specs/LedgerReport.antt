@@ -3,7 +3,7 @@ use Rattle.std.specs.Prelude.{◌≡◌, ℕ, ◌⊎◌, List, [], ◌∷◌, �
 use Rattle.machine_text.specs.Packed.{Packed, entry_of}
 use Rattle.tree.specs.Used.{InOrder}
 use Rattle.cert.specs.Claim.{Recorded}
-use Rattle.ledger.specs.LedgerText.{IsTornHeader, HasHeader, HasNoHeader, StandsFor}
+use Rattle.ledger.specs.LedgerText.{IsTornHeader, HasHeader, HasNoHeader, ReadsAs}
 use Rattle.ledger.specs.Tally.{IsStatus}
 use Rattle.ledger.specs.declared.loaded.Left.{Left}
 use Rattle.ledger.specs.declared.loaded.Left.TheVariants.{Nothing, From}
@@ -32,7 +32,7 @@ pub record ReportsLedger (text old : List ℕ) (o : Outcome) (new : List ℕ) : 
   pub root : Packed
   pub records : List Recorded
   pub left : Left
-  pub loads : StandsFor root text records left
+  pub loads : ReadsAs root text records left
   pub report : List ℕ
   pub is_report : IsReport root records report
   pub status : Status

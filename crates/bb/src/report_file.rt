@@ -1,6 +1,6 @@
 // `bb report`: a ledger file in, its report out.
 ghost use Rattle.std.specs.Prelude.{◌≡◌, ◌++◌, OnOk, IfOk, IfErr};
-ghost use Rattle.ledger.specs.LedgerText.{StandsFor};
+ghost use Rattle.ledger.specs.LedgerText.{ReadsAs};
 ghost use Rattle.bb.specs.LedgerReport.{ReportsLedger, EndsLedger, left_text, outcome_by};
 
 use crate::ended::Ended;
@@ -95,7 +95,7 @@ pub fn report_ledger(alloc: Global, bytes: &[u8], out: &mut Vec<u8>) -> Result<O
 
 // The board of a ledger's text with the root that it names, and what of the text wasn't kept.
 fn loaded(alloc: Global, bytes: &[u8]) -> Result<(Board, Left), Ended>
-    ensures ok { IfOk result (λ l. StandsFor l.0.root bytes.now l.0.records l.1) }
+    ensures ok { IfOk result (λ l. ReadsAs l.0.root bytes.now l.0.records l.1) }
     ensures err { IfErr result (λ e. EndsLedger bytes.now e) }
 {
     match peek_root(bytes) {

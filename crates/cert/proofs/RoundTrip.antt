@@ -15,8 +15,8 @@ use Rattle.machine_text.specs.Text.{text_of}
 use Rattle.machine_text.proofs.Rows.{length-text_of}
 use Rattle.machine_text.proofs.RoundTrip.{table_of-text_of, text_of_from_45}
 use Rattle.cert.specs.declared.limits.TheConstants.{MAX_RECORD_BYTES}
-use Rattle.cert.specs.Claim.{Claim, HaltsIn, CycleAt, TranslatedAt, BackwardFrom, Nothing, Recorded, IsWritable}
-use Rattle.cert.specs.Grammar.{parts_of, worth_of, number_of, side_of, side_text, with_field, halts_by, cycle_by, translated_by, backward_by, claim_from, claim_text, record_with, record_after, record_from, record_of, record_text}
+use Rattle.cert.specs.Claim.{Claim, HaltsClaim, CycleClaim, TranslatedClaim, BackwardClaim, NoClaim, Recorded, IsWritable}
+use Rattle.cert.specs.Grammar.{parts_of, worth_of, decimal_value, side_of, side_text, with_field, halts_by, cycle_by, translated_by, backward_by, claim_from, claim_text, record_with, record_after, record_from, record_of, record_text}
 use Rattle.cert.proofs.Worth.{with_digit}
 
 abbrev IsSpace : ℕ → Bool
@@ -48,9 +48,9 @@ decimal_is_form = decimal_by_steps IsForm
       no_space = All-append (λ b. IsSpace b ≡ false) digits ((48 + n % 10) ∷ []) form.no_space (one_digit (n % 10) (omega arith));
     })
 
-number_of-decimal : (n : ℕ) → n < 2 ^ 64 → number_of (decimal n) ≡ Some n
-unfolding number_of
-number_of-decimal n small =
+decimal_value-decimal : (n : ℕ) → n < 2 ^ 64 → decimal_value (decimal n) ≡ Some n
+unfolding decimal_value
+decimal_value-decimal n small =
     let worth = (decimal_is_form n small).worth in
     let within : ltb n (2 ^ 64) ≡ true = grind (arith, nat_tests) in
     let same : bytes_eq (decimal n) (decimal n) ≡ true = (bytes_eq-Decides (decimal n) (decimal n)).1 refl in
@@ -91,17 +91,17 @@ fields_of_translated i j side small_i small_j =
     ∙ ap (λ l. decimal i ∷ l) (number_then j (side_text side) small_j ∙ ap (λ l. decimal j ∷ l) (side_part side))
 
 claim_back : (c : Claim) → IsWritable c → claim_from (parts_of (claim_text c)) ≡ Ok c
-claim_back (HaltsIn k) small =
-    ap halts_by (number_part k small) ∙ ap (λ o. with_field o (λ k. Ok (HaltsIn k))) (number_of-decimal k small)
-claim_back (CycleAt i j) small =
+claim_back (HaltsClaim k) small =
+    ap halts_by (number_part k small) ∙ ap (λ o. with_field o (λ k. Ok (HaltsClaim k))) (decimal_value-decimal k small)
+claim_back (CycleClaim i j) small =
     ap cycle_by (ap parts_of (append_assoc (decimal i) (codes " ") (decimal j)) ∙ times_parts i j small.0 small.1)
-    ∙ rw (number_of-decimal i small.0, number_of-decimal j small.1) refl
-claim_back (TranslatedAt i j side) small =
+    ∙ rw (decimal_value-decimal i small.0, decimal_value-decimal j small.1) refl
+claim_back (TranslatedClaim i j side) small =
     ap translated_by (fields_of_translated i j side small.0 small.1)
-    ∙ rw (number_of-decimal i small.0, number_of-decimal j small.1, side_back side) refl
-claim_back (BackwardFrom d) small =
-    ap backward_by (number_part d small) ∙ ap (λ o. with_field o (λ d. Ok (BackwardFrom d))) (number_of-decimal d small)
-claim_back Nothing small = refl
+    ∙ rw (decimal_value-decimal i small.0, decimal_value-decimal j small.1, side_back side) refl
+claim_back (BackwardClaim d) small =
+    ap backward_by (number_part d small) ∙ ap (λ o. with_field o (λ d. Ok (BackwardClaim d))) (decimal_value-decimal d small)
+claim_back NoClaim small = refl
 
 length_of_number : (n : ℕ) → n < 2 ^ 64 → length (decimal n) ≤ 20
 length_of_number n small = length-decimal-le 20 n (omega arith) (omega arith) small
@@ -111,13 +111,13 @@ length_of_side L = refl
 length_of_side R = refl
 
 length_of_claim : (c : Claim) → IsWritable c → length (claim_text c) ≤ 50
-length_of_claim (HaltsIn k) small = omega (arith, length-append (codes "H ") (decimal k), length_of_number k small)
-length_of_claim (CycleAt i j) small =
+length_of_claim (HaltsClaim k) small = omega (arith, length-append (codes "H ") (decimal k), length_of_number k small)
+length_of_claim (CycleClaim i j) small =
     omega (arith, length-append (codes "C " ++ decimal i ++ codes " ") (decimal j), length-append (codes "C " ++ decimal i) (codes " "), length-append (codes "C ") (decimal i), length_of_number i small.0, length_of_number j small.1)
-length_of_claim (TranslatedAt i j side) small =
+length_of_claim (TranslatedClaim i j side) small =
     omega (arith, length-append (codes "T " ++ decimal i ++ codes " " ++ decimal j ++ codes " ") (side_text side), length-append (codes "T " ++ decimal i ++ codes " " ++ decimal j) (codes " "), length-append (codes "T " ++ decimal i ++ codes " ") (decimal j), length-append (codes "T " ++ decimal i) (codes " "), length-append (codes "T ") (decimal i), length_of_number i small.0, length_of_number j small.1, length_of_side side)
-length_of_claim (BackwardFrom d) small = omega (arith, length-append (codes "B ") (decimal d), length_of_number d small)
-length_of_claim Nothing small = omega arith
+length_of_claim (BackwardClaim d) small = omega (arith, length-append (codes "B ") (decimal d), length_of_number d small)
+length_of_claim NoClaim small = omega arith
 
 short : (r : Recorded) → IsTable r.table → IsWritable r.claim → length (record_text r) ≤ MAX_RECORD_BYTES
 unfolding record_text

@@ -6,11 +6,11 @@ use Rattle.turing.proofs.TranslatedLaws.{translated_never}
 use Rattle.turing.proofs.BackwardLaws.{backward_never}
 use Rattle.turing.proofs.TableLaws.{table_machine}
 use Rattle.run.specs.Verdict.{IsTrueOf}
-use Rattle.cert.specs.Claim.{Claim, HaltsIn, CycleAt, TranslatedAt, BackwardFrom, Nothing, Stands, shown_by}
+use Rattle.cert.specs.Claim.{Claim, HaltsClaim, CycleClaim, TranslatedClaim, BackwardClaim, NoClaim, Stands, shown_by}
 
 pub standing_is_true : (c : Claim) (p : Packed) → IsTable p → Stands c p → IfSome (shown_by c) (λ v. IsTrueOf v (entry_of p))
-standing_is_true (HaltsIn k) p table stands = stands
-standing_is_true (CycleAt i j) p table stands = cycle_never (entry_of p) i j stands
-standing_is_true (TranslatedAt i j side) p table stands = translated_never (entry_of p) i j side stands
-standing_is_true (BackwardFrom d) p table stands = backward_never p.states (entry_of p) d (table_machine p table) stands
-standing_is_true Nothing p table stands = tt
+standing_is_true (HaltsClaim k) p table stands = stands
+standing_is_true (CycleClaim i j) p table stands = cycle_never (entry_of p) i j stands
+standing_is_true (TranslatedClaim i j side) p table stands = translated_never (entry_of p) i j side stands
+standing_is_true (BackwardClaim d) p table stands = backward_never p.states (entry_of p) d (table_machine p table) stands
+standing_is_true NoClaim p table stands = tt

@@ -3,9 +3,9 @@ use Rattle.std.specs.Prelude.{ℕ}
 use Rattle.cert.specs.declared.kinds.RecordFault.{RecordFault}
 use Rattle.cert.specs.declared.kinds.RecordFault.TheVariants.{BadTable, BadKind, BadNumber, BadList, TooLong}
 
-abbrev pub number_of : RecordFault → ℕ
-number_of (BadTable f) = 301
-number_of BadKind = 302
-number_of BadNumber = 303
-number_of BadList = 304
-number_of TooLong = 305
+abbrev pub record_fault_number : RecordFault → ℕ
+record_fault_number (BadTable f) = 301
+record_fault_number BadKind = 302
+record_fault_number BadNumber = 303
+record_fault_number BadList = 304
+record_fault_number TooLong = 305

@@ -11,7 +11,7 @@ use Rattle.machine_text.specs.Text.{table_of, text_of}
 use Rattle.cert.specs.declared.limits.TheConstants.{MAX_RECORD_BYTES}
 use Rattle.cert.specs.declared.kinds.RecordFault.{RecordFault}
 use Rattle.cert.specs.declared.kinds.RecordFault.TheVariants.{BadTable, BadKind, BadNumber, TooLong}
-use Rattle.cert.specs.Claim.{Claim, HaltsIn, CycleAt, TranslatedAt, BackwardFrom, Nothing, Recorded}
+use Rattle.cert.specs.Claim.{Claim, HaltsClaim, CycleClaim, TranslatedClaim, BackwardClaim, NoClaim, Recorded}
 
 -- the parts of a text, cut at every space
 abbrev pub parts_of : List ℕ → List (List ℕ)
@@ -22,8 +22,8 @@ abbrev pub worth_of : List ℕ → ℕ
 worth_of digits = fold (λ n b. 10 * n + (b - 48)) 0 digits
 
 -- the number of which a text is the decimal form: no sign, no leading zero, and at most 64 bits
-unfoldable pub number_of : List ℕ → Option ℕ
-number_of text = if nat_lt (worth_of text) (2 ^ 64) && bytes_eq (decimal (worth_of text)) text then Some (worth_of text) else None
+unfoldable pub decimal_value : List ℕ → Option ℕ
+decimal_value text = if nat_lt (worth_of text) (2 ^ 64) && bytes_eq (decimal (worth_of text)) text then Some (worth_of text) else None
 
 -- the side that a text names
 abbrev pub side_of : List ℕ → Option Dir
@@ -36,24 +36,24 @@ with_field (Some x) claim = claim x
 
 -- the claim that the fields of a kind make
 abbrev pub halts_by : List (List ℕ) → Result Claim RecordFault
-halts_by (k ∷ []) = with_field (number_of k) (λ k. Ok (HaltsIn k))
+halts_by (k ∷ []) = with_field (decimal_value k) (λ k. Ok (HaltsClaim k))
 halts_by fields = Err BadKind
 
 abbrev pub cycle_by : List (List ℕ) → Result Claim RecordFault
-cycle_by (i ∷ (j ∷ [])) = with_field (number_of i) (λ i. with_field (number_of j) (λ j. Ok (CycleAt i j)))
+cycle_by (i ∷ (j ∷ [])) = with_field (decimal_value i) (λ i. with_field (decimal_value j) (λ j. Ok (CycleClaim i j)))
 cycle_by fields = Err BadKind
 
 abbrev pub translated_by : List (List ℕ) → Result Claim RecordFault
 translated_by (i ∷ (j ∷ (side ∷ []))) =
-    with_field (number_of i) (λ i. with_field (number_of j) (λ j. with_field (side_of side) (λ side. Ok (TranslatedAt i j side))))
+    with_field (decimal_value i) (λ i. with_field (decimal_value j) (λ j. with_field (side_of side) (λ side. Ok (TranslatedClaim i j side))))
 translated_by fields = Err BadKind
 
 abbrev pub backward_by : List (List ℕ) → Result Claim RecordFault
-backward_by (d ∷ []) = with_field (number_of d) (λ d. Ok (BackwardFrom d))
+backward_by (d ∷ []) = with_field (decimal_value d) (λ d. Ok (BackwardClaim d))
 backward_by fields = Err BadKind
 
 abbrev pub undecided_by : List (List ℕ) → Result Claim RecordFault
-undecided_by [] = Ok Nothing
+undecided_by [] = Ok NoClaim
 undecided_by fields = Err BadKind
 
 abbrev pub claim_by : List ℕ → List (List ℕ) → Result Claim RecordFault
@@ -92,11 +92,11 @@ side_text R = codes "R"
 
 -- the text of a claim, from the kind on
 abbrev pub claim_text : Claim → List ℕ
-claim_text (HaltsIn k) = codes "H " ++ decimal k
-claim_text (CycleAt i j) = codes "C " ++ decimal i ++ codes " " ++ decimal j
-claim_text (TranslatedAt i j side) = codes "T " ++ decimal i ++ codes " " ++ decimal j ++ codes " " ++ side_text side
-claim_text (BackwardFrom d) = codes "B " ++ decimal d
-claim_text Nothing = codes "U"
+claim_text (HaltsClaim k) = codes "H " ++ decimal k
+claim_text (CycleClaim i j) = codes "C " ++ decimal i ++ codes " " ++ decimal j
+claim_text (TranslatedClaim i j side) = codes "T " ++ decimal i ++ codes " " ++ decimal j ++ codes " " ++ side_text side
+claim_text (BackwardClaim d) = codes "B " ++ decimal d
+claim_text NoClaim = codes "U"
 
 -- the text of a record
 unfoldable pub record_text : Recorded → List ℕ

@@ -1,5 +1,5 @@
 -- What the certificates and records of the code claim.
-use Rattle.cert.specs.Claim.{Claim, HaltsIn, CycleAt, TranslatedAt, BackwardFrom, Nothing, Recorded}
+use Rattle.cert.specs.Claim.{Claim, HaltsClaim, CycleClaim, TranslatedClaim, BackwardClaim, NoClaim, Recorded}
 use Rattle.std.specs.Prelude.{Result, Ok, Err}
 use Rattle.cert.specs.declared.kinds.Certificate.{Certificate}
 use Rattle.cert.specs.declared.kinds.Certificate.TheVariants.{Halts, Cycle, Translated, Backward, Undecided}
@@ -10,18 +10,18 @@ use Rattle.cert.specs.declared.kinds.OwnedRecord.{OwnedRecord}
 use Rattle.cert.specs.declared.kinds.RecordFault.{RecordFault}
 
 abbrev pub claim_of : Certificate → Claim
-claim_of (Halts e) = HaltsIn e.0
-claim_of (Cycle e) = CycleAt e.i e.j
-claim_of (Translated e) = TranslatedAt e.i e.j e.side
-claim_of (Backward e) = BackwardFrom e.depth
-claim_of Undecided = Nothing
+claim_of (Halts e) = HaltsClaim e.0
+claim_of (Cycle e) = CycleClaim e.i e.j
+claim_of (Translated e) = TranslatedClaim e.i e.j e.side
+claim_of (Backward e) = BackwardClaim e.depth
+claim_of Undecided = NoClaim
 
 abbrev pub owned_claim : OwnedCertificate → Claim
-owned_claim (OwnedHalts e) = HaltsIn e.0
-owned_claim (OwnedCycle e) = CycleAt e.i e.j
-owned_claim (OwnedTranslated e) = TranslatedAt e.i e.j e.side
-owned_claim (OwnedBackward e) = BackwardFrom e.depth
-owned_claim OwnedUndecided = Nothing
+owned_claim (OwnedHalts e) = HaltsClaim e.0
+owned_claim (OwnedCycle e) = CycleClaim e.i e.j
+owned_claim (OwnedTranslated e) = TranslatedClaim e.i e.j e.side
+owned_claim (OwnedBackward e) = BackwardClaim e.depth
+owned_claim OwnedUndecided = NoClaim
 
 abbrev pub recorded : Record → Recorded
 recorded r = record { table = r.table; claim = claim_of r.certificate }

@@ -107,11 +107,11 @@ impl OwnedRecord {
 }
 
 impl RecordFault {
-    ghost use Rattle.cert.specs.Fault.{number_of};
+    ghost use Rattle.cert.specs.Fault.{record_fault_number};
 
     /// The refusal number: 301 to 305.
     pub fn number(&self) -> u16
-        ensures { result ≡ number_of self.now }
+        ensures { result ≡ record_fault_number self.now }
     {
         match self {
             RecordFault::BadTable(_) => 301,

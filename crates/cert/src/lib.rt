@@ -19,6 +19,3 @@ pub use kinds::{Certificate, OwnedCertificate, OwnedRecord, Record, RecordFault}
 pub use laws::{records_parse_back, standing_claims_are_true};
 pub use limits::MAX_RECORD_BYTES;
 pub use run::NoMemory;
-
-#[cfg(test)]
-mod tests;

@@ -1,13 +1,13 @@
 // Decimal numbers.
 ghost use Rattle.std.specs.Prelude.{◌≡◌, ◌+◌, ◌-◌, ◌*◌, ◌++◌, ◌^◌, ◌<◌, ◌≤◌, IfSome, IfNone, OnOk, OnErr, decimal};
-ghost use Rattle.cert.specs.Grammar.{number_of, worth_of};
+ghost use Rattle.cert.specs.Grammar.{decimal_value, worth_of};
 
 use itoa::Buffer;
 
 /// The number of which a text is the decimal form: no sign, no leading zero, and at most 64 bits.
-#[tactic(auto, unfolding(crate::specs::Grammar::number_of))]
-pub fn number_of(text: &[u8]) -> Option<u64>
-    ensures { result ≡ number_of text.now }
+#[tactic(auto, unfolding(crate::specs::Grammar::decimal_value))]
+pub fn decimal_value(text: &[u8]) -> Option<u64>
+    ensures { result ≡ decimal_value text.now }
 {
     let number = worth_of(text)?;
     let mut buffer = Buffer::new();

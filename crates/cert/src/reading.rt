@@ -5,7 +5,7 @@ ghost use Rattle.cert.specs.Kinds.{read_as, claimed_as};
 
 use crate::kinds::{Certificate, Record, RecordFault};
 use crate::limits::MAX_RECORD_BYTES;
-use crate::numbers::number_of;
+use crate::numbers::decimal_value;
 use crate::parts::Parts;
 use backward::Backward;
 use loops::{Cycle, Translated};
@@ -77,7 +77,7 @@ fn halts_by(mut fields: Parts<'_>) -> Result<Certificate, RecordFault>
     if fields.next().is_some() {
         return Err(RecordFault::BadKind);
     }
-    match number_of(field) {
+    match decimal_value(field) {
         Some(k) => Ok(Certificate::Halts(HaltsIn(k))),
         None => Err(RecordFault::BadNumber),
     }
@@ -96,7 +96,7 @@ fn cycle_by(mut fields: Parts<'_>) -> Result<Certificate, RecordFault>
     if fields.next().is_some() {
         return Err(RecordFault::BadKind);
     }
-    match (number_of(i), number_of(j)) {
+    match (decimal_value(i), decimal_value(j)) {
         (Some(i), Some(j)) => Ok(Certificate::Cycle(Cycle { i, j })),
         _ => Err(RecordFault::BadNumber),
     }
@@ -118,7 +118,7 @@ fn translated_by(mut fields: Parts<'_>) -> Result<Certificate, RecordFault>
     if fields.next().is_some() {
         return Err(RecordFault::BadKind);
     }
-    match (number_of(i), number_of(j), side_of(side)) {
+    match (decimal_value(i), decimal_value(j), side_of(side)) {
         (Some(i), Some(j), Some(side)) => Ok(Certificate::Translated(Translated { i, j, side })),
         _ => Err(RecordFault::BadNumber),
     }
@@ -134,7 +134,7 @@ fn backward_by(mut fields: Parts<'_>) -> Result<Certificate, RecordFault>
     if fields.next().is_some() {
         return Err(RecordFault::BadKind);
     }
-    match number_of(field) {
+    match decimal_value(field) {
         Some(depth) => Ok(Certificate::Backward(Backward { depth })),
         None => Err(RecordFault::BadNumber),
     }

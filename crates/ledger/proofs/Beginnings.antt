@@ -3,8 +3,8 @@ use Rattle.std.proofs.Common.{◌≡◌, ℕ, ◌+◌, ◌-◌, ◌≤◌, List,
 use Rattle.std.specs.List.{position}
 use Rattle.machine_text.specs.Packed.{Packed}
 use Rattle.cert.specs.Claim.{Recorded}
-use Rattle.ledger.specs.LedgerText.{header_words, HasNoNewline, BeginsWithLine, HasHeader, AreTaken, joined, IsUnkept, IsUnkeptLine, IsLeft, StandsFor}
-use Rattle.ledger.specs.LedgerLaws.{StandsForFirst}
+use Rattle.ledger.specs.LedgerText.{header_words, HasNoNewline, BeginsWithLine, HasHeader, AreTaken, joined, IsUnkept, IsUnkeptLine, IsLeft, ReadsAs}
+use Rattle.ledger.specs.LedgerLaws.{ReadsAsFirst}
 use Rattle.ledger.specs.declared.loaded.Left.{Left}
 use Rattle.ledger.specs.declared.loaded.Left.TheVariants.{Nothing, From}
 use Rattle.ledger.specs.declared.loaded.Unkept.{Unkept}
@@ -116,8 +116,8 @@ left_by : (root : Packed) (rs : List Recorded) (n number : ℕ) (rest : List ℕ
 left_by root rs n number rest within (inl e) = (Nothing, e)
 left_by root rs n number rest within (inr u) = (From number (n - length rest) u.0, (refl, omega arith, u.1))
 
-pub beginning : (root : Packed) (text start tail body : List ℕ) (rs : List Recorded) (left : Left) (stands : StandsFor root text rs left) → text ≡ start ++ tail
-    → HasHeader start root body → StandsForFirst root start stands.keeps.lines
+pub beginning : (root : Packed) (text start tail body : List ℕ) (rs : List Recorded) (left : Left) (stands : ReadsAs root text rs left) → text ≡ start ++ tail
+    → HasHeader start root body → ReadsAsFirst root start stands.keeps.lines
 beginning root text start tail body rs left stands is header =
     let keeps = stands.keeps in
     let words = header_words ++ header.name in

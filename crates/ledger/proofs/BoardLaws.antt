@@ -9,7 +9,7 @@ use Rattle.std.proofs.lemmas.List.Sorted.{Contains-permutation, IsPermutation-sy
 use Rattle.std.proofs.lemmas.List.Elements.{All-contains_itself}
 use Rattle.machine_text.specs.Packed.{Packed, IsTable, entry_of}
 use Rattle.tree.specs.Used.{InOrder}
-use Rattle.tree.specs.Closed.{Mark, Stopping, Undecided, IsOpen}
+use Rattle.tree.specs.Closed.{Mark, Halting, Holdout, IsOpen}
 use Rattle.tree.specs.Tables.{InTableTree}
 use Rattle.cert.specs.Claim.{Recorded, shown_by}
 use Rattle.ledger.specs.Records.{claim_in, mark_in, mark_of}
@@ -93,7 +93,7 @@ all_holdouts b root items lent xs ys below laws view same board is permuted sort
     (all_sorted (IsHoldout rs) xs ys
     (λ t at. (all t).0 (subst (λ (l : List Packed). Contains l t) listed at))
     (λ t kind. subst (λ (l : List Packed). Contains l t) (sym listed) ((all t).1 kind))
-    (λ t kind. marked_table (record { root = root; records = rs }) t Undecided below laws board kind)
+    (λ t kind. marked_table (record { root = root; records = rs }) t Holdout below laws board kind)
     (subst (λ (l : List Packed). AllPairs (λ (p q : Packed). p ≢ q) l) (sym listed) (chosen_once is_undecided rs apart)) permuted sorted)
 
 abbrev pub Counts : (List Recorded → Packed → Type 0) → (Recorded → Bool) → Type 0
@@ -157,7 +157,7 @@ all_champions b root items lent best xs ys below laws view same board is permute
     (all_sorted (IsChampion rs (Some best)) xs ys
     (λ t at. (all t).0 (subst (λ (l : List Packed). Contains l t) listed at))
     (λ t kind. subst (λ (l : List Packed). Contains l t) (sym listed) ((all t).1 kind))
-    (λ t kind. marked_table (record { root = root; records = rs }) t (Stopping best) below laws board kind)
+    (λ t kind. marked_table (record { root = root; records = rs }) t (Halting best) below laws board kind)
     (subst (λ (l : List Packed). AllPairs (λ (p q : Packed). p ≢ q) l) (sym listed) (chosen_once (is_champion best) rs apart)) permuted sorted)
 
 pub no_champions : (rs : List Recorded) (xs ys : List Packed) → xs ≡ [] → IsPermutation xs ys → AreAll (IsChampion rs None) ys

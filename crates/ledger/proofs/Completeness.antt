@@ -2,12 +2,12 @@
 use Rattle.std.proofs.Common.{◌≡◌, ℕ, ◌≤◌, List, Option, Some, None, option_map, IfSome, ◌↔◌, refl, subst}
 use Rattle.machine_text.specs.Packed.{Packed, IsTable, entry_of, empty_table}
 use Rattle.machine_text.specs.declared.limits.TheConstants.{MAX_STATES}
-use Rattle.turing.specs.Halting.{Stops, IsRado}
+use Rattle.turing.specs.Halting.{HaltsAt, IsRado}
 use Rattle.run.specs.Verdict.{IsTrueOf}
 use Rattle.run.specs.declared.verdicts.Verdict.{Verdict}
 use Rattle.run.specs.declared.verdicts.Verdict.TheVariants.{Halts, Never}
 use Rattle.tree.specs.Used.{InOrder}
-use Rattle.tree.specs.Closed.{Mark, Stopping, IsTrueMark, AreTrueMarks, IsClosed, IsComplete, IsGreatestRecorded}
+use Rattle.tree.specs.Closed.{Mark, Halting, IsTrueMark, AreTrueMarks, IsClosed, IsComplete, IsGreatestRecorded}
 use Rattle.tree.specs.Tables.{InTableTree, Itself, IsBestOfTable}
 use Rattle.cert.specs.Claim.{Claim, Recorded, Stands, shown_by}
 use Rattle.ledger.specs.Records.{claim_in, mark_in, mark_of, mark_by}
@@ -29,7 +29,7 @@ CompleteIsClosed = (root t : Packed) (marks : Packed → Option Mark) → AreTru
 
 abbrev pub ClosedIsBest : Type 0
 ClosedIsBest = (root p : Packed) (u : ℕ) (marks : Packed → Option Mark) (b : Option ℕ) → AreTrueMarks marks → IsTable p → InOrder u (entry_of p) → IsClosed root marks p
-    → IsBestOfTable Stops p b ↔ IsGreatestRecorded (λ (t : Packed) (k : ℕ). k) marks p b
+    → IsBestOfTable HaltsAt p b ↔ IsGreatestRecorded (λ (t : Packed) (k : ℕ). k) marks p b
 
 abbrev pub CompleteIsRado : Type 0
 CompleteIsRado = (n s : ℕ) (marks : Packed → Option Mark) → 1 ≤ n → n ≤ MAX_STATES → AreTrueMarks marks → IsComplete (empty_table n) marks
@@ -51,7 +51,7 @@ true_marks b below tables claims board = λ t. elim (claim_in b.records t) as (�
 greatest_in_tree : (b : Contents) (best : Option ℕ) → Below → IsBoard b → IsGreatestCount b.records best → IsGreatestRecorded (λ (t : Packed) (k : ℕ). k) (mark_in b.records) b.root best
 greatest_in_tree b None below board greatest = λ t k inside marked. greatest t k marked
 greatest_in_tree b (Some s) below board greatest = (
-  (greatest.0.0, s, marked_in_tree b greatest.0.0 (Stopping s) below board greatest.0.1, greatest.0.1, refl),
+  (greatest.0.0, s, marked_in_tree b greatest.0.0 (Halting s) below board greatest.0.1, greatest.0.1, refl),
   λ t k inside marked. greatest.1 t k marked,
 )
 
@@ -59,7 +59,7 @@ complete_parts : (root : Packed) (rs : List Recorded) (status : Status) (best : 
 complete_parts root rs status best stands is = subst (IsStatus root rs) is stands
 
 pub complete_best : (b : Contents) (status : Status) (best : Option ℕ) → Below → OfTables → Claims → CompleteIsClosed → ClosedIsBest → IsBoard b → IsStatus b.root b.records status → status ≡ Complete best
-    → IsBestOfTable Stops b.root best
+    → IsBestOfTable HaltsAt b.root best
 complete_best b status best below tables claims closes bests board stands is =
     let parts = complete_parts b.root b.records status best stands is in
     let marks = true_marks b below tables claims board in

@@ -3,7 +3,7 @@ use Rattle.std.proofs.Common.{◌≡◌, ℕ, true, false, List, [], ◌∷◌, 
 use Rattle.run.specs.Verdict.{IsTrueOf}
 use Rattle.run.specs.declared.verdicts.Verdict.{Verdict}
 use Rattle.machine_text.specs.Packed.{Packed, IsTable, entry_of}
-use Rattle.tree.specs.Closed.{Mark, Stopping, Undecided, IsOpen}
+use Rattle.tree.specs.Closed.{Mark, Halting, Holdout, IsOpen}
 use Rattle.cert.specs.Claim.{Claim, Recorded, Stands, shown_by}
 use Rattle.ledger.specs.Records.{same_table, claim_in, mark_in, mark_of, verdict_in, shown_where}
 use Rattle.ledger.specs.Held.{IsCertified, IsFit, AreFitAfter, IsHeld, Settles, settled}
@@ -55,7 +55,7 @@ held_more root rs r held fit = record { fit = fit_more root [] rs r held.fit fit
 -- what is fit after some records is fit after others that say no less of halting, and nothing where those say nothing
 record IsRefined (old new : List Recorded) : Type 0 where
   none : (t : Packed) → claim_in old t ≡ None → claim_in new t ≡ None
-  stopping : (t : Packed) (k : ℕ) → mark_in old t ≡ Some (Stopping k) → mark_in new t ≡ Some (Stopping k)
+  stopping : (t : Packed) (k : ℕ) → mark_in old t ≡ Some (Halting k) → mark_in new t ≡ Some (Halting k)
 
 pub unmarked : (o : Option Claim) → option_map mark_of o ≡ None → o ≡ None
 unmarked None e = refl
@@ -86,10 +86,10 @@ none_before rs ys t none =
     ] refl
 
 -- the mark of a stopping table in a longer list stands in its first part, or there is nothing there and it stands in the rest
-stopping_where : (rs ys : List Recorded) (t : Packed) (k : ℕ) → mark_in (rs ++ ys) t ≡ Some (Stopping k)
-    → (mark_in rs t ≡ Some (Stopping k)) ⊎ ((claim_in rs t ≡ None) × (mark_in ys t ≡ Some (Stopping k)))
+stopping_where : (rs ys : List Recorded) (t : Packed) (k : ℕ) → mark_in (rs ++ ys) t ≡ Some (Halting k)
+    → (mark_in rs t ≡ Some (Halting k)) ⊎ ((claim_in rs t ≡ None) × (mark_in ys t ≡ Some (Halting k)))
 stopping_where rs ys t k is =
-    elim (claim_in rs t) as (λ o. claim_in rs t ≡ o → (mark_in rs t ≡ Some (Stopping k)) ⊎ ((claim_in rs t ≡ None) × (mark_in ys t ≡ Some (Stopping k)))) [
+    elim (claim_in rs t) as (λ o. claim_in rs t ≡ o → (mark_in rs t ≡ Some (Halting k)) ⊎ ((claim_in rs t ≡ None) × (mark_in ys t ≡ Some (Halting k)))) [
       | Some c ↦ λ claimed. inl (ap (option_map mark_of) (claimed ∙ sym (claim_kept rs ys t c claimed)) ∙ is)
       | None ↦ λ none. inr (none, sym (mark_more rs ys t none) ∙ is)
     ] refl
@@ -98,7 +98,7 @@ refined_more : (old new ys : List Recorded) → IsRefined old new → IsRefined 
 refined_more old new ys refined = record {
   none = λ t e. let parts = none_before old ys t e in claim_more new ys t (refined.none t parts.0) ∙ parts.1;
   stopping = λ t k e. elim (stopping_where old ys t k e) [
-    | inl here ↦ mark_kept new ys t (Stopping k) (refined.stopping t k here)
+    | inl here ↦ mark_kept new ys t (Halting k) (refined.stopping t k here)
     | inr later ↦ mark_more new ys t (refined.none t later.0) ∙ later.1
   ];
 }
@@ -111,18 +111,18 @@ swapped_none x r t same none =
       | false ↦ λ other. claim_past r [] t (not_same r.table t (λ (e : r.table ≡ t). apart x.table t other (same ∙ e))) ∙ claim_none t
     ] refl
 
-holdout_alone : (x : Recorded) (t : Packed) (k : ℕ) → mark_of x.claim ≡ Undecided → mark_in (x ∷ []) t ≡ Some (Stopping k) → ⊥
+holdout_alone : (x : Recorded) (t : Packed) (k : ℕ) → mark_of x.claim ≡ Holdout → mark_in (x ∷ []) t ≡ Some (Halting k) → ⊥
 holdout_alone x t k holdout is =
     elim (same_table x.table t) as (λ v. same_table x.table t ≡ v → ⊥) [
       | true ↦ λ here. let claimed = ap (option_map mark_of) (claim_here x [] t here) in cc
       | false ↦ λ other. let none = ap (option_map mark_of) (claim_past x [] t other ∙ claim_none t) in cc
     ] refl
 
-refined_swap : (old : List Recorded) (x r : Recorded) → x.table ≡ r.table → mark_of x.claim ≡ Undecided → IsRefined (old ++ (x ∷ [])) (old ++ (r ∷ []))
+refined_swap : (old : List Recorded) (x r : Recorded) → x.table ≡ r.table → mark_of x.claim ≡ Holdout → IsRefined (old ++ (x ∷ [])) (old ++ (r ∷ []))
 refined_swap old x r same holdout = record {
   none = λ t e. let parts = none_before old (x ∷ []) t e in claim_more old (r ∷ []) t parts.0 ∙ swapped_none x r t same parts.1;
   stopping = λ t k e. elim (stopping_where old (x ∷ []) t k e) [
-    | inl here ↦ mark_kept old (r ∷ []) t (Stopping k) here
+    | inl here ↦ mark_kept old (r ∷ []) t (Halting k) here
     | inr later ↦ absurd (holdout_alone x t k holdout later.1)
   ];
 }
@@ -135,7 +135,7 @@ fit_refined root old new (x ∷ rs) refined fit = (
 )
 
 -- a settling record keeps a list held
-fit_settled : (root : Packed) (earlier rs : List Recorded) (r : Recorded) (c : Claim) → AreFitAfter root earlier rs → claim_in rs r.table ≡ Some c → mark_of c ≡ Undecided → IsCertified r
+fit_settled : (root : Packed) (earlier rs : List Recorded) (r : Recorded) (c : Claim) → AreFitAfter root earlier rs → claim_in rs r.table ≡ Some c → mark_of c ≡ Holdout → IsCertified r
     → AreFitAfter root earlier (settled rs r)
 fit_settled root earlier [] r c fit is holdout certified = let none = claim_none r.table in cc
 fit_settled root earlier (x ∷ rs) r c fit is holdout certified =
@@ -160,7 +160,7 @@ held_settled root rs r held settles =
     elim (claim_in rs r.table) as (λ o. claim_in rs r.table ≡ o → IsHeld root (settled rs r)) [
       | Some c ↦ λ is.
           let marked = ap (option_map mark_of) (sym is) ∙ settles.is_holdout in
-          let holdout : mark_of c ≡ Undecided = cc in
+          let holdout : mark_of c ≡ Holdout = cc in
           record { fit = fit_settled root [] rs r c held.fit is holdout settles.certified }
       | None ↦ λ none. let marked = ap (option_map mark_of) none in absurd (none_marked settles.is_holdout marked)
     ] refl

@@ -51,10 +51,10 @@ unkept root rs rest line after (Unfit f) begins is = (line, after, begins, is)
 unkept root rs rest line after Repeated begins is = (line, after, begins, is)
 
 -- the next line isn't kept
-pub stops : {root : Packed} {old new : List Recorded} {bytes number : ℕ} {body rest : List ℕ} (line after : List ℕ) (kept : ℕ) (why : Unkept)
+pub halts : {root : Packed} {old new : List Recorded} {bytes number : ℕ} {body rest : List ℕ} (line after : List ℕ) (kept : ℕ) (why : Unkept)
     → SoFar root old new bytes number body rest → BeginsWithLine rest line after → IsUnkeptLine root new line why → kept + length rest ≡ bytes
     → Keeps root bytes body old new (From number kept why)
-stops {root} {old} {new} {bytes} {number} {body} {rest} line after kept why before begins is all = record {
+halts {root} {old} {new} {bytes} {number} {body} {rest} line after kept why before begins is all = record {
   lines = before.lines;
   rest = rest;
   is = before.is;

@@ -5,7 +5,7 @@ use Rattle.machine_text.specs.Packed.{Packed}
 use Rattle.cert.specs.Claim.{Recorded}
 use Rattle.ledger.specs.Records.{same_table}
 use Rattle.ledger.specs.Contents.{Contents}
-use Rattle.ledger.specs.LedgerText.{HasHeader, Keeps, StandsFor}
+use Rattle.ledger.specs.LedgerText.{HasHeader, Keeps, ReadsAs}
 use Rattle.ledger.specs.HeaderRead.{HeaderGives}
 use Rattle.ledger.specs.declared.loaded.Left.{Left}
 use Rattle.ledger.proofs.Same.{differ, same_is}
@@ -31,7 +31,7 @@ of_root text found root body is header = subst (λ (p : Packed). HasHeader text 
 
 -- what was kept by an empty board
 pub stands : (root : Packed) (text body : List ℕ) (board : Contents) (rs : List Recorded) (left : Left) → HasHeader text root body
-    → board ≡ record { root = root; records = [] } → Keeps board.root (length text) body board.records rs left → StandsFor root text rs left
+    → board ≡ record { root = root; records = [] } → Keeps board.root (length text) body board.records rs left → ReadsAs root text rs left
 stands root text body board rs left header empty keeps = record {
   body = body;
   header = header;

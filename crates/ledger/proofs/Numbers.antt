@@ -8,7 +8,7 @@ use Rattle.std.proofs.lemmas.List.{length-map}
 use Rattle.machine_text.specs.Packed.{Packed}
 use Rattle.run.specs.declared.verdicts.Verdict.{Verdict}
 use Rattle.run.specs.declared.verdicts.Verdict.TheVariants.{Halts, Never}
-use Rattle.tree.specs.Closed.{Mark, Stopping, NonStopping, Undecided}
+use Rattle.tree.specs.Closed.{Mark, Halting, NonHalting, Holdout}
 use Rattle.cert.specs.Claim.{Claim, Recorded, shown_by}
 use Rattle.ledger.specs.Records.{claim_in, mark_in, mark_of, mark_by}
 use Rattle.ledger.specs.Held.{IsHoldout}
@@ -51,11 +51,11 @@ pub member_marked : (rs : List Recorded) (r : Recorded) → AreApart rs → Cont
 member_marked rs r apart at = ap (option_map mark_of) (member_claim rs r apart at)
 
 -- holdouts are the records without a verdict
-undecided_mark : (o : Option Verdict) → is_none o ≡ true → mark_by o ≡ Undecided
+undecided_mark : (o : Option Verdict) → is_none o ≡ true → mark_by o ≡ Holdout
 undecided_mark None e = refl
 undecided_mark (Some v) e = cc
 
-no_verdict : (o : Option Verdict) → mark_by o ≡ Undecided → is_none o ≡ true
+no_verdict : (o : Option Verdict) → mark_by o ≡ Holdout → is_none o ≡ true
 no_verdict None e = refl
 no_verdict (Some (Halts k)) e = cc
 no_verdict (Some Never) e = cc
@@ -64,7 +64,7 @@ pub holdout_passes : (rs : List Recorded) (r : Recorded) → AreApart rs → Con
 holdout_passes rs r apart at pass = member_marked rs r apart at ∙ ap (λ (m : Mark). Some m) (undecided_mark (shown_by r.claim) pass)
 
 pub holdout_found : (rs : List Recorded) (t : Packed) → IsHoldout rs t → (r : Recorded) × Contains rs r × (is_undecided r ≡ true) × (r.table ≡ t)
-holdout_found rs t holdout = let w = marked_member rs t Undecided holdout in (w.0, w.1, no_verdict (shown_by w.0.claim) w.2, w.3)
+holdout_found rs t holdout = let w = marked_member rs t Holdout holdout in (w.0, w.1, no_verdict (shown_by w.0.claim) w.2, w.3)
 
 pub holdouts_listed : (rs : List Recorded) → AreApart rs → (t : Packed) → Contains (map (λ (r : Recorded). r.table) (filter is_undecided rs)) t ↔ IsHoldout rs t
 holdouts_listed rs apart t = kind_listed (IsHoldout rs) is_undecided rs (λ r at pass. holdout_passes rs r apart at pass) (λ q holdout. holdout_found rs q holdout) t
@@ -73,22 +73,22 @@ pub holdout_number : (rs : List Recorded) → AreApart rs → AreSoMany (IsHoldo
 holdout_number rs apart = number_of_kind (IsHoldout rs) is_undecided rs apart (λ r at pass. holdout_passes rs r apart at pass) (λ t holdout. holdout_found rs t holdout)
 
 -- the halting ones, and those that never halt
-halting_mark : (o : Option Verdict) → says_halts o ≡ true → (k : ℕ) × (mark_by o ≡ Stopping k)
+halting_mark : (o : Option Verdict) → says_halts o ≡ true → (k : ℕ) × (mark_by o ≡ Halting k)
 halting_mark None e = cc
 halting_mark (Some (Halts k)) e = (k, refl)
 halting_mark (Some Never) e = cc
 
-mark_halting : (o : Option Verdict) (k : ℕ) → mark_by o ≡ Stopping k → says_halts o ≡ true
+mark_halting : (o : Option Verdict) (k : ℕ) → mark_by o ≡ Halting k → says_halts o ≡ true
 mark_halting None k e = cc
 mark_halting (Some (Halts j)) k e = refl
 mark_halting (Some Never) k e = cc
 
-never_mark : (o : Option Verdict) → says_never o ≡ true → mark_by o ≡ NonStopping
+never_mark : (o : Option Verdict) → says_never o ≡ true → mark_by o ≡ NonHalting
 never_mark None e = cc
 never_mark (Some (Halts k)) e = cc
 never_mark (Some Never) e = refl
 
-mark_never : (o : Option Verdict) → mark_by o ≡ NonStopping → says_never o ≡ true
+mark_never : (o : Option Verdict) → mark_by o ≡ NonHalting → says_never o ≡ true
 mark_never None e = cc
 mark_never (Some (Halts k)) e = cc
 mark_never (Some Never) e = refl
@@ -96,12 +96,12 @@ mark_never (Some Never) e = refl
 pub halting_number : (rs : List Recorded) → AreApart rs → AreSoMany (IsHalting rs) (length (filter is_halting rs))
 halting_number rs apart = number_of_kind (IsHalting rs) is_halting rs apart
     (λ r at pass. let w = halting_mark (shown_by r.claim) pass in (w.0, member_marked rs r apart at ∙ ap (λ (m : Mark). Some m) w.1))
-    (λ t halting. let w = marked_member rs t (Stopping halting.0) halting.1 in (w.0, w.1, mark_halting (shown_by w.0.claim) halting.0 w.2, w.3))
+    (λ t halting. let w = marked_member rs t (Halting halting.0) halting.1 in (w.0, w.1, mark_halting (shown_by w.0.claim) halting.0 w.2, w.3))
 
 pub never_number : (rs : List Recorded) → AreApart rs → AreSoMany (IsNonHalting rs) (length (filter is_never rs))
 never_number rs apart = number_of_kind (IsNonHalting rs) is_never rs apart
     (λ r at pass. member_marked rs r apart at ∙ ap (λ (m : Mark). Some m) (never_mark (shown_by r.claim) pass))
-    (λ t never. let w = marked_member rs t NonStopping never in (w.0, w.1, mark_never (shown_by w.0.claim) w.2, w.3))
+    (λ t never. let w = marked_member rs t NonHalting never in (w.0, w.1, mark_never (shown_by w.0.claim) w.2, w.3))
 
 -- counted along the code's list
 pub counted : {X Y : Type 0} (f : X → Y) (p : Y → Bool) (xs : List X) → length (filter (λ (x : X). p (f x)) xs) ≡ length (filter p (map f xs))
@@ -172,36 +172,36 @@ best_some best (x ∷ xs) s e =
       ],
     )
 
-halting_steps : (c : Claim) (k : ℕ) → mark_of c ≡ Stopping k → steps_of (shown_by c) ≡ Some k
+halting_steps : (c : Claim) (k : ℕ) → mark_of c ≡ Halting k → steps_of (shown_by c) ≡ Some k
 halting_steps c k is = ap steps_of (stopping_verdict (shown_by c) k is)
 
-steps_halting : (o : Option Verdict) (k : ℕ) → steps_of o ≡ Some k → mark_by o ≡ Stopping k
+steps_halting : (o : Option Verdict) (k : ℕ) → steps_of o ≡ Some k → mark_by o ≡ Halting k
 steps_halting None k e = cc
-steps_halting (Some (Halts j)) k e = let same : j ≡ k = cc in ap (λ (n : ℕ). Stopping n) same
+steps_halting (Some (Halts j)) k e = let same : j ≡ k = cc in ap (λ (n : ℕ). Halting n) same
 steps_halting (Some Never) k e = cc
 
 greatest_is : (rs : List Recorded) (o : Option ℕ) → AreApart rs → greatest rs ≡ o → IsGreatestCount rs o
 greatest_is rs None apart e = λ t k halts.
-    let w = marked_member rs t (Stopping k) halts in (best_none None rs e).1 w.0 k w.1 (halting_steps w.0.claim k w.2)
+    let w = marked_member rs t (Halting k) halts in (best_none None rs e).1 w.0 k w.1 (halting_steps w.0.claim k w.2)
 greatest_is rs (Some s) apart e =
     let best = best_some None rs s e in (
       elim best.0 [
         | inl none ↦ absurd (cc)
         | inr w ↦ (w.0.table, member_marked rs w.0 apart w.1 ∙ ap (λ (m : Mark). Some m) (steps_halting (shown_by w.0.claim) s w.2))
       ],
-      λ t k halts. let w = marked_member rs t (Stopping k) halts in best.2 w.0 k w.1 (halting_steps w.0.claim k w.2),
+      λ t k halts. let w = marked_member rs t (Halting k) halts in best.2 w.0 k w.1 (halting_steps w.0.claim k w.2),
     )
 
 pub greatest_count : (rs : List Recorded) → AreApart rs → IsGreatestCount rs (greatest rs)
 greatest_count rs apart = greatest_is rs (greatest rs) apart refl
 
 -- the tables of a number of steps
-champion_mark : (o : Option Verdict) (best : ℕ) → is_steps best (steps_of o) ≡ true → mark_by o ≡ Stopping best
+champion_mark : (o : Option Verdict) (best : ℕ) → is_steps best (steps_of o) ≡ true → mark_by o ≡ Halting best
 champion_mark None best e = cc
-champion_mark (Some (Halts k)) best e = ap (λ (n : ℕ). Stopping n) ((Decides-eqb k best).0 e)
+champion_mark (Some (Halts k)) best e = ap (λ (n : ℕ). Halting n) ((Decides-eqb k best).0 e)
 champion_mark (Some Never) best e = cc
 
-mark_champion : (o : Option Verdict) (best : ℕ) → mark_by o ≡ Stopping best → is_steps best (steps_of o) ≡ true
+mark_champion : (o : Option Verdict) (best : ℕ) → mark_by o ≡ Halting best → is_steps best (steps_of o) ≡ true
 mark_champion None best e = cc
 mark_champion (Some (Halts k)) best e = let same : k ≡ best = cc in (Decides-eqb k best).1 same
 mark_champion (Some Never) best e = cc
@@ -209,4 +209,4 @@ mark_champion (Some Never) best e = cc
 pub halts_listed : (best : ℕ) (rs : List Recorded) → AreApart rs → (t : Packed) → Contains (map (λ (r : Recorded). r.table) (filter (is_champion best) rs)) t ↔ HaltsAfter rs best t
 halts_listed best rs apart t = kind_listed (HaltsAfter rs best) (is_champion best) rs
     (λ r at pass. member_marked rs r apart at ∙ ap (λ (m : Mark). Some m) (champion_mark (shown_by r.claim) best pass))
-    (λ q halts. let w = marked_member rs q (Stopping best) halts in (w.0, w.1, mark_champion (shown_by w.0.claim) best w.2, w.3)) t
+    (λ q halts. let w = marked_member rs q (Halting best) halts in (w.0, w.1, mark_champion (shown_by w.0.claim) best w.2, w.3)) t

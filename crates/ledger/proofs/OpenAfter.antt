@@ -1,31 +1,31 @@
 -- What the code's set of open tables is once a record is taken.
 use Rattle.std.proofs.Common.{◌≡◌, ◌≢◌, ℕ, ◌≤◌, ◌⊎◌, inl, inr, ◌↔◌, Some, None, List, Option, Contains, IfSome, IfNone, option_map, IfOk, Result, Ok, Err, refl, sym, ◌∙◌, ap, subst, arith}
 use Rattle.machine_text.specs.Packed.{Packed, entry_of}
-use Rattle.turing.specs.Halting.{Stops}
+use Rattle.turing.specs.Halting.{HaltsAt}
 use Rattle.run.specs.declared.limits.TheConstants.{MAX_RUN_STEPS}
 use Rattle.run.specs.declared.verdicts.Verdict.{Verdict}
 use Rattle.run.specs.declared.verdicts.Verdict.TheVariants.{Halts, Never}
 use Rattle.run.specs.Verdict.{IsTrueOf}
 use Rattle.tree.specs.Tables.{IsChildTable}
-use Rattle.cert.specs.Claim.{Claim, HaltsIn, CycleAt, TranslatedAt, BackwardFrom, Nothing, Recorded, IsWithin, shown_by}
-use Rattle.tree.specs.Closed.{Stopping}
+use Rattle.cert.specs.Claim.{Claim, HaltsClaim, CycleClaim, TranslatedClaim, BackwardClaim, NoClaim, Recorded, IsWithin, shown_by}
+use Rattle.tree.specs.Closed.{Halting}
 use Rattle.ledger.specs.Records.{claim_in, mark_of, mark_by}
 use Rattle.ledger.specs.Tally.{HaltsAfter, IsHalting}
 use Rattle.ledger.proofs.OpenLaws.{stopping_verdict}
-use Rattle.ledger.specs.Keeping.{HaltsOn, IsPairOf}
+use Rattle.ledger.specs.Keeping.{HaltsOnPair, IsPairOf}
 use Rattle.ledger.specs.declared.pairs.Pair.{Pair}
 use Rattle.ledger.specs.Open.{HasUnrecorded}
 use Rattle.ledger.specs.Offers.{IsNewChild}
 
 -- a halting claim within its limit is within that of a run
 pub halt_limit : (c : Claim) (k : ℕ) → shown_by c ≡ Some (Halts k) → IsWithin c → k ≤ MAX_RUN_STEPS
-halt_limit (HaltsIn j) k is within = let same : j ≡ k = cc in omega arith
-halt_limit (CycleAt i j) k is within = let never = is in absurd (cc)
-halt_limit (TranslatedAt i j side) k is within = let never = is in absurd (cc)
-halt_limit (BackwardFrom d) k is within = let never = is in absurd (cc)
-halt_limit Nothing k is within = let none = is in absurd (cc)
+halt_limit (HaltsClaim j) k is within = let same : j ≡ k = cc in omega arith
+halt_limit (CycleClaim i j) k is within = let never = is in absurd (cc)
+halt_limit (TranslatedClaim i j side) k is within = let never = is in absurd (cc)
+halt_limit (BackwardClaim d) k is within = let never = is in absurd (cc)
+halt_limit NoClaim k is within = let none = is in absurd (cc)
 
-pub halts_by : (o : Option Verdict) (p : Packed) (k : ℕ) → IfSome o (λ (v : Verdict). IsTrueOf v (entry_of p)) → o ≡ Some (Halts k) → Stops (entry_of p) k
+pub halts_by : (o : Option Verdict) (p : Packed) (k : ℕ) → IfSome o (λ (v : Verdict). IsTrueOf v (entry_of p)) → o ≡ Some (Halts k) → HaltsAt (entry_of p) k
 halts_by o p k h is = subst (λ (x : Option Verdict). IfSome x (λ (v : Verdict). IsTrueOf v (entry_of p))) is h
 
 one_count : (k j : ℕ) (o : Option Verdict) → o ≡ Some (Halts k) → o ≡ Some (Halts j) → k ≡ j
@@ -37,7 +37,7 @@ pub after_halting : (rs : List Recorded) (r : Recorded) (k : ℕ) (found : List 
     → B ↔ (A × (q ≢ r.table)) → C ↔ (B ⊎ HasUnrecorded found rs r.table q)
     → C ↔ ((A × (q ≢ r.table)) ⊎ IsNewChild rs r q)
 after_halting rs r k found q A B C shown children left more = (
-  λ c. elim (more.0 c) [ inl b ↦ inl (left.0 b) | inr u ↦ inr (record { count = k; stops = shown; child = (children q).0 u.listed; unrecorded = u.unrecorded; other = u.other }) ],
+  λ c. elim (more.0 c) [ inl b ↦ inl (left.0 b) | inr u ↦ inr (record { count = k; halts = shown; child = (children q).0 u.listed; unrecorded = u.unrecorded; other = u.other }) ],
   λ h. elim h [ inl a ↦ more.1 (inl (left.1 a)) | inr u ↦ more.1 (inr (record { listed = (children q).1 u.child; unrecorded = u.unrecorded; other = u.other })) ],
 )
 
@@ -45,10 +45,10 @@ after_halting rs r k found q A B C shown children left more = (
 pub after_other : (rs : List Recorded) (r : Recorded) (q : Packed) (A B : Type 0)
     → ((k : ℕ) → shown_by r.claim ≡ Some (Halts k) → ⊥) → B ↔ (A × (q ≢ r.table))
     → B ↔ ((A × (q ≢ r.table)) ⊎ IsNewChild rs r q)
-after_other rs r q A B never left = (λ b. inl (left.0 b), λ h. elim h [ inl a ↦ left.1 a | inr u ↦ absurd (never u.count u.stops) ])
+after_other rs r q A B never left = (λ b. inl (left.0 b), λ h. elim h [ inl a ↦ left.1 a | inr u ↦ absurd (never u.count u.halts) ])
 
 -- the pair that is known with a verdict
-pub pair_halts : (o : Option Verdict) (t : Packed) (pair : Pair) → IsPairOf o t (Some pair) → (k : ℕ) × (o ≡ Some (Halts k)) × HaltsOn t k pair
+pub pair_halts : (o : Option Verdict) (t : Packed) (pair : Pair) → IsPairOf o t (Some pair) → (k : ℕ) × (o ≡ Some (Halts k)) × HaltsOnPair t k pair
 pair_halts None t pair h = cc
 pair_halts (Some Never) t pair h = cc
 pair_halts (Some (Halts k)) t pair h = (k, refl, h)
@@ -60,7 +60,7 @@ no_pair (Some (Halts j)) t k h is = h
 
 -- what is known of the pair of a recorded table
 pub pair_some : (rs : List Recorded) (t : Packed) (c : Claim) (o : Option Pair) → claim_in rs t ≡ Some c → IsPairOf (shown_by c) t o
-    → IfSome o (λ (pair : Pair). (k : ℕ) × HaltsAfter rs k t × HaltsOn t k pair)
+    → IfSome o (λ (pair : Pair). (k : ℕ) × HaltsAfter rs k t × HaltsOnPair t k pair)
 pair_some rs t c None claimed h = tt
 pair_some rs t c (Some pair) claimed h =
     let w = pair_halts (shown_by c) t pair h in
@@ -71,7 +71,7 @@ pub pair_none : (rs : List Recorded) (t : Packed) (c : Claim) (o : Option Pair) 
 pair_none rs t c (Some pair) claimed h = tt
 pair_none rs t c None claimed h = λ halting.
     let marked = ap (option_map mark_of) (sym claimed) ∙ halting.1 in
-    let mark : mark_of c ≡ Stopping halting.0 = cc in
+    let mark : mark_of c ≡ Halting halting.0 = cc in
     no_pair (shown_by c) t halting.0 h (stopping_verdict (shown_by c) halting.0 mark)
 
 pub unrecorded_pair : (rs : List Recorded) (t : Packed) → claim_in rs t ≡ None → IsHalting rs t → ⊥

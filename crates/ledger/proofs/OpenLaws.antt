@@ -3,7 +3,7 @@ use Rattle.std.proofs.Common.{◌≡◌, ◌≢◌, ℕ, true, false, List, [], 
 use Rattle.machine_text.specs.Packed.{Packed}
 use Rattle.run.specs.declared.verdicts.Verdict.{Verdict}
 use Rattle.run.specs.declared.verdicts.Verdict.TheVariants.{Halts, Never}
-use Rattle.tree.specs.Closed.{Stopping, Undecided, IsOpen}
+use Rattle.tree.specs.Closed.{Halting, Holdout, IsOpen}
 use Rattle.tree.specs.Tables.{IsChildTable, InTableTree, Itself}
 use Rattle.cert.specs.Claim.{Claim, Recorded, shown_by}
 use Rattle.ledger.specs.Records.{same_table, claim_in, mark_in, mark_of, mark_by}
@@ -17,9 +17,9 @@ use Rattle.ledger.proofs.HeldLaws.{unmarked}
 pub record IsTaken (old new : List Recorded) (r : Recorded) : Type 0 where
   pub here : claim_in new r.table ≡ Some r.claim
   pub others : (t : Packed) → t ≢ r.table → claim_in new t ≡ claim_in old t
-  pub before : (k : ℕ) → mark_in old r.table ≡ Some (Stopping k) → ⊥
+  pub before : (k : ℕ) → mark_in old r.table ≡ Some (Halting k) → ⊥
 
-pub stopping_verdict : (o : Option Verdict) (k : ℕ) → mark_by o ≡ Stopping k → o ≡ Some (Halts k)
+pub stopping_verdict : (o : Option Verdict) (k : ℕ) → mark_by o ≡ Halting k → o ≡ Some (Halts k)
 stopping_verdict None k e = cc
 stopping_verdict (Some (Halts j)) k e = let same : j ≡ k = cc in ap (λ (n : ℕ). Some (Halts n)) same
 stopping_verdict (Some Never) k e = cc
@@ -53,7 +53,7 @@ settled_other (x ∷ xs) r t other =
       | false ↦ λ no. ap (λ (l : List Recorded). claim_in l t) (settled_past x xs r no) ∙ same_after x (settled xs r) xs t (settled_other xs r t other)
     ] refl
 
-pub taken_settled : (rs : List Recorded) (r : Recorded) (c : Claim) → claim_in rs r.table ≡ Some c → mark_of c ≡ Undecided → IsTaken rs (settled rs r) r
+pub taken_settled : (rs : List Recorded) (r : Recorded) (c : Claim) → claim_in rs r.table ≡ Some c → mark_of c ≡ Holdout → IsTaken rs (settled rs r) r
 taken_settled rs r c is holdout = record {
   here = settled_claim rs r c is;
   others = λ t other. settled_other rs r t other;
@@ -74,9 +74,9 @@ open_taken root old new r t taken = (
           | true ↦ λ same.
               let is : w.0 ≡ r.table = same_is w.0 r.table same in
               let claimed = ap (option_map mark_of) taken.here in
-              let marked = subst (λ (p : Packed). mark_in new p ≡ Some (Stopping w.1)) is w.2 in
-              let stopping : mark_of r.claim ≡ Stopping w.1 = cc in
-              inr (record { count = w.1; stops = stopping_verdict (shown_by r.claim) w.1 stopping; child = subst (λ (p : Packed). IsChildTable p t) is w.3; unrecorded = unrecorded; other = other })
+              let marked = subst (λ (p : Packed). mark_in new p ≡ Some (Halting w.1)) is w.2 in
+              let stopping : mark_of r.claim ≡ Halting w.1 = cc in
+              inr (record { count = w.1; halts = stopping_verdict (shown_by r.claim) w.1 stopping; child = subst (λ (p : Packed). IsChildTable p t) is w.3; unrecorded = unrecorded; other = other })
           | false ↦ λ apart_from.
               let kept = ap (option_map mark_of) (taken.others w.0 (apart w.0 r.table apart_from)) in
               inl (record { unmarked = ap (option_map mark_of) unrecorded; place = inr (w.0, w.1, sym kept ∙ w.2, w.3) }, other)
@@ -87,12 +87,12 @@ open_taken root old new r t taken = (
       unmarked = ap (option_map mark_of) (taken.others t u.1) ∙ u.0.unmarked;
       place = elim u.0.place [
         | inl e ↦ inl e
-        | inr w ↦ inr (w.0, w.1, ap (option_map mark_of) (taken.others w.0 (λ (e : w.0 ≡ r.table). taken.before w.1 (subst (λ (p : Packed). mark_in old p ≡ Some (Stopping w.1)) e w.2))) ∙ w.2, w.3)
+        | inr w ↦ inr (w.0, w.1, ap (option_map mark_of) (taken.others w.0 (λ (e : w.0 ≡ r.table). taken.before w.1 (subst (λ (p : Packed). mark_in old p ≡ Some (Halting w.1)) e w.2))) ∙ w.2, w.3)
       ];
     }
     | inr u ↦ record {
       unmarked = ap (option_map mark_of) (taken.others t u.other ∙ u.unrecorded);
-      place = inr (r.table, u.count, ap (option_map mark_of) taken.here ∙ ap (λ (o : Option Verdict). Some (mark_by o)) u.stops, u.child);
+      place = inr (r.table, u.count, ap (option_map mark_of) taken.here ∙ ap (λ (o : Option Verdict). Some (mark_by o)) u.halts, u.child);
     }
   ],
 )

@@ -7,7 +7,7 @@ use Rattle.ledger.specs.Keeping.{held_recorded}
 use Rattle.std.specs.BTreeSet.{BTreeSet, contains}
 use Rattle.machine_text.specs.Packed.{Packed, IsTable, entry_of}
 use Rattle.tree.specs.Used.{InOrder}
-use Rattle.tree.specs.Closed.{IsOpen, Undecided}
+use Rattle.tree.specs.Closed.{IsOpen, Holdout}
 use Rattle.tree.specs.Tables.{IsChildTable, InTableTree}
 use Rattle.cert.specs.Claim.{Claim, Recorded, shown_by}
 use Rattle.ledger.specs.Records.{claim_in, mark_in, mark_of}
@@ -28,9 +28,9 @@ KeepsOrder = (p t : Packed) (u : ℕ) → IsTable p → InOrder u (entry_of p) �
 pub open_in_order : (b : Contents) (t : Packed) → Below → KeepsOrder → IsBoard b → IsOpen b.root (mark_in b.records) t → (v : ℕ) × InOrder v (entry_of t)
 open_in_order b t below keeps board is_open = keeps b.root t board.in_order.0 board.is_table board.in_order.1 (open_in_tree b.root b.records t below board.held is_open)
 
-pub holdout_claim : (rs : List Recorded) (t : Packed) → IsHoldout rs t → (c : Claim) × (claim_in rs t ≡ Some c) × (mark_of c ≡ Undecided)
+pub holdout_claim : (rs : List Recorded) (t : Packed) → IsHoldout rs t → (c : Claim) × (claim_in rs t ≡ Some c) × (mark_of c ≡ Holdout)
 holdout_claim rs t holdout =
-    elim (claim_in rs t) as (λ o. claim_in rs t ≡ o → (c : Claim) × (claim_in rs t ≡ Some c) × (mark_of c ≡ Undecided)) [
+    elim (claim_in rs t) as (λ o. claim_in rs t ≡ o → (c : Claim) × (claim_in rs t ≡ Some c) × (mark_of c ≡ Holdout)) [
       | Some c ↦ λ is. let marked = ap (option_map mark_of) (sym is) ∙ holdout in (c, is, cc)
       | None ↦ λ none. let marked = ap (option_map mark_of) (sym none) ∙ holdout in absurd (cc)
     ] refl

@@ -11,12 +11,12 @@ use Rattle.machine_text.specs.Packed.{Packed, IsTable}
 use Rattle.machine_text.specs.Text.{text_of}
 use Rattle.machine_text.proofs.RoundTrip.{table_of-text_of, text_of_from_45}
 use Rattle.tree.proofs.TableLaws.{tree_alike, tree_table_child}
-use Rattle.cert.specs.Claim.{Claim, HaltsIn, CycleAt, TranslatedAt, BackwardFrom, Nothing, Recorded, IsWritable, IsWithin, Stands}
+use Rattle.cert.specs.Claim.{Claim, HaltsClaim, CycleClaim, TranslatedClaim, BackwardClaim, NoClaim, Recorded, IsWritable, IsWithin, Stands}
 use Rattle.cert.specs.Grammar.{claim_text, side_text, record_text}
 use Rattle.cert.proofs.RoundTrip.{record_of-record_text}
 use Rattle.ledger.specs.Contents.{IsBoard}
 use Rattle.ledger.specs.Held.{AreFitAfter, IsHeld}
-use Rattle.ledger.specs.LedgerText.{header_words, HasNoNewline, AreTaken, joined, StandsFor, ledger_text}
+use Rattle.ledger.specs.LedgerText.{header_words, HasNoNewline, AreTaken, joined, ReadsAs, ledger_text}
 use Rattle.ledger.specs.declared.loaded.Left.TheVariants.{Nothing as NothingLeft}
 use Rattle.ledger.proofs.HeldLaws.{held_more}
 use Rattle.ledger.proofs.OpenLaws.{open_in_tree}
@@ -62,14 +62,14 @@ times_line front i j none small_i small_j =
     both (front ++ decimal i ++ codes " ") (decimal j) (both (front ++ decimal i) (codes " ") (both front (decimal i) none (decimal_line i small_i)) space) (decimal_line j small_j)
 
 claim_line : (c : Claim) → IsWritable c → HasNoNewline (claim_text c)
-claim_line (HaltsIn k) small = both (codes "H ") (decimal k) (by_test (codes "H ") refl) (decimal_line k small)
-claim_line (CycleAt i j) small = times_line (codes "C ") i j (by_test (codes "C ") refl) small.0 small.1
-claim_line (TranslatedAt i j side) small =
+claim_line (HaltsClaim k) small = both (codes "H ") (decimal k) (by_test (codes "H ") refl) (decimal_line k small)
+claim_line (CycleClaim i j) small = times_line (codes "C ") i j (by_test (codes "C ") refl) small.0 small.1
+claim_line (TranslatedClaim i j side) small =
     both (codes "T " ++ decimal i ++ codes " " ++ decimal j ++ codes " ") (side_text side)
     (both (codes "T " ++ decimal i ++ codes " " ++ decimal j) (codes " ") (times_line (codes "T ") i j (by_test (codes "T ") refl) small.0 small.1) space)
     (side_line side)
-claim_line (BackwardFrom d) small = both (codes "B ") (decimal d) (by_test (codes "B ") refl) (decimal_line d small)
-claim_line Nothing small = by_test (codes "U") refl
+claim_line (BackwardClaim d) small = both (codes "B ") (decimal d) (by_test (codes "B ") refl) (decimal_line d small)
+claim_line NoClaim small = by_test (codes "U") refl
 
 record_line : (r : Recorded) → IsTable r.table → IsWritable r.claim → HasNoNewline (record_text r)
 unfolding record_text
@@ -78,11 +78,11 @@ record_line r table writable =
 
 -- a certified claim has numbers of 64 bits: they are within its limits
 writable_within : (c : Claim) (p : Packed) → IsWithin c → Stands c p → IsWritable c
-writable_within (HaltsIn k) p within stands = omega arith
-writable_within (CycleAt i j) p within stands = (omega (arith, stands.order), omega arith)
-writable_within (TranslatedAt i j side) p within stands = (omega (arith, stands.order), omega arith)
-writable_within (BackwardFrom d) p within stands = omega arith
-writable_within Nothing p within stands = tt
+writable_within (HaltsClaim k) p within stands = omega arith
+writable_within (CycleClaim i j) p within stands = (omega (arith, stands.order), omega arith)
+writable_within (TranslatedClaim i j side) p within stands = (omega (arith, stands.order), omega arith)
+writable_within (BackwardClaim d) p within stands = omega arith
+writable_within NoClaim p within stands = tt
 
 -- the lines of records that are each fit in their turn are taken in turn
 all_taken : (root : Packed) (earlier rs : List Recorded) → IsTable root → IsHeld root earlier → AreFitAfter root earlier rs → AreTaken root earlier (map record_text rs) (earlier ++ rs)
@@ -100,7 +100,7 @@ all_taken root earlier (r ∷ rs) table held fit =
       subst (λ (l : List Recorded). AreTaken root (earlier ++ (r ∷ [])) (map record_text rs) l) (append_assoc earlier (r ∷ []) rs) rest,
     )
 
-pub whole_ledger : (root : Packed) (rs : List Recorded) → IsBoard (record { root = root; records = rs }) → StandsFor root (ledger_text root rs) rs NothingLeft
+pub whole_ledger : (root : Packed) (rs : List Recorded) → IsBoard (record { root = root; records = rs }) → ReadsAs root (ledger_text root rs) rs NothingLeft
 unfolding ledger_text
 whole_ledger root rs board = record {
   body = joined (map record_text rs);

@@ -3,6 +3,6 @@ use Rattle.std.specs.Prelude.{ℕ}
 use Rattle.ledger.specs.declared.outcomes.BoardFault.{BoardFault}
 use Rattle.ledger.specs.declared.outcomes.BoardFault.TheVariants.{NotInOrder, NoMemory}
 
-abbrev pub board_number : BoardFault → ℕ
-board_number NotInOrder = 401
-board_number NoMemory = 0
+abbrev pub board_fault_number : BoardFault → ℕ
+board_fault_number NotInOrder = 401
+board_fault_number NoMemory = 0

@@ -1,7 +1,7 @@
 -- Which lists of records a board may hold from a root, and how a record changes them.
 use Rattle.std.specs.Prelude.{◌≡◌, if◌then◌else◌, List, [], ◌∷◌, ◌++◌, Some, IsSome}
 use Rattle.machine_text.specs.Packed.{Packed}
-use Rattle.tree.specs.Closed.{Undecided, IsOpen}
+use Rattle.tree.specs.Closed.{Holdout, IsOpen}
 use Rattle.cert.specs.Claim.{Recorded, IsWithin, IsWide, Stands, shown_by}
 use Rattle.ledger.specs.Records.{same_table, mark_in}
 
@@ -28,7 +28,7 @@ pub record IsHeld (root : Packed) (rs : List Recorded) : Type 0 where
 
 -- a holdout: recorded, without a verdict
 abbrev pub IsHoldout : List Recorded → Packed → Type 0
-IsHoldout rs t = mark_in rs t ≡ Some Undecided
+IsHoldout rs t = mark_in rs t ≡ Some Holdout
 
 -- the record settles a holdout: it has a verdict, and is certified
 pub record Settles (rs : List Recorded) (r : Recorded) : Type 0 where

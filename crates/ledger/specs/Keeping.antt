@@ -1,7 +1,7 @@
 -- How the code keeps a record: beside it the pair on which its table halts, where it says that it does.
 use Rattle.std.specs.Prelude.{◌≡◌, ℕ, ◌<◌, List, [], Option, Some, None, filter_map}
 use Rattle.machine_text.specs.Packed.{Packed, entry_of}
-use Rattle.tree.specs.Children.{StopsOn}
+use Rattle.tree.specs.Children.{HaltsOn}
 use Rattle.run.specs.declared.verdicts.Verdict.{Verdict}
 use Rattle.run.specs.declared.verdicts.Verdict.TheVariants.{Halts, Never}
 use Rattle.cert.specs.Claim.{Recorded, shown_by}
@@ -14,13 +14,13 @@ abbrev pub held_recorded : Holding → Recorded
 held_recorded h = owned_recorded h.record
 
 -- the table halts in so many steps, on this pair
-pub record HaltsOn (t : Packed) (k : ℕ) (pair : Pair) : Type 0 where
+pub record HaltsOnPair (t : Packed) (k : ℕ) (pair : Pair) : Type 0 where
   pub inside : pair.state.0 < t.states
-  pub stops : StopsOn (entry_of t) k pair.state.0 pair.symbol
+  pub halts : HaltsOn (entry_of t) k pair.state.0 pair.symbol
 
 -- with the verdict that a table halts, the pair on which it does; with another none
 abbrev pub IsPairOf : Option Verdict → Packed → Option Pair → Type 0
-IsPairOf (Some (Halts k)) t (Some pair) = HaltsOn t k pair
+IsPairOf (Some (Halts k)) t (Some pair) = HaltsOnPair t k pair
 IsPairOf (Some (Halts k)) t None = ⊥
 IsPairOf (Some Never) t pair = pair ≡ None
 IsPairOf None t pair = pair ≡ None

@@ -103,7 +103,7 @@ pub record Keeps (root : Packed) (n : ℕ) (body : List ℕ) (old new : List Rec
   pub ends : IsLeft root new n (length lines + 2) rest left
 
 -- the text stands for the records rs: they are kept of what stands behind its header
-pub record StandsFor (root : Packed) (text : List ℕ) (rs : List Recorded) (left : Left) : Type 0 where
+pub record ReadsAs (root : Packed) (text : List ℕ) (rs : List Recorded) (left : Left) : Type 0 where
   pub body : List ℕ
   pub header : HasHeader text root body
   pub keeps : Keeps root (length text) body [] rs left
@@ -114,7 +114,7 @@ IsTornLeft text Nothing = text ≡ []
 IsTornLeft text (From line kept why) = (text ≢ []) × (line ≡ 1) × (kept ≡ 0) × (why ≡ Torn)
 
 -- a text that is torn off within its header stands for no record
-pub record StandsForNone (text : List ℕ) (rs : List Recorded) (left : Left) : Type 0 where
+pub record ReadsAsNone (text : List ℕ) (rs : List Recorded) (left : Left) : Type 0 where
   pub torn : IsTornHeader text
   pub none : rs ≡ []
   pub ends : IsTornLeft text left
@@ -122,7 +122,7 @@ pub record StandsForNone (text : List ℕ) (rs : List Recorded) (left : Left) : 
 -- what a text is loaded as, where the root is asked for
 abbrev pub LoadGives : Packed → List ℕ → Result (Contents × Left) LoadFault → Type 0
 LoadGives root text (Ok loaded) =
-    (loaded.0.root ≡ root) × (StandsForNone text loaded.0.records loaded.1 ⊎ StandsFor root text loaded.0.records loaded.1)
+    (loaded.0.root ≡ root) × (ReadsAsNone text loaded.0.records loaded.1 ⊎ ReadsAs root text loaded.0.records loaded.1)
 LoadGives root text (Err BadHeader) = HasNoHeader text
 LoadGives root text (Err WrongRoot) = (other : Packed) × (rest : List ℕ) × HasHeader text other rest × (other ≢ root)
 LoadGives root text (Err NoMemory) = IsTornHeader text ⊎ ((rest : List ℕ) × HasHeader text root rest)
@@ -141,7 +141,7 @@ unfoldable pub ledger_text : Packed → List Recorded → List ℕ
 ledger_text root rs = header_words ++ text_of root ++ (10 ∷ joined (map record_text rs))
 
 -- the refusal number of each fault
-abbrev pub load_number : LoadFault → ℕ
-load_number BadHeader = 404
-load_number WrongRoot = 405
-load_number NoMemory = 0
+abbrev pub load_fault_number : LoadFault → ℕ
+load_fault_number BadHeader = 404
+load_fault_number WrongRoot = 405
+load_fault_number NoMemory = 0

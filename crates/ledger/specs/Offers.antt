@@ -55,14 +55,14 @@ OfferGives root old r (Err NoMemory) new = IsJudged root old r × (new ≡ old)
 -- a child of the record's table, by its halting, that has no record itself
 pub record IsNewChild (rs : List Recorded) (r : Recorded) (t : Packed) : Type 0 where
   pub count : ℕ
-  pub stops : shown_by r.claim ≡ Some (Halts count)
+  pub halts : shown_by r.claim ≡ Some (Halts count)
   pub child : IsChildTable r.table t
   pub unrecorded : claim_in rs t ≡ None
   pub other : t ≢ r.table
 
 -- the refusal number of each fault
-abbrev pub number_of : OfferFault → ℕ
-number_of NotOpen = 402
-number_of WrongSize = 403
-number_of (IsRefused f) = verdict.number_of f
-number_of NoMemory = 0
+abbrev pub offer_fault_number : OfferFault → ℕ
+offer_fault_number NotOpen = 402
+offer_fault_number WrongSize = 403
+offer_fault_number (IsRefused f) = verdict.refused_number f
+offer_fault_number NoMemory = 0

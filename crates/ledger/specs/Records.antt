@@ -4,7 +4,7 @@ use Rattle.std.specs.Cmp.Lexicographic.{pointwise}
 use Rattle.machine_text.specs.Packed.{Packed}
 use Rattle.run.specs.declared.verdicts.Verdict.{Verdict}
 use Rattle.run.specs.declared.verdicts.Verdict.TheVariants.{Halts, Never}
-use Rattle.tree.specs.Closed.{Mark, Stopping, NonStopping, Undecided}
+use Rattle.tree.specs.Closed.{Mark, Halting, NonHalting, Holdout}
 use Rattle.cert.specs.Claim.{Claim, Recorded, shown_by}
 
 -- whether two tables are one
@@ -18,14 +18,14 @@ claim_in (r ∷ rs) t = if same_table r.table t then Some r.claim else claim_in 
 
 -- the mark of a table for which a verdict is shown, or none
 abbrev pub mark_by : Option Verdict → Mark
-mark_by None = Undecided
-mark_by (Some (Halts k)) = Stopping k
-mark_by (Some Never) = NonStopping
+mark_by None = Holdout
+mark_by (Some (Halts k)) = Halting k
+mark_by (Some Never) = NonHalting
 
 abbrev pub mark_of : Claim → Mark
 mark_of c = mark_by (shown_by c)
 
--- what is recorded of a table: that it stops or never does, that it is a holdout, or nothing
+-- what is recorded of a table: that it halts or never does, that it is a holdout, or nothing
 abbrev pub mark_in : List Recorded → Packed → Option Mark
 mark_in rs t = option_map mark_of (claim_in rs t)
 

@@ -5,7 +5,7 @@ use Rattle.std.specs.declared.cmp.Ordering.TheVariants.{Less}
 use Rattle.std.specs.Cmp.Lexicographic.{slice_cmp}
 use Rattle.machine_text.specs.Packed.{Packed}
 use Rattle.machine_text.specs.Text.{text_of}
-use Rattle.tree.specs.Closed.{Stopping, NonStopping, IsOpen, IsComplete}
+use Rattle.tree.specs.Closed.{Halting, NonHalting, IsOpen, IsComplete}
 use Rattle.cert.specs.Claim.{Recorded}
 use Rattle.ledger.specs.Records.{mark_in}
 use Rattle.ledger.specs.Held.{IsHoldout}
@@ -31,13 +31,13 @@ pub record AreSoMany (IsOfKind : Packed → Type 0) (number : ℕ) : Type 0 wher
 
 -- recorded as halting in so many steps; recorded as halting; recorded as never halting
 abbrev pub HaltsAfter : List Recorded → ℕ → Packed → Type 0
-HaltsAfter rs k t = mark_in rs t ≡ Some (Stopping k)
+HaltsAfter rs k t = mark_in rs t ≡ Some (Halting k)
 
 abbrev pub IsHalting : List Recorded → Packed → Type 0
 IsHalting rs t = (k : ℕ) × HaltsAfter rs k t
 
 abbrev pub IsNonHalting : List Recorded → Packed → Type 0
-IsNonHalting rs t = mark_in rs t ≡ Some NonStopping
+IsNonHalting rs t = mark_in rs t ≡ Some NonHalting
 
 -- the greatest number of steps recorded of a table that halts; none where none is
 abbrev pub IsGreatestCount : List Recorded → Option ℕ → Type 0

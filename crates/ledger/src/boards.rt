@@ -5,7 +5,7 @@ ghost use Rattle.tree.specs.Used.{InOrder};
 ghost use Rattle.run.specs.Verdict.{IsTrueOf};
 ghost use Rattle.std.specs.Prelude.{◌↔◌, ◌≤◌, Option, Some};
 ghost use Rattle.machine_text.specs.Packed.{empty_table};
-ghost use Rattle.turing.specs.Halting.{IsRado, Stops};
+ghost use Rattle.turing.specs.Halting.{IsRado, HaltsAt};
 ghost use Rattle.std.specs.Vec.Iter.{into_iter_items};
 ghost use Rattle.tree.specs.Tables.{IsBestOfTable, IsChildTable};
 ghost use Rattle.ledger.specs.Places.{IsPlace};
@@ -170,7 +170,7 @@ impl Board {
     /// is Radó's S(n).
     pub fn status(&self) -> Status
         ensures stands { IsStatus self.now.root self.now.records result }
-        ensures best { (best : Option ℕ) → result ≡ Status.Complete best → IsBestOfTable Stops self.now.root best }
+        ensures best { (best : Option ℕ) → result ≡ Status.Complete best → IsBestOfTable HaltsAt self.now.root best }
         ensures rado { (n s : ℕ) → 1 ≤ n → n ≤ MAX_STATES → self.now.root ≡ empty_table n → result ≡ Status.Complete (Some s) → IsRado n s }
     {
         child_is_table();

@@ -30,8 +30,3 @@ pub use laws::{beginnings_load, ledgers_load_whole};
 pub use listing::Records;
 pub use loaded::{Left, LoadFault, Unkept};
 pub use outcomes::{BoardFault, OfferFault, Status, Taken, Tally};
-
-#[cfg(test)]
-mod ledger_tests;
-#[cfg(test)]
-mod tests;

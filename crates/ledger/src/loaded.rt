@@ -48,11 +48,11 @@ pub enum LoadFault {
 }
 
 impl LoadFault {
-    ghost use Rattle.ledger.specs.LedgerText.{load_number};
+    ghost use Rattle.ledger.specs.LedgerText.{load_fault_number};
 
     /// The refusal number: 404, 405; 0 for want of memory, which has none.
     pub fn number(&self) -> u16
-        ensures { result ≡ load_number self.now }
+        ensures { result ≡ load_fault_number self.now }
     {
         match self {
             LoadFault::BadHeader => 404,

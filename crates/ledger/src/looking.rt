@@ -3,7 +3,7 @@ ghost use Rattle.std.specs.Prelude.{◌≡◌, ℕ, All, IfSome, IfNone, map, op
 ghost use Rattle.std.specs.List.{position};
 ghost use Rattle.cert.specs.Claim.{shown_by};
 ghost use Rattle.cert.specs.Kinds.{claim_of};
-ghost use Rattle.ledger.specs.Keeping.{held_recorded, HaltsOn, KnowsPair};
+ghost use Rattle.ledger.specs.Keeping.{held_recorded, HaltsOnPair, KnowsPair};
 ghost use Rattle.ledger.specs.Tally.{HaltsAfter, IsHalting};
 ghost use Rattle.ledger.specs.Records.{same_table, claim_in, verdict_in};
 
@@ -34,7 +34,7 @@ pub fn certificate_for(records: &[Holding], t: &Table) -> Option<Certificate>
 // The pair on which a table halts, where it is recorded as halting.
 pub fn pair_for(records: &[Holding], t: &Table) -> Option<Pair>
     requires { All KnowsPair records.now }
-    ensures some { IfSome result (λ pair. (k : ℕ) × HaltsAfter (map held_recorded records.now) k t.now × HaltsOn t.now k pair) }
+    ensures some { IfSome result (λ pair. (k : ℕ) × HaltsAfter (map held_recorded records.now) k t.now × HaltsOnPair t.now k pair) }
     ensures none { IfNone result (IsHalting (map held_recorded records.now) t.now → ⊥) }
 {
     match place_of(records, t) {

@@ -66,11 +66,11 @@ pub enum OfferFault {
 }
 
 impl BoardFault {
-    ghost use Rattle.ledger.specs.Faults.{board_number};
+    ghost use Rattle.ledger.specs.Faults.{board_fault_number};
 
     /// The refusal number: 401; 0 for want of memory, which has none.
     pub fn number(&self) -> u16
-        ensures { result ≡ board_number self.now }
+        ensures { result ≡ board_fault_number self.now }
     {
         match self {
             BoardFault::NotInOrder => 401,
@@ -80,11 +80,11 @@ impl BoardFault {
 }
 
 impl OfferFault {
-    ghost use Rattle.ledger.specs.Offers.{number_of};
+    ghost use Rattle.ledger.specs.Offers.{offer_fault_number};
 
     /// The refusal number: 402, 403, or that of the certificate; 0 for want of memory, which has none.
     pub fn number(&self) -> u16
-        ensures { result ≡ number_of self.now }
+        ensures { result ≡ offer_fault_number self.now }
     {
         match self {
             OfferFault::NotOpen => 402,

@@ -5,15 +5,15 @@ ghost use Rattle.std.specs.declared.cmp.Ordering.TheVariants.{Less};
 ghost use Rattle.std.specs.Cmp.Lexicographic.{slice_cmp};
 ghost use Rattle.machine_text.specs.Packed.{Packed, entry_of};
 ghost use Rattle.machine_text.specs.Text.{text_of};
-ghost use Rattle.turing.specs.Halting.{Stops};
+ghost use Rattle.turing.specs.Halting.{HaltsAt};
 ghost use Rattle.run.specs.declared.limits.TheConstants.{MAX_RUN_STEPS};
 ghost use Rattle.tree.specs.Used.{InOrder};
-ghost use Rattle.tree.specs.Children.{StopsOn};
+ghost use Rattle.tree.specs.Children.{HaltsOn};
 ghost use Rattle.tree.specs.Tables.{IsChildTable};
 ghost use Rattle.cert.specs.Claim.{shown_by};
 ghost use Rattle.cert.specs.Kinds.{claim_of, recorded};
 ghost use Rattle.ledger.specs.Held.{IsCertified};
-ghost use Rattle.ledger.specs.Keeping.{HaltsOn, IsPairOf};
+ghost use Rattle.ledger.specs.Keeping.{HaltsOnPair, IsPairOf};
 
 use crate::looking::verdict_for;
 use cert::{Record, standing_claims_are_true};
@@ -47,9 +47,9 @@ pub fn halting_pair(alloc: Global, r: &Record) -> Result<Option<Pair>, NoMemory>
 
 // The pair on which a table halts that does so in so many steps.
 fn pair_after(alloc: Global, t: &Table, count: u64) -> Result<Pair, NoMemory>
-    requires halts { Stops (entry_of t.now) count }
+    requires halts { HaltsAt (entry_of t.now) count }
     requires limit { count ≤ MAX_RUN_STEPS }
-    ensures { IfOk result (λ pair. HaltsOn t.now count pair) }
+    ensures { IfOk result (λ pair. HaltsOnPair t.now count pair) }
 {
     let mut runner = Runner::new(alloc, *t)?;
     runner.run_to(count)?;
@@ -63,7 +63,7 @@ fn pair_after(alloc: Global, t: &Table, count: u64) -> Result<Pair, NoMemory>
 // The children of a table in order that halts on a pair, in the order of their texts.
 pub fn children_on(parent: &Table, pair: Pair) -> Children
     requires in_order { (u : ℕ) × InOrder u (entry_of parent.now) }
-    requires halts { (k : ℕ) × HaltsOn parent.now k pair }
+    requires halts { (k : ℕ) × HaltsOnPair parent.now k pair }
     ensures members { (t : Packed) → Contains result t ↔ IsChildTable parent.now t }
     ensures rising { AllPairs (λ a b. slice_cmp nat_cmp (text_of a) (text_of b) ≡ Less) result }
 {

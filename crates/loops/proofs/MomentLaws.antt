@@ -7,7 +7,7 @@ use Rattle.turing.specs.Run.{Config, start, after}
 use Rattle.turing.specs.Cycle.{Cycle}
 use Rattle.turing.proofs.RunLaws.{before}
 use Rattle.turing.proofs.Heads.{farthest_first}
-use Rattle.run.specs.Standing.{Standing, Stands}
+use Rattle.run.specs.Standing.{Standing, OnRun}
 use Rattle.loops.specs.Moment.{Moment, moment_of, IsMomentOf}
 use Rattle.loops.specs.Arrival.{Arrives, ComesTo}
 use Rattle.loops.specs.Trail.{Follows}
@@ -27,14 +27,14 @@ none_after m k j early none c is =
     none b at
 
 -- where a runner of a table stands is a moment of the table's run
-pub stands_moment : (p : Packed) (r : Standing) → r.table ≡ p → Stands r → IsMomentOf p (moment_of r)
+pub stands_moment : (p : Packed) (r : Standing) → r.table ≡ p → OnRun r → IsMomentOf p (moment_of r)
 stands_moment p r table stands = record { at = subst (λ (q : Packed). after (entry_of q) r.steps ≡ Some r.config) table stands.at }
 
-pub kept_moment : (p : Packed) (r : Standing) (kept : Moment) → r.table ≡ p → Stands r → kept ≡ moment_of r → IsMomentOf p kept
+pub kept_moment : (p : Packed) (r : Standing) (kept : Moment) → r.table ≡ p → OnRun r → kept ≡ moment_of r → IsMomentOf p kept
 kept_moment p r kept table stands is = subst (IsMomentOf p) (sym is) (stands_moment p r table stands)
 
 -- one configuration at two times is a cycle
-pub same_cycle : (p : Packed) (kept : Moment) (r : Standing) → IsMomentOf p kept → r.table ≡ p → Stands r → kept.time < r.steps → kept.config ≡ r.config → Cycle (entry_of p) kept.time r.steps
+pub same_cycle : (p : Packed) (kept : Moment) (r : Standing) → IsMomentOf p kept → r.table ≡ p → OnRun r → kept.time < r.steps → kept.config ≡ r.config → Cycle (entry_of p) kept.time r.steps
 same_cycle p kept r moment table stands order same = record {
   order = order;
   at = kept.config;
@@ -47,7 +47,7 @@ pub cycle_at : (m : Program) (i j i' j' : ℕ) → i ≡ i' → j ≡ j' → Cyc
 cycle_at m i j i' j' first second cycle = subst (λ (k : ℕ). Cycle m k j') first (subst (Cycle m i) second cycle)
 
 -- a trail begins at the moment that is kept
-pub follows_first : (p : Packed) (side : Dir) (r : Standing) (kept : Moment) (head : ℤ) → r.table ≡ p → Stands r → kept ≡ moment_of r → head ≡ r.config.tape.head → Follows p (r.steps + 1) side kept head
+pub follows_first : (p : Packed) (side : Dir) (r : Standing) (kept : Moment) (head : ℤ) → r.table ≡ p → OnRun r → kept ≡ moment_of r → head ≡ r.config.tape.head → Follows p (r.steps + 1) side kept head
 follows_first p side r kept head table stands is here =
     let moment = stands_moment p r table stands in
     subst (λ (b : ℤ). Follows p (r.steps + 1) side kept b) (sym here)
@@ -55,7 +55,7 @@ follows_first p side r kept head table stands is here =
     (record { moment = moment; farthest = farthest_first (entry_of p) side r.steps r.config moment.at }))
 
 -- and follows the run to its next time
-pub follows_more : (p : Packed) (side : Dir) (r : Standing) (kept : Moment) (bound farther : ℤ) → r.table ≡ p → Stands r → Follows p r.steps side kept bound → IsFarther side bound r.config.tape.head farther
+pub follows_more : (p : Packed) (side : Dir) (r : Standing) (kept : Moment) (bound farther : ℤ) → r.table ≡ p → OnRun r → Follows p r.steps side kept bound → IsFarther side bound r.config.tape.head farther
     → Follows p (r.steps + 1) side kept farther
 follows_more p side r kept bound farther table stands follows is = record {
   moment = follows.moment;

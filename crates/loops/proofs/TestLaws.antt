@@ -11,7 +11,7 @@ use Rattle.turing.specs.Run.{Config, cell, after}
 use Rattle.turing.specs.Translated.{Beyond, Farthest, Translated}
 use Rattle.turing.proofs.Heads.{one_farthest}
 use Rattle.tape.specs.Places.{SameBeyond}
-use Rattle.run.specs.Standing.{Standing, Stands}
+use Rattle.run.specs.Standing.{Standing, OnRun}
 use Rattle.loops.specs.Moment.{Moment, IsMomentOf}
 
 -- two configurations of a run, and the farthest head in between
@@ -78,7 +78,7 @@ stands_passed m side i j begin end bound shift c t =
     }
 
 -- what was kept of a run, and where a runner stands later
-pub compared : (p : Packed) (side : Dir) (kept : Moment) (r : Standing) (bound shift : ℤ) → r.table ≡ p → Stands r → IsMomentOf p kept → Farthest (entry_of p) side kept.time r.steps bound
+pub compared : (p : Packed) (side : Dir) (kept : Moment) (r : Standing) (bound shift : ℤ) → r.table ≡ p → OnRun r → IsMomentOf p kept → Farthest (entry_of p) side kept.time r.steps bound
     → shift ≡ r.config.tape.head -ℤ kept.config.tape.head → Compared (entry_of p) side kept.time r.steps kept.config r.config bound shift
 compared p side kept r bound shift table stands begins farthest shift_is = record {
   begins = begins.at;

@@ -2,13 +2,13 @@
 use Rattle.std.specs.Prelude.{◌≡◌, ℕ, Bool, true, false, Some}
 use Rattle.machine_text.specs.Packed.{entry_of}
 use Rattle.turing.specs.Run.{Config, after}
-use Rattle.run.specs.Standing.{Standing, Stands}
+use Rattle.run.specs.Standing.{Standing, OnRun}
 
 -- the runner stands at time k of the same run
 pub record Arrives (k : ℕ) (old new : Standing) : Type 0 where
   pub table : new.table ≡ old.table
   pub steps : new.steps ≡ k
-  pub stands : Stands new
+  pub stands : OnRun new
 
 -- it came to time k; or else no such time is there
 abbrev pub ComesTo : ℕ → Standing → Bool → Standing → Type 0

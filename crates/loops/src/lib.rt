@@ -18,6 +18,3 @@ mod translations;
 pub use cycles::{Cycle, CycleFinder};
 pub use limits::MAX_TIME;
 pub use translations::{Translated, TranslatedFinder};
-
-#[cfg(test)]
-mod tests;

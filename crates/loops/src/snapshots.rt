@@ -2,7 +2,7 @@
 ghost use Rattle.std.specs.Prelude.{◌≡◌, ◌↔◌, ◌≤◌, IfOk, OnOk, IsTrue, ℤ, pos, ◌+ℤ◌, ◌-ℤ◌};
 ghost use Rattle.machine_text.specs.Packed.{entry_of};
 ghost use Rattle.turing.specs.Translated.{Beyond, Farthest, Translated};
-ghost use Rattle.run.specs.Standing.{Stands};
+ghost use Rattle.run.specs.Standing.{OnRun};
 ghost use Rattle.tape.specs.Places.{IsWithinLimit};
 
 use crate::limits::MAX_TIME;
@@ -36,7 +36,7 @@ impl Snapshot {
     // Where a runner stands. Takes memory for its tape.
     pub fn taken(alloc: Global, runner: &Runner) -> Result<Snapshot, NoMemory>
         ensures kept { IfOk result (λ s. s ≡ moment_of runner.now) }
-        ensures stands { Stands runner.now }
+        ensures stands { OnRun runner.now }
     {
         Ok(Snapshot {
             time: runner.steps(),
@@ -48,7 +48,7 @@ impl Snapshot {
     // Puts where a runner stands in its place, in the memory that it has where that suffices.
     pub fn retake(&mut self, runner: &Runner) -> Result<(), NoMemory>
         ensures kept { OnOk result (self.new ≡ moment_of runner.now) }
-        ensures stands { Stands runner.now }
+        ensures stands { OnRun runner.now }
     {
         self.time = runner.steps();
         self.state = runner.state();
@@ -117,7 +117,7 @@ impl Snapshot {
         requires early { self.now.time ≤ runner.now.steps }
         ensures shift { result ≡ runner.now.config.tape.head -ℤ self.now.config.tape.head }
         ensures within { IsWithinLimit result }
-        ensures stands { Stands runner.now }
+        ensures stands { OnRun runner.now }
     {
         let _ = runner.steps();
         runner.tape().head() - self.tape.head()

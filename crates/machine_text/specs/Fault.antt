@@ -3,12 +3,12 @@ use Rattle.std.specs.Prelude.{ℕ, Option, Some, None}
 use Rattle.machine_text.specs.declared.faults.TextFault.{TextFault}
 use Rattle.machine_text.specs.declared.faults.TextFault.TheVariants.{BadLength, BadBar, BadSymbol, BadDir, BadState}
 
-abbrev pub number_of : TextFault → ℕ
-number_of BadLength = 101
-number_of (BadBar i) = 102
-number_of (BadSymbol i) = 103
-number_of (BadDir i) = 104
-number_of (BadState i) = 105
+abbrev pub text_fault_number : TextFault → ℕ
+text_fault_number BadLength = 101
+text_fault_number (BadBar i) = 102
+text_fault_number (BadSymbol i) = 103
+text_fault_number (BadDir i) = 104
+text_fault_number (BadState i) = 105
 
 abbrev pub place_of : TextFault → Option ℕ
 place_of BadLength = None

@@ -18,11 +18,11 @@ pub enum TextFault {
 
 impl TextFault {
     ghost use Rattle.std.specs.Prelude.{◌≡◌};
-    ghost use Rattle.machine_text.specs.Fault.{number_of, place_of};
+    ghost use Rattle.machine_text.specs.Fault.{text_fault_number, place_of};
 
     /// The refusal number: 101 to 105.
     pub fn number(&self) -> u16
-        ensures { result ≡ number_of self.now }
+        ensures { result ≡ text_fault_number self.now }
     {
         match self {
             TextFault::BadLength => 101,

@@ -18,6 +18,3 @@ pub use laws::{order_is_of_texts, tables_are_maps};
 pub use limits::{MAX_STATES, TEXT_BYTES};
 pub use packed::Table;
 pub use transition::{Dir, Entry, State, Sym};
-
-#[cfg(test)]
-mod tests;

@@ -20,7 +20,7 @@ standing_code =
     code_by (Packed × (ℕ × Config)) (coded× packed_code (coded× coded_ℕ config_code)) (λ r. (r.table, (r.steps, r.config))) (λ c. record { table = c.0; steps = c.1.0; config = c.1.1 }) (λ _. refl)
 
 -- the configuration is that of the run at this time
-pub record Stands (r : Standing) : Type 0 where
+pub record OnRun (r : Standing) : Type 0 where
   pub is_table : IsTable r.table
   pub at : after (entry_of r.table) r.steps ≡ Some r.config
   pub within : r.config.state < r.table.states

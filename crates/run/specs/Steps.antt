@@ -2,8 +2,8 @@
 use Rattle.std.specs.Prelude.{◌≡◌, ℕ, suc, ◌+◌, ◌<◌, ◌≤◌, Some}
 use Rattle.machine_text.specs.Packed.{entry_of}
 use Rattle.turing.specs.Run.{next}
-use Rattle.turing.specs.Halting.{Stops}
-use Rattle.run.specs.Standing.{Standing, Stands}
+use Rattle.turing.specs.Halting.{HaltsAt}
+use Rattle.run.specs.Standing.{Standing, OnRun}
 use Rattle.run.specs.declared.stepping.Step.{Step}
 use Rattle.run.specs.declared.stepping.Step.TheVariants.{Went, Halts}
 
@@ -14,24 +14,24 @@ pub record TakesStep (old new : Standing) : Type 0 where
   pub next : next (entry_of old.table) old.config ≡ Some new.config
 
 -- the run halts in this many steps, of which all but the halting one are carried out
-pub record HaltsAt (old new : Standing) (count : ℕ) : Type 0 where
+pub record EndsAt (old new : Standing) (count : ℕ) : Type 0 where
   pub table : new.table ≡ old.table
   pub last : count ≡ new.steps + 1
-  pub stops : Stops (entry_of old.table) count
+  pub halts : HaltsAt (entry_of old.table) count
 
 -- by one step
 abbrev pub StepsTo : Standing → Step → Standing → Type 0
 StepsTo old Went new = TakesStep old new
-StepsTo old (Halts count) new = (new ≡ old) × HaltsAt old new count
+StepsTo old (Halts count) new = (new ≡ old) × EndsAt old new count
 
 -- at a time of the same run, up to time k
 pub record IsBetween (k : ℕ) (old new : Standing) : Type 0 where
   pub table : new.table ≡ old.table
   pub low : old.steps ≤ new.steps
   pub high : new.steps ≤ k
-  pub stands : Stands new
+  pub stands : OnRun new
 
 -- by steps up to time k
 abbrev pub RunsTo : ℕ → Standing → Step → Standing → Type 0
 RunsTo k old Went new = IsBetween k old new × (new.steps ≡ k)
-RunsTo k old (Halts count) new = IsBetween k old new × HaltsAt old new count × (count ≤ k)
+RunsTo k old (Halts count) new = IsBetween k old new × EndsAt old new count × (count ≤ k)

@@ -1,7 +1,7 @@
 -- When a verdict is true of a machine, and the refusal numbers of evidence.
 use Rattle.std.specs.Prelude.{ℕ}
 use Rattle.turing.specs.Program.{Program}
-use Rattle.turing.specs.Halting.{Stops, Never}
+use Rattle.turing.specs.Halting.{HaltsAt, Never}
 use Rattle.run.specs.declared.verdicts.Verdict.{Verdict}
 use Rattle.run.specs.declared.verdicts.Verdict.TheVariants.{Halts, Never as NeverHalts}
 use Rattle.run.specs.declared.verdicts.Refused.{Refused}
@@ -9,11 +9,11 @@ use Rattle.run.specs.declared.verdicts.Refused.TheVariants.{Fails, TooLong, TooW
 
 -- the verdict says of the machine's run from the blank tape what is so
 abbrev pub IsTrueOf : Verdict → Program → Type 0
-IsTrueOf (Halts k) m = Stops m k
+IsTrueOf (Halts k) m = HaltsAt m k
 IsTrueOf NeverHalts m = Never m
 
-abbrev pub number_of : Refused → ℕ
-number_of Fails = 201
-number_of TooLong = 202
-number_of TooWide = 203
-number_of NoMemory = 0
+abbrev pub refused_number : Refused → ℕ
+refused_number Fails = 201
+refused_number TooLong = 202
+refused_number TooWide = 203
+refused_number NoMemory = 0

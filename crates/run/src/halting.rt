@@ -1,7 +1,7 @@
 // The evidence that a table halts: the number of its steps, which are carried out.
 ghost use Rattle.std.specs.Prelude.{◌≡◌, ℕ, ◌≤◌, min, IfSome, IfNone, IfOk};
 ghost use Rattle.machine_text.specs.Packed.{entry_of};
-ghost use Rattle.turing.specs.Halting.{Stops};
+ghost use Rattle.turing.specs.Halting.{HaltsAt};
 
 use crate::claim::Evidence;
 use crate::limits::{MAX_HALT_STEPS, MAX_RUN_STEPS};
@@ -21,7 +21,7 @@ impl Evidence for HaltsIn {
 
     ghost within = { λ e. e.0 ≤ MAX_HALT_STEPS };
 
-    ghost stands = { λ e p. Stops (entry_of p) e.0 };
+    ghost stands = { λ e p. HaltsAt (entry_of p) e.0 };
 
     ghost is_wide = { λ e p. ⊥ };
 
@@ -61,8 +61,8 @@ impl HaltFinder {
     /// The number of steps in which the table halts; none where it doesn't halt within the finder's
     /// steps and the budget.
     pub fn search(&mut self, t: &Table, budget: u64) -> Result<Option<HaltsIn>, NoMemory>
-        ensures found { IfOk result (λ o. IfSome o (λ e. Stops (entry_of t.now) e.0)) }
-        ensures none { IfOk result (λ o. IfNone o ((k : ℕ) → k ≤ min (min self.old.steps budget) MAX_HALT_STEPS → Stops (entry_of t.now) k → ⊥)) }
+        ensures found { IfOk result (λ o. IfSome o (λ e. HaltsAt (entry_of t.now) e.0)) }
+        ensures none { IfOk result (λ o. IfNone o ((k : ℕ) → k ≤ min (min self.old.steps budget) MAX_HALT_STEPS → HaltsAt (entry_of t.now) k → ⊥)) }
         ensures same { self.new.steps ≡ self.old.steps }
     {
         let limit = self.steps.min(budget).min(MAX_HALT_STEPS);

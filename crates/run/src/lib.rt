@@ -17,6 +17,3 @@ pub use limits::{MAX_HALT_STEPS, MAX_RUN_STEPS};
 pub use stepping::{Runner, Step};
 pub use tape::NoMemory;
 pub use verdicts::{Refused, Verdict};
-
-#[cfg(test)]
-mod tests;

@@ -28,7 +28,7 @@ pub struct Runner {
 }
 
 impl Model for Runner {
-    ghost use Rattle.run.specs.Standing.{Standing, standing_code, Stands};
+    ghost use Rattle.run.specs.Standing.{Standing, standing_code, OnRun};
 
     ghost Value = { Standing };
 
@@ -38,12 +38,12 @@ impl Model for Runner {
 
     ghost view = { standing_of };
 
-    ghost invariant = { λ a. Stands (standing_of a) };
+    ghost invariant = { λ a. OnRun (standing_of a) };
 }
 
 impl Runner {
     ghost use Rattle.turing.specs.Run.{start};
-    ghost use Rattle.run.specs.Standing.{Stands};
+    ghost use Rattle.run.specs.Standing.{OnRun};
     ghost use Rattle.run.specs.Steps.{StepsTo, RunsTo, IsBetween};
 
     /// The run at time 0.
@@ -78,7 +78,7 @@ impl Runner {
         requires { self.old.steps < MAX_RUN_STEPS }
         ensures ok { IfOk result (λ step. StepsTo self.old step self.new) }
         ensures err { OnErr result (self.new ≡ self.old) }
-        ensures stands { Stands self.new }
+        ensures stands { OnRun self.new }
     {
         let Some(entry) = self.table.get(self.state, self.tape.read()) else {
             return Ok(Step::Halts {
@@ -115,7 +115,7 @@ impl Runner {
     #[inline]
     pub fn steps(&self) -> u64
         ensures steps { result ≡ self.now.steps }
-        ensures stands { Stands self.now }
+        ensures stands { OnRun self.now }
     {
         self.steps
     }

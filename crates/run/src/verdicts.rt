@@ -25,11 +25,11 @@ pub enum Refused {
 
 impl Refused {
     ghost use Rattle.std.specs.Prelude.{◌≡◌};
-    ghost use Rattle.run.specs.Verdict.{number_of};
+    ghost use Rattle.run.specs.Verdict.{refused_number};
 
     /// The refusal number: 201 to 203; 0 for want of memory, which has none.
     pub fn number(&self) -> u16
-        ensures { result ≡ number_of self.now }
+        ensures { result ≡ refused_number self.now }
     {
         match self {
             Refused::Fails => 201,

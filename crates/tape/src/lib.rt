@@ -11,6 +11,3 @@ mod two_sided;
 
 pub use limits::MAX_PLACE;
 pub use two_sided::{NoMemory, Tape};
-
-#[cfg(test)]
-mod tests;

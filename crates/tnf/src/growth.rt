@@ -21,7 +21,7 @@ pub fn root(n: u8) -> Table
     Table::empty(n)
 }
 
-/// The children of a table that stops on the pair of the state q and the symbol s, in the order of their
+/// The children of a table that halts on the pair of the state q and the symbol s, in the order of their
 /// texts. The pair gets each entry whose next state is used or the first unused one, with both symbols
 /// and both directions, and only to the right where the table is empty. There are none where fewer than
 /// two pairs are undefined.

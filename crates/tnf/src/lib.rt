@@ -1,6 +1,6 @@
 //! Tree normal form of two-symbol Turing machines: the tables of a tree, from the root down.
 //!
-//! A tree begins at an empty table (`root`). A table whose run stops on an undefined pair has `children`:
+//! A tree begins at an empty table (`root`). A table whose run halts on an undefined pair has `children`:
 //! that pair gets each entry to a used state or to the first unused one, and to the right where it is the
 //! first entry of all. So each table of a tree uses its states in order (`in_order`).
 #![tactic(auto)]
@@ -12,6 +12,3 @@ mod offspring;
 pub use growth::{children, root};
 pub use naming::{in_order, used};
 pub use offspring::Children;
-
-#[cfg(test)]
-mod tests;

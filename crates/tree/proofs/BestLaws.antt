@@ -8,7 +8,7 @@ use Rattle.turing.specs.Program.{Program, IsMachine}
 use Rattle.turing.specs.Halting.{Never}
 use Rattle.tree.specs.Filling.{filled}
 use Rattle.tree.specs.Used.{InOrder}
-use Rattle.tree.specs.Children.{StopsOn, IsChildEntry}
+use Rattle.tree.specs.Children.{HaltsOn, IsChildEntry}
 use Rattle.tree.specs.Best.{Attains, IsBest, IsGreatestOf}
 use Rattle.tree.proofs.Halts.{pair_undefined, full_never}
 use Rattle.tree.proofs.Worth.{IsWorth}
@@ -24,20 +24,20 @@ module _ (V : Program → ℕ → Type 0) (w : IsWorth V) where
   best_bounds n m None t best a = absurd (best t a)
   best_bounds n m (Some x) t best a = (x, refl, best.1 t a)
 
-  -- a machine that never stops, and a full one, have none
+  -- a machine that never halts, and a full one, have none
   pub never_best : (n : ℕ) (m : Program) → Never m → IsBest V n m None
   never_best n m never t a = never_attains V w n m t never a
 
   pub full_best : (n : ℕ) (m : Program) → IsMachine n m → holes n m ≡ 0 → IsBest V n m None
   full_best n m i full = never_best n m (full_never n m i full)
 
-  -- a machine that stops on its only undefined pair is its own best
-  pub only_best : (n : ℕ) (m : Program) (k q : ℕ) (r : Sym) (s : ℕ) → IsMachine n m → holes n m ≤ 1 → StopsOn m k q r → V m s → IsBest V n m (Some s)
+  -- a machine that halts on its only undefined pair is its own best
+  pub only_best : (n : ℕ) (m : Program) (k q : ℕ) (r : Sym) (s : ℕ) → IsMachine n m → holes n m ≤ 1 → HaltsOn m k q r → V m s → IsBest V n m (Some s)
   only_best n m k q r s i one h v =
       (attains_itself V w n m s i v, λ t a. let same = w.one m t s (only_attains V w n m k q r t i one h a) v in omega arith)
 
-  -- m stops on a pair, in order, with the worth x, and b has the bests of its children
-  module _ (n u : ℕ) (m : Program) (k q : ℕ) (r : Sym) (x : ℕ) (b : Entry → Option ℕ) (i : IsMachine n m) (o : InOrder u m) (h : StopsOn m k q r) (v : V m x)
+  -- m halts on a pair, in order, with the worth x, and b has the bests of its children
+  module _ (n u : ℕ) (m : Program) (k q : ℕ) (r : Sym) (x : ℕ) (b : Entry → Option ℕ) (i : IsMachine n m) (o : InOrder u m) (h : HaltsOn m k q r) (v : V m x)
       (bests : (e : Entry) → IsChildEntry n u m e → IsBest V n (filled m q r e) (b e)) where
     greatest_from_best : (s : ℕ) → IsBest V n m (Some s) → IsGreatestOf n u m x b s
     greatest_from_best s best = record {

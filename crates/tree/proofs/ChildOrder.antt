@@ -14,7 +14,7 @@ use Rattle.machine_text.specs.declared.transition.Dir.TheVariants.{L}
 use Rattle.machine_text.specs.declared.transition.Entry.{Entry}
 use Rattle.machine_text.specs.Packed.{Packed, IsTable, code_of, pair_place, entry_of, with_entry, holes}
 use Rattle.tree.specs.Used.{InOrder, used_count}
-use Rattle.tree.specs.Children.{StopsOn, Precedes}
+use Rattle.tree.specs.Children.{HaltsOn, Precedes}
 use Rattle.tree.specs.Tables.{children_at}
 use Rattle.tree.proofs.Halts.{pair_within}
 use Rattle.tree.proofs.EntryOrder.{entries_rise}
@@ -44,7 +44,7 @@ tables_rise : (p : Packed) (q : ℕ) (s : Sym) (a b : Entry) → pair_place q s 
 unfolding with_entry
 tables_rise p q s a b lt less = lower_set p.codes (pair_place q s) (code_of (Some a)) (code_of (Some b)) lt less
 
-pub children_rise : (p : Packed) (u k q : ℕ) (s : Sym) (i : IsTable p) (o : InOrder u (entry_of p)) (h : StopsOn (entry_of p) k q s) →
+pub children_rise : (p : Packed) (u k q : ℕ) (s : Sym) (i : IsTable p) (o : InOrder u (entry_of p)) (h : HaltsOn (entry_of p) k q s) →
     AllPairs (λ a b. slice_cmp nat_cmp a.codes b.codes ≡ Less) (children_at p q s)
 children_rise p u k q s i o h = elim (cases_lt (holes p.states (entry_of p)) 2) [
   | inl few ↦ subst (λ (ts : List Packed). AllPairs (λ a b. slice_cmp nat_cmp a.codes b.codes ≡ Less) ts) (sym (no_children p q s few)) (λ x y d less within. absurd (omega arith))

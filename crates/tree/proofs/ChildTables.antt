@@ -12,7 +12,7 @@ use Rattle.machine_text.specs.declared.transition.Entry.{Entry}
 use Rattle.machine_text.specs.Packed.{Packed, IsTable, entry_of, with_entry, holes}
 use Rattle.turing.specs.Program.{Program}
 use Rattle.tree.specs.Used.{InOrder, used_count}
-use Rattle.tree.specs.Children.{StopsOn, IsChildEntry, child_entries}
+use Rattle.tree.specs.Children.{HaltsOn, IsChildEntry, child_entries}
 use Rattle.tree.specs.Tables.{IsChildTable, children_at}
 use Rattle.tree.proofs.Filling.{filled_at}
 use Rattle.tree.proofs.UsedCount.{used_number}
@@ -45,8 +45,8 @@ pub no_children : (p : Packed) (q : ℕ) (s : Sym) → holes p.states (entry_of 
 unfolding children_at
 no_children p q s few = rw (lt-leb 2 (holes p.states (entry_of p)) few)
 
--- p stops on the pair, in order
-module _ (p : Packed) (u k q : ℕ) (s : Sym) (i : IsTable p) (o : InOrder u (entry_of p)) (h : StopsOn (entry_of p) k q s) where
+-- p halts on the pair, in order
+module _ (p : Packed) (u k q : ℕ) (s : Sym) (i : IsTable p) (o : InOrder u (entry_of p)) (h : HaltsOn (entry_of p) k q s) where
   pub entry_from : (e : Entry) → Contains (entries_of p) e → IsChildEntry p.states u (entry_of p) e
   entry_from e c =
       let m = table_machine p i in
@@ -60,7 +60,7 @@ module _ (p : Packed) (u k q : ℕ) (s : Sym) (i : IsTable p) (o : InOrder u (en
         absurd (omega (arith, none.1)))
     | inr two ↦ (
         let (e, there, is) = contains_map (with_entry p q s) (entries_of p) t (subst (λ (ts : List Packed). Contains ts t) (some_children p q s two) c) in
-        record { used = u; in_order = o; count = k; state = q; symbol = s; stops = h; undefined = two; entry = e; is_entry = entry_from e there; is = sym is })
+        record { used = u; in_order = o; count = k; state = q; symbol = s; halts = h; undefined = two; entry = e; is_entry = entry_from e there; is = sym is })
   ]
 
   -- each child is listed
@@ -70,8 +70,8 @@ module _ (p : Packed) (u k q : ℕ) (s : Sym) (i : IsTable p) (o : InOrder u (en
       let used : x.used ≡ used_count p.states (entry_of p) = sym (used_number p.states x.used (entry_of p) m x.in_order) in
       let entry = subst (λ v. IsChildEntry p.states v (entry_of p) x.entry) used x.is_entry in
       let listed = map_contains (with_entry p q s) (entries_of p) x.entry (entry_is_listed p.states (used_count p.states (entry_of p)) (entry_of p) x.entry m entry) in
-      let state = same_state (entry_of p) x.count k x.state q x.symbol s x.stops h in
-      let symbol = same_read (entry_of p) x.count k x.state q x.symbol s x.stops h in
+      let state = same_state (entry_of p) x.count k x.state q x.symbol s x.halts h in
+      let symbol = same_read (entry_of p) x.count k x.state q x.symbol s x.halts h in
       let same : t ≡ with_entry p q s x.entry = x.is ∙ ap (λ y. with_entry p y x.symbol x.entry) state ∙ ap (λ r. with_entry p q r x.entry) symbol in
       subst (λ (ts : List Packed). Contains ts t) (sym (some_children p q s x.undefined)) (subst (Contains (map (with_entry p q s) (entries_of p))) (sym same) listed)
 

@@ -2,35 +2,35 @@
 use Rattle.std.proofs.Common.{◌≡◌, ℕ, ◌≤◌, Option, Some, None, refl, sym, ◌∙◌, ap, subst, ◌⊎◌, inl, inr, ◌↔◌}
 use Rattle.machine_text.specs.Packed.{Packed, IsTable, entry_of}
 use Rattle.turing.specs.Program.{Program}
-use Rattle.turing.specs.Halting.{Stops, Never}
+use Rattle.turing.specs.Halting.{HaltsAt, Never}
 use Rattle.turing.proofs.RunLaws.{one_count}
 use Rattle.tree.specs.Used.{InOrder}
 use Rattle.tree.specs.Tables.{IsChildTable, InTableTree, IsDecidedTable, IsBestOfTable, IsGreatestInTables}
 use Rattle.tree.specs.Tables.InTableTree.{Itself, OfChild}
 use Rattle.tree.specs.Closed.{Mark, IsTrueMark, IsVerdict, IsClosed, IsComplete, IsGreatestRecorded}
-use Rattle.tree.specs.Closed.Mark.{Stopping, NonStopping, Undecided}
+use Rattle.tree.specs.Closed.Mark.{Halting, NonHalting, Holdout}
 use Rattle.tree.proofs.Worth.{IsWorth}
 use Rattle.tree.proofs.TableLaws.{table_best}
 
--- a mark that gives a verdict: the table stops in so many steps, or never does
-verdict_cases : (o : Option Mark) → IsVerdict o → ((k : ℕ) × (o ≡ Some (Stopping k))) ⊎ (o ≡ Some NonStopping)
+-- a mark that gives a verdict: the table halts in so many steps, or never does
+verdict_cases : (o : Option Mark) → IsVerdict o → ((k : ℕ) × (o ≡ Some (Halting k))) ⊎ (o ≡ Some NonHalting)
 verdict_cases None v = absurd v
-verdict_cases (Some (Stopping k)) v = inl (k, refl)
-verdict_cases (Some NonStopping) v = inr refl
-verdict_cases (Some Undecided) v = absurd v
+verdict_cases (Some (Halting k)) v = inl (k, refl)
+verdict_cases (Some NonHalting) v = inr refl
+verdict_cases (Some Holdout) v = absurd v
 
 -- nothing is recorded, or a holdout, or a verdict
-mark_cases : (o : Option Mark) → (o ≡ None) ⊎ ((o ≡ Some Undecided) ⊎ IsVerdict o)
+mark_cases : (o : Option Mark) → (o ≡ None) ⊎ ((o ≡ Some Holdout) ⊎ IsVerdict o)
 mark_cases None = inl refl
-mark_cases (Some (Stopping k)) = inr (inr tt)
-mark_cases (Some NonStopping) = inr (inr tt)
-mark_cases (Some Undecided) = inr (inl refl)
+mark_cases (Some (Halting k)) = inr (inr tt)
+mark_cases (Some NonHalting) = inr (inr tt)
+mark_cases (Some Holdout) = inr (inl refl)
 
 -- two true verdicts on a table are one
 pub one_mark : (t : Packed) (a b : Option Mark) → IsTrueMark t a → IsTrueMark t b → IsVerdict a → IsVerdict b → a ≡ b
 one_mark t a b p q v w = elim (verdict_cases a v) [
   | inl x ↦ elim (verdict_cases b w) [
-    | inl y ↦ x.1 ∙ ap (λ j. Some (Stopping j)) (one_count (entry_of t) x.0 y.0 (subst (IsTrueMark t) x.1 p) (subst (IsTrueMark t) y.1 q)) ∙ sym y.1
+    | inl y ↦ x.1 ∙ ap (λ j. Some (Halting j)) (one_count (entry_of t) x.0 y.0 (subst (IsTrueMark t) x.1 p) (subst (IsTrueMark t) y.1 q)) ∙ sym y.1
     | inr y ↦ absurd (never_stops (subst (IsTrueMark t) y q) x.0 (subst (IsTrueMark t) x.1 p))
   ]
   | inr x ↦ elim (verdict_cases b w) [
@@ -39,30 +39,30 @@ one_mark t a b p q v w = elim (verdict_cases a v) [
   ]
 ]
   where
-    never_stops : Never (entry_of t) → (k : ℕ) → Stops (entry_of t) k → ⊥
+    never_stops : Never (entry_of t) → (k : ℕ) → HaltsAt (entry_of t) k → ⊥
     never_stops never k h = never k h
 
 -- the marks are true
 module _ (root : Packed) (marks : Packed → Option Mark) (true_marks : (t : Packed) → IsTrueMark t (marks t)) where
-  pub stops_marked : (t : Packed) (k : ℕ) → marks t ≡ Some (Stopping k) → Stops (entry_of t) k
+  pub stops_marked : (t : Packed) (k : ℕ) → marks t ≡ Some (Halting k) → HaltsAt (entry_of t) k
   stops_marked t k is = subst (IsTrueMark t) is (true_marks t)
 
-  never_marked : (t : Packed) → marks t ≡ Some NonStopping → Never (entry_of t)
+  never_marked : (t : Packed) → marks t ≡ Some NonHalting → Never (entry_of t)
   never_marked t is = subst (IsTrueMark t) is (true_marks t)
 
-  -- a table with a verdict that stops is recorded as stopping
-  stopping_is_marked : (t : Packed) (k : ℕ) → IsVerdict (marks t) → Stops (entry_of t) k → marks t ≡ Some (Stopping k)
-  stopping_is_marked t k v stops = elim (verdict_cases (marks t) v) [
-    | inl there ↦ there.1 ∙ ap (λ j. Some (Stopping j)) (one_count (entry_of t) there.0 k (stops_marked t there.0 there.1) stops)
-    | inr never ↦ absurd (never_marked t never k stops)
+  -- a table with a verdict that halts is recorded as halting
+  stopping_is_marked : (t : Packed) (k : ℕ) → IsVerdict (marks t) → HaltsAt (entry_of t) k → marks t ≡ Some (Halting k)
+  stopping_is_marked t k v halts = elim (verdict_cases (marks t) v) [
+    | inl there ↦ there.1 ∙ ap (λ j. Some (Halting j)) (one_count (entry_of t) there.0 k (stops_marked t there.0 there.1) halts)
+    | inr never ↦ absurd (never_marked t never k halts)
   ]
 
   -- a child of a closed table is closed
   pub closed_child : (p c : Packed) → IsClosed root marks p → IsChildTable p c → IsClosed root marks c
   closed_child p c closed x = elim (mark_cases (marks c)) [
     | inl unmarked ↦ (
-        let stops = stopping_is_marked p x.count closed.verdict x.stops.stops in
-        absurd (closed.none_open c (OfChild x Itself) (record { unmarked = unmarked; place = inr (p, x.count, stops, x) })))
+        let halts = stopping_is_marked p x.count closed.verdict x.halts.halts in
+        absurd (closed.none_open c (OfChild x Itself) (record { unmarked = unmarked; place = inr (p, x.count, halts, x) })))
     | inr (inl held) ↦ absurd (closed.no_holdout c (OfChild x Itself) held)
     | inr (inr verdict) ↦ record { verdict = verdict; none_open = λ t below. closed.none_open t (OfChild x below); no_holdout = λ t below. closed.no_holdout t (OfChild x below) }
   ]
@@ -90,12 +90,12 @@ module _ (root : Packed) (marks : Packed → Option Mark) (true_marks : (t : Pac
     | inr (inr verdict) ↦ record { verdict = verdict; none_open = λ t below. complete.none_open t; no_holdout = λ t below. complete.no_holdout t }
   ]
 
-  -- the recorded value of a table that stops is its worth
-  module _ (V : Program → ℕ → Type 0) (w : IsWorth V) (value : Packed → ℕ → ℕ) (worth : (t : Packed) (k : ℕ) → marks t ≡ Some (Stopping k) → V (entry_of t) (value t k)) where
+  -- the recorded value of a table that halts is its worth
+  module _ (V : Program → ℕ → Type 0) (w : IsWorth V) (value : Packed → ℕ → ℕ) (worth : (t : Packed) (k : ℕ) → marks t ≡ Some (Halting k) → V (entry_of t) (value t k)) where
     recorded_is_greatest : (p : Packed) → IsClosed root marks p → (b : Option ℕ) → IsGreatestInTables V p b ↔ IsGreatestRecorded value marks p b
     recorded_is_greatest p closed b = (there b, back b)
       where
-        mark_of : (t : Packed) (s : ℕ) → InTableTree p t → V (entry_of t) s → (k : ℕ) × (marks t ≡ Some (Stopping k)) × (s ≡ value t k)
+        mark_of : (t : Packed) (s : ℕ) → InTableTree p t → V (entry_of t) s → (k : ℕ) × (marks t ≡ Some (Halting k)) × (s ≡ value t k)
         mark_of t s below v =
             let h = w.halts (entry_of t) s v in
             let is = stopping_is_marked t h.0 (closed_verdict p t closed below) h.1 in

@@ -13,7 +13,7 @@ use Rattle.turing.specs.Mirror.{mirrored}
 use Rattle.turing.proofs.Extensions.{never_extends}
 use Rattle.tree.specs.Filling.{filled, IsEmpty}
 use Rattle.tree.specs.Used.{InOrder}
-use Rattle.tree.specs.Children.{StopsOn, IsChildEntry}
+use Rattle.tree.specs.Children.{HaltsOn, IsChildEntry}
 use Rattle.tree.specs.Best.{Attains}
 use Rattle.tree.proofs.Filling.{cases_option, extends_itself, extends_twice, extends_filled, filled_extends, filled_machine}
 use Rattle.tree.proofs.Holes.{cases_empty, only_one}
@@ -34,14 +34,14 @@ module _ (V : Program → ℕ → Type 0) (w : IsWorth V) where
   pub attains_child : (n : ℕ) (m : Program) (q : ℕ) (s : Sym) (e : Entry) (t : ℕ) → m q s ≡ None → Attains V n (filled m q s e) t → Attains V n m t
   attains_child n m q s e t none a = attains_below n (filled m q s e) m t (filled_extends m q s e none) a
 
-  -- no extension of a machine that never stops attains anything
+  -- no extension of a machine that never halts attains anything
   pub never_attains : (n : ℕ) (m : Program) (t : ℕ) → Never m → Attains V n m t → ⊥
   never_attains n m t never a =
       let h = w.halts a.big t a.worth in
       never_extends a.big m a.extends never h.0 h.1
 
-  -- an extension of a machine that stops on its only undefined pair stops there, or is full
-  pub only_attains : (n : ℕ) (m : Program) (k q : ℕ) (s : Sym) (t : ℕ) → IsMachine n m → holes n m ≤ 1 → StopsOn m k q s → Attains V n m t → V m t
+  -- an extension of a machine that halts on its only undefined pair halts there, or is full
+  pub only_attains : (n : ℕ) (m : Program) (k q : ℕ) (s : Sym) (t : ℕ) → IsMachine n m → holes n m ≤ 1 → HaltsOn m k q s → Attains V n m t → V m t
   only_attains n m k q s t i one h a = elim (cases_option (a.big q s)) [
     | inl none ↦ w.down a.big m k q s t a.extends h none a.worth
     | inr there ↦ (
@@ -52,8 +52,8 @@ module _ (V : Program → ℕ → Type 0) (w : IsWorth V) where
         absurd (never_attains n (filled m q s e) t full (record { big = a.big; is_machine = a.is_machine; extends = extends_filled a.big m q s e a.extends there.1; worth = a.worth })))
   ]
 
-  -- m stops in k on a pair, in order; t is attained by m itself or by a child
-  module _ (n u : ℕ) (m : Program) (k q : ℕ) (s : Sym) (t : ℕ) (i : IsMachine n m) (o : InOrder u m) (h : StopsOn m k q s) where
+  -- m halts in k on a pair, in order; t is attained by m itself or by a child
+  module _ (n u : ℕ) (m : Program) (k q : ℕ) (s : Sym) (t : ℕ) (i : IsMachine n m) (o : InOrder u m) (h : HaltsOn m k q s) where
     abbrev ByChild : Type 0
     ByChild = (e : Entry) × IsChildEntry n u m e × Attains V n (filled m q s e) t
 

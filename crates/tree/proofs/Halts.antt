@@ -1,5 +1,5 @@
--- Where a run stops: on an undefined pair of a used state; a full machine never does; and a machine whose
--- extension leaves that pair undefined stops as the extension does.
+-- Where a run halts: on an undefined pair of a used state; a full machine never does; and a machine whose
+-- extension leaves that pair undefined halts as the extension does.
 use Rattle.std.proofs.Common.{◌≡◌, ℕ, suc, zero, ◌<◌, Some, None, refl, sym, ◌∙◌, ap, subst, arith}
 use Rattle.std.proofs.lemmas.Option.{same_Some}
 use Rattle.machine_text.specs.declared.transition.Sym.{Sym}
@@ -8,14 +8,14 @@ use Rattle.machine_text.specs.Packed.{holes}
 use Rattle.turing.specs.Program.{Program, IsMachine}
 use Rattle.turing.specs.Tape.{symbol_read}
 use Rattle.turing.specs.Run.{Config, start, done_by, next, after}
-use Rattle.turing.specs.Halting.{Stops, Never}
+use Rattle.turing.specs.Halting.{HaltsAt, Never}
 use Rattle.turing.specs.Extension.{Extends}
 use Rattle.turing.proofs.Steps.{takes, halts_at_pair}
 use Rattle.turing.proofs.RunLaws.{from_zero, next_is, before}
 use Rattle.turing.proofs.Extensions.{same_run}
 use Rattle.tree.specs.Used.{InOrder}
 use Rattle.tree.specs.Used.IsUsed.{Target}
-use Rattle.tree.specs.Children.{StopsOn}
+use Rattle.tree.specs.Children.{HaltsOn}
 use Rattle.tree.proofs.Used.{some_used}
 use Rattle.tree.proofs.Holes.{none_open}
 
@@ -30,34 +30,34 @@ state_within P m first targets (suc k) c is =
     let t = takes m b.0 c (sym (next_is m k start b.0 b.1) ∙ is) in
     subst P (sym t.1.state) (targets b.0.state (symbol_read b.0.tape) t.0 t.1.is)
 
--- the pair on which a run stops is undefined
-pub stops_at_pair : (m : Program) (k : ℕ) (h : Stops m k) → m h.at.state (symbol_read h.at.tape) ≡ None
+-- the pair on which a run halts is undefined
+pub stops_at_pair : (m : Program) (k : ℕ) (h : HaltsAt m k) → m h.at.state (symbol_read h.at.tape) ≡ None
 stops_at_pair m k h = halts_at_pair m h.at h.over
 
-pub pair_undefined : (m : Program) (k q : ℕ) (s : Sym) → StopsOn m k q s → m q s ≡ None
-pair_undefined m k q s h = rw (← h.state, ← h.symbol) (stops_at_pair m k h.stops)
+pub pair_undefined : (m : Program) (k q : ℕ) (s : Sym) → HaltsOn m k q s → m q s ≡ None
+pair_undefined m k q s h = rw (← h.state, ← h.symbol) (stops_at_pair m k h.halts)
 
--- a run that stops does so on a pair
-pub stops_on : (m : Program) (k : ℕ) (h : Stops m k) → StopsOn m k h.at.state (symbol_read h.at.tape)
-stops_on m k h = record { stops = h; state = refl; symbol = refl }
+-- a run that halts does so on a pair
+pub stops_on : (m : Program) (k : ℕ) (h : HaltsAt m k) → HaltsOn m k h.at.state (symbol_read h.at.tape)
+stops_on m k h = record { halts = h; state = refl; symbol = refl }
 
 -- its state is one of the n states, and a used one
-pub pair_within : (n : ℕ) (m : Program) (k q : ℕ) (s : Sym) → IsMachine n m → StopsOn m k q s → q < n
-pair_within n m k q s i h = rw (← h.state) (state_within (λ x. x < n) m (let some = i.some in omega arith) i.inside h.stops.last h.stops.at h.stops.is)
+pub pair_within : (n : ℕ) (m : Program) (k q : ℕ) (s : Sym) → IsMachine n m → HaltsOn m k q s → q < n
+pair_within n m k q s i h = rw (← h.state) (state_within (λ x. x < n) m (let some = i.some in omega arith) i.inside h.halts.last h.halts.at h.halts.is)
 
-pub pair_used : (u : ℕ) (m : Program) (k q : ℕ) (s : Sym) → InOrder u m → StopsOn m k q s → q < u
+pub pair_used : (u : ℕ) (m : Program) (k q : ℕ) (s : Sym) → InOrder u m → HaltsOn m k q s → q < u
 pair_used u m k q s o h =
-    rw (← h.state) (state_within (λ x. x < u) m (some_used u m o) (λ p r e is. o.only e.next.0 (Target p r e is refl)) h.stops.last h.stops.at h.stops.is)
+    rw (← h.state) (state_within (λ x. x < u) m (some_used u m o) (λ p r e is. o.only e.next.0 (Target p r e is refl)) h.halts.last h.halts.at h.halts.is)
 
--- a machine in which each pair has an entry never stops
+-- a machine in which each pair has an entry never halts
 pub full_never : (n : ℕ) (m : Program) → IsMachine n m → holes n m ≡ 0 → Never m
 full_never n m i full k h =
     let on = stops_on m k h in
     none_open n m full h.at.state (symbol_read h.at.tape) (pair_within n m k h.at.state (symbol_read h.at.tape) i on) (stops_at_pair m k h)
 
--- where an extension leaves the pair undefined, it stops there too
-pub stops_too : (big m : Program) (k q : ℕ) (s : Sym) → Extends big m → (h : StopsOn m k q s) → big q s ≡ None → (b : Stops big k) × (b.at ≡ h.stops.at)
+-- where an extension leaves the pair undefined, it halts there too
+pub stops_too : (big m : Program) (k q : ℕ) (s : Sym) → Extends big m → (h : HaltsOn m k q s) → big q s ≡ None → (b : HaltsAt big k) × (b.at ≡ h.halts.at)
 stops_too big m k q s x h none =
-    let gone : big h.stops.at.state (symbol_read h.stops.at.tape) ≡ None = rw (h.state, h.symbol) none in
-    let over : next big h.stops.at ≡ None = ap (done_by h.stops.at) gone in
-    (record { last = h.stops.last; at = h.stops.at; is = same_run big m x h.stops.last start h.stops.at h.stops.is; over = over; count = h.stops.count }, refl)
+    let gone : big h.halts.at.state (symbol_read h.halts.at.tape) ≡ None = rw (h.state, h.symbol) none in
+    let over : next big h.halts.at ≡ None = ap (done_by h.halts.at) gone in
+    (record { last = h.halts.last; at = h.halts.at; is = same_run big m x h.halts.last start h.halts.at h.halts.is; over = over; count = h.halts.count }, refl)

@@ -1,4 +1,4 @@
--- The tree of the one-state machine without entries: it stops at once, and its children never do.
+-- The tree of the one-state machine without entries: it halts at once, and its children never do.
 use Rattle.std.proofs.Common.{◌≡◌, ℕ, ◌≤◌, pos, Some, refl, sym, ◌∙◌, ap, subst, ◌⊎◌, inl, inr, arith}
 use Rattle.std.proofs.lemmas.Option.{same_Some, none-some}
 use Rattle.machine_text.specs.declared.transition.Sym.TheVariants.{Zero}
@@ -6,7 +6,7 @@ use Rattle.machine_text.specs.declared.transition.Entry.{Entry}
 use Rattle.turing.specs.Program.{Program, IsMachine}
 use Rattle.turing.specs.Run.{Config, start, after, next}
 use Rattle.turing.specs.Tape.{symbol_read}
-use Rattle.turing.specs.Halting.{Stops, Never}
+use Rattle.turing.specs.Halting.{HaltsAt, Never}
 use Rattle.turing.proofs.RunLaws.{from_zero, one_end}
 use Rattle.turing.proofs.Steps.{next_taken}
 use Rattle.turing.proofs.OneState.{start_blank, rado_of_one}
@@ -18,35 +18,35 @@ use Rattle.tree.proofs.Filling.{empty_is_machine}
 use Rattle.tree.proofs.TreeLaws.{child_machine}
 use Rattle.tree.proofs.Parents.{child_at}
 
--- without an entry at its first pair a machine stops at once
-abbrev empty_stops : Stops empty_machine 1
+-- without an entry at its first pair a machine halts at once
+abbrev empty_stops : HaltsAt empty_machine 1
 empty_stops = record { last = 0; at = start; is = from_zero empty_machine start; over = refl; count = refl }
 
--- a one-state machine with an entry there never stops
+-- a one-state machine with an entry there never halts
 moves_for_ever : (c : Program) (e : Entry) → IsMachine 1 c → c 0 Zero ≡ Some e → Never c
-moves_for_ever c e i is k stops =
-    let once : k ≤ 1 = rado_of_one.greatest c k i stops in
-    let first : stops.last ≡ 0 = let count = stops.count in omega arith in
-    let at : stops.at ≡ start = same_Some stops.at start (sym stops.is ∙ ap (after c) first ∙ from_zero c start) in
+moves_for_ever c e i is k halts =
+    let once : k ≤ 1 = rado_of_one.greatest c k i halts in
+    let first : halts.last ≡ 0 = let count = halts.count in omega arith in
+    let at : halts.at ≡ start = same_Some halts.at start (sym halts.is ∙ ap (after c) first ∙ from_zero c start) in
     let entry : c start.state (symbol_read start.tape) ≡ Some e = ap (c 0) (start_blank (pos 0)) ∙ is in
-    none-some _ (sym stops.over ∙ ap (next c) at ∙ next_taken c start e entry)
+    none-some _ (sym halts.over ∙ ap (next c) at ∙ next_taken c start e entry)
 
--- so each child of the empty machine never stops
+-- so each child of the empty machine never halts
 child_never : (c : Program) → IsChild 1 empty_machine c → Never c
 child_never c x =
-    let at : x.stops.stops.at ≡ start = one_end empty_machine x.count 1 x.stops.stops empty_stops in
-    let state : x.state ≡ 0 = sym x.stops.state ∙ ap (λ (d : Config). d.state) at in
-    let symbol : x.symbol ≡ Zero = sym x.stops.symbol ∙ ap (λ (d : Config). symbol_read d.tape) at ∙ start_blank (pos 0) in
+    let at : x.halts.halts.at ≡ start = one_end empty_machine x.count 1 x.halts.halts empty_stops in
+    let state : x.state ≡ 0 = sym x.halts.state ∙ ap (λ (d : Config). d.state) at in
+    let symbol : x.symbol ≡ Zero = sym x.halts.symbol ∙ ap (λ (d : Config). symbol_read d.tape) at ∙ start_blank (pos 0) in
     let there : c 0 Zero ≡ Some x.entry = sym (ap (λ q. c q x.symbol) state ∙ ap (c 0) symbol) ∙ child_at 1 empty_machine c x in
     moves_for_ever c x.entry (child_machine 1 empty_machine c (empty_is_machine 1 (omega arith)) x) there
 
--- a machine that never stops has no children
-never_alone : (m t : Program) → Never m → InTree 1 m t → ((k : ℕ) × Stops t k) ⊎ Never t
+-- a machine that never halts has no children
+never_alone : (m t : Program) → Never m → InTree 1 m t → ((k : ℕ) × HaltsAt t k) ⊎ Never t
 never_alone m t never Root = inr never
-never_alone m t never (Below x below) = absurd (never x.count x.stops.stops)
+never_alone m t never (Below x below) = absurd (never x.count x.halts.halts)
 
-decided_from : (m t : Program) → m ≡ empty_machine → InTree 1 m t → ((k : ℕ) × Stops t k) ⊎ Never t
-decided_from m t is Root = inl (1, subst (λ (p : Program). Stops p 1) (sym is) empty_stops)
+decided_from : (m t : Program) → m ≡ empty_machine → InTree 1 m t → ((k : ℕ) × HaltsAt t k) ⊎ Never t
+decided_from m t is Root = inl (1, subst (λ (p : Program). HaltsAt p 1) (sym is) empty_stops)
 decided_from m t is (Below {c} x below) = never_alone c t (child_never c (subst (λ (p : Program). IsChild 1 p c) is x)) below
 
 pub one_state_decided : IsDecided 1 empty_machine

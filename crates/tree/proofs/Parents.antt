@@ -9,18 +9,18 @@ use Rattle.turing.specs.Tape.{symbol_read}
 use Rattle.turing.specs.Extension.{Extends}
 use Rattle.turing.proofs.RunLaws.{one_end}
 use Rattle.tree.specs.Filling.{filled}
-use Rattle.tree.specs.Children.{StopsOn, IsChild}
+use Rattle.tree.specs.Children.{HaltsOn, IsChild}
 use Rattle.tree.specs.Tree.{InTree}
 use Rattle.tree.specs.Tree.InTree.{Root, Below}
 use Rattle.tree.proofs.Filling.{filled_at, extends_itself, extends_twice}
 use Rattle.tree.proofs.TreeLaws.{child_machine, child_extends, child_holes}
 
--- a machine stops on one pair
-pub same_state : (m : Program) (j k q p : ℕ) (s r : Sym) → StopsOn m j q s → StopsOn m k p r → q ≡ p
-same_state m j k q p s r g h = sym g.state ∙ ap (λ (c : Config). c.state) (one_end m j k g.stops h.stops) ∙ h.state
+-- a machine halts on one pair
+pub same_state : (m : Program) (j k q p : ℕ) (s r : Sym) → HaltsOn m j q s → HaltsOn m k p r → q ≡ p
+same_state m j k q p s r g h = sym g.state ∙ ap (λ (c : Config). c.state) (one_end m j k g.halts h.halts) ∙ h.state
 
-pub same_read : (m : Program) (j k q p : ℕ) (s r : Sym) → StopsOn m j q s → StopsOn m k p r → s ≡ r
-same_read m j k q p s r g h = sym g.symbol ∙ ap (λ (c : Config). symbol_read c.tape) (one_end m j k g.stops h.stops) ∙ h.symbol
+pub same_read : (m : Program) (j k q p : ℕ) (s r : Sym) → HaltsOn m j q s → HaltsOn m k p r → s ≡ r
+same_read m j k q p s r g h = sym g.symbol ∙ ap (λ (c : Config). symbol_read c.tape) (one_end m j k g.halts h.halts) ∙ h.symbol
 
 -- a machine of the tree extends the root, and has no more undefined pairs
 pub tree_machine : (n : ℕ) (m t : Program) → IsMachine n m → InTree n m t → IsMachine n t
@@ -38,15 +38,15 @@ tree_holes n m t i (Below {c} x below) =
     let less = tree_holes n c t (child_machine n m c i x) below in
     omega arith
 
--- the child's entry stands at the pair on which the parent stops
+-- the child's entry stands at the pair on which the parent halts
 pub child_at : (n : ℕ) (m c : Program) (x : IsChild n m c) → c x.state x.symbol ≡ Some x.entry
 child_at n m c x = rw x.is (filled_at m x.state x.symbol x.entry)
 
 -- two children of one machine that a third one extends are one
 pub same_child : (n : ℕ) (m c d t : Program) → IsChild n m c → IsChild n m d → Extends t c → Extends t d → c ≡ d
 same_child n m c d t x y f g =
-    let state = same_state m x.count y.count x.state y.state x.symbol y.symbol x.stops y.stops in
-    let symbol = same_read m x.count y.count x.state y.state x.symbol y.symbol x.stops y.stops in
+    let state = same_state m x.count y.count x.state y.state x.symbol y.symbol x.halts y.halts in
+    let symbol = same_read m x.count y.count x.state y.state x.symbol y.symbol x.halts y.halts in
     let here : t x.state x.symbol ≡ Some x.entry = f.is x.state x.symbol x.entry (child_at n m c x) in
     let there : t y.state y.symbol ≡ Some y.entry = g.is y.state y.symbol y.entry (child_at n m d y) in
     let entry : x.entry ≡ y.entry = same_Some x.entry y.entry (sym here ∙ ap (λ q. t q x.symbol) state ∙ ap (t y.state) symbol ∙ there) in

@@ -1,7 +1,7 @@
 -- Every machine extends the empty one, so its best is the greatest of all machines.
 use Rattle.std.proofs.Common.{ℕ, ◌≤◌, Some, ◌↔◌}
 use Rattle.turing.specs.Program.{Program}
-use Rattle.turing.specs.Halting.{Stops, IsRado}
+use Rattle.turing.specs.Halting.{HaltsAt, IsRado}
 use Rattle.tree.specs.Filling.{empty_machine}
 use Rattle.tree.specs.Tree.{IsDecided, IsGreatestInTree}
 use Rattle.tree.specs.Best.{IsBest, IsGreatestOfAll}
@@ -28,8 +28,8 @@ module _ (V : Program → ℕ → Type 0) where
       (λ g. (best_of_empty n s).0 (same.1 g), λ all. same.0 ((best_of_empty n s).1 all))
 
 -- of the numbers of steps that is Radó's number
-pub rado_is_greatest : (n s : ℕ) → IsGreatestOfAll Stops n s ↔ IsRado n s
+pub rado_is_greatest : (n s : ℕ) → IsGreatestOfAll HaltsAt n s ↔ IsRado n s
 rado_is_greatest n s = (
-  λ g. record { champion = g.champion; is_machine = g.is_machine; stops = g.worth; greatest = g.greatest },
-  λ r. record { champion = r.champion; is_machine = r.is_machine; worth = r.stops; greatest = r.greatest },
+  λ g. record { champion = g.champion; is_machine = g.is_machine; halts = g.worth; greatest = g.greatest },
+  λ r. record { champion = r.champion; is_machine = r.is_machine; worth = r.halts; greatest = r.greatest },
 )

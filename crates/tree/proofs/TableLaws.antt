@@ -3,7 +3,7 @@ use Rattle.std.proofs.Common.{◌≡◌, ℕ, ◌+◌, Option, Some, None, refl,
 use Prim.Native.Nat.{max}
 use Rattle.machine_text.specs.Packed.{Packed, IsTable, entry_of, with_entry, tabulated}
 use Rattle.turing.specs.Program.{Program, IsMachine}
-use Rattle.turing.specs.Halting.{Stops, Never}
+use Rattle.turing.specs.Halting.{HaltsAt, Never}
 use Rattle.turing.specs.Extension.{Extends}
 use Rattle.tree.specs.Used.{InOrder}
 use Rattle.tree.specs.Children.{IsChild}
@@ -27,7 +27,7 @@ pub record IsAlike (p t : Packed) : Type 0 where
 -- a child of a table is a table of as many states
 pub child_alike : (p t : Packed) → IsTable p → IsChildTable p t → IsAlike p t
 child_alike p t i x =
-    let within = pair_within p.states (entry_of p) x.count x.state x.symbol (table_machine p i) x.stops in
+    let within = pair_within p.states (entry_of p) x.count x.state x.symbol (table_machine p i) x.halts in
     record {
       is_table = rw x.is (with_entry_table p x.state x.symbol x.entry i within x.is_entry.within);
       states = ap (λ (y : Packed). y.states) x.is ∙ with_entry_states p x.state x.symbol x.entry;
@@ -36,14 +36,14 @@ child_alike p t i x =
 -- its map is a child of the map
 pub child_map : (p t : Packed) → IsTable p → IsChildTable p t → IsChild p.states (entry_of p) (entry_of t)
 child_map p t i x =
-    let within = pair_within p.states (entry_of p) x.count x.state x.symbol (table_machine p i) x.stops in
+    let within = pair_within p.states (entry_of p) x.count x.state x.symbol (table_machine p i) x.halts in
     record {
       used = x.used;
       in_order = x.in_order;
       count = x.count;
       state = x.state;
       symbol = x.symbol;
-      stops = x.stops;
+      halts = x.halts;
       undefined = x.undefined;
       entry = x.entry;
       is_entry = x.is_entry;
@@ -53,7 +53,7 @@ child_map p t i x =
 -- each child of the map is the map of a child
 pub child_table : (p : Packed) (c : Program) → IsTable p → IsChild p.states (entry_of p) c → (t : Packed) × IsChildTable p t × (entry_of t ≡ c)
 child_table p c i x =
-    let within = pair_within p.states (entry_of p) x.count x.state x.symbol (table_machine p i) x.stops in (
+    let within = pair_within p.states (entry_of p) x.count x.state x.symbol (table_machine p i) x.halts in (
       with_entry p x.state x.symbol x.entry,
       record {
         used = x.used;
@@ -61,7 +61,7 @@ child_table p c i x =
         count = x.count;
         state = x.state;
         symbol = x.symbol;
-        stops = x.stops;
+        halts = x.halts;
         undefined = x.undefined;
         entry = x.entry;
         is_entry = x.is_entry;
@@ -110,7 +110,7 @@ tree_table n m x p i states maps (Below {c} child below) =
 pub decided_map : (p : Packed) → IsTable p → IsDecidedTable p → IsDecided p.states (entry_of p)
 decided_map p i decided m x =
     let (t, below, same) = tree_table p.states (entry_of p) m p i refl refl x in
-    subst (λ (y : Program). ((k : ℕ) × Stops y k) ⊎ Never y) same (decided t below)
+    subst (λ (y : Program). ((k : ℕ) × HaltsAt y k) ⊎ Never y) same (decided t below)
 
 -- tables are one where their maps are
 pub one_table_parent : (p a b t : Packed) → IsTable p → InTableTree p a → InTableTree p b → IsChildTable a t → IsChildTable b t → a ≡ b

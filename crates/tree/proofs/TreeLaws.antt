@@ -22,18 +22,18 @@ use Rattle.tree.proofs.Extensions.{attains_itself, attains_below, never_attains,
 -- a child is a machine in order, and extends its parent by one pair
 pub child_machine : (n : ℕ) (m c : Program) → IsMachine n m → IsChild n m c → IsMachine n c
 child_machine n m c i x =
-    rw x.is (filled_machine n m x.state x.symbol x.entry i (pair_within n m x.count x.state x.symbol i x.stops) x.is_entry.within)
+    rw x.is (filled_machine n m x.state x.symbol x.entry i (pair_within n m x.count x.state x.symbol i x.halts) x.is_entry.within)
 
 pub child_in_order : (n : ℕ) (m c : Program) (x : IsChild n m c) → InOrder (max x.used (x.entry.next.0 + 1)) c
 child_in_order n m c x =
-    rw x.is (filled_in_order x.used m x.state x.symbol x.entry x.in_order (pair_used x.used m x.count x.state x.symbol x.in_order x.stops) (pair_undefined m x.count x.state x.symbol x.stops) x.is_entry.target)
+    rw x.is (filled_in_order x.used m x.state x.symbol x.entry x.in_order (pair_used x.used m x.count x.state x.symbol x.in_order x.halts) (pair_undefined m x.count x.state x.symbol x.halts) x.is_entry.target)
 
 pub child_extends : (n : ℕ) (m c : Program) → IsChild n m c → Extends c m
-child_extends n m c x = rw x.is (filled_extends m x.state x.symbol x.entry (pair_undefined m x.count x.state x.symbol x.stops))
+child_extends n m c x = rw x.is (filled_extends m x.state x.symbol x.entry (pair_undefined m x.count x.state x.symbol x.halts))
 
 pub child_holes : (n : ℕ) (m c : Program) → IsMachine n m → IsChild n m c → holes n m ≡ holes n c + 1
 child_holes n m c i x =
-    rw x.is (holes_filled n m x.state x.symbol x.entry (pair_within n m x.count x.state x.symbol i x.stops) (pair_undefined m x.count x.state x.symbol x.stops))
+    rw x.is (holes_filled n m x.state x.symbol x.entry (pair_within n m x.count x.state x.symbol i x.halts) (pair_undefined m x.count x.state x.symbol x.halts))
 
 -- a child of a machine of the tree stands in the tree
 pub tree_child : (n : ℕ) (m p t : Program) → InTree n m p → IsChild n p t → InTree n m t
@@ -54,24 +54,24 @@ module _ (V : Program → ℕ → Type 0) (w : IsWorth V) where
   pub attained_in_tree : (d n u : ℕ) (m : Program) (k : ℕ) → holes n m ≤ d → IsMachine n m → InOrder u m → IsDecided n m → Attains V n m k → (t : Program) × InTree n m t × V t k
   attained_in_tree zero n u m k le i o decided a = elim (decided m Root) [
     | inr never ↦ absurd (never_attains V w n m k never a)
-    | inl stops ↦ (
-        let h = stops_on m stops.0 stops.1 in
-        (m, Root, only_attains V w n m stops.0 stops.1.at.state (symbol_read stops.1.at.tape) k i (omega arith) h a))
+    | inl halts ↦ (
+        let h = stops_on m halts.0 halts.1 in
+        (m, Root, only_attains V w n m halts.0 halts.1.at.state (symbol_read halts.1.at.tape) k i (omega arith) h a))
   ]
   attained_in_tree (suc d) n u m k le i o decided a = elim (decided m Root) [
     | inr never ↦ absurd (never_attains V w n m k never a)
-    | inl stops ↦ (
-        let q = stops.1.at.state in
-        let s = symbol_read stops.1.at.tape in
-        let h = stops_on m stops.0 stops.1 in
+    | inl halts ↦ (
+        let q = halts.1.at.state in
+        let s = symbol_read halts.1.at.tape in
+        let h = stops_on m halts.0 halts.1 in
         elim (cases_lt 1 (holes n m)) [
-          | inr one ↦ (m, Root, only_attains V w n m stops.0 q s k i one h a)
-          | inl two ↦ elim (covered V w n u m stops.0 q s k i o h a) [
+          | inr one ↦ (m, Root, only_attains V w n m halts.0 q s k i one h a)
+          | inl two ↦ elim (covered V w n u m halts.0 q s k i o h a) [
             | inl own ↦ (m, Root, own)
             | inr found ↦ (
                 let (e, entry, attained) = found in
                 let c = filled m q s e in
-                let x : IsChild n m c = record { used = u; in_order = o; count = stops.0; state = q; symbol = s; stops = h; undefined = two; entry = e; is_entry = entry; is = refl } in
+                let x : IsChild n m c = record { used = u; in_order = o; count = halts.0; state = q; symbol = s; halts = h; undefined = two; entry = e; is_entry = entry; is = refl } in
                 let fewer = child_holes n m c i x in
                 let (t, below, v) = attained_in_tree d n (max u (e.next.0 + 1)) c k (omega arith) (child_machine n m c i x) (child_in_order n m c x) (decided_below n m c decided x) attained in
                 (t, Below x below, v))

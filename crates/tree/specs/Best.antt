@@ -4,13 +4,13 @@ use Rattle.machine_text.specs.declared.transition.Entry.{Entry}
 use Rattle.turing.specs.Program.{Program, IsMachine}
 use Rattle.tree.specs.Children.{IsChildEntry}
 use Rattle.turing.specs.Extension.{Extends}
-use Rattle.turing.specs.Score.{StopsWith}
+use Rattle.turing.specs.Score.{HaltsWith}
 
--- the run from the blank tape stops with this score
+-- the run from the blank tape halts with this score
 abbrev pub Scores : Program → ℕ → Type 0
-Scores m s = (k : ℕ) × StopsWith m k s
+Scores m s = (k : ℕ) × HaltsWith m k s
 
--- some extension of m of n states has this worth: with `Stops`, it stops in so many steps
+-- some extension of m of n states has this worth: with `HaltsAt`, it halts in so many steps
 pub record Attains (V : Program → ℕ → Type 0) (n : ℕ) (m : Program) (t : ℕ) : Type 0 where
   pub big : Program
   pub is_machine : IsMachine n big

@@ -1,4 +1,4 @@
--- The children of a machine in tree normal form: it stops on a pair, and the pair gets an entry.
+-- The children of a machine in tree normal form: it halts on a pair, and the pair gets an entry.
 use Rattle.std.specs.Prelude.{◌≡◌, ℕ, ◌+◌, ◌*◌, ◌<◌, ◌≤◌, min, ◌==◌, ◌⊎◌, ◌++◌, if◌then◌else◌, List, map}
 use Rattle.std.specs.List.{range_with_len}
 use Rattle.machine_text.specs.declared.transition.Sym.{Sym}
@@ -9,15 +9,15 @@ use Rattle.machine_text.specs.declared.transition.Entry.{Entry}
 use Rattle.machine_text.specs.Packed.{holes, symbol_number, direction_number}
 use Rattle.turing.specs.Program.{Program}
 use Rattle.turing.specs.Tape.{symbol_read}
-use Rattle.turing.specs.Halting.{Stops}
+use Rattle.turing.specs.Halting.{HaltsAt}
 use Rattle.tree.specs.Filling.{filled, IsEmpty}
 use Rattle.tree.specs.Used.{InOrder}
 
--- the run from the blank tape stops in k steps, on the pair of state number q and the symbol s
-pub record StopsOn (m : Program) (k q : ℕ) (s : Sym) : Type 0 where
-  pub stops : Stops m k
-  pub state : stops.at.state ≡ q
-  pub symbol : symbol_read stops.at.tape ≡ s
+-- the run from the blank tape halts in k steps, on the pair of state number q and the symbol s
+pub record HaltsOn (m : Program) (k q : ℕ) (s : Sym) : Type 0 where
+  pub halts : HaltsAt m k
+  pub state : halts.at.state ≡ q
+  pub symbol : symbol_read halts.at.tape ≡ s
 
 -- an entry that a child gets, where the used states are the first u: its target is one of the n states, and a
 -- used one or the first unused one; the first move of all is to the right
@@ -26,14 +26,14 @@ pub record IsChildEntry (n u : ℕ) (m : Program) (e : Entry) : Type 0 where
   pub target : e.next.0 ≤ u
   pub right : IsEmpty m → e.dir ≡ R
 
--- t is a child of m: m stops on a pair, at least two pairs are undefined, and that pair gets such an entry
+-- t is a child of m: m halts on a pair, at least two pairs are undefined, and that pair gets such an entry
 pub record IsChild (n : ℕ) (m t : Program) : Type 0 where
   pub used : ℕ
   pub in_order : InOrder used m
   pub count : ℕ
   pub state : ℕ
   pub symbol : Sym
-  pub stops : StopsOn m count state symbol
+  pub halts : HaltsOn m count state symbol
   pub undefined : 2 ≤ holes n m
   pub entry : Entry
   pub is_entry : IsChildEntry n used m entry

@@ -5,12 +5,12 @@ use Rattle.machine_text.specs.declared.transition.Sym.{Sym}
 use Rattle.machine_text.specs.declared.transition.Entry.{Entry}
 use Rattle.machine_text.specs.Packed.{Packed, IsTable, entry_of, with_entry, holes}
 use Rattle.turing.specs.Program.{Program}
-use Rattle.turing.specs.Halting.{Stops, Never}
+use Rattle.turing.specs.Halting.{HaltsAt, Never}
 use Rattle.turing.specs.Extension.{Extends}
 use Rattle.tree.specs.Used.{InOrder, used_count}
-use Rattle.tree.specs.Children.{StopsOn, IsChildEntry, child_entries}
+use Rattle.tree.specs.Children.{HaltsOn, IsChildEntry, child_entries}
 
--- t is a child of p: p stops on a pair, at least two pairs are undefined, and that pair gets an entry whose
+-- t is a child of p: p halts on a pair, at least two pairs are undefined, and that pair gets an entry whose
 -- target is used or the first unused state; where p is empty, only to the right
 pub record IsChildTable (p t : Packed) : Type 0 where
   pub used : ℕ
@@ -18,13 +18,13 @@ pub record IsChildTable (p t : Packed) : Type 0 where
   pub count : ℕ
   pub state : ℕ
   pub symbol : Sym
-  pub stops : StopsOn (entry_of p) count state symbol
+  pub halts : HaltsOn (entry_of p) count state symbol
   pub undefined : 2 ≤ holes p.states (entry_of p)
   pub entry : Entry
   pub is_entry : IsChildEntry p.states used (entry_of p) entry
   pub is : t ≡ with_entry p state symbol entry
 
--- the children of a table in order that stops on a pair, in the order of their texts; none where only one pair is
+-- the children of a table in order that halts on a pair, in the order of their texts; none where only one pair is
 -- undefined
 unfoldable pub children_at : Packed → ℕ → Sym → List Packed
 children_at p q s =
@@ -36,11 +36,11 @@ pub data InTableTree : Packed → Packed → Type 0 where
   Itself : {p : Packed} → InTableTree p p
   OfChild : {p c t : Packed} → IsChildTable p c → InTableTree c t → InTableTree p t
 
--- each table of the tree stops or never does
+-- each table of the tree halts or never does
 abbrev pub IsDecidedTable : Packed → Type 0
-IsDecidedTable p = (t : Packed) → InTableTree p t → ((k : ℕ) × Stops (entry_of t) k) ⊎ Never (entry_of t)
+IsDecidedTable p = (t : Packed) → InTableTree p t → ((k : ℕ) × HaltsAt (entry_of t) k) ⊎ Never (entry_of t)
 
--- some extension of p, a table of as many states, has this worth: with `Stops`, it stops in so many steps
+-- some extension of p, a table of as many states, has this worth: with `HaltsAt`, it halts in so many steps
 pub record TableAttains (V : Program → ℕ → Type 0) (p : Packed) (k : ℕ) : Type 0 where
   pub big : Packed
   pub is_table : IsTable big

@@ -1,7 +1,7 @@
 -- The tree of a machine: the machine itself, and the trees of its children.
 use Rattle.std.specs.Prelude.{ℕ, ◌≤◌, ◌⊎◌, Option, Some, None}
 use Rattle.turing.specs.Program.{Program}
-use Rattle.turing.specs.Halting.{Stops, Never}
+use Rattle.turing.specs.Halting.{HaltsAt, Never}
 use Rattle.tree.specs.Children.{IsChild}
 
 -- the second machine stands in the tree of the first
@@ -9,9 +9,9 @@ pub data InTree (n : ℕ) : Program → Program → Type 0 where
   Root : {m : Program} → InTree n m m
   Below : {m c t : Program} → IsChild n m c → InTree n c t → InTree n m t
 
--- each machine of the tree stops or never does
+-- each machine of the tree halts or never does
 abbrev pub IsDecided : ℕ → Program → Type 0
-IsDecided n m = (t : Program) → InTree n m t → ((k : ℕ) × Stops t k) ⊎ Never t
+IsDecided n m = (t : Program) → InTree n m t → ((k : ℕ) × HaltsAt t k) ⊎ Never t
 
 -- the greatest worth (as the number of steps of a halting run) in the tree of m; none where no machine has one
 abbrev pub IsGreatestInTree : (Program → ℕ → Type 0) → ℕ → Program → Option ℕ → Type 0

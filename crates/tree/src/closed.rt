@@ -1,7 +1,7 @@
 // From what is recorded of the tables of a tree to the best of its root.
 ghost use Rattle.std.specs.Prelude.{◌≡◌, ◌↔◌, ℕ, ◌≤◌, Option, Some};
 ghost use Rattle.machine_text.specs.Packed.{Packed, IsTable, entry_of, empty_table};
-ghost use Rattle.turing.specs.Halting.{Stops, IsRado};
+ghost use Rattle.turing.specs.Halting.{HaltsAt, IsRado};
 ghost use Rattle.tree.specs.Used.{InOrder};
 ghost use Rattle.tree.specs.Best.{Scores, IsGreatestOfAll};
 ghost use Rattle.tree.specs.Tables.{InTableTree, IsDecidedTable, IsBestOfTable};
@@ -26,12 +26,12 @@ pub fn closed_tree()
 {}
 
 /// Closed means best: where what is recorded is true, the greatest number of steps recorded in the tree of
-/// a closed table is the greatest of all its extensions, and there is none where no extension stops. The
+/// a closed table is the greatest of all its extensions, and there is none where no extension halts. The
 /// same holds of scores, where the given ones are true.
 pub fn best_of_closed()
     ensures steps { (root p : Packed) (u : ℕ) (marks : Packed → Option Mark) (b : Option ℕ) → AreTrueMarks marks →
         IsTable p → InOrder u (entry_of p) → IsClosed root marks p →
-        IsBestOfTable Stops p b ↔ IsGreatestRecorded (λ t k. k) marks p b }
+        IsBestOfTable HaltsAt p b ↔ IsGreatestRecorded (λ t k. k) marks p b }
     ensures score { (root p : Packed) (u : ℕ) (marks : Packed → Option Mark) (scores : Packed → ℕ) (b : Option ℕ) →
         AreTrueMarks marks → AreTrueScores marks scores →
         IsTable p → InOrder u (entry_of p) → IsClosed root marks p →

@@ -1,7 +1,7 @@
 //! Tree normal form of two-symbol Turing machines: definitions in `specs/`, and their laws as contracts of
 //! functions with empty bodies. There is no other code here: to use a law, call its function.
 //!
-//! A machine in tree normal form uses its states in order. Where its run stops on an undefined pair and
+//! A machine in tree normal form uses its states in order. Where its run halts on an undefined pair and
 //! another pair is undefined too, its children fill that pair: with a used state or the first unused one
 //! as the target, and to the right where it is the first entry of all (`Used`, `Children`, `Tree`). The
 //! best of a machine is the greatest number of steps, or score, of all its extensions, in tree normal

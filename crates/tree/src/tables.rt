@@ -7,10 +7,10 @@ ghost use Rattle.machine_text.specs.declared.transition.Sym.{Sym as Symbol};
 ghost use Rattle.machine_text.specs.declared.transition.Entry.{Entry};
 ghost use Rattle.machine_text.specs.Packed.{Packed, IsTable, entry_of, with_entry, tabulated, empty_table};
 ghost use Rattle.turing.specs.Program.{Program, IsMachine};
-ghost use Rattle.turing.specs.Halting.{Stops, IsRado};
+ghost use Rattle.turing.specs.Halting.{HaltsAt, IsRado};
 ghost use Rattle.tree.specs.Filling.{filled};
 ghost use Rattle.tree.specs.Used.{InOrder};
-ghost use Rattle.tree.specs.Children.{StopsOn};
+ghost use Rattle.tree.specs.Children.{HaltsOn};
 ghost use Rattle.tree.specs.Best.{Scores, IsGreatestOfAll};
 ghost use Rattle.tree.specs.Tables.{IsChildTable, InTableTree, IsDecidedTable, IsBestOfTable, IsGreatestInTables, children_at};
 
@@ -45,14 +45,14 @@ pub fn child_is_table()
         (v : ℕ) × InOrder v (entry_of t) }
 {}
 
-/// The list of the children of a table in order that stops on a pair has exactly its children, each once,
+/// The list of the children of a table in order that halts on a pair has exactly its children, each once,
 /// and it rises by their codes, as their texts do.
 pub fn children_listed()
-    ensures members { (p t : Packed) (u k q : ℕ) (s : Symbol) → IsTable p → InOrder u (entry_of p) → StopsOn (entry_of p) k q s →
+    ensures members { (p t : Packed) (u k q : ℕ) (s : Symbol) → IsTable p → InOrder u (entry_of p) → HaltsOn (entry_of p) k q s →
         Contains (children_at p q s) t ↔ IsChildTable p t }
-    ensures once { (p : Packed) (u k q : ℕ) (s : Symbol) → IsTable p → InOrder u (entry_of p) → StopsOn (entry_of p) k q s →
+    ensures once { (p : Packed) (u k q : ℕ) (s : Symbol) → IsTable p → InOrder u (entry_of p) → HaltsOn (entry_of p) k q s →
         AllPairs (λ a b. a ≢ b) (children_at p q s) }
-    ensures rising { (p : Packed) (u k q : ℕ) (s : Symbol) → IsTable p → InOrder u (entry_of p) → StopsOn (entry_of p) k q s →
+    ensures rising { (p : Packed) (u k q : ℕ) (s : Symbol) → IsTable p → InOrder u (entry_of p) → HaltsOn (entry_of p) k q s →
         AllPairs (λ a b. slice_cmp nat_cmp a.codes b.codes ≡ Less) (children_at p q s) }
 {}
 
@@ -62,11 +62,11 @@ pub fn one_parent_table()
         IsChildTable a t → IsChildTable b t → a ≡ b }
 {}
 
-/// Where each table of the tree stops or never does, the best of all extensions is the greatest in the
-/// tree, and there is none where no table of the tree stops.
+/// Where each table of the tree halts or never does, the best of all extensions is the greatest in the
+/// tree, and there is none where no table of the tree halts.
 pub fn best_of_table()
     ensures steps { (p : Packed) (u : ℕ) (b : Option ℕ) → IsTable p → InOrder u (entry_of p) → IsDecidedTable p →
-        IsBestOfTable Stops p b ↔ IsGreatestInTables Stops p b }
+        IsBestOfTable HaltsAt p b ↔ IsGreatestInTables HaltsAt p b }
     ensures score { (p : Packed) (u : ℕ) (b : Option ℕ) → IsTable p → InOrder u (entry_of p) → IsDecidedTable p →
         IsBestOfTable Scores p b ↔ IsGreatestInTables Scores p b }
 {}
@@ -75,7 +75,7 @@ pub fn best_of_table()
 /// for scores Σ(n). The empty table is in order.
 pub fn rado_of_tables()
     ensures table { (n : ℕ) → 1 ≤ n → n ≤ MAX_STATES → IsTable (empty_table n) × InOrder 1 (entry_of (empty_table n)) }
-    ensures steps { (n s : ℕ) → 1 ≤ n → n ≤ MAX_STATES → IsBestOfTable Stops (empty_table n) (Some s) ↔ IsRado n s }
+    ensures steps { (n s : ℕ) → 1 ≤ n → n ≤ MAX_STATES → IsBestOfTable HaltsAt (empty_table n) (Some s) ↔ IsRado n s }
     ensures score { (n s : ℕ) → 1 ≤ n → n ≤ MAX_STATES →
         IsBestOfTable Scores (empty_table n) (Some s) ↔ IsGreatestOfAll Scores n s }
 {}

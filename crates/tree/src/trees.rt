@@ -1,18 +1,18 @@
 // The tree of a machine.
 ghost use Rattle.std.specs.Prelude.{◌≡◌, ◌↔◌, ℕ, ◌≤◌, Option, Some};
 ghost use Rattle.turing.specs.Program.{Program, IsMachine};
-ghost use Rattle.turing.specs.Halting.{Stops, IsRado};
+ghost use Rattle.turing.specs.Halting.{HaltsAt, IsRado};
 ghost use Rattle.tree.specs.Filling.{empty_machine};
 ghost use Rattle.tree.specs.Used.{InOrder};
 ghost use Rattle.tree.specs.Children.{IsChild};
 ghost use Rattle.tree.specs.Tree.{InTree, IsDecided, IsGreatestInTree};
 ghost use Rattle.tree.specs.Best.{Scores, IsBest, IsGreatestOfAll};
 
-/// Where each machine of the tree stops or never does, the best of all extensions is the greatest in the
-/// tree, and there is none where no machine of the tree stops.
+/// Where each machine of the tree halts or never does, the best of all extensions is the greatest in the
+/// tree, and there is none where no machine of the tree halts.
 pub fn best_of_tree()
     ensures steps { (n u : ℕ) (m : Program) (b : Option ℕ) → IsMachine n m → InOrder u m → IsDecided n m →
-        IsBest Stops n m b ↔ IsGreatestInTree Stops n m b }
+        IsBest HaltsAt n m b ↔ IsGreatestInTree HaltsAt n m b }
     ensures score { (n u : ℕ) (m : Program) (b : Option ℕ) → IsMachine n m → InOrder u m → IsDecided n m →
         IsBest Scores n m b ↔ IsGreatestInTree Scores n m b }
 {}
@@ -21,7 +21,7 @@ pub fn best_of_tree()
 /// Radó's S(n), and for scores Σ(n).
 pub fn rado_of_tree()
     ensures steps { (n s : ℕ) → 1 ≤ n → IsDecided n empty_machine →
-        IsGreatestInTree Stops n empty_machine (Some s) ↔ IsRado n s }
+        IsGreatestInTree HaltsAt n empty_machine (Some s) ↔ IsRado n s }
     ensures score { (n s : ℕ) → 1 ≤ n → IsDecided n empty_machine →
         IsGreatestInTree Scores n empty_machine (Some s) ↔ IsGreatestOfAll Scores n s }
 {}
@@ -37,9 +37,9 @@ pub fn one_parent()
         IsChild n a t → IsChild n b t → a ≡ b }
 {}
 
-/// The tree of the one-state machine without entries: it stops at once, its children never do, and so the
+/// The tree of the one-state machine without entries: it halts at once, its children never do, and so the
 /// greatest in the tree is 1.
 pub fn tree_of_one_state()
     ensures decided { IsDecided 1 empty_machine }
-    ensures greatest { IsGreatestInTree Stops 1 empty_machine (Some 1) }
+    ensures greatest { IsGreatestInTree HaltsAt 1 empty_machine (Some 1) }
 {}

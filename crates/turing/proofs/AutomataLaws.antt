@@ -1,4 +1,4 @@
--- A machine that automata fit never stops: from each configuration that comes to a halting pair the second
+-- A machine that automata fit never halts: from each configuration that comes to a halting pair the second
 -- automaton comes to its halt state.
 use Rattle.std.proofs.Common.{◌≡◌, ◌≢◌, ℕ, zero, suc, ◌<◌, true, false, IsTrue, ℤ, pos, ◌+ℤ◌, ◌-ℤ◌, ◌<ℤ◌, List, [], ◌∷◌, ◌++◌, replicate, Some, None, sym, ◌∙◌, ap, subst, refl, arith}
 use Rattle.std.proofs.lemmas.Int.{ints}
@@ -199,7 +199,7 @@ fits_mirrored n m side a fits = record {
     turned : Entry → Entry
     turned e = record { write = e.write; dir = opposite e.dir; next = e.next }
 
--- a machine that automata fit never stops, whichever side is ahead
+-- a machine that automata fit never halts, whichever side is ahead
 pub automata_never : (n : ℕ) (m : Program) (side : Dir) (a : Automata) → IsMachine n m → Fits n m side a → Never m
 automata_never n m R a machine fits = far_right_never n m machine a fits
 automata_never n m L a machine fits =

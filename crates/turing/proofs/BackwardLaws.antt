@@ -8,7 +8,7 @@ use Rattle.turing.specs.Backward.{Ends, Backward, Pair, pair_of, RunsThrough}
 use Rattle.turing.proofs.RunLaws.{from_zero, from_add, next_is, before, not_past}
 use Rattle.turing.proofs.Heads.{states_within}
 
--- a run that stopped later than time d would have a configuration d steps before its end
+-- a run that halted later than time d would have a configuration d steps before its end
 pub backward_never : (n : ℕ) (m : Program) (d : ℕ) → IsMachine n m → Backward n m d → Never m
 backward_never n m d machine b k s =
     let count = s.count in

@@ -1,4 +1,4 @@
--- No step leaves a closed position set, so a machine that has one never stops.
+-- No step leaves a closed position set, so a machine that has one never halts.
 use Rattle.std.proofs.Common.{◌≡◌, ℕ, zero, suc, ℤ, pos, ◌+ℤ◌, ◌-ℤ◌, List, [], ◌∷◌, ◌++◌, replicate, Option, Some, None, sym, ◌∙◌, ap, subst, refl, arith}
 use Rattle.std.proofs.lemmas.Int.{ints, by_lt_z}
 use Rattle.machine_text.specs.declared.transition.Sym.{Sym}
@@ -145,6 +145,6 @@ module _ (m : Program) (lefts rights : List Sym → Type 0) (members : Local →
     right = λ x beyond. subst rights (sym (word_blank x g)) closed.blank_right;
   }
 
-  -- a machine that has a closed position set never stops
+  -- a machine that has a closed position set never halts
   pub closed_never : (g : ℕ) → IsClosed g m lefts rights members → Never m
   closed_never g closed = never_by_invariant m (IsInside g lefts rights members) (goes_inside g closed) (start_inside g closed)

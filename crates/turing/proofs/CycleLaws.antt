@@ -1,4 +1,4 @@
--- A machine whose run comes to one configuration twice never stops.
+-- A machine whose run comes to one configuration twice never halts.
 use Rattle.std.proofs.Common.{◌≡◌, ℕ, ◌+◌, ◌-◌, ◌<◌, Some, sym, ◌∙◌, ap, arith}
 use Rattle.std.proofs.lemmas.Option.{none-some}
 use Rattle.turing.specs.Program.{Program}
@@ -7,7 +7,7 @@ use Rattle.turing.specs.Halting.{Never}
 use Rattle.turing.specs.Cycle.{Cycle}
 use Rattle.turing.proofs.RunLaws.{from_add, ended, not_past}
 
--- if it stopped after j, the part from i on would take as long as the part from j on
+-- if it halted after j, the part from i on would take as long as the part from j on
 pub cycle_never : (m : Program) (i j : ℕ) → Cycle m i j → Never m
 cycle_never m i j cycle k s =
     let order = cycle.order in

@@ -10,8 +10,8 @@ use Rattle.machine_text.specs.declared.transition.Entry.{Entry}
 use Rattle.turing.specs.Program.{Program, IsMachine}
 use Rattle.turing.specs.Tape.{moved_head}
 use Rattle.turing.specs.Run.{Config, from}
-use Rattle.turing.specs.Halting.{Stops}
-use Rattle.turing.specs.Score.{StopsWith}
+use Rattle.turing.specs.Halting.{HaltsAt}
+use Rattle.turing.specs.Score.{HaltsWith}
 use Rattle.turing.specs.Exchange.{exchanged, exchanged_entry, with_exchanged}
 use Rattle.turing.specs.Mirror.{opposite, mirrored_entry, mirrored}
 use Rattle.turing.specs.Shift.{IsShifted}
@@ -47,11 +47,11 @@ exchange_renames a b m = record {
   entries = λ q s. ap (λ p. exchanged_entry a b (m p s)) (exchanged_twice a b q) ∙ exchanged_is a b (m q s);
 }
 
-pub exchange_keeps : (a b : ℕ) (m : Program) (k : ℕ) → 0 < a → 0 < b → Stops m k → Stops (with_exchanged a b m) k
+pub exchange_keeps : (a b : ℕ) (m : Program) (k : ℕ) → 0 < a → 0 < b → HaltsAt m k → HaltsAt (with_exchanged a b m) k
 exchange_keeps a b m k pa pb s =
     (renamed_stops (exchanged a b) same_head same_dir m (with_exchanged a b m) (exchange_renames a b m) (exchanged_other a b 0 (λ e. omega arith) (λ e. omega arith)) refl k s).0
 
-pub exchange_keeps_score : (a b : ℕ) (m : Program) (k s : ℕ) → 0 < a → 0 < b → StopsWith m k s → StopsWith (with_exchanged a b m) k s
+pub exchange_keeps_score : (a b : ℕ) (m : Program) (k s : ℕ) → 0 < a → 0 < b → HaltsWith m k s → HaltsWith (with_exchanged a b m) k s
 exchange_keeps_score a b m k s pa pb =
     renamed_stops_with (exchanged a b) same_head same_dir m (with_exchanged a b m) (exchange_renames a b m) (exchanged_other a b 0 (λ e. omega arith) (λ e. omega arith)) refl k s
 
@@ -67,11 +67,11 @@ exchange_renames_back a b m = record {
   entries = λ q s. exchanged_back a b (m (exchanged a b q) s);
 }
 
-pub exchange_kept : (a b : ℕ) (m : Program) (k : ℕ) → 0 < a → 0 < b → Stops (with_exchanged a b m) k → Stops m k
+pub exchange_kept : (a b : ℕ) (m : Program) (k : ℕ) → 0 < a → 0 < b → HaltsAt (with_exchanged a b m) k → HaltsAt m k
 exchange_kept a b m k pa pb s =
     (renamed_stops (exchanged a b) same_head same_dir (with_exchanged a b m) m (exchange_renames_back a b m) (exchanged_other a b 0 (λ e. omega arith) (λ e. omega arith)) refl k s).0
 
-pub exchange_kept_score : (a b : ℕ) (m : Program) (k s : ℕ) → 0 < a → 0 < b → StopsWith (with_exchanged a b m) k s → StopsWith m k s
+pub exchange_kept_score : (a b : ℕ) (m : Program) (k s : ℕ) → 0 < a → 0 < b → HaltsWith (with_exchanged a b m) k s → HaltsWith m k s
 exchange_kept_score a b m k s pa pb =
     renamed_stops_with (exchanged a b) same_head same_dir (with_exchanged a b m) m (exchange_renames_back a b m) (exchanged_other a b 0 (λ e. omega arith) (λ e. omega arith)) refl k s
 
@@ -117,10 +117,10 @@ back_apart x y e = omega (arith, ints)
 pub mirror_renames : (m : Program) → Renames same_state back opposite m (mirrored m)
 mirror_renames m = record { apart = back_apart; moves = back_moved; entries = λ q s. mirrored_is (m q s) }
 
-pub mirror_keeps : (m : Program) (k : ℕ) → Stops m k → Stops (mirrored m) k
+pub mirror_keeps : (m : Program) (k : ℕ) → HaltsAt m k → HaltsAt (mirrored m) k
 mirror_keeps m k s = (renamed_stops same_state back opposite m (mirrored m) (mirror_renames m) refl refl k s).0
 
-pub mirror_keeps_score : (m : Program) (k s : ℕ) → StopsWith m k s → StopsWith (mirrored m) k s
+pub mirror_keeps_score : (m : Program) (k s : ℕ) → HaltsWith m k s → HaltsWith (mirrored m) k s
 mirror_keeps_score m k s = renamed_stops_with same_state back opposite m (mirrored m) (mirror_renames m) refl refl k s
 
 mirrored_back : (o : Option Entry) → o ≡ renamed_entry same_state opposite (mirrored_entry o)
@@ -146,10 +146,10 @@ mirrored_machine n m machine = record {
 mirror_renames_back : (m : Program) → Renames same_state back opposite (mirrored m) m
 mirror_renames_back m = record { apart = back_apart; moves = back_moved; entries = λ q s. mirrored_back (m q s) }
 
-pub mirror_kept : (m : Program) (k : ℕ) → Stops (mirrored m) k → Stops m k
+pub mirror_kept : (m : Program) (k : ℕ) → HaltsAt (mirrored m) k → HaltsAt m k
 mirror_kept m k s = (renamed_stops same_state back opposite (mirrored m) m (mirror_renames_back m) refl refl k s).0
 
-pub mirror_kept_score : (m : Program) (k s : ℕ) → StopsWith (mirrored m) k s → StopsWith m k s
+pub mirror_kept_score : (m : Program) (k s : ℕ) → HaltsWith (mirrored m) k s → HaltsWith m k s
 mirror_kept_score m k s = renamed_stops_with same_state back opposite (mirrored m) m (mirror_renames_back m) refl refl k s
 
 unturned : (o : Option Entry) → o ≡ renamed_entry same_state same_dir o

@@ -1,4 +1,4 @@
--- An extension runs as its machine does, until that stops.
+-- An extension runs as its machine does, until that halts.
 use Rattle.std.proofs.Common.{◌≡◌, ℕ, zero, suc, Some, sym, ◌∙◌, ap, arith}
 use Rattle.turing.specs.Program.{Program}
 use Rattle.turing.specs.Tape.{symbol_read}
@@ -21,7 +21,7 @@ same_run big m x (suc k) c d is =
     let (b, at) = before m k (suc k) c d (omega arith) is in
     next_is big k c b (same_run big m x k c b at) ∙ same_step big m x b d (sym (next_is m k c b at) ∙ is)
 
--- no extension of a machine that never stops does
+-- no extension of a machine that never halts does
 pub never_extends : (big m : Program) → Extends big m → Never m → Never big
 never_extends big m x never =
     never_where_always big (λ k. let (c, is) = exists_at m never k in (c, same_run big m x k start c is))

@@ -1,4 +1,4 @@
--- Radó's number of one state is 1: a one-state machine stops at once, or moves one way for ever.
+-- Radó's number of one state is 1: a one-state machine halts at once, or moves one way for ever.
 use Rattle.std.proofs.Common.{◌≡◌, ℕ, ◌≤◌, cond, ℤ, pos, ◌+ℤ◌, Option, Some, None, sym, ◌∙◌, ap, subst, refl, arith}
 use Rattle.std.specs.Ordering.{int_cmp}
 use Rattle.std.specs.FinSet as set
@@ -12,7 +12,7 @@ use Rattle.turing.specs.Program.{Program, IsMachine}
 use Rattle.turing.specs.Tape.{symbol_read, moved_head}
 use Rattle.turing.specs.Run.{Config, start, cell, carried_out, done_by, after}
 use Rattle.turing.specs.Step.{Takes}
-use Rattle.turing.specs.Halting.{Stops, IsRado}
+use Rattle.turing.specs.Halting.{HaltsAt, IsRado}
 use Rattle.turing.specs.Translated.{Beyond, Translated}
 use Rattle.turing.proofs.Steps.{taken_takes, next_taken}
 use Rattle.turing.proofs.RunLaws.{from_zero, next_is, one_count}
@@ -23,8 +23,8 @@ use Rattle.turing.proofs.TranslatedLaws.{translated_never}
 pub start_blank : (x : ℤ) → cell start x ≡ Zero
 start_blank x = ap (λ b. cond b One Zero) (set.contains-empty int_cmp x)
 
--- a machine without an entry at its first pair stops at once
-abbrev stops_at_once : (m : Program) → m 0 Zero ≡ None → Stops m 1
+-- a machine without an entry at its first pair halts at once
+abbrev stops_at_once : (m : Program) → m 0 Zero ≡ None → HaltsAt m 1
 stops_at_once m none = record {
   last = 0;
   at = start;
@@ -77,8 +77,8 @@ onward_for_ever m e is home =
       cells = λ x on. start_blank x ∙ sym (t.others (x +ℤ moved_head (pos 0) e.dir) (not_back e.dir x on) ∙ start_blank (x +ℤ moved_head (pos 0) e.dir));
     }
 
--- a one-state machine stops in 1, if at all
-one_step : (m : Program) (k : ℕ) → IsMachine 1 m → Stops m k → k ≤ 1
+-- a one-state machine halts in 1, if at all
+one_step : (m : Program) (k : ℕ) → IsMachine 1 m → HaltsAt m k → k ≤ 1
 one_step m k machine s = go (m 0 Zero) refl
   where
     go : (o : Option Entry) → m 0 Zero ≡ o → k ≤ 1
@@ -91,6 +91,6 @@ pub rado_of_one : IsRado 1 1
 rado_of_one = record {
   champion = λ q s. None;
   is_machine = record { some = omega arith; beyond = λ q s past. refl; inside = λ q s e some. absurd (cc) };
-  stops = stops_at_once (λ q s. None) refl;
+  halts = stops_at_once (λ q s. None) refl;
   greatest = one_step;
 }

@@ -13,8 +13,8 @@ use Rattle.turing.specs.Program.{Program}
 use Rattle.turing.specs.Tape.{Tape, symbol_read, with_cell, moved_head}
 use Rattle.turing.specs.Run.{Config, start, cell, carried_out, done_by, next}
 use Rattle.turing.specs.Step.{Takes}
-use Rattle.turing.specs.Halting.{Stops}
-use Rattle.turing.specs.Score.{score_of, StopsWith}
+use Rattle.turing.specs.Halting.{HaltsAt}
+use Rattle.turing.specs.Score.{score_of, HaltsWith}
 use Rattle.turing.proofs.Cells.{by_place}
 use Rattle.turing.proofs.Steps.{taken_takes}
 use Rattle.turing.proofs.Simulation.{Alike, simulation_law}
@@ -122,14 +122,14 @@ carried_start g f state head = record {
   size = refl;
 }
 
--- a renamed machine stops in as many steps, with the same score
+-- a renamed machine halts in as many steps, with the same score
 pub renamed_stops : (g : ℕ → ℕ) (f : ℤ → ℤ) (turn : Dir → Dir) (m n : Program) → Renames g f turn m n → g 0 ≡ 0 → f (pos 0) ≡ pos 0 →
-    (k : ℕ) (s : Stops m k) → (t : Stops n k) × CarriedAll g f s.at t.at
+    (k : ℕ) (s : HaltsAt m k) → (t : HaltsAt n k) × CarriedAll g f s.at t.at
 renamed_stops g f turn m n r state head =
     simulation_law (CarriedAll g f) m n (carried_all_step g f turn m n r) (carried_start g f state head)
 
 pub renamed_stops_with : (g : ℕ → ℕ) (f : ℤ → ℤ) (turn : Dir → Dir) (m n : Program) → Renames g f turn m n → g 0 ≡ 0 → f (pos 0) ≡ pos 0 →
-    (k s : ℕ) → StopsWith m k s → StopsWith n k s
+    (k s : ℕ) → HaltsWith m k s → HaltsWith n k s
 renamed_stops_with g f turn m n r state head k s w =
-    let (t, like) = renamed_stops g f turn m n r state head k w.stops in
-    record { stops = t; score = w.score ∙ sym (same_score g f w.stops.at t.at like) }
+    let (t, like) = renamed_stops g f turn m n r state head k w.halts in
+    record { halts = t; score = w.score ∙ sym (same_score g f w.halts.at t.at like) }

@@ -4,7 +4,7 @@ use Rattle.std.proofs.lemmas.Bool.{cases_lt, cases_order}
 use Rattle.std.proofs.lemmas.Option.{same_Some, none-some}
 use Rattle.turing.specs.Program.{Program}
 use Rattle.turing.specs.Run.{Config, start, next, next_from, from, after}
-use Rattle.turing.specs.Halting.{Stops, Never}
+use Rattle.turing.specs.Halting.{HaltsAt, Never}
 
 -- no step: the configuration itself
 pub from_zero : (m : Program) (c : Config) → from m 0 c ≡ Some c
@@ -51,8 +51,8 @@ before m i j c e earlier is =
       | inr none ↦ absurd (none-some e (sym (ap (λ n. from m n c) (let t : j ≡ i + (j - i) = omega arith in t) ∙ none_later m i (j - i) c none) ∙ is))
     ]
 
--- a run stops in one count at most
-pub one_count : (m : Program) (j k : ℕ) → Stops m j → Stops m k → j ≡ k
+-- a run halts in one count at most
+pub one_count : (m : Program) (j k : ℕ) → HaltsAt m j → HaltsAt m k → j ≡ k
 one_count m j k s t =
     elim (cases_order s.last t.last) [
       | inl same ↦ omega arith
@@ -61,18 +61,18 @@ one_count m j k s t =
     ]
 
 -- and at one configuration
-pub one_end : (m : Program) (j k : ℕ) (s : Stops m j) (t : Stops m k) → s.at ≡ t.at
+pub one_end : (m : Program) (j k : ℕ) (s : HaltsAt m j) (t : HaltsAt m k) → s.at ≡ t.at
 one_end m j k s t =
     let same : s.last ≡ t.last = let e = one_count m j k s t in omega arith in
     same_Some s.at t.at (sym s.is ∙ ap (after m) same ∙ t.is)
 
--- a run that is there at each time never stops
+-- a run that is there at each time never halts
 pub never_where_always : (m : Program) → ((k : ℕ) → (c : Config) × (after m k ≡ Some c)) → Never m
 never_where_always m always k s =
     let later = always (suc s.last) in
     none-some later.0 (sym (next_is m s.last start s.at s.is ∙ s.over) ∙ later.1)
 
--- a run that never stops is there at each time
+-- a run that never halts is there at each time
 pub exists_at : (m : Program) → Never m → (k : ℕ) → (c : Config) × (after m k ≡ Some c)
 exists_at m never zero = (start, from_zero m start)
 exists_at m never (suc k) =
@@ -82,8 +82,8 @@ exists_at m never (suc k) =
       | inr over ↦ absurd (never (suc k) (record { last = k; at = c; is = is; over = over; count = refl }))
     ]
 
--- a run that is there at a time stops later, if at all
-pub not_past : (m : Program) (i k : ℕ) (c : Config) → after m i ≡ Some c → Stops m k → i < k
+-- a run that is there at a time halts later, if at all
+pub not_past : (m : Program) (i k : ℕ) (c : Config) → after m i ≡ Some c → HaltsAt m k → i < k
 not_past m i k c is s =
     elim (cases_lt s.last i) [
       | inl less ↦ absurd (none-some c (sym (ended m s.last i start s.at s.is s.over less) ∙ is))

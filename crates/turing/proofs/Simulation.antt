@@ -2,7 +2,7 @@
 use Rattle.std.proofs.Common.{◌≡◌, ℕ, zero, suc, Option, Some, None, sym, subst, refl}
 use Rattle.turing.specs.Program.{Program}
 use Rattle.turing.specs.Run.{Config, start, next, next_from, from}
-use Rattle.turing.specs.Halting.{Stops}
+use Rattle.turing.specs.Halting.{HaltsAt}
 use Rattle.turing.proofs.RunLaws.{from_zero, from_suc}
 
 -- both are there and alike, or neither is there
@@ -41,8 +41,8 @@ module _ (Like : Config → Config → Type 0) (m n : Program) (step : (c d : Co
   pub alike_at : (k : ℕ) (c d at : Config) → Like c d → from m k c ≡ Some at → (there : Config) × (from n k d ≡ Some there) × Like at there
   alike_at k c d at like is = alike_some Like (from n k d) at (subst (λ o. Alike Like o (from n k d)) is (alike_from k c d like))
 
-  -- where the one run from the blank tape stops, the other stops in as many steps, at configurations that are alike
-  pub simulation_law : Like start start → (k : ℕ) (s : Stops m k) → (t : Stops n k) × Like s.at t.at
+  -- where the one run from the blank tape halts, the other halts in as many steps, at configurations that are alike
+  pub simulation_law : Like start start → (k : ℕ) (s : HaltsAt m k) → (t : HaltsAt n k) × Like s.at t.at
   simulation_law begin k s =
       let (there, is, like) = alike_at s.last start start s.at begin s.is in
       let over : next n there ≡ None = alike_none Like (next n there) (subst (λ o. Alike Like o (next n there)) s.over (step s.at there like)) in

@@ -1,4 +1,4 @@
--- A machine with a translated cycle never stops.
+-- A machine with a translated cycle never halts.
 use Rattle.std.proofs.Common.{◌≡◌, ℕ, zero, suc, ◌+◌, ◌-◌, ◌<◌, ◌≤◌, ℤ, pos, ◌+ℤ◌, Some, inl, inr, sym, ◌∙◌, ap, subst, arith}
 use Rattle.std.proofs.lemmas.Bool.{cases_lt}
 use Rattle.std.proofs.lemmas.Int.{ints}
@@ -86,7 +86,7 @@ held_on m side b t i p some onward held zero = subst (Held m side b t i p) (let 
 held_on m side b t i p some onward held (suc r) =
     subst (Held m side b t i p) (let e : suc (i + r) ≡ i + suc r = omega arith in e) (held_next m side b t i p (i + r) some (omega arith) onward (held_on m side b t i p some onward held r))
 
--- a machine with a translated cycle never stops
+-- a machine with a translated cycle never halts
 pub translated_never : (m : Program) (i j : ℕ) (side : Dir) → Translated m i j side → Never m
 translated_never m i j side cycle = never_where_always m there
   where

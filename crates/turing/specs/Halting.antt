@@ -1,24 +1,24 @@
 -- Halting, what is true of a machine, and Radó's number. The halting step counts (Radó 1962): a run that
--- comes to a halting pair after k steps stops in k + 1.
+-- comes to a halting pair after k steps halts in k + 1.
 use Rattle.std.specs.Prelude.{◌≡◌, ℕ, suc, ◌≤◌, Some, None}
 use Rattle.turing.specs.Program.{Program, IsMachine}
 use Rattle.turing.specs.Run.{Config, next, after}
 
--- the run from the blank tape stops in k steps
-pub record Stops (m : Program) (k : ℕ) : Type 0 where
+-- the run from the blank tape halts in k steps
+pub record HaltsAt (m : Program) (k : ℕ) : Type 0 where
   pub last : ℕ
   pub at : Config
   pub is : after m last ≡ Some at
   pub over : next m at ≡ None
   pub count : k ≡ suc last
 
--- the run from the blank tape never stops
+-- the run from the blank tape never halts
 abbrev pub Never : Program → Type 0
-Never m = (k : ℕ) → Stops m k → ⊥
+Never m = (k : ℕ) → HaltsAt m k → ⊥
 
--- s is the greatest number of steps in which a machine of n states stops: S(n) (Radó 1962)
+-- s is the greatest number of steps in which a machine of n states halts: S(n) (Radó 1962)
 pub record IsRado (n s : ℕ) : Type 0 where
   pub champion : Program
   pub is_machine : IsMachine n champion
-  pub stops : Stops champion s
-  pub greatest : (m : Program) (k : ℕ) → IsMachine n m → Stops m k → k ≤ s
+  pub halts : HaltsAt champion s
+  pub greatest : (m : Program) (k : ℕ) → IsMachine n m → HaltsAt m k → k ≤ s

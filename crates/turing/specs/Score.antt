@@ -3,13 +3,13 @@ use Rattle.std.specs.Prelude.{◌≡◌, ℕ}
 use Rattle.std.specs.FinSet as set
 use Rattle.turing.specs.Program.{Program}
 use Rattle.turing.specs.Run.{Config}
-use Rattle.turing.specs.Halting.{Stops}
+use Rattle.turing.specs.Halting.{HaltsAt}
 
 -- the ones after the halting step from a configuration: that step writes a one
 abbrev pub score_of : Config → ℕ
 score_of c = set.len (set.insert c.tape.ones c.tape.head)
 
--- the run from the blank tape stops in k steps, and its score is s
-pub record StopsWith (m : Program) (k s : ℕ) : Type 0 where
-  pub stops : Stops m k
-  pub score : s ≡ score_of stops.at
+-- the run from the blank tape halts in k steps, and its score is s
+pub record HaltsWith (m : Program) (k s : ℕ) : Type 0 where
+  pub halts : HaltsAt m k
+  pub score : s ≡ score_of halts.at

@@ -4,8 +4,8 @@ ghost use Rattle.std.specs.Prelude.{◌≡◌, ◌↔◌, ℕ, ℤ, ◌<◌, Som
 ghost use Rattle.machine_text.specs.declared.transition.Dir.{Dir};
 ghost use Rattle.turing.specs.Program.{Program, IsMachine};
 ghost use Rattle.turing.specs.Run.{Config, from, after};
-ghost use Rattle.turing.specs.Halting.{Stops, Never};
-ghost use Rattle.turing.specs.Score.{StopsWith};
+ghost use Rattle.turing.specs.Halting.{HaltsAt, Never};
+ghost use Rattle.turing.specs.Score.{HaltsWith};
 ghost use Rattle.turing.specs.Extension.{Extends};
 ghost use Rattle.turing.specs.Exchange.{with_exchanged};
 ghost use Rattle.turing.specs.Mirror.{opposite, mirrored};
@@ -13,32 +13,32 @@ ghost use Rattle.turing.specs.Shift.{IsShifted};
 ghost use Rattle.turing.specs.Translated.{Translated};
 ghost use Rattle.turing.specs.Automata.{Automata, Fits};
 
-/// An extension runs as its machine does, until that stops.
+/// An extension runs as its machine does, until that halts.
 pub fn extension_runs()
     ensures { (big m : Program) → Extends big m → (k : ℕ) (c : Config) → after m k ≡ Some c →
         after big k ≡ Some c }
 {}
 
-/// No extension of a machine that never stops does.
+/// No extension of a machine that never halts does.
 pub fn extension_never()
     ensures { (big m : Program) → Extends big m → Never m → Never big }
 {}
 
 /// To exchange the names of two states, neither of them the first, keeps the number of steps in which a
-/// machine stops, and its score. A machine of n states stays one, where both are among them.
+/// machine halts, and its score. A machine of n states stays one, where both are among them.
 pub fn exchange_keeps()
     ensures machine { (n a b : ℕ) (m : Program) → a < n → b < n → IsMachine n m →
         IsMachine n (with_exchanged a b m) }
-    ensures count { (a b : ℕ) (m : Program) (k : ℕ) → 0 < a → 0 < b → Stops m k ↔ Stops (with_exchanged a b m) k }
+    ensures count { (a b : ℕ) (m : Program) (k : ℕ) → 0 < a → 0 < b → HaltsAt m k ↔ HaltsAt (with_exchanged a b m) k }
     ensures score { (a b : ℕ) (m : Program) (k s : ℕ) → 0 < a → 0 < b →
-        StopsWith m k s ↔ StopsWith (with_exchanged a b m) k s }
+        HaltsWith m k s ↔ HaltsWith (with_exchanged a b m) k s }
 {}
 
-/// The mirror image of a machine has as many states, and stops in as many steps, with the same score.
+/// The mirror image of a machine has as many states, and halts in as many steps, with the same score.
 pub fn mirror_keeps()
     ensures machine { (n : ℕ) (m : Program) → IsMachine n m → IsMachine n (mirrored m) }
-    ensures count { (m : Program) (k : ℕ) → Stops m k ↔ Stops (mirrored m) k }
-    ensures score { (m : Program) (k s : ℕ) → StopsWith m k s ↔ StopsWith (mirrored m) k s }
+    ensures count { (m : Program) (k : ℕ) → HaltsAt m k ↔ HaltsAt (mirrored m) k }
+    ensures score { (m : Program) (k s : ℕ) → HaltsWith m k s ↔ HaltsWith (mirrored m) k s }
 {}
 
 /// What is said of one side of a machine is said of the other side of its mirror image.

@@ -7,7 +7,7 @@ ghost use Rattle.turing.specs.Halting.{Never};
 ghost use Rattle.turing.specs.Backward.{Ends, Backward, Pair, RunsThrough, IsPath, IsWider, AllPaths, Partial, IsNeeded, standing_on, before_step, LeadsTo};
 ghost use Rattle.turing.specs.Levels.{level};
 
-/// A machine whose run does d steps never stops, where no configuration at all of its states comes to a
+/// A machine whose run does d steps never halts, where no configuration at all of its states comes to a
 /// halting pair after exactly d.
 pub fn backward_never()
     ensures { (n : ℕ) (m : Program) (d : ℕ) → IsMachine n m → Backward n m d → Never m }

@@ -9,7 +9,7 @@ ghost use Rattle.turing.specs.Halting.{Never};
 ghost use Rattle.turing.specs.PositionSet.{Local, IsClosed, IsInside};
 ghost use Rattle.turing.specs.Automata.{Automata, Fits};
 
-/// A machine that has a closed position set never stops. Nor does its run from any other tape whose words
+/// A machine that has a closed position set never halts. Nor does its run from any other tape whose words
 /// are in the sets: it goes on for ever, within the sets.
 pub fn position_set_never()
     ensures never { (g : ℕ) (m : Program) (lefts rights : List (List Sym)) (members : List Local) →
@@ -20,7 +20,7 @@ pub fn position_set_never()
         (d : Config) × (from m k c ≡ Some d) × IsInside g (Contains lefts) (Contains rights) (Contains members) d }
 {}
 
-/// A machine of n states that finite automata fit never stops, whichever side is ahead.
+/// A machine of n states that finite automata fit never halts, whichever side is ahead.
 pub fn automata_never()
     ensures { (n : ℕ) (m : Program) (side : Dir) (a : Automata) → IsMachine n m → Fits n m side a →
         Never m }

@@ -7,12 +7,12 @@ ghost use Rattle.turing.specs.Halting.{Never};
 ghost use Rattle.turing.specs.Cycle.{Cycle};
 ghost use Rattle.turing.specs.Translated.{Beyond, Farthest, Translated};
 
-/// A machine whose run comes to one configuration twice never stops.
+/// A machine whose run comes to one configuration twice never halts.
 pub fn cycle_never()
     ensures { (m : Program) (i j : ℕ) → Cycle m i j → Never m }
 {}
 
-/// A machine with a translated cycle never stops. The time need be no record, and the shift may be 0.
+/// A machine with a translated cycle never halts. The time need be no record, and the shift may be 0.
 pub fn translated_never()
     ensures { (m : Program) (i j : ℕ) (side : Dir) → Translated m i j side → Never m }
 {}

@@ -5,7 +5,7 @@ ghost use Rattle.turing.specs.Program.{Program, IsMachine};
 ghost use Rattle.turing.specs.Run.{Config, from, after, next, carried_out};
 ghost use Rattle.turing.specs.Tape.{symbol_read};
 ghost use Rattle.turing.specs.Step.{Takes};
-ghost use Rattle.turing.specs.Halting.{Stops, Never};
+ghost use Rattle.turing.specs.Halting.{HaltsAt, Never};
 
 /// A step takes an entry: it writes in one cell, leaves every other as it was, moves the head by one
 /// and changes the state. There is a step wherever there is an entry.
@@ -32,20 +32,20 @@ pub fn earlier_times()
         (d : Config) × (from m i c ≡ Some d) }
 {}
 
-/// A machine stops in one number of steps at most, and at one configuration.
+/// A machine halts in one number of steps at most, and at one configuration.
 pub fn one_count()
-    ensures count { (m : Program) (j k : ℕ) → Stops m j → Stops m k → j ≡ k }
-    ensures end { (m : Program) (j k : ℕ) (s : Stops m j) (t : Stops m k) → s.at ≡ t.at }
+    ensures count { (m : Program) (j k : ℕ) → HaltsAt m j → HaltsAt m k → j ≡ k }
+    ensures end { (m : Program) (j k : ℕ) (s : HaltsAt m j) (t : HaltsAt m k) → s.at ≡ t.at }
 {}
 
-/// A machine never stops exactly where its run is there at each time.
+/// A machine never halts exactly where its run is there at each time.
 pub fn never_is_always()
     ensures { (m : Program) → Never m ↔ ((k : ℕ) → (c : Config) × (after m k ≡ Some c)) }
 {}
 
-/// What is true of a machine is one: a machine that stops is none that never stops.
+/// What is true of a machine is one: a machine that halts is none that never halts.
 pub fn one_verdict()
-    ensures { (m : Program) (k : ℕ) → Stops m k → Never m → ⊥ }
+    ensures { (m : Program) (k : ℕ) → HaltsAt m k → Never m → ⊥ }
 {}
 
 /// The run of a machine of n states from one of these states stays among them.

@@ -5,5 +5,5 @@ use Rattle.ledger.proofs.pairs.pair_after.Goals as goal
 pub returns : goal.returns
 returns c = rw (c.state.ensures, c.read.ensures, c.tape.ensures) record {
   inside = search rules;
-  stops = halting_pair c.args.count c.args.t.now c.in_ok-runner.runner c.run_to.new.self c.in_ok-run_to.field-0 c.in_ok-runner.ensures c.in_ok-run_to.ensures.ok c.requires.halts;
+  halts = halting_pair c.args.count c.args.t.now c.in_ok-runner.runner c.run_to.new.self c.in_ok-run_to.field-0 c.in_ok-runner.ensures c.in_ok-run_to.ensures.ok c.requires.halts;
 }

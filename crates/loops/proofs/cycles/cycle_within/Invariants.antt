@@ -1,5 +1,5 @@
 use Rattle.std.proofs.Common.{◌≡◌, ◌≤◌}
-use Rattle.run.specs.Standing.{Stands}
+use Rattle.run.specs.Standing.{OnRun}
 use Rattle.loops.specs.Moment.{IsMomentOf}
 use Rattle.loops.proofs.cycles.cycle_within.Given as goal
 
@@ -8,7 +8,7 @@ abbrev pub invariant-loop-time : goal.invariant-loop-time
 invariant-loop-time l = record {
   steps : l.runner.steps ≡ l.time;
   table : l.runner.table ≡ l.fn.runner.table;
-  stands : Stands l.runner;
+  stands : OnRun l.runner;
   kept : IsMomentOf l.fn.runner.table l.kept;
   early : l.kept.time ≤ l.time;
 }

@@ -1,6 +1,6 @@
 use Rattle.std.proofs.Common.{◌≡◌}
 use Rattle.machine_text.specs.Packed.{entry_of}
-use Rattle.run.specs.Standing.{Stands}
+use Rattle.run.specs.Standing.{OnRun}
 use Rattle.loops.proofs.BoundLaws.{IsBoundSoFar}
 use Rattle.loops.proofs.heads.farthest_head.Given as goal
 
@@ -9,6 +9,6 @@ abbrev pub invariant-loop-time : goal.invariant-loop-time
 invariant-loop-time l = record {
   steps : l.runner.steps ≡ l.time;
   table : l.runner.table ≡ l.fn.runner.table;
-  stands : Stands l.runner;
+  stands : OnRun l.runner;
   so_far : IsBoundSoFar (entry_of l.runner.table) l.side l.fn.runner.steps l.time l.runner.config.tape.head l.bound;
 }

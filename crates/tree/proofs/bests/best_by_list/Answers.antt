@@ -1,4 +1,4 @@
-use Rattle.turing.specs.Halting.{Stops}
+use Rattle.turing.specs.Halting.{HaltsAt}
 use Rattle.tree.specs.Best.{Scores}
 use Rattle.tree.proofs.Worth.{steps_worth, score_worth}
 use Rattle.tree.specs.Best.{greatest_of}
@@ -9,7 +9,7 @@ use Rattle.tree.proofs.bests.best_by_list.Goals as goal
 
 -- along the list
 pub returns-clause-steps : goal.returns-clause-steps
-returns-clause-steps c = λ n u k q r m b i o h bests. (children_best Stops steps_worth n u m k q r k b i o h h.stops bests (greatest_of k b (child_entries n u m))).1 (greatest_listed n u m k b i)
+returns-clause-steps c = λ n u k q r m b i o h bests. (children_best HaltsAt steps_worth n u m k q r k b i o h h.halts bests (greatest_of k b (child_entries n u m))).1 (greatest_listed n u m k b i)
 
 pub returns-clause-score : goal.returns-clause-score
 returns-clause-score c = λ n u k q x r m b i o h v bests. (children_best Scores score_worth n u m k q r x b i o h (k, v) bests (greatest_of x b (child_entries n u m))).1 (greatest_listed n u m x b i)

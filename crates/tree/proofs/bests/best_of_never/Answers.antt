@@ -1,4 +1,4 @@
-use Rattle.turing.specs.Halting.{Stops}
+use Rattle.turing.specs.Halting.{HaltsAt}
 use Rattle.tree.specs.Best.{Scores}
 use Rattle.tree.proofs.Worth.{steps_worth, score_worth}
 use Rattle.tree.proofs.BestLaws.{never_best}
@@ -6,7 +6,7 @@ use Rattle.tree.proofs.bests.best_of_never.Goals as goal
 
 -- for the number of steps, and for the score
 pub returns-clause-steps : goal.returns-clause-steps
-returns-clause-steps c = never_best Stops steps_worth
+returns-clause-steps c = never_best HaltsAt steps_worth
 
 pub returns-clause-score : goal.returns-clause-score
 returns-clause-score c = never_best Scores score_worth

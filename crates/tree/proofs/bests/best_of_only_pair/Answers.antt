@@ -1,14 +1,14 @@
 use Rattle.turing.specs.Tape.{symbol_read}
-use Rattle.turing.specs.Halting.{Stops}
+use Rattle.turing.specs.Halting.{HaltsAt}
 use Rattle.tree.specs.Best.{Scores}
 use Rattle.tree.proofs.Worth.{steps_worth, score_worth}
 use Rattle.tree.proofs.Halts.{stops_on}
 use Rattle.tree.proofs.BestLaws.{only_best}
 use Rattle.tree.proofs.bests.best_of_only_pair.Goals as goal
 
--- it stops on a pair
+-- it halts on a pair
 pub returns-clause-steps : goal.returns-clause-steps
-returns-clause-steps c = λ n k m i one h. only_best Stops steps_worth n m k h.at.state (symbol_read h.at.tape) k i one (stops_on m k h) h
+returns-clause-steps c = λ n k m i one h. only_best HaltsAt steps_worth n m k h.at.state (symbol_read h.at.tape) k i one (stops_on m k h) h
 
 pub returns-clause-score : goal.returns-clause-score
-returns-clause-score c = λ n k s m i one v. let h = v.stops in only_best Scores score_worth n m k h.at.state (symbol_read h.at.tape) s i one (stops_on m k h) (k, v)
+returns-clause-score c = λ n k s m i one v. let h = v.halts in only_best Scores score_worth n m k h.at.state (symbol_read h.at.tape) s i one (stops_on m k h) (k, v)

@@ -1,6 +1,6 @@
 use Rattle.machine_text.specs.Packed.{empty_table}
 use Rattle.std.proofs.Common.{Some}
-use Rattle.turing.specs.Halting.{Stops}
+use Rattle.turing.specs.Halting.{HaltsAt}
 use Rattle.tree.specs.Best.{Scores}
 use Rattle.tree.proofs.Worth.{steps_worth, score_worth}
 use Rattle.tree.proofs.Rado.{rado_is_greatest}
@@ -12,8 +12,8 @@ use Rattle.tree.proofs.closed.rado_of_complete.Goals as goal
 pub returns-clause-steps : goal.returns-clause-steps
 returns-clause-steps c = λ n s marks some limit true_marks complete.
     let root = empty_table n in
-    let best = closed_best root marks true_marks Stops steps_worth (λ t k. k) (stops_marked root marks true_marks) root 1 (empty_is_table n some limit) (empty_table_in_order n some limit) (complete_closed root marks true_marks complete) (Some s) in
-    let all = best_of_empty_table Stops n s some limit in
+    let best = closed_best root marks true_marks HaltsAt steps_worth (λ t k. k) (stops_marked root marks true_marks) root 1 (empty_is_table n some limit) (empty_table_in_order n some limit) (complete_closed root marks true_marks complete) (Some s) in
+    let all = best_of_empty_table HaltsAt n s some limit in
     let rado = rado_is_greatest n s in
     (λ x. rado.0 (all.0 (best.1 x)), λ r. best.0 (all.1 (rado.1 r)))
 

@@ -1,4 +1,4 @@
-use Rattle.turing.specs.Halting.{Stops}
+use Rattle.turing.specs.Halting.{HaltsAt}
 use Rattle.tree.specs.Best.{Scores}
 use Rattle.tree.proofs.Worth.{steps_worth, score_worth}
 use Rattle.tree.proofs.TableLaws.{table_best}
@@ -6,7 +6,7 @@ use Rattle.tree.proofs.tables.best_of_table.Goals as goal
 
 -- for the number of steps, and for the score
 pub returns-clause-steps : goal.returns-clause-steps
-returns-clause-steps c = λ p u b i o decided. table_best Stops steps_worth p u i o decided b
+returns-clause-steps c = λ p u b i o decided. table_best HaltsAt steps_worth p u i o decided b
 
 pub returns-clause-score : goal.returns-clause-score
 returns-clause-score c = λ p u b i o decided. table_best Scores score_worth p u i o decided b

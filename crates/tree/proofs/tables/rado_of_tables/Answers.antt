@@ -1,4 +1,4 @@
-use Rattle.turing.specs.Halting.{Stops}
+use Rattle.turing.specs.Halting.{HaltsAt}
 use Rattle.tree.specs.Best.{Scores}
 use Rattle.tree.proofs.Rado.{rado_is_greatest}
 use Rattle.tree.proofs.EmptyTable.{empty_is_table, empty_table_in_order, best_of_empty_table}
@@ -10,7 +10,7 @@ returns-clause-table c = λ n some limit. (empty_is_table n some limit, empty_ta
 
 pub returns-clause-steps : goal.returns-clause-steps
 returns-clause-steps c = λ n s some limit.
-    let all = best_of_empty_table Stops n s some limit in
+    let all = best_of_empty_table HaltsAt n s some limit in
     let rado = rado_is_greatest n s in
     (λ x. rado.0 (all.0 x), λ r. all.1 (rado.1 r))
 

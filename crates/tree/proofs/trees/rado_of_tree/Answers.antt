@@ -1,4 +1,4 @@
-use Rattle.turing.specs.Halting.{Stops}
+use Rattle.turing.specs.Halting.{HaltsAt}
 use Rattle.tree.specs.Best.{Scores}
 use Rattle.tree.proofs.Worth.{steps_worth, score_worth}
 use Rattle.tree.proofs.Rado.{greatest_of_all, rado_is_greatest}
@@ -7,7 +7,7 @@ use Rattle.tree.proofs.trees.rado_of_tree.Goals as goal
 -- for the number of steps, and for the score
 pub returns-clause-steps : goal.returns-clause-steps
 returns-clause-steps c = λ n s some decided.
-    let all = greatest_of_all Stops steps_worth n s some decided in
+    let all = greatest_of_all HaltsAt steps_worth n s some decided in
     let rado = rado_is_greatest n s in
     (λ g. rado.0 (all.0 g), λ r. all.1 (rado.1 r))
 

@@ -1,5 +1,5 @@
 use Rattle.std.proofs.Common.{arith}
-use Rattle.turing.specs.Halting.{Stops}
+use Rattle.turing.specs.Halting.{HaltsAt}
 use Rattle.tree.proofs.Worth.{steps_worth}
 use Rattle.turing.proofs.OneState.{rado_of_one}
 use Rattle.tree.proofs.Rado.{greatest_of_all, rado_is_greatest}
@@ -11,4 +11,4 @@ pub returns-clause-decided : goal.returns-clause-decided
 returns-clause-decided c = one_state_decided
 
 pub returns-clause-greatest : goal.returns-clause-greatest
-returns-clause-greatest c = (greatest_of_all Stops steps_worth 1 1 (omega arith) one_state_decided).1 ((rado_is_greatest 1 1).1 rado_of_one)
+returns-clause-greatest c = (greatest_of_all HaltsAt steps_worth 1 1 (omega arith) one_state_decided).1 ((rado_is_greatest 1 1).1 rado_of_one)

@@ -17,7 +17,7 @@ returns-in_default-clause-none c d early stands =
     let some = rw c.deref.ensures.value at c.in_default.ensures.none in
     absurd (some d inside (none_if c.args.t.now d counts counted.0 inside stands))
 
--- the run stops before the first depth without a path
+-- the run halts before the first depth without a path
 pub returns-then-not-branch-clause-none : goal.returns-then-not-branch-clause-none
 returns-then-not-branch-clause-none c d early stands =
     let counts = c.count.new.self.counts.items in

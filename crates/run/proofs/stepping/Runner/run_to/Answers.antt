@@ -1,13 +1,13 @@
 use Rattle.std.proofs.Common.{◌≡◌, ◌≤◌, refl, sym, ap, subst, ◌∙◌, arith}
 use Rattle.std.proofs.lemmas.Result.{err_from_is_err_and}
-use Rattle.run.specs.Standing.{Standing, Stands}
+use Rattle.run.specs.Standing.{Standing, OnRun}
 use Rattle.run.specs.Steps.{IsBetween, StepsTo}
 use Rattle.run.specs.declared.stepping.Step.{Step}
 use Rattle.run.proofs.Standings.{halts_between}
 use Rattle.run.proofs.stepping.Runner.run_to.Goals as goal
 
 pub loop-time-init : goal.loop-time-init
-loop-time-init c = record { steps = ap (λ (r : Standing). r.steps) (sym c.self.view_is); table = refl; stands = subst Stands c.self.view_is c.self.invariant }
+loop-time-init c = record { steps = ap (λ (r : Standing). r.steps) (sym c.self.view_is); table = refl; stands = subst OnRun c.self.view_is c.self.invariant }
 
 -- memory was refused: the runner stands where it stood before that step
 pub returns-in_err-step-clause-err : goal.returns-in_err-step-clause-err

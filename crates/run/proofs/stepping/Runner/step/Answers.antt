@@ -1,7 +1,7 @@
 use Rattle.std.proofs.Common.{◌<◌, sym, ◌∙◌, refl, subst}
 use Rattle.machine_text.specs.Packed.{entry_of}
 use Rattle.run.specs.declared.limits.TheConstants.{MAX_RUN_STEPS}
-use Rattle.run.specs.Standing.{Standing, Stands}
+use Rattle.run.specs.Standing.{Standing, OnRun}
 use Rattle.run.proofs.Standings.{head_within, stands_next, halts_here, no_step, step_is}
 use Rattle.run.proofs.stepping.Runner.step.Goals as goal
 
@@ -14,7 +14,7 @@ returns-in_default-clause-ok c =
     (refl, rw (← c.self.view_is) (halts_here _ c.self.invariant (no_step (entry_of c.self.inside.table) (record { state = c.self.inside.state.0; tape = c.self.inside.tape }) c.read.result c.read.ensures (sym c.get.ensures.entry ∙ c.in_default.is))))
 
 pub returns-in_default-clause-stands : goal.returns-in_default-clause-stands
-returns-in_default-clause-stands c = subst Stands c.self.view_is c.self.invariant
+returns-in_default-clause-stands c = subst OnRun c.self.view_is c.self.invariant
 
 -- a step that was carried out leads to the next time
 pub invariant_of-self-2 : goal.invariant_of-self-2

@@ -1,5 +1,5 @@
 // Certificates with their answers, and machines that are known to loop.
-use super::{Cycle, CycleFinder, MAX_TIME, Translated, TranslatedFinder};
+use loops::{Cycle, CycleFinder, MAX_TIME, Translated, TranslatedFinder};
 use machine_text::{Dir, Table};
 use run::{Evidence, Refused, Verdict};
 use std::alloc::Global;

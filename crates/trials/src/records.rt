@@ -1,5 +1,5 @@
 // Records of the field's champions, and lines that are none.
-use super::{Certificate, OwnedCertificate, OwnedRecord, Record, RecordFault, judge};
+use cert::{Certificate, OwnedCertificate, OwnedRecord, Record, RecordFault, judge};
 use machine_text::TextFault;
 use run::{HaltsIn, Refused, Verdict};
 use std::test::Fail;

@@ -1,5 +1,5 @@
 // Step counts and a tape of the field, and runs for which memory is refused.
-use super::{Evidence, HaltFinder, HaltsIn, MAX_HALT_STEPS, Refused, Runner, Step, Verdict};
+use run::{Evidence, HaltFinder, HaltsIn, MAX_HALT_STEPS, Refused, Runner, Step, Verdict};
 use machine_text::{State, Sym, Table};
 use std::alloc::Global;
 use std::process::Abort;

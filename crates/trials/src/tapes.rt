@@ -1,5 +1,5 @@
 // Each call once on what it is for, and half tapes against words compared by hand.
-use crate::{MAX_PLACE, NoMemory, Tape};
+use tape::{MAX_PLACE, NoMemory, Tape};
 use machine_text::{Dir, Sym};
 use std::alloc::Global;
 use std::process::Abort;

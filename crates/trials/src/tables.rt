@@ -1,5 +1,5 @@
 // Texts of the field, and texts that are none.
-use super::{Dir, Entry, State, Sym, TEXT_BYTES, Table, TextFault};
+use machine_text::{Dir, Entry, State, Sym, TEXT_BYTES, Table, TextFault};
 use std::process::Abort;
 use std::test::Fail;
 

@@ -1,5 +1,5 @@
 // A board of the tree of one state, and offers that it refuses.
-use super::{Board, BoardFault, OfferFault, Status, Taken, Tally};
+use ledger::{Board, BoardFault, OfferFault, Status, Taken, Tally};
 use cert::Record;
 use machine_text::Table;
 use run::{Refused, Verdict};

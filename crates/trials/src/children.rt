@@ -1,7 +1,7 @@
 // Tables of a tree by their texts.
 ghost use Rattle.std.specs.Prelude.{◌≤◌, length};
 
-use super::{Children, children, in_order, root, used};
+use tnf::{Children, children, in_order, root, used};
 use machine_text::{State, Sym, TEXT_BYTES, Table};
 use std::process::Abort;
 
@@ -59,7 +59,7 @@ fn children_come_in_the_order_of_their_texts(rt: HostRuntime) {
 }
 
 // The tree of two states has 1, 4, 16 and 40 tables with none to three entries: the children of the table that
-// stops first, of the two that stop in the next row, and of the five after them.
+// halts first, of the two that halt in the next row, and of the five after them.
 #[test]
 fn the_tree_of_two_states_has_its_numbers(rt: HostRuntime) {
     for (text, q, s, number) in [

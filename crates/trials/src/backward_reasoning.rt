@@ -1,5 +1,5 @@
 // Checks and searches of tables whose answers come from elsewhere.
-use super::{Backward, BackwardFinder, MAX_DEPTH};
+use backward::{Backward, BackwardFinder, MAX_DEPTH};
 use machine_text::Table;
 use run::{Evidence, Refused, Verdict};
 use std::process::Abort;
@@ -26,7 +26,7 @@ fn claims_are_checked(rt: HostRuntime) {
         ("0RB---_0RA1RA", 32, Err(Refused::Fails)),
         ("0RB---_0RA1RA", 33, Err(Refused::TooWide)),
         ("0RB---_0RA1RA", MAX_DEPTH, Err(Refused::TooWide)),
-        // The run stops after 5 steps, so that the width isn't looked at.
+        // The run halts after 5 steps, so that the width isn't looked at.
         ("1RB1LB_1LA---", 100, Err(Refused::Fails)),
     ] {
         let table = table_of(&rt, text);

@@ -1,5 +1,5 @@
 // Ledgers, whole, cut and spoilt. What wants memory is tried again once.
-use super::{Board, Left, LoadFault, OfferFault, Unkept, peek_root};
+use ledger::{Board, Left, LoadFault, OfferFault, Unkept, peek_root};
 use cert::RecordFault;
 use machine_text::{Table, TextFault};
 use run::Refused;

@@ -1,0 +1,23 @@
+//! Tests of all the crates, over their public calls: examples of the field, the worked rows of the formats,
+//! failing streams and refused memory. A crate with tests is proved twice, so they stand here together, in
+//! a crate without code of its own.
+#![tactic(auto)]
+
+#[cfg(test)]
+mod backward_reasoning;
+#[cfg(test)]
+mod boards;
+#[cfg(test)]
+mod children;
+#[cfg(test)]
+mod cycles;
+#[cfg(test)]
+mod ledgers;
+#[cfg(test)]
+mod records;
+#[cfg(test)]
+mod runs;
+#[cfg(test)]
+mod tables;
+#[cfg(test)]
+mod tapes;

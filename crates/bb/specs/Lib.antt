@@ -1,5 +1,1 @@
-pub mod Outcome
-pub mod Lines
-pub mod Answer
-pub mod Report
-pub mod LedgerReport
+pub mod Unread

@@ -1,22 +1,30 @@
 // The command line, by clap's builder.
-use crate::asked::{LineFault, Options as Asked};
-use clap::{Arg, Command};
+use crate::line_fault::LineFault;
+use clap::{Arg, ArgAction, ArgMatches, Command};
+use commands::Options;
 use run::NoMemory;
 use std::alloc::Global;
 
 /// What the words of a command line ask for, the program's name first.
-pub fn options<'a>(alloc: Global, words: &'a [&'a str]) -> Result<Asked<'a>, LineFault> {
+pub fn options<'a>(alloc: Global, words: &'a [&'a str]) -> Result<Options<'a>, LineFault> {
     let matches = program(alloc)?.try_get_matches_from(words)?;
     match matches.subcommand() {
-        Some(("report", report)) => Ok(Asked::Report {
-            file: report.get_str(FILE).unwrap_or_default(),
-        }),
-        _ => Ok(Asked::Check),
+        Some(("check", _)) => Ok(Options::Check),
+        Some(("report", report)) => Ok(report_options(report)),
+        _ => Err(LineFault::NoSuchCommand),
+    }
+}
+
+fn report_options<'a>(report: &ArgMatches<'a>) -> Options<'a> {
+    Options::Report {
+        file: report.get_str(FILE).unwrap_or_default(),
+        why: report.get_flag(WHY),
     }
 }
 
 fn program<'a>(alloc: Global) -> Result<Command<'a>, NoMemory> {
     Command::new(alloc, "bb")
+        .version(VERSION)
         .about("A verified tool for the busy beaver problem.")
         .after_help(STATUSES)
         .subcommand_required(true)
@@ -30,11 +38,22 @@ fn program<'a>(alloc: Global) -> Result<Command<'a>, NoMemory> {
             Command::new(alloc, "report")
                 .about("Prints the report of a ledger file.")
                 .after_help(REPORT)
-                .arg(Arg::new(alloc, FILE).required(true).help("The ledger file"))?,
+                .arg(Arg::new(alloc, FILE).required(true).help("The ledger file"))?
+                .arg(
+                    Arg::new(alloc, WHY)
+                        .long(WHY)
+                        .action(ArgAction::SetTrue)
+                        .help("Say on standard error why the first line that isn't kept isn't"),
+                )?,
         )
 }
 
 const FILE: &str = "FILE";
+
+const WHY: &str = "why";
+
+// The program's version, and the kit by which it is proved.
+const VERSION: &str = "0.1.0, proved with rattle-kit-13b logic dac8208d650f15bf";
 
 const STATUSES: &str =
     "Exit status: 0 all accepted; 1 something was refused; 2 a wrong command line; \

@@ -1,61 +1,68 @@
-// `bb check` over streams of the tests' own, line by line as its answers are documented.
-use crate::asked::{LineFault, Options};
-use crate::check::cmd_check;
+// Command lines, and what is said in place of a command, also to streams that fail.
 use crate::command_line::options;
-use crate::outcome::Outcome;
+use crate::dispatch::{Host, obey};
+use crate::line_fault::LineFault;
+use commands::{Options, Outcome};
 use std::alloc::Global;
 use std::io::{self, Read, Write};
 use std::process::Abort;
 use std::test::Fail;
 
-// Gives its bytes so many at a time, and fails at a call if it is to.
+// A host with one file, which is a complete ledger.
 #[derive(Drop)]
-pub struct Source<'a> {
-    pub left: &'a [u8],
-    pub at_once: usize,
-    pub calls_left: u64,
+struct OneFile;
+
+impl Host for OneFile {
+    type File = Bytes;
+
+    fn open(&self, path: &str) -> io::Result<Bytes> {
+        if path == "complete" {
+            Ok(Bytes { left: COMPLETE })
+        } else {
+            Err(io::Error::from(io::ErrorKind::NotFound))
+        }
+    }
+
+    fn length(&self, file: &Bytes) -> io::Result<u64> {
+        Ok(file.left.len() as u64)
+    }
 }
 
-impl<'a> Read for Source<'a> {
+const COMPLETE: &[u8] = b"bb-ledger 1 ------\n------ H 1\n0RA--- T 0 1 R\n1RA--- T 0 1 R\n";
+
+// Gives its bytes one at a time.
+#[derive(Drop)]
+struct Bytes {
+    left: &'static [u8],
+}
+
+impl Read for Bytes {
     fn read(&mut self, buf: &mut [u8]) -> io::Result<usize> {
-        if self.calls_left == 0 {
-            return Err(io::Error::from(io::ErrorKind::Other));
+        match (self.left.split_first(), buf.first_mut()) {
+            (Some((byte, left)), Some(place)) => {
+                *place = *byte;
+                self.left = left;
+                Ok(1)
+            }
+            _ => Ok(0),
         }
-        self.calls_left -= 1;
-        let count = self.at_once.min(self.left.len()).min(buf.len());
-        buf[..count].copy_from_slice(&self.left[..count]);
-        self.left = &self.left[count..];
-        Ok(count)
     }
 }
 
-// Keeps what is written, so many bytes at a time, and fails at a call if it is to.
+// Counts what is written, and fails if it is to.
 #[derive(Drop)]
-pub struct Sink {
-    pub kept: Vec<u8>,
-    at_once: usize,
-    calls_left: u64,
-}
-
-impl Sink {
-    pub fn new(alloc: Global, at_once: usize, calls_left: u64) -> Sink {
-        Sink {
-            kept: Vec::new(alloc),
-            at_once,
-            calls_left,
-        }
-    }
+struct Sink {
+    written: usize,
+    fails: bool,
 }
 
 impl Write for Sink {
     fn write(&mut self, buf: &[u8]) -> io::Result<usize> {
-        if self.calls_left == 0 {
+        if self.fails {
             return Err(io::Error::from(io::ErrorKind::Other));
         }
-        self.calls_left -= 1;
-        let count = self.at_once.min(buf.len());
-        self.kept.extend_from_slice(&buf[..count])?;
-        Ok(count)
+        self.written = self.written.saturating_add(buf.len());
+        Ok(buf.len())
     }
 
     fn flush(&mut self) -> io::Result<()> {
@@ -63,257 +70,145 @@ impl Write for Sink {
     }
 }
 
-pub const ALWAYS: u64 = u64::MAX;
-
-// What `bb check` answers to an input that comes so many bytes at a time. Where memory is refused it says
-// so, after answers that stand, and is asked once more: then the answers must come.
-fn checked(
-    rt: &impl Abort,
+// How a command line ended, and whether anything was written to either stream.
+fn ended(
     alloc: Global,
-    input: &[u8],
-    at_once: usize,
-    answers: &[u8],
-    outcome: Outcome,
-) {
-    let mut sink = Sink::new(alloc, usize::MAX, ALWAYS);
-    let mut faults = Sink::new(alloc, usize::MAX, ALWAYS);
-    let mut ended = asked(alloc, input, at_once, &mut sink, &mut faults);
-    if ended == Outcome::NoMemory {
-        assert_eq!(rt; faults.kept.as_slice(), b"refused memory\n".as_slice());
-        assert!(rt; answers.starts_with(&sink.kept));
-        sink.kept.clear();
-        faults.kept.clear();
-        ended = asked(alloc, input, at_once, &mut sink, &mut faults);
-    }
-    assert_eq!(rt; sink.kept.as_slice(), answers);
-    assert!(rt; ended == outcome);
-    assert!(rt; faults.kept.is_empty());
-}
-
-fn asked(
-    alloc: Global,
-    input: &[u8],
-    at_once: usize,
-    sink: &mut Sink,
-    faults: &mut Sink,
-) -> Outcome {
-    let mut source = Source {
-        left: input,
-        at_once,
-        calls_left: ALWAYS,
+    words: &[&str],
+    fails: (bool, bool),
+) -> Result<(Outcome, bool, bool), Fail> {
+    let mut answers = Sink {
+        written: 0,
+        fails: fails.0,
     };
-    cmd_check(alloc, &mut source, sink, faults)
-}
-
-#[test]
-fn answers_are_those_of_the_records(rt: HostRuntime) -> Result<(), Fail> {
-    for (line, answer) in [
-        ("------ H 1", "------ halts 1"),
-        ("------ H 0", "refused 201"),
-        ("1RB1LB_1LA--- H 6", "1RB1LB_1LA--- halts 6"),
-        ("1RB1LB_1LA--- H 5", "refused 201"),
-        ("1RB1LB_1LA--- H 7", "refused 201"),
-        ("1RB1LB_1LA--- H 100000001", "refused 202"),
-        ("1RB1RZ_1LB0RC_1LC1LA H 21", "1RB---_1LB0RC_1LC1LA halts 21"),
-        ("1RB1RH_1LB0RC_1LC1LA H 21", "1RB---_1LB0RC_1LC1LA halts 21"),
-        (
-            "1RB1LB_1LA0LC_1RZ1LD_1RD0RA H 107",
-            "1RB1LB_1LA0LC_---1LD_1RD0RA halts 107",
-        ),
-        ("1RC1LB_1LA--- H 6", "refused 301 105 2"),
-        ("", "refused 301 101"),
-        ("1RB1LB_1LA---", "refused 302"),
-        ("1RB1LB_1LA---  H 6", "refused 302"),
-        ("1RB1LB_1LA--- H 06", "refused 303"),
-        ("1RB1LB_1LA--- U", "1RB1LB_1LA--- undecided"),
-        ("1RB1LB_1LA--- H 6\r", "refused 303"),
-        ("1RB1LB_1LA--- H ", "refused 303"),
-        ("2RB1LB_1LA--- H 6", "refused 301 103 0"),
-        ("1RA--- T 0 1 R", "1RA--- never"),
-        ("1RA--- T 0 1 L", "refused 201"),
-        ("1RA--- T 1 0 R", "refused 201"),
-        ("1RA--- T 0 1 X", "refused 303"),
-        ("1RA--- C 0 10000001", "refused 202"),
-        ("0RB---_0LA--- C 0 2", "0RB---_0LA--- never"),
-        ("0RB---_0LA--- C 0 1", "refused 201"),
-        ("0RB---_0LA--- T 0 2 R", "0RB---_0LA--- never"),
-        ("0RB---_0LA--- T 0 2 L", "0RB---_0LA--- never"),
-        ("1RB---_0RB1RB B 1", "1RB---_0RB1RB never"),
-        ("1RB---_0RB1RB B 0", "refused 201"),
-        ("1RB---_0RB1RB B 1001", "refused 202"),
-        ("1RB1LA_1LA1RB B 0", "1RB1LA_1LA1RB never"),
-        ("------ B 1", "refused 201"),
-    ] {
-        let alloc = rt.alloc();
-        let refused = answer.starts_with("refused");
-        let outcome = if refused {
-            Outcome::Refused
-        } else {
-            Outcome::Accepted
-        };
-        let input = format!(in alloc; "{line}\n")?;
-        let answers = format!(in alloc; "{answer}\n")?;
-        checked(
-            &rt,
-            alloc,
-            input.as_bytes(),
-            usize::MAX,
-            answers.as_bytes(),
-            outcome,
-        );
-    }
-    Ok(())
-}
-
-// 47,176,870 steps: a quarter of a second as built, too long for a trial run.
-#[test]
-fn the_five_state_champion_halts(rt: HostRuntime) {
-    let input = b"1RB1LC_1RC1RB_1RD0LE_1LA1LD_---0LA H 47176870";
-    let answers = b"1RB1LC_1RC1RB_1RD0LE_1LA1LD_---0LA halts 47176870\n";
-    checked(
-        &rt,
-        rt.alloc(),
-        input,
-        usize::MAX,
-        answers,
-        Outcome::Accepted,
-    );
-}
-
-// However the input is cut; with and without a last newline, and the empty input.
-#[test]
-fn lines_are_those_of_the_whole_input(rt: HostRuntime) {
-    let input = b"------ H 1\n\n1RB1LB_1LA--- H 6\n------ U";
-    let answers = b"------ halts 1\nrefused 301 101\n1RB1LB_1LA--- halts 6\n------ undecided\n";
-    for at_once in [1, 2, 3, 7, 11, 12, 13, 100] {
-        checked(&rt, rt.alloc(), input, at_once, answers, Outcome::Refused);
-    }
-    checked(&rt, rt.alloc(), b"", 1, b"", Outcome::Accepted);
-    checked(
-        &rt,
-        rt.alloc(),
-        b"------ H 1\n",
-        4,
-        b"------ halts 1\n",
-        Outcome::Accepted,
-    );
-}
-
-// A line of 65,001 to 65,536 bytes is too long for a record, a longer one for a line; the next is read.
-#[test]
-fn long_lines_are_refused(rt: HostRuntime) -> Result<(), Fail> {
-    for length in [65_000, 65_001, 65_536, 65_537, 200_000] {
-        let mut input = vec![in rt.alloc(); b'x'; length]?;
-        input.extend_from_slice(b"\n------ H 1\n")?;
-        let answers = if length == 65_000 {
-            b"refused 301 101\n------ halts 1\n".as_slice()
-        } else {
-            b"refused 305\n------ halts 1\n".as_slice()
-        };
-        checked(&rt, rt.alloc(), &input, 4096, answers, Outcome::Refused);
-        let without = &input[..input.len() - 12];
-        checked(
-            &rt,
-            rt.alloc(),
-            without,
-            4096,
-            &answers[..answers.len() - 15],
-            Outcome::Refused,
-        );
-    }
-    Ok(())
-}
-
-#[test]
-fn failing_streams_end_the_command(rt: HostRuntime) {
-    let input = b"------ H 1\n------ H 1\n------ H 1\n";
-    let alloc = rt.alloc();
-    for calls in 0..4 {
-        let mut source = Source {
-            left: input,
-            at_once: 11,
-            calls_left: calls,
-        };
-        let mut sink = Sink::new(alloc, usize::MAX, ALWAYS);
-        let mut faults = Sink::new(alloc, usize::MAX, ALWAYS);
-        let ended = cmd_check(alloc, &mut source, &mut sink, &mut faults);
-        assert!(rt; ended == Outcome::Failed);
-        assert_eq!(rt; faults.kept.as_slice(), b"refused 603\n".as_slice());
-        assert_eq!(rt;
-            sink.kept.len() as u64,
-            15 * calls,
-            "what was answered before stands"
-        );
-        let mut source = Source {
-            left: input,
-            at_once: 11,
-            calls_left: ALWAYS,
-        };
-        let mut sink = Sink::new(alloc, 7, calls);
-        let ended = cmd_check(alloc, &mut source, &mut sink, &mut faults);
-        assert!(rt; ended == Outcome::Failed);
-    }
-    // where not even the fault can be said
-    let mut source = Source {
-        left: input,
-        at_once: 1,
-        calls_left: 0,
+    let mut faults = Sink {
+        written: 0,
+        fails: fails.1,
     };
-    let ended = cmd_check(
+    let mut line = Vec::new(alloc);
+    for word in words {
+        line.push(word.to_string(alloc)?)?;
+    }
+    let mut input = Bytes {
+        left: b"1RB1LB_1LA--- H 6\n",
+    };
+    let outcome = obey(
         alloc,
-        &mut source,
-        &mut Sink::new(alloc, 1, 0),
-        &mut Sink::new(alloc, 1, 0),
+        Ok(line),
+        &OneFile,
+        &mut input,
+        &mut answers,
+        &mut faults,
     );
-    assert!(rt; ended == Outcome::Failed);
+    Ok((outcome, answers.written > 0, faults.written > 0))
 }
 
 #[test]
-fn statuses_rise_with_gravity(rt: HostRuntime) {
-    let outcomes = [
-        Outcome::Accepted,
-        Outcome::Refused,
-        Outcome::BadLine,
-        Outcome::NoMemory,
-        Outcome::Failed,
-    ];
-    for (outcome, status) in outcomes.iter().zip([0, 1, 2, 3, 4]) {
-        assert_eq!(rt; outcome.status(), status);
+fn each_command_line_ends_with_its_outcome(rt: HostRuntime) -> Result<(), Fail> {
+    for (words, outcome, answers, faults) in [
+        (["bb", "check"].as_slice(), Outcome::Accepted, true, false),
+        (
+            ["bb", "report", "complete"].as_slice(),
+            Outcome::Accepted,
+            true,
+            false,
+        ),
+        (
+            ["bb", "report", "complete", "--why"].as_slice(),
+            Outcome::Accepted,
+            true,
+            false,
+        ),
+        (
+            ["bb", "report", "absent"].as_slice(),
+            Outcome::Failed,
+            false,
+            true,
+        ),
+        (["bb", "--help"].as_slice(), Outcome::Accepted, true, false),
+        (
+            ["bb", "report", "--help"].as_slice(),
+            Outcome::Accepted,
+            true,
+            false,
+        ),
+        (
+            ["bb", "--version"].as_slice(),
+            Outcome::Accepted,
+            true,
+            false,
+        ),
+        (["bb"].as_slice(), Outcome::BadLine, false, true),
+        (["bb", "chek"].as_slice(), Outcome::BadLine, false, true),
+        (
+            ["bb", "check", "file"].as_slice(),
+            Outcome::BadLine,
+            false,
+            true,
+        ),
+        (["bb", "report"].as_slice(), Outcome::BadLine, false, true),
+        (
+            ["bb", "report", "a", "b"].as_slice(),
+            Outcome::BadLine,
+            false,
+            true,
+        ),
+        (["bb", "--steps"].as_slice(), Outcome::BadLine, false, true),
+    ] {
+        let said = ended(rt.alloc(), words, (false, false))?;
+        assert!(rt; said == (outcome, answers, faults), "{words:?}: {said:?}");
+        // Where what there is to say can't be written, that is how it ends.
+        let said = ended(rt.alloc(), words, (answers, faults))?;
+        assert!(rt; said.0 == Outcome::Failed, "{words:?}: {said:?}");
     }
-    assert!(rt; Outcome::Refused.max(Outcome::Failed) == Outcome::Failed);
+    Ok(())
 }
 
 #[test]
-fn command_lines_are_read_or_refused(rt: HostRuntime) {
+fn options_are_read_from_the_words(rt: HostRuntime) {
     let alloc = rt.alloc();
     assert!(rt; matches!(options(alloc, &["bb", "check"]), Ok(Options::Check)));
-    match options(alloc, &["bb", "report", "some file"]) {
-        Ok(Options::Report { file }) => assert_eq!(rt; file, "some file"),
-        _ => panic!(rt; "no report"),
-    }
-    for words in [
-        ["bb", "chek"].as_slice(),
-        ["bb"].as_slice(),
-        ["bb", "check", "file"].as_slice(),
-        ["bb", "report"].as_slice(),
-        ["bb", "report", "file", "file"].as_slice(),
-        ["bb", "--steps"].as_slice(),
+    for (words, why) in [
+        (["bb", "report", "some file"].as_slice(), false),
+        (["bb", "report", "--why", "some file"].as_slice(), true),
     ] {
         match options(alloc, words) {
-            Ok(_) => panic!(rt; "{words:?}"),
-            Err(LineFault::Refused(told)) => assert!(rt; told.use_stderr(), "{words:?}"),
-            Err(LineFault::NoMemory) => panic!(rt; "{words:?}: no memory"),
+            Ok(asked) => {
+                let expected = Options::Report {
+                    file: "some file",
+                    why,
+                };
+                assert!(rt; asked == expected, "{words:?}");
+            }
+            Err(fault) => panic!(rt; "{fault}"),
         }
     }
-    for words in [
-        ["bb", "--help"].as_slice(),
-        ["bb", "check", "--help"].as_slice(),
-        ["bb", "report", "--help"].as_slice(),
+}
+
+// What the words of a line couldn't be read for is a wrong line, or want of memory.
+#[test]
+fn lines_that_cant_be_read_end_early(rt: HostRuntime) {
+    for (fault, outcome) in [
+        (LineFault::NotText, Outcome::BadLine),
+        (LineFault::NoSuchCommand, Outcome::BadLine),
+        (LineFault::NoMemory, Outcome::NoMemory),
     ] {
-        match options(alloc, words) {
-            Ok(_) => panic!(rt; "{words:?}"),
-            Err(LineFault::Refused(told)) => assert!(rt; !told.use_stderr(), "{words:?}"),
-            Err(LineFault::NoMemory) => panic!(rt; "{words:?}: no memory"),
-        }
+        let mut answers = Sink {
+            written: 0,
+            fails: true,
+        };
+        let mut faults = Sink {
+            written: 0,
+            fails: false,
+        };
+        let mut input = Bytes { left: b"" };
+        let ended = obey(
+            rt.alloc(),
+            Err(fault),
+            &OneFile,
+            &mut input,
+            &mut answers,
+            &mut faults,
+        );
+        assert!(rt; ended == outcome && faults.written > 0);
     }
 }

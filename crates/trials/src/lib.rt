@@ -8,6 +8,8 @@ mod backward_reasoning;
 #[cfg(test)]
 mod boards;
 #[cfg(test)]
+mod check_command;
+#[cfg(test)]
 mod children;
 #[cfg(test)]
 mod cycles;
@@ -16,7 +18,11 @@ mod ledgers;
 #[cfg(test)]
 mod records;
 #[cfg(test)]
+mod report_command;
+#[cfg(test)]
 mod runs;
+#[cfg(test)]
+mod streams;
 #[cfg(test)]
 mod tables;
 #[cfg(test)]

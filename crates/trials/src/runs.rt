@@ -1,6 +1,6 @@
 // Step counts and a tape of the field, and runs for which memory is refused.
-use run::{Evidence, HaltFinder, HaltsIn, MAX_HALT_STEPS, Refused, Runner, Step, Verdict};
 use machine_text::{State, Sym, Table};
+use run::{Evidence, HaltFinder, HaltsIn, MAX_HALT_STEPS, Refused, Runner, Step, Verdict};
 use std::alloc::Global;
 use std::process::Abort;
 use std::test::Fail;

@@ -1,6 +1,0 @@
-use Rattle.std.proofs.Common.{length}
-use Rattle.bb.proofs.check.Checker.take.Given as goal
-
--- each turn takes a line from the piece
-abbrev pub decreases-lines : goal.decreases-lines
-decreases-lines l = length l.left

@@ -1,0 +1,93 @@
+// From the words of a command line to the command, and how it ended.
+ghost use Rattle.std.specs.Prelude.{IfErr};
+ghost use Rattle.bb.specs.Unread.{EndsUnread};
+
+use crate::command_line::options;
+use crate::line_fault::LineFault;
+use commands::{Ended, Opened, Options, Outcome, cmd_check, cmd_report};
+use run::NoMemory;
+use std::alloc::Global;
+use std::io::{self, Read, Write};
+
+/// Where the files stand that a command line names.
+pub trait Host {
+    type File: Read + Drop;
+
+    fn open(&self, path: &str) -> io::Result<Self::File>;
+
+    /// How many bytes a file has now.
+    fn length(&self, file: &Self::File) -> io::Result<u64>;
+}
+
+/// Does what the words ask for, the program's name first, and answers how it ended. Each end is an
+/// `Outcome`: a line that can't be read or is refused too, and a stream that fails.
+pub fn obey<H: Host, R: Read, W: Write, E: Write>(
+    alloc: Global,
+    words: Result<Vec<String>, LineFault>,
+    host: &H,
+    input: &mut R,
+    answers: &mut W,
+    faults: &mut E,
+) -> Outcome
+    ensures unread { IfErr words (λ fault. EndsUnread fault result) }
+{
+    let words = match words {
+        Ok(words) => words,
+        Err(fault) => return told(alloc, fault, answers, faults),
+    };
+    let line = match line_of(alloc, &words) {
+        Ok(line) => line,
+        Err(_) => return Ended::NoMemory.told(faults),
+    };
+    match options(alloc, &line) {
+        Ok(Options::Check) => cmd_check(alloc, input, answers, faults),
+        Ok(Options::Report { file, why }) => {
+            cmd_report(alloc, why, opened(host, file), answers, faults)
+        }
+        Err(fault) => told(alloc, fault, answers, faults),
+    }
+}
+
+fn line_of(alloc: Global, words: &[String]) -> Result<Vec<&str>, NoMemory> {
+    let mut line = Vec::new(alloc);
+    for word in words {
+        line.push(word.as_str())?;
+    }
+    Ok(line)
+}
+
+// A file, and how long it is now.
+fn opened<H: Host>(host: &H, path: &str) -> io::Result<Opened<H::File>> {
+    let reader = host.open(path)?;
+    let length = host.length(&reader)?;
+    Ok(Opened { reader, length })
+}
+
+// Prints what there is to say in place of a command: help and the version as answers, all else as faults.
+fn told<W: Write, E: Write>(
+    alloc: Global,
+    fault: LineFault,
+    answers: &mut W,
+    faults: &mut E,
+) -> Outcome
+    ensures { EndsUnread fault result }
+{
+    let is_answer = match &fault {
+        LineFault::Refused(refused) => !refused.use_stderr(),
+        LineFault::NotText | LineFault::NoSuchCommand => false,
+        LineFault::NoMemory => return Ended::NoMemory.told(faults),
+    };
+    let Ok(text) = format!(in alloc; "{fault}") else {
+        return Ended::NoMemory.told(faults);
+    };
+    let written = if is_answer {
+        answers.write_all(text.as_bytes())
+    } else {
+        faults.write_all(text.as_bytes())
+    };
+    match written {
+        Ok(()) if is_answer => Outcome::Accepted,
+        Ok(()) => Outcome::BadLine,
+        Err(_) => Ended::Stream.told(faults),
+    }
+}

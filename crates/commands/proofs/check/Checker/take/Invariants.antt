@@ -1,0 +1,6 @@
+use Rattle.std.proofs.Common.{length}
+use Rattle.commands.proofs.check.Checker.take.Given as goal
+
+-- each turn takes a line from the piece
+abbrev pub decreases-lines : goal.decreases-lines
+decreases-lines l = length l.left

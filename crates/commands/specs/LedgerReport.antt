@@ -1,0 +1,48 @@
+-- What is printed for a ledger's text, and how the command ends.
+use Rattle.std.specs.Prelude.{◌≡◌, ℕ, ◌⊎◌, List, [], ◌∷◌, ◌++◌, codes, decimal}
+use Rattle.machine_text.specs.Packed.{Packed, entry_of}
+use Rattle.tree.specs.Used.{InOrder}
+use Rattle.cert.specs.Claim.{Recorded}
+use Rattle.ledger.specs.LedgerText.{IsTornHeader, HasHeader, HasNoHeader, ReadsAs}
+use Rattle.ledger.specs.Tally.{IsStatus}
+use Rattle.ledger.specs.declared.loaded.Left.{Left}
+use Rattle.ledger.specs.declared.loaded.Left.TheVariants.{Nothing, From}
+use Rattle.ledger.specs.declared.outcomes.Status.{Status}
+use Rattle.ledger.specs.declared.outcomes.Status.TheVariants.{Working, Holdouts, Complete}
+use Rattle.commands.specs.Report.{IsReport}
+use Rattle.commands.specs.declared.outcome.Outcome.{Outcome}
+use Rattle.commands.specs.declared.outcome.Outcome.TheVariants.{Accepted, Refused}
+use Rattle.commands.specs.declared.ended.Ended.{Ended}
+use Rattle.commands.specs.declared.ended.Ended.TheVariants.{BadHeader, WrongRoot, Stream, File, NoMemory}
+
+-- the line behind the report that says which line wasn't kept
+abbrev pub left_text : Left → List ℕ
+left_text Nothing = []
+left_text (From line kept why) = codes "left " ++ decimal line ++ 10 ∷ []
+
+-- accepted where a board is complete and all of its ledger was kept
+abbrev pub outcome_by : Status → Left → Outcome
+outcome_by (Complete best) Nothing = Accepted
+outcome_by (Complete best) (From line kept why) = Refused
+outcome_by (Working count) left = Refused
+outcome_by (Holdouts count) left = Refused
+
+-- behind what was there stands the report of the records for which the text stands
+pub record ReportsLedger (text old : List ℕ) (o : Outcome) (left : Left) (new : List ℕ) : Type 0 where
+  pub root : Packed
+  pub records : List Recorded
+  pub loads : ReadsAs root text records left
+  pub report : List ℕ
+  pub is_report : IsReport root records report
+  pub status : Status
+  pub stands : IsStatus root records status
+  pub ends : o ≡ outcome_by status left
+  pub is : new ≡ old ++ report ++ left_text left
+
+-- why there is no report: the text has no root, or one that isn't in order
+abbrev pub EndsLedger : List ℕ → Ended → Type 0
+EndsLedger text BadHeader = IsTornHeader text ⊎ HasNoHeader text
+EndsLedger text WrongRoot = (root : Packed) × (rest : List ℕ) × HasHeader text root rest × (((u : ℕ) × InOrder u (entry_of root)) → ⊥)
+EndsLedger text Stream = ⊥
+EndsLedger text File = ⊥
+EndsLedger text NoMemory = Unit {0}

@@ -1,0 +1,5 @@
+pub mod Outcome
+pub mod Lines
+pub mod Answer
+pub mod Report
+pub mod LedgerReport

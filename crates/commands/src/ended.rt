@@ -1,0 +1,99 @@
+// What ends a command before its work is done.
+ghost use Rattle.std.specs.Prelude.{◌≡◌, ◌⊎◌};
+ghost use Rattle.commands.specs.Outcome.{outcome_of};
+
+use crate::outcome::Outcome;
+use ledger::LoadFault;
+use run::NoMemory;
+use std::io::{self, ErrorKind, Write};
+
+/// What ends a command before its work is done.
+#[derive(Clone, Copy, Debug, PartialEq, Eq)]
+pub enum Ended {
+    /// A ledger has no header with a readable root.
+    BadHeader,
+    /// A ledger's root doesn't name its states in order.
+    WrongRoot,
+    /// A stream failed.
+    Stream,
+    /// A file couldn't be opened or read.
+    File,
+    /// Memory was refused.
+    NoMemory,
+}
+
+impl Ended {
+    // The line that says so, with its newline.
+    fn line(self) -> &'static [u8] {
+        match self {
+            Ended::BadHeader => b"refused 404\n",
+            Ended::WrongRoot => b"refused 405\n",
+            Ended::Stream => b"refused 603\n",
+            Ended::File => b"refused 605\n",
+            Ended::NoMemory => b"refused memory\n",
+        }
+    }
+
+    /// What ends a command whose file can't be opened or read.
+    pub fn by_file(fault: &io::Error) -> Ended {
+        if fault.kind() == ErrorKind::OutOfMemory {
+            Ended::NoMemory
+        } else {
+            Ended::File
+        }
+    }
+
+    /// How a command ends by it.
+    pub fn outcome(self) -> Outcome
+        ensures { result ≡ outcome_of self }
+    {
+        match self {
+            Ended::BadHeader | Ended::WrongRoot => Outcome::Refused,
+            Ended::Stream | Ended::File => Outcome::Failed,
+            Ended::NoMemory => Outcome::NoMemory,
+        }
+    }
+
+    /// Says why a command ended; where that can't be said either, a stream has failed.
+    pub fn told<E: Write>(self, faults: &mut E) -> Outcome
+        ensures { (result ≡ outcome_of self) ⊎ (result ≡ Outcome.Failed) }
+    {
+        match faults.write_all(self.line()) {
+            Ok(()) => self.outcome(),
+            Err(_) => Outcome::Failed,
+        }
+    }
+}
+
+impl From<NoMemory> for Ended {
+    ghost use Rattle.std.specs.Prelude.{◌≡◌};
+    ghost use Rattle.commands.specs.declared.ended.Ended.TheVariants.{NoMemory};
+
+    ghost from_gives = { λ _ e. e ≡ NoMemory };
+
+    fn from(_: NoMemory) -> Ended {
+        Ended::NoMemory
+    }
+}
+
+impl From<LoadFault> for Ended {
+    ghost use Rattle.std.specs.Prelude.{◌≡◌};
+    ghost use Rattle.commands.specs.Outcome.{ended_by};
+
+    ghost from_gives = { λ f e. e ≡ ended_by f };
+
+    fn from(fault: LoadFault) -> Ended {
+        match fault {
+            LoadFault::BadHeader => Ended::BadHeader,
+            LoadFault::WrongRoot => Ended::WrongRoot,
+            LoadFault::NoMemory => Ended::NoMemory,
+        }
+    }
+}
+
+// A stream's fault.
+impl From<io::Error> for Ended {
+    fn from(_: io::Error) -> Ended {
+        Ended::Stream
+    }
+}

@@ -1,0 +1,132 @@
+// `bb report`: a ledger file in, its report out.
+ghost use Rattle.std.specs.Prelude.{◌≡◌, ◌++◌, OnOk, IfOk, IfErr};
+ghost use Rattle.ledger.specs.LedgerText.{ReadsAs};
+ghost use Rattle.commands.specs.LedgerReport.{ReportsLedger, EndsLedger, left_text, outcome_by};
+
+use crate::board_report::report;
+use crate::ended::Ended;
+use crate::outcome::Outcome;
+use itoa::Buffer;
+use ledger::{Board, Left, Status, peek_root};
+use run::NoMemory;
+use std::alloc::Global;
+use std::io::{self, Read, Write};
+
+/// A file that was opened, and how many bytes it then had.
+#[derive(Drop)]
+pub struct Opened<R> {
+    pub reader: R,
+    pub length: u64,
+}
+
+/// Prints the report of a ledger file, and `left LINE` where not all of it could be kept. With `why`, says
+/// on `faults` why that line isn't kept. What ends the command early is said on `faults`: a failed file or
+/// stream, a ledger that can't be loaded, or refused memory.
+pub fn cmd_report<R: Read + Drop, W: Write, E: Write>(
+    alloc: Global,
+    why: bool,
+    file: io::Result<Opened<R>>,
+    answers: &mut W,
+    faults: &mut E,
+) -> Outcome {
+    match report_file(alloc, file, answers) {
+        Ok((outcome, left)) if why => outcome.max(left_told(alloc, &left, faults)),
+        Ok((outcome, _)) => outcome,
+        Err(ended) => ended.told(faults),
+    }
+}
+
+fn report_file<R: Read + Drop, W: Write>(
+    alloc: Global,
+    file: io::Result<Opened<R>>,
+    answers: &mut W,
+) -> Result<(Outcome, Left), Ended> {
+    let bytes = bytes_of(alloc, file)?;
+    let mut text = Vec::new(alloc);
+    let reported = report_ledger(alloc, &bytes, &mut text)?;
+    answers.write_all(&text)?;
+    Ok(reported)
+}
+
+// The bytes of a file, as far as it went when it was opened.
+fn bytes_of<R: Read + Drop>(alloc: Global, file: io::Result<Opened<R>>) -> Result<Vec<u8>, Ended> {
+    let mut bytes = Vec::new(alloc);
+    let read = match file {
+        Ok(opened) => opened.reader.take(opened.length).read_to_end(&mut bytes),
+        Err(fault) => Err(fault),
+    };
+    match read {
+        Ok(_) => Ok(bytes),
+        Err(fault) => Err(Ended::by_file(&fault)),
+    }
+}
+
+// Says why a line wasn't kept, where there is one.
+fn left_told<E: Write>(alloc: Global, left: &Left, faults: &mut E) -> Outcome {
+    let Left::From { line, .. } = left else {
+        return Outcome::Accepted;
+    };
+    let Ok(text) = format!(in alloc; "line {line} isn't kept\n") else {
+        return Ended::NoMemory.told(faults);
+    };
+    match faults.write_all(text.as_bytes()) {
+        Ok(()) => Outcome::Accepted,
+        Err(_) => Outcome::Failed,
+    }
+}
+
+/// Appends the report of a ledger's text, and `left LINE` where not all of it is kept: accepted where the
+/// board is complete and all was kept. Answers what is left as well.
+pub fn report_ledger(
+    alloc: Global,
+    bytes: &[u8],
+    out: &mut Vec<u8>,
+) -> Result<(Outcome, Left), Ended>
+    ensures ok { IfOk result (λ r. ReportsLedger bytes.now out.old.items r.0 r.1 out.new.items) }
+    ensures err { IfErr result (λ e. EndsLedger bytes.now e) }
+{
+    let (board, left) = loaded(alloc, bytes)?;
+    report(&board, out)?;
+    append_left(&left, out)?;
+    Ok((outcome_by(board.status(), &left), left))
+}
+
+// The board of a ledger's text with the root that it names, and what of the text wasn't kept.
+fn loaded(alloc: Global, bytes: &[u8]) -> Result<(Board, Left), Ended>
+    ensures ok { IfOk result (λ l. ReadsAs l.0.root bytes.now l.0.records l.1) }
+    ensures err { IfErr result (λ e. EndsLedger bytes.now e) }
+{
+    match peek_root(bytes) {
+        Ok(Some(root)) => match Board::load(alloc, root, bytes) {
+            Ok(loaded) => Ok(loaded),
+            Err(fault) => Err(Ended::from(fault)),
+        },
+        Ok(None) => Err(Ended::BadHeader),
+        Err(fault) => Err(Ended::from(fault)),
+    }
+}
+
+// Appends which line wasn't kept, where there is one.
+fn append_left(left: &Left, out: &mut Vec<u8>) -> Result<(), NoMemory>
+    ensures { OnOk result (out.new.items ≡ out.old.items ++ left_text left.now) }
+{
+    match left {
+        Left::Nothing => Ok(()),
+        Left::From { line, .. } => {
+            let mut buffer = Buffer::new();
+            out.extend_from_slice(b"left ")?;
+            out.extend_from_slice(buffer.format(*line).as_bytes())?;
+            out.extend_from_slice(b"\n")
+        }
+    }
+}
+
+// Accepted where a board is complete and all of its ledger was kept.
+fn outcome_by(status: Status, left: &Left) -> Outcome
+    ensures { result ≡ outcome_by status left.now }
+{
+    match (status, left) {
+        (Status::Complete { .. }, Left::Nothing) => Outcome::Accepted,
+        _ => Outcome::Refused,
+    }
+}

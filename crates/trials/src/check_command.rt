@@ -1,0 +1,286 @@
+// `bb check` over streams of the tests' own: the worked rows, and what a stream may do.
+use crate::streams::{ALWAYS, Sink, Source};
+use commands::{Outcome, cmd_check};
+use std::alloc::Global;
+use std::process::Abort;
+use std::test::Fail;
+
+// What `bb check` answers to an input that comes so many bytes at a time. Where memory is refused it says
+// so, after answers that stand, and is asked once more: then the answers must come.
+fn checked(
+    rt: &impl Abort,
+    alloc: Global,
+    input: &[u8],
+    at_once: usize,
+    answers: &[u8],
+    outcome: Outcome,
+) {
+    let mut sink = Sink::new(alloc, usize::MAX, ALWAYS);
+    let mut faults = Sink::new(alloc, usize::MAX, ALWAYS);
+    let mut ended = asked(alloc, input, at_once, &mut sink, &mut faults);
+    if ended == Outcome::NoMemory {
+        assert_eq!(rt; faults.kept.as_slice(), b"refused memory\n".as_slice());
+        assert!(rt; answers.starts_with(&sink.kept));
+        sink.kept.clear();
+        faults.kept.clear();
+        ended = asked(alloc, input, at_once, &mut sink, &mut faults);
+    }
+    assert_eq!(rt; sink.kept.as_slice(), answers);
+    assert!(rt; ended == outcome);
+    assert!(rt; faults.kept.is_empty());
+}
+
+fn asked(
+    alloc: Global,
+    input: &[u8],
+    at_once: usize,
+    sink: &mut Sink,
+    faults: &mut Sink,
+) -> Outcome {
+    let mut source = Source {
+        left: input,
+        at_once,
+        calls_left: ALWAYS,
+    };
+    cmd_check(alloc, &mut source, sink, faults)
+}
+
+// Each line and its answer; a last answer that refuses is the outcome of the whole.
+fn rows(rt: &impl Abort, alloc: Global, rows: &[(&str, &str)]) -> Result<(), Fail> {
+    for (line, answer) in rows {
+        let outcome = if answer.starts_with("refused") {
+            Outcome::Refused
+        } else {
+            Outcome::Accepted
+        };
+        let input = format!(in alloc; "{line}\n")?;
+        let answers = format!(in alloc; "{answer}\n")?;
+        checked(
+            rt,
+            alloc,
+            input.as_bytes(),
+            usize::MAX,
+            answers.as_bytes(),
+            outcome,
+        );
+    }
+    Ok(())
+}
+
+// No step is carried out: the halting step counts.
+#[test]
+fn a_table_that_halts_at_once(rt: HostRuntime) -> Result<(), Fail> {
+    rows(
+        &rt,
+        rt.alloc(),
+        &[
+            ("------ H 1", "------ halts 1"),
+            ("------ H 0", "refused 201"),
+            ("------ B 1", "refused 201"),
+        ],
+    )
+}
+
+#[test]
+fn the_two_state_champion(rt: HostRuntime) -> Result<(), Fail> {
+    rows(
+        &rt,
+        rt.alloc(),
+        &[
+            ("1RB1LB_1LA--- H 6", "1RB1LB_1LA--- halts 6"),
+            ("1RB1LB_1LA--- H 5", "refused 201"),
+            ("1RB1LB_1LA--- H 7", "refused 201"),
+            ("1RB1LB_1LA--- H 100000000", "refused 201"),
+            ("1RB1LB_1LA--- H 100000001", "refused 202"),
+            ("1RB1LB_1LA--- U", "1RB1LB_1LA--- undecided"),
+        ],
+    )
+}
+
+#[test]
+fn the_three_and_four_state_champions(rt: HostRuntime) -> Result<(), Fail> {
+    rows(
+        &rt,
+        rt.alloc(),
+        &[
+            ("1RB1RZ_1LB0RC_1LC1LA H 21", "1RB---_1LB0RC_1LC1LA halts 21"),
+            ("1RB1RH_1LB0RC_1LC1LA H 21", "1RB---_1LB0RC_1LC1LA halts 21"),
+            (
+                "1RB1LB_1LA0LC_1RZ1LD_1RD0RA H 107",
+                "1RB1LB_1LA0LC_---1LD_1RD0RA halts 107",
+            ),
+        ],
+    )
+}
+
+#[test]
+fn texts_that_are_no_record(rt: HostRuntime) -> Result<(), Fail> {
+    rows(
+        &rt,
+        rt.alloc(),
+        &[
+            ("1RC1LB_1LA--- H 6", "refused 301 105 2"),
+            ("", "refused 301 101"),
+            ("2RB1LB_1LA--- H 6", "refused 301 103 0"),
+            ("1RB1LB_1LA---", "refused 302"),
+            ("1RB1LB_1LA---  H 6", "refused 302"),
+            ("1RB1LB_1LA--- H 06", "refused 303"),
+            ("1RB1LB_1LA--- H 6\r", "refused 303"),
+            ("1RB1LB_1LA--- H ", "refused 303"),
+        ],
+    )
+}
+
+#[test]
+fn cycles_and_translated_cycles(rt: HostRuntime) -> Result<(), Fail> {
+    rows(
+        &rt,
+        rt.alloc(),
+        &[
+            ("1RA--- T 0 1 R", "1RA--- never"),
+            ("1RA--- T 0 1 L", "refused 201"),
+            ("1RA--- T 1 0 R", "refused 201"),
+            ("1RA--- T 0 1 X", "refused 303"),
+            ("1RA--- C 0 10000001", "refused 202"),
+            ("0RB---_0LA--- C 0 2", "0RB---_0LA--- never"),
+            ("0RB---_0LA--- C 0 1", "refused 201"),
+            ("0RB---_0LA--- T 0 2 R", "0RB---_0LA--- never"),
+            ("0RB---_0LA--- T 0 2 L", "0RB---_0LA--- never"),
+        ],
+    )
+}
+
+#[test]
+fn backward_reasoning(rt: HostRuntime) -> Result<(), Fail> {
+    rows(
+        &rt,
+        rt.alloc(),
+        &[
+            ("1RB---_0RB1RB B 1", "1RB---_0RB1RB never"),
+            ("1RB---_0RB1RB B 0", "refused 201"),
+            ("1RB---_0RB1RB B 1001", "refused 202"),
+            ("1RB1LA_1LA1RB B 0", "1RB1LA_1LA1RB never"),
+            ("1RA--- B 1000", "refused 201"),
+            ("0RB---_0RA1RA B 32", "refused 201"),
+            ("0RB---_0RA1RA B 33", "refused 203"),
+        ],
+    )
+}
+
+// 47,176,870 steps: a quarter of a second as built, too long for a trial run.
+#[test]
+fn the_five_state_champion_halts(rt: HostRuntime) {
+    let input = b"1RB1LC_1RC1RB_1RD0LE_1LA1LD_---0LA H 47176870";
+    let answers = b"1RB1LC_1RC1RB_1RD0LE_1LA1LD_---0LA halts 47176870\n";
+    checked(
+        &rt,
+        rt.alloc(),
+        input,
+        usize::MAX,
+        answers,
+        Outcome::Accepted,
+    );
+}
+
+// However the input is cut; with and without a last newline, and the empty input.
+#[test]
+fn lines_are_those_of_the_whole_input(rt: HostRuntime) {
+    let input = b"------ H 1\n\n1RB1LB_1LA--- H 6\n------ U";
+    let answers = b"------ halts 1\nrefused 301 101\n1RB1LB_1LA--- halts 6\n------ undecided\n";
+    for at_once in [1, 2, 3, 7, 11, 12, 13, 100] {
+        checked(&rt, rt.alloc(), input, at_once, answers, Outcome::Refused);
+    }
+    checked(&rt, rt.alloc(), b"", 1, b"", Outcome::Accepted);
+    checked(
+        &rt,
+        rt.alloc(),
+        b"------ H 1\n",
+        4,
+        b"------ halts 1\n",
+        Outcome::Accepted,
+    );
+}
+
+// A line of 65,001 to 65,536 bytes is too long for a record, a longer one for a line; the next is read.
+#[test]
+fn long_lines_are_refused(rt: HostRuntime) -> Result<(), Fail> {
+    for length in [65_000, 65_001, 65_536, 65_537, 200_000] {
+        let mut input = vec![in rt.alloc(); b'x'; length]?;
+        input.extend_from_slice(b"\n------ H 1\n")?;
+        let answers = if length == 65_000 {
+            b"refused 301 101\n------ halts 1\n".as_slice()
+        } else {
+            b"refused 305\n------ halts 1\n".as_slice()
+        };
+        checked(&rt, rt.alloc(), &input, 4096, answers, Outcome::Refused);
+        let without = &input[..input.len() - 12];
+        checked(
+            &rt,
+            rt.alloc(),
+            without,
+            4096,
+            &answers[..answers.len() - 15],
+            Outcome::Refused,
+        );
+    }
+    Ok(())
+}
+
+#[test]
+fn failing_streams_end_the_command(rt: HostRuntime) {
+    let input = b"------ H 1\n------ H 1\n------ H 1\n";
+    let alloc = rt.alloc();
+    for calls in 0..4 {
+        let mut source = Source {
+            left: input,
+            at_once: 11,
+            calls_left: calls,
+        };
+        let mut sink = Sink::new(alloc, usize::MAX, ALWAYS);
+        let mut faults = Sink::new(alloc, usize::MAX, ALWAYS);
+        let ended = cmd_check(alloc, &mut source, &mut sink, &mut faults);
+        assert!(rt; ended == Outcome::Failed);
+        assert_eq!(rt; faults.kept.as_slice(), b"refused 603\n".as_slice());
+        assert_eq!(rt;
+            sink.kept.len() as u64,
+            15 * calls,
+            "what was answered before stands"
+        );
+        let mut source = Source {
+            left: input,
+            at_once: 11,
+            calls_left: ALWAYS,
+        };
+        let mut sink = Sink::new(alloc, 7, calls);
+        let ended = cmd_check(alloc, &mut source, &mut sink, &mut faults);
+        assert!(rt; ended == Outcome::Failed);
+    }
+    // where not even the fault can be said
+    let mut source = Source {
+        left: input,
+        at_once: 1,
+        calls_left: 0,
+    };
+    let ended = cmd_check(
+        alloc,
+        &mut source,
+        &mut Sink::new(alloc, 1, 0),
+        &mut Sink::new(alloc, 1, 0),
+    );
+    assert!(rt; ended == Outcome::Failed);
+}
+
+#[test]
+fn statuses_rise_with_gravity(rt: HostRuntime) {
+    let outcomes = [
+        Outcome::Accepted,
+        Outcome::Refused,
+        Outcome::BadLine,
+        Outcome::NoMemory,
+        Outcome::Failed,
+    ];
+    for (outcome, status) in outcomes.iter().zip([0, 1, 2, 3, 4]) {
+        assert_eq!(rt; outcome.status(), status);
+    }
+    assert!(rt; Outcome::Refused.max(Outcome::Failed) == Outcome::Failed);
+}

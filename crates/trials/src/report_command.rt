@@ -1,0 +1,175 @@
+// `bb report` over files of the tests' own.
+use crate::streams::{ALWAYS, Sink, Source, file_of};
+use commands::{Ended, Opened, Outcome, cmd_report};
+use std::alloc::Global;
+use std::io;
+use std::process::Abort;
+use std::test::Fail;
+
+// What `bb report` prints of a ledger that comes so many bytes at a time, and what it says of faults. Where
+// memory is refused it says so and prints nothing, and is asked once more: then the report must come.
+fn reported(
+    rt: &impl Abort,
+    alloc: Global,
+    ledger: &[u8],
+    at_once: usize,
+    answers: &[u8],
+    faults: &[u8],
+    outcome: Outcome,
+) {
+    let mut said = Sink::new(alloc, usize::MAX, ALWAYS);
+    let mut told = Sink::new(alloc, usize::MAX, ALWAYS);
+    let file = file_of(ledger, at_once, ALWAYS);
+    let mut ended = cmd_report(alloc, false, file, &mut said, &mut told);
+    if ended == Outcome::NoMemory {
+        assert_eq!(rt; told.kept.as_slice(), b"refused memory\n".as_slice());
+        assert!(rt; said.kept.is_empty());
+        told.kept.clear();
+        let file = file_of(ledger, at_once, ALWAYS);
+        ended = cmd_report(alloc, false, file, &mut said, &mut told);
+    }
+    assert_eq!(rt; said.kept.as_slice(), answers);
+    assert_eq!(rt; told.kept.as_slice(), faults);
+    assert!(rt; ended == outcome);
+}
+
+const COMPLETE: &[u8] = b"bb-ledger 1 ------\n------ H 1\n0RA--- T 0 1 R\n1RA--- T 0 1 R\n";
+
+#[test]
+fn a_complete_ledger_is_accepted(rt: HostRuntime) {
+    let report = b"root ------\nstatus complete\nnodes 3\nhalting 1\nnever 2\nholdouts 0\nopen 0\n\
+best 1\nchampion ------\n";
+    for at_once in [1, 7, 60, 1000] {
+        reported(
+            &rt,
+            rt.alloc(),
+            COMPLETE,
+            at_once,
+            report,
+            b"",
+            Outcome::Accepted,
+        );
+    }
+}
+
+#[test]
+fn an_open_ledger_is_reported(rt: HostRuntime) {
+    let working = b"root ------\nstatus working\nnodes 3\nhalting 1\nnever 0\nholdouts 1\nopen 1\n\
+best 1\nchampion ------\nholdout 0RA---\n";
+    let begun = b"root ------\nstatus working\nnodes 1\nhalting 0\nnever 0\nholdouts 0\nopen 1\n\
+best none\n";
+    let holdouts =
+        b"root ------\nstatus holdouts\nnodes 3\nhalting 1\nnever 0\nholdouts 2\nopen 0\n\
+best 1\nchampion ------\nholdout 0RA---\nholdout 1RA---\n";
+    // Champions come in the order of their texts, whatever the order of their records.
+    let champions =
+        b"root ------_------\nstatus working\nnodes 21\nhalting 3\nnever 0\nholdouts 0\n\
+open 18\nbest 2\nchampion 0RB---_------\nchampion 1RB---_------\n";
+    for (ledger, report) in [
+        (
+            b"bb-ledger 1 ------\n------ H 1\n0RA--- U\n".as_slice(),
+            working.as_slice(),
+        ),
+        (b"bb-ledger 1 ------\n", begun.as_slice()),
+        (
+            b"bb-ledger 1 ------\n------ H 1\n1RA--- U\n0RA--- U\n",
+            holdouts.as_slice(),
+        ),
+        (
+            b"bb-ledger 1 ------_------\n------_------ H 1\n1RB---_------ H 2\n0RB---_------ H 2\n",
+            champions.as_slice(),
+        ),
+    ] {
+        reported(&rt, rt.alloc(), ledger, 1000, report, b"", Outcome::Refused);
+    }
+}
+
+// What the lines that are kept make, and which line is the first that isn't.
+#[test]
+fn what_is_left_is_told(rt: HostRuntime) -> Result<(), Fail> {
+    let alloc = rt.alloc();
+    let none =
+        "root ------\nstatus working\nnodes 1\nhalting 0\nnever 0\nholdouts 0\nopen 1\nbest none\n";
+    let one =
+        "root ------\nstatus working\nnodes 3\nhalting 1\nnever 0\nholdouts 0\nopen 2\nbest 1\nchampion ------\n";
+    for (rest, report, line) in [
+        ("------ H 2\n", none, 2),
+        ("0RA--- T 0 1 R\n", none, 2),
+        ("------ Q\n", none, 2),
+        ("------ H 1", none, 2),
+        ("------ H 1\n------ H 1\n", one, 3),
+        ("------ H 1\n\n0RA--- T 0 1 R\n", one, 3),
+        ("------ H 1\n0RA--- T 0 1 R", one, 3),
+        ("------ H 1\n------_------ H 1\n", one, 3),
+    ] {
+        let ledger = format!(in alloc; "bb-ledger 1 ------\n{rest}")?;
+        let answers = format!(in alloc; "{report}left {line}\n")?;
+        reported(
+            &rt,
+            alloc,
+            ledger.as_bytes(),
+            1000,
+            answers.as_bytes(),
+            b"",
+            Outcome::Refused,
+        );
+    }
+    // Complete, but for a line too many.
+    let mut ledger = Vec::new(alloc);
+    ledger.extend_from_slice(COMPLETE)?;
+    ledger.extend_from_slice(b"1RA--- T 0 1 R\n")?;
+    let report = b"root ------\nstatus complete\nnodes 3\nhalting 1\nnever 2\nholdouts 0\nopen 0\n\
+best 1\nchampion ------\nleft 5\n";
+    reported(&rt, alloc, &ledger, 1000, report, b"", Outcome::Refused);
+    Ok(())
+}
+
+#[test]
+fn ledgers_without_root_are_refused(rt: HostRuntime) {
+    for (ledger, fault) in [
+        (b"".as_slice(), b"refused 404\n".as_slice()),
+        (b"bb-led", b"refused 404\n"),
+        (b"bb-ledger 1 ------", b"refused 404\n"),
+        (b"hello\n", b"refused 404\n"),
+        (b"hello", b"refused 404\n"),
+        (b"bb-ledger 1 -----\n", b"refused 404\n"),
+        (b"bb-ledger 1 1RC---_------_------\n", b"refused 405\n"),
+    ] {
+        reported(&rt, rt.alloc(), ledger, 5, b"", fault, Outcome::Refused);
+    }
+}
+
+#[test]
+fn failing_files_end_the_command(rt: HostRuntime) {
+    let alloc = rt.alloc();
+    let mut said = Sink::new(alloc, usize::MAX, ALWAYS);
+    let mut told = Sink::new(alloc, usize::MAX, ALWAYS);
+    let absent: io::Result<Opened<Source<'_>>> = Err(io::Error::from(io::ErrorKind::NotFound));
+    assert!(rt; cmd_report(alloc, false, absent, &mut said, &mut told) == Outcome::Failed);
+    assert_eq!(rt; told.kept.as_slice(), b"refused 605\n".as_slice());
+    for calls in 0..3 {
+        told.kept.clear();
+        let file = file_of(COMPLETE, 20, calls);
+        assert!(rt; cmd_report(alloc, false, file, &mut said, &mut told) == Outcome::Failed);
+        assert_eq!(rt; told.kept.as_slice(), b"refused 605\n".as_slice());
+    }
+    assert!(rt; said.kept.is_empty());
+    told.kept.clear();
+    let mut full = Sink::new(alloc, 10, 2);
+    let file = file_of(COMPLETE, 20, ALWAYS);
+    assert!(rt; cmd_report(alloc, false, file, &mut full, &mut told) == Outcome::Failed);
+    assert_eq!(rt; told.kept.as_slice(), b"refused 603\n".as_slice());
+}
+
+#[test]
+fn each_early_end_has_its_outcome(rt: HostRuntime) {
+    for (ended, outcome) in [
+        (Ended::BadHeader, Outcome::Refused),
+        (Ended::WrongRoot, Outcome::Refused),
+        (Ended::Stream, Outcome::Failed),
+        (Ended::File, Outcome::Failed),
+        (Ended::NoMemory, Outcome::NoMemory),
+    ] {
+        assert!(rt; ended.outcome() == outcome, "{ended:?}");
+    }
+}

@@ -9,48 +9,54 @@ struct Entry {
     next: usize,
 }
 
-/// The table of a text in the bbchallenge standard format, or none.
-fn parse(text: &[u8]) -> Option<Vec<[Option<Entry>; 2]>> {
+type Row = [Option<Entry>; 2];
+
+/// The table of a text in the bbchallenge standard format, or its leftmost fault: a number, and a place
+/// where it has one.
+fn parse(text: &[u8]) -> Result<Vec<Row>, (u16, Option<usize>)> {
     let states = (text.len() + 1) / 7;
     if 7 * states != text.len() + 1 || !(1..=6).contains(&states) {
-        return None;
+        return Err((101, None));
     }
-    let mut rows = Vec::new();
-    for row in text.split(|byte| *byte == b'_') {
-        if row.len() != 6 {
-            return None;
+    for place in 0..text.len() {
+        if let Some(number) = fault_at(states, text, place) {
+            return Err((number, Some(place)));
         }
-        rows.push([entry(&row[..3], states)?, entry(&row[3..], states)?]);
     }
-    Some(rows)
+    Ok(text
+        .chunks(7)
+        .map(|row| [entry(&row[..3], states), entry(&row[3..6], states)])
+        .collect())
 }
 
-fn entry(text: &[u8], states: usize) -> Option<Option<Entry>> {
-    if text == b"---" {
-        return Some(None);
-    }
-    let write = match text[0] {
-        b'0' => 0,
-        b'1' => 1,
-        _ => return None,
-    };
-    let right = match text[1] {
-        b'R' => true,
-        b'L' => false,
-        _ => return None,
-    };
-    match text[2] {
-        b'Z' | b'H' => Some(None),
-        letter if (b'A'..b'A' + states as u8).contains(&letter) => Some(Some(Entry {
-            write,
-            right,
-            next: (letter - b'A') as usize,
-        })),
-        _ => None,
-    }
+fn is_letter(states: usize, byte: u8) -> bool {
+    (b'A'..b'A' + states as u8).contains(&byte)
 }
 
-fn printed(rows: &[[Option<Entry>; 2]]) -> String {
+fn fault_at(states: usize, text: &[u8], place: usize) -> Option<u16> {
+    let byte = text[place];
+    let column = place % 7;
+    let (fits, number) = match (column, column % 3) {
+        (6, _) => (byte == b'_', 102),
+        (_, 0) => (matches!(byte, b'0' | b'1' | b'-'), 103),
+        (_, 1) if text[place - 1] == b'-' => (byte == b'-', 104),
+        (_, 1) => (matches!(byte, b'L' | b'R'), 104),
+        _ if text[place - 2] == b'-' => (byte == b'-', 105),
+        _ => (is_letter(states, byte) || matches!(byte, b'Z' | b'H'), 105),
+    };
+    if fits { None } else { Some(number) }
+}
+
+/// The entry of three bytes without a fault; none where they halt.
+fn entry(text: &[u8], states: usize) -> Option<Entry> {
+    is_letter(states, text[2]).then(|| Entry {
+        write: text[0] - b'0',
+        right: text[1] == b'R',
+        next: (text[2] - b'A') as usize,
+    })
+}
+
+fn printed(rows: &[Row]) -> String {
     let texts: Vec<String> = rows
         .iter()
         .map(|row| {
@@ -71,7 +77,7 @@ fn printed(rows: &[[Option<Entry>; 2]]) -> String {
 }
 
 /// The number of steps in which the table halts, where that is at most `limit`.
-fn halts(rows: &[[Option<Entry>; 2]], limit: u64) -> Option<u64> {
+fn halts(rows: &[Row], limit: u64) -> Option<u64> {
     let mut tape = vec![0u8; 1];
     let mut head = 0usize;
     let mut state = 0usize;
@@ -98,25 +104,36 @@ fn halts(rows: &[[Option<Entry>; 2]], limit: u64) -> Option<u64> {
     None
 }
 
-fn answer(line: &str) -> String {
-    let parts: Vec<&str> = line.split(' ').collect();
-    let Some(rows) = parse(parts[0].as_bytes()) else {
-        return "refused 301".to_string();
+/// A number in decimal, without sign or leading zeros.
+fn number(text: &str) -> Option<u64> {
+    let k = text.parse::<u64>().ok()?;
+    (k.to_string() == text).then_some(k)
+}
+
+fn answer(line: &[u8]) -> String {
+    if line.len() > 65_000 {
+        return "refused 305".to_string();
+    }
+    let parts: Vec<&[u8]> = line.split(|byte| *byte == b' ').collect();
+    let rows = match parse(parts[0]) {
+        Ok(rows) => rows,
+        Err((fault, None)) => return format!("refused 301 {fault}"),
+        Err((fault, Some(place))) => return format!("refused 301 {fault} {place}"),
     };
-    if parts.len() != 3 || parts[1] != "H" {
+    if parts.len() != 3 || parts[1] != b"H" {
         return "refused 302".to_string();
     }
-    match parts[2].parse::<u64>() {
-        Err(_) => "refused 303".to_string(),
-        Ok(k) if k > 100_000_000 => "refused 202".to_string(),
-        Ok(k) if halts(&rows, k) == Some(k) => format!("{} halts {k}", printed(&rows)),
-        Ok(_) => "refused 201".to_string(),
+    match std::str::from_utf8(parts[2]).ok().and_then(number) {
+        None => "refused 303".to_string(),
+        Some(k) if k > 100_000_000 => "refused 202".to_string(),
+        Some(k) if halts(&rows, k) == Some(k) => format!("{} halts {k}", printed(&rows)),
+        Some(_) => "refused 201".to_string(),
     }
 }
 
 fn main() -> io::Result<()> {
     let mut out = BufWriter::new(io::stdout().lock());
-    for line in io::stdin().lock().lines() {
+    for line in io::stdin().lock().split(b'\n') {
         writeln!(out, "{}", answer(&line?))?;
     }
     Ok(())

@@ -10,7 +10,6 @@
 mod evidence;
 mod finder;
 mod limits;
-mod pair;
 mod path_counter;
 mod step_back;
 mod too_wide;

@@ -4,8 +4,7 @@ ghost use Rattle.turing.specs.Backward.{left_behind};
 ghost use Rattle.turing.specs.Levels.{may_hold};
 ghost use Rattle.backward.specs.inside.Known.{known_about, known_from, pair_at, HasRoom};
 
-use crate::pair::Pair;
-use machine_text::{Dir, Entry, State, Sym, Table};
+use machine_text::{Dir, Entry, Pair, State, Sym, Table};
 
 // The pair at a place in the order A0, A1, B0, and so on.
 pub(crate) fn pair_at(place: u8) -> Pair

@@ -3,7 +3,7 @@ use Rattle.std.proofs.Common.{◌≡◌, ℕ, Bool, false, true, ℤ, pos, ◌+�
 use Rattle.std.specs.Prelude.{◌↔◌, IsTrue}
 use Rattle.std.proofs.lemmas.Int.{ints}
 use Rattle.std.proofs.lemmas.Option.{same_Some}
-use Rattle.machine_text.specs.Packed.{Packed, entry_of}
+use Rattle.machine_text.specs.Packed.{entry_of}
 use Rattle.machine_text.specs.declared.transition.Dir.{Dir}
 use Rattle.machine_text.specs.declared.transition.Dir.TheVariants.{L, R}
 use Rattle.turing.specs.Program.{Program}
@@ -102,3 +102,10 @@ test_failed m side i j begin end bound shift r c fails none = (
   λ t. absurd (let one : r ≡ true = t in cc),
   λ s. absurd (none (stands_passed m side i j begin end bound shift c s)),
 )
+
+-- a run without one of the two times has no translated cycle from the one to the other
+pub not_begun : (m : Program) (side : Dir) (i j : ℕ) → ((c : Config) → after m i ≡ Some c → ⊥) → IsTrue false ↔ Translated m i j side
+not_begun m side i j none = (λ t. absurd (let one : false ≡ true = t in cc), λ s. absurd (none s.begin s.begins))
+
+pub not_ended : (m : Program) (side : Dir) (i j : ℕ) → ((c : Config) → after m j ≡ Some c → ⊥) → IsTrue false ↔ Translated m i j side
+not_ended m side i j none = (λ t. absurd (let one : false ≡ true = t in cc), λ s. absurd (none s.end s.ends))

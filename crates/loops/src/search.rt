@@ -43,17 +43,11 @@ pub(crate) trait Watch: Drop {
         ensures seen { IfOk result (λ o. IfNone o (has_seen self.new runner.now.table (runner.now.steps + 1))) };
 }
 
-// A search by one that looks at runs. It is kept from table to table, for its memory.
+// A search by one that looks at runs. Both are kept from table to table, for their memory.
 #[derive(Drop)]
 pub(crate) struct Search<W> {
     alloc: Global,
-    scratch: Option<Scratch<W>>,
-}
-
-// A run, and what looks at it.
-#[derive(Drop)]
-struct Scratch<W> {
-    runner: Runner,
+    runner: Option<Runner>,
     watch: W,
 }
 
@@ -61,7 +55,8 @@ impl<W: Watch> Search<W> {
     pub fn new(alloc: Global) -> Search<W> {
         Search {
             alloc,
-            scratch: None,
+            runner: None,
+            watch: W::new(alloc),
         }
     }
 
@@ -70,36 +65,23 @@ impl<W: Watch> Search<W> {
         ensures found { IfOk result (λ o. IfSome o (λ e. W.stands e t.now)) }
         ensures within { IfOk result (λ o. IfSome o (λ e. W.end e ≤ min steps time_limit)) }
     {
-        let mut scratch = restarted(self.alloc, self.scratch.take(), t)?;
-        scratch.watch.begin(&scratch.runner)?;
-        let found = found_within(
-            &mut scratch.runner,
-            &mut scratch.watch,
-            steps.min(MAX_TIME),
-        );
-        self.scratch = Some(scratch);
+        let mut runner = begun(self.alloc, self.runner.take(), t)?;
+        self.watch.begin(&runner)?;
+        let found = found_within(&mut runner, &mut self.watch, steps.min(MAX_TIME));
+        self.runner = Some(runner);
         found
     }
 }
 
 // The run of a table at its beginning, in the memory of an earlier one, if there was one.
-fn restarted<W: Watch>(
-    alloc: Global,
-    scratch: Option<Scratch<W>>,
-    t: &Table,
-) -> Result<Scratch<W>, NoMemory>
-    ensures { IfOk result (λ s. s.runner ≡ record { table = t.now; steps = 0; config = start }) }
+fn begun(alloc: Global, earlier: Option<Runner>, t: &Table) -> Result<Runner, NoMemory>
+    ensures { IfOk result (λ r. r ≡ record { table = t.now; steps = 0; config = start }) }
 {
-    match scratch {
-        Some(mut scratch) => {
-            scratch.runner.restart(*t);
-            Ok(scratch)
-        }
-        None => Ok(Scratch {
-            runner: Runner::new(alloc, *t)?,
-            watch: W::new(alloc),
-        }),
-    }
+    let Some(mut runner) = earlier else {
+        return Runner::new(alloc, *t);
+    };
+    runner.restart(*t);
+    Ok(runner)
 }
 
 // A loop of a run, from its beginning up to a time.

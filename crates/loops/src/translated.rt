@@ -56,13 +56,7 @@ impl Evidence for Translated {
 }
 
 // Whether the run of a table has a translated cycle between two times, on a side.
-fn has_translated(
-    alloc: Global,
-    t: &Table,
-    i: u64,
-    j: u64,
-    side: Dir,
-) -> Result<bool, NoMemory>
+fn has_translated(alloc: Global, t: &Table, i: u64, j: u64, side: Dir) -> Result<bool, NoMemory>
     requires order { i < j }
     requires limit { j ≤ time_limit }
     ensures { IfOk result (λ has. IsTrue has ↔ IsTranslated (entry_of t.now) i j side) }

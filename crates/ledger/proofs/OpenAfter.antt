@@ -12,10 +12,9 @@ use Rattle.tree.specs.Closed.{Halting}
 use Rattle.ledger.specs.Records.{claim_in, mark_of, mark_by}
 use Rattle.ledger.specs.Tally.{HaltsAfter, IsHalting}
 use Rattle.ledger.proofs.OpenLaws.{stopping_verdict}
-use Rattle.ledger.specs.Keeping.{HaltsOnPair, IsPairOf}
-use Rattle.ledger.specs.declared.pairs.Pair.{Pair}
-use Rattle.ledger.specs.Open.{HasUnrecorded}
-use Rattle.ledger.specs.Offers.{IsNewChild}
+use Rattle.ledger.specs.Inside.Keeping.{HaltsOnPair, IsPairOf}
+use Rattle.ledger.specs.declared.children.Pair.{Pair}
+use Rattle.ledger.specs.Inside.Open.{HasUnrecorded, IsNewChild}
 
 -- a halting claim within its limit is within that of a run
 pub halt_limit : (c : Claim) (k : ℕ) → shown_by c ≡ Some (Halts k) → IsWithin c → k ≤ MAX_RUN_STEPS

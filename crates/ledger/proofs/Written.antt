@@ -17,7 +17,7 @@ use Rattle.cert.proofs.RoundTrip.{record_of-record_text}
 use Rattle.ledger.specs.Contents.{IsBoard}
 use Rattle.ledger.specs.Held.{AreFitAfter, IsHeld}
 use Rattle.ledger.specs.LedgerText.{header_words, HasNoNewline, AreTaken, joined, ReadsAs, ledger_text}
-use Rattle.ledger.specs.declared.loaded.Left.TheVariants.{Nothing as NothingLeft}
+use Rattle.ledger.specs.declared.left.Left.TheVariants.{Nothing as NothingLeft}
 use Rattle.ledger.proofs.HeldLaws.{held_more}
 use Rattle.ledger.proofs.OpenLaws.{open_in_tree}
 

@@ -3,7 +3,7 @@ use Rattle.std.specs.Prelude.{◌≡◌, ℕ, List, ◌++◌}
 use Rattle.machine_text.specs.Packed.{Packed}
 use Rattle.cert.specs.Claim.{Recorded}
 use Rattle.ledger.specs.LedgerText.{ReadsAs}
-use Rattle.ledger.specs.declared.loaded.Left.{Left}
+use Rattle.ledger.specs.declared.left.Left.{Left}
 
 -- the text stands for the records of the first of these lines
 pub record ReadsAsFirst (root : Packed) (text : List ℕ) (lines : List (List ℕ)) : Type 0 where

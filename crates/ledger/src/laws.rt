@@ -2,8 +2,8 @@
 ghost use Rattle.std.specs.Prelude.{◌≡◌, ℕ, List, ◌++◌};
 ghost use Rattle.machine_text.specs.Packed.{Packed};
 ghost use Rattle.cert.specs.Claim.{Recorded};
-ghost use Rattle.ledger.specs.declared.loaded.Left.{Left as LeftOver};
-ghost use Rattle.ledger.specs.declared.loaded.Left.TheVariants.{Nothing};
+ghost use Rattle.ledger.specs.declared.left.Left.{Left as LeftOver};
+ghost use Rattle.ledger.specs.declared.left.Left.TheVariants.{Nothing};
 ghost use Rattle.ledger.specs.Contents.{IsBoard};
 ghost use Rattle.ledger.specs.LedgerText.{HasHeader, ReadsAs, ledger_text};
 ghost use Rattle.ledger.specs.LedgerLaws.{ReadsAsFirst};

@@ -4,7 +4,7 @@ use Rattle.std.proofs.lemmas.Bool.{cases_lt}
 use Rattle.std.proofs.lemmas.Bool.Decides.{nat_tests}
 use Rattle.std.proofs.lemmas.List.{ext_get_or, get_or_past}
 use Rattle.std.proofs.lemmas.List.FromFn.{length-map-range_with_len}
-use Rattle.machine_text.specs.declared.limits.TheConstants.{MAX_STATES}
+use Rattle.machine_text.specs.Limits.{state_limit}
 use Rattle.machine_text.specs.declared.transition.Sym.{Sym}
 use Rattle.machine_text.specs.declared.transition.Sym.TheVariants.{Zero, One}
 use Rattle.machine_text.specs.declared.transition.Dir.TheVariants.{L, R}
@@ -24,7 +24,7 @@ abbrev pub named : ℕ → List ℕ → ℕ → Sym → Option Entry
 named n text q s = entry_named n text (7 * q + 3 * symbol_number s)
 
 -- it is a map of n states
-module _ (n : ℕ) (text : List ℕ) (some : 1 ≤ n) (limit : n ≤ MAX_STATES) (size : 7 * n ≡ length text + 1) where
+module _ (n : ℕ) (text : List ℕ) (some : 1 ≤ n) (limit : n ≤ state_limit) (size : 7 * n ≡ length text + 1) where
   inside_named : (i : ℕ) → IfSome (entry_named n text i) (λ e. e.next.0 < n)
   unfolding entry_named
   inside_named i =
@@ -51,13 +51,13 @@ module _ (n : ℕ) (text : List ℕ) (some : 1 ≤ n) (limit : n ≤ MAX_STATES)
   place_of_pair k = ap (λ s. 7 * (k / 2) + 3 * s) (symbol_number-symbol_of (k % 2) (omega arith))
 
   -- codes that are written for the pairs of the states, and for no others, are those of the table
-  pub codes_from_written : (codes : List ℕ) → length codes ≡ 2 * MAX_STATES
+  pub codes_from_written : (codes : List ℕ) → length codes ≡ 2 * state_limit
       → ((j : ℕ) → j < 2 * n → get_or codes j 0 ≡ code_of (entry_named n text (7 * (j / 2) + 3 * (j % 2))))
       → ((j : ℕ) → 2 * n ≤ j → get_or codes j 0 ≡ 0)
       → codes ≡ (table_named n text).codes
   unfolding tabulated
   codes_from_written codes all written others =
-      ext_get_or 0 codes (table_named n text).codes (all ∙ sym (length-map-range_with_len (λ k. code_of (named n text (k / 2) (symbol_of (k % 2)))) 0 (2 * MAX_STATES))) (λ j below.
+      ext_get_or 0 codes (table_named n text).codes (all ∙ sym (length-map-range_with_len (λ k. code_of (named n text (k / 2) (symbol_of (k % 2)))) 0 (2 * state_limit))) (λ j below.
       let same : code_of (entry_named n text (7 * (j / 2) + 3 * (j % 2))) ≡ get_or (table_named n text).codes j 0 =
       ap (λ i. code_of (entry_named n text i)) (sym (place_of_pair j)) ∙ sym (codes-tabulated n (named n text) IsMapOf-named j) in
       elim (cases_lt j (2 * n)) [
@@ -85,5 +85,5 @@ table_of-clean text n states size faults =
     rw (size, same) (ap (λ m. Ok (table_named m text)) (sym states))
 
 -- what a table's length says
-pub length_of_states : (len n : ℕ) → n ≡ states_in len → is_table_length len ≡ true → (7 * n ≡ len + 1) × (1 ≤ n) × (n ≤ MAX_STATES)
+pub length_of_states : (len n : ℕ) → n ≡ states_in len → is_table_length len ≡ true → (7 * n ≡ len + 1) × (1 ≤ n) × (n ≤ state_limit)
 length_of_states len n states is = (grind (arith, nat_tests), grind (arith, nat_tests), grind (arith, nat_tests))

@@ -2,7 +2,7 @@
 use Rattle.std.proofs.Common.{◌≡◌, ◌≢◌, ℕ, zero, suc, ◌+◌, ◌-◌, ◌*◌, ◌/◌, ◌%◌, ◌<◌, ◌≤◌, true, false, eqb, cond, [], length, get_or, Option, Some, None, IfSome, Ok, refl, sym, ap, ◌∙◌, inl, inr, arith}
 use Rattle.std.proofs.lemmas.Bool.{cases_lt}
 use Rattle.std.proofs.lemmas.Bool.Decides.{nat_tests}
-use Rattle.machine_text.specs.declared.limits.TheConstants.{MAX_STATES}
+use Rattle.machine_text.specs.Limits.{state_limit}
 use Rattle.machine_text.specs.declared.transition.Sym.{Sym}
 use Rattle.machine_text.specs.declared.transition.Sym.TheVariants.{Zero, One}
 use Rattle.machine_text.specs.declared.transition.Dir.{Dir}
@@ -178,7 +178,7 @@ no_halting_direction : (d : Dir) → NoHaltingLetter (direction_byte d)
 no_halting_direction L = (omega arith, omega arith)
 no_halting_direction R = (omega arith, omega arith)
 
-no_halting_byte : (o : Option Entry) (c : ℕ) → IfSome o (λ e. e.next.0 < MAX_STATES) → NoHaltingLetter (entry_byte o c)
+no_halting_byte : (o : Option Entry) (c : ℕ) → IfSome o (λ e. e.next.0 < state_limit) → NoHaltingLetter (entry_byte o c)
 no_halting_byte None c inside = (omega arith, omega arith)
 no_halting_byte (Some e) zero inside = no_halting_symbol e.write
 no_halting_byte (Some e) (suc zero) inside = no_halting_direction e.dir
@@ -188,7 +188,7 @@ no_halting_byte (Some e) (suc (suc c)) inside =
     rw (not_first, not_second) (omega arith, omega arith)
 
 module _ (p : Packed) (table : IsTable p) where
-  within_limit : (o : Option Entry) → IfSome o (λ e. e.next.0 < p.states) → IfSome o (λ e. e.next.0 < MAX_STATES)
+  within_limit : (o : Option Entry) → IfSome o (λ e. e.next.0 < p.states) → IfSome o (λ e. e.next.0 < state_limit)
   within_limit None inside = tt
   within_limit (Some e) inside = omega (arith, table.limit)
 

@@ -5,7 +5,7 @@ use Rattle.std.proofs.lemmas.Bool.{cases_lt}
 use Rattle.std.proofs.lemmas.Bool.Decides.{nat_tests}
 use Rattle.std.proofs.lemmas.List.{ext_get_or, get_or_past}
 use Rattle.std.proofs.lemmas.List.FromFn.{get_or-map-range_with_len, length-map-range_with_len}
-use Rattle.machine_text.specs.declared.limits.TheConstants.{MAX_STATES}
+use Rattle.machine_text.specs.Limits.{state_limit}
 use Rattle.machine_text.specs.declared.transition.Sym.{Sym}
 use Rattle.machine_text.specs.declared.transition.Sym.TheVariants.{Zero, One}
 use Rattle.machine_text.specs.declared.transition.Dir.{Dir}
@@ -90,7 +90,7 @@ weaker (Some e) n limit fits = omega arith
 -- a map that a table of n states can have
 pub record IsMapOf (n : ℕ) (m : ℕ → Sym → Option Entry) : Type 0 where
   pub some : 1 ≤ n
-  pub limit : n ≤ MAX_STATES
+  pub limit : n ≤ state_limit
   pub beyond : (q : ℕ) (s : Sym) → n ≤ q → m q s ≡ None
   pub inside : (q : ℕ) (s : Sym) → IfSome (m q s) (λ e. e.next.0 < n)
 
@@ -98,12 +98,12 @@ module _ (n : ℕ) (m : ℕ → Sym → Option Entry) (map_of : IsMapOf n m) whe
   -- each code of the table made of a map
   pub codes-tabulated : (k : ℕ) → get_or (tabulated n m).codes k 0 ≡ code_of (m (k / 2) (symbol_of (k % 2)))
   unfolding tabulated
-  codes-tabulated k = elim (cases_lt k (2 * MAX_STATES)) [
-    | inl within ↦ get_or-map-range_with_len (λ k. code_of (m (k / 2) (symbol_of (k % 2)))) 0 (2 * MAX_STATES) k k 0 within (omega arith)
+  codes-tabulated k = elim (cases_lt k (2 * state_limit)) [
+    | inl within ↦ get_or-map-range_with_len (λ k. code_of (m (k / 2) (symbol_of (k % 2)))) 0 (2 * state_limit) k k 0 within (omega arith)
     | inr past ↦
         let no_state : m (k / 2) (symbol_of (k % 2)) ≡ None = map_of.beyond (k / 2) _ (omega (arith, map_of.limit)) in
-        let codes = map (λ k. code_of (m (k / 2) (symbol_of (k % 2)))) (range_with_len 0 (2 * MAX_STATES)) in
-        get_or_past codes k 0 (omega (arith, length-map-range_with_len (λ k. code_of (m (k / 2) (symbol_of (k % 2)))) 0 (2 * MAX_STATES)))
+        let codes = map (λ k. code_of (m (k / 2) (symbol_of (k % 2)))) (range_with_len 0 (2 * state_limit)) in
+        get_or_past codes k 0 (omega (arith, length-map-range_with_len (λ k. code_of (m (k / 2) (symbol_of (k % 2)))) 0 (2 * state_limit)))
         ∙ sym (ap code_of no_state)
   ]
 
@@ -125,7 +125,7 @@ module _ (n : ℕ) (m : ℕ → Sym → Option Entry) (map_of : IsMapOf n m) whe
       record {
         some = map_of.some;
         limit = map_of.limit;
-        size = length-map-range_with_len (λ k. code_of (m (k / 2) (symbol_of (k % 2)))) 0 (2 * MAX_STATES);
+        size = length-map-range_with_len (λ k. code_of (m (k / 2) (symbol_of (k % 2)))) 0 (2 * state_limit);
         codes = λ k. rw (codes-tabulated k) (code_of-le _ (weaker _ n small (map_of.inside _ _)));
         nexts = λ k. rw (codes-tabulated k) (next_in_code _ n small (map_of.inside _ _));
         beyond = λ k past. codes-tabulated k ∙ ap code_of (map_of.beyond (k / 2) _ (omega arith));

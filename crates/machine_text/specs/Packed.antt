@@ -2,7 +2,7 @@
 -- A table is stored with one number for each pair; `entry_of` is the map, and all else is said by it.
 use Rattle.std.specs.Prelude.{◌≡◌, ℕ, zero, suc, ◌+◌, ◌-◌, ◌*◌, ◌/◌, ◌%◌, ◌<◌, ◌≤◌, ◌==◌, if◌then◌else◌, List, Option, Some, None, slice_index, slice_set, length, map}
 use Rattle.std.specs.List.{range_with_len}
-use Rattle.machine_text.specs.declared.limits.TheConstants.{MAX_STATES}
+use Rattle.machine_text.specs.Limits.{state_limit}
 use Rattle.machine_text.specs.declared.transition.Sym.{Sym}
 use Rattle.machine_text.specs.declared.transition.Sym.TheVariants.{Zero, One}
 use Rattle.machine_text.specs.declared.transition.Dir.{Dir}
@@ -55,7 +55,7 @@ with_entry p q s e = record { codes = slice_set p.codes (pair_place q s) (code_o
 -- the table of n states that has the entries of a map (which has none at the states from n on)
 unfoldable pub tabulated : ℕ → (ℕ → Sym → Option Entry) → Packed
 tabulated n m = record {
-  codes = map (λ k. code_of (m (k / 2) (symbol_of (k % 2)))) (range_with_len 0 (2 * MAX_STATES));
+  codes = map (λ k. code_of (m (k / 2) (symbol_of (k % 2)))) (range_with_len 0 (2 * state_limit));
   states = n;
 }
 
@@ -67,8 +67,8 @@ empty_table n = tabulated n (λ q s. None)
 -- and no pair beyond them has an entry
 pub record IsTable (p : Packed) : Type 0 where
   pub some : 1 ≤ p.states
-  pub limit : p.states ≤ MAX_STATES
-  pub size : length p.codes ≡ 2 * MAX_STATES
+  pub limit : p.states ≤ state_limit
+  pub size : length p.codes ≡ 2 * state_limit
   pub codes : (k : ℕ) → slice_index p.codes k ≤ 32
   pub nexts : (k : ℕ) → 0 < slice_index p.codes k → (slice_index p.codes k - 1) % 8 < p.states
   pub beyond : (k : ℕ) → 2 * p.states ≤ k → slice_index p.codes k ≡ 0

@@ -2,7 +2,7 @@
 -- table. Bytes are their ASCII codes: 45 `-`, 48 `0`, 49 `1`, 65 `A`, 72 `H`, 76 `L`, 82 `R`, 90 `Z`, 95 `_`.
 use Rattle.std.specs.Prelude.{ℕ, ◌+◌, ◌-◌, ◌*◌, ◌/◌, ◌%◌, ◌==◌, ◌&&◌, ◌||◌, nat_lt, nat_le, Bool, if◌then◌else◌, List, [], ◌∷◌, ◌++◌, Option, Some, None, Result, Ok, Err, slice_index, length, map}
 use Rattle.std.specs.List.{range_with_len, filter_map, join_with_byte}
-use Rattle.machine_text.specs.declared.limits.TheConstants.{MAX_STATES}
+use Rattle.machine_text.specs.Limits.{state_limit}
 use Rattle.machine_text.specs.declared.transition.Sym.{Sym}
 use Rattle.machine_text.specs.declared.transition.Sym.TheVariants.{Zero, One}
 use Rattle.machine_text.specs.declared.transition.Dir.{Dir}
@@ -51,7 +51,7 @@ abbrev pub states_in : ℕ → ℕ
 states_in len = (len + 1) / 7
 
 abbrev pub is_table_length : ℕ → Bool
-is_table_length len = (7 * states_in len == len + 1) && (nat_le 1 (states_in len) && nat_le (states_in len) MAX_STATES)
+is_table_length len = (7 * states_in len == len + 1) && (nat_le 1 (states_in len) && nat_le (states_in len) state_limit)
 
 -- what may stand first in an entry; second, after that first byte; third, after that first byte
 abbrev pub may_begin : ℕ → Bool

@@ -3,6 +3,7 @@ ghost use Rattle.std.specs.Prelude.{◌≡◌, ◌+◌, ◌*◌, ◌<◌, ◌≤
 ghost use Rattle.machine_text.specs.declared.faults.TextFault.{TextFault as Fault};
 ghost use Rattle.machine_text.specs.Text.{is_table_length, states_in, fault_at, faults_of, entry_named, table_named, may_begin, may_direct, may_end, is_state_letter, symbol_byte, direction_byte, entry_byte};
 ghost use Rattle.std.specs.Option.{ForSome};
+ghost use Rattle.machine_text.specs.Limits.{state_limit};
 
 use crate::code::Code;
 use crate::faults::TextFault;
@@ -25,7 +26,7 @@ pub fn states_in(text: &[u8]) -> Option<u8>
 
 /// Ok where no place of a text of so many states is faulty, otherwise the leftmost fault.
 pub fn check_places(states: u8, text: &[u8]) -> Result<(), TextFault>
-    requires { states ≤ MAX_STATES }
+    requires { states ≤ state_limit }
     ensures clean { OnOk result (faults_of states text.now ≡ []) }
     ensures leftmost { IfErr result (λ f. (others : List Fault) × (faults_of states text.now ≡ f ∷ others)) }
 {
@@ -40,7 +41,7 @@ pub fn check_places(states: u8, text: &[u8]) -> Result<(), TextFault>
 /// The codes of the table that a text of so many states without a fault names.
 pub fn codes_named(states: u8, text: &[u8]) -> [Code; MAX_ENTRIES]
     requires length { 7 * states ≡ length text.now + 1 }
-    requires limit { states ≤ MAX_STATES }
+    requires limit { states ≤ state_limit }
     ensures { result ≡ (table_named states text.now).codes }
 {
     let mut codes = [Code::UNDEFINED; MAX_ENTRIES];
@@ -54,7 +55,7 @@ pub fn codes_named(states: u8, text: &[u8]) -> [Code; MAX_ENTRIES]
 #[tactic(auto, unfolding(crate::specs::Text::fault_at))]
 fn fault_at(states: u8, text: &[u8], place: usize) -> Option<TextFault>
     requires place { place < length text.now }
-    requires limit { states ≤ MAX_STATES }
+    requires limit { states ≤ state_limit }
     ensures { result ≡ fault_at states text.now place }
 {
     let byte = text[place];
@@ -93,7 +94,7 @@ fn may_direct(begun: u8, byte: u8) -> bool
 
 // Whether this byte may stand third in an entry that begins so.
 fn may_end(states: u8, begun: u8, byte: u8) -> bool
-    requires { states ≤ MAX_STATES }
+    requires { states ≤ state_limit }
     ensures { result ≡ may_end states begun byte }
 {
     if begun == b'-' {
@@ -105,7 +106,7 @@ fn may_end(states: u8, begun: u8, byte: u8) -> bool
 
 // Whether the byte is the letter of one of so many states.
 fn is_state_letter(states: u8, byte: u8) -> bool
-    requires { states ≤ MAX_STATES }
+    requires { states ≤ state_limit }
     ensures { result ≡ is_state_letter states byte }
 {
     b'A' <= byte && byte < b'A' + states
@@ -115,7 +116,7 @@ fn is_state_letter(states: u8, byte: u8) -> bool
 #[tactic(auto, unfolding(crate::specs::Text::entry_named))]
 fn entry_named(states: u8, text: &[u8], place: usize) -> Option<Entry>
     requires place { place + 2 < length text.now }
-    requires limit { states ≤ MAX_STATES }
+    requires limit { states ≤ state_limit }
     ensures named { result ≡ entry_named states text.now place }
     ensures next { IfSome result (λ e. e.next.0 < states) }
 {

@@ -17,4 +17,4 @@ pub use faults::TextFault;
 pub use laws::{order_is_of_texts, tables_are_maps};
 pub use limits::{MAX_STATES, TEXT_BYTES};
 pub use packed::Table;
-pub use transition::{Dir, Entry, State, Sym};
+pub use transition::{Dir, Entry, Pair, State, Sym};

@@ -1,5 +1,6 @@
 // A table, one byte an entry.
 ghost use Rattle.std.specs.Prelude.{◌≡◌, ◌==◌, ◌+◌, ◌*◌, ◌<◌, ◌≤◌, ◌≢◌, IfSome, Ok, length, slice_index, EachIndex, count_by};
+ghost use Rattle.machine_text.specs.Limits.{state_limit, text_byte_limit};
 ghost use Rattle.machine_text.specs.Packed.{pair_place};
 
 use crate::code::Code;
@@ -39,7 +40,7 @@ impl Table {
     /// The table of n states in which each pair is undefined.
     pub fn empty(n: u8) -> Table
         requires some { 1 ≤ n }
-        requires limit { n ≤ MAX_STATES }
+        requires limit { n ≤ state_limit }
         ensures { result ≡ empty_table n }
     {
         Table {
@@ -75,6 +76,7 @@ impl Table {
     /// entry as `---`. Parsing it gives the table again.
     pub fn text<'a>(&self, buf: &'a mut [u8; TEXT_BYTES]) -> &'a [u8]
         ensures text { result.now ≡ text_of self.now }
+        ensures limit { TEXT_BYTES ≡ text_byte_limit }
         ensures length { length result.now + 1 ≡ 7 * self.now.states }
         ensures no_halting_letter { EachIndex result.now (λ k. (slice_index result.now k ≢ 72)
             × (slice_index result.now k ≢ 90)) }

@@ -1,4 +1,4 @@
-// The parts of a table: states, symbols, directions and entries.
+// The parts of a table: states, symbols, directions, pairs and entries.
 
 /// A state by its number: 0 is A, the state in which each run starts.
 #[derive(Clone, Copy, Debug, PartialEq, Eq, PartialOrd, Ord, Hash)]
@@ -16,6 +16,13 @@ pub enum Sym {
 pub enum Dir {
     L,
     R,
+}
+
+/// A pair of a state and a symbol read: a table has an entry or none at it.
+#[derive(Clone, Copy, Debug, PartialEq, Eq, PartialOrd, Ord, Hash)]
+pub struct Pair {
+    pub state: State,
+    pub symbol: Sym,
 }
 
 /// What a machine does on one pair of a state and a symbol read.

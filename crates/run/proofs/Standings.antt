@@ -1,20 +1,19 @@
 -- Where a runner stands, before and after a step.
-use Rattle.std.proofs.Common.{◌≡◌, ℕ, suc, ◌+◌, ◌<◌, ◌≤◌, pos, ◌+ℤ◌, ◌-ℤ◌, neg_ℤ, ◌≤ℤ◌, Some, None, refl, sym, ◌∙◌, ap, subst, arith, add-one}
+use Rattle.std.proofs.Common.{◌≡◌, ℕ, ◌+◌, ◌<◌, ◌≤◌, Some, None, refl, sym, ◌∙◌, ap, subst, arith, add-one}
 use Rattle.std.proofs.lemmas.Int.{ints}
 use Rattle.machine_text.specs.Packed.{Packed, IsTable, entry_of}
 use Rattle.machine_text.specs.declared.transition.Sym.{Sym}
 use Rattle.machine_text.specs.declared.transition.Entry.{Entry}
 use Rattle.turing.specs.Program.{Program}
 use Rattle.turing.specs.Tape.{Tape, symbol_read, written, moved}
-use Rattle.turing.specs.Run.{Config, start, from, after, next, done_by}
-use Rattle.turing.specs.Halting.{HaltsAt}
+use Rattle.turing.specs.Run.{Config, start, after, next, done_by}
+use Rattle.turing.specs.Halting.{HaltsAt, HaltsOn}
 use Rattle.turing.proofs.RunLaws.{from_zero, next_is, one_count, not_past}
 use Rattle.turing.proofs.Steps.{next_taken}
 use Rattle.turing.proofs.Heads.{head_reach, states_within}
 use Rattle.turing.proofs.TableLaws.{table_machine}
-use Rattle.tape.specs.declared.limits.TheConstants.{MAX_PLACE}
 use Rattle.tape.specs.Places.{IsWithinLimit}
-use Rattle.run.specs.declared.limits.TheConstants.{MAX_RUN_STEPS}
+use Rattle.run.specs.Limits.{run_step_limit}
 use Rattle.run.specs.Standing.{Standing, OnRun}
 use Rattle.run.specs.Steps.{EndsAt, IsBetween, StepsTo, RunsTo}
 use Rattle.run.specs.declared.stepping.Step.{Step}
@@ -36,7 +35,7 @@ head_within r stands =
     record { low = omega (arith, ints, reach.0, stands.limit); high = omega (arith, ints, reach.1, stands.limit) }
 
 -- a step leads to the next time
-pub stands_next : (r : Standing) (d : Config) → OnRun r → r.steps < MAX_RUN_STEPS → next (entry_of r.table) r.config ≡ Some d
+pub stands_next : (r : Standing) (d : Config) → OnRun r → r.steps < run_step_limit → next (entry_of r.table) r.config ≡ Some d
     → OnRun (record { table = r.table; steps = r.steps + 1; config = d })
 stands_next r d stands room step =
     let later : after (entry_of r.table) (r.steps + 1) ≡ Some d = ap (after (entry_of r.table)) (add-one r.steps) ∙ (next_is (entry_of r.table) r.steps start r.config stands.at ∙ step) in
@@ -110,3 +109,22 @@ found_none k p old new step began runs went j early halts =
 pub found_not : (k : ℕ) (p : Packed) (old new : Standing) (step : Step) → old ≡ begun p → RunsTo k old step new → (step ≡ Halts k → ⊥) → HaltsAt (entry_of p) k → ⊥
 found_not k p old new step began runs other halts =
     runs_not k (begun p) new step (subst (λ (r : Standing). RunsTo k r step new) began runs) other halts
+
+-- a configuration at the last time of a run is that on which it halts
+stands_last : (m : Program) (k steps : ℕ) (c : Config) → after m steps ≡ Some c → k ≡ steps + 1 → HaltsAt m k → HaltsOn m k c.state (symbol_read c.tape)
+stands_last m k steps c at count halts =
+    let last : halts.last ≡ steps = omega (arith, halts.count) in
+    let same : Some halts.at ≡ Some c = sym halts.is ∙ (ap (after m) last ∙ at) in
+    let config : halts.at ≡ c = cc in
+    record {
+      halts = halts;
+      state = ap (λ (d : Config). d.state) config;
+      symbol = ap (λ (d : Config). symbol_read d.tape) config;
+    }
+
+-- so where a run halts in k steps it stands on its halting pair
+pub halts_on : (k : ℕ) (p : Packed) (old new : Standing) (step : Step) → old ≡ begun p → RunsTo k old step new → step ≡ Halts k → HaltsOn (entry_of p) k new.config.state (symbol_read new.config.tape)
+halts_on k p old new step began runs is =
+    let halts = subst (λ (s : Step). RunsTo k (begun p) s new) is (subst (λ (r : Standing). RunsTo k r step new) began runs) in
+    let at : after (entry_of p) new.steps ≡ Some new.config = subst (λ (t : Packed). after (entry_of t) new.steps ≡ Some new.config) halts.0.table halts.0.stands.at in
+    stands_last (entry_of p) k new.steps new.config at halts.1.last halts.1.halts

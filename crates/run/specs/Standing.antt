@@ -3,7 +3,7 @@ use Rattle.std.specs.Prelude.{◌≡◌, ℕ, ◌<◌, ◌≤◌, List, Some, re
 use Rattle.std.specs.Coded.{Coded, code_by, coded×, coded_ℕ, coded_list}
 use Rattle.machine_text.specs.Packed.{Packed, IsTable, entry_of}
 use Rattle.turing.specs.Run.{Config, config_code, after}
-use Rattle.run.specs.declared.limits.TheConstants.{MAX_RUN_STEPS}
+use Rattle.run.specs.Limits.{run_step_limit}
 
 -- a table, so many steps of its run, and the configuration to which they led
 pub record Standing : Type 0 where
@@ -24,4 +24,4 @@ pub record OnRun (r : Standing) : Type 0 where
   pub is_table : IsTable r.table
   pub at : after (entry_of r.table) r.steps ≡ Some r.config
   pub within : r.config.state < r.table.states
-  pub limit : r.steps ≤ MAX_RUN_STEPS
+  pub limit : r.steps ≤ run_step_limit

@@ -1,5 +1,5 @@
 -- What a step of a runner leaves, and what many do.
-use Rattle.std.specs.Prelude.{◌≡◌, ℕ, suc, ◌+◌, ◌<◌, ◌≤◌, Some}
+use Rattle.std.specs.Prelude.{◌≡◌, ℕ, ◌+◌, ◌≤◌, Some}
 use Rattle.machine_text.specs.Packed.{entry_of}
 use Rattle.turing.specs.Run.{next}
 use Rattle.turing.specs.Halting.{HaltsAt}

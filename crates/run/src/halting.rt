@@ -1,13 +1,14 @@
 // The evidence that a table halts: the number of its steps, which are carried out.
-ghost use Rattle.std.specs.Prelude.{◌≡◌, ℕ, ◌≤◌, min, IfSome, IfNone, IfOk};
+ghost use Rattle.std.specs.Prelude.{◌≡◌, ℕ, ◌<◌, ◌≤◌, min, Err, IfSome, IfNone, IfOk};
 ghost use Rattle.machine_text.specs.Packed.{entry_of};
-ghost use Rattle.turing.specs.Halting.{HaltsAt};
+ghost use Rattle.turing.specs.Halting.{HaltsAt, HaltsOn};
+ghost use Rattle.run.specs.Limits.{halt_step_limit};
 
 use crate::claim::Evidence;
-use crate::limits::{MAX_HALT_STEPS, MAX_RUN_STEPS};
+use crate::limits::MAX_HALT_STEPS;
 use crate::stepping::{Runner, Step};
 use crate::verdicts::{Refused, Verdict};
-use machine_text::Table;
+use machine_text::{Pair, Table};
 use std::alloc::Global;
 use tape::NoMemory;
 
@@ -15,11 +16,39 @@ use tape::NoMemory;
 #[derive(Clone, Copy, Debug, PartialEq, Eq)]
 pub struct HaltsIn(pub u64);
 
+impl HaltsIn {
+    /// Checks the claim in one run, and gives the pair on which the table halts: the state of the run's last
+    /// configuration, and the symbol that it reads there. It is refused as `check` refuses it.
+    pub fn halting_pair(&self, alloc: Global, t: &Table) -> Result<Pair, Refused>
+        ensures within { IfOk result (λ pair. self.now.0 ≤ halt_step_limit) }
+        ensures halts { IfOk result (λ pair. HaltsOn (entry_of t.now) self.now.0 pair.state.0 pair.symbol) }
+        ensures state { IfOk result (λ pair. pair.state.0 < t.now.states) }
+        ensures fails { result ≡ Err Refused.Fails → (self.now.0 ≤ halt_step_limit) × (HaltsAt (entry_of t.now) self.now.0 → ⊥) }
+        ensures long { result ≡ Err Refused.TooLong → self.now.0 ≤ halt_step_limit → ⊥ }
+        ensures narrow { result ≡ Err Refused.TooWide → ⊥ }
+    {
+        if self.0 > MAX_HALT_STEPS {
+            return Err(Refused::TooLong);
+        }
+        let mut runner = Runner::new(alloc, *t)?;
+        let step = runner.run_to(self.0)?;
+        if step != (Step::Halts { count: self.0 }) {
+            return Err(Refused::Fails);
+        }
+        // Opens the invariant of the runner: its state is one of the table's.
+        let _ = runner.steps();
+        Ok(Pair {
+            state: runner.state(),
+            symbol: runner.tape().read(),
+        })
+    }
+}
+
 impl Evidence for HaltsIn {
     ghost use Rattle.run.specs.declared.verdicts.Verdict.TheVariants.{Halts};
-    ghost use Rattle.run.specs.declared.limits.TheConstants.{MAX_HALT_STEPS};
+    ghost use Rattle.run.specs.Limits.{halt_step_limit};
 
-    ghost within = { λ e. e.0 ≤ MAX_HALT_STEPS };
+    ghost within = { λ e. e.0 ≤ halt_step_limit };
 
     ghost stands = { λ e p. HaltsAt (entry_of p) e.0 };
 
@@ -28,16 +57,8 @@ impl Evidence for HaltsIn {
     ghost shows = { λ e. Halts e.0 };
 
     fn check(&self, alloc: Global, t: &Table) -> Result<Verdict, Refused> {
-        if self.0 > MAX_HALT_STEPS {
-            return Err(Refused::TooLong);
-        }
-        let mut runner = Runner::new(alloc, *t)?;
-        let step = runner.run_to(self.0)?;
-        if step == (Step::Halts { count: self.0 }) {
-            Ok(Verdict::Halts(self.0))
-        } else {
-            Err(Refused::Fails)
-        }
+        self.halting_pair(alloc, t)?;
+        Ok(Verdict::Halts(self.0))
     }
 
     ghost law = { λ e p is_table stands. stands };
@@ -59,10 +80,11 @@ impl HaltFinder {
     }
 
     /// The number of steps in which the table halts; none where it doesn't halt within the finder's
-    /// steps and the budget.
+    /// steps, the budget and the limit.
     pub fn search(&mut self, t: &Table, budget: u64) -> Result<Option<HaltsIn>, NoMemory>
         ensures found { IfOk result (λ o. IfSome o (λ e. HaltsAt (entry_of t.now) e.0)) }
-        ensures none { IfOk result (λ o. IfNone o ((k : ℕ) → k ≤ min (min self.old.steps budget) MAX_HALT_STEPS → HaltsAt (entry_of t.now) k → ⊥)) }
+        ensures within { IfOk result (λ o. IfSome o (λ e. e.0 ≤ min (min self.old.steps budget) halt_step_limit)) }
+        ensures none { IfOk result (λ o. IfNone o ((k : ℕ) → k ≤ min (min self.old.steps budget) halt_step_limit → HaltsAt (entry_of t.now) k → ⊥)) }
         ensures same { self.new.steps ≡ self.old.steps }
     {
         let limit = self.steps.min(budget).min(MAX_HALT_STEPS);

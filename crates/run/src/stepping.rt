@@ -43,6 +43,7 @@ impl Model for Runner {
 
 impl Runner {
     ghost use Rattle.turing.specs.Run.{start};
+    ghost use Rattle.run.specs.Limits.{run_step_limit};
     ghost use Rattle.run.specs.Standing.{OnRun};
     ghost use Rattle.run.specs.Steps.{StepsTo, RunsTo, IsBetween};
 
@@ -50,6 +51,7 @@ impl Runner {
     pub fn new(alloc: Global, t: Table) -> Result<Runner, NoMemory>
         ensures { IfOk result (λ r. r ≡ record { table = t; steps = 0; config = start }) }
     {
+        // Opens the invariant of the table: the runner keeps it.
         let _ = t.states();
         Ok(Runner {
             table: t,
@@ -63,6 +65,7 @@ impl Runner {
     pub fn restart(&mut self, t: Table)
         ensures { self.new ≡ record { table = t; steps = 0; config = start } }
     {
+        // Opens the invariant of the table: the runner keeps it.
         let _ = t.states();
         self.table = t;
         self.steps = 0;
@@ -75,7 +78,7 @@ impl Runner {
     // Always inlined: called for each step, it takes half as long again.
     #[inline(always)]
     pub fn step(&mut self) -> Result<Step, NoMemory>
-        requires { self.old.steps < MAX_RUN_STEPS }
+        requires { self.old.steps < run_step_limit }
         ensures ok { IfOk result (λ step. StepsTo self.old step self.new) }
         ensures err { OnErr result (self.new ≡ self.old) }
         ensures stands { OnRun self.new }
@@ -98,9 +101,10 @@ impl Runner {
     #[inline(never)]
     pub fn run_to(&mut self, k: u64) -> Result<Step, NoMemory>
         requires onward { self.old.steps ≤ k }
-        requires limit { k ≤ MAX_RUN_STEPS }
+        requires limit { k ≤ run_step_limit }
         ensures ok { IfOk result (λ step. RunsTo k self.old step self.new) }
         ensures err { OnErr result (IsBetween k self.old self.new) }
+        ensures limit { MAX_RUN_STEPS ≡ run_step_limit }
     {
         for time in self.steps..k {
             let step = self.step()?;

@@ -12,7 +12,7 @@ use Rattle.machine_text.specs.declared.transition.Sym.TheVariants.{Zero, One}
 use Rattle.machine_text.specs.declared.transition.Dir.{Dir}
 use Rattle.machine_text.specs.declared.transition.Dir.TheVariants.{L, R}
 use Rattle.turing.specs.Tape.{cell_of}
-use Rattle.tape.specs.declared.limits.TheConstants.{MAX_PLACE}
+use Rattle.tape.specs.Limits.{place_limit}
 use Rattle.tape.specs.Places.{IsVisited, HasOnesWithin, IsReached, Beyond}
 use Rattle.tape.proofs.Words.{blank_before, cell_in}
 use Rattle.tape.proofs.Moves.{stored}
@@ -69,10 +69,10 @@ IsReached-visited ones first last within visited = record {
 }
 
 -- beyond them all is blank
-blank_far : (ones : set.FinSet int_cmp) (x : ℤ) → IsReached ones → ((MAX_PLACE +ℤ pos 1) <ℤ x) ⊎ (x <ℤ (neg_ℤ MAX_PLACE -ℤ pos 1)) → cell_of ones x ≡ Zero
+blank_far : (ones : set.FinSet int_cmp) (x : ℤ) → IsReached ones → ((place_limit +ℤ pos 1) <ℤ x) ⊎ (x <ℤ (neg_ℤ place_limit -ℤ pos 1)) → cell_of ones x ≡ Zero
 blank_far ones x reached far = go (cell_of ones x) refl far
   where
-    go : (s : Sym) → cell_of ones x ≡ s → ((MAX_PLACE +ℤ pos 1) <ℤ x) ⊎ (x <ℤ (neg_ℤ MAX_PLACE -ℤ pos 1)) → cell_of ones x ≡ Zero
+    go : (s : Sym) → cell_of ones x ≡ s → ((place_limit +ℤ pos 1) <ℤ x) ⊎ (x <ℤ (neg_ℤ place_limit -ℤ pos 1)) → cell_of ones x ≡ Zero
     go Zero is far = is
     go One is (inl after) = absurd (omega (arith, ints, reached.high x is))
     go One is (inr before) = absurd (omega (arith, ints, reached.low x is))
@@ -102,7 +102,7 @@ cell_of-saturated ones x reached = elim (saturated x) [
 ]
 
 -- and the same ones stand at or beyond it
-pub Beyond-saturated : (side : Dir) (from x : ℤ) → (neg_ℤ MAX_PLACE -ℤ pos 1) ≤ℤ x → x ≤ℤ (MAX_PLACE +ℤ pos 1) → Beyond side (saturate_signed w64 from) x ↔ Beyond side from x
+pub Beyond-saturated : (side : Dir) (from x : ℤ) → (neg_ℤ place_limit -ℤ pos 1) ≤ℤ x → x ≤ℤ (place_limit +ℤ pos 1) → Beyond side (saturate_signed w64 from) x ↔ Beyond side from x
 Beyond-saturated L from x low high = elim (saturated from) [
   | kept same ↦ (λ b. omega (arith, ints, same), λ b. omega (arith, ints, same))
   | above far last ↦ (λ b. omega (arith, ints, last), λ b. omega (arith, ints, last))

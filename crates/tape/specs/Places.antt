@@ -7,17 +7,17 @@ use Rattle.machine_text.specs.declared.transition.Sym.TheVariants.{One}
 use Rattle.machine_text.specs.declared.transition.Dir.{Dir}
 use Rattle.machine_text.specs.declared.transition.Dir.TheVariants.{L, R}
 use Rattle.turing.specs.Tape.{cell_of}
-use Rattle.tape.specs.declared.limits.TheConstants.{MAX_PLACE}
+use Rattle.tape.specs.Limits.{place_limit}
 
 -- a place, or a shift, of at most the limit's size
 pub record IsWithinLimit (x : ℤ) : Type 0 where
-  pub low : neg_ℤ MAX_PLACE ≤ℤ x
-  pub high : x ≤ℤ MAX_PLACE
+  pub low : neg_ℤ place_limit ≤ℤ x
+  pub high : x ≤ℤ place_limit
 
 -- the first and the last place to which heads came that were within the limit before each move
 pub record IsVisited (first last : ℤ) : Type 0 where
-  pub low : (neg_ℤ MAX_PLACE -ℤ pos 1) ≤ℤ first
-  pub high : last ≤ℤ (MAX_PLACE +ℤ pos 1)
+  pub low : (neg_ℤ place_limit -ℤ pos 1) ≤ℤ first
+  pub high : last ≤ℤ (place_limit +ℤ pos 1)
 
 -- all the ones stand from one place to another
 pub record HasOnesWithin (ones : set.FinSet int_cmp) (first last : ℤ) : Type 0 where
@@ -26,7 +26,7 @@ pub record HasOnesWithin (ones : set.FinSet int_cmp) (first last : ℤ) : Type 0
 
 -- all the ones stand where such heads came
 abbrev pub IsReached : set.FinSet int_cmp → Type 0
-IsReached ones = HasOnesWithin ones (neg_ℤ MAX_PLACE -ℤ pos 1) (MAX_PLACE +ℤ pos 1)
+IsReached ones = HasOnesWithin ones (neg_ℤ place_limit -ℤ pos 1) (place_limit +ℤ pos 1)
 
 -- x is the place b or stands on that side of it
 abbrev pub Beyond : Dir → ℤ → ℤ → Type 0

@@ -2,9 +2,9 @@
 ghost use Rattle.std.specs.Prelude.{◌≡◌, ◌↔◌, IsTrue, ℤ, pos, ◌+ℤ◌, ◌≤ℤ◌, ◌<ℤ◌};
 ghost use Rattle.machine_text.specs.declared.transition.Sym.TheVariants.{One};
 ghost use Rattle.turing.specs.Tape.{cell_of};
+ghost use Rattle.tape.specs.Limits.{place_limit};
 ghost use Rattle.tape.specs.Places.{Beyond};
 
-use crate::limits::MAX_PLACE;
 use crate::two_sided::Tape;
 use machine_text::{Dir, Sym};
 
@@ -64,7 +64,7 @@ impl Tape {
 // Where the places from `first` to `last` that are at or beyond a place begin and end; the end is the
 // place after the last of them.
 fn part_beyond(side: Dir, from: i64, first: i64, last: i64) -> (i64, i64)
-    requires { last ≤ℤ (MAX_PLACE +ℤ pos 1) }
+    requires { last ≤ℤ (place_limit +ℤ pos 1) }
     ensures part { (x : ℤ) → result.0 ≤ℤ x → x <ℤ result.1 → Beyond side from x }
     ensures all { (x : ℤ) → first ≤ℤ x → x ≤ℤ last → Beyond side from x → (result.0 ≤ℤ x) × (x <ℤ result.1) }
 {

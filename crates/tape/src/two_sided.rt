@@ -3,6 +3,7 @@ ghost use Rattle.std.specs.Prelude.{◌≡◌, ◌-◌, ◌≤◌, ◌<◌, ◌+
 ghost use Rattle.machine_text.specs.declared.transition.Sym.TheVariants.{Zero};
 ghost use Rattle.machine_text.specs.declared.transition.Dir.TheVariants.{L, R};
 
+use crate::limits::MAX_PLACE;
 use machine_text::Sym;
 use std::alloc::{AllocError, Global};
 use std::cmp::Ordering;
@@ -44,11 +45,13 @@ impl Model for Tape {
 
 impl Tape {
     ghost use Rattle.turing.specs.Tape.{blank, cell_of, symbol_read, written, moved};
+    ghost use Rattle.tape.specs.Limits.{place_limit};
     ghost use Rattle.tape.specs.Places.{IsWithinLimit, IsVisited, IsReached, HasOnesWithin};
 
     /// The blank tape with its head at 0.
     pub fn new(alloc: Global) -> Tape
-        ensures { result ≡ blank }
+        ensures tape { result ≡ blank }
+        ensures limit { MAX_PLACE ≡ place_limit }
     {
         Tape {
             head: 0,

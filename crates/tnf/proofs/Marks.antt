@@ -5,7 +5,7 @@ use Rattle.std.specs.Prelude.{replicate}
 use Rattle.std.proofs.lemmas.Bool.{cases_eq, eq-eqb, ne_eqb, cases_lt, lt-ltb, le-ltb}
 use Rattle.std.proofs.lemmas.List.{get_or-replicate, get_or-take, length-take-le}
 use Rattle.std.proofs.lemmas.List.FromFn.{fill_by_all}
-use Rattle.machine_text.specs.declared.limits.TheConstants.{MAX_STATES}
+use Rattle.machine_text.specs.Limits.{state_limit}
 use Rattle.machine_text.specs.declared.transition.Sym.TheVariants.{Zero, One}
 use Rattle.machine_text.specs.declared.transition.Entry.{Entry}
 use Rattle.turing.specs.Program.{Program}
@@ -84,14 +84,14 @@ marked_more i m q =
 
 -- the marks once the entries of the first states are marked
 pub record AreMarked (used : List Bool) (i : ℕ) (m : Program) : Type 0 where
-  pub size : length used ≡ MAX_STATES
-  pub each : (q : ℕ) → q < MAX_STATES → get_or used q false ≡ marked i m q
+  pub size : length used ≡ state_limit
+  pub each : (q : ℕ) → q < state_limit → get_or used q false ≡ marked i m q
 
 -- at first A alone is marked
-no_others : (q : ℕ) → suc q < MAX_STATES → get_or (set (replicate MAX_STATES false) 0 true) (suc q) false ≡ false
-no_others q lt = get_or-replicate (MAX_STATES - 1) q false false (omega arith)
+no_others : (q : ℕ) → suc q < state_limit → get_or (set (replicate state_limit false) 0 true) (suc q) false ≡ false
+no_others q lt = get_or-replicate (state_limit - 1) q false false (omega arith)
 
-pub marked_none : (m : Program) → AreMarked (set (replicate MAX_STATES false) 0 true) 0 m
+pub marked_none : (m : Program) → AreMarked (set (replicate state_limit false) 0 true) 0 m
 unfolding is_target
 marked_none m = record { size = refl; each = each }
   where
@@ -100,7 +100,7 @@ marked_none m = record { size = refl; each = each }
         ap (λ x. x || ((ltb (suc q) 0 && has_entry m (suc q)) || is_target 0 m (suc q))) (ne_eqb (suc q) 0 (λ h. omega arith))
         ∙ ap (λ x. (x && has_entry m (suc q)) || is_target 0 m (suc q)) (le-ltb (suc q) 0 (omega arith))
 
-    each : (q : ℕ) → q < MAX_STATES → get_or (set (replicate MAX_STATES false) 0 true) q false ≡ marked 0 m q
+    each : (q : ℕ) → q < state_limit → get_or (set (replicate state_limit false) 0 true) q false ≡ marked 0 m q
     each zero lt = refl
     each (suc q) lt = no_others q lt ∙ sym (none q)
 
@@ -114,7 +114,7 @@ marked_step u v w i m a lv lw zeros ones = record {
 }
 
 -- and once all are, the used states are marked
-pub marked_all : (used : List Bool) (n : ℕ) (m : Program) → n ≤ MAX_STATES → AreMarked used n m → take n used ≡ map (is_used n m) (range_with_len 0 n)
+pub marked_all : (used : List Bool) (n : ℕ) (m : Program) → n ≤ state_limit → AreMarked used n m → take n used ≡ map (is_used n m) (range_with_len 0 n)
 unfolding is_used
 marked_all used n m le a = fill_by_all (is_used n m) (take n used) n false (length-take-le n used (omega (arith, a.size))) each
   where

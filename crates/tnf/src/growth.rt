@@ -3,6 +3,7 @@ ghost use Rattle.std.specs.Prelude.{◌≡◌, ◌↔◌, ℕ, ◌*◌, ◌<◌,
 ghost use Rattle.std.specs.Ordering.{nat_cmp};
 ghost use Rattle.std.specs.declared.cmp.Ordering.TheVariants.{Less};
 ghost use Rattle.std.specs.Cmp.Lexicographic.{slice_cmp};
+ghost use Rattle.machine_text.specs.Limits.{state_limit};
 ghost use Rattle.machine_text.specs.Packed.{Packed, entry_of, empty_table};
 ghost use Rattle.machine_text.specs.Text.{text_of};
 ghost use Rattle.tree.specs.Used.{InOrder};
@@ -10,12 +11,12 @@ ghost use Rattle.tree.specs.Tables.{children_at};
 ghost use Rattle.tnf.specs.Offspring.{IsChildAt};
 
 use crate::offspring::Children;
-use machine_text::{MAX_STATES, State, Sym, Table};
+use machine_text::{State, Sym, Table};
 
 /// The root of the tree of n states: the table in which each pair is undefined.
 pub fn root(n: u8) -> Table
     requires some { 1 ≤ n }
-    requires limit { n ≤ MAX_STATES }
+    requires limit { n ≤ state_limit }
     ensures { result ≡ empty_table n }
 {
     Table::empty(n)

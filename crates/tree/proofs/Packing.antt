@@ -4,7 +4,7 @@ use Rattle.std.proofs.lemmas.Bool.{cases_eq, cases_lt}
 use Rattle.std.specs.List.{slice_index}
 use Rattle.std.proofs.lemmas.List.{ext_get_or, length-set, get_or_past}
 use Rattle.std.proofs.lemmas.List.FromFn.{length-map-range_with_len, get_or-map-range_with_len}
-use Rattle.machine_text.specs.declared.limits.TheConstants.{MAX_STATES}
+use Rattle.machine_text.specs.Limits.{state_limit}
 use Rattle.machine_text.specs.declared.transition.Sym.{Sym}
 use Rattle.machine_text.specs.declared.transition.Sym.TheVariants.{Zero, One}
 use Rattle.machine_text.specs.declared.transition.Entry.{Entry}
@@ -119,23 +119,23 @@ pub tabulated_states : (n : ℕ) (m : Program) → (tabulated n m).states ≡ n
 unfolding tabulated
 tabulated_states n m = refl
 
-tabulated_size : (n : ℕ) (m : Program) → length (tabulated n m).codes ≡ 2 * MAX_STATES
+tabulated_size : (n : ℕ) (m : Program) → length (tabulated n m).codes ≡ 2 * state_limit
 unfolding tabulated
-tabulated_size n m = length-map-range_with_len (λ k. code_of (m (k / 2) (symbol_of (k % 2)))) 0 (2 * MAX_STATES)
+tabulated_size n m = length-map-range_with_len (λ k. code_of (m (k / 2) (symbol_of (k % 2)))) 0 (2 * state_limit)
 
-tabulated_code : (n : ℕ) (m : Program) (k : ℕ) → k < 2 * MAX_STATES → slice_index (tabulated n m).codes k ≡ code_of (m (k / 2) (symbol_of (k % 2)))
+tabulated_code : (n : ℕ) (m : Program) (k : ℕ) → k < 2 * state_limit → slice_index (tabulated n m).codes k ≡ code_of (m (k / 2) (symbol_of (k % 2)))
 unfolding tabulated
-tabulated_code n m k lt = get_or-map-range_with_len (λ x. code_of (m (x / 2) (symbol_of (x % 2)))) 0 (2 * MAX_STATES) k k 0 lt (omega arith)
+tabulated_code n m k lt = get_or-map-range_with_len (λ x. code_of (m (x / 2) (symbol_of (x % 2)))) 0 (2 * state_limit) k k 0 lt (omega arith)
 
-tabulated_past : (n : ℕ) (m : Program) (k : ℕ) → 2 * MAX_STATES ≤ k → slice_index (tabulated n m).codes k ≡ 0
+tabulated_past : (n : ℕ) (m : Program) (k : ℕ) → 2 * state_limit ≤ k → slice_index (tabulated n m).codes k ≡ 0
 tabulated_past n m k le = get_or_past (tabulated n m).codes k 0 (omega (arith, tabulated_size n m))
 
 -- is a table whose map is the map
-pub tabulated_map : (n : ℕ) (m : Program) → IsMachine n m → n ≤ MAX_STATES → entry_of (tabulated n m) ≡ m
+pub tabulated_map : (n : ℕ) (m : Program) → IsMachine n m → n ≤ state_limit → entry_of (tabulated n m) ≡ m
 tabulated_map n m i limit = same_program (entry_of (tabulated n m)) m each
   where
     each : (q : ℕ) (s : Sym) → entry_of (tabulated n m) q s ≡ m q s
-    each q s = elim (cases_lt (pair_place q s) (2 * MAX_STATES)) [
+    each q s = elim (cases_lt (pair_place q s) (2 * state_limit)) [
       | inl lt ↦ (
           let k = pair_place q s in
           let state = place_state (k / 2) q (symbol_of (k % 2)) s (place_of k) in
@@ -152,7 +152,7 @@ code_within n (Some e) limit small =
     let within = small e refl in
     (code_small e (omega arith), λ some. let target = code_target e (omega arith) in omega arith)
 
-pub tabulated_table : (n : ℕ) (m : Program) → IsMachine n m → n ≤ MAX_STATES → IsTable (tabulated n m)
+pub tabulated_table : (n : ℕ) (m : Program) → IsMachine n m → n ≤ state_limit → IsTable (tabulated n m)
 tabulated_table n m i limit = record {
   some = omega (arith, tabulated_states n m, i.some);
   limit = omega (arith, tabulated_states n m);
@@ -166,13 +166,13 @@ tabulated_table n m i limit = record {
     at k = code_within n (m (k / 2) (symbol_of (k % 2))) (omega arith) (i.inside (k / 2) (symbol_of (k % 2)))
 
     codes : (k : ℕ) → slice_index (tabulated n m).codes k ≤ 32
-    codes k = elim (cases_lt k (2 * MAX_STATES)) [
+    codes k = elim (cases_lt k (2 * state_limit)) [
       | inl lt ↦ omega (arith, tabulated_code n m k lt, (at k).0)
       | inr past ↦ omega (arith, tabulated_past n m k past)
     ]
 
     nexts : (k : ℕ) → 0 < slice_index (tabulated n m).codes k → (slice_index (tabulated n m).codes k - 1) % 8 < (tabulated n m).states
-    nexts k some = elim (cases_lt k (2 * MAX_STATES)) [
+    nexts k some = elim (cases_lt k (2 * state_limit)) [
       | inl lt ↦ (
           let code = tabulated_code n m k lt in
           let below = (at k).1 (omega arith) in
@@ -182,7 +182,7 @@ tabulated_table n m i limit = record {
     ]
 
     beyond : (k : ℕ) → 2 * (tabulated n m).states ≤ k → slice_index (tabulated n m).codes k ≡ 0
-    beyond k le = elim (cases_lt k (2 * MAX_STATES)) [
+    beyond k le = elim (cases_lt k (2 * state_limit)) [
       | inl lt ↦ tabulated_code n m k lt ∙ ap code_of (i.beyond (k / 2) (symbol_of (k % 2)) (omega (arith, tabulated_states n m)))
       | inr past ↦ tabulated_past n m k past
     ]

@@ -8,16 +8,9 @@ use Rattle.machine_text.specs.declared.transition.Dir.TheVariants.{L, R}
 use Rattle.machine_text.specs.declared.transition.Entry.{Entry}
 use Rattle.machine_text.specs.Packed.{holes, symbol_number, direction_number}
 use Rattle.turing.specs.Program.{Program}
-use Rattle.turing.specs.Tape.{symbol_read}
-use Rattle.turing.specs.Halting.{HaltsAt}
+pub use Rattle.turing.specs.Halting.{HaltsOn}
 use Rattle.tree.specs.Filling.{filled, IsEmpty}
 use Rattle.tree.specs.Used.{InOrder}
-
--- the run from the blank tape halts in k steps, on the pair of state number q and the symbol s
-pub record HaltsOn (m : Program) (k q : ℕ) (s : Sym) : Type 0 where
-  pub halts : HaltsAt m k
-  pub state : halts.at.state ≡ q
-  pub symbol : symbol_read halts.at.tape ≡ s
 
 -- an entry that a child gets, where the used states are the first u: its target is one of the n states, and a
 -- used one or the first unused one; the first move of all is to the right

@@ -1,13 +1,12 @@
 // From what is recorded of the tables of a tree to the best of its root.
 ghost use Rattle.std.specs.Prelude.{◌≡◌, ◌↔◌, ℕ, ◌≤◌, Option, Some};
+ghost use Rattle.machine_text.specs.Limits.{state_limit};
 ghost use Rattle.machine_text.specs.Packed.{Packed, IsTable, entry_of, empty_table};
 ghost use Rattle.turing.specs.Halting.{HaltsAt, IsRado};
 ghost use Rattle.tree.specs.Used.{InOrder};
 ghost use Rattle.tree.specs.Best.{Scores, IsGreatestOfAll};
 ghost use Rattle.tree.specs.Tables.{InTableTree, IsDecidedTable, IsBestOfTable};
 ghost use Rattle.tree.specs.Closed.{Mark, IsTrueMark, AreTrueMarks, AreTrueScores, IsVerdict, IsClosed, IsComplete, IsGreatestRecorded};
-
-use machine_text::MAX_STATES;
 
 /// Two true verdicts on a table are one, so nobody records another number of steps of it.
 pub fn one_true_verdict()
@@ -42,10 +41,10 @@ pub fn best_of_closed()
 /// open and none is a holdout, the greatest number of steps recorded in the tree is Radó's S(n), and the
 /// greatest score is Σ(n).
 pub fn rado_of_complete()
-    ensures steps { (n s : ℕ) (marks : Packed → Option Mark) → 1 ≤ n → n ≤ MAX_STATES → AreTrueMarks marks →
+    ensures steps { (n s : ℕ) (marks : Packed → Option Mark) → 1 ≤ n → n ≤ state_limit → AreTrueMarks marks →
         IsComplete (empty_table n) marks →
         IsGreatestRecorded (λ t k. k) marks (empty_table n) (Some s) ↔ IsRado n s }
-    ensures score { (n s : ℕ) (marks : Packed → Option Mark) (scores : Packed → ℕ) → 1 ≤ n → n ≤ MAX_STATES →
+    ensures score { (n s : ℕ) (marks : Packed → Option Mark) (scores : Packed → ℕ) → 1 ≤ n → n ≤ state_limit →
         AreTrueMarks marks → AreTrueScores marks scores → IsComplete (empty_table n) marks →
         IsGreatestRecorded (λ t k. scores t) marks (empty_table n) (Some s) ↔ IsGreatestOfAll Scores n s }
 {}

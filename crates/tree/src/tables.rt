@@ -5,6 +5,7 @@ ghost use Rattle.std.specs.declared.cmp.Ordering.TheVariants.{Less};
 ghost use Rattle.std.specs.Cmp.Lexicographic.{slice_cmp};
 ghost use Rattle.machine_text.specs.declared.transition.Sym.{Sym as Symbol};
 ghost use Rattle.machine_text.specs.declared.transition.Entry.{Entry};
+ghost use Rattle.machine_text.specs.Limits.{state_limit};
 ghost use Rattle.machine_text.specs.Packed.{Packed, IsTable, entry_of, with_entry, tabulated, empty_table};
 ghost use Rattle.turing.specs.Program.{Program, IsMachine};
 ghost use Rattle.turing.specs.Halting.{HaltsAt, IsRado};
@@ -14,8 +15,6 @@ ghost use Rattle.tree.specs.Children.{HaltsOn};
 ghost use Rattle.tree.specs.Best.{Scores, IsGreatestOfAll};
 ghost use Rattle.tree.specs.Tables.{IsChildTable, InTableTree, IsDecidedTable, IsBestOfTable, IsGreatestInTables, children_at};
 
-use machine_text::MAX_STATES;
-
 /// Tables of as many states with one map are one.
 pub fn one_table()
     ensures { (p t : Packed) → IsTable p → IsTable t → p.states ≡ t.states → entry_of p ≡ entry_of t → p ≡ t }
@@ -23,8 +22,8 @@ pub fn one_table()
 
 /// Every machine within the limit is the map of a table.
 pub fn machine_has_table()
-    ensures table { (n : ℕ) (m : Program) → IsMachine n m → n ≤ MAX_STATES → IsTable (tabulated n m) }
-    ensures map { (n : ℕ) (m : Program) → IsMachine n m → n ≤ MAX_STATES → entry_of (tabulated n m) ≡ m }
+    ensures table { (n : ℕ) (m : Program) → IsMachine n m → n ≤ state_limit → IsTable (tabulated n m) }
+    ensures map { (n : ℕ) (m : Program) → IsMachine n m → n ≤ state_limit → entry_of (tabulated n m) ≡ m }
 {}
 
 /// One entry more in a table gives a table, whose map has that pair filled.
@@ -74,8 +73,8 @@ pub fn best_of_table()
 /// The best of the empty table of n states is the greatest of all machines of n states: Radó's S(n), and
 /// for scores Σ(n). The empty table is in order.
 pub fn rado_of_tables()
-    ensures table { (n : ℕ) → 1 ≤ n → n ≤ MAX_STATES → IsTable (empty_table n) × InOrder 1 (entry_of (empty_table n)) }
-    ensures steps { (n s : ℕ) → 1 ≤ n → n ≤ MAX_STATES → IsBestOfTable HaltsAt (empty_table n) (Some s) ↔ IsRado n s }
-    ensures score { (n s : ℕ) → 1 ≤ n → n ≤ MAX_STATES →
+    ensures table { (n : ℕ) → 1 ≤ n → n ≤ state_limit → IsTable (empty_table n) × InOrder 1 (entry_of (empty_table n)) }
+    ensures steps { (n s : ℕ) → 1 ≤ n → n ≤ state_limit → IsBestOfTable HaltsAt (empty_table n) (Some s) ↔ IsRado n s }
+    ensures score { (n s : ℕ) → 1 ≤ n → n ≤ state_limit →
         IsBestOfTable Scores (empty_table n) (Some s) ↔ IsGreatestOfAll Scores n s }
 {}

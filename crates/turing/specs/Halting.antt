@@ -1,7 +1,9 @@
 -- Halting, what is true of a machine, and Radó's number. The halting step counts (Radó 1962): a run that
 -- comes to a halting pair after k steps halts in k + 1.
 use Rattle.std.specs.Prelude.{◌≡◌, ℕ, suc, ◌≤◌, Some, None}
+use Rattle.machine_text.specs.declared.transition.Sym.{Sym}
 use Rattle.turing.specs.Program.{Program, IsMachine}
+use Rattle.turing.specs.Tape.{symbol_read}
 use Rattle.turing.specs.Run.{Config, next, after}
 
 -- the run from the blank tape halts in k steps
@@ -11,6 +13,12 @@ pub record HaltsAt (m : Program) (k : ℕ) : Type 0 where
   pub is : after m last ≡ Some at
   pub over : next m at ≡ None
   pub count : k ≡ suc last
+
+-- the run from the blank tape halts in k steps, on the pair of state number q and the symbol s
+pub record HaltsOn (m : Program) (k q : ℕ) (s : Sym) : Type 0 where
+  pub halts : HaltsAt m k
+  pub state : halts.at.state ≡ q
+  pub symbol : symbol_read halts.at.tape ≡ s
 
 -- the run from the blank tape never halts
 abbrev pub Never : Program → Type 0

@@ -1,4 +1,4 @@
-use Rattle.std.proofs.Common.{◌≤◌, arith}
+use Rattle.std.proofs.Common.{arith}
 use Rattle.run.proofs.Standings.{found_none}
 use Rattle.run.proofs.halting.HaltFinder.search.Goals as goal
 

@@ -1,7 +1,7 @@
-use Rattle.std.proofs.Common.{◌≡◌, ◌≤◌, refl, sym, ap, subst, ◌∙◌, arith}
+use Rattle.std.proofs.Common.{◌≡◌, refl, sym, ap, subst, arith}
 use Rattle.std.proofs.lemmas.Result.{err_from_is_err_and}
 use Rattle.run.specs.Standing.{Standing, OnRun}
-use Rattle.run.specs.Steps.{IsBetween, StepsTo}
+use Rattle.run.specs.Steps.{StepsTo}
 use Rattle.run.specs.declared.stepping.Step.{Step}
 use Rattle.run.proofs.Standings.{halts_between}
 use Rattle.run.proofs.stepping.Runner.run_to.Goals as goal

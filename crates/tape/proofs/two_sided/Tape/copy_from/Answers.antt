@@ -1,4 +1,3 @@
-use Rattle.std.proofs.Common.{Result, Ok, Err, OnErr}
 use Rattle.tape.proofs.Moves.{stored-blank, on_err}
 use Rattle.tape.proofs.two_sided.Tape.copy_from.Goals as goal
 

@@ -1,0 +1,10 @@
+-- How far runs go.
+use Rattle.std.specs.Prelude.{ℕ, ◌^◌}
+
+-- the most steps that one runner makes
+abbrev pub run_step_limit : ℕ
+run_step_limit = 2 ^ 62
+
+-- the most steps that a halting record may claim
+abbrev pub halt_step_limit : ℕ
+halt_step_limit = 100000000

@@ -19,7 +19,7 @@ mod record_fault;
 mod writer;
 
 pub use certificate::{Certificate, OwnedCertificate};
-pub use judgement::judge;
+pub use judgement::{Judged, judge, judge_on};
 pub use laws::{
     certified_claims_are_writable, record_texts_are_lines, records_parse_back,
     standing_claims_are_true,

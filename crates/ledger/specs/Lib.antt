@@ -6,5 +6,6 @@ pub mod Lent
 pub mod Tally
 pub mod Faults
 pub mod LedgerText
+pub mod Lists
 pub mod LedgerLaws
 pub mod Inside

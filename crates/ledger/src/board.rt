@@ -6,6 +6,7 @@ ghost use Rattle.run.specs.Verdict.{IsTrueOf};
 ghost use Rattle.turing.specs.Halting.{IsRado, HaltsAt};
 ghost use Rattle.std.specs.Vec.Iter.{into_iter_items};
 ghost use Rattle.tree.specs.Tables.{IsBestOfTable, IsChildTable};
+ghost use Rattle.ledger.specs.Contents.{IsBoard};
 ghost use Rattle.ledger.specs.Inside.Places.{IsPlace};
 ghost use Rattle.ledger.specs.Tally.{AreAll, IsChampion, IsGreatestCount, IsHalting, IsStatus, IsTally};
 
@@ -99,9 +100,10 @@ impl Board {
         })
     }
 
-    /// The root of the tree.
+    /// The root of the tree. Whoever calls it knows that the board is one: its records are held from its root.
     pub fn root(&self) -> &Table
-        ensures { result.now ≡ self.now.root }
+        ensures root { result.now ≡ self.now.root }
+        ensures board { IsBoard self.now }
     {
         &self.root
     }

@@ -2,14 +2,14 @@
 ghost use Rattle.std.specs.Prelude.{◌≡◌, ℕ, All, IfSome, IfNone, map, option_map};
 ghost use Rattle.std.specs.List.{position};
 ghost use Rattle.cert.specs.Kinds.{claim_of};
-ghost use Rattle.ledger.specs.Inside.Keeping.{held_recorded, HaltsOnPair, KnowsPair};
+ghost use Rattle.cert.specs.Certified.{HaltsOnPair};
+ghost use Rattle.ledger.specs.Inside.Keeping.{held_recorded, KnowsPair};
 ghost use Rattle.ledger.specs.Tally.{HaltsAfter, IsHalting};
 ghost use Rattle.ledger.specs.Records.{same_table, claim_in, verdict_in};
 
-use crate::children::Pair;
 use crate::kept::Kept;
 use cert::Certificate;
-use machine_text::Table;
+use machine_text::{Pair, Table};
 use run::Verdict;
 
 // The place of the first record for a table.

@@ -1,6 +1,6 @@
 // A record as a board keeps it.
-use crate::children::Pair;
 use cert::OwnedRecord;
+use machine_text::Pair;
 
 // A record, and the pair on which its table halts, where it says that it does: so the children of the table
 // are known without another run.

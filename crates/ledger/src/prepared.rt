@@ -3,19 +3,19 @@ ghost use Rattle.std.specs.Prelude.{◌≡◌, ◌≢◌, ℕ, ◌↔◌, ◌⊎
 ghost use Rattle.std.specs.BTreeSet.{contains};
 ghost use Rattle.machine_text.specs.Packed.{Packed, entry_of};
 ghost use Rattle.tree.specs.Used.{InOrder};
-ghost use Rattle.cert.specs.Kinds.{recorded};
+ghost use Rattle.cert.specs.Claim.{shown_by};
+ghost use Rattle.cert.specs.Kinds.{claim_of, recorded};
 ghost use Rattle.ledger.specs.Inside.Keeping.{held_recorded, KnowsPair};
 ghost use Rattle.ledger.specs.Held.{settled};
-ghost use Rattle.cert.specs.Certified.{IsCertified};
+ghost use Rattle.cert.specs.Certified.{IsCertified, IsPairOf};
 ghost use Rattle.ledger.specs.Inside.Open.{table_cmp, IsNewChild};
 ghost use Rattle.ledger.specs.Inside.Places.{IsRefusal};
 
-use crate::children::halting_pair;
 use crate::faults::OfferFault;
 use crate::index::place_of;
 use crate::kept::Kept;
 use crate::open_tables::open_after;
-use cert::{OwnedCertificate, OwnedRecord, Record, judge};
+use cert::{Judged, OwnedCertificate, OwnedRecord, Record, judge_on};
 use machine_text::Table;
 use run::{NoMemory, Refused};
 use std::alloc::Global;
@@ -43,9 +43,9 @@ pub fn prepare(
         ↔ ((IsTrue (contains table_cmp tables.now q) × (q ≢ r.now.table)) ⊎ IsNewChild (map held_recorded records.now) (recorded r.now) q)) }
     ensures refusal { IfErr result (λ f. IsRefusal f (recorded r.now)) }
 {
-    certify(alloc, r)?;
+    let judged = certify(alloc, r)?;
     let certificate = OwnedCertificate::of(alloc, &r.certificate)?;
-    let halts_on = halting_pair(alloc, r)?;
+    let halts_on = judged.halts_on;
     let open_tables = open_after(tables, records, r, halts_on)?;
     let record = OwnedRecord {
         table: r.table,
@@ -58,16 +58,15 @@ pub fn prepare(
 }
 
 // Judges a record's certificate.
-fn certify(alloc: Global, r: &Record) -> Result<(), OfferFault>
+fn certify(alloc: Global, r: &Record) -> Result<Judged, OfferFault>
     ensures certified { OnOk result (IsCertified (recorded r.now)) }
+    ensures pair { IfOk result (λ judged. IsPairOf (shown_by (claim_of r.now.certificate)) r.now.table judged.halts_on) }
     ensures refusal { IfErr result (λ f. IsRefusal f (recorded r.now)) }
 {
-    match judge(alloc, r) {
-        Ok(_) => Ok(()),
-        Err(Refused::Fails) => Err(OfferFault::Refused(Refused::Fails)),
-        Err(Refused::TooLong) => Err(OfferFault::Refused(Refused::TooLong)),
-        Err(Refused::TooWide) => Err(OfferFault::Refused(Refused::TooWide)),
+    match judge_on(alloc, r) {
+        Ok(judged) => Ok(judged),
         Err(Refused::NoMemory) => Err(OfferFault::NoMemory),
+        Err(refused) => Err(OfferFault::Refused(refused)),
     }
 }
 

@@ -1,24 +1,29 @@
 // A board's ledger as it is written.
-ghost use Rattle.std.specs.Prelude.{◌≡◌, ◌++◌, ◌∷◌, [], map, take, length, OnOk, OnErr};
+ghost use Rattle.std.specs.Prelude.{◌≡◌, ◌++◌, ◌∷◌, [], map, take, drop, length, OnOk, OnErr};
 ghost use Rattle.machine_text.specs.Text.{text_of};
 ghost use Rattle.cert.specs.Grammar.{record_text};
 ghost use Rattle.cert.specs.Kinds.{recorded};
-ghost use Rattle.ledger.specs.LedgerText.{header_words, joined, ledger_text};
+ghost use Rattle.ledger.specs.LedgerText.{header_words, joined, ReadsAs, ledger_text};
+ghost use Rattle.ledger.specs.declared.left.Left.TheVariants.{Nothing};
 
 use crate::board::Board;
 use crate::header::HEADER_WORDS;
+use crate::laws::ledgers_load_whole;
 use crate::records::Records;
 use cert::Record;
 use machine_text::{TEXT_BYTES, Table};
 use run::NoMemory;
 
 impl Board {
-    /// Appends the board's ledger: a header with the root, and each record on a line. Loading it gives the
-    /// same records. Where memory is refused, `out` is as it was.
+    /// Appends the board's ledger: a header with the root, and each record on a line. It loads again whole,
+    /// with the same root and records. Where memory is refused, `out` is as it was.
     pub fn write_ledger(&self, out: &mut Vec<u8>) -> Result<(), NoMemory>
         ensures ok { OnOk result (out.new.items ≡ out.old.items ++ ledger_text self.now.root self.now.records) }
+        ensures whole { OnOk result (ReadsAs self.now.root (drop (length out.old.items) out.new.items) self.now.records Nothing) }
         ensures err { OnErr result (out.new.items ≡ out.old.items) }
     {
+        ledgers_load_whole();
+        let _ = self.root();
         let len = out.len();
         match append_ledger(self, out) {
             Ok(()) => Ok(()),

@@ -2,7 +2,8 @@ use Rattle.std.proofs.Common.{map, sym, ◌∙◌, subst, get_or}
 use Rattle.machine_text.specs.Packed.{Packed}
 use Rattle.cert.specs.Claim.{shown_by}
 use Rattle.cert.specs.Kinds.{owned_claim}
-use Rattle.ledger.specs.Inside.Keeping.{held_recorded, IsPairOf}
+use Rattle.cert.specs.Certified.{IsPairOf}
+use Rattle.ledger.specs.Inside.Keeping.{held_recorded}
 use Rattle.ledger.proofs.Claims.{found_table, found_claim, found_no_claim}
 use Rattle.ledger.proofs.OpenAfter.{pair_some, pair_none, unrecorded_pair}
 use Rattle.ledger.proofs.index.pair_for.Goals as goal

@@ -1,8 +1,9 @@
 use Rattle.std.proofs.Common.{map, subst, Option}
 use Rattle.cert.specs.Claim.{shown_by}
 use Rattle.cert.specs.Kinds.{claim_of, recorded}
-use Rattle.ledger.specs.Inside.Keeping.{held_recorded, IsPairOf}
-use Rattle.ledger.specs.declared.children.Pair.{Pair}
+use Rattle.cert.specs.Certified.{IsPairOf}
+use Rattle.ledger.specs.Inside.Keeping.{held_recorded}
+use Rattle.machine_text.specs.declared.transition.Pair.{Pair}
 use Rattle.ledger.proofs.OpenAfter.{pair_halts, after_halting, if_ok}
 use Rattle.ledger.proofs.open_tables.open_after.Goals as goal
 

@@ -1,5 +1,5 @@
 -- The records held of a list agree with its fit records.
-use Rattle.std.proofs.Common.{◌≡◌, ◌≢◌, ℕ, true, false, List, [], ◌∷◌, ◌++◌, Option, Some, None, option_map, IsSome, inl, inr, ◌⊎◌, Result, Ok, Err, refl, sym, ◌∙◌, ap, subst, fold, arith}
+use Rattle.std.proofs.Common.{◌≡◌, ◌≢◌, ℕ, true, false, List, [], ◌∷◌, ◌++◌, Option, Some, None, option_map, IsSome, inl, inr, ◌⊎◌, Err, refl, sym, ◌∙◌, ap, subst, arith}
 use Rattle.std.specs.List.{Contains}
 use Rattle.std.proofs.lemmas.List.Elements.{Contains-append_left, Contains-append_right, Contains-append_cases}
 use Rattle.std.proofs.lemmas.List.Sums.{fold-append}
@@ -7,20 +7,17 @@ use Rattle.machine_text.specs.Packed.{Packed, IsTable}
 use Rattle.run.specs.declared.verdicts.Verdict.{Verdict}
 use Rattle.run.specs.declared.verdicts.Verdict.TheVariants.{Halts, Never}
 use Rattle.tree.specs.Closed.{Mark, Halting, NonHalting, Holdout, IsVerdict, IsOpen}
-use Rattle.tree.specs.Tables.{InTableTree, Itself}
 use Rattle.tree.proofs.TableLaws.{tree_alike, tree_table_child}
 use Rattle.cert.specs.Claim.{Claim, Recorded, shown_by}
 use Rattle.cert.specs.Certified.{IsCertified}
 use Rattle.cert.proofs.Refusals.{refused_or_certified}
 use Rattle.ledger.specs.Records.{same_table, claim_in, mark_in, mark_of, mark_by}
-use Rattle.ledger.specs.Held.{IsFit, IsHeld, IsHoldout, Settles, settled}
+use Rattle.ledger.specs.Held.{IsFit, IsHeld, Settles, settled}
 use Rattle.ledger.specs.Offers.{OfferGives, IsKnown}
 use Rattle.ledger.specs.Lists.{HasPlace, IsFitAfter, placed, held}
-use Rattle.ledger.specs.declared.taken.Taken.{Taken}
-use Rattle.ledger.specs.declared.taken.Taken.TheVariants.{New, Known, Settled}
 use Rattle.ledger.specs.declared.faults.OfferFault.{OfferFault}
 use Rattle.ledger.specs.declared.faults.OfferFault.TheVariants.{WrongSize, NotOpen, Refused as IsRefused, NoMemory}
-use Rattle.ledger.proofs.Same.{same_is, same_at, apart}
+use Rattle.ledger.proofs.Same.{same_is, apart}
 use Rattle.ledger.proofs.Claims.{claim_here, claim_past, claim_none, settled_here, settled_past}
 use Rattle.ledger.proofs.HeldLaws.{unmarked, held_more, held_settled}
 use Rattle.ledger.proofs.OpenLaws.{IsTaken, taken_new, taken_settled, stopping_verdict, open_in_tree, recorded_in_tree}
@@ -39,12 +36,16 @@ pub record Agree (root : Packed) (ks rs : List Recorded) : Type 0 where
 nobody : {X : Type 0} {x : X} → Contains [] x → ⊥
 nobody (k, below, is) = omega arith
 
+no_some : (o : Option Verdict) → IsSome o → o ≡ None → ⊥
+no_some None some e = cc
+no_some (Some v) some e = cc
+
 pub agree_none : (root : Packed) → Agree root [] []
 agree_none root = record {
   is_held = record { fit = tt };
   is = refl;
   none = λ t is e at. absurd (nobody at);
-  some = λ t c is. let no = claim_none t in absurd (cc);
+  some = λ t c is. let gone = claim_none t in absurd (cc);
   verdict = λ e at shown. absurd (nobody at);
   places = λ e at. absurd (nobody at);
 }
@@ -113,7 +114,7 @@ agree_more root ks rs new r agree taken is_held is unsettled place =
             let claimed = agree.verdict e before shown in
             let past : e.table ≢ r.table = λ (same : e.table ≡ r.table).
             let none = unsettled e.claim (subst (λ (p : Packed). claim_in rs p ≡ Some e.claim) same claimed) in
-            let no : IsSome {X = Verdict} None = subst (λ (o : Option Verdict). IsSome o) none shown in absurd (cc) in
+            absurd (no_some (shown_by e.claim) shown none) in
             taken.others e.table past ∙ claimed
         | inr now ↦ subst (λ (x : Recorded). claim_in new x.table ≡ Some x.claim) (alone r e now) taken.here
       ];
@@ -145,8 +146,8 @@ no_verdict (Some (Halts k)) e = cc
 no_verdict (Some Never) e = cc
 
 some_verdict : (o : Option Verdict) → (o ≡ None → ⊥) → IsSome o
-some_verdict None no = absurd (no refl)
-some_verdict (Some v) no = refl
+some_verdict None never = absurd (never refl)
+some_verdict (Some v) never = refl
 
 -- fit by the list is fit for the records that are held, or settles one of them
 pub fit_now : (root : Packed) (ks rs : List Recorded) (r : Recorded) → Agree root ks rs → IsFitAfter root ks r → IsFit root rs r ⊎ Settles rs r
@@ -164,7 +165,7 @@ fit_now root ks rs r agree fit =
           let none : shown_by c ≡ None = fit.no_verdict (record { table = r.table; claim = c }) at refl in
           inr (record {
             is_holdout = ap (option_map mark_of) claimed ∙ ap (λ (m : Mark). Some m) (is_holdout (shown_by c) none);
-            verdict = some_verdict (shown_by r.claim) (λ no. fit.not_again no (record { table = r.table; claim = c }) at refl);
+            verdict = some_verdict (shown_by r.claim) (λ bare. fit.not_again bare (record { table = r.table; claim = c }) at refl);
             certified = fit.certified;
           })
     ] refl
@@ -181,7 +182,7 @@ new_fit root ks rs r agree fit =
     let gone = unmarked (claim_in rs r.table) fit.is_open.unmarked in record {
       place = open_place root ks rs r.table agree fit.is_open;
       no_verdict = λ e at same. absurd (agree.none r.table gone e at same);
-      not_again = λ no e at. agree.none r.table gone e at;
+      not_again = λ bare e at. agree.none r.table gone e at;
       certified = fit.certified;
     }
 
@@ -199,7 +200,7 @@ settling_fit root ks rs r agree settles =
                 let claim : e.claim ≡ c.0 = cc (claimed, c.1) in
                 let shown = ap shown_by claim in absurd (cc)
           ] refl;
-      not_again = λ no. let yes : IsSome {X = Verdict} None = subst (λ (o : Option Verdict). IsSome o) no settles.verdict in absurd (cc);
+      not_again = λ bare. absurd (no_some (shown_by r.claim) settles.verdict bare);
       certified = settles.certified;
     }
 
@@ -244,7 +245,7 @@ fit_or_known root rs r (inl fit) known = elim known.is [
 ]
 fit_or_known root rs r (inr settles) known = elim known.is [
   | inl v ↦ verdict_holdout (mark_in rs r.table) v settles.is_holdout
-  | inr h ↦ let yes : IsSome {X = Verdict} None = subst (λ (o : Option Verdict). IsSome o) h.1 settles.verdict in absurd (cc)
+  | inr h ↦ no_some (shown_by r.claim) settles.verdict h.1
 ]
 
 pub fit_or_refused : (root : Packed) (rs : List Recorded) (r : Recorded) (f : OfferFault) (new : List Recorded) → IsTable root → IsHeld root rs → IsFit root rs r ⊎ Settles rs r

@@ -1,13 +1,13 @@
 -- The records of a list of offers, and of a text, are those held of the fit ones; a text has one longest list of them.
-use Rattle.std.proofs.Common.{◌≡◌, ◌≢◌, ℕ, ◌+◌, List, [], ◌∷◌, ◌++◌, length, Some, None, inl, inr, ◌⊎◌, Result, Ok, Err, refl, sym, ap, ◌∙◌, subst, arith, append_assoc, append-nil, length-append}
+use Rattle.std.proofs.Common.{◌≡◌, ℕ, List, [], ◌∷◌, ◌++◌, length, inl, inr, ◌⊎◌, Result, Ok, Err, refl, sym, ap, ◌∙◌, subst, arith, append_assoc, append-nil, length-append}
 use Rattle.std.proofs.lemmas.List.{append_cancel_left}
 use Rattle.machine_text.specs.Packed.{Packed, IsTable}
 use Rattle.machine_text.specs.Text.{table_of}
 use Rattle.cert.specs.Claim.{Recorded}
 use Rattle.cert.specs.Grammar.{record_of}
-use Rattle.ledger.specs.Held.{IsFit, Settles, settled}
+use Rattle.ledger.specs.Held.{IsFit, Settles}
 use Rattle.ledger.specs.Offers.{OfferGives}
-use Rattle.ledger.specs.LedgerText.{header_words, HasNoNewline, BeginsWithLine, HasHeader, AreTaken, joined, IsUnkept, ReadsAs}
+use Rattle.ledger.specs.LedgerText.{header_words, BeginsWithLine, HasHeader, AreTaken, joined, IsUnkept, ReadsAs}
 use Rattle.ledger.specs.LedgerLaws.{IsLongest}
 use Rattle.ledger.specs.Lists.{IsFitAfter, AreKept, held, Offer, AreOffered, answered, answered_with, AreFitLines}
 use Rattle.ledger.specs.declared.taken.Taken.{Taken}
@@ -62,10 +62,10 @@ fit_lines root ks rs new [] agree taken = (ks, refl, taken ∙ agree.is)
 fit_lines root ks rs new (line ∷ lines) agree taken = elim taken.4 [
   | inl w ↦
       let later = fit_lines root (ks ++ (taken.0 ∷ [])) taken.1 new lines (subst (Agree root (ks ++ (taken.0 ∷ []))) (sym w.1) (agree_new root ks rs taken.0 agree w.0)) taken.5 in
-      (later.0, (taken.2, taken.0, taken.3, new_fit root ks rs taken.0 agree w.0, later.1), later.2)
+      (later.0, (taken.0, taken.2, taken.3, new_fit root ks rs taken.0 agree w.0, later.1), later.2)
   | inr w ↦
       let later = fit_lines root (ks ++ (taken.0 ∷ [])) taken.1 new lines (subst (Agree root (ks ++ (taken.0 ∷ []))) (sym w.1) (agree_settled root ks rs taken.0 agree w.0)) taken.5 in
-      (later.0, (taken.2, taken.0, taken.3, settling_fit root ks rs taken.0 agree w.0, later.1), later.2)
+      (later.0, (taken.0, taken.2, taken.3, settling_fit root ks rs taken.0 agree w.0, later.1), later.2)
 ]
 
 -- where nothing more is kept, no line is fit
@@ -77,11 +77,13 @@ stuck : (root : Packed) (ks rs : List Recorded) (rest line after : List ℕ) (r 
 stuck root ks rs rest line after r Torn table agree begins reads fit is = line_has_newline begins is.0
 stuck root ks rs rest line after r (Unread f) table agree begins reads fit is = let same = ap record_of (same_line begins is.2).0 in let bad = is.3 in absurd (cc)
 stuck root ks rs rest line after r (Unfit f) table agree begins reads fit is =
-    let same : r ≡ is.4 = one_read line is.0 r is.4 (same_line begins is.2).0 reads is.5 in
-    fit_or_refused root rs is.4 f rs table agree.is_held (subst (λ (x : Recorded). IsFit root rs x ⊎ Settles rs x) same (fit_now root ks rs r agree fit)) is.6 is.3
+    let w = is.3.1 in
+    let same : r ≡ w.0 = one_read line is.0 r w.0 (same_line begins is.2).0 reads w.1 in
+    fit_or_refused root rs w.0 f rs table agree.is_held (subst (λ (x : Recorded). IsFit root rs x ⊎ Settles rs x) same (fit_now root ks rs r agree fit)) w.2 is.3.0
 stuck root ks rs rest line after r Repeated table agree begins reads fit is =
-    let same : r ≡ is.3 = one_read line is.0 r is.3 (same_line begins is.2).0 reads is.4 in
-    fit_or_known root rs is.3 (subst (λ (x : Recorded). IsFit root rs x ⊎ Settles rs x) same (fit_now root ks rs r agree fit)) is.5.0
+    let w = is.3 in
+    let same : r ≡ w.0 = one_read line is.0 r w.0 (same_line begins is.2).0 reads w.1 in
+    fit_or_known root rs w.0 (subst (λ (x : Recorded). IsFit root rs x ⊎ Settles rs x) same (fit_now root ks rs r agree fit)) w.2.0
 
 -- any list of whole lines that are fit in their turn is a beginning of those that are taken up to such an end
 begins_all : (root : Packed) (ks rs new : List Recorded) (lines : List (List ℕ)) (rest : List ℕ) (others : List (List ℕ)) (rest' : List ℕ) (kept : List Recorded) → IsTable root
@@ -89,10 +91,10 @@ begins_all : (root : Packed) (ks rs new : List Recorded) (lines : List (List ℕ
     → (more : List (List ℕ)) × (lines ≡ others ++ more)
 begins_all root ks rs new lines rest [] rest' kept table agree taken ends is fit = (lines, refl)
 begins_all root ks rs new [] rest (other ∷ others) rest' kept table agree taken ends is fit =
-    let begins : BeginsWithLine rest other (joined others ++ rest') = record { is = is ∙ append_assoc other (10 ∷ joined others) rest'; one_line = fit.0 } in
+    let begins : BeginsWithLine rest other (joined others ++ rest') = record { is = is ∙ append_assoc other (10 ∷ joined others) rest'; one_line = fit.1 } in
     absurd (elim ends [
       | inl none ↦ let front = sym none ∙ begins.is in no_line other (joined others ++ rest') front
-      | inr u ↦ stuck root ks rs rest other (joined others ++ rest') fit.1 u.0 table agree begins fit.2 fit.3 (subst (λ (l : List Recorded). IsUnkept root l rest u.0) taken u.1)
+      | inr u ↦ stuck root ks rs rest other (joined others ++ rest') fit.0 u.0 table agree begins fit.2 fit.3 (subst (λ (l : List Recorded). IsUnkept root l rest u.0) taken u.1)
     ])
   where
     no_line : (line more : List ℕ) → [] ≡ line ++ (10 ∷ more) → ⊥
@@ -101,8 +103,8 @@ begins_all root ks rs new [] rest (other ∷ others) rest' kept table agree take
 begins_all root ks rs new (line ∷ lines) rest (other ∷ others) rest' kept table agree taken ends is fit =
     let whole : line ++ (10 ∷ (joined lines ++ rest)) ≡ other ++ (10 ∷ (joined others ++ rest')) =
     sym (append_assoc line (10 ∷ joined lines) rest) ∙ (is ∙ append_assoc other (10 ∷ joined others) rest') in
-    let same = same_cut line other (joined lines ++ rest) (joined others ++ rest') taken.2 fit.0 whole in
-    let one : taken.0 ≡ fit.1 = one_read line other taken.0 fit.1 same.0 taken.3 fit.2 in
+    let same = same_cut line other (joined lines ++ rest) (joined others ++ rest') taken.2 fit.1 whole in
+    let one : taken.0 ≡ fit.0 = one_read line other taken.0 fit.0 same.0 taken.3 fit.2 in
     let under : AreFitLines root (ks ++ (taken.0 ∷ [])) others kept = subst (λ (x : Recorded). AreFitLines root (ks ++ (x ∷ [])) others kept) (sym one) fit.4 in
     let then : Agree root (ks ++ (taken.0 ∷ [])) taken.1 = elim taken.4 [
       | inl w ↦ subst (Agree root (ks ++ (taken.0 ∷ []))) (sym w.1) (agree_new root ks rs taken.0 agree w.0)
@@ -131,8 +133,8 @@ nothing_more xs ys (x ∷ more) less is back = absurd (omega (arith, ap length i
 one_kept : (root : Packed) (ks : List Recorded) (lines : List (List ℕ)) (a b : List Recorded) → AreFitLines root ks lines a → AreFitLines root ks lines b → a ≡ b
 one_kept root ks [] a b fit fit' = fit ∙ sym fit'
 one_kept root ks (line ∷ lines) a b fit fit' =
-    let same : fit'.1 ≡ fit.1 = one_read line line fit'.1 fit.1 refl fit'.2 fit.2 in
-    one_kept root (ks ++ (fit.1 ∷ [])) lines a b fit.4 (subst (λ (x : Recorded). AreFitLines root (ks ++ (x ∷ [])) lines b) same fit'.4)
+    let same : fit'.0 ≡ fit.0 = one_read line line fit'.0 fit.0 refl fit'.2 fit.2 in
+    one_kept root (ks ++ (fit.0 ∷ [])) lines a b fit.4 (subst (λ (x : Recorded). AreFitLines root (ks ++ (x ∷ [])) lines b) same fit'.4)
 
 one_root : (text : List ℕ) (root other : Packed) (body body' : List ℕ) → HasHeader text root body → HasHeader text other body' → (root ≡ other) × (body ≡ body')
 one_root text root other body body' header header' =

@@ -65,4 +65,4 @@ answered (o ∷ os) = answered_with o.offered o.answer (answered os)
 abbrev pub AreFitLines : Packed → List Recorded → List (List ℕ) → List Recorded → Type 0
 AreFitLines root earlier [] kept = kept ≡ earlier
 AreFitLines root earlier (line ∷ lines) kept =
-    HasNoNewline line × ((r : Recorded) × (record_of line ≡ Ok r) × IsFitAfter root earlier r × AreFitLines root (earlier ++ (r ∷ [])) lines kept)
+    (r : Recorded) × HasNoNewline line × (record_of line ≡ Ok r) × IsFitAfter root earlier r × AreFitLines root (earlier ++ (r ∷ [])) lines kept

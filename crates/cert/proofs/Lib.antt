@@ -2,3 +2,5 @@ pub mod Cuts
 pub mod Worth
 pub mod RoundTrip
 pub mod TrueClaims
+pub mod Lines
+pub mod Refusals

@@ -14,7 +14,7 @@ use Rattle.machine_text.specs.Packed.{Packed, IsTable}
 use Rattle.machine_text.specs.Text.{text_of}
 use Rattle.machine_text.proofs.Rows.{length-text_of}
 use Rattle.machine_text.proofs.RoundTrip.{table_of-text_of, text_of_from_45}
-use Rattle.cert.specs.declared.limits.TheConstants.{MAX_RECORD_BYTES}
+use Rattle.cert.specs.Limits.{record_byte_limit}
 use Rattle.cert.specs.Claim.{Claim, HaltsClaim, CycleClaim, TranslatedClaim, BackwardClaim, NoClaim, Recorded, IsWritable}
 use Rattle.cert.specs.Grammar.{parts_of, worth_of, decimal_value, side_of, side_text, with_field, halts_by, cycle_by, translated_by, backward_by, claim_from, claim_text, record_with, record_after, record_from, record_of, record_text}
 use Rattle.cert.proofs.Worth.{with_digit}
@@ -119,7 +119,7 @@ length_of_claim (TranslatedClaim i j side) small =
 length_of_claim (BackwardClaim d) small = omega (arith, length-append (codes "B ") (decimal d), length_of_number d small)
 length_of_claim NoClaim small = omega arith
 
-short : (r : Recorded) → IsTable r.table → IsWritable r.claim → length (record_text r) ≤ MAX_RECORD_BYTES
+short : (r : Recorded) → IsTable r.table → IsWritable r.claim → length (record_text r) ≤ record_byte_limit
 unfolding record_text
 short r table writable =
     let table_length = length-text_of r.table table.some in
@@ -136,5 +136,5 @@ parts_of-record_text r table =
 pub record_of-record_text : (r : Recorded) → IsTable r.table → IsWritable r.claim → record_of (record_text r) ≡ Ok r
 unfolding record_of
 record_of-record_text r table writable =
-    let fits : ltb MAX_RECORD_BYTES (length (record_text r)) ≡ false = grind (arith, nat_tests, short r table writable) in
+    let fits : ltb record_byte_limit (length (record_text r)) ≡ false = grind (arith, nat_tests, short r table writable) in
     rw fits (ap record_from (parts_of-record_text r table) ∙ ap (λ t. record_after t (parts_of (claim_text r.claim))) (table_of-text_of r.table table) ∙ ap (record_with r.table) (claim_back r.claim writable))

@@ -9,7 +9,7 @@ use Rattle.machine_text.specs.declared.transition.Dir.{Dir}
 use Rattle.loops.specs.declared.limits.TheConstants.{MAX_TIME}
 use Rattle.backward.specs.declared.limits.TheConstants.{MAX_DEPTH}
 use Rattle.backward.specs.Paths.{IsTooWide}
-use Rattle.run.specs.declared.limits.TheConstants.{MAX_HALT_STEPS}
+use Rattle.run.specs.Limits.{halt_step_limit}
 use Rattle.run.specs.declared.verdicts.Verdict.{Verdict}
 use Rattle.run.specs.declared.verdicts.Verdict.TheVariants.{Halts, Never}
 
@@ -45,7 +45,7 @@ shown_by NoClaim = None
 
 -- a claim asks for no more than the limits of its kind
 abbrev pub IsWithin : Claim → Type 0
-IsWithin (HaltsClaim k) = k ≤ MAX_HALT_STEPS
+IsWithin (HaltsClaim k) = k ≤ halt_step_limit
 IsWithin (CycleClaim i j) = j ≤ MAX_TIME
 IsWithin (TranslatedClaim i j side) = j ≤ MAX_TIME
 IsWithin (BackwardClaim d) = d ≤ MAX_DEPTH

@@ -8,9 +8,9 @@ use Rattle.machine_text.specs.declared.transition.Dir.{Dir}
 use Rattle.machine_text.specs.declared.transition.Dir.TheVariants.{L, R}
 use Rattle.machine_text.specs.Packed.{Packed}
 use Rattle.machine_text.specs.Text.{table_of, text_of}
-use Rattle.cert.specs.declared.limits.TheConstants.{MAX_RECORD_BYTES}
-use Rattle.cert.specs.declared.kinds.RecordFault.{RecordFault}
-use Rattle.cert.specs.declared.kinds.RecordFault.TheVariants.{BadTable, BadKind, BadNumber, TooLong}
+use Rattle.cert.specs.Limits.{record_byte_limit}
+use Rattle.cert.specs.declared.record_fault.RecordFault.{RecordFault}
+use Rattle.cert.specs.declared.record_fault.RecordFault.TheVariants.{BadTable, BadKind, BadNumber, TooLong}
 use Rattle.cert.specs.Claim.{Claim, HaltsClaim, CycleClaim, TranslatedClaim, BackwardClaim, NoClaim, Recorded}
 
 -- the parts of a text, cut at every space
@@ -84,7 +84,7 @@ record_from (table ∷ parts) = record_after (table_of table) parts
 
 -- what a text is read as: its length is judged first, then its parts from left to right
 unfoldable pub record_of : List ℕ → Result Recorded RecordFault
-record_of text = if nat_lt MAX_RECORD_BYTES (length text) then Err TooLong else record_from (parts_of text)
+record_of text = if nat_lt record_byte_limit (length text) then Err TooLong else record_from (parts_of text)
 
 abbrev pub side_text : Dir → List ℕ
 side_text L = codes "L"

@@ -1,13 +1,13 @@
 -- What the certificates and records of the code claim.
 use Rattle.cert.specs.Claim.{Claim, HaltsClaim, CycleClaim, TranslatedClaim, BackwardClaim, NoClaim, Recorded}
 use Rattle.std.specs.Prelude.{Result, Ok, Err}
-use Rattle.cert.specs.declared.kinds.Certificate.{Certificate}
-use Rattle.cert.specs.declared.kinds.Certificate.TheVariants.{Halts, Cycle, Translated, Backward, Undecided}
-use Rattle.cert.specs.declared.kinds.OwnedCertificate.{OwnedCertificate}
-use Rattle.cert.specs.declared.kinds.OwnedCertificate.TheVariants.{Halts as OwnedHalts, Cycle as OwnedCycle, Translated as OwnedTranslated, Backward as OwnedBackward, Undecided as OwnedUndecided}
-use Rattle.cert.specs.declared.kinds.Record.{Record}
-use Rattle.cert.specs.declared.kinds.OwnedRecord.{OwnedRecord}
-use Rattle.cert.specs.declared.kinds.RecordFault.{RecordFault}
+use Rattle.cert.specs.declared.certificate.Certificate.{Certificate}
+use Rattle.cert.specs.declared.certificate.Certificate.TheVariants.{Halts, Cycle, Translated, Backward, Undecided}
+use Rattle.cert.specs.declared.certificate.OwnedCertificate.{OwnedCertificate}
+use Rattle.cert.specs.declared.certificate.OwnedCertificate.TheVariants.{Halts as OwnedHalts, Cycle as OwnedCycle, Translated as OwnedTranslated, Backward as OwnedBackward, Undecided as OwnedUndecided}
+use Rattle.cert.specs.declared.record.Record.{Record}
+use Rattle.cert.specs.declared.record.OwnedRecord.{OwnedRecord}
+use Rattle.cert.specs.declared.record_fault.RecordFault.{RecordFault}
 
 abbrev pub claim_of : Certificate → Claim
 claim_of (Halts e) = HaltsClaim e.0

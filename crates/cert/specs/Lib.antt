@@ -1,5 +1,7 @@
+pub mod Limits
 pub mod Claim
+pub mod Certified
 pub mod Grammar
 pub mod Kinds
-pub mod PartsLeft
 pub mod Fault
+pub mod Inside

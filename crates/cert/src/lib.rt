@@ -1,21 +1,30 @@
 //! Records: a table with a certificate for it, their exact text, and their judgement.
 //!
 //! A record says of a table that it halts in so many steps, that it never halts, or that nothing is
-//! claimed. `specs/Claim` says what each certificate claims and when that stands; `specs/Grammar` is the
-//! grammar of a record's text.
+//! claimed. `specs/Claim` says what each certificate claims and when that stands, `specs/Certified` when a
+//! record is certified and why it is refused; `specs/Grammar` is the grammar of a record's text.
+//!
+//! Each kind of certificate is known in this crate alone: crates above cite what is so of all claims.
 #![tactic(auto)]
 
-mod judging;
-mod kinds;
+mod certificate;
+mod decimal;
+mod judgement;
 mod laws;
 mod limits;
-mod numbers;
+mod parser;
 mod parts;
-mod reading;
-mod writing;
+mod record;
+mod record_fault;
+mod writer;
 
-pub use judging::judge;
-pub use kinds::{Certificate, OwnedCertificate, OwnedRecord, Record, RecordFault};
-pub use laws::{records_parse_back, standing_claims_are_true};
+pub use certificate::{Certificate, OwnedCertificate};
+pub use judgement::{Judged, judge, judge_on};
+pub use laws::{
+    certified_claims_are_writable, record_texts_are_lines, records_parse_back,
+    standing_claims_are_true,
+};
 pub use limits::MAX_RECORD_BYTES;
+pub use record::{OwnedRecord, Record};
+pub use record_fault::RecordFault;
 pub use run::NoMemory;

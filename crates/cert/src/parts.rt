@@ -14,7 +14,7 @@ impl<'a> Model for Parts<'a> {
 
     ghost Value = { List (List ℕ) };
 
-    ghost use Rattle.cert.specs.PartsLeft.{parts_left};
+    ghost use Rattle.cert.specs.Inside.{parts_left};
 
     ghost view = { λ a. parts_left a.rest };
 }

@@ -5,10 +5,10 @@ use Rattle.machine_text.specs.Packed.{Packed}
 use Rattle.cert.specs.Claim.{Recorded}
 use Rattle.ledger.specs.LedgerText.{header_words, HasNoNewline, BeginsWithLine, HasHeader, AreTaken, joined, IsUnkept, IsUnkeptLine, IsLeft, ReadsAs}
 use Rattle.ledger.specs.LedgerLaws.{ReadsAsFirst}
-use Rattle.ledger.specs.declared.loaded.Left.{Left}
-use Rattle.ledger.specs.declared.loaded.Left.TheVariants.{Nothing, From}
-use Rattle.ledger.specs.declared.loaded.Unkept.{Unkept}
-use Rattle.ledger.specs.declared.loaded.Unkept.TheVariants.{Torn, Unread, Unfit, Repeated}
+use Rattle.ledger.specs.declared.left.Left.{Left}
+use Rattle.ledger.specs.declared.left.Left.TheVariants.{Nothing, From}
+use Rattle.ledger.specs.declared.left.Unkept.{Unkept}
+use Rattle.ledger.specs.declared.left.Unkept.TheVariants.{Torn, Unread, Unfit, Repeated}
 use Rattle.ledger.proofs.Lines.{is_newline, no_newline, cut_line, same_line, same_cut, line_has_newline}
 
 -- a text has no newline, or begins with a line
@@ -19,7 +19,7 @@ cases_line text = elim (position is_newline text) as (λ o. position is_newline 
 ] refl
 
 -- nothing of the text is kept: it is empty, or there is a reason
-abbrev EndsAt : Packed → List Recorded → List ℕ → Type 0
+abbrev pub EndsAt : Packed → List Recorded → List ℕ → Type 0
 EndsAt root rs rest = (rest ≡ []) ⊎ ((why : Unkept) × IsUnkept root rs rest why)
 
 ends_torn : (root : Packed) (rs : List Recorded) (text : List ℕ) → HasNoNewline text → EndsAt root rs text
@@ -108,7 +108,7 @@ keeps_first root old new (line ∷ lines) rest start tail taken ends is = elim (
 ]
 
 -- the same as the code says it
-ends_by : (root : Packed) (rs : List Recorded) (n number : ℕ) (rest : List ℕ) (left : Left) → IsLeft root rs n number rest left → EndsAt root rs rest
+pub ends_by : (root : Packed) (rs : List Recorded) (n number : ℕ) (rest : List ℕ) (left : Left) → IsLeft root rs n number rest left → EndsAt root rs rest
 ends_by root rs n number rest Nothing is = inl is
 ends_by root rs n number rest (From line kept why) is = inr (why, is.2)
 
@@ -130,7 +130,7 @@ beginning root text start tail body rs left stands is header =
     record {
       rs = found.new;
       left = over.0;
-      stands = record {
+      reads = record {
         body = body;
         header = header;
         keeps = record { lines = found.kept; rest = found.rest; is = found.is; taken = found.taken; ends = over.1 };

@@ -14,13 +14,12 @@ use Rattle.tree.specs.Tables.{InTableTree}
 use Rattle.cert.specs.Claim.{Recorded, shown_by}
 use Rattle.ledger.specs.Records.{claim_in, mark_in, mark_of}
 use Rattle.ledger.specs.Held.{IsHoldout}
-use Rattle.ledger.specs.Open.{table_cmp}
-use Rattle.ledger.specs.Contents.{Contents, IsBoard, IsOpenSet}
-use Rattle.ledger.specs.Tally.{AreAll, AreSoMany}
-use Rattle.ledger.specs.Counting.{is_undecided, undecided_table, is_champion, champion_table, steps_of, greatest}
-use Rattle.ledger.specs.Keeping.{held_recorded, tables_with}
-use Rattle.ledger.specs.declared.holding.Holding.{Holding}
-use Rattle.ledger.specs.Tally.{IsGreatestCount, IsChampion}
+use Rattle.ledger.specs.Inside.Open.{table_cmp, IsOpenSet}
+use Rattle.ledger.specs.Contents.{Contents, IsBoard}
+use Rattle.ledger.specs.Tally.{AreAll, AreSoMany, IsGreatestCount, IsChampion}
+use Rattle.ledger.specs.Inside.Counting.{is_undecided, undecided_table, is_champion, champion_table, steps_of, greatest}
+use Rattle.ledger.specs.Inside.Keeping.{held_recorded, tables_with}
+use Rattle.ledger.specs.declared.kept.Kept.{Kept}
 use Rattle.ledger.proofs.Apart.{AreApart, held_apart, chosen_once}
 use Rattle.ledger.proofs.Numbers.{holdouts_listed, halts_listed, counted, greatest_count}
 use Rattle.ledger.proofs.OpenLaws.{open_in_tree, recorded_in_tree}
@@ -72,23 +71,23 @@ pub none_of : (IsOfKind : Packed → Type 0) (n : ℕ) → AreSoMany IsOfKind n 
 none_of IsOfKind n many none t kind = let at = (many.exact t).1 kind in let (k, below, is) = at in omega (arith, many.is)
 
 -- the holdouts, as the code lists and counts them
-undecided_listed : (xs : List Holding) → filter_map (λ (h : Holding). undecided_table (held_recorded h)) xs ≡ map (λ (r : Recorded). r.table) (filter is_undecided (map held_recorded xs))
+undecided_listed : (xs : List Kept) → filter_map (λ (h : Kept). undecided_table (held_recorded h)) xs ≡ map (λ (r : Recorded). r.table) (filter is_undecided (map held_recorded xs))
 undecided_listed [] = refl
 undecided_listed (x ∷ xs) =
     elim (is_undecided (held_recorded x)) as (λ v. is_undecided (held_recorded x) ≡ v
-    → filter_map (λ (h : Holding). undecided_table (held_recorded h)) (x ∷ xs) ≡ map (λ (r : Recorded). r.table) (filter is_undecided (map held_recorded (x ∷ xs)))) [
+    → filter_map (λ (h : Kept). undecided_table (held_recorded h)) (x ∷ xs) ≡ map (λ (r : Recorded). r.table) (filter is_undecided (map held_recorded (x ∷ xs)))) [
       | true ↦ λ pass. rw pass (ap (λ (l : List Packed). x.record.table ∷ l) (undecided_listed xs))
       | false ↦ λ fails. rw fails (undecided_listed xs)
     ] refl
 
-pub all_holdouts : (b : Contents) (root : Packed) (items lent : List Holding) (xs ys : List Packed) → Below → OfTables → (record { root = root; records = map held_recorded items }) ≡ b → lent ≡ items
-    → IsBoard (record { root = root; records = map held_recorded items }) → xs ≡ filter_map (λ (h : Holding). undecided_table (held_recorded h)) lent → IsPermutation xs ys → IsSorted table_cmp ys
+pub all_holdouts : (b : Contents) (root : Packed) (items lent : List Kept) (xs ys : List Packed) → Below → OfTables → (record { root = root; records = map held_recorded items }) ≡ b → lent ≡ items
+    → IsBoard (record { root = root; records = map held_recorded items }) → xs ≡ filter_map (λ (h : Kept). undecided_table (held_recorded h)) lent → IsPermutation xs ys → IsSorted table_cmp ys
     → AreAll (IsHoldout b.records) ys
 all_holdouts b root items lent xs ys below laws view same board is permuted sorted =
     let rs = map held_recorded items in
     let apart = held_apart root rs board.held in
     let all = holdouts_listed rs apart in
-    let listed : xs ≡ map (λ (r : Recorded). r.table) (filter is_undecided rs) = is ∙ (ap (λ (l : List Holding). filter_map (λ (h : Holding). undecided_table (held_recorded h)) l) same ∙ undecided_listed items) in
+    let listed : xs ≡ map (λ (r : Recorded). r.table) (filter is_undecided rs) = is ∙ (ap (λ (l : List Kept). filter_map (λ (h : Kept). undecided_table (held_recorded h)) l) same ∙ undecided_listed items) in
     subst (λ (c : Contents). AreAll (IsHoldout c.records) ys) view
     (all_sorted (IsHoldout rs) xs ys
     (λ t at. (all t).0 (subst (λ (l : List Packed). Contains l t) listed at))
@@ -100,27 +99,27 @@ abbrev pub Counts : (List Recorded → Packed → Type 0) → (Recorded → Bool
 Counts IsOfKind p = (rs : List Recorded) → AreApart rs → AreSoMany (IsOfKind rs) (length (filter p rs))
 
 pub kind_counted : (IsOfKind : List Recorded → Packed → Type 0) (p : Recorded → Bool) → Counts IsOfKind p
-    → (b : Contents) (root : Packed) (items lent : List Holding) (n : ℕ) → (record { root = root; records = map held_recorded items }) ≡ b → lent ≡ items
-    → IsBoard (record { root = root; records = map held_recorded items }) → n ≡ length (filter (λ (h : Holding). p (held_recorded h)) lent) → AreSoMany (IsOfKind b.records) n
+    → (b : Contents) (root : Packed) (items lent : List Kept) (n : ℕ) → (record { root = root; records = map held_recorded items }) ≡ b → lent ≡ items
+    → IsBoard (record { root = root; records = map held_recorded items }) → n ≡ length (filter (λ (h : Kept). p (held_recorded h)) lent) → AreSoMany (IsOfKind b.records) n
 kind_counted IsOfKind p law b root items lent n view same board is =
     let rs = map held_recorded items in
     let count : length (filter p rs) ≡ n =
-    sym (is ∙ (ap (λ (l : List Holding). length (filter (λ (h : Holding). p (held_recorded h)) l)) same ∙ counted held_recorded p items)) in
+    sym (is ∙ (ap (λ (l : List Kept). length (filter (λ (h : Kept). p (held_recorded h)) l)) same ∙ counted held_recorded p items)) in
     subst (λ (c : Contents). AreSoMany (IsOfKind c.records) n) view (subst (λ (k : ℕ). AreSoMany (IsOfKind rs) k) count (law rs (held_apart root rs board.held)))
 
 -- the nodes
-pub nodes_counted : (b : Contents) (root : Packed) (items : List Holding) (n m k : ℕ) → (record { root = root; records = map held_recorded items }) ≡ b
+pub nodes_counted : (b : Contents) (root : Packed) (items : List Kept) (n m k : ℕ) → (record { root = root; records = map held_recorded items }) ≡ b
     → n ≡ length items + k → m ≡ k → n ≡ length b.records + m
 nodes_counted b root items n m k view is same =
     let count : length b.records ≡ length items = ap (λ (c : Contents). length c.records) (sym view) ∙ length-map items held_recorded in
     omega (arith, count, is, same)
 
 -- the greatest count, as the code finds it
-pub greatest_counted : (b : Contents) (root : Packed) (items lent : List Holding) (o : Option ℕ) → (record { root = root; records = map held_recorded items }) ≡ b → lent ≡ items
+pub greatest_counted : (b : Contents) (root : Packed) (items lent : List Kept) (o : Option ℕ) → (record { root = root; records = map held_recorded items }) ≡ b → lent ≡ items
     → IsBoard (record { root = root; records = map held_recorded items }) → o ≡ greatest (map held_recorded lent) → IsGreatestCount b.records o
 greatest_counted b root items lent o view same board is =
     let rs = map held_recorded items in
-    let found : greatest rs ≡ o = sym (is ∙ ap (λ (l : List Holding). greatest (map held_recorded l)) same) in
+    let found : greatest rs ≡ o = sym (is ∙ ap (λ (l : List Kept). greatest (map held_recorded l)) same) in
     subst (λ (c : Contents). IsGreatestCount c.records o) view (subst (IsGreatestCount rs) found (greatest_count rs (held_apart root rs board.held)))
 
 -- what is so of a value by two clauses is so of it in an answer
@@ -129,30 +128,30 @@ if_both (Ok t) f p q = f t p q
 if_both (Err e) f p q = tt
 
 -- the champions, as the code lists them
-champions_listed : (best : ℕ) (xs : List Holding) → filter_map (λ (h : Holding). champion_table best (held_recorded h)) xs ≡ map (λ (r : Recorded). r.table) (filter (is_champion best) (map held_recorded xs))
+champions_listed : (best : ℕ) (xs : List Kept) → filter_map (λ (h : Kept). champion_table best (held_recorded h)) xs ≡ map (λ (r : Recorded). r.table) (filter (is_champion best) (map held_recorded xs))
 champions_listed best [] = refl
 champions_listed best (x ∷ xs) =
     let later = champions_listed best xs in
     elim (steps_of (shown_by (held_recorded x).claim)) as (λ o. steps_of (shown_by (held_recorded x).claim) ≡ o
-    → filter_map (λ (h : Holding). champion_table best (held_recorded h)) (x ∷ xs) ≡ map (λ (r : Recorded). r.table) (filter (is_champion best) (map held_recorded (x ∷ xs)))) [
+    → filter_map (λ (h : Kept). champion_table best (held_recorded h)) (x ∷ xs) ≡ map (λ (r : Recorded). r.table) (filter (is_champion best) (map held_recorded (x ∷ xs)))) [
       | None ↦ λ is. rw is later
       | Some k ↦ λ is. elim (nat_eq k best) as (λ v. nat_eq k best ≡ v
-          → filter_map (λ (h : Holding). champion_table best (held_recorded h)) (x ∷ xs) ≡ map (λ (r : Recorded). r.table) (filter (is_champion best) (map held_recorded (x ∷ xs)))) [
+          → filter_map (λ (h : Kept). champion_table best (held_recorded h)) (x ∷ xs) ≡ map (λ (r : Recorded). r.table) (filter (is_champion best) (map held_recorded (x ∷ xs)))) [
             | true ↦ λ same. rw (is, same) (ap (λ (l : List Packed). x.record.table ∷ l) later)
             | false ↦ λ other. rw (is, other) later
           ] refl
     ] refl
 
-pub all_champions : (b : Contents) (root : Packed) (items lent : List Holding) (best : ℕ) (xs ys : List Packed) → Below → OfTables → (record { root = root; records = map held_recorded items }) ≡ b → lent ≡ items
+pub all_champions : (b : Contents) (root : Packed) (items lent : List Kept) (best : ℕ) (xs ys : List Packed) → Below → OfTables → (record { root = root; records = map held_recorded items }) ≡ b → lent ≡ items
     → IsBoard (record { root = root; records = map held_recorded items })
-    → xs ≡ filter_map (λ (h : Holding). champion_table best (held_recorded h)) lent → IsPermutation xs ys → IsSorted table_cmp ys
+    → xs ≡ filter_map (λ (h : Kept). champion_table best (held_recorded h)) lent → IsPermutation xs ys → IsSorted table_cmp ys
     → AreAll (IsChampion b.records (Some best)) ys
 all_champions b root items lent best xs ys below laws view same board is permuted sorted =
     let rs = map held_recorded items in
     let apart = held_apart root rs board.held in
     let all = halts_listed best rs apart in
     let listed : xs ≡ map (λ (r : Recorded). r.table) (filter (is_champion best) rs) =
-    is ∙ (ap (λ (l : List Holding). filter_map (λ (h : Holding). champion_table best (held_recorded h)) l) same ∙ champions_listed best items) in
+    is ∙ (ap (λ (l : List Kept). filter_map (λ (h : Kept). champion_table best (held_recorded h)) l) same ∙ champions_listed best items) in
     subst (λ (c : Contents). AreAll (IsChampion c.records (Some best)) ys) view
     (all_sorted (IsChampion rs (Some best)) xs ys
     (λ t at. (all t).0 (subst (λ (l : List Packed). Contains l t) listed at))
@@ -174,14 +173,14 @@ one_greatest rs (Some r) None x y = absurd (y x.0.0 r x.0.1)
 one_greatest rs (Some r) (Some s) x y =
     let low : r ≤ s = y.1 x.0.0 r x.0.1 in let high : s ≤ r = x.1 y.0.0 s y.0.1 in ap (λ (n : ℕ). Some n) (omega arith)
 
-by_best : (b : Contents) (root : Packed) (items lent : List Holding) (xs ys : List Packed) (best : Option ℕ) → Below → OfTables → (record { root = root; records = map held_recorded items }) ≡ b → lent ≡ items
+by_best : (b : Contents) (root : Packed) (items lent : List Kept) (xs ys : List Packed) (best : Option ℕ) → Below → OfTables → (record { root = root; records = map held_recorded items }) ≡ b → lent ≡ items
     → IsBoard (record { root = root; records = map held_recorded items })
     → xs ≡ tables_with best lent → IsPermutation xs ys → IsSorted table_cmp ys → AreAll (IsChampion b.records best) ys
 by_best b root items lent xs ys None below laws view same board is permuted sorted = no_champions b.records xs ys is permuted
 by_best b root items lent xs ys (Some best) below laws view same board is permuted sorted = all_champions b root items lent best xs ys below laws view same board is permuted sorted
 
 -- so are those of the greatest
-pub best_champions : (b : Contents) (root : Packed) (items lent : List Holding) (xs ys : List Packed) → Below → OfTables → (record { root = root; records = map held_recorded items }) ≡ b → lent ≡ items
+pub best_champions : (b : Contents) (root : Packed) (items lent : List Kept) (xs ys : List Packed) → Below → OfTables → (record { root = root; records = map held_recorded items }) ≡ b → lent ≡ items
     → IsBoard (record { root = root; records = map held_recorded items })
     → xs ≡ tables_with (greatest (map held_recorded lent)) lent → IsPermutation xs ys → IsSorted table_cmp ys
     → (best : Option ℕ) → IsGreatestCount b.records best → AreAll (IsChampion b.records best) ys

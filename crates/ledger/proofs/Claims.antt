@@ -7,8 +7,8 @@ use Rattle.std.proofs.lemmas.Grind.{common_steps}
 use Rattle.machine_text.specs.Packed.{Packed}
 use Rattle.cert.specs.Claim.{Claim, Recorded}
 use Rattle.cert.specs.Kinds.{owned_claim}
-use Rattle.ledger.specs.Keeping.{held_recorded}
-use Rattle.ledger.specs.declared.holding.Holding.{Holding}
+use Rattle.ledger.specs.Inside.Keeping.{held_recorded}
+use Rattle.ledger.specs.declared.kept.Kept.{Kept}
 use Rattle.ledger.specs.Records.{same_table, claim_in}
 use Rattle.ledger.specs.Held.{settled}
 use Rattle.ledger.proofs.Same.{same_is, same_itself}
@@ -27,7 +27,7 @@ unfolding claim_in
 claim_none t = refl
 
 -- the first record for a table tells what is claimed of it
-claim_at : (xs : List Holding) (t : Packed) (i : ℕ) (d : Holding) → i < length xs → same_table (get_or xs i d).record.table t ≡ true
+claim_at : (xs : List Kept) (t : Packed) (i : ℕ) (d : Kept) → i < length xs → same_table (get_or xs i d).record.table t ≡ true
     → ((k : ℕ) → k < i → same_table (get_or xs k d).record.table t ≡ false)
     → claim_in (map held_recorded xs) t ≡ Some (owned_claim (get_or xs i d).record.certificate)
 claim_at [] t i d within here before = absurd (omega arith)
@@ -35,29 +35,29 @@ claim_at (x ∷ xs) t zero d within here before = claim_here (held_recorded x) (
 claim_at (x ∷ xs) t (suc i) d within here before =
     claim_past (held_recorded x) (map held_recorded xs) t (before 0 (omega arith)) ∙ claim_at xs t i d (omega arith) here (λ k below. before (suc k) (omega arith))
 
-no_claim_at : (xs : List Holding) (t : Packed) (d : Holding) → ((k : ℕ) → k < length xs → same_table (get_or xs k d).record.table t ≡ false)
+no_claim_at : (xs : List Kept) (t : Packed) (d : Kept) → ((k : ℕ) → k < length xs → same_table (get_or xs k d).record.table t ≡ false)
     → claim_in (map held_recorded xs) t ≡ None
 no_claim_at [] t d others = claim_none t
 no_claim_at (x ∷ xs) t d others =
     claim_past (held_recorded x) (map held_recorded xs) t (others 0 (omega arith)) ∙ no_claim_at xs t d (λ k below. others (suc k) (omega arith))
 
-pub found_table : (xs : List Holding) (t : Packed) (i : ℕ) (d : Holding) → position (λ (r : Holding). same_table r.record.table t) xs ≡ Some i → (i < length xs) × ((get_or xs i d).record.table ≡ t)
+pub found_table : (xs : List Kept) (t : Packed) (i : ℕ) (d : Kept) → position (λ (r : Kept). same_table r.record.table t) xs ≡ Some i → (i < length xs) × ((get_or xs i d).record.table ≡ t)
 found_table xs t i d found =
-    let at = position-Some (λ (r : Holding). same_table r.record.table t) xs i d found in (at.0, same_is (get_or xs i d).record.table t at.1)
+    let at = position-Some (λ (r : Kept). same_table r.record.table t) xs i d found in (at.0, same_is (get_or xs i d).record.table t at.1)
 
-pub found_claim : (xs : List Holding) (t : Packed) (i : ℕ) (d : Holding) → position (λ (r : Holding). same_table r.record.table t) xs ≡ Some i
+pub found_claim : (xs : List Kept) (t : Packed) (i : ℕ) (d : Kept) → position (λ (r : Kept). same_table r.record.table t) xs ≡ Some i
     → claim_in (map held_recorded xs) t ≡ Some (owned_claim (get_or xs i d).record.certificate)
 found_claim xs t i d found =
-    let at = position-Some (λ (r : Holding). same_table r.record.table t) xs i d found in claim_at xs t i d at.0 at.1 at.2
+    let at = position-Some (λ (r : Kept). same_table r.record.table t) xs i d found in claim_at xs t i d at.0 at.1 at.2
 
-none_passes : (p : Holding → Bool) (xs : List Holding) → position p xs ≡ None → length xs ≤ position_or_len p xs
+none_passes : (p : Kept → Bool) (xs : List Kept) → position p xs ≡ None → length xs ≤ position_or_len p xs
 none_passes p xs none = grind (arith, common_steps)
 
-pub found_no_claim : (xs : List Holding) (t : Packed) → position (λ (r : Holding). same_table r.record.table t) xs ≡ None
+pub found_no_claim : (xs : List Kept) (t : Packed) → position (λ (r : Kept). same_table r.record.table t) xs ≡ None
     → claim_in (map held_recorded xs) t ≡ None
 found_no_claim [] t none = claim_none t
 found_no_claim (x ∷ xs) t none =
-    let test : Holding → Bool = λ r. same_table r.record.table t in
+    let test : Kept → Bool = λ r. same_table r.record.table t in
     let past : length (x ∷ xs) ≤ position_or_len test (x ∷ xs) = none_passes test (x ∷ xs) none in
     no_claim_at (x ∷ xs) t x (λ k below. fails_before_first test (x ∷ xs) k x (omega arith))
 
@@ -99,7 +99,7 @@ settled_claim (x ∷ xs) r c is =
     ] refl
 
 -- writing at the place of the first record for its table settles
-settled_at_place : (xs : List Holding) (x : Holding) (i : ℕ) → i < length xs → same_table (get_or xs i x).record.table x.record.table ≡ true
+settled_at_place : (xs : List Kept) (x : Kept) (i : ℕ) → i < length xs → same_table (get_or xs i x).record.table x.record.table ≡ true
     → ((k : ℕ) → k < i → same_table (get_or xs k x).record.table x.record.table ≡ false)
     → map held_recorded (set xs i x) ≡ settled (map held_recorded xs) (held_recorded x)
 settled_at_place [] x i within here before = absurd (omega arith)
@@ -108,10 +108,10 @@ settled_at_place (y ∷ xs) x (suc i) within here before =
     ap (λ (l : List Recorded). held_recorded y ∷ l) (settled_at_place xs x i (omega arith) here (λ k below. before (suc k) (omega arith)))
     ∙ sym (settled_past (held_recorded y) (map held_recorded xs) (held_recorded x) (before 0 (omega arith)))
 
-pub settled_at : (xs : List Holding) (x : Holding) (i : ℕ) → position (λ (r : Holding). same_table r.record.table x.record.table) xs ≡ Some i
+pub settled_at : (xs : List Kept) (x : Kept) (i : ℕ) → position (λ (r : Kept). same_table r.record.table x.record.table) xs ≡ Some i
     → map held_recorded (set xs i x) ≡ settled (map held_recorded xs) (held_recorded x)
 settled_at xs x i found =
-    let at = position-Some (λ (r : Holding). same_table r.record.table x.record.table) xs i x found in settled_at_place xs x i at.0 at.1 at.2
+    let at = position-Some (λ (r : Kept). same_table r.record.table x.record.table) xs i x found in settled_at_place xs x i at.0 at.1 at.2
 
 settled_none : (rs : List Recorded) (r : Recorded) → claim_in rs r.table ≡ None → settled rs r ≡ rs
 unfolding settled
@@ -122,6 +122,6 @@ settled_none (x ∷ xs) r none =
       | false ↦ λ other. settled_past x xs r other ∙ ap (λ (l : List Recorded). x ∷ l) (settled_none xs r (sym (claim_past x xs r.table other) ∙ none))
     ] refl
 
-pub settled_nowhere : (xs : List Holding) (x : Holding) → position (λ (r : Holding). same_table r.record.table x.record.table) xs ≡ None
+pub settled_nowhere : (xs : List Kept) (x : Kept) → position (λ (r : Kept). same_table r.record.table x.record.table) xs ≡ None
     → map held_recorded xs ≡ settled (map held_recorded xs) (held_recorded x)
 settled_nowhere xs x none = sym (settled_none (map held_recorded xs) (held_recorded x) (found_no_claim xs x.record.table none))

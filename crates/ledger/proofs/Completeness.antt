@@ -13,8 +13,8 @@ use Rattle.cert.specs.Claim.{Claim, Recorded, Stands, shown_by}
 use Rattle.ledger.specs.Records.{claim_in, mark_in, mark_of, mark_by}
 use Rattle.ledger.specs.Contents.{Contents, IsBoard}
 use Rattle.ledger.specs.Tally.{IsGreatestCount, IsStatus}
-use Rattle.ledger.specs.declared.outcomes.Status.{Status}
-use Rattle.ledger.specs.declared.outcomes.Status.TheVariants.{Complete}
+use Rattle.ledger.specs.declared.status.Status.{Status}
+use Rattle.ledger.specs.declared.status.Status.TheVariants.{Complete}
 use Rattle.ledger.proofs.HeldLaws.{held_stands}
 use Rattle.ledger.proofs.OpenLaws.{recorded_in_tree}
 use Rattle.ledger.proofs.Taking.{Below}

@@ -6,7 +6,8 @@ use Rattle.machine_text.specs.Packed.{Packed, IsTable, entry_of}
 use Rattle.tree.specs.Closed.{Mark, Halting, Holdout, IsOpen}
 use Rattle.cert.specs.Claim.{Claim, Recorded, Stands, shown_by}
 use Rattle.ledger.specs.Records.{same_table, claim_in, mark_in, mark_of, verdict_in, shown_where}
-use Rattle.ledger.specs.Held.{IsCertified, IsFit, AreFitAfter, IsHeld, Settles, settled}
+use Rattle.ledger.specs.Held.{IsFit, AreFitAfter, IsHeld, Settles, settled}
+use Rattle.cert.specs.Certified.{IsCertified}
 use Rattle.ledger.proofs.Same.{same_is, not_same, apart}
 use Rattle.ledger.proofs.Claims.{claim_here, claim_past, claim_none, claim_kept, claim_more, settled_here, settled_past}
 

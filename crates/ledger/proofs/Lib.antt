@@ -12,7 +12,6 @@ pub mod Numbers
 pub mod TextOrder
 pub mod BoardLaws
 pub mod Completeness
-pub mod HaltingPairs
 pub mod Sets
 pub mod Lines
 pub mod HeaderLaws
@@ -21,3 +20,5 @@ pub mod Loads
 pub mod Appends
 pub mod Written
 pub mod Beginnings
+pub mod Agreement
+pub mod Longest

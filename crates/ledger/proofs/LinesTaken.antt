@@ -4,9 +4,9 @@ use Rattle.machine_text.specs.Packed.{Packed}
 use Rattle.cert.specs.Claim.{Recorded}
 use Rattle.cert.specs.Grammar.{record_of}
 use Rattle.ledger.specs.LedgerText.{HasNoNewline, BeginsWithLine, IsTaken, AreTaken, joined, IsUnkeptLine, IsUnkept, Keeps, HasHeader, header_words}
-use Rattle.ledger.specs.declared.loaded.Left.TheVariants.{Nothing, From}
-use Rattle.ledger.specs.declared.loaded.Unkept.{Unkept}
-use Rattle.ledger.specs.declared.loaded.Unkept.TheVariants.{Torn, Unread, Unfit, Repeated}
+use Rattle.ledger.specs.declared.left.Left.TheVariants.{Nothing, From}
+use Rattle.ledger.specs.declared.left.Unkept.{Unkept}
+use Rattle.ledger.specs.declared.left.Unkept.TheVariants.{Torn, Unread, Unfit, Repeated}
 
 -- one more line
 pub taken_more : (root : Packed) (old mid new : List Recorded) (lines : List (List ℕ)) (line : List ℕ) (r : Recorded) → AreTaken root old lines mid

@@ -12,7 +12,7 @@ use Rattle.tree.specs.Closed.{Mark, Halting, NonHalting, Holdout}
 use Rattle.cert.specs.Claim.{Claim, Recorded, shown_by}
 use Rattle.ledger.specs.Records.{claim_in, mark_in, mark_of, mark_by}
 use Rattle.ledger.specs.Held.{IsHoldout}
-use Rattle.ledger.specs.Counting.{is_undecided, is_halting, is_never, says_halts, says_never, is_champion, is_steps, steps_of, greater, greatest}
+use Rattle.ledger.specs.Inside.Counting.{is_undecided, is_halting, is_never, says_halts, says_never, is_champion, is_steps, steps_of, greater, greatest}
 use Rattle.ledger.specs.Tally.{AreSoMany, HaltsAfter, IsHalting, IsNonHalting, IsGreatestCount}
 use Rattle.ledger.proofs.OpenLaws.{stopping_verdict}
 use Rattle.ledger.proofs.Apart.{AreApart, first_or_later, later_member, first_member, claim_member, member_claim, chosen_from, chosen, chosen_once}

@@ -7,17 +7,17 @@ use Rattle.tree.specs.Closed.{IsVerdict, IsOpen}
 use Rattle.cert.specs.Claim.{Claim, Recorded, shown_by}
 use Rattle.ledger.specs.Records.{claim_in, mark_in, mark_of, mark_by}
 use Rattle.ledger.specs.Held.{IsFit, IsHoldout, Settles, settled}
-use Rattle.ledger.specs.Offers.{IsJudged, IsRefusal, OfferGives}
+use Rattle.ledger.specs.Offers.{IsJudged, OfferGives}
+use Rattle.ledger.specs.Inside.Places.{IsRefusal, IsPlace, place_by}
 use Rattle.ledger.specs.Contents.{Contents}
-use Rattle.ledger.specs.declared.holding.Holding.{Holding}
-use Rattle.ledger.specs.Keeping.{held_recorded}
-use Rattle.ledger.specs.Places.{IsPlace, place_by}
-use Rattle.ledger.specs.declared.places.Place.{Place}
-use Rattle.ledger.specs.declared.places.Place.TheVariants.{Open, Elsewhere}
-use Rattle.ledger.specs.declared.outcomes.Taken.{Taken}
-use Rattle.ledger.specs.declared.outcomes.Taken.TheVariants.{New, Settled}
-use Rattle.ledger.specs.declared.outcomes.OfferFault.{OfferFault}
-use Rattle.ledger.specs.declared.outcomes.OfferFault.TheVariants.{WrongSize, NotOpen, Refused as IsRefused, NoMemory}
+use Rattle.ledger.specs.declared.kept.Kept.{Kept}
+use Rattle.ledger.specs.Inside.Keeping.{held_recorded}
+use Rattle.ledger.specs.declared.place.Place.{Place}
+use Rattle.ledger.specs.declared.place.Place.TheVariants.{Open, Elsewhere}
+use Rattle.ledger.specs.declared.taken.Taken.{Taken}
+use Rattle.ledger.specs.declared.taken.Taken.TheVariants.{New, Settled}
+use Rattle.ledger.specs.declared.faults.OfferFault.{OfferFault}
+use Rattle.ledger.specs.declared.faults.OfferFault.TheVariants.{WrongSize, NotOpen, Refused as IsRefused, NoMemory}
 
 by_verdict : (v : Verdict) → IsVerdict (Some (mark_by (Some v)))
 by_verdict (Halts k) = tt
@@ -56,6 +56,6 @@ settle_gives root old new r (Ok t) holdout ok same refusal = subst (λ (x : Take
 settle_gives root old new r (Err f) holdout ok same refusal = refusal_gives root old new r f refusal (record { is = inr holdout }) same
 
 -- what the code looks at is what the board holds
-pub seen : (b : Contents) (root t : Packed) (items lent : List Holding) (o : Option Claim) → (record { root = root; records = map held_recorded items }) ≡ b → lent ≡ items → claim_in (map held_recorded lent) t ≡ o → claim_in b.records t ≡ o
+pub seen : (b : Contents) (root t : Packed) (items lent : List Kept) (o : Option Claim) → (record { root = root; records = map held_recorded items }) ≡ b → lent ≡ items → claim_in (map held_recorded lent) t ≡ o → claim_in b.records t ≡ o
 seen b root t items lent o view same is =
-    subst (λ (c : Contents). claim_in c.records t ≡ o) view (subst (λ (l : List Holding). claim_in (map held_recorded l) t ≡ o) same is)
+    subst (λ (c : Contents). claim_in c.records t ≡ o) view (subst (λ (l : List Kept). claim_in (map held_recorded l) t ≡ o) same is)

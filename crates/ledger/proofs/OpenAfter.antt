@@ -1,35 +1,17 @@
 -- What the code's set of open tables is once a record is taken.
-use Rattle.std.proofs.Common.{◌≡◌, ◌≢◌, ℕ, ◌≤◌, ◌⊎◌, inl, inr, ◌↔◌, Some, None, List, Option, Contains, IfSome, IfNone, option_map, IfOk, Result, Ok, Err, refl, sym, ◌∙◌, ap, subst, arith}
-use Rattle.machine_text.specs.Packed.{Packed, entry_of}
-use Rattle.turing.specs.Halting.{HaltsAt}
-use Rattle.run.specs.declared.limits.TheConstants.{MAX_RUN_STEPS}
+use Rattle.std.proofs.Common.{◌≡◌, ◌≢◌, ℕ, ◌⊎◌, inl, inr, ◌↔◌, Some, None, List, Option, Contains, IfSome, IfNone, option_map, IfOk, Result, Ok, Err, refl, sym, ◌∙◌, ap}
+use Rattle.machine_text.specs.Packed.{Packed}
 use Rattle.run.specs.declared.verdicts.Verdict.{Verdict}
 use Rattle.run.specs.declared.verdicts.Verdict.TheVariants.{Halts, Never}
-use Rattle.run.specs.Verdict.{IsTrueOf}
 use Rattle.tree.specs.Tables.{IsChildTable}
-use Rattle.cert.specs.Claim.{Claim, HaltsClaim, CycleClaim, TranslatedClaim, BackwardClaim, NoClaim, Recorded, IsWithin, shown_by}
+use Rattle.cert.specs.Claim.{Claim, Recorded, shown_by}
 use Rattle.tree.specs.Closed.{Halting}
 use Rattle.ledger.specs.Records.{claim_in, mark_of, mark_by}
 use Rattle.ledger.specs.Tally.{HaltsAfter, IsHalting}
 use Rattle.ledger.proofs.OpenLaws.{stopping_verdict}
-use Rattle.ledger.specs.Keeping.{HaltsOnPair, IsPairOf}
-use Rattle.ledger.specs.declared.pairs.Pair.{Pair}
-use Rattle.ledger.specs.Open.{HasUnrecorded}
-use Rattle.ledger.specs.Offers.{IsNewChild}
-
--- a halting claim within its limit is within that of a run
-pub halt_limit : (c : Claim) (k : ℕ) → shown_by c ≡ Some (Halts k) → IsWithin c → k ≤ MAX_RUN_STEPS
-halt_limit (HaltsClaim j) k is within = let same : j ≡ k = cc in omega arith
-halt_limit (CycleClaim i j) k is within = let never = is in absurd (cc)
-halt_limit (TranslatedClaim i j side) k is within = let never = is in absurd (cc)
-halt_limit (BackwardClaim d) k is within = let never = is in absurd (cc)
-halt_limit NoClaim k is within = let none = is in absurd (cc)
-
-pub halts_by : (o : Option Verdict) (p : Packed) (k : ℕ) → IfSome o (λ (v : Verdict). IsTrueOf v (entry_of p)) → o ≡ Some (Halts k) → HaltsAt (entry_of p) k
-halts_by o p k h is = subst (λ (x : Option Verdict). IfSome x (λ (v : Verdict). IsTrueOf v (entry_of p))) is h
-
-one_count : (k j : ℕ) (o : Option Verdict) → o ≡ Some (Halts k) → o ≡ Some (Halts j) → k ≡ j
-one_count k j o a b = cc
+use Rattle.cert.specs.Certified.{HaltsOnPair, IsPairOf}
+use Rattle.machine_text.specs.declared.transition.Pair.{Pair}
+use Rattle.ledger.specs.Inside.Open.{HasUnrecorded, IsNewChild}
 
 -- with a halting claim: what was open, and the unrecorded among the children
 pub after_halting : (rs : List Recorded) (r : Recorded) (k : ℕ) (found : List Packed) (q : Packed) (A B C : Type 0)

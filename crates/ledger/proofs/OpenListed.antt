@@ -5,7 +5,8 @@ use Rattle.std.specs.BTreeSet.{BTreeSet}
 use Rattle.machine_text.specs.Packed.{Packed}
 use Rattle.tree.specs.Closed.{IsOpen}
 use Rattle.ledger.specs.Records.{mark_in}
-use Rattle.ledger.specs.Contents.{Contents, IsOpenSet}
+use Rattle.ledger.specs.Contents.{Contents}
+use Rattle.ledger.specs.Inside.Open.{IsOpenSet}
 use Rattle.ledger.proofs.Sets.{listed_in_set}
 
 pub open_listed : (b held : Contents) (tables : BTreeSet Packed) (list : List Packed) → held ≡ b → IsOpenSet tables held → list ≡ tables.keys

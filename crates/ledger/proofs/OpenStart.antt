@@ -5,8 +5,8 @@ use Rattle.machine_text.specs.Packed.{Packed, IsTable, entry_of}
 use Rattle.tree.specs.Closed.{IsOpen}
 use Rattle.tree.specs.Used.{InOrder}
 use Rattle.ledger.specs.Records.{mark_in, mark_of}
-use Rattle.ledger.specs.Open.{table_cmp}
-use Rattle.ledger.specs.Contents.{IsBoard, IsOpenSet}
+use Rattle.ledger.specs.Inside.Open.{table_cmp, IsOpenSet}
+use Rattle.ledger.specs.Contents.{IsBoard}
 use Rattle.ledger.proofs.Claims.{claim_none}
 
 open_at_start : (root t : Packed) → (t ≡ root) ↔ IsOpen root (mark_in []) t

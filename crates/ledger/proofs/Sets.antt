@@ -14,7 +14,7 @@ use Rattle.std.specs.BTreeSet.{BTreeSet, contains}
 use Rattle.std.specs.BTreeMap.{is_at}
 use Rattle.std.proofs.lemmas.Map.Lookups.{exact_bytes, exact_unsigned}
 use Rattle.machine_text.specs.Packed.{Packed}
-use Rattle.ledger.specs.Open.{table_cmp, HasUnrecorded}
+use Rattle.ledger.specs.Inside.Open.{table_cmp, HasUnrecorded}
 
 -- the order of tables tells them apart
 then_equal : (a b : Ordering) → ordering_then a b ≡ Equal → (a ≡ Equal) × (b ≡ Equal)

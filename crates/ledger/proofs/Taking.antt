@@ -2,8 +2,8 @@
 use Rattle.std.proofs.Common.{◌≡◌, ◌≢◌, ℕ, List, [], ◌∷◌, ◌++◌, Some, None, option_map, IsSome, inl, inr, ◌⊎◌, ◌↔◌, IsTrue, refl, sym, ◌∙◌, ap, subst, map, length, take, drop, arith}
 use Rattle.std.proofs.lemmas.List.{map-append}
 use Rattle.std.proofs.lemmas.Grind.{common_steps}
-use Rattle.ledger.specs.declared.holding.Holding.{Holding}
-use Rattle.ledger.specs.Keeping.{held_recorded}
+use Rattle.ledger.specs.declared.kept.Kept.{Kept}
+use Rattle.ledger.specs.Inside.Keeping.{held_recorded}
 use Rattle.std.specs.BTreeSet.{BTreeSet, contains}
 use Rattle.machine_text.specs.Packed.{Packed, IsTable, entry_of}
 use Rattle.tree.specs.Used.{InOrder}
@@ -11,10 +11,10 @@ use Rattle.tree.specs.Closed.{IsOpen, Holdout}
 use Rattle.tree.specs.Tables.{IsChildTable, InTableTree}
 use Rattle.cert.specs.Claim.{Claim, Recorded, shown_by}
 use Rattle.ledger.specs.Records.{claim_in, mark_in, mark_of}
-use Rattle.ledger.specs.Held.{IsCertified, IsFit, IsHoldout, Settles, settled}
-use Rattle.ledger.specs.Open.{table_cmp}
-use Rattle.ledger.specs.Offers.{IsNewChild}
-use Rattle.ledger.specs.Contents.{Contents, IsBoard, IsOpenSet}
+use Rattle.ledger.specs.Held.{IsFit, IsHoldout, Settles, settled}
+use Rattle.cert.specs.Certified.{IsCertified}
+use Rattle.ledger.specs.Inside.Open.{table_cmp, IsNewChild, IsOpenSet}
+use Rattle.ledger.specs.Contents.{Contents, IsBoard}
 use Rattle.ledger.proofs.HeldLaws.{unmarked, held_more, held_settled}
 use Rattle.ledger.proofs.OpenLaws.{IsTaken, taken_new, taken_settled, open_taken, open_in_tree, recorded_in_tree}
 
@@ -80,7 +80,7 @@ board_settled root old new r tables after board exact settles is sets =
 abbrev pub Sets : (tables after : BTreeSet Packed) (rs : List Recorded) (r : Recorded) → Type 0
 Sets tables after rs r = (q : Packed) → IsTrue (contains table_cmp after q) ↔ ((IsTrue (contains table_cmp tables q) × (q ≢ r.table)) ⊎ IsNewChild rs r q)
 
-pub code_more : (b : Contents) (root : Packed) (items lent new : List Holding) (last : Holding) (r : Recorded) (tables after : BTreeSet Packed)
+pub code_more : (b : Contents) (root : Packed) (items lent new : List Kept) (last : Kept) (r : Recorded) (tables after : BTreeSet Packed)
     → (record { root = root; records = map held_recorded items }) ≡ b → lent ≡ items
     → IsBoard (record { root = root; records = map held_recorded items }) × IsOpenSet tables (record { root = root; records = map held_recorded items })
     → IsOpen b.root (mark_in b.records) r.table → IsCertified r → new ≡ items ++ (last ∷ []) → held_recorded last ≡ r
@@ -91,9 +91,9 @@ code_more b root items lent new last r tables after view same inv is_open certif
     let list : map held_recorded new ≡ map held_recorded items ++ (r ∷ []) =
     ap (map held_recorded) is ∙ (map-append held_recorded items (last ∷ []) ∙ ap (λ (x : Recorded). map held_recorded items ++ (x ∷ [])) copy) in
     board_more root (map held_recorded items) (map held_recorded new) r tables after inv.0 inv.1 here certified list
-    (subst (λ (l : List Holding). Sets tables after (map held_recorded l) r) same sets)
+    (subst (λ (l : List Kept). Sets tables after (map held_recorded l) r) same sets)
 
-pub code_settled : (b : Contents) (root : Packed) (items lent lent_mut new : List Holding) (last : Holding) (r : Recorded) (tables after : BTreeSet Packed)
+pub code_settled : (b : Contents) (root : Packed) (items lent lent_mut new : List Kept) (last : Kept) (r : Recorded) (tables after : BTreeSet Packed)
     → (record { root = root; records = map held_recorded items }) ≡ b → lent ≡ items → lent_mut ≡ items
     → IsBoard (record { root = root; records = map held_recorded items }) × IsOpenSet tables (record { root = root; records = map held_recorded items })
     → IsHoldout b.records r.table → IsSome (shown_by r.claim) → IsCertified r → map held_recorded new ≡ settled (map held_recorded lent_mut) (held_recorded last) → held_recorded last ≡ r
@@ -102,10 +102,10 @@ pub code_settled : (b : Contents) (root : Packed) (items lent lent_mut new : Lis
 code_settled b root items lent lent_mut new last r tables after view same same_mut inv holdout shown certified is copy sets =
     let here : IsHoldout (map held_recorded items) r.table = subst (λ (c : Contents). IsHoldout c.records r.table) (sym view) holdout in
     let list : map held_recorded new ≡ settled (map held_recorded items) r =
-    is ∙ (ap (λ (l : List Holding). settled (map held_recorded l) (held_recorded last)) same_mut ∙ ap (settled (map held_recorded items)) copy) in
+    is ∙ (ap (λ (l : List Kept). settled (map held_recorded l) (held_recorded last)) same_mut ∙ ap (settled (map held_recorded items)) copy) in
     board_settled root (map held_recorded items) (map held_recorded new) r tables after inv.0 inv.1 (record { is_holdout = here; verdict = shown; certified = certified }) list
-    (subst (λ (l : List Holding). Sets tables after (map held_recorded l) r) same sets)
+    (subst (λ (l : List Kept). Sets tables after (map held_recorded l) r) same sets)
 
 -- what is written back into a vector of the same length
-pub written_back : (items now new : List Holding) (n : ℕ) → n ≡ length items → now ≡ items → length new ≡ length now → take n (new ++ drop (length new) items) ≡ new
-written_back items now new n is same len = grind (arith, common_steps, ap (λ (l : List Holding). length l) same)
+pub written_back : (items now new : List Kept) (n : ℕ) → n ≡ length items → now ≡ items → length new ≡ length now → take n (new ++ drop (length new) items) ≡ new
+written_back items now new n is same len = grind (arith, common_steps, ap (λ (l : List Kept). length l) same)

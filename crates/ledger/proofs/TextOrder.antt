@@ -13,7 +13,7 @@ use Rattle.std.proofs.lemmas.Map.Made.{AllPairs-from_IsDistinct, IsDistinct-from
 use Rattle.machine_text.specs.Packed.{Packed, IsTable}
 use Rattle.machine_text.proofs.Order.{order_of_texts}
 use Rattle.ledger.specs.Records.{same_table}
-use Rattle.ledger.specs.Open.{table_cmp}
+use Rattle.ledger.specs.Inside.Open.{table_cmp}
 use Rattle.ledger.specs.Tally.{AreInTextOrder, AreAll}
 use Rattle.ledger.proofs.Same.{same_is, same_at}
 use Rattle.ledger.proofs.Sets.{exact_tables, tables_total}

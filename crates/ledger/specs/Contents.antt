@@ -1,13 +1,9 @@
 -- What a board holds: the root of its tree, and the records in their order.
-use Rattle.std.specs.Prelude.{ℕ, List, IsTrue, ◌↔◌}
-use Rattle.std.specs.BTreeSet.{BTreeSet, contains}
+use Rattle.std.specs.Prelude.{ℕ, List}
 use Rattle.machine_text.specs.Packed.{Packed, IsTable, entry_of}
 use Rattle.tree.specs.Used.{InOrder}
 use Rattle.cert.specs.Claim.{Recorded}
-use Rattle.tree.specs.Closed.{IsOpen}
-use Rattle.ledger.specs.Records.{mark_in}
 use Rattle.ledger.specs.Held.{IsHeld}
-use Rattle.ledger.specs.Open.{table_cmp}
 
 pub record Contents : Type 0 where
   pub root : Packed
@@ -18,7 +14,3 @@ pub record IsBoard (b : Contents) : Type 0 where
   pub is_table : IsTable b.root
   pub in_order : (u : ℕ) × InOrder u (entry_of b.root)
   pub held : IsHeld b.root b.records
-
--- a set of tables is that of the open ones
-pub record IsOpenSet (tables : BTreeSet Packed) (b : Contents) : Type 0 where
-  pub exact : (t : Packed) → IsTrue (contains table_cmp tables t) ↔ IsOpen b.root (mark_in b.records) t

@@ -1,8 +1,52 @@
--- The refusal number of a board that can't be made.
-use Rattle.std.specs.Prelude.{ℕ}
-use Rattle.ledger.specs.declared.outcomes.BoardFault.{BoardFault}
-use Rattle.ledger.specs.declared.outcomes.BoardFault.TheVariants.{NotInOrder, NoMemory}
+-- The refusal number of each fault, and the sentence that says it.
+use Rattle.std.specs.Prelude.{ℕ, List, codes}
+use Rattle.run.specs.declared.verdicts.Refused.TheVariants.{Fails, TooLong, TooWide, NoMemory as WantsMemory}
+use Rattle.run.specs.Verdict.{refused_number}
+use Rattle.cert.specs.Fault.{record_fault_text}
+use Rattle.ledger.specs.declared.faults.BoardFault.{BoardFault}
+use Rattle.ledger.specs.declared.faults.BoardFault.TheVariants.{NotInOrder, NoMemory as NoBoardMemory}
+use Rattle.ledger.specs.declared.faults.OfferFault.{OfferFault}
+use Rattle.ledger.specs.declared.faults.OfferFault.TheVariants.{WrongSize, NotOpen, Refused as IsRefused, NoMemory as NoOfferMemory}
+use Rattle.ledger.specs.declared.faults.LoadFault.{LoadFault}
+use Rattle.ledger.specs.declared.faults.LoadFault.TheVariants.{BadHeader, WrongRoot, NoMemory as NoLoadMemory}
+use Rattle.ledger.specs.declared.left.Unkept.{Unkept}
+use Rattle.ledger.specs.declared.left.Unkept.TheVariants.{Torn, Unread, Unfit, Repeated}
 
 abbrev pub board_fault_number : BoardFault → ℕ
 board_fault_number NotInOrder = 401
-board_fault_number NoMemory = 0
+board_fault_number NoBoardMemory = 0
+
+abbrev pub offer_fault_number : OfferFault → ℕ
+offer_fault_number NotOpen = 402
+offer_fault_number WrongSize = 403
+offer_fault_number (IsRefused f) = refused_number f
+offer_fault_number NoOfferMemory = 0
+
+abbrev pub load_fault_number : LoadFault → ℕ
+load_fault_number BadHeader = 404
+load_fault_number WrongRoot = 405
+load_fault_number NoLoadMemory = 0
+
+abbrev pub board_fault_text : BoardFault → List ℕ
+board_fault_text NotInOrder = codes "the root does not name its states in order"
+board_fault_text NoBoardMemory = codes "out of memory"
+
+abbrev pub offer_fault_text : OfferFault → List ℕ
+offer_fault_text WrongSize = codes "the table has another number of states than the root"
+offer_fault_text NotOpen = codes "the table is neither open nor a holdout"
+offer_fault_text (IsRefused Fails) = codes "the certificate does not stand for the table"
+offer_fault_text (IsRefused TooLong) = codes "the certificate asks for more than its limit"
+offer_fault_text (IsRefused TooWide) = codes "the certificate needs more paths at one depth than are kept"
+offer_fault_text (IsRefused WantsMemory) = codes "out of memory"
+offer_fault_text NoOfferMemory = codes "out of memory"
+
+abbrev pub load_fault_text : LoadFault → List ℕ
+load_fault_text BadHeader = codes "the first line is no header of a ledger"
+load_fault_text WrongRoot = codes "the ledger is of another root, or of one that does not name its states in order"
+load_fault_text NoLoadMemory = codes "out of memory"
+
+abbrev pub unkept_text : Unkept → List ℕ
+unkept_text Torn = codes "the line has no end"
+unkept_text (Unread fault) = record_fault_text fault
+unkept_text (Unfit fault) = offer_fault_text fault
+unkept_text Repeated = codes "the table is recorded already"

@@ -2,14 +2,9 @@
 use Rattle.std.specs.Prelude.{◌≡◌, if◌then◌else◌, List, [], ◌∷◌, ◌++◌, Some, IsSome}
 use Rattle.machine_text.specs.Packed.{Packed}
 use Rattle.tree.specs.Closed.{Holdout, IsOpen}
-use Rattle.cert.specs.Claim.{Recorded, IsWithin, IsWide, Stands, shown_by}
+use Rattle.cert.specs.Claim.{Recorded, shown_by}
+use Rattle.cert.specs.Certified.{IsCertified}
 use Rattle.ledger.specs.Records.{same_table, mark_in}
-
--- what is claimed stands, within the limits; where nothing is claimed nothing has to
-pub record IsCertified (r : Recorded) : Type 0 where
-  pub within : IsWithin r.claim
-  pub narrow : IsWide r.claim r.table → ⊥
-  pub stands : Stands r.claim r.table
 
 -- fit after earlier records: its table is open by them (the root, or a child of one recorded as halting, without a
 -- record of its own), and it is certified

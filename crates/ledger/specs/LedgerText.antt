@@ -9,14 +9,14 @@ use Rattle.cert.specs.Grammar.{record_of, record_text}
 use Rattle.ledger.specs.Contents.{Contents}
 use Rattle.ledger.specs.Held.{IsFit, Settles, settled}
 use Rattle.ledger.specs.Offers.{OfferGives}
-use Rattle.ledger.specs.declared.outcomes.Taken.TheVariants.{Known}
-use Rattle.ledger.specs.declared.outcomes.OfferFault.TheVariants.{NoMemory as OfferNoMemory}
-use Rattle.ledger.specs.declared.loaded.Left.{Left}
-use Rattle.ledger.specs.declared.loaded.Left.TheVariants.{Nothing, From}
-use Rattle.ledger.specs.declared.loaded.Unkept.{Unkept}
-use Rattle.ledger.specs.declared.loaded.Unkept.TheVariants.{Torn, Unread, Unfit, Repeated}
-use Rattle.ledger.specs.declared.loaded.LoadFault.{LoadFault}
-use Rattle.ledger.specs.declared.loaded.LoadFault.TheVariants.{BadHeader, WrongRoot, NoMemory}
+use Rattle.ledger.specs.declared.taken.Taken.TheVariants.{Known}
+use Rattle.ledger.specs.declared.faults.OfferFault.TheVariants.{NoMemory as OfferNoMemory}
+use Rattle.ledger.specs.declared.left.Left.{Left}
+use Rattle.ledger.specs.declared.left.Left.TheVariants.{Nothing, From}
+use Rattle.ledger.specs.declared.left.Unkept.{Unkept}
+use Rattle.ledger.specs.declared.left.Unkept.TheVariants.{Torn, Unread, Unfit, Repeated}
+use Rattle.ledger.specs.declared.faults.LoadFault.{LoadFault}
+use Rattle.ledger.specs.declared.faults.LoadFault.TheVariants.{BadHeader, WrongRoot, NoMemory}
 
 -- what a header begins with; the text of the root follows
 abbrev pub header_words : List ℕ
@@ -139,9 +139,3 @@ PeekGives text (Err NoMemory) = ⊥
 -- the text of a ledger
 unfoldable pub ledger_text : Packed → List Recorded → List ℕ
 ledger_text root rs = header_words ++ text_of root ++ (10 ∷ joined (map record_text rs))
-
--- the refusal number of each fault
-abbrev pub load_fault_number : LoadFault → ℕ
-load_fault_number BadHeader = 404
-load_fault_number WrongRoot = 405
-load_fault_number NoMemory = 0

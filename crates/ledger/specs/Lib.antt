@@ -1,14 +1,11 @@
 pub mod Records
 pub mod Held
-pub mod Counting
-pub mod Keeping
 pub mod Contents
-pub mod Open
 pub mod Offers
 pub mod Lent
 pub mod Tally
-pub mod Places
 pub mod Faults
 pub mod LedgerText
-pub mod HeaderRead
+pub mod Lists
 pub mod LedgerLaws
+pub mod Inside

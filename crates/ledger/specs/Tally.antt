@@ -9,9 +9,9 @@ use Rattle.tree.specs.Closed.{Halting, NonHalting, IsOpen, IsComplete}
 use Rattle.cert.specs.Claim.{Recorded}
 use Rattle.ledger.specs.Records.{mark_in}
 use Rattle.ledger.specs.Held.{IsHoldout}
-use Rattle.ledger.specs.declared.outcomes.Tally.{Tally}
-use Rattle.ledger.specs.declared.outcomes.Status.{Status}
-use Rattle.ledger.specs.declared.outcomes.Status.TheVariants.{Working, Holdouts, Complete}
+use Rattle.ledger.specs.declared.tally.Tally.{Tally}
+use Rattle.ledger.specs.declared.status.Status.{Status}
+use Rattle.ledger.specs.declared.status.Status.TheVariants.{Working, Holdouts, Complete}
 
 -- each text comes before the later ones, in the order of their bytes
 abbrev pub AreInTextOrder : List Packed → Type 0

@@ -1,23 +1,44 @@
 // What is true of all ledgers: laws over the definitions, each the contract of a function without a body.
-ghost use Rattle.std.specs.Prelude.{◌≡◌, ℕ, List, ◌++◌};
-ghost use Rattle.machine_text.specs.Packed.{Packed};
+ghost use Rattle.std.specs.Prelude.{◌≡◌, ℕ, List, [], ◌++◌};
+ghost use Rattle.machine_text.specs.Packed.{Packed, IsTable};
 ghost use Rattle.cert.specs.Claim.{Recorded};
-ghost use Rattle.ledger.specs.declared.loaded.Left.{Left as LeftOver};
-ghost use Rattle.ledger.specs.declared.loaded.Left.TheVariants.{Nothing};
+ghost use Rattle.ledger.specs.declared.left.Left.{Left as LeftOver};
+ghost use Rattle.ledger.specs.declared.left.Left.TheVariants.{Nothing};
 ghost use Rattle.ledger.specs.Contents.{IsBoard};
+ghost use Rattle.ledger.specs.Lists.{AreKept, Offer, AreOffered, answered, held as held_of};
 ghost use Rattle.ledger.specs.LedgerText.{HasHeader, ReadsAs, ledger_text};
-ghost use Rattle.ledger.specs.LedgerLaws.{ReadsAsFirst};
+ghost use Rattle.ledger.specs.LedgerLaws.{ReadsAsFirst, IsLongest};
 
-/// The ledger of a board stands for its records, and every byte of it is kept.
+/// After any list of offers to an empty board its records are those held of the fit ones among the offered
+/// records, but for those for which memory was refused.
+pub fn offers_are_held()
+    ensures { (root : Packed) (offers : List Offer) (rs : List Recorded) → IsTable root → AreOffered root [] offers rs →
+        (kept : List Recorded) × AreKept root [] (answered offers) kept × (rs ≡ held_of kept) }
+{}
+
+/// The ledger of a board reads as its records, and every byte of it is kept.
 pub fn ledgers_load_whole()
     ensures { (root : Packed) (rs : List Recorded) → IsBoard (record { root = root; records = rs }) →
         ReadsAs root (ledger_text root rs) rs Nothing }
 {}
 
-/// A beginning of a text that stands for records, cut anywhere behind its header, stands for the records
-/// of the first of its lines.
+/// A text reads as one root and one list of records only.
+pub fn ledgers_read_as_one()
+    ensures { (root other : Packed) (text : List ℕ) (rs others : List Recorded) (left more : LeftOver) → IsTable root →
+        ReadsAs root text rs left → ReadsAs other text others more → (root ≡ other) × (rs ≡ others) }
+{}
+
+/// The lines of a text that are kept are the longest list of whole lines behind its header of which each
+/// reads as a record that is fit in its turn.
+pub fn ledgers_read_longest()
+    ensures { (root : Packed) (text : List ℕ) (rs : List Recorded) (left : LeftOver) → IsTable root →
+        (reads : ReadsAs root text rs left) → IsLongest root reads.body reads.keeps.lines rs }
+{}
+
+/// A beginning of a text that reads as records, cut anywhere behind its header, reads as the records of the
+/// first of its lines.
 pub fn beginnings_load()
     ensures { (root : Packed) (text start tail body : List ℕ) (rs : List Recorded) (left : LeftOver) →
-        (stands : ReadsAs root text rs left) → text ≡ start ++ tail → HasHeader start root body →
-        ReadsAsFirst root start stands.keeps.lines }
+        (reads : ReadsAs root text rs left) → text ≡ start ++ tail → HasHeader start root body →
+        ReadsAsFirst root start reads.keeps.lines }
 {}

@@ -8,25 +8,33 @@
 //! for which records a text stands, also where it is cut or spoilt.
 #![tactic(auto)]
 
-mod boards;
-mod headers;
-mod holding;
+mod board;
+mod children;
+mod counts;
+mod faults;
+mod header;
+mod index;
+mod kept;
 mod laws;
-mod listing;
-mod loaded;
-mod loading;
-mod looking;
-mod opening;
-mod outcomes;
-mod pairs;
-mod places;
-mod preparing;
-mod storing;
-mod tallies;
+mod left;
+mod loader;
+mod open_tables;
+mod place;
+mod prepared;
+mod records;
+mod status;
+mod taken;
+mod tally;
+mod writer;
 
-pub use boards::{Board, Champions, Holdouts, Open};
-pub use headers::peek_root;
-pub use laws::{beginnings_load, ledgers_load_whole};
-pub use listing::Records;
-pub use loaded::{Left, LoadFault, Unkept};
-pub use outcomes::{BoardFault, OfferFault, Status, Taken, Tally};
+pub use board::{Board, Champions, Holdouts, Open};
+pub use faults::{BoardFault, LoadFault, OfferFault};
+pub use header::peek_root;
+pub use laws::{
+    beginnings_load, ledgers_load_whole, ledgers_read_as_one, ledgers_read_longest, offers_are_held,
+};
+pub use left::{Left, Unkept};
+pub use records::Records;
+pub use status::Status;
+pub use taken::Taken;
+pub use tally::Tally;

@@ -1,7 +1,7 @@
 use Rattle.std.proofs.Common.{◌≡◌, ◌+◌, ◌-◌, ◌∷◌, eqb, length, take, drop, ap, sym, ◌∙◌, length-drop, arith}
 use Rattle.std.proofs.lemmas.List.{take_all}
 use Rattle.cert.specs.Grammar.{parts_of}
-use Rattle.cert.specs.PartsLeft.{parts_left}
+use Rattle.cert.specs.Inside.{parts_left}
 use Rattle.cert.proofs.Cuts.{cut_at, cut_nowhere}
 use Rattle.cert.proofs.parts.Parts.next.Goals as goal
 

@@ -1,0 +1,35 @@
+-- When a record is certified, why its certificate is refused, and the pair on which its table halts.
+use Rattle.std.specs.Prelude.{◌≡◌, ℕ, ◌<◌, Option, Some, None}
+use Rattle.machine_text.specs.Packed.{Packed, entry_of}
+use Rattle.machine_text.specs.declared.transition.Pair.{Pair}
+use Rattle.turing.specs.Halting.{HaltsOn}
+use Rattle.run.specs.declared.verdicts.Verdict.{Verdict}
+use Rattle.run.specs.declared.verdicts.Verdict.TheVariants.{Halts, Never}
+use Rattle.run.specs.declared.verdicts.Refused.{Refused}
+use Rattle.run.specs.declared.verdicts.Refused.TheVariants.{Fails, TooLong, TooWide, NoMemory}
+use Rattle.cert.specs.Claim.{Recorded, IsWithin, IsWide, Stands}
+
+-- what is claimed stands, within the limits; where nothing is claimed nothing has to
+pub record IsCertified (r : Recorded) : Type 0 where
+  pub within : IsWithin r.claim
+  pub narrow : IsWide r.claim r.table → ⊥
+  pub stands : Stands r.claim r.table
+
+-- why a claim is refused: it doesn't stand, it asks for more than its limit, or for more paths than may be kept
+abbrev pub IsRefusedBy : Refused → Recorded → Type 0
+IsRefusedBy Fails r = IsWithin r.claim × (IsWide r.claim r.table → ⊥) × (Stands r.claim r.table → ⊥)
+IsRefusedBy TooLong r = IsWithin r.claim → ⊥
+IsRefusedBy TooWide r = IsWithin r.claim × IsWide r.claim r.table
+IsRefusedBy NoMemory r = ⊥
+
+-- the table halts in so many steps, on this pair of one of its states and a symbol
+pub record HaltsOnPair (t : Packed) (k : ℕ) (pair : Pair) : Type 0 where
+  pub inside : pair.state.0 < t.states
+  pub halts : HaltsOn (entry_of t) k pair.state.0 pair.symbol
+
+-- with the verdict that a table halts comes the pair on which it does, with another none
+abbrev pub IsPairOf : Option Verdict → Packed → Option Pair → Type 0
+IsPairOf (Some (Halts k)) t (Some pair) = HaltsOnPair t k pair
+IsPairOf (Some (Halts k)) t None = ⊥
+IsPairOf (Some Never) t pair = pair ≡ None
+IsPairOf None t pair = pair ≡ None

@@ -1,0 +1,133 @@
+// Records as they are written.
+ghost use Rattle.std.specs.Prelude.{◌≡◌, ◌<◌, ◌^◌, ◌++◌, take, drop, length, decimal, codes, Ok, OnOk, OnErr};
+ghost use Rattle.machine_text.specs.Packed.{IsTable};
+ghost use Rattle.cert.specs.Claim.{IsWritable};
+ghost use Rattle.cert.specs.Grammar.{record_of, record_text, claim_text, side_text};
+ghost use Rattle.cert.specs.Kinds.{recorded, claim_of};
+
+use crate::certificate::Certificate;
+use crate::laws::records_parse_back;
+use crate::record::Record;
+use itoa::Buffer;
+use machine_text::{Dir, TEXT_BYTES};
+use run::NoMemory;
+
+impl Record {
+    /// Appends the record's text, which reads back as the record. Where memory is refused, `out` is as it
+    /// was.
+    pub fn write_text(&self, out: &mut Vec<u8>) -> Result<(), NoMemory>
+        ensures ok { OnOk result (out.new.items ≡ out.old.items ++ record_text (recorded self.now)) }
+        ensures reads_back { OnOk result (record_of (drop (length out.old.items) out.new.items) ≡ Ok (recorded self.now)) }
+        ensures err { OnErr result (out.new.items ≡ out.old.items) }
+    {
+        records_parse_back();
+        self.has_text();
+        let len = out.len();
+        match self.append_text(out) {
+            Ok(()) => Ok(()),
+            Err(fault) => {
+                out.truncate(len);
+                Err(fault)
+            }
+        }
+    }
+
+    // The table is one, and each number has 64 bits: so the record has a text that reads back.
+    fn has_text(&self)
+        ensures table { IsTable self.now.table }
+        ensures numbers { IsWritable (claim_of self.now.certificate) }
+    {
+        let _ = self.table.states();
+        match self.certificate {
+            Certificate::Halts(evidence) => has_64_bits(evidence.0),
+            Certificate::Cycle(evidence) => have_64_bits(evidence.i, evidence.j),
+            Certificate::Translated(evidence) => have_64_bits(evidence.i, evidence.j),
+            Certificate::Backward(evidence) => has_64_bits(evidence.depth),
+            Certificate::Undecided => {}
+        }
+    }
+
+    // Appends the text; where memory is refused, a beginning of it.
+    #[tactic(auto, unfolding(crate::specs::Grammar::record_text))]
+    fn append_text(&self, out: &mut Vec<u8>) -> Result<(), NoMemory>
+        ensures ok { OnOk result (out.new.items ≡ out.old.items ++ record_text (recorded self.now)) }
+        ensures kept { take (length out.old.items) out.new.items ≡ out.old.items }
+    {
+        let mut buf = [0; TEXT_BYTES];
+        let table = self.table.text(&mut buf);
+        out.extend_from_slice(table)?;
+        out.extend_from_slice(b" ")?;
+        append_claim(&self.certificate, out)
+    }
+}
+
+// A number of the code has 64 bits.
+fn has_64_bits(number: u64)
+    ensures { number < 2 ^ 64 }
+{
+    let _ = number;
+}
+
+// So have two.
+fn have_64_bits(first: u64, second: u64)
+    ensures { (first < 2 ^ 64) × (second < 2 ^ 64) }
+{
+    has_64_bits(first);
+    has_64_bits(second);
+}
+
+// Appends the text of a certificate, from its kind on; where memory is refused, a beginning of it.
+fn append_claim(c: &Certificate, out: &mut Vec<u8>) -> Result<(), NoMemory>
+    ensures ok { OnOk result (out.new.items ≡ out.old.items ++ claim_text (claim_of c.now)) }
+    ensures kept { take (length out.old.items) out.new.items ≡ out.old.items }
+{
+    match c {
+        Certificate::Halts(evidence) => {
+            out.extend_from_slice(b"H ")?;
+            append_number(evidence.0, out)
+        }
+        Certificate::Cycle(evidence) => {
+            out.extend_from_slice(b"C ")?;
+            append_times(evidence.i, evidence.j, out)
+        }
+        Certificate::Translated(evidence) => {
+            out.extend_from_slice(b"T ")?;
+            append_times(evidence.i, evidence.j, out)?;
+            out.extend_from_slice(b" ")?;
+            out.extend_from_slice(side_text(evidence.side))
+        }
+        Certificate::Backward(evidence) => {
+            out.extend_from_slice(b"B ")?;
+            append_number(evidence.depth, out)
+        }
+        Certificate::Undecided => out.extend_from_slice(b"U"),
+    }
+}
+
+// Appends two times.
+fn append_times(i: u64, j: u64, out: &mut Vec<u8>) -> Result<(), NoMemory>
+    ensures ok { OnOk result (out.new.items ≡ out.old.items ++ decimal i ++ codes " " ++ decimal j) }
+    ensures kept { take (length out.old.items) out.new.items ≡ out.old.items }
+{
+    append_number(i, out)?;
+    out.extend_from_slice(b" ")?;
+    append_number(j, out)
+}
+
+fn side_text(side: Dir) -> &'static [u8]
+    ensures { result.now ≡ side_text side }
+{
+    match side {
+        Dir::L => b"L",
+        Dir::R => b"R",
+    }
+}
+
+// Appends a number.
+fn append_number(n: u64, out: &mut Vec<u8>) -> Result<(), NoMemory>
+    ensures ok { OnOk result (out.new.items ≡ out.old.items ++ decimal n) }
+    ensures err { OnErr result (out.new.items ≡ out.old.items) }
+{
+    let mut buffer = Buffer::new();
+    out.extend_from_slice(buffer.format(n).as_bytes())
+}

@@ -1,0 +1,5 @@
+use Rattle.ledger.proofs.Longest.{longest}
+use Rattle.ledger.proofs.laws.ledgers_read_longest.Goals as goal
+
+pub returns : goal.returns
+returns c = longest

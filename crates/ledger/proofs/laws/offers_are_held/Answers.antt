@@ -1,0 +1,5 @@
+use Rattle.ledger.proofs.Longest.{offers_are_held}
+use Rattle.ledger.proofs.laws.offers_are_held.Goals as goal
+
+pub returns : goal.returns
+returns c = offers_are_held

@@ -1,0 +1,11 @@
+use Rattle.std.proofs.Common.{◌≡◌, ◌++◌, map, take, length}
+use Rattle.cert.specs.Grammar.{record_text}
+use Rattle.ledger.specs.LedgerText.{joined}
+use Rattle.ledger.proofs.writer.append_records.Given as goal
+
+-- what is written, and the lines that are left, are what will be written
+abbrev pub invariant-loop-r : goal.invariant-loop-r
+invariant-loop-r l = record {
+  whole : l.out.items ++ joined (map record_text l.r-iterator) ≡ l.fn.out.items ++ joined (map record_text l.fn.records);
+  kept : take (length l.fn.out.items) l.out.items ≡ l.fn.out.items;
+}

@@ -1,0 +1,6 @@
+-- What only the code of this crate needs.
+pub mod Counting
+pub mod Keeping
+pub mod Open
+pub mod Places
+pub mod HeaderRead

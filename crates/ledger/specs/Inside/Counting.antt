@@ -1,0 +1,62 @@
+-- For the code: counts along lists of records.
+use Rattle.std.specs.Prelude.{ℕ, Bool, true, false, nat_lt, nat_eq, if◌then◌else◌, List, Option, Some, None, fold}
+use Rattle.std.specs.Option.{is_none}
+use Rattle.machine_text.specs.Packed.{Packed}
+use Rattle.run.specs.declared.verdicts.Verdict.{Verdict}
+use Rattle.run.specs.declared.verdicts.Verdict.TheVariants.{Halts, Never}
+use Rattle.cert.specs.Claim.{Recorded, shown_by}
+
+-- a record without a verdict
+abbrev pub is_undecided : Recorded → Bool
+is_undecided r = is_none (shown_by r.claim)
+
+abbrev pub undecided_table : Recorded → Option Packed
+undecided_table r = if is_undecided r then Some r.table else None
+
+-- a verdict that a table halts, and one that it never does
+abbrev pub says_halts : Option Verdict → Bool
+says_halts None = false
+says_halts (Some (Halts k)) = true
+says_halts (Some Never) = false
+
+abbrev pub says_never : Option Verdict → Bool
+says_never None = false
+says_never (Some (Halts k)) = false
+says_never (Some Never) = true
+
+abbrev pub is_halting : Recorded → Bool
+is_halting r = says_halts (shown_by r.claim)
+
+abbrev pub is_never : Recorded → Bool
+is_never r = says_never (shown_by r.claim)
+
+-- the number of steps of a verdict that a table halts
+abbrev pub steps_of : Option Verdict → Option ℕ
+steps_of None = None
+steps_of (Some (Halts k)) = Some k
+steps_of (Some Never) = None
+
+-- the table of a record of so many steps
+abbrev pub champion_by : ℕ → Option ℕ → Packed → Option Packed
+champion_by best None t = None
+champion_by best (Some k) t = if nat_eq k best then Some t else None
+
+abbrev pub champion_table : ℕ → Recorded → Option Packed
+champion_table best r = champion_by best (steps_of (shown_by r.claim)) r.table
+
+abbrev pub is_steps : ℕ → Option ℕ → Bool
+is_steps best None = false
+is_steps best (Some k) = nat_eq k best
+
+abbrev pub is_champion : ℕ → Recorded → Bool
+is_champion best r = is_steps best (steps_of (shown_by r.claim))
+
+-- the greater of two numbers of which either may be missing
+abbrev pub greater : Option ℕ → Option ℕ → Option ℕ
+greater None b = b
+greater (Some a) None = Some a
+greater (Some a) (Some b) = if nat_lt a b then Some b else Some a
+
+-- the greatest number of steps of the records that say that their table halts
+abbrev pub greatest : List Recorded → Option ℕ
+greatest rs = fold (λ best r. greater best (steps_of (shown_by r.claim))) None rs

@@ -1,0 +1,35 @@
+-- For the code: sets of tables, and which a board's open ones are.
+use Rattle.std.specs.Prelude.{◌≡◌, ◌≢◌, ◌↔◌, ℕ, List, Contains, None, Some, IsTrue}
+use Rattle.std.specs.BTreeSet.{BTreeSet, contains}
+use Rattle.std.specs.Ordering.{nat_cmp, ordering_then}
+use Rattle.std.specs.declared.cmp.Ordering.{Ordering}
+use Rattle.std.specs.Cmp.Lexicographic.{slice_cmp}
+use Rattle.machine_text.specs.Packed.{Packed}
+use Rattle.run.specs.declared.verdicts.Verdict.TheVariants.{Halts}
+use Rattle.tree.specs.Closed.{IsOpen}
+use Rattle.tree.specs.Tables.{IsChildTable}
+use Rattle.cert.specs.Claim.{Recorded, shown_by}
+use Rattle.ledger.specs.Records.{claim_in, mark_in}
+use Rattle.ledger.specs.Contents.{Contents}
+
+-- the order of tables: that of their texts
+abbrev pub table_cmp : Packed → Packed → Ordering
+table_cmp a b = ordering_then (slice_cmp nat_cmp a.codes b.codes) (nat_cmp a.states b.states)
+
+-- a table of the list that has no record and isn't the parent
+pub record HasUnrecorded (found : List Packed) (rs : List Recorded) (parent t : Packed) : Type 0 where
+  pub listed : Contains found t
+  pub unrecorded : claim_in rs t ≡ None
+  pub other : t ≢ parent
+
+-- a set of tables is that of the open ones
+pub record IsOpenSet (tables : BTreeSet Packed) (b : Contents) : Type 0 where
+  pub exact : (t : Packed) → IsTrue (contains table_cmp tables t) ↔ IsOpen b.root (mark_in b.records) t
+
+-- a child of the record's table, by its halting, that has no record itself
+pub record IsNewChild (rs : List Recorded) (r : Recorded) (t : Packed) : Type 0 where
+  pub count : ℕ
+  pub halts : shown_by r.claim ≡ Some (Halts count)
+  pub child : IsChildTable r.table t
+  pub unrecorded : claim_in rs t ≡ None
+  pub other : t ≢ r.table

@@ -1,0 +1,33 @@
+-- For the code: where an offered record stands, and why it isn't taken.
+use Rattle.std.specs.Prelude.{List, Option, Some, None, IsSome}
+use Rattle.machine_text.specs.Packed.{Packed}
+use Rattle.run.specs.declared.verdicts.Verdict.{Verdict}
+use Rattle.tree.specs.Closed.{IsOpen}
+use Rattle.cert.specs.Claim.{Recorded, shown_by}
+use Rattle.ledger.specs.Records.{mark_in}
+use Rattle.ledger.specs.Held.{IsHoldout}
+use Rattle.ledger.specs.Offers.{IsKnown, IsElsewhere}
+use Rattle.cert.specs.Certified.{IsRefusedBy}
+use Rattle.ledger.specs.declared.faults.OfferFault.{OfferFault}
+use Rattle.ledger.specs.declared.faults.OfferFault.TheVariants.{WrongSize, NotOpen, Refused as IsRefused, NoMemory}
+use Rattle.ledger.specs.declared.place.Place.{Place}
+use Rattle.ledger.specs.declared.place.Place.TheVariants.{Known, Open, Holdout, Elsewhere}
+
+abbrev pub IsPlace : Packed → List Recorded → Recorded → Place → Type 0
+IsPlace root rs r Known = IsKnown rs r
+IsPlace root rs r Open = IsOpen root (mark_in rs) r.table
+IsPlace root rs r Holdout = IsHoldout rs r.table × IsSome (shown_by r.claim)
+IsPlace root rs r Elsewhere = IsElsewhere root rs r.table
+
+-- by the verdict that is held and the one that is offered
+abbrev pub place_by : Option Verdict → Option Verdict → Place
+place_by (Some v) offered = Known
+place_by None (Some v) = Holdout
+place_by None None = Known
+
+-- why a record that is judged isn't taken: its claim is refused, or memory
+abbrev pub IsRefusal : OfferFault → Recorded → Type 0
+IsRefusal WrongSize r = ⊥
+IsRefusal NotOpen r = ⊥
+IsRefusal (IsRefused f) r = IsRefusedBy f r
+IsRefusal NoMemory r = Unit {0}

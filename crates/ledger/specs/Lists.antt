@@ -1,0 +1,68 @@
+-- Lists of records, in order: which of them are fit in their turn, and what is held of them in the end.
+use Rattle.std.specs.Prelude.{◌≡◌, ◌≢◌, ℕ, ◌⊎◌, if◌then◌else◌, List, [], ◌∷◌, ◌++◌, Contains, Some, None, Result, Ok, Err, fold}
+use Rattle.machine_text.specs.Packed.{Packed}
+use Rattle.run.specs.declared.verdicts.Verdict.TheVariants.{Halts}
+use Rattle.tree.specs.Tables.{IsChildTable}
+use Rattle.cert.specs.Claim.{Recorded, shown_by}
+use Rattle.cert.specs.Certified.{IsCertified}
+use Rattle.cert.specs.Grammar.{record_of}
+use Rattle.ledger.specs.Records.{same_table}
+use Rattle.ledger.specs.Offers.{OfferGives}
+use Rattle.ledger.specs.LedgerText.{HasNoNewline}
+use Rattle.ledger.specs.declared.taken.Taken.{Taken}
+use Rattle.ledger.specs.declared.faults.OfferFault.{OfferFault}
+use Rattle.ledger.specs.declared.faults.OfferFault.TheVariants.{NoMemory}
+
+-- the root, or a child of the table of an earlier record that says that it halts
+abbrev pub HasPlace : Packed → List Recorded → Packed → Type 0
+HasPlace root earlier t =
+    (t ≡ root) ⊎ ((p : Recorded) × (k : ℕ) × Contains earlier p × (shown_by p.claim ≡ Some (Halts k)) × IsChildTable p.table t)
+
+-- fit after earlier fit records: its table has a place; none of them gives it a verdict, and where the record itself has
+-- none, none of them is of its table; and it is certified
+pub record IsFitAfter (root : Packed) (earlier : List Recorded) (r : Recorded) : Type 0 where
+  pub place : HasPlace root earlier r.table
+  pub no_verdict : (e : Recorded) → Contains earlier e → e.table ≡ r.table → shown_by e.claim ≡ None
+  pub not_again : shown_by r.claim ≡ None → (e : Recorded) → Contains earlier e → e.table ≢ r.table
+  pub certified : IsCertified r
+
+-- with the fit records of a list, each of which is fit after those before it, the earlier ones are these
+abbrev pub AreKept : Packed → List Recorded → List Recorded → List Recorded → Type 0
+AreKept root earlier [] kept = kept ≡ earlier
+AreKept root earlier (r ∷ rs) kept =
+    (IsFitAfter root earlier r × AreKept root (earlier ++ (r ∷ [])) rs kept) ⊎ ((IsFitAfter root earlier r → ⊥) × AreKept root earlier rs kept)
+
+-- the records with one more: in the place of that of its table, or last where there is none
+unfoldable pub placed : List Recorded → Recorded → List Recorded
+placed [] r = r ∷ []
+placed (x ∷ xs) r = if same_table x.table r.table then r ∷ xs else x ∷ placed xs r
+
+-- the records of a list, each that a later one settles replaced by that one
+abbrev pub held : List Recorded → List Recorded
+held kept = fold placed [] kept
+
+-- a record that is offered, and the answer
+pub record Offer : Type 0 where
+  pub offered : Recorded
+  pub answer : Result Taken OfferFault
+
+-- offers, one after another, make the records old into the records new
+abbrev pub AreOffered : Packed → List Recorded → List Offer → List Recorded → Type 0
+AreOffered root old [] new = new ≡ old
+AreOffered root old (o ∷ os) new = (mid : List Recorded) × OfferGives root old o.offered o.answer mid × AreOffered root mid os new
+
+-- the records of the offers for which memory wasn't refused
+abbrev pub answered_with : Recorded → Result Taken OfferFault → List Recorded → List Recorded
+answered_with r (Ok taken) rs = r ∷ rs
+answered_with r (Err NoMemory) rs = rs
+answered_with r (Err fault) rs = r ∷ rs
+
+abbrev pub answered : List Offer → List Recorded
+answered [] = []
+answered (o ∷ os) = answered_with o.offered o.answer (answered os)
+
+-- lines, each of which reads as a record that is fit in its turn; with them the earlier fit records are these
+abbrev pub AreFitLines : Packed → List Recorded → List (List ℕ) → List Recorded → Type 0
+AreFitLines root earlier [] kept = kept ≡ earlier
+AreFitLines root earlier (line ∷ lines) kept =
+    (r : Recorded) × HasNoNewline line × (record_of line ≡ Ok r) × IsFitAfter root earlier r × AreFitLines root (earlier ++ (r ∷ [])) lines kept

@@ -1,0 +1,291 @@
+// What a board holds.
+ghost use Rattle.std.specs.Prelude.{◌≡◌, ℕ, IfSome, IfOk, Err, ◌↔◌, ◌≤◌, Option, Some};
+ghost use Rattle.machine_text.specs.Packed.{entry_of, empty_table};
+ghost use Rattle.tree.specs.Used.{InOrder};
+ghost use Rattle.run.specs.Verdict.{IsTrueOf};
+ghost use Rattle.turing.specs.Halting.{IsRado, HaltsAt};
+ghost use Rattle.std.specs.Vec.Iter.{into_iter_items};
+ghost use Rattle.tree.specs.Tables.{IsBestOfTable, IsChildTable};
+ghost use Rattle.ledger.specs.Contents.{IsBoard};
+ghost use Rattle.ledger.specs.Inside.Places.{IsPlace};
+ghost use Rattle.ledger.specs.Tally.{AreAll, IsChampion, IsGreatestCount, IsHalting, IsStatus, IsTally};
+
+use crate::children::children_on;
+use crate::counts::{
+    champion_tables, count_halting, count_never, count_nodes, count_undecided, greatest_count,
+    sorted_tables, undecided_tables,
+};
+use crate::faults::{BoardFault, OfferFault};
+use crate::index::{certificate_for, pair_for, verdict_in};
+use crate::kept::Kept;
+use crate::open_tables::{count_of, listed, only};
+use crate::place::{Place, recorded_place};
+use crate::prepared::{append, prepare, put};
+use crate::records::Records;
+use crate::status::Status;
+use crate::taken::Taken;
+use crate::tally::Tally;
+use cert::{Record, standing_claims_are_true};
+use machine_text::{MAX_STATES, Table};
+use run::{NoMemory, Verdict};
+use std::alloc::Global;
+use std::collections::BTreeSet;
+use std::collections::btree_set::Iter;
+use std::marker::Model;
+use std::vec::IntoIter;
+use tnf::{Children, in_order};
+use tree::{best_of_closed, child_is_table, closed_tree, rado_of_complete};
+
+/// An iterator over the open tables of a board.
+pub type Open<'a> = Iter<'a, Table>;
+
+/// An iterator over the holdouts of a board.
+pub type Holdouts = IntoIter<Table>;
+
+/// An iterator over the champions of a board.
+pub type Champions = IntoIter<Table>;
+
+/// The records of a tree's tables, from the tree's root, in the order in which they were taken.
+#[derive(Drop)]
+pub struct Board {
+    alloc: Global,
+    root: Table,
+    records: Vec<Kept>,
+    // exactly the open tables
+    open_tables: BTreeSet<Table>,
+}
+
+impl Model for Board {
+    ghost use Rattle.std.specs.Prelude.{map};
+    ghost use Rattle.std.specs.List.{All};
+    ghost use Rattle.ledger.specs.Inside.Keeping.{held_recorded, KnowsPair};
+    ghost use Rattle.ledger.specs.Contents.{Contents, IsBoard};
+    ghost use Rattle.ledger.specs.Inside.Open.{IsOpenSet};
+
+    ghost Value = { Contents };
+
+    ghost view = { λ a. record { root = a.root; records = map held_recorded a.records.items } };
+
+    ghost invariant = { λ a. IsBoard (record { root = a.root; records = map held_recorded a.records.items })
+        × IsOpenSet a.open_tables (record { root = a.root; records = map held_recorded a.records.items })
+        × All KnowsPair a.records.items };
+}
+
+impl Board {
+    ghost use Rattle.std.specs.Prelude.{[], ◌∷◌, ◌++◌, OnOk, OnErr, IfErr, ◌⊎◌, IsSome};
+    ghost use Rattle.tree.specs.Closed.{IsOpen};
+    ghost use Rattle.cert.specs.Claim.{shown_by};
+    ghost use Rattle.cert.specs.Kinds.{claim_of, recorded};
+    ghost use Rattle.ledger.specs.Records.{mark_in, verdict_in};
+    ghost use Rattle.ledger.specs.Held.{IsFit, IsHoldout, Settles, settled};
+    ghost use Rattle.ledger.specs.Offers.{OfferGives};
+    ghost use Rattle.ledger.specs.Inside.Places.{IsRefusal};
+
+    /// A board of the tree of a root, without records. The root must name its states in order.
+    pub fn new(alloc: Global, root: Table) -> Result<Board, BoardFault>
+        ensures ok { IfOk result (λ board. board ≡ record { root = root; records = [] }) }
+        ensures in_order { IfOk result (λ board. (u : ℕ) × InOrder u (entry_of root)) }
+        ensures not_in_order { result ≡ Err BoardFault.NotInOrder → ((u : ℕ) × InOrder u (entry_of root)) → ⊥ }
+    {
+        let _ = root.states();
+        if !in_order(&root) {
+            return Err(BoardFault::NotInOrder);
+        }
+        let open_tables = only(alloc, root)?;
+        Ok(Board {
+            alloc,
+            root,
+            records: Vec::new(alloc),
+            open_tables,
+        })
+    }
+
+    /// The root of the tree. Whoever calls it knows that the board is one: its records are held from its root.
+    pub fn root(&self) -> &Table
+        ensures root { result.now ≡ self.now.root }
+        ensures board { IsBoard self.now }
+    {
+        &self.root
+    }
+
+    /// The records, lent, in their order.
+    pub fn records(&self) -> Records<'_>
+        ensures { result ≡ self.now.records }
+    {
+        Records::of(&self.records)
+    }
+
+    /// The open tables, in the order of their texts: the root or a child of a table recorded as halting,
+    /// without a record of its own.
+    pub fn open(&self) -> Open<'_>
+        ensures { AreAll (IsOpen self.now.root (mark_in self.now.records)) result }
+    {
+        child_is_table();
+        listed(&self.open_tables)
+    }
+
+    /// The holdouts, in the order of their texts: the tables whose record has no verdict.
+    pub fn holdouts(&self) -> Result<Holdouts, NoMemory>
+        ensures { IfOk result (λ found. AreAll (IsHoldout self.now.records) (into_iter_items found)) }
+    {
+        child_is_table();
+        let tables = undecided_tables(self.alloc, &self.records)?;
+        sorted_tables(self.alloc, tables)
+    }
+
+    /// The children of a table that is recorded as halting, in the order of their texts; none where it
+    /// isn't so recorded.
+    pub fn children(&self, t: &Table) -> Option<Children>
+        ensures halting { IsSome result ↔ IsHalting self.now.records t.now }
+        ensures all { IfSome result (AreAll (IsChildTable t.now)) }
+    {
+        child_is_table();
+        match pair_for(&self.records, t) {
+            Some(pair) => Some(children_on(t, pair)),
+            None => None,
+        }
+    }
+
+    /// How many tables there are of each kind.
+    pub fn tally(&self) -> Tally
+        ensures { IsTally self.now.root self.now.records result }
+    {
+        Tally {
+            nodes: count_nodes(&self.records, &self.open_tables),
+            halting: count_halting(&self.records),
+            never: count_never(&self.records),
+            holdouts: count_undecided(&self.records),
+            open_count: count_of(&self.open_tables),
+            best: greatest_count(&self.records),
+        }
+    }
+
+    /// The tables that are recorded with the greatest number of steps, in the order of their texts.
+    pub fn champions(&self) -> Result<Champions, NoMemory>
+        ensures { IfOk result (λ found. (best : Option ℕ) → IsGreatestCount self.now.records best →
+            AreAll (IsChampion self.now.records best) (into_iter_items found)) }
+    {
+        child_is_table();
+        let tables = champion_tables(self.alloc, &self.records)?;
+        sorted_tables(self.alloc, tables)
+    }
+
+    /// How the board stands. Where it is complete, its best is the greatest number of steps of all
+    /// extensions of the root that halt, in tree normal form or not; for the empty table of n states that
+    /// is Radó's S(n).
+    pub fn status(&self) -> Status
+        ensures stands { IsStatus self.now.root self.now.records result }
+        ensures best { (best : Option ℕ) → result ≡ Status.Complete best → IsBestOfTable HaltsAt self.now.root best }
+        ensures rado { (n s : ℕ) → 1 ≤ n → n ≤ MAX_STATES → self.now.root ≡ empty_table n → result ≡ Status.Complete (Some s) → IsRado n s }
+    {
+        child_is_table();
+        standing_claims_are_true();
+        closed_tree();
+        best_of_closed();
+        rado_of_complete();
+        let _ = &self.root;
+        self.standing()
+    }
+
+    // Whether tables are open, or there are holdouts, or neither.
+    fn standing(&self) -> Status
+        ensures { IsStatus self.now.root self.now.records result }
+    {
+        let open_count = count_of(&self.open_tables);
+        if open_count > 0 {
+            return Status::Working { count: open_count };
+        }
+        let holdout_count = count_undecided(&self.records);
+        if holdout_count > 0 {
+            return Status::Holdouts {
+                count: holdout_count,
+            };
+        }
+        Status::Complete {
+            best: greatest_count(&self.records),
+        }
+    }
+
+    /// The recorded verdict on a table, which is true of it; none where there is none, as for a holdout.
+    pub fn verdict(&self, t: &Table) -> Option<Verdict>
+        ensures recorded { result ≡ verdict_in self.now.records t.now }
+        ensures is_true { IfSome result (λ v. IsTrueOf v (entry_of t.now)) }
+    {
+        standing_claims_are_true();
+        let _ = t.states();
+        verdict_in(&self.records, t)
+    }
+
+    /// Offers a record. It is judged in this order: its table has another number of states than the
+    /// root, `WrongSize`; its table has a verdict, or is a holdout and no verdict is offered, `Known`,
+    /// whatever its certificate; its table is neither open nor a holdout, `NotOpen`; its certificate
+    /// doesn't stand, `Refused`; its table is open, `New`; its table is a holdout, `Settled`. After an
+    /// error nothing has changed.
+    pub fn offer(&mut self, r: &Record) -> Result<Taken, OfferFault>
+        ensures gives { OfferGives self.old.root self.old.records (recorded r.now) result self.new.records }
+        ensures root { self.new.root ≡ self.old.root }
+    {
+        if r.table.states() != self.root.states() {
+            return Err(OfferFault::WrongSize);
+        }
+        match self.place(r) {
+            Place::Known => Ok(Taken::Known),
+            Place::Elsewhere => Err(OfferFault::NotOpen),
+            Place::Open => self.take(r),
+            Place::Holdout => self.settle(r),
+        }
+    }
+
+    // Where an offered record stands.
+    fn place(&self, r: &Record) -> Place
+        ensures { IsPlace self.now.root self.now.records (recorded r.now) result }
+    {
+        match certificate_for(&self.records, &r.table) {
+            Some(held) => recorded_place(&held, &r.certificate),
+            None => self.unrecorded_place(&r.table),
+        }
+    }
+
+    // Where a table without a record stands.
+    fn unrecorded_place(&self, t: &Table) -> Place
+        ensures { (IsOpen self.now.root (mark_in self.now.records) t.now × (result ≡ Place.Open))
+            ⊎ ((IsOpen self.now.root (mark_in self.now.records) t.now → ⊥) × (result ≡ Place.Elsewhere)) }
+    {
+        if self.open_tables.contains(t) {
+            Place::Open
+        } else {
+            Place::Elsewhere
+        }
+    }
+
+    // Takes a record of an open table.
+    fn take(&mut self, r: &Record) -> Result<Taken, OfferFault>
+        requires { IsOpen self.old.root (mark_in self.old.records) r.now.table }
+        ensures ok { IfOk result (λ taken. (taken ≡ Taken.New) × IsFit self.old.root self.old.records (recorded r.now) × (self.new.records ≡ self.old.records ++ (recorded r.now ∷ []))) }
+        ensures err { OnErr result (self.new.records ≡ self.old.records) }
+        ensures root { self.new.root ≡ self.old.root }
+        ensures refusal { IfErr result (λ f. IsRefusal f (recorded r.now)) }
+    {
+        child_is_table();
+        let prepared = prepare(self.alloc, &self.open_tables, &self.records, r)?;
+        append(&mut self.records, prepared.kept)?;
+        self.open_tables = prepared.open_tables;
+        Ok(Taken::New)
+    }
+
+    // Takes a record with a verdict on a holdout.
+    fn settle(&mut self, r: &Record) -> Result<Taken, OfferFault>
+        requires holdout { IsHoldout self.old.records r.now.table }
+        requires verdict { IsSome (shown_by (claim_of r.now.certificate)) }
+        ensures ok { IfOk result (λ taken. (taken ≡ Taken.Settled) × Settles self.old.records (recorded r.now) × (self.new.records ≡ settled self.old.records (recorded r.now))) }
+        ensures err { OnErr result (self.new.records ≡ self.old.records) }
+        ensures root { self.new.root ≡ self.old.root }
+        ensures refusal { IfErr result (λ f. IsRefusal f (recorded r.now)) }
+    {
+        child_is_table();
+        let prepared = prepare(self.alloc, &self.open_tables, &self.records, r)?;
+        put(&mut self.records, prepared.kept);
+        self.open_tables = prepared.open_tables;
+        Ok(Taken::Settled)
+    }
+}

@@ -1,0 +1,181 @@
+// Why calls of a board are refused.
+ghost use Rattle.std.specs.Prelude.{◌≡◌};
+
+use run::{NoMemory, Refused};
+use std::error::Error;
+use std::fmt;
+
+/// Why there is no board.
+#[derive(Clone, Copy, Debug, PartialEq, Eq)]
+pub enum BoardFault {
+    /// The root doesn't name its states in order.
+    NotInOrder,
+    /// Memory was refused.
+    NoMemory,
+}
+
+/// Why an offered record wasn't taken. Nothing changed.
+#[derive(Clone, Copy, Debug, PartialEq, Eq)]
+pub enum OfferFault {
+    /// Its table has another number of states than the root.
+    WrongSize,
+    /// Its table is neither open nor a holdout.
+    NotOpen,
+    /// Its certificate was refused, and not for want of memory.
+    Refused(Refused),
+    /// Memory was refused.
+    NoMemory,
+}
+
+/// Why a ledger's text wasn't loaded.
+#[derive(Clone, Copy, Debug, PartialEq, Eq)]
+pub enum LoadFault {
+    /// The first line is no header with a table that reads, or the text has no newline and doesn't begin
+    /// as a header does.
+    BadHeader,
+    /// The header is of another root than was asked for, or of a table that doesn't name its states in
+    /// order.
+    WrongRoot,
+    /// Memory was refused.
+    NoMemory,
+}
+
+impl BoardFault {
+    ghost use Rattle.ledger.specs.Faults.{board_fault_number};
+
+    /// The refusal number: 401; 0 for want of memory, which has none.
+    pub fn number(&self) -> u16
+        ensures { result ≡ board_fault_number self.now }
+    {
+        match self {
+            BoardFault::NotInOrder => 401,
+            BoardFault::NoMemory => 0,
+        }
+    }
+}
+
+impl OfferFault {
+    ghost use Rattle.ledger.specs.Faults.{offer_fault_number};
+
+    /// The refusal number: 402, 403, or that of the certificate; 0 for want of memory, which has none.
+    pub fn number(&self) -> u16
+        ensures { result ≡ offer_fault_number self.now }
+    {
+        match self {
+            OfferFault::NotOpen => 402,
+            OfferFault::WrongSize => 403,
+            OfferFault::Refused(refused) => refused.number(),
+            OfferFault::NoMemory => 0,
+        }
+    }
+}
+
+impl LoadFault {
+    ghost use Rattle.ledger.specs.Faults.{load_fault_number};
+
+    /// The refusal number: 404, 405; 0 for want of memory, which has none.
+    pub fn number(&self) -> u16
+        ensures { result ≡ load_fault_number self.now }
+    {
+        match self {
+            LoadFault::BadHeader => 404,
+            LoadFault::WrongRoot => 405,
+            LoadFault::NoMemory => 0,
+        }
+    }
+}
+
+impl fmt::Display for BoardFault {
+    ghost use Rattle.std.specs.Prelude.{Some};
+    ghost use Rattle.ledger.specs.Faults.{board_fault_text};
+
+    ghost output = { λ fault. Some (board_fault_text fault) };
+
+    fn fmt<W: fmt::Write>(&self, f: &mut fmt::Formatter<W>) -> fmt::Result {
+        match self {
+            BoardFault::NotInOrder => f.write_str("the root does not name its states in order"),
+            BoardFault::NoMemory => f.write_str("out of memory"),
+        }
+    }
+}
+
+impl fmt::Display for OfferFault {
+    ghost use Rattle.std.specs.Prelude.{Some};
+    ghost use Rattle.ledger.specs.Faults.{offer_fault_text};
+
+    ghost output = { λ fault. Some (offer_fault_text fault) };
+
+    fn fmt<W: fmt::Write>(&self, f: &mut fmt::Formatter<W>) -> fmt::Result {
+        match self {
+            OfferFault::WrongSize => f.write_str(
+                "the table has another number of states than the root",
+            ),
+            OfferFault::NotOpen => f.write_str("the table is neither open nor a holdout"),
+            OfferFault::Refused(Refused::Fails) => f.write_str(
+                "the certificate does not stand for the table",
+            ),
+            OfferFault::Refused(Refused::TooLong) => f.write_str(
+                "the certificate asks for more than its limit",
+            ),
+            OfferFault::Refused(Refused::TooWide) => f.write_str(
+                "the certificate needs more paths at one depth than are kept",
+            ),
+            OfferFault::Refused(Refused::NoMemory) | OfferFault::NoMemory => f.write_str(
+                "out of memory",
+            ),
+        }
+    }
+}
+
+impl fmt::Display for LoadFault {
+    ghost use Rattle.std.specs.Prelude.{Some};
+    ghost use Rattle.ledger.specs.Faults.{load_fault_text};
+
+    ghost output = { λ fault. Some (load_fault_text fault) };
+
+    fn fmt<W: fmt::Write>(&self, f: &mut fmt::Formatter<W>) -> fmt::Result {
+        match self {
+            LoadFault::BadHeader => f.write_str("the first line is no header of a ledger"),
+            LoadFault::WrongRoot => f.write_str(
+                "the ledger is of another root, or of one that does not name its states in order",
+            ),
+            LoadFault::NoMemory => f.write_str("out of memory"),
+        }
+    }
+}
+
+impl Error for BoardFault {}
+
+impl Error for OfferFault {}
+
+impl Error for LoadFault {}
+
+impl From<NoMemory> for BoardFault {
+    ghost use Rattle.ledger.specs.declared.faults.BoardFault.TheVariants.{NoMemory};
+
+    ghost from_gives = { λ _ e. e ≡ NoMemory };
+
+    fn from(_: NoMemory) -> BoardFault {
+        BoardFault::NoMemory
+    }
+}
+
+impl From<NoMemory> for OfferFault {
+    ghost use Rattle.ledger.specs.declared.faults.OfferFault.TheVariants.{NoMemory};
+
+    ghost from_gives = { λ _ e. e ≡ NoMemory };
+
+    fn from(_: NoMemory) -> OfferFault {
+        OfferFault::NoMemory
+    }
+}
+
+impl From<NoMemory> for LoadFault {
+    ghost use Rattle.ledger.specs.declared.faults.LoadFault.TheVariants.{NoMemory};
+
+    ghost from_gives = { λ _ e. e ≡ NoMemory };
+
+    fn from(_: NoMemory) -> LoadFault {
+        LoadFault::NoMemory
+    }
+}

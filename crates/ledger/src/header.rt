@@ -1,0 +1,82 @@
+// The first line of a ledger's text.
+ghost use Rattle.std.specs.Prelude.{◌≡◌, ◌≢◌, ◌==◌, ◌<◌, ℕ, ◌++◌, ◌↔◌, List, length, position, IsTrue, IfSome, IfNone};
+ghost use Rattle.ledger.specs.LedgerText.{HasNoNewline, BeginsWithLine, BeginsAsHeader, PeekGives};
+ghost use Rattle.ledger.specs.Inside.HeaderRead.{HeaderGives, OrderGives};
+
+use crate::faults::LoadFault;
+use machine_text::Table;
+use tnf::in_order;
+
+/// What a header begins with.
+pub const HEADER_WORDS: &[u8] = b"bb-ledger 1 ";
+
+/// The root that a ledger's text names in its header; none where the text is torn off within the header.
+/// `BadHeader` where the first line is no header with a table that reads, or where the text has no newline
+/// and doesn't begin as a header does; `WrongRoot` where the table doesn't name its states in order. It
+/// takes no memory.
+pub fn peek_root(bytes: &[u8]) -> Result<Option<Table>, LoadFault>
+    ensures { PeekGives bytes.now result }
+{
+    match read_header(bytes) {
+        Ok(None) => Ok(None),
+        Ok(Some((root, _))) => ordered(root),
+        Err(fault) => Err(fault),
+    }
+}
+
+// A root, where it names its states in order.
+fn ordered(root: Table) -> Result<Option<Table>, LoadFault>
+    ensures { OrderGives root result }
+{
+    if in_order(&root) {
+        Ok(Some(root))
+    } else {
+        Err(LoadFault::WrongRoot)
+    }
+}
+
+/// The root that a header at the beginning of a text names, and what stands behind that line; none where
+/// the text is torn off within the header, and `BadHeader` where neither is so.
+pub fn read_header(text: &[u8]) -> Result<Option<(Table, &[u8])>, LoadFault>
+    ensures { HeaderGives text.now result }
+{
+    let Some((line, rest)) = first_line(text) else {
+        return if is_begun_header(text) {
+            Ok(None)
+        } else {
+            Err(LoadFault::BadHeader)
+        };
+    };
+    let Some(name) = line.strip_prefix(HEADER_WORDS) else {
+        return Err(LoadFault::BadHeader);
+    };
+    match Table::parse(name) {
+        Ok(root) => Ok(Some((root, rest))),
+        Err(_) => Err(LoadFault::BadHeader),
+    }
+}
+
+// Whether a text is a beginning of the header's words, or begins with them.
+fn is_begun_header(text: &[u8]) -> bool
+    ensures { IsTrue result ↔ BeginsAsHeader text.now }
+{
+    HEADER_WORDS.starts_with(text) || text.starts_with(HEADER_WORDS)
+}
+
+/// The first line of a text, and what follows its newline; none where there is no newline.
+pub fn first_line(text: &[u8]) -> Option<(&[u8], &[u8])>
+    ensures some { IfSome result (λ cut. BeginsWithLine text.now cut.0.now cut.1.now) }
+    ensures none { IfNone result (HasNoNewline text.now) }
+    ensures shorter { IfSome result (λ cut. length cut.1.now < length text.now) }
+{
+    let at = first_newline(text)?;
+    Some((&text[..at], &text[at + 1..]))
+}
+
+// The place of the first newline.
+fn first_newline(text: &[u8]) -> Option<usize>
+    ensures place { result ≡ position (λ byte. byte == 10) text.now }
+    ensures within { IfSome result (λ at. at < length text.now) }
+{
+    text.iter().position(|byte| *byte == b'\n')
+}

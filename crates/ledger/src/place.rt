@@ -1,0 +1,29 @@
+// Where an offered record stands among those of a board.
+ghost use Rattle.std.specs.Prelude.{◌≡◌};
+ghost use Rattle.cert.specs.Claim.{shown_by};
+ghost use Rattle.cert.specs.Kinds.{claim_of};
+ghost use Rattle.ledger.specs.Inside.Places.{place_by};
+
+use cert::Certificate;
+
+#[derive(Clone, Copy)]
+pub enum Place {
+    // its table has a verdict, or is a holdout and no verdict is offered
+    Known,
+    // its table is open
+    Open,
+    // its table is a holdout, and a verdict is offered
+    Holdout,
+    // its table is neither
+    Elsewhere,
+}
+
+// Where a record stands whose table has one.
+pub fn recorded_place(held: &Certificate, offered: &Certificate) -> Place
+    ensures { result ≡ place_by (shown_by (claim_of held.now)) (shown_by (claim_of offered.now)) }
+{
+    match (held.verdict(), offered.verdict()) {
+        (None, Some(_)) => Place::Holdout,
+        _ => Place::Known,
+    }
+}

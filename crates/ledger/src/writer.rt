@@ -1,0 +1,77 @@
+// A board's ledger as it is written.
+ghost use Rattle.std.specs.Prelude.{◌≡◌, ◌++◌, ◌∷◌, [], map, take, drop, length, OnOk, OnErr};
+ghost use Rattle.machine_text.specs.Text.{text_of};
+ghost use Rattle.cert.specs.Grammar.{record_text};
+ghost use Rattle.cert.specs.Kinds.{recorded};
+ghost use Rattle.ledger.specs.LedgerText.{header_words, joined, ReadsAs, ledger_text};
+ghost use Rattle.ledger.specs.declared.left.Left.TheVariants.{Nothing};
+
+use crate::board::Board;
+use crate::header::HEADER_WORDS;
+use crate::laws::ledgers_load_whole;
+use crate::records::Records;
+use cert::Record;
+use machine_text::{TEXT_BYTES, Table};
+use run::NoMemory;
+
+impl Board {
+    /// Appends the board's ledger: a header with the root, and each record on a line. It loads again whole,
+    /// with the same root and records. Where memory is refused, `out` is as it was.
+    pub fn write_ledger(&self, out: &mut Vec<u8>) -> Result<(), NoMemory>
+        ensures ok { OnOk result (out.new.items ≡ out.old.items ++ ledger_text self.now.root self.now.records) }
+        ensures whole { OnOk result (ReadsAs self.now.root (drop (length out.old.items) out.new.items) self.now.records Nothing) }
+        ensures err { OnErr result (out.new.items ≡ out.old.items) }
+    {
+        ledgers_load_whole();
+        let _ = self.root();
+        let len = out.len();
+        match append_ledger(self, out) {
+            Ok(()) => Ok(()),
+            Err(fault) => {
+                out.truncate(len);
+                Err(fault)
+            }
+        }
+    }
+}
+
+// Appends a ledger; where memory is refused, a beginning of it.
+#[tactic(auto, unfolding(crate::specs::LedgerText::ledger_text))]
+fn append_ledger(board: &Board, out: &mut Vec<u8>) -> Result<(), NoMemory>
+    ensures ok { OnOk result (out.new.items ≡ out.old.items ++ ledger_text board.now.root board.now.records) }
+    ensures kept { take (length out.old.items) out.new.items ≡ out.old.items }
+{
+    append_header(board.root(), out)?;
+    append_records(board.records(), out)
+}
+
+// Appends the header of a root; where memory is refused, a beginning of it.
+fn append_header(root: &Table, out: &mut Vec<u8>) -> Result<(), NoMemory>
+    ensures ok { OnOk result (out.new.items ≡ out.old.items ++ (header_words ++ text_of root.now ++ (10 ∷ []))) }
+    ensures kept { take (length out.old.items) out.new.items ≡ out.old.items }
+{
+    let mut buf = [0; TEXT_BYTES];
+    out.extend_from_slice(HEADER_WORDS)?;
+    out.extend_from_slice(root.text(&mut buf))?;
+    out.extend_from_slice(b"\n")
+}
+
+// Appends the lines of records; where memory is refused, a beginning of them.
+fn append_records(records: Records<'_>, out: &mut Vec<u8>) -> Result<(), NoMemory>
+    ensures ok { OnOk result (out.new.items ≡ out.old.items ++ joined (map record_text records.entry)) }
+    ensures kept { take (length out.old.items) out.new.items ≡ out.old.items }
+{
+    for r in records {
+        append_line(&r, out)?;
+    }
+    Ok(())
+}
+
+// Appends the line of a record; where memory is refused, a beginning of it.
+fn append_line(r: &Record, out: &mut Vec<u8>) -> Result<(), NoMemory>
+    ensures ok { OnOk result (out.new.items ≡ out.old.items ++ (record_text (recorded r.now) ++ (10 ∷ []))) }
+    ensures kept { take (length out.old.items) out.new.items ≡ out.old.items }
+{
+    r.write_text(out)?;
+    out.extend_from_slice(b"\n")
+}

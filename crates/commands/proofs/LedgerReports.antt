@@ -5,9 +5,9 @@ use Rattle.machine_text.specs.Packed.{Packed}
 use Rattle.machine_text.specs.Text.{table_of}
 use Rattle.ledger.specs.Contents.{Contents}
 use Rattle.ledger.specs.LedgerText.{header_words, HasHeader, ReadsAs, LoadGives, PeekGives}
-use Rattle.ledger.specs.declared.loaded.Left.{Left}
-use Rattle.ledger.specs.declared.loaded.LoadFault.{LoadFault}
-use Rattle.ledger.specs.declared.loaded.LoadFault.TheVariants.{BadHeader, WrongRoot, NoMemory}
+use Rattle.ledger.specs.declared.left.Left.{Left}
+use Rattle.ledger.specs.declared.faults.LoadFault.{LoadFault}
+use Rattle.ledger.specs.declared.faults.LoadFault.TheVariants.{BadHeader, WrongRoot, NoMemory}
 use Rattle.ledger.proofs.Lines.{line_has_newline, same_line}
 use Rattle.commands.specs.Outcome.{ended_by}
 use Rattle.commands.specs.LedgerReport.{EndsLedger}

@@ -7,14 +7,13 @@ use Rattle.run.specs.declared.verdicts.Verdict.{Verdict}
 use Rattle.run.specs.declared.verdicts.Verdict.TheVariants.{Halts, Never}
 use Rattle.run.specs.declared.verdicts.Refused.{Refused as Refusal}
 use Rattle.cert.specs.Claim.{Recorded, shown_by}
-use Rattle.ledger.specs.Held.{IsCertified}
-use Rattle.ledger.specs.Offers.{IsRefusedBy}
+use Rattle.cert.specs.Certified.{IsCertified, IsRefusedBy}
 use Rattle.run.specs.Verdict as verdict
 use Rattle.std.specs.Borrow.{Bor}
 use Rattle.cert.specs.Grammar.{record_of}
 use Rattle.cert.specs.Fault as record_fault
-use Rattle.cert.specs.declared.kinds.RecordFault.{RecordFault}
-use Rattle.cert.specs.declared.kinds.RecordFault.TheVariants.{BadTable, BadKind, BadNumber, BadList, TooLong}
+use Rattle.cert.specs.declared.record_fault.RecordFault.{RecordFault}
+use Rattle.cert.specs.declared.record_fault.RecordFault.TheVariants.{BadTable, BadKind, BadNumber, BadList, TooLong}
 use Rattle.commands.specs.declared.outcome.Outcome.{Outcome}
 use Rattle.commands.specs.declared.outcome.Outcome.TheVariants.{Accepted, Refused, BadLine, NoMemory, Failed}
 

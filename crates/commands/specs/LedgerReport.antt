@@ -5,10 +5,10 @@ use Rattle.tree.specs.Used.{InOrder}
 use Rattle.cert.specs.Claim.{Recorded}
 use Rattle.ledger.specs.LedgerText.{IsTornHeader, HasHeader, HasNoHeader, ReadsAs}
 use Rattle.ledger.specs.Tally.{IsStatus}
-use Rattle.ledger.specs.declared.loaded.Left.{Left}
-use Rattle.ledger.specs.declared.loaded.Left.TheVariants.{Nothing, From}
-use Rattle.ledger.specs.declared.outcomes.Status.{Status}
-use Rattle.ledger.specs.declared.outcomes.Status.TheVariants.{Working, Holdouts, Complete}
+use Rattle.ledger.specs.declared.left.Left.{Left}
+use Rattle.ledger.specs.declared.left.Left.TheVariants.{Nothing, From}
+use Rattle.ledger.specs.declared.status.Status.{Status}
+use Rattle.ledger.specs.declared.status.Status.TheVariants.{Working, Holdouts, Complete}
 use Rattle.commands.specs.Report.{IsReport}
 use Rattle.commands.specs.declared.outcome.Outcome.{Outcome}
 use Rattle.commands.specs.declared.outcome.Outcome.TheVariants.{Accepted, Refused}

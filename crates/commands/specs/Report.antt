@@ -5,9 +5,9 @@ use Rattle.machine_text.specs.Text.{text_of}
 use Rattle.cert.specs.Claim.{Recorded}
 use Rattle.ledger.specs.Held.{IsHoldout}
 use Rattle.ledger.specs.Tally.{AreAll, IsStatus, IsTally, IsChampion}
-use Rattle.ledger.specs.declared.outcomes.Tally.{Tally}
-use Rattle.ledger.specs.declared.outcomes.Status.{Status}
-use Rattle.ledger.specs.declared.outcomes.Status.TheVariants.{Working, Holdouts, Complete}
+use Rattle.ledger.specs.declared.tally.Tally.{Tally}
+use Rattle.ledger.specs.declared.status.Status.{Status}
+use Rattle.ledger.specs.declared.status.Status.TheVariants.{Working, Holdouts, Complete}
 
 abbrev pub line_of : List ℕ → List ℕ → List ℕ
 line_of name value = name ++ codes " " ++ value ++ 10 ∷ []

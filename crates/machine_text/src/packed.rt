@@ -1,5 +1,5 @@
 // A table, one byte an entry.
-ghost use Rattle.std.specs.Prelude.{◌≡◌, ◌==◌, ◌+◌, ◌*◌, ◌<◌, ◌≤◌, ◌≢◌, IfSome, Ok, length, slice_index, EachIndex, count_by};
+ghost use Rattle.std.specs.Prelude.{◌≡◌, ℕ, None, ◌==◌, ◌+◌, ◌*◌, ◌<◌, ◌≤◌, ◌≢◌, IfSome, Ok, length, slice_index, EachIndex, count_by};
 ghost use Rattle.machine_text.specs.Limits.{state_limit, text_byte_limit};
 ghost use Rattle.machine_text.specs.Packed.{pair_place};
 
@@ -34,14 +34,17 @@ impl Model for Table {
 }
 
 impl Table {
-    ghost use Rattle.machine_text.specs.Packed.{IsTable, entry_of, with_entry, empty_table, holes};
+    ghost use Rattle.machine_text.specs.Packed.{IsTable, entry_of, filled, with_entry, empty_table, holes};
+    ghost use Rattle.machine_text.specs.declared.transition.Sym.{Sym as Symbol};
     ghost use Rattle.machine_text.specs.Text.{table_of, text_of, byte_at};
 
     /// The table of n states in which each pair is undefined.
     pub fn empty(n: u8) -> Table
         requires some { 1 ≤ n }
         requires limit { n ≤ state_limit }
-        ensures { result ≡ empty_table n }
+        ensures states { result.states ≡ n }
+        ensures entries { (q : ℕ) (s : Symbol) → entry_of result q s ≡ None }
+        ensures table { result ≡ empty_table n }
     {
         Table {
             codes: [Code::UNDEFINED; MAX_ENTRIES],
@@ -115,11 +118,12 @@ impl Table {
     }
 
     /// The table with this entry at a pair, in place of what was there, and all others as they are.
-    #[tactic(auto, unfolding(crate::specs::Packed::with_entry))]
     pub fn filled(&self, q: State, s: Sym, e: Entry) -> Table
         requires at { q.0 < self.now.states }
         requires next { e.next.0 < self.now.states }
-        ensures { result ≡ with_entry self.now q.0 s e }
+        ensures states { result.states ≡ self.now.states }
+        ensures entries { (p : ℕ) (r : Symbol) → entry_of result p r ≡ filled (entry_of self.now) q.0 s e p r }
+        ensures table { result ≡ with_entry self.now q.0 s e }
     {
         let mut codes = self.codes;
         codes[pair_place(q, s)] = Code::of(Some(e));

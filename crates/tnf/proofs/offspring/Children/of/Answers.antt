@@ -12,7 +12,7 @@ use Rattle.tree.specs.Used.{used_count}
 use Rattle.tree.specs.Tables.{children_at}
 use Rattle.tnf.specs.Offspring.{IsChildAt}
 use Rattle.tnf.proofs.EntriesLeft.{to}
-use Rattle.tnf.proofs.Rising.{children_rise}
+use Rattle.tree.proofs.ChildOrder.{children_rise}
 use Rattle.tnf.proofs.Members.{children_members, children_bound}
 use Rattle.tnf.proofs.FirstChildren.{by_parts, empty_children, filled_children, without_children}
 use Rattle.tnf.proofs.offspring.Children.of.Goals as goal

@@ -6,7 +6,7 @@ use Rattle.tnf.proofs.offspring.ChildrenIterator.next.Goals as goal
 pub returns-clause-steps : goal.returns-clause-steps
 returns-clause-steps c =
     sym c.self.view_is ∙ first_left c.self.inside.parent c.self.inside.state.0 c.self.inside.symbol c.self.inside.targets c.self.inside.first_dir
-    c.self.inside.next c.entry_after-self-inside.result c.in_ok-entry.entry c.filled.result c.in_ok-entry.was c.filled.ensures c.entry_after-self-inside.ensures.left
+    c.self.inside.next c.entry_after-self-inside.result c.in_ok-entry.entry c.filled.result c.in_ok-entry.was c.filled.ensures.table c.entry_after-self-inside.ensures.left
 
 pub returns-clause-goes : goal.returns-clause-goes
 returns-clause-goes c =

@@ -7,7 +7,7 @@ ghost use Rattle.machine_text.specs.declared.transition.Entry.{Entry};
 ghost use Rattle.machine_text.specs.Packed.{Packed, IsTable, IsMapOf, entry_of, tabulated, filled};
 ghost use Rattle.machine_text.specs.Text.{text_of};
 
-use crate::packed::Table;
+use crate::table::Table;
 
 /// A table is its number of states and its map: two tables with as many states and the same entry, or
 /// none, at each pair are equal.

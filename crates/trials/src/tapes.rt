@@ -1,9 +1,9 @@
 // Each call once on what it is for, and half tapes against words compared by hand.
+use tape::{MAX_PLACE, NoMemory, Tape};
 use machine_text::{Dir, Sym};
 use std::alloc::Global;
 use std::process::Abort;
 use std::test::Fail;
-use tape::{MAX_PLACE, NoMemory, Tape};
 
 // Writes `word` from a place on, the cells before it blank, and leaves the head at `head`. No place is
 // further than 100 cells off.

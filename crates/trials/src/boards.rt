@@ -1,6 +1,6 @@
 // A board of the tree of one state, and offers that it refuses.
-use cert::Record;
 use ledger::{Board, BoardFault, OfferFault, Status, Taken, Tally};
+use cert::Record;
 use machine_text::Table;
 use run::{Refused, Verdict};
 use std::alloc::Global;

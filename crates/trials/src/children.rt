@@ -1,9 +1,9 @@
 // Tables of a tree by their texts.
 ghost use Rattle.std.specs.Prelude.{◌≤◌, length};
 
+use tnf::{Children, children, in_order, root, used};
 use machine_text::{State, Sym, TEXT_BYTES, Table};
 use std::process::Abort;
-use tnf::{Children, children, in_order, root, used};
 
 fn table_of(rt: &impl Abort, text: &str) -> Table {
     match Table::parse(text.as_bytes()) {

@@ -1,6 +1,6 @@
 // Ledgers, whole, cut and spoilt. What wants memory is tried again once.
-use cert::RecordFault;
 use ledger::{Board, Left, LoadFault, OfferFault, Unkept, peek_root};
+use cert::RecordFault;
 use machine_text::{Table, TextFault};
 use run::Refused;
 use std::alloc::Global;

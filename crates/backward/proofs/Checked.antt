@@ -14,9 +14,10 @@ use Rattle.run.specs.Steps.{RunsTo}
 use Rattle.run.specs.declared.stepping.Step.{Step}
 use Rattle.run.specs.declared.stepping.Step.TheVariants.{Went, Halts}
 use Rattle.run.proofs.Standings.{begun}
-use Rattle.backward.specs.declared.limits.TheConstants.{MAX_PATHS}
-use Rattle.backward.specs.Paths.{Does, SaysDone, Counted, AreWidths, HasTooMany, IsTooWide}
-use Rattle.backward.specs.declared.paths.TooWide.{TooWide}
+use Rattle.backward.specs.Limits.{path_limit}
+use Rattle.backward.specs.inside.Counts.{Does, SaysDone, Counted, AreWidths, HasTooMany}
+use Rattle.backward.specs.Paths.{IsTooWide}
+use Rattle.backward.specs.declared.too_wide.TooWide.{TooWide}
 
 -- a run that came to a time does the steps up to it
 pub does : (p : Packed) (d : ℕ) (old new : Standing) (step : Step) → old ≡ begun p → RunsTo d old step new → step ≡ Went → Does p d
@@ -70,14 +71,14 @@ too_wide p d run many = record {
   runs = run.runs;
   depth = many.depth;
   within = let h = many.within in omega arith;
-  wider = longer_level p.states (entry_of p) (table_machine p run.is_table) many.depth MAX_PATHS many.more;
+  wider = longer_level p.states (entry_of p) (table_machine p run.is_table) many.depth path_limit many.more;
 }
 
 -- none is
 pub not_too_wide : (p : Packed) (d : ℕ) (counts : List ℕ) → Does p d → AreWidths p counts → d < length counts → IsTooWide p d → ⊥
 not_too_wide p d counts run widths inside wide =
     let h = wide.within in
-    let more = level_wider p.states (entry_of p) (table_machine p run.is_table) wide.depth MAX_PATHS wide.wider in
+    let more = level_wider p.states (entry_of p) (table_machine p run.is_table) wide.depth path_limit wide.wider in
     let is = widths.each wide.depth (omega arith) in
     let small = widths.narrow wide.depth (omega arith) in
     omega arith
@@ -109,7 +110,7 @@ many_stands p k d is_table many early stands = record {
     | inl less ↦ let none = none_below p d many.depth stands (omega arith) in let more = many.more in absurd (omega arith)
     | inr not ↦ not
   ];
-  wider = longer_level p.states (entry_of p) (table_machine p is_table) many.depth MAX_PATHS many.more;
+  wider = longer_level p.states (entry_of p) (table_machine p is_table) many.depth path_limit many.more;
 }
 
 -- where the run doesn't even come to the first depth without a path, no claim stands

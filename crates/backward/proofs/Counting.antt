@@ -6,10 +6,10 @@ use Rattle.machine_text.specs.Packed.{Packed, entry_of}
 use Rattle.machine_text.specs.declared.transition.Sym.{Sym}
 use Rattle.turing.specs.Backward.{Pair, Partial}
 use Rattle.turing.specs.Levels.{known_before}
-use Rattle.backward.specs.declared.limits.TheConstants.{MAX_PATHS}
+use Rattle.backward.specs.Limits.{path_limit}
 use Rattle.turing.proofs.BackwardLaws.{same_pair}
-use Rattle.backward.specs.Known.{known_about, pair_at}
-use Rattle.backward.specs.Paths.{paths_beyond, CountsOn, Exceeds}
+use Rattle.backward.specs.inside.Known.{known_about, pair_at}
+use Rattle.backward.specs.inside.Counts.{paths_beyond, CountsOn, Exceeds}
 use Rattle.backward.proofs.Sums.{sum_first, sum_first-zero, sum_first-more, sum_first-le, if_known, if_known-none, if_known-some, sum_of_pairs}
 
 -- what is known before a pair, by its place
@@ -25,7 +25,7 @@ pub record CountsPart (p : Packed) (depth : ℕ) (needs : Partial) (places : ℕ
   pub size : length new ≡ length old
   pub from : (k : ℕ) → depth + suc k < length old → get_or new (depth + suc k) 0 ≡ get_or old (depth + suc k) 0 + sum_first (by_place p k needs) places
   pub nearer : (k : ℕ) → k ≤ depth → get_or new k 0 ≡ get_or old k 0
-  pub narrow : (k : ℕ) → get_or old k 0 ≤ MAX_PATHS → get_or new k 0 ≤ MAX_PATHS
+  pub narrow : (k : ℕ) → get_or old k 0 ≤ path_limit → get_or new k 0 ≤ path_limit
 
 pub part_none : (p : Packed) (depth : ℕ) (needs : Partial) (old : List ℕ) → CountsPart p depth needs 0 old old
 part_none p depth needs old = record {
@@ -88,7 +88,7 @@ unfolding paths_beyond
 only_one p needs = refl
 
 -- after all the pairs, with the path itself counted first
-pub part_all : (p : Packed) (depth : ℕ) (needs : Partial) (places : ℕ) (old new : List ℕ) → places ≡ 2 * p.states → depth < length old → get_or old depth 0 < MAX_PATHS →
+pub part_all : (p : Packed) (depth : ℕ) (needs : Partial) (places : ℕ) (old new : List ℕ) → places ≡ 2 * p.states → depth < length old → get_or old depth 0 < path_limit →
     CountsPart p depth needs places (set old depth (get_or old depth 0 + 1)) new → CountsOn p depth needs old new
 part_all p depth needs places old new all_gone within room part =
     let size = length-set old depth (get_or old depth 0 + 1) in
@@ -118,7 +118,7 @@ part_all p depth needs places old new all_gone within room part =
         let c = ap (sum_first (by_place p k needs)) all_gone ∙ all_places p k needs in
         omega arith
 
-    small_after : (k : ℕ) → get_or old k 0 ≤ MAX_PATHS → get_or (set old depth (get_or old depth 0 + 1)) k 0 ≤ MAX_PATHS
+    small_after : (k : ℕ) → get_or old k 0 ≤ path_limit → get_or (set old depth (get_or old depth 0 + 1)) k 0 ≤ path_limit
     small_after k small =
         elim (cases_eq k depth) [
           | inl e ↦ let same = ap (λ i. get_or (set old depth (get_or old depth 0 + 1)) i 0) e in
@@ -128,7 +128,7 @@ part_all p depth needs places old new all_gone within room part =
         ]
 
 -- a depth that is full
-pub exceeds_here : (p : Packed) (depth : ℕ) (needs : Partial) (old : List ℕ) → depth < length old → MAX_PATHS ≤ get_or old depth 0 → Exceeds p depth needs old
+pub exceeds_here : (p : Packed) (depth : ℕ) (needs : Partial) (old : List ℕ) → depth < length old → path_limit ≤ get_or old depth 0 → Exceeds p depth needs old
 exceeds_here p depth needs old within full = record {
   further = 0;
   within = omega arith;

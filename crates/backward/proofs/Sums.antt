@@ -8,8 +8,8 @@ use Rattle.machine_text.specs.declared.transition.Sym.TheVariants.{Zero, One}
 use Rattle.turing.specs.Program.{Program}
 use Rattle.turing.specs.Backward.{Pair, Partial}
 use Rattle.turing.specs.Levels.{all_pairs, known_before, level}
-use Rattle.backward.specs.Known.{pair_at}
-use Rattle.backward.specs.Paths.{paths_beyond}
+use Rattle.backward.specs.inside.Known.{pair_at}
+use Rattle.backward.specs.inside.Counts.{paths_beyond}
 
 -- the sum of f at the first numbers
 pub sum_first : (ℕ → ℕ) → ℕ → ℕ

@@ -12,7 +12,7 @@ use Rattle.turing.specs.Mirror.{opposite}
 use Rattle.turing.specs.Backward.{Pair, Partial, standing_on, left_behind, before_step}
 use Rattle.turing.specs.Levels.{may_hold, can_lead_to, known_before}
 use Rattle.turing.proofs.Cells.{by_place, not_tied}
-use Rattle.backward.specs.Known.{known_cell, known_about}
+use Rattle.backward.specs.inside.Known.{known_cell, known_about}
 
 -- a cell that is known anew, and the others
 known_cell-same : (cells : List (Option Sym)) (i : ℕ) (o : Option Sym) (x : ℤ) → x ≡ pos i → i < length cells → known_cell (set cells i o) x ≡ o

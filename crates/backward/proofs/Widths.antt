@@ -7,9 +7,9 @@ use Rattle.machine_text.specs.declared.transition.Entry.{Entry}
 use Rattle.turing.specs.Backward.{Pair, standing_on}
 use Rattle.turing.specs.Levels.{known_at_end, level}
 use Rattle.turing.proofs.BackwardLaws.{same_pair}
-use Rattle.backward.specs.declared.limits.TheConstants.{MAX_PATHS}
-use Rattle.backward.specs.Known.{known_about, pair_at}
-use Rattle.backward.specs.Paths.{paths_beyond, CountsOn, Exceeds, AreWidths, HasTooMany}
+use Rattle.backward.specs.Limits.{path_limit}
+use Rattle.backward.specs.inside.Known.{known_about, pair_at}
+use Rattle.backward.specs.inside.Counts.{paths_beyond, CountsOn, Exceeds, AreWidths, HasTooMany}
 use Rattle.backward.proofs.Tapes.{known_alone}
 use Rattle.backward.proofs.Sums.{sum_first, sum_first-zero, sum_first-more, sum_first-le, if_known, if_known-none, if_known-some, sum_of_pairs, paths_of_level}
 
@@ -23,7 +23,7 @@ from_place p k place = if_known (paths_beyond p.states (entry_of p) k) (known_at
 -- after the pairs at the first places were gone through
 pub record WidthsPart (p : Packed) (places : ℕ) (counts : List ℕ) : Type 0 where
   pub from : (k : ℕ) → k < length counts → get_or counts k 0 ≡ sum_first (from_place p k) places
-  pub narrow : (k : ℕ) → get_or counts k 0 ≤ MAX_PATHS
+  pub narrow : (k : ℕ) → get_or counts k 0 ≤ path_limit
 
 pub widths_none : (p : Packed) (counts : List ℕ) → ((k : ℕ) → get_or counts k 0 ≡ 0) → WidthsPart p 0 counts
 widths_none p counts zeros = record {

@@ -1,2 +1,3 @@
-pub mod Known
+pub mod Limits
 pub mod Paths
+pub mod inside

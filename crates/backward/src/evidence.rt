@@ -1,9 +1,10 @@
 // The evidence of backward reasoning, and its check.
 ghost use Rattle.std.specs.Prelude.{◌≤◌, IfOk};
-ghost use Rattle.backward.specs.Paths.{SaysDone};
+ghost use Rattle.backward.specs.Limits.{depth_limit};
+ghost use Rattle.backward.specs.inside.Counts.{SaysDone};
 
 use crate::limits::MAX_DEPTH;
-use crate::paths::PathCounter;
+use crate::path_counter::PathCounter;
 use machine_text::Table;
 use run::{Evidence, Refused, Runner, Step, Verdict};
 use std::alloc::Global;
@@ -24,10 +25,9 @@ impl Evidence for Backward {
     ghost use Rattle.machine_text.specs.Packed.{entry_of};
     ghost use Rattle.turing.specs.Backward.{Backward as IsBackward};
     ghost use Rattle.run.specs.declared.verdicts.Verdict.TheVariants.{Never};
-    ghost use Rattle.backward.specs.declared.limits.TheConstants.{MAX_DEPTH};
     ghost use Rattle.backward.specs.Paths.{IsTooWide};
 
-    ghost within = { λ e. e.depth ≤ MAX_DEPTH };
+    ghost within = { λ e. e.depth ≤ depth_limit };
 
     ghost stands = { λ e p. IsBackward p.states (entry_of p) e.depth };
 
@@ -62,7 +62,7 @@ impl Evidence for Backward {
 
 // Whether the run of a table does so many steps.
 pub(crate) fn does_steps(alloc: Global, t: &Table, steps: u64) -> Result<bool, NoMemory>
-    requires { steps ≤ MAX_DEPTH }
+    requires { steps ≤ depth_limit }
     ensures { IfOk result (λ done. SaysDone t.now steps done) }
 {
     let mut runner = Runner::new(alloc, *t)?;

@@ -2,11 +2,12 @@
 ghost use Rattle.std.specs.Prelude.{◌≡◌, ◌≢◌, ◌<◌, ◌≤◌, ℕ, min, length, slice_index, EachIndex, IfSome, IfNone, IfOk};
 ghost use Rattle.machine_text.specs.Packed.{entry_of};
 ghost use Rattle.turing.specs.Backward.{Backward as IsBackward};
+ghost use Rattle.backward.specs.Limits.{depth_limit};
 ghost use Rattle.backward.specs.Paths.{IsTooWide};
 
 use crate::evidence::{Backward, does_steps};
 use crate::limits::MAX_DEPTH;
-use crate::paths::PathCounter;
+use crate::path_counter::PathCounter;
 use machine_text::Table;
 use std::alloc::Global;
 use tape::NoMemory;
@@ -37,9 +38,9 @@ impl BackwardFinder {
     pub fn search(&mut self, t: &Table, budget: u64) -> Result<Option<Backward>, NoMemory>
         ensures found { IfOk result (λ o. IfSome o (λ e. IsBackward t.now.states (entry_of t.now) e.depth
             × (IsTooWide t.now e.depth → ⊥)
-            × (e.depth ≤ min (min self.old.depth budget) MAX_DEPTH))) }
+            × (e.depth ≤ min (min self.old.depth budget) depth_limit))) }
         ensures least { IfOk result (λ o. IfSome o (λ e. (d : ℕ) → d < e.depth → IsBackward t.now.states (entry_of t.now) d → ⊥)) }
-        ensures none { IfOk result (λ o. IfNone o ((d : ℕ) → d ≤ min (min self.old.depth budget) MAX_DEPTH → IsBackward t.now.states (entry_of t.now) d → IsTooWide t.now d)) }
+        ensures none { IfOk result (λ o. IfNone o ((d : ℕ) → d ≤ min (min self.old.depth budget) depth_limit → IsBackward t.now.states (entry_of t.now) d → IsTooWide t.now d)) }
         ensures same { self.new.depth ≡ self.old.depth }
     {
         let limit = self.depth.min(budget).min(MAX_DEPTH);

@@ -2,15 +2,17 @@
 //!
 //! A path of depth k is a list of k + 1 pairs through which some configuration runs, and whose last pair
 //! halts. Where the run from the blank tape does d steps and there is no path of depth d, the table never
-//! halts. A path needs some cells of a tape to be so; `specs/` says what a stretch of known cells tells of a
-//! configuration (`Known`), how many paths go further back than one, and when they are too many (`Paths`).
+//! halts. turing's `Backward` says so; `specs/` adds when there are more paths than may be gone through
+//! (`Paths`) and the limits as numbers (`Limits`). `specs/inside` is for the crate's own code: what a stretch
+//! of known cells tells of a configuration (`Known`), and how many paths go further back than one (`Counts`).
 #![tactic(auto)]
 
 mod evidence;
 mod finder;
 mod limits;
-mod pairs;
-mod paths;
+mod path_counter;
+mod step_back;
+mod too_wide;
 
 pub use evidence::Backward;
 pub use finder::BackwardFinder;

@@ -3,7 +3,7 @@ use Rattle.std.proofs.Common.{◌≡◌, ℕ, Bool, false, true, ℤ, pos, ◌+�
 use Rattle.std.specs.Prelude.{◌↔◌, IsTrue}
 use Rattle.std.proofs.lemmas.Int.{ints}
 use Rattle.std.proofs.lemmas.Option.{same_Some}
-use Rattle.machine_text.specs.Packed.{Packed, entry_of}
+use Rattle.machine_text.specs.Packed.{entry_of}
 use Rattle.machine_text.specs.declared.transition.Dir.{Dir}
 use Rattle.machine_text.specs.declared.transition.Dir.TheVariants.{L, R}
 use Rattle.turing.specs.Program.{Program}
@@ -12,7 +12,7 @@ use Rattle.turing.specs.Translated.{Beyond, Farthest, Translated}
 use Rattle.turing.proofs.Heads.{one_farthest}
 use Rattle.tape.specs.Places.{SameBeyond}
 use Rattle.run.specs.Standing.{Standing, OnRun}
-use Rattle.loops.specs.Moment.{Moment, IsMomentOf}
+use Rattle.loops.specs.inside.Moment.{Moment, IsMomentOf}
 
 -- two configurations of a run, and the farthest head in between
 pub record Compared (m : Program) (side : Dir) (i j : ℕ) (begin end : Config) (bound shift : ℤ) : Type 0 where
@@ -78,11 +78,11 @@ stands_passed m side i j begin end bound shift c t =
     }
 
 -- what was kept of a run, and where a runner stands later
-pub compared : (p : Packed) (side : Dir) (kept : Moment) (r : Standing) (bound shift : ℤ) → r.table ≡ p → OnRun r → IsMomentOf p kept → Farthest (entry_of p) side kept.time r.steps bound
-    → shift ≡ r.config.tape.head -ℤ kept.config.tape.head → Compared (entry_of p) side kept.time r.steps kept.config r.config bound shift
-compared p side kept r bound shift table stands begins farthest shift_is = record {
+pub compared : (side : Dir) (kept : Moment) (r : Standing) (bound shift : ℤ) → OnRun r → IsMomentOf r.table kept → Farthest (entry_of r.table) side kept.time r.steps bound
+    → shift ≡ r.config.tape.head -ℤ kept.config.tape.head → Compared (entry_of r.table) side kept.time r.steps kept.config r.config bound shift
+compared side kept r bound shift stands begins farthest shift_is = record {
   begins = begins.at;
-  ends = subst (λ (q : Packed). after (entry_of q) r.steps ≡ Some r.config) table stands.at;
+  ends = stands.at;
   farthest = farthest;
   shift_is = shift_is;
 }
@@ -102,3 +102,10 @@ test_failed m side i j begin end bound shift r c fails none = (
   λ t. absurd (let one : r ≡ true = t in cc),
   λ s. absurd (none (stands_passed m side i j begin end bound shift c s)),
 )
+
+-- a run without one of the two times has no translated cycle from the one to the other
+pub not_begun : (m : Program) (side : Dir) (i j : ℕ) → ((c : Config) → after m i ≡ Some c → ⊥) → IsTrue false ↔ Translated m i j side
+not_begun m side i j none = (λ t. absurd (let one : false ≡ true = t in cc), λ s. absurd (none s.begin s.begins))
+
+pub not_ended : (m : Program) (side : Dir) (i j : ℕ) → ((c : Config) → after m j ≡ Some c → ⊥) → IsTrue false ↔ Translated m i j side
+not_ended m side i j none = (λ t. absurd (let one : false ≡ true = t in cc), λ s. absurd (none s.end s.ends))

@@ -15,8 +15,8 @@ use Rattle.run.specs.Standing.{Standing, OnRun}
 use Rattle.run.specs.Steps.{RunsTo, StepsTo}
 use Rattle.run.specs.declared.stepping.Step.{Step}
 use Rattle.run.specs.declared.stepping.Step.TheVariants.{Halts}
-use Rattle.loops.specs.Moment.{Moment, IsMomentOf}
-use Rattle.loops.specs.declared.limits.TheConstants.{MAX_TIME}
+use Rattle.loops.specs.inside.Moment.{Moment, IsMomentOf}
+use Rattle.loops.specs.Limits.{time_limit}
 
 -- a run that halts in at most k steps has no time k
 pub halts_before : (k : ℕ) (old new : Standing) (step : Step) (count : ℕ) → RunsTo k old step new → step ≡ Halts count → (c : Config) → after (entry_of old.table) k ≡ Some c → ⊥
@@ -37,15 +37,15 @@ halts_now old new step count steps is_halts c is =
 
 -- a place that a head can have come to by the latest time
 pub record IsNear (x : ℤ) : Type 0 where
-  pub low : neg_ℤ (pos MAX_TIME) ≤ℤ x
-  pub high : x ≤ℤ pos MAX_TIME
+  pub low : neg_ℤ (pos time_limit) ≤ℤ x
+  pub high : x ≤ℤ pos time_limit
 
-pub near_at : (m : Program) (k : ℕ) (c : Config) → after m k ≡ Some c → k ≤ MAX_TIME → IsNear c.tape.head
+pub near_at : (m : Program) (k : ℕ) (c : Config) → after m k ≡ Some c → k ≤ time_limit → IsNear c.tape.head
 near_at m k c is early =
     let reach = head_reach m k start c is in
     record { low = omega (arith, ints, reach.0); high = omega (arith, ints, reach.1) }
 
-pub near_bound : (m : Program) (side : Dir) (i j : ℕ) (b : ℤ) → Farthest m side i j b → j ≤ MAX_TIME → IsNear b
+pub near_bound : (m : Program) (side : Dir) (i j : ℕ) (b : ℤ) → Farthest m side i j b → j ≤ time_limit → IsNear b
 near_bound m side i j b f early =
     let high = f.high in
     subst IsNear f.reached (near_at m f.time f.there f.is (omega arith))
@@ -65,10 +65,10 @@ shift_within x y near other =
     record { low = omega (arith, ints); high = omega (arith, ints) }
 
 -- the configurations of a run up to the latest time
-pub near_moment : (p : Packed) (moment : Moment) → IsMomentOf p moment → moment.time ≤ MAX_TIME → IsNear moment.config.tape.head
+pub near_moment : (p : Packed) (moment : Moment) → IsMomentOf p moment → moment.time ≤ time_limit → IsNear moment.config.tape.head
 near_moment p moment is early = near_at (entry_of p) moment.time moment.config is.at early
 
-pub near_standing : (r : Standing) → OnRun r → r.steps ≤ MAX_TIME → IsNear r.config.tape.head
+pub near_standing : (r : Standing) → OnRun r → r.steps ≤ time_limit → IsNear r.config.tape.head
 near_standing r stands early = near_at (entry_of r.table) r.steps r.config stands.at early
 
 pub shift_fits : (x y : ℤ) → IsNear x → IsNear y → FitsSigned w64 (y -ℤ x)

@@ -1,3 +1,2 @@
-pub mod Moment
-pub mod Arrival
-pub mod Trail
+pub mod Limits
+pub mod inside

@@ -2,19 +2,27 @@
 //!
 //! A run that comes to one configuration twice never halts; nor does one that comes to it again moved, and
 //! the same but for cells that the head has left behind. turing's `Cycle` and `Translated` say which claims
-//! stand. `specs/` adds what a snapshot of a run is (`Moment`) and what it means that a run comes to a time
-//! (`Arrival`), and from where a trail of a run follows it (`Trail`).
+//! stand, `specs/Limits` how late their times may be. `specs/inside` is for the crate's own code: what a
+//! snapshot of a run is (`Moment`), what it means that a run comes to a time (`Arrival`), and from where a
+//! trail of a run follows it (`Trail`).
 #![tactic(auto)]
 
-mod allowances;
-mod arrivals;
-mod cycles;
-mod heads;
+mod allowance;
+mod arrival;
+mod cycle;
+mod cycle_finder;
+mod cycle_watch;
+mod farthest_head;
 mod limits;
-mod snapshots;
-mod trails;
-mod translations;
+mod search;
+mod snapshot;
+mod trail;
+mod translated;
+mod translated_finder;
+mod translated_watch;
 
-pub use cycles::{Cycle, CycleFinder};
+pub use cycle::Cycle;
+pub use cycle_finder::CycleFinder;
 pub use limits::MAX_TIME;
-pub use translations::{Translated, TranslatedFinder};
+pub use translated::Translated;
+pub use translated_finder::TranslatedFinder;

@@ -1,0 +1,4 @@
+-- What the crate's own code needs to say of its steps; no public contract speaks of it.
+pub mod Moment
+pub mod Arrival
+pub mod Trail

@@ -1,0 +1,67 @@
+// The evidence of a run that comes to one configuration twice.
+ghost use Rattle.std.specs.Prelude.{◌≡◌, ◌↔◌, ◌<◌, ◌≤◌, IfOk, IsTrue};
+ghost use Rattle.machine_text.specs.Packed.{entry_of};
+ghost use Rattle.turing.specs.Cycle.{Cycle as IsCycle};
+ghost use Rattle.loops.specs.Limits.{time_limit};
+
+use crate::arrival::comes_to;
+use crate::limits::MAX_TIME;
+use crate::snapshot::Snapshot;
+use machine_text::Table;
+use run::{Evidence, NoMemory, Refused, Runner, Verdict};
+use std::alloc::Global;
+
+/// The claim that a table's run has the same configuration at the times `i` and `j`, of which `i` is the
+/// earlier one: state, head and tape are equal. Times are numbers of steps from the blank tape; the limit
+/// of `j` is `MAX_TIME`.
+#[derive(Clone, Copy, Debug, PartialEq, Eq)]
+pub struct Cycle {
+    pub i: u64,
+    pub j: u64,
+}
+
+impl Evidence for Cycle {
+    ghost use Rattle.turing.proofs.CycleLaws.{cycle_never};
+    ghost use Rattle.run.specs.declared.verdicts.Verdict.TheVariants.{Never};
+
+    ghost within = { λ e. e.j ≤ time_limit };
+
+    ghost stands = { λ e p. IsCycle (entry_of p) e.i e.j };
+
+    ghost is_wide = { λ e p. ⊥ };
+
+    ghost shows = { λ e. Never };
+
+    fn check(&self, alloc: Global, t: &Table) -> Result<Verdict, Refused> {
+        if self.j > MAX_TIME {
+            return Err(Refused::TooLong);
+        }
+        if self.i >= self.j {
+            return Err(Refused::Fails);
+        }
+        if has_cycle(alloc, t, self.i, self.j)? {
+            Ok(Verdict::Never)
+        } else {
+            Err(Refused::Fails)
+        }
+    }
+
+    ghost law = { λ e p is_table stands. cycle_never (entry_of p) e.i e.j stands };
+}
+
+// Whether the run of a table has the same configuration at two times.
+fn has_cycle(alloc: Global, t: &Table, i: u64, j: u64) -> Result<bool, NoMemory>
+    requires order { i < j }
+    requires limit { j ≤ time_limit }
+    ensures { IfOk result (λ has. IsTrue has ↔ IsCycle (entry_of t.now) i j) }
+{
+    let mut runner = Runner::new(alloc, *t)?;
+    if !comes_to(&mut runner, i)? {
+        return Ok(false);
+    }
+    let begin = Snapshot::taken(alloc, &runner)?;
+    if !comes_to(&mut runner, j)? {
+        return Ok(false);
+    }
+    Ok(begin.is_same(&runner))
+}

@@ -1,0 +1,73 @@
+// The evidence of a run that comes to the same configuration moved, but for what it has left behind.
+ghost use Rattle.std.specs.Prelude.{◌≡◌, ◌↔◌, ◌<◌, ◌≤◌, IfOk, IsTrue};
+ghost use Rattle.machine_text.specs.Packed.{entry_of};
+ghost use Rattle.turing.specs.Translated.{Translated as IsTranslated};
+ghost use Rattle.loops.specs.Limits.{time_limit};
+
+use crate::arrival::comes_to;
+use crate::farthest_head::farthest_head;
+use crate::limits::MAX_TIME;
+use crate::snapshot::Snapshot;
+use machine_text::{Dir, Table};
+use run::{Evidence, NoMemory, Refused, Runner, Verdict};
+use std::alloc::Global;
+
+/// The claim that a table's run has, at the times `i` and `j`, of which `i` is the earlier one, the same
+/// state and the same tape on a side, but for a shift.
+///
+/// For the side R the shift, head at `j` less head at `i`, is at least 0, and each cell x at or to the
+/// right of the least head of the times from `i` to just before `j` is at time `i` what the cell x + shift
+/// is at time `j`. The side L is the mirror image. Neither time need be a record of the head. Times are
+/// numbers of steps from the blank tape; the limit of `j` is `MAX_TIME`.
+#[derive(Clone, Copy, Debug, PartialEq, Eq)]
+pub struct Translated {
+    pub i: u64,
+    pub j: u64,
+    pub side: Dir,
+}
+
+impl Evidence for Translated {
+    ghost use Rattle.turing.proofs.TranslatedLaws.{translated_never};
+    ghost use Rattle.run.specs.declared.verdicts.Verdict.TheVariants.{Never};
+
+    ghost within = { λ e. e.j ≤ time_limit };
+
+    ghost stands = { λ e p. IsTranslated (entry_of p) e.i e.j e.side };
+
+    ghost is_wide = { λ e p. ⊥ };
+
+    ghost shows = { λ e. Never };
+
+    fn check(&self, alloc: Global, t: &Table) -> Result<Verdict, Refused> {
+        if self.j > MAX_TIME {
+            return Err(Refused::TooLong);
+        }
+        if self.i >= self.j {
+            return Err(Refused::Fails);
+        }
+        if has_translated(alloc, t, self.i, self.j, self.side)? {
+            Ok(Verdict::Never)
+        } else {
+            Err(Refused::Fails)
+        }
+    }
+
+    ghost law = { λ e p is_table stands. translated_never (entry_of p) e.i e.j e.side stands };
+}
+
+// Whether the run of a table has a translated cycle between two times, on a side.
+fn has_translated(alloc: Global, t: &Table, i: u64, j: u64, side: Dir) -> Result<bool, NoMemory>
+    requires order { i < j }
+    requires limit { j ≤ time_limit }
+    ensures { IfOk result (λ has. IsTrue has ↔ IsTranslated (entry_of t.now) i j side) }
+{
+    let mut runner = Runner::new(alloc, *t)?;
+    if !comes_to(&mut runner, i)? {
+        return Ok(false);
+    }
+    let begin = Snapshot::taken(alloc, &runner)?;
+    let Some(bound) = farthest_head(&mut runner, j, side)? else {
+        return Ok(false);
+    };
+    Ok(begin.is_translated(&runner, bound, side))
+}

@@ -8,7 +8,9 @@
 #![tactic(auto)]
 
 mod certificate;
+mod deciding;
 mod decimal;
+mod finder;
 mod judgement;
 mod laws;
 mod limits;
@@ -19,6 +21,8 @@ mod record_fault;
 mod writer;
 
 pub use certificate::{Certificate, OwnedCertificate};
+pub use deciding::decide;
+pub use finder::Finder;
 pub use judgement::{Judged, judge, judge_on};
 pub use laws::{
     certified_claims_are_writable, record_texts_are_lines, records_parse_back,

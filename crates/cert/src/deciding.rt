@@ -1,0 +1,53 @@
+// From finders to a record that is certified.
+ghost use Rattle.std.specs.Prelude.{◌≡◌, true, IfOk};
+ghost use Rattle.cert.specs.Certified.{IsCertified};
+ghost use Rattle.cert.specs.Kinds.{owned_recorded};
+
+use crate::certificate::OwnedCertificate;
+use crate::finder::Finder;
+use crate::judgement::judge;
+use crate::record::OwnedRecord;
+use machine_text::Table;
+use run::{NoMemory, Refused};
+use std::alloc::{AllocError, Global};
+
+/// A record of the table with the first certificate that stands of those that the finders give, asked in
+/// their order; undecided where none does. Each certificate is judged, whatever finder gave it, and none
+/// that is refused or claims nothing is taken. Memory that is refused to a finder or to a judgement is
+/// passed on; then the finders' scratch may have changed.
+pub fn decide(
+    alloc: Global,
+    finders: &mut [Box<dyn Finder>],
+    t: &Table,
+    budget: u64,
+) -> Result<OwnedRecord, NoMemory>
+    ensures table { IfOk result (λ r. r.table ≡ t.now) }
+    ensures certified { IfOk result (λ r. IsCertified (owned_recorded r)) }
+{
+    for finder in finders.iter_mut() {
+        if let Some(certificate) = finder.find(t, budget)? {
+            let record = OwnedRecord {
+                table: *t,
+                certificate,
+            };
+            if is_decided(alloc, &record)? {
+                return Ok(record);
+            }
+        }
+    }
+    Ok(OwnedRecord {
+        table: *t,
+        certificate: OwnedCertificate::Undecided,
+    })
+}
+
+// Whether a record claims something, and that stands.
+fn is_decided(alloc: Global, record: &OwnedRecord) -> Result<bool, NoMemory>
+    ensures { IfOk result (λ decided. decided ≡ true → IsCertified (owned_recorded record.now)) }
+{
+    match judge(alloc, &record.lent()) {
+        Ok(verdict) => Ok(verdict.is_some()),
+        Err(Refused::NoMemory) => Err(AllocError),
+        Err(_) => Ok(false),
+    }
+}

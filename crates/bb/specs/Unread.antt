@@ -3,7 +3,7 @@ use Rattle.std.specs.Prelude.{◌≡◌, ◌⊎◌}
 use Rattle.commands.specs.declared.outcome.Outcome.{Outcome}
 use Rattle.commands.specs.declared.outcome.Outcome.TheVariants.{Accepted, BadLine, NoMemory, Failed}
 use Rattle.bb.specs.declared.line_fault.LineFault.{LineFault}
-use Rattle.bb.specs.declared.line_fault.LineFault.TheVariants.{Refused, NotText, NoSuchCommand, NoMemory as WantsMemory}
+use Rattle.bb.specs.declared.line_fault.LineFault.TheVariants.{Refused, NotText, NoSuchCommand, OutOfRange, NoMemory as WantsMemory}
 
 -- memory was refused, or a stream failed when the fault was to be said
 abbrev pub EndsGravely : Outcome → Type 0
@@ -14,4 +14,5 @@ abbrev pub EndsUnread : LineFault → Outcome → Type 0
 EndsUnread (Refused told) o = (o ≡ Accepted) ⊎ (o ≡ BadLine) ⊎ EndsGravely o
 EndsUnread NotText o = (o ≡ BadLine) ⊎ EndsGravely o
 EndsUnread NoSuchCommand o = (o ≡ BadLine) ⊎ EndsGravely o
+EndsUnread OutOfRange o = (o ≡ BadLine) ⊎ EndsGravely o
 EndsUnread WantsMemory o = EndsGravely o

@@ -1,18 +1,43 @@
 // The command line, by clap's builder.
+ghost use Rattle.std.specs.Prelude.{◌↔◌, ◌≤◌, IsTrue, IfOk};
+ghost use Rattle.bb.specs.Ranges.{AreWithinRanges, IsWithinRange};
+
 use crate::line_fault::LineFault;
-use clap::{Arg, ArgAction, ArgMatches, Command};
-use commands::Options;
+use clap::{Arg, ArgAction, ArgMatches, Command, value_parser};
+use commands::{Options, Search};
 use run::NoMemory;
 use std::alloc::Global;
 
-/// What the words of a command line ask for, the program's name first.
-pub fn options<'a>(alloc: Global, words: &'a [&'a str]) -> Result<Options<'a>, LineFault> {
+/// What the words of a command line ask for, the program's name first. Where there are options, each number
+/// is within its range.
+pub fn options<'a>(alloc: Global, words: &'a [&'a str]) -> Result<Options<'a>, LineFault>
+    ensures { IfOk result AreWithinRanges }
+{
     let matches = program(alloc)?.try_get_matches_from(words)?;
     match matches.subcommand() {
         Some(("check", _)) => Ok(Options::Check),
+        Some(("decide", decide)) => Ok(Options::Decide(search_of(decide)?)),
         Some(("report", report)) => Ok(report_options(report)),
         _ => Err(LineFault::NoSuchCommand),
     }
+}
+
+// How far to search. clap has refused what is out of range.
+fn search_of(matches: &ArgMatches<'_>) -> Result<Search, LineFault>
+    ensures { IfOk result IsWithinRange }
+{
+    match (matches.get_one::<u64>(STEPS), matches.get_one::<u64>(DEPTH)) {
+        (Some(steps), Some(depth)) if is_within(1, steps, 100_000_000) && depth <= 1_000 => {
+            Ok(Search { steps, depth })
+        }
+        _ => Err(LineFault::OutOfRange),
+    }
+}
+
+fn is_within(least: u64, number: u64, most: u64) -> bool
+    ensures { IsTrue result ↔ ((least ≤ number) × (number ≤ most)) }
+{
+    least <= number && number <= most
 }
 
 fn report_options<'a>(report: &ArgMatches<'a>) -> Options<'a> {
@@ -34,6 +59,7 @@ fn program<'a>(alloc: Global) -> Result<Command<'a>, NoMemory> {
                 .about("Checks a record a line on standard input, and prints an answer a line.")
                 .after_help(RECORDS),
         )?
+        .subcommand(decide_command(alloc)?)?
         .subcommand(
             Command::new(alloc, "report")
                 .about("Prints the report of a ledger file.")
@@ -48,6 +74,30 @@ fn program<'a>(alloc: Global) -> Result<Command<'a>, NoMemory> {
         )
 }
 
+fn decide_command<'a>(alloc: Global) -> Result<Command<'a>, NoMemory> {
+    Command::new(alloc, "decide")
+        .about("Reads a table a line on standard input, and prints a record a line.")
+        .after_help(DECIDE)
+        .arg(
+            Arg::new(alloc, STEPS)
+                .long(STEPS)
+                .value_name("K")
+                .value_parser(value_parser!(u64).range(1..=100_000_000))
+                .default_value("1000")
+                .help("Steps that each search runs a table at most"),
+        )?
+        .arg(
+            Arg::new(alloc, DEPTH)
+                .long(DEPTH)
+                .value_name("D")
+                .value_parser(value_parser!(u64).range(0..=1_000))
+                .default_value("20")
+                .help("Greatest depth of backward reasoning"),
+        )
+}
+
+const STEPS: &str = "steps";
+const DEPTH: &str = "depth";
 const FILE: &str = "FILE";
 
 const WHY: &str = "why";
@@ -82,6 +132,15 @@ Exit status: 0 the report says complete, and all was kept; 1 it doesn't, or the 
 (`refused 404` no header with a readable table, `refused 405` its table doesn't name its states in order);
 2 a wrong command line; 3 want of memory (`refused memory`); 4 the file couldn't be read (`refused 605`)
 or a stream failed (`refused 603`).";
+
+const DECIDE: &str =
+    "A line is a table in the bbchallenge standard format. Its record has the first certificate that is
+found and stands, looked for in this order: that it halts, a cycle, a translated cycle, backward
+reasoning; or `U`, undecided. A text that is no table is answered `refused 301` with its fault, as by
+`bb check`, and a line over 65,536 bytes `refused 305`. `bb decide | bb check` checks what was found.
+
+Exit status: 0 each line was a table; 1 some wasn't; 2 a wrong command line; 3 want of memory
+(`refused memory` on standard error); 4 a stream failed (`refused 603`).";
 
 const RECORDS: &str =
     "A record is a table in the bbchallenge standard format, a space and a certificate:

@@ -4,8 +4,11 @@ ghost use Rattle.bb.specs.Unread.{EndsUnread};
 
 use crate::command_line::options;
 use crate::line_fault::LineFault;
-use commands::{Ended, Opened, Options, Outcome, cmd_check, cmd_report};
-use run::NoMemory;
+use backward::BackwardFinder;
+use cert::Finder;
+use commands::{Ended, Opened, Options, Outcome, Search, cmd_check, cmd_decide, cmd_report};
+use loops::{CycleFinder, TranslatedFinder};
+use run::{HaltFinder, NoMemory};
 use std::alloc::Global;
 use std::io::{self, Read, Write};
 
@@ -41,11 +44,41 @@ pub fn obey<H: Host, R: Read, W: Write, E: Write>(
     };
     match options(alloc, &line) {
         Ok(Options::Check) => cmd_check(alloc, input, answers, faults),
+        Ok(Options::Decide(search)) => {
+            match decide_with(alloc, search, input, answers, faults) {
+                Ok(outcome) => outcome,
+                Err(_) => Ended::NoMemory.told(faults),
+            }
+        }
         Ok(Options::Report { file, why }) => {
             cmd_report(alloc, why, opened(host, file), answers, faults)
         }
         Err(fault) => told(alloc, fault, answers, faults),
     }
+}
+
+// `bb decide`, with its finders in the order in which they are asked.
+fn decide_with<R: Read, W: Write, E: Write>(
+    alloc: Global,
+    search: Search,
+    input: &mut R,
+    answers: &mut W,
+    faults: &mut E,
+) -> Result<Outcome, NoMemory> {
+    let steps = search.steps;
+    let mut finders: Vec<Box<dyn Finder>> = Vec::new(alloc);
+    finders.push(Box::new(alloc, HaltFinder::new(alloc, steps))?)?;
+    finders.push(Box::new(alloc, CycleFinder::new(alloc, steps))?)?;
+    finders.push(Box::new(alloc, TranslatedFinder::new(alloc, steps))?)?;
+    finders.push(Box::new(alloc, BackwardFinder::new(alloc, search.depth))?)?;
+    Ok(cmd_decide(
+        alloc,
+        &mut finders,
+        steps,
+        input,
+        answers,
+        faults,
+    ))
 }
 
 fn line_of(alloc: Global, words: &[String]) -> Result<Vec<&str>, NoMemory> {
@@ -74,7 +107,7 @@ fn told<W: Write, E: Write>(
 {
     let is_answer = match &fault {
         LineFault::Refused(refused) => !refused.use_stderr(),
-        LineFault::NotText | LineFault::NoSuchCommand => false,
+        LineFault::NotText | LineFault::NoSuchCommand | LineFault::OutOfRange => false,
         LineFault::NoMemory => return Ended::NoMemory.told(faults),
     };
     let Ok(text) = format!(in alloc; "{fault}") else {

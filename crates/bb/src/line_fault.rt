@@ -7,7 +7,7 @@ use std::io;
 use thiserror::Error as Fault;
 
 /// Why there are no options: clap refused the words or was asked for help or the version, a word isn't
-/// text, no command has the name that clap let through, or memory was refused.
+/// text, clap let through a command or a number that it should have refused, or memory was refused.
 #[derive(Debug, Drop, Fault)]
 pub enum LineFault {
     #[error("{0}")]
@@ -16,6 +16,8 @@ pub enum LineFault {
     NotText,
     #[error("error: no such command\n")]
     NoSuchCommand,
+    #[error("error: a number is out of its range\n")]
+    OutOfRange,
     #[error("refused memory\n")]
     NoMemory,
 }

@@ -2,7 +2,7 @@
 use crate::command_line::options;
 use crate::dispatch::{Host, obey};
 use crate::line_fault::LineFault;
-use commands::{Options, Outcome};
+use commands::{Options, Outcome, Search};
 use std::alloc::Global;
 use std::io::{self, Read, Write};
 use std::process::Abort;
@@ -106,6 +106,8 @@ fn ended(
 fn each_command_line_ends_with_its_outcome(rt: HostRuntime) -> Result<(), Fail> {
     for (words, outcome, answers, faults) in [
         (["bb", "check"].as_slice(), Outcome::Accepted, true, false),
+        // the input is a record, and no table
+        (["bb", "decide"].as_slice(), Outcome::Refused, true, false),
         (
             ["bb", "report", "complete"].as_slice(),
             Outcome::Accepted,
@@ -153,6 +155,24 @@ fn each_command_line_ends_with_its_outcome(rt: HostRuntime) -> Result<(), Fail> 
             true,
         ),
         (["bb", "--steps"].as_slice(), Outcome::BadLine, false, true),
+        (
+            ["bb", "decide", "--steps", "0"].as_slice(),
+            Outcome::BadLine,
+            false,
+            true,
+        ),
+        (
+            ["bb", "decide", "--steps", "100000001"].as_slice(),
+            Outcome::BadLine,
+            false,
+            true,
+        ),
+        (
+            ["bb", "decide", "--depth", "1001"].as_slice(),
+            Outcome::BadLine,
+            false,
+            true,
+        ),
     ] {
         let said = ended(rt.alloc(), words, (false, false))?;
         assert!(rt; said == (outcome, answers, faults), "{words:?}: {said:?}");
@@ -165,31 +185,48 @@ fn each_command_line_ends_with_its_outcome(rt: HostRuntime) -> Result<(), Fail> 
 
 #[test]
 fn options_are_read_from_the_words(rt: HostRuntime) {
-    let alloc = rt.alloc();
-    assert!(rt; matches!(options(alloc, &["bb", "check"]), Ok(Options::Check)));
-    for (words, why) in [
-        (["bb", "report", "some file"].as_slice(), false),
-        (["bb", "report", "--why", "some file"].as_slice(), true),
+    for (words, expected) in [
+        (["bb", "check"].as_slice(), Options::Check),
+        (["bb", "report", "some file"].as_slice(), report(false)),
+        (
+            ["bb", "report", "--why", "some file"].as_slice(),
+            report(true),
+        ),
+        (["bb", "decide"].as_slice(), search(1_000, 20)),
+        (
+            ["bb", "decide", "--depth", "0", "--steps", "100000000"].as_slice(),
+            search(100_000_000, 0),
+        ),
+        (
+            ["bb", "decide", "--depth", "1000", "--steps", "1"].as_slice(),
+            search(1, 1_000),
+        ),
     ] {
-        match options(alloc, words) {
-            Ok(asked) => {
-                let expected = Options::Report {
-                    file: "some file",
-                    why,
-                };
-                assert!(rt; asked == expected, "{words:?}");
-            }
+        match options(rt.alloc(), words) {
+            Ok(asked) => assert!(rt; asked == expected, "{words:?}"),
             Err(fault) => panic!(rt; "{fault}"),
         }
     }
 }
 
-// What the words of a line couldn't be read for is a wrong line, or want of memory.
+fn report(why: bool) -> Options<'static> {
+    Options::Report {
+        file: "some file",
+        why,
+    }
+}
+
+fn search(steps: u64, depth: u64) -> Options<'static> {
+    Options::Decide(Search { steps, depth })
+}
+
+// What the words of a line couldn't be read for is a wrong line, or refused memory.
 #[test]
 fn lines_that_cant_be_read_end_early(rt: HostRuntime) {
     for (fault, outcome) in [
         (LineFault::NotText, Outcome::BadLine),
         (LineFault::NoSuchCommand, Outcome::BadLine),
+        (LineFault::OutOfRange, Outcome::BadLine),
         (LineFault::NoMemory, Outcome::NoMemory),
     ] {
         let mut answers = Sink {

@@ -18,6 +18,7 @@ mod parser;
 mod parts;
 mod record;
 mod record_fault;
+mod text;
 mod writer;
 
 pub use certificate::{Certificate, OwnedCertificate};
@@ -32,3 +33,4 @@ pub use limits::MAX_RECORD_BYTES;
 pub use record::{OwnedRecord, Record};
 pub use record_fault::RecordFault;
 pub use run::NoMemory;
+pub use text::{append_number, append_table};

@@ -8,8 +8,8 @@ ghost use Rattle.cert.specs.Kinds.{recorded, claim_of};
 use crate::certificate::Certificate;
 use crate::laws::records_parse_back;
 use crate::record::Record;
-use itoa::Buffer;
-use machine_text::{Dir, TEXT_BYTES};
+use crate::text::{append_number, append_table};
+use machine_text::Dir;
 use run::NoMemory;
 
 impl Record {
@@ -53,9 +53,7 @@ impl Record {
         ensures ok { OnOk result (out.new.items ≡ out.old.items ++ record_text (recorded self.now)) }
         ensures kept { take (length out.old.items) out.new.items ≡ out.old.items }
     {
-        let mut buf = [0; TEXT_BYTES];
-        let table = self.table.text(&mut buf);
-        out.extend_from_slice(table)?;
+        append_table(&self.table, out)?;
         out.extend_from_slice(b" ")?;
         append_claim(&self.certificate, out)
     }
@@ -121,13 +119,4 @@ fn side_text(side: Dir) -> &'static [u8]
         Dir::L => b"L",
         Dir::R => b"R",
     }
-}
-
-// Appends a number.
-fn append_number(n: u64, out: &mut Vec<u8>) -> Result<(), NoMemory>
-    ensures ok { OnOk result (out.new.items ≡ out.old.items ++ decimal n) }
-    ensures err { OnErr result (out.new.items ≡ out.old.items) }
-{
-    let mut buffer = Buffer::new();
-    out.extend_from_slice(buffer.format(n).as_bytes())
 }

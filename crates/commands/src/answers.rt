@@ -5,9 +5,8 @@ ghost use Rattle.cert.specs.Kinds.{recorded, read_as};
 ghost use Rattle.commands.specs.Answer.{Answers, AnswersRecord, read_line, verdict_text, text_fault_text, fault_text};
 
 use crate::outcome::Outcome;
-use cert::{Record, RecordFault, judge};
-use itoa::Buffer;
-use machine_text::{TEXT_BYTES, TextFault};
+use cert::{Record, RecordFault, append_number, append_table, judge};
+use machine_text::TextFault;
 use run::{NoMemory, Refused, Verdict};
 use std::alloc::{AllocError, Global};
 
@@ -53,24 +52,16 @@ fn answer_record(alloc: Global, r: &Record, out: &mut Vec<u8>) -> Result<Outcome
 {
     match judge(alloc, r) {
         Ok(verdict) => {
-            append_table(r, out)?;
+            append_table(&r.table, out)?;
             append_verdict(verdict, out)?;
             Ok(Outcome::Accepted)
         }
         Err(Refused::NoMemory) => Err(AllocError),
         Err(refused) => {
-            append_number(b"refused ", u64::from(refused.number()), out)?;
+            append_named(b"refused ", u64::from(refused.number()), out)?;
             Ok(Outcome::Refused)
         }
     }
-}
-
-// Appends the record's table.
-fn append_table(r: &Record, out: &mut Vec<u8>) -> Result<(), NoMemory>
-    ensures { OnOk result (out.new.items ≡ out.old.items ++ text_of r.now.table) }
-{
-    let mut buf = [0; TEXT_BYTES];
-    out.extend_from_slice(r.table.text(&mut buf))
 }
 
 // Appends what is said of a table.
@@ -78,17 +69,17 @@ fn append_verdict(verdict: Option<Verdict>, out: &mut Vec<u8>) -> Result<(), NoM
     ensures { OnOk result (out.new.items ≡ out.old.items ++ verdict_text verdict) }
 {
     match verdict {
-        Some(Verdict::Halts(count)) => append_number(b" halts ", count, out),
+        Some(Verdict::Halts(count)) => append_named(b" halts ", count, out),
         Some(Verdict::Never) => out.extend_from_slice(b" never"),
         None => out.extend_from_slice(b" undecided"),
     }
 }
 
-// Appends a fault of a record's text; of a table's text also its own fault, and where that is.
-fn append_fault(fault: RecordFault, out: &mut Vec<u8>) -> Result<(), NoMemory>
+/// Appends a fault of a record's text; of a table's text also its own fault, and where that is.
+pub fn append_fault(fault: RecordFault, out: &mut Vec<u8>) -> Result<(), NoMemory>
     ensures { OnOk result (out.new.items ≡ out.old.items ++ fault_text fault) }
 {
-    append_number(b"refused ", u64::from(fault.number()), out)?;
+    append_named(b"refused ", u64::from(fault.number()), out)?;
     match fault {
         RecordFault::BadTable(fault) => append_text_fault(fault, out),
         _ => Ok(()),
@@ -98,18 +89,17 @@ fn append_fault(fault: RecordFault, out: &mut Vec<u8>) -> Result<(), NoMemory>
 fn append_text_fault(fault: TextFault, out: &mut Vec<u8>) -> Result<(), NoMemory>
     ensures { OnOk result (out.new.items ≡ out.old.items ++ text_fault_text fault) }
 {
-    append_number(b" ", u64::from(fault.number()), out)?;
+    append_named(b" ", u64::from(fault.number()), out)?;
     match fault.place() {
-        Some(place) => append_number(b" ", place as u64, out),
+        Some(place) => append_named(b" ", place as u64, out),
         None => Ok(()),
     }
 }
 
 // Appends a word and a number.
-fn append_number(word: &[u8], n: u64, out: &mut Vec<u8>) -> Result<(), NoMemory>
+fn append_named(word: &[u8], n: u64, out: &mut Vec<u8>) -> Result<(), NoMemory>
     ensures { OnOk result (out.new.items ≡ out.old.items ++ word.now ++ decimal n) }
 {
-    let mut buffer = Buffer::new();
     out.extend_from_slice(word)?;
-    out.extend_from_slice(buffer.format(n).as_bytes())
+    append_number(n, out)
 }

@@ -4,7 +4,7 @@ ghost use Rattle.std.specs.Vec.Iter.{into_iter_items};
 ghost use Rattle.machine_text.specs.Text.{text_of};
 ghost use Rattle.commands.specs.Report.{IsReport, line_of, lines_of, status_name, best_text, verdicts_text, counts_text, report_text};
 
-use itoa::Buffer;
+use cert::append_number;
 use ledger::{Board, Status, Tally};
 use machine_text::{TEXT_BYTES, Table};
 use run::NoMemory;
@@ -34,7 +34,7 @@ fn append_report(board: &Board, out: &mut Vec<u8>) -> Result<(), NoMemory>
 {
     let champions = board.champions()?;
     let holdouts = board.holdouts()?;
-    append_table(b"root", board.root(), out)?;
+    append_table_line(b"root", board.root(), out)?;
     append_line(b"status", status_name(board.status()), out)?;
     append_counts(&board.tally(), out)?;
     append_tables(b"champion", champions, out)?;
@@ -58,8 +58,8 @@ fn append_counts(tally: &Tally, out: &mut Vec<u8>) -> Result<(), NoMemory>
     ensures kept { take (length out.old.items) out.new.items ≡ out.old.items }
 {
     append_verdict_counts(tally, out)?;
-    append_number(b"holdouts", tally.holdouts, out)?;
-    append_number(b"open", tally.open_count, out)?;
+    append_count(b"holdouts", tally.holdouts, out)?;
+    append_count(b"open", tally.open_count, out)?;
     append_best(tally.best, out)
 }
 
@@ -68,9 +68,9 @@ fn append_verdict_counts(tally: &Tally, out: &mut Vec<u8>) -> Result<(), NoMemor
     ensures ok { OnOk result (out.new.items ≡ out.old.items ++ verdicts_text tally.now) }
     ensures kept { take (length out.old.items) out.new.items ≡ out.old.items }
 {
-    append_number(b"nodes", tally.nodes, out)?;
-    append_number(b"halting", tally.halting, out)?;
-    append_number(b"never", tally.never, out)
+    append_count(b"nodes", tally.nodes, out)?;
+    append_count(b"halting", tally.halting, out)?;
+    append_count(b"never", tally.never, out)
 }
 
 // Appends the line of the greatest number of steps.
@@ -79,7 +79,7 @@ fn append_best(best: Option<u64>, out: &mut Vec<u8>) -> Result<(), NoMemory>
     ensures kept { take (length out.old.items) out.new.items ≡ out.old.items }
 {
     match best {
-        Some(best) => append_number(b"best", best, out),
+        Some(best) => append_count(b"best", best, out),
         None => append_line(b"best", b"none", out),
     }
 }
@@ -90,13 +90,13 @@ fn append_tables(name: &[u8], tables: IntoIter<Table>, out: &mut Vec<u8>) -> Res
     ensures kept { take (length out.old.items) out.new.items ≡ out.old.items }
 {
     for table in tables {
-        append_table(name, &table, out)?;
+        append_table_line(name, &table, out)?;
     }
     Ok(())
 }
 
 // Appends a line of a table.
-fn append_table(name: &[u8], t: &Table, out: &mut Vec<u8>) -> Result<(), NoMemory>
+fn append_table_line(name: &[u8], t: &Table, out: &mut Vec<u8>) -> Result<(), NoMemory>
     ensures ok { OnOk result (out.new.items ≡ out.old.items ++ line_of name.now (text_of t.now)) }
     ensures kept { take (length out.old.items) out.new.items ≡ out.old.items }
 {
@@ -105,12 +105,14 @@ fn append_table(name: &[u8], t: &Table, out: &mut Vec<u8>) -> Result<(), NoMemor
 }
 
 // Appends a line of a number.
-fn append_number(name: &[u8], n: u64, out: &mut Vec<u8>) -> Result<(), NoMemory>
+fn append_count(name: &[u8], n: u64, out: &mut Vec<u8>) -> Result<(), NoMemory>
     ensures ok { OnOk result (out.new.items ≡ out.old.items ++ line_of name.now (decimal n)) }
     ensures kept { take (length out.old.items) out.new.items ≡ out.old.items }
 {
-    let mut buffer = Buffer::new();
-    append_line(name, buffer.format(n).as_bytes(), out)
+    out.extend_from_slice(name)?;
+    out.extend_from_slice(b" ")?;
+    append_number(n, out)?;
+    out.extend_from_slice(b"\n")
 }
 
 // Appends a line.

@@ -6,8 +6,8 @@ ghost use Rattle.commands.specs.LedgerReport.{ReportsLedger, EndsLedger, left_te
 use crate::board_report::report;
 use crate::ended::Ended;
 use crate::outcome::Outcome;
-use itoa::Buffer;
-use ledger::{Board, Left, Status, peek_root};
+use cert::append_number;
+use ledger::{Board, Left, Status, Unkept, peek_root};
 use run::NoMemory;
 use std::alloc::Global;
 use std::io::{self, Read, Write};
@@ -61,17 +61,29 @@ fn bytes_of<R: Read + Drop>(alloc: Global, file: io::Result<Opened<R>>) -> Resul
     }
 }
 
-// Says why a line wasn't kept, where there is one.
+// Says why a line wasn't kept, where there is one: the refusal number, if there is one, and words.
 fn left_told<E: Write>(alloc: Global, left: &Left, faults: &mut E) -> Outcome {
-    let Left::From { line, .. } = left else {
+    let Left::From { line, why, .. } = left else {
         return Outcome::Accepted;
     };
-    let Ok(text) = format!(in alloc; "line {line} isn't kept\n") else {
+    let said = match refusal_number(why) {
+        Some(number) => format!(in alloc; "line {line} isn't kept: {number}, {why}\n"),
+        None => format!(in alloc; "line {line} isn't kept: {why}\n"),
+    };
+    let Ok(text) = said else {
         return Ended::NoMemory.told(faults);
     };
     match faults.write_all(text.as_bytes()) {
         Ok(()) => Outcome::Accepted,
         Err(_) => Outcome::Failed,
+    }
+}
+
+fn refusal_number(why: &Unkept) -> Option<u16> {
+    match why {
+        Unkept::Unread(fault) => Some(fault.number()),
+        Unkept::Unfit(fault) => Some(fault.number()),
+        Unkept::Torn | Unkept::Repeated => None,
     }
 }
 
@@ -113,9 +125,8 @@ fn append_left(left: &Left, out: &mut Vec<u8>) -> Result<(), NoMemory>
     match left {
         Left::Nothing => Ok(()),
         Left::From { line, .. } => {
-            let mut buffer = Buffer::new();
             out.extend_from_slice(b"left ")?;
-            out.extend_from_slice(buffer.format(*line).as_bytes())?;
+            append_number(*line, out)?;
             out.extend_from_slice(b"\n")
         }
     }

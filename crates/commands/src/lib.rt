@@ -1,6 +1,6 @@
 //! The commands of `bb`, over readers and writers: what each prints to the byte, and how it ends.
 //!
-//! `specs/Answer` is the answer to a line of `bb check`, `specs/Report` the report of a board,
+//! `specs/Answer` is the answer to a line of `bb check`, `specs/Decision` that of `bb decide`, `specs/Report` the report of a board,
 //! `specs/LedgerReport` what is printed for a ledger's text, `specs/Outcome` the exit statuses. Nothing here
 //! reads the words of a command line: the program `bb` does, and hands over streams and files.
 #![tactic(auto)]
@@ -9,8 +9,10 @@ mod answers;
 mod board_report;
 mod check;
 mod cutter;
+mod decide;
 mod ended;
 mod ledger_report;
+mod line_loop;
 mod options;
 mod outcome;
 mod pieces;
@@ -18,8 +20,9 @@ mod pieces;
 pub use answers::answer;
 pub use board_report::report;
 pub use check::cmd_check;
+pub use decide::{cmd_decide, decide_line};
 pub use cutter::{Cutter, MAX_LINE_BYTES, cut};
 pub use ended::Ended;
 pub use ledger_report::{Opened, cmd_report, report_ledger};
-pub use options::Options;
+pub use options::{Options, Search};
 pub use outcome::Outcome;

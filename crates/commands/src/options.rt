@@ -5,6 +5,8 @@
 pub enum Options<'a> {
     /// `bb check`
     Check,
+    /// `bb decide [--steps K] [--depth D]`
+    Decide(Search),
     /// `bb report FILE [--why]`
     Report {
         /// The ledger's path.
@@ -12,4 +14,13 @@ pub enum Options<'a> {
         /// Whether to say why the first line that isn't kept isn't.
         why: bool,
     },
+}
+
+/// How far certificates are searched for.
+#[derive(Clone, Copy, Debug, PartialEq, Eq)]
+pub struct Search {
+    /// The steps of each finder that runs tables, and the budget: 1 to 100,000,000.
+    pub steps: u64,
+    /// The depth of backward reasoning: 0 to 1,000.
+    pub depth: u64,
 }

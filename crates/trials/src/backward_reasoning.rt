@@ -1,15 +1,8 @@
 // Checks and searches of tables whose answers come from elsewhere.
+use crate::texts::table_of;
 use backward::{Backward, BackwardFinder, MAX_DEPTH};
-use machine_text::Table;
 use run::{Evidence, Refused, Verdict};
 use std::process::Abort;
-
-fn table_of(rt: &impl Abort, text: &str) -> Table {
-    match Table::parse(text.as_bytes()) {
-        Ok(table) => table,
-        Err(fault) => panic!(rt; "{text}: {fault:?}"),
-    }
-}
 
 #[test]
 fn claims_are_checked(rt: HostRuntime) {

@@ -1,4 +1,5 @@
 // A board of the tree of one state, and offers that it refuses.
+use crate::texts::table_of;
 use cert::Record;
 use ledger::{Board, BoardFault, OfferFault, Status, Taken, Tally};
 use machine_text::Table;
@@ -6,13 +7,6 @@ use run::{Refused, Verdict};
 use std::alloc::Global;
 use std::process::Abort;
 use std::test::Fail;
-
-fn table_of(rt: &impl Abort, text: &str) -> Table {
-    match Table::parse(text.as_bytes()) {
-        Ok(table) => table,
-        Err(fault) => panic!(rt; "{text}: {fault:?}"),
-    }
-}
 
 fn record_of(rt: &impl Abort, text: &str) -> Record {
     match Record::parse(text.as_bytes()) {

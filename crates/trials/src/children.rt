@@ -1,16 +1,10 @@
 // Tables of a tree by their texts.
 ghost use Rattle.std.specs.Prelude.{◌≤◌, length};
 
-use machine_text::{State, Sym, TEXT_BYTES, Table};
+use crate::texts::table_of;
+use machine_text::{State, Sym, TEXT_BYTES};
 use std::process::Abort;
 use tnf::{Children, children, in_order, root, used};
-
-fn table_of(rt: &impl Abort, text: &str) -> Table {
-    match Table::parse(text.as_bytes()) {
-        Ok(table) => table,
-        Err(fault) => panic!(rt; "{text}: {fault:?}"),
-    }
-}
 
 fn children_of(rt: &impl Abort, text: &str, q: u8, s: Sym) -> Children
     ensures { length result ≤ 24 }

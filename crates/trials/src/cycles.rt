@@ -1,4 +1,5 @@
 // Certificates with their answers, and machines that are known to loop.
+use crate::texts::table_of;
 use loops::{Cycle, CycleFinder, MAX_TIME, Translated, TranslatedFinder};
 use machine_text::{Dir, Table};
 use run::{Evidence, Refused, Verdict};
@@ -35,13 +36,6 @@ const TRANSLATED: [(&str, u64, u64, Dir); 8] = [
     ("0LD0LB_1RC1LC_1RE1LA_1LB0RA_1RA1RC", 14, 46, Dir::L),
     ("0LB0LE_1RC1LE_1LE---_0RD1RE_1LA1RD", 5, 32, Dir::L),
 ];
-
-fn table_of(rt: &impl Abort, text: &str) -> Table {
-    match Table::parse(text.as_bytes()) {
-        Ok(table) => table,
-        Err(fault) => panic!(rt; "{text}: {fault:?}"),
-    }
-}
 
 // The answer to evidence. Where memory is refused, the check is made once more.
 fn answer_to<E: Evidence>(alloc: Global, evidence: &E, t: &Table) -> Result<Verdict, Refused> {

@@ -14,6 +14,8 @@ mod children;
 #[cfg(test)]
 mod cycles;
 #[cfg(test)]
+mod deciding;
+#[cfg(test)]
 mod ledgers;
 #[cfg(test)]
 mod records;
@@ -27,3 +29,5 @@ mod streams;
 mod tables;
 #[cfg(test)]
 mod tapes;
+#[cfg(test)]
+mod texts;

@@ -106,7 +106,10 @@ fn certificates_are_judged(rt: HostRuntime) {
         match Record::parse(text.as_bytes()) {
             Ok(record) => {
                 let mut judged = judge(rt.alloc(), &record);
-                if judged == Err(Refused::NoMemory) {
+                // Memory may be refused once, but not to a record that claims nothing.
+                if judged == Err(Refused::NoMemory)
+                    && record.certificate != Certificate::Undecided
+                {
                     judged = judge(rt.alloc(), &record);
                 }
                 assert!(rt; judged == answer, "{text}");

@@ -173,3 +173,40 @@ fn each_early_end_has_its_outcome(rt: HostRuntime) {
         assert!(rt; ended.outcome() == outcome, "{ended:?}");
     }
 }
+
+// Why the first line that isn't kept isn't is said apart from the report, and only where it is asked for.
+#[test]
+fn why_a_line_is_left_is_told(rt: HostRuntime) -> Result<(), Fail> {
+    let alloc = rt.alloc();
+    for (rest, line, number) in [
+        ("------ H 2\n", 2, "201, "),
+        ("------ H 100000001\n", 2, "202, "),
+        ("------ Q\n", 2, "302, "),
+        ("------ H 1\n0RB--- U\n", 3, "301, "),
+        ("0RA--- T 0 1 R\n", 2, "402, "),
+        ("------_------ H 1\n", 2, "403, "),
+        ("------ H 1", 2, ""),
+        ("------ H 1\n------ H 1\n", 3, ""),
+    ] {
+        let ledger = format!(in alloc; "bb-ledger 1 ------\n{rest}")?;
+        let mut said = Sink::new(alloc, usize::MAX, ALWAYS);
+        let mut told = Sink::new(alloc, usize::MAX, ALWAYS);
+        let file = file_of(ledger.as_bytes(), 1000, ALWAYS);
+        assert!(rt; cmd_report(alloc, true, file, &mut said, &mut told) == Outcome::Refused);
+        let begun = format!(in alloc; "line {line} isn't kept: {number}")?;
+        assert!(rt; told.kept.starts_with(begun.as_bytes()), "{rest}");
+        assert!(rt; begun.len() + 1 < told.kept.len() && told.kept.last() == Some(&b'\n'));
+        told.kept.clear();
+        let file = file_of(ledger.as_bytes(), 1000, ALWAYS);
+        let mut full = Sink::new(alloc, usize::MAX, 0);
+        let mut again = Sink::new(alloc, usize::MAX, ALWAYS);
+        assert!(rt; cmd_report(alloc, true, file, &mut again, &mut full) == Outcome::Failed);
+        assert!(rt; again.kept == said.kept);
+    }
+    let mut said = Sink::new(alloc, usize::MAX, ALWAYS);
+    let mut told = Sink::new(alloc, usize::MAX, ALWAYS);
+    let file = file_of(COMPLETE, 1000, ALWAYS);
+    assert!(rt; cmd_report(alloc, true, file, &mut said, &mut told) == Outcome::Accepted);
+    assert!(rt; told.kept.is_empty());
+    Ok(())
+}

@@ -1,16 +1,9 @@
 // Step counts and a tape of the field, and runs for which memory is refused.
-use machine_text::{Pair, State, Sym, Table};
+use crate::texts::table_of;
+use machine_text::{Pair, State, Sym};
 use run::{Evidence, HaltFinder, HaltsIn, MAX_HALT_STEPS, Refused, Runner, Step, Verdict};
 use std::alloc::Global;
-use std::process::Abort;
 use std::test::Fail;
-
-fn table_of(rt: &impl Abort, text: &str) -> Table {
-    match Table::parse(text.as_bytes()) {
-        Ok(table) => table,
-        Err(fault) => panic!(rt; "{text}: {fault:?}"),
-    }
-}
 
 // The champions of 1 to 4 states, with Radó's numbers S(1) to S(4).
 const CHAMPIONS: [(&str, u64); 4] = [

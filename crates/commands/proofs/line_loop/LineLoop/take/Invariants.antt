@@ -1,5 +1,5 @@
 use Rattle.std.proofs.Common.{length}
-use Rattle.commands.proofs.check.Checker.take.Given as goal
+use Rattle.commands.proofs.line_loop.LineLoop.take.Given as goal
 
 -- each turn takes a line from the piece
 abbrev pub decreases-lines : goal.decreases-lines

@@ -1,0 +1,95 @@
+// `bb decide`: tables in, records out.
+ghost use Rattle.std.specs.Prelude.{◌≡◌, ◌∷◌, [], ◌++◌, List, ℕ, IfOk};
+ghost use Rattle.commands.specs.Decision.{Decides, DecidesTable, read_table, table_read};
+
+use crate::answers::append_fault;
+use crate::line_loop::{Answerer, answer_lines};
+use crate::outcome::Outcome;
+use cert::{Finder, RecordFault, decide};
+use machine_text::Table;
+use run::NoMemory;
+use std::alloc::Global;
+use std::io::{Read, Write};
+
+/// Reads a table a line and prints a record a line: the first certificate that stands of those that the
+/// finders give, asked in their order, or that the table is undecided. Lines are answered as they come, and
+/// a last line without newline is read too. What a failed stream or refused memory ends is said on
+/// `faults`.
+pub fn cmd_decide<R: Read, W: Write, E: Write>(
+    alloc: Global,
+    finders: &mut [Box<dyn Finder>],
+    budget: u64,
+    input: &mut R,
+    answers: &mut W,
+    faults: &mut E,
+) -> Outcome {
+    let mut decider = Decider {
+        alloc,
+        finders,
+        budget,
+    };
+    answer_lines(alloc, &mut decider, input, answers, faults)
+}
+
+#[derive(Drop)]
+struct Decider<'a> {
+    alloc: Global,
+    finders: &'a mut [Box<dyn Finder>],
+    budget: u64,
+}
+
+impl<'a> Answerer for Decider<'a> {
+    fn answer(&mut self, line: Option<&[u8]>, out: &mut Vec<u8>) -> Result<Outcome, NoMemory> {
+        decide_line(self.alloc, self.finders, self.budget, line, out)
+    }
+}
+
+/// Appends the record of a line's table, which is none where the line was too long, with a newline; of a
+/// text that is no table its fault.
+pub fn decide_line(
+    alloc: Global,
+    finders: &mut [Box<dyn Finder>],
+    budget: u64,
+    line: Option<&[u8]>,
+    out: &mut Vec<u8>,
+) -> Result<Outcome, NoMemory>
+    ensures { IfOk result (λ o. (answer : List ℕ) × Decides (read_table line.entry) o answer × (out.new.items ≡ out.old.items ++ answer ++ 10 ∷ [])) }
+{
+    let outcome = match read_table(line) {
+        Ok(table) => append_record(alloc, finders, budget, &table, out)?,
+        Err(fault) => {
+            append_fault(fault, out)?;
+            Outcome::Refused
+        }
+    };
+    out.push(b'\n')?;
+    Ok(outcome)
+}
+
+// The table of a line.
+fn read_table(line: Option<&[u8]>) -> Result<Table, RecordFault>
+    ensures { result ≡ read_table line.entry }
+{
+    match line {
+        Some(text) => match Table::parse(text) {
+            Ok(table) => Ok(table),
+            Err(fault) => Err(RecordFault::BadTable(fault)),
+        },
+        None => Err(RecordFault::TooLong),
+    }
+}
+
+// Appends a record of a table.
+fn append_record(
+    alloc: Global,
+    finders: &mut [Box<dyn Finder>],
+    budget: u64,
+    t: &Table,
+    out: &mut Vec<u8>,
+) -> Result<Outcome, NoMemory>
+    ensures { IfOk result (λ o. (answer : List ℕ) × DecidesTable t.now o answer × (out.new.items ≡ out.old.items ++ answer)) }
+{
+    let record = decide(alloc, finders, t, budget)?;
+    record.lent().write_text(out)?;
+    Ok(Outcome::Accepted)
+}

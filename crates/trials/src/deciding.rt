@@ -1,0 +1,137 @@
+// Deciding tables by finders, honest and not, and `bb decide` over streams of the tests' own.
+use crate::streams::{ALWAYS, Sink, Source};
+use crate::texts::table_of;
+use backward::BackwardFinder;
+use cert::{Certificate, Finder, OwnedCertificate, decide};
+use commands::{Outcome, cmd_decide};
+use loops::{CycleFinder, TranslatedFinder};
+use machine_text::Table;
+use run::{HaltFinder, HaltsIn, NoMemory};
+use std::alloc::Global;
+use std::process::Abort;
+use std::test::Fail;
+
+// Says of each table that it halts in five steps.
+#[derive(Drop)]
+struct Five;
+
+impl Finder for Five {
+    fn find(&mut self, _t: &Table, _budget: u64) -> Result<Option<OwnedCertificate>, NoMemory> {
+        Ok(Some(OwnedCertificate::Halts(HaltsIn(5))))
+    }
+}
+
+// Gives nothing but that a table is undecided.
+#[derive(Drop)]
+struct Shy;
+
+impl Finder for Shy {
+    fn find(&mut self, _t: &Table, _budget: u64) -> Result<Option<OwnedCertificate>, NoMemory> {
+        Ok(Some(OwnedCertificate::Undecided))
+    }
+}
+
+// A certificate that doesn't stand, and one that claims nothing, are dropped; the first that stands is taken.
+#[test]
+fn finders_are_not_trusted(rt: HostRuntime) -> Result<(), Fail> {
+    let alloc = rt.alloc();
+    let table = table_of(&rt, "1RB1LB_1LA---");
+    let mut finders: Vec<Box<dyn Finder>> = Vec::new(alloc);
+    finders.push(Box::new(alloc, Five)?)?;
+    let alone = decide(alloc, &mut finders, &table, 100)?;
+    assert!(rt; alone.table == table);
+    assert!(rt; matches!(alone.lent().certificate, Certificate::Undecided));
+    finders.push(Box::new(alloc, Shy)?)?;
+    finders.push(Box::new(alloc, HaltFinder::new(alloc, 10))?)?;
+    finders.push(Box::new(alloc, HaltFinder::new(alloc, 5))?)?;
+    let record = decide(alloc, &mut finders, &table, 100)?;
+    assert!(rt; matches!(record.lent().certificate, Certificate::Halts(HaltsIn(6))));
+    Ok(())
+}
+
+#[test]
+fn each_finder_alone_gives_its_kind(rt: HostRuntime) -> Result<(), Fail> {
+    let alloc = rt.alloc();
+    let mut finders: Vec<Box<dyn Finder>> = Vec::new(alloc);
+    finders.push(Box::new(alloc, CycleFinder::new(alloc, 10))?)?;
+    let record = decide(alloc, &mut finders, &table_of(&rt, "0RB---_0LA---"), 100)?;
+    assert!(rt; matches!(record.lent().certificate, Certificate::Cycle(_)));
+    let mut finders: Vec<Box<dyn Finder>> = Vec::new(alloc);
+    finders.push(Box::new(alloc, TranslatedFinder::new(alloc, 10))?)?;
+    let record = decide(alloc, &mut finders, &table_of(&rt, "1RA---"), 100)?;
+    assert!(rt; matches!(record.lent().certificate, Certificate::Translated(_)));
+    let mut finders: Vec<Box<dyn Finder>> = Vec::new(alloc);
+    finders.push(Box::new(alloc, BackwardFinder::new(alloc, 20))?)?;
+    let record = decide(alloc, &mut finders, &table_of(&rt, "1RB---_0RB1RB"), 100)?;
+    assert!(rt; matches!(record.lent().certificate, Certificate::Backward(_)));
+    Ok(())
+}
+
+// What `bb decide` prints for an input, with a finder of halting counts.
+fn decided(
+    rt: &impl Abort,
+    alloc: Global,
+    input: &[u8],
+    at_once: usize,
+    answers: &[u8],
+    outcome: Outcome,
+) -> Result<(), Fail> {
+    let mut finders: Vec<Box<dyn Finder>> = Vec::new(alloc);
+    finders.push(Box::new(alloc, HaltFinder::new(alloc, 100))?)?;
+    let mut source = Source {
+        left: input,
+        at_once,
+        calls_left: ALWAYS,
+    };
+    let mut sink = Sink::new(alloc, usize::MAX, ALWAYS);
+    let mut faults = Sink::new(alloc, usize::MAX, ALWAYS);
+    let ended = cmd_decide(
+        alloc,
+        &mut finders,
+        100,
+        &mut source,
+        &mut sink,
+        &mut faults,
+    );
+    assert_eq!(rt; sink.kept.as_slice(), answers);
+    assert!(rt; ended == outcome && faults.kept.is_empty());
+    Ok(())
+}
+
+#[test]
+fn tables_are_answered_by_records(rt: HostRuntime) -> Result<(), Fail> {
+    let alloc = rt.alloc();
+    for at_once in [1, 5, 1000] {
+        decided(
+            &rt,
+            alloc,
+            b"1RB1LB_1LA1RZ\n1RB---_------\n1RA---",
+            at_once,
+            b"1RB1LB_1LA--- H 6\n1RB---_------ H 2\n1RA--- U\n",
+            Outcome::Accepted,
+        )?;
+        decided(
+            &rt,
+            alloc,
+            b"1RC---_------\n\n------\n",
+            at_once,
+            b"refused 301 105 2\nrefused 301 101\n------ H 1\n",
+            Outcome::Refused,
+        )?;
+    }
+    Ok(())
+}
+
+// A text of 65,536 bytes is no table, a longer line isn't kept.
+#[test]
+fn long_lines_are_no_tables(rt: HostRuntime) -> Result<(), Fail> {
+    let alloc = rt.alloc();
+    for (length, answer) in [
+        (65_536, b"refused 301 101\n".as_slice()),
+        (65_537, b"refused 305\n".as_slice()),
+    ] {
+        let input = vec![in alloc; b'x'; length]?;
+        decided(&rt, alloc, &input, 4096, answer, Outcome::Refused)?;
+    }
+    Ok(())
+}

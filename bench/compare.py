@@ -29,7 +29,7 @@ def run(command, text):
 def main():
     with tempfile.TemporaryDirectory() as folder:
         plain = [os.path.join(folder, "plain")]
-        subprocess.run(["rustc", "-O", "-o", plain[0], os.path.join(HERE, "plain.rs")], check=True)
+        subprocess.run(["rustc", "--edition", "2021", "-O", "-o", plain[0], os.path.join(HERE, "plain.rs")], check=True)
         for name, text in ROWS:
             turns = [(run(BB, text), run(plain, text)) for _ in range(TURNS)]
             if any(ours[1] != theirs[1] for ours, theirs in turns):

@@ -24,7 +24,7 @@ returns-clause-ok c = on_ok c.append_tables-2.result (λ last. (
   joined c.args.out.now.items c.append_table_line.new.out.items c.append_line.new.out.items c.append_counts.new.out.items c.append_tables.new.out.items c.append_tables-2.new.out.items
       (line_of (codes "root") (text_of c.args.board.now.root)) (line_of (codes "status") (status_name c.status.result)) (counts_text c.tally.result)
       (lines_of (codes "champion") (into_iter_items c.in_ok-champions.champions)) (lines_of (codes "holdout") (into_iter_items c.in_ok-holdouts.holdouts))
-      (c.in_ok-append_table_line.ensures.ok ∙ ap (λ (t : Packed). c.args.out.now.items ++ line_of (codes "root") (text_of t)) c.root.ensures)
+      (c.in_ok-append_table_line.ensures.ok ∙ ap (λ (t : Packed). c.args.out.now.items ++ line_of (codes "root") (text_of t)) c.root.ensures.root)
       (c.in_ok-append_line.ensures.ok ∙ ap (λ (l : List ℕ). c.append_table_line.new.out.items ++ line_of (codes "status") l) c.status_name.ensures)
       c.in_ok-append_counts.ensures.ok c.in_ok-append_tables.ensures.ok last,
 )) c.append_tables-2.ensures.ok

@@ -3,4 +3,4 @@ use Rattle.commands.proofs.line_loop.LineLoop.take.Given as goal
 
 -- each turn takes a line from the piece
 abbrev pub decreases-lines : goal.decreases-lines
-decreases-lines l = length l.left
+decreases-lines g l = length l.left

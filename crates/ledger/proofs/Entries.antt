@@ -113,7 +113,7 @@ not_halting None e = refl
 not_halting (Some (Halts k)) e = cc
 not_halting (Some Never) e = cc
 
-holdout_shows : (rs : List Recorded) (t : Packed) (c : Claim) → IsHoldout rs t → claim_in rs t ≡ Some c → shown_by c ≡ None
+pub holdout_shows : (rs : List Recorded) (t : Packed) (c : Claim) → IsHoldout rs t → claim_in rs t ≡ Some c → shown_by c ≡ None
 holdout_shows rs t c holdout is = let marked = ap (option_map mark_of) (sym is) ∙ holdout in not_halting (shown_by c) cc
 
 silent : (r : Recorded) → shown_by r.claim ≡ None → is_halting r ≡ false

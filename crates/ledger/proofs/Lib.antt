@@ -24,3 +24,4 @@ pub mod Written
 pub mod Beginnings
 pub mod Agreement
 pub mod Longest
+pub mod Boards

@@ -170,12 +170,12 @@ greatest_taken old new r best taken greatest = by (greater best (steps_of (shown
         )
 
 -- the numbers once a record is put last, and once a holdout is settled
-one : Bool → ℕ
+abbrev one : Bool → ℕ
 one true = 1
 one false = 0
 
 filter_one : (p : Recorded → Bool) (x : Recorded) (xs : List Recorded) → length (filter p (x ∷ xs)) ≡ one (p x) + length (filter p xs)
-filter_one p x xs = elim (p x) as (λ v. p x ≡ v → length (cond v (x ∷ filter p xs) (filter p xs)) ≡ one v + length (filter p xs)) [ true ↦ λ e. refl | false ↦ λ e. refl ] refl
+filter_one p x xs = elim (p x) as (λ v. p x ≡ v → length (cond v (x ∷ filter p xs) (filter p xs)) ≡ one v + length (filter p xs)) [ true ↦ λ e. omega arith | false ↦ λ e. omega arith ] refl
 
 number_more : (p : Recorded → Bool) (rs : List Recorded) (r : Recorded) → length (filter p (rs ++ (r ∷ []))) ≡ length (filter p rs) + one (p r)
 number_more p [] r = filter_one p r [] ∙ omega arith
@@ -205,23 +205,19 @@ pub number_within : (p : Recorded → Bool) (rs : List Recorded) → length (fil
 number_within p [] = omega arith
 number_within p (x ∷ xs) = elim (p x) as (λ v. p x ≡ v → length (cond v (x ∷ filter p xs) (filter p xs)) ≤ suc (length xs)) [ true ↦ λ e. omega (arith, number_within p xs) | false ↦ λ e. omega (arith, number_within p xs) ] refl
 
-counts_shown : (new : List Recorded) (c : Counts) (o : Option Verdict) (h n u : ℕ) → c.halting + one (says_halts o) ≡ h → c.never + one (says_never o) ≡ n → c.undecided + one (is_none o) ≡ u
+no_more : (o : Option ℕ) → o ≡ greater o None
+no_more None = refl
+no_more (Some x) = refl
+
+counts_shown : (c : Counts) (o : Option Verdict) (h n u : ℕ) → c.halting + one (says_halts o) ≡ h → c.never + one (says_never o) ≡ n → c.undecided + one (is_none o) ≡ u
     → ((with_shown c o).halting ≡ h) × ((with_shown c o).never ≡ n) × ((with_shown c o).undecided ≡ u) × ((with_shown c o).best ≡ greater c.best (steps_of o))
-counts_shown new c None h n u a b d = (omega (arith, a), omega (arith, b), d, sym (no_more c.best))
-  where
-    no_more : (o : Option ℕ) → greater o None ≡ o
-    no_more None = refl
-    no_more (Some x) = refl
-counts_shown new c (Some Never) h n u a b d = (omega (arith, a), b, omega (arith, d), sym (no_more c.best))
-  where
-    no_more : (o : Option ℕ) → greater o None ≡ o
-    no_more None = refl
-    no_more (Some x) = refl
-counts_shown new c (Some (Halts k)) h n u a b d = (a, omega (arith, b), omega (arith, d), refl)
+counts_shown c None h n u a b d = (let e : c.halting ≡ h = omega (arith, a) in e, let e : c.never ≡ n = omega (arith, b) in e, let e : c.undecided + 1 ≡ u = omega (arith, d) in e, no_more c.best)
+counts_shown c (Some Never) h n u a b d = (let e : c.halting ≡ h = omega (arith, a) in e, let e : c.never + 1 ≡ n = omega (arith, b) in e, let e : c.undecided ≡ u = omega (arith, d) in e, no_more c.best)
+counts_shown c (Some (Halts k)) h n u a b d = (let e : c.halting + 1 ≡ h = omega (arith, a) in e, let e : c.never ≡ n = omega (arith, b) in e, let e : c.undecided ≡ u = omega (arith, d) in e, refl)
 
 pub counted_more : (rs : List Recorded) (r : Recorded) (c : Counts) → IsCounted rs c → IsTaken rs (rs ++ (r ∷ [])) r → IsCounted (rs ++ (r ∷ [])) (with_shown c (shown_by r.claim))
 counted_more rs r c counted taken =
-    let now = counts_shown (rs ++ (r ∷ [])) c (shown_by r.claim) _ _ _ (omega (arith, counted.halting, number_more is_halting rs r)) (omega (arith, counted.never, number_more is_never rs r)) (omega (arith, counted.undecided, number_more is_undecided rs r)) in
+    let now = counts_shown c (shown_by r.claim) _ _ _ (omega (arith, counted.halting, number_more is_halting rs r)) (omega (arith, counted.never, number_more is_never rs r)) (omega (arith, counted.undecided, number_more is_undecided rs r)) in
     record { halting = now.0; never = now.1; undecided = now.2; best = subst (IsGreatestCount (rs ++ (r ∷ []))) (sym now.3) (greatest_taken rs (rs ++ (r ∷ [])) r c.best taken counted.best) }
 
 pub some_holdout : (rs : List Recorded) (r : Recorded) (x : Claim) → claim_in rs r.table ≡ Some x → shown_by x ≡ None → 0 < length (filter is_undecided rs)
@@ -246,7 +242,7 @@ counted_settled rs r x c counted is none taken =
     let n : one (says_never (shown_by x)) ≡ 0 = ap (λ (o : Option Verdict). one (says_never o)) none in
     let u : one (is_none (shown_by x)) ≡ 1 = ap (λ (o : Option Verdict). one (is_none o)) none in
     let some = some_holdout rs r x is none in
-    let now = counts_shown (settled rs r) (without_holdout c) (shown_by r.claim) _ _ _ (omega (arith, counted.halting, halts, h)) (omega (arith, counted.never, nevers, n)) (omega (arith, counted.undecided, undecided, u, some)) in
+    let now = counts_shown (without_holdout c) (shown_by r.claim) _ _ _ (omega (arith, counted.halting, halts, h)) (omega (arith, counted.never, nevers, n)) (omega (arith, counted.undecided, undecided, u, some)) in
     record { halting = now.0; never = now.1; undecided = now.2; best = subst (IsGreatestCount (settled rs r)) (sym now.3) (greatest_taken rs (settled rs r) r c.best taken counted.best) }
 
 -- the tables of a number of steps

@@ -2,7 +2,8 @@
 use Rattle.std.proofs.Common.{◌≡◌, ◌≢◌, ℕ, true, false, List, [], ◌∷◌, ◌++◌, Option, Some, None, option_map, inl, inr, ◌⊎◌, ◌↔◌, refl, sym, ◌∙◌, ap, subst, length}
 use Rattle.std.specs.Prelude.{slice_get}
 use Rattle.std.specs.List.{All}
-use Rattle.std.specs.Map.{remove_entry}
+use Rattle.std.specs.Map.{lookup, remove_entry}
+use Rattle.std.specs.Option.{is_some}
 use Rattle.std.specs.BTreeMap.{BTreeMap, ContainsKey, is_at}
 use Rattle.machine_text.specs.Packed.{Packed, IsTable, entry_of}
 use Rattle.machine_text.specs.declared.transition.Pair.{Pair}
@@ -56,6 +57,12 @@ open_taken_exact root old new r tables after before taken is q = let law = open_
   λ h. law.1 (elim ((is q).0 h) [ inl a ↦ inl ((before.exact q).0 a.0, a.1) | inr u ↦ inr u ]),
   λ h. (is q).1 (elim (law.0 h) [ inl a ↦ inl ((before.exact q).1 a.0, a.1) | inr u ↦ inr u ]),
 )
+
+pub same_map : (tables after : BTreeMap Packed ℕ) (b : Contents) → after.entries ≡ tables.entries → IsOpenMap tables b → IsOpenMap after b
+same_map tables after b same before = record {
+  exact = λ t. subst (λ (es : List (Packed × ℕ)). (is_some (lookup (is_at (table_cmp t)) es) ≡ true) ↔ IsOpen b.root (mark_in b.records) t) (sym same) (before.exact t);
+  openers = subst (All (λ (e : Packed × ℕ). IsOpener b.records e.1)) (sym same) before.openers;
+}
 
 -- the children come into the map, and then the record's table goes out of it
 pub opened_then_closed : (rs : List Recorded) (r : Recorded) (A B C : Type 0) (q : Packed) → B ↔ (A ⊎ IsNewChild rs r q) → C ↔ (B × (q ≢ r.table)) → C ↔ ((A × (q ≢ r.table)) ⊎ IsNewChild rs r q)

@@ -1,5 +1,5 @@
 // Looking for the record of a table.
-ghost use Rattle.std.specs.Prelude.{◌≡◌, ◌<◌, ◌^◌, ℕ, false, All, Some, IfSome, IfNone, option_map, slice_get};
+ghost use Rattle.std.specs.Prelude.{◌≡◌, ◌<◌, ◌^◌, ℕ, false, All, Some, IfSome, IfNone, length, option_map, slice_get};
 ghost use Rattle.cert.specs.Claim.{Recorded};
 ghost use Rattle.cert.specs.Certified.{HaltsOnPair};
 ghost use Rattle.cert.specs.Kinds.{claim_of};
@@ -52,6 +52,7 @@ pub fn place_of(records: &IndexMap<Table, Kept>, t: &Table) -> usize
     requires { IsHoldout (records_of records.now.entries) t.now }
     ensures place { (r : Recorded) × (slice_get (records_of records.now.entries) result ≡ Some r) × (r.table ≡ t.now) × (is_halting r ≡ false) }
     ensures small { result < 2 ^ 63 }
+    ensures room { length records.now.entries < 2 ^ 63 }
 {
     let _ = records.len();
     match records.get_full(t) {

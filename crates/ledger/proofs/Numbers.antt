@@ -145,11 +145,14 @@ greatest_taken old new r best taken greatest = by (greater best (steps_of (shown
   where
     still : (k : ℕ) (t : Packed) → HaltsAfter old k t → HaltsAfter new k t
     still k t halts = ap (option_map mark_of) (taken.others t (λ (e : t ≡ r.table). taken.before k (subst (λ (p : Packed). mark_in old p ≡ Some (Halting k)) e halts))) ∙ halts
+
     some_before : (b : Option ℕ) (s : ℕ) → b ≡ Some s → IsGreatestCount old b → ((t : Packed) × HaltsAfter old s t) × ((t : Packed) (k : ℕ) → HaltsAfter old k t → k ≤ s)
     some_before b s is g = subst (IsGreatestCount old) is g
+
     bound : (b : Option ℕ) (k : ℕ) (t : Packed) → IsGreatestCount old b → HaltsAfter old k t → (s : ℕ) × (b ≡ Some s) × (k ≤ s)
     bound None k t g halts = absurd (g t k halts)
     bound (Some s) k t g halts = (s, refl, g.1 t k halts)
+
     by : (o : Option ℕ) → greater best (steps_of (shown_by r.claim)) ≡ o → IsGreatestCount new o
     by None is = λ t k halts.
         let both = greater_none best (steps_of (shown_by r.claim)) is in

@@ -273,7 +273,13 @@ impl Board {
         let kept = Kept::of(self.alloc, r)?;
         self.records.reserve(1)?;
         let place = self.records.len();
-        open_children(&mut self.open_tables, &self.records, r, place, kept.halts_on)?;
+        open_children(
+            &mut self.open_tables,
+            &self.records,
+            r,
+            place,
+            kept.halts_on,
+        )?;
         // From here on nothing is refused: there is room for the record.
         match self.records.insert(r.table, kept) {
             Ok(_) => {}
@@ -296,7 +302,13 @@ impl Board {
         child_is_table();
         let kept = Kept::of(self.alloc, r)?;
         let place = place_of(&self.records, &r.table);
-        open_children(&mut self.open_tables, &self.records, r, place, kept.halts_on)?;
+        open_children(
+            &mut self.open_tables,
+            &self.records,
+            r,
+            place,
+            kept.halts_on,
+        )?;
         // From here on nothing is refused: the table has its place.
         match self.records.insert(r.table, kept) {
             Ok(_) => {}

@@ -53,7 +53,13 @@ pub fn open_children(
     ensures err { OnErr result (tables.new.entries ≡ tables.old.entries) }
 {
     match halts_on {
-        Some(pair) => open_all(tables, records, &r.table, place, children_on(&r.table, pair)),
+        Some(pair) => open_all(
+            tables,
+            records,
+            &r.table,
+            place,
+            children_on(&r.table, pair),
+        ),
         None => Ok(()),
     }
 }
@@ -100,11 +106,7 @@ fn open_child(
 }
 
 // Opens a table, unless it is open.
-fn open_new(
-    tables: &mut BTreeMap<Table, usize>,
-    t: Table,
-    place: usize,
-) -> Result<(), NoMemory>
+fn open_new(tables: &mut BTreeMap<Table, usize>, t: Table, place: usize) -> Result<(), NoMemory>
     ensures ok { OnOk result ((q : Packed) → ContainsKey table_cmp tables.new q ↔ (ContainsKey table_cmp tables.old q ⊎ (q ≡ t))) }
     ensures others { others place tables.new.entries ≡ others place tables.old.entries }
 {

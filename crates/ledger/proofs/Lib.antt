@@ -1,6 +1,8 @@
 pub mod Apart
 pub mod Same
 pub mod Claims
+pub mod Entries
+pub mod Openers
 pub mod HeldLaws
 pub mod OpenLaws
 pub mod OpenStart
@@ -22,3 +24,4 @@ pub mod Written
 pub mod Beginnings
 pub mod Agreement
 pub mod Longest
+pub mod Boards

@@ -1,5 +1,5 @@
 -- How many tables of a kind a board has, which they are in order, and the greatest recorded count.
-use Rattle.std.proofs.Common.{◌≡◌, ℕ, suc, ◌<◌, ◌≤◌, nat_lt, nat_lt, Bool, true, false, List, [], ◌∷◌, Option, Some, None, option_map, inl, inr, ◌⊎◌, ◌↔◌, refl, sym, ◌∙◌, ap, subst, map, length, arith, fold}
+use Rattle.std.proofs.Common.{◌≡◌, ℕ, suc, ◌+◌, ◌-◌, ◌<◌, ◌≤◌, nat_lt, Bool, cond, true, false, List, [], ◌∷◌, ◌++◌, Option, Some, None, option_map, inl, inr, ◌⊎◌, ◌↔◌, refl, sym, ◌∙◌, ap, subst, map, length, arith}
 use Rattle.std.specs.List.{Contains, filter}
 use Rattle.std.specs.Option.{is_none}
 use Rattle.std.proofs.lemmas.Bool.{ltb-true, ltb-false}
@@ -10,11 +10,14 @@ use Rattle.run.specs.declared.verdicts.Verdict.{Verdict}
 use Rattle.run.specs.declared.verdicts.Verdict.TheVariants.{Halts, Never}
 use Rattle.tree.specs.Closed.{Mark, Halting, NonHalting, Holdout}
 use Rattle.cert.specs.Claim.{Claim, Recorded, shown_by}
-use Rattle.ledger.specs.Records.{claim_in, mark_in, mark_of, mark_by}
-use Rattle.ledger.specs.Held.{IsHoldout}
-use Rattle.ledger.specs.Inside.Counting.{is_undecided, is_halting, is_never, says_halts, says_never, is_champion, is_steps, steps_of, greater, greatest}
+use Rattle.ledger.specs.Records.{same_table, claim_in, mark_in, mark_of, mark_by}
+use Rattle.ledger.specs.Held.{IsHoldout, settled}
+use Rattle.ledger.specs.Inside.Counting.{is_undecided, is_halting, is_never, says_halts, says_never, is_champion, is_steps, steps_of, greater, IsCounted, with_shown, without_holdout}
 use Rattle.ledger.specs.Tally.{AreSoMany, HaltsAfter, IsHalting, IsNonHalting, IsGreatestCount}
-use Rattle.ledger.proofs.OpenLaws.{stopping_verdict}
+use Rattle.ledger.proofs.OpenLaws.{IsTaken, stopping_verdict}
+use Rattle.ledger.specs.declared.counts.Counts.{Counts}
+use Rattle.ledger.proofs.Same.{same_is, apart}
+use Rattle.ledger.proofs.Claims.{claim_here, claim_past, claim_none, settled_here, settled_past}
 use Rattle.ledger.proofs.Apart.{AreApart, first_or_later, later_member, first_member, claim_member, member_claim, chosen_from, chosen, chosen_once}
 
 -- the tables of a kind, where those of the records that pass a test are of it
@@ -103,19 +106,7 @@ never_number rs apart = number_of_kind (IsNonHalting rs) is_never rs apart
     (λ r at pass. member_marked rs r apart at ∙ ap (λ (m : Mark). Some m) (never_mark (shown_by r.claim) pass))
     (λ t never. let w = marked_member rs t NonHalting never in (w.0, w.1, mark_never (shown_by w.0.claim) w.2, w.3))
 
--- counted along the code's list
-pub counted : {X Y : Type 0} (f : X → Y) (p : Y → Bool) (xs : List X) → length (filter (λ (x : X). p (f x)) xs) ≡ length (filter p (map f xs))
-counted f p [] = refl
-counted {X} f p (x ∷ xs) =
-    elim (p (f x)) as (λ v. p (f x) ≡ v → length (filter (λ (x : X). p (f x)) (x ∷ xs)) ≡ length (filter p (map f (x ∷ xs)))) [
-      | true ↦ λ pass. rw pass (ap suc (counted f p xs))
-      | false ↦ λ fails. rw fails (counted f p xs)
-    ] refl
-
--- the greatest count along a list
-Least : Option ℕ → ℕ → Type 0
-Least o s = (k : ℕ) → o ≡ Some k → k ≤ s
-
+-- the greater of two
 greater_none : (a b : Option ℕ) → greater a b ≡ None → (a ≡ None) × (b ≡ None)
 greater_none None b e = (refl, e)
 greater_none (Some a) None e = cc
@@ -130,70 +121,132 @@ greater_some (Some a) (Some b) s e =
       | false ↦ λ fails. let same : a ≡ s = cc in (inl (ap (λ (n : ℕ). Some n) same), λ k is. let one : a ≡ k = cc in omega arith, λ k is. let one : b ≡ k = cc in let low : b ≤ a = ltb-false a b fails in omega arith)
     ] refl
 
-abbrev steps_in : Recorded → Option ℕ
-steps_in r = steps_of (shown_by r.claim)
+steps_halting : (o : Option Verdict) (k : ℕ) → mark_by o ≡ Halting k → steps_of o ≡ Some k
+steps_halting o k is = ap steps_of (stopping_verdict o k is)
 
-abbrev best_of : Option ℕ → List Recorded → Option ℕ
-best_of best rs = fold (λ (b : Option ℕ) (r : Recorded). greater b (steps_in r)) best rs
+halting_steps : (o : Option Verdict) (k : ℕ) → steps_of o ≡ Some k → mark_by o ≡ Halting k
+halting_steps None k e = cc
+halting_steps (Some (Halts j)) k e = let same : j ≡ k = cc in ap (λ (n : ℕ). Halting n) same
+halting_steps (Some Never) k e = cc
 
-best_none : (best : Option ℕ) (rs : List Recorded) → best_of best rs ≡ None → (best ≡ None) × ((r : Recorded) (k : ℕ) → Contains rs r → steps_in r ≡ Some k → ⊥)
-best_none best [] e = (e, λ r k at is. absurd (let (j, below, same) = at in omega arith))
-best_none best (x ∷ xs) e =
-    let later = best_none (greater best (steps_in x)) xs e in
-    let both = greater_none best (steps_in x) later.0 in (
-      both.0,
-      λ r k at is. elim (first_or_later x xs r at) [
-        | inl same ↦ let none = both.1 in let steps = ap steps_in same in cc
-        | inr more ↦ later.1 r k more is
-      ],
-    )
+-- the greatest count once a record is taken
+halts_after : (old new : List Recorded) (r : Recorded) (k : ℕ) (t : Packed) → IsTaken old new r → HaltsAfter new k t → HaltsAfter old k t ⊎ (steps_of (shown_by r.claim) ≡ Some k)
+halts_after old new r k t taken halts =
+    elim (same_table t r.table) as (λ v. same_table t r.table ≡ v → HaltsAfter old k t ⊎ (steps_of (shown_by r.claim) ≡ Some k)) [
+      | true ↦ λ same.
+          let here = subst (λ (p : Packed). mark_in new p ≡ Some (Halting k)) (same_is t r.table same) halts in
+          let marked = ap (option_map mark_of) taken.here in
+          let mark : mark_of r.claim ≡ Halting k = cc in inr (steps_halting (shown_by r.claim) k mark)
+      | false ↦ λ other. inl (ap (option_map mark_of) (sym (taken.others t (apart t r.table other))) ∙ halts)
+    ] refl
 
-best_some : (best : Option ℕ) (rs : List Recorded) (s : ℕ) → best_of best rs ≡ Some s
-    → ((best ≡ Some s) ⊎ ((r : Recorded) × Contains rs r × (steps_in r ≡ Some s))) × ((k : ℕ) → best ≡ Some k → k ≤ s) × ((r : Recorded) (k : ℕ) → Contains rs r → steps_in r ≡ Some k → k ≤ s)
-best_some best [] s e = (inl e, λ k is. let same : k ≡ s = cc in omega arith, λ r k at is. absurd (let (j, below, same) = at in omega arith))
-best_some best (x ∷ xs) s e =
-    let later = best_some (greater best (steps_in x)) xs s e in
-    let bound : (k : ℕ) → ((best ≡ Some k) ⊎ (steps_in x ≡ Some k)) → k ≤ s = λ k is.
-    elim (greater best (steps_in x)) as (λ o. greater best (steps_in x) ≡ o → k ≤ s) [
-      | None ↦ λ none. let both = greater_none best (steps_in x) none in elim is [ inl a ↦ let n = both.0 in absurd (cc) | inr b ↦ let n = both.1 in absurd (cc) ]
-      | Some m ↦ λ some.
-          let within : m ≤ s = later.1 m some in
-          let parts = greater_some best (steps_in x) m some in
-          let low : k ≤ m = elim is [ inl a ↦ parts.1 k a | inr b ↦ parts.2 k b ] in omega arith
-    ] refl in (
-      elim later.0 [
-        | inl is ↦ elim (greater_some best (steps_in x) s is).0 [ inl a ↦ inl a | inr b ↦ inr (x, first_member x x xs refl, b) ]
-        | inr w ↦ inr (w.0, later_member x xs w.0 w.1, w.2)
-      ],
-      λ k is. bound k (inl is),
-      λ r k at is. elim (first_or_later x xs r at) [
-        | inl same ↦ bound k (inr (ap steps_in same ∙ is))
-        | inr more ↦ later.2 r k more is
-      ],
-    )
+pub greatest_taken : (old new : List Recorded) (r : Recorded) (best : Option ℕ) → IsTaken old new r → IsGreatestCount old best → IsGreatestCount new (greater best (steps_of (shown_by r.claim)))
+greatest_taken old new r best taken greatest = by (greater best (steps_of (shown_by r.claim))) refl
+  where
+    still : (k : ℕ) (t : Packed) → HaltsAfter old k t → HaltsAfter new k t
+    still k t halts = ap (option_map mark_of) (taken.others t (λ (e : t ≡ r.table). taken.before k (subst (λ (p : Packed). mark_in old p ≡ Some (Halting k)) e halts))) ∙ halts
 
-halting_steps : (c : Claim) (k : ℕ) → mark_of c ≡ Halting k → steps_of (shown_by c) ≡ Some k
-halting_steps c k is = ap steps_of (stopping_verdict (shown_by c) k is)
+    some_before : (b : Option ℕ) (s : ℕ) → b ≡ Some s → IsGreatestCount old b → ((t : Packed) × HaltsAfter old s t) × ((t : Packed) (k : ℕ) → HaltsAfter old k t → k ≤ s)
+    some_before b s is g = subst (IsGreatestCount old) is g
 
-steps_halting : (o : Option Verdict) (k : ℕ) → steps_of o ≡ Some k → mark_by o ≡ Halting k
-steps_halting None k e = cc
-steps_halting (Some (Halts j)) k e = let same : j ≡ k = cc in ap (λ (n : ℕ). Halting n) same
-steps_halting (Some Never) k e = cc
+    bound : (b : Option ℕ) (k : ℕ) (t : Packed) → IsGreatestCount old b → HaltsAfter old k t → (s : ℕ) × (b ≡ Some s) × (k ≤ s)
+    bound None k t g halts = absurd (g t k halts)
+    bound (Some s) k t g halts = (s, refl, g.1 t k halts)
 
-greatest_is : (rs : List Recorded) (o : Option ℕ) → AreApart rs → greatest rs ≡ o → IsGreatestCount rs o
-greatest_is rs None apart e = λ t k halts.
-    let w = marked_member rs t (Halting k) halts in (best_none None rs e).1 w.0 k w.1 (halting_steps w.0.claim k w.2)
-greatest_is rs (Some s) apart e =
-    let best = best_some None rs s e in (
-      elim best.0 [
-        | inl none ↦ absurd (cc)
-        | inr w ↦ (w.0.table, member_marked rs w.0 apart w.1 ∙ ap (λ (m : Mark). Some m) (steps_halting (shown_by w.0.claim) s w.2))
-      ],
-      λ t k halts. let w = marked_member rs t (Halting k) halts in best.2 w.0 k w.1 (halting_steps w.0.claim k w.2),
-    )
+    by : (o : Option ℕ) → greater best (steps_of (shown_by r.claim)) ≡ o → IsGreatestCount new o
+    by None is = λ t k halts.
+        let both = greater_none best (steps_of (shown_by r.claim)) is in
+        elim (halts_after old new r k t taken halts) [
+          | inl before ↦ let w = bound best k t greatest before in let none = both.0 in let some = w.1 in absurd (cc)
+          | inr now ↦ let none = both.1 in absurd (cc)
+        ]
+    by (Some s) is =
+        let parts = greater_some best (steps_of (shown_by r.claim)) s is in (
+          elim parts.0 [
+            | inl before ↦ let w = (some_before best s before greatest).0 in (w.0, still s w.0 w.1)
+            | inr now ↦ (r.table, ap (option_map mark_of) taken.here ∙ ap (λ (m : Mark). Some m) (halting_steps (shown_by r.claim) s now))
+          ],
+          λ t k halts. elim (halts_after old new r k t taken halts) [
+            | inl before ↦ let w = bound best k t greatest before in let low : w.0 ≤ s = parts.1 w.0 w.1 in omega (arith, w.2, low)
+            | inr now ↦ parts.2 k now
+          ],
+        )
 
-pub greatest_count : (rs : List Recorded) → AreApart rs → IsGreatestCount rs (greatest rs)
-greatest_count rs apart = greatest_is rs (greatest rs) apart refl
+-- the numbers once a record is put last, and once a holdout is settled
+abbrev one : Bool → ℕ
+one true = 1
+one false = 0
+
+filter_one : (p : Recorded → Bool) (x : Recorded) (xs : List Recorded) → length (filter p (x ∷ xs)) ≡ one (p x) + length (filter p xs)
+filter_one p x xs = elim (p x) as (λ v. p x ≡ v → length (cond v (x ∷ filter p xs) (filter p xs)) ≡ one v + length (filter p xs)) [ true ↦ λ e. omega arith | false ↦ λ e. omega arith ] refl
+
+number_more : (p : Recorded → Bool) (rs : List Recorded) (r : Recorded) → length (filter p (rs ++ (r ∷ []))) ≡ length (filter p rs) + one (p r)
+number_more p [] r = filter_one p r [] ∙ omega arith
+number_more p (x ∷ rs) r = omega (arith, filter_one p x (rs ++ (r ∷ [])), number_more p rs r, filter_one p x rs)
+
+abbrev by_claim : (Option Verdict → Bool) → Recorded → Bool
+by_claim q r = q (shown_by r.claim)
+
+number_settled : (q : Option Verdict → Bool) (rs : List Recorded) (r : Recorded) (c : Claim) → claim_in rs r.table ≡ Some c
+    → length (filter (by_claim q) (settled rs r)) + one (q (shown_by c)) ≡ length (filter (by_claim q) rs) + one (q (shown_by r.claim))
+number_settled q [] r c is = let none = claim_none r.table in absurd (cc)
+number_settled q (x ∷ xs) r c is =
+    elim (same_table x.table r.table) as (λ v. same_table x.table r.table ≡ v → length (filter (by_claim q) (settled (x ∷ xs) r)) + one (q (shown_by c)) ≡ length (filter (by_claim q) (x ∷ xs)) + one (q (shown_by r.claim))) [
+      | true ↦ λ here.
+          let claimed = claim_here x xs r.table here in
+          let claim : x.claim ≡ c = cc in
+          let same = ap (λ (d : Claim). one (q (shown_by d))) claim in
+          let list = ap (λ (l : List Recorded). length (filter (by_claim q) l)) (settled_here x xs r here) in
+          omega (arith, list, filter_one (by_claim q) r xs, filter_one (by_claim q) x xs, same)
+      | false ↦ λ other.
+          let list = ap (λ (l : List Recorded). length (filter (by_claim q) l)) (settled_past x xs r other) in
+          let later = number_settled q xs r c (sym (claim_past x xs r.table other) ∙ is) in
+          omega (arith, list, filter_one (by_claim q) x (settled xs r), filter_one (by_claim q) x xs, later)
+    ] refl
+
+pub number_within : (p : Recorded → Bool) (rs : List Recorded) → length (filter p rs) ≤ length rs
+number_within p [] = omega arith
+number_within p (x ∷ xs) = elim (p x) as (λ v. p x ≡ v → length (cond v (x ∷ filter p xs) (filter p xs)) ≤ suc (length xs)) [ true ↦ λ e. omega (arith, number_within p xs) | false ↦ λ e. omega (arith, number_within p xs) ] refl
+
+no_more : (o : Option ℕ) → o ≡ greater o None
+no_more None = refl
+no_more (Some x) = refl
+
+counts_shown : (c : Counts) (o : Option Verdict) (h n u : ℕ) → c.halting + one (says_halts o) ≡ h → c.never + one (says_never o) ≡ n → c.undecided + one (is_none o) ≡ u
+    → ((with_shown c o).halting ≡ h) × ((with_shown c o).never ≡ n) × ((with_shown c o).undecided ≡ u) × ((with_shown c o).best ≡ greater c.best (steps_of o))
+counts_shown c None h n u a b d = (let e : c.halting ≡ h = omega (arith, a) in e, let e : c.never ≡ n = omega (arith, b) in e, let e : c.undecided + 1 ≡ u = omega (arith, d) in e, no_more c.best)
+counts_shown c (Some Never) h n u a b d = (let e : c.halting ≡ h = omega (arith, a) in e, let e : c.never + 1 ≡ n = omega (arith, b) in e, let e : c.undecided ≡ u = omega (arith, d) in e, no_more c.best)
+counts_shown c (Some (Halts k)) h n u a b d = (let e : c.halting + 1 ≡ h = omega (arith, a) in e, let e : c.never ≡ n = omega (arith, b) in e, let e : c.undecided ≡ u = omega (arith, d) in e, refl)
+
+pub counted_more : (rs : List Recorded) (r : Recorded) (c : Counts) → IsCounted rs c → IsTaken rs (rs ++ (r ∷ [])) r → IsCounted (rs ++ (r ∷ [])) (with_shown c (shown_by r.claim))
+counted_more rs r c counted taken =
+    let now = counts_shown c (shown_by r.claim) _ _ _ (omega (arith, counted.halting, number_more is_halting rs r)) (omega (arith, counted.never, number_more is_never rs r)) (omega (arith, counted.undecided, number_more is_undecided rs r)) in
+    record { halting = now.0; never = now.1; undecided = now.2; best = subst (IsGreatestCount (rs ++ (r ∷ []))) (sym now.3) (greatest_taken rs (rs ++ (r ∷ [])) r c.best taken counted.best) }
+
+pub some_holdout : (rs : List Recorded) (r : Recorded) (x : Claim) → claim_in rs r.table ≡ Some x → shown_by x ≡ None → 0 < length (filter is_undecided rs)
+some_holdout [] r x is none = let gone = claim_none r.table in absurd (cc)
+some_holdout (y ∷ ys) r x is none =
+    elim (same_table y.table r.table) as (λ v. same_table y.table r.table ≡ v → 0 < length (filter is_undecided (y ∷ ys))) [
+      | true ↦ λ here.
+          let claimed = claim_here y ys r.table here in
+          let claim : y.claim ≡ x = cc in
+          let pass : one (is_undecided y) ≡ 1 = ap (λ (d : Claim). one (is_none (shown_by d))) claim ∙ ap (λ (o : Option Verdict). one (is_none o)) none in
+          omega (arith, filter_one is_undecided y ys, pass)
+      | false ↦ λ other. omega (arith, filter_one is_undecided y ys, some_holdout ys r x (sym (claim_past y ys r.table other) ∙ is) none)
+    ] refl
+
+pub counted_settled : (rs : List Recorded) (r : Recorded) (x : Claim) (c : Counts) → IsCounted rs c → claim_in rs r.table ≡ Some x → shown_by x ≡ None → IsTaken rs (settled rs r) r
+    → IsCounted (settled rs r) (with_shown (without_holdout c) (shown_by r.claim))
+counted_settled rs r x c counted is none taken =
+    let halts = number_settled says_halts rs r x is in
+    let nevers = number_settled says_never rs r x is in
+    let undecided = number_settled (λ (o : Option Verdict). is_none o) rs r x is in
+    let h : one (says_halts (shown_by x)) ≡ 0 = ap (λ (o : Option Verdict). one (says_halts o)) none in
+    let n : one (says_never (shown_by x)) ≡ 0 = ap (λ (o : Option Verdict). one (says_never o)) none in
+    let u : one (is_none (shown_by x)) ≡ 1 = ap (λ (o : Option Verdict). one (is_none o)) none in
+    let some = some_holdout rs r x is none in
+    let now = counts_shown (without_holdout c) (shown_by r.claim) _ _ _ (omega (arith, counted.halting, halts, h)) (omega (arith, counted.never, nevers, n)) (omega (arith, counted.undecided, undecided, u, some)) in
+    record { halting = now.0; never = now.1; undecided = now.2; best = subst (IsGreatestCount (settled rs r)) (sym now.3) (greatest_taken rs (settled rs r) r c.best taken counted.best) }
 
 -- the tables of a number of steps
 champion_mark : (o : Option Verdict) (best : ℕ) → is_steps best (steps_of o) ≡ true → mark_by o ≡ Halting best

@@ -1,5 +1,5 @@
 -- Where an offered record stands, and what becomes of it.
-use Rattle.std.proofs.Common.{◌≡◌, List, [], ◌∷◌, ◌++◌, Option, Some, None, option_map, IsSome, inl, inr, ◌⊎◌, Result, Ok, Err, IfOk, IfErr, OnErr, map, refl, sym, ap, subst}
+use Rattle.std.proofs.Common.{◌≡◌, List, [], ◌∷◌, ◌++◌, Option, Some, None, option_map, IsSome, inl, inr, ◌⊎◌, Result, Ok, Err, IfOk, IfErr, OnErr, refl, sym, ap, subst}
 use Rattle.machine_text.specs.Packed.{Packed}
 use Rattle.run.specs.declared.verdicts.Verdict.{Verdict}
 use Rattle.run.specs.declared.verdicts.Verdict.TheVariants.{Halts, Never}
@@ -9,9 +9,6 @@ use Rattle.ledger.specs.Records.{claim_in, mark_in, mark_of, mark_by}
 use Rattle.ledger.specs.Held.{IsFit, IsHoldout, Settles, settled}
 use Rattle.ledger.specs.Offers.{IsJudged, OfferGives}
 use Rattle.ledger.specs.Inside.Places.{IsRefusal, IsPlace, place_by}
-use Rattle.ledger.specs.Contents.{Contents}
-use Rattle.ledger.specs.declared.kept.Kept.{Kept}
-use Rattle.ledger.specs.Inside.Keeping.{held_recorded}
 use Rattle.ledger.specs.declared.place.Place.{Place}
 use Rattle.ledger.specs.declared.place.Place.TheVariants.{Open, Elsewhere}
 use Rattle.ledger.specs.declared.taken.Taken.{Taken}
@@ -54,8 +51,3 @@ pub settle_gives : (root : Packed) (old new : List Recorded) (r : Recorded) (res
     → OnErr result (new ≡ old) → IfErr result (λ (f : OfferFault). IsRefusal f r) → OfferGives root old r result new
 settle_gives root old new r (Ok t) holdout ok same refusal = subst (λ (x : Taken). OfferGives root old r (Ok x) new) (sym ok.0) (ok.1, ok.2)
 settle_gives root old new r (Err f) holdout ok same refusal = refusal_gives root old new r f refusal (record { is = inr holdout }) same
-
--- what the code looks at is what the board holds
-pub seen : (b : Contents) (root t : Packed) (items lent : List Kept) (o : Option Claim) → (record { root = root; records = map held_recorded items }) ≡ b → lent ≡ items → claim_in (map held_recorded lent) t ≡ o → claim_in b.records t ≡ o
-seen b root t items lent o view same is =
-    subst (λ (c : Contents). claim_in c.records t ≡ o) view (subst (λ (l : List Kept). claim_in (map held_recorded l) t ≡ o) same is)

@@ -1,5 +1,5 @@
--- What the code's set of open tables is once a record is taken.
-use Rattle.std.proofs.Common.{◌≡◌, ◌≢◌, ℕ, ◌⊎◌, inl, inr, ◌↔◌, Some, None, List, Option, Contains, IfSome, IfNone, option_map, IfOk, Result, Ok, Err, refl, sym, ◌∙◌, ap}
+-- Which tables are opened by a record, and the pair that is known of a recorded table.
+use Rattle.std.proofs.Common.{◌≡◌, ◌≢◌, ℕ, ◌⊎◌, inl, inr, ◌↔◌, Some, None, List, Option, Contains, IfSome, IfNone, option_map, OnOk, Result, Ok, Err, refl, sym, ◌∙◌, ap}
 use Rattle.machine_text.specs.Packed.{Packed}
 use Rattle.run.specs.declared.verdicts.Verdict.{Verdict}
 use Rattle.run.specs.declared.verdicts.Verdict.TheVariants.{Halts, Never}
@@ -13,21 +13,21 @@ use Rattle.cert.specs.Certified.{HaltsOnPair, IsPairOf}
 use Rattle.machine_text.specs.declared.transition.Pair.{Pair}
 use Rattle.ledger.specs.Inside.Open.{HasUnrecorded, IsNewChild}
 
--- with a halting claim: what was open, and the unrecorded among the children
-pub after_halting : (rs : List Recorded) (r : Recorded) (k : ℕ) (found : List Packed) (q : Packed) (A B C : Type 0)
-    → shown_by r.claim ≡ Some (Halts k) → ((t : Packed) → Contains found t ↔ IsChildTable r.table t)
-    → B ↔ (A × (q ≢ r.table)) → C ↔ (B ⊎ HasUnrecorded found rs r.table q)
-    → C ↔ ((A × (q ≢ r.table)) ⊎ IsNewChild rs r q)
-after_halting rs r k found q A B C shown children left more = (
-  λ c. elim (more.0 c) [ inl b ↦ inl (left.0 b) | inr u ↦ inr (record { count = k; halts = shown; child = (children q).0 u.listed; unrecorded = u.unrecorded; other = u.other }) ],
-  λ h. elim h [ inl a ↦ more.1 (inl (left.1 a)) | inr u ↦ more.1 (inr (record { listed = (children q).1 u.child; unrecorded = u.unrecorded; other = u.other })) ],
+-- the unrecorded among the children are the new children
+pub new_children : (rs : List Recorded) (r : Recorded) (k : ℕ) (found : List Packed) (q : Packed) (A C : Type 0) → shown_by r.claim ≡ Some (Halts k)
+    → ((t : Packed) → Contains found t ↔ IsChildTable r.table t) → C ↔ (A ⊎ HasUnrecorded found rs r.table q) → C ↔ (A ⊎ IsNewChild rs r q)
+new_children rs r k found q A C shown children more = (
+  λ c. elim (more.0 c) [ inl a ↦ inl a | inr u ↦ inr (record { count = k; halts = shown; child = (children q).0 u.listed; unrecorded = u.unrecorded; other = u.other }) ],
+  λ h. elim h [ inl a ↦ more.1 (inl a) | inr u ↦ more.1 (inr (record { listed = (children q).1 u.child; unrecorded = u.unrecorded; other = u.other })) ],
 )
 
--- with another: what was open
-pub after_other : (rs : List Recorded) (r : Recorded) (q : Packed) (A B : Type 0)
-    → ((k : ℕ) → shown_by r.claim ≡ Some (Halts k) → ⊥) → B ↔ (A × (q ≢ r.table))
-    → B ↔ ((A × (q ≢ r.table)) ⊎ IsNewChild rs r q)
-after_other rs r q A B never left = (λ b. inl (left.0 b), λ h. elim h [ inl a ↦ left.1 a | inr u ↦ absurd (never u.count u.halts) ])
+-- without a verdict that it halts there are none
+pub no_children : (rs : List Recorded) (r : Recorded) (q : Packed) (A : Type 0) → ((k : ℕ) → shown_by r.claim ≡ Some (Halts k) → ⊥) → A ↔ (A ⊎ IsNewChild rs r q)
+no_children rs r q A never = (λ a. inl a, λ h. elim h [ inl a ↦ a | inr u ↦ absurd (never u.count u.halts) ])
+
+pub on_ok : {T E : Type 0} {P Q : Type 0} (r : Result T E) → (P → Q) → OnOk r P → OnOk r Q
+on_ok (Ok t) f h = f h
+on_ok (Err e) f h = tt
 
 -- the pair that is known with a verdict
 pub pair_halts : (o : Option Verdict) (t : Packed) (pair : Pair) → IsPairOf o t (Some pair) → (k : ℕ) × (o ≡ Some (Halts k)) × HaltsOnPair t k pair
@@ -58,8 +58,3 @@ pair_none rs t c None claimed h = λ halting.
 
 pub unrecorded_pair : (rs : List Recorded) (t : Packed) → claim_in rs t ≡ None → IsHalting rs t → ⊥
 unrecorded_pair rs t none halting = let marked = ap (option_map mark_of) (sym none) ∙ halting.1 in cc
-
--- what follows of a value follows of it in an answer
-pub if_ok : {T E : Type 0} {P Q : T → Type 0} (r : Result T E) → ((t : T) → P t → Q t) → IfOk r P → IfOk r Q
-if_ok (Ok t) f h = f t h
-if_ok (Err e) f h = tt

@@ -1,13 +1,17 @@
 -- The open tables of a board without records.
-use Rattle.std.proofs.Common.{◌≡◌, ℕ, [], option_map, inl, inr, ◌↔◌, IsTrue, ap}
-use Rattle.std.specs.BTreeSet.{BTreeSet, contains}
+use Rattle.std.proofs.Common.{◌≡◌, ℕ, [], ◌∷◌, None, option_map, inl, inr, ◌↔◌, refl, sym, ap, subst, arith}
+use Rattle.std.specs.List.{All}
+use Rattle.std.specs.BTreeMap.{BTreeMap}
+use Rattle.std.proofs.lemmas.List.Elements.{All-cons, All-nil}
 use Rattle.machine_text.specs.Packed.{Packed, IsTable, entry_of}
 use Rattle.tree.specs.Closed.{IsOpen}
 use Rattle.tree.specs.Used.{InOrder}
 use Rattle.ledger.specs.Records.{mark_in, mark_of}
-use Rattle.ledger.specs.Inside.Open.{table_cmp, IsOpenSet}
+use Rattle.ledger.specs.Inside.Open.{IsOpener, IsOpenMap}
+use Rattle.ledger.specs.Inside.Counting.{IsCounted}
 use Rattle.ledger.specs.Contents.{IsBoard}
 use Rattle.ledger.proofs.Claims.{claim_none}
+use Rattle.ledger.proofs.Sets.{only_one}
 
 open_at_start : (root t : Packed) → (t ≡ root) ↔ IsOpen root (mark_in []) t
 open_at_start root t = (
@@ -15,8 +19,14 @@ open_at_start root t = (
   λ h. elim h.place [ inl e ↦ e | inr w ↦ let none = ap (option_map mark_of) (claim_none w.0) in let marked = w.2 in absurd (cc) ],
 )
 
-pub starts : (root : Packed) (tables : BTreeSet Packed) → ((q : Packed) → IsTrue (contains table_cmp tables q) ↔ (q ≡ root)) → IsOpenSet tables (record { root = root; records = [] })
-starts root tables is = record { exact = λ t. (λ h. (open_at_start root t).0 ((is t).0 h), λ h. (is t).1 ((open_at_start root t).1 h)) }
+pub starts : (root : Packed) (tables : BTreeMap Packed ℕ) → tables.entries ≡ (root, 18446744073709551615) ∷ [] → IsOpenMap tables (record { root = root; records = [] })
+starts root tables is = record {
+  exact = λ t. let only = only_one tables root 18446744073709551615 is t in (λ h. (open_at_start root t).0 (only.0 h), λ h. only.1 ((open_at_start root t).1 h));
+  openers = subst (All (λ (e : Packed × ℕ). IsOpener [] e.1)) (sym is) (All-cons (λ (e : Packed × ℕ). IsOpener [] e.1) (root, 18446744073709551615) [] (inl (omega arith)) (All-nil (λ (e : Packed × ℕ). IsOpener [] e.1)));
+}
+
+pub counted_none : IsCounted [] (record { halting = 0; never = 0; undecided = 0; best = None })
+counted_none = record { halting = refl; never = refl; undecided = refl; best = λ t k halts. let none = ap (option_map mark_of) (claim_none t) in absurd (cc) }
 
 pub board_starts : (root : Packed) → IsTable root → (u : ℕ) × InOrder u (entry_of root) → IsBoard (record { root = root; records = [] })
 board_starts root is_table in_order = record { is_table = is_table; in_order = in_order; held = record { fit = tt } }

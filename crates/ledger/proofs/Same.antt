@@ -1,5 +1,5 @@
 -- The test of equal tables tells them apart.
-use Rattle.std.proofs.Common.{◌≡◌, ℕ, Bool, true, false, ◌&&◌, refl, ◌∙◌, ap, subst, nat_eq, not, ◌≢◌}
+use Rattle.std.proofs.Common.{◌≡◌, ℕ, Bool, true, false, ◌&&◌, refl, ◌∙◌, ap, subst, nat_eq, not, ◌≢◌, sym}
 use Rattle.std.specs.Cmp.Lexicographic.{pointwise, pointwise_decides}
 use Rattle.std.proofs.lemmas.Bool.Decides.{Decides-eqb}
 use Rattle.machine_text.specs.Packed.{Packed}
@@ -42,3 +42,14 @@ differ a b r is =
       | true ↦ λ same no. (λ so. absurd (cc), λ other. absurd (other (same_is a b same)))
       | false ↦ λ other so. (λ h. apart a b other, λ h. so)
     ] refl is
+
+-- it is the same both ways
+pub same_flips : (a b : Packed) → same_table a b ≡ same_table b a
+same_flips a b =
+    elim (same_table b a) as (λ v. same_table b a ≡ v → same_table a b ≡ v) [
+      | true ↦ λ same. same_at a b (sym (same_is b a same))
+      | false ↦ λ other. elim (same_table a b) as (λ w. same_table a b ≡ w → w ≡ false) [
+        | true ↦ λ same. let back = same_at b a (sym (same_is a b same)) in absurd (cc)
+        | false ↦ λ e. refl
+      ] refl
+    ] refl

@@ -1,20 +1,21 @@
--- Sets of tables: what is in them.
-use Rattle.std.proofs.Common.{◌≡◌, ◌≢◌, ℕ, Bool, true, false, cond, refl, sym, ◌∙◌, ap, subst, ◌⊎◌, inl, inr, ◌↔◌, IsTrue, List, [], ◌∷◌, zero, suc, arith, None, map-id}
-use Rattle.std.specs.List.{Contains, AllZip}
-use Rattle.std.proofs.lemmas.Slice.Zip.{AllZip-map}
+-- Maps of tables: which tables they have.
+use Rattle.std.proofs.Common.{◌≡◌, ◌≢◌, ℕ, Bool, true, false, cond, refl, sym, ◌∙◌, ap, subst, ◌⊎◌, inl, inr, ◌↔◌, List, [], ◌∷◌, zero, suc, arith, Some, None, Option, nat_eq, not}
+use Rattle.std.specs.List.{Contains}
 use Rattle.cert.specs.Claim.{Recorded}
 use Rattle.ledger.specs.Records.{claim_in}
-use Rattle.std.specs.Ordering.{nat_cmp, ordering_then}
+use Rattle.std.specs.Ordering.{nat_cmp, ordering_then, is_eq, match_ordering}
 use Rattle.std.specs.declared.cmp.Ordering.{Ordering}
 use Rattle.std.specs.declared.cmp.Ordering.TheVariants.{Less, Equal, Greater}
 use Rattle.std.specs.Cmp.Lexicographic.{slice_cmp, nat_list_cmp_total}
 use Rattle.std.specs.Cmp.{IsTotalOrder, nat_cmp_total, tied_itself, then_total, on_total}
-use Rattle.std.proofs.lemmas.Map.Views.{btree_set_contains_iff}
-use Rattle.std.specs.BTreeSet.{BTreeSet, contains}
-use Rattle.std.specs.BTreeMap.{is_at}
+use Rattle.std.proofs.lemmas.Map.Views.{btree_map_contains_key_iff}
+use Rattle.std.proofs.lemmas.Bool.Decides.{Decides-eqb}
+use Rattle.std.specs.BTreeMap.{BTreeMap, get, keys, ContainsKey, is_at, insert_entry}
+use Rattle.std.specs.Map.{lookup}
+use Rattle.std.specs.Option.{is_some}
 use Rattle.std.proofs.lemmas.Map.Lookups.{exact_bytes, exact_unsigned}
 use Rattle.machine_text.specs.Packed.{Packed}
-use Rattle.ledger.specs.Inside.Open.{table_cmp, HasUnrecorded}
+use Rattle.ledger.specs.Inside.Open.{table_cmp, others, HasUnrecorded}
 
 -- the order of tables tells them apart
 then_equal : (a b : Ordering) → ordering_then a b ≡ Equal → (a ≡ Equal) × (b ≡ Equal)
@@ -43,22 +44,26 @@ at_is t q e = exact_tables t q (equal_only (table_cmp t q) e)
 pub at_itself : (t : Packed) → is_at (table_cmp t) t ≡ true
 at_itself t = rw tied_table
 
--- a set changed at one table
-pub removed : (old new : BTreeSet Packed) (t q : Packed) → contains table_cmp new q ≡ cond (is_at (table_cmp t) q) false (contains table_cmp old q)
-    → IsTrue (contains table_cmp new q) ↔ (IsTrue (contains table_cmp old q) × (q ≢ t))
+-- a map changed at one table
+pub removed : (old new : BTreeMap Packed ℕ) (t q : Packed) → get table_cmp new q ≡ cond (is_at (table_cmp t) q) None (get table_cmp old q)
+    → ContainsKey table_cmp new q ↔ (ContainsKey table_cmp old q × (q ≢ t))
 removed old new t q is =
-    elim (is_at (table_cmp t) q) as (λ v. is_at (table_cmp t) q ≡ v → contains table_cmp new q ≡ cond v false (contains table_cmp old q) → IsTrue (contains table_cmp new q) ↔ (IsTrue (contains table_cmp old q) × (q ≢ t))) [
-      | true ↦ λ here no. (λ yes. let there : contains table_cmp new q ≡ true = yes in absurd (cc), λ h. absurd (h.1 (sym (at_is t q here))))
-      | false ↦ λ other same. (λ yes. (sym same ∙ yes, λ (e : q ≡ t). let itself = subst (λ (p : Packed). is_at (table_cmp t) p ≡ true) (sym e) (at_itself t) in absurd (cc)), λ h. same ∙ h.0)
+    elim (is_at (table_cmp t) q) as (λ v. is_at (table_cmp t) q ≡ v → get table_cmp new q ≡ cond v None (get table_cmp old q) → ContainsKey table_cmp new q ↔ (ContainsKey table_cmp old q × (q ≢ t))) [
+      | true ↦ λ here gone. (λ there. let none = ap is_some gone in absurd (cc), λ h. absurd (h.1 (sym (at_is t q here))))
+      | false ↦ λ other same. (λ there. (sym (ap is_some same) ∙ there, λ (e : q ≡ t). let itself = subst (λ (p : Packed). is_at (table_cmp t) p ≡ true) (sym e) (at_itself t) in absurd (cc)), λ h. ap is_some same ∙ h.0)
     ] refl is
 
-pub inserted : (old new : BTreeSet Packed) (t q : Packed) → contains table_cmp new q ≡ cond (is_at (table_cmp t) q) true (contains table_cmp old q)
-    → IsTrue (contains table_cmp new q) ↔ (IsTrue (contains table_cmp old q) ⊎ (q ≡ t))
-inserted old new t q is =
-    elim (is_at (table_cmp t) q) as (λ v. is_at (table_cmp t) q ≡ v → contains table_cmp new q ≡ cond v true (contains table_cmp old q) → IsTrue (contains table_cmp new q) ↔ (IsTrue (contains table_cmp old q) ⊎ (q ≡ t))) [
-      | true ↦ λ here yes. (λ h. inr (sym (at_is t q here)), λ h. yes)
-      | false ↦ λ other same. (λ yes. inl (sym same ∙ yes), λ h. elim h [ inl there ↦ same ∙ there | inr e ↦ let itself = subst (λ (p : Packed). is_at (table_cmp t) p ≡ true) (sym e) (at_itself t) in absurd (cc) ])
+pub inserted : (old new : BTreeMap Packed ℕ) (t q : Packed) (place : ℕ) → get table_cmp new q ≡ cond (is_at (table_cmp t) q) (Some place) (get table_cmp old q)
+    → ContainsKey table_cmp new q ↔ (ContainsKey table_cmp old q ⊎ (q ≡ t))
+inserted old new t q place is =
+    elim (is_at (table_cmp t) q) as (λ v. is_at (table_cmp t) q ≡ v → get table_cmp new q ≡ cond v (Some place) (get table_cmp old q) → ContainsKey table_cmp new q ↔ (ContainsKey table_cmp old q ⊎ (q ≡ t))) [
+      | true ↦ λ here there. (λ h. inr (sym (at_is t q here)), λ h. ap is_some there)
+      | false ↦ λ other same. (λ there. inl (sym (ap is_some same) ∙ there), λ h. elim h [ inl there ↦ ap is_some same ∙ there | inr e ↦ let itself = subst (λ (p : Packed). is_at (table_cmp t) p ≡ true) (sym e) (at_itself t) in absurd (cc) ])
     ] refl is
+
+-- a table that is there brings nothing new
+pub there_already : (old : BTreeMap Packed ℕ) (t q : Packed) → ContainsKey table_cmp old t → ContainsKey table_cmp old q ↔ (ContainsKey table_cmp old q ⊎ (q ≡ t))
+there_already old t q there = (λ h. inl h, λ h. elim h [ inl h ↦ h | inr e ↦ subst (λ (p : Packed). ContainsKey table_cmp old p) (sym e) there ])
 
 -- the members of a list with one more at its front
 first_or_later : (x : Packed) (xs : List Packed) (q : Packed) → Contains (x ∷ xs) q → (x ≡ q) ⊎ Contains xs q
@@ -87,20 +92,16 @@ alone_unrecorded rs parent x q h = let is : q ≡ x = alone_is h in
     (subst (λ (t : Packed). claim_in rs t ≡ None) is h.unrecorded, λ (e : x ≡ parent). h.other (is ∙ e))
 
 -- a child brought into a set, or not
-pub brought : (rs : List Recorded) (parent x q : Packed) (old new : BTreeSet Packed)
-    → (claim_in rs x ≡ None) × (x ≢ parent)
-    → contains table_cmp new q ≡ cond (is_at (table_cmp x) q) true (contains table_cmp old q)
-    → IsTrue (contains table_cmp new q) ↔ (IsTrue (contains table_cmp old q) ⊎ HasUnrecorded (x ∷ []) rs parent q)
-brought rs parent x q old new fresh is =
-    let added = inserted old new x q is in (
-      λ h. elim (added.0 h) [ inl there ↦ inl there | inr same ↦ inr (subst (HasUnrecorded (x ∷ []) rs parent) (sym same) (unrecorded_alone rs parent x fresh)) ],
-      λ h. elim h [ inl there ↦ added.1 (inl there) | inr u ↦ added.1 (inr (alone_is u)) ],
-    )
+pub brought : (rs : List Recorded) (parent x q : Packed) (A B : Type 0) → (claim_in rs x ≡ None) × (x ≢ parent) → B ↔ (A ⊎ (q ≡ x))
+    → B ↔ (A ⊎ HasUnrecorded (x ∷ []) rs parent q)
+brought rs parent x q A B fresh added = (
+  λ h. elim (added.0 h) [ inl there ↦ inl there | inr same ↦ inr (subst (HasUnrecorded (x ∷ []) rs parent) (sym same) (unrecorded_alone rs parent x fresh)) ],
+  λ h. elim h [ inl there ↦ added.1 (inl there) | inr u ↦ added.1 (inr (alone_is u)) ],
+)
 
-pub not_brought : (rs : List Recorded) (parent x q : Packed) (old : BTreeSet Packed)
-    → (((claim_in rs x ≡ None) × (x ≢ parent)) → ⊥)
-    → IsTrue (contains table_cmp old q) ↔ (IsTrue (contains table_cmp old q) ⊎ HasUnrecorded (x ∷ []) rs parent q)
-not_brought rs parent x q old stale = (λ h. inl h, λ h. elim h [ inl there ↦ there | inr u ↦ absurd (stale (alone_unrecorded rs parent x q u)) ])
+pub not_brought : (rs : List Recorded) (parent x q : Packed) (A : Type 0) → (((claim_in rs x ≡ None) × (x ≢ parent)) → ⊥)
+    → A ↔ (A ⊎ HasUnrecorded (x ∷ []) rs parent q)
+not_brought rs parent x q A stale = (λ h. inl h, λ h. elim h [ inl there ↦ there | inr u ↦ absurd (stale (alone_unrecorded rs parent x q u)) ])
 
 -- what one child brings and what the others do is what all of them bring
 pub brings : (rs : List Recorded) (parent x q : Packed) (all rest : List Packed) (A B R : Type 0) → all ≡ x ∷ rest
@@ -128,27 +129,41 @@ nobody (k, below, is) = omega arith
 pub brings_none : (rs : List Recorded) (parent q : Packed) (A R : Type 0) → (A ⊎ HasUnrecorded [] rs parent q) ↔ R → A ↔ R
 brings_none rs parent q A R all = (λ a. all.0 (inl a), λ r. elim (all.1 r) [ inl a ↦ a | inr u ↦ absurd (nobody u.listed) ])
 
--- a copy has the same tables
-pub copied_keys : (xs ys : List Packed) → AllZip (λ (x y : Packed). y ≡ x) xs ys → ys ≡ xs
-copied_keys xs ys same = AllZip-map (λ (x : Packed). x) xs ys same ∙ map-id xs
-
--- the set of one table
-nowhere : (new : BTreeSet Packed) (t q : Packed) → contains table_cmp new q ≡ cond (is_at (table_cmp t) q) true false → IsTrue (contains table_cmp new q) ↔ (q ≡ t)
-nowhere new t q is =
-    elim (is_at (table_cmp t) q) as (λ v. is_at (table_cmp t) q ≡ v → contains table_cmp new q ≡ cond v true false → IsTrue (contains table_cmp new q) ↔ (q ≡ t)) [
-      | true ↦ λ here there. (λ h. sym (at_is t q here), λ h. there)
-      | false ↦ λ other gone. (λ h. let there : contains table_cmp new q ≡ true = h in absurd (cc), λ (e : q ≡ t). let itself = subst (λ (p : Packed). is_at (table_cmp t) p ≡ true) (sym e) (at_itself t) in absurd (cc))
-    ] refl is
-
-pub only_one : (old new : BTreeSet Packed) (t q : Packed) → old.keys ≡ [] → contains table_cmp new q ≡ cond (is_at (table_cmp t) q) true (contains table_cmp old q)
-    → IsTrue (contains table_cmp new q) ↔ (q ≡ t)
-only_one old new t q none is =
-    let empty : contains table_cmp old q ≡ false = subst (λ (l : List Packed). contains table_cmp (record { keys = l }) q ≡ false) (sym none) refl in
-    nowhere new t q (subst (λ (b : Bool). contains table_cmp new q ≡ cond (is_at (table_cmp t) q) true b) empty is)
+-- the map of one table
+pub only_one : (tables : BTreeMap Packed ℕ) (t : Packed) (place : ℕ) → tables.entries ≡ (t, place) ∷ [] → (q : Packed) → ContainsKey table_cmp tables q ↔ (q ≡ t)
+only_one tables t place is q = subst (λ (es : List (Packed × ℕ)). (is_some (lookup (is_at (table_cmp q)) es) ≡ true) ↔ (q ≡ t)) (sym is)
+    (elim (is_at (table_cmp q) t) as (λ v. is_at (table_cmp q) t ≡ v → (is_some (cond v (Some place) None) ≡ true) ↔ (q ≡ t)) [
+      | true ↦ λ here. (λ h. at_is q t here, λ e. refl)
+      | false ↦ λ other. (λ h. absurd (cc), λ (e : q ≡ t). let itself = subst (λ (p : Packed). is_at (table_cmp q) p ≡ true) e (at_itself q) in absurd (cc))
+    ] refl)
 
 -- the order of tables is total, so a set has exactly the tables that it lists
 pub tables_total : IsTotalOrder table_cmp
 tables_total = then_total (on_total (λ (p : Packed). p.codes) nat_list_cmp_total) (on_total (λ (p : Packed). p.states) nat_cmp_total)
 
-pub listed_in_set : (tables : BTreeSet Packed) (t : Packed) → IsTrue (contains table_cmp tables t) ↔ Contains tables.keys t
-listed_in_set tables t = btree_set_contains_iff tables_total exact_tables tables t
+pub listed_in_map : (tables : BTreeMap Packed ℕ) (t : Packed) → ContainsKey table_cmp tables t ↔ Contains (keys tables) t
+listed_in_map tables t = btree_map_contains_key_iff tables_total exact_tables tables t
+
+-- a table put at a place among those of other places
+own_place : (place : ℕ) → not (nat_eq place place) ≡ false
+own_place place = rw (Decides-eqb place place).1 refl
+
+others_by : (place : ℕ) (e : Packed × ℕ) (es : List (Packed × ℕ)) (t : Packed) (o : Ordering)
+    → (lookup (is_at (table_cmp t)) es ≡ None → others place (insert_entry table_cmp es t place) ≡ others place es)
+    → cond (is_eq o) (Some e.1) (lookup (is_at (table_cmp t)) es) ≡ None
+    → others place (match_ordering o ((t, place) ∷ (e ∷ es)) ((e.0, place) ∷ es) (e ∷ insert_entry table_cmp es t place)) ≡ others place (e ∷ es)
+others_by place e es t Less later none = rw (own_place place) refl
+others_by place e es t Equal later none = absurd (cc)
+others_by place e es t Greater later none =
+    elim (nat_eq e.1 place) as (λ v. nat_eq e.1 place ≡ v → cond (not v) (e ∷ others place (insert_entry table_cmp es t place)) (others place (insert_entry table_cmp es t place)) ≡ cond (not v) (e ∷ others place es) (others place es)) [
+      | true ↦ λ same. later none
+      | false ↦ λ other. ap (λ (l : List (Packed × ℕ)). e ∷ l) (later none)
+    ] refl
+
+pub others_inserted : (place : ℕ) (es : List (Packed × ℕ)) (t : Packed) → lookup (is_at (table_cmp t)) es ≡ None → others place (insert_entry table_cmp es t place) ≡ others place es
+others_inserted place [] t none = rw (own_place place) refl
+others_inserted place (e ∷ es) t none = others_by place e es t (table_cmp t e.0) (others_inserted place es t) none
+
+pub no_key : (o : Option ℕ) (found : Bool) → found ≡ is_some o → found ≡ false → o ≡ None
+no_key None found is fails = refl
+no_key (Some n) found is fails = absurd (cc)

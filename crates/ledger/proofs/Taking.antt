@@ -1,22 +1,29 @@
 -- A board once a record is taken.
-use Rattle.std.proofs.Common.{◌≡◌, ◌≢◌, ℕ, List, [], ◌∷◌, ◌++◌, Some, None, option_map, IsSome, inl, inr, ◌⊎◌, ◌↔◌, IsTrue, refl, sym, ◌∙◌, ap, subst, map, length, take, drop, arith}
-use Rattle.std.proofs.lemmas.List.{map-append}
-use Rattle.std.proofs.lemmas.Grind.{common_steps}
-use Rattle.ledger.specs.declared.kept.Kept.{Kept}
-use Rattle.ledger.specs.Inside.Keeping.{held_recorded}
-use Rattle.std.specs.BTreeSet.{BTreeSet, contains}
+use Rattle.std.proofs.Common.{◌≡◌, ◌≢◌, ℕ, true, false, List, [], ◌∷◌, ◌++◌, Option, Some, None, option_map, inl, inr, ◌⊎◌, ◌↔◌, refl, sym, ◌∙◌, ap, subst, length}
+use Rattle.std.specs.Prelude.{slice_get}
+use Rattle.std.specs.List.{All}
+use Rattle.std.specs.Map.{lookup, remove_entry}
+use Rattle.std.specs.Option.{is_some}
+use Rattle.std.specs.BTreeMap.{BTreeMap, ContainsKey, is_at}
 use Rattle.machine_text.specs.Packed.{Packed, IsTable, entry_of}
+use Rattle.machine_text.specs.declared.transition.Pair.{Pair}
+use Rattle.run.specs.declared.verdicts.Verdict.{Verdict}
+use Rattle.run.specs.declared.verdicts.Verdict.TheVariants.{Halts, Never}
 use Rattle.tree.specs.Used.{InOrder}
 use Rattle.tree.specs.Closed.{IsOpen, Holdout}
 use Rattle.tree.specs.Tables.{IsChildTable, InTableTree}
 use Rattle.cert.specs.Claim.{Claim, Recorded, shown_by}
-use Rattle.ledger.specs.Records.{claim_in, mark_in, mark_of}
-use Rattle.ledger.specs.Held.{IsFit, IsHoldout, Settles, settled}
-use Rattle.cert.specs.Certified.{IsCertified}
-use Rattle.ledger.specs.Inside.Open.{table_cmp, IsNewChild, IsOpenSet}
+use Rattle.cert.specs.Certified.{IsCertified, IsPairOf}
+use Rattle.ledger.specs.Records.{claim_in, mark_in, mark_of, mark_by}
+use Rattle.ledger.specs.Held.{IsHoldout, Settles, settled}
 use Rattle.ledger.specs.Contents.{Contents, IsBoard}
+use Rattle.ledger.specs.Inside.Counting.{is_halting, says_halts}
+use Rattle.ledger.specs.Inside.Open.{table_cmp, others, IsOpener, IsOpenMap, IsNewChild}
+use Rattle.ledger.proofs.Apart.{held_apart}
 use Rattle.ledger.proofs.HeldLaws.{unmarked, held_more, held_settled}
+use Rattle.ledger.proofs.OpenAfter.{pair_halts}
 use Rattle.ledger.proofs.OpenLaws.{IsTaken, taken_new, taken_settled, open_taken, open_in_tree, recorded_in_tree}
+use Rattle.ledger.proofs.Openers.{openers_after, openers_same, all_removed, got_last, grows_last, grows_settled, settled_slot}
 
 -- the laws of children that the code calls
 abbrev pub Below : Type 0
@@ -41,71 +48,92 @@ holdout_in_order b t below keeps board holdout =
     keeps b.root t board.in_order.0 board.is_table board.in_order.1 (recorded_in_tree b.root b.records t c.0 below board.held c.1)
 
 -- the open tables once a record is taken
-open_set_taken : (root : Packed) (old new : List Recorded) (r : Recorded) (tables after : BTreeSet Packed)
-    → IsOpenSet tables (record { root = root; records = old }) → IsTaken old new r
-    → ((q : Packed) → IsTrue (contains table_cmp after q) ↔ ((IsTrue (contains table_cmp tables q) × (q ≢ r.table)) ⊎ IsNewChild old r q))
-    → IsOpenSet after (record { root = root; records = new })
-open_set_taken root old new r tables after before taken is = record {
-  exact = λ q. let law = open_taken root old new r q taken in (
-    λ h. law.1 (elim ((is q).0 h) [ inl a ↦ inl ((before.exact q).0 a.0, a.1) | inr u ↦ inr u ]),
-    λ h. (is q).1 (elim (law.0 h) [ inl a ↦ inl ((before.exact q).1 a.0, a.1) | inr u ↦ inr u ]),
-  );
+abbrev pub Opens : (tables after : BTreeMap Packed ℕ) (rs : List Recorded) (r : Recorded) → Type 0
+Opens tables after rs r = (q : Packed) → ContainsKey table_cmp after q ↔ ((ContainsKey table_cmp tables q × (q ≢ r.table)) ⊎ IsNewChild rs r q)
+
+open_taken_exact : (root : Packed) (old new : List Recorded) (r : Recorded) (tables after : BTreeMap Packed ℕ) → IsOpenMap tables (record { root = root; records = old }) → IsTaken old new r
+    → Opens tables after old r → (q : Packed) → ContainsKey table_cmp after q ↔ IsOpen root (mark_in new) q
+open_taken_exact root old new r tables after before taken is q = let law = open_taken root old new r q taken in (
+  λ h. law.1 (elim ((is q).0 h) [ inl a ↦ inl ((before.exact q).0 a.0, a.1) | inr u ↦ inr u ]),
+  λ h. (is q).1 (elim (law.0 h) [ inl a ↦ inl ((before.exact q).1 a.0, a.1) | inr u ↦ inr u ]),
+)
+
+pub same_map : (tables after : BTreeMap Packed ℕ) (b : Contents) → after.entries ≡ tables.entries → IsOpenMap tables b → IsOpenMap after b
+same_map tables after b same before = record {
+  exact = λ t. subst (λ (es : List (Packed × ℕ)). (is_some (lookup (is_at (table_cmp t)) es) ≡ true) ↔ IsOpen b.root (mark_in b.records) t) (sym same) (before.exact t);
+  openers = subst (All (λ (e : Packed × ℕ). IsOpener b.records e.1)) (sym same) before.openers;
 }
 
+-- the children come into the map, and then the record's table goes out of it
+pub opened_then_closed : (rs : List Recorded) (r : Recorded) (A B C : Type 0) (q : Packed) → B ↔ (A ⊎ IsNewChild rs r q) → C ↔ (B × (q ≢ r.table)) → C ↔ ((A × (q ≢ r.table)) ⊎ IsNewChild rs r q)
+opened_then_closed rs r A B C q more less = (
+  λ c. let h = less.0 c in elim (more.0 h.0) [ inl a ↦ inl (a, h.1) | inr u ↦ inr u ],
+  λ h. less.1 (elim h [ inl w ↦ (more.1 (inl w.0), w.1) | inr u ↦ (more.1 (inr u), u.other) ]),
+)
+
+-- the pair tells whether there are children at all
+opens_or_not : (rs new : List Recorded) (place : ℕ) (es old : List (Packed × ℕ)) (v : Option Verdict) (t : Packed) (pair : Option Pair) → ((i : ℕ) → IsOpener rs i → IsOpener new i)
+    → All (λ (e : Packed × ℕ). IsOpener rs e.1) old → others place es ≡ old → (pair ≡ None → es ≡ old) → IsPairOf v t pair
+    → ((k : ℕ) → v ≡ Some (Halts k) → IsOpener new place) → All (λ (e : Packed × ℕ). IsOpener new e.1) es
+opens_or_not rs new place es old v t None grows all is none pair here = subst (All (λ (e : Packed × ℕ). IsOpener new e.1)) (sym (none refl)) (openers_same rs new old grows all)
+opens_or_not rs new place es old v t (Some p) grows all is none pair here = let w = pair_halts v t p pair in openers_after rs new place es old grows all is (here w.0 w.1)
+
+halts_says : (r : Recorded) (k : ℕ) → shown_by r.claim ≡ Some (Halts k) → is_halting r ≡ true
+halts_says r k is = rw is
+
 -- a fit record is taken
-pub board_more : (root : Packed) (old new : List Recorded) (r : Recorded) (tables after : BTreeSet Packed)
-    → IsBoard (record { root = root; records = old }) → IsOpenSet tables (record { root = root; records = old })
-    → IsOpen root (mark_in old) r.table → IsCertified r → new ≡ old ++ (r ∷ [])
-    → ((q : Packed) → IsTrue (contains table_cmp after q) ↔ ((IsTrue (contains table_cmp tables q) × (q ≢ r.table)) ⊎ IsNewChild old r q))
-    → IsBoard (record { root = root; records = new }) × IsOpenSet after (record { root = root; records = new })
-board_more root old new r tables after board exact is_open certified is sets =
-    let fit : IsFit root old r = record { is_open = is_open; certified = certified } in
-    let taken = taken_new old r (unmarked (claim_in old r.table) is_open.unmarked) in
-    subst (λ (l : List Recorded). IsBoard (record { root = root; records = l }) × IsOpenSet after (record { root = root; records = l })) (sym is)
-    (record { is_table = board.is_table; in_order = board.in_order; held = held_more root old r board.held fit }, open_set_taken root old (old ++ (r ∷ [])) r tables after exact taken sets)
+pub board_more : (root : Packed) (old : List Recorded) (r : Recorded) → IsBoard (record { root = root; records = old }) → IsOpen root (mark_in old) r.table → IsCertified r
+    → IsBoard (record { root = root; records = old ++ (r ∷ []) })
+board_more root old r board is_open certified =
+    record { is_table = board.is_table; in_order = board.in_order; held = held_more root old r board.held (record { is_open = is_open; certified = certified }) }
+
+pub taken_last : (old : List Recorded) (r : Recorded) (root : Packed) → IsOpen root (mark_in old) r.table → IsTaken old (old ++ (r ∷ [])) r
+taken_last old r root is_open = taken_new old r (unmarked (claim_in old r.table) is_open.unmarked)
+
+pub opened_more : (root : Packed) (old : List Recorded) (r : Recorded) (place : ℕ) (pair : Option Pair) (tables mid after : BTreeMap Packed ℕ)
+    → IsOpenMap tables (record { root = root; records = old }) → IsOpen root (mark_in old) r.table → place ≡ length old
+    → IsPairOf (shown_by r.claim) r.table pair → others place mid.entries ≡ tables.entries → (pair ≡ None → mid.entries ≡ tables.entries)
+    → after.entries ≡ remove_entry (is_at (table_cmp r.table)) mid.entries → Opens tables after old r
+    → IsOpenMap after (record { root = root; records = old ++ (r ∷ []) })
+opened_more root old r place pair tables mid after before is_open last known others none removal is = record {
+  exact = open_taken_exact root old (old ++ (r ∷ [])) r tables after before (taken_last old r root is_open) is;
+  openers = subst (All (λ (e : Packed × ℕ). IsOpener (old ++ (r ∷ [])) e.1)) (sym removal)
+      (all_removed (λ (e : Packed × ℕ). IsOpener (old ++ (r ∷ [])) e.1) (is_at (table_cmp r.table)) mid.entries
+      (opens_or_not old (old ++ (r ∷ [])) place mid.entries tables.entries (shown_by r.claim) r.table pair (grows_last old r) before.openers others none known
+      (λ k shown. inr (r, subst (λ (n : ℕ). slice_get (old ++ (r ∷ [])) n ≡ Some r) (sym last) (got_last old r), halts_says r k shown))));
+}
 
 -- a holdout is settled
-pub board_settled : (root : Packed) (old new : List Recorded) (r : Recorded) (tables after : BTreeSet Packed)
-    → IsBoard (record { root = root; records = old }) → IsOpenSet tables (record { root = root; records = old })
-    → Settles old r → new ≡ settled old r
-    → ((q : Packed) → IsTrue (contains table_cmp after q) ↔ ((IsTrue (contains table_cmp tables q) × (q ≢ r.table)) ⊎ IsNewChild old r q))
-    → IsBoard (record { root = root; records = new }) × IsOpenSet after (record { root = root; records = new })
-board_settled root old new r tables after board exact settles is sets =
-    let c = holdout_claim old r.table settles.is_holdout in
-    let taken = taken_settled old r c.0 c.1 c.2 in
-    subst (λ (l : List Recorded). IsBoard (record { root = root; records = l }) × IsOpenSet after (record { root = root; records = l })) (sym is)
-    (record { is_table = board.is_table; in_order = board.in_order; held = held_settled root old r board.held settles }, open_set_taken root old (settled old r) r tables after exact taken sets)
+pub board_settled : (root : Packed) (old : List Recorded) (r : Recorded) → IsBoard (record { root = root; records = old }) → Settles old r → IsBoard (record { root = root; records = settled old r })
+board_settled root old r board settles = record { is_table = board.is_table; in_order = board.in_order; held = held_settled root old r board.held settles }
 
--- the same for records as the code lends them
-abbrev pub Sets : (tables after : BTreeSet Packed) (rs : List Recorded) (r : Recorded) → Type 0
-Sets tables after rs r = (q : Packed) → IsTrue (contains table_cmp after q) ↔ ((IsTrue (contains table_cmp tables q) × (q ≢ r.table)) ⊎ IsNewChild rs r q)
+pub taken_settling : (old : List Recorded) (r : Recorded) → IsHoldout old r.table → IsTaken old (settled old r) r
+taken_settling old r holdout = let c = holdout_claim old r.table holdout in taken_settled old r c.0 c.1 c.2
 
-pub code_more : (b : Contents) (root : Packed) (items lent new : List Kept) (last : Kept) (r : Recorded) (tables after : BTreeSet Packed)
-    → (record { root = root; records = map held_recorded items }) ≡ b → lent ≡ items
-    → IsBoard (record { root = root; records = map held_recorded items }) × IsOpenSet tables (record { root = root; records = map held_recorded items })
-    → IsOpen b.root (mark_in b.records) r.table → IsCertified r → new ≡ items ++ (last ∷ []) → held_recorded last ≡ r
-    → Sets tables after (map held_recorded lent) r
-    → IsBoard (record { root = root; records = map held_recorded new }) × IsOpenSet after (record { root = root; records = map held_recorded new })
-code_more b root items lent new last r tables after view same inv is_open certified is copy sets =
-    let here : IsOpen root (mark_in (map held_recorded items)) r.table = subst (λ (c : Contents). IsOpen c.root (mark_in c.records) r.table) (sym view) is_open in
-    let list : map held_recorded new ≡ map held_recorded items ++ (r ∷ []) =
-    ap (map held_recorded) is ∙ (map-append held_recorded items (last ∷ []) ∙ ap (λ (x : Recorded). map held_recorded items ++ (x ∷ [])) copy) in
-    board_more root (map held_recorded items) (map held_recorded new) r tables after inv.0 inv.1 here certified list
-    (subst (λ (l : List Kept). Sets tables after (map held_recorded l) r) same sets)
+silent_claim : (o : Option Verdict) → mark_by o ≡ Holdout → says_halts o ≡ false
+silent_claim None e = refl
+silent_claim (Some (Halts k)) e = cc
+silent_claim (Some Never) e = refl
 
-pub code_settled : (b : Contents) (root : Packed) (items lent lent_mut new : List Kept) (last : Kept) (r : Recorded) (tables after : BTreeSet Packed)
-    → (record { root = root; records = map held_recorded items }) ≡ b → lent ≡ items → lent_mut ≡ items
-    → IsBoard (record { root = root; records = map held_recorded items }) × IsOpenSet tables (record { root = root; records = map held_recorded items })
-    → IsHoldout b.records r.table → IsSome (shown_by r.claim) → IsCertified r → map held_recorded new ≡ settled (map held_recorded lent_mut) (held_recorded last) → held_recorded last ≡ r
-    → Sets tables after (map held_recorded lent) r
-    → IsBoard (record { root = root; records = map held_recorded new }) × IsOpenSet after (record { root = root; records = map held_recorded new })
-code_settled b root items lent lent_mut new last r tables after view same same_mut inv holdout shown certified is copy sets =
-    let here : IsHoldout (map held_recorded items) r.table = subst (λ (c : Contents). IsHoldout c.records r.table) (sym view) holdout in
-    let list : map held_recorded new ≡ settled (map held_recorded items) r =
-    is ∙ (ap (λ (l : List Kept). settled (map held_recorded l) (held_recorded last)) same_mut ∙ ap (settled (map held_recorded items)) copy) in
-    board_settled root (map held_recorded items) (map held_recorded new) r tables after inv.0 inv.1 (record { is_holdout = here; verdict = shown; certified = certified }) list
-    (subst (λ (l : List Kept). Sets tables after (map held_recorded l) r) same sets)
+-- the holdout's own table is not open
+still_other : (root : Packed) (old : List Recorded) (r : Recorded) (tables : BTreeMap Packed ℕ) (q : Packed) → IsOpenMap tables (record { root = root; records = old }) → IsHoldout old r.table → ContainsKey table_cmp tables q → q ≢ r.table
+still_other root old r tables q before holdout there = λ (e : q ≡ r.table).
+    let gone = ((before.exact q).0 there).unmarked in let here = subst (λ (p : Packed). mark_in old p ≡ Some Holdout) (sym e) holdout in absurd (cc)
 
--- what is written back into a vector of the same length
-pub written_back : (items now new : List Kept) (n : ℕ) → n ≡ length items → now ≡ items → length new ≡ length now → take n (new ++ drop (length new) items) ≡ new
-written_back items now new n is same len = grind (arith, common_steps, ap (λ (l : List Kept). length l) same)
+pub opened_settled : (root : Packed) (old : List Recorded) (r x : Recorded) (place : ℕ) (pair : Option Pair) (tables after : BTreeMap Packed ℕ)
+    → IsBoard (record { root = root; records = old }) → IsOpenMap tables (record { root = root; records = old }) → IsHoldout old r.table
+    → slice_get old place ≡ Some x → x.table ≡ r.table
+    → IsPairOf (shown_by r.claim) r.table pair → others place after.entries ≡ tables.entries → (pair ≡ None → after.entries ≡ tables.entries)
+    → ((q : Packed) → ContainsKey table_cmp after q ↔ (ContainsKey table_cmp tables q ⊎ IsNewChild old r q))
+    → IsOpenMap after (record { root = root; records = settled old r })
+opened_settled root old r x place pair tables after board before holdout at table known others none is =
+    let c = holdout_claim old r.table holdout in
+    let opens : Opens tables after old r = λ q. (
+      λ h. elim ((is q).0 h) [ inl a ↦ inl (a, still_other root old r tables q before holdout a) | inr u ↦ inr u ],
+      λ h. (is q).1 (elim h [ inl a ↦ inl a.0 | inr u ↦ inr u ]),
+    ) in
+    record {
+      exact = open_taken_exact root old (settled old r) r tables after before (taken_settling old r holdout) opens;
+      openers = opens_or_not old (settled old r) place after.entries tables.entries (shown_by r.claim) r.table pair (grows_settled old r c.0 c.1 (silent_claim (shown_by c.0) c.2)) before.openers others none known
+          (λ k shown. inr (r, settled_slot old r x place (held_apart root old board.held) at table, halts_says r k shown));
+    }

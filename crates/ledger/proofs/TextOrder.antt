@@ -15,7 +15,7 @@ use Rattle.machine_text.proofs.Order.{order_of_texts}
 use Rattle.ledger.specs.Records.{same_table}
 use Rattle.ledger.specs.Inside.Open.{table_cmp}
 use Rattle.ledger.specs.Tally.{AreInTextOrder, AreAll}
-use Rattle.ledger.proofs.Same.{same_is, same_at}
+use Rattle.ledger.proofs.Same.{same_is, same_at, same_flips}
 use Rattle.ledger.proofs.Sets.{exact_tables, tables_total}
 
 -- where each table comes before the later ones, its text does
@@ -65,16 +65,6 @@ sorted_rising tables sorted apart = λ i j d less below. beyond tables sorted ap
 -- exchanges keep tables apart
 same_decides : (a b : Packed) → Decides (same_table a b) (a ≡ b)
 same_decides a b = (λ same. same_is a b same, λ e. same_at a b e)
-
-same_flips : (a b : Packed) → same_table a b ≡ same_table b a
-same_flips a b =
-    elim (same_table b a) as (λ v. same_table b a ≡ v → same_table a b ≡ v) [
-      | true ↦ λ same. same_at a b (sym (same_is b a same))
-      | false ↦ λ other. elim (same_table a b) as (λ w. same_table a b ≡ w → w ≡ false) [
-        | true ↦ λ same. let back = same_at b a (sym (same_is a b same)) in absurd (cc)
-        | false ↦ λ e. refl
-      ] refl
-    ] refl
 
 pub permuted_once : (xs ys : List Packed) → IsPermutation xs ys → AllPairs (λ (a b : Packed). a ≢ b) xs → AllPairs (λ (a b : Packed). a ≢ b) ys
 permuted_once xs ys same once =

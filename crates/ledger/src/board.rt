@@ -11,33 +11,31 @@ ghost use Rattle.ledger.specs.Inside.Places.{IsPlace};
 ghost use Rattle.ledger.specs.Tally.{AreAll, IsChampion, IsGreatestCount, IsHalting, IsStatus, IsTally};
 
 use crate::children::children_on;
-use crate::counts::{
-    champion_tables, count_halting, count_never, count_nodes, count_undecided, greatest_count,
-    sorted_tables, undecided_tables,
-};
+use crate::counts::Counts;
 use crate::faults::{BoardFault, OfferFault};
-use crate::index::{certificate_for, pair_for, verdict_in};
+use crate::index::{certificate_for, pair_for, place_of, verdict_in};
 use crate::kept::Kept;
-use crate::open_tables::{count_of, listed, only};
+use crate::open_tables::{only, open_children};
 use crate::place::{Place, recorded_place};
-use crate::prepared::{append, prepare, put};
 use crate::records::Records;
+use crate::selected::{sorted_tables, tables_with, undecided_tables};
 use crate::status::Status;
 use crate::taken::Taken;
 use crate::tally::Tally;
 use cert::{Record, standing_claims_are_true};
+use indexmap::IndexMap;
 use machine_text::{MAX_STATES, Table};
 use run::{NoMemory, Verdict};
 use std::alloc::Global;
-use std::collections::BTreeSet;
-use std::collections::btree_set::Iter;
+use std::collections::BTreeMap;
+use std::collections::btree_map::Keys;
 use std::marker::Model;
 use std::vec::IntoIter;
 use tnf::{Children, in_order};
 use tree::{best_of_closed, child_is_table, closed_tree, rado_of_complete};
 
 /// An iterator over the open tables of a board.
-pub type Open<'a> = Iter<'a, Table>;
+pub type Open<'a> = Keys<'a, Table, usize>;
 
 /// An iterator over the holdouts of a board.
 pub type Holdouts = IntoIter<Table>;
@@ -50,25 +48,29 @@ pub type Champions = IntoIter<Table>;
 pub struct Board {
     alloc: Global,
     root: Table,
-    records: Vec<Kept>,
-    // exactly the open tables
-    open_tables: BTreeSet<Table>,
+    // under their tables, which aren't kept again
+    records: IndexMap<Table, Kept>,
+    // exactly the open tables, each with the place of the record that opened it
+    open_tables: BTreeMap<Table, usize>,
+    // the numbers of the records
+    counts: Counts,
 }
 
 impl Model for Board {
-    ghost use Rattle.std.specs.Prelude.{map};
     ghost use Rattle.std.specs.List.{All};
-    ghost use Rattle.ledger.specs.Inside.Keeping.{held_recorded, KnowsPair};
+    ghost use Rattle.ledger.specs.Inside.Keeping.{records_of, KnowsPair};
+    ghost use Rattle.ledger.specs.Inside.Open.{IsOpenMap};
+    ghost use Rattle.ledger.specs.Inside.Counting.{IsCounted};
     ghost use Rattle.ledger.specs.Contents.{Contents, IsBoard};
-    ghost use Rattle.ledger.specs.Inside.Open.{IsOpenSet};
 
     ghost Value = { Contents };
 
-    ghost view = { λ a. record { root = a.root; records = map held_recorded a.records.items } };
+    ghost view = { λ a. record { root = a.root; records = records_of a.records.entries } };
 
-    ghost invariant = { λ a. IsBoard (record { root = a.root; records = map held_recorded a.records.items })
-        × IsOpenSet a.open_tables (record { root = a.root; records = map held_recorded a.records.items })
-        × All KnowsPair a.records.items };
+    ghost invariant = { λ a. IsBoard (record { root = a.root; records = records_of a.records.entries })
+        × IsOpenMap a.open_tables (record { root = a.root; records = records_of a.records.entries })
+        × All KnowsPair a.records.entries
+        × IsCounted (records_of a.records.entries) a.counts };
 }
 
 impl Board {
@@ -95,8 +97,9 @@ impl Board {
         Ok(Board {
             alloc,
             root,
-            records: Vec::new(alloc),
+            records: IndexMap::new(alloc),
             open_tables,
+            counts: Counts::none(),
         })
     }
 
@@ -121,7 +124,7 @@ impl Board {
         ensures { AreAll (IsOpen self.now.root (mark_in self.now.records)) result }
     {
         child_is_table();
-        listed(&self.open_tables)
+        self.open_tables.keys()
     }
 
     /// The holdouts, in the order of their texts: the tables whose record has no verdict.
@@ -129,7 +132,7 @@ impl Board {
         ensures { IfOk result (λ found. AreAll (IsHoldout self.now.records) (into_iter_items found)) }
     {
         child_is_table();
-        let tables = undecided_tables(self.alloc, &self.records)?;
+        let tables = undecided_tables(self.alloc, self.records())?;
         sorted_tables(self.alloc, tables)
     }
 
@@ -151,12 +154,12 @@ impl Board {
         ensures { IsTally self.now.root self.now.records result }
     {
         Tally {
-            nodes: count_nodes(&self.records, &self.open_tables),
-            halting: count_halting(&self.records),
-            never: count_never(&self.records),
-            holdouts: count_undecided(&self.records),
-            open_count: count_of(&self.open_tables),
-            best: greatest_count(&self.records),
+            nodes: self.records.len() as u64 + self.open_tables.len() as u64,
+            halting: self.counts.halting,
+            never: self.counts.never,
+            holdouts: self.counts.undecided,
+            open_count: self.open_tables.len() as u64,
+            best: self.counts.best,
         }
     }
 
@@ -166,7 +169,7 @@ impl Board {
             AreAll (IsChampion self.now.records best) (into_iter_items found)) }
     {
         child_is_table();
-        let tables = champion_tables(self.alloc, &self.records)?;
+        let tables = tables_with(self.alloc, self.records(), self.counts.best)?;
         sorted_tables(self.alloc, tables)
     }
 
@@ -191,18 +194,18 @@ impl Board {
     fn standing(&self) -> Status
         ensures { IsStatus self.now.root self.now.records result }
     {
-        let open_count = count_of(&self.open_tables);
+        let open_count = self.open_tables.len() as u64;
         if open_count > 0 {
             return Status::Working { count: open_count };
         }
-        let holdout_count = count_undecided(&self.records);
+        let holdout_count = self.counts.undecided;
         if holdout_count > 0 {
             return Status::Holdouts {
                 count: holdout_count,
             };
         }
         Status::Complete {
-            best: greatest_count(&self.records),
+            best: self.counts.best,
         }
     }
 
@@ -251,7 +254,7 @@ impl Board {
         ensures { (IsOpen self.now.root (mark_in self.now.records) t.now × (result ≡ Place.Open))
             ⊎ ((IsOpen self.now.root (mark_in self.now.records) t.now → ⊥) × (result ≡ Place.Elsewhere)) }
     {
-        if self.open_tables.contains(t) {
+        if self.open_tables.contains_key(t) {
             Place::Open
         } else {
             Place::Elsewhere
@@ -267,9 +270,23 @@ impl Board {
         ensures refusal { IfErr result (λ f. IsRefusal f (recorded r.now)) }
     {
         child_is_table();
-        let prepared = prepare(self.alloc, &self.open_tables, &self.records, r)?;
-        append(&mut self.records, prepared.kept)?;
-        self.open_tables = prepared.open_tables;
+        let kept = Kept::of(self.alloc, r)?;
+        self.records.reserve(1)?;
+        let place = self.records.len();
+        open_children(
+            &mut self.open_tables,
+            &self.records,
+            r,
+            place,
+            kept.halts_on,
+        )?;
+        // From here on nothing is refused: there is room for the record.
+        match self.records.insert(r.table, kept) {
+            Ok(_) => {}
+            Err(_) => unreachable!(),
+        }
+        self.open_tables.remove(&r.table);
+        self.counts = self.counts.with(r.certificate.verdict());
         Ok(Taken::New)
     }
 
@@ -283,9 +300,21 @@ impl Board {
         ensures refusal { IfErr result (λ f. IsRefusal f (recorded r.now)) }
     {
         child_is_table();
-        let prepared = prepare(self.alloc, &self.open_tables, &self.records, r)?;
-        put(&mut self.records, prepared.kept);
-        self.open_tables = prepared.open_tables;
+        let kept = Kept::of(self.alloc, r)?;
+        let place = place_of(&self.records, &r.table);
+        open_children(
+            &mut self.open_tables,
+            &self.records,
+            r,
+            place,
+            kept.halts_on,
+        )?;
+        // From here on nothing is refused: the table has its place.
+        match self.records.insert(r.table, kept) {
+            Ok(_) => {}
+            Err(_) => unreachable!(),
+        }
+        self.counts = self.counts.without_holdout().with(r.certificate.verdict());
         Ok(Taken::Settled)
     }
 }

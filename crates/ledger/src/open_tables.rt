@@ -1,119 +1,134 @@
-// The open tables of a board.
-ghost use Rattle.std.specs.Prelude.{◌≡◌, ◌≢◌, ℕ, ◌↔◌, ◌⊎◌, IfOk, IsTrue, None, map, length, [], ◌∷◌};
-ghost use Rattle.std.specs.List.Sorted.{IsStrictlySortedBy};
-ghost use Rattle.std.specs.BTreeSet.{contains};
+// The open tables of a board, each with the place of the record that opened it.
+ghost use Rattle.std.specs.Prelude.{◌≡◌, ◌≢◌, ℕ, ◌↔◌, ◌⊎◌, IfOk, IsTrue, OnOk, OnErr, None, [], ◌∷◌, filter};
+ghost use Rattle.std.specs.BTreeMap.{ContainsKey};
 ghost use Rattle.machine_text.specs.Packed.{Packed, entry_of};
 ghost use Rattle.tree.specs.Used.{InOrder};
 ghost use Rattle.cert.specs.Claim.{shown_by};
 ghost use Rattle.cert.specs.Kinds.{claim_of, recorded};
 ghost use Rattle.cert.specs.Certified.{IsPairOf};
-ghost use Rattle.ledger.specs.Inside.Keeping.{held_recorded};
+ghost use Rattle.ledger.specs.Inside.Keeping.{records_of};
 ghost use Rattle.ledger.specs.Records.{claim_in};
-ghost use Rattle.ledger.specs.Inside.Open.{IsNewChild, table_cmp, HasUnrecorded};
+ghost use Rattle.ledger.specs.Inside.Open.{table_cmp, others, HasUnrecorded, IsNewChild};
 
 use crate::children::children_on;
 use crate::index::certificate_for;
 use crate::kept::Kept;
 use cert::Record;
+use indexmap::IndexMap;
 use machine_text::{Pair, Table};
 use run::NoMemory;
-use std::alloc::{AllocFailed, Global};
-use std::collections::BTreeSet;
-use std::collections::btree_set::Iter;
+use std::alloc::Global;
+use std::collections::BTreeMap;
 use tnf::Children;
 
-// The tables of a set, in their order.
-pub fn listed(tables: &BTreeSet<Table>) -> Iter<'_, Table>
-    ensures tables { result ≡ tables.now.keys }
-    ensures rising { IsStrictlySortedBy table_cmp tables.now.keys }
-{
-    tables.iter()
-}
+/// The place of what opened the root, which no record has.
+const NO_PLACE: usize = usize::MAX;
 
-// How many tables a set has.
-pub fn count_of(tables: &BTreeSet<Table>) -> u64
-    ensures count { result ≡ length tables.now.keys }
-    ensures rising { IsStrictlySortedBy table_cmp tables.now.keys }
+// The root alone.
+pub fn only(alloc: Global, root: Table) -> Result<BTreeMap<Table, usize>, NoMemory>
+    ensures { IfOk result (λ tables. tables.entries ≡ (root, 18446744073709551615) ∷ []) }
 {
-    tables.len() as u64
-}
-
-// The set of one table.
-pub fn only(alloc: Global, t: Table) -> Result<BTreeSet<Table>, NoMemory>
-    ensures { IfOk result (λ tables. (q : Packed) → IsTrue (contains table_cmp tables q) ↔ (q ≡ t)) }
-{
-    let mut tables = BTreeSet::new(alloc);
-    tables.insert(t)?;
+    let mut tables = BTreeMap::new(alloc);
+    tables.insert(root, NO_PLACE)?;
     Ok(tables)
 }
 
-// The open tables without one of them.
-pub fn without(tables: &BTreeSet<Table>, t: &Table) -> Result<BTreeSet<Table>, NoMemory>
-    ensures { IfOk result (λ left. (q : Packed) → IsTrue (contains table_cmp left q) ↔ (IsTrue (contains table_cmp tables.now q) × (q ≢ t.now))) }
+// Opens the children of a record's table, which halts on this pair if it is known to: those that have no
+// record and aren't open already. The record stands at this place, or will. Where memory is refused, the
+// tables are as they were.
+pub fn open_children(
+    tables: &mut BTreeMap<Table, usize>,
+    records: &IndexMap<Table, Kept>,
+    r: &Record,
+    place: usize,
+    halts_on: Option<Pair>,
+) -> Result<(), NoMemory>
+    requires in_order { (u : ℕ) × InOrder u (entry_of r.now.table) }
+    requires pair { IsPairOf (shown_by (claim_of r.now.certificate)) r.now.table halts_on }
+    requires none { others place tables.old.entries ≡ tables.old.entries }
+    ensures ok { OnOk result ((q : Packed) → ContainsKey table_cmp tables.new q
+        ↔ (ContainsKey table_cmp tables.old q ⊎ IsNewChild (records_of records.now.entries) (recorded r.now) q)) }
+    ensures others { others place tables.new.entries ≡ tables.old.entries }
+    ensures none { halts_on ≡ None → tables.new.entries ≡ tables.old.entries }
+    ensures err { OnErr result (tables.new.entries ≡ tables.old.entries) }
 {
-    let mut left = tables.clone()?;
-    left.remove(t);
-    Ok(left)
+    match halts_on {
+        Some(pair) => open_all(
+            tables,
+            records,
+            &r.table,
+            place,
+            children_on(&r.table, pair),
+        ),
+        None => Ok(()),
+    }
 }
 
-// The open tables with those of the children that have no record and aren't the parent.
-pub fn with_children(
-    mut tables: BTreeSet<Table>,
-    records: &[Kept],
+// Opens those of the children that have no record and aren't the parent.
+fn open_all(
+    tables: &mut BTreeMap<Table, usize>,
+    records: &IndexMap<Table, Kept>,
     parent: &Table,
+    place: usize,
     found: Children,
-) -> Result<BTreeSet<Table>, NoMemory>
-    ensures { IfOk result (λ more. (q : Packed) → IsTrue (contains table_cmp more q)
-        ↔ (IsTrue (contains table_cmp tables q) ⊎ HasUnrecorded found (map held_recorded records.now) parent.now q)) }
+) -> Result<(), NoMemory>
+    requires { others place tables.old.entries ≡ tables.old.entries }
+    ensures ok { OnOk result ((q : Packed) → ContainsKey table_cmp tables.new q
+        ↔ (ContainsKey table_cmp tables.old q ⊎ HasUnrecorded found (records_of records.now.entries) parent.now q)) }
+    ensures others { others place tables.new.entries ≡ tables.old.entries }
+    ensures err { OnErr result (tables.new.entries ≡ tables.old.entries) }
 {
     for child in found {
-        tables = with_child(tables, records, parent, child)?;
+        if let Err(refused) = open_child(tables, records, parent, place, child) {
+            close_at(tables, place);
+            return Err(refused);
+        }
     }
-    Ok(tables)
+    Ok(())
 }
 
-// The open tables with a child, unless it has a record or is the parent.
-fn with_child(
-    mut tables: BTreeSet<Table>,
-    records: &[Kept],
+// Opens a child, unless it has a record, is the parent or is open.
+fn open_child(
+    tables: &mut BTreeMap<Table, usize>,
+    records: &IndexMap<Table, Kept>,
     parent: &Table,
+    place: usize,
     child: Table,
-) -> Result<BTreeSet<Table>, NoMemory>
-    ensures { IfOk result (λ more. (q : Packed) → IsTrue (contains table_cmp more q)
-        ↔ (IsTrue (contains table_cmp tables q) ⊎ HasUnrecorded (child ∷ []) (map held_recorded records.now) parent.now q)) }
+) -> Result<(), NoMemory>
+    ensures ok { OnOk result ((q : Packed) → ContainsKey table_cmp tables.new q
+        ↔ (ContainsKey table_cmp tables.old q ⊎ HasUnrecorded (child ∷ []) (records_of records.now.entries) parent.now q)) }
+    ensures others { others place tables.new.entries ≡ others place tables.old.entries }
 {
     if is_unrecorded(records, parent, &child) {
-        tables.insert(child)?;
+        open_new(tables, child, place)?;
     }
-    Ok(tables)
+    Ok(())
+}
+
+// Opens a table, unless it is open.
+fn open_new(tables: &mut BTreeMap<Table, usize>, t: Table, place: usize) -> Result<(), NoMemory>
+    ensures ok { OnOk result ((q : Packed) → ContainsKey table_cmp tables.new q ↔ (ContainsKey table_cmp tables.old q ⊎ (q ≡ t))) }
+    ensures others { others place tables.new.entries ≡ others place tables.old.entries }
+{
+    if !tables.contains_key(&t) {
+        tables.insert(t, place)?;
+    }
+    Ok(())
+}
+
+// Closes what was opened by the record at a place.
+fn close_at(tables: &mut BTreeMap<Table, usize>, place: usize)
+    ensures { tables.new.entries ≡ others place tables.old.entries }
+{
+    tables.retain(|_, opened_by| *opened_by != place);
 }
 
 // Whether a table has no record and isn't the parent.
-fn is_unrecorded(records: &[Kept], parent: &Table, t: &Table) -> bool
-    ensures { IsTrue result ↔ ((claim_in (map held_recorded records.now) t.now ≡ None) × (t.now ≢ parent.now)) }
+fn is_unrecorded(records: &IndexMap<Table, Kept>, parent: &Table, t: &Table) -> bool
+    ensures { IsTrue result ↔ ((claim_in (records_of records.now.entries) t.now ≡ None) × (t.now ≢ parent.now)) }
 {
     match certificate_for(records, t) {
         Some(_) => false,
         None => *t != *parent,
-    }
-}
-
-// The tables that are open once a record is taken: those that were, but for the record's own, and its
-// new children. `halts_on` is the pair on which its table halts.
-pub fn open_after(
-    tables: &BTreeSet<Table>,
-    records: &[Kept],
-    r: &Record,
-    halts_on: Option<Pair>,
-) -> Result<BTreeSet<Table>, NoMemory>
-    requires in_order { (u : ℕ) × InOrder u (entry_of r.now.table) }
-    requires pair { IsPairOf (shown_by (claim_of r.now.certificate)) r.now.table halts_on }
-    ensures { IfOk result (λ after. (q : Packed) → IsTrue (contains table_cmp after q)
-        ↔ ((IsTrue (contains table_cmp tables.now q) × (q ≢ r.now.table)) ⊎ IsNewChild (map held_recorded records.now) (recorded r.now) q)) }
-{
-    let left = without(tables, &r.table)?;
-    match halts_on {
-        Some(pair) => with_children(left, records, &r.table, children_on(&r.table, pair)),
-        None => Ok(left),
     }
 }

@@ -3,34 +3,38 @@ ghost use Rattle.std.specs.Prelude.{◌≡◌};
 
 use crate::kept::Kept;
 use cert::Record;
+use indexmap::IndexMap;
+use indexmap::map::Iter;
+use machine_text::Table;
 use std::marker::Model;
 
 /// An iterator over the records of a board, each lent, in the order in which their tables were taken. It
 /// is seen as the list of those that are left.
 #[derive(Drop)]
 pub struct Records<'a> {
-    left: &'a [Kept],
+    left: Iter<'a, Table, Kept>,
 }
 
 impl<'a> Model for Records<'a> {
-    ghost use Rattle.std.specs.Prelude.{List, map};
+    ghost use Rattle.std.specs.Prelude.{List};
     ghost use Rattle.cert.specs.Claim.{Recorded};
-    ghost use Rattle.ledger.specs.Inside.Keeping.{held_recorded};
+    ghost use Rattle.ledger.specs.Inside.Keeping.{records_of};
 
     ghost Value = { List Recorded };
 
-    ghost view = { λ a. map held_recorded a.left.now };
+    ghost view = { λ a. records_of a.left };
 }
 
 impl<'a> Records<'a> {
-    ghost use Rattle.std.specs.Prelude.{map};
-    ghost use Rattle.ledger.specs.Inside.Keeping.{held_recorded};
+    ghost use Rattle.ledger.specs.Inside.Keeping.{records_of};
 
-    // All of a list.
-    pub(crate) fn of(records: &'a [Kept]) -> Records<'a>
-        ensures { result ≡ map held_recorded records.now }
+    // All of a board.
+    pub(crate) fn of(records: &'a IndexMap<Table, Kept>) -> Records<'a>
+        ensures { result ≡ records_of records.now.entries }
     {
-        Records { left: records }
+        Records {
+            left: records.iter(),
+        }
     }
 }
 
@@ -45,8 +49,10 @@ impl<'a> Iterator for Records<'a> {
     ghost remaining = { item_count (λ left. left) };
 
     fn next(&mut self) -> Option<Record> {
-        let (first, rest) = self.left.split_first()?;
-        self.left = rest;
-        Some(first.record.lent())
+        let (table, kept) = self.left.next()?;
+        Some(Record {
+            table: *table,
+            certificate: kept.certificate.lent(),
+        })
     }
 }

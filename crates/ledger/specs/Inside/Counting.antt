@@ -1,10 +1,12 @@
 -- For the code: counts along lists of records.
-use Rattle.std.specs.Prelude.{ℕ, Bool, true, false, nat_lt, nat_eq, if◌then◌else◌, List, Option, Some, None, fold}
+use Rattle.std.specs.Prelude.{◌≡◌, ℕ, ◌+◌, ◌-◌, Bool, true, false, nat_lt, nat_eq, if◌then◌else◌, List, [], Option, Some, None, filter, filter_map, length}
 use Rattle.std.specs.Option.{is_none}
 use Rattle.machine_text.specs.Packed.{Packed}
 use Rattle.run.specs.declared.verdicts.Verdict.{Verdict}
 use Rattle.run.specs.declared.verdicts.Verdict.TheVariants.{Halts, Never}
 use Rattle.cert.specs.Claim.{Recorded, shown_by}
+use Rattle.ledger.specs.Tally.{IsGreatestCount}
+use Rattle.ledger.specs.declared.counts.Counts.{Counts}
 
 -- a record without a verdict
 abbrev pub is_undecided : Recorded → Bool
@@ -57,6 +59,24 @@ greater None b = b
 greater (Some a) None = Some a
 greater (Some a) (Some b) = if nat_lt a b then Some b else Some a
 
--- the greatest number of steps of the records that say that their table halts
-abbrev pub greatest : List Recorded → Option ℕ
-greatest rs = fold (λ best r. greater best (steps_of (shown_by r.claim))) None rs
+-- the tables of the records of so many steps
+abbrev pub tables_with : Option ℕ → List Recorded → List Packed
+tables_with None rs = []
+tables_with (Some best) rs = filter_map (champion_table best) rs
+
+-- the numbers that are kept are those of the records
+pub record IsCounted (rs : List Recorded) (c : Counts) : Type 0 where
+  pub halting : c.halting ≡ length (filter is_halting rs)
+  pub never : c.never ≡ length (filter is_never rs)
+  pub undecided : c.undecided ≡ length (filter is_undecided rs)
+  pub best : IsGreatestCount rs c.best
+
+-- the numbers with one more record, by what it shows
+abbrev pub with_shown : Counts → Option Verdict → Counts
+with_shown c None = record { halting = c.halting; never = c.never; undecided = c.undecided + 1; best = c.best }
+with_shown c (Some Never) = record { halting = c.halting; never = c.never + 1; undecided = c.undecided; best = c.best }
+with_shown c (Some (Halts k)) = record { halting = c.halting + 1; never = c.never; undecided = c.undecided; best = greater c.best (Some k) }
+
+-- the numbers without a holdout
+abbrev pub without_holdout : Counts → Counts
+without_holdout c = record { halting = c.halting; never = c.never; undecided = c.undecided - 1; best = c.best }

@@ -1,6 +1,6 @@
--- For the code: sets of tables, and which a board's open ones are.
-use Rattle.std.specs.Prelude.{◌≡◌, ◌≢◌, ◌↔◌, ℕ, List, Contains, None, Some, IsTrue}
-use Rattle.std.specs.BTreeSet.{BTreeSet, contains}
+-- For the code: maps of tables, and which a board's open ones are.
+use Rattle.std.specs.Prelude.{◌≡◌, ◌≢◌, ◌↔◌, ◌⊎◌, ◌≤◌, ◌^◌, ℕ, true, not, nat_eq, List, All, Contains, None, Some, filter, slice_get}
+use Rattle.std.specs.BTreeMap.{BTreeMap, ContainsKey}
 use Rattle.std.specs.Ordering.{nat_cmp, ordering_then}
 use Rattle.std.specs.declared.cmp.Ordering.{Ordering}
 use Rattle.std.specs.Cmp.Lexicographic.{slice_cmp}
@@ -11,6 +11,7 @@ use Rattle.tree.specs.Tables.{IsChildTable}
 use Rattle.cert.specs.Claim.{Recorded, shown_by}
 use Rattle.ledger.specs.Records.{claim_in, mark_in}
 use Rattle.ledger.specs.Contents.{Contents}
+use Rattle.ledger.specs.Inside.Counting.{is_halting}
 
 -- the order of tables: that of their texts
 abbrev pub table_cmp : Packed → Packed → Ordering
@@ -22,9 +23,18 @@ pub record HasUnrecorded (found : List Packed) (rs : List Recorded) (parent t : 
   pub unrecorded : claim_in rs t ≡ None
   pub other : t ≢ parent
 
--- a set of tables is that of the open ones
-pub record IsOpenSet (tables : BTreeSet Packed) (b : Contents) : Type 0 where
-  pub exact : (t : Packed) → IsTrue (contains table_cmp tables t) ↔ IsOpen b.root (mark_in b.records) t
+-- the entries of the tables that weren't opened by the record at this place
+abbrev pub others : ℕ → List (Packed × ℕ) → List (Packed × ℕ)
+others place es = filter (λ e. not (nat_eq e.1 place)) es
+
+-- the place of a record that says that its table halts, or none at all
+abbrev pub IsOpener : List Recorded → ℕ → Type 0
+IsOpener rs place = (2 ^ 63 ≤ place) ⊎ ((r : Recorded) × (slice_get rs place ≡ Some r) × (is_halting r ≡ true))
+
+-- a map of tables is that of the open ones, each with the place of what opened it
+pub record IsOpenMap (tables : BTreeMap Packed ℕ) (b : Contents) : Type 0 where
+  pub exact : (t : Packed) → ContainsKey table_cmp tables t ↔ IsOpen b.root (mark_in b.records) t
+  pub openers : All (λ e. IsOpener b.records e.1) tables.entries
 
 -- a child of the record's table, by its halting, that has no record itself
 pub record IsNewChild (rs : List Recorded) (r : Recorded) (t : Packed) : Type 0 where

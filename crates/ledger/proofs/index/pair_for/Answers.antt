@@ -1,30 +1,28 @@
-use Rattle.std.proofs.Common.{map, sym, ◌∙◌, subst, get_or}
-use Rattle.machine_text.specs.Packed.{Packed}
-use Rattle.cert.specs.Claim.{shown_by}
+use Rattle.std.proofs.Common.{sym, ◌∙◌, ap}
+use Rattle.std.specs.Option.{option_copied}
 use Rattle.cert.specs.Kinds.{owned_claim}
-use Rattle.cert.specs.Certified.{IsPairOf}
-use Rattle.ledger.specs.Inside.Keeping.{held_recorded}
-use Rattle.ledger.proofs.Claims.{found_table, found_claim, found_no_claim}
+use Rattle.ledger.specs.Records.{same_table}
+use Rattle.ledger.specs.Inside.Keeping.{records_of}
+use Rattle.ledger.proofs.Entries.{found_claim, no_claim, found_pair}
 use Rattle.ledger.proofs.OpenAfter.{pair_some, pair_none, unrecorded_pair}
 use Rattle.ledger.proofs.index.pair_for.Goals as goal
 
 pub returns-in-Some-clause-some : goal.returns-in-Some-clause-some
+unfolding same_table
 returns-in-Some-clause-some c =
-    let h = get_or c.args.records.now c.in-Some.place c.index-records-place.result in
-    let found = sym c.place_of.ensures ∙ c.in-Some.is in
-    let at = found_table c.args.records.now c.args.t.now c.in-Some.place c.index-records-place.result found in
-    pair_some (map held_recorded c.args.records.now) c.args.t.now (owned_claim h.record.certificate) h.halts_on
-    (found_claim c.args.records.now c.args.t.now c.in-Some.place c.index-records-place.result found)
-    (subst (λ (t : Packed). IsPairOf (shown_by (owned_claim h.record.certificate)) t h.halts_on) at.1 (c.requires c.in-Some.place c.index-records-place.result at.0))
+    let es = c.args.records.now.entries in
+    let kept = c.in-Some.kept.now in
+    let found = sym c.get.ensures.value ∙ ap option_copied c.in-Some.is in
+    pair_some (records_of es) c.args.t.now (owned_claim kept.certificate) kept.halts_on (found_claim es c.args.t.now kept found) (found_pair es c.args.t.now kept c.requires found)
 
 pub returns-in-Some-clause-none : goal.returns-in-Some-clause-none
+unfolding same_table
 returns-in-Some-clause-none c =
-    let h = get_or c.args.records.now c.in-Some.place c.index-records-place.result in
-    let found = sym c.place_of.ensures ∙ c.in-Some.is in
-    let at = found_table c.args.records.now c.args.t.now c.in-Some.place c.index-records-place.result found in
-    pair_none (map held_recorded c.args.records.now) c.args.t.now (owned_claim h.record.certificate) h.halts_on
-    (found_claim c.args.records.now c.args.t.now c.in-Some.place c.index-records-place.result found)
-    (subst (λ (t : Packed). IsPairOf (shown_by (owned_claim h.record.certificate)) t h.halts_on) at.1 (c.requires c.in-Some.place c.index-records-place.result at.0))
+    let es = c.args.records.now.entries in
+    let kept = c.in-Some.kept.now in
+    let found = sym c.get.ensures.value ∙ ap option_copied c.in-Some.is in
+    pair_none (records_of es) c.args.t.now (owned_claim kept.certificate) kept.halts_on (found_claim es c.args.t.now kept found) (found_pair es c.args.t.now kept c.requires found)
 
 pub returns-in-None-clause-none : goal.returns-in-None-clause-none
-returns-in-None-clause-none c = unrecorded_pair (map held_recorded c.args.records.now) c.args.t.now (found_no_claim c.args.records.now c.args.t.now (sym c.place_of.ensures ∙ c.in-None.is))
+unfolding same_table
+returns-in-None-clause-none c = unrecorded_pair (records_of c.args.records.now.entries) c.args.t.now (no_claim c.args.records.now.entries c.args.t.now (sym c.get.ensures.value ∙ ap option_copied c.in-None.is))

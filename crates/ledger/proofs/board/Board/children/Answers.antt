@@ -1,15 +1,12 @@
-use Rattle.std.proofs.Common.{List, map, subst}
+use Rattle.std.proofs.Common.{subst}
 use Rattle.tree.specs.Closed.{Halting}
 use Rattle.ledger.specs.Contents.{Contents, IsBoard}
-use Rattle.ledger.specs.Inside.Keeping.{held_recorded}
 use Rattle.ledger.specs.Tally.{HaltsAfter}
-use Rattle.ledger.specs.declared.kept.Kept.{Kept}
 use Rattle.ledger.proofs.BoardLaws.{marked_in_order}
 use Rattle.ledger.proofs.board.Board.children.Goals as goal
 
 pub children_on-requires-clause-in_order : goal.children_on-requires-clause-in_order
 children_on-requires-clause-in_order c =
     let known = c.in-Some.ensures.some in
-    let here : HaltsAfter c.args.self.now.records known.0 c.args.t.now =
-    subst (λ (b : Contents). HaltsAfter b.records known.0 c.args.t.now) c.self.view_is (subst (λ (l : List Kept). HaltsAfter (map held_recorded l) known.0 c.args.t.now) c.deref.ensures.value known.1) in
+    let here = subst (λ (b : Contents). HaltsAfter b.records known.0 c.args.t.now) c.self.view_is known.1 in
     marked_in_order c.args.self.now c.args.t.now (Halting known.0) c.child_is_table.ensures.below c.child_is_table.ensures.order (subst IsBoard c.self.view_is c.self.invariant.0) here

@@ -1,6 +1,9 @@
+use Rattle.std.proofs.Common.{subst}
+use Rattle.ledger.specs.Contents.{IsBoard}
+use Rattle.ledger.specs.Inside.Open.{IsOpenMap}
 use Rattle.ledger.proofs.BoardLaws.{all_open}
 use Rattle.ledger.proofs.board.Board.open.Goals as goal
 
 pub returns : goal.returns
-returns c = all_open c.args.self.now _ c.self.inside.open_tables c.listed.result c.child_is_table.ensures.below c.child_is_table.ensures.tree
-    c.self.view_is c.self.invariant.0 c.self.invariant.1 c.listed.ensures.tables c.listed.ensures.rising
+returns c = rw c.keys.ensures.rest (all_open c.args.self.now c.self.inside.open_tables c.child_is_table.ensures.below c.child_is_table.ensures.tree
+    (subst IsBoard c.self.view_is c.self.invariant.0) (subst (IsOpenMap c.self.inside.open_tables) c.self.view_is c.self.invariant.1) c.keys.ensures.ordered)

@@ -1,16 +1,67 @@
-use Rattle.std.proofs.Common.{subst, ◌≡◌, length, arith}
+use Rattle.std.proofs.Common.{◌≡◌, ◌<◌, ◌^◌, ◌++◌, ◌∷◌, [], List, refl, sym, ◌∙◌, ap, subst, arith}
+use Rattle.machine_text.specs.Packed.{Packed}
+use Rattle.tree.specs.Closed.{IsOpen}
+use Rattle.cert.specs.Claim.{Recorded}
 use Rattle.cert.specs.Kinds.{recorded}
-use Rattle.ledger.specs.Contents.{IsBoard}
-use Rattle.ledger.proofs.Taking.{holdout_in_order, code_settled, written_back}
+use Rattle.ledger.specs.Records.{same_table, mark_in}
+use Rattle.ledger.specs.Held.{IsHoldout, Settles, settled}
+use Rattle.ledger.specs.Contents.{Contents, IsBoard}
+use Rattle.ledger.specs.Inside.Keeping.{records_of}
+use Rattle.ledger.specs.declared.kept.Kept.{Kept}
+use Rattle.ledger.proofs.Boards.{holdouts_place, numbers_fit, kept_settled, records_settled, holdout_counted}
+use Rattle.ledger.proofs.Entries.{an_entry}
+use Rattle.ledger.proofs.Taking.{holdout_in_order, holdout_claim}
 use Rattle.ledger.proofs.board.Board.settle.Goals as goal
 
-pub prepare-requires : goal.prepare-requires
-prepare-requires c = holdout_in_order c.args.self.now c.args.r.now.table c.child_is_table.ensures.below c.child_is_table.ensures.order (subst IsBoard c.self.view_is c.self.invariant.0) c.requires.holdout
+pub open_children-requires-clause-in_order : goal.open_children-requires-clause-in_order
+open_children-requires-clause-in_order c = holdout_in_order c.args.self.now c.args.r.now.table c.child_is_table.ensures.below c.child_is_table.ensures.order (subst IsBoard c.self.view_is c.self.invariant.0) c.requires.holdout
 
-pub invariant_of-self : goal.invariant_of-self
-invariant_of-self c =
-    let size : c.self.inside.records.len ≡ length c.self.inside.records.items = omega (arith, c.self.inside.records.ok) in
-    rw (written_back c.self.inside.records.items c.deref_mut.result.now c.put.new.records c.self.inside.records.len size c.deref_mut.ensures.value c.put.ensures.length)
-    (let two = code_settled c.args.self.now c.self.inside.root c.self.inside.records.items c.deref.result.now c.deref_mut.result.now c.put.new.records c.in_ok-prepared.prepared.kept (recorded c.args.r.now) c.self.inside.open_tables c.in_ok-prepared.prepared.open_tables
-    c.self.view_is c.deref.ensures.value c.deref_mut.ensures.value (c.self.invariant.0, c.self.invariant.1) c.requires.holdout c.requires.verdict c.in_ok-prepared.ensures.certified c.put.ensures.settled c.in_ok-prepared.ensures.record c.in_ok-prepared.ensures.tables in
-    (two.0, two.1, c.put.ensures.pairs (rw c.deref_mut.ensures.value c.self.invariant.2) c.in_ok-prepared.ensures.pair))
+pub open_children-requires-clause-none : goal.open_children-requires-clause-none
+open_children-requires-clause-none c =
+    holdouts_place c.self.inside.root c.self.inside.records.entries c.self.inside.open_tables c.place_of-place.result c.args.r.now.table c.self.invariant.1 c.place_of-place.ensures.place c.place_of-place.ensures.small
+
+pub unreachable-requires : goal.unreachable-requires
+unfolding same_table
+unreachable-requires c =
+    let holdout = subst (λ (b : Contents). IsHoldout b.records c.args.r.now.table) (sym c.self.view_is) c.requires.holdout in
+    let claimed = holdout_claim (records_of c.self.inside.records.entries) c.args.r.now.table holdout in
+    let found = an_entry c.self.inside.records.entries c.args.r.now.table claimed.0 claimed.1 in
+    let absent = c.in-Err.ensures.absent in
+    let there = found.1 in
+    cc (absent, there)
+
+pub without_holdout-requires : goal.without_holdout-requires
+without_holdout-requires c =
+    holdout_counted c.self.inside.records.entries c.self.inside.counts (recorded c.args.r.now) c.self.invariant.3 (subst (λ (b : Contents). IsHoldout b.records c.args.r.now.table) (sym c.self.view_is) c.requires.holdout)
+
+pub with-self-inside-requires-clause-halting : goal.with-self-inside-requires-clause-halting
+with-self-inside-requires-clause-halting c = rw c.without_holdout.ensures (numbers_fit c.self.inside.records.entries c.self.inside.counts c.self.invariant.3 c.place_of-place.ensures.room).0
+
+pub with-self-inside-requires-clause-never : goal.with-self-inside-requires-clause-never
+with-self-inside-requires-clause-never c = rw c.without_holdout.ensures (numbers_fit c.self.inside.records.entries c.self.inside.counts c.self.invariant.3 c.place_of-place.ensures.room).1
+
+pub with-self-inside-requires-clause-undecided : goal.with-self-inside-requires-clause-undecided
+with-self-inside-requires-clause-undecided c =
+    let small = (numbers_fit c.self.inside.records.entries c.self.inside.counts c.self.invariant.3 c.place_of-place.ensures.room).2 in rw c.without_holdout.ensures (omega (arith, small))
+
+pub invariant_of-self-2 : goal.invariant_of-self-2
+unfolding same_table
+invariant_of-self-2 c =
+    let es = c.self.inside.records.entries in
+    let holdout = subst (λ (b : Contents). IsHoldout b.records c.args.r.now.table) (sym c.self.view_is) c.requires.holdout in
+    rw (c.with-self-inside.ensures, c.without_holdout.ensures, c.verdict.ensures)
+    (kept_settled c.self.inside.root es c.insert.new.self.entries (recorded c.args.r.now) c.in_ok-kept.kept c.place_of-place.result c.self.inside.open_tables c.open_children.new.tables c.self.inside.counts
+    c.self.invariant (record { is_holdout = holdout; verdict = c.requires.verdict; certified = c.in_ok-kept.ensures.certified })
+    c.in_ok-kept.ensures.claim c.in_ok-kept.ensures.pair c.in-Ok.ensures.entries c.place_of-place.ensures.place
+    c.in_ok-open_children.ensures.ok c.in_ok-open_children.ensures.others c.in_ok-open_children.ensures.none)
+
+pub returns-clause-ok : goal.returns-clause-ok
+unfolding same_table
+returns-clause-ok c =
+    let es = c.self.inside.records.entries in
+    let holdout = subst (λ (b : Contents). IsHoldout b.records c.args.r.now.table) (sym c.self.view_is) c.requires.holdout in (
+      refl,
+      record { is_holdout = c.requires.holdout; verdict = c.requires.verdict; certified = c.in_ok-kept.ensures.certified },
+      records_settled es c.insert.new.self.entries (recorded c.args.r.now) c.in_ok-kept.kept c.in_ok-kept.ensures.claim holdout c.in-Ok.ensures.entries
+          ∙ ap (λ (b : Contents). settled b.records (recorded c.args.r.now)) c.self.view_is,
+    )

@@ -1,16 +1,26 @@
+use Rattle.std.proofs.Common.{◌+◌, sym, ◌∙◌, ap, subst}
 use Rattle.ledger.specs.Held.{IsHoldout}
-use Rattle.ledger.specs.Inside.Counting.{is_undecided, is_halting, is_never}
+use Rattle.ledger.specs.Contents.{Contents, IsBoard}
+use Rattle.ledger.specs.Inside.Counting.{is_undecided, is_halting, is_never, IsCounted}
+use Rattle.ledger.specs.Inside.Open.{IsOpenMap}
 use Rattle.ledger.specs.Tally.{IsHalting, IsNonHalting}
 use Rattle.ledger.proofs.Numbers.{holdout_number, halting_number, never_number}
-use Rattle.ledger.proofs.BoardLaws.{open_number, nodes_counted, kind_counted, greatest_counted}
+use Rattle.ledger.proofs.BoardLaws.{open_number, nodes_counted, kind_counted}
 use Rattle.ledger.proofs.board.Board.tally.Goals as goal
 
 pub returns : goal.returns
-returns c = record {
-  nodes = nodes_counted c.args.self.now c.self.inside.root c.self.inside.records.items c.count_nodes.result c.count_of.result _ c.self.view_is c.count_nodes.ensures c.count_of.ensures.count;
-  open_count = open_number c.args.self.now _ c.self.inside.open_tables c.count_of.result c.self.view_is c.self.invariant.1 c.count_of.ensures.count c.count_of.ensures.rising;
-  halting = kind_counted IsHalting is_halting halting_number c.args.self.now c.self.inside.root c.self.inside.records.items c.deref.result.now c.count_halting.result c.self.view_is c.deref.ensures.value c.self.invariant.0 c.count_halting.ensures;
-  never = kind_counted IsNonHalting is_never never_number c.args.self.now c.self.inside.root c.self.inside.records.items c.deref-2.result.now c.count_never.result c.self.view_is c.deref-2.ensures.value c.self.invariant.0 c.count_never.ensures;
-  holdouts = kind_counted IsHoldout is_undecided holdout_number c.args.self.now c.self.inside.root c.self.inside.records.items c.deref-3.result.now c.count_undecided.result c.self.view_is c.deref-3.ensures.value c.self.invariant.0 c.count_undecided.ensures;
-  best = greatest_counted c.args.self.now c.self.inside.root c.self.inside.records.items c.deref-4.result.now c.greatest_count.result c.self.view_is c.deref-4.ensures.value c.self.invariant.0 c.greatest_count.ensures;
-}
+returns c =
+    let b = c.args.self.now in
+    let counts = c.self.inside.counts in
+    let board = subst IsBoard c.self.view_is c.self.invariant.0 in
+    let tables = subst (IsOpenMap c.self.inside.open_tables) c.self.view_is c.self.invariant.1 in
+    let counted = subst (λ (b : Contents). IsCounted b.records counts) c.self.view_is c.self.invariant.3 in
+    record {
+      nodes = nodes_counted b c.self.inside.root c.self.inside.records.entries (c.len.result + c.len-2.result) c.len.result c.len-3.result c.self.view_is c.len.ensures.len
+          (ap (λ n. c.len.result + n) (c.len-2.ensures.len ∙ sym c.len-3.ensures.len));
+      open_count = open_number b c.self.inside.open_tables c.len-3.result tables c.len-3.ensures.len c.len-3.ensures.ordered;
+      halting = kind_counted IsHalting is_halting halting_number b counts.halting board counted.halting;
+      never = kind_counted IsNonHalting is_never never_number b counts.never board counted.never;
+      holdouts = kind_counted IsHoldout is_undecided holdout_number b counts.undecided board counted.undecided;
+      best = counted.best;
+    }

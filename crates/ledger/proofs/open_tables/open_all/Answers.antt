@@ -1,0 +1,10 @@
+use Rattle.std.proofs.Common.{◌∙◌}
+use Rattle.ledger.specs.Inside.Keeping.{records_of}
+use Rattle.ledger.proofs.Sets.{brings}
+use Rattle.ledger.proofs.open_tables.open_all.Goals as goal
+
+pub loop-child-preserved : goal.loop-child-preserved
+loop-child-preserved c = record {
+  opens = λ q. brings (records_of c.args.records.now.entries) c.args.parent.now c.in-Some.child q c.loop-child.child-iterator c.next.new.self _ _ _ c.in-Some.ensures.steps (c.loop-child.invariant.opens q) (c.in_default.ensures.ok q);
+  back = c.open_child.ensures.others ∙ c.loop-child.invariant.back;
+}

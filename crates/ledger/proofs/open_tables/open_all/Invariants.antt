@@ -1,0 +1,16 @@
+use Rattle.std.proofs.Common.{◌≡◌, ◌↔◌, ◌⊎◌, ℕ}
+use Rattle.std.specs.BTreeMap.{ContainsKey}
+use Rattle.machine_text.specs.Packed.{Packed}
+use Rattle.ledger.specs.Inside.Keeping.{records_of}
+use Rattle.ledger.specs.Inside.Open.{table_cmp, others, HasUnrecorded}
+use Rattle.ledger.proofs.open_tables.open_all.Given as goal
+
+-- what is open, and what the children that are left will open, is what will be open; and but for what was opened here, the
+-- tables are as they were
+abbrev pub invariant-loop-child : goal.invariant-loop-child
+invariant-loop-child l = record {
+  opens : (q : Packed) →
+      (ContainsKey table_cmp l.tables q ⊎ HasUnrecorded l.child-iterator (records_of l.records.entries) l.parent q)
+      ↔ (ContainsKey table_cmp l.fn.tables q ⊎ HasUnrecorded l.fn.found (records_of l.records.entries) l.parent q);
+  back : others l.place l.tables.entries ≡ l.fn.tables.entries;
+}

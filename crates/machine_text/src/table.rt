@@ -6,7 +6,7 @@ ghost use Rattle.machine_text.specs.Packed.{pair_place};
 use crate::code::Code;
 use crate::faults::TextFault;
 use crate::grammar;
-use crate::limits::{MAX_ENTRIES, MAX_STATES, TEXT_BYTES};
+use crate::limits::{MAX_ENTRIES, TEXT_BYTES};
 use crate::transition::{Dir, Entry, State, Sym};
 use std::marker::Model;
 

@@ -10,7 +10,7 @@ use Rattle.machine_text.specs.declared.transition.Dir.TheVariants.{L, R}
 use Rattle.machine_text.specs.declared.transition.Entry.{Entry}
 use Rattle.machine_text.specs.declared.faults.TextFault.{TextFault}
 use Rattle.machine_text.specs.declared.faults.TextFault.TheVariants.{BadLength, BadBar, BadSymbol, BadDir, BadState}
-use Rattle.machine_text.specs.Packed.{Packed, symbol_number, symbol_of, entry_of, tabulated}
+use Rattle.machine_text.specs.Packed.{Packed, symbol_number, entry_of, tabulated}
 
 abbrev pub symbol_byte : Sym → ℕ
 symbol_byte Zero = 48
@@ -32,19 +32,6 @@ row_text p q = entry_text (entry_of p q Zero) ++ entry_text (entry_of p q One)
 -- the text of a table: its rows, with `_` between each two
 unfoldable pub text_of : Packed → List ℕ
 text_of p = join_with_byte 95 (map (row_text p) (range_with_len 0 p.states))
-
--- the bytes of an entry one by one, and the byte at a place of the text, whose rows are seven bytes apart
-abbrev pub entry_byte : Option Entry → ℕ → ℕ
-entry_byte None column = 45
-entry_byte (Some e) column =
-    if column == 0 then symbol_byte e.write
-    else if column == 1 then direction_byte e.dir
-    else 65 + e.next.0
-
-unfoldable pub byte_at : Packed → ℕ → ℕ
-byte_at p i =
-    if i % 7 == 6 then 95
-    else entry_byte (entry_of p (i / 7) (symbol_of (i % 7 / 3))) (i % 7 % 3)
 
 -- how many states a text of this many bytes has, where it has a table's length
 abbrev pub states_in : ℕ → ℕ

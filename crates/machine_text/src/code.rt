@@ -38,7 +38,7 @@ impl Code {
         Code { byte }
     }
 
-    /// The entry for which the code stands.
+    /// The entry whose code this is, or none.
     #[inline]
     pub fn entry(self) -> Option<Entry>
         ensures { result ≡ coded_entry self }

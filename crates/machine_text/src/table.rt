@@ -6,7 +6,7 @@ ghost use Rattle.machine_text.specs.Packed.{pair_place};
 use crate::code::Code;
 use crate::faults::TextFault;
 use crate::grammar;
-use crate::limits::{MAX_ENTRIES, MAX_STATES, TEXT_BYTES};
+use crate::limits::{MAX_ENTRIES, TEXT_BYTES};
 use crate::transition::{Dir, Entry, State, Sym};
 use std::marker::Model;
 
@@ -36,7 +36,8 @@ impl Model for Table {
 impl Table {
     ghost use Rattle.machine_text.specs.Packed.{IsTable, entry_of, filled, with_entry, empty_table, holes};
     ghost use Rattle.machine_text.specs.declared.transition.Sym.{Sym as Symbol};
-    ghost use Rattle.machine_text.specs.Text.{table_of, text_of, byte_at};
+    ghost use Rattle.machine_text.specs.Text.{table_of, text_of};
+    ghost use Rattle.machine_text.specs.Inside.{byte_at};
 
     /// The table of n states in which each pair is undefined.
     pub fn empty(n: u8) -> Table

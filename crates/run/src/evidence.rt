@@ -3,8 +3,8 @@ use crate::verdicts::{Refused, Verdict};
 use machine_text::Table;
 use std::alloc::Global;
 
-/// A claim about tables, for a verdict. What it claims is its ghost member `stands`; the `law` says that
-/// it makes the verdict true of the table, and every implementation proves it.
+/// Evidence for a verdict: a claim about tables that can be checked. What it claims is its ghost member
+/// `stands`; the `law` says that it makes the verdict true of the table, and every implementation proves it.
 pub trait Evidence {
     ghost use Rattle.std.specs.Prelude.{◌≡◌, Err, IfOk};
     ghost use Rattle.machine_text.specs.Packed.{Packed, IsTable, entry_of};

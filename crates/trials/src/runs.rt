@@ -81,10 +81,11 @@ fn counts_are_checked(rt: HostRuntime) {
     }
 }
 
-// The limit itself is accepted: the table is run, and halts too soon. One more isn't looked at.
+// A count at the limit is looked at: the table is run, and halts in 6. One more isn't. (A table that runs so long
+// would need a tape of 100 million cells.)
 #[test]
 fn counts_up_to_the_limit_are_looked_at(rt: HostRuntime) {
-    let table = table_of(&rt, "1RA---");
+    let table = table_of(&rt, "1RB1LB_1LA---");
     for (count, answer) in [
         (100_000_000, Refused::Fails),
         (100_000_001, Refused::TooLong),

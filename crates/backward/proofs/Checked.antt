@@ -11,8 +11,8 @@ use Rattle.turing.proofs.TableLaws.{table_machine}
 use Rattle.turing.proofs.LevelLaws.{level_wider, longer_level, backward_level, level_backward, empty_below}
 use Rattle.run.specs.Standing.{Standing}
 use Rattle.run.specs.Steps.{RunsTo}
-use Rattle.run.specs.declared.stepping.Step.{Step}
-use Rattle.run.specs.declared.stepping.Step.TheVariants.{Went, Halts}
+use Rattle.run.specs.declared.runner.Step.{Step}
+use Rattle.run.specs.declared.runner.Step.TheVariants.{Went, Halts}
 use Rattle.run.proofs.Standings.{begun}
 use Rattle.backward.specs.Limits.{path_limit}
 use Rattle.backward.specs.inside.Counts.{Does, SaysDone, Counted, AreWidths, HasTooMany}

@@ -8,8 +8,8 @@ use Rattle.turing.proofs.RunLaws.{one_count}
 use Rattle.tree.specs.Children.{HaltsOn}
 use Rattle.run.specs.Standing.{Standing}
 use Rattle.run.specs.Steps.{RunsTo}
-use Rattle.run.specs.declared.stepping.Step.{Step}
-use Rattle.run.specs.declared.stepping.Step.TheVariants.{Went, Halts}
+use Rattle.run.specs.declared.runner.Step.{Step}
+use Rattle.run.specs.declared.runner.Step.TheVariants.{Went, Halts}
 use Rattle.run.proofs.Standings.{begun, found_none}
 
 -- a configuration at the last time of a run is that on which it halts

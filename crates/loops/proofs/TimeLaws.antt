@@ -13,8 +13,8 @@ use Rattle.turing.proofs.Heads.{head_reach}
 use Rattle.tape.specs.Places.{IsWithinLimit}
 use Rattle.run.specs.Standing.{Standing, OnRun}
 use Rattle.run.specs.Steps.{RunsTo, StepsTo}
-use Rattle.run.specs.declared.stepping.Step.{Step}
-use Rattle.run.specs.declared.stepping.Step.TheVariants.{Halts}
+use Rattle.run.specs.declared.runner.Step.{Step}
+use Rattle.run.specs.declared.runner.Step.TheVariants.{Halts}
 use Rattle.loops.specs.inside.Moment.{Moment, IsMomentOf}
 use Rattle.loops.specs.Limits.{time_limit}
 

@@ -1,5 +1,6 @@
 pub mod Ranges
 pub mod Tables
+pub mod Filling
 pub mod Rows
 pub mod Named
 pub mod Holes

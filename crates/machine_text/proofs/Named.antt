@@ -11,9 +11,9 @@ use Rattle.machine_text.specs.declared.transition.Dir.TheVariants.{L, R}
 use Rattle.machine_text.specs.declared.transition.Entry.{Entry}
 use Rattle.machine_text.specs.declared.faults.TextFault.{TextFault}
 use Rattle.machine_text.specs.declared.faults.TextFault.TheVariants.{BadLength}
-use Rattle.machine_text.specs.Packed.{symbol_number, symbol_of, code_of, tabulated}
+use Rattle.machine_text.specs.Packed.{symbol_number, symbol_of, code_of, tabulated, IsMapOf}
 use Rattle.machine_text.specs.Text.{states_in, is_table_length, is_state_letter, faults_of, entry_named, table_named, table_of}
-use Rattle.machine_text.proofs.Tables.{symbol_number-symbol_of, entry_with, IsMapOf, codes-tabulated}
+use Rattle.machine_text.proofs.Tables.{symbol_number-symbol_of, entry_with, codes-tabulated}
 
 -- a letter is that of one of n states
 letter_within : (n byte : ℕ) → is_state_letter n byte ≡ true → byte - 65 < n

@@ -11,7 +11,7 @@ use Rattle.machine_text.specs.declared.transition.Sym.TheVariants.{Zero, One}
 use Rattle.machine_text.specs.declared.transition.Dir.{Dir}
 use Rattle.machine_text.specs.declared.transition.Dir.TheVariants.{L, R}
 use Rattle.machine_text.specs.declared.transition.Entry.{Entry}
-use Rattle.machine_text.specs.Packed.{Packed, IsTable, symbol_number, symbol_of, direction_number, direction_of, code_of, coded_entry, pair_place, entry_of, tabulated}
+use Rattle.machine_text.specs.Packed.{Packed, IsTable, symbol_number, symbol_of, direction_number, direction_of, code_of, coded_entry, pair_place, entry_of, tabulated, IsMapOf}
 
 pub symbol_number-le : (s : Sym) → symbol_number s ≤ 1
 symbol_number-le Zero = omega arith
@@ -86,13 +86,6 @@ next_in_code (Some e) n limit fits some =
 weaker : (o : Option Entry) (n : ℕ) → n ≤ 8 → IfSome o (λ e. e.next.0 < n) → IfSome o (λ e. e.next.0 < 8)
 weaker None n limit fits = tt
 weaker (Some e) n limit fits = omega arith
-
--- a map that a table of n states can have
-pub record IsMapOf (n : ℕ) (m : ℕ → Sym → Option Entry) : Type 0 where
-  pub some : 1 ≤ n
-  pub limit : n ≤ state_limit
-  pub beyond : (q : ℕ) (s : Sym) → n ≤ q → m q s ≡ None
-  pub inside : (q : ℕ) (s : Sym) → IfSome (m q s) (λ e. e.next.0 < n)
 
 module _ (n : ℕ) (m : ℕ → Sym → Option Entry) (map_of : IsMapOf n m) where
   -- each code of the table made of a map

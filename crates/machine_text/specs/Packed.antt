@@ -1,6 +1,6 @@
 -- What a table is: a number of states, and a finite map from pairs (state, symbol read) to entries.
 -- A table is stored with one number for each pair; `entry_of` is the map, and all else is said by it.
-use Rattle.std.specs.Prelude.{◌≡◌, ℕ, zero, suc, ◌+◌, ◌-◌, ◌*◌, ◌/◌, ◌%◌, ◌<◌, ◌≤◌, ◌==◌, if◌then◌else◌, List, Option, Some, None, slice_index, slice_set, length, map}
+use Rattle.std.specs.Prelude.{◌≡◌, ℕ, zero, suc, ◌+◌, ◌-◌, ◌*◌, ◌/◌, ◌%◌, ◌<◌, ◌≤◌, ◌==◌, ◌&&◌, Bool, true, false, if◌then◌else◌, List, Option, Some, None, IfSome, slice_index, length, map}
 use Rattle.std.specs.List.{range_with_len}
 use Rattle.machine_text.specs.Limits.{state_limit}
 use Rattle.machine_text.specs.declared.transition.Sym.{Sym}
@@ -48,16 +48,33 @@ pair_place q s = 2 * q + symbol_number s
 unfoldable pub entry_of : Packed → ℕ → Sym → Option Entry
 entry_of p q s = coded_entry (slice_index p.codes (pair_place q s))
 
--- the table with one more entry, or another one, at a pair
-unfoldable pub with_entry : Packed → ℕ → Sym → Entry → Packed
-with_entry p q s e = record { codes = slice_set p.codes (pair_place q s) (code_of (Some e)); states = p.states }
-
 -- the table of n states that has the entries of a map (which has none at the states from n on)
 unfoldable pub tabulated : ℕ → (ℕ → Sym → Option Entry) → Packed
 tabulated n m = record {
   codes = map (λ k. code_of (m (k / 2) (symbol_of (k % 2)))) (range_with_len 0 (2 * state_limit));
   states = n;
 }
+
+-- a map that a table of n states can have: none but these states have entries, and their next states are among them
+pub record IsMapOf (n : ℕ) (m : ℕ → Sym → Option Entry) : Type 0 where
+  pub some : 1 ≤ n
+  pub limit : n ≤ state_limit
+  pub beyond : (q : ℕ) (s : Sym) → n ≤ q → m q s ≡ None
+  pub inside : (q : ℕ) (s : Sym) → IfSome (m q s) (λ e. e.next.0 < n)
+
+abbrev pub same_symbol : Sym → Sym → Bool
+same_symbol Zero Zero = true
+same_symbol Zero One = false
+same_symbol One Zero = false
+same_symbol One One = true
+
+-- the map with an entry at the pair of state number p and the symbol r, and otherwise as before
+unfoldable pub filled : (ℕ → Sym → Option Entry) → ℕ → Sym → Entry → ℕ → Sym → Option Entry
+filled m p r e = λ q s. if (q == p) && same_symbol s r then Some e else m q s
+
+-- the table with one more entry, or another one, at a pair
+unfoldable pub with_entry : Packed → ℕ → Sym → Entry → Packed
+with_entry p q s e = tabulated p.states (filled (entry_of p) q s e)
 
 -- the table of n states in which every pair is undefined
 abbrev pub empty_table : ℕ → Packed

@@ -1,4 +1,6 @@
 // Why a text is no table.
+use std::error::Error;
+use std::fmt;
 
 /// Why a text is no table. A place counts the bytes before it; the fault is the one at the leftmost
 /// faulty place, and the length is judged before any place.
@@ -46,3 +48,22 @@ impl TextFault {
         }
     }
 }
+
+impl fmt::Display for TextFault {
+    fn fmt<W: fmt::Write>(&self, f: &mut fmt::Formatter<W>) -> fmt::Result {
+        match self {
+            TextFault::BadLength => write!(f, "no table's text has this length"),
+            TextFault::BadBar(place) => write!(f, "no `_` between two rows at byte {place}"),
+            TextFault::BadSymbol(place) => {
+                write!(
+                    f,
+                    "none of `0`, `1` and `-` begins the entry at byte {place}"
+                )
+            }
+            TextFault::BadDir(place) => write!(f, "no direction at byte {place}"),
+            TextFault::BadState(place) => write!(f, "no state at byte {place}"),
+        }
+    }
+}
+
+impl Error for TextFault {}

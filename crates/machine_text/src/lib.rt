@@ -10,11 +10,11 @@ mod faults;
 mod grammar;
 mod laws;
 mod limits;
-mod packed;
+mod table;
 mod transition;
 
 pub use faults::TextFault;
-pub use laws::{order_is_of_texts, tables_are_maps};
+pub use laws::{maps_have_tables, order_is_of_texts, tables_are_maps};
 pub use limits::{MAX_STATES, TEXT_BYTES};
-pub use packed::Table;
+pub use table::Table;
 pub use transition::{Dir, Entry, Pair, State, Sym};

@@ -16,8 +16,8 @@ use Rattle.tape.specs.Places.{IsWithinLimit}
 use Rattle.run.specs.Limits.{run_step_limit}
 use Rattle.run.specs.Standing.{Standing, OnRun}
 use Rattle.run.specs.Steps.{EndsAt, IsBetween, StepsTo, RunsTo}
-use Rattle.run.specs.declared.stepping.Step.{Step}
-use Rattle.run.specs.declared.stepping.Step.TheVariants.{Went, Halts}
+use Rattle.run.specs.declared.runner.Step.{Step}
+use Rattle.run.specs.declared.runner.Step.TheVariants.{Went, Halts}
 
 -- a run begins at time 0
 pub stands_at_start : (p : Packed) → IsTable p → OnRun (record { table = p; steps = 0; config = start })

@@ -4,8 +4,8 @@ use Rattle.machine_text.specs.Packed.{entry_of}
 use Rattle.turing.specs.Run.{next}
 use Rattle.turing.specs.Halting.{HaltsAt}
 use Rattle.run.specs.Standing.{Standing, OnRun}
-use Rattle.run.specs.declared.stepping.Step.{Step}
-use Rattle.run.specs.declared.stepping.Step.TheVariants.{Went, Halts}
+use Rattle.run.specs.declared.runner.Step.{Step}
+use Rattle.run.specs.declared.runner.Step.TheVariants.{Went, Halts}
 
 -- a step was carried out
 pub record TakesStep (old new : Standing) : Type 0 where

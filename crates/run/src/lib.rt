@@ -2,18 +2,20 @@
 //!
 //! A `Runner` stands at a time of the run. A verdict says that a table halts in so many steps, or never;
 //! `Evidence` is a claim that can be checked and that makes its verdict true. `specs/` says when a verdict
-//! is true of a machine (`Verdict`) and where a runner stands (`Runner`).
+//! is true of a machine (`Verdict`), where a runner stands (`Standing`) and what its steps do (`Steps`).
 #![tactic(auto)]
 
-mod claim;
-mod halting;
+mod evidence;
+mod halt_finder;
+mod halts_in;
 mod limits;
-mod stepping;
+mod runner;
 mod verdicts;
 
-pub use claim::Evidence;
-pub use halting::{HaltFinder, HaltsIn};
+pub use evidence::Evidence;
+pub use halt_finder::HaltFinder;
+pub use halts_in::HaltsIn;
 pub use limits::{MAX_HALT_STEPS, MAX_RUN_STEPS};
-pub use stepping::{Runner, Step};
+pub use runner::{Runner, Step};
 pub use tape::NoMemory;
 pub use verdicts::{Refused, Verdict};

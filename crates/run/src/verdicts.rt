@@ -1,4 +1,6 @@
 // What is said of a table, and why evidence for it is refused.
+use std::error::Error;
+use std::fmt;
 use tape::NoMemory;
 
 /// What is said of a table's run from the blank tape.
@@ -13,7 +15,7 @@ pub enum Verdict {
 /// Why evidence was refused.
 #[derive(Clone, Copy, Debug, PartialEq, Eq)]
 pub enum Refused {
-    /// It doesn't stand for the table.
+    /// It doesn't hold for the table.
     Fails,
     /// It asks for more than its kind's limit, and isn't looked at.
     TooLong,
@@ -27,7 +29,7 @@ impl Refused {
     ghost use Rattle.std.specs.Prelude.{◌≡◌};
     ghost use Rattle.run.specs.Verdict.{refused_number};
 
-    /// The refusal number: 201 to 203; 0 for want of memory, which has none.
+    /// The refusal number: 201 to 203; 0 where memory was refused, which has none.
     pub fn number(&self) -> u16
         ensures { result ≡ refused_number self.now }
     {
@@ -39,6 +41,19 @@ impl Refused {
         }
     }
 }
+
+impl fmt::Display for Refused {
+    fn fmt<W: fmt::Write>(&self, f: &mut fmt::Formatter<W>) -> fmt::Result {
+        match self {
+            Refused::Fails => write!(f, "it does not hold for the table"),
+            Refused::TooLong => write!(f, "it asks for more than the limit of its kind"),
+            Refused::TooWide => write!(f, "it has too many paths at one depth"),
+            Refused::NoMemory => write!(f, "out of memory"),
+        }
+    }
+}
+
+impl Error for Refused {}
 
 impl From<NoMemory> for Refused {
     ghost use Rattle.std.specs.Prelude.{◌≡◌};

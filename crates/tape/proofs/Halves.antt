@@ -10,7 +10,9 @@ use Rattle.machine_text.specs.declared.transition.Sym.TheVariants.{Zero, One}
 use Rattle.machine_text.specs.declared.transition.Dir.{Dir}
 use Rattle.machine_text.specs.declared.transition.Dir.TheVariants.{L, R}
 use Rattle.turing.specs.Tape.{Tape, cell_of}
-use Rattle.tape.specs.Places.{HasOnesWithin, IsReached, Beyond, SameBeyond, OnesWithin}
+use Rattle.turing.specs.Translated.{Beyond}
+use Rattle.tape.specs.Places.{SameBeyond}
+use Rattle.tape.specs.Inside.{HasOnesWithin, IsReached, OnesWithin}
 use Rattle.tape.proofs.Cells.{by_place, same_ones, same_tape}
 use Rattle.tape.proofs.Places.{Beyond-saturated}
 

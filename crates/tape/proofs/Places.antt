@@ -13,7 +13,8 @@ use Rattle.machine_text.specs.declared.transition.Dir.{Dir}
 use Rattle.machine_text.specs.declared.transition.Dir.TheVariants.{L, R}
 use Rattle.turing.specs.Tape.{cell_of}
 use Rattle.tape.specs.Limits.{place_limit}
-use Rattle.tape.specs.Places.{IsVisited, HasOnesWithin, IsReached, Beyond}
+use Rattle.turing.specs.Translated.{Beyond}
+use Rattle.tape.specs.Inside.{IsVisited, HasOnesWithin, IsReached}
 use Rattle.tape.proofs.Words.{blank_before, cell_in}
 use Rattle.tape.proofs.Moves.{stored}
 

@@ -2,12 +2,12 @@
 //!
 //! Contracts see a tape as turing's record `Tape`: where the head stands, and the finite set of places
 //! that hold ones. `specs/` adds which places are within the limit and what it means that two half tapes
-//! are the same (`Places`), and the ones of a word of symbols (`Word`).
+//! are the same (`Places`), its limit (`Limits`), and the ones of a word of symbols (`Word`).
 #![tactic(auto)]
 
-mod compared;
+mod comparison;
 mod limits;
-mod two_sided;
+mod tape;
 
 pub use limits::MAX_PLACE;
-pub use two_sided::{NoMemory, Tape};
+pub use tape::{NoMemory, Tape};

@@ -3,4 +3,3 @@ mod FirstChildren
 mod Marks
 mod UsedLists
 mod Members
-mod Rising

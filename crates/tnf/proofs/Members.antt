@@ -18,7 +18,7 @@ use Rattle.tree.specs.Tables.{children_at}
 use Rattle.tree.proofs.UsedCount.{used_number}
 use Rattle.tree.proofs.ChildEntries.{listed_is_entry, entry_is_listed, list_empty, list_filled, length_to}
 use Rattle.tree.proofs.ChildTables.{entries_of, some_children, no_children}
-use Rattle.tnf.specs.Offspring.{IsChildAt}
+use Rattle.tnf.specs.Children.{IsChildAt}
 
 -- members of a mapped list
 from_map : {X Y : Type 0} (f : X → Y) (xs : List X) (y : Y) → Contains (map f xs) y → (x : X) × Contains xs x × (f x ≡ y)

@@ -5,10 +5,10 @@
 //! first entry of all. So each table of a tree uses its states in order (`in_order`).
 #![tactic(auto)]
 
-mod growth;
+mod child_tables;
 mod naming;
-mod offspring;
+mod tables;
 
-pub use growth::{children, root};
+pub use child_tables::Children;
 pub use naming::{in_order, used};
-pub use offspring::Children;
+pub use tables::{children, root};

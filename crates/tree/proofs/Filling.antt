@@ -1,45 +1,17 @@
 -- One pair filled: what the machine then does at each pair, and what extends what.
-use Rattle.std.proofs.Common.{◌≡◌, ℕ, ◌<◌, ◌≤◌, true, false, Option, Some, None, refl, sym, ◌∙◌, ◌⊎◌, inl, inr, arith}
+use Rattle.std.proofs.Common.{◌≡◌, ℕ, ◌<◌, ◌≤◌, Option, Some, None, refl, sym, ◌∙◌, ◌⊎◌, inl, inr, arith}
 use Rattle.std.proofs.lemmas.Option.{same_Some}
-use Rattle.std.proofs.lemmas.Bool.{cases_eq, eq-eqb, ne_eqb}
 use Rattle.machine_text.specs.declared.transition.Sym.{Sym}
-use Rattle.machine_text.specs.declared.transition.Sym.TheVariants.{Zero, One}
 use Rattle.machine_text.specs.declared.transition.Entry.{Entry}
+pub use Rattle.machine_text.proofs.Filling.{cases_symbol, Filled, Kept, filled_cases}
 use Rattle.turing.specs.Program.{Program, IsMachine}
-use Rattle.tree.specs.Filling.{filled, same_symbol, empty_machine}
+use Rattle.tree.specs.Filling.{filled, empty_machine}
 use Rattle.turing.specs.Extension.{Extends}
-
--- two symbols are one, or not
-pub cases_symbol : (s r : Sym) → ((s ≡ r) × (same_symbol s r ≡ true)) ⊎ ((s ≡ r → ⊥) × (same_symbol s r ≡ false))
-cases_symbol Zero Zero = inl (refl, refl)
-cases_symbol Zero One = inr (λ e. cc, refl)
-cases_symbol One Zero = inr (λ e. cc, refl)
-cases_symbol One One = inl (refl, refl)
 
 -- an option is there or not
 pub cases_option : {A : Type 0} (o : Option A) → (o ≡ None) ⊎ ((x : A) × (o ≡ Some x))
 cases_option None = inl refl
 cases_option (Some x) = inr (x, refl)
-
--- the pair itself, or another pair, which stays as it was
-pub record Filled (m : Program) (p : ℕ) (r : Sym) (e : Entry) (q : ℕ) (s : Sym) : Type 0 where
-  pub state : q ≡ p
-  pub symbol : s ≡ r
-  pub is : filled m p r e q s ≡ Some e
-
-pub record Kept (m : Program) (p : ℕ) (r : Sym) (e : Entry) (q : ℕ) (s : Sym) : Type 0 where
-  pub other : q ≡ p → s ≡ r → ⊥
-  pub is : filled m p r e q s ≡ m q s
-
-pub filled_cases : (m : Program) (p : ℕ) (r : Sym) (e : Entry) (q : ℕ) (s : Sym) → Filled m p r e q s ⊎ Kept m p r e q s
-unfolding filled
-filled_cases m p r e q s = elim (cases_eq q p) [
-  | inl same_state ↦ elim (cases_symbol s r) [
-    | inl same ↦ inl (record { state = same_state; symbol = same.0; is = rw (eq-eqb q p same_state, same.1) })
-    | inr other ↦ inr (record { other = λ _ h. other.0 h; is = rw (eq-eqb q p same_state, other.1) })
-  ]
-  | inr other ↦ inr (record { other = λ h _. other h; is = rw (ne_eqb q p other) })
-]
 
 -- the pair has the entry
 pub filled_at : (m : Program) (p : ℕ) (r : Sym) (e : Entry) → filled m p r e p r ≡ Some e

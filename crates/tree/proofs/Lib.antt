@@ -12,7 +12,6 @@ pub mod BestLaws
 pub mod TreeLaws
 pub mod Parents
 pub mod Rado
-pub mod Codes
 pub mod Packing
 pub mod TableLaws
 pub mod EmptyTable

@@ -7,6 +7,7 @@ ghost use Rattle.machine_text.specs.declared.transition.Sym.{Sym as Symbol};
 ghost use Rattle.machine_text.specs.declared.transition.Entry.{Entry};
 ghost use Rattle.machine_text.specs.Limits.{state_limit};
 ghost use Rattle.machine_text.specs.Packed.{Packed, IsTable, entry_of, with_entry, tabulated, empty_table};
+ghost use Rattle.machine_text.specs.Text.{text_of};
 ghost use Rattle.turing.specs.Program.{Program, IsMachine};
 ghost use Rattle.turing.specs.Halting.{HaltsAt, IsRado};
 ghost use Rattle.tree.specs.Filling.{filled};
@@ -45,14 +46,14 @@ pub fn child_is_table()
 {}
 
 /// The list of the children of a table in order that halts on a pair has exactly its children, each once,
-/// and it rises by their codes, as their texts do.
+/// and it rises in the order of their texts.
 pub fn children_listed()
     ensures members { (p t : Packed) (u k q : ℕ) (s : Symbol) → IsTable p → InOrder u (entry_of p) → HaltsOn (entry_of p) k q s →
         Contains (children_at p q s) t ↔ IsChildTable p t }
     ensures once { (p : Packed) (u k q : ℕ) (s : Symbol) → IsTable p → InOrder u (entry_of p) → HaltsOn (entry_of p) k q s →
         AllPairs (λ a b. a ≢ b) (children_at p q s) }
     ensures rising { (p : Packed) (u k q : ℕ) (s : Symbol) → IsTable p → InOrder u (entry_of p) → HaltsOn (entry_of p) k q s →
-        AllPairs (λ a b. slice_cmp nat_cmp a.codes b.codes ≡ Less) (children_at p q s) }
+        AllPairs (λ a b. slice_cmp nat_cmp (text_of a) (text_of b) ≡ Less) (children_at p q s) }
 {}
 
 /// Each table of a tree is the child of one table of the tree at most.

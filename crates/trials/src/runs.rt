@@ -1,6 +1,6 @@
 // Step counts and a tape of the field, and runs for which memory is refused.
+use machine_text::{Pair, State, Sym, Table};
 use run::{Evidence, HaltFinder, HaltsIn, MAX_HALT_STEPS, Refused, Runner, Step, Verdict};
-use machine_text::{State, Sym, Table};
 use std::alloc::Global;
 use std::process::Abort;
 use std::test::Fail;
@@ -85,6 +85,47 @@ fn counts_are_checked(rt: HostRuntime) {
         (Refused::TooWide, 203),
     ] {
         assert_eq!(rt; refused.number(), number);
+    }
+}
+
+// The limit itself is accepted: the table is run, and halts too soon. One more isn't looked at.
+#[test]
+fn counts_up_to_the_limit_are_looked_at(rt: HostRuntime) {
+    let table = table_of(&rt, "1RA---");
+    for (count, answer) in [
+        (100_000_000, Refused::Fails),
+        (100_000_001, Refused::TooLong),
+    ] {
+        let mut checked = HaltsIn(count).check(rt.alloc(), &table);
+        if checked == Err(Refused::NoMemory) {
+            checked = HaltsIn(count).check(rt.alloc(), &table);
+        }
+        assert!(rt; checked == Err(answer), "H {count}");
+    }
+    assert_eq!(rt; Refused::Fails.number(), 201);
+    assert_eq!(rt; Refused::TooLong.number(), 202);
+}
+
+// By a simulator apart from this one: where each champion's run ends.
+#[test]
+fn halting_pairs_come_with_the_count(rt: HostRuntime) {
+    for (text, count, state, symbol) in [
+        ("------", 1, 0, Sym::Zero),
+        ("1RB1LB_1LA1RZ", 6, 1, Sym::One),
+        ("1RB1LB_1LA0LC_1RZ1LD_1RD0RA", 107, 2, Sym::Zero),
+    ] {
+        let table = table_of(&rt, text);
+        let pair = Pair {
+            state: State(state),
+            symbol,
+        };
+        for (claimed, answer) in [(count, Ok(pair)), (count + 1, Err(Refused::Fails))] {
+            let mut found = HaltsIn(claimed).halting_pair(rt.alloc(), &table);
+            if found == Err(Refused::NoMemory) {
+                found = HaltsIn(claimed).halting_pair(rt.alloc(), &table);
+            }
+            assert!(rt; found == answer, "{text} H {claimed}");
+        }
     }
 }
 

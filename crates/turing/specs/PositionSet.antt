@@ -1,6 +1,6 @@
 -- Closed position sets (n-gram CPS): sets of words of g adjacent cells left and right of the head, and of what
 -- stands around it, that no step leaves. Words are written from left to right, as they stand on the tape.
-use Rattle.std.specs.Prelude.{◌≡◌, ◌≢◌, ℕ, zero, suc, ◌<◌, ℤ, pos, ◌+ℤ◌, ◌-ℤ◌, ◌<ℤ◌, ◌≤ℤ◌, List, [], ◌∷◌, ◌++◌, replicate, Some, None}
+use Rattle.std.specs.Prelude.{◌≡◌, ◌≢◌, ℕ, zero, suc, ◌<◌, ℤ, pos, ◌+ℤ◌, ◌-ℤ◌, ◌<ℤ◌, ◌≤ℤ◌, List, [], ◌∷◌, ◌++◌, length, replicate, Some, None}
 use Rattle.machine_text.specs.declared.transition.Sym.{Sym}
 use Rattle.machine_text.specs.declared.transition.Sym.TheVariants.{Zero}
 use Rattle.machine_text.specs.declared.transition.Dir.TheVariants.{L, R}
@@ -30,11 +30,14 @@ local_of g c = record {
   right = word c (c.tape.head +ℤ pos 1) g;
 }
 
--- the sets hold the blank tape, no member halts, and no step leaves them. A step to the right takes the first
+-- all words are of the width; the sets hold the blank tape, no member halts, and no step leaves them. A step to the right takes the first
 -- symbol of the left word away and the written one comes in behind it; any symbol may come into view at the end
 -- of the right word, so long as that word is one of the set. A step to the left is the mirror image
 pub record IsClosed (g : ℕ) (m : Program) (lefts rights : List Sym → Type 0) (members : Local → Type 0) : Type 0 where
   pub width : 0 < g
+  pub left_words : (w : List Sym) → lefts w → length w ≡ g
+  pub right_words : (w : List Sym) → rights w → length w ≡ g
+  pub words_around : (c : Local) → members c → (length c.left ≡ g) × (length c.right ≡ g)
   pub blank_left : lefts (replicate g Zero)
   pub blank_right : rights (replicate g Zero)
   pub blank_tape : members (record { left = replicate g Zero; state = 0; read = Zero; right = replicate g Zero })

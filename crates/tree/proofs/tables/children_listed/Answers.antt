@@ -1,10 +1,13 @@
 use Rattle.tree.proofs.ChildTables.{listed_is_child, child_is_listed, children_differ}
+use Rattle.machine_text.specs.Packed.{entry_of}
+use Rattle.turing.proofs.TableLaws.{table_machine}
+use Rattle.tree.proofs.Halts.{pair_within}
 use Rattle.tree.proofs.ChildOrder.{children_rise}
 use Rattle.tree.proofs.tables.children_listed.Goals as goal
 
 -- the members of the list
 pub returns-clause-rising : goal.returns-clause-rising
-returns-clause-rising c = λ p u k q s i o h. children_rise p u k q s i o h
+returns-clause-rising c = λ p u k q s i o h. children_rise p q s i (pair_within p.states (entry_of p) k q s (table_machine p i) h)
 
 pub returns-clause-members : goal.returns-clause-members
 returns-clause-members c = λ p t u k q s i o h. (listed_is_child p u k q s i o h t, child_is_listed p u k q s i o h t)

@@ -1,0 +1,159 @@
+// A table, one byte an entry.
+ghost use Rattle.std.specs.Prelude.{◌≡◌, ℕ, None, ◌==◌, ◌+◌, ◌*◌, ◌<◌, ◌≤◌, ◌≢◌, IfSome, Ok, length, slice_index, EachIndex, count_by};
+ghost use Rattle.machine_text.specs.Limits.{state_limit, text_byte_limit};
+ghost use Rattle.machine_text.specs.Packed.{pair_place};
+
+use crate::code::Code;
+use crate::faults::TextFault;
+use crate::grammar;
+use crate::limits::{MAX_ENTRIES, MAX_STATES, TEXT_BYTES};
+use crate::transition::{Dir, Entry, State, Sym};
+use std::marker::Model;
+
+/// The table of an n-state two-symbol machine (Radó 1962): at each pair of a state and a symbol read
+/// an entry or none. A pair without an entry halts.
+///
+/// Tables are compared by the bytes of their texts.
+#[derive(Clone, Copy, Debug, PartialEq, Eq, PartialOrd, Ord, Hash)]
+pub struct Table {
+    // The codes come first: they decide the order before the number of states does.
+    codes: [Code; MAX_ENTRIES],
+    states: u8,
+}
+
+impl Model for Table {
+    ghost use Rattle.machine_text.specs.Packed.{Packed, IsTable};
+
+    ghost Value = { Packed };
+
+    ghost view = { λ a. record { codes = a.codes; states = a.states } };
+
+    ghost invariant = { λ a. IsTable (record { codes = a.codes; states = a.states }) };
+
+    ghost inverse = { λ p. record { codes = p.codes; states = p.states } };
+}
+
+impl Table {
+    ghost use Rattle.machine_text.specs.Packed.{IsTable, entry_of, filled, with_entry, empty_table, holes};
+    ghost use Rattle.machine_text.specs.declared.transition.Sym.{Sym as Symbol};
+    ghost use Rattle.machine_text.specs.Text.{table_of, text_of, byte_at};
+
+    /// The table of n states in which each pair is undefined.
+    pub fn empty(n: u8) -> Table
+        requires some { 1 ≤ n }
+        requires limit { n ≤ state_limit }
+        ensures states { result.states ≡ n }
+        ensures entries { (q : ℕ) (s : Symbol) → entry_of result q s ≡ None }
+        ensures table { result ≡ empty_table n }
+    {
+        Table {
+            codes: [Code::UNDEFINED; MAX_ENTRIES],
+            states: n,
+        }
+    }
+
+    /// How many states the table has.
+    pub fn states(&self) -> u8
+        ensures states { result ≡ self.now.states }
+        ensures table { IsTable self.now }
+    {
+        self.states
+    }
+
+    /// The table that a text names in the bbchallenge standard format, or the leftmost fault. A halting
+    /// entry is written `---`, or with the letter `Z` or `H` for its next state, and is read as undefined.
+    pub fn parse(text: &[u8]) -> Result<Table, TextFault>
+        ensures { result ≡ table_of text.now }
+    {
+        let Some(states) = grammar::states_in(text) else {
+            return Err(TextFault::BadLength);
+        };
+        grammar::check_places(states, text)?;
+        Ok(Table {
+            codes: grammar::codes_named(states, text),
+            states,
+        })
+    }
+
+    /// The table's text, written into `buf`: the rows of its states with `_` between them, an undefined
+    /// entry as `---`. Parsing it gives the table again.
+    pub fn text<'a>(&self, buf: &'a mut [u8; TEXT_BYTES]) -> &'a [u8]
+        ensures text { result.now ≡ text_of self.now }
+        ensures limit { TEXT_BYTES ≡ text_byte_limit }
+        ensures length { length result.now + 1 ≡ 7 * self.now.states }
+        ensures no_halting_letter { EachIndex result.now (λ k. (slice_index result.now k ≢ 72)
+            × (slice_index result.now k ≢ 90)) }
+        ensures parses { table_of result.now ≡ Ok self.now }
+    {
+        let len = 7 * self.states as usize - 1;
+        for place in 0..len {
+            buf[place] = self.byte(place);
+        }
+        &buf[..len]
+    }
+
+    // The byte of the text at a place.
+    fn byte(&self, place: usize) -> u8
+        requires { place + 1 < 7 * self.now.states }
+        ensures { result ≡ byte_at self.now place }
+    {
+        let column = place % 7;
+        if column == 6 {
+            b'_'
+        } else {
+            let entry = self.codes[2 * (place / 7) + column / 3].entry();
+            grammar::entry_byte(entry, column % 3)
+        }
+    }
+
+    /// The entry at a state of the table and a symbol; none where the pair halts.
+    #[inline]
+    #[tactic(auto, unfolding(crate::specs::Packed::entry_of))]
+    pub fn get(&self, q: State, s: Sym) -> Option<Entry>
+        requires { q.0 < self.now.states }
+        ensures entry { result ≡ entry_of self.now q.0 s }
+        ensures next { IfSome result (λ e. e.next.0 < self.now.states) }
+    {
+        self.codes[pair_place(q, s)].entry()
+    }
+
+    /// The table with this entry at a pair, in place of what was there, and all others as they are.
+    pub fn filled(&self, q: State, s: Sym, e: Entry) -> Table
+        requires at { q.0 < self.now.states }
+        requires next { e.next.0 < self.now.states }
+        ensures states { result.states ≡ self.now.states }
+        ensures entries { (p : ℕ) (r : Symbol) → entry_of result p r ≡ filled (entry_of self.now) q.0 s e p r }
+        ensures table { result ≡ with_entry self.now q.0 s e }
+    {
+        let mut codes = self.codes;
+        codes[pair_place(q, s)] = Code::of(Some(e));
+        Table {
+            codes,
+            states: self.states,
+        }
+    }
+
+    /// How many pairs have no entry.
+    pub fn undefined_count(&self) -> u8
+        ensures count { result ≡ holes self.now.states (entry_of self.now) }
+        ensures all { result ≤ 2 * self.now.states }
+    {
+        undefined_among(&self.codes[..2 * self.states as usize]) as u8
+    }
+}
+
+// How many of the codes are those of no entry.
+fn undefined_among(codes: &[Code]) -> usize
+    ensures count { result ≡ count_by (λ k. k == 0) codes.now }
+    ensures all { result ≤ length codes.now }
+{
+    codes.iter().filter(|code| code.is_undefined()).count()
+}
+
+// The place of a pair among the codes.
+#[inline]
+fn pair_place(q: State, s: Sym) -> usize
+    ensures { result ≡ pair_place q.0 s }
+{
+    2 * q.0 as usize + s as usize
+}

@@ -1,0 +1,45 @@
+// The search for the number of steps in which a table halts.
+ghost use Rattle.std.specs.Prelude.{◌≡◌, ℕ, ◌≤◌, min, IfSome, IfNone, IfOk};
+ghost use Rattle.machine_text.specs.Packed.{entry_of};
+ghost use Rattle.turing.specs.Halting.{HaltsAt};
+ghost use Rattle.run.specs.Limits.{halt_step_limit};
+
+use crate::halts_in::HaltsIn;
+use crate::limits::MAX_HALT_STEPS;
+use crate::runner::{Runner, Step};
+use machine_text::Table;
+use std::alloc::Global;
+use tape::NoMemory;
+
+/// Searches the number of steps in which a table halts.
+#[derive(Drop)]
+pub struct HaltFinder {
+    alloc: Global,
+    pub steps: u64,
+}
+
+impl HaltFinder {
+    /// A finder that carries out so many steps at most, and none beyond `MAX_HALT_STEPS`.
+    pub fn new(alloc: Global, steps: u64) -> HaltFinder
+        ensures { result.steps ≡ steps }
+    {
+        HaltFinder { alloc, steps }
+    }
+
+    /// The number of steps in which the table halts; none where it doesn't halt within the finder's
+    /// steps, the budget and the limit.
+    pub fn search(&mut self, t: &Table, budget: u64) -> Result<Option<HaltsIn>, NoMemory>
+        ensures found { IfOk result (λ o. IfSome o (λ e. HaltsAt (entry_of t.now) e.0)) }
+        ensures within { IfOk result (λ o. IfSome o (λ e. e.0 ≤ min (min self.old.steps budget) halt_step_limit)) }
+        ensures none { IfOk result (λ o. IfNone o ((k : ℕ) → k ≤ min (min self.old.steps budget) halt_step_limit → HaltsAt (entry_of t.now) k → ⊥)) }
+        ensures same { self.new.steps ≡ self.old.steps }
+    {
+        let limit = self.steps.min(budget).min(MAX_HALT_STEPS);
+        let mut runner = Runner::new(self.alloc, *t)?;
+        let step = runner.run_to(limit)?;
+        match step {
+            Step::Halts { count } => Ok(Some(HaltsIn(count))),
+            Step::Went => Ok(None),
+        }
+    }
+}

@@ -1,0 +1,5 @@
+use Rattle.tape.proofs.Moves.{stored-blank}
+use Rattle.tape.proofs.tape.Tape.clear.Goals as goal
+
+pub returns : goal.returns
+returns c = rw (c.clear.ensures.items, c.clear-2.ensures.items) stored-blank

@@ -1,5 +1,0 @@
-use Rattle.tape.proofs.Moves.{stored-blank}
-use Rattle.tape.proofs.two_sided.Tape.new.Goals as goal
-
-pub returns-clause-tape : goal.returns-clause-tape
-returns-clause-tape c = rw (c.new.ensures.items, c.new-2.ensures.items) stored-blank

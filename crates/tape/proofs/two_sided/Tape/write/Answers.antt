@@ -1,9 +1,0 @@
-use Rattle.std.proofs.Common.{◌∙◌, ap, sym}
-use Rattle.turing.specs.Tape.{Tape, written}
-use Rattle.tape.proofs.Moves.{written-stored}
-use Rattle.tape.proofs.two_sided.Tape.write.Goals as goal
-
-pub returns : goal.returns
-returns c =
-    let a = c.self.inside in
-    sym (written-stored a.head a.left.items a.read c.args.s a.right.items) ∙ ap (λ (t : Tape). written t c.args.s) c.self.view_is

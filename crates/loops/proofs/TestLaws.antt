@@ -1,13 +1,12 @@
 -- What the test for a translated cycle looks at, and what it shows.
-use Rattle.std.proofs.Common.{◌≡◌, ℕ, Bool, false, true, ℤ, pos, ◌+ℤ◌, ◌-ℤ◌, Some, sym, ◌∙◌, ap, subst, arith}
+use Rattle.std.proofs.Common.{◌≡◌, ℕ, Bool, false, true, ℤ, pos, ◌-ℤ◌, Some, sym, ◌∙◌, ap, subst, arith}
 use Rattle.std.specs.Prelude.{◌↔◌, IsTrue}
 use Rattle.std.proofs.lemmas.Int.{ints}
 use Rattle.std.proofs.lemmas.Option.{same_Some}
 use Rattle.machine_text.specs.Packed.{entry_of}
 use Rattle.machine_text.specs.declared.transition.Dir.{Dir}
-use Rattle.machine_text.specs.declared.transition.Dir.TheVariants.{L, R}
 use Rattle.turing.specs.Program.{Program}
-use Rattle.turing.specs.Run.{Config, cell, after}
+use Rattle.turing.specs.Run.{Config, after}
 use Rattle.turing.specs.Translated.{Beyond, Farthest, Translated}
 use Rattle.turing.proofs.Heads.{one_farthest}
 use Rattle.tape.specs.Places.{SameBeyond}
@@ -27,15 +26,6 @@ pub record Passes (side : Dir) (begin end : Config) (bound shift : ℤ) : Type 0
   pub onward : Beyond side (pos 0) shift
   pub cells : SameBeyond side bound shift begin.tape.ones end.tape.ones
 
--- the two ways to say that cells are the same from a place on
-cells_beyond : (side : Dir) (begin end : Config) (b t : ℤ) → SameBeyond side b t begin.tape.ones end.tape.ones → (x : ℤ) → Beyond side b x → cell begin x ≡ cell end (x +ℤ t)
-cells_beyond L begin end b t same = same
-cells_beyond R begin end b t same = same
-
-beyond_cells : (side : Dir) (begin end : Config) (b t : ℤ) → ((x : ℤ) → Beyond side b x → cell begin x ≡ cell end (x +ℤ t)) → SameBeyond side b t begin.tape.ones end.tape.ones
-beyond_cells L begin end b t same = same
-beyond_cells R begin end b t same = same
-
 pub passed_stands : (m : Program) (side : Dir) (i j : ℕ) (begin end : Config) (bound shift : ℤ) → Compared m side i j begin end bound shift → Passes side begin end bound shift → Translated m i j side
 passed_stands m side i j begin end bound shift c p =
     let f = c.farthest in
@@ -54,7 +44,7 @@ passed_stands m side i j begin end bound shift c p =
       onward = p.onward;
       bound = bound;
       farthest = f;
-      cells = cells_beyond side begin end bound shift p.cells;
+      cells = p.cells;
     }
 
 -- the bound of a translated cycle is the farthest head, and its shift is how far the head moved
@@ -74,7 +64,7 @@ stands_passed m side i j begin end bound shift c t =
       cells =
           subst (λ (z : ℤ). SameBeyond side bound z begin.tape.ones end.tape.ones) same_shift (subst (λ (z : ℤ). SameBeyond side z t.shift begin.tape.ones end.tape.ones) same_bound
           (subst (λ (d : Config). SameBeyond side t.bound t.shift begin.tape.ones d.tape.ones) same_end
-          (subst (λ (d : Config). SameBeyond side t.bound t.shift d.tape.ones t.end.tape.ones) same_begin (beyond_cells side t.begin t.end t.bound t.shift t.cells))));
+          (subst (λ (d : Config). SameBeyond side t.bound t.shift d.tape.ones t.end.tape.ones) same_begin t.cells)));
     }
 
 -- what was kept of a run, and where a runner stands later

@@ -10,8 +10,8 @@ fn claims_are_checked(rt: HostRuntime) {
     for (text, depth, answer) in [
         ("1RB---_0RB1RB", 1, Ok(Verdict::Never)),
         ("1RB---_0RB1RB", 0, Err(Refused::Fails)),
-        ("1RB---_0RB1RB", MAX_DEPTH, Ok(Verdict::Never)),
-        ("1RB---_0RB1RB", MAX_DEPTH + 1, Err(Refused::TooLong)),
+        ("1RB---_0RB1RB", 1000, Ok(Verdict::Never)),
+        ("1RB---_0RB1RB", 1001, Err(Refused::TooLong)),
         ("1RB1LA_1LA1RB", 0, Ok(Verdict::Never)),
         ("------", 1, Err(Refused::Fails)),
         ("1RA---", MAX_DEPTH, Err(Refused::Fails)),

@@ -53,6 +53,10 @@ fn cycles_are_judged(rt: HostRuntime) {
         ("0RB---_0LA---", 2, 2, FAILS),
         ("0RB---_0LA---", 2, 0, FAILS),
         ("0RB---_0LA---", 5, 1005, NEVER),
+        // The latest time, and the first beyond the limit.
+        ("0RB---_0LA---", 0, 10_000_000, NEVER),
+        ("0RB---_0LA---", 1, 10_000_000, FAILS),
+        ("0RB---_0LA---", 0, 10_000_001, TOO_LONG),
         ("1RA---", 0, MAX_TIME + 1, TOO_LONG),
         ("1RA---", 0, 1, FAILS),
         ("------", 0, 1, FAILS),
@@ -91,6 +95,10 @@ fn translated_cycles_are_judged(rt: HostRuntime) {
         ("0RB---_0LA---", 0, 2, Dir::R, NEVER),
         ("0RB---_0LA---", 0, 2, Dir::L, NEVER),
         ("0RB---_0LA---", 0, 1, Dir::R, FAILS),
+        // The latest time, with a shift and without one.
+        ("1RA---", 0, 10_000_000, Dir::R, NEVER),
+        ("1RA---", 0, 10_000_001, Dir::R, TOO_LONG),
+        ("0RB---_0LA---", 0, 10_000_000, Dir::L, NEVER),
         // Only the later time has a limit.
         ("1RA---", MAX_TIME + 1, 5, Dir::R, FAILS),
         ("1RA---", 5, MAX_TIME + 1, Dir::R, TOO_LONG),

@@ -1,0 +1,6 @@
+pub mod Limits
+pub mod Listing
+pub mod Words
+pub mod Lists
+pub mod Ngram
+pub mod inside

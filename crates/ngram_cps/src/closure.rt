@@ -1,0 +1,167 @@
+// Whether three lists hold the blank tape, and no step of a table leaves them.
+ghost use Rattle.std.specs.Prelude.{◌≡◌, ◌↔◌, ◌+◌, ◌-◌, ◌*◌, ◌<◌, length, IsTrue};
+ghost use Rattle.machine_text.specs.Limits.{state_limit};
+ghost use Rattle.machine_text.specs.Packed.{entry_of, symbol_of};
+ghost use Rattle.machine_text.specs.Text.{symbol_byte};
+ghost use Rattle.turing.specs.PositionSet.{IsClosed};
+ghost use Rattle.ngram_cps.specs.Listing.{IsItem};
+ghost use Rattle.ngram_cps.specs.Words.{IsLocalText};
+ghost use Rattle.ngram_cps.specs.Lists.{IsPositionSet};
+ghost use Rattle.ngram_cps.specs.Ngram.{lists_of};
+ghost use Rattle.ngram_cps.specs.inside.Steps.{left_after, right_after, FollowsRight, FollowsLeft, StepsRight, StepsLeft, GoesOn, EachGoesOn, HoldBlank};
+
+use crate::ngram::Ngram;
+use crate::step_text::{
+    blank_local, left_after, left_seen, local_left, local_right, right_after, right_seen,
+    symbol_byte, zeros,
+};
+use machine_text::{Dir, Entry, State, Sym, Table};
+
+impl Ngram<'_> {
+    // Whether the lists are closed under the steps of a table of their number of states.
+    pub(crate) fn is_closed(&self, t: &Table) -> bool
+        requires { self.now.states ≡ t.now.states }
+        ensures { IsTrue result ↔ IsPositionSet (lists_of self.now) t.now }
+    {
+        if !self.holds_blank() {
+            return false;
+        }
+        self.each_goes_on(t)
+    }
+
+    // Whether the blank tape is in the lists.
+    fn holds_blank(&self) -> bool
+        ensures { IsTrue result ↔ HoldBlank (lists_of self.now) }
+    {
+        let g = self.width as usize;
+        let word = zeros(g);
+        if !self.left.contains(word.as_slice()) {
+            return false;
+        }
+        if !self.right.contains(word.as_slice()) {
+            return false;
+        }
+        self.local.contains(blank_local(g).as_slice())
+    }
+
+    // Whether each local configuration has a step, which stays in the lists.
+    fn each_goes_on(&self, t: &Table) -> bool
+        requires { self.now.states ≡ t.now.states }
+        ensures { IsTrue result ↔ EachGoesOn (entry_of t.now) (lists_of self.now) self.now.local.count }
+    {
+        for k in 0..self.local.count {
+            if !self.goes_on(t, self.local.item(k)) {
+                return false;
+            }
+        }
+        true
+    }
+
+    // Whether one has.
+    #[tactic(auto, unfolding(crate::specs::inside::Steps::GoesOn))]
+    fn goes_on(&self, t: &Table, bytes: &[u8]) -> bool
+        requires states { self.now.states ≡ t.now.states }
+        requires size { length bytes.now ≡ 2 * self.now.width + 2 }
+        requires local { IsLocalText self.now.states self.now.width bytes.now }
+        ensures { IsTrue result ↔ GoesOn (entry_of t.now) (lists_of self.now) bytes.now }
+    {
+        let g = self.width as usize;
+        let state = State(bytes[g] - b'A');
+        let read = symbol_of(bytes[g + 1]);
+        let Some(entry) = t.get(state, read) else {
+            return false;
+        };
+        match entry.dir {
+            Dir::L => self.steps_left(bytes, entry),
+            Dir::R => self.steps_right(bytes, entry),
+        }
+    }
+
+    fn steps_right(&self, bytes: &[u8], entry: Entry) -> bool
+        requires size { length bytes.now ≡ 2 * self.now.width + 2 }
+        requires next { entry.next.0 < state_limit }
+        ensures { IsTrue result ↔ StepsRight (lists_of self.now) bytes.now entry }
+    {
+        if !self.leaves_left(bytes, entry) {
+            return false;
+        }
+        if !self.follows_right(bytes, entry, b'0') {
+            return false;
+        }
+        self.follows_right(bytes, entry, b'1')
+    }
+
+    fn steps_left(&self, bytes: &[u8], entry: Entry) -> bool
+        requires size { length bytes.now ≡ 2 * self.now.width + 2 }
+        requires next { entry.next.0 < state_limit }
+        ensures { IsTrue result ↔ StepsLeft (lists_of self.now) bytes.now entry }
+    {
+        if !self.leaves_right(bytes, entry) {
+            return false;
+        }
+        if !self.follows_left(bytes, entry, b'0') {
+            return false;
+        }
+        self.follows_left(bytes, entry, b'1')
+    }
+
+    // Whether the left word after a move to the right is in its list.
+    fn leaves_left(&self, bytes: &[u8], entry: Entry) -> bool
+        requires { length bytes.now ≡ 2 * self.now.width + 2 }
+        ensures { IsTrue result ↔ IsItem self.now.width self.now.left.text.now (left_after self.now.width bytes.now (symbol_byte entry.write)) }
+    {
+        self.left.contains(left_after(
+            self.width as usize,
+            bytes,
+            symbol_byte(entry.write),
+        ).as_slice())
+    }
+
+    // Whether the right word after a move to the left is in its list.
+    fn leaves_right(&self, bytes: &[u8], entry: Entry) -> bool
+        requires { length bytes.now ≡ 2 * self.now.width + 2 }
+        ensures { IsTrue result ↔ IsItem self.now.width self.now.right.text.now (right_after self.now.width bytes.now (symbol_byte entry.write)) }
+    {
+        self.right.contains(right_after(
+            self.width as usize,
+            bytes,
+            symbol_byte(entry.write),
+        ).as_slice())
+    }
+
+    // Whether what stands around the head after a move to the right is in its list, if the right word with
+    // the symbol that comes into view is.
+    fn follows_right(&self, bytes: &[u8], entry: Entry, seen: u8) -> bool
+        requires size { length bytes.now ≡ 2 * self.now.width + 2 }
+        requires next { entry.next.0 < state_limit }
+        ensures { IsTrue result ↔ FollowsRight (lists_of self.now) bytes.now entry seen }
+    {
+        let g = self.width as usize;
+        if !self.right.contains(right_seen(g, bytes, seen).as_slice()) {
+            return true;
+        }
+        let next = b'A' + entry.next.0;
+        self.local.contains(local_right(g, bytes, symbol_byte(entry.write), next, seen).as_slice())
+    }
+
+    // The same of a move to the left.
+    fn follows_left(&self, bytes: &[u8], entry: Entry, seen: u8) -> bool
+        requires size { length bytes.now ≡ 2 * self.now.width + 2 }
+        requires next { entry.next.0 < state_limit }
+        ensures { IsTrue result ↔ FollowsLeft (lists_of self.now) bytes.now entry seen }
+    {
+        let g = self.width as usize;
+        if !self.left.contains(left_seen(g, bytes, seen).as_slice()) {
+            return true;
+        }
+        let next = b'A' + entry.next.0;
+        self.local.contains(local_left(g, bytes, symbol_byte(entry.write), next, seen).as_slice())
+    }
+}
+
+// The symbol of a byte.
+fn symbol_of(byte: u8) -> Sym
+    ensures { result ≡ symbol_of (byte - 48) }
+{
+    if byte <= b'0' { Sym::Zero } else { Sym::One }
+}

@@ -1,0 +1,87 @@
+// A sorted list in a text, which is looked up where it stands.
+ghost use Rattle.std.specs.Prelude.{◌≡◌, ◌↔◌, ◌+◌, ◌*◌, ◌<◌, ◌≤◌, length, IsTrue, IfSome, IfNone, ℕ};
+ghost use Rattle.ngram_cps.specs.Listing.{item, IsListing, IsItem};
+
+use std::cmp::Ordering;
+
+// Items of one width, strictly rising by bytes, with a comma between each two. There is at least one.
+#[derive(Clone, Copy, Debug, PartialEq, Eq)]
+pub(crate) struct Listing<'a> {
+    pub text: &'a [u8],
+    pub width: usize,
+    pub count: usize,
+    ghost small: { width ≤ 18 },
+    ghost listed: { IsListing width count text.now },
+}
+
+impl<'a> Listing<'a> {
+    // The list that a text is, if it is one.
+    pub fn new(text: &'a [u8], width: usize) -> Option<Listing<'a>>
+        requires { width ≤ 18 }
+        ensures some { IfSome result (λ l. (l.text.now ≡ text.now) × (l.width ≡ width)) }
+        ensures none { IfNone result ((count : ℕ) → IsListing width count text.now → ⊥) }
+    {
+        if text.len() % (width + 1) != width {
+            return None;
+        }
+        let count = text.len() / (width + 1) + 1;
+        if !is_rising(text, width, count) {
+            return None;
+        }
+        Some(Listing { text, width, count })
+    }
+
+    pub fn item(&self, k: usize) -> &'a [u8]
+        requires { k < self.now.count }
+        ensures item { result.now ≡ item self.now.width self.now.text.now k }
+        ensures length { length result.now ≡ self.now.width }
+    {
+        item_of(self.text, self.width, self.count, k)
+    }
+
+    // Whether these bytes are an item: a binary search.
+    pub fn contains(&self, bytes: &[u8]) -> bool
+        ensures { IsTrue result ↔ IsItem self.now.width self.now.text.now bytes.now }
+    {
+        let (mut low, mut high) = (0, self.count);
+        'search: while low < high {
+            let middle = low + (high - low) / 2;
+            match self.item(middle).cmp(bytes) {
+                Ordering::Less => low = middle + 1,
+                Ordering::Equal => return true,
+                Ordering::Greater => high = middle,
+            }
+        }
+        false
+    }
+}
+
+// The item at a place.
+fn item_of(text: &[u8], width: usize, count: usize, k: usize) -> &[u8]
+    requires width { width ≤ 18 }
+    requires size { length text.now + 1 ≡ count * (width + 1) }
+    requires place { k < count }
+    ensures item { result.now ≡ item width text.now k }
+    ensures length { length result.now ≡ width }
+{
+    let at = k * (width + 1);
+    &text[at..at + width]
+}
+
+// Whether a text of the length of so many items is a list.
+fn is_rising(text: &[u8], width: usize, count: usize) -> bool
+    requires width { width ≤ 18 }
+    requires size { length text.now + 1 ≡ count * (width + 1) }
+    ensures { IsTrue result ↔ IsListing width count text.now }
+{
+    for k in 1..count {
+        if text[k * (width + 1) - 1] != b',' {
+            return false;
+        }
+        let before = item_of(text, width, count, k - 1);
+        if before.cmp(item_of(text, width, count, k)) != Ordering::Less {
+            return false;
+        }
+    }
+    true
+}

@@ -1,0 +1,157 @@
+// Three lists, and the evidence that they are a closed position set.
+ghost use Rattle.std.specs.Prelude.{◌≡◌, ◌+◌, ◌*◌, ◌≤◌};
+ghost use Rattle.machine_text.specs.Limits.{state_limit};
+ghost use Rattle.ngram_cps.specs.Limits.{width_limit};
+ghost use Rattle.ngram_cps.specs.Words.{AreWords, AreLocals};
+
+use crate::limits::{MAX_LIST_BYTES, MAX_WIDTH};
+use crate::listing::Listing;
+use crate::local_list::local_list;
+use crate::word_list::word_list;
+use machine_text::Table;
+use run::{Evidence, Refused, Verdict};
+use std::alloc::Global;
+
+/// The claim that three lists are a closed position set of a table, by which it never halts: words of
+/// `width` symbols that may stand on the left and on the right of a head, and local configurations, which are
+/// a left word, a state's letter, the symbol read and a right word (`0A00`). They are texts, sorted by bytes,
+/// borrowed and looked up where they stand. They are made for tables of so many states, and hold of no other.
+#[derive(Clone, Copy, Debug, PartialEq, Eq)]
+pub struct Ngram<'a> {
+    pub(crate) states: u8,
+    pub(crate) width: u8,
+    pub(crate) left: Listing<'a>,
+    pub(crate) right: Listing<'a>,
+    pub(crate) local: Listing<'a>,
+    ghost limits: { (1 ≤ width) × (width ≤ width_limit) × (states ≤ state_limit) },
+    ghost widths: { (left.width ≡ width) × (right.width ≡ width) × (local.width ≡ 2 * width + 2) },
+    ghost left_words: { AreWords width left.count left.text.now },
+    ghost right_words: { AreWords width right.count right.text.now },
+    ghost locals: { AreLocals states width local.count local.text.now },
+}
+
+impl<'a> Ngram<'a> {
+    ghost use Rattle.std.specs.Prelude.{◌↔◌, length, IsTrue, IfSome, IfNone};
+    ghost use Rattle.ngram_cps.specs.Limits.{list_byte_limit};
+    ghost use Rattle.ngram_cps.specs.Lists.{lists, AreLists, IsPositionSet};
+    ghost use Rattle.ngram_cps.specs.Ngram.{lists_of};
+
+    /// Whether words may have this width: from 1 to `MAX_WIDTH`.
+    pub fn is_width(width: u64) -> bool
+        ensures { IsTrue result ↔ ((1 ≤ width) × (width ≤ width_limit)) }
+    {
+        1 <= width && width <= MAX_WIDTH as u64
+    }
+
+    /// Whether three lists together are within `MAX_LIST_BYTES`.
+    pub fn are_short(left: &[u8], right: &[u8], local: &[u8]) -> bool
+        ensures { IsTrue result ↔ (length left.now + length right.now + length local.now ≤ list_byte_limit) }
+    {
+        left.len() <= MAX_LIST_BYTES
+            && right.len() <= MAX_LIST_BYTES - left.len()
+            && local.len() <= MAX_LIST_BYTES - left.len() - right.len()
+    }
+
+    /// The lists that three texts are, for tables of so many states; none where one of them isn't a list of
+    /// its kind. Takes no memory.
+    pub fn new(
+        states: u8,
+        width: u8,
+        left: &'a [u8],
+        right: &'a [u8],
+        local: &'a [u8],
+    ) -> Option<Ngram<'a>>
+        requires states { (1 ≤ states) × (states ≤ state_limit) }
+        requires width { (1 ≤ width) × (width ≤ width_limit) }
+        requires short { length left.now + length right.now + length local.now ≤ list_byte_limit }
+        ensures some { IfSome result (λ e. lists_of e ≡ lists states width left.now right.now local.now) }
+        ensures lists { IfSome result (λ e. AreLists (lists states width left.now right.now local.now)) }
+        ensures none { IfNone result (AreLists (lists states width left.now right.now local.now) → ⊥) }
+    {
+        let left = word_list(left, width)?;
+        let right = word_list(right, width)?;
+        let local = local_list(local, states, width)?;
+        Some(Ngram {
+            states,
+            width,
+            left,
+            right,
+            local,
+        })
+    }
+
+    /// How many states the tables have for which the lists are made.
+    pub fn states(&self) -> u8
+        ensures states { result ≡ (lists_of self.now).states }
+        ensures lists { AreLists (lists_of self.now) }
+    {
+        self.states
+    }
+
+    /// How many symbols a word has.
+    pub fn width(&self) -> u8
+        ensures width { result ≡ (lists_of self.now).width }
+        ensures within { (1 ≤ result) × (result ≤ width_limit) }
+    {
+        self.width
+    }
+
+    /// The words on the left of a head, as text.
+    pub fn left(&self) -> &'a [u8]
+        ensures { result.now ≡ (lists_of self.now).left }
+    {
+        self.left.text
+    }
+
+    /// The words on the right.
+    pub fn right(&self) -> &'a [u8]
+        ensures { result.now ≡ (lists_of self.now).right }
+    {
+        self.right.text
+    }
+
+    /// The local configurations.
+    pub fn local(&self) -> &'a [u8]
+        ensures { result.now ≡ (lists_of self.now).local }
+    {
+        self.local.text
+    }
+
+    /// Whether the lists are a closed position set of a table. Takes no memory.
+    pub fn holds(&self, t: &Table) -> bool
+        ensures { IsTrue result ↔ IsPositionSet (lists_of self.now) t.now }
+    {
+        self.states == t.states() && self.is_closed(t)
+    }
+}
+
+impl Evidence for Ngram<'_> {
+    ghost use Rattle.std.specs.Prelude.{⊤};
+    ghost use Rattle.machine_text.specs.Packed.{entry_of};
+    ghost use Rattle.run.specs.declared.verdicts.Verdict.TheVariants.{Never};
+    ghost use Rattle.ngram_cps.specs.Lists.{IsLocalItem, IsPositionSet};
+    ghost use Rattle.ngram_cps.specs.Ngram.{lists_of};
+    ghost use Rattle.turing.proofs.ClosedSets.{closed_never};
+    ghost use Rattle.ngram_cps.specs.Listing.{IsItem};
+    ghost use Rattle.ngram_cps.specs.Words.{word_text};
+
+    ghost within = { λ e. ⊤ };
+
+    ghost stands = { λ e p. IsPositionSet (lists_of e) p };
+
+    ghost is_wide = { λ e p. ⊥ };
+
+    ghost shows = { λ e. Never };
+
+    // It takes no memory, and so never answers that it was refused.
+    fn check(&self, alloc: Global, t: &Table) -> Result<Verdict, Refused> {
+        if self.holds(t) {
+            Ok(Verdict::Never)
+        } else {
+            Err(Refused::Fails)
+        }
+    }
+
+    ghost law = { λ e p is_table stands.
+        closed_never (entry_of p) (λ w. IsItem e.width e.left.text.now (word_text w)) (λ w. IsItem e.width e.right.text.now (word_text w)) (IsLocalItem (lists_of e)) e.width stands.closed };
+}

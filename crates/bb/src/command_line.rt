@@ -107,7 +107,7 @@ const VERSION: &str = "0.1.0, proved with rattle-kit-13b logic dac8208d650f15bf"
 
 const STATUSES: &str =
     "Exit status: 0 all accepted; 1 something was refused; 2 a wrong command line; \
-3 want of memory; 4 a stream or a file failed.";
+3 out of memory; 4 a stream or a file failed.";
 
 const REPORT: &str =
     "A ledger is the line `bb-ledger 1 TABLE`, which names the root of a tree, and then records, one a
@@ -130,7 +130,7 @@ The report has these lines
 
 Exit status: 0 the report says complete, and all was kept; 1 it doesn't, or the ledger was refused
 (`refused 404` no header with a readable table, `refused 405` its table doesn't name its states in order);
-2 a wrong command line; 3 want of memory (`refused memory`); 4 the file couldn't be read (`refused 605`)
+2 a wrong command line; 3 out of memory (`refused memory`); 4 the file couldn't be read (`refused 605`)
 or a stream failed (`refused 603`).";
 
 const DECIDE: &str =
@@ -139,7 +139,7 @@ found and stands, looked for in this order: that it halts, a cycle, a translated
 reasoning; or `U`, undecided. A text that is no table is answered `refused 301` with its fault, as by
 `bb check`, and a line over 65,536 bytes `refused 305`. `bb decide | bb check` checks what was found.
 
-Exit status: 0 each line was a table; 1 some wasn't; 2 a wrong command line; 3 want of memory
+Exit status: 0 each line was a table; 1 some wasn't; 2 a wrong command line; 3 out of memory
 (`refused memory` on standard error); 4 a stream failed (`refused 603`).";
 
 const RECORDS: &str =
@@ -163,5 +163,5 @@ An answer is one of
   refused 303        no number, or no side
   refused 305        the line is too long
 
-Exit status: 0 all accepted; 1 a line was refused; 2 a wrong command line; 3 want of memory
+Exit status: 0 all accepted; 1 a line was refused; 2 a wrong command line; 3 out of memory
 (`refused memory` on standard error); 4 a stream failed (`refused 603`).";

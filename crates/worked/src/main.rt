@@ -1,12 +1,21 @@
 //! The worked examples of README: each is run on its file of `examples/`, and printed as README shows it.
 #![tactic(auto)]
 
-use commands::{Opened, Outcome, cmd_check, cmd_report};
+use backward::BackwardFinder;
+use cert::Finder;
+use commands::{Opened, Outcome, cmd_check, cmd_decide, cmd_report};
+use loops::{CycleFinder, TranslatedFinder};
+use run::HaltFinder;
 use std::fs::{self, OpenFile};
-use std::io::{self, Write};
+use std::io;
 use std::process::ExitCode;
 
 const CHECKED: [&str; 1] = ["champions.txt"];
+
+// The defaults of `bb decide`.
+const STEPS: u64 = 1_000;
+
+const DEPTH: u64 = 20;
 
 const REPORTED: [(&str, bool); 2] = [("one-state.ledger", false), ("two-states.ledger", true)];
 
@@ -17,6 +26,7 @@ fn main(rt: HostRuntime) -> io::Result<ExitCode> {
         let outcome = cmd_check(rt.alloc(), &mut records, &mut rt.stdout(), &mut rt.stdout());
         ended(&rt, outcome)?;
     }
+    decided(&rt, "tables.txt")?;
     for (name, why) in REPORTED {
         let option = if why { "--why " } else { "" };
         println!(rt; "$ ./bb report {option}examples/{name}")?;
@@ -30,6 +40,27 @@ fn main(rt: HostRuntime) -> io::Result<ExitCode> {
         ended(&rt, outcome)?;
     }
     Ok(ExitCode::SUCCESS)
+}
+
+// `bb decide` with its defaults.
+fn decided(rt: &HostRuntime, name: &str) -> io::Result<()> {
+    println!(rt; "$ ./bb decide < examples/{name}")?;
+    let alloc = rt.alloc();
+    let mut finders: Vec<Box<dyn Finder>> = Vec::new(alloc);
+    finders.push(Box::new(alloc, HaltFinder::new(alloc, STEPS))?)?;
+    finders.push(Box::new(alloc, CycleFinder::new(alloc, STEPS))?)?;
+    finders.push(Box::new(alloc, TranslatedFinder::new(alloc, STEPS))?)?;
+    finders.push(Box::new(alloc, BackwardFinder::new(alloc, DEPTH))?)?;
+    let mut tables = fs::open(rt, name)?;
+    let outcome = cmd_decide(
+        alloc,
+        &mut finders,
+        STEPS,
+        &mut tables,
+        &mut rt.stdout(),
+        &mut rt.stdout(),
+    );
+    ended(rt, outcome)
 }
 
 fn opened(rt: &HostRuntime, name: &str) -> io::Result<Opened<fs::File>> {

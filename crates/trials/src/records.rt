@@ -1,6 +1,6 @@
 // Records of the field's champions, and lines that are none.
-use cert::{Certificate, OwnedCertificate, OwnedRecord, Record, RecordFault, judge};
-use machine_text::TextFault;
+use cert::{Certificate, OwnedCertificate, OwnedRecord, Record, RecordFault, judge, judge_on};
+use machine_text::{Pair, State, Sym, TextFault};
 use run::{HaltsIn, Refused, Verdict};
 use std::test::Fail;
 
@@ -92,7 +92,12 @@ fn certificates_are_judged(rt: HostRuntime) {
     for (text, answer) in [
         ("1RB1LB_1LA--- H 6", Ok(Some(Verdict::Halts(6)))),
         ("1RB1LB_1LA--- H 7", Err(Refused::Fails)),
+        // just within a limit the certificate is looked at, beyond it it isn't
+        ("1RB1LB_1LA--- H 100000000", Err(Refused::Fails)),
         ("1RB1LB_1LA--- H 100000001", Err(Refused::TooLong)),
+        ("1RB1LB_1LA--- C 0 10000000", Err(Refused::Fails)),
+        ("1RB1LB_1LA--- T 0 10000000 R", Err(Refused::Fails)),
+        ("1RB1LB_1LA--- B 1000", Err(Refused::Fails)),
         ("1RB1LB_1LA--- U", Ok(None)),
         ("0RB---_0LA--- C 0 2", Ok(Some(Verdict::Never))),
         ("0RB---_0LA--- C 0 1", Err(Refused::Fails)),
@@ -118,4 +123,56 @@ fn certificates_are_judged(rt: HostRuntime) {
         }
     }
     assert!(rt; Certificate::Halts(HaltsIn(1)) != Certificate::Undecided);
+}
+
+// The pair on which a table halts comes with its judgement.
+#[test]
+fn halting_pairs_come_with_judgements(rt: HostRuntime) {
+    match Record::parse(b"1RB1LB_1LA--- H 6") {
+        Ok(record) => {
+            let mut judged = judge_on(rt.alloc(), &record);
+            if judged == Err(Refused::NoMemory) {
+                judged = judge_on(rt.alloc(), &record);
+            }
+            match judged {
+                Ok(judged) => {
+                    assert_eq!(rt; judged.verdict, Some(Verdict::Halts(6)));
+                    assert_eq!(rt;
+                        judged.halts_on,
+                        Some(Pair {
+                            state: State(1),
+                            symbol: Sym::One
+                        })
+                    );
+                }
+                Err(refused) => panic!(rt; "{refused:?}"),
+            }
+            assert_eq!(rt; record.certificate.verdict(), Some(Verdict::Halts(6)));
+        }
+        Err(fault) => panic!(rt; "{fault:?}"),
+    }
+}
+
+// Each fault says in a sentence what it is.
+#[test]
+fn faults_of_records_say_what_they_are(rt: HostRuntime) -> Result<(), Fail> {
+    for (fault, text) in [
+        (
+            RecordFault::BadTable(TextFault::BadLength),
+            "there is no table before the first space",
+        ),
+        (
+            RecordFault::BadKind,
+            "there is no kind of record with these fields",
+        ),
+        (RecordFault::BadNumber, "a field is no number or no side"),
+        (RecordFault::BadList, "a field is no list of its kind"),
+        (
+            RecordFault::TooLong,
+            "the record is longer than 65000 bytes",
+        ),
+    ] {
+        assert_eq!(rt; fault.to_string(rt.alloc())?.as_str(), text);
+    }
+    Ok(())
 }

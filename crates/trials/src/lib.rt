@@ -14,6 +14,8 @@ mod cycles;
 #[cfg(test)]
 mod ledgers;
 #[cfg(test)]
+mod position_sets;
+#[cfg(test)]
 mod records;
 #[cfg(test)]
 mod runs;

@@ -40,7 +40,9 @@ fn is_within(least: u64, number: u64, most: u64) -> bool
     least <= number && number <= most
 }
 
-fn report_options<'a>(report: &ArgMatches<'a>) -> Options<'a> {
+fn report_options<'a>(report: &ArgMatches<'a>) -> Options<'a>
+    ensures { AreWithinRanges result }
+{
     Options::Report {
         file: report.get_str(FILE).unwrap_or_default(),
         why: report.get_flag(WHY),
@@ -97,7 +99,9 @@ fn decide_command<'a>(alloc: Global) -> Result<Command<'a>, NoMemory> {
 }
 
 const STEPS: &str = "steps";
+
 const DEPTH: &str = "depth";
+
 const FILE: &str = "FILE";
 
 const WHY: &str = "why";

@@ -5,7 +5,7 @@ ghost use Rattle.bb.specs.Unread.{EndsUnread};
 use crate::command_line::options;
 use crate::line_fault::LineFault;
 use backward::BackwardFinder;
-use cert::Finder;
+use cert::{Finder, Finders};
 use commands::{Ended, Opened, Options, Outcome, Search, cmd_check, cmd_decide, cmd_report};
 use loops::{CycleFinder, TranslatedFinder};
 use run::{HaltFinder, NoMemory};
@@ -71,14 +71,8 @@ fn decide_with<R: Read, W: Write, E: Write>(
     finders.push(Box::new(alloc, CycleFinder::new(alloc, steps))?)?;
     finders.push(Box::new(alloc, TranslatedFinder::new(alloc, steps))?)?;
     finders.push(Box::new(alloc, BackwardFinder::new(alloc, search.depth))?)?;
-    Ok(cmd_decide(
-        alloc,
-        &mut finders,
-        steps,
-        input,
-        answers,
-        faults,
-    ))
+    let mut decider = Finders::new(finders, steps);
+    Ok(cmd_decide(alloc, &mut decider, input, answers, faults))
 }
 
 fn line_of(alloc: Global, words: &[String]) -> Result<Vec<&str>, NoMemory> {

@@ -51,3 +51,34 @@ fn is_decided(alloc: Global, record: &OwnedRecord) -> Result<bool, NoMemory>
         Err(_) => Ok(false),
     }
 }
+
+/// Answers a table by a record of it that is certified, or undecided.
+pub trait Decider {
+    ghost use Rattle.std.specs.Prelude.{◌≡◌, IfOk};
+    ghost use Rattle.cert.specs.Certified.{IsCertified};
+    ghost use Rattle.cert.specs.Kinds.{owned_recorded};
+
+    fn decide(&mut self, alloc: Global, t: &Table) -> Result<OwnedRecord, NoMemory>
+        ensures table { IfOk result (λ r. r.table ≡ t.now) }
+        ensures certified { IfOk result (λ r. IsCertified (owned_recorded r)) };
+}
+
+/// Finders in the order in which they are asked, with the budget that each is given.
+#[derive(Drop)]
+pub struct Finders {
+    finders: Vec<Box<dyn Finder>>,
+    budget: u64,
+}
+
+impl Finders {
+    /// These finders, with this budget in steps.
+    pub fn new(finders: Vec<Box<dyn Finder>>, budget: u64) -> Finders {
+        Finders { finders, budget }
+    }
+}
+
+impl Decider for Finders {
+    fn decide(&mut self, alloc: Global, t: &Table) -> Result<OwnedRecord, NoMemory> {
+        decide(alloc, &mut self.finders, t, self.budget)
+    }
+}

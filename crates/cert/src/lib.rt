@@ -22,7 +22,7 @@ mod text;
 mod writer;
 
 pub use certificate::{Certificate, OwnedCertificate};
-pub use deciding::decide;
+pub use deciding::{Decider, Finders, decide};
 pub use finder::Finder;
 pub use judgement::{Judged, judge, judge_on};
 pub use laws::{

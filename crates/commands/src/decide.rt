@@ -5,58 +5,50 @@ ghost use Rattle.commands.specs.Decision.{Decides, DecidesTable, read_table, tab
 use crate::answers::append_fault;
 use crate::line_loop::{Answerer, answer_lines};
 use crate::outcome::Outcome;
-use cert::{Finder, RecordFault, decide};
+use cert::{Decider, RecordFault};
 use machine_text::Table;
 use run::NoMemory;
 use std::alloc::Global;
 use std::io::{Read, Write};
 
-/// Reads a table a line and prints a record a line: the first certificate that stands of those that the
-/// finders give, asked in their order, or that the table is undecided. Lines are answered as they come, and
+/// Reads a table a line and prints a record a line, as the decider answers: certified, or undecided. Lines are answered as they come, and
 /// a last line without newline is read too. What a failed stream or refused memory ends is said on
 /// `faults`.
-pub fn cmd_decide<R: Read, W: Write, E: Write>(
+pub fn cmd_decide<D: Decider, R: Read, W: Write, E: Write>(
     alloc: Global,
-    finders: &mut [Box<dyn Finder>],
-    budget: u64,
+    decider: &mut D,
     input: &mut R,
     answers: &mut W,
     faults: &mut E,
 ) -> Outcome {
-    let mut decider = Decider {
-        alloc,
-        finders,
-        budget,
-    };
-    answer_lines(alloc, &mut decider, input, answers, faults)
+    let mut answerer = TableAnswerer { alloc, decider };
+    answer_lines(alloc, &mut answerer, input, answers, faults)
 }
 
 #[derive(Drop)]
-struct Decider<'a> {
+struct TableAnswerer<'a, D> {
     alloc: Global,
-    finders: &'a mut [Box<dyn Finder>],
-    budget: u64,
+    decider: &'a mut D,
 }
 
-impl<'a> Answerer for Decider<'a> {
+impl<'a, D: Decider> Answerer for TableAnswerer<'a, D> {
     fn answer(&mut self, line: Option<&[u8]>, out: &mut Vec<u8>) -> Result<Outcome, NoMemory> {
-        decide_line(self.alloc, self.finders, self.budget, line, out)
+        decide_line(self.alloc, self.decider, line, out)
     }
 }
 
 /// Appends the record of a line's table, which is none where the line was too long, with a newline; of a
 /// text that is no table its fault.
-pub fn decide_line(
+pub fn decide_line<D: Decider>(
     alloc: Global,
-    finders: &mut [Box<dyn Finder>],
-    budget: u64,
+    decider: &mut D,
     line: Option<&[u8]>,
     out: &mut Vec<u8>,
 ) -> Result<Outcome, NoMemory>
     ensures { IfOk result (λ o. (answer : List ℕ) × Decides (read_table line.entry) o answer × (out.new.items ≡ out.old.items ++ answer ++ 10 ∷ [])) }
 {
     let outcome = match read_table(line) {
-        Ok(table) => append_record(alloc, finders, budget, &table, out)?,
+        Ok(table) => append_record(alloc, decider, &table, out)?,
         Err(fault) => {
             append_fault(fault, out)?;
             Outcome::Refused
@@ -80,16 +72,15 @@ fn read_table(line: Option<&[u8]>) -> Result<Table, RecordFault>
 }
 
 // Appends a record of a table.
-fn append_record(
+fn append_record<D: Decider>(
     alloc: Global,
-    finders: &mut [Box<dyn Finder>],
-    budget: u64,
+    decider: &mut D,
     t: &Table,
     out: &mut Vec<u8>,
 ) -> Result<Outcome, NoMemory>
     ensures { IfOk result (λ o. (answer : List ℕ) × DecidesTable t.now o answer × (out.new.items ≡ out.old.items ++ answer)) }
 {
-    let record = decide(alloc, finders, t, budget)?;
+    let record = decider.decide(alloc, t)?;
     record.lent().write_text(out)?;
     Ok(Outcome::Accepted)
 }

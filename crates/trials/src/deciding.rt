@@ -2,7 +2,7 @@
 use crate::streams::{ALWAYS, Sink, Source};
 use crate::texts::table_of;
 use backward::BackwardFinder;
-use cert::{Certificate, Finder, OwnedCertificate, decide};
+use cert::{Certificate, Finder, Finders, OwnedCertificate, decide};
 use commands::{Outcome, cmd_decide};
 use loops::{CycleFinder, TranslatedFinder};
 use machine_text::Table;
@@ -85,14 +85,8 @@ fn decided(
     };
     let mut sink = Sink::new(alloc, usize::MAX, ALWAYS);
     let mut faults = Sink::new(alloc, usize::MAX, ALWAYS);
-    let ended = cmd_decide(
-        alloc,
-        &mut finders,
-        100,
-        &mut source,
-        &mut sink,
-        &mut faults,
-    );
+    let mut decider = Finders::new(finders, 100);
+    let ended = cmd_decide(alloc, &mut decider, &mut source, &mut sink, &mut faults);
     assert_eq!(rt; sink.kept.as_slice(), answers);
     assert!(rt; ended == outcome && faults.kept.is_empty());
     Ok(())

@@ -2,7 +2,7 @@
 #![tactic(auto)]
 
 use backward::BackwardFinder;
-use cert::Finder;
+use cert::{Finder, Finders};
 use commands::{Opened, Outcome, cmd_check, cmd_decide, cmd_report};
 use loops::{CycleFinder, TranslatedFinder};
 use run::HaltFinder;
@@ -52,10 +52,10 @@ fn decided(rt: &HostRuntime, name: &str) -> io::Result<()> {
     finders.push(Box::new(alloc, TranslatedFinder::new(alloc, STEPS))?)?;
     finders.push(Box::new(alloc, BackwardFinder::new(alloc, DEPTH))?)?;
     let mut tables = fs::open(rt, name)?;
+    let mut decider = Finders::new(finders, STEPS);
     let outcome = cmd_decide(
         alloc,
-        &mut finders,
-        STEPS,
+        &mut decider,
         &mut tables,
         &mut rt.stdout(),
         &mut rt.stdout(),

@@ -1,4 +1,4 @@
--- A beginning of a text that stands for records stands for the records of the first of its lines.
+-- A beginning of a text that is read as records is read as the records of the first of its lines.
 use Rattle.std.proofs.Common.{◌≡◌, ℕ, ◌+◌, ◌-◌, ◌≤◌, List, [], ◌∷◌, ◌++◌, length, Some, None, inl, inr, ◌⊎◌, refl, sym, ap, ◌∙◌, subst, arith, append_assoc, length-append}
 use Rattle.std.specs.List.{position}
 use Rattle.machine_text.specs.Packed.{Packed}

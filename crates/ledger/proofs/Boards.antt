@@ -1,5 +1,5 @@
 -- What the code of a board keeps, once a record is taken.
-use Rattle.std.proofs.Common.{◌≡◌, ◌≢◌, ℕ, ◌<◌, ◌^◌, false, List, [], ◌∷◌, ◌++◌, Option, Some, None, option_map, ◌⊎◌, ◌↔◌, sym, ◌∙◌, ap, subst, map, length, arith}
+use Rattle.std.proofs.Common.{◌≡◌, ◌≢◌, ℕ, ◌<◌, ◌^◌, false, List, [], ◌∷◌, ◌++◌, Some, None, ◌⊎◌, ◌↔◌, sym, ◌∙◌, ap, subst, length, arith}
 use Rattle.std.specs.Prelude.{slice_get}
 use Rattle.std.specs.List.{All}
 use Rattle.std.specs.Map.{remove_entry}
@@ -23,7 +23,6 @@ use Rattle.ledger.proofs.Entries.{no_entry, an_entry, entry_last, entry_settled,
 use Rattle.ledger.proofs.HeldLaws.{unmarked}
 use Rattle.ledger.proofs.Numbers.{number_within, counted_more, counted_settled, some_holdout}
 use Rattle.ledger.proofs.Openers.{none_opened, next_opens_none, holdout_opens_none}
-use Rattle.ledger.proofs.Sets.{removed}
 use Rattle.ledger.proofs.Taking.{holdout_claim, opened_then_closed, board_more, taken_last, opened_more, board_settled, taken_settling, opened_settled}
 
 -- what each board of the code keeps

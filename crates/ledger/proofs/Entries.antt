@@ -1,5 +1,5 @@
 -- The code's map of records, and the records that it holds.
-use Rattle.std.proofs.Common.{◌≡◌, ℕ, zero, suc, ◌<◌, ◌^◌, Bool, true, false, cond, List, [], ◌∷◌, ◌++◌, map, length, Option, Some, None, option_map, IfSome, refl, sym, ◌∙◌, ap, subst, arith}
+use Rattle.std.proofs.Common.{◌≡◌, ℕ, suc, ◌<◌, ◌^◌, true, false, cond, List, [], ◌∷◌, ◌++◌, length, Option, Some, None, option_map, refl, sym, ◌∙◌, ap, subst, arith}
 use Rattle.std.specs.Prelude.{slice_get}
 use Rattle.std.specs.List.{All}
 use Rattle.std.specs.Map.{lookup, lookup_key}
@@ -9,10 +9,10 @@ use Rattle.indexmap.specs.IndexMap.{insert_entry}
 use Rattle.machine_text.specs.Packed.{Packed}
 use Rattle.run.specs.declared.verdicts.Verdict.{Verdict}
 use Rattle.run.specs.declared.verdicts.Verdict.TheVariants.{Halts, Never}
-use Rattle.tree.specs.Closed.{Mark, Holdout}
+use Rattle.tree.specs.Closed.{Holdout}
 use Rattle.cert.specs.Claim.{Claim, Recorded, shown_by}
 use Rattle.cert.specs.Kinds.{owned_claim}
-use Rattle.ledger.specs.Records.{same_table, claim_in, mark_in, mark_of, mark_by}
+use Rattle.ledger.specs.Records.{same_table, claim_in, mark_of, mark_by}
 use Rattle.ledger.specs.Held.{IsHoldout, settled}
 use Rattle.ledger.specs.Inside.Keeping.{entry_recorded, records_of, KnowsPair}
 use Rattle.ledger.specs.Inside.Counting.{is_halting}

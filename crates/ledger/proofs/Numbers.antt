@@ -1,5 +1,5 @@
 -- How many tables of a kind a board has, which they are in order, and the greatest recorded count.
-use Rattle.std.proofs.Common.{◌≡◌, ℕ, suc, ◌+◌, ◌-◌, ◌<◌, ◌≤◌, nat_lt, Bool, cond, true, false, List, [], ◌∷◌, ◌++◌, Option, Some, None, option_map, inl, inr, ◌⊎◌, ◌↔◌, refl, sym, ◌∙◌, ap, subst, map, length, arith}
+use Rattle.std.proofs.Common.{◌≡◌, ℕ, suc, ◌+◌, ◌<◌, ◌≤◌, nat_lt, Bool, cond, true, false, List, [], ◌∷◌, ◌++◌, Option, Some, None, option_map, inl, inr, ◌⊎◌, ◌↔◌, refl, sym, ◌∙◌, ap, subst, map, length, arith}
 use Rattle.std.specs.List.{Contains, filter}
 use Rattle.std.specs.Option.{is_none}
 use Rattle.std.proofs.lemmas.Bool.{ltb-true, ltb-false}
@@ -18,7 +18,7 @@ use Rattle.ledger.proofs.OpenLaws.{IsTaken, stopping_verdict}
 use Rattle.ledger.specs.declared.counts.Counts.{Counts}
 use Rattle.ledger.proofs.Same.{same_is, apart}
 use Rattle.ledger.proofs.Claims.{claim_here, claim_past, claim_none, settled_here, settled_past}
-use Rattle.ledger.proofs.Apart.{AreApart, first_or_later, later_member, first_member, claim_member, member_claim, chosen_from, chosen, chosen_once}
+use Rattle.ledger.proofs.Apart.{AreApart, claim_member, member_claim, chosen_from, chosen, chosen_once}
 
 -- the tables of a kind, where those of the records that pass a test are of it
 pub kind_listed : (IsOfKind : Packed → Type 0) (p : Recorded → Bool) (rs : List Recorded)

@@ -1,5 +1,5 @@
 -- The open tables as a list.
-use Rattle.std.proofs.Common.{◌≡◌, ℕ, List, ◌↔◌, sym, subst}
+use Rattle.std.proofs.Common.{ℕ, ◌↔◌}
 use Rattle.std.specs.List.{Contains}
 use Rattle.std.specs.BTreeMap.{BTreeMap, keys}
 use Rattle.machine_text.specs.Packed.{Packed}

@@ -1,7 +1,7 @@
 -- The places of what opened the open tables.
-use Rattle.std.proofs.Common.{◌≡◌, ◌≢◌, ℕ, zero, suc, ◌<◌, ◌≤◌, ◌^◌, Bool, true, false, not, cond, List, [], ◌∷◌, ◌++◌, length, Option, Some, None, inl, inr, ◌⊎◌, refl, sym, ◌∙◌, ap, subst, arith, filter, nat_eq}
+use Rattle.std.proofs.Common.{◌≡◌, ℕ, zero, suc, ◌<◌, ◌^◌, Bool, true, false, not, cond, List, [], ◌∷◌, ◌++◌, length, Some, inl, inr, refl, sym, ◌∙◌, ap, subst, arith, nat_eq}
 use Rattle.std.specs.Prelude.{slice_get}
-use Rattle.std.specs.List.{All, AllPairs}
+use Rattle.std.specs.List.{All}
 use Rattle.std.specs.Map.{remove_entry}
 use Rattle.std.proofs.lemmas.Bool.Decides.{Decides-eqb}
 use Rattle.std.proofs.lemmas.List.Elements.{All-cons, All-nil}
@@ -12,7 +12,7 @@ use Rattle.ledger.specs.Records.{same_table, claim_in}
 use Rattle.ledger.specs.Held.{settled}
 use Rattle.ledger.specs.Inside.Counting.{is_halting, says_halts}
 use Rattle.ledger.specs.Inside.Open.{others, IsOpener}
-use Rattle.ledger.proofs.Same.{same_is, same_at, not_same}
+use Rattle.ledger.proofs.Same.{same_is, same_at}
 use Rattle.ledger.proofs.Claims.{claim_here, claim_past, settled_here, settled_past}
 use Rattle.ledger.proofs.Entries.{all_first, all_rest}
 use Rattle.ledger.proofs.Apart.{AreApart}

@@ -1,5 +1,5 @@
 -- The text of a ledger: a header with the root of its tree, then records, each on a line. A line ends with a
--- newline, the byte 10. A text stands for the records of its lines, up to the first that can't be taken.
+-- newline, the byte 10. A text is read as the records of its lines, up to the first that can't be taken.
 use Rattle.std.specs.Prelude.{◌≡◌, ◌≢◌, ℕ, ◌+◌, ◌⊎◌, List, [], ◌∷◌, ◌++◌, map, length, All, codes, Option, Some, None, Result, Ok, Err}
 use Rattle.machine_text.specs.Packed.{Packed, entry_of}
 use Rattle.machine_text.specs.Text.{table_of, text_of}
@@ -102,7 +102,7 @@ pub record Keeps (root : Packed) (n : ℕ) (body : List ℕ) (old new : List Rec
   pub taken : AreTaken root old lines new
   pub ends : IsLeft root new n (length lines + 2) rest left
 
--- the text stands for the records rs: they are kept of what stands behind its header
+-- the text is read as the records rs: they are kept of what stands behind its header
 pub record ReadsAs (root : Packed) (text : List ℕ) (rs : List Recorded) (left : Left) : Type 0 where
   pub body : List ℕ
   pub header : HasHeader text root body
@@ -113,7 +113,7 @@ abbrev pub IsTornLeft : List ℕ → Left → Type 0
 IsTornLeft text Nothing = text ≡ []
 IsTornLeft text (From line kept why) = (text ≢ []) × (line ≡ 1) × (kept ≡ 0) × (why ≡ Torn)
 
--- a text that is torn off within its header stands for no record
+-- a text that is torn off within its header is read as no record
 pub record ReadsAsNone (text : List ℕ) (rs : List Recorded) (left : Left) : Type 0 where
   pub torn : IsTornHeader text
   pub none : rs ≡ []

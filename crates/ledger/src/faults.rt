@@ -21,7 +21,7 @@ pub enum OfferFault {
     WrongSize,
     /// Its table is neither open nor a holdout.
     NotOpen,
-    /// Its certificate was refused, and not for want of memory.
+    /// Its certificate was refused, and not because memory was refused.
     Refused(Refused),
     /// Memory was refused.
     NoMemory,
@@ -43,7 +43,7 @@ pub enum LoadFault {
 impl BoardFault {
     ghost use Rattle.ledger.specs.Faults.{board_fault_number};
 
-    /// The refusal number: 401; 0 for want of memory, which has none.
+    /// The refusal number: 401; 0 where memory was refused, which has none.
     pub fn number(&self) -> u16
         ensures { result ≡ board_fault_number self.now }
     {
@@ -57,7 +57,7 @@ impl BoardFault {
 impl OfferFault {
     ghost use Rattle.ledger.specs.Faults.{offer_fault_number};
 
-    /// The refusal number: 402, 403, or that of the certificate; 0 for want of memory, which has none.
+    /// The refusal number: 402, 403, or that of the certificate; 0 where memory was refused, which has none.
     pub fn number(&self) -> u16
         ensures { result ≡ offer_fault_number self.now }
     {
@@ -73,7 +73,7 @@ impl OfferFault {
 impl LoadFault {
     ghost use Rattle.ledger.specs.Faults.{load_fault_number};
 
-    /// The refusal number: 404, 405; 0 for want of memory, which has none.
+    /// The refusal number: 404, 405; 0 where memory was refused, which has none.
     pub fn number(&self) -> u16
         ensures { result ≡ load_fault_number self.now }
     {

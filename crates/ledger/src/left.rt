@@ -26,7 +26,7 @@ pub enum Unkept {
     Torn,
     /// The line isn't the text of a record.
     Unread(RecordFault),
-    /// The record wasn't taken, and not for want of memory.
+    /// The record wasn't taken, and not because memory was refused.
     Unfit(OfferFault),
     /// The table of the record has a verdict, or is a holdout and no verdict is offered.
     Repeated,

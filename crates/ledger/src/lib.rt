@@ -5,7 +5,10 @@
 //! `specs/Held` which lists a board may hold.
 //!
 //! A board's ledger is a text: a header with the root, and a line for each record. `specs/LedgerText` says
-//! for which records a text stands, also where it is cut or spoilt.
+//! as which records a text is read, also where it is cut or spoilt.
+//!
+//! `specs/Lists` says what is held of a list of records, and `laws` that this is what offers and ledgers come
+//! to. `specs/Inside` and `proofs` are for the code alone.
 #![tactic(auto)]
 
 mod board;

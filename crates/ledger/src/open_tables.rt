@@ -21,7 +21,7 @@ use std::alloc::Global;
 use std::collections::BTreeMap;
 use tnf::Children;
 
-/// The place of what opened the root, which no record has.
+// The place of what opened the root, which no record has.
 const NO_PLACE: usize = usize::MAX;
 
 // The root alone.

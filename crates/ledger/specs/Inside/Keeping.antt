@@ -1,5 +1,5 @@
 -- For the code: how a record is kept, beside it the pair on which its table halts, where it says that it does.
-use Rattle.std.specs.Prelude.{ℕ, List, map}
+use Rattle.std.specs.Prelude.{List, map}
 use Rattle.machine_text.specs.Packed.{Packed}
 use Rattle.cert.specs.Claim.{Recorded, shown_by}
 use Rattle.cert.specs.Certified.{IsPairOf}

@@ -1,4 +1,4 @@
-use Rattle.std.proofs.Common.{◌≡◌, ◌↔◌, ◌⊎◌, ℕ}
+use Rattle.std.proofs.Common.{◌≡◌, ◌↔◌, ◌⊎◌}
 use Rattle.std.specs.BTreeMap.{ContainsKey}
 use Rattle.machine_text.specs.Packed.{Packed}
 use Rattle.ledger.specs.Inside.Keeping.{records_of}

@@ -1,13 +1,9 @@
-use Rattle.std.proofs.Common.{◌≡◌, ◌<◌, ◌^◌, ◌++◌, ◌∷◌, [], List, refl, sym, ◌∙◌, ap, subst, arith}
-use Rattle.machine_text.specs.Packed.{Packed}
-use Rattle.tree.specs.Closed.{IsOpen}
-use Rattle.cert.specs.Claim.{Recorded}
+use Rattle.std.proofs.Common.{refl, sym, ◌∙◌, ap, subst, arith}
 use Rattle.cert.specs.Kinds.{recorded}
-use Rattle.ledger.specs.Records.{same_table, mark_in}
-use Rattle.ledger.specs.Held.{IsHoldout, Settles, settled}
+use Rattle.ledger.specs.Records.{same_table}
+use Rattle.ledger.specs.Held.{IsHoldout, settled}
 use Rattle.ledger.specs.Contents.{Contents, IsBoard}
 use Rattle.ledger.specs.Inside.Keeping.{records_of}
-use Rattle.ledger.specs.declared.kept.Kept.{Kept}
 use Rattle.ledger.proofs.Boards.{holdouts_place, numbers_fit, kept_settled, records_settled, holdout_counted}
 use Rattle.ledger.proofs.Entries.{an_entry}
 use Rattle.ledger.proofs.Taking.{holdout_in_order, holdout_claim}

@@ -1,10 +1,9 @@
-use Rattle.std.proofs.Common.{◌≡◌, ◌<◌, ◌^◌, ◌++◌, ◌∷◌, [], List, refl, sym, ◌∙◌, ap, subst}
+use Rattle.std.proofs.Common.{◌<◌, ◌^◌, ◌++◌, ◌∷◌, [], List, refl, sym, ◌∙◌, ap, subst}
 use Rattle.machine_text.specs.Packed.{Packed}
 use Rattle.tree.specs.Closed.{IsOpen}
 use Rattle.cert.specs.Claim.{Recorded}
 use Rattle.cert.specs.Kinds.{recorded}
 use Rattle.ledger.specs.Records.{same_table, mark_in}
-use Rattle.ledger.specs.Held.{IsHoldout, Settles, settled}
 use Rattle.ledger.specs.Contents.{Contents, IsBoard}
 use Rattle.ledger.specs.Inside.Keeping.{records_of}
 use Rattle.ledger.specs.declared.kept.Kept.{Kept}

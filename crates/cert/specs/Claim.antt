@@ -6,8 +6,8 @@ use Rattle.turing.specs.Cycle.{Cycle}
 use Rattle.turing.specs.Translated.{Translated}
 use Rattle.turing.specs.Backward.{Backward}
 use Rattle.machine_text.specs.declared.transition.Dir.{Dir}
-use Rattle.loops.specs.declared.limits.TheConstants.{MAX_TIME}
-use Rattle.backward.specs.declared.limits.TheConstants.{MAX_DEPTH}
+use Rattle.loops.specs.Limits.{time_limit}
+use Rattle.backward.specs.Limits.{depth_limit}
 use Rattle.backward.specs.Paths.{IsTooWide}
 use Rattle.run.specs.Limits.{halt_step_limit}
 use Rattle.run.specs.declared.verdicts.Verdict.{Verdict}
@@ -46,9 +46,9 @@ shown_by NoClaim = None
 -- a claim asks for no more than the limits of its kind
 abbrev pub IsWithin : Claim → Type 0
 IsWithin (HaltsClaim k) = k ≤ halt_step_limit
-IsWithin (CycleClaim i j) = j ≤ MAX_TIME
-IsWithin (TranslatedClaim i j side) = j ≤ MAX_TIME
-IsWithin (BackwardClaim d) = d ≤ MAX_DEPTH
+IsWithin (CycleClaim i j) = j ≤ time_limit
+IsWithin (TranslatedClaim i j side) = j ≤ time_limit
+IsWithin (BackwardClaim d) = d ≤ depth_limit
 IsWithin NoClaim = Unit {0}
 
 -- to check the claim takes more paths than may be kept

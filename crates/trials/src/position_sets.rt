@@ -58,12 +58,18 @@ fn position_sets_are_judged(rt: HostRuntime) {
     ] {
         let table = table_of(&rt, text);
         let (left, right, local) = (left.as_bytes(), right.as_bytes(), local.as_bytes());
-        if !Ngram::is_width(width) || !Ngram::are_short(left, right, local) {
-            panic!(rt; "{text} N {width}: beyond the limits");
+        if width == 0 {
+            panic!(rt; "0 is no width");
         }
-        let found = Ngram::new(table.states(), width as u8, left, right, local).map(
-            |lists| lists.check(alloc, &table),
-        );
+        if width > 8 {
+            panic!(rt; "{width} is no width");
+        }
+        if !Ngram::are_short(left, right, local) {
+            panic!(rt; "{local:?} is too long");
+        }
+        let found = Ngram::new(table.states(), width, left, right, local).map(|lists| lists.check(
+            alloc, &table,
+        ));
         assert!(rt; found == answer, "{text} N {width} {local:?}: {found:?}");
     }
 }

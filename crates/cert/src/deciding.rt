@@ -42,10 +42,10 @@ pub fn decide(
 }
 
 // Whether a record claims something, and that stands.
-fn is_decided(alloc: Global, record: &OwnedRecord) -> Result<bool, NoMemory>
-    ensures { IfOk result (λ decided. decided ≡ true → IsCertified (owned_recorded record.now)) }
+fn is_decided(alloc: Global, r: &OwnedRecord) -> Result<bool, NoMemory>
+    ensures { IfOk result (λ decided. decided ≡ true → IsCertified (owned_recorded r.now)) }
 {
-    match judge(alloc, &record.lent()) {
+    match judge(alloc, &r.lent()) {
         Ok(verdict) => Ok(verdict.is_some()),
         Err(Refused::NoMemory) => Err(AllocError),
         Err(_) => Ok(false),

@@ -37,6 +37,7 @@ impl Record {
         ensures table { IsTable self.now.table }
         ensures numbers { IsWritable (claim_of self.now.certificate) }
     {
+        // The proof needs that the table is one.
         let _ = self.table.states();
         match self.certificate {
             Certificate::Halts(evidence) => has_64_bits(evidence.0),
@@ -63,6 +64,7 @@ impl Record {
 fn has_64_bits(number: u64)
     ensures { number < 2 ^ 64 }
 {
+    // The proof needs the range of the type.
     let _ = number;
 }
 

@@ -89,6 +89,7 @@ impl Board {
         ensures in_order { IfOk result (λ board. (u : ℕ) × InOrder u (entry_of root)) }
         ensures not_in_order { result ≡ Err BoardFault.NotInOrder → ((u : ℕ) × InOrder u (entry_of root)) → ⊥ }
     {
+        // The proof needs that the root is a table.
         let _ = root.states();
         if !in_order(&root) {
             return Err(BoardFault::NotInOrder);
@@ -186,6 +187,7 @@ impl Board {
         closed_tree();
         best_of_closed();
         rado_of_complete();
+        // The proof needs the invariant of the board.
         let _ = &self.root;
         self.standing()
     }
@@ -215,6 +217,7 @@ impl Board {
         ensures is_true { IfSome result (λ v. IsTrueOf v (entry_of t.now)) }
     {
         standing_claims_are_true();
+        // The proof needs that it is a table.
         let _ = t.states();
         verdict_in(&self.records, t)
     }

@@ -21,6 +21,7 @@ pub fn children_on(parent: &Table, pair: Pair) -> Children
     ensures rising { AllPairs (λ a b. slice_cmp nat_cmp (text_of a) (text_of b) ≡ Less) result }
 {
     children_listed();
+    // The proof needs that the parent is a table.
     let _ = parent.states();
     children(parent, pair.state, pair.symbol)
 }

@@ -54,6 +54,7 @@ pub fn place_of(records: &IndexMap<Table, Kept>, t: &Table) -> usize
     ensures small { result < 2 ^ 63 }
     ensures room { length records.now.entries < 2 ^ 63 }
 {
+    // The proof needs how long an index can be.
     let _ = records.len();
     match records.get_full(t) {
         Some((place, _, _)) => place,

@@ -23,6 +23,7 @@ impl Board {
         ensures err { OnErr result (out.new.items ≡ out.old.items) }
     {
         ledgers_load_whole();
+        // The proof needs that the records are held from the root.
         let _ = self.root();
         let len = out.len();
         match append_ledger(self, out) {

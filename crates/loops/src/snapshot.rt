@@ -126,6 +126,7 @@ impl Snapshot {
         ensures within { IsWithinLimit result }
         ensures stands { OnRun runner.now }
     {
+        // The proof needs that the runner is on its run.
         let _ = runner.steps();
         runner.tape().head() - self.tape.head()
     }

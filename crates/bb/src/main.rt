@@ -7,7 +7,7 @@ mod dispatch;
 mod line_fault;
 
 pub use command_line::options;
-pub use commands::{Options, cmd_check, cmd_report, report};
+pub use commands::{Options, cmd_check, cmd_decide, cmd_report, report};
 use dispatch::{Host, obey};
 pub use line_fault::LineFault;
 use std::fs::{self, OpenFile};

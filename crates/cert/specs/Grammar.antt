@@ -1,6 +1,6 @@
 -- The grammar of a record's text: a table, a space, a kind, and so many fields, each after a space. Bytes
 -- are their ASCII codes: 32 is the space, 48 `0`.
-use Rattle.std.specs.Prelude.{ℕ, ◌+◌, ◌-◌, ◌*◌, ◌^◌, ◌==◌, ◌&&◌, nat_lt, if◌then◌else◌, List, [], ◌∷◌, ◌++◌, Option, Some, None, Result, Ok, Err, length, fold, codes, decimal}
+use Rattle.std.specs.Prelude.{ℕ, ◌+◌, ◌-◌, ◌*◌, ◌^◌, ◌==◌, ◌&&◌, not, nat_lt, if◌then◌else◌, List, [], ◌∷◌, ◌++◌, Option, Some, None, Result, Ok, Err, length, fold, codes, decimal}
 use Rattle.std.specs.List.{slice_split}
 use Rattle.std.specs.Str.{bytes_eq}
 use Rattle.machine_text.specs.declared.faults.TextFault.{TextFault}
@@ -8,10 +8,13 @@ use Rattle.machine_text.specs.declared.transition.Dir.{Dir}
 use Rattle.machine_text.specs.declared.transition.Dir.TheVariants.{L, R}
 use Rattle.machine_text.specs.Packed.{Packed}
 use Rattle.machine_text.specs.Text.{table_of, text_of}
+use Rattle.ngram_cps.specs.Limits.{width_limit, list_byte_limit}
+use Rattle.ngram_cps.specs.Lists.{Lists, lists}
+use Rattle.ngram_cps.specs.Tests.{are_lists}
 use Rattle.cert.specs.Limits.{record_byte_limit}
 use Rattle.cert.specs.declared.record_fault.RecordFault.{RecordFault}
-use Rattle.cert.specs.declared.record_fault.RecordFault.TheVariants.{BadTable, BadKind, BadNumber, TooLong}
-use Rattle.cert.specs.Claim.{Claim, HaltsClaim, CycleClaim, TranslatedClaim, BackwardClaim, NoClaim, Recorded}
+use Rattle.cert.specs.declared.record_fault.RecordFault.TheVariants.{BadTable, BadKind, BadNumber, BadList, TooLong}
+use Rattle.cert.specs.Claim.{Claim, HaltsClaim, CycleClaim, TranslatedClaim, BackwardClaim, NgramClaim, NoClaim, Recorded}
 
 -- the parts of a text, cut at every space
 abbrev pub parts_of : List ℕ → List (List ℕ)
@@ -52,23 +55,41 @@ abbrev pub backward_by : List (List ℕ) → Result Claim RecordFault
 backward_by (d ∷ []) = with_field (decimal_value d) (λ d. Ok (BackwardClaim d))
 backward_by fields = Err BadKind
 
+-- a width of words
+abbrev pub width_in : Option ℕ → Option ℕ
+width_in None = None
+width_in (Some g) = if not (nat_lt g 1) && not (nat_lt width_limit g) then Some g else None
+
+-- three lists: how long they are together is judged before any of them
+abbrev pub lists_claim : Lists → Result Claim RecordFault
+lists_claim s =
+    if nat_lt list_byte_limit (length s.left + length s.right + length s.local) then Err TooLong
+    else if are_lists s then Ok (NgramClaim s)
+    else Err BadList
+
+-- for a table of n states
+abbrev pub ngram_by : ℕ → List (List ℕ) → Result Claim RecordFault
+ngram_by n (g ∷ (left ∷ (right ∷ (local ∷ [])))) = with_field (width_in (decimal_value g)) (λ g. lists_claim (lists n g left right local))
+ngram_by n fields = Err BadKind
+
 abbrev pub undecided_by : List (List ℕ) → Result Claim RecordFault
 undecided_by [] = Ok NoClaim
 undecided_by fields = Err BadKind
 
-abbrev pub claim_by : List ℕ → List (List ℕ) → Result Claim RecordFault
-claim_by kind fields =
+abbrev pub claim_by : ℕ → List ℕ → List (List ℕ) → Result Claim RecordFault
+claim_by n kind fields =
     if bytes_eq kind (codes "H") then halts_by fields
     else if bytes_eq kind (codes "C") then cycle_by fields
     else if bytes_eq kind (codes "T") then translated_by fields
     else if bytes_eq kind (codes "B") then backward_by fields
+    else if bytes_eq kind (codes "N") then ngram_by n fields
     else if bytes_eq kind (codes "U") then undecided_by fields
     else Err BadKind
 
--- what follows a table, from the kind on
-abbrev pub claim_from : List (List ℕ) → Result Claim RecordFault
-claim_from [] = Err BadKind
-claim_from (kind ∷ fields) = claim_by kind fields
+-- what follows a table of n states, from the kind on
+abbrev pub claim_from : ℕ → List (List ℕ) → Result Claim RecordFault
+claim_from n [] = Err BadKind
+claim_from n (kind ∷ fields) = claim_by n kind fields
 
 abbrev pub record_with : Packed → Result Claim RecordFault → Result Recorded RecordFault
 record_with p (Ok claim) = Ok (record { table = p; claim = claim })
@@ -76,7 +97,7 @@ record_with p (Err f) = Err f
 
 abbrev pub record_after : Result Packed TextFault → List (List ℕ) → Result Recorded RecordFault
 record_after (Err f) parts = Err (BadTable f)
-record_after (Ok p) parts = record_with p (claim_from parts)
+record_after (Ok p) parts = record_with p (claim_from p.states parts)
 
 abbrev pub record_from : List (List ℕ) → Result Recorded RecordFault
 record_from [] = Err BadKind
@@ -90,12 +111,17 @@ abbrev pub side_text : Dir → List ℕ
 side_text L = codes "L"
 side_text R = codes "R"
 
+-- the width and the lists, as they are written
+abbrev pub lists_text : Lists → List ℕ
+lists_text s = decimal s.width ++ codes " " ++ s.left ++ codes " " ++ s.right ++ codes " " ++ s.local
+
 -- the text of a claim, from the kind on
 abbrev pub claim_text : Claim → List ℕ
 claim_text (HaltsClaim k) = codes "H " ++ decimal k
 claim_text (CycleClaim i j) = codes "C " ++ decimal i ++ codes " " ++ decimal j
 claim_text (TranslatedClaim i j side) = codes "T " ++ decimal i ++ codes " " ++ decimal j ++ codes " " ++ side_text side
 claim_text (BackwardClaim d) = codes "B " ++ decimal d
+claim_text (NgramClaim s) = codes "N " ++ lists_text s
 claim_text NoClaim = codes "U"
 
 -- the text of a record

@@ -3,12 +3,13 @@ ghost use Rattle.std.specs.Prelude.{◌≡◌, IfOk};
 
 use backward::Backward;
 use loops::{Cycle, Translated};
+use ngram_cps::{Ngram, OwnedNgram};
 use run::{HaltsIn, NoMemory, Verdict};
 use std::alloc::Global;
 
 /// What is put forward for a table.
 #[derive(Clone, Copy, Debug, PartialEq, Eq)]
-pub enum Certificate {
+pub enum Certificate<'a> {
     /// `H k`: it halts in k steps.
     Halts(HaltsIn),
     /// `C i j`: the same configuration at the times i and j.
@@ -17,21 +18,24 @@ pub enum Certificate {
     Translated(Translated),
     /// `B d`: no configuration comes to a halting pair after exactly d steps.
     Backward(Backward),
+    /// `N g L R C`: a closed position set of width g, its three lists borrowed from the record's text.
+    Ngram(Ngram<'a>),
     /// `U`: nothing is claimed.
     Undecided,
 }
 
-/// A certificate that keeps its own texts.
-#[derive(Clone, Copy, Debug, PartialEq, Eq)]
+/// A certificate that keeps its own texts. Lists stand in a box, so that records of the other kinds are small.
+#[derive(Drop, Debug)]
 pub enum OwnedCertificate {
     Halts(HaltsIn),
     Cycle(Cycle),
     Translated(Translated),
     Backward(Backward),
+    Ngram(Box<OwnedNgram>),
     Undecided,
 }
 
-impl Certificate {
+impl Certificate<'_> {
     ghost use Rattle.cert.specs.Claim.{shown_by};
     ghost use Rattle.cert.specs.Kinds.{claim_of};
 
@@ -41,9 +45,10 @@ impl Certificate {
     {
         match self {
             Certificate::Halts(evidence) => Some(Verdict::Halts(evidence.0)),
-            Certificate::Cycle(_) | Certificate::Translated(_) | Certificate::Backward(_) => {
-                Some(Verdict::Never)
-            }
+            Certificate::Cycle(_)
+            | Certificate::Translated(_)
+            | Certificate::Backward(_)
+            | Certificate::Ngram(_) => Some(Verdict::Never),
             Certificate::Undecided => None,
         }
     }
@@ -53,7 +58,7 @@ impl OwnedCertificate {
     ghost use Rattle.cert.specs.Kinds.{claim_of, owned_claim};
 
     /// A copy of a certificate.
-    pub fn of(_alloc: Global, certificate: &Certificate) -> Result<OwnedCertificate, NoMemory>
+    pub fn of(alloc: Global, certificate: &Certificate) -> Result<OwnedCertificate, NoMemory>
         ensures { IfOk result (λ owned. owned_claim owned ≡ claim_of certificate.now) }
     {
         Ok(match *certificate {
@@ -61,19 +66,23 @@ impl OwnedCertificate {
             Certificate::Cycle(evidence) => OwnedCertificate::Cycle(evidence),
             Certificate::Translated(evidence) => OwnedCertificate::Translated(evidence),
             Certificate::Backward(evidence) => OwnedCertificate::Backward(evidence),
+            Certificate::Ngram(evidence) => {
+                OwnedCertificate::Ngram(boxed(alloc, OwnedNgram::of(alloc, &evidence)?)?)
+            }
             Certificate::Undecided => OwnedCertificate::Undecided,
         })
     }
 
     /// The certificate, lent.
-    pub fn lent(&self) -> Certificate
+    pub fn lent(&self) -> Certificate<'_>
         ensures { claim_of result ≡ owned_claim self.now }
     {
-        match *self {
-            OwnedCertificate::Halts(evidence) => Certificate::Halts(evidence),
-            OwnedCertificate::Cycle(evidence) => Certificate::Cycle(evidence),
-            OwnedCertificate::Translated(evidence) => Certificate::Translated(evidence),
-            OwnedCertificate::Backward(evidence) => Certificate::Backward(evidence),
+        match self {
+            OwnedCertificate::Halts(evidence) => Certificate::Halts(*evidence),
+            OwnedCertificate::Cycle(evidence) => Certificate::Cycle(*evidence),
+            OwnedCertificate::Translated(evidence) => Certificate::Translated(*evidence),
+            OwnedCertificate::Backward(evidence) => Certificate::Backward(*evidence),
+            OwnedCertificate::Ngram(evidence) => Certificate::Ngram(evidence.lent()),
             OwnedCertificate::Undecided => Certificate::Undecided,
         }
     }

@@ -1,6 +1,6 @@
 // Whether a record's certificate stands.
 ghost use Rattle.std.specs.Prelude.{◌≡◌, ◌≢◌, Ok, None, Some, OnOk, IfOk, IfErr};
-ghost use Rattle.cert.specs.Claim.{NoClaim, shown_by};
+ghost use Rattle.cert.specs.Claim.{NoClaim, TakesMemory, shown_by};
 ghost use Rattle.cert.specs.Certified.{IsCertified, IsRefusedBy, IsPairOf};
 ghost use Rattle.cert.specs.Kinds.{claim_of, recorded};
 
@@ -19,12 +19,13 @@ pub struct Judged {
     pub halts_on: Option<Pair>,
 }
 
-/// Checks a record's certificate: the verdict that it shows of the table, or none where nothing is claimed,
-/// which takes no memory. `Fails` where it doesn't stand, `TooLong` and `TooWide` where it asks for more
+/// Checks a record's certificate: the verdict that it shows of the table, or none where nothing is claimed.
+/// Neither that nor the check of lists takes memory. `Fails` where it doesn't stand, `TooLong` and `TooWide` where it asks for more
 /// than the limits of its kind, `NoMemory` where memory is refused.
 pub fn judge(alloc: Global, r: &Record) -> Result<Option<Verdict>, Refused>
     ensures ok { IfOk result (λ v. IsCertified (recorded r.now) × (v ≡ shown_by (claim_of r.now.certificate))) }
     ensures refused { IfErr result (λ f. f ≢ Refused.NoMemory → IsRefusedBy f (recorded r.now)) }
+    ensures memory { IfErr result (λ f. f ≡ Refused.NoMemory → TakesMemory (claim_of r.now.certificate)) }
     ensures undecided { claim_of r.now.certificate ≡ NoClaim → result ≡ Ok None }
 {
     match judge_on(alloc, r) {
@@ -39,6 +40,7 @@ pub fn judge_on(alloc: Global, r: &Record) -> Result<Judged, Refused>
     ensures verdict { IfOk result (λ judged. judged.verdict ≡ shown_by (claim_of r.now.certificate)) }
     ensures pair { IfOk result (λ judged. IsPairOf judged.verdict r.now.table judged.halts_on) }
     ensures refused { IfErr result (λ f. f ≢ Refused.NoMemory → IsRefusedBy f (recorded r.now)) }
+    ensures memory { IfErr result (λ f. f ≡ Refused.NoMemory → TakesMemory (claim_of r.now.certificate)) }
     ensures undecided { claim_of r.now.certificate ≡ NoClaim → result ≡ Ok (record { verdict = None; halts_on = None }) }
 {
     match r.certificate {
@@ -60,6 +62,15 @@ pub fn judge_on(alloc: Global, r: &Record) -> Result<Judged, Refused>
         Certificate::Backward(evidence) => {
             let verdict = evidence.check(alloc, &r.table)?;
             Ok(shown(verdict))
+        }
+        Certificate::Ngram(evidence) => {
+            // The proof needs that the lists are lists, within their limits.
+            let _ = evidence.states();
+            if evidence.holds(&r.table) {
+                Ok(shown(Verdict::Never))
+            } else {
+                Err(Refused::Fails)
+            }
         }
         Certificate::Undecided => Ok(Judged {
             verdict: None,

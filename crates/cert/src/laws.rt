@@ -2,7 +2,7 @@
 ghost use Rattle.std.specs.Prelude.{◌≡◌, ◌≢◌, Some, Ok, IfSome, All};
 ghost use Rattle.machine_text.specs.Packed.{Packed, IsTable, entry_of};
 ghost use Rattle.run.specs.Verdict.{IsTrueOf};
-ghost use Rattle.cert.specs.Claim.{Claim, Recorded, IsWritable, Stands, shown_by};
+ghost use Rattle.cert.specs.Claim.{Claim, Recorded, IsWritable, IsMadeFor, Stands, shown_by};
 ghost use Rattle.cert.specs.Certified.{IsCertified};
 ghost use Rattle.cert.specs.Grammar.{record_of, record_text};
 
@@ -11,14 +11,16 @@ pub fn standing_claims_are_true()
     ensures { (c : Claim) (p : Packed) → IsTable p → Stands c p → IfSome (shown_by c) (λ v. IsTrueOf v (entry_of p)) }
 {}
 
-/// The numbers of a claim that is certified have at most 64 bits.
+/// The numbers of a claim that is certified have at most 64 bits, and its lists are made for the table's states.
 pub fn certified_claims_are_writable()
-    ensures { (r : Recorded) → IsCertified r → IsWritable r.claim }
+    ensures writable { (r : Recorded) → IsCertified r → IsWritable r.claim }
+    ensures made { (r : Recorded) → IsCertified r → IsMadeFor r.claim r.table.states }
 {}
 
 /// Reading the text of a record gives the record again.
 pub fn records_parse_back()
-    ensures { (r : Recorded) → IsTable r.table → IsWritable r.claim → record_of (record_text r) ≡ Ok r }
+    ensures { (r : Recorded) → IsTable r.table → IsWritable r.claim → IsMadeFor r.claim r.table.states
+        → record_of (record_text r) ≡ Ok r }
 {}
 
 /// The text of a record is one line: it has no newline.

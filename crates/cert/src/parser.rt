@@ -1,7 +1,11 @@
 // Records as they are read.
-ghost use Rattle.std.specs.Prelude.{◌≡◌, ◌∷◌, [], length, IfSome, IfNone};
-ghost use Rattle.cert.specs.Grammar.{record_of, record_with, claim_from, halts_by, cycle_by, translated_by, backward_by, side_of, undecided_by};
+ghost use Rattle.std.specs.Prelude.{◌≡◌, ◌∷◌, [], ◌≤◌, length, IfSome, IfNone, option_map};
+ghost use Rattle.cert.specs.Grammar.{record_of, record_with, claim_from, halts_by, cycle_by, translated_by, backward_by, ngram_by, width_in, side_of, undecided_by};
+ghost use Rattle.cert.specs.Grammar.{decimal_value, lists_claim};
 ghost use Rattle.cert.specs.Kinds.{read_as, claimed_as};
+ghost use Rattle.machine_text.specs.Limits.{state_limit};
+ghost use Rattle.ngram_cps.specs.Limits.{width_limit};
+ghost use Rattle.ngram_cps.specs.Lists.{lists};
 
 use crate::certificate::Certificate;
 use crate::decimal::decimal_value;
@@ -12,12 +16,13 @@ use crate::record_fault::RecordFault;
 use backward::Backward;
 use loops::{Cycle, Translated};
 use machine_text::{Dir, Table};
+use ngram_cps::Ngram;
 use run::HaltsIn;
 
-impl Record {
+impl<'a> Record<'a> {
     #[tactic(auto, unfolding(crate::specs::Grammar::record_of))]
     /// The record of a text: a table, a kind and its fields, with one space between each two.
-    pub fn parse(text: &[u8]) -> Result<Record, RecordFault>
+    pub fn parse(text: &'a [u8]) -> Result<Record<'a>, RecordFault>
         ensures { read_as result ≡ record_of text.now }
     {
         if text.len() > MAX_RECORD_BYTES {
@@ -28,7 +33,7 @@ impl Record {
             return Err(RecordFault::BadKind);
         };
         match Table::parse(first) {
-            Ok(table) => with_certificate(table, certificate_from(parts)),
+            Ok(table) => with_certificate(table, certificate_from(table.states(), parts)),
             Err(fault) => Err(RecordFault::BadTable(fault)),
         }
     }
@@ -37,8 +42,8 @@ impl Record {
 // The record of a table and its certificate.
 fn with_certificate(
     table: Table,
-    certificate: Result<Certificate, RecordFault>,
-) -> Result<Record, RecordFault>
+    certificate: Result<Certificate<'_>, RecordFault>,
+) -> Result<Record<'_>, RecordFault>
     ensures { read_as result ≡ record_with table (claimed_as certificate) }
 {
     match certificate {
@@ -47,9 +52,10 @@ fn with_certificate(
     }
 }
 
-// The certificate of the parts behind a table.
-fn certificate_from(mut parts: Parts<'_>) -> Result<Certificate, RecordFault>
-    ensures { claimed_as result ≡ claim_from parts.entry }
+// The certificate of the parts behind a table of so many states.
+fn certificate_from(states: u8, mut parts: Parts<'_>) -> Result<Certificate<'_>, RecordFault>
+    requires { (1 ≤ states) × (states ≤ state_limit) }
+    ensures { claimed_as result ≡ claim_from states parts.entry }
 {
     let Some(kind) = parts.next() else {
         return Err(RecordFault::BadKind);
@@ -62,6 +68,8 @@ fn certificate_from(mut parts: Parts<'_>) -> Result<Certificate, RecordFault>
         translated_by(parts)
     } else if kind == b"B".as_slice() {
         backward_by(parts)
+    } else if kind == b"N".as_slice() {
+        ngram_by(states, parts)
     } else if kind == b"U".as_slice() {
         undecided_by(parts)
     } else {
@@ -70,7 +78,7 @@ fn certificate_from(mut parts: Parts<'_>) -> Result<Certificate, RecordFault>
 }
 
 // `H k`
-fn halts_by(mut fields: Parts<'_>) -> Result<Certificate, RecordFault>
+fn halts_by(mut fields: Parts<'_>) -> Result<Certificate<'static>, RecordFault>
     ensures { claimed_as result ≡ halts_by fields.entry }
 {
     let Some(field) = fields.next() else {
@@ -86,7 +94,7 @@ fn halts_by(mut fields: Parts<'_>) -> Result<Certificate, RecordFault>
 }
 
 // `C i j`
-fn cycle_by(mut fields: Parts<'_>) -> Result<Certificate, RecordFault>
+fn cycle_by(mut fields: Parts<'_>) -> Result<Certificate<'static>, RecordFault>
     ensures { claimed_as result ≡ cycle_by fields.entry }
 {
     let Some(i) = fields.next() else {
@@ -105,7 +113,7 @@ fn cycle_by(mut fields: Parts<'_>) -> Result<Certificate, RecordFault>
 }
 
 // `T i j side`
-fn translated_by(mut fields: Parts<'_>) -> Result<Certificate, RecordFault>
+fn translated_by(mut fields: Parts<'_>) -> Result<Certificate<'static>, RecordFault>
     ensures { claimed_as result ≡ translated_by fields.entry }
 {
     let Some(i) = fields.next() else {
@@ -127,7 +135,7 @@ fn translated_by(mut fields: Parts<'_>) -> Result<Certificate, RecordFault>
 }
 
 // `B d`
-fn backward_by(mut fields: Parts<'_>) -> Result<Certificate, RecordFault>
+fn backward_by(mut fields: Parts<'_>) -> Result<Certificate<'static>, RecordFault>
     ensures { claimed_as result ≡ backward_by fields.entry }
 {
     let Some(field) = fields.next() else {
@@ -139,6 +147,66 @@ fn backward_by(mut fields: Parts<'_>) -> Result<Certificate, RecordFault>
     match decimal_value(field) {
         Some(depth) => Ok(Certificate::Backward(Backward { depth })),
         None => Err(RecordFault::BadNumber),
+    }
+}
+
+// `N g L R C`
+fn ngram_by(states: u8, mut fields: Parts<'_>) -> Result<Certificate<'_>, RecordFault>
+    requires { (1 ≤ states) × (states ≤ state_limit) }
+    ensures { claimed_as result ≡ ngram_by states fields.entry }
+{
+    let Some(width) = fields.next() else {
+        return Err(RecordFault::BadKind);
+    };
+    let Some(left) = fields.next() else {
+        return Err(RecordFault::BadKind);
+    };
+    let Some(right) = fields.next() else {
+        return Err(RecordFault::BadKind);
+    };
+    let Some(local) = fields.next() else {
+        return Err(RecordFault::BadKind);
+    };
+    if fields.next().is_some() {
+        return Err(RecordFault::BadKind);
+    }
+    match width_of(width) {
+        Some(width) => lists_of(states, width, left, right, local),
+        None => Err(RecordFault::BadNumber),
+    }
+}
+
+// The width that a text names.
+fn width_of(text: &[u8]) -> Option<u8>
+    ensures width { result ≡ width_in (decimal_value text.now) }
+    ensures within { IfSome result (λ g. (1 ≤ g) × (g ≤ width_limit)) }
+{
+    let width = decimal_value(text)?;
+    if Ngram::is_width(width) {
+        Some(width as u8)
+    } else {
+        None
+    }
+}
+
+// The lists of a width that three texts are, for tables of so many states.
+fn lists_of<'a>(
+    states: u8,
+    width: u8,
+    left: &'a [u8],
+    right: &'a [u8],
+    local: &'a [u8],
+) -> Result<Certificate<'a>, RecordFault>
+    requires states { (1 ≤ states) × (states ≤ state_limit) }
+    requires width { (1 ≤ width) × (width ≤ width_limit) }
+    ensures { claimed_as result ≡ lists_claim (lists states width left.now right.now local.now) }
+{
+    if !Ngram::are_short(left, right, local) {
+        return Err(RecordFault::TooLong);
+    }
+    match Ngram::new(states, width, left, right, local) {
+        Some(evidence) => Ok(Certificate::Ngram(evidence)),
+        None => Err(RecordFault::BadList),
     }
 }
 
@@ -156,7 +224,7 @@ fn side_of(text: &[u8]) -> Option<Dir>
 }
 
 // `U`
-fn undecided_by(mut fields: Parts<'_>) -> Result<Certificate, RecordFault>
+fn undecided_by(mut fields: Parts<'_>) -> Result<Certificate<'static>, RecordFault>
     ensures { claimed_as result ≡ undecided_by fields.entry }
 {
     match fields.next() {

@@ -6,13 +6,13 @@ use machine_text::Table;
 
 /// A table with a certificate.
 #[derive(Clone, Copy, Debug, PartialEq, Eq)]
-pub struct Record {
+pub struct Record<'a> {
     pub table: Table,
-    pub certificate: Certificate,
+    pub certificate: Certificate<'a>,
 }
 
 /// A record that keeps its own texts.
-#[derive(Clone, Copy, Debug, PartialEq, Eq)]
+#[derive(Drop, Debug)]
 pub struct OwnedRecord {
     pub table: Table,
     pub certificate: OwnedCertificate,
@@ -22,7 +22,7 @@ impl OwnedRecord {
     ghost use Rattle.cert.specs.Kinds.{recorded, owned_recorded};
 
     /// The record, lent.
-    pub fn lent(&self) -> Record
+    pub fn lent(&self) -> Record<'_>
         ensures { recorded result ≡ owned_recorded self.now }
     {
         Record {

@@ -1,8 +1,9 @@
 // Records as they are written.
 ghost use Rattle.std.specs.Prelude.{◌≡◌, ◌<◌, ◌^◌, ◌++◌, take, drop, length, decimal, codes, Ok, OnOk, OnErr};
 ghost use Rattle.machine_text.specs.Packed.{IsTable};
-ghost use Rattle.cert.specs.Claim.{IsWritable};
-ghost use Rattle.cert.specs.Grammar.{record_of, record_text, claim_text, side_text};
+ghost use Rattle.cert.specs.Claim.{IsWritable, IsMadeFor};
+ghost use Rattle.cert.specs.Grammar.{record_of, record_text, claim_text, lists_text, side_text};
+ghost use Rattle.ngram_cps.specs.Ngram.{lists_of};
 ghost use Rattle.cert.specs.Kinds.{recorded, claim_of};
 
 use crate::certificate::Certificate;
@@ -10,14 +11,16 @@ use crate::laws::records_parse_back;
 use crate::record::Record;
 use crate::text::{append_number, append_table};
 use machine_text::Dir;
+use ngram_cps::Ngram;
 use run::NoMemory;
 
-impl Record {
-    /// Appends the record's text, which reads back as the record. Where memory is refused, `out` is as it
-    /// was.
+impl Record<'_> {
+    /// Appends the record's text, which reads back as the record where lists are made for tables of as many
+    /// states as this one has. Where memory is refused, `out` is as it was.
     pub fn write_text(&self, out: &mut Vec<u8>) -> Result<(), NoMemory>
         ensures ok { OnOk result (out.new.items ≡ out.old.items ++ record_text (recorded self.now)) }
-        ensures reads_back { OnOk result (record_of (drop (length out.old.items) out.new.items) ≡ Ok (recorded self.now)) }
+        ensures reads_back { OnOk result (IsMadeFor (claim_of self.now.certificate) self.now.table.states
+            → record_of (drop (length out.old.items) out.new.items) ≡ Ok (recorded self.now)) }
         ensures err { OnErr result (out.new.items ≡ out.old.items) }
     {
         records_parse_back();
@@ -32,10 +35,10 @@ impl Record {
         }
     }
 
-    // The table is one, and each number has 64 bits: so the record has a text that reads back.
+    // The table is one, each number has 64 bits, and lists are lists: so the record has a text that reads back.
     fn has_text(&self)
         ensures table { IsTable self.now.table }
-        ensures numbers { IsWritable (claim_of self.now.certificate) }
+        ensures fields { IsWritable (claim_of self.now.certificate) }
     {
         // The proof needs that the table is one.
         let _ = self.table.states();
@@ -44,6 +47,9 @@ impl Record {
             Certificate::Cycle(evidence) => have_64_bits(evidence.i, evidence.j),
             Certificate::Translated(evidence) => have_64_bits(evidence.i, evidence.j),
             Certificate::Backward(evidence) => has_64_bits(evidence.depth),
+            Certificate::Ngram(evidence) => {
+                let _ = evidence.states();
+            }
             Certificate::Undecided => {}
         }
     }
@@ -100,6 +106,10 @@ fn append_claim(c: &Certificate, out: &mut Vec<u8>) -> Result<(), NoMemory>
             out.extend_from_slice(b"B ")?;
             append_number(evidence.depth, out)
         }
+        Certificate::Ngram(evidence) => {
+            out.extend_from_slice(b"N ")?;
+            append_lists(evidence, out)
+        }
         Certificate::Undecided => out.extend_from_slice(b"U"),
     }
 }
@@ -112,6 +122,20 @@ fn append_times(i: u64, j: u64, out: &mut Vec<u8>) -> Result<(), NoMemory>
     append_number(i, out)?;
     out.extend_from_slice(b" ")?;
     append_number(j, out)
+}
+
+// Appends a width and three lists.
+fn append_lists(lists: &Ngram, out: &mut Vec<u8>) -> Result<(), NoMemory>
+    ensures ok { OnOk result (out.new.items ≡ out.old.items ++ lists_text (lists_of lists.now)) }
+    ensures kept { take (length out.old.items) out.new.items ≡ out.old.items }
+{
+    append_number(u64::from(lists.width()), out)?;
+    out.extend_from_slice(b" ")?;
+    out.extend_from_slice(lists.left())?;
+    out.extend_from_slice(b" ")?;
+    out.extend_from_slice(lists.right())?;
+    out.extend_from_slice(b" ")?;
+    out.extend_from_slice(lists.local())
 }
 
 fn side_text(side: Dir) -> &'static [u8]

@@ -1,3 +1,5 @@
 pub mod Sorted
 pub mod Texts
 pub mod Closed
+pub mod Tested
+pub mod Bytes

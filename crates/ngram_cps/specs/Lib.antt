@@ -2,5 +2,6 @@ pub mod Limits
 pub mod Listing
 pub mod Words
 pub mod Lists
+pub mod Tests
 pub mod Ngram
 pub mod inside

@@ -1,7 +1,8 @@
 -- Three lists in text, and when they are a closed position set of a table.
-use Rattle.std.specs.Prelude.{◌≡◌, ℕ, ◌+◌, ◌*◌, List, length}
+use Rattle.std.specs.Prelude.{◌≡◌, ℕ, ◌+◌, ◌*◌, ◌≤◌, List, length}
 use Rattle.machine_text.specs.Packed.{Packed, entry_of}
 use Rattle.turing.specs.PositionSet.{Local, IsClosed}
+use Rattle.ngram_cps.specs.Limits.{width_limit, list_byte_limit}
 use Rattle.ngram_cps.specs.Listing.{IsItem}
 use Rattle.ngram_cps.specs.Words.{word_text, local_text, IsWordList, IsLocalList}
 
@@ -21,6 +22,12 @@ pub record AreLists (s : Lists) : Type 0 where
   pub left : IsWordList s.width s.left
   pub right : IsWordList s.width s.right
   pub local : IsLocalList s.states s.width s.local
+
+-- the words are no wider, and the texts together no longer, than they may be
+pub record AreWithin (s : Lists) : Type 0 where
+  pub some : 1 ≤ s.width
+  pub narrow : s.width ≤ width_limit
+  pub short : length s.left + length s.right + length s.local ≤ list_byte_limit
 
 -- a local configuration of this width is in the list
 pub record IsLocalItem (s : Lists) (c : Local) : Type 0 where

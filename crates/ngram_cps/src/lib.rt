@@ -4,12 +4,13 @@
 //! that may stand on the right, and local configurations that may stand around it. Where they hold the blank
 //! tape, and no step of the table leaves them, the table never halts: from the blank tape, and from any other
 //! whose words are all among them. turing's `PositionSet` says so; `specs/` adds what a list is (`Listing`,
-//! `Words`), when three lists are a closed position set of a table (`Lists`) and the limits as numbers
+//! `Words`), when three lists are a closed position set of a table (`Lists`), the same as tests (`Tests`) and the limits as numbers
 //! (`Limits`). `specs/inside` is for the crate's own code.
 #![tactic(auto)]
 
 mod closure;
 mod draft;
+mod laws;
 mod limits;
 mod listing;
 mod local_list;
@@ -17,5 +18,6 @@ mod ngram;
 mod step_text;
 mod word_list;
 
+pub use laws::{list_texts_are_high, lists_are_tested};
 pub use limits::{MAX_LIST_BYTES, MAX_WIDTH};
 pub use ngram::Ngram;

@@ -1,0 +1,5 @@
+use Rattle.ngram_cps.proofs.Tested.{lists_decide}
+use Rattle.ngram_cps.proofs.laws.lists_are_tested.Goals as goal
+
+pub returns : goal.returns
+returns c = lists_decide

@@ -1,0 +1,16 @@
+// What is so of all lists: laws over the definitions, each the contract of a function without a body.
+ghost use Rattle.std.specs.Prelude.{◌≤◌, Decides, All};
+ghost use Rattle.ngram_cps.specs.Lists.{Lists, AreLists};
+ghost use Rattle.ngram_cps.specs.Tests.{are_lists};
+
+/// The test of three texts answers true exactly where they are lists.
+pub fn lists_are_tested()
+    ensures { (s : Lists) → Decides (are_lists s) (AreLists s) }
+{}
+
+/// No byte of a list is below the comma: so it has neither a space nor a newline.
+pub fn list_texts_are_high()
+    ensures left { (s : Lists) → AreLists s → All (λ byte. 44 ≤ byte) s.left }
+    ensures right { (s : Lists) → AreLists s → All (λ byte. 44 ≤ byte) s.right }
+    ensures local { (s : Lists) → AreLists s → All (λ byte. 44 ≤ byte) s.local }
+{}

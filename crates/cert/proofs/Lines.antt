@@ -4,15 +4,16 @@ use Rattle.std.specs.Prelude.{All, codes, decimal}
 use Rattle.std.specs.List.{list_all}
 use Rattle.std.proofs.lemmas.Bool.Decides.{nat_tests}
 use Rattle.std.proofs.lemmas.Fmt.{decimal_by_steps}
-use Rattle.std.proofs.lemmas.List.Elements.{All-append, All-cons, All-nil, All-from_get_or}
+use Rattle.std.proofs.lemmas.List.Elements.{All-append, All-cons, All-nil, All-get_or, All-from_get_or}
 use Rattle.machine_text.specs.declared.transition.Dir.{Dir}
 use Rattle.machine_text.specs.declared.transition.Dir.TheVariants.{L, R}
 use Rattle.machine_text.specs.Packed.{Packed, IsTable}
 use Rattle.machine_text.specs.Text.{text_of}
 use Rattle.machine_text.proofs.RoundTrip.{text_of_from_45}
-use Rattle.cert.specs.Claim.{Claim, HaltsClaim, CycleClaim, TranslatedClaim, BackwardClaim, NoClaim, Recorded, IsWritable, IsWithin, Stands}
+use Rattle.ngram_cps.proofs.Bytes.{AreHigh, lists_are_high}
+use Rattle.cert.specs.Claim.{Claim, HaltsClaim, CycleClaim, TranslatedClaim, BackwardClaim, NgramClaim, NoClaim, Recorded, IsWritable, IsMadeFor, IsWithin, Stands}
 use Rattle.cert.specs.Certified.{IsCertified}
-use Rattle.cert.specs.Grammar.{claim_text, side_text, record_text}
+use Rattle.cert.specs.Grammar.{claim_text, lists_text, side_text, record_text}
 
 abbrev IsOther : ℕ → Type 0
 IsOther byte = byte ≢ 10
@@ -56,6 +57,11 @@ times_line : (front : List ℕ) (i j : ℕ) → IsLine front → i < 2 ^ 64 → 
 times_line front i j none small_i small_j =
     both (front ++ decimal i ++ codes " ") (decimal j) (both (front ++ decimal i) (codes " ") (both front (decimal i) none (decimal_line i small_i)) space) (decimal_line j small_j)
 
+high_line : (text : List ℕ) → AreHigh text → IsLine text
+high_line text high = All-from_get_or (λ b. b ≢ 10) text 0 (λ i below.
+    let above : 44 ≤ get_or text i 0 = All-get_or (λ b. 44 ≤ b) text i 0 below high in
+    omega arith)
+
 claim_line : (c : Claim) → IsWritable c → IsLine (claim_text c)
 claim_line (HaltsClaim k) small = both (codes "H ") (decimal k) (by_test (codes "H ") refl) (decimal_line k small)
 claim_line (CycleClaim i j) small = times_line (codes "C ") i j (by_test (codes "C ") refl) small.0 small.1
@@ -64,6 +70,16 @@ claim_line (TranslatedClaim i j side) small =
     (both (codes "T " ++ decimal i ++ codes " " ++ decimal j) (codes " ") (times_line (codes "T ") i j (by_test (codes "T ") refl) small.0 small.1) space)
     (side_line side)
 claim_line (BackwardClaim d) small = both (codes "B ") (decimal d) (by_test (codes "B ") refl) (decimal_line d small)
+claim_line (NgramClaim s) lists =
+    let narrow = lists.1.narrow in
+    let high = lists_are_high s lists.0 in
+    both (codes "N ") (lists_text s) (by_test (codes "N ") refl)
+    (both (decimal s.width ++ codes " " ++ s.left ++ codes " " ++ s.right ++ codes " ") s.local
+    (both (decimal s.width ++ codes " " ++ s.left ++ codes " " ++ s.right) (codes " ")
+    (both (decimal s.width ++ codes " " ++ s.left ++ codes " ") s.right
+    (both (decimal s.width ++ codes " " ++ s.left) (codes " ")
+    (both (decimal s.width ++ codes " ") s.left (both (decimal s.width) (codes " ") (decimal_line s.width (omega (arith, narrow))) space) (high_line s.left high.left))
+    space) (high_line s.right high.right)) space) (high_line s.local high.local))
 claim_line NoClaim small = by_test (codes "U") refl
 
 pub record_line : (r : Recorded) → IsTable r.table → IsWritable r.claim → IsLine (record_text r)
@@ -77,7 +93,20 @@ writable_within (HaltsClaim k) p within stands = omega arith
 writable_within (CycleClaim i j) p within stands = (omega (arith, stands.order), omega arith)
 writable_within (TranslatedClaim i j side) p within stands = (omega (arith, stands.order), omega arith)
 writable_within (BackwardClaim d) p within stands = omega arith
+writable_within (NgramClaim s) p within stands = (stands.0, within)
 writable_within NoClaim p within stands = tt
 
 pub certified_writable : (r : Recorded) → IsCertified r → IsWritable r.claim
 certified_writable r certified = writable_within r.claim r.table certified.within certified.stands
+
+-- and its lists are made for the table's states
+made_for : (c : Claim) (p : Packed) → Stands c p → IsMadeFor c p.states
+made_for (HaltsClaim k) p stands = tt
+made_for (CycleClaim i j) p stands = tt
+made_for (TranslatedClaim i j side) p stands = tt
+made_for (BackwardClaim d) p stands = tt
+made_for (NgramClaim s) p stands = stands.1.states
+made_for NoClaim p stands = tt
+
+pub certified_made : (r : Recorded) → IsCertified r → IsMadeFor r.claim r.table.states
+certified_made r certified = made_for r.claim r.table certified.stands

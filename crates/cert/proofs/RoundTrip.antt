@@ -1,10 +1,10 @@
 -- Reading the text of a record gives the record again.
-use Rattle.std.proofs.Common.{◌≡◌, ℕ, zero, suc, ◌+◌, ◌-◌, ◌*◌, ◌%◌, ◌^◌, ◌<◌, ◌≤◌, Bool, true, false, eqb, ltb, List, [], ◌∷◌, ◌++◌, length, get_or, Some, Ok, refl, ap, ◌∙◌, append_assoc, length-append, arith}
+use Rattle.std.proofs.Common.{◌≡◌, ℕ, zero, suc, ◌+◌, ◌-◌, ◌*◌, ◌%◌, ◌^◌, ◌<◌, ◌≤◌, Bool, true, false, eqb, ltb, List, [], ◌∷◌, ◌++◌, length, get_or, Some, Ok, refl, ap, subst, ◌∙◌, append_assoc, length-append, arith}
 use Rattle.std.specs.Prelude.{codes, decimal, All}
 use Rattle.std.specs.Str.{bytes_eq}
 use Rattle.std.proofs.lemmas.Bool.Decides.{nat_tests}
 use Rattle.std.proofs.lemmas.Fmt.{decimal_by_steps, length-decimal-le}
-use Rattle.std.proofs.lemmas.List.Elements.{All-append, All-from_get_or}
+use Rattle.std.proofs.lemmas.List.Elements.{All-append, All-get_or, All-from_get_or}
 use Rattle.std.proofs.lemmas.List.Splits.{slice_split_at, slice_split_none}
 use Rattle.std.proofs.lemmas.List.Sums.{fold-append}
 use Rattle.std.proofs.lemmas.Slice.Eq.{bytes_eq-Decides}
@@ -14,9 +14,14 @@ use Rattle.machine_text.specs.Packed.{Packed, IsTable}
 use Rattle.machine_text.specs.Text.{text_of}
 use Rattle.machine_text.proofs.Rows.{length-text_of}
 use Rattle.machine_text.proofs.RoundTrip.{table_of-text_of, text_of_from_45}
+use Rattle.ngram_cps.specs.Limits.{width_limit, list_byte_limit}
+use Rattle.ngram_cps.specs.Lists.{Lists, lists, AreLists, AreWithin}
+use Rattle.ngram_cps.specs.Tests.{are_lists}
+use Rattle.ngram_cps.proofs.Tested.{lists_decide}
+use Rattle.ngram_cps.proofs.Bytes.{AreHigh, AreHighLists, lists_are_high}
 use Rattle.cert.specs.Limits.{record_byte_limit}
-use Rattle.cert.specs.Claim.{Claim, HaltsClaim, CycleClaim, TranslatedClaim, BackwardClaim, NoClaim, Recorded, IsWritable}
-use Rattle.cert.specs.Grammar.{parts_of, worth_of, decimal_value, side_of, side_text, with_field, halts_by, cycle_by, translated_by, backward_by, claim_from, claim_text, record_with, record_after, record_from, record_of, record_text}
+use Rattle.cert.specs.Claim.{Claim, HaltsClaim, CycleClaim, TranslatedClaim, BackwardClaim, NgramClaim, NoClaim, Recorded, IsWritable, IsMadeFor}
+use Rattle.cert.specs.Grammar.{parts_of, worth_of, decimal_value, side_of, side_text, with_field, halts_by, cycle_by, translated_by, backward_by, ngram_by, width_in, lists_claim, claim_from, lists_text, claim_text, record_with, record_after, record_from, record_of, record_text}
 use Rattle.cert.proofs.Worth.{with_digit}
 
 abbrev IsSpace : ℕ → Bool
@@ -90,18 +95,67 @@ fields_of_translated i j side small_i small_j =
     ∙ number_then i (decimal j ++ 32 ∷ side_text side) small_i
     ∙ ap (λ l. decimal i ∷ l) (number_then j (side_text side) small_j ∙ ap (λ l. decimal j ∷ l) (side_part side))
 
-claim_back : (c : Claim) → IsWritable c → claim_from (parts_of (claim_text c)) ≡ Ok c
-claim_back (HaltsClaim k) small =
+-- a list is one part
+high_has_no_space : (text : List ℕ) → AreHigh text → HasNoSpace text
+high_has_no_space text high = All-from_get_or (λ b. IsSpace b ≡ false) text 0 (λ i below.
+    let above : 44 ≤ get_or text i 0 = All-get_or (λ b. 44 ≤ b) text i 0 below high in
+    grind (arith, nat_tests))
+
+in_turn : (d l r c : List ℕ) → d ++ codes " " ++ l ++ codes " " ++ r ++ codes " " ++ c ≡ d ++ 32 ∷ (l ++ 32 ∷ (r ++ 32 ∷ c))
+in_turn d l r c =
+    append_assoc (d ++ codes " " ++ l ++ codes " " ++ r) (codes " ") c
+    ∙ append_assoc (d ++ codes " " ++ l ++ codes " ") r (32 ∷ c)
+    ∙ append_assoc (d ++ codes " " ++ l) (codes " ") (r ++ 32 ∷ c)
+    ∙ append_assoc (d ++ codes " ") l (32 ∷ (r ++ 32 ∷ c))
+    ∙ append_assoc d (codes " ") (l ++ 32 ∷ (r ++ 32 ∷ c))
+
+fields_of_lists : (s : Lists) → AreLists s → s.width < 2 ^ 64 → parts_of (lists_text s) ≡ decimal s.width ∷ (s.left ∷ (s.right ∷ (s.local ∷ [])))
+fields_of_lists s l small =
+    let high = lists_are_high s l in
+    ap parts_of (in_turn (decimal s.width) s.left s.right s.local)
+    ∙ number_then s.width (s.left ++ 32 ∷ (s.right ++ 32 ∷ s.local)) small
+    ∙ ap (λ ps. decimal s.width ∷ ps) (
+        slice_split_at IsSpace s.left 32 (s.right ++ 32 ∷ s.local) (high_has_no_space s.left high.left) refl
+        ∙ ap (λ ps. s.left ∷ ps) (
+            slice_split_at IsSpace s.right 32 s.local (high_has_no_space s.right high.right) refl
+            ∙ ap (λ ps. s.right ∷ ps) (slice_split_none IsSpace s.local (high_has_no_space s.local high.local))))
+
+width_back : (s : Lists) → AreWithin s → width_in (decimal_value (decimal s.width)) ≡ Some s.width
+width_back s within =
+    let narrow = within.narrow in
+    let some = within.some in
+    let least : ltb s.width 1 ≡ false = grind (arith, nat_tests, some) in
+    let most : ltb width_limit s.width ≡ false = grind (arith, nat_tests, narrow) in
+    ap width_in (decimal_value-decimal s.width (omega arith)) ∙ rw (least, most) refl
+
+lists_back : (s : Lists) → AreLists s → AreWithin s → lists_claim s ≡ Ok (NgramClaim s)
+lists_back s l within =
+    let short = within.short in
+    let fits : ltb list_byte_limit (length s.left + length s.right + length s.local) ≡ false = grind (arith, nat_tests, short) in
+    let tested : are_lists s ≡ true = (lists_decide s).1 l in
+    rw (fits, tested) refl
+
+ngram_back : (s : Lists) → AreLists s → AreWithin s → claim_from s.states (parts_of (claim_text (NgramClaim s))) ≡ Ok (NgramClaim s)
+ngram_back s l within =
+    let narrow = within.narrow in
+    ap (ngram_by s.states) (fields_of_lists s l (omega arith))
+    ∙ ap (λ o. with_field o (λ g. lists_claim (lists s.states g s.left s.right s.local))) (width_back s within)
+    ∙ lists_back s l within
+
+claim_back : (c : Claim) (n : ℕ) → IsWritable c → IsMadeFor c n → claim_from n (parts_of (claim_text c)) ≡ Ok c
+claim_back (HaltsClaim k) n small made =
     ap halts_by (number_part k small) ∙ ap (λ o. with_field o (λ k. Ok (HaltsClaim k))) (decimal_value-decimal k small)
-claim_back (CycleClaim i j) small =
+claim_back (CycleClaim i j) n small made =
     ap cycle_by (ap parts_of (append_assoc (decimal i) (codes " ") (decimal j)) ∙ times_parts i j small.0 small.1)
     ∙ rw (decimal_value-decimal i small.0, decimal_value-decimal j small.1) refl
-claim_back (TranslatedClaim i j side) small =
+claim_back (TranslatedClaim i j side) n small made =
     ap translated_by (fields_of_translated i j side small.0 small.1)
     ∙ rw (decimal_value-decimal i small.0, decimal_value-decimal j small.1, side_back side) refl
-claim_back (BackwardClaim d) small =
+claim_back (BackwardClaim d) n small made =
     ap backward_by (number_part d small) ∙ ap (λ o. with_field o (λ d. Ok (BackwardClaim d))) (decimal_value-decimal d small)
-claim_back NoClaim small = refl
+claim_back (NgramClaim s) n lists made =
+    subst (λ n. claim_from n (parts_of (claim_text (NgramClaim s))) ≡ Ok (NgramClaim s)) made (ngram_back s lists.0 lists.1)
+claim_back NoClaim n small made = refl
 
 length_of_number : (n : ℕ) → n < 2 ^ 64 → length (decimal n) ≤ 20
 length_of_number n small = length-decimal-le 20 n (omega arith) (omega arith) small
@@ -110,13 +164,18 @@ length_of_side : (side : Dir) → length (side_text side) ≡ 1
 length_of_side L = refl
 length_of_side R = refl
 
-length_of_claim : (c : Claim) → IsWritable c → length (claim_text c) ≤ 50
+length_of_claim : (c : Claim) → IsWritable c → length (claim_text c) ≤ 49200
 length_of_claim (HaltsClaim k) small = omega (arith, length-append (codes "H ") (decimal k), length_of_number k small)
 length_of_claim (CycleClaim i j) small =
     omega (arith, length-append (codes "C " ++ decimal i ++ codes " ") (decimal j), length-append (codes "C " ++ decimal i) (codes " "), length-append (codes "C ") (decimal i), length_of_number i small.0, length_of_number j small.1)
 length_of_claim (TranslatedClaim i j side) small =
     omega (arith, length-append (codes "T " ++ decimal i ++ codes " " ++ decimal j ++ codes " ") (side_text side), length-append (codes "T " ++ decimal i ++ codes " " ++ decimal j) (codes " "), length-append (codes "T " ++ decimal i ++ codes " ") (decimal j), length-append (codes "T " ++ decimal i) (codes " "), length-append (codes "T ") (decimal i), length_of_number i small.0, length_of_number j small.1, length_of_side side)
 length_of_claim (BackwardClaim d) small = omega (arith, length-append (codes "B ") (decimal d), length_of_number d small)
+length_of_claim (NgramClaim s) lists =
+    let short = lists.1.short in
+    let narrow = lists.1.narrow in
+    let whole = ap length (in_turn (decimal s.width) s.left s.right s.local) in
+    omega (arith, short, whole, length-append (codes "N ") (lists_text s), length-append (decimal s.width) (32 ∷ (s.left ++ 32 ∷ (s.right ++ 32 ∷ s.local))), length-append s.left (32 ∷ (s.right ++ 32 ∷ s.local)), length-append s.right (32 ∷ s.local), length_of_number s.width (omega (arith, narrow)))
 length_of_claim NoClaim small = omega arith
 
 short : (r : Recorded) → IsTable r.table → IsWritable r.claim → length (record_text r) ≤ record_byte_limit
@@ -133,8 +192,8 @@ parts_of-record_text r table =
     ap parts_of (append_assoc (text_of r.table) (codes " ") (claim_text r.claim))
     ∙ slice_split_at IsSpace (text_of r.table) 32 (claim_text r.claim) (text_has_no_space r.table table) refl
 
-pub record_of-record_text : (r : Recorded) → IsTable r.table → IsWritable r.claim → record_of (record_text r) ≡ Ok r
+pub record_of-record_text : (r : Recorded) → IsTable r.table → IsWritable r.claim → IsMadeFor r.claim r.table.states → record_of (record_text r) ≡ Ok r
 unfolding record_of
-record_of-record_text r table writable =
+record_of-record_text r table writable made =
     let fits : ltb record_byte_limit (length (record_text r)) ≡ false = grind (arith, nat_tests, short r table writable) in
-    rw fits (ap record_from (parts_of-record_text r table) ∙ ap (λ t. record_after t (parts_of (claim_text r.claim))) (table_of-text_of r.table table) ∙ ap (record_with r.table) (claim_back r.claim writable))
+    rw fits (ap record_from (parts_of-record_text r table) ∙ ap (λ t. record_after t (parts_of (claim_text r.claim))) (table_of-text_of r.table table) ∙ ap (record_with r.table) (claim_back r.claim r.table.states writable made))

@@ -3,4 +3,5 @@ pub mod Listing
 pub mod Words
 pub mod Lists
 pub mod Ngram
+pub mod Owned
 pub mod inside

@@ -1,7 +1,7 @@
 // Three lists, and the evidence that they are a closed position set.
-ghost use Rattle.std.specs.Prelude.{◌≡◌, ◌+◌, ◌*◌, ◌≤◌};
+ghost use Rattle.std.specs.Prelude.{◌≡◌, ◌+◌, ◌*◌, ◌≤◌, length};
 ghost use Rattle.machine_text.specs.Limits.{state_limit};
-ghost use Rattle.ngram_cps.specs.Limits.{width_limit};
+ghost use Rattle.ngram_cps.specs.Limits.{width_limit, list_byte_limit};
 ghost use Rattle.ngram_cps.specs.Words.{AreWords, AreLocals};
 
 use crate::limits::{MAX_LIST_BYTES, MAX_WIDTH};
@@ -24,6 +24,7 @@ pub struct Ngram<'a> {
     pub(crate) right: Listing<'a>,
     pub(crate) local: Listing<'a>,
     ghost limits: { (1 ≤ width) × (width ≤ width_limit) × (states ≤ state_limit) },
+    ghost short: { length left.text.now + length right.text.now + length local.text.now ≤ list_byte_limit },
     ghost widths: { (left.width ≡ width) × (right.width ≡ width) × (local.width ≡ 2 * width + 2) },
     ghost left_words: { AreWords width left.count left.text.now },
     ghost right_words: { AreWords width right.count right.text.now },
@@ -31,8 +32,7 @@ pub struct Ngram<'a> {
 }
 
 impl<'a> Ngram<'a> {
-    ghost use Rattle.std.specs.Prelude.{◌↔◌, length, IsTrue, IfSome, IfNone};
-    ghost use Rattle.ngram_cps.specs.Limits.{list_byte_limit};
+    ghost use Rattle.std.specs.Prelude.{◌↔◌, IsTrue, IfSome, IfNone};
     ghost use Rattle.ngram_cps.specs.Lists.{lists, AreLists, IsPositionSet};
     ghost use Rattle.ngram_cps.specs.Ngram.{lists_of};
 
@@ -84,6 +84,7 @@ impl<'a> Ngram<'a> {
     pub fn states(&self) -> u8
         ensures states { result ≡ (lists_of self.now).states }
         ensures lists { AreLists (lists_of self.now) }
+        ensures short { length (lists_of self.now).left + length (lists_of self.now).right + length (lists_of self.now).local ≤ list_byte_limit }
     {
         self.states
     }

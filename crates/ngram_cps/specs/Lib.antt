@@ -4,4 +4,5 @@ pub mod Words
 pub mod Lists
 pub mod Tests
 pub mod Ngram
+pub mod Owned
 pub mod inside

@@ -15,9 +15,11 @@ mod limits;
 mod listing;
 mod local_list;
 mod ngram;
+mod owned;
 mod step_text;
 mod word_list;
 
 pub use laws::{list_texts_are_high, lists_are_tested};
 pub use limits::{MAX_LIST_BYTES, MAX_WIDTH};
 pub use ngram::Ngram;
+pub use owned::OwnedNgram;

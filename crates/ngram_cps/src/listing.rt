@@ -1,5 +1,6 @@
 // A sorted list in a text, which is looked up where it stands.
 ghost use Rattle.std.specs.Prelude.{◌≡◌, ◌↔◌, ◌+◌, ◌*◌, ◌<◌, ◌≤◌, length, IsTrue, IfSome, IfNone, ℕ};
+ghost use Rattle.ngram_cps.specs.Limits.{list_byte_limit};
 ghost use Rattle.ngram_cps.specs.Listing.{item, IsListing, IsItem};
 
 use std::cmp::Ordering;
@@ -29,6 +30,14 @@ impl<'a> Listing<'a> {
             return None;
         }
         Some(Listing { text, width, count })
+    }
+
+    // How many items there are, as a small number.
+    pub fn small_count(&self) -> u16
+        requires { length self.now.text.now ≤ list_byte_limit }
+        ensures { result ≡ self.now.count }
+    {
+        self.count as u16
     }
 
     pub fn item(&self, k: usize) -> &'a [u8]

@@ -4,3 +4,4 @@ pub mod RoundTrip
 pub mod TrueClaims
 pub mod Lines
 pub mod Refusals
+pub mod ThreeLists

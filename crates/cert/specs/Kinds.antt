@@ -1,7 +1,8 @@
 -- What the certificates and records of the code claim.
 use Rattle.cert.specs.Claim.{Claim, HaltsClaim, CycleClaim, TranslatedClaim, BackwardClaim, NgramClaim, NoClaim, Recorded}
 use Rattle.std.specs.Prelude.{Result, Ok, Err}
-use Rattle.ngram_cps.specs.Ngram.{lists_of, owned_lists}
+use Rattle.ngram_cps.specs.Ngram.{lists_of}
+use Rattle.ngram_cps.specs.Owned.{owned_lists}
 use Rattle.cert.specs.declared.certificate.Certificate.{Certificate}
 use Rattle.cert.specs.declared.certificate.Certificate.TheVariants.{Halts, Cycle, Translated, Backward, Ngram, Undecided}
 use Rattle.cert.specs.declared.certificate.OwnedCertificate.{OwnedCertificate}
@@ -23,7 +24,7 @@ owned_claim (OwnedHalts e) = HaltsClaim e.0
 owned_claim (OwnedCycle e) = CycleClaim e.i e.j
 owned_claim (OwnedTranslated e) = TranslatedClaim e.i e.j e.side
 owned_claim (OwnedBackward e) = BackwardClaim e.depth
-owned_claim (OwnedNgram e) = NgramClaim (owned_lists e)
+owned_claim (OwnedNgram e) = NgramClaim (owned_lists e.value)
 owned_claim OwnedUndecided = NoClaim
 
 abbrev pub recorded : Record → Recorded

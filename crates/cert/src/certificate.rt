@@ -67,7 +67,7 @@ impl OwnedCertificate {
             Certificate::Translated(evidence) => OwnedCertificate::Translated(evidence),
             Certificate::Backward(evidence) => OwnedCertificate::Backward(evidence),
             Certificate::Ngram(evidence) => {
-                OwnedCertificate::Ngram(boxed(alloc, OwnedNgram::of(alloc, &evidence)?)?)
+                OwnedCertificate::Ngram(Box::new(alloc, OwnedNgram::of(alloc, &evidence)?)?)
             }
             Certificate::Undecided => OwnedCertificate::Undecided,
         })

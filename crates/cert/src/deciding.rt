@@ -6,7 +6,7 @@ ghost use Rattle.cert.specs.Kinds.{owned_recorded};
 use crate::certificate::OwnedCertificate;
 use crate::finder::Finder;
 use crate::judgement::judge;
-use crate::record::OwnedRecord;
+use crate::record::{OwnedRecord, Record};
 use machine_text::Table;
 use run::{NoMemory, Refused};
 use std::alloc::{AllocError, Global};
@@ -45,7 +45,12 @@ pub fn decide(
 fn is_decided(alloc: Global, r: &OwnedRecord) -> Result<bool, NoMemory>
     ensures { IfOk result (λ decided. decided ≡ true → IsCertified (owned_recorded r.now)) }
 {
-    match judge(alloc, &r.lent()) {
+    // The parts by their names: the borrow checker's proof has to know of what the record is made.
+    let record = Record {
+        table: r.table,
+        certificate: r.certificate.lent(),
+    };
+    match judge(alloc, &record) {
         Ok(verdict) => Ok(verdict.is_some()),
         Err(Refused::NoMemory) => Err(AllocError),
         Err(_) => Ok(false),

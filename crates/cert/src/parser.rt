@@ -44,7 +44,7 @@ fn with_certificate(
     table: Table,
     certificate: Result<Certificate<'_>, RecordFault>,
 ) -> Result<Record<'_>, RecordFault>
-    ensures { read_as result ≡ record_with table (claimed_as certificate) }
+    ensures { read_as result ≡ record_with table (claimed_as certificate.entry) }
 {
     match certificate {
         Ok(certificate) => Ok(Record { table, certificate }),

@@ -106,10 +106,7 @@ fn append_claim(c: &Certificate, out: &mut Vec<u8>) -> Result<(), NoMemory>
             out.extend_from_slice(b"B ")?;
             append_number(evidence.depth, out)
         }
-        Certificate::Ngram(evidence) => {
-            out.extend_from_slice(b"N ")?;
-            append_lists(evidence, out)
-        }
+        Certificate::Ngram(evidence) => append_lists(evidence, out),
         Certificate::Undecided => out.extend_from_slice(b"U"),
     }
 }
@@ -124,11 +121,12 @@ fn append_times(i: u64, j: u64, out: &mut Vec<u8>) -> Result<(), NoMemory>
     append_number(j, out)
 }
 
-// Appends a width and three lists.
+// Appends the kind, a width and three lists.
 fn append_lists(lists: &Ngram, out: &mut Vec<u8>) -> Result<(), NoMemory>
-    ensures ok { OnOk result (out.new.items ≡ out.old.items ++ lists_text (lists_of lists.now)) }
+    ensures ok { OnOk result (out.new.items ≡ out.old.items ++ codes "N " ++ lists_text (lists_of lists.now)) }
     ensures kept { take (length out.old.items) out.new.items ≡ out.old.items }
 {
+    out.extend_from_slice(b"N ")?;
     append_number(u64::from(lists.width()), out)?;
     out.extend_from_slice(b" ")?;
     out.extend_from_slice(lists.left())?;

@@ -8,6 +8,7 @@ pub record IsWithinRange (s : Search) : Type 0 where
   pub some_steps : 1 ≤ s.steps
   pub steps : s.steps ≤ 100000000
   pub depth : s.depth ≤ 1000
+  pub gram : s.gram ≤ 8
 
 abbrev pub AreWithinRanges : Options → Type 0
 AreWithinRanges Check = Unit {0}

@@ -1,5 +1,5 @@
 // The command line, by clap's builder.
-ghost use Rattle.std.specs.Prelude.{◌↔◌, ◌≤◌, IsTrue, IfOk};
+ghost use Rattle.std.specs.Prelude.{◌≤◌, IfOk};
 ghost use Rattle.bb.specs.Ranges.{AreWithinRanges, IsWithinRange};
 
 use crate::line_fault::LineFault;
@@ -26,18 +26,26 @@ pub fn options<'a>(alloc: Global, words: &'a [&'a str]) -> Result<Options<'a>, L
 fn search_of(matches: &ArgMatches<'_>) -> Result<Search, LineFault>
     ensures { IfOk result IsWithinRange }
 {
-    match (matches.get_one::<u64>(STEPS), matches.get_one::<u64>(DEPTH)) {
-        (Some(steps), Some(depth)) if is_within(1, steps, 100_000_000) && depth <= 1_000 => {
-            Ok(Search { steps, depth })
-        }
-        _ => Err(LineFault::OutOfRange),
-    }
+    Ok(Search {
+        steps: number_of(matches, STEPS, 1, 100_000_000)?,
+        depth: number_of(matches, DEPTH, 0, 1_000)?,
+        gram: number_of(matches, GRAM, 0, 8)?,
+    })
 }
 
-fn is_within(least: u64, number: u64, most: u64) -> bool
-    ensures { IsTrue result ↔ ((least ≤ number) × (number ≤ most)) }
+// The number of an option.
+fn number_of(
+    matches: &ArgMatches<'_>,
+    name: &str,
+    least: u64,
+    most: u64,
+) -> Result<u64, LineFault>
+    ensures { IfOk result (λ number. (least ≤ number) × (number ≤ most)) }
 {
-    least <= number && number <= most
+    match matches.get_one::<u64>(name) {
+        Some(number) if least <= number && number <= most => Ok(number),
+        _ => Err(LineFault::OutOfRange),
+    }
 }
 
 fn report_options<'a>(report: &ArgMatches<'a>) -> Options<'a>
@@ -95,12 +103,22 @@ fn decide_command<'a>(alloc: Global) -> Result<Command<'a>, NoMemory> {
                 .value_parser(value_parser!(u64).range(0..=1_000))
                 .default_value("20")
                 .help("Greatest depth of backward reasoning"),
+        )?
+        .arg(
+            Arg::new(alloc, GRAM)
+                .long(GRAM)
+                .value_name("G")
+                .value_parser(value_parser!(u64).range(0..=8))
+                .default_value("3")
+                .help("Greatest width of words in closed position sets; 0 for none"),
         )
 }
 
 const STEPS: &str = "steps";
 
 const DEPTH: &str = "depth";
+
+const GRAM: &str = "gram";
 
 const FILE: &str = "FILE";
 
@@ -140,7 +158,7 @@ or a stream failed (`refused 603`).";
 const DECIDE: &str =
     "A line is a table in the bbchallenge standard format. Its record has the first certificate that is
 found and stands, looked for in this order: that it halts, a cycle, a translated cycle, backward
-reasoning; or `U`, undecided. A text that is no table is answered `refused 301` with its fault, as by
+reasoning, a closed position set; or `U`, undecided. A text that is no table is answered `refused 301` with its fault, as by
 `bb check`, and a line over 65,536 bytes `refused 305`. `bb decide | bb check` checks what was found.
 
 Exit status: 0 each line was a table; 1 some wasn't; 2 a wrong command line; 3 out of memory
@@ -152,6 +170,9 @@ const RECORDS: &str =
   C i j       the configurations at the times i and j are equal; j up to 10,000,000
   T i j side  they are, but for a shift to that side (L or R) and for what lies behind it
   B d         it does d steps, and no configuration at all halts after exactly d; d up to 1,000
+  N g L R C   no step leaves these words of g symbols on the left and on the right of the head, and these
+              local configurations; g from 1 to 8, each list sorted and joined by commas, and the three
+              together up to 49,152 bytes
   U           nothing is claimed
 
 An answer is one of
@@ -164,8 +185,9 @@ An answer is one of
   refused 301 F P    no table: its fault is F (101 length, 102 bar, 103 symbol, 104 direction,
                      105 state), at place P
   refused 302        no such kind, or another number of fields
-  refused 303        no number, or no side
-  refused 305        the line is too long
+  refused 303        no number, no side, or a width that isn't from 1 to 8
+  refused 304        no list
+  refused 305        the line is too long, or the lists are
 
 Exit status: 0 all accepted; 1 a line was refused; 2 a wrong command line; 3 out of memory
 (`refused memory` on standard error); 4 a stream failed (`refused 603`).";

@@ -8,6 +8,7 @@ use backward::BackwardFinder;
 use cert::{Finder, Finders};
 use commands::{Ended, Opened, Options, Outcome, Search, cmd_check, cmd_decide, cmd_report};
 use loops::{CycleFinder, TranslatedFinder};
+use ngram_cps::NgramFinder;
 use run::{HaltFinder, NoMemory};
 use std::alloc::Global;
 use std::io::{self, Read, Write};
@@ -71,6 +72,7 @@ fn decide_with<R: Read, W: Write, E: Write>(
     finders.push(Box::new(alloc, CycleFinder::new(alloc, steps))?)?;
     finders.push(Box::new(alloc, TranslatedFinder::new(alloc, steps))?)?;
     finders.push(Box::new(alloc, BackwardFinder::new(alloc, search.depth))?)?;
+    finders.push(Box::new(alloc, NgramFinder::new(alloc, search.gram))?)?;
     let mut decider = Finders::new(finders, steps);
     Ok(cmd_decide(alloc, &mut decider, input, answers, faults))
 }

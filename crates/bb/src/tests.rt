@@ -173,6 +173,12 @@ fn each_command_line_ends_with_its_outcome(rt: HostRuntime) -> Result<(), Fail> 
             false,
             true,
         ),
+        (
+            ["bb", "decide", "--gram", "9"].as_slice(),
+            Outcome::BadLine,
+            false,
+            true,
+        ),
     ] {
         let said = ended(rt.alloc(), words, (false, false))?;
         assert!(rt; said == (outcome, answers, faults), "{words:?}: {said:?}");
@@ -192,14 +198,14 @@ fn options_are_read_from_the_words(rt: HostRuntime) {
             ["bb", "report", "--why", "some file"].as_slice(),
             report(true),
         ),
-        (["bb", "decide"].as_slice(), search(1_000, 20)),
+        (["bb", "decide"].as_slice(), search(1_000, 20, 3)),
         (
-            ["bb", "decide", "--depth", "0", "--steps", "100000000"].as_slice(),
-            search(100_000_000, 0),
+            ["bb", "decide", "--depth", "0", "--steps", "100000000", "--gram", "0"].as_slice(),
+            search(100_000_000, 0, 0),
         ),
         (
-            ["bb", "decide", "--depth", "1000", "--steps", "1"].as_slice(),
-            search(1, 1_000),
+            ["bb", "decide", "--gram", "8", "--depth", "1000", "--steps", "1"].as_slice(),
+            search(1, 1_000, 8),
         ),
     ] {
         match options(rt.alloc(), words) {
@@ -216,8 +222,8 @@ fn report(why: bool) -> Options<'static> {
     }
 }
 
-fn search(steps: u64, depth: u64) -> Options<'static> {
-    Options::Decide(Search { steps, depth })
+fn search(steps: u64, depth: u64, gram: u64) -> Options<'static> {
+    Options::Decide(Search { steps, depth, gram })
 }
 
 // What the words of a line couldn't be read for is a wrong line, or refused memory.

@@ -115,10 +115,10 @@ fields_of_lists s l small =
     ap parts_of (in_turn (decimal s.width) s.left s.right s.local)
     ∙ number_then s.width (s.left ++ 32 ∷ (s.right ++ 32 ∷ s.local)) small
     ∙ ap (λ ps. decimal s.width ∷ ps) (
-        slice_split_at IsSpace s.left 32 (s.right ++ 32 ∷ s.local) (high_has_no_space s.left high.left) refl
-        ∙ ap (λ ps. s.left ∷ ps) (
-            slice_split_at IsSpace s.right 32 s.local (high_has_no_space s.right high.right) refl
-            ∙ ap (λ ps. s.right ∷ ps) (slice_split_none IsSpace s.local (high_has_no_space s.local high.local))))
+    slice_split_at IsSpace s.left 32 (s.right ++ 32 ∷ s.local) (high_has_no_space s.left high.left) refl
+    ∙ ap (λ ps. s.left ∷ ps) (
+    slice_split_at IsSpace s.right 32 s.local (high_has_no_space s.right high.right) refl
+    ∙ ap (λ ps. s.right ∷ ps) (slice_split_none IsSpace s.local (high_has_no_space s.local high.local))))
 
 width_back : (s : Lists) → AreWithin s → width_in (decimal_value (decimal s.width)) ≡ Some s.width
 width_back s within =

@@ -5,7 +5,7 @@
 pub enum Options<'a> {
     /// `bb check`
     Check,
-    /// `bb decide [--steps K] [--depth D]`
+    /// `bb decide [--steps K] [--depth D] [--gram G]`
     Decide(Search),
     /// `bb report FILE [--why]`
     Report {
@@ -23,4 +23,6 @@ pub struct Search {
     pub steps: u64,
     /// The depth of backward reasoning: 0 to 1,000.
     pub depth: u64,
+    /// The greatest width of words in position sets: 0 to 8, where 0 asks for none.
+    pub gram: u64,
 }

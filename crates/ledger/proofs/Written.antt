@@ -7,7 +7,7 @@ use Rattle.machine_text.proofs.RoundTrip.{table_of-text_of}
 use Rattle.tree.proofs.TableLaws.{tree_alike, tree_table_child}
 use Rattle.cert.specs.Claim.{Recorded}
 use Rattle.cert.specs.Grammar.{record_text}
-use Rattle.cert.proofs.Lines.{by_test, text_line, record_line, certified_writable}
+use Rattle.cert.proofs.Lines.{by_test, text_line, record_line, certified_writable, certified_made}
 use Rattle.cert.proofs.RoundTrip.{record_of-record_text}
 use Rattle.ledger.specs.Contents.{IsBoard}
 use Rattle.ledger.specs.Held.{AreFitAfter, IsHeld}
@@ -27,7 +27,7 @@ all_taken root earlier (r ∷ rs) table held fit =
       r,
       earlier ++ (r ∷ []),
       record_line r is_table writable,
-      record_of-record_text r is_table writable,
+      record_of-record_text r is_table writable (certified_made r certified),
       inl (fit.0, refl),
       subst (λ (l : List Recorded). AreTaken root (earlier ++ (r ∷ [])) (map record_text rs) l) (append_assoc earlier (r ∷ []) rs) rest,
     )

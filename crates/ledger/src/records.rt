@@ -39,7 +39,7 @@ impl<'a> Records<'a> {
 }
 
 impl<'a> Iterator for Records<'a> {
-    type Item = Record;
+    type Item = Record<'a>;
 
     ghost use Rattle.std.specs.Iterator.{item_count};
     ghost use Rattle.ledger.specs.Lent.{GivesRecord};
@@ -48,7 +48,7 @@ impl<'a> Iterator for Records<'a> {
 
     ghost remaining = { item_count (λ left. left) };
 
-    fn next(&mut self) -> Option<Record> {
+    fn next(&mut self) -> Option<Record<'a>> {
         let (table, kept) = self.left.next()?;
         Some(Record {
             table: *table,

@@ -169,6 +169,46 @@ fn backward_reasoning(rt: HostRuntime) -> Result<(), Fail> {
 
 // 47,176,870 steps: a quarter of a second as built, too long for a trial run.
 #[test]
+fn closed_position_sets(rt: HostRuntime) -> Result<(), Fail> {
+    rows(
+        &rt,
+        rt.alloc(),
+        &[
+            ("1RA--- N 1 0,1 0 0A00,1A00", "1RA--- never"),
+            ("1RA--- N 1 0 0 0A00,1A00", "refused 201"),
+            ("1RA--- N 1 1,0 0 0A00,1A00", "refused 304"),
+            ("1RA--- N 9 0 0 0A00", "refused 303"),
+            ("0RB---_0LA--- N 1 0 0 0A00,0B00", "0RB---_0LA--- never"),
+            ("0RB---_0LA--- N 1 0 0 0A00", "refused 201"),
+            ("0RB---_0LA--- N 1 0 0 0A00,0C00", "refused 304"),
+        ],
+    )
+}
+
+// The width is judged first, then how long the lists are together, and then each of them.
+#[test]
+fn long_lists_are_refused(rt: HostRuntime) -> Result<(), Fail> {
+    let alloc = rt.alloc();
+    for (width, letters, answer) in [
+        ("1", 49_148, b"refused 305\n"),
+        ("1", 49_147, b"refused 304\n"),
+        ("9", 49_148, b"refused 303\n"),
+        ("9", 49_147, b"refused 303\n"),
+    ] {
+        let mut input = Vec::new(alloc);
+        input.extend_from_slice(b"1RA--- N ")?;
+        input.extend_from_slice(width.as_bytes())?;
+        input.extend_from_slice(b" 0 ")?;
+        for _ in 0..letters {
+            input.push(b'x')?;
+        }
+        input.extend_from_slice(b" 0A00\n")?;
+        checked(&rt, alloc, &input, 4096, answer, Outcome::Refused);
+    }
+    Ok(())
+}
+
+#[test]
 fn the_five_state_champion_halts(rt: HostRuntime) {
     let input = b"1RB1LC_1RC1RB_1RD0LE_1LA1LD_---0LA H 47176870";
     let answers = b"1RB1LC_1RC1RB_1RD0LE_1LA1LD_---0LA halts 47176870\n";

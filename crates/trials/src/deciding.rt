@@ -6,6 +6,7 @@ use cert::{Certificate, Finder, Finders, OwnedCertificate, decide};
 use commands::{Outcome, cmd_decide};
 use loops::{CycleFinder, TranslatedFinder};
 use machine_text::Table;
+use ngram_cps::NgramFinder;
 use run::{HaltFinder, HaltsIn, NoMemory};
 use std::alloc::Global;
 use std::process::Abort;
@@ -64,6 +65,10 @@ fn each_finder_alone_gives_its_kind(rt: HostRuntime) -> Result<(), Fail> {
     finders.push(Box::new(alloc, BackwardFinder::new(alloc, 20))?)?;
     let record = decide(alloc, &mut finders, &table_of(&rt, "1RB---_0RB1RB"), 100)?;
     assert!(rt; matches!(record.lent().certificate, Certificate::Backward(_)));
+    let mut finders: Vec<Box<dyn Finder>> = Vec::new(alloc);
+    finders.push(Box::new(alloc, NgramFinder::new(alloc, 1))?)?;
+    let record = decide(alloc, &mut finders, &table_of(&rt, "1RA---"), 100)?;
+    assert!(rt; matches!(record.lent().certificate, Certificate::Ngram(_)));
     Ok(())
 }
 

@@ -34,6 +34,15 @@ fn records_are_read_or_refused(rt: HostRuntime) {
         ("1RA--- C 0 01", Some(RecordFault::BadNumber)),
         ("1RA--- B", Some(RecordFault::BadKind)),
         ("1RA--- B -1", Some(RecordFault::BadNumber)),
+        ("1RA--- N 1 0,1 0", Some(RecordFault::BadKind)),
+        ("1RA--- N 1 0,1 0 0A00,1A00 ", Some(RecordFault::BadKind)),
+        ("1RA--- N 0 0,1 0 0A00,1A00", Some(RecordFault::BadNumber)),
+        ("1RA--- N 01 0,1 0 0A00,1A00", Some(RecordFault::BadNumber)),
+        ("1RA--- N 9 0 0 0A00", Some(RecordFault::BadNumber)),
+        ("1RA--- N 1 1,0 0 0A00,1A00", Some(RecordFault::BadList)),
+        ("1RA--- N 1 0,1  0A00,1A00", Some(RecordFault::BadList)),
+        ("1RA--- N 1 0,1 0 0A00,1B00", Some(RecordFault::BadList)),
+        ("1RA--- N 1 0,1 0 0A00,1A00", None),
         ("1RA--- T 0 1 R", None),
         ("1RA--- T 0 1 L", None),
         ("1RA--- C 1 0", None),
@@ -69,6 +78,7 @@ fn records_are_written_in_their_printed_form(rt: HostRuntime) -> Result<(), Fail
         ("1RA--- T 12 345 L", "1RA--- T 12 345 L"),
         ("1RA--- T 0 1 R", "1RA--- T 0 1 R"),
         ("1RA--- B 7", "1RA--- B 7"),
+        ("1RA1RH N 1 0,1 0 0A00,1A00", "1RA--- N 1 0,1 0 0A00,1A00"),
     ] {
         match Record::parse(text.as_bytes()) {
             Ok(record) => {
@@ -107,14 +117,18 @@ fn certificates_are_judged(rt: HostRuntime) {
         ("1RB---_0RB1RB B 1", Ok(Some(Verdict::Never))),
         ("1RB---_0RB1RB B 0", Err(Refused::Fails)),
         ("1RB---_0RB1RB B 1001", Err(Refused::TooLong)),
+        ("1RA--- N 1 0,1 0 0A00,1A00", Ok(Some(Verdict::Never))),
+        ("1RA--- N 1 0 0 0A00,1A00", Err(Refused::Fails)),
     ] {
         match Record::parse(text.as_bytes()) {
             Ok(record) => {
                 let mut judged = judge(rt.alloc(), &record);
-                // Memory may be refused once, but not to a record that claims nothing.
-                if judged == Err(Refused::NoMemory)
-                    && record.certificate != Certificate::Undecided
-                {
+                // Memory may be refused once, but not to a record of lists or one that claims nothing.
+                let takes_none = matches!(
+                    record.certificate,
+                    Certificate::Ngram(_) | Certificate::Undecided
+                );
+                if judged == Err(Refused::NoMemory) && !takes_none {
                     judged = judge(rt.alloc(), &record);
                 }
                 assert!(rt; judged == answer, "{text}");

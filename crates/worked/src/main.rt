@@ -5,6 +5,7 @@ use backward::BackwardFinder;
 use cert::{Finder, Finders};
 use commands::{Opened, Outcome, cmd_check, cmd_decide, cmd_report};
 use loops::{CycleFinder, TranslatedFinder};
+use ngram_cps::NgramFinder;
 use run::HaltFinder;
 use std::fs::{self, OpenFile};
 use std::io;
@@ -16,6 +17,8 @@ const CHECKED: [&str; 1] = ["champions.txt"];
 const STEPS: u64 = 1_000;
 
 const DEPTH: u64 = 20;
+
+const WIDTH: u64 = 3;
 
 const REPORTED: [(&str, bool); 2] = [("one-state.ledger", false), ("two-states.ledger", true)];
 
@@ -51,6 +54,7 @@ fn decided(rt: &HostRuntime, name: &str) -> io::Result<()> {
     finders.push(Box::new(alloc, CycleFinder::new(alloc, STEPS))?)?;
     finders.push(Box::new(alloc, TranslatedFinder::new(alloc, STEPS))?)?;
     finders.push(Box::new(alloc, BackwardFinder::new(alloc, DEPTH))?)?;
+    finders.push(Box::new(alloc, NgramFinder::new(alloc, WIDTH))?)?;
     let mut tables = fs::open(rt, name)?;
     let mut decider = Finders::new(finders, STEPS);
     let outcome = cmd_decide(

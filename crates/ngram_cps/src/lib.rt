@@ -8,17 +8,27 @@
 //! (`Limits`). `specs/inside` is for the crate's own code.
 #![tactic(auto)]
 
+mod arrival;
+mod bit_set;
 mod closure;
 mod draft;
+mod finder;
 mod laws;
+mod least_set;
 mod limits;
+mod list_texts;
 mod listing;
 mod local_list;
+mod member;
+mod members;
 mod ngram;
 mod owned;
+mod side;
 mod step_text;
+mod word;
 mod word_list;
 
+pub use finder::NgramFinder;
 pub use laws::{list_texts_are_high, lists_are_tested};
 pub use limits::{MAX_LIST_BYTES, MAX_WIDTH};
 pub use ngram::Ngram;

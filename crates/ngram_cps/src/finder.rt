@@ -1,0 +1,116 @@
+// The search for a closed position set.
+ghost use Rattle.std.specs.Prelude.{◌≡◌, ◌+◌, ◌≤◌, min, length, IfSome, IfOk};
+ghost use Rattle.ngram_cps.specs.Limits.{width_limit, list_byte_limit};
+ghost use Rattle.ngram_cps.specs.Lists.{AreLists, IsPositionSet};
+ghost use Rattle.ngram_cps.specs.Owned.{owned_lists};
+
+use crate::least_set::LeastSet;
+use crate::limits::{MAX_LIST_BYTES, MAX_WIDTH};
+use crate::list_texts::ListTexts;
+use crate::ngram::Ngram;
+use crate::owned::OwnedNgram;
+use crate::word::Width;
+use machine_text::Table;
+use run::NoMemory;
+use std::alloc::Global;
+
+// How many members the sets of a search may have for each step of the budget, all widths together. The sets
+// of the widths up to `MAX_WIDTH` for which the lists have room have less than 32,000 members together, so
+// 1,000 steps are enough for each of them.
+const MEMBERS_PER_STEP: u64 = 32;
+
+/// Searches closed position sets.
+#[derive(Drop)]
+pub struct NgramFinder {
+    alloc: Global,
+    pub width: u64,
+    // Kept from table to table.
+    set: LeastSet,
+    texts: ListTexts,
+}
+
+impl NgramFinder {
+    /// A finder of sets of the widths up to this, and of none beyond `MAX_WIDTH`. Takes no memory.
+    pub fn new(alloc: Global, width: u64) -> NgramFinder
+        ensures { result.width ≡ width }
+    {
+        NgramFinder {
+            alloc,
+            width,
+            set: LeastSet::new(alloc),
+            texts: ListTexts::new(alloc),
+        }
+    }
+
+    /// A closed position set of the table within the finder's width; none where it finds none. What it gives
+    /// stands, and is within the limits.
+    ///
+    /// For each width from 1 on it computes the least set that holds the blank tape and that no step leaves,
+    /// and gives the first in which no member halts. It gives up a width where the lists would be longer
+    /// than `MAX_LIST_BYTES`, and the search where its sets have had 32 members for each step of the budget.
+    /// It takes time in proportion to the members. No contract says what is found or how long it takes.
+    pub fn search(&mut self, t: &Table, budget: u64) -> Result<Option<OwnedNgram>, NoMemory>
+        ensures found { IfOk result (λ o. IfSome o (λ e. IsPositionSet (owned_lists e) t.now)) }
+        ensures lists { IfOk result (λ o. IfSome o (λ e. AreLists (owned_lists e))) }
+        ensures width { IfOk result (λ o. IfSome o (λ e. (owned_lists e).width ≤ min self.old.width width_limit)) }
+        ensures short { IfOk result (λ o. IfSome o (λ e.
+            length (owned_lists e).left + length (owned_lists e).right + length (owned_lists e).local ≤ list_byte_limit)) }
+        ensures same { self.new.width ≡ self.old.width }
+    {
+        let widest = self.width.min(MAX_WIDTH as u64) as u8;
+        let mut members = budget.saturating_mul(MEMBERS_PER_STEP);
+        for symbols in 1..=widest {
+            let found = self.search_width(t, Width { symbols }, members)?;
+            if found.is_some() {
+                return Ok(found);
+            }
+            members = members.saturating_sub(self.set.members.count() as u64);
+        }
+        Ok(None)
+    }
+
+    // A closed position set of a width, with so many members at most.
+    fn search_width(
+        &mut self,
+        t: &Table,
+        width: Width,
+        members: u64,
+    ) -> Result<Option<OwnedNgram>, NoMemory>
+        ensures found { IfOk result (λ o. IfSome o (λ e. IsPositionSet (owned_lists e) t.now)) }
+        ensures lists { IfOk result (λ o. IfSome o (λ e. AreLists (owned_lists e))) }
+        ensures width { IfOk result (λ o. IfSome o (λ e. (owned_lists e).width ≡ width.symbols)) }
+        ensures short { IfOk result (λ o. IfSome o (λ e.
+            length (owned_lists e).left + length (owned_lists e).right + length (owned_lists e).local ≤ list_byte_limit)) }
+        ensures same { self.new.width ≡ self.old.width }
+    {
+        // A member and its comma have so many bytes.
+        let item = 2 * width.symbols as usize + 3;
+        let limit = members.min((MAX_LIST_BYTES / item) as u64) as usize;
+        if !self.set.close(t, width, limit)? {
+            return Ok(None);
+        }
+        self.texts.write(&mut self.set, width)?;
+        self.checked(t, width)
+    }
+
+    // The lists that the texts are, if they are a closed position set.
+    fn checked(&self, t: &Table, width: Width) -> Result<Option<OwnedNgram>, NoMemory>
+        ensures found { IfOk result (λ o. IfSome o (λ e. IsPositionSet (owned_lists e) t.now)) }
+        ensures lists { IfOk result (λ o. IfSome o (λ e. AreLists (owned_lists e))) }
+        ensures width { IfOk result (λ o. IfSome o (λ e. (owned_lists e).width ≡ width.symbols)) }
+        ensures short { IfOk result (λ o. IfSome o (λ e.
+            length (owned_lists e).left + length (owned_lists e).right + length (owned_lists e).local ≤ list_byte_limit)) }
+    {
+        let ListTexts { left, right, local } = &self.texts;
+        if !Ngram::are_short(left, right, local) {
+            return Ok(None);
+        }
+        let Some(lists) = Ngram::new(t.states(), width.symbols, left, right, local) else {
+            return Ok(None);
+        };
+        if !lists.holds(t) {
+            return Ok(None);
+        }
+        Ok(Some(OwnedNgram::of(self.alloc, &lists)?))
+    }
+}

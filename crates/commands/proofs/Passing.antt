@@ -30,7 +30,7 @@ pub line_passed : (h1 h2 h3 : Option (List ℕ)) (p1 p2 with_line p3 done line :
     → Passes h1 p1 h3 p3 (done ++ line)
 line_passed h1 h2 h3 p1 p2 with_line p3 done line x is y =
     subst (Passes h1 p1 h3 p3) (append-nil (done ++ line))
-      (passes_on h1 h2 h3 p1 with_line p3 (done ++ line) [] (passes_on h1 h2 h2 p1 p2 with_line done line x (only_appended h2 p2 with_line line is)) y)
+    (passes_on h1 h2 h3 p1 with_line p3 (done ++ line) [] (passes_on h1 h2 h2 p1 p2 with_line done line x (only_appended h2 p2 with_line line is)) y)
 
 -- the parts of a report one after another, of which the last is appended before the last piece is written
 pub report_passed : (h1 h2 h3 h4 : Option (List ℕ)) (p1 p2 p3 p4 head a b last : List ℕ) → p1 ≡ head → Passes h1 p1 h2 p2 a → Passes h2 p2 h3 p3 b → p4 ≡ p3 ++ last

@@ -13,7 +13,7 @@ use std::alloc::Global;
 
 // A certificate, and the pair on which its table halts, where it says that it does: so the children of the
 // table are known without another run.
-#[derive(Clone, Copy)]
+#[derive(Drop)]
 pub struct Kept {
     pub certificate: OwnedCertificate,
     pub halts_on: Option<Pair>,

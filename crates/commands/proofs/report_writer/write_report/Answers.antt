@@ -11,8 +11,7 @@ returns-clause-ok g c =
     let found = c.in_ok-append_head.ensures.ok in
     let head = found.1 in
     let champions = into_iter_items c.in_ok-champions.champions in
-    let holdouts = into_iter_items c.in_ok-holdouts.holdouts in
-    (
+    let holdouts = into_iter_items c.in_ok-holdouts.holdouts in (
       found.0 ++ lines_of (codes "champion") champions ++ lines_of (codes "holdout") holdouts,
       record {
         status = head.status;
@@ -26,7 +25,7 @@ returns-clause-ok g c =
         is = ap (λ (l : List ℕ). l ++ lines_of (codes "champion") champions ++ lines_of (codes "holdout") holdouts) head.is;
       },
       report_passed (g.W.Write.contents c.args.answers.now) (g.W.Write.contents c.write_tables.new.answers) (g.W.Write.contents c.write_tables-2.new.answers) (g.W.Write.contents c.write_all.new.self)
-        c.append_head.new.out.items c.write_tables.new.piece.items c.write_tables-2.new.piece.items c.deref.result.now
-        found.0 (lines_of (codes "champion") champions) (lines_of (codes "holdout") holdouts) (left_text c.args.left.now)
-        (found.2 ∙ ap (λ (l : List ℕ). l ++ found.0) c.in_ok-piece.ensures.items) c.in_ok-write_tables.ensures.ok c.in_ok-write_tables-2.ensures.ok (c.deref.ensures.value ∙ c.in_ok-append_left.ensures) c.in_ok-write_all.ensures.bytes,
+          c.append_head.new.out.items c.write_tables.new.piece.items c.write_tables-2.new.piece.items c.deref.result.now
+          found.0 (lines_of (codes "champion") champions) (lines_of (codes "holdout") holdouts) (left_text c.args.left.now)
+          (found.2 ∙ ap (λ (l : List ℕ). l ++ found.0) c.in_ok-piece.ensures.items) c.in_ok-write_tables.ensures.ok c.in_ok-write_tables-2.ensures.ok (c.deref.ensures.value ∙ c.in_ok-append_left.ensures) c.in_ok-write_all.ensures.bytes,
     )

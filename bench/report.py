@@ -1,12 +1,11 @@
 #!/usr/bin/env python3
 """Times bb report against bench/plain_report.rs on ledgers of four states, compares what both print, and gives
-the ratios of their times and the peak memory a record. Arguments: the numbers of records (10,000 and 100,000
-where there are none)."""
+the ratio of their times and the peak memory a record of each: all of it, and of bb also without what it takes for
+a ledger of no records. Arguments: the numbers of records (10,000 and 100,000 where there are none)."""
 import os
 import subprocess
 import sys
 import tempfile
-import time
 
 HERE = os.path.dirname(os.path.abspath(__file__))
 BB = os.path.join(HERE, "..", "crates", "bb", "out", "bb")
@@ -19,31 +18,34 @@ def built(folder, name):
     return path
 
 
-def run(command):
+def run(peak, command):
     """The seconds, the peak memory in bytes and the output of a command."""
-    begun = time.perf_counter()
-    child = subprocess.Popen(command, stdout=subprocess.PIPE)
-    output = child.stdout.read()
-    _, _, usage = os.wait4(child.pid, 0)
-    return time.perf_counter() - begun, 1024 * usage.ru_maxrss, output
+    done = subprocess.run([peak, *command], stdout=subprocess.PIPE, stderr=subprocess.PIPE, check=True)
+    seconds, most = done.stderr.split()[-2:]
+    return float(seconds), int(most), done.stdout
 
 
 def main():
     sizes = [int(word) for word in sys.argv[1:]] or [10_000, 100_000]
     with tempfile.TemporaryDirectory() as folder:
-        grow, plain = built(folder, "grow_ledger"), built(folder, "plain_report")
+        grow, plain, peak = (built(folder, name) for name in ("grow_ledger", "plain_report", "peak"))
+        ledger = os.path.join(folder, "ledger")
+        with open(ledger, "wb") as out:
+            subprocess.run([grow, "4", "0"], stdout=out, check=True)
+        base = max(run(peak, [BB, "report", ledger])[1] for _ in range(TURNS))
+        print(f"no records: bb {base} bytes")
         for size in sizes:
-            ledger = os.path.join(folder, "ledger")
             with open(ledger, "wb") as out:
                 subprocess.run([grow, "4", str(size)], stdout=out, check=True)
-            turns = [(run([BB, "report", ledger]), run([plain, ledger])) for _ in range(TURNS)]
+            turns = [(run(peak, [BB, "report", ledger]), run(peak, [plain, ledger])) for _ in range(TURNS)]
             if any(ours[2] != theirs[2] for ours, theirs in turns):
                 print(f"{size} records: the outputs differ")
                 return 1
             ours, theirs = min(t[0][0] for t in turns), min(t[1][0] for t in turns)
-            peaks = [max(t[k][1] for t in turns) / size for k in (0, 1)]
+            peaks = [max(t[k][1] for t in turns) for k in (0, 1)]
             print(f"{size} records: bb {ours:.2f} s, plain Rust {theirs:.2f} s, ratio {ours / theirs:.2f}; "
-                  f"peak bytes a record {peaks[0]:.0f} and {peaks[1]:.0f}")
+                  f"peak bytes a record {peaks[0] / size:.0f} ({(peaks[0] - base) / size:.0f} without the base) "
+                  f"and {peaks[1] / size:.0f}")
     return 0
 
 

@@ -6,10 +6,8 @@ pub on_ok : {T E A B : Type 0} (r : Result T E) → (A → B) → OnOk r A → O
 on_ok (Ok t) f h = f h
 on_ok (Err e) f h = tt
 
-pub joined : {X : Type 0} (old one two three four five a b c d e : List X) → one ≡ old ++ a → two ≡ one ++ b → three ≡ two ++ c → four ≡ three ++ d → five ≡ four ++ e
-    → five ≡ old ++ ((((a ++ b) ++ c) ++ d) ++ e)
-joined {X} old one two three four five a b c d e h1 h2 h3 h4 h5 =
+-- three parts, one appended after another
+pub joined : {X : Type 0} (old one two three a b c : List X) → one ≡ old ++ a → two ≡ one ++ b → three ≡ two ++ c → three ≡ old ++ ((a ++ b) ++ c)
+joined {X} old one two three a b c h1 h2 h3 =
     let with_b : two ≡ old ++ (a ++ b) = h2 ∙ (ap (λ (l : List X). l ++ b) h1 ∙ append_assoc old a b) in
-    let with_c : three ≡ old ++ ((a ++ b) ++ c) = h3 ∙ (ap (λ (l : List X). l ++ c) with_b ∙ append_assoc old (a ++ b) c) in
-    let with_d : four ≡ old ++ (((a ++ b) ++ c) ++ d) = h4 ∙ (ap (λ (l : List X). l ++ d) with_c ∙ append_assoc old ((a ++ b) ++ c) d) in
-    h5 ∙ (ap (λ (l : List X). l ++ e) with_d ∙ append_assoc old (((a ++ b) ++ c) ++ d) e)
+    h3 ∙ (ap (λ (l : List X). l ++ c) with_b ∙ append_assoc old (a ++ b) c)

@@ -1,5 +1,6 @@
 -- What is printed for a ledger's text, and how the command ends.
-use Rattle.std.specs.Prelude.{◌≡◌, ℕ, ◌⊎◌, List, [], ◌∷◌, ◌++◌, codes, decimal}
+use Rattle.std.specs.Prelude.{◌≡◌, ℕ, ◌⊎◌, List, [], ◌∷◌, ◌++◌, Option, codes, decimal}
+use Rattle.std.specs.Io.KnownBytes.{Appends}
 use Rattle.machine_text.specs.Packed.{Packed, entry_of}
 use Rattle.tree.specs.Used.{InOrder}
 use Rattle.cert.specs.Claim.{Recorded}
@@ -38,6 +39,10 @@ pub record ReportsLedger (text old : List ℕ) (o : Outcome) (left : Left) (new 
   pub stands : IsStatus root records status
   pub ends : o ≡ outcome_by status left
   pub is : new ≡ old ++ report ++ left_text left
+
+-- behind what a writer held stands that report
+abbrev pub WritesLedger : List ℕ → Outcome → Left → Option (List ℕ) → Option (List ℕ) → Type 0
+WritesLedger text o left held new_held = (report : List ℕ) × ReportsLedger text [] o left report × Appends held new_held report
 
 -- why there is no report: the text has no root, or one that isn't in order
 abbrev pub EndsLedger : List ℕ → Ended → Type 0

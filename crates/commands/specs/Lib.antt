@@ -4,3 +4,4 @@ pub mod Answer
 pub mod Decision
 pub mod Report
 pub mod LedgerReport
+pub mod Passing

@@ -38,6 +38,13 @@ counts_text tally =
     ++ line_of (codes "open") (decimal tally.open_count)
     ++ line_of (codes "best") (best_text tally.best)
 
+-- the lines before those of the tables
+abbrev pub head_text : Packed → Status → Tally → List ℕ
+head_text root status tally =
+    line_of (codes "root") (text_of root)
+    ++ line_of (codes "status") (status_name status)
+    ++ counts_text tally
+
 abbrev pub report_text : Packed → Status → Tally → List Packed → List Packed → List ℕ
 report_text root status tally champions holdouts =
     line_of (codes "root") (text_of root)
@@ -58,3 +65,11 @@ pub record IsReport (root : Packed) (rs : List Recorded) (text : List ℕ) : Typ
   pub are_champions : AreAll (IsChampion rs tally.best) champions
   pub are_holdouts : AreAll (IsHoldout rs) holdouts
   pub is : text ≡ report_text root status tally champions holdouts
+
+-- the lines of a report before those of the tables
+pub record IsHead (root : Packed) (rs : List Recorded) (text : List ℕ) : Type 0 where
+  pub status : Status
+  pub tally : Tally
+  pub stands : IsStatus root rs status
+  pub counted : IsTally root rs tally
+  pub is : text ≡ head_text root status tally

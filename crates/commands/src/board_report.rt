@@ -2,7 +2,7 @@
 ghost use Rattle.std.specs.Prelude.{◌≡◌, ◌∷◌, [], ◌++◌, List, ℕ, codes, take, length, decimal, OnOk, OnErr};
 ghost use Rattle.std.specs.Vec.Iter.{into_iter_items};
 ghost use Rattle.machine_text.specs.Text.{text_of};
-ghost use Rattle.commands.specs.Report.{IsReport, line_of, lines_of, status_name, best_text, verdicts_text, counts_text, report_text};
+ghost use Rattle.commands.specs.Report.{IsReport, IsHead, line_of, lines_of, status_name, best_text, verdicts_text, counts_text, report_text};
 
 use cert::append_number;
 use ledger::{Board, Status, Tally};
@@ -34,11 +34,20 @@ fn append_report(board: &Board, out: &mut Vec<u8>) -> Result<(), NoMemory>
 {
     let champions = board.champions()?;
     let holdouts = board.holdouts()?;
-    append_table_line(b"root", board.root(), out)?;
-    append_line(b"status", status_name(board.status()), out)?;
-    append_counts(&board.tally(), out)?;
+    append_head(board, out)?;
     append_tables(b"champion", champions, out)?;
     append_tables(b"holdout", holdouts, out)
+}
+
+/// Appends the lines of a report that stand before those of the tables; where memory is refused, a
+/// beginning of them.
+pub fn append_head(board: &Board, out: &mut Vec<u8>) -> Result<(), NoMemory>
+    ensures ok { OnOk result ((head : List ℕ) × IsHead board.now.root board.now.records head × (out.new.items ≡ out.old.items ++ head)) }
+    ensures kept { take (length out.old.items) out.new.items ≡ out.old.items }
+{
+    append_table_line(b"root", board.root(), out)?;
+    append_line(b"status", status_name(board.status()), out)?;
+    append_counts(&board.tally(), out)
 }
 
 // The word for how a board stands.
@@ -95,8 +104,8 @@ fn append_tables(name: &[u8], tables: IntoIter<Table>, out: &mut Vec<u8>) -> Res
     Ok(())
 }
 
-// Appends a line of a table.
-fn append_table_line(name: &[u8], t: &Table, out: &mut Vec<u8>) -> Result<(), NoMemory>
+/// Appends a line of a table; where memory is refused, a beginning of it.
+pub fn append_table_line(name: &[u8], t: &Table, out: &mut Vec<u8>) -> Result<(), NoMemory>
     ensures ok { OnOk result (out.new.items ≡ out.old.items ++ line_of name.now (text_of t.now)) }
     ensures kept { take (length out.old.items) out.new.items ≡ out.old.items }
 {

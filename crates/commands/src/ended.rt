@@ -93,6 +93,11 @@ impl From<LoadFault> for Ended {
 
 // A stream's fault.
 impl From<io::Error> for Ended {
+    ghost use Rattle.std.specs.Prelude.{◌≡◌};
+    ghost use Rattle.commands.specs.declared.ended.Ended.TheVariants.{Stream};
+
+    ghost from_gives = { λ _ e. e ≡ Stream };
+
     fn from(_: io::Error) -> Ended {
         Ended::Stream
     }

@@ -1,14 +1,13 @@
 // `bb report`: a ledger file in, its report out.
-ghost use Rattle.std.specs.Prelude.{◌≡◌, ◌++◌, OnOk, IfOk, IfErr};
+ghost use Rattle.std.specs.Prelude.{◌≡◌, ◌⊎◌, IfOk, IfErr};
 ghost use Rattle.ledger.specs.LedgerText.{ReadsAs};
-ghost use Rattle.commands.specs.LedgerReport.{ReportsLedger, EndsLedger, left_text, outcome_by};
+ghost use Rattle.commands.specs.LedgerReport.{ReportsLedger, WritesLedger, EndsLedger, outcome_by};
 
 use crate::board_report::report;
 use crate::ended::Ended;
 use crate::outcome::Outcome;
-use cert::append_number;
+use crate::report_writer::{append_left, write_report};
 use ledger::{Board, Left, Status, Unkept, peek_root};
-use run::NoMemory;
 use std::alloc::Global;
 use std::io::{self, Read, Write};
 
@@ -42,10 +41,7 @@ fn report_file<R: Read + Drop, W: Write>(
     answers: &mut W,
 ) -> Result<(Outcome, Left), Ended> {
     let bytes = bytes_of(alloc, file)?;
-    let mut text = Vec::new(alloc);
-    let reported = report_ledger(alloc, &bytes, &mut text)?;
-    answers.write_all(&text)?;
-    Ok(reported)
+    write_ledger_report(alloc, bytes, answers)
 }
 
 // The bytes of a file, as far as it went when it was opened.
@@ -103,6 +99,21 @@ pub fn report_ledger(
     Ok((outcome_by(board.status(), &left), left))
 }
 
+/// Writes what `report_ledger` appends, a piece at a time, once the ledger's text is let go.
+pub fn write_ledger_report<W: Write>(
+    alloc: Global,
+    bytes: Vec<u8>,
+    answers: &mut W,
+) -> Result<(Outcome, Left), Ended>
+    ensures ok { IfOk result (λ r. WritesLedger bytes.items r.0 r.1 (W.contents answers.old) (W.contents answers.new)) }
+    ensures err { IfErr result (λ e. (e ≡ Ended.Stream) ⊎ EndsLedger bytes.items e) }
+{
+    let (board, left) = loaded(alloc, &bytes)?;
+    drop(bytes);
+    write_report(alloc, &board, &left, answers)?;
+    Ok((outcome_by(board.status(), &left), left))
+}
+
 // The board of a ledger's text with the root that it names, and what of the text wasn't kept.
 fn loaded(alloc: Global, bytes: &[u8]) -> Result<(Board, Left), Ended>
     ensures ok { IfOk result (λ l. ReadsAs l.0.root bytes.now l.0.records l.1) }
@@ -115,20 +126,6 @@ fn loaded(alloc: Global, bytes: &[u8]) -> Result<(Board, Left), Ended>
         },
         Ok(None) => Err(Ended::BadHeader),
         Err(fault) => Err(Ended::from(fault)),
-    }
-}
-
-// Appends which line wasn't kept, where there is one.
-fn append_left(left: &Left, out: &mut Vec<u8>) -> Result<(), NoMemory>
-    ensures { OnOk result (out.new.items ≡ out.old.items ++ left_text left.now) }
-{
-    match left {
-        Left::Nothing => Ok(()),
-        Left::From { line, .. } => {
-            out.extend_from_slice(b"left ")?;
-            append_number(*line, out)?;
-            out.extend_from_slice(b"\n")
-        }
     }
 }
 

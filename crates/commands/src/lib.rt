@@ -16,6 +16,7 @@ mod line_loop;
 mod options;
 mod outcome;
 mod pieces;
+mod report_writer;
 
 pub use answers::answer;
 pub use board_report::report;
@@ -23,6 +24,6 @@ pub use check::cmd_check;
 pub use cutter::{Cutter, MAX_LINE_BYTES, cut};
 pub use decide::{cmd_decide, decide_line};
 pub use ended::Ended;
-pub use ledger_report::{Opened, cmd_report, report_ledger};
+pub use ledger_report::{Opened, cmd_report, report_ledger, write_ledger_report};
 pub use options::{Options, Search};
 pub use outcome::Outcome;

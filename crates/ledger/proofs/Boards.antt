@@ -1,5 +1,5 @@
 -- What the code of a board keeps, once a record is taken.
-use Rattle.std.proofs.Common.{◌≡◌, ◌≢◌, ℕ, ◌<◌, ◌^◌, false, List, [], ◌∷◌, ◌++◌, Some, None, ◌⊎◌, ◌↔◌, sym, ◌∙◌, ap, subst, length, arith}
+use Rattle.std.proofs.Common.{◌≡◌, ◌≢◌, ℕ, ◌+◌, ◌<◌, ◌^◌, false, List, [], ◌∷◌, ◌++◌, Some, None, ◌⊎◌, ◌↔◌, sym, ◌∙◌, ap, subst, length, arith}
 use Rattle.std.specs.Prelude.{slice_get}
 use Rattle.std.specs.List.{All}
 use Rattle.std.specs.Map.{remove_entry}
@@ -40,14 +40,14 @@ numbers_fit es counts counted small =
     )
 
 -- the next place opened nothing yet
-pub next_place : (root : Packed) (es : List (Packed × Kept)) (tables : BTreeMap Packed ℕ) (place : ℕ) → IsOpenMap tables (record { root = root; records = records_of es }) → place ≡ length es → place < 2 ^ 63
+pub next_place : (root : Packed) (es : List (Packed × Kept)) (tables : BTreeMap Packed ℕ) (place : ℕ) → IsOpenMap tables (record { root = root; records = records_of es }) → place ≡ length es → place + 1 < 2 ^ 32
     → others place tables.entries ≡ tables.entries
 next_place root es tables place before is small =
     none_opened (records_of es) place tables.entries (next_opens_none (records_of es) place (is ∙ sym (length-map es entry_recorded)) small) before.openers
 
 -- nor did a holdout's place
 pub holdouts_place : (root : Packed) (es : List (Packed × Kept)) (tables : BTreeMap Packed ℕ) (place : ℕ) (t : Packed) → IsOpenMap tables (record { root = root; records = records_of es })
-    → (r : Recorded) × (slice_get (records_of es) place ≡ Some r) × (r.table ≡ t) × (is_halting r ≡ false) → place < 2 ^ 63 → others place tables.entries ≡ tables.entries
+    → (r : Recorded) × (slice_get (records_of es) place ≡ Some r) × (r.table ≡ t) × (is_halting r ≡ false) → place + 1 < 2 ^ 32 → others place tables.entries ≡ tables.entries
 holdouts_place root es tables place t before at small = none_opened (records_of es) place tables.entries (holdout_opens_none (records_of es) place at.0 at.1 at.3 small) before.openers
 
 -- the record as it is kept

@@ -19,10 +19,10 @@ open_at_start root t = (
   λ h. elim h.place [ inl e ↦ e | inr w ↦ let none = ap (option_map mark_of) (claim_none w.0) in let marked = w.2 in absurd (cc) ],
 )
 
-pub starts : (root : Packed) (tables : BTreeMap Packed ℕ) → tables.entries ≡ (root, 18446744073709551615) ∷ [] → IsOpenMap tables (record { root = root; records = [] })
+pub starts : (root : Packed) (tables : BTreeMap Packed ℕ) → tables.entries ≡ (root, 4294967295) ∷ [] → IsOpenMap tables (record { root = root; records = [] })
 starts root tables is = record {
-  exact = λ t. let only = only_one tables root 18446744073709551615 is t in (λ h. (open_at_start root t).0 (only.0 h), λ h. only.1 ((open_at_start root t).1 h));
-  openers = subst (All (λ (e : Packed × ℕ). IsOpener [] e.1)) (sym is) (All-cons (λ (e : Packed × ℕ). IsOpener [] e.1) (root, 18446744073709551615) [] (inl (omega arith)) (All-nil (λ (e : Packed × ℕ). IsOpener [] e.1)));
+  exact = λ t. let only = only_one tables root 4294967295 is t in (λ h. (open_at_start root t).0 (only.0 h), λ h. only.1 ((open_at_start root t).1 h));
+  openers = subst (All (λ (e : Packed × ℕ). IsOpener [] e.1)) (sym is) (All-cons (λ (e : Packed × ℕ). IsOpener [] e.1) (root, 4294967295) [] (inl (omega arith)) (All-nil (λ (e : Packed × ℕ). IsOpener [] e.1)));
 }
 
 pub counted_none : IsCounted [] (record { halting = 0; never = 0; undecided = 0; best = None })

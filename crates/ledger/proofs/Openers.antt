@@ -1,5 +1,5 @@
 -- The places of what opened the open tables.
-use Rattle.std.proofs.Common.{◌≡◌, ℕ, zero, suc, ◌<◌, ◌^◌, Bool, true, false, not, cond, List, [], ◌∷◌, ◌++◌, length, Some, inl, inr, refl, sym, ◌∙◌, ap, subst, arith, nat_eq}
+use Rattle.std.proofs.Common.{◌≡◌, ℕ, zero, suc, ◌+◌, ◌<◌, ◌^◌, Bool, true, false, not, cond, List, [], ◌∷◌, ◌++◌, length, Some, inl, inr, refl, sym, ◌∙◌, ap, subst, arith, nat_eq}
 use Rattle.std.specs.Prelude.{slice_get}
 use Rattle.std.specs.List.{All}
 use Rattle.std.specs.Map.{remove_entry}
@@ -30,11 +30,11 @@ none_opened rs place (e ∷ es) never all =
       | false ↦ λ other. rw other (ap (λ (l : List (Packed × ℕ)). e ∷ l) rest)
     ] refl
 
-pub next_opens_none : (rs : List Recorded) (place : ℕ) → place ≡ length rs → place < 2 ^ 63 → IsOpener rs place → ⊥
+pub next_opens_none : (rs : List Recorded) (place : ℕ) → place ≡ length rs → place + 1 < 2 ^ 32 → IsOpener rs place → ⊥
 next_opens_none rs place is small (inl big) = omega arith
 next_opens_none rs place is small (inr w) = let past = slice_get_past rs place (omega (arith, is)) in let here = w.1 in absurd (cc)
 
-pub holdout_opens_none : (rs : List Recorded) (place : ℕ) (r : Recorded) → slice_get rs place ≡ Some r → is_halting r ≡ false → place < 2 ^ 63 → IsOpener rs place → ⊥
+pub holdout_opens_none : (rs : List Recorded) (place : ℕ) (r : Recorded) → slice_get rs place ≡ Some r → is_halting r ≡ false → place + 1 < 2 ^ 32 → IsOpener rs place → ⊥
 holdout_opens_none rs place r at silent small (inl big) = omega arith
 holdout_opens_none rs place r at silent small (inr w) =
     let here = w.1 in let same : r ≡ w.0 = cc in let halts = w.2 in let still = ap is_halting same in absurd (cc)

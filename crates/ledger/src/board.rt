@@ -15,7 +15,7 @@ use crate::counts::Counts;
 use crate::faults::{BoardFault, OfferFault};
 use crate::index::{certificate_for, pair_for, place_of, verdict_in};
 use crate::kept::Kept;
-use crate::open_tables::{only, open_children};
+use crate::open_tables::{only, open_children, opener_place};
 use crate::place::{Place, recorded_place};
 use crate::records::Records;
 use crate::selected::{sorted_tables, tables_with, undecided_tables};
@@ -35,7 +35,7 @@ use tnf::{Children, in_order};
 use tree::{best_of_closed, child_is_table, closed_tree, rado_of_complete};
 
 /// An iterator over the open tables of a board.
-pub type Open<'a> = Keys<'a, Table, usize>;
+pub type Open<'a> = Keys<'a, Table, u32>;
 
 /// An iterator over the holdouts of a board.
 pub type Holdouts = IntoIter<Table>;
@@ -51,7 +51,7 @@ pub struct Board {
     // under their tables, which aren't kept again
     records: IndexMap<Table, Kept>,
     // exactly the open tables, each with the place of the record that opened it
-    open_tables: BTreeMap<Table, usize>,
+    open_tables: BTreeMap<Table, u32>,
     // the numbers of the records
     counts: Counts,
 }
@@ -274,8 +274,9 @@ impl Board {
     {
         child_is_table();
         let kept = Kept::of(self.alloc, r)?;
+        let count = self.records.len();
+        let place = opener_place(count)?;
         self.records.reserve(1)?;
-        let place = self.records.len();
         open_children(
             &mut self.open_tables,
             &self.records,
@@ -304,7 +305,8 @@ impl Board {
     {
         child_is_table();
         let kept = Kept::of(self.alloc, r)?;
-        let place = place_of(&self.records, &r.table);
+        let found = place_of(&self.records, &r.table);
+        let place = opener_place(found)?;
         open_children(
             &mut self.open_tables,
             &self.records,

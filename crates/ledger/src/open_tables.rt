@@ -1,5 +1,5 @@
 // The open tables of a board, each with the place of the record that opened it.
-ghost use Rattle.std.specs.Prelude.{◌≡◌, ◌≢◌, ℕ, ◌↔◌, ◌⊎◌, IfOk, IsTrue, OnOk, OnErr, None, [], ◌∷◌, filter};
+ghost use Rattle.std.specs.Prelude.{◌≡◌, ◌≢◌, ℕ, ◌+◌, ◌^◌, ◌<◌, ◌↔◌, ◌⊎◌, IfOk, IsTrue, OnOk, OnErr, None, [], ◌∷◌, filter};
 ghost use Rattle.std.specs.BTreeMap.{ContainsKey};
 ghost use Rattle.machine_text.specs.Packed.{Packed, entry_of};
 ghost use Rattle.tree.specs.Used.{InOrder};
@@ -17,30 +17,42 @@ use cert::Record;
 use indexmap::IndexMap;
 use machine_text::{Pair, Table};
 use run::NoMemory;
-use std::alloc::Global;
+use std::alloc::{AllocError, Global};
 use std::collections::BTreeMap;
 use tnf::Children;
 
 // The place of what opened the root, which no record has.
-const NO_PLACE: usize = usize::MAX;
+const NO_PLACE: u32 = u32::MAX;
 
 // The root alone.
-pub fn only(alloc: Global, root: Table) -> Result<BTreeMap<Table, usize>, NoMemory>
-    ensures { IfOk result (λ tables. tables.entries ≡ (root, 18446744073709551615) ∷ []) }
+pub fn only(alloc: Global, root: Table) -> Result<BTreeMap<Table, u32>, NoMemory>
+    ensures { IfOk result (λ tables. tables.entries ≡ (root, 4294967295) ∷ []) }
 {
     let mut tables = BTreeMap::new(alloc);
     tables.insert(root, NO_PLACE)?;
     Ok(tables)
 }
 
+// A record's place as it is kept with the tables that it opens, in four bytes. Where it has none, there is no
+// memory for that many records.
+pub fn opener_place(place: usize) -> Result<u32, NoMemory>
+    ensures is { IfOk result (λ kept. kept ≡ place) }
+    ensures small { IfOk result (λ kept. kept + 1 < 2 ^ 32) }
+{
+    match u32::try_from(place) {
+        Ok(kept) if kept != NO_PLACE => Ok(kept),
+        _ => Err(AllocError),
+    }
+}
+
 // Opens the children of a record's table, which halts on this pair if it is known to: those that have no
 // record and aren't open already. The record stands at this place, or will. Where memory is refused, the
 // tables are as they were.
 pub fn open_children(
-    tables: &mut BTreeMap<Table, usize>,
+    tables: &mut BTreeMap<Table, u32>,
     records: &IndexMap<Table, Kept>,
     r: &Record,
-    place: usize,
+    place: u32,
     halts_on: Option<Pair>,
 ) -> Result<(), NoMemory>
     requires in_order { (u : ℕ) × InOrder u (entry_of r.now.table) }
@@ -66,10 +78,10 @@ pub fn open_children(
 
 // Opens those of the children that have no record and aren't the parent.
 fn open_all(
-    tables: &mut BTreeMap<Table, usize>,
+    tables: &mut BTreeMap<Table, u32>,
     records: &IndexMap<Table, Kept>,
     parent: &Table,
-    place: usize,
+    place: u32,
     found: Children,
 ) -> Result<(), NoMemory>
     requires { others place tables.old.entries ≡ tables.old.entries }
@@ -89,10 +101,10 @@ fn open_all(
 
 // Opens a child, unless it has a record, is the parent or is open.
 fn open_child(
-    tables: &mut BTreeMap<Table, usize>,
+    tables: &mut BTreeMap<Table, u32>,
     records: &IndexMap<Table, Kept>,
     parent: &Table,
-    place: usize,
+    place: u32,
     child: Table,
 ) -> Result<(), NoMemory>
     ensures ok { OnOk result ((q : Packed) → ContainsKey table_cmp tables.new q
@@ -106,7 +118,7 @@ fn open_child(
 }
 
 // Opens a table, unless it is open.
-fn open_new(tables: &mut BTreeMap<Table, usize>, t: Table, place: usize) -> Result<(), NoMemory>
+fn open_new(tables: &mut BTreeMap<Table, u32>, t: Table, place: u32) -> Result<(), NoMemory>
     ensures ok { OnOk result ((q : Packed) → ContainsKey table_cmp tables.new q ↔ (ContainsKey table_cmp tables.old q ⊎ (q ≡ t))) }
     ensures others { others place tables.new.entries ≡ others place tables.old.entries }
 {
@@ -117,7 +129,7 @@ fn open_new(tables: &mut BTreeMap<Table, usize>, t: Table, place: usize) -> Resu
 }
 
 // Closes what was opened by the record at a place.
-fn close_at(tables: &mut BTreeMap<Table, usize>, place: usize)
+fn close_at(tables: &mut BTreeMap<Table, u32>, place: u32)
     ensures { tables.new.entries ≡ others place tables.old.entries }
 {
     tables.retain(|_, opened_by| *opened_by != place);

@@ -1,5 +1,5 @@
 -- For the code: maps of tables, and which a board's open ones are.
-use Rattle.std.specs.Prelude.{◌≡◌, ◌≢◌, ◌↔◌, ◌⊎◌, ◌≤◌, ◌^◌, ℕ, true, not, nat_eq, List, All, Contains, None, Some, filter, slice_get}
+use Rattle.std.specs.Prelude.{◌≡◌, ◌≢◌, ◌↔◌, ◌⊎◌, ◌≤◌, ◌^◌, ℕ, ◌+◌, true, not, nat_eq, List, All, Contains, None, Some, filter, slice_get}
 use Rattle.std.specs.BTreeMap.{BTreeMap, ContainsKey}
 use Rattle.std.specs.Ordering.{nat_cmp, ordering_then}
 use Rattle.std.specs.declared.cmp.Ordering.{Ordering}
@@ -29,7 +29,7 @@ others place es = filter (λ e. not (nat_eq e.1 place)) es
 
 -- the place of a record that says that its table halts, or none at all
 abbrev pub IsOpener : List Recorded → ℕ → Type 0
-IsOpener rs place = (2 ^ 63 ≤ place) ⊎ ((r : Recorded) × (slice_get rs place ≡ Some r) × (is_halting r ≡ true))
+IsOpener rs place = (2 ^ 32 ≤ place + 1) ⊎ ((r : Recorded) × (slice_get rs place ≡ Some r) × (is_halting r ≡ true))
 
 -- a map of tables is that of the open ones, each with the place of what opened it
 pub record IsOpenMap (tables : BTreeMap Packed ℕ) (b : Contents) : Type 0 where

@@ -1,4 +1,4 @@
-use Rattle.std.proofs.Common.{◌<◌, ◌^◌, ◌++◌, ◌∷◌, [], List, refl, sym, ◌∙◌, ap, subst}
+use Rattle.std.proofs.Common.{◌<◌, ◌^◌, ◌++◌, ◌∷◌, [], List, length, refl, sym, ◌∙◌, ap, subst}
 use Rattle.machine_text.specs.Packed.{Packed}
 use Rattle.tree.specs.Closed.{IsOpen}
 use Rattle.cert.specs.Claim.{Recorded}
@@ -19,7 +19,7 @@ open_children-requires-clause-in_order c = open_in_order c.args.self.now c.args.
 pub open_children-requires-clause-none : goal.open_children-requires-clause-none
 open_children-requires-clause-none c =
     let kept = subst (λ (l : List (Packed × Kept)). IsKept c.self.inside.root l c.self.inside.open_tables c.self.inside.counts) (sym c.in_ok-reserve.ensures.entries) c.self.invariant in
-    next_place c.self.inside.root c.reserve.new.self.entries c.self.inside.open_tables c.len-place.result kept.1 c.len-place.ensures.len c.len-place.ensures.small
+    next_place c.self.inside.root c.reserve.new.self.entries c.self.inside.open_tables c.in_ok-place.place kept.1 (c.in_ok-place.ensures.is ∙ (c.len-count.ensures.len ∙ ap length (sym c.in_ok-reserve.ensures.entries))) c.in_ok-place.ensures.small
 
 pub invariant_of-self-in_err-open_children : goal.invariant_of-self-in_err-open_children
 invariant_of-self-in_err-open_children c =
@@ -29,17 +29,17 @@ invariant_of-self-in_err-open_children c =
 pub with-self-inside-requires-clause-halting : goal.with-self-inside-requires-clause-halting
 with-self-inside-requires-clause-halting c =
     let kept = subst (λ (l : List (Packed × Kept)). IsKept c.self.inside.root l c.self.inside.open_tables c.self.inside.counts) (sym c.in_ok-reserve.ensures.entries) c.self.invariant in
-    (numbers_fit c.reserve.new.self.entries c.self.inside.counts kept.3 (subst (λ n. n < 2 ^ 63) c.len-place.ensures.len c.len-place.ensures.small)).0
+    (numbers_fit c.reserve.new.self.entries c.self.inside.counts kept.3 (subst (λ n. n < 2 ^ 63) (c.len-count.ensures.len ∙ ap length (sym c.in_ok-reserve.ensures.entries)) c.len-count.ensures.small)).0
 
 pub with-self-inside-requires-clause-never : goal.with-self-inside-requires-clause-never
 with-self-inside-requires-clause-never c =
     let kept = subst (λ (l : List (Packed × Kept)). IsKept c.self.inside.root l c.self.inside.open_tables c.self.inside.counts) (sym c.in_ok-reserve.ensures.entries) c.self.invariant in
-    (numbers_fit c.reserve.new.self.entries c.self.inside.counts kept.3 (subst (λ n. n < 2 ^ 63) c.len-place.ensures.len c.len-place.ensures.small)).1
+    (numbers_fit c.reserve.new.self.entries c.self.inside.counts kept.3 (subst (λ n. n < 2 ^ 63) (c.len-count.ensures.len ∙ ap length (sym c.in_ok-reserve.ensures.entries)) c.len-count.ensures.small)).1
 
 pub with-self-inside-requires-clause-undecided : goal.with-self-inside-requires-clause-undecided
 with-self-inside-requires-clause-undecided c =
     let kept = subst (λ (l : List (Packed × Kept)). IsKept c.self.inside.root l c.self.inside.open_tables c.self.inside.counts) (sym c.in_ok-reserve.ensures.entries) c.self.invariant in
-    (numbers_fit c.reserve.new.self.entries c.self.inside.counts kept.3 (subst (λ n. n < 2 ^ 63) c.len-place.ensures.len c.len-place.ensures.small)).2
+    (numbers_fit c.reserve.new.self.entries c.self.inside.counts kept.3 (subst (λ n. n < 2 ^ 63) (c.len-count.ensures.len ∙ ap length (sym c.in_ok-reserve.ensures.entries)) c.len-count.ensures.small)).2
 
 pub invariant_of-self-2 : goal.invariant_of-self-2
 unfolding same_table
@@ -49,8 +49,8 @@ invariant_of-self-2 c =
     let open_now = subst (λ (l : List (Packed × Kept)). IsOpen c.self.inside.root (mark_in (records_of l)) c.args.r.now.table) (sym c.in_ok-reserve.ensures.entries)
     (subst (λ (b : Contents). IsOpen b.root (mark_in b.records) c.args.r.now.table) (sym c.self.view_is) c.requires) in
     rw (c.with-self-inside.ensures, c.verdict.ensures)
-    (kept_more c.self.inside.root es c.insert.new.self.entries (recorded c.args.r.now) c.in_ok-kept.kept c.len-place.result c.self.inside.open_tables c.open_children.new.tables c.remove.new.self c.self.inside.counts
-    kept open_now c.in_ok-kept.ensures.certified c.in_ok-kept.ensures.claim c.in_ok-kept.ensures.pair c.in-Ok.ensures.entries c.len-place.ensures.len
+    (kept_more c.self.inside.root es c.insert.new.self.entries (recorded c.args.r.now) c.in_ok-kept.kept c.in_ok-place.place c.self.inside.open_tables c.open_children.new.tables c.remove.new.self c.self.inside.counts
+    kept open_now c.in_ok-kept.ensures.certified c.in_ok-kept.ensures.claim c.in_ok-kept.ensures.pair c.in-Ok.ensures.entries (c.in_ok-place.ensures.is ∙ (c.len-count.ensures.len ∙ ap length (sym c.in_ok-reserve.ensures.entries)))
     c.in_ok-open_children.ensures.ok c.in_ok-open_children.ensures.others c.in_ok-open_children.ensures.none
     (λ q. removed c.open_children.new.tables c.remove.new.self c.args.r.now.table q (c.remove.ensures.updates.0 q)) c.remove.ensures.entries)
 

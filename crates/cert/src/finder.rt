@@ -3,6 +3,7 @@ use crate::certificate::OwnedCertificate;
 use backward::BackwardFinder;
 use loops::{CycleFinder, TranslatedFinder};
 use machine_text::Table;
+use ngram_cps::NgramFinder;
 use run::{HaltFinder, NoMemory};
 
 /// Looks for a certificate for a table. What it gives need not stand: whoever asks a finder judges it.
@@ -33,5 +34,17 @@ impl Finder for TranslatedFinder {
 impl Finder for BackwardFinder {
     fn find(&mut self, t: &Table, budget: u64) -> Result<Option<OwnedCertificate>, NoMemory> {
         Ok(self.search(t, budget)?.map(OwnedCertificate::Backward))
+    }
+}
+
+impl Finder for NgramFinder {
+    fn find(&mut self, t: &Table, budget: u64) -> Result<Option<OwnedCertificate>, NoMemory> {
+        match self.search(t, budget)? {
+            Some(lists) => Ok(Some(OwnedCertificate::Ngram(Box::new(
+                self.allocator(),
+                lists,
+            )?))),
+            None => Ok(None),
+        }
     }
 }

@@ -42,6 +42,11 @@ impl NgramFinder {
         }
     }
 
+    /// From where the finder takes its memory.
+    pub fn allocator(&self) -> Global {
+        self.alloc
+    }
+
     /// A closed position set of the table within the finder's width; none where it finds none. What it gives
     /// stands, and is within the limits.
     ///

@@ -14,35 +14,24 @@ use std::alloc::{AllocError, Global};
 pub fn answer(alloc: Global, line: Option<&[u8]>, out: &mut Vec<u8>) -> Result<Outcome, NoMemory>
     ensures { IfOk result (λ o. (answer : List ℕ) × Answers (read_line line.entry) o answer × (out.new.items ≡ out.old.items ++ answer ++ 10 ∷ [])) }
 {
-    let outcome = answer_read(alloc, read_line(line), out)?;
+    let outcome = match read_line(line) {
+        Ok(record) => answer_record(alloc, &record, out)?,
+        Err(fault) => {
+            append_fault(fault, out)?;
+            Outcome::Refused
+        }
+    };
     out.push(b'\n')?;
     Ok(outcome)
 }
 
 // The record of a line.
-fn read_line(line: Option<&[u8]>) -> Result<Record, RecordFault>
+fn read_line(line: Option<&[u8]>) -> Result<Record<'_>, RecordFault>
     ensures { read_as result ≡ read_line line.entry }
 {
     match line {
         Some(text) => Record::parse(text),
         None => Err(RecordFault::TooLong),
-    }
-}
-
-// Appends the answer to what was read of a line.
-fn answer_read(
-    alloc: Global,
-    read: Result<Record, RecordFault>,
-    out: &mut Vec<u8>,
-) -> Result<Outcome, NoMemory>
-    ensures { IfOk result (λ o. (answer : List ℕ) × Answers (read_as read) o answer × (out.new.items ≡ out.old.items ++ answer)) }
-{
-    match read {
-        Ok(record) => answer_record(alloc, &record, out),
-        Err(fault) => {
-            append_fault(fault, out)?;
-            Ok(Outcome::Refused)
-        }
     }
 }
 

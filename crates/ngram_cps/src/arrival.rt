@@ -6,8 +6,8 @@ ghost use Rattle.machine_text.specs.Limits.{state_limit};
 use crate::member::Member;
 use machine_text::{Dir, State, Sym};
 
-// What stands around a head that has moved to a side, but for the symbol at the far end of the word there:
-// one member for each such symbol whose word may stand there.
+// What stands around a head that has moved to a side: the word behind it, and the word ahead but for the
+// symbol at its far end. There is a member for each such symbol with which the word may stand there.
 #[derive(Clone, Copy)]
 pub(crate) struct Arrival {
     pub state: State,
@@ -33,14 +33,14 @@ impl Arrival {
     }
 }
 
-// An arrival, and where the one before it with the same rest of a word stands.
+// An arrival, and the place of the one before it with the same rest of a word ahead.
 #[derive(Clone, Copy)]
 pub(crate) struct Link {
     pub arrival: Arrival,
     pub earlier: Option<usize>,
 }
 
-// The arrivals with one rest, the last first. Each stands before the one that leads to it.
+// The arrivals with one rest of a word ahead, the last first. Each stands before the one that leads to it.
 #[derive(Drop)]
 pub(crate) struct Chain<'a> {
     pub links: &'a [Link],

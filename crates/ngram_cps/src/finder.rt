@@ -14,9 +14,9 @@ use machine_text::Table;
 use run::NoMemory;
 use std::alloc::Global;
 
-// How many members the sets of a search may have for each step of the budget, all widths together. The sets
-// of the widths up to `MAX_WIDTH` for which the lists have room have less than 32,000 members together, so
-// 1,000 steps are enough for each of them.
+// How many members a search may come to for each step of the budget, all widths together. A width is given up
+// where the lists have no room for its members; up to then all the widths have less than 32,000 of them. So
+// 1,000 steps are enough for each set that the lists have room for.
 const MEMBERS_PER_STEP: u64 = 32;
 
 /// Searches closed position sets.
@@ -51,9 +51,10 @@ impl NgramFinder {
     /// stands, and is within the limits.
     ///
     /// For each width from 1 on it computes the least set that holds the blank tape and that no step leaves,
-    /// and gives the first in which no member halts. It gives up a width where the lists would be longer
-    /// than `MAX_LIST_BYTES`, and the search where its sets have had 32 members for each step of the budget.
-    /// It takes time in proportion to the members. No contract says what is found or how long it takes.
+    /// and gives the first in which no member halts. It gives up a width whose lists would be longer than
+    /// `MAX_LIST_BYTES`, and the search once its sets have had 32 members for each step of the budget. The
+    /// sets take time in proportion to their members, and what is given is judged once. No contract says
+    /// what is found or how long it takes.
     pub fn search(&mut self, t: &Table, budget: u64) -> Result<Option<OwnedNgram>, NoMemory>
         ensures found { IfOk result (λ o. IfSome o (λ e. IsPositionSet (owned_lists e) t.now)) }
         ensures lists { IfOk result (λ o. IfSome o (λ e. AreLists (owned_lists e))) }

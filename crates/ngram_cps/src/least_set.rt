@@ -30,12 +30,12 @@ impl LeastSet {
         }
     }
 
-    // Computes the set, and tells whether it is closed: not where a member halts, nor where it has more
-    // members than the limit.
+    // Computes the set, and tells whether it could: not where a member halts, nor where there are more members
+    // than the limit.
     //
-    // Each member is stepped once, and each arrival looked at again once for either symbol whose word comes
-    // later. A step makes one arrival and an arrival at most two members. So there are at most twice as many
-    // members as the limit and one, and it all takes time in proportion to the limit.
+    // A member is stepped once, which makes one arrival. An arrival is looked at when it is made, and once
+    // more for each of its two words that is let in later; it has at most two members. So there are at most
+    // twice as many members as the limit, and one, and all takes time in proportion to them.
     pub fn close(&mut self, t: &Table, width: Width, limit: usize) -> Result<bool, NoMemory> {
         self.begin(width)?;
         for place in 0..limit {
@@ -87,7 +87,7 @@ impl LeastSet {
     }
 }
 
-// The entry of a table at the pair of a member; none where it halts.
+// The entry of a table at the pair of a member; none where it halts, or isn't a pair of the table.
 fn entry_at(t: &Table, member: Member) -> Option<Entry>
     ensures { IfSome result (λ e. e.next.0 < state_limit) }
 {

@@ -36,7 +36,7 @@ impl ListTexts {
 // Writes the words of a side.
 fn write_words(text: &mut Vec<u8>, side: &Side, width: Width) -> Result<(), NoMemory> {
     text.clear();
-    for word in 0..=u8::MAX {
+    for word in 0..=width.greatest() {
         if side.holds(word) {
             push_comma(text)?;
             push_word(text, word, width)?;

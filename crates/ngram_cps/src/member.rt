@@ -4,7 +4,7 @@ ghost use Rattle.machine_text.specs.Limits.{state_limit};
 
 use machine_text::{Dir, State, Sym};
 
-// What stands around a head. Its order is that of the texts.
+// What stands around a head. The fields are in the order of the text, so members are ordered as their texts.
 #[derive(Clone, Copy, PartialEq, Eq, PartialOrd, Ord)]
 pub(crate) struct Member {
     pub left: u8,

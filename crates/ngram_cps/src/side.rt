@@ -1,7 +1,7 @@
 // One side of the head: the words that may stand there, and the arrivals that wait for words to come.
 use crate::arrival::{Arrival, Chain, Link};
 use crate::members::Members;
-use crate::word::Width;
+use crate::word::{WORD_COUNT, Width};
 use machine_text::{Dir, Sym};
 use run::NoMemory;
 use std::alloc::Global;
@@ -10,10 +10,10 @@ use std::alloc::Global;
 #[derive(Drop)]
 pub(crate) struct Side {
     at: Dir,
-    words: [bool; 256],
+    words: [bool; WORD_COUNT],
     arrivals: Vec<Link>,
     // Where the last arrival with each rest of a word stands.
-    last: [Option<usize>; 256],
+    last: [Option<usize>; WORD_COUNT],
 }
 
 impl Side {
@@ -21,15 +21,15 @@ impl Side {
     pub fn new(alloc: Global, at: Dir) -> Side {
         Side {
             at,
-            words: [false; 256],
+            words: [false; WORD_COUNT],
             arrivals: Vec::new(alloc),
-            last: [None; 256],
+            last: [None; WORD_COUNT],
         }
     }
 
     // Takes all words and arrivals away.
     pub fn clear(&mut self) {
-        self.words = [false; 256];
+        self.words = [false; WORD_COUNT];
         for link in &self.arrivals {
             self.last[link.arrival.rest as usize] = None;
         }

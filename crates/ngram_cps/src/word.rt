@@ -2,14 +2,17 @@
 ghost use Rattle.std.specs.Prelude.{◌≤◌};
 ghost use Rattle.ngram_cps.specs.Limits.{width_limit};
 
+use crate::limits::MAX_WIDTH;
 use machine_text::{Dir, Sym};
+
+// How many words of the greatest width there are.
+pub(crate) const WORD_COUNT: usize = 256;
 
 // The width of words that are numbers: their symbols are the binary digits, as they stand on the tape, the
 // rightmost the lowest. So their order is that of their texts.
 //
-// A head that moves by one takes the nearest symbol of the word ahead, puts the written one to the word
-// behind, and each of the two words loses a symbol at the end that it moves away from, and gets one at the
-// end to which it moves.
+// In a move both words about the head lose the symbol at the end from which it moves away, and get one at the
+// end to which it moves: the word behind the written one, the word ahead the one that comes into view.
 #[derive(Clone, Copy)]
 pub(crate) struct Width {
     pub symbols: u8,
@@ -17,6 +20,11 @@ pub(crate) struct Width {
 }
 
 impl Width {
+    // The word of ones, the greatest.
+    pub fn greatest(self) -> u8 {
+        u8::MAX >> (MAX_WIDTH - self.symbols)
+    }
+
     // The symbol at an end of a word.
     pub fn end(self, word: u8, end: Dir) -> Sym {
         let lowest = match end {

@@ -18,6 +18,8 @@ mod deciding;
 #[cfg(test)]
 mod ledgers;
 #[cfg(test)]
+mod position_set_search;
+#[cfg(test)]
 mod position_sets;
 #[cfg(test)]
 mod records;

@@ -1,0 +1,188 @@
+// What is searched of closed position sets, and lists that keep their own text. All sets here were computed
+// by a program apart from this one, from the definition.
+use crate::texts::table_of;
+use machine_text::Table;
+use ngram_cps::{Ngram, NgramFinder, OwnedNgram};
+use run::{Evidence, Verdict};
+use std::process::Abort;
+
+// Machines with the least width at which they have a closed position set, and its lists.
+const SETS: [(&str, u8, &str, &str, &str); 6] = [
+    ("1RA---", 1, "0,1", "0", "0A00,1A00"),
+    ("1LA---", 1, "0", "0,1", "0A00,0A01"),
+    ("0RB---_0LA---", 1, "0", "0", "0A00,0B00"),
+    ("1RB---_0LB0LA", 2, "00,01", "00", "00A000,00B100,01B000"),
+    (
+        "1RB---_0RC---_0LC0LA",
+        3,
+        "000,001,010",
+        "000",
+        "000A0000,000C1000,001B0000,001C0000,010C0000",
+    ),
+    (
+        "1RB---_0RC0RB_0LC1LA",
+        4,
+        "0000,0001,0010,0100",
+        "0000,1000",
+        "0000A00000,0000A01000,0000C10000,0001B00000,0001B10000,0001C00000,0010B00000,0010C00000,0100C00000",
+    ),
+];
+
+// The same with the numbers of bytes of the lists.
+const LARGE_SETS: [(&str, u8, usize, usize, usize); 6] = [
+    ("0RB---_0LC0RE_1LD1RA_0RC1LB_---1RD", 5, 47, 29, 389),
+    ("1RB0LE_1LB0RC_1RA0LD_1LE---_0LC1LA", 6, 111, 146, 2819),
+    ("1RB0LA_1RC0LA_0RD1RE_1LD1LA_---0RB", 6, 69, 447, 11_384),
+    ("1RB1LA_0RC1RD_1LC0LA_---0RA", 7, 231, 71, 1682),
+    ("1RB1LB_1LC0RB_1LD1LA_0LA---", 8, 584, 134, 3039),
+    ("1RB1RA_1RC---_1LD1LC_1RA0LD", 8, 80, 728, 7352),
+];
+
+// What a finder finds, though memory be refused once: it goes on as if nothing had been.
+fn found(
+    rt: &impl Abort,
+    finder: &mut NgramFinder,
+    budget: u64,
+    table: &Table,
+) -> Option<OwnedNgram> {
+    for _ in 0..2 {
+        if let Ok(found) = finder.search(table, budget) {
+            return found;
+        }
+    }
+    panic!(rt; "memory was refused twice")
+}
+
+#[test]
+fn least_sets_are_found(rt: HostRuntime) {
+    let alloc = rt.alloc();
+    for (text, width, left, right, local) in SETS {
+        let table = table_of(&rt, text);
+        for finder_width in 0..=8 {
+            let mut finder = NgramFinder::new(alloc, finder_width);
+            let found = found(&rt, &mut finder, 1000, &table);
+            if finder_width < width as u64 {
+                assert!(rt; found == None, "{text} {finder_width}: {found:?}");
+                continue;
+            }
+            let Some(found) = found else {
+                panic!(rt; "{text} {finder_width}: nothing was found")
+            };
+            let lists = found.lent();
+            assert!(rt;
+                lists.states() == table.states() && lists.width() == width,
+                "{text}"
+            );
+            assert!(rt; lists.left() == left.as_bytes(), "{text}");
+            assert!(rt; lists.right() == right.as_bytes(), "{text}");
+            assert!(rt; lists.local() == local.as_bytes(), "{text}");
+            assert!(rt; lists.check(alloc, &table) == Ok(Verdict::Never), "{text}");
+        }
+    }
+}
+
+#[test]
+fn large_sets_are_found(rt: HostRuntime) {
+    let alloc = rt.alloc();
+    // A width beyond 8 counts as 8.
+    let mut finder = NgramFinder::new(alloc, u64::MAX);
+    for (text, width, left, right, local) in LARGE_SETS {
+        let table = table_of(&rt, text);
+        let Some(found) = found(&rt, &mut finder, 1000, &table) else {
+            panic!(rt; "{text}: nothing was found")
+        };
+        let lists = found.lent();
+        assert!(rt; lists.width() == width, "{text}");
+        let (left_len, right_len) = (lists.left().len(), lists.right().len());
+        assert!(rt; left_len == left && right_len == right, "{text}");
+        assert!(rt; lists.local().len() == local, "{text}");
+        assert!(rt; lists.check(alloc, &table) == Ok(Verdict::Never), "{text}");
+    }
+}
+
+// Machines that halt have no closed position set, and no width up to 8 serves the last one.
+#[test]
+fn no_set_is_found_where_there_is_none(rt: HostRuntime) {
+    let mut finder = NgramFinder::new(rt.alloc(), 8);
+    for text in [
+        "------",
+        "1RB1LB_1LA---",
+        "1RB---_1LB0RC_1LC1LA",
+        "1RB1LB_1LA0LC_---1LD_1RD0RA",
+        "1RB1LC_1RC1RB_1RD0LE_1LA1LD_---0LA",
+        "0RB0LA_1RC---_1LA1RB",
+    ] {
+        let found = found(&rt, &mut finder, u64::MAX, &table_of(&rt, text));
+        assert!(rt; found == None, "{text}: {found:?}");
+    }
+}
+
+// Without a budget nothing is found, and one that is small is enough for a small set.
+#[test]
+fn the_budget_bounds_the_search(rt: HostRuntime) {
+    let mut finder = NgramFinder::new(rt.alloc(), 8);
+    for (text, budget, is_found) in [
+        ("1RA---", 0, false),
+        ("1RA---", 1, true),
+        ("1RB1LB_1LC0RB_1LD1LA_0LA---", 1, false),
+        ("1RB1LB_1LC0RB_1LD1LA_0LA---", 1000, true),
+    ] {
+        let found = found(&rt, &mut finder, budget, &table_of(&rt, text));
+        assert!(rt; found.is_some() == is_found, "{text} {budget}: {found:?}");
+    }
+}
+
+// What a finder finds of a table doesn't hang on the tables before it.
+#[test]
+fn a_finder_begins_anew(rt: HostRuntime) {
+    let alloc = rt.alloc();
+    let mut finder = NgramFinder::new(alloc, 8);
+    for _ in 0..2 {
+        for (text, _, _, _, _) in LARGE_SETS {
+            let table = table_of(&rt, text);
+            let now = found(&rt, &mut finder, 1000, &table);
+            let afresh = found(&rt, &mut NgramFinder::new(alloc, 8), 1000, &table);
+            assert!(rt; now.is_some() && now == afresh, "{text}");
+        }
+        for (text, _, _, _, _) in SETS {
+            let table = table_of(&rt, text);
+            let now = found(&rt, &mut finder, 1000, &table);
+            let afresh = found(&rt, &mut NgramFinder::new(alloc, 8), 1000, &table);
+            assert!(rt; now.is_some() && now == afresh, "{text}");
+        }
+        let halting = table_of(&rt, "1RB1LB_1LA---");
+        assert!(rt; found(&rt, &mut finder, 1000, &halting) == None);
+    }
+}
+
+// Lists are copied whole, and lent as they were.
+#[test]
+fn owned_lists_are_those_that_were_copied(rt: HostRuntime) {
+    let alloc = rt.alloc();
+    for (text, width, left, right, local) in SETS {
+        let table = table_of(&rt, text);
+        if width == 0 {
+            panic!(rt; "0 is no width");
+        }
+        if width > 8 {
+            panic!(rt; "{width} is no width");
+        }
+        if !Ngram::are_short(left.as_bytes(), right.as_bytes(), local.as_bytes()) {
+            panic!(rt; "{text}: the lists are too long");
+        }
+        let Some(lists) = Ngram::new(
+            table.states(),
+            width,
+            left.as_bytes(),
+            right.as_bytes(),
+            local.as_bytes(),
+        ) else {
+            panic!(rt; "{text}: these are lists")
+        };
+        let Ok(owned) = OwnedNgram::of(alloc, &lists) else {
+            continue;
+        };
+        assert!(rt; owned.lent() == lists, "{text}");
+        assert!(rt; owned.lent().holds(&table), "{text}");
+    }
+}

@@ -5,3 +5,4 @@ pub mod TrueClaims
 pub mod Lines
 pub mod Refusals
 pub mod ThreeLists
+pub mod Asked

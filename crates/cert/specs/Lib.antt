@@ -2,6 +2,7 @@ pub mod Limits
 pub mod Claim
 pub mod Certified
 pub mod Grammar
+pub mod Asking
 pub mod Kinds
 pub mod Fault
 pub mod Inside

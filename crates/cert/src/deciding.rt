@@ -1,7 +1,9 @@
 // From finders to a record that is certified.
-ghost use Rattle.std.specs.Prelude.{◌≡◌, true, IfOk};
+ghost use Rattle.std.specs.Prelude.{◌≡◌, ◌↔◌, IsTrue, Option, Some, IfOk, MatchOption, option_map};
+ghost use Rattle.cert.specs.Asking.{Answered, IsTaken};
 ghost use Rattle.cert.specs.Certified.{IsCertified};
-ghost use Rattle.cert.specs.Kinds.{owned_recorded};
+ghost use Rattle.cert.specs.Claim.{Claim};
+ghost use Rattle.cert.specs.Kinds.{owned_claim, owned_recorded};
 
 use crate::certificate::OwnedCertificate;
 use crate::finder::Finder;
@@ -23,16 +25,11 @@ pub fn decide(
 ) -> Result<OwnedRecord, NoMemory>
     ensures table { IfOk result (λ r. r.table ≡ t.now) }
     ensures certified { IfOk result (λ r. IsCertified (owned_recorded r)) }
+    ensures order { IfOk result (λ r. Answered (λ f claim. gives f t.now budget claim) t.now finders.old (owned_claim r.certificate)) }
 {
     for finder in finders.iter_mut() {
-        if let Some(certificate) = finder.find(t, budget)? {
-            let record = OwnedRecord {
-                table: *t,
-                certificate,
-            };
-            if is_decided(alloc, &record)? {
-                return Ok(record);
-            }
+        if let Some(record) = taken(alloc, finder, t, budget)? {
+            return Ok(record);
         }
     }
     Ok(OwnedRecord {
@@ -41,9 +38,46 @@ pub fn decide(
     })
 }
 
+// The record of what a finder gives for a table, if it claims something and stands.
+fn taken(
+    alloc: Global,
+    finder: &mut Box<dyn Finder>,
+    t: &Table,
+    budget: u64,
+) -> Result<Option<OwnedRecord>, NoMemory>
+    ensures { IfOk result (λ o. (given : Option Claim) × gives finder.old t.now budget given
+        × MatchOption o (IsTaken t.now given → ⊥) (λ r. (r.table ≡ t.now) × IsTaken t.now given × (given ≡ Some (owned_claim r.certificate)))) }
+{
+    match ask(finder, t, budget)? {
+        Some(certificate) => {
+            let record = OwnedRecord {
+                table: *t,
+                certificate,
+            };
+            if is_decided(alloc, &record)? {
+                Ok(Some(record))
+            } else {
+                Ok(None)
+            }
+        }
+        None => Ok(None),
+    }
+}
+
+// What a finder gives for a table.
+fn ask(
+    finder: &mut Box<dyn Finder>,
+    t: &Table,
+    budget: u64,
+) -> Result<Option<OwnedCertificate>, NoMemory>
+    ensures { IfOk result (λ o. gives finder.old t.now budget (option_map owned_claim o)) }
+{
+    finder.find(t, budget)
+}
+
 // Whether a record claims something, and that stands.
 fn is_decided(alloc: Global, r: &OwnedRecord) -> Result<bool, NoMemory>
-    ensures { IfOk result (λ decided. decided ≡ true → IsCertified (owned_recorded r.now)) }
+    ensures { IfOk result (λ decided. IsTrue decided ↔ IsTaken r.now.table (Some (owned_claim r.now.certificate))) }
 {
     // The parts by their names: the borrow checker's proof has to know of what the record is made.
     let record = Record {

@@ -17,6 +17,10 @@ use std::test::Fail;
 struct Five;
 
 impl Finder for Five {
+    ghost use Rattle.std.specs.Prelude.{⊤};
+
+    ghost gives = { λ finder p budget claim. ⊤ };
+
     fn find(&mut self, _t: &Table, _budget: u64) -> Result<Option<OwnedCertificate>, NoMemory> {
         Ok(Some(OwnedCertificate::Halts(HaltsIn(5))))
     }
@@ -27,6 +31,10 @@ impl Finder for Five {
 struct Shy;
 
 impl Finder for Shy {
+    ghost use Rattle.std.specs.Prelude.{⊤};
+
+    ghost gives = { λ finder p budget claim. ⊤ };
+
     fn find(&mut self, _t: &Table, _budget: u64) -> Result<Option<OwnedCertificate>, NoMemory> {
         Ok(Some(OwnedCertificate::Undecided))
     }

@@ -1,0 +1,5 @@
+pub mod Limits
+pub mod Automata
+pub mod Texts
+pub mod Far
+pub mod inside

@@ -1,0 +1,3 @@
+-- What the crate's own code needs to say of its steps; no public contract speaks of it.
+pub mod Sets
+pub mod Steps

@@ -1,2 +1,6 @@
 pub mod Bits
 pub mod Edges
+pub mod Cuts
+pub mod Digits
+pub mod Reading
+pub mod WellFormed

@@ -4,7 +4,9 @@ ghost use Rattle.machine_text.specs.Limits.{state_limit};
 ghost use Rattle.far.specs.Limits.{size_limit};
 ghost use Rattle.far.specs.Automata.{automata, AreAutomata};
 
+use crate::hexadecimal::hex_number;
 use crate::limits::{MAX_MOVES, MAX_ROWS, MAX_SIZE, Set};
+use crate::numbers::{delta_of, rows_of, set_limit};
 use machine_text::{Dir, Table};
 use run::{Evidence, Refused, Verdict};
 use std::alloc::Global;
@@ -26,7 +28,8 @@ pub struct Far {
 }
 
 impl Far {
-    ghost use Rattle.std.specs.Prelude.{◌↔◌, ◌<◌, IsTrue};
+    ghost use Rattle.std.specs.Prelude.{◌↔◌, IsTrue, IfSome, IfNone};
+    ghost use Rattle.far.specs.Texts.{AreTexts, automata_by};
     ghost use Rattle.far.specs.Automata.{AreAutomataOf};
     ghost use Rattle.far.specs.Far.{automata_of};
     ghost use Rattle.far.specs.inside.Steps.{last};
@@ -36,6 +39,38 @@ impl Far {
         ensures { IsTrue result ↔ ((1 ≤ size) × (size ≤ size_limit)) }
     {
         1 <= size && size <= MAX_SIZE as u64
+    }
+
+    /// The automata that three texts give, for tables of so many states: where the first one goes, digit by digit;
+    /// the edges of the second, and what is kept, in hexadecimal. None where a text isn't such numbers. Takes no
+    /// memory.
+    pub fn new(
+        states: u8,
+        side: Dir,
+        size: u8,
+        delta: &[u8],
+        rows: &[u8],
+        keep: &[u8],
+    ) -> Option<Far>
+        requires states { (1 ≤ states) × (states ≤ state_limit) }
+        requires size { (1 ≤ size) × (size ≤ size_limit) }
+        ensures some { IfSome result (λ e. automata_of e ≡ automata_by states side size delta.now rows.now keep.now) }
+        ensures texts { IfSome result (λ e. AreTexts states size delta.now rows.now keep.now) }
+        ensures none { IfNone result (AreTexts states size delta.now rows.now keep.now → ⊥) }
+    {
+        let last = size as usize * states as usize;
+        let limit = set_limit(last);
+        let delta = delta_of(delta, size)?;
+        let rows = rows_of(rows, 2 * last, limit)?;
+        let keep = hex_number(keep, limit)?;
+        Some(Far {
+            states,
+            side,
+            size,
+            delta,
+            rows,
+            keep,
+        })
     }
 
     /// How many states the tables have for which the automata are made.

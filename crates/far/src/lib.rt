@@ -9,7 +9,10 @@
 
 mod far;
 mod fitting;
+mod hexadecimal;
 mod limits;
+mod numbers;
+mod parts;
 mod sets;
 
 pub use far::Far;

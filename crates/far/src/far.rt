@@ -6,7 +6,7 @@ ghost use Rattle.far.specs.Automata.{automata, AreAutomata};
 
 use crate::hexadecimal::hex_number;
 use crate::limits::{MAX_MOVES, MAX_ROWS, MAX_SIZE, Set};
-use crate::numbers::{delta_of, rows_of, set_limit};
+use crate::numbers::{are_sets, are_states, delta_of, rows_of, set_limit};
 use machine_text::{Dir, Table};
 use run::{Evidence, Refused, Verdict};
 use std::alloc::Global;
@@ -63,6 +63,40 @@ impl Far {
         let delta = delta_of(delta, size)?;
         let rows = rows_of(rows, 2 * last, limit)?;
         let keep = hex_number(keep, limit)?;
+        Some(Far {
+            states,
+            side,
+            size,
+            delta,
+            rows,
+            keep,
+        })
+    }
+
+    // The automata with these numbers; none where one is too large.
+    pub(crate) fn from_numbers(
+        states: u8,
+        side: Dir,
+        size: u8,
+        delta: [u8; MAX_MOVES],
+        rows: [Set; MAX_ROWS],
+        keep: Set,
+    ) -> Option<Far>
+        requires states { (1 ≤ states) × (states ≤ state_limit) }
+        requires size { (1 ≤ size) × (size ≤ size_limit) }
+        ensures { IfSome result (λ e. automata_of e
+            ≡ automata states side size (take (2 * size) delta) (take (2 * (size * states)) rows) keep) }
+    {
+        let limit = set_limit(size as usize * states as usize);
+        if !are_states(&delta, size) {
+            return None;
+        }
+        if !are_sets(&rows, limit) {
+            return None;
+        }
+        if keep >= limit {
+            return None;
+        }
         Some(Far {
             states,
             side,

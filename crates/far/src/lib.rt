@@ -7,13 +7,18 @@
 //! own code.
 #![tactic(auto)]
 
+#[cfg(test)]
+mod automata_test;
 mod far;
+mod far_finder;
 mod fitting;
 mod hexadecimal;
 mod limits;
 mod numbers;
+mod partial;
 mod parts;
 mod sets;
 
 pub use far::Far;
+pub use far_finder::FarFinder;
 pub use limits::{MAX_SIZE, Set};

@@ -1,6 +1,7 @@
 // The numbers of automata, read from their texts.
-ghost use Rattle.std.specs.Prelude.{◌≡◌, ◌+◌, ◌-◌, ◌*◌, ◌^◌, ◌<◌, ◌≤◌, IfSome, IfNone, length, take};
+ghost use Rattle.std.specs.Prelude.{◌≡◌, ◌+◌, ◌-◌, ◌*◌, ◌^◌, ◌<◌, ◌≤◌, ◌↔◌, IsTrue, IfSome, IfNone, length, take};
 ghost use Rattle.far.specs.Limits.{size_limit};
+ghost use Rattle.far.specs.inside.Reading.{AreBelow};
 ghost use Rattle.far.specs.Texts.{IsDelta, IsRows, delta_of, rows_of};
 
 use crate::hexadecimal::hex_number;
@@ -56,4 +57,20 @@ pub(crate) fn set_limit(last: usize) -> Set
     ensures small { result ≤ 2 ^ 57 }
 {
     1 << (last + 1)
+}
+
+// Whether each number is a state of a first automaton of a size.
+pub(crate) fn are_states(numbers: &[u8], size: u8) -> bool
+    requires { 1 ≤ size }
+    ensures { IsTrue result ↔ AreBelow size numbers.now }
+{
+    numbers.iter().all(|number| *number < size)
+}
+
+// Whether each number is below a limit.
+pub(crate) fn are_sets(numbers: &[Set], limit: Set) -> bool
+    requires { 1 ≤ limit }
+    ensures { IsTrue result ↔ AreBelow limit numbers.now }
+{
+    numbers.iter().all(|number| *number < limit)
 }

@@ -15,6 +15,10 @@ pub record IsWritten (number rest at : ℕ) (buf : List ℕ) : Type 0 where
   pub size : length buf ≡ 16
   pub digits : map hex_glyph (digits_of 16 rest) ++ drop at buf ≡ map hex_glyph (digits_of 16 number)
 
+-- each number is below a limit
+pub record AreBelow (limit : ℕ) (numbers : List ℕ) : Type 0 where
+  pub each : (k : ℕ) → k < length numbers → slice_index numbers k < limit
+
 -- so many numbers of delta are read
 pub record AreMoves (size : ℕ) (text : List ℕ) (reach : ℕ) (delta : List ℕ) : Type 0 where
   pub length_is : length delta ≡ 16

@@ -2,4 +2,5 @@ pub mod Limits
 pub mod Automata
 pub mod Texts
 pub mod Far
+pub mod OwnedFar
 pub mod inside

@@ -2,4 +2,5 @@
 pub mod Sets
 pub mod Parts
 pub mod Reading
+pub mod Owned
 pub mod Steps

@@ -7,18 +7,19 @@
 //! own code.
 #![tactic(auto)]
 
-#[cfg(test)]
-mod automata_test;
+mod copies;
 mod far;
 mod far_finder;
 mod fitting;
 mod hexadecimal;
 mod limits;
 mod numbers;
+mod owned_far;
 mod partial;
 mod parts;
 mod sets;
 
 pub use far::Far;
 pub use far_finder::FarFinder;
+pub use owned_far::OwnedFar;
 pub use limits::{MAX_SIZE, Set};

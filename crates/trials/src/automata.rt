@@ -1,5 +1,5 @@
 // Automata with their answers, texts that aren't automata, and what the finder finds.
-use crate::Far;
+use far::Far;
 use machine_text::{Dir, Table};
 use run::{Evidence, Refused, Verdict};
 use std::process::Abort;
@@ -20,7 +20,8 @@ fn automata_of(
     delta: &str,
     rows: &str,
     keep: &str,
-) -> Option<Far> {
+) -> Option<Far>
+{
     if !Far::is_size(size as u64) {
         panic!(rt; "{size} is no size");
     }
@@ -100,13 +101,9 @@ fn automata_are_judged(rt: HostRuntime) {
         ),
     ] {
         let table = table_of(&rt, text);
-        let found = automata_of(&rt, table.states(), side, size, delta, rows, keep).map(
-            |automata| automata.check(alloc, &table),
-        );
-        assert!(rt;
-            found == answer,
-            "{text} F {side:?} {size} {delta} {rows} {keep}: {found:?}"
-        );
+        let found = automata_of(&rt, table.states(), side, size, delta, rows, keep)
+            .map(|automata| automata.check(alloc, &table));
+        assert!(rt; found == answer, "{text} F {side:?} {size} {delta} {rows} {keep}: {found:?}");
     }
 }
 
@@ -199,8 +196,7 @@ fn texts_are_automata_or_not(rt: HostRuntime) {
 // The widest sets have 49 bits: of six states, with a first automaton of eight.
 #[test]
 fn the_widest_sets_have_49_bits(rt: HostRuntime) {
-    let rows =
-        "1ffffffffffff,fedcba987654,0,0,0,0,0,0,0,0,0,0,0,0,0,0,0,0,0,0,0,0,0,0,0,0,0,0,0,0,0,0,0,0,0,0,0,0,0,0,0,0,0,0,0,0,0,0,0,0,0,0,0,0,0,0,0,0,0,0,0,0,0,0,0,0,0,0,0,0,0,0,0,0,0,0,0,0,0,0,0,0,0,0,0,0,0,0,0,0,0,0,0,0,0,1000000000000";
+    let rows = "1ffffffffffff,fedcba987654,0,0,0,0,0,0,0,0,0,0,0,0,0,0,0,0,0,0,0,0,0,0,0,0,0,0,0,0,0,0,0,0,0,0,0,0,0,0,0,0,0,0,0,0,0,0,0,0,0,0,0,0,0,0,0,0,0,0,0,0,0,0,0,0,0,0,0,0,0,0,0,0,0,0,0,0,0,0,0,0,0,0,0,0,0,0,0,0,0,0,0,0,0,1000000000000";
     let delta = "0123456701234567";
     let Some(automata) = automata_of(&rt, 6, Dir::L, 8, delta, rows, "1ffffffffffff") else {
         panic!(rt; "these are automata");

@@ -4,3 +4,4 @@ pub mod Cuts
 pub mod Digits
 pub mod Reading
 pub mod WellFormed
+pub mod RoundTrip

@@ -12,14 +12,17 @@ mod far;
 mod far_finder;
 mod fitting;
 mod hexadecimal;
+mod laws;
 mod limits;
 mod numbers;
 mod owned_far;
 mod partial;
 mod parts;
 mod sets;
+mod writing;
 
 pub use far::Far;
 pub use far_finder::FarFinder;
-pub use owned_far::OwnedFar;
+pub use laws::texts_read_back;
 pub use limits::{MAX_SIZE, Set};
+pub use owned_far::OwnedFar;

@@ -1,8 +1,8 @@
 -- Numbers in hexadecimal, digit by digit.
-use Rattle.std.proofs.Common.{◌≡◌, ℕ, zero, suc, ◌+◌, ◌-◌, ◌*◌, ◌/◌, ◌%◌, ◌^◌, ◌<◌, ◌≤◌, Bool, true, false, cond, List, [], ◌∷◌, ◌++◌, length, take, drop, get_or, map, set, refl, sym, ◌∙◌, ap, arith}
+use Rattle.std.proofs.Common.{◌≡◌, ℕ, suc, ◌+◌, ◌-◌, ◌*◌, ◌/◌, ◌%◌, ◌^◌, ◌<◌, ◌≤◌, cond, List, [], ◌∷◌, ◌++◌, length, take, drop, get_or, map, set, refl, sym, ◌∙◌, ap, arith}
 use Rattle.std.specs.Int.Digits.{digits_of, number_from_digits}
 use Rattle.std.proofs.lemmas.Bool.{ne_eqb}
-use Rattle.std.proofs.lemmas.List.{take_more, map-append, take-append-drop, append_assoc, drop-set-lt, drop_all, get_or-set_same, length-set, length-map}
+use Rattle.std.proofs.lemmas.List.{take_more, map-append, take-append-drop, append_assoc, drop-set-lt, drop_all, get_or-set_same, length-set}
 use Rattle.std.proofs.Math.Seq.{drop-cons}
 use Rattle.std.proofs.lemmas.Int.Digits.{digits_of_step, length-digits_of_step, length-digits_of-le, number_push, number_after_append, number_after_ge}
 use Rattle.far.specs.Texts.{hex_glyph, hex_value, hex_text, hex_worth}

@@ -1,7 +1,6 @@
 -- Numbers that hold what each state of the second automaton asks for describe automata of the table.
-use Rattle.std.proofs.Common.{◌≡◌, ◌≢◌, ℕ, ◌+◌, ◌*◌, ◌/◌, ◌%◌, ◌^◌, ◌<◌, ◌≤◌, Bool, true, false, ◌&&◌, Option, Some, None, refl, inl, inr, sym, ◌∙◌, ap, subst, arith}
+use Rattle.std.proofs.Common.{◌≡◌, ℕ, ◌+◌, ◌*◌, ◌/◌, ◌%◌, ◌<◌, ◌≤◌, Bool, false, Option, Some, None, refl, inl, inr, sym, subst, arith}
 use Rattle.std.specs.Prelude.{◌↔◌, IsTrue, List, nat_lt}
-use Rattle.std.specs.Int.{bit_at}
 use Rattle.std.proofs.Math.Nat.{mul_comm}
 use Rattle.std.proofs.lemmas.Bool.{cases_lt, cases_eq, both_ways, and_parts, and_from, ltb-true, lt-ltb}
 use Rattle.std.proofs.lemmas.Nat.{mul-add-lt, div-mul-add, mod-mul-add, div-add-mod', div_below, mod_below}
@@ -10,13 +9,12 @@ use Rattle.machine_text.specs.declared.transition.Sym.{Sym}
 use Rattle.machine_text.specs.declared.transition.Sym.TheVariants.{Zero, One}
 use Rattle.machine_text.specs.declared.transition.Entry.{Entry}
 use Rattle.machine_text.specs.Packed.{Packed, IsTable, symbol_number, entry_of}
-use Rattle.turing.specs.Program.{Program, IsMachine}
-use Rattle.turing.specs.Automata.{Node, At, Halt, Fits}
+use Rattle.turing.specs.Automata.{Node, At, Halt}
 use Rattle.turing.proofs.TableLaws.{table_machine}
 use Rattle.far.specs.Automata.{Automata, has, is_node, has_node, node_number, row_at, target, has_edge, described, AreAutomata, AreAutomataOf}
 use Rattle.far.specs.inside.Sets.{Gathers, IsPart}
 use Rattle.far.specs.inside.Steps.{last, ReachesIn, FitsEntry, FitsBy, FitsPair, EachFits, KeepsBlank}
-use Rattle.far.proofs.Bits.{bit_of, part_from, part_union}
+use Rattle.far.proofs.Bits.{bit_of}
 
 -- the union of the rows of a set's members is what they reach, the halt state apart
 pub reaches_iff : (a : Automata) (rows : List ℕ) (set row union r reach : ℕ) (s : Sym) (part : Bool) → rows ≡ a.rows → r ≡ symbol_number s → reach ≡ last a → Gathers rows set r reach union

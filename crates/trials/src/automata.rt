@@ -1,5 +1,5 @@
 // Automata with their answers, texts that aren't automata, and what the finder finds.
-use far::Far;
+use far::{Far, FarFinder, OwnedFar};
 use machine_text::{Dir, Table};
 use run::{Evidence, Refused, Verdict};
 use std::process::Abort;
@@ -55,7 +55,7 @@ fn automata_are_judged(rt: HostRuntime) {
         // Nothing is kept; then only the halt state.
         ("1RA---", Dir::R, 1, "00", "1,2", "0", fails),
         ("1RA---", Dir::R, 1, "00", "1,2", "2", fails),
-        // The other way is ahead, and the edge there isn't to the halt state alone.
+        // The other way is ahead: the table moves back.
         ("1RA---", Dir::L, 1, "00", "2,2", "1", fails),
         // What is kept isn't closed.
         ("1RA---", Dir::R, 2, "0111", "2,4,2,4", "1", fails),
@@ -231,5 +231,95 @@ fn automata_keep_their_fields(rt: HostRuntime) {
 fn sizes_have_a_limit(rt: HostRuntime) {
     for (size, answer) in [(0, false), (1, true), (8, true), (9, false)] {
         assert!(rt; Far::is_size(size) == answer, "{size}");
+    }
+}
+
+// What is written reads back, and so does what an owned claim lends.
+#[test]
+fn automata_are_written_and_owned(rt: HostRuntime) {
+    let alloc = rt.alloc();
+    for (states, side, size, delta, rows, keep) in [
+        (1, Dir::R, 1, "00", "1,2", "1"),
+        (1, Dir::L, 1, "00", "0,0", "0"),
+        (2, Dir::R, 2, "0111", "2,10,0,10,8,10,10,1f", "3"),
+        (
+            1,
+            Dir::L,
+            8,
+            "0123456701234567",
+            "1ff,1ab,9,0,1,2,1ff,1ab,9,0,1,2,1ff,1ab,9,0",
+            "fe",
+        ),
+    ] {
+        let Some(automata) = automata_of(&rt, states, side, size, delta, rows, keep) else {
+            panic!(rt; "{rows} are rows");
+        };
+        let mut text = Vec::new(alloc);
+        let written = automata.append_fields(&mut text);
+        assert!(rt; written.is_ok());
+        let fields = format!(in alloc; "{delta} {rows} {keep}");
+        assert!(rt; fields.is_ok_and(|fields| fields.as_bytes() == text.as_slice()), "{rows}");
+        match OwnedFar::of(alloc, &automata) {
+            Ok(owned) => assert!(rt; owned.lent() == automata, "{rows}"),
+            Err(fault) => panic!(rt; "{fault:?}"),
+        }
+    }
+}
+
+// The least size of automata for a table, up to 3, as an enumeration of all of them by their definition gives it;
+// 0 where there are none.
+#[test]
+fn automata_of_the_least_size_are_found(rt: HostRuntime) {
+    let mut finder = FarFinder::new(rt.alloc(), 3);
+    for (text, size) in [
+        ("1RA---", 1),
+        ("0RB---_0LA---", 2),
+        ("------", 0),
+        ("1RB---_1LB0RC_1LC1LA", 0),
+        ("1RB1LB_1LA0LC_---1LD_1RD0RA", 0),
+        ("---1LB_1LA1RA", 0),
+        ("1LB1LB_---1LA_1RC1LB", 0),
+        ("0RB1RB_---1RB_1LC1RB", 0),
+        ("---0RB_0LC0RC_1LB1RA", 0),
+        ("0RB1LA_1LC1LB_0RD---_1LA1RD", 1),
+        ("1RB---_0RA1LA", 1),
+        ("0RC1RB_0RC---_1LC0LC", 1),
+        ("1RB---_0RC1LB_1LA0LA", 1),
+        ("0RB1RC_0LB---_0RB0RC", 2),
+        ("0LC---_0LB1LC_1RA1LB", 2),
+        ("0RB1RC_1LB1RA_1RB---", 2),
+        ("0LB---_1RC0LA_1LC0LA", 2),
+        ("1RB1LB_0RC0RC_0LA---", 2),
+        ("1RB0RB_0LC1RC_---0RA", 2),
+        ("0RB1RB_1LC1RB_1LA1LD_---0LA", 3),
+        ("0RB0LC_1LC0RD_1LA---_1RB1RA", 3),
+        ("0RB1RC_1LC1RB_1LA1LD_---1LA", 3),
+        ("0RB0LC_0LC0RD_1LA1RC_1RB---", 3),
+        ("0RB0LA_0LC1RB_1LA0RD_1RC---", 3),
+        ("1RB0LC_0RC---_1LD1RB_0LA0LC", 3),
+        ("1RC1RB_0RA0LC_1LB---", 3),
+        ("0RB1RC_1LC1RB_1LA1LD_---0LA", 3),
+    ] {
+        let table = table_of(&rt, text);
+        match finder.search(&table, 1_000) {
+            Ok(Some(found)) => assert!(rt; found.size() == size && found.holds(&table), "{text}"),
+            Ok(None) => assert!(rt; size == 0, "{text}"),
+            Err(fault) => panic!(rt; "{fault:?}"),
+        }
+    }
+}
+
+// A finder goes no further than its size and the budget.
+#[test]
+fn finders_of_automata_have_bounds(rt: HostRuntime) {
+    let alloc = rt.alloc();
+    let table = table_of(&rt, "0RB---_0LA---");
+    for (size, budget, answer) in [(0, 1_000, 0), (1, 1_000, 0), (2, 1_000, 2), (9, 1, 2), (2, 0, 0)] {
+        let mut finder = FarFinder::new(alloc, size);
+        let found = match finder.search(&table, budget) {
+            Ok(found) => found.map_or(0, |automata| automata.size()),
+            Err(fault) => panic!(rt; "{fault:?}"),
+        };
+        assert!(rt; found == answer, "{size} {budget}");
     }
 }

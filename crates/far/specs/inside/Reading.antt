@@ -1,5 +1,5 @@
 -- How far texts are read or written.
-use Rattle.std.specs.Prelude.{◌≡◌, ℕ, ◌+◌, ◌*◌, ◌^◌, ◌<◌, ◌≤◌, List, [], ◌++◌, length, get_or, map, take, drop, slice_index}
+use Rattle.std.specs.Prelude.{◌≡◌, ℕ, ◌+◌, ◌^◌, ◌<◌, ◌≤◌, List, [], ◌++◌, length, get_or, map, take, drop, slice_index}
 use Rattle.std.specs.Int.Digits.{digits_of}
 use Rattle.far.specs.Texts.{hex_glyph, hex_worth, IsHex, delta_of, parts_of}
 

@@ -1,4 +1,4 @@
-use Rattle.std.proofs.Common.{◌+◌, ◌-◌, ◌*◌, ◌/◌, ◌%◌, ◌≡◌, ◌∙◌, refl, sym, subst, ap, arith, rules}
+use Rattle.std.proofs.Common.{◌≡◌, ◌∙◌, sym, subst, ap, arith, rules}
 use Rattle.far.specs.Texts.{hex_text}
 use Rattle.far.specs.inside.Reading.{IsWritten}
 use Rattle.far.proofs.Digits.{written_first, room_left, written_more, written_all}

@@ -1,4 +1,4 @@
-use Rattle.std.proofs.Common.{◌+◌, ◌*◌, ◌≡◌, arith, rules}
+use Rattle.std.proofs.Common.{◌+◌, arith}
 use Rattle.far.proofs.Digits.{worth_more, worth_so_far}
 use Rattle.far.proofs.hexadecimal.worth_of.Goals as goal
 

@@ -1,4 +1,4 @@
-use Rattle.std.proofs.Common.{◌+◌, ◌∷◌, ◌++◌, ◌≡◌, take, get_or, append_assoc, sym, ◌∙◌, ap, arith}
+use Rattle.std.proofs.Common.{◌∷◌, ◌++◌, take, get_or, append_assoc, sym, ◌∙◌, ap, arith}
 use Rattle.far.specs.Texts.{hex_text, rows_text}
 use Rattle.far.proofs.RoundTrip.{begun, rows_more}
 use Rattle.far.proofs.writing.append_rows.Goals as goal

@@ -1,4 +1,4 @@
-use Rattle.std.proofs.Common.{◌≡◌, ◌*◌, ◌+◌, ◌^◌, subst, rules}
+use Rattle.std.proofs.Common.{◌*◌, subst, rules}
 use Rattle.far.specs.Texts.{IsRows, IsHex}
 use Rattle.far.proofs.WellFormed.{texts_give}
 use Rattle.far.proofs.far.Far.new.Goals as goal

@@ -1,4 +1,4 @@
-use Rattle.std.proofs.Common.{ℕ, ◌≡◌, ◌<◌, List, length, get_or, set, inl, inr, subst, sym, arith, rules}
+use Rattle.std.proofs.Common.{ℕ, ◌<◌, List, length, get_or, set, inl, inr, subst, sym, arith, rules}
 use Rattle.std.proofs.lemmas.Bool.{cases_eq, cases_lt}
 use Rattle.std.proofs.lemmas.List.{get_or-set_same, get_or-set_other, get_or_past, length-set}
 use Rattle.far.proofs.partial.Partial.with_target.Goals as goal

@@ -4,6 +4,8 @@
 #![tactic(auto)]
 
 #[cfg(test)]
+mod automata;
+#[cfg(test)]
 mod backward_reasoning;
 #[cfg(test)]
 mod boards;

@@ -1,0 +1,7 @@
+pub mod Bits
+pub mod Edges
+pub mod Cuts
+pub mod Digits
+pub mod Reading
+pub mod WellFormed
+pub mod RoundTrip

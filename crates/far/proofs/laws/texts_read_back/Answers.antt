@@ -1,0 +1,5 @@
+use Rattle.far.proofs.RoundTrip.{texts_back, same_back, bytes_from_comma}
+use Rattle.far.proofs.laws.texts_read_back.Goals as goal
+
+pub returns : goal.returns
+returns c = record { texts = texts_back; same = same_back; bytes = bytes_from_comma }

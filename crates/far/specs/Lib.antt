@@ -1,0 +1,6 @@
+pub mod Limits
+pub mod Automata
+pub mod Texts
+pub mod Far
+pub mod OwnedFar
+pub mod inside

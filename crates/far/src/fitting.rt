@@ -1,0 +1,190 @@
+// Whether the numbers of two automata hold what a table asks for.
+ghost use Rattle.std.specs.Prelude.{◌≡◌, ◌↔◌, ◌+◌, ◌*◌, ◌<◌, ◌≤◌, IsTrue};
+ghost use Rattle.machine_text.specs.Packed.{entry_of, symbol_number};
+ghost use Rattle.far.specs.Automata.{AreAutomataOf, has, row_at, target};
+ghost use Rattle.far.specs.Far.{automata_of};
+ghost use Rattle.far.specs.inside.Steps.{last, ReachesIn, FitsEntry, FitsPair, EachFits, KeepsBlank};
+
+use crate::far::Far;
+use crate::limits::Set;
+use crate::sets::{has, is_part, union_over};
+use machine_text::{Dir, Entry, State, Sym, Table};
+
+impl Far {
+    // Whether the automata fit a table of their number of states.
+    pub(crate) fn fits(&self, t: &Table) -> bool
+        requires { self.now.states ≡ t.now.states }
+        ensures { IsTrue result ↔ AreAutomataOf (automata_of self.now) t.now }
+    {
+        // The proof needs that the table is one.
+        let _ = t.states();
+        if !self.keeps_blank() {
+            return false;
+        }
+        self.each_fits(t)
+    }
+
+    // Whether the blank tape is kept away from the halt state.
+    fn keeps_blank(&self) -> bool
+        ensures { IsTrue result ↔ KeepsBlank (automata_of self.now) }
+    {
+        if self.target(0, Sym::Zero) != 0 {
+            return false;
+        }
+        if !has(self.keep, 0) {
+            return false;
+        }
+        if has(self.keep, self.last()) {
+            return false;
+        }
+        self.reaches_in(self.keep, Sym::Zero, self.keep)
+    }
+
+    // Whether each state of the second automaton but the halt state has its edges.
+    fn each_fits(&self, t: &Table) -> bool
+        requires { self.now.states ≡ t.now.states }
+        ensures { IsTrue result ↔ EachFits (entry_of t.now) (automata_of self.now) (last (automata_of self.now)) }
+    {
+        let states = self.states as usize;
+        for j in 0..self.last() {
+            if !self.fits_pair(t, j / states, j % states, Sym::Zero) {
+                return false;
+            }
+            if !self.fits_pair(t, j / states, j % states, Sym::One) {
+                return false;
+            }
+        }
+        true
+    }
+
+    // Whether (q, f) has its edges on a symbol.
+    #[tactic(auto, unfolding(crate::specs::inside::Steps::FitsPair))]
+    fn fits_pair(&self, t: &Table, q: usize, f: usize, r: Sym) -> bool
+        requires states { self.now.states ≡ t.now.states }
+        requires first { q < self.now.size }
+        requires second { f < self.now.states }
+        ensures { IsTrue result ↔ FitsPair (entry_of t.now) (automata_of self.now) q f r }
+    {
+        match t.get(State(f as u8), r) {
+            Some(entry) => self.fits_entry(q, f, r, entry),
+            None => has(self.row(q, f, r), self.last()),
+        }
+    }
+
+    // Whether it has those that an entry asks for.
+    fn fits_entry(&self, q: usize, f: usize, r: Sym, entry: Entry) -> bool
+        requires first { q < self.now.size }
+        requires second { f < self.now.states }
+        requires next { entry.next.0 < self.now.states }
+        ensures { IsTrue result ↔ FitsEntry (automata_of self.now) q f r entry }
+    {
+        if !self.fits_ahead(q, f, r, entry) {
+            return false;
+        }
+        if !self.fits_back(q, f, r, entry, Sym::Zero) {
+            return false;
+        }
+        self.fits_back(q, f, r, entry, Sym::One)
+    }
+
+    // An entry that moves ahead: the first automaton reads the written symbol.
+    fn fits_ahead(&self, q: usize, f: usize, r: Sym, entry: Entry) -> bool
+        requires first { q < self.now.size }
+        requires second { f < self.now.states }
+        requires next { entry.next.0 < self.now.states }
+        ensures { IsTrue result ↔ (entry.dir ≡ self.now.side
+            → IsTrue (has (row_at (automata_of self.now) (q * self.now.states + f) r)
+            (target (automata_of self.now) q entry.write * self.now.states + entry.next.0))) }
+    {
+        if !is_ahead(entry.dir, self.side) {
+            return true;
+        }
+        let next = self.number(self.target(q, entry.write), entry.next.0 as usize);
+        has(self.row(q, f, r), next)
+    }
+
+    // An entry that moves back, where the first automaton has read b last: the second reads that again, and
+    // then the written symbol.
+    fn fits_back(&self, q: usize, f: usize, r: Sym, entry: Entry, b: Sym) -> bool
+        requires first { q < self.now.size }
+        requires second { f < self.now.states }
+        requires next { entry.next.0 < self.now.states }
+        ensures { IsTrue result ↔ ((entry.dir ≡ self.now.side → ⊥)
+            → ReachesIn (automata_of self.now) (row_at (automata_of self.now) (q * self.now.states + entry.next.0) b)
+            entry.write (row_at (automata_of self.now) (target (automata_of self.now) q b * self.now.states + f) r)) }
+    {
+        if is_ahead(entry.dir, self.side) {
+            return true;
+        }
+        let read = self.row(q, entry.next.0 as usize, b);
+        self.reaches_in(read, entry.write, self.row(self.target(q, b), f, r))
+    }
+
+    // Whether what the members of a set reach by a symbol is in a row.
+    fn reaches_in(&self, set: Set, s: Sym, row: Set) -> bool
+        ensures { IsTrue result ↔ ReachesIn (automata_of self.now) set s row }
+    {
+        if !halts_in(set, row, self.last()) {
+            return false;
+        }
+        is_part(
+            union_over(self.rows(), set, symbol_number(s), self.last()),
+            row,
+        )
+    }
+
+    // The edges of (q, f) on a symbol.
+    fn row(&self, q: usize, f: usize, r: Sym) -> Set
+        requires first { q < self.now.size }
+        requires second { f < self.now.states }
+        ensures { result ≡ row_at (automata_of self.now) (q * self.now.states + f) r }
+    {
+        self.rows()[2 * self.number(q, f) + symbol_number(r)]
+    }
+
+    // The number of (q, f).
+    fn number(&self, q: usize, f: usize) -> usize
+        requires first { q < self.now.size }
+        requires second { f < self.now.states }
+        ensures number { result ≡ q * self.now.states + f }
+        ensures below { result < last (automata_of self.now) }
+        ensures limit { result < 48 }
+    {
+        q * self.states as usize + f
+    }
+
+    // Where the first automaton goes from q on a symbol.
+    fn target(&self, q: usize, s: Sym) -> usize
+        requires { q < self.now.size }
+        ensures target { result ≡ target (automata_of self.now) q s }
+        ensures below { result < self.now.size }
+    {
+        self.delta()[2 * q + symbol_number(s)] as usize
+    }
+}
+
+// The number of a symbol.
+fn symbol_number(s: Sym) -> usize
+    ensures number { result ≡ symbol_number s }
+    ensures limit { result ≤ 1 }
+{
+    s as usize
+}
+
+// Whether a move is ahead.
+fn is_ahead(dir: Dir, side: Dir) -> bool
+    ensures { IsTrue result ↔ (dir ≡ side) }
+{
+    match (dir, side) {
+        (Dir::L, Dir::L) | (Dir::R, Dir::R) => true,
+        (Dir::L, Dir::R) | (Dir::R, Dir::L) => false,
+    }
+}
+
+// Whether the halt state, if it is in a set, is in a row too.
+fn halts_in(set: Set, row: Set, last: usize) -> bool
+    requires { last < 64 }
+    ensures { IsTrue result ↔ (IsTrue (has set last) → IsTrue (has row last)) }
+{
+    !has(set, last) || has(row, last)
+}

@@ -1,0 +1,86 @@
+// Numbers in hexadecimal.
+ghost use Rattle.std.specs.Prelude.{◌≡◌, ◌+◌, ◌-◌, ◌*◌, ◌^◌, ◌<◌, ◌≤◌, IfSome, IfNone, drop};
+ghost use Rattle.far.specs.Texts.{hex_glyph, hex_value, hex_text, hex_worth, IsHex};
+
+use crate::limits::Set;
+
+// The most digits of a set.
+pub(crate) const MAX_DIGITS: usize = 16;
+
+// The number below a limit of which a text is the hexadecimal form: in lower case, without leading zeros.
+pub(crate) fn hex_number(text: &[u8], limit: Set) -> Option<Set>
+    requires { limit ≤ 2 ^ 57 }
+    ensures some { IfSome result (λ n. (n ≡ hex_worth text.now) × IsHex limit text.now) }
+    ensures none { IfNone result (IsHex limit text.now → ⊥) }
+{
+    let number = worth_of(text, limit)?;
+    let mut buf = [0; MAX_DIGITS];
+    if hex_text(number, &mut buf) != text {
+        return None;
+    }
+    Some(number)
+}
+
+// What a row of digits is worth, where that is below a limit.
+fn worth_of(text: &[u8], limit: Set) -> Option<Set>
+    requires { limit ≤ 2 ^ 57 }
+    ensures some { IfSome result (λ n. (n ≡ hex_worth text.now) × (n < limit)) }
+    ensures none { IfNone result (limit ≤ hex_worth text.now) }
+{
+    let mut number: Set = 0;
+    for byte in text {
+        number = 16 * number + Set::from(hex_value(*byte));
+        if number >= limit {
+            return None;
+        }
+    }
+    if number >= limit { None } else { Some(number) }
+}
+
+// What a digit is worth.
+fn hex_value(byte: u8) -> u8
+    ensures { result ≡ hex_value byte }
+{
+    if byte < 58 {
+        byte.saturating_sub(b'0')
+    } else {
+        byte.saturating_sub(b'a' - 10)
+    }
+}
+
+// A digit that is worth so much.
+fn hex_glyph(digit: u8) -> u8
+    requires { digit < 16 }
+    ensures { result ≡ hex_glyph digit }
+{
+    if digit < 10 {
+        b'0' + digit
+    } else {
+        b'a' - 10 + digit
+    }
+}
+
+// A number's text, written into the end of `buf`.
+pub(crate) fn hex_text(number: Set, buf: &mut [u8; MAX_DIGITS]) -> &[u8]
+    ensures { result.now ≡ hex_text number }
+{
+    if number == 0 {
+        return b"0";
+    }
+    let mut rest = number;
+    let mut at = MAX_DIGITS;
+    'digits: while rest > 0 {
+        at -= 1;
+        buf[at] = hex_glyph((rest % 16) as u8);
+        rest /= 16;
+    }
+    behind(buf, at)
+}
+
+// What stands from a place on.
+fn behind(buf: &[u8; MAX_DIGITS], at: usize) -> &[u8]
+    requires { at ≤ 16 }
+    ensures { result.now ≡ drop at buf.now }
+{
+    &buf[at..]
+}

@@ -1,0 +1,14 @@
+// Laws of the texts of automata.
+ghost use Rattle.std.specs.Prelude.{◌≡◌, ◌≤◌, All};
+ghost use Rattle.far.specs.Automata.{Automata, AreAutomata};
+ghost use Rattle.far.specs.Texts.{AreTexts, automata_by, delta_text, rows_text, hex_text};
+
+/// The texts of automata's numbers give those numbers again, and they hold neither a space nor a newline.
+pub fn texts_read_back()
+    ensures texts { (a : Automata) → 1 ≤ a.size → 1 ≤ a.states → AreAutomata a →
+        AreTexts a.states a.size (delta_text a.delta) (rows_text a.rows) (hex_text a.keep) }
+    ensures same { (a : Automata) → 1 ≤ a.size → 1 ≤ a.states → AreAutomata a →
+        automata_by a.states a.side a.size (delta_text a.delta) (rows_text a.rows) (hex_text a.keep) ≡ a }
+    ensures bytes { (a : Automata) →
+        All (λ b. 44 ≤ b) (delta_text a.delta) × All (λ b. 44 ≤ b) (rows_text a.rows) × All (λ b. 44 ≤ b) (hex_text a.keep) }
+{}

@@ -1,0 +1,13 @@
+// How large automata may be.
+use machine_text::MAX_STATES;
+
+/// The most states of the first automaton.
+pub const MAX_SIZE: u8 = 8;
+
+/// A set of states of the second automaton, a bit for each. There are up to 49.
+pub type Set = u64;
+
+// How many numbers the largest automata have.
+pub(crate) const MAX_MOVES: usize = 2 * MAX_SIZE as usize;
+
+pub(crate) const MAX_ROWS: usize = 2 * MAX_SIZE as usize * MAX_STATES as usize;

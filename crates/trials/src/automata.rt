@@ -1,0 +1,325 @@
+// Automata with their answers, texts that aren't automata, and what the finder finds.
+use far::{Far, FarFinder, OwnedFar};
+use machine_text::{Dir, Table};
+use run::{Evidence, Refused, Verdict};
+use std::process::Abort;
+
+fn table_of(rt: &impl Abort, text: &str) -> Table {
+    match Table::parse(text.as_bytes()) {
+        Ok(table) => table,
+        Err(fault) => panic!(rt; "{text}: {fault:?}"),
+    }
+}
+
+// The automata of a size that the texts are, if they are such.
+fn automata_of(
+    rt: &impl Abort,
+    states: u8,
+    side: Dir,
+    size: u8,
+    delta: &str,
+    rows: &str,
+    keep: &str,
+) -> Option<Far>
+{
+    if !Far::is_size(size as u64) {
+        panic!(rt; "{size} is no size");
+    }
+    if states == 0 {
+        panic!(rt; "tables have states");
+    }
+    if states > 6 {
+        panic!(rt; "no table has {states} states");
+    }
+    Far::new(
+        states,
+        side,
+        size,
+        delta.as_bytes(),
+        rows.as_bytes(),
+        keep.as_bytes(),
+    )
+}
+
+// Where the answer is none, the texts aren't automata for tables of so many states.
+#[test]
+fn automata_are_judged(rt: HostRuntime) {
+    let alloc = rt.alloc();
+    let never = Some(Ok(Verdict::Never));
+    let fails = Some(Err(Refused::Fails));
+    for (text, side, size, delta, rows, keep, answer) in [
+        ("1RA---", Dir::R, 1, "00", "1,2", "1", never),
+        // The halt state is kept, or the halting pair has no edge to it.
+        ("1RA---", Dir::R, 1, "00", "1,2", "3", fails),
+        ("1RA---", Dir::R, 1, "00", "1,0", "1", fails),
+        // Nothing is kept; then only the halt state.
+        ("1RA---", Dir::R, 1, "00", "1,2", "0", fails),
+        ("1RA---", Dir::R, 1, "00", "1,2", "2", fails),
+        // The other way is ahead: the table moves back.
+        ("1RA---", Dir::L, 1, "00", "2,2", "1", fails),
+        // What is kept isn't closed.
+        ("1RA---", Dir::R, 2, "0111", "2,4,2,4", "1", fails),
+        ("1RA---", Dir::R, 2, "0111", "2,4,2,4", "3", never),
+        ("1RA---", Dir::R, 2, "0111", "2,4,2,4", "7", fails),
+        // The first automaton leaves 0 on 0.
+        ("1RA---", Dir::R, 2, "1111", "2,4,2,4", "3", fails),
+        // More edges than are needed.
+        ("1RA---", Dir::R, 1, "00", "1,3", "1", never),
+        ("1RA---", Dir::R, 1, "00", "3,2", "1", fails),
+        // The mirror image.
+        ("1LA---", Dir::L, 1, "00", "1,2", "1", never),
+        ("1LA---", Dir::R, 1, "00", "1,2", "1", fails),
+        ("1LA---", Dir::L, 2, "0111", "2,4,2,4", "3", never),
+        ("------", Dir::R, 1, "00", "2,2", "1", fails),
+        // Left movers.
+        (
+            "0RB---_0LA---",
+            Dir::R,
+            2,
+            "0111",
+            "2,10,0,10,8,10,10,10",
+            "3",
+            never,
+        ),
+        (
+            "0RB---_0LA---",
+            Dir::R,
+            2,
+            "0111",
+            "2,10,0,10,8,10,0,10",
+            "3",
+            fails,
+        ),
+        (
+            "0LB---_0RA---",
+            Dir::L,
+            2,
+            "0111",
+            "2,10,0,10,8,10,10,10",
+            "3",
+            never,
+        ),
+    ] {
+        let table = table_of(&rt, text);
+        let found = automata_of(&rt, table.states(), side, size, delta, rows, keep)
+            .map(|automata| automata.check(alloc, &table));
+        assert!(rt; found == answer, "{text} F {side:?} {size} {delta} {rows} {keep}: {found:?}");
+    }
+}
+
+// Texts for tables of one state.
+#[test]
+fn texts_are_automata_or_not(rt: HostRuntime) {
+    for (size, delta, rows, keep, answer) in [
+        (1, "00", "1,2", "1", true),
+        // The last number that has no bit but those of the states, and the first that has.
+        (1, "00", "1,2", "3", true),
+        (1, "00", "1,2", "4", false),
+        (1, "00", "3,3", "0", true),
+        (1, "00", "4,2", "1", false),
+        (1, "00", "1,4", "1", false),
+        // Too few digits, too many, one that is no state, none.
+        (1, "0", "1,2", "1", false),
+        (1, "000", "1,2", "1", false),
+        (1, "01", "1,2", "1", false),
+        (1, "", "1,2", "1", false),
+        (1, "0/", "1,2", "1", false),
+        (1, "0 ", "1,2", "1", false),
+        // Too few rows, too many, an empty one, another separator.
+        (1, "00", "1", "1", false),
+        (1, "00", "1,2,1", "1", false),
+        (1, "00", "1,2,", "1", false),
+        (1, "00", ",1", "1", false),
+        (1, "00", "1,,2", "1", false),
+        (1, "00", "", "1", false),
+        (1, "00", "1;2", "1", false),
+        // Leading zeros, no number, none, a sign.
+        (1, "00", "01,2", "1", false),
+        (1, "00", "1,02", "1", false),
+        (1, "00", "1,2", "01", false),
+        (1, "00", "1,2", "00", false),
+        (1, "00", "1,2", "0", true),
+        (1, "00", "0,0", "0", true),
+        (1, "00", "1,2", "", false),
+        (1, "00", "1,2", "+1", false),
+        (1, "00", "1,2", " 1", false),
+        (1, "00", "1,2", "g", false),
+        (1, "00", "1,2", ":", false),
+        // Sizes 3 and 8, with numbers of more bits.
+        (3, "012012", "f,e,a,0,1,2", "c", true),
+        (3, "012012", "f,e,a,0,1,2", "10", false),
+        (3, "012013", "f,e,a,0,1,2", "c", false),
+        (3, "012012", "F,e,a,0,1,2", "c", false),
+        (3, "012012", "f,e,a,0,1,2", "C", false),
+        (3, "012012", "f,e,a,0,1,0x2", "c", false),
+        (
+            8,
+            "0123456701234567",
+            "1ff,1ab,9,0,1,2,1ff,1ab,9,0,1,2,1ff,1ab,9,0",
+            "1ff",
+            true,
+        ),
+        (
+            8,
+            "0123456701234567",
+            "1ff,1ab,9,0,1,2,1ff,1ab,9,0,1,2,1ff,1ab,9,0",
+            "200",
+            false,
+        ),
+        (
+            8,
+            "0123456701234568",
+            "1ff,1ab,9,0,1,2,1ff,1ab,9,0,1,2,1ff,1ab,9,0",
+            "1ff",
+            false,
+        ),
+        (
+            8,
+            "0123456701234567",
+            "1ff,1ab,9,0,1,2,1ff,1ab,9,0,1,2,1ff,1ab,9,200",
+            "1ff",
+            false,
+        ),
+        (
+            8,
+            "0123456701234567",
+            "1ff,1ab,9,0,1,2,1ff,1ab,9,0,1,2,1ff,1ab,9,100000000000000001",
+            "1ff",
+            false,
+        ),
+    ] {
+        let found = automata_of(&rt, 1, Dir::R, size, delta, rows, keep).is_some();
+        assert!(rt; found == answer, "{size} {delta} {rows} {keep}");
+    }
+}
+
+// The widest sets have 49 bits: of six states, with a first automaton of eight.
+#[test]
+fn the_widest_sets_have_49_bits(rt: HostRuntime) {
+    let rows = "1ffffffffffff,fedcba987654,0,0,0,0,0,0,0,0,0,0,0,0,0,0,0,0,0,0,0,0,0,0,0,0,0,0,0,0,0,0,0,0,0,0,0,0,0,0,0,0,0,0,0,0,0,0,0,0,0,0,0,0,0,0,0,0,0,0,0,0,0,0,0,0,0,0,0,0,0,0,0,0,0,0,0,0,0,0,0,0,0,0,0,0,0,0,0,0,0,0,0,0,0,1000000000000";
+    let delta = "0123456701234567";
+    let Some(automata) = automata_of(&rt, 6, Dir::L, 8, delta, rows, "1ffffffffffff") else {
+        panic!(rt; "these are automata");
+    };
+    assert!(rt; automata.keep() == 0x1_ffff_ffff_ffff);
+    assert!(rt; automata.rows().len() == 96);
+    assert!(rt; automata.rows()[0] == 0x1_ffff_ffff_ffff && automata.rows()[1] == 0xfedc_ba98_7654);
+    assert!(rt; automata.rows()[95] == 0x1_0000_0000_0000);
+    assert!(rt; automata_of(&rt, 6, Dir::L, 8, delta, rows, "2000000000000").is_none());
+}
+
+// Automata are made for tables of a number of states, and fit no other.
+#[test]
+fn automata_keep_their_fields(rt: HostRuntime) {
+    let Some(automata) = automata_of(&rt, 1, Dir::R, 2, "0111", "2,4,2,4", "3") else {
+        panic!(rt; "these are automata");
+    };
+    assert!(rt; automata.states() == 1 && automata.size() == 2);
+    assert!(rt; automata.side() == Dir::R && automata.keep() == 3);
+    assert!(rt; automata.delta() == [0, 1, 1, 1].as_slice());
+    assert!(rt; automata.rows() == [2, 4, 2, 4].as_slice());
+    assert!(rt; automata.holds(&table_of(&rt, "1RA---")));
+    assert!(rt; !automata.holds(&table_of(&rt, "1RA---_------")));
+    let Some(automata) = automata_of(&rt, 2, Dir::R, 1, "00", "1,4,4,4", "1") else {
+        panic!(rt; "these are automata for two states");
+    };
+    assert!(rt; automata.holds(&table_of(&rt, "1RA---_------")));
+    assert!(rt; !automata.holds(&table_of(&rt, "1RA---")));
+}
+
+#[test]
+fn sizes_have_a_limit(rt: HostRuntime) {
+    for (size, answer) in [(0, false), (1, true), (8, true), (9, false)] {
+        assert!(rt; Far::is_size(size) == answer, "{size}");
+    }
+}
+
+// What is written reads back, and so does what an owned claim lends.
+#[test]
+fn automata_are_written_and_owned(rt: HostRuntime) {
+    let alloc = rt.alloc();
+    for (states, side, size, delta, rows, keep) in [
+        (1, Dir::R, 1, "00", "1,2", "1"),
+        (1, Dir::L, 1, "00", "0,0", "0"),
+        (2, Dir::R, 2, "0111", "2,10,0,10,8,10,10,1f", "3"),
+        (
+            1,
+            Dir::L,
+            8,
+            "0123456701234567",
+            "1ff,1ab,9,0,1,2,1ff,1ab,9,0,1,2,1ff,1ab,9,0",
+            "fe",
+        ),
+    ] {
+        let Some(automata) = automata_of(&rt, states, side, size, delta, rows, keep) else {
+            panic!(rt; "{rows} are rows");
+        };
+        let mut text = Vec::new(alloc);
+        let written = automata.append_fields(&mut text);
+        assert!(rt; written.is_ok());
+        let fields = format!(in alloc; "{delta} {rows} {keep}");
+        assert!(rt; fields.is_ok_and(|fields| fields.as_bytes() == text.as_slice()), "{rows}");
+        match OwnedFar::of(alloc, &automata) {
+            Ok(owned) => assert!(rt; owned.lent() == automata, "{rows}"),
+            Err(fault) => panic!(rt; "{fault:?}"),
+        }
+    }
+}
+
+// The least size of automata for a table, up to 3, as an enumeration of all of them by their definition gives it;
+// 0 where there are none.
+#[test]
+fn automata_of_the_least_size_are_found(rt: HostRuntime) {
+    let mut finder = FarFinder::new(rt.alloc(), 3);
+    for (text, size) in [
+        ("1RA---", 1),
+        ("0RB---_0LA---", 2),
+        ("------", 0),
+        ("1RB---_1LB0RC_1LC1LA", 0),
+        ("1RB1LB_1LA0LC_---1LD_1RD0RA", 0),
+        ("---1LB_1LA1RA", 0),
+        ("1LB1LB_---1LA_1RC1LB", 0),
+        ("0RB1RB_---1RB_1LC1RB", 0),
+        ("---0RB_0LC0RC_1LB1RA", 0),
+        ("0RB1LA_1LC1LB_0RD---_1LA1RD", 1),
+        ("1RB---_0RA1LA", 1),
+        ("0RC1RB_0RC---_1LC0LC", 1),
+        ("1RB---_0RC1LB_1LA0LA", 1),
+        ("0RB1RC_0LB---_0RB0RC", 2),
+        ("0LC---_0LB1LC_1RA1LB", 2),
+        ("0RB1RC_1LB1RA_1RB---", 2),
+        ("0LB---_1RC0LA_1LC0LA", 2),
+        ("1RB1LB_0RC0RC_0LA---", 2),
+        ("1RB0RB_0LC1RC_---0RA", 2),
+        ("0RB1RB_1LC1RB_1LA1LD_---0LA", 3),
+        ("0RB0LC_1LC0RD_1LA---_1RB1RA", 3),
+        ("0RB1RC_1LC1RB_1LA1LD_---1LA", 3),
+        ("0RB0LC_0LC0RD_1LA1RC_1RB---", 3),
+        ("0RB0LA_0LC1RB_1LA0RD_1RC---", 3),
+        ("1RB0LC_0RC---_1LD1RB_0LA0LC", 3),
+        ("1RC1RB_0RA0LC_1LB---", 3),
+        ("0RB1RC_1LC1RB_1LA1LD_---0LA", 3),
+    ] {
+        let table = table_of(&rt, text);
+        match finder.search(&table, 1_000) {
+            Ok(Some(found)) => assert!(rt; found.size() == size && found.holds(&table), "{text}"),
+            Ok(None) => assert!(rt; size == 0, "{text}"),
+            Err(fault) => panic!(rt; "{fault:?}"),
+        }
+    }
+}
+
+// A finder goes no further than its size and the budget.
+#[test]
+fn finders_of_automata_have_bounds(rt: HostRuntime) {
+    let alloc = rt.alloc();
+    let table = table_of(&rt, "0RB---_0LA---");
+    for (size, budget, answer) in [(0, 1_000, 0), (1, 1_000, 0), (2, 1_000, 2), (9, 1, 2), (2, 0, 0)] {
+        let mut finder = FarFinder::new(alloc, size);
+        let found = match finder.search(&table, budget) {
+            Ok(found) => found.map_or(0, |automata| automata.size()),
+            Err(fault) => panic!(rt; "{fault:?}"),
+        };
+        assert!(rt; found == answer, "{size} {budget}");
+    }
+}

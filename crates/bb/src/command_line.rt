@@ -34,12 +34,7 @@ fn search_of(matches: &ArgMatches<'_>) -> Result<Search, LineFault>
 }
 
 // The number of an option.
-fn number_of(
-    matches: &ArgMatches<'_>,
-    name: &str,
-    least: u64,
-    most: u64,
-) -> Result<u64, LineFault>
+fn number_of(matches: &ArgMatches<'_>, name: &str, least: u64, most: u64) -> Result<u64, LineFault>
     ensures { IfOk result (λ number. (least ≤ number) × (number ≤ most)) }
 {
     match matches.get_one::<u64>(name) {

@@ -200,11 +200,24 @@ fn options_are_read_from_the_words(rt: HostRuntime) {
         ),
         (["bb", "decide"].as_slice(), search(1_000, 20, 3)),
         (
-            ["bb", "decide", "--depth", "0", "--steps", "100000000", "--gram", "0"].as_slice(),
+            [
+                "bb",
+                "decide",
+                "--depth",
+                "0",
+                "--steps",
+                "100000000",
+                "--gram",
+                "0",
+            ]
+            .as_slice(),
             search(100_000_000, 0, 0),
         ),
         (
-            ["bb", "decide", "--gram", "8", "--depth", "1000", "--steps", "1"].as_slice(),
+            [
+                "bb", "decide", "--gram", "8", "--depth", "1000", "--steps", "1",
+            ]
+            .as_slice(),
             search(1, 1_000, 8),
         ),
     ] {

@@ -70,10 +70,7 @@ impl Finder for NgramFinder {
 
     fn find(&mut self, t: &Table, budget: u64) -> Result<Option<OwnedCertificate>, NoMemory> {
         match self.search(t, budget)? {
-            Some(lists) => Ok(Some(OwnedCertificate::Ngram(Box::new(
-                self.allocator(),
-                lists,
-            )?))),
+            Some(lists) => Ok(Some(OwnedCertificate::Ngram(Box::new(self.allocator(), lists)?))),
             None => Ok(None),
         }
     }

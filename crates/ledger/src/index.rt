@@ -16,10 +16,7 @@ use machine_text::{Pair, Table};
 use run::Verdict;
 
 // What the record for a table claims of it.
-pub fn certificate_for<'a>(
-    records: &'a IndexMap<Table, Kept>,
-    t: &Table,
-) -> Option<Certificate<'a>>
+pub fn certificate_for<'a>(records: &'a IndexMap<Table, Kept>, t: &Table) -> Option<Certificate<'a>>
     ensures { option_map claim_of result ≡ claim_in (records_of records.now.entries) t.now }
 {
     match records.get(t) {

@@ -73,28 +73,28 @@ words_are_high g text list = listing_is_high g list.count text list.listing (λ 
 
 local_is_high : (n g : ℕ) (bytes : List ℕ) → length bytes ≡ 2 * g + 2 → IsLocalText n g bytes → (j : ℕ) → j < 2 * g + 2 → 44 ≤ get_or bytes j 0
 local_is_high n g bytes size l j inside = elim (cases_lt j g) [
-      | inl left ↦
-          let same = get_or-take g bytes j 0 left in
-          let high = digit_is_high (get_or (take g bytes) j 0) (l.left.digits j (simp (length-take) (omega arith))) in
-          omega (arith, same, high)
-      | inr behind ↦ elim (cases_lt j (g + 2)) [
-          | inl middle ↦ elim (cases_lt j (g + 1)) [
-              | inl state ↦
-                  let e : get_or bytes g 0 ≡ get_or bytes j 0 = ap (λ x. get_or bytes x 0) (let s : g ≡ j = omega arith in s) in
-                  let high = l.letter in
-                  omega (arith, e, high)
-              | inr read ↦
-                  let e : get_or bytes (g + 1) 0 ≡ get_or bytes j 0 = ap (λ x. get_or bytes x 0) (let s : g + 1 ≡ j = omega arith in s) in
-                  let high = digit_is_high (get_or bytes (g + 1) 0) l.read in
-                  omega (arith, e, high)
-            ]
-          | inr right ↦
-              let same = get_or-drop (g + 2) bytes (j - (g + 2)) 0 in
-              let e : get_or bytes (g + 2 + (j - (g + 2))) 0 ≡ get_or bytes j 0 = ap (λ x. get_or bytes x 0) (let s : g + 2 + (j - (g + 2)) ≡ j = omega arith in s) in
-              let high = digit_is_high (get_or (drop (g + 2) bytes) (j - (g + 2)) 0) (l.right.digits (j - (g + 2)) (simp (length-drop) (omega arith))) in
-              omega (arith, same, e, high)
-        ]
+  | inl left ↦
+      let same = get_or-take g bytes j 0 left in
+      let high = digit_is_high (get_or (take g bytes) j 0) (l.left.digits j (simp (length-take) (omega arith))) in
+      omega (arith, same, high)
+  | inr behind ↦ elim (cases_lt j (g + 2)) [
+    | inl middle ↦ elim (cases_lt j (g + 1)) [
+      | inl state ↦
+          let e : get_or bytes g 0 ≡ get_or bytes j 0 = ap (λ x. get_or bytes x 0) (let s : g ≡ j = omega arith in s) in
+          let high = l.letter in
+          omega (arith, e, high)
+      | inr read ↦
+          let e : get_or bytes (g + 1) 0 ≡ get_or bytes j 0 = ap (λ x. get_or bytes x 0) (let s : g + 1 ≡ j = omega arith in s) in
+          let high = digit_is_high (get_or bytes (g + 1) 0) l.read in
+          omega (arith, e, high)
     ]
+    | inr right ↦
+        let same = get_or-drop (g + 2) bytes (j - (g + 2)) 0 in
+        let e : get_or bytes (g + 2 + (j - (g + 2))) 0 ≡ get_or bytes j 0 = ap (λ x. get_or bytes x 0) (let s : g + 2 + (j - (g + 2)) ≡ j = omega arith in s) in
+        let high = digit_is_high (get_or (drop (g + 2) bytes) (j - (g + 2)) 0) (l.right.digits (j - (g + 2)) (simp (length-drop) (omega arith))) in
+        omega (arith, same, e, high)
+  ]
+]
 
 locals_are_high : (n g : ℕ) (text : List ℕ) → IsLocalList n g text → AreHigh text
 locals_are_high n g text list = listing_is_high (2 * g + 2) list.count text list.listing (λ k j less inside.

@@ -41,12 +41,14 @@ unfolding is_listing
 listing_decides w text =
     let n = count_of w text in
     let gaps = below_decides (goes_up w text) _ (λ k. Decides-and _ _ (Decides-eqb (get_or text (k * (w + 1) + w) 0) 44) (less_decides (slice_cmp nat_cmp (item w text k) (item w text (k + 1))))) (n - 1) in
-    let both = Decides-and _ _ (Decides-eqb (length text + 1) (n * (w + 1))) gaps in
-    (λ t. let l = both.0 t in record {
-      size = l.0;
-      commas = λ k less. (l.1 k (omega arith)).0;
-      rising = λ k less. (l.1 k (omega arith)).1;
-    }, λ l. both.1 (l.size, λ k less. (l.commas k (omega arith), l.rising k (omega arith))))
+    let both = Decides-and _ _ (Decides-eqb (length text + 1) (n * (w + 1))) gaps in (
+      λ t. let l = both.0 t in record {
+        size = l.0;
+        commas = λ k less. (l.1 k (omega arith)).0;
+        rising = λ k less. (l.1 k (omega arith)).1;
+      },
+      λ l. both.1 (l.size, λ k less. (l.commas k (omega arith), l.rising k (omega arith))),
+    )
 
 word_decides : (bytes : List ℕ) → Decides (is_word_text bytes) (IsWordText bytes)
 word_decides bytes =
@@ -61,19 +63,21 @@ local_decides n g bytes =
 word_list_decides : (g : ℕ) (text : List ℕ) → Decides (is_word_list g text) (IsWordList g text)
 unfolding is_word_list
 word_list_decides g text =
-    let all = Decides-and _ _ (listing_decides g text) (below_decides (λ k. is_word_text (item g text k)) (λ k. _) (λ k. word_decides (item g text k)) (count_of g text)) in
-    (λ t. let l = all.0 t in record { count = count_of g text; listing = l.0; words = record { each = l.1 } },
-     λ l. let same = count_is g l.count text l.listing.size in
-       all.1 (subst (λ n. IsListing g n text) (sym same) l.listing, λ k less. l.words.each k (let e = same in omega arith)))
+    let all = Decides-and _ _ (listing_decides g text) (below_decides (λ k. is_word_text (item g text k)) (λ k. _) (λ k. word_decides (item g text k)) (count_of g text)) in (
+      λ t. let l = all.0 t in record { count = count_of g text; listing = l.0; words = record { each = l.1 } },
+      λ l. let same = count_is g l.count text l.listing.size in
+          all.1 (subst (λ n. IsListing g n text) (sym same) l.listing, λ k less. l.words.each k (let e = same in omega arith)),
+    )
 
 local_list_decides : (n g : ℕ) (text : List ℕ) → Decides (is_local_list n g text) (IsLocalList n g text)
 unfolding is_local_list
 local_list_decides n g text =
     let w = 2 * g + 2 in
-    let all = Decides-and _ _ (listing_decides w text) (below_decides (λ k. is_local_text n g (item w text k)) (λ k. _) (λ k. local_decides n g (item w text k)) (count_of w text)) in
-    (λ t. let l = all.0 t in record { count = count_of w text; listing = l.0; locals = record { each = l.1 } },
-     λ l. let same = count_is w l.count text l.listing.size in
-       all.1 (subst (λ c. IsListing w c text) (sym same) l.listing, λ k less. l.locals.each k (let e = same in omega arith)))
+    let all = Decides-and _ _ (listing_decides w text) (below_decides (λ k. is_local_text n g (item w text k)) (λ k. _) (λ k. local_decides n g (item w text k)) (count_of w text)) in (
+      λ t. let l = all.0 t in record { count = count_of w text; listing = l.0; locals = record { each = l.1 } },
+      λ l. let same = count_is w l.count text l.listing.size in
+          all.1 (subst (λ c. IsListing w c text) (sym same) l.listing, λ k less. l.locals.each k (let e = same in omega arith)),
+    )
 
 pub lists_decide : (s : Lists) → Decides (are_lists s) (AreLists s)
 unfolding are_lists

@@ -20,8 +20,7 @@ fn automata_of(
     delta: &str,
     rows: &str,
     keep: &str,
-) -> Option<Far>
-{
+) -> Option<Far> {
     if !Far::is_size(size as u64) {
         panic!(rt; "{size} is no size");
     }
@@ -101,9 +100,13 @@ fn automata_are_judged(rt: HostRuntime) {
         ),
     ] {
         let table = table_of(&rt, text);
-        let found = automata_of(&rt, table.states(), side, size, delta, rows, keep)
-            .map(|automata| automata.check(alloc, &table));
-        assert!(rt; found == answer, "{text} F {side:?} {size} {delta} {rows} {keep}: {found:?}");
+        let found = automata_of(&rt, table.states(), side, size, delta, rows, keep).map(
+            |automata| automata.check(alloc, &table),
+        );
+        assert!(rt;
+            found == answer,
+            "{text} F {side:?} {size} {delta} {rows} {keep}: {found:?}"
+        );
     }
 }
 
@@ -196,7 +199,8 @@ fn texts_are_automata_or_not(rt: HostRuntime) {
 // The widest sets have 49 bits: of six states, with a first automaton of eight.
 #[test]
 fn the_widest_sets_have_49_bits(rt: HostRuntime) {
-    let rows = "1ffffffffffff,fedcba987654,0,0,0,0,0,0,0,0,0,0,0,0,0,0,0,0,0,0,0,0,0,0,0,0,0,0,0,0,0,0,0,0,0,0,0,0,0,0,0,0,0,0,0,0,0,0,0,0,0,0,0,0,0,0,0,0,0,0,0,0,0,0,0,0,0,0,0,0,0,0,0,0,0,0,0,0,0,0,0,0,0,0,0,0,0,0,0,0,0,0,0,0,0,1000000000000";
+    let rows =
+        "1ffffffffffff,fedcba987654,0,0,0,0,0,0,0,0,0,0,0,0,0,0,0,0,0,0,0,0,0,0,0,0,0,0,0,0,0,0,0,0,0,0,0,0,0,0,0,0,0,0,0,0,0,0,0,0,0,0,0,0,0,0,0,0,0,0,0,0,0,0,0,0,0,0,0,0,0,0,0,0,0,0,0,0,0,0,0,0,0,0,0,0,0,0,0,0,0,0,0,0,0,1000000000000";
     let delta = "0123456701234567";
     let Some(automata) = automata_of(&rt, 6, Dir::L, 8, delta, rows, "1ffffffffffff") else {
         panic!(rt; "these are automata");
@@ -258,7 +262,10 @@ fn automata_are_written_and_owned(rt: HostRuntime) {
         let written = automata.append_fields(&mut text);
         assert!(rt; written.is_ok());
         let fields = format!(in alloc; "{delta} {rows} {keep}");
-        assert!(rt; fields.is_ok_and(|fields| fields.as_bytes() == text.as_slice()), "{rows}");
+        assert!(rt;
+            fields.is_ok_and(|fields| fields.as_bytes() == text.as_slice()),
+            "{rows}"
+        );
         match OwnedFar::of(alloc, &automata) {
             Ok(owned) => assert!(rt; owned.lent() == automata, "{rows}"),
             Err(fault) => panic!(rt; "{fault:?}"),
@@ -314,7 +321,13 @@ fn automata_of_the_least_size_are_found(rt: HostRuntime) {
 fn finders_of_automata_have_bounds(rt: HostRuntime) {
     let alloc = rt.alloc();
     let table = table_of(&rt, "0RB---_0LA---");
-    for (size, budget, answer) in [(0, 1_000, 0), (1, 1_000, 0), (2, 1_000, 2), (9, 1, 2), (2, 0, 0)] {
+    for (size, budget, answer) in [
+        (0, 1_000, 0),
+        (1, 1_000, 0),
+        (2, 1_000, 2),
+        (9, 1, 2),
+        (2, 0, 0),
+    ] {
         let mut finder = FarFinder::new(alloc, size);
         let found = match finder.search(&table, budget) {
             Ok(found) => found.map_or(0, |automata| automata.size()),

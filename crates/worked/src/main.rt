@@ -20,6 +20,9 @@ const DEPTH: u64 = 20;
 
 const WIDTH: u64 = 3;
 
+// With the width of words.
+const DECIDED: [(&str, u64); 2] = [("tables.txt", WIDTH), ("known.txt", 4)];
+
 const REPORTED: [(&str, bool); 2] = [("one-state.ledger", false), ("two-states.ledger", true)];
 
 fn main(rt: HostRuntime) -> io::Result<ExitCode> {
@@ -29,7 +32,14 @@ fn main(rt: HostRuntime) -> io::Result<ExitCode> {
         let outcome = cmd_check(rt.alloc(), &mut records, &mut rt.stdout(), &mut rt.stdout());
         ended(&rt, outcome)?;
     }
-    decided(&rt, "tables.txt")?;
+    for (name, width) in DECIDED {
+        if width == WIDTH {
+            println!(rt; "$ ./bb decide < examples/{name}")?;
+        } else {
+            println!(rt; "$ ./bb decide --gram {width} < examples/{name}")?;
+        }
+        decided(&rt, name, width)?;
+    }
     for (name, why) in REPORTED {
         let option = if why { "--why " } else { "" };
         println!(rt; "$ ./bb report {option}examples/{name}")?;
@@ -45,16 +55,15 @@ fn main(rt: HostRuntime) -> io::Result<ExitCode> {
     Ok(ExitCode::SUCCESS)
 }
 
-// `bb decide` with its defaults.
-fn decided(rt: &HostRuntime, name: &str) -> io::Result<()> {
-    println!(rt; "$ ./bb decide < examples/{name}")?;
+// `bb decide`, with its defaults but for the width of words.
+fn decided(rt: &HostRuntime, name: &str, width: u64) -> io::Result<()> {
     let alloc = rt.alloc();
     let mut finders: Vec<Box<dyn Finder>> = Vec::new(alloc);
     finders.push(Box::new(alloc, HaltFinder::new(alloc, STEPS))?)?;
     finders.push(Box::new(alloc, CycleFinder::new(alloc, STEPS))?)?;
     finders.push(Box::new(alloc, TranslatedFinder::new(alloc, STEPS))?)?;
     finders.push(Box::new(alloc, BackwardFinder::new(alloc, DEPTH))?)?;
-    finders.push(Box::new(alloc, NgramFinder::new(alloc, WIDTH))?)?;
+    finders.push(Box::new(alloc, NgramFinder::new(alloc, width))?)?;
     let mut tables = fs::open(rt, name)?;
     let mut decider = Finders::new(finders, STEPS);
     let outcome = cmd_decide(

@@ -9,7 +9,7 @@ returns-else-branch g c = (
   option_map owned_claim c.in_ok-certificate.field-0,
   c.in_ok-certificate.ensures,
   λ t. absurd (
-    let yes = c.in_ok-is_decided-in-Some.ensures.1 (subst (λ o. IsTaken c.args.t.now (option_map owned_claim o)) c.in-Some.is t) in
-    let no = c.if-branch.false in
-    cc),
+      let yes = c.in_ok-is_decided-in-Some.ensures.1 (subst (λ o. IsTaken c.args.t.now (option_map owned_claim o)) c.in-Some.is t) in
+      let no = c.if-branch.false in
+      cc),
 )

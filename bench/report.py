@@ -1,7 +1,8 @@
 #!/usr/bin/env python3
 """Times bb report against bench/plain_report.rs on ledgers of four states, compares what both print, and gives
 the ratio of their times and the peak memory a record of each: all of it, and of bb also without what it takes for
-a ledger of no records. Arguments: the numbers of records (10,000 and 100,000 where there are none)."""
+a ledger of no records. The ledgers are grown in both orders of bench/grow_ledger.rs. Arguments: the numbers of
+records (10,000 and 100,000 where there are none)."""
 import os
 import subprocess
 import sys
@@ -31,19 +32,19 @@ def main():
         grow, plain, peak = (built(folder, name) for name in ("grow_ledger", "plain_report", "peak"))
         ledger = os.path.join(folder, "ledger")
         with open(ledger, "wb") as out:
-            subprocess.run([grow, "4", "0"], stdout=out, check=True)
+            subprocess.run([grow, "4", "0", "first"], stdout=out, check=True)
         base = max(run(peak, [BB, "report", ledger])[1] for _ in range(TURNS))
         print(f"no records: bb {base} bytes")
-        for size in sizes:
+        for order, size in [(order, size) for order in ("first", "nearest") for size in sizes]:
             with open(ledger, "wb") as out:
-                subprocess.run([grow, "4", str(size)], stdout=out, check=True)
+                subprocess.run([grow, "4", str(size), order], stdout=out, check=True)
             turns = [(run(peak, [BB, "report", ledger]), run(peak, [plain, ledger])) for _ in range(TURNS)]
             if any(ours[2] != theirs[2] for ours, theirs in turns):
-                print(f"{size} records: the outputs differ")
+                print(f"{size} records, {order}: the outputs differ")
                 return 1
             ours, theirs = min(t[0][0] for t in turns), min(t[1][0] for t in turns)
             peaks = [max(t[k][1] for t in turns) for k in (0, 1)]
-            print(f"{size} records: bb {ours:.2f} s, plain Rust {theirs:.2f} s, ratio {ours / theirs:.2f}; "
+            print(f"{size} records, {order}: bb {ours:.2f} s, plain Rust {theirs:.2f} s, ratio {ours / theirs:.2f}; "
                   f"peak bytes a record {peaks[0] / size:.0f} ({(peaks[0] - base) / size:.0f} without the base) "
                   f"and {peaks[1] / size:.0f}")
     return 0

@@ -8,7 +8,7 @@ use std::alloc::Global;
 use std::process::Abort;
 use std::test::Fail;
 
-fn record_of(rt: &impl Abort, text: &str) -> Record {
+fn record_of<'a>(rt: &impl Abort, text: &'a str) -> Record<'a> {
     match Record::parse(text.as_bytes()) {
         Ok(record) => record,
         Err(fault) => panic!(rt; "{text}: {fault:?}"),

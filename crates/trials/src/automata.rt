@@ -40,160 +40,140 @@ fn automata_of(
     )
 }
 
-// Where the answer is none, the texts aren't automata for tables of so many states.
+// The table of a row and its automata, if the texts are such: table, side, size, delta, rows and keep, with a
+// space between each two.
+fn read(rt: &impl Abort, row: &str) -> (Table, Option<Far>) {
+    let (text, fields) = parted(rt, row);
+    let (side, fields) = parted(rt, fields);
+    let (size, fields) = parted(rt, fields);
+    let (delta, fields) = parted(rt, fields);
+    let (rows, keep) = parted(rt, fields);
+    let table = table_of(rt, text);
+    let side = if side == "L" { Dir::L } else { Dir::R };
+    let size = size.bytes().next().unwrap_or(b'0').wrapping_sub(b'0');
+    let automata = automata_of(rt, table.states(), side, size, delta, rows, keep);
+    (table, automata)
+}
+
+// What stands before the first space, and behind it.
+fn parted<'a>(rt: &impl Abort, text: &'a str) -> (&'a str, &'a str) {
+    match text.split_once(' ') {
+        Some(parts) => parts,
+        None => panic!(rt; "{text}: no space"),
+    }
+}
+
 #[test]
 fn automata_are_judged(rt: HostRuntime) {
-    let alloc = rt.alloc();
-    let never = Some(Ok(Verdict::Never));
-    let fails = Some(Err(Refused::Fails));
-    for (text, side, size, delta, rows, keep, answer) in [
-        ("1RA---", Dir::R, 1, "00", "1,2", "1", never),
+    for (row, answer) in [
+        ("1RA--- R 1 00 1,2 1", "never"),
         // The halt state is kept, or the halting pair has no edge to it.
-        ("1RA---", Dir::R, 1, "00", "1,2", "3", fails),
-        ("1RA---", Dir::R, 1, "00", "1,0", "1", fails),
+        ("1RA--- R 1 00 1,2 3", "fails"),
+        ("1RA--- R 1 00 1,0 1", "fails"),
         // Nothing is kept; then only the halt state.
-        ("1RA---", Dir::R, 1, "00", "1,2", "0", fails),
-        ("1RA---", Dir::R, 1, "00", "1,2", "2", fails),
+        ("1RA--- R 1 00 1,2 0", "fails"),
+        ("1RA--- R 1 00 1,2 2", "fails"),
         // The other way is ahead: the table moves back.
-        ("1RA---", Dir::L, 1, "00", "2,2", "1", fails),
+        ("1RA--- L 1 00 2,2 1", "fails"),
         // What is kept isn't closed.
-        ("1RA---", Dir::R, 2, "0111", "2,4,2,4", "1", fails),
-        ("1RA---", Dir::R, 2, "0111", "2,4,2,4", "3", never),
-        ("1RA---", Dir::R, 2, "0111", "2,4,2,4", "7", fails),
+        ("1RA--- R 2 0111 2,4,2,4 1", "fails"),
+        ("1RA--- R 2 0111 2,4,2,4 3", "never"),
+        ("1RA--- R 2 0111 2,4,2,4 7", "fails"),
         // The first automaton leaves 0 on 0.
-        ("1RA---", Dir::R, 2, "1111", "2,4,2,4", "3", fails),
+        ("1RA--- R 2 1111 2,4,2,4 3", "fails"),
         // More edges than are needed.
-        ("1RA---", Dir::R, 1, "00", "1,3", "1", never),
-        ("1RA---", Dir::R, 1, "00", "3,2", "1", fails),
+        ("1RA--- R 1 00 1,3 1", "never"),
+        ("1RA--- R 1 00 3,2 1", "fails"),
         // The mirror image.
-        ("1LA---", Dir::L, 1, "00", "1,2", "1", never),
-        ("1LA---", Dir::R, 1, "00", "1,2", "1", fails),
-        ("1LA---", Dir::L, 2, "0111", "2,4,2,4", "3", never),
-        ("------", Dir::R, 1, "00", "2,2", "1", fails),
+        ("1LA--- L 1 00 1,2 1", "never"),
+        ("1LA--- R 1 00 1,2 1", "fails"),
+        ("1LA--- L 2 0111 2,4,2,4 3", "never"),
+        ("------ R 1 00 2,2 1", "fails"),
         // Left movers.
-        (
-            "0RB---_0LA---",
-            Dir::R,
-            2,
-            "0111",
-            "2,10,0,10,8,10,10,10",
-            "3",
-            never,
-        ),
-        (
-            "0RB---_0LA---",
-            Dir::R,
-            2,
-            "0111",
-            "2,10,0,10,8,10,0,10",
-            "3",
-            fails,
-        ),
-        (
-            "0LB---_0RA---",
-            Dir::L,
-            2,
-            "0111",
-            "2,10,0,10,8,10,10,10",
-            "3",
-            never,
-        ),
+        ("0RB---_0LA--- R 2 0111 2,10,0,10,8,10,10,10 3", "never"),
+        ("0RB---_0LA--- R 2 0111 2,10,0,10,8,10,0,10 3", "fails"),
+        ("0LB---_0RA--- L 2 0111 2,10,0,10,8,10,10,10 3", "never"),
     ] {
-        let table = table_of(&rt, text);
-        let found = automata_of(&rt, table.states(), side, size, delta, rows, keep).map(
-            |automata| automata.check(alloc, &table),
-        );
-        assert!(rt;
-            found == answer,
-            "{text} F {side:?} {size} {delta} {rows} {keep}: {found:?}"
-        );
+        let (table, automata) = read(&rt, row);
+        let found = match automata.map(|automata| automata.check(rt.alloc(), &table)) {
+            Some(Ok(Verdict::Never)) => "never",
+            Some(Err(Refused::Fails)) => "fails",
+            Some(_) => "another answer",
+            None => "no automata",
+        };
+        assert!(rt; found == answer, "{row}: {found}");
     }
 }
 
 // Texts for tables of one state.
 #[test]
 fn texts_are_automata_or_not(rt: HostRuntime) {
-    for (size, delta, rows, keep, answer) in [
-        (1, "00", "1,2", "1", true),
+    for (row, answer) in [
+        ("1RA--- R 1 00 1,2 1", true),
         // The last number that has no bit but those of the states, and the first that has.
-        (1, "00", "1,2", "3", true),
-        (1, "00", "1,2", "4", false),
-        (1, "00", "3,3", "0", true),
-        (1, "00", "4,2", "1", false),
-        (1, "00", "1,4", "1", false),
+        ("1RA--- R 1 00 1,2 3", true),
+        ("1RA--- R 1 00 1,2 4", false),
+        ("1RA--- R 1 00 3,3 0", true),
+        ("1RA--- R 1 00 4,2 1", false),
+        ("1RA--- R 1 00 1,4 1", false),
         // Too few digits, too many, one that is no state, none.
-        (1, "0", "1,2", "1", false),
-        (1, "000", "1,2", "1", false),
-        (1, "01", "1,2", "1", false),
-        (1, "", "1,2", "1", false),
-        (1, "0/", "1,2", "1", false),
-        (1, "0 ", "1,2", "1", false),
+        ("1RA--- R 1 0 1,2 1", false),
+        ("1RA--- R 1 000 1,2 1", false),
+        ("1RA--- R 1 01 1,2 1", false),
+        ("1RA--- R 1  1,2 1", false),
+        ("1RA--- R 1 0/ 1,2 1", false),
         // Too few rows, too many, an empty one, another separator.
-        (1, "00", "1", "1", false),
-        (1, "00", "1,2,1", "1", false),
-        (1, "00", "1,2,", "1", false),
-        (1, "00", ",1", "1", false),
-        (1, "00", "1,,2", "1", false),
-        (1, "00", "", "1", false),
-        (1, "00", "1;2", "1", false),
+        ("1RA--- R 1 00 1 1", false),
+        ("1RA--- R 1 00 1,2,1 1", false),
+        ("1RA--- R 1 00 1,2, 1", false),
+        ("1RA--- R 1 00 ,1 1", false),
+        ("1RA--- R 1 00 1,,2 1", false),
+        ("1RA--- R 1 00  1", false),
+        ("1RA--- R 1 00 1;2 1", false),
         // Leading zeros, no number, none, a sign.
-        (1, "00", "01,2", "1", false),
-        (1, "00", "1,02", "1", false),
-        (1, "00", "1,2", "01", false),
-        (1, "00", "1,2", "00", false),
-        (1, "00", "1,2", "0", true),
-        (1, "00", "0,0", "0", true),
-        (1, "00", "1,2", "", false),
-        (1, "00", "1,2", "+1", false),
-        (1, "00", "1,2", " 1", false),
-        (1, "00", "1,2", "g", false),
-        (1, "00", "1,2", ":", false),
+        ("1RA--- R 1 00 01,2 1", false),
+        ("1RA--- R 1 00 1,02 1", false),
+        ("1RA--- R 1 00 1,2 01", false),
+        ("1RA--- R 1 00 1,2 00", false),
+        ("1RA--- R 1 00 1,2 0", true),
+        ("1RA--- R 1 00 0,0 0", true),
+        ("1RA--- R 1 00 1,2 ", false),
+        ("1RA--- R 1 00 1,2 +1", false),
+        ("1RA--- R 1 00 1,2 g", false),
+        ("1RA--- R 1 00 1,2 :", false),
         // Sizes 3 and 8, with numbers of more bits.
-        (3, "012012", "f,e,a,0,1,2", "c", true),
-        (3, "012012", "f,e,a,0,1,2", "10", false),
-        (3, "012013", "f,e,a,0,1,2", "c", false),
-        (3, "012012", "F,e,a,0,1,2", "c", false),
-        (3, "012012", "f,e,a,0,1,2", "C", false),
-        (3, "012012", "f,e,a,0,1,0x2", "c", false),
+        ("1RA--- R 3 012012 f,e,a,0,1,2 c", true),
+        ("1RA--- R 3 012012 f,e,a,0,1,2 10", false),
+        ("1RA--- R 3 012013 f,e,a,0,1,2 c", false),
+        ("1RA--- R 3 012012 F,e,a,0,1,2 c", false),
+        ("1RA--- R 3 012012 f,e,a,0,1,2 C", false),
+        ("1RA--- R 3 012012 f,e,a,0,1,0x2 c", false),
         (
-            8,
-            "0123456701234567",
-            "1ff,1ab,9,0,1,2,1ff,1ab,9,0,1,2,1ff,1ab,9,0",
-            "1ff",
+            "1RA--- R 8 0123456701234567 1ff,1ab,9,0,1,2,1ff,1ab,9,0,1,2,1ff,1ab,9,0 1ff",
             true,
         ),
         (
-            8,
-            "0123456701234567",
-            "1ff,1ab,9,0,1,2,1ff,1ab,9,0,1,2,1ff,1ab,9,0",
-            "200",
+            "1RA--- R 8 0123456701234567 1ff,1ab,9,0,1,2,1ff,1ab,9,0,1,2,1ff,1ab,9,0 200",
             false,
         ),
         (
-            8,
-            "0123456701234568",
-            "1ff,1ab,9,0,1,2,1ff,1ab,9,0,1,2,1ff,1ab,9,0",
-            "1ff",
+            "1RA--- R 8 0123456701234568 1ff,1ab,9,0,1,2,1ff,1ab,9,0,1,2,1ff,1ab,9,0 1ff",
             false,
         ),
         (
-            8,
-            "0123456701234567",
-            "1ff,1ab,9,0,1,2,1ff,1ab,9,0,1,2,1ff,1ab,9,200",
-            "1ff",
+            "1RA--- R 8 0123456701234567 1ff,1ab,9,0,1,2,1ff,1ab,9,0,1,2,1ff,1ab,9,200 1ff",
             false,
         ),
         (
-            8,
-            "0123456701234567",
-            "1ff,1ab,9,0,1,2,1ff,1ab,9,0,1,2,1ff,1ab,9,100000000000000001",
-            "1ff",
+            "1RA--- R 8 0123456701234567 1ff,1ab,9,0,1,2,1ff,1ab,9,0,1,2,1ff,1ab,9,100000000000000001 1ff",
             false,
         ),
     ] {
-        let found = automata_of(&rt, 1, Dir::R, size, delta, rows, keep).is_some();
-        assert!(rt; found == answer, "{size} {delta} {rows} {keep}");
+        assert!(rt; read(&rt, row).1.is_some() == answer, "{row}");
     }
+    // A space is no digit.
+    assert!(rt; automata_of(&rt, 1, Dir::R, 1, "0 ", "1,2", "1").is_none());
+    assert!(rt; automata_of(&rt, 1, Dir::R, 1, "00", "1,2", " 1").is_none());
 }
 
 // The widest sets have 49 bits: of six states, with a first automaton of eight.

@@ -146,6 +146,22 @@ fn cycles_and_translated_cycles(rt: HostRuntime) -> Result<(), Fail> {
             ("0RB---_0LA--- C 0 1", "refused 201"),
             ("0RB---_0LA--- T 0 2 R", "0RB---_0LA--- never"),
             ("0RB---_0LA--- T 0 2 L", "0RB---_0LA--- never"),
+            ("0RB---_0LA--- T 0 1 R", "refused 201"),
+            ("1RA--- T 1 1 R", "refused 201"),
+            ("1RA--- T 0 63 R", "1RA--- never"),
+            ("1RA--- T 0 64 R", "1RA--- never"),
+            ("1RA--- T 3 67 R", "1RA--- never"),
+            ("1LA--- T 3 67 L", "1LA--- never"),
+            ("1LA--- T 3 67 R", "refused 201"),
+            // Only the later time has a limit.
+            ("1RA--- T 10000001 5 R", "refused 201"),
+            ("1RA--- T 5 10000001 R", "refused 202"),
+            ("------ T 10000001 5 R", "refused 201"),
+            ("------ T 5 10000001 R", "refused 202"),
+            ("------ T 0 1 R", "refused 201"),
+            // State and shift are right, cells from the bound on aren't.
+            ("0LC1LC_1LA1RA_1RB0RB T 16 31 R", "refused 201"),
+            ("1LC1LA_1RB0RA_0LB0RA T 9 21 L", "refused 201"),
         ],
     )
 }
@@ -167,7 +183,6 @@ fn backward_reasoning(rt: HostRuntime) -> Result<(), Fail> {
     )
 }
 
-// 47,176,870 steps: a quarter of a second as built, too long for a trial run.
 #[test]
 fn closed_position_sets(rt: HostRuntime) -> Result<(), Fail> {
     rows(
@@ -181,6 +196,37 @@ fn closed_position_sets(rt: HostRuntime) -> Result<(), Fail> {
             ("0RB---_0LA--- N 1 0 0 0A00,0B00", "0RB---_0LA--- never"),
             ("0RB---_0LA--- N 1 0 0 0A00", "refused 201"),
             ("0RB---_0LA--- N 1 0 0 0A00,0C00", "refused 304"),
+            // The word that a step leaves on the left isn't there.
+            ("1RA--- N 1 0 0 0A00,1A00", "refused 201"),
+            // An item twice, of another width, none, a comma too many, no symbol, not rising.
+            ("1RA--- N 1 0,0 0 0A00,1A00", "refused 304"),
+            ("1RA--- N 1 0,10 0 0A00,1A00", "refused 304"),
+            ("1RA--- N 1  0 0A00,1A00", "refused 304"),
+            ("1RA--- N 1 0,1, 0 0A00,1A00", "refused 304"),
+            ("1RA--- N 1 0,2 0 0A00,1A00", "refused 304"),
+            ("1RA--- N 1 0,1 0 1A00,0A00", "refused 304"),
+            // A state that tables of one state don't have.
+            ("1RA--- N 1 0,1 0 0A00,0B00", "refused 304"),
+            // The blank tape isn't there.
+            ("1RA--- N 1 1 0 0A00,1A00", "refused 201"),
+            ("1RA--- N 1 0,1 0 1A00", "refused 201"),
+            // What stands around the head where a 1 comes into view is missing.
+            ("1RA--- N 1 0,1 0,1 0A00,1A00", "refused 201"),
+            // The head comes to a halting pair.
+            ("------ N 1 0 0 0A00", "refused 201"),
+            (
+                "1RA--- N 2 00,01,11 00 00A000,01A000,11A000",
+                "1RA--- never",
+            ),
+            ("1RA--- N 2 00,01,11 00 00A000,01A000", "refused 201"),
+            (
+                "1RA--- N 8 00000000,00000001 00000000 00000000A000000000",
+                "refused 201",
+            ),
+            // The mirror image.
+            ("1LA--- N 1 0 0,1 0A00,0A01", "1LA--- never"),
+            ("1LA--- N 1 0 0 0A00,0A01", "refused 201"),
+            ("1LA--- N 1 0,1 0,1 0A00,0A01", "refused 201"),
         ],
     )
 }
@@ -208,6 +254,7 @@ fn long_lists_are_refused(rt: HostRuntime) -> Result<(), Fail> {
     Ok(())
 }
 
+// 47,176,870 steps: a quarter of a second as built, too long for a trial run.
 #[test]
 fn the_five_state_champion_halts(rt: HostRuntime) {
     let input = b"1RB1LC_1RC1RB_1RD0LE_1LA1LD_---0LA H 47176870";

@@ -8,9 +8,16 @@ use std::alloc::Global;
 use std::process::Abort;
 use std::test::Fail;
 
-fn record_of<'a>(rt: &impl Abort, text: &'a str) -> Record<'a> {
+// What a board answers to a record that is offered. Memory may be refused once.
+fn offered(rt: &impl Abort, board: &mut Board, text: &str) -> Result<Taken, OfferFault> {
     match Record::parse(text.as_bytes()) {
-        Ok(record) => record,
+        Ok(record) => {
+            let answer = board.offer(&record);
+            if answer == Err(OfferFault::NoMemory) {
+                return board.offer(&record);
+            }
+            answer
+        }
         Err(fault) => panic!(rt; "{text}: {fault:?}"),
     }
 }
@@ -44,11 +51,7 @@ fn a_board_takes_what_is_open_and_stands(rt: HostRuntime) {
         ("1RA--- H 1", Err(OfferFault::Refused(Refused::Fails))),
         ("0LA--- U", Err(OfferFault::NotOpen)),
     ] {
-        // memory may be refused once
-        let mut offered = board.offer(&record_of(&rt, text));
-        if offered == Err(OfferFault::NoMemory) {
-            offered = board.offer(&record_of(&rt, text));
-        }
+        let offered = offered(&rt, &mut board, text);
         assert!(rt; offered == answer, "{text}: {offered:?}");
     }
     let verdict = board.verdict(&table_of(&rt, "------"));
@@ -68,11 +71,7 @@ fn a_holdout_is_settled(rt: HostRuntime) {
         ("1RB1LB_1LA--- H 6", Taken::New),
         ("1RB1LB_1LA--- H 6", Taken::Known),
     ] {
-        // memory may be refused once
-        let mut offered = board.offer(&record_of(&rt, text));
-        if offered == Err(OfferFault::NoMemory) {
-            offered = board.offer(&record_of(&rt, text));
-        }
+        let offered = offered(&rt, &mut board, text);
         assert!(rt; offered == Ok(answer), "{text}: {offered:?}");
     }
     let champion = board.verdict(&table_of(&rt, "1RB1LB_1LA---"));
@@ -95,10 +94,7 @@ fn a_root_is_in_order(rt: HostRuntime) {
 
 // Offers a record, which must be taken. Memory may be refused once.
 fn take(rt: &impl Abort, board: &mut Board, text: &str) {
-    let mut offered = board.offer(&record_of(rt, text));
-    if offered == Err(OfferFault::NoMemory) {
-        offered = board.offer(&record_of(rt, text));
-    }
+    let offered = offered(rt, board, text);
     assert!(rt;
         matches!(&offered, Ok(Taken::New | Taken::Settled)),
         "{text}: {offered:?}"
@@ -181,7 +177,7 @@ fn a_board_is_complete_without_holdouts(rt: HostRuntime) -> Result<(), Fail> {
     take(&rt, &mut board, "0RA--- T 0 1 R");
     assert!(rt; board.status() == Status::Holdouts { count: 1 });
     are_tables(&rt, &holdouts_of(&rt, rt.alloc(), &board)?, &["1RA---"]);
-    assert!(rt; board.offer(&record_of(&rt, "1RA--- U")) == Ok(Taken::Known));
+    assert!(rt; offered(&rt, &mut board, "1RA--- U") == Ok(Taken::Known));
     take(&rt, &mut board, "1RA--- T 0 1 R");
     assert!(rt; board.status() == Status::Complete { best: Some(1) });
     are_tables(&rt, &holdouts_of(&rt, rt.alloc(), &board)?, &[]);

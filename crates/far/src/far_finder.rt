@@ -37,8 +37,11 @@ impl FarFinder {
     /// It tries the sizes one after another, and for each both sides. The transitions of the first automaton
     /// are tried one by one, a state being named where it is first gone to, and the edges of the second are the
     /// least that go with them. They only grow, so where the blank tape leads to the halt state, no automaton
-    /// with these transitions will do. It looks at no more than 2,500 such beginnings for each step of the
-    /// budget; up to size 4 there are fewer than a thousand. No contract says what is found or how long it takes.
+    /// with these transitions will do.
+    ///
+    /// It looks at no more than 2,500 such beginnings for each step of the budget. Tables of four states took
+    /// less than 300 of them up to size 4, some 25,000 up to size 6 and two million up to size 8. No contract says
+    /// what is found or how long it takes.
     pub fn search(&mut self, t: &Table, budget: u64) -> Result<Option<Far>, NoMemory>
         ensures found { IfOk result (λ o. IfSome o (λ e. AreAutomataOf (automata_of e) t.now)) }
         ensures same { self.new.size ≡ self.old.size }

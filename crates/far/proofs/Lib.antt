@@ -5,3 +5,4 @@ pub mod Digits
 pub mod Reading
 pub mod WellFormed
 pub mod RoundTrip
+pub mod Tested

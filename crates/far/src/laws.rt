@@ -1,6 +1,7 @@
 // Laws of the texts of automata.
-ghost use Rattle.std.specs.Prelude.{◌≡◌, ◌≤◌, All};
+ghost use Rattle.std.specs.Prelude.{◌≡◌, ◌≤◌, ℕ, List, All, Decides};
 ghost use Rattle.far.specs.Automata.{Automata, AreAutomata};
+ghost use Rattle.far.specs.Tests.{are_texts};
 ghost use Rattle.far.specs.Texts.{AreTexts, automata_by, delta_text, rows_text, hex_text};
 
 /// The texts of automata's numbers give those numbers again, and they hold neither a space nor a newline.
@@ -11,4 +12,10 @@ pub fn texts_read_back()
         automata_by a.states a.side a.size (delta_text a.delta) (rows_text a.rows) (hex_text a.keep) ≡ a }
     ensures bytes { (a : Automata) →
         All (λ b. 44 ≤ b) (delta_text a.delta) × All (λ b. 44 ≤ b) (rows_text a.rows) × All (λ b. 44 ≤ b) (hex_text a.keep) }
+{}
+
+/// The test of three texts answers true exactly where they are those of automata.
+pub fn texts_are_tested()
+    ensures { (states size : ℕ) (delta rows keep : List ℕ) →
+        Decides (are_texts states size delta rows keep) (AreTexts states size delta rows keep) }
 {}

@@ -1,0 +1,38 @@
+-- The tests of texts answer as the texts are.
+use Rattle.std.proofs.Common.{◌≡◌, ℕ, ◌+◌, ◌*◌, ◌^◌, ◌<◌, ◌≤◌, Bool, not, ltb, List, [], length, get_or, refl, arith}
+use Rattle.std.specs.Prelude.{Decides}
+use Rattle.std.specs.Str.{bytes_eq}
+use Rattle.std.proofs.lemmas.Bool.Decides.{nat_tests, Decides-and, Decides-eqb, Decides-ltb, Decides-below_and}
+use Rattle.std.proofs.lemmas.Slice.Eq.{bytes_eq-Decides}
+use Rattle.far.specs.Texts.{hex_text, hex_worth, parts_of, IsHex, IsDelta, IsRows, AreTexts}
+use Rattle.far.specs.Tests.{each_below, is_hex, is_delta, is_rows, are_texts}
+
+below_decides : (p : ℕ → Bool) (P : ℕ → Type 0) → ((k : ℕ) → Decides (p k) (P k)) → (n : ℕ) → Decides (each_below p n) ((k : ℕ) → k < n → P k)
+unfolding each_below
+below_decides p P each n = Decides-below_and p P (each_below p) each refl (λ _. refl) n
+
+at_least : (a b : ℕ) → Decides (not (ltb b a)) (a ≤ b)
+at_least a b = (λ t. grind (arith, nat_tests, t), λ le. grind (arith, nat_tests, le))
+
+hex_decides : (limit : ℕ) (text : List ℕ) → Decides (is_hex limit text) (IsHex limit text)
+hex_decides limit text =
+    let all = Decides-and _ _ (bytes_eq-Decides (hex_text (hex_worth text)) text) (Decides-ltb (hex_worth text) limit) in
+    (λ t. let h = all.0 t in record { form = h.0; small = h.1 }, λ h. all.1 (h.form, h.small))
+
+delta_decides : (size : ℕ) (text : List ℕ) → Decides (is_delta size text) (IsDelta size text)
+delta_decides size text =
+    let digits = below_decides (λ k. _) (λ k. _) (λ k. Decides-and _ _ (at_least 48 (get_or text k 0)) (Decides-ltb (get_or text k 0) (48 + size))) (2 * size) in
+    let all = Decides-and _ _ (Decides-eqb (length text) (2 * size)) digits in
+    (λ t. let d = all.0 t in record { count = d.0; from = λ k less. (d.1 k less).0; to = λ k less. (d.1 k less).1 }, λ d. all.1 (d.count, λ k less. (d.from k less, d.to k less)))
+
+rows_decide : (count limit : ℕ) (text : List ℕ) → Decides (is_rows count limit text) (IsRows count limit text)
+rows_decide count limit text =
+    let numbers = below_decides (λ k. _) (λ k. _) (λ k. hex_decides limit (get_or (parts_of text) k [])) count in
+    let all = Decides-and _ _ (Decides-eqb (length (parts_of text)) count) numbers in
+    (λ t. let r = all.0 t in record { count_is = r.0; each = r.1 }, λ r. all.1 (r.count_is, r.each))
+
+pub texts_decide : (states size : ℕ) (delta rows keep : List ℕ) → Decides (are_texts states size delta rows keep) (AreTexts states size delta rows keep)
+unfolding are_texts
+texts_decide states size delta rows keep =
+    let all = Decides-and _ _ (delta_decides size delta) (Decides-and _ _ (rows_decide (2 * (size * states)) (2 ^ (size * states + 1)) rows) (hex_decides (2 ^ (size * states + 1)) keep)) in
+    (λ t. let a = all.0 t in record { moves = a.0; edges = a.1.0; kept = a.1.1 }, λ a. all.1 (a.moves, (a.edges, a.kept)))

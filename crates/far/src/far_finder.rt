@@ -1,5 +1,5 @@
 // The search for automata.
-ghost use Rattle.std.specs.Prelude.{◌≡◌, ◌≤◌, IfSome, IfOk};
+ghost use Rattle.std.specs.Prelude.{◌≡◌, ◌≤◌, min, IfSome, IfOk};
 ghost use Rattle.far.specs.Limits.{size_limit};
 ghost use Rattle.far.specs.Automata.{AreAutomataOf};
 ghost use Rattle.far.specs.Far.{automata_of};
@@ -44,6 +44,7 @@ impl FarFinder {
     /// what is found or how long it takes.
     pub fn search(&mut self, t: &Table, budget: u64) -> Result<Option<Far>, NoMemory>
         ensures found { IfOk result (λ o. IfSome o (λ e. AreAutomataOf (automata_of e) t.now)) }
+        ensures size { IfOk result (λ o. IfSome o (λ e. (automata_of e).size ≤ min self.old.size size_limit)) }
         ensures same { self.new.size ≡ self.old.size }
     {
         let mut left = budget.saturating_mul(PARTIALS_PER_STEP);
@@ -68,6 +69,7 @@ impl FarFinder {
     ) -> Result<Option<Far>, NoMemory>
         requires { (1 ≤ size) × (size ≤ size_limit) }
         ensures found { IfOk result (λ o. IfSome o (λ e. AreAutomataOf (automata_of e) t.now)) }
+        ensures size { IfOk result (λ o. IfSome o (λ e. (automata_of e).size ≡ size)) }
         ensures same { self.new.size ≡ self.old.size }
     {
         self.partials.clear();
@@ -78,7 +80,7 @@ impl FarFinder {
                 return Ok(None);
             };
             if partial.is_complete() {
-                return Ok(standing(&partial, t));
+                return Ok(standing(&partial, t, size));
             }
             partial.extend(&mut self.partials)?;
         }
@@ -86,10 +88,14 @@ impl FarFinder {
     }
 }
 
-// The automata, if they are those of the table.
-fn standing(partial: &Partial, t: &Table) -> Option<Far>
-    ensures { IfSome result (λ e. AreAutomataOf (automata_of e) t.now) }
+// The automata, if they are of this size and those of the table.
+fn standing(partial: &Partial, t: &Table, size: u8) -> Option<Far>
+    ensures found { IfSome result (λ e. AreAutomataOf (automata_of e) t.now) }
+    ensures size { IfSome result (λ e. (automata_of e).size ≡ size) }
 {
     let found = partial.automata()?;
-    if found.holds(t) { Some(found) } else { None }
+    if found.size() != size || !found.holds(t) {
+        return None;
+    }
+    Some(found)
 }

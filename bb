@@ -35,11 +35,14 @@ if [ ! -x "$program" ] || [ ! -e "$stamp" ] ||
     echo "bb: proving and building the program first, which takes some minutes the first time" >&2
     mkdir -p "$top/crates/bb/out"
     log=$top/crates/bb/out/build.log
+    # A job for each processor, up to four: more wait for one another, and each takes memory.
+    jobs=$(nproc 2> /dev/null || echo 1)
+    [ "$jobs" -le 4 ] || jobs=4
     : > "$log"
     watch "$log" &
     watcher=$!
     trap 'kill $watcher 2> /dev/null' EXIT
-    if ! (cd "$top/crates/bb" && rt run -- --help) > "$log" 2>&1 < /dev/null; then
+    if ! (cd "$top/crates/bb" && rt run --jobs "$jobs" -- --help) > "$log" 2>&1 < /dev/null; then
         tail -n 20 "$log" >&2
         echo "bb: the build failed; its log is $log" >&2
         exit 1

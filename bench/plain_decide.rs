@@ -1,17 +1,21 @@
-//! What bb decide does with its defaults, in plain Rust: a yardstick for speed, and, since it shares no code
-//! with bb, for what is found. Build with `rustc -O`. Reads tables from standard input.
+//! What bb decide does, in plain Rust: a yardstick for speed, and, since it shares no code with bb, for what is
+//! found. Build with `rustc -O`. Reads tables from standard input. The greatest width of words and the greatest
+//! size of a first automaton may be given as arguments.
 #[allow(dead_code)]
 mod machine;
 
 use machine::{halts, parse, printed, Entry, Row};
 use std::collections::HashMap;
+use std::env;
 use std::io::{self, BufRead, BufWriter, Write};
 
 const STEPS: u64 = 1_000;
 const DEPTH: usize = 20;
 const WIDTH: usize = 3;
+const SIZE: usize = 2;
 const MAX_PATHS: usize = 65_536;
 const MAX_LIST_BYTES: usize = 49_152;
+const MAX_BEGINNINGS: u64 = 2_500 * STEPS;
 
 /// A configuration on a byte tape that grows on both sides.
 #[derive(Clone)]
@@ -251,8 +255,8 @@ fn position_set(rows: &[Row], width: usize) -> Option<(Vec<bool>, Vec<bool>, Vec
     }
 }
 
-fn lists(rows: &[Row]) -> Option<String> {
-    (1..=WIDTH).find_map(|width| {
+fn lists(rows: &[Row], most: usize) -> Option<String> {
+    (1..=most).find_map(|width| {
         let (left, right, members) = position_set(rows, width)?;
         let listed = |words: &[bool]| {
             let held: Vec<String> = (0..words.len()).filter(|w| words[*w]).map(|w| format!("{w:0width$b}")).collect();
@@ -268,7 +272,112 @@ fn lists(rows: &[Row]) -> Option<String> {
     })
 }
 
-fn decided(rows: &[Row]) -> String {
+/// The search for automata of one size and side: a first automaton that is grown by a transition at a time, and
+/// the least edges of a second one that go with it, as bits.
+struct Automata<'a> {
+    rows: &'a [Row],
+    right: bool,
+    size: usize,
+}
+
+impl Automata<'_> {
+    fn last(&self) -> usize {
+        self.size * self.rows.len()
+    }
+
+    fn reached(&self, edges: &[u64], set: u64, symbol: usize) -> u64 {
+        let onward = (0..self.last()).filter(|j| set >> j & 1 == 1).map(|j| edges[2 * j + symbol]);
+        onward.fold(set & 1 << self.last(), |union, more| union | more)
+    }
+
+    /// The edges that these transitions ask for, beside those that are there.
+    fn grow(&self, delta: &[usize], edges: &mut [u64]) {
+        let n = self.rows.len();
+        loop {
+            let mut grew = false;
+            for (k, to) in delta.iter().enumerate() {
+                let (from, written) = (k / 2, k % 2);
+                for (f, s, e) in entries(self.rows) {
+                    let (place, more) = if e.right == self.right {
+                        if e.write as usize != written {
+                            continue;
+                        }
+                        (2 * (from * n + f) + s as usize, 1 << (to * n + e.next))
+                    } else {
+                        let first = edges[2 * (from * n + e.next) + written];
+                        (2 * (to * n + f) + s as usize, self.reached(edges, first, e.write as usize))
+                    };
+                    grew |= edges[place] | more != edges[place];
+                    edges[place] |= more;
+                }
+            }
+            if !grew {
+                return;
+            }
+        }
+    }
+
+    fn kept(&self, edges: &[u64]) -> u64 {
+        let mut keep = 1;
+        loop {
+            let more = keep | self.reached(edges, keep, 0);
+            if more == keep {
+                return keep;
+            }
+            keep = more;
+        }
+    }
+
+    /// The text of the first automata that these transitions begin.
+    fn search(&self, delta: &mut Vec<usize>, edges: &[u64], left: &mut u64) -> Option<String> {
+        if *left == 0 {
+            return None;
+        }
+        *left -= 1;
+        if delta.len() == 2 * self.size {
+            return Some(self.text(delta, edges));
+        }
+        let named = delta.iter().max().map_or(1, |most| most + 1);
+        let count = match delta.len() {
+            0 => 1,
+            moves if moves / 2 >= named => 0,
+            _ => self.size.min(named + 1),
+        };
+        for to in 0..count {
+            let mut grown = edges.to_vec();
+            delta.push(to);
+            self.grow(delta, &mut grown);
+            if self.kept(&grown) >> self.last() == 0 {
+                if let Some(text) = self.search(delta, &grown, left) {
+                    return Some(text);
+                }
+            }
+            delta.pop();
+        }
+        None
+    }
+
+    fn text(&self, delta: &[usize], edges: &[u64]) -> String {
+        let side = if self.right { 'R' } else { 'L' };
+        let digits: String = delta.iter().map(usize::to_string).collect();
+        let sets: Vec<String> = edges.iter().map(|set| format!("{set:x}")).collect();
+        format!("F {side} {} {digits} {} {:x}", self.size, sets.join(","), self.kept(edges))
+    }
+}
+
+fn automata(rows: &[Row], most: usize) -> Option<String> {
+    let mut left = MAX_BEGINNINGS;
+    (1..=most).find_map(|size| {
+        [true, false].into_iter().find_map(|right| {
+            let search = Automata { rows, right, size };
+            let halts = |place: usize| rows[place / 2 % rows.len()][place % 2].is_none();
+            let edges: Vec<u64> = (0..2 * search.last()).map(|place| u64::from(halts(place)) << search.last()).collect();
+            search.search(&mut Vec::new(), &edges, &mut left)
+        })
+    })
+}
+
+fn decided(rows: &[Row], width: usize, size: usize) -> String {
     if let Some(k) = halts(rows, STEPS) {
         return format!("H {k}");
     }
@@ -281,14 +390,16 @@ fn decided(rows: &[Row]) -> String {
     if let Some(depth) = backward(rows) {
         return format!("B {depth}");
     }
-    lists(rows).unwrap_or_else(|| "U".to_string())
+    lists(rows, width).or_else(|| automata(rows, size)).unwrap_or_else(|| "U".to_string())
 }
 
 fn main() -> io::Result<()> {
+    let number = |place, default| env::args().nth(place).map_or(default, |word| word.parse().expect("a number"));
+    let (width, size) = (number(1, WIDTH), number(2, SIZE));
     let mut out = BufWriter::new(io::stdout().lock());
     for line in io::stdin().lock().split(b'\n') {
         match parse(&line?) {
-            Ok(rows) => writeln!(out, "{} {}", printed(&rows), decided(&rows))?,
+            Ok(rows) => writeln!(out, "{} {}", printed(&rows), decided(&rows, width, size))?,
             Err((fault, None)) => writeln!(out, "refused 301 {fault}")?,
             Err((fault, Some(place))) => writeln!(out, "refused 301 {fault} {place}")?,
         }

@@ -9,6 +9,7 @@ pub record IsWithinRange (s : Search) : Type 0 where
   pub steps : s.steps ≤ 100000000
   pub depth : s.depth ≤ 1000
   pub gram : s.gram ≤ 8
+  pub far : s.far ≤ 8
 
 abbrev pub AreWithinRanges : Options → Type 0
 AreWithinRanges Check = Unit {0}

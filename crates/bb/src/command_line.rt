@@ -30,6 +30,7 @@ fn search_of(matches: &ArgMatches<'_>) -> Result<Search, LineFault>
         steps: number_of(matches, STEPS, 1, 100_000_000)?,
         depth: number_of(matches, DEPTH, 0, 1_000)?,
         gram: number_of(matches, GRAM, 0, 8)?,
+        far: number_of(matches, FAR, 0, 8)?,
     })
 }
 
@@ -106,6 +107,14 @@ fn decide_command<'a>(alloc: Global) -> Result<Command<'a>, NoMemory> {
                 .value_parser(value_parser!(u64).range(0..=8))
                 .default_value("3")
                 .help("Greatest width of words in closed position sets; 0 for none"),
+        )?
+        .arg(
+            Arg::new(alloc, FAR)
+                .long(FAR)
+                .value_name("M")
+                .value_parser(value_parser!(u64).range(0..=8))
+                .default_value("2")
+                .help("Most states of a first automaton, in finite automata reduction; 0 for none"),
         )
 }
 
@@ -114,6 +123,8 @@ const STEPS: &str = "steps";
 const DEPTH: &str = "depth";
 
 const GRAM: &str = "gram";
+
+const FAR: &str = "far";
 
 const FILE: &str = "FILE";
 
@@ -153,8 +164,9 @@ or a stream failed (`refused 603`).";
 const DECIDE: &str =
     "A line is a table in the bbchallenge standard format. Its record has the first certificate that is
 found and stands, looked for in this order: that it halts, a cycle, a translated cycle, backward
-reasoning, a closed position set; or `U`, undecided. A text that is no table is answered `refused 301` with its fault, as by
-`bb check`, and a line over 65,536 bytes `refused 305`. `bb decide | bb check` checks what was found.
+reasoning, a closed position set, finite automata; or `U`, undecided. A text that is no table is answered
+`refused 301` with its fault, as by `bb check`, and a line over 65,536 bytes `refused 305`.
+`bb decide | bb check` checks what was found.
 
 Exit status: 0 each line was a table; 1 some wasn't; 2 a wrong command line; 3 out of memory
 (`refused memory` on standard error); 4 a stream failed (`refused 603`).";
@@ -168,6 +180,9 @@ const RECORDS: &str =
   N g L R C   no step leaves these words of g symbols on the left and on the right of the head, and these
               local configurations; g from 1 to 8, each list sorted and joined by commas, and the three
               together up to 49,152 bytes
+  F side m delta rows keep
+              two automata, by which the run never comes to a halt; the first has m states, from 1 to 8, and
+              goes where the digits of delta say; rows and keep are sets of states of the second, in hexadecimal
   U           nothing is claimed
 
 An answer is one of

@@ -7,6 +7,7 @@ use crate::line_fault::LineFault;
 use backward::BackwardFinder;
 use cert::{Finder, Finders};
 use commands::{Ended, Opened, Options, Outcome, Search, cmd_check, cmd_decide, cmd_report};
+use far::FarFinder;
 use loops::{CycleFinder, TranslatedFinder};
 use ngram_cps::NgramFinder;
 use run::{HaltFinder, NoMemory};
@@ -73,6 +74,7 @@ fn decide_with<R: Read, W: Write, E: Write>(
     finders.push(Box::new(alloc, TranslatedFinder::new(alloc, steps))?)?;
     finders.push(Box::new(alloc, BackwardFinder::new(alloc, search.depth))?)?;
     finders.push(Box::new(alloc, NgramFinder::new(alloc, search.gram))?)?;
+    finders.push(Box::new(alloc, FarFinder::new(alloc, search.far))?)?;
     let mut decider = Finders::new(finders, steps);
     Ok(cmd_decide(alloc, &mut decider, input, answers, faults))
 }

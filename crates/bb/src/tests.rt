@@ -71,11 +71,7 @@ impl Write for Sink {
 }
 
 // How a command line ended, and whether anything was written to either stream.
-fn ended(
-    alloc: Global,
-    words: &[&str],
-    fails: (bool, bool),
-) -> Result<(Outcome, bool, bool), Fail> {
+fn ended(alloc: Global, text: &str, fails: (bool, bool)) -> Result<(Outcome, bool, bool), Fail> {
     let mut answers = Sink {
         written: 0,
         fails: fails.0,
@@ -85,7 +81,7 @@ fn ended(
         fails: fails.1,
     };
     let mut line = Vec::new(alloc);
-    for word in words {
+    for word in text.split(' ') {
         line.push(word.to_string(alloc)?)?;
     }
     let mut input = Bytes {
@@ -102,141 +98,91 @@ fn ended(
     Ok((outcome, answers.written > 0, faults.written > 0))
 }
 
+// Command lines with how each ends, and whether anything is written to either stream.
+const LINES: [(&str, Outcome, bool, bool); 19] = [
+    ("bb check", Outcome::Accepted, true, false),
+    // the input is a record, and no table
+    ("bb decide", Outcome::Refused, true, false),
+    ("bb report complete", Outcome::Accepted, true, false),
+    ("bb report complete --why", Outcome::Accepted, true, false),
+    ("bb report absent", Outcome::Failed, false, true),
+    ("bb --help", Outcome::Accepted, true, false),
+    ("bb report --help", Outcome::Accepted, true, false),
+    ("bb --version", Outcome::Accepted, true, false),
+    ("bb", Outcome::BadLine, false, true),
+    ("bb chek", Outcome::BadLine, false, true),
+    ("bb check file", Outcome::BadLine, false, true),
+    ("bb report", Outcome::BadLine, false, true),
+    ("bb report a b", Outcome::BadLine, false, true),
+    ("bb --steps", Outcome::BadLine, false, true),
+    ("bb decide --steps 0", Outcome::BadLine, false, true),
+    ("bb decide --steps 100000001", Outcome::BadLine, false, true),
+    ("bb decide --depth 1001", Outcome::BadLine, false, true),
+    ("bb decide --gram 9", Outcome::BadLine, false, true),
+    ("bb decide --far 9", Outcome::BadLine, false, true),
+];
+
 #[test]
 fn each_command_line_ends_with_its_outcome(rt: HostRuntime) -> Result<(), Fail> {
-    for (words, outcome, answers, faults) in [
-        (["bb", "check"].as_slice(), Outcome::Accepted, true, false),
-        // the input is a record, and no table
-        (["bb", "decide"].as_slice(), Outcome::Refused, true, false),
-        (
-            ["bb", "report", "complete"].as_slice(),
-            Outcome::Accepted,
-            true,
-            false,
-        ),
-        (
-            ["bb", "report", "complete", "--why"].as_slice(),
-            Outcome::Accepted,
-            true,
-            false,
-        ),
-        (
-            ["bb", "report", "absent"].as_slice(),
-            Outcome::Failed,
-            false,
-            true,
-        ),
-        (["bb", "--help"].as_slice(), Outcome::Accepted, true, false),
-        (
-            ["bb", "report", "--help"].as_slice(),
-            Outcome::Accepted,
-            true,
-            false,
-        ),
-        (
-            ["bb", "--version"].as_slice(),
-            Outcome::Accepted,
-            true,
-            false,
-        ),
-        (["bb"].as_slice(), Outcome::BadLine, false, true),
-        (["bb", "chek"].as_slice(), Outcome::BadLine, false, true),
-        (
-            ["bb", "check", "file"].as_slice(),
-            Outcome::BadLine,
-            false,
-            true,
-        ),
-        (["bb", "report"].as_slice(), Outcome::BadLine, false, true),
-        (
-            ["bb", "report", "a", "b"].as_slice(),
-            Outcome::BadLine,
-            false,
-            true,
-        ),
-        (["bb", "--steps"].as_slice(), Outcome::BadLine, false, true),
-        (
-            ["bb", "decide", "--steps", "0"].as_slice(),
-            Outcome::BadLine,
-            false,
-            true,
-        ),
-        (
-            ["bb", "decide", "--steps", "100000001"].as_slice(),
-            Outcome::BadLine,
-            false,
-            true,
-        ),
-        (
-            ["bb", "decide", "--depth", "1001"].as_slice(),
-            Outcome::BadLine,
-            false,
-            true,
-        ),
-        (
-            ["bb", "decide", "--gram", "9"].as_slice(),
-            Outcome::BadLine,
-            false,
-            true,
-        ),
-    ] {
-        let said = ended(rt.alloc(), words, (false, false))?;
-        assert!(rt; said == (outcome, answers, faults), "{words:?}: {said:?}");
+    for (line, outcome, answers, faults) in LINES {
+        let said = ended(rt.alloc(), line, (false, false))?;
+        assert!(rt; said == (outcome, answers, faults), "{line}: {said:?}");
         // Where what there is to say can't be written, that is how it ends.
-        let said = ended(rt.alloc(), words, (answers, faults))?;
-        assert!(rt; said.0 == Outcome::Failed, "{words:?}: {said:?}");
+        let said = ended(rt.alloc(), line, (answers, faults))?;
+        assert!(rt; said.0 == Outcome::Failed, "{line}: {said:?}");
     }
     Ok(())
 }
 
+// Numbers of `bb decide`: steps, depth, width and size.
+const SEARCHES: [(&str, [u64; 4]); 3] = [
+    ("bb decide", [1_000, 20, 3, 2]),
+    (
+        "bb decide --depth 0 --steps 100000000 --gram 0 --far 0",
+        [100_000_000, 0, 0, 0],
+    ),
+    (
+        "bb decide --far 8 --gram 8 --depth 1000 --steps 1",
+        [1, 1_000, 8, 8],
+    ),
+];
+
 #[test]
-fn options_are_read_from_the_words(rt: HostRuntime) {
-    for (words, expected) in [
-        (["bb", "check"].as_slice(), Options::Check),
-        (["bb", "report", "some file"].as_slice(), report(false)),
-        (
-            ["bb", "report", "--why", "some file"].as_slice(),
-            report(true),
-        ),
-        (["bb", "decide"].as_slice(), search(1_000, 20, 3)),
-        (
-            [
-                "bb",
-                "decide",
-                "--depth",
-                "0",
-                "--steps",
-                "100000000",
-                "--gram",
-                "0",
-            ]
-            .as_slice(),
-            search(100_000_000, 0, 0),
-        ),
-        (
-            [
-                "bb", "decide", "--gram", "8", "--depth", "1000", "--steps", "1",
-            ]
-            .as_slice(),
-            search(1, 1_000, 8),
-        ),
+fn options_are_read_from_the_words(rt: HostRuntime) -> Result<(), Fail> {
+    for (text, expected) in [
+        ("bb check", Options::Check),
+        ("bb report file", report(false)),
+        ("bb report --why file", report(true)),
     ] {
-        match options(rt.alloc(), words) {
-            Ok(asked) => assert!(rt; asked == expected, "{words:?}"),
-            Err(fault) => panic!(rt; "{fault}"),
-        }
+        is_asked(&rt, rt.alloc(), text, expected)?;
     }
+    for (text, [steps, depth, gram, far]) in SEARCHES {
+        let search = Search {
+            steps,
+            depth,
+            gram,
+            far,
+        };
+        is_asked(&rt, rt.alloc(), text, Options::Decide(search))?;
+    }
+    Ok(())
+}
+
+// The words of the text ask for this.
+fn is_asked(rt: &impl Abort, alloc: Global, text: &str, expected: Options<'_>) -> Result<(), Fail> {
+    let mut words = Vec::new(alloc);
+    for word in text.split(' ') {
+        words.push(word)?;
+    }
+    match options(alloc, &words) {
+        Ok(found) => assert!(rt; found == expected, "{text}"),
+        Err(fault) => panic!(rt; "{text}: {fault}"),
+    }
+    Ok(())
 }
 
 fn report(why: bool) -> Options<'static> {
-    Options::Report {
-        file: "some file",
-        why,
-    }
-}
-
-fn search(steps: u64, depth: u64, gram: u64) -> Options<'static> {
-    Options::Decide(Search { steps, depth, gram })
+    Options::Report { file: "file", why }
 }
 
 // What the words of a line couldn't be read for is a wrong line, or refused memory.

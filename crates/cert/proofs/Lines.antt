@@ -10,10 +10,13 @@ use Rattle.machine_text.specs.declared.transition.Dir.TheVariants.{L, R}
 use Rattle.machine_text.specs.Packed.{Packed, IsTable}
 use Rattle.machine_text.specs.Text.{text_of}
 use Rattle.machine_text.proofs.RoundTrip.{text_of_from_45}
+use Rattle.far.specs.Automata.{Automata}
+use Rattle.far.specs.Texts.{delta_text, rows_text, hex_text, fields_text}
+use Rattle.far.proofs.RoundTrip.{bytes_from_comma}
 use Rattle.ngram_cps.proofs.Bytes.{AreHigh, lists_are_high}
-use Rattle.cert.specs.Claim.{Claim, HaltsClaim, CycleClaim, TranslatedClaim, BackwardClaim, NgramClaim, NoClaim, Recorded, IsWritable, IsMadeFor, IsWithin, Stands}
+use Rattle.cert.specs.Claim.{Claim, HaltsClaim, CycleClaim, TranslatedClaim, BackwardClaim, NgramClaim, FarClaim, NoClaim, Recorded, IsWritable, IsMadeFor, IsWithin, Stands}
 use Rattle.cert.specs.Certified.{IsCertified}
-use Rattle.cert.specs.Grammar.{claim_text, lists_text, side_text, record_text}
+use Rattle.cert.specs.Grammar.{claim_text, lists_text, automata_text, side_text, record_text}
 
 abbrev IsOther : ℕ → Type 0
 IsOther byte = byte ≢ 10
@@ -62,6 +65,15 @@ high_line text high = All-from_get_or (λ b. b ≢ 10) text 0 (λ i below.
     let above : 44 ≤ get_or text i 0 = All-get_or (λ b. 44 ≤ b) text i 0 below high in
     omega arith)
 
+fields_line : (a : Automata) → IsLine (fields_text a)
+unfolding fields_text
+fields_line a =
+    let high = bytes_from_comma a in
+    both (delta_text a.delta ++ codes " " ++ rows_text a.rows ++ codes " ") (hex_text a.keep)
+    (both (delta_text a.delta ++ codes " " ++ rows_text a.rows) (codes " ")
+    (both (delta_text a.delta ++ codes " ") (rows_text a.rows) (both (delta_text a.delta) (codes " ") (high_line (delta_text a.delta) high.0) space)
+    (high_line (rows_text a.rows) high.1)) space) (high_line (hex_text a.keep) high.2)
+
 claim_line : (c : Claim) → IsWritable c → IsLine (claim_text c)
 claim_line (HaltsClaim k) small = both (codes "H ") (decimal k) (by_test (codes "H ") refl) (decimal_line k small)
 claim_line (CycleClaim i j) small = times_line (codes "C ") i j (by_test (codes "C ") refl) small.0 small.1
@@ -80,6 +92,13 @@ claim_line (NgramClaim s) lists =
     (both (decimal s.width ++ codes " " ++ s.left) (codes " ")
     (both (decimal s.width ++ codes " ") s.left (both (decimal s.width) (codes " ") (decimal_line s.width (omega (arith, narrow))) space) (high_line s.left high.left))
     space) (high_line s.right high.right)) space) (high_line s.local high.local))
+claim_line (FarClaim a) automata =
+    let small = automata.1.small in
+    both (codes "F ") (automata_text a) (by_test (codes "F ") refl)
+    (both (side_text a.side ++ codes " " ++ decimal a.size ++ codes " ") (fields_text a)
+    (both (side_text a.side ++ codes " " ++ decimal a.size) (codes " ")
+    (both (side_text a.side ++ codes " ") (decimal a.size) (both (side_text a.side) (codes " ") (side_line a.side) space)
+    (decimal_line a.size (omega (arith, small)))) space) (fields_line a))
 claim_line NoClaim small = by_test (codes "U") refl
 
 pub record_line : (r : Recorded) → IsTable r.table → IsWritable r.claim → IsLine (record_text r)
@@ -94,18 +113,20 @@ writable_within (CycleClaim i j) p within stands = (omega (arith, stands.order),
 writable_within (TranslatedClaim i j side) p within stands = (omega (arith, stands.order), omega arith)
 writable_within (BackwardClaim d) p within stands = omega arith
 writable_within (NgramClaim s) p within stands = (stands.0, within)
+writable_within (FarClaim a) p within stands = (stands.0, within)
 writable_within NoClaim p within stands = tt
 
 pub certified_writable : (r : Recorded) → IsCertified r → IsWritable r.claim
 certified_writable r certified = writable_within r.claim r.table certified.within certified.stands
 
--- and its lists are made for the table's states
+-- and its lists and automata are made for the table's states
 made_for : (c : Claim) (p : Packed) → Stands c p → IsMadeFor c p.states
 made_for (HaltsClaim k) p stands = tt
 made_for (CycleClaim i j) p stands = tt
 made_for (TranslatedClaim i j side) p stands = tt
 made_for (BackwardClaim d) p stands = tt
 made_for (NgramClaim s) p stands = stands.1.states
+made_for (FarClaim a) p stands = stands.1.states
 made_for NoClaim p stands = tt
 
 pub certified_made : (r : Recorded) → IsCertified r → IsMadeFor r.claim r.table.states

@@ -4,7 +4,7 @@ use Rattle.std.specs.Prelude.{codes, decimal, All}
 use Rattle.std.specs.Str.{bytes_eq}
 use Rattle.std.proofs.lemmas.Bool.Decides.{nat_tests}
 use Rattle.std.proofs.lemmas.Fmt.{decimal_by_steps, length-decimal-le}
-use Rattle.std.proofs.lemmas.List.Elements.{All-append, All-get_or, All-from_get_or}
+use Rattle.std.proofs.lemmas.List.Elements.{All-append, All-cons, All-nil, All-get_or, All-from_get_or}
 use Rattle.std.proofs.lemmas.List.Splits.{slice_split_at, slice_split_none}
 use Rattle.std.proofs.lemmas.List.Sums.{fold-append}
 use Rattle.std.proofs.lemmas.Slice.Eq.{bytes_eq-Decides}
@@ -14,14 +14,21 @@ use Rattle.machine_text.specs.Packed.{Packed, IsTable}
 use Rattle.machine_text.specs.Text.{text_of}
 use Rattle.machine_text.proofs.Rows.{length-text_of}
 use Rattle.machine_text.proofs.RoundTrip.{table_of-text_of, text_of_from_45}
+use Rattle.far.specs.Limits.{size_limit}
+use Rattle.far.specs.Automata.{Automata, AreAutomata, AreWithin as AreSized}
+use Rattle.far.specs.Texts.{delta_text, rows_text, hex_text, fields_text}
+use Rattle.far.specs.Tests.{are_texts}
+use Rattle.far.proofs.RoundTrip.{texts_back, same_back, bytes_from_comma}
+use Rattle.far.proofs.Short.{fields_are_short}
+use Rattle.far.proofs.Tested.{texts_decide}
 use Rattle.ngram_cps.specs.Limits.{width_limit, list_byte_limit}
 use Rattle.ngram_cps.specs.Lists.{Lists, lists, AreLists, AreWithin}
 use Rattle.ngram_cps.specs.Tests.{are_lists}
 use Rattle.ngram_cps.proofs.Tested.{lists_decide}
-use Rattle.ngram_cps.proofs.Bytes.{AreHigh, AreHighLists, lists_are_high}
+use Rattle.ngram_cps.proofs.Bytes.{AreHigh, lists_are_high}
 use Rattle.cert.specs.Limits.{record_byte_limit}
-use Rattle.cert.specs.Claim.{Claim, HaltsClaim, CycleClaim, TranslatedClaim, BackwardClaim, NgramClaim, NoClaim, Recorded, IsWritable, IsMadeFor}
-use Rattle.cert.specs.Grammar.{parts_of, worth_of, decimal_value, side_of, side_text, with_field, halts_by, cycle_by, translated_by, backward_by, ngram_by, width_in, lists_claim, claim_from, lists_text, claim_text, record_with, record_after, record_from, record_of, record_text}
+use Rattle.cert.specs.Claim.{Claim, HaltsClaim, CycleClaim, TranslatedClaim, BackwardClaim, NgramClaim, FarClaim, NoClaim, Recorded, IsWritable, IsMadeFor}
+use Rattle.cert.specs.Grammar.{parts_of, worth_of, decimal_value, side_of, side_text, with_field, halts_by, cycle_by, translated_by, backward_by, ngram_by, width_in, lists_claim, far_by, size_in, automata_claim, claim_from, lists_text, automata_text, claim_text, record_with, record_after, record_from, record_of, record_text}
 use Rattle.cert.proofs.Worth.{with_digit}
 
 abbrev IsSpace : ℕ → Bool
@@ -142,6 +149,61 @@ ngram_back s l within =
     ∙ ap (λ o. with_field o (λ g. lists_claim (lists s.states g s.left s.right s.local))) (width_back s within)
     ∙ lists_back s l within
 
+-- the fields of automata
+fields_in_turn : (s m : List ℕ) (a : Automata) → s ++ codes " " ++ m ++ codes " " ++ fields_text a
+    ≡ s ++ 32 ∷ (m ++ 32 ∷ (delta_text a.delta ++ 32 ∷ (rows_text a.rows ++ 32 ∷ hex_text a.keep)))
+unfolding fields_text
+fields_in_turn s m a =
+    append_assoc (s ++ codes " " ++ m) (codes " ") (delta_text a.delta ++ codes " " ++ rows_text a.rows ++ codes " " ++ hex_text a.keep)
+    ∙ append_assoc (s ++ codes " ") m (32 ∷ (delta_text a.delta ++ codes " " ++ rows_text a.rows ++ codes " " ++ hex_text a.keep))
+    ∙ append_assoc s (codes " ") (m ++ 32 ∷ (delta_text a.delta ++ codes " " ++ rows_text a.rows ++ codes " " ++ hex_text a.keep))
+    ∙ ap (λ l. s ++ 32 ∷ (m ++ 32 ∷ l)) (
+    append_assoc (delta_text a.delta ++ codes " " ++ rows_text a.rows) (codes " ") (hex_text a.keep)
+    ∙ append_assoc (delta_text a.delta ++ codes " ") (rows_text a.rows) (32 ∷ hex_text a.keep)
+    ∙ append_assoc (delta_text a.delta) (codes " ") (rows_text a.rows ++ 32 ∷ hex_text a.keep))
+
+side_no_space : (side : Dir) → HasNoSpace (side_text side)
+side_no_space L = All-cons (λ b. IsSpace b ≡ false) 76 [] refl (All-nil (λ b. IsSpace b ≡ false))
+side_no_space R = All-cons (λ b. IsSpace b ≡ false) 82 [] refl (All-nil (λ b. IsSpace b ≡ false))
+
+fields_of_automata : (a : Automata) → a.size < 2 ^ 64
+    → parts_of (automata_text a) ≡ side_text a.side ∷ (decimal a.size ∷ (delta_text a.delta ∷ (rows_text a.rows ∷ (hex_text a.keep ∷ []))))
+fields_of_automata a small =
+    let high = bytes_from_comma a in
+    let numbers = delta_text a.delta ++ 32 ∷ (rows_text a.rows ++ 32 ∷ hex_text a.keep) in
+    ap parts_of (fields_in_turn (side_text a.side) (decimal a.size) a)
+    ∙ slice_split_at IsSpace (side_text a.side) 32 (decimal a.size ++ 32 ∷ numbers) (side_no_space a.side) refl
+    ∙ ap (λ ps. side_text a.side ∷ ps) (
+    number_then a.size numbers small
+    ∙ ap (λ ps. decimal a.size ∷ ps) (
+    slice_split_at IsSpace (delta_text a.delta) 32 (rows_text a.rows ++ 32 ∷ hex_text a.keep) (high_has_no_space (delta_text a.delta) high.0) refl
+    ∙ ap (λ ps. delta_text a.delta ∷ ps) (
+    slice_split_at IsSpace (rows_text a.rows) 32 (hex_text a.keep) (high_has_no_space (rows_text a.rows) high.1) refl
+    ∙ ap (λ ps. rows_text a.rows ∷ ps) (slice_split_none IsSpace (hex_text a.keep) (high_has_no_space (hex_text a.keep) high.2)))))
+
+size_back : (a : Automata) → AreSized a → size_in (decimal_value (decimal a.size)) ≡ Some a.size
+size_back a within =
+    let small = within.small in
+    let some = within.some in
+    let least : ltb a.size 1 ≡ false = grind (arith, nat_tests, some) in
+    let most : ltb size_limit a.size ≡ false = grind (arith, nat_tests, small) in
+    ap size_in (decimal_value-decimal a.size (omega arith)) ∙ rw (least, most) refl
+
+automata_back : (a : Automata) → AreAutomata a → AreSized a
+    → automata_claim a.states a.side a.size (delta_text a.delta) (rows_text a.rows) (hex_text a.keep) ≡ Ok (FarClaim a)
+automata_back a numbers within =
+    let tested : are_texts a.states a.size (delta_text a.delta) (rows_text a.rows) (hex_text a.keep) ≡ true =
+    (texts_decide a.states a.size (delta_text a.delta) (rows_text a.rows) (hex_text a.keep)).1 (texts_back a within.some within.made numbers) in
+    rw tested (ap (λ b. Ok (FarClaim b)) (same_back a within.some within.made numbers))
+
+far_back : (a : Automata) → AreAutomata a → AreSized a → claim_from a.states (parts_of (claim_text (FarClaim a))) ≡ Ok (FarClaim a)
+far_back a numbers within =
+    let small = within.small in
+    ap (far_by a.states) (fields_of_automata a (omega (arith, small)))
+    ∙ ap (λ o. with_field o (λ side. with_field (size_in (decimal_value (decimal a.size))) (λ m. automata_claim a.states side m (delta_text a.delta) (rows_text a.rows) (hex_text a.keep)))) (side_back a.side)
+    ∙ ap (λ o. with_field o (λ m. automata_claim a.states a.side m (delta_text a.delta) (rows_text a.rows) (hex_text a.keep))) (size_back a within)
+    ∙ automata_back a numbers within
+
 claim_back : (c : Claim) (n : ℕ) → IsWritable c → IsMadeFor c n → claim_from n (parts_of (claim_text c)) ≡ Ok c
 claim_back (HaltsClaim k) n small made =
     ap halts_by (number_part k small) ∙ ap (λ o. with_field o (λ k. Ok (HaltsClaim k))) (decimal_value-decimal k small)
@@ -155,6 +217,8 @@ claim_back (BackwardClaim d) n small made =
     ap backward_by (number_part d small) ∙ ap (λ o. with_field o (λ d. Ok (BackwardClaim d))) (decimal_value-decimal d small)
 claim_back (NgramClaim s) n lists made =
     subst (λ n. claim_from n (parts_of (claim_text (NgramClaim s))) ≡ Ok (NgramClaim s)) made (ngram_back s lists.0 lists.1)
+claim_back (FarClaim a) n automata made =
+    subst (λ n. claim_from n (parts_of (claim_text (FarClaim a))) ≡ Ok (FarClaim a)) made (far_back a automata.0 automata.1)
 claim_back NoClaim n small made = refl
 
 length_of_number : (n : ℕ) → n < 2 ^ 64 → length (decimal n) ≤ 20
@@ -176,6 +240,19 @@ length_of_claim (NgramClaim s) lists =
     let narrow = lists.1.narrow in
     let whole = ap length (in_turn (decimal s.width) s.left s.right s.local) in
     omega (arith, short, whole, length-append (codes "N ") (lists_text s), length-append (decimal s.width) (32 ∷ (s.left ++ 32 ∷ (s.right ++ 32 ∷ s.local))), length-append s.left (32 ∷ (s.right ++ 32 ∷ s.local)), length-append s.right (32 ∷ s.local), length_of_number s.width (omega (arith, narrow)))
+length_of_claim (FarClaim a) automata =
+    let small = automata.1.small in
+    omega (
+      arith,
+      fields_are_short a automata.1 automata.0,
+      length-append (codes "F ") (automata_text a),
+      length-append (side_text a.side ++ codes " " ++ decimal a.size ++ codes " ") (fields_text a),
+      length-append (side_text a.side ++ codes " " ++ decimal a.size) (codes " "),
+      length-append (side_text a.side ++ codes " ") (decimal a.size),
+      length-append (side_text a.side) (codes " "),
+      length_of_side a.side,
+      length_of_number a.size (omega (arith, small)),
+    )
 length_of_claim NoClaim small = omega arith
 
 short : (r : Recorded) → IsTable r.table → IsWritable r.claim → length (record_text r) ≤ record_byte_limit

@@ -1,7 +1,6 @@
 -- Three texts are read as a claim where they are lists, and are refused where they are none.
-use Rattle.std.proofs.Common.{◌≡◌, ℕ, ◌+◌, ◌≤◌, false, true, ltb, length, Ok, Err, refl, ap, ◌∙◌, arith}
-use Rattle.std.proofs.lemmas.Bool.Decides.{nat_tests, not_from_Decides}
-use Rattle.std.specs.Prelude.{not}
+use Rattle.std.proofs.Common.{◌≡◌, ◌+◌, ◌≤◌, false, true, ltb, length, Ok, Err, refl, ap, ◌∙◌, arith}
+use Rattle.std.proofs.lemmas.Bool.Decides.{nat_tests}
 use Rattle.ngram_cps.specs.Limits.{list_byte_limit}
 use Rattle.ngram_cps.specs.Lists.{Lists, AreLists}
 use Rattle.ngram_cps.specs.Tests.{are_lists}

@@ -5,12 +5,14 @@ use Rattle.turing.proofs.CycleLaws.{cycle_never}
 use Rattle.turing.proofs.TranslatedLaws.{translated_never}
 use Rattle.turing.proofs.BackwardLaws.{backward_never}
 use Rattle.turing.proofs.ClosedSets.{closed_never}
+use Rattle.turing.proofs.AutomataLaws.{automata_never}
 use Rattle.turing.proofs.TableLaws.{table_machine}
+use Rattle.far.specs.Automata.{described}
 use Rattle.ngram_cps.specs.Listing.{IsItem}
 use Rattle.ngram_cps.specs.Words.{word_text}
 use Rattle.ngram_cps.specs.Lists.{IsLocalItem}
 use Rattle.run.specs.Verdict.{IsTrueOf}
-use Rattle.cert.specs.Claim.{Claim, HaltsClaim, CycleClaim, TranslatedClaim, BackwardClaim, NgramClaim, NoClaim, Stands, shown_by}
+use Rattle.cert.specs.Claim.{Claim, HaltsClaim, CycleClaim, TranslatedClaim, BackwardClaim, NgramClaim, FarClaim, NoClaim, Stands, shown_by}
 
 pub standing_is_true : (c : Claim) (p : Packed) → IsTable p → Stands c p → IfSome (shown_by c) (λ v. IsTrueOf v (entry_of p))
 standing_is_true (HaltsClaim k) p table stands = stands
@@ -19,4 +21,5 @@ standing_is_true (TranslatedClaim i j side) p table stands = translated_never (e
 standing_is_true (BackwardClaim d) p table stands = backward_never p.states (entry_of p) d (table_machine p table) stands
 standing_is_true (NgramClaim s) p table stands =
     closed_never (entry_of p) (λ w. IsItem s.width s.left (word_text w)) (λ w. IsItem s.width s.right (word_text w)) (IsLocalItem s) s.width stands.1.closed
+standing_is_true (FarClaim a) p table stands = automata_never p.states (entry_of p) a.side (described a) (table_machine p table) stands.1.fits
 standing_is_true NoClaim p table stands = tt

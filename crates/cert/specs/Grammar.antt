@@ -8,13 +8,17 @@ use Rattle.machine_text.specs.declared.transition.Dir.{Dir}
 use Rattle.machine_text.specs.declared.transition.Dir.TheVariants.{L, R}
 use Rattle.machine_text.specs.Packed.{Packed}
 use Rattle.machine_text.specs.Text.{table_of, text_of}
+use Rattle.far.specs.Limits.{size_limit}
+use Rattle.far.specs.Automata.{Automata}
+use Rattle.far.specs.Texts.{automata_by, fields_text}
+use Rattle.far.specs.Tests.{are_texts}
 use Rattle.ngram_cps.specs.Limits.{width_limit, list_byte_limit}
 use Rattle.ngram_cps.specs.Lists.{Lists, lists}
 use Rattle.ngram_cps.specs.Tests.{are_lists}
 use Rattle.cert.specs.Limits.{record_byte_limit}
 use Rattle.cert.specs.declared.record_fault.RecordFault.{RecordFault}
 use Rattle.cert.specs.declared.record_fault.RecordFault.TheVariants.{BadTable, BadKind, BadNumber, BadList, TooLong}
-use Rattle.cert.specs.Claim.{Claim, HaltsClaim, CycleClaim, TranslatedClaim, BackwardClaim, NgramClaim, NoClaim, Recorded}
+use Rattle.cert.specs.Claim.{Claim, HaltsClaim, CycleClaim, TranslatedClaim, BackwardClaim, NgramClaim, FarClaim, NoClaim, Recorded}
 
 -- the parts of a text, cut at every space
 abbrev pub parts_of : List ℕ → List (List ℕ)
@@ -72,6 +76,21 @@ abbrev pub ngram_by : ℕ → List (List ℕ) → Result Claim RecordFault
 ngram_by n (g ∷ (left ∷ (right ∷ (local ∷ [])))) = with_field (width_in (decimal_value g)) (λ g. lists_claim (lists n g left right local))
 ngram_by n fields = Err BadKind
 
+-- a size of automata
+abbrev pub size_in : Option ℕ → Option ℕ
+size_in None = None
+size_in (Some m) = if not (nat_lt m 1) && not (nat_lt size_limit m) then Some m else None
+
+-- automata, for tables of n states
+abbrev pub automata_claim : ℕ → Dir → ℕ → List ℕ → List ℕ → List ℕ → Result Claim RecordFault
+automata_claim n side size delta rows keep =
+    if are_texts n size delta rows keep then Ok (FarClaim (automata_by n side size delta rows keep)) else Err BadList
+
+abbrev pub far_by : ℕ → List (List ℕ) → Result Claim RecordFault
+far_by n (side ∷ (size ∷ (delta ∷ (rows ∷ (keep ∷ []))))) =
+    with_field (side_of side) (λ side. with_field (size_in (decimal_value size)) (λ size. automata_claim n side size delta rows keep))
+far_by n fields = Err BadKind
+
 abbrev pub undecided_by : List (List ℕ) → Result Claim RecordFault
 undecided_by [] = Ok NoClaim
 undecided_by fields = Err BadKind
@@ -83,6 +102,7 @@ claim_by n kind fields =
     else if bytes_eq kind (codes "T") then translated_by fields
     else if bytes_eq kind (codes "B") then backward_by fields
     else if bytes_eq kind (codes "N") then ngram_by n fields
+    else if bytes_eq kind (codes "F") then far_by n fields
     else if bytes_eq kind (codes "U") then undecided_by fields
     else Err BadKind
 
@@ -115,6 +135,10 @@ side_text R = codes "R"
 abbrev pub lists_text : Lists → List ℕ
 lists_text s = decimal s.width ++ codes " " ++ s.left ++ codes " " ++ s.right ++ codes " " ++ s.local
 
+-- the side, the size and the numbers, as they are written
+abbrev pub automata_text : Automata → List ℕ
+automata_text a = side_text a.side ++ codes " " ++ decimal a.size ++ codes " " ++ fields_text a
+
 -- the text of a claim, from the kind on
 abbrev pub claim_text : Claim → List ℕ
 claim_text (HaltsClaim k) = codes "H " ++ decimal k
@@ -122,6 +146,7 @@ claim_text (CycleClaim i j) = codes "C " ++ decimal i ++ codes " " ++ decimal j
 claim_text (TranslatedClaim i j side) = codes "T " ++ decimal i ++ codes " " ++ decimal j ++ codes " " ++ side_text side
 claim_text (BackwardClaim d) = codes "B " ++ decimal d
 claim_text (NgramClaim s) = codes "N " ++ lists_text s
+claim_text (FarClaim a) = codes "F " ++ automata_text a
 claim_text NoClaim = codes "U"
 
 -- the text of a record

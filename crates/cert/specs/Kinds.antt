@@ -1,12 +1,14 @@
 -- What the certificates and records of the code claim.
-use Rattle.cert.specs.Claim.{Claim, HaltsClaim, CycleClaim, TranslatedClaim, BackwardClaim, NgramClaim, NoClaim, Recorded}
+use Rattle.cert.specs.Claim.{Claim, HaltsClaim, CycleClaim, TranslatedClaim, BackwardClaim, NgramClaim, FarClaim, NoClaim, Recorded}
 use Rattle.std.specs.Prelude.{Result, Ok, Err}
+use Rattle.far.specs.Far.{automata_of}
+use Rattle.far.specs.OwnedFar.{owned_automata}
 use Rattle.ngram_cps.specs.Ngram.{lists_of}
 use Rattle.ngram_cps.specs.Owned.{owned_lists}
 use Rattle.cert.specs.declared.certificate.Certificate.{Certificate}
-use Rattle.cert.specs.declared.certificate.Certificate.TheVariants.{Halts, Cycle, Translated, Backward, Ngram, Undecided}
+use Rattle.cert.specs.declared.certificate.Certificate.TheVariants.{Halts, Cycle, Translated, Backward, Ngram, Far, Undecided}
 use Rattle.cert.specs.declared.certificate.OwnedCertificate.{OwnedCertificate}
-use Rattle.cert.specs.declared.certificate.OwnedCertificate.TheVariants.{Halts as OwnedHalts, Cycle as OwnedCycle, Translated as OwnedTranslated, Backward as OwnedBackward, Ngram as OwnedNgram, Undecided as OwnedUndecided}
+use Rattle.cert.specs.declared.certificate.OwnedCertificate.TheVariants.{Halts as OwnedHalts, Cycle as OwnedCycle, Translated as OwnedTranslated, Backward as OwnedBackward, Ngram as OwnedNgram, Far as OwnedFar, Undecided as OwnedUndecided}
 use Rattle.cert.specs.declared.record.Record.{Record}
 use Rattle.cert.specs.declared.record.OwnedRecord.{OwnedRecord}
 use Rattle.cert.specs.declared.record_fault.RecordFault.{RecordFault}
@@ -17,6 +19,7 @@ claim_of (Cycle e) = CycleClaim e.i e.j
 claim_of (Translated e) = TranslatedClaim e.i e.j e.side
 claim_of (Backward e) = BackwardClaim e.depth
 claim_of (Ngram e) = NgramClaim (lists_of e)
+claim_of (Far e) = FarClaim (automata_of e)
 claim_of Undecided = NoClaim
 
 abbrev pub owned_claim : OwnedCertificate → Claim
@@ -25,6 +28,7 @@ owned_claim (OwnedCycle e) = CycleClaim e.i e.j
 owned_claim (OwnedTranslated e) = TranslatedClaim e.i e.j e.side
 owned_claim (OwnedBackward e) = BackwardClaim e.depth
 owned_claim (OwnedNgram e) = NgramClaim (owned_lists e.value)
+owned_claim (OwnedFar e) = FarClaim (owned_automata e.value)
 owned_claim OwnedUndecided = NoClaim
 
 abbrev pub recorded : Record → Recorded

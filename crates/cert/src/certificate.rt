@@ -2,6 +2,7 @@
 ghost use Rattle.std.specs.Prelude.{◌≡◌, IfOk};
 
 use backward::Backward;
+use far::{Far, OwnedFar};
 use loops::{Cycle, Translated};
 use ngram_cps::{Ngram, OwnedNgram};
 use run::{HaltsIn, NoMemory, Verdict};
@@ -20,11 +21,14 @@ pub enum Certificate<'a> {
     Backward(Backward),
     /// `N g L R C`: a closed position set of width g, its three lists borrowed from the record's text.
     Ngram(Ngram<'a>),
+    /// `F side m delta rows keep`: two automata, a first one of m states, by which it never halts.
+    Far(Far),
     /// `U`: nothing is claimed.
     Undecided,
 }
 
-/// A certificate that keeps its own texts. Lists stand in a box, so that records of the other kinds are small.
+/// A certificate that keeps its own texts and numbers. Lists and automata stand in a box, so that records of the
+/// other kinds are small.
 #[derive(Drop, Debug)]
 pub enum OwnedCertificate {
     Halts(HaltsIn),
@@ -32,6 +36,7 @@ pub enum OwnedCertificate {
     Translated(Translated),
     Backward(Backward),
     Ngram(Box<OwnedNgram>),
+    Far(Box<OwnedFar>),
     Undecided,
 }
 
@@ -48,7 +53,8 @@ impl Certificate<'_> {
             Certificate::Cycle(_)
             | Certificate::Translated(_)
             | Certificate::Backward(_)
-            | Certificate::Ngram(_) => Some(Verdict::Never),
+            | Certificate::Ngram(_)
+            | Certificate::Far(_) => Some(Verdict::Never),
             Certificate::Undecided => None,
         }
     }
@@ -69,6 +75,9 @@ impl OwnedCertificate {
             Certificate::Ngram(evidence) => {
                 OwnedCertificate::Ngram(Box::new(alloc, OwnedNgram::of(alloc, &evidence)?)?)
             }
+            Certificate::Far(evidence) => {
+                OwnedCertificate::Far(Box::new(alloc, OwnedFar::of(alloc, &evidence)?)?)
+            }
             Certificate::Undecided => OwnedCertificate::Undecided,
         })
     }
@@ -83,6 +92,7 @@ impl OwnedCertificate {
             OwnedCertificate::Translated(evidence) => Certificate::Translated(*evidence),
             OwnedCertificate::Backward(evidence) => Certificate::Backward(*evidence),
             OwnedCertificate::Ngram(evidence) => Certificate::Ngram(evidence.lent()),
+            OwnedCertificate::Far(evidence) => Certificate::Far(evidence.lent()),
             OwnedCertificate::Undecided => Certificate::Undecided,
         }
     }

@@ -1,6 +1,7 @@
 // Finders: what looks for certificates.
 use crate::certificate::OwnedCertificate;
 use backward::BackwardFinder;
+use far::{FarFinder, OwnedFar};
 use loops::{CycleFinder, TranslatedFinder};
 use machine_text::Table;
 use ngram_cps::NgramFinder;
@@ -71,6 +72,23 @@ impl Finder for NgramFinder {
     fn find(&mut self, t: &Table, budget: u64) -> Result<Option<OwnedCertificate>, NoMemory> {
         match self.search(t, budget)? {
             Some(lists) => Ok(Some(OwnedCertificate::Ngram(Box::new(self.allocator(), lists)?))),
+            None => Ok(None),
+        }
+    }
+}
+
+impl Finder for FarFinder {
+    ghost use Rattle.std.specs.Prelude.{⊤};
+
+    ghost gives = { λ finder p budget claim. ⊤ };
+
+    fn find(&mut self, t: &Table, budget: u64) -> Result<Option<OwnedCertificate>, NoMemory> {
+        let alloc = self.allocator();
+        match self.search(t, budget)? {
+            Some(automata) => {
+                let owned = OwnedFar::of(alloc, &automata)?;
+                Ok(Some(OwnedCertificate::Far(Box::new(alloc, owned)?)))
+            }
             None => Ok(None),
         }
     }

@@ -1,5 +1,5 @@
 // Whether a record's certificate stands.
-ghost use Rattle.std.specs.Prelude.{◌≡◌, ◌≢◌, Ok, None, Some, OnOk, IfOk, IfErr};
+ghost use Rattle.std.specs.Prelude.{◌≡◌, ◌≢◌, if◌then◌else◌, Ok, Err, None, Some, OnOk, IfOk, IfErr};
 ghost use Rattle.cert.specs.Claim.{NoClaim, TakesMemory, shown_by};
 ghost use Rattle.cert.specs.Certified.{IsCertified, IsRefusedBy, IsPairOf};
 ghost use Rattle.cert.specs.Kinds.{claim_of, recorded};
@@ -20,7 +20,7 @@ pub struct Judged {
 }
 
 /// Checks a record's certificate: the verdict that it shows of the table, or none where nothing is claimed.
-/// Neither that nor the check of lists takes memory. `Fails` where it doesn't stand, `TooLong` and `TooWide` where it asks for more
+/// Neither that nor the check of lists or automata takes memory. `Fails` where it doesn't stand, `TooLong` and `TooWide` where it asks for more
 /// than the limits of its kind, `NoMemory` where memory is refused.
 pub fn judge(alloc: Global, r: &Record) -> Result<Option<Verdict>, Refused>
     ensures ok { IfOk result (λ v. IsCertified (recorded r.now) × (v ≡ shown_by (claim_of r.now.certificate))) }
@@ -66,16 +66,28 @@ pub fn judge_on(alloc: Global, r: &Record) -> Result<Judged, Refused>
         Certificate::Ngram(evidence) => {
             // The proof needs that the lists are lists, within their limits.
             let _ = evidence.states();
-            if evidence.holds(&r.table) {
-                Ok(shown(Verdict::Never))
-            } else {
-                Err(Refused::Fails)
-            }
+            never_where(evidence.holds(&r.table))
+        }
+        Certificate::Far(evidence) => {
+            // The proof needs that the numbers are those of automata, within their limits.
+            let _ = evidence.states();
+            never_where(evidence.holds(&r.table))
         }
         Certificate::Undecided => Ok(Judged {
             verdict: None,
             halts_on: None,
         }),
+    }
+}
+
+// A table never halts where this is so; else what is claimed doesn't stand.
+fn never_where(stands: bool) -> Result<Judged, Refused>
+    ensures { result ≡ if stands then Ok (record { verdict = Some Verdict.Never; halts_on = None }) else Err Refused.Fails }
+{
+    if stands {
+        Ok(shown(Verdict::Never))
+    } else {
+        Err(Refused::Fails)
     }
 }
 

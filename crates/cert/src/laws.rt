@@ -11,7 +11,7 @@ pub fn standing_claims_are_true()
     ensures { (c : Claim) (p : Packed) → IsTable p → Stands c p → IfSome (shown_by c) (λ v. IsTrueOf v (entry_of p)) }
 {}
 
-/// The numbers of a claim that is certified have at most 64 bits, and its lists are made for the table's states.
+/// The numbers of a claim that is certified have at most 64 bits, and its lists and automata are made for the table's states.
 pub fn certified_claims_are_writable()
     ensures writable { (r : Recorded) → IsCertified r → IsWritable r.claim }
     ensures made { (r : Recorded) → IsCertified r → IsMadeFor r.claim r.table.states }

@@ -1,9 +1,10 @@
 // Records as they are read.
 ghost use Rattle.std.specs.Prelude.{◌≡◌, ◌∷◌, [], ◌≤◌, length, IfSome, IfNone, option_map};
-ghost use Rattle.cert.specs.Grammar.{record_of, record_with, claim_from, halts_by, cycle_by, translated_by, backward_by, ngram_by, width_in, side_of, undecided_by};
-ghost use Rattle.cert.specs.Grammar.{decimal_value, lists_claim};
+ghost use Rattle.cert.specs.Grammar.{record_of, record_with, claim_from, halts_by, cycle_by, translated_by, backward_by, ngram_by, width_in, far_by, size_in, side_of, undecided_by};
+ghost use Rattle.cert.specs.Grammar.{decimal_value, lists_claim, automata_claim};
 ghost use Rattle.cert.specs.Kinds.{read_as, claimed_as};
 ghost use Rattle.machine_text.specs.Limits.{state_limit};
+ghost use Rattle.far.specs.Limits.{size_limit};
 ghost use Rattle.ngram_cps.specs.Limits.{width_limit};
 ghost use Rattle.ngram_cps.specs.Lists.{lists};
 
@@ -14,6 +15,7 @@ use crate::parts::Parts;
 use crate::record::Record;
 use crate::record_fault::RecordFault;
 use backward::Backward;
+use far::Far;
 use loops::{Cycle, Translated};
 use machine_text::{Dir, Table};
 use ngram_cps::Ngram;
@@ -70,6 +72,8 @@ fn certificate_from(states: u8, mut parts: Parts<'_>) -> Result<Certificate<'_>,
         backward_by(parts)
     } else if kind == b"N".as_slice() {
         ngram_by(states, parts)
+    } else if kind == b"F".as_slice() {
+        far_by(states, parts)
     } else if kind == b"U".as_slice() {
         undecided_by(parts)
     } else {
@@ -206,6 +210,67 @@ fn lists_of<'a>(
     }
     match Ngram::new(states, width, left, right, local) {
         Some(evidence) => Ok(Certificate::Ngram(evidence)),
+        None => Err(RecordFault::BadList),
+    }
+}
+
+// `F side m delta rows keep`
+fn far_by(states: u8, mut fields: Parts<'_>) -> Result<Certificate<'static>, RecordFault>
+    requires { (1 ≤ states) × (states ≤ state_limit) }
+    ensures { claimed_as result ≡ far_by states fields.entry }
+{
+    let Some(side) = fields.next() else {
+        return Err(RecordFault::BadKind);
+    };
+    let Some(size) = fields.next() else {
+        return Err(RecordFault::BadKind);
+    };
+    let Some(delta) = fields.next() else {
+        return Err(RecordFault::BadKind);
+    };
+    let Some(rows) = fields.next() else {
+        return Err(RecordFault::BadKind);
+    };
+    let Some(keep) = fields.next() else {
+        return Err(RecordFault::BadKind);
+    };
+    if fields.next().is_some() {
+        return Err(RecordFault::BadKind);
+    }
+    match (side_of(side), size_of(size)) {
+        (Some(side), Some(size)) => automata_of(states, side, size, delta, rows, keep),
+        _ => Err(RecordFault::BadNumber),
+    }
+}
+
+// The size of automata that a text names.
+fn size_of(text: &[u8]) -> Option<u8>
+    ensures size { result ≡ size_in (decimal_value text.now) }
+    ensures within { IfSome result (λ m. (1 ≤ m) × (m ≤ size_limit)) }
+{
+    let size = decimal_value(text)?;
+    if Far::is_size(size) {
+        Some(size as u8)
+    } else {
+        None
+    }
+}
+
+// The automata of a size that three texts give, for tables of so many states.
+fn automata_of(
+    states: u8,
+    side: Dir,
+    size: u8,
+    delta: &[u8],
+    rows: &[u8],
+    keep: &[u8],
+) -> Result<Certificate<'static>, RecordFault>
+    requires states { (1 ≤ states) × (states ≤ state_limit) }
+    requires size { (1 ≤ size) × (size ≤ size_limit) }
+    ensures { claimed_as result ≡ automata_claim states side size delta.now rows.now keep.now }
+{
+    match Far::new(states, side, size, delta, rows, keep) {
+        Some(evidence) => Ok(Certificate::Far(evidence)),
         None => Err(RecordFault::BadList),
     }
 }

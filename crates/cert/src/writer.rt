@@ -2,7 +2,8 @@
 ghost use Rattle.std.specs.Prelude.{◌≡◌, ◌<◌, ◌^◌, ◌++◌, take, drop, length, decimal, codes, Ok, OnOk, OnErr};
 ghost use Rattle.machine_text.specs.Packed.{IsTable};
 ghost use Rattle.cert.specs.Claim.{IsWritable, IsMadeFor};
-ghost use Rattle.cert.specs.Grammar.{record_of, record_text, claim_text, lists_text, side_text};
+ghost use Rattle.cert.specs.Grammar.{record_of, record_text, claim_text, lists_text, automata_text, side_text};
+ghost use Rattle.far.specs.Far.{automata_of};
 ghost use Rattle.ngram_cps.specs.Ngram.{lists_of};
 ghost use Rattle.cert.specs.Kinds.{recorded, claim_of};
 
@@ -10,12 +11,13 @@ use crate::certificate::Certificate;
 use crate::laws::records_parse_back;
 use crate::record::Record;
 use crate::text::{append_number, append_table};
+use far::Far;
 use machine_text::Dir;
 use ngram_cps::Ngram;
 use run::NoMemory;
 
 impl Record<'_> {
-    /// Appends the record's text, which reads back as the record where lists are made for tables of as many
+    /// Appends the record's text, which reads back as the record where lists and automata are made for tables of as many
     /// states as this one has. Where memory is refused, `out` is as it was.
     pub fn write_text(&self, out: &mut Vec<u8>) -> Result<(), NoMemory>
         ensures ok { OnOk result (out.new.items ≡ out.old.items ++ record_text (recorded self.now)) }
@@ -35,7 +37,7 @@ impl Record<'_> {
         }
     }
 
-    // The table is one, each number has 64 bits, and lists are lists: so the record has a text that reads back.
+    // The table is one, each number has 64 bits, lists are lists and automata are automata: so the record has a text that reads back.
     fn has_text(&self)
         ensures table { IsTable self.now.table }
         ensures fields { IsWritable (claim_of self.now.certificate) }
@@ -48,6 +50,9 @@ impl Record<'_> {
             Certificate::Translated(evidence) => have_64_bits(evidence.i, evidence.j),
             Certificate::Backward(evidence) => has_64_bits(evidence.depth),
             Certificate::Ngram(evidence) => {
+                let _ = evidence.states();
+            }
+            Certificate::Far(evidence) => {
                 let _ = evidence.states();
             }
             Certificate::Undecided => {}
@@ -107,6 +112,7 @@ fn append_claim(c: &Certificate, out: &mut Vec<u8>) -> Result<(), NoMemory>
             append_number(evidence.depth, out)
         }
         Certificate::Ngram(evidence) => append_lists(evidence, out),
+        Certificate::Far(evidence) => append_automata(evidence, out),
         Certificate::Undecided => out.extend_from_slice(b"U"),
     }
 }
@@ -134,6 +140,19 @@ fn append_lists(lists: &Ngram, out: &mut Vec<u8>) -> Result<(), NoMemory>
     out.extend_from_slice(lists.right())?;
     out.extend_from_slice(b" ")?;
     out.extend_from_slice(lists.local())
+}
+
+// Appends the kind, a side, a size and the numbers of automata.
+fn append_automata(automata: &Far, out: &mut Vec<u8>) -> Result<(), NoMemory>
+    ensures ok { OnOk result (out.new.items ≡ out.old.items ++ codes "F " ++ automata_text (automata_of automata.now)) }
+    ensures kept { take (length out.old.items) out.new.items ≡ out.old.items }
+{
+    out.extend_from_slice(b"F ")?;
+    out.extend_from_slice(side_text(automata.side()))?;
+    out.extend_from_slice(b" ")?;
+    append_number(u64::from(automata.size()), out)?;
+    out.extend_from_slice(b" ")?;
+    automata.append_fields(out)
 }
 
 fn side_text(side: Dir) -> &'static [u8]

@@ -5,7 +5,7 @@
 pub enum Options<'a> {
     /// `bb check`
     Check,
-    /// `bb decide [--steps K] [--depth D] [--gram G]`
+    /// `bb decide [--steps K] [--depth D] [--gram G] [--far M]`
     Decide(Search),
     /// `bb report FILE [--why]`
     Report {
@@ -25,4 +25,6 @@ pub struct Search {
     pub depth: u64,
     /// The greatest width of words in position sets: 0 to 8, where 0 asks for none.
     pub gram: u64,
+    /// The most states of the first automaton of two: 0 to 8, where 0 asks for none.
+    pub far: u64,
 }

@@ -5,4 +5,5 @@ pub mod Digits
 pub mod Reading
 pub mod WellFormed
 pub mod RoundTrip
+pub mod Short
 pub mod Tested

@@ -30,11 +30,11 @@ values_back [] all = refl
 values_back (d ∷ ds) all = ap (λ x. x ∷ map hex_value (map hex_glyph ds)) (value_back d all.0) ∙ ap (λ xs. d ∷ xs) (values_back ds all.1)
 
 -- a number
-text_of_some : (n : ℕ) → (n ≡ 0 → ⊥) → hex_text n ≡ map hex_glyph (digits_of 16 n)
+pub text_of_some : (n : ℕ) → (n ≡ 0 → ⊥) → hex_text n ≡ map hex_glyph (digits_of 16 n)
 unfolding hex_text
 text_of_some n some = ap (λ b. cond b (48 ∷ []) (map hex_glyph (digits_of 16 n))) (ne_eqb n 0 some)
 
-text_of_none : hex_text 0 ≡ 48 ∷ []
+pub text_of_none : hex_text 0 ≡ 48 ∷ []
 unfolding hex_text
 text_of_none = refl
 
@@ -112,17 +112,17 @@ delta_back size delta long small = record {
   to = λ k less. let e = get_or-map (λ d. 48 + d) delta k 0 0 (omega arith) in let s = small k in omega arith;
 }
 
+some_rows : (m n : ℕ) → 1 ≤ m → 1 ≤ n → 1 ≤ 2 * (m * n)
+some_rows (suc m) (suc n) one two = omega arith
+some_rows zero n one two = absurd (omega arith)
+some_rows (suc m) zero one two = absurd (omega arith)
+
 pub texts_back : (a : Automata) → 1 ≤ a.size → 1 ≤ a.states → AreAutomata a → AreTexts a.states a.size (delta_text a.delta) (rows_text a.rows) (hex_text a.keep)
 texts_back a sized some numbers = record {
   moves = delta_back a.size a.delta numbers.moves numbers.targets;
   edges = rows_back (2 * (a.size * a.states)) (2 ^ (a.size * a.states + 1)) a.rows (some_rows a.size a.states sized some) numbers.edges numbers.sets;
   kept = hex_back (2 ^ (a.size * a.states + 1)) a.keep numbers.kept;
 }
-  where
-    some_rows : (m n : ℕ) → 1 ≤ m → 1 ≤ n → 1 ≤ 2 * (m * n)
-    some_rows (suc m) (suc n) one two = omega arith
-    some_rows zero n one two = absurd (omega arith)
-    some_rows (suc m) zero one two = absurd (omega arith)
 
 pub same_back : (a : Automata) → 1 ≤ a.size → 1 ≤ a.states → AreAutomata a → automata_by a.states a.side a.size (delta_text a.delta) (rows_text a.rows) (hex_text a.keep) ≡ a
 same_back a sized some numbers =
@@ -130,11 +130,6 @@ same_back a sized some numbers =
     ap (λ d. automata a.states a.side a.size d (rows_of (rows_text a.rows)) (hex_worth (hex_text a.keep))) (moves_back a.delta)
     ∙ ap (λ r. automata a.states a.side a.size a.delta r (hex_worth (hex_text a.keep))) (ap (map hex_worth) (parts_of_rows a.rows (subst (λ n. 1 ≤ n) (sym edges) (some_rows a.size a.states sized some))) ∙ worths_back a.rows)
     ∙ ap (λ k. automata a.states a.side a.size a.delta a.rows k) (worth_back a.keep)
-  where
-    some_rows : (m n : ℕ) → 1 ≤ m → 1 ≤ n → 1 ≤ 2 * (m * n)
-    some_rows (suc m) (suc n) one two = omega arith
-    some_rows zero n one two = absurd (omega arith)
-    some_rows (suc m) zero one two = absurd (omega arith)
 
 pub bytes_from_comma : (a : Automata) → All (λ b. 44 ≤ b) (delta_text a.delta) × All (λ b. 44 ≤ b) (rows_text a.rows) × All (λ b. 44 ≤ b) (hex_text a.keep)
 bytes_from_comma a = (delta_from_comma a.delta, rows_from_comma a.rows, from_comma a.keep)

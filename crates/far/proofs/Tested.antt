@@ -1,7 +1,6 @@
 -- The tests of texts answer as the texts are.
-use Rattle.std.proofs.Common.{◌≡◌, ℕ, ◌+◌, ◌*◌, ◌^◌, ◌<◌, ◌≤◌, Bool, not, ltb, List, [], length, get_or, refl, arith}
+use Rattle.std.proofs.Common.{ℕ, ◌+◌, ◌*◌, ◌^◌, ◌<◌, ◌≤◌, Bool, not, ltb, List, [], length, get_or, refl, arith}
 use Rattle.std.specs.Prelude.{Decides}
-use Rattle.std.specs.Str.{bytes_eq}
 use Rattle.std.proofs.lemmas.Bool.Decides.{nat_tests, Decides-and, Decides-eqb, Decides-ltb, Decides-below_and}
 use Rattle.std.proofs.lemmas.Slice.Eq.{bytes_eq-Decides}
 use Rattle.far.specs.Texts.{hex_text, hex_worth, parts_of, IsHex, IsDelta, IsRows, AreTexts}

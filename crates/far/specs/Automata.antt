@@ -1,10 +1,12 @@
 -- Two automata in numbers, and when they fit a table.
-use Rattle.std.specs.Prelude.{◌≡◌, ℕ, ◌+◌, ◌*◌, ◌^◌, ◌<◌, ◌==◌, ◌&&◌, nat_lt, Bool, true, false, List, length, slice_index}
+use Rattle.std.specs.Prelude.{◌≡◌, ℕ, ◌+◌, ◌*◌, ◌^◌, ◌<◌, ◌≤◌, ◌==◌, ◌&&◌, nat_lt, Bool, true, false, List, length, slice_index}
 use Rattle.std.specs.Int.{bit_at}
 use Rattle.machine_text.specs.declared.transition.Sym.{Sym}
 use Rattle.machine_text.specs.declared.transition.Dir.{Dir}
 use Rattle.machine_text.specs.Packed.{Packed, symbol_number, entry_of}
+use Rattle.machine_text.specs.Limits.{state_limit}
 use Rattle.turing.specs.Automata.{Node, At, Halt, Automata as Tests, Fits}
+use Rattle.far.specs.Limits.{size_limit}
 
 -- what they were made for, which way is ahead, the size of the first automaton, where it goes from state q on
 -- s (number 2q + s), the edges of the second on r from its state number j (number 2j + r), what is kept
@@ -59,6 +61,13 @@ pub record AreAutomata (a : Automata) : Type 0 where
   pub edges : length a.rows ≡ 2 * (a.size * a.states)
   pub sets : (k : ℕ) → slice_index a.rows k < 2 ^ (a.size * a.states + 1)
   pub kept : a.keep < 2 ^ (a.size * a.states + 1)
+
+-- the first automaton has no more states than may be, and so have the tables for which they are made
+pub record AreWithin (a : Automata) : Type 0 where
+  pub some : 1 ≤ a.size
+  pub small : a.size ≤ size_limit
+  pub made : 1 ≤ a.states
+  pub few : a.states ≤ state_limit
 
 -- the table has as many states as they were made for, and they are automata of it
 pub record AreAutomataOf (a : Automata) (p : Packed) : Type 0 where

@@ -17,6 +17,7 @@ const PARTIALS_PER_STEP: u64 = 2_500;
 /// Searches automata.
 #[derive(Drop)]
 pub struct FarFinder {
+    alloc: Global,
     pub size: u64,
     partials: Vec<Partial>,
 }
@@ -27,9 +28,15 @@ impl FarFinder {
         ensures { result.size ≡ size }
     {
         FarFinder {
+            alloc,
             size,
             partials: Vec::new(alloc),
         }
+    }
+
+    /// From where the finder takes its memory.
+    pub fn allocator(&self) -> Global {
+        self.alloc
     }
 
     /// Automata of a table, of the finder's size at most; none where it finds none. What it gives stands.

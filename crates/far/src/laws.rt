@@ -1,15 +1,17 @@
 // Laws of the texts of automata.
-ghost use Rattle.std.specs.Prelude.{◌≡◌, ◌≤◌, ℕ, List, All, Decides};
-ghost use Rattle.far.specs.Automata.{Automata, AreAutomata};
+ghost use Rattle.std.specs.Prelude.{◌≡◌, ◌≤◌, ℕ, List, All, Decides, length};
+ghost use Rattle.far.specs.Automata.{Automata, AreAutomata, AreWithin};
 ghost use Rattle.far.specs.Tests.{are_texts};
-ghost use Rattle.far.specs.Texts.{AreTexts, automata_by, delta_text, rows_text, hex_text};
+ghost use Rattle.far.specs.Texts.{AreTexts, automata_by, delta_text, rows_text, hex_text, fields_text};
 
-/// The texts of automata's numbers give those numbers again, and they hold neither a space nor a newline.
+/// The texts of automata's numbers give those numbers again. They hold neither a space nor a newline, and with
+/// the spaces between them they have at most 1,400 bytes.
 pub fn texts_read_back()
     ensures texts { (a : Automata) → 1 ≤ a.size → 1 ≤ a.states → AreAutomata a →
         AreTexts a.states a.size (delta_text a.delta) (rows_text a.rows) (hex_text a.keep) }
     ensures same { (a : Automata) → 1 ≤ a.size → 1 ≤ a.states → AreAutomata a →
         automata_by a.states a.side a.size (delta_text a.delta) (rows_text a.rows) (hex_text a.keep) ≡ a }
+    ensures short { (a : Automata) → AreWithin a → AreAutomata a → length (fields_text a) ≤ 1400 }
     ensures bytes { (a : Automata) →
         All (λ b. 44 ≤ b) (delta_text a.delta) × All (λ b. 44 ≤ b) (rows_text a.rows) × All (λ b. 44 ≤ b) (hex_text a.keep) }
 {}

@@ -105,70 +105,72 @@ fn automata_are_judged(rt: HostRuntime) {
     }
 }
 
-// Texts for tables of one state.
+// Texts, which are automata for tables of one state or not.
+const TEXTS: [(&str, bool); 39] = [
+    ("1RA--- R 1 00 1,2 1", true),
+    // The last number that has no bit but those of the states, and the first that has.
+    ("1RA--- R 1 00 1,2 3", true),
+    ("1RA--- R 1 00 1,2 4", false),
+    ("1RA--- R 1 00 3,3 0", true),
+    ("1RA--- R 1 00 4,2 1", false),
+    ("1RA--- R 1 00 1,4 1", false),
+    // Too few digits, too many, one that is no state, none.
+    ("1RA--- R 1 0 1,2 1", false),
+    ("1RA--- R 1 000 1,2 1", false),
+    ("1RA--- R 1 01 1,2 1", false),
+    ("1RA--- R 1  1,2 1", false),
+    ("1RA--- R 1 0/ 1,2 1", false),
+    // Too few rows, too many, an empty one, another separator.
+    ("1RA--- R 1 00 1 1", false),
+    ("1RA--- R 1 00 1,2,1 1", false),
+    ("1RA--- R 1 00 1,2, 1", false),
+    ("1RA--- R 1 00 ,1 1", false),
+    ("1RA--- R 1 00 1,,2 1", false),
+    ("1RA--- R 1 00  1", false),
+    ("1RA--- R 1 00 1;2 1", false),
+    // Leading zeros, no number, none, a sign.
+    ("1RA--- R 1 00 01,2 1", false),
+    ("1RA--- R 1 00 1,02 1", false),
+    ("1RA--- R 1 00 1,2 01", false),
+    ("1RA--- R 1 00 1,2 00", false),
+    ("1RA--- R 1 00 1,2 0", true),
+    ("1RA--- R 1 00 0,0 0", true),
+    ("1RA--- R 1 00 1,2 ", false),
+    ("1RA--- R 1 00 1,2 +1", false),
+    ("1RA--- R 1 00 1,2 g", false),
+    ("1RA--- R 1 00 1,2 :", false),
+    // Sizes 3 and 8, with numbers of more bits.
+    ("1RA--- R 3 012012 f,e,a,0,1,2 c", true),
+    ("1RA--- R 3 012012 f,e,a,0,1,2 10", false),
+    ("1RA--- R 3 012013 f,e,a,0,1,2 c", false),
+    ("1RA--- R 3 012012 F,e,a,0,1,2 c", false),
+    ("1RA--- R 3 012012 f,e,a,0,1,2 C", false),
+    ("1RA--- R 3 012012 f,e,a,0,1,0x2 c", false),
+    (
+        "1RA--- R 8 0123456701234567 1ff,1ab,9,0,1,2,1ff,1ab,9,0,1,2,1ff,1ab,9,0 1ff",
+        true,
+    ),
+    (
+        "1RA--- R 8 0123456701234567 1ff,1ab,9,0,1,2,1ff,1ab,9,0,1,2,1ff,1ab,9,0 200",
+        false,
+    ),
+    (
+        "1RA--- R 8 0123456701234568 1ff,1ab,9,0,1,2,1ff,1ab,9,0,1,2,1ff,1ab,9,0 1ff",
+        false,
+    ),
+    (
+        "1RA--- R 8 0123456701234567 1ff,1ab,9,0,1,2,1ff,1ab,9,0,1,2,1ff,1ab,9,200 1ff",
+        false,
+    ),
+    (
+        "1RA--- R 8 0123456701234567 1ff,1ab,9,0,1,2,1ff,1ab,9,0,1,2,1ff,1ab,9,100000000000000001 1ff",
+        false,
+    ),
+];
+
 #[test]
 fn texts_are_automata_or_not(rt: HostRuntime) {
-    for (row, answer) in [
-        ("1RA--- R 1 00 1,2 1", true),
-        // The last number that has no bit but those of the states, and the first that has.
-        ("1RA--- R 1 00 1,2 3", true),
-        ("1RA--- R 1 00 1,2 4", false),
-        ("1RA--- R 1 00 3,3 0", true),
-        ("1RA--- R 1 00 4,2 1", false),
-        ("1RA--- R 1 00 1,4 1", false),
-        // Too few digits, too many, one that is no state, none.
-        ("1RA--- R 1 0 1,2 1", false),
-        ("1RA--- R 1 000 1,2 1", false),
-        ("1RA--- R 1 01 1,2 1", false),
-        ("1RA--- R 1  1,2 1", false),
-        ("1RA--- R 1 0/ 1,2 1", false),
-        // Too few rows, too many, an empty one, another separator.
-        ("1RA--- R 1 00 1 1", false),
-        ("1RA--- R 1 00 1,2,1 1", false),
-        ("1RA--- R 1 00 1,2, 1", false),
-        ("1RA--- R 1 00 ,1 1", false),
-        ("1RA--- R 1 00 1,,2 1", false),
-        ("1RA--- R 1 00  1", false),
-        ("1RA--- R 1 00 1;2 1", false),
-        // Leading zeros, no number, none, a sign.
-        ("1RA--- R 1 00 01,2 1", false),
-        ("1RA--- R 1 00 1,02 1", false),
-        ("1RA--- R 1 00 1,2 01", false),
-        ("1RA--- R 1 00 1,2 00", false),
-        ("1RA--- R 1 00 1,2 0", true),
-        ("1RA--- R 1 00 0,0 0", true),
-        ("1RA--- R 1 00 1,2 ", false),
-        ("1RA--- R 1 00 1,2 +1", false),
-        ("1RA--- R 1 00 1,2 g", false),
-        ("1RA--- R 1 00 1,2 :", false),
-        // Sizes 3 and 8, with numbers of more bits.
-        ("1RA--- R 3 012012 f,e,a,0,1,2 c", true),
-        ("1RA--- R 3 012012 f,e,a,0,1,2 10", false),
-        ("1RA--- R 3 012013 f,e,a,0,1,2 c", false),
-        ("1RA--- R 3 012012 F,e,a,0,1,2 c", false),
-        ("1RA--- R 3 012012 f,e,a,0,1,2 C", false),
-        ("1RA--- R 3 012012 f,e,a,0,1,0x2 c", false),
-        (
-            "1RA--- R 8 0123456701234567 1ff,1ab,9,0,1,2,1ff,1ab,9,0,1,2,1ff,1ab,9,0 1ff",
-            true,
-        ),
-        (
-            "1RA--- R 8 0123456701234567 1ff,1ab,9,0,1,2,1ff,1ab,9,0,1,2,1ff,1ab,9,0 200",
-            false,
-        ),
-        (
-            "1RA--- R 8 0123456701234568 1ff,1ab,9,0,1,2,1ff,1ab,9,0,1,2,1ff,1ab,9,0 1ff",
-            false,
-        ),
-        (
-            "1RA--- R 8 0123456701234567 1ff,1ab,9,0,1,2,1ff,1ab,9,0,1,2,1ff,1ab,9,200 1ff",
-            false,
-        ),
-        (
-            "1RA--- R 8 0123456701234567 1ff,1ab,9,0,1,2,1ff,1ab,9,0,1,2,1ff,1ab,9,100000000000000001 1ff",
-            false,
-        ),
-    ] {
+    for (row, answer) in TEXTS {
         assert!(rt; read(&rt, row).1.is_some() == answer, "{row}");
     }
     // A space is no digit.

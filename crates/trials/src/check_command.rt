@@ -190,14 +190,13 @@ fn closed_position_sets(rt: HostRuntime) -> Result<(), Fail> {
         rt.alloc(),
         &[
             ("1RA--- N 1 0,1 0 0A00,1A00", "1RA--- never"),
+            // The word that a step leaves on the left isn't there.
             ("1RA--- N 1 0 0 0A00,1A00", "refused 201"),
             ("1RA--- N 1 1,0 0 0A00,1A00", "refused 304"),
             ("1RA--- N 9 0 0 0A00", "refused 303"),
             ("0RB---_0LA--- N 1 0 0 0A00,0B00", "0RB---_0LA--- never"),
             ("0RB---_0LA--- N 1 0 0 0A00", "refused 201"),
             ("0RB---_0LA--- N 1 0 0 0A00,0C00", "refused 304"),
-            // The word that a step leaves on the left isn't there.
-            ("1RA--- N 1 0 0 0A00,1A00", "refused 201"),
             // An item twice, of another width, none, a comma too many, no symbol, not rising.
             ("1RA--- N 1 0,0 0 0A00,1A00", "refused 304"),
             ("1RA--- N 1 0,10 0 0A00,1A00", "refused 304"),
@@ -227,6 +226,35 @@ fn closed_position_sets(rt: HostRuntime) -> Result<(), Fail> {
             ("1LA--- N 1 0 0,1 0A00,0A01", "1LA--- never"),
             ("1LA--- N 1 0 0 0A00,0A01", "refused 201"),
             ("1LA--- N 1 0,1 0,1 0A00,0A01", "refused 201"),
+        ],
+    )
+}
+
+#[test]
+fn finite_automata(rt: HostRuntime) -> Result<(), Fail> {
+    rows(
+        &rt,
+        rt.alloc(),
+        &[
+            ("1RA--- F R 1 00 1,2 1", "1RA--- never"),
+            // The halt state is kept, and one of the right moves has no edge.
+            ("1RA--- F R 1 00 1,2 3", "refused 201"),
+            ("1RA--- F R 1 00 1,0 1", "refused 201"),
+            ("1RA--- F R 1 00 1,2 4", "refused 304"),
+            ("1RA--- F L 1 00 2,2 1", "refused 201"),
+            ("1LA--- F L 1 00 1,2 1", "1LA--- never"),
+            ("1RA--- F R 2 0111 2,4,2,4 3", "1RA--- never"),
+            // The first automaton leaves its start on a blank.
+            ("1RA--- F R 2 1111 2,4,2,4 3", "refused 201"),
+            (
+                "0RB---_0LA--- F R 2 0111 2,10,0,10,8,10,10,10 3",
+                "0RB---_0LA--- never",
+            ),
+            // An edge of a left move is missing, on the second symbol.
+            (
+                "0RB---_0LA--- F R 2 0111 2,10,0,10,8,10,0,10 3",
+                "refused 201",
+            ),
         ],
     )
 }

@@ -4,6 +4,7 @@ use crate::texts::table_of;
 use backward::BackwardFinder;
 use cert::{Certificate, Finder, Finders, OwnedCertificate, decide};
 use commands::{Outcome, cmd_decide};
+use far::FarFinder;
 use loops::{CycleFinder, TranslatedFinder};
 use machine_text::Table;
 use ngram_cps::NgramFinder;
@@ -77,6 +78,10 @@ fn each_finder_alone_gives_its_kind(rt: HostRuntime) -> Result<(), Fail> {
     finders.push(Box::new(alloc, NgramFinder::new(alloc, 1))?)?;
     let record = decide(alloc, &mut finders, &table_of(&rt, "1RA---"), 100)?;
     assert!(rt; matches!(record.lent().certificate, Certificate::Ngram(_)));
+    let mut finders: Vec<Box<dyn Finder>> = Vec::new(alloc);
+    finders.push(Box::new(alloc, FarFinder::new(alloc, 2))?)?;
+    let record = decide(alloc, &mut finders, &table_of(&rt, "1RA---"), 100)?;
+    assert!(rt; matches!(record.lent().certificate, Certificate::Far(_)));
     Ok(())
 }
 

@@ -77,61 +77,64 @@ fn a_ledger_is_cut_anywhere(rt: HostRuntime) {
     }
 }
 
+// Ledgers with the first line that isn't kept, how many bytes are, and why no more.
+const CUT_SHORT: [(&str, u64, u64, Unkept); 10] = [
+    (
+        "bb-ledger 1 ------\n------ H 1\n0RA---",
+        3,
+        30,
+        Unkept::Torn,
+    ),
+    // torn, though it reads as a record
+    (
+        "bb-ledger 1 ------\n------ H 1\n0RA--- T 0 1 R\n1RA--- T 0 1 R",
+        4,
+        45,
+        Unkept::Torn,
+    ),
+    (
+        "bb-ledger 1 ------\n------ H 2\n0RA--- T 0 1 R\n",
+        2,
+        19,
+        Unkept::Unfit(OfferFault::Refused(Refused::Fails)),
+    ),
+    (
+        "bb-ledger 1 ------\n------ H 1\n------ H 1\n0RA--- T 0 1 R\n",
+        3,
+        30,
+        Unkept::Repeated,
+    ),
+    (
+        "bb-ledger 1 ------\n0RA--- T 0 1 R\n------ H 1\n",
+        2,
+        19,
+        Unkept::Unfit(OfferFault::NotOpen),
+    ),
+    (
+        "bb-ledger 1 ------\n------ H 1\n------_------ H 1\n",
+        3,
+        30,
+        Unkept::Unfit(OfferFault::WrongSize),
+    ),
+    (
+        "bb-ledger 1 ------\n------ Q\n------ H 1\n",
+        2,
+        19,
+        Unkept::Unread(RecordFault::BadKind),
+    ),
+    (
+        "bb-ledger 1 ------\n------ H 1\n\n0RA--- T 0 1 R\n",
+        3,
+        30,
+        Unkept::Unread(RecordFault::BadTable(TextFault::BadLength)),
+    ),
+    ("bb-led", 1, 0, Unkept::Torn),
+    ("bb-ledger 1 ------_-", 1, 0, Unkept::Torn),
+];
+
 #[test]
 fn a_line_that_cant_be_taken_ends_what_is_kept(rt: HostRuntime) {
-    for (text, line, kept, why) in [
-        (
-            "bb-ledger 1 ------\n------ H 1\n0RA---",
-            3,
-            30,
-            Unkept::Torn,
-        ),
-        // torn, though it reads as a record
-        (
-            "bb-ledger 1 ------\n------ H 1\n0RA--- T 0 1 R\n1RA--- T 0 1 R",
-            4,
-            45,
-            Unkept::Torn,
-        ),
-        (
-            "bb-ledger 1 ------\n------ H 2\n0RA--- T 0 1 R\n",
-            2,
-            19,
-            Unkept::Unfit(OfferFault::Refused(Refused::Fails)),
-        ),
-        (
-            "bb-ledger 1 ------\n------ H 1\n------ H 1\n0RA--- T 0 1 R\n",
-            3,
-            30,
-            Unkept::Repeated,
-        ),
-        (
-            "bb-ledger 1 ------\n0RA--- T 0 1 R\n------ H 1\n",
-            2,
-            19,
-            Unkept::Unfit(OfferFault::NotOpen),
-        ),
-        (
-            "bb-ledger 1 ------\n------ H 1\n------_------ H 1\n",
-            3,
-            30,
-            Unkept::Unfit(OfferFault::WrongSize),
-        ),
-        (
-            "bb-ledger 1 ------\n------ Q\n------ H 1\n",
-            2,
-            19,
-            Unkept::Unread(RecordFault::BadKind),
-        ),
-        (
-            "bb-ledger 1 ------\n------ H 1\n\n0RA--- T 0 1 R\n",
-            3,
-            30,
-            Unkept::Unread(RecordFault::BadTable(TextFault::BadLength)),
-        ),
-        ("bb-led", 1, 0, Unkept::Torn),
-        ("bb-ledger 1 ------_-", 1, 0, Unkept::Torn),
-    ] {
+    for (text, line, kept, why) in CUT_SHORT {
         let (left, out) = left_and_written(&rt, rt.alloc(), text.as_bytes());
         assert!(rt; left == Left::From { line, kept, why }, "{text}: {left:?}");
         // the lines that are kept are the first of that ledger

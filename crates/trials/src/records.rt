@@ -4,58 +4,67 @@ use machine_text::{Pair, State, Sym, TextFault};
 use run::{HaltsIn, Refused, Verdict};
 use std::test::Fail;
 
+// Texts with the number of their fault, 0 where there is none.
+const TEXTS: [(&str, u16); 49] = [
+    ("1RC1LB_1LA--- H 6", 301),
+    ("", 301),
+    ("1RB1LB_1LA---", 302),
+    ("1RB1LB_1LA---  H 6", 302),
+    ("1RB1LB_1LA--- H 06", 303),
+    ("1RB1LB_1LA--- H +6", 303),
+    ("1RB1LB_1LA--- H 6\r", 303),
+    ("1RB1LB_1LA--- H ", 303),
+    ("1RB1LB_1LA--- H 18446744073709551616", 303),
+    ("1RB1LB_1LA--- H 6 ", 302),
+    ("1RB1LB_1LA--- H", 302),
+    ("1RB1LB_1LA--- h 6", 302),
+    ("1RB1LB_1LA--- U 6", 302),
+    ("1RA--- T 0 1 X", 303),
+    ("1RA--- T 0 1", 302),
+    ("1RA--- T 0 1 R ", 302),
+    ("1RA--- T 0  R", 303),
+    ("1RA--- C 0", 302),
+    ("1RA--- C 0 01", 303),
+    ("1RA--- B", 302),
+    ("1RA--- B -1", 303),
+    ("1RA--- N 1 0,1 0", 302),
+    ("1RA--- N 1 0,1 0 0A00,1A00 ", 302),
+    ("1RA--- N 0 0,1 0 0A00,1A00", 303),
+    ("1RA--- N 01 0,1 0 0A00,1A00", 303),
+    ("1RA--- N 9 0 0 0A00", 303),
+    ("1RA--- N 1 1,0 0 0A00,1A00", 304),
+    ("1RA--- N 1 0,1  0A00,1A00", 304),
+    ("1RA--- N 1 0,1 0 0A00,1B00", 304),
+    ("1RA--- N 1 0,1 0 0A00,1A00", 0),
+    ("1RA--- F R 1 00 1,2", 302),
+    ("1RA--- F R 1 00 1,2 1 ", 302),
+    ("1RA--- F X 1 00 1,2 1", 303),
+    ("1RA--- F R 0 00 1,2 1", 303),
+    ("1RA--- F R 9 00 1,2 1", 303),
+    ("1RA--- F R 01 00 1,2 1", 303),
+    ("1RA--- F X 9 0 1 g", 303),
+    ("1RA--- F R 1 0 1,2 1", 304),
+    ("1RA--- F R 1 00 1 1", 304),
+    ("1RA--- F R 1 00 1,2 4", 304),
+    ("1RA--- F R 1 00 1,2 3", 0),
+    ("1RA--- F L 1 00 2,2 1", 0),
+    ("1RA--- T 0 1 R", 0),
+    ("1RA--- T 0 1 L", 0),
+    ("1RA--- C 1 0", 0),
+    ("1RA--- B 1001", 0),
+    ("1RB1LB_1LA--- U", 0),
+    ("1RB1LB_1LA--- H 0", 0),
+    ("1RB1LB_1LA--- H 18446744073709551615", 0),
+];
+
 #[test]
 fn records_are_read_or_refused(rt: HostRuntime) {
-    for (text, fault) in [
-        (
-            "1RC1LB_1LA--- H 6",
-            Some(RecordFault::BadTable(TextFault::BadState(2))),
-        ),
-        ("", Some(RecordFault::BadTable(TextFault::BadLength))),
-        ("1RB1LB_1LA---", Some(RecordFault::BadKind)),
-        ("1RB1LB_1LA---  H 6", Some(RecordFault::BadKind)),
-        ("1RB1LB_1LA--- H 06", Some(RecordFault::BadNumber)),
-        ("1RB1LB_1LA--- H +6", Some(RecordFault::BadNumber)),
-        ("1RB1LB_1LA--- H 6\r", Some(RecordFault::BadNumber)),
-        ("1RB1LB_1LA--- H ", Some(RecordFault::BadNumber)),
-        (
-            "1RB1LB_1LA--- H 18446744073709551616",
-            Some(RecordFault::BadNumber),
-        ),
-        ("1RB1LB_1LA--- H 6 ", Some(RecordFault::BadKind)),
-        ("1RB1LB_1LA--- H", Some(RecordFault::BadKind)),
-        ("1RB1LB_1LA--- h 6", Some(RecordFault::BadKind)),
-        ("1RB1LB_1LA--- U 6", Some(RecordFault::BadKind)),
-        ("1RA--- T 0 1 X", Some(RecordFault::BadNumber)),
-        ("1RA--- T 0 1", Some(RecordFault::BadKind)),
-        ("1RA--- T 0 1 R ", Some(RecordFault::BadKind)),
-        ("1RA--- T 0  R", Some(RecordFault::BadNumber)),
-        ("1RA--- C 0", Some(RecordFault::BadKind)),
-        ("1RA--- C 0 01", Some(RecordFault::BadNumber)),
-        ("1RA--- B", Some(RecordFault::BadKind)),
-        ("1RA--- B -1", Some(RecordFault::BadNumber)),
-        ("1RA--- N 1 0,1 0", Some(RecordFault::BadKind)),
-        ("1RA--- N 1 0,1 0 0A00,1A00 ", Some(RecordFault::BadKind)),
-        ("1RA--- N 0 0,1 0 0A00,1A00", Some(RecordFault::BadNumber)),
-        ("1RA--- N 01 0,1 0 0A00,1A00", Some(RecordFault::BadNumber)),
-        ("1RA--- N 9 0 0 0A00", Some(RecordFault::BadNumber)),
-        ("1RA--- N 1 1,0 0 0A00,1A00", Some(RecordFault::BadList)),
-        ("1RA--- N 1 0,1  0A00,1A00", Some(RecordFault::BadList)),
-        ("1RA--- N 1 0,1 0 0A00,1B00", Some(RecordFault::BadList)),
-        ("1RA--- N 1 0,1 0 0A00,1A00", None),
-        ("1RA--- T 0 1 R", None),
-        ("1RA--- T 0 1 L", None),
-        ("1RA--- C 1 0", None),
-        ("1RA--- B 1001", None),
-        ("1RB1LB_1LA--- U", None),
-        ("1RB1LB_1LA--- H 0", None),
-        ("1RB1LB_1LA--- H 18446744073709551615", None),
-    ] {
+    for (text, number) in TEXTS {
         let found = match Record::parse(text.as_bytes()) {
-            Ok(_) => None,
-            Err(fault) => Some(fault),
+            Ok(_) => 0,
+            Err(fault) => fault.number(),
         };
-        assert!(rt; found == fault, "{text}");
+        assert!(rt; found == number, "{text}: {found}");
     }
     for (fault, number) in [
         (RecordFault::BadTable(TextFault::BadLength), 301),
@@ -82,6 +91,8 @@ fn records_are_written_in_their_printed_form(rt: HostRuntime) -> Result<(), Fail
         ("1RA--- T 0 1 R", "1RA--- T 0 1 R"),
         ("1RA--- B 7", "1RA--- B 7"),
         ("1RA1RH N 1 0,1 0 0A00,1A00", "1RA--- N 1 0,1 0 0A00,1A00"),
+        ("1RA1RZ F R 2 0111 2,4,2,4 3", "1RA--- F R 2 0111 2,4,2,4 3"),
+        ("1RA--- F L 1 00 2,2 1", "1RA--- F L 1 00 2,2 1"),
     ] {
         match Record::parse(text.as_bytes()) {
             Ok(record) => {
@@ -122,14 +133,16 @@ fn certificates_are_judged(rt: HostRuntime) {
         ("1RB---_0RB1RB B 1001", Err(Refused::TooLong)),
         ("1RA--- N 1 0,1 0 0A00,1A00", Ok(Some(Verdict::Never))),
         ("1RA--- N 1 0 0 0A00,1A00", Err(Refused::Fails)),
+        ("1RA--- F R 1 00 1,2 1", Ok(Some(Verdict::Never))),
+        ("1RA--- F R 1 00 1,2 3", Err(Refused::Fails)),
     ] {
         match Record::parse(text.as_bytes()) {
             Ok(record) => {
                 let mut judged = judge(rt.alloc(), &record);
-                // Memory may be refused once, but not to a record of lists or one that claims nothing.
+                // Memory may be refused once, but not to a record of lists or automata, or one that claims nothing.
                 let takes_none = matches!(
                     record.certificate,
-                    Certificate::Ngram(_) | Certificate::Undecided
+                    Certificate::Ngram(_) | Certificate::Far(_) | Certificate::Undecided
                 );
                 if judged == Err(Refused::NoMemory) && !takes_none {
                     judged = judge(rt.alloc(), &record);

@@ -4,6 +4,7 @@
 use backward::BackwardFinder;
 use cert::{Finder, Finders};
 use commands::{Opened, Outcome, cmd_check, cmd_decide, cmd_report};
+use far::FarFinder;
 use loops::{CycleFinder, TranslatedFinder};
 use ngram_cps::NgramFinder;
 use run::HaltFinder;
@@ -18,10 +19,11 @@ const STEPS: u64 = 1_000;
 
 const DEPTH: u64 = 20;
 
-const WIDTH: u64 = 3;
-
-// With the width of words.
-const DECIDED: [(&str, u64); 2] = [("tables.txt", WIDTH), ("known.txt", 4)];
+// Options, a file, and the width of words and the size of automata that they ask for.
+const DECIDED: [(&str, &str, u64, u64); 2] = [
+    ("", "tables.txt", 3, 2),
+    ("--gram 4 --far 3 ", "known.txt", 4, 3),
+];
 
 const REPORTED: [(&str, bool); 2] = [("one-state.ledger", false), ("two-states.ledger", true)];
 
@@ -32,13 +34,9 @@ fn main(rt: HostRuntime) -> io::Result<ExitCode> {
         let outcome = cmd_check(rt.alloc(), &mut records, &mut rt.stdout(), &mut rt.stdout());
         ended(&rt, outcome)?;
     }
-    for (name, width) in DECIDED {
-        if width == WIDTH {
-            println!(rt; "$ ./bb decide < examples/{name}")?;
-        } else {
-            println!(rt; "$ ./bb decide --gram {width} < examples/{name}")?;
-        }
-        decided(&rt, name, width)?;
+    for (options, name, width, size) in DECIDED {
+        println!(rt; "$ ./bb decide {options}< examples/{name}")?;
+        decided(&rt, name, width, size)?;
     }
     for (name, why) in REPORTED {
         let option = if why { "--why " } else { "" };
@@ -55,8 +53,8 @@ fn main(rt: HostRuntime) -> io::Result<ExitCode> {
     Ok(ExitCode::SUCCESS)
 }
 
-// `bb decide`, with its defaults but for the width of words.
-fn decided(rt: &HostRuntime, name: &str, width: u64) -> io::Result<()> {
+// `bb decide`, with its defaults but for the width of words and the size of automata.
+fn decided(rt: &HostRuntime, name: &str, width: u64, size: u64) -> io::Result<()> {
     let alloc = rt.alloc();
     let mut finders: Vec<Box<dyn Finder>> = Vec::new(alloc);
     finders.push(Box::new(alloc, HaltFinder::new(alloc, STEPS))?)?;
@@ -64,6 +62,7 @@ fn decided(rt: &HostRuntime, name: &str, width: u64) -> io::Result<()> {
     finders.push(Box::new(alloc, TranslatedFinder::new(alloc, STEPS))?)?;
     finders.push(Box::new(alloc, BackwardFinder::new(alloc, DEPTH))?)?;
     finders.push(Box::new(alloc, NgramFinder::new(alloc, width))?)?;
+    finders.push(Box::new(alloc, FarFinder::new(alloc, size))?)?;
     let mut tables = fs::open(rt, name)?;
     let mut decider = Finders::new(finders, STEPS);
     let outcome = cmd_decide(

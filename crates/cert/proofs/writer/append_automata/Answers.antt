@@ -1,0 +1,8 @@
+use Rattle.far.proofs.RoundTrip.{appended, chain}
+use Rattle.cert.proofs.writer.append_automata.Goals as goal
+
+pub returns-clause-kept : goal.returns-clause-kept
+returns-clause-kept c =
+    chain _ _ _ (chain _ _ _ (chain _ _ _ (chain _ _ _ (chain _ _ _ (appended _ _ _ c.in_ok-extend_from_slice.ensures.items)
+    (appended _ _ _ c.in_ok-extend_from_slice-2.ensures.items)) (appended _ _ _ c.in_ok-extend_from_slice-3.ensures.items))
+    (appended _ _ _ c.in_ok-append_number.ensures.ok)) (appended _ _ _ c.in_ok-extend_from_slice-4.ensures.items)) c.append_fields.ensures.kept

@@ -1,5 +1,5 @@
 // What a board holds.
-ghost use Rattle.std.specs.Prelude.{◌≡◌, ℕ, IfSome, IfOk, Err, ◌↔◌, ◌≤◌, Option, Some};
+ghost use Rattle.std.specs.Prelude.{◌≡◌, ℕ, IfSome, IfOk, Err, ◌↔◌, ◌≤◌, Option, Some, IsTrue};
 ghost use Rattle.machine_text.specs.Packed.{entry_of, empty_table};
 ghost use Rattle.tree.specs.Used.{InOrder};
 ghost use Rattle.run.specs.Verdict.{IsTrueOf};
@@ -126,6 +126,13 @@ impl Board {
     {
         child_is_table();
         self.open_tables.keys()
+    }
+
+    /// Whether a table is open. It takes time that grows with the logarithm of the board.
+    pub fn is_open(&self, t: &Table) -> bool
+        ensures { IsTrue result ↔ IsOpen self.now.root (mark_in self.now.records) t.now }
+    {
+        self.open_tables.contains_key(t)
     }
 
     /// The holdouts, in the order of their texts: the tables whose record has no verdict.
@@ -257,7 +264,7 @@ impl Board {
         ensures { (IsOpen self.now.root (mark_in self.now.records) t.now × (result ≡ Place.Open))
             ⊎ ((IsOpen self.now.root (mark_in self.now.records) t.now → ⊥) × (result ≡ Place.Elsewhere)) }
     {
-        if self.open_tables.contains_key(t) {
+        if self.is_open(t) {
             Place::Open
         } else {
             Place::Elsewhere

@@ -1,2 +1,6 @@
 pub mod Limits
 pub mod Lines
+pub mod Message
+pub mod MessageFault
+pub mod Grammar
+pub mod Meaning

@@ -1,3 +1,5 @@
 pub mod Cutting
 pub mod Feeding
 pub mod Spaces
+pub mod Numbers
+pub mod ReadBack

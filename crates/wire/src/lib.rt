@@ -6,6 +6,7 @@
 
 mod decimal;
 mod decoder;
+mod encoder;
 mod laws;
 mod limits;
 mod line;
@@ -14,6 +15,7 @@ mod message;
 mod message_fault;
 
 pub use decoder::decode;
+pub use encoder::encode;
 pub use laws::pieces_join;
 pub use limits::MAX_LINE_BYTES;
 pub use line::Line;

@@ -3,3 +3,4 @@ pub mod Feeding
 pub mod Spaces
 pub mod Numbers
 pub mod ReadBack
+pub mod OneLine

@@ -8,10 +8,12 @@ use Rattle.machine_text.proofs.Rows.{length-text_of}
 use Rattle.machine_text.proofs.RoundTrip.{table_of-text_of}
 use Rattle.cert.specs.Limits.{record_byte_limit}
 use Rattle.cert.specs.Claim.{Recorded}
+use Rattle.cert.proofs.RoundTrip.{record_of-record_text}
 use Rattle.cert.specs.declared.record_fault.RecordFault.TheVariants.{TooLong}
 use Rattle.cert.specs.Grammar.{parts_of, record_from, record_of, record_text}
 use Rattle.wire.specs.Limits.{line_byte_limit}
 use Rattle.wire.specs.Message.{Message, Ask, Grant, Rec, Ack, Later, Done, Stop, IsSendable}
+use Rattle.wire.specs.Inside.{IsReadable}
 use Rattle.wire.specs.Grammar.{◌>>=◌, read_table, read_record, ask_in, grant_in, done_in, message_in, or_bad, message_of, message_text}
 use Rattle.wire.proofs.Numbers.{decimal_is_form, decimal_value-decimal, length_of_number}
 use Rattle.wire.proofs.Spaces.{cut-append}
@@ -41,7 +43,7 @@ done_back era lease e l =
     ap done_in (two_words (decimal era) (decimal lease))
     ∙ rw (cut-append (decimal era) (decimal lease) (decimal_is_form era e).no_space) (rw (decimal_value-decimal era e, decimal_value-decimal lease l) refl)
 
-read_back : (m : Message) → IsSendable m → message_in (message_text m) ≡ Some m
+read_back : (m : Message) → IsReadable m → message_in (message_text m) ≡ Some m
 unfolding message_text
 read_back (Ask id) small = ask_back id small
 read_back (Grant era lease table) fits = grant_back era lease table fits.0 fits.1 fits.2
@@ -64,7 +66,7 @@ length_of_record text r reads =
       | false ↦ λ is reads. grind (arith, nat_tests)
     ] refl reads
 
-short : (m : Message) → IsSendable m → length (message_text m) ≤ line_byte_limit
+short : (m : Message) → IsReadable m → length (message_text m) ≤ line_byte_limit
 unfolding message_text
 short (Ask id) small = omega (arith, length-append (codes "ASK ") (decimal id), length_of_number id (omega arith))
 short (Grant era lease table) fits =
@@ -85,8 +87,24 @@ short (Done era lease) fits =
     omega (arith, ap length (two_words (decimal era) (decimal lease)), length-append (decimal era) (32 ∷ decimal lease), length_of_number era fits.0, length_of_number lease fits.1)
 short Stop fits = lit≤ tt
 
-pub message_of-message_text : (m : Message) → IsSendable m → message_of (message_text m) ≡ Ok m
+pub message_of-message_text : (m : Message) → IsReadable m → message_of (message_text m) ≡ Ok m
 unfolding message_of
 message_of-message_text m fits =
     let within : ltb line_byte_limit (length (message_text m)) ≡ false = grind (arith, nat_tests, short m fits) in
     rw within (ap or_bad (read_back m fits))
+
+-- what can be sent reads back
+readable : (m : Message) → IsSendable m → IsReadable m
+readable (Ask id) small = small
+readable (Grant era lease table) fits = fits
+readable (Rec r) fits = record_of-record_text r fits.0 fits.1 fits.2
+readable (Ack table) is = is
+readable (Later table) is = is
+readable (Done era lease) fits = fits
+readable Stop fits = fits
+
+pub sent_reads_back : (m : Message) → IsSendable m → message_of (message_text m) ≡ Ok m
+sent_reads_back m fits = message_of-message_text m (readable m fits)
+
+pub sent_is_short : (m : Message) → IsSendable m → length (message_text m) ≤ line_byte_limit
+sent_is_short m fits = short m (readable m fits)

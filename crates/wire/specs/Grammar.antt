@@ -1,5 +1,5 @@
 -- The grammar of messages: a word, alone or with a text behind one space. Bytes are their ASCII codes: 32 is the space.
-use Rattle.std.specs.Prelude.{ℕ, ◌^◌, ◌==◌, nat_lt, if◌then◌else◌, List, [], ◌∷◌, ◌++◌, Option, Some, None, option_map, Result, Ok, Err, length, codes, decimal}
+use Rattle.std.specs.Prelude.{ℕ, ◌^◌, ◌==◌, nat_lt, if◌then◌else◌, List, [], ◌∷◌, ◌++◌, Option, Some, None, option_map, Result, Ok, Err, length, flat_map, codes, decimal}
 use Rattle.std.specs.Str.{bytes_eq}
 use Rattle.machine_text.specs.declared.faults.TextFault.{TextFault}
 use Rattle.machine_text.specs.Packed.{Packed}
@@ -97,3 +97,7 @@ message_text (Later None) = codes "LATER"
 message_text (Later (Some table)) = codes "LATER " ++ text_of table
 message_text (Done era lease) = codes "DONE " ++ decimal era ++ codes " " ++ decimal lease
 message_text Stop = codes "STOP"
+
+-- messages that are sent one after another, each with a newline
+abbrev pub frames_of : List Message → List ℕ
+frames_of ms = flat_map (λ m. message_text m ++ (10 ∷ [])) ms

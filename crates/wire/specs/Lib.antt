@@ -4,3 +4,4 @@ pub mod Message
 pub mod MessageFault
 pub mod Grammar
 pub mod Meaning
+pub mod Inside

@@ -1,8 +1,7 @@
 -- What nodes say to one another, apart from how it is kept or written.
-use Rattle.std.specs.Prelude.{◌≡◌, ℕ, ◌<◌, ◌^◌, Option, Some, None, Ok}
+use Rattle.std.specs.Prelude.{ℕ, ◌<◌, ◌^◌, Option, Some, None}
 use Rattle.machine_text.specs.Packed.{Packed, IsTable}
-use Rattle.cert.specs.Claim.{Recorded, IsMadeFor}
-use Rattle.cert.specs.Grammar.{record_of, record_text}
+use Rattle.cert.specs.Claim.{Recorded, IsWritable, IsMadeFor}
 
 -- Ask: a worker, by its id, asks for a table; Grant: it gets one under a lease of a coordinator's era; Rec: a record
 -- is handed in; Ack: the table's record is held now; Later: with a table, its record is to be kept, without one, no
@@ -30,11 +29,11 @@ abbrev pub IsTableOrNone : Option Packed → Type 0
 IsTableOrNone None = Unit {0}
 IsTableOrNone (Some table) = IsTable table
 
--- an id has 32 bits and other numbers 64, tables are tables, and a record's text reads back as the record
+-- an id has 32 bits and other numbers 64, tables are tables, and a record can be written
 abbrev pub IsSendable : Message → Type 0
 IsSendable (Ask id) = id < 2 ^ 32
 IsSendable (Grant era lease table) = (era < 2 ^ 64) × (lease < 2 ^ 64) × IsTable table
-IsSendable (Rec r) = record_of (record_text r) ≡ Ok r
+IsSendable (Rec r) = IsTable r.table × IsWritable r.claim × IsMadeFor r.claim r.table.states
 IsSendable (Ack table) = IsTable table
 IsSendable (Later table) = IsTableOrNone table
 IsSendable (Done era lease) = (era < 2 ^ 64) × (lease < 2 ^ 64)

@@ -5,7 +5,8 @@ ghost use Rattle.machine_text.specs.Text.{text_of};
 ghost use Rattle.cert.specs.Claim.{IsMadeFor};
 ghost use Rattle.cert.specs.Grammar.{record_of, record_text};
 ghost use Rattle.cert.specs.Kinds.{claim_of, recorded};
-ghost use Rattle.wire.specs.Message.{IsMadeForItsTable, IsSendable};
+ghost use Rattle.wire.specs.Message.{IsMadeForItsTable};
+ghost use Rattle.wire.specs.Inside.{IsReadable};
 ghost use Rattle.wire.specs.Grammar.{message_of, message_text};
 ghost use Rattle.wire.specs.Meaning.{said};
 
@@ -35,18 +36,18 @@ pub fn encode(m: &Msg<'_>, out: &mut Vec<u8>) -> Result<(), NoMemory>
 // Appends the text and a newline; where memory is refused, a beginning of them.
 fn append_line(m: &Msg<'_>, out: &mut Vec<u8>) -> Result<(), NoMemory>
     ensures ok { OnOk result (out.new.items ≡ out.old.items ++ message_text (said m.now) ++ (10 ∷ [])) }
-    ensures sendable { OnOk result (IsMadeForItsTable (said m.now) → IsSendable (said m.now)) }
+    ensures readable { OnOk result (IsMadeForItsTable (said m.now) → IsReadable (said m.now)) }
     ensures kept { take (length out.old.items) out.new.items ≡ out.old.items }
 {
     append_message(m, out)?;
     out.extend_from_slice(b"\n")
 }
 
-// Appends the text; where memory is refused, a beginning of it. What was written can be sent.
+// Appends the text; where memory is refused, a beginning of it. What was written reads back.
 #[tactic(auto, unfolding(crate::specs::Grammar::message_text))]
 fn append_message(m: &Msg<'_>, out: &mut Vec<u8>) -> Result<(), NoMemory>
     ensures ok { OnOk result (out.new.items ≡ out.old.items ++ message_text (said m.now)) }
-    ensures sendable { OnOk result (IsMadeForItsTable (said m.now) → IsSendable (said m.now)) }
+    ensures readable { OnOk result (IsMadeForItsTable (said m.now) → IsReadable (said m.now)) }
     ensures kept { take (length out.old.items) out.new.items ≡ out.old.items }
 {
     match m {

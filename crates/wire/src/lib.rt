@@ -16,7 +16,7 @@ mod message_fault;
 
 pub use decoder::decode;
 pub use encoder::encode;
-pub use laws::pieces_join;
+pub use laws::{begun_lines_go_on, messages_come_through, messages_read_back, pieces_join};
 pub use limits::MAX_LINE_BYTES;
 pub use line::Line;
 pub use lines::Lines;

@@ -4,6 +4,7 @@
 //! messages as nodes' rules speak of them, `specs/Grammar` the text of each.
 #![tactic(auto)]
 
+mod cut;
 mod decimal;
 mod decoder;
 mod encoder;

@@ -1,8 +1,8 @@
 // A stream of bytes that comes in pieces, and its lines.
-ghost use Rattle.std.specs.Prelude.{◌≡◌, ◌+◌, ◌<◌, ◌≤◌, ◌++◌, ◌∷◌, [], map, length, None, Some, IfSome, IfOk, IfNone, OnOk, OnErr, position};
-ghost use Rattle.std.specs.List.{All, slice_split};
+ghost use Rattle.std.specs.Prelude.{◌≡◌, ◌≤◌, ◌∷◌, [], map, length, Some, IfSome, IfOk, IfNone, OnOk, OnErr};
+ghost use Rattle.std.specs.List.{All};
 ghost use Rattle.wire.specs.Limits.{line_byte_limit};
-ghost use Rattle.wire.specs.Lines.{Stream, IsWithinLimit, fed, known, known_of, is_newline, lines_from, rest_from};
+ghost use Rattle.wire.specs.Lines.{IsWithinLimit, fed, known, lines_from, rest_from};
 
 use crate::cut::cut_at;
 use crate::line::Line;
@@ -54,7 +54,7 @@ impl Lines {
         let Some((end, left)) = cut_at(b'\n', piece) else {
             return self.rest.extend(piece);
         };
-        // All that can be refused comes while the lines are still the old ones.
+        // All that can be refused comes while the lines are still the old ones, and makes room for the new ones.
         let (mut more, rest) = cut_lines(self.alloc, left)?;
         self.waiting.reserve(more.len() + 1)?;
         self.rest.extend(end)?;

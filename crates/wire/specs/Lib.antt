@@ -1,0 +1,5 @@
+pub mod Happening
+pub mod Carried
+pub mod Device
+pub mod Memory
+pub mod Faults

@@ -6,6 +6,7 @@
 #![tactic(auto)]
 
 mod carrying;
+mod engine;
 mod fault;
 mod ledger_out;
 mod link;
@@ -15,6 +16,7 @@ mod node;
 mod trouble;
 mod turned;
 
+pub use engine::begin;
 pub use fault::Fault;
 pub use ledger_out::LedgerOut;
 pub use link::Link;

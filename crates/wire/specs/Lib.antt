@@ -1,3 +1,5 @@
+pub mod Limits
+pub mod Lines
 pub mod Happening
 pub mod Carried
 pub mod Device

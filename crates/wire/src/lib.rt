@@ -1,14 +1,20 @@
-//! What stands between a node and the world: its link, its ledger, and the engine that runs it.
+//! What stands between a node and the world: the lines of a stream and the messages that they are, a node's
+//! link and its ledger, and the engine that runs it.
 //!
-//! A [`Node`] answers events, and does nothing else: each answer says what is to be cut from its ledger,
-//! what to be appended, and which frames to be sent. `begin` and `turn` carry answers out, the ledger's
-//! part first. `specs/Carried` says what it means that answers were carried out.
+//! `specs/Lines` says what the lines of a stream are, however it is cut into pieces. A [`Node`] answers
+//! events, and does nothing else: each answer says what is to be cut from its ledger, what to be appended,
+//! and which frames to be sent. `begin` and `turn` carry answers out, the ledger's part first, and
+//! `specs/Carried` says what that means.
 #![tactic(auto)]
 
 mod carrying;
 mod engine;
 mod fault;
+mod laws;
 mod ledger_out;
+mod limits;
+mod line;
+mod lines;
 mod link;
 mod mem_ledger;
 mod mem_link;
@@ -18,9 +24,14 @@ mod turned;
 
 pub use engine::begin;
 pub use fault::Fault;
+pub use laws::pieces_join;
 pub use ledger_out::LedgerOut;
+pub use limits::MAX_LINE_BYTES;
+pub use line::Line;
+pub use lines::Lines;
 pub use link::Link;
 pub use mem_ledger::MemLedger;
 pub use mem_link::MemLink;
 pub use node::{Event, Node, NodeFault, Note, Out};
+pub use run::NoMemory;
 pub use turned::{Turn, TurnFault};

@@ -1,3 +1,5 @@
 pub mod Cutting
 pub mod Feeding
 pub mod Devices
+pub mod Outcomes
+pub mod Replies

@@ -69,3 +69,10 @@ Faulted {N} answers is_stopped old event LedgerFault new =
 Faulted answers is_stopped old event (Node fault) new =
     answers old.node event (Err fault) new.node × (new.text ≡ old.text) × (new.sent ≡ old.sent)
 Faulted answers is_stopped old event NoMemory new = ⊥
+
+-- these events were to be handed over, and one of them brought a fault when those before it were carried out
+pub record BrokenOff {N : Type 0} (answers : N → Happening → Result Out NodeFault → N → Type 0) (is_stopped : N → Type 0) (old : Scene N) (events : List Happening) (fault : TurnFault) (left : List Happening) (new : Scene N) : Type 0 where
+  pub event : Happening
+  pub at : Scene N
+  pub before : Handed answers old events (event ∷ left) at
+  pub faulted : Faulted answers is_stopped at event fault new

@@ -5,3 +5,4 @@ pub mod Carried
 pub mod Device
 pub mod Memory
 pub mod Faults
+pub mod Turned

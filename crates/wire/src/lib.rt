@@ -10,6 +10,7 @@
 mod carrying;
 mod engine;
 mod fault;
+mod handing;
 mod laws;
 mod ledger_out;
 mod limits;
@@ -26,7 +27,7 @@ pub use engine::begin;
 pub use fault::Fault;
 pub use laws::pieces_join;
 pub use ledger_out::LedgerOut;
-pub use limits::MAX_LINE_BYTES;
+pub use limits::{MAX_LINE_BYTES, MAX_PIECE_BYTES};
 pub use line::Line;
 pub use lines::Lines;
 pub use link::Link;

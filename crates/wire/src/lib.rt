@@ -23,7 +23,7 @@ mod node;
 mod trouble;
 mod turned;
 
-pub use engine::begin;
+pub use engine::{begin, turn};
 pub use fault::Fault;
 pub use laws::pieces_join;
 pub use ledger_out::LedgerOut;

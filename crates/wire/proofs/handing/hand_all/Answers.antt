@@ -15,17 +15,17 @@ lines-preserved g c =
     let waits = ap (λ (s : Stream). s.waiting) took in
     let done = c.in_ok-hand.ensures.ok in
     let before =
-      subst (λ (w : List Known). Handed g.N.Node.answers old (events_of c.args.lines.now.waiting) (events_of w) at)
-        waits c.lines.invariant.handed in
+    subst (λ (w : List Known). Handed g.N.Node.answers old (events_of c.args.lines.now.waiting) (events_of w) at)
+    waits c.lines.invariant.handed in
     record {
       handed =
-        handed_more g.N.Node.answers old at new (events_of c.args.lines.now.waiting) (events_of c.next.new.self.waiting)
+          handed_more g.N.Node.answers old at new (events_of c.args.lines.now.waiting) (events_of c.next.new.self.waiting)
           (event_of (known c.in-Some.line)) done.0 before done.1 done.2 done.3;
       rest = sym (ap (λ (s : Stream). s.rest) took) ∙ c.lines.invariant.rest;
       step = λ h. c.in_ok-hand.ensures.step (λ e. cc) (c.lines.invariant.step h);
       link_count = done.5 ∙ c.lines.invariant.link_count;
       ledger_count = done.4 ∙ c.lines.invariant.ledger_count;
-      waiting = c.hand.ensures.waiting ∙ c.lines.invariant.waiting
+      waiting = c.hand.ensures.waiting ∙ c.lines.invariant.waiting;
     }
 
 pub returns-in_err-hand-clause-err : goal.returns-in_err-hand-clause-err
@@ -36,8 +36,9 @@ returns-in_err-hand-clause-err g c =
     let took = c.in-Some.ensures.some in
     let waits = ap (λ (s : Stream). s.waiting) took in
     let before =
-      subst (λ (w : List Known). Handed g.N.Node.answers old (events_of c.args.lines.now.waiting) (events_of w) at)
-        waits c.lines.invariant.handed in
-    rw (p.1, p.2)
-      (record { event = event_of (known c.in-Some.line); at = at; before = before; faulted = c.in_err-hand.ensures.err },
-        sym (ap (λ (s : Stream). s.rest) took) ∙ c.lines.invariant.rest)
+    subst (λ (w : List Known). Handed g.N.Node.answers old (events_of c.args.lines.now.waiting) (events_of w) at)
+    waits c.lines.invariant.handed in
+    rw (p.1, p.2) (
+      record { event = event_of (known c.in-Some.line); at = at; before = before; faulted = c.in_err-hand.ensures.err },
+      sym (ap (λ (s : Stream). s.rest) took) ∙ c.lines.invariant.rest,
+    )

@@ -25,7 +25,7 @@ fn frame_of(line: &Line) -> &[u8]
 }
 
 // Hands one line to the node, and carries out its answer.
-fn hand<N: Node, L: Link, W: LedgerOut>(
+pub fn hand<N: Node, L: Link, W: LedgerOut>(
     node: &mut N,
     line: Line,
     link: &mut L,

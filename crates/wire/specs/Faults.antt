@@ -1,9 +1,17 @@
--- The refusal number of each fault, and the sentence that says it.
+-- The refusal number of each note and fault, and the sentence that says it.
 use Rattle.std.specs.Prelude.{ℕ, List, codes}
+use Rattle.wire.specs.declared.node.Note.{Note}
+use Rattle.wire.specs.declared.node.Note.TheVariants.{Quiet, Strange, Stale, Refused}
 use Rattle.wire.specs.declared.node.NodeFault.{NodeFault}
 use Rattle.wire.specs.declared.node.NodeFault.TheVariants.{Stopped, NoMemory as NoNodeMemory}
 use Rattle.wire.specs.declared.turned.TurnFault.{TurnFault}
 use Rattle.wire.specs.declared.turned.TurnFault.TheVariants.{LinkFault, LedgerFault, Node, NoMemory as NoTurnMemory}
+
+abbrev pub note_number : Note → ℕ
+note_number Quiet = 0
+note_number Strange = 501
+note_number Stale = 0
+note_number (Refused number) = number
 
 abbrev pub node_fault_number : NodeFault → ℕ
 node_fault_number Stopped = 502

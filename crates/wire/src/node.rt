@@ -83,6 +83,21 @@ pub trait Node {
         ensures step { (text : List ℕ) → in_step self.old text ↔ in_step self.new text };
 }
 
+impl Note {
+    ghost use Rattle.wire.specs.Faults.{note_number};
+
+    /// The refusal number: 501, or that of the refusal; 0 where nothing was refused.
+    pub fn number(&self) -> u16
+        ensures { result ≡ note_number self.now }
+    {
+        match self {
+            Note::Strange => 501,
+            Note::Refused(number) => *number,
+            Note::Quiet | Note::Stale => 0,
+        }
+    }
+}
+
 impl NodeFault {
     ghost use Rattle.wire.specs.Faults.{node_fault_number};
 

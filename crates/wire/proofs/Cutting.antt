@@ -140,3 +140,13 @@ fed_twice s a b =
     append_assoc s.waiting (lines_from s.rest a) (lines_from (rest_from s.rest a) b) ∙ ap (λ ls. s.waiting ++ ls) (sym j.lines) in
     ap (λ ls. record { waiting = ls; rest = rest_from (rest_from s.rest a) b }) all
     ∙ ap (λ r. record { waiting = s.waiting ++ lines_from s.rest (a ++ b); rest = r }) (sym j.rest)
+
+-- what follows a text without newline goes on with it
+pub goes_on : (begun piece : List ℕ) → slice_split is_newline begun ≡ begun ∷ [] → (lines_from (known_of begun) piece ≡ lines_from (Some []) (begun ++ piece)) × (rest_from (known_of begun) piece ≡ rest_from (Some []) (begun ++ piece))
+goes_on begun piece one =
+    let j = joins begun piece (Some []) in
+    let none = lines_nowhere (Some []) begun one in
+    let rest = rest_nowhere (Some []) begun one in (
+      sym (j.lines ∙ ap (λ ls. ls ++ lines_from (rest_from (Some []) begun) piece) none ∙ ap (λ r. lines_from r piece) rest),
+      sym (j.rest ∙ ap (λ r. rest_from r piece) rest),
+    )

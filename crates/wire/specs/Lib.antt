@@ -1,5 +1,10 @@
 pub mod Limits
 pub mod Lines
+pub mod Message
+pub mod MessageFault
+pub mod Grammar
+pub mod Meaning
+pub mod Inside
 pub mod Happening
 pub mod Carried
 pub mod Device

@@ -7,7 +7,7 @@ use run::NoMemory;
 use std::alloc::Global;
 
 /// A line of a stream, without its newline.
-#[derive(Drop, Debug)]
+#[derive(Drop, Debug, PartialEq, Eq)]
 pub enum Line {
     /// All its bytes, at most `MAX_LINE_BYTES` of them.
     Whole(Vec<u8>),

@@ -1,12 +1,12 @@
 -- How the carrying out of one answer ends, as what a turn says of it.
-use Rattle.std.proofs.Common.{◌≡◌, inl, inr, sym, subst, ap, List, ℕ}
-use Rattle.std.specs.Prelude.{◌⊎◌, Option, Result, Ok, Err, IfErr}
+use Rattle.std.proofs.Common.{◌≡◌, inl, inr, sym, subst, ap}
+use Rattle.std.specs.Prelude.{◌⊎◌, Result, Ok, Err, IfErr}
 use Rattle.wire.specs.declared.node.Out.{Out}
 use Rattle.wire.specs.declared.node.NodeFault.{NodeFault}
 use Rattle.wire.specs.declared.turned.TurnFault.{TurnFault}
 use Rattle.wire.specs.declared.turned.TurnFault.TheVariants.{LinkFault, LedgerFault}
 use Rattle.wire.specs.Happening.{Happening}
-use Rattle.wire.specs.Device.{grown, IsBegun}
+use Rattle.wire.specs.Device.{IsBegun}
 use Rattle.wire.specs.Carried.{Scene, Faulted, kept, IsPartlyKept}
 
 -- an answer that wasn't carried out whole, for either of the two reasons

@@ -1,5 +1,5 @@
 -- Handing over one event after another.
-use Rattle.std.proofs.Common.{◌≡◌, ◌∙◌, refl, sym, subst, ap, ℕ, List, [], ◌∷◌, ◌++◌, append_assoc, map}
+use Rattle.std.proofs.Common.{◌≡◌, ◌∙◌, refl, sym, subst, ap, ℕ, List, [], ◌∷◌, ◌++◌, map}
 use Rattle.std.specs.Prelude.{Option, Result, Ok}
 use Rattle.wire.specs.declared.node.Out.{Out}
 use Rattle.wire.specs.declared.node.NodeFault.{NodeFault}

@@ -1,5 +1,5 @@
 -- Links and ledgers that keep their bytes in memory.
-use Rattle.std.specs.Prelude.{◌≡◌, ◌+◌, ◌-◌, ◌%◌, ◌^◌, ℕ, List, [], Bool, false, if◌then◌else◌, min}
+use Rattle.std.specs.Prelude.{◌≡◌, ◌+◌, ◌-◌, ◌%◌, ◌^◌, ℕ, List, false, if◌then◌else◌, min}
 use Rattle.wire.specs.declared.trouble.Trouble.{Trouble}
 
 pub record MemoryLedger : Type 0 where

@@ -1,4 +1,4 @@
-use Rattle.std.proofs.Common.{rules, ◌≡◌, ◌∙◌, ap, ◌+◌, ◌-◌, ◌≤◌, arith, List, ℕ, take, drop, length, length-take, length-drop}
+use Rattle.std.proofs.Common.{rules, ◌∙◌, ap, ◌-◌, List, ℕ, take, drop, length}
 use Rattle.std.specs.Prelude.{Option}
 use Rattle.std.proofs.lemmas.Result.{err_from_is_err_and}
 use Rattle.wire.specs.Device.{grown}

@@ -1,4 +1,4 @@
-use Rattle.std.proofs.Common.{◌≡◌, ◌∙◌, sym, subst, ap, List, ◌∷◌}
+use Rattle.std.proofs.Common.{◌∙◌, sym, subst, ap, List}
 use Rattle.std.proofs.lemmas.Result.{err_from_is_err_and}
 use Rattle.wire.specs.Carried.{Handed, scene}
 use Rattle.wire.specs.Lines.{Known, Stream, known}

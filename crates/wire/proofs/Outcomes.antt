@@ -7,10 +7,10 @@ use Rattle.wire.specs.declared.turned.TurnFault.{TurnFault}
 use Rattle.wire.specs.declared.turned.TurnFault.TheVariants.{LinkFault, LedgerFault}
 use Rattle.wire.specs.Happening.{Happening}
 use Rattle.wire.specs.Device.{IsBegun}
-use Rattle.wire.specs.Carried.{Scene, Faulted, kept, IsPartlyKept}
+use Rattle.wire.specs.Carried.{Answering, Scene, Faulted, kept, IsPartlyKept}
 
 -- an answer that wasn't carried out whole, for either of the two reasons
-pub faulted_by : {N : Type 0} (answers : N → Happening → Result Out NodeFault → N → Type 0) (is_stopped : N → Type 0)
+pub faulted_by : {N : Type 0} (answers : Answering N) (is_stopped : N → Type 0)
     (old new : Scene N) (event : Happening) (out : Out) (node : N) (r : Result (Unit {0}) TurnFault)
     → answers old.node event (Ok out) node
     → IfErr r (λ fault. (fault ≡ LinkFault) ⊎ (fault ≡ LedgerFault))

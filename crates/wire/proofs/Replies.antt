@@ -5,15 +5,15 @@ use Rattle.wire.specs.declared.node.Out.{Out}
 use Rattle.wire.specs.declared.node.NodeFault.{NodeFault}
 use Rattle.wire.specs.Happening.{Happening}
 use Rattle.wire.specs.Device.{grown}
-use Rattle.wire.specs.Carried.{Scene, scene, Reply, Carried, Handed, carried, kept}
+use Rattle.wire.specs.Carried.{Answering, Scene, scene, Reply, Carried, Handed, carried, kept}
 
 -- nothing is handed over yet
-pub handed_none : {N : Type 0} (answers : N → Happening → Result Out NodeFault → N → Type 0) (old : Scene N) (events : List Happening)
+pub handed_none : {N : Type 0} (answers : Answering N) (old : Scene N) (events : List Happening)
     → Handed answers old events events old
 handed_none answers old events = record { replies = []; order = refl; whole = refl }
 
 -- one more answer is carried out
-carried_more : {N : Type 0} (answers : N → Happening → Result Out NodeFault → N → Type 0) (old at : Scene N) (replies : List Reply)
+carried_more : {N : Type 0} (answers : Answering N) (old at : Scene N) (replies : List Reply)
     (event : Happening) (out : Out) (node : N)
     → Carried answers old replies at → answers at.node event (Ok out) node
     → Carried answers old (replies ++ (record { to = event; out = out } ∷ [])) (carried out node at)
@@ -28,7 +28,7 @@ order_more : (replies : List Reply) (reply : Reply) (left : List Happening)
 order_more [] reply left = refl
 order_more (first ∷ replies) reply left = ap (λ (events : List Happening). first.to ∷ events) (order_more replies reply left)
 
-pub handed_more : {N : Type 0} (answers : N → Happening → Result Out NodeFault → N → Type 0) (old at new : Scene N)
+pub handed_more : {N : Type 0} (answers : Answering N) (old at new : Scene N)
     (events left : List Happening) (event : Happening) (out : Out)
     → Handed answers old events (event ∷ left) at → answers at.node event (Ok out) new.node
     → new.text ≡ kept out at.text → new.sent ≡ grown at.sent out.frames.items → Handed answers old events left new

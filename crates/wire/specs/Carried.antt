@@ -47,21 +47,25 @@ pub record Reply : Type 0 where
   pub to : Happening
   pub out : Out
 
+-- how nodes answer: the node before, what happens, its answer, and the node after
+abbrev pub Answering : Type 0 → Type 1
+Answering N = N → Happening → Result Out NodeFault → N → Type 0
+
 -- these answers came in turn, and each was carried out whole; nothing else was written or sent
-abbrev pub Carried : {N : Type 0} → (N → Happening → Result Out NodeFault → N → Type 0) → Scene N → List Reply → Scene N → Type 0
+abbrev pub Carried : {N : Type 0} → Answering N → Scene N → List Reply → Scene N → Type 0
 Carried answers old [] new = new ≡ old
 Carried {N} answers old (reply ∷ replies) new =
     (node : N) × answers old.node reply.to (Ok reply.out) node × Carried answers (carried reply.out node old) replies new
 
 -- a beginning of what happened was handed over in its order, and the answers to it were carried out whole
-pub record Handed {N : Type 0} (answers : N → Happening → Result Out NodeFault → N → Type 0) (old : Scene N) (events : List Happening) (left : List Happening) (new : Scene N) : Type 0 where
+pub record Handed {N : Type 0} (answers : Answering N) (old : Scene N) (events : List Happening) (left : List Happening) (new : Scene N) : Type 0 where
   pub replies : List Reply
   pub order : events ≡ map (λ reply. reply.to) replies ++ left
   pub whole : Carried answers old replies new
 
 -- one more was handed over, and brought a fault: of the link, when its ledger's part was whole; of the ledger,
 -- before any frame of it was sent, and the node was stopped; of the node, which gave no answer
-abbrev pub Faulted : {N : Type 0} → (N → Happening → Result Out NodeFault → N → Type 0) → (N → Type 0) → Scene N → Happening → TurnFault → Scene N → Type 0
+abbrev pub Faulted : {N : Type 0} → Answering N → (N → Type 0) → Scene N → Happening → TurnFault → Scene N → Type 0
 Faulted answers is_stopped old event LinkFault new =
     (out : Out) × answers old.node event (Ok out) new.node × (new.text ≡ kept out old.text) × IsBegun old.sent out.frames.items new.sent
 Faulted {N} answers is_stopped old event LedgerFault new =
@@ -71,7 +75,7 @@ Faulted answers is_stopped old event (Node fault) new =
 Faulted answers is_stopped old event NoMemory new = ⊥
 
 -- these events were to be handed over, and one of them brought a fault when those before it were carried out
-pub record BrokenOff {N : Type 0} (answers : N → Happening → Result Out NodeFault → N → Type 0) (is_stopped : N → Type 0) (old : Scene N) (events : List Happening) (fault : TurnFault) (left : List Happening) (new : Scene N) : Type 0 where
+pub record BrokenOff {N : Type 0} (answers : Answering N) (is_stopped : N → Type 0) (old : Scene N) (events : List Happening) (fault : TurnFault) (left : List Happening) (new : Scene N) : Type 0 where
   pub event : Happening
   pub at : Scene N
   pub before : Handed answers old events (event ∷ left) at

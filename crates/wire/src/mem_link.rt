@@ -1,5 +1,5 @@
 // A link in memory.
-ghost use Rattle.std.specs.Prelude.{◌≡◌, ◌↔◌, ◌++◌, [], IfOk, OnOk, OnErr, IsErr, length, take, drop, min};
+ghost use Rattle.std.specs.Prelude.{◌≡◌, ◌↔◌, ◌≤◌, ◌++◌, [], IfOk, OnOk, OnErr, IsErr, length, take, drop, min};
 ghost use Rattle.wire.specs.Memory.{MemoryLink, IsDue, no_trouble, called, failed, share};
 
 use crate::fault::Fault;
@@ -50,8 +50,10 @@ impl MemLink {
         ensures ok { OnOk result (self.new ≡ record self.old { waiting = self.old.waiting ++ bytes.now }) }
         ensures err { OnErr result (self.new ≡ self.old) }
     {
-        if self.received == self.inbox.len() {
-            self.inbox.clear();
+        // What was received goes once it is the greater part, so that moving the rest costs no more than
+        // receiving did.
+        if self.received >= self.inbox.len() - self.received {
+            drop_front(&mut self.inbox, self.received);
             self.received = 0;
         }
         self.inbox.extend_from_slice(bytes)?;
@@ -142,4 +144,12 @@ impl Link for MemLink {
         }
         Ok(count)
     }
+}
+
+// Takes out the first of some bytes.
+fn drop_front(bytes: &mut Vec<u8>, count: usize)
+    requires { count ≤ length bytes.old.items }
+    ensures { bytes.new.items ≡ drop count bytes.old.items }
+{
+    let _ = bytes.drain(..count);
 }

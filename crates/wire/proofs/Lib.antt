@@ -4,3 +4,6 @@ pub mod Feeding
 pub mod Numbers
 pub mod ReadBack
 pub mod OneLine
+pub mod Devices
+pub mod Outcomes
+pub mod Replies

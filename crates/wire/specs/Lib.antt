@@ -6,3 +6,9 @@ pub mod MessageFault
 pub mod Grammar
 pub mod Meaning
 pub mod Inside
+pub mod Happening
+pub mod Carried
+pub mod Device
+pub mod Memory
+pub mod Faults
+pub mod Turned

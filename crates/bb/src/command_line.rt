@@ -4,7 +4,7 @@ ghost use Rattle.bb.specs.Ranges.{AreWithinRanges, IsWithinRange};
 
 use crate::line_fault::LineFault;
 use clap::{Arg, ArgAction, ArgMatches, Command, value_parser};
-use commands::{Options, Search};
+use commands::{Beginning, Options, Search};
 use run::NoMemory;
 use std::alloc::Global;
 
@@ -17,6 +17,7 @@ pub fn options<'a>(alloc: Global, words: &'a [&'a str]) -> Result<Options<'a>, L
     match matches.subcommand() {
         Some(("check", _)) => Ok(Options::Check),
         Some(("decide", decide)) => Ok(Options::Decide(search_of(decide)?)),
+        Some(("coord", coord)) => coord_options(coord),
         Some(("report", report)) => Ok(report_options(report)),
         _ => Err(LineFault::NoSuchCommand),
     }
@@ -44,6 +45,19 @@ fn number_of(matches: &ArgMatches<'_>, name: &str, least: u64, most: u64) -> Res
     }
 }
 
+fn coord_options<'a>(coord: &ArgMatches<'a>) -> Result<Options<'a>, LineFault>
+    ensures { IfOk result AreWithinRanges }
+{
+    let beginning = Beginning {
+        states: number_of(coord, STATES, 1, 6)? as u8,
+        era: number_of(coord, ERA, 1, u64::MAX)?,
+    };
+    Ok(Options::Coord {
+        beginning,
+        ledger: coord.get_str(LEDGER),
+    })
+}
+
 fn report_options<'a>(report: &ArgMatches<'a>) -> Options<'a>
     ensures { AreWithinRanges result }
 {
@@ -66,6 +80,7 @@ fn program<'a>(alloc: Global) -> Result<Command<'a>, NoMemory> {
                 .after_help(RECORDS),
         )?
         .subcommand(decide_command(alloc)?)?
+        .subcommand(coord_command(alloc)?)?
         .subcommand(
             Command::new(alloc, "report")
                 .about("Prints the report of a ledger file.")
@@ -118,6 +133,32 @@ fn decide_command<'a>(alloc: Global) -> Result<Command<'a>, NoMemory> {
         )
 }
 
+fn coord_command<'a>(alloc: Global) -> Result<Command<'a>, NoMemory> {
+    Command::new(alloc, "coord")
+        .about("Answers workers: frames on standard input, a line each, and frames on standard output.")
+        .after_help(COORD)
+        .arg(
+            Arg::new(alloc, STATES)
+                .required(true)
+                .value_parser(value_parser!(u64).range(1..=6))
+                .help("How many states the machines have"),
+        )?
+        .arg(
+            Arg::new(alloc, LEDGER)
+                .long(LEDGER)
+                .value_name("FILE")
+                .help("The ledger file, which is created where it isn't there; none is kept without it"),
+        )?
+        .arg(
+            Arg::new(alloc, ERA)
+                .long(ERA)
+                .value_name("E")
+                .value_parser(value_parser!(u64).range(1..=u64::MAX))
+                .default_value("1")
+                .help("Tells this run's leases from those of an earlier one"),
+        )
+}
+
 const STEPS: &str = "steps";
 
 const DEPTH: &str = "depth";
@@ -125,6 +166,12 @@ const DEPTH: &str = "depth";
 const GRAM: &str = "gram";
 
 const FAR: &str = "far";
+
+const STATES: &str = "N";
+
+const LEDGER: &str = "ledger";
+
+const ERA: &str = "era";
 
 const FILE: &str = "FILE";
 
@@ -160,6 +207,15 @@ Exit status: 0 the report says complete, and all was kept; 1 it doesn't, or the 
 (`refused 404` no header with a readable table, `refused 405` its table doesn't name its states in order);
 2 a wrong command line; 3 out of memory (`refused memory`); 4 the file couldn't be read (`refused 605`)
 or a stream failed (`refused 603`).";
+
+const COORD: &str =
+    "A frame is a line; docs/FORMATS.md has the messages. A worker that asks (`ASK ID`) is granted the first open
+table that no other worker has; a record that it sends (`REC RECORD`) is judged, appended to the ledger where
+it is new, and then acknowledged. There is no clock: a lease ends where its worker asks again or is done.
+
+Exit status: 0 at the end of the input the board is complete; 1 it isn't, or the ledger was refused
+(`refused 404` no header with a readable table, `refused 405` another root); 2 a wrong command line;
+3 out of memory (`refused memory`); 4 a stream failed (`refused 603`), or the ledger did (`refused 604`).";
 
 const DECIDE: &str =
     "A line is a table in the bbchallenge standard format. Its record has the first certificate that is

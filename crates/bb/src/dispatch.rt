@@ -1,18 +1,22 @@
 // From the words of a command line to the command, and how it ended.
-ghost use Rattle.std.specs.Prelude.{IfErr};
+ghost use Rattle.std.specs.Prelude.{◌≤◌, IfErr};
+ghost use Rattle.machine_text.specs.Limits.{state_limit};
 ghost use Rattle.bb.specs.Unread.{EndsUnread};
 
 use crate::command_line::options;
 use crate::line_fault::LineFault;
 use backward::BackwardFinder;
 use cert::{Finder, Finders};
-use commands::{Ended, Opened, Options, Outcome, Search, cmd_check, cmd_decide, cmd_report};
+use commands::{
+    Beginning, Ended, Opened, Options, Outcome, Search, cmd_check, cmd_coord, cmd_decide, cmd_report,
+};
 use far::FarFinder;
 use loops::{CycleFinder, TranslatedFinder};
 use ngram_cps::NgramFinder;
 use run::{HaltFinder, NoMemory};
 use std::alloc::Global;
 use std::io::{self, Read, Write};
+use wire::{LedgerOut, MemLedger};
 
 /// Where the files stand that a command line names.
 pub trait Host {
@@ -22,6 +26,11 @@ pub trait Host {
 
     /// How many bytes a file has now.
     fn length(&self, file: &Self::File) -> io::Result<u64>;
+
+    type Ledger: LedgerOut + Drop;
+
+    /// A ledger file, to be cut and appended to, which is created where it isn't there.
+    fn ledger(&self, path: &str) -> io::Result<Self::Ledger>;
 }
 
 /// Does what the words ask for, the program's name first, and answers how it ended. Each end is an
@@ -52,6 +61,9 @@ pub fn obey<H: Host, R: Read, W: Write, E: Write>(
                 Err(_) => Ended::NoMemory.told(faults),
             }
         }
+        Ok(Options::Coord { beginning, ledger }) => {
+            coordinate(alloc, beginning, ledger, host, input, answers, faults)
+        }
         Ok(Options::Report { file, why }) => {
             cmd_report(alloc, why, opened(host, file), answers, faults)
         }
@@ -77,6 +89,35 @@ fn decide_with<R: Read, W: Write, E: Write>(
     finders.push(Box::new(alloc, FarFinder::new(alloc, search.far))?)?;
     let mut decider = Finders::new(finders, steps);
     Ok(cmd_decide(alloc, &mut decider, input, answers, faults))
+}
+
+// `bb coord`, with its ledger in a file or in memory.
+fn coordinate<H: Host, R: Read, W: Write, E: Write>(
+    alloc: Global,
+    beginning: Beginning,
+    path: Option<&str>,
+    host: &H,
+    input: &mut R,
+    answers: &mut W,
+    faults: &mut E,
+) -> Outcome
+    requires { (1 ≤ beginning.states) × (beginning.states ≤ state_limit) }
+{
+    let Some(path) = path else {
+        let nothing = Opened {
+            reader: io::empty(),
+            length: 0,
+        };
+        let mut ledger = MemLedger::new(alloc);
+        return cmd_coord(alloc, beginning, Ok(nothing), &mut ledger, input, answers, faults);
+    };
+    match host.ledger(path) {
+        Ok(mut ledger) => {
+            let held = opened(host, path);
+            cmd_coord(alloc, beginning, held, &mut ledger, input, answers, faults)
+        }
+        Err(fault) => Ended::by_ledger(&fault).told(faults),
+    }
 }
 
 fn line_of(alloc: Global, words: &[String]) -> Result<Vec<&str>, NoMemory> {

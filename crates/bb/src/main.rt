@@ -7,10 +7,11 @@ mod dispatch;
 mod line_fault;
 
 pub use command_line::options;
-pub use commands::{Options, cmd_check, cmd_decide, cmd_report, report};
+use commands::FileLedger;
+pub use commands::{Options, cmd_check, cmd_coord, cmd_decide, cmd_report, report};
 use dispatch::{Host, obey};
 pub use line_fault::LineFault;
-use std::fs::{self, OpenFile};
+use std::fs::{self, OpenFile, OpenOptions};
 use std::process::ExitCode;
 use std::{env, io};
 
@@ -44,6 +45,13 @@ impl Host for HostRuntime {
 
     fn length(&self, file: &fs::File) -> io::Result<u64> {
         Ok(file.metadata()?.len())
+    }
+
+    type Ledger = FileLedger<fs::File>;
+
+    fn ledger(&self, path: &str) -> io::Result<FileLedger<fs::File>> {
+        let file = OpenOptions::new().append(true).create(true).open(self, path)?;
+        Ok(FileLedger::of(file))
     }
 }
 

@@ -3,9 +3,15 @@ use Rattle.std.specs.Prelude.{ℕ}
 use Rattle.commands.specs.declared.outcome.Outcome.{Outcome}
 use Rattle.commands.specs.declared.outcome.Outcome.TheVariants.{Accepted, Refused, BadLine, NoMemory, Failed}
 use Rattle.commands.specs.declared.ended.Ended.{Ended}
-use Rattle.commands.specs.declared.ended.Ended.TheVariants.{BadHeader, WrongRoot, Stream, File, NoMemory as WantsMemory}
+use Rattle.commands.specs.declared.ended.Ended.TheVariants.{BadHeader, WrongRoot, Stream, Ledger, File, NoMemory as WantsMemory}
 use Rattle.ledger.specs.declared.faults.LoadFault.{LoadFault}
 use Rattle.ledger.specs.declared.faults.LoadFault.TheVariants.{BadHeader as BadLedgerHeader, WrongRoot as OtherRoot, NoMemory as NoLedgerMemory}
+use Rattle.lease_core.specs.declared.start_fault.StartFault.{StartFault}
+use Rattle.lease_core.specs.declared.start_fault.StartFault.TheVariants.{BadHeader as BadStartHeader, WrongRoot as OtherStartRoot, NoMemory as NoStartMemory}
+use Rattle.wire.specs.declared.node.NodeFault.{NodeFault}
+use Rattle.wire.specs.declared.node.NodeFault.TheVariants.{Stopped, NoMemory as NoNodeMemory}
+use Rattle.wire.specs.declared.turned.TurnFault.{TurnFault}
+use Rattle.wire.specs.declared.turned.TurnFault.TheVariants.{LinkFault, LedgerFault, Node, NoMemory as NoTurnMemory}
 
 abbrev pub status_of : Outcome → ℕ
 status_of Accepted = 0
@@ -19,6 +25,7 @@ abbrev pub outcome_of : Ended → Outcome
 outcome_of BadHeader = Refused
 outcome_of WrongRoot = Refused
 outcome_of Stream = Failed
+outcome_of Ledger = Failed
 outcome_of File = Failed
 outcome_of WantsMemory = NoMemory
 
@@ -27,3 +34,17 @@ abbrev pub ended_by : LoadFault → Ended
 ended_by BadLedgerHeader = BadHeader
 ended_by OtherRoot = WrongRoot
 ended_by NoLedgerMemory = WantsMemory
+
+-- and a node whose start is refused
+abbrev pub ended_by_start : StartFault → Ended
+ended_by_start BadStartHeader = BadHeader
+ended_by_start OtherStartRoot = WrongRoot
+ended_by_start NoStartMemory = WantsMemory
+
+-- and a turn that isn't carried out; a node is stopped where its ledger has failed
+abbrev pub ended_by_turn : TurnFault → Ended
+ended_by_turn LinkFault = Stream
+ended_by_turn LedgerFault = Ledger
+ended_by_turn (Node Stopped) = Ledger
+ended_by_turn (Node NoNodeMemory) = WantsMemory
+ended_by_turn NoTurnMemory = WantsMemory

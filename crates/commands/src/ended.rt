@@ -3,9 +3,11 @@ ghost use Rattle.std.specs.Prelude.{◌≡◌, ◌⊎◌};
 ghost use Rattle.commands.specs.Outcome.{outcome_of};
 
 use crate::outcome::Outcome;
+use lease_core::StartFault;
 use ledger::LoadFault;
 use run::NoMemory;
 use std::io::{self, ErrorKind, Write};
+use wire::{NodeFault, TurnFault};
 
 /// What ends a command before its work is done.
 #[derive(Clone, Copy, Debug, PartialEq, Eq)]
@@ -16,7 +18,9 @@ pub enum Ended {
     WrongRoot,
     /// A stream failed.
     Stream,
-    /// A file couldn't be opened or read.
+    /// A ledger that is written couldn't be opened, read, cut or appended to.
+    Ledger,
+    /// Another file couldn't be opened or read.
     File,
     /// Memory was refused.
     NoMemory,
@@ -29,6 +33,7 @@ impl Ended {
             Ended::BadHeader => b"refused 404\n",
             Ended::WrongRoot => b"refused 405\n",
             Ended::Stream => b"refused 603\n",
+            Ended::Ledger => b"refused 604\n",
             Ended::File => b"refused 605\n",
             Ended::NoMemory => b"refused memory\n",
         }
@@ -36,10 +41,17 @@ impl Ended {
 
     /// What ends a command whose file can't be opened or read.
     pub fn by_file(fault: &io::Error) -> Ended {
-        if fault.kind() == ErrorKind::OutOfMemory {
-            Ended::NoMemory
-        } else {
-            Ended::File
+        match fault.kind() {
+            ErrorKind::OutOfMemory => Ended::NoMemory,
+            _ => Ended::File,
+        }
+    }
+
+    /// What ends a command whose ledger, which it would write, can't be opened or read.
+    pub fn by_ledger(fault: &io::Error) -> Ended {
+        match fault.kind() {
+            ErrorKind::OutOfMemory => Ended::NoMemory,
+            _ => Ended::Ledger,
         }
     }
 
@@ -49,7 +61,7 @@ impl Ended {
     {
         match self {
             Ended::BadHeader | Ended::WrongRoot => Outcome::Refused,
-            Ended::Stream | Ended::File => Outcome::Failed,
+            Ended::Stream | Ended::Ledger | Ended::File => Outcome::Failed,
             Ended::NoMemory => Outcome::NoMemory,
         }
     }
@@ -87,6 +99,37 @@ impl From<LoadFault> for Ended {
             LoadFault::BadHeader => Ended::BadHeader,
             LoadFault::WrongRoot => Ended::WrongRoot,
             LoadFault::NoMemory => Ended::NoMemory,
+        }
+    }
+}
+
+impl From<StartFault> for Ended {
+    ghost use Rattle.std.specs.Prelude.{◌≡◌};
+    ghost use Rattle.commands.specs.Outcome.{ended_by_start};
+
+    ghost from_gives = { λ f e. e ≡ ended_by_start f };
+
+    fn from(fault: StartFault) -> Ended {
+        match fault {
+            StartFault::BadHeader => Ended::BadHeader,
+            StartFault::WrongRoot => Ended::WrongRoot,
+            StartFault::NoMemory => Ended::NoMemory,
+        }
+    }
+}
+
+// A node is stopped where its ledger has failed.
+impl From<TurnFault> for Ended {
+    ghost use Rattle.std.specs.Prelude.{◌≡◌};
+    ghost use Rattle.commands.specs.Outcome.{ended_by_turn};
+
+    ghost from_gives = { λ f e. e ≡ ended_by_turn f };
+
+    fn from(fault: TurnFault) -> Ended {
+        match fault {
+            TurnFault::LinkFault => Ended::Stream,
+            TurnFault::LedgerFault | TurnFault::Node(NodeFault::Stopped) => Ended::Ledger,
+            TurnFault::Node(NodeFault::NoMemory) | TurnFault::NoMemory => Ended::NoMemory,
         }
     }
 }

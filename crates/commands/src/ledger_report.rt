@@ -40,21 +40,21 @@ fn report_file<R: Read + Drop, W: Write>(
     file: io::Result<Opened<R>>,
     answers: &mut W,
 ) -> Result<(Outcome, Left), Ended> {
-    let bytes = bytes_of(alloc, file)?;
-    write_ledger_report(alloc, bytes, answers)
+    match bytes_of(alloc, file) {
+        Ok(bytes) => write_ledger_report(alloc, bytes, answers),
+        Err(fault) => Err(Ended::by_file(&fault)),
+    }
 }
 
 // The bytes of a file, as far as it went when it was opened.
-fn bytes_of<R: Read + Drop>(alloc: Global, file: io::Result<Opened<R>>) -> Result<Vec<u8>, Ended> {
+pub fn bytes_of<R: Read + Drop>(alloc: Global, file: io::Result<Opened<R>>) -> io::Result<Vec<u8>> {
+    let opened = file?;
     let mut bytes = Vec::new(alloc);
-    let read = match file {
-        Ok(opened) => opened.reader.take(opened.length).read_to_end(&mut bytes),
-        Err(fault) => Err(fault),
-    };
-    match read {
-        Ok(_) => Ok(bytes),
-        Err(fault) => Err(Ended::by_file(&fault)),
-    }
+    opened
+        .reader
+        .take(opened.length)
+        .read_to_end(&mut bytes)?;
+    Ok(bytes)
 }
 
 // Says why a line wasn't kept, where there is one: the refusal number, if there is one, and words.

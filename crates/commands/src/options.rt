@@ -7,6 +7,13 @@ pub enum Options<'a> {
     Check,
     /// `bb decide [--steps K] [--depth D] [--gram G] [--far M]`
     Decide(Search),
+    /// `bb coord N [--ledger FILE] [--era E]`
+    Coord {
+        /// How a coordinator is begun.
+        beginning: Beginning,
+        /// The ledger's path; none where it is kept in memory.
+        ledger: Option<&'a str>,
+    },
     /// `bb report FILE [--why]`
     Report {
         /// The ledger's path.
@@ -27,4 +34,13 @@ pub struct Search {
     pub gram: u64,
     /// The most states of the first automaton of two: 0 to 8, where 0 asks for none.
     pub far: u64,
+}
+
+/// How a coordinator is begun.
+#[derive(Clone, Copy, Debug, PartialEq, Eq)]
+pub struct Beginning {
+    /// How many states the machines have: 1 to 6.
+    pub states: u8,
+    /// The number by which its leases are told from those of an earlier run: 1 or more.
+    pub era: u64,
 }

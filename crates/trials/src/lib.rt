@@ -20,6 +20,10 @@ mod deciding;
 #[cfg(test)]
 mod ledgers;
 #[cfg(test)]
+mod lines;
+#[cfg(test)]
+mod messages;
+#[cfg(test)]
 mod position_set_search;
 #[cfg(test)]
 mod position_sets;

@@ -1,0 +1,95 @@
+// `bb coord`: a coordinator over two streams and a ledger.
+ghost use Rattle.std.specs.Prelude.{◌≤◌};
+ghost use Rattle.machine_text.specs.Limits.{state_limit};
+
+use crate::ended::Ended;
+use crate::ledger_report::{Opened, bytes_of};
+use crate::options::Beginning;
+use crate::outcome::Outcome;
+use crate::streams::Streams;
+use lease_core::Coordinator;
+use ledger::Status;
+use std::alloc::Global;
+use std::io::{self, BufWriter, Read, Write};
+use wire::{LedgerOut, Lines, Node, Turn, begin, turn};
+
+/// Begins a coordinator from what a ledger holds, and answers the frames of `input`, a line each, until it ends:
+/// what is new stands in the ledger before a frame says so. `held` reads what the ledger holds. Accepted where
+/// the board is complete at the end. What ends the command early is said on `faults`.
+pub fn cmd_coord<F: Read + Drop, L: LedgerOut, R: Read, W: Write, E: Write>(
+    alloc: Global,
+    beginning: Beginning,
+    held: io::Result<Opened<F>>,
+    ledger: &mut L,
+    input: &mut R,
+    answers: &mut W,
+    faults: &mut E,
+) -> Outcome
+    requires { (1 ≤ beginning.states) × (beginning.states ≤ state_limit) }
+{
+    let ended = match coordinator(alloc, beginning, held, ledger) {
+        Ok(mut node) => match served(alloc, &mut node, ledger, input, answers) {
+            Ok(()) => return outcome_of(&node),
+            Err(ended) => ended,
+        },
+        Err(ended) => ended,
+    };
+    ended.told(faults)
+}
+
+// A coordinator whose ledger is in step with it.
+fn coordinator<F: Read + Drop, L: LedgerOut>(
+    alloc: Global,
+    beginning: Beginning,
+    held: io::Result<Opened<F>>,
+    ledger: &mut L,
+) -> Result<Coordinator, Ended>
+    requires { (1 ≤ beginning.states) × (beginning.states ≤ state_limit) }
+{
+    let bytes = match bytes_of(alloc, held) {
+        Ok(bytes) => bytes,
+        Err(fault) => return Err(Ended::by_ledger(&fault)),
+    };
+    let (node, started) = Coordinator::start(alloc, beginning.states, beginning.era, &bytes);
+    begin(&started?, ledger)?;
+    Ok(node)
+}
+
+// Answers what comes, to the end of the input.
+fn served<N: Node, L: LedgerOut, R: Read, W: Write>(
+    alloc: Global,
+    node: &mut N,
+    ledger: &mut L,
+    input: &mut R,
+    answers: &mut W,
+) -> Result<(), Ended> {
+    let mut output = BufWriter::new(alloc, answers)?;
+    let turned = turned(alloc, node, ledger, input, &mut output);
+    // What was answered before a fault is sent all the same.
+    output.flush()?;
+    turned
+}
+
+fn turned<N: Node, L: LedgerOut, R: Read, W: Write>(
+    alloc: Global,
+    node: &mut N,
+    ledger: &mut L,
+    input: &mut R,
+    output: &mut W,
+) -> Result<(), Ended> {
+    let mut lines = Lines::new(alloc);
+    let mut link = Streams::of(input, output);
+    for _ in 0..u64::MAX {
+        if turn(node, &mut lines, &mut link, ledger)? == Turn::End {
+            break;
+        }
+    }
+    Ok(())
+}
+
+fn outcome_of(node: &Coordinator) -> Outcome {
+    match node.board() {
+        Some(board) if matches!(board.status(), Status::Complete { .. }) => Outcome::Accepted,
+        _ => Outcome::Refused,
+    }
+}

@@ -2,7 +2,6 @@
 use Rattle.std.proofs.Common.{◌≡◌, inl, inr, sym, subst, ap}
 use Rattle.std.specs.Prelude.{◌⊎◌, Result, Ok, Err, IfErr}
 use Rattle.wire.specs.declared.node.Out.{Out}
-use Rattle.wire.specs.declared.node.NodeFault.{NodeFault}
 use Rattle.wire.specs.declared.turned.TurnFault.{TurnFault}
 use Rattle.wire.specs.declared.turned.TurnFault.TheVariants.{LinkFault, LedgerFault}
 use Rattle.wire.specs.Happening.{Happening}

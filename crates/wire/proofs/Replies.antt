@@ -1,8 +1,7 @@
 -- Handing over one event after another.
 use Rattle.std.proofs.Common.{◌≡◌, ◌∙◌, refl, sym, subst, ap, ℕ, List, [], ◌∷◌, ◌++◌, map}
-use Rattle.std.specs.Prelude.{Option, Result, Ok}
+use Rattle.std.specs.Prelude.{Option, Ok}
 use Rattle.wire.specs.declared.node.Out.{Out}
-use Rattle.wire.specs.declared.node.NodeFault.{NodeFault}
 use Rattle.wire.specs.Happening.{Happening}
 use Rattle.wire.specs.Device.{grown}
 use Rattle.wire.specs.Carried.{Answering, Scene, scene, Reply, Carried, Handed, carried, kept}

@@ -1,7 +1,5 @@
 -- What a turn does: a piece comes over the link, and the lines that it ends are handed to the node.
 use Rattle.std.specs.Prelude.{◌≡◌, ◌⊎◌, ℕ, List, [], ◌∷◌, Some, None, Result, Ok, Err, map}
-use Rattle.wire.specs.declared.node.Out.{Out}
-use Rattle.wire.specs.declared.node.NodeFault.{NodeFault}
 use Rattle.wire.specs.declared.turned.Turn.{Turn}
 use Rattle.wire.specs.declared.turned.Turn.TheVariants.{More, End}
 use Rattle.wire.specs.declared.turned.TurnFault.{TurnFault}

@@ -1,0 +1,9 @@
+pub mod Cutting
+pub mod Feeding
+pub mod Spaces
+pub mod Numbers
+pub mod ReadBack
+pub mod OneLine
+pub mod Devices
+pub mod Outcomes
+pub mod Replies

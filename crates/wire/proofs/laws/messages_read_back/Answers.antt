@@ -1,0 +1,5 @@
+use Rattle.wire.proofs.ReadBack.{sent_reads_back}
+use Rattle.wire.proofs.laws.messages_read_back.Goals as goal
+
+pub returns : goal.returns
+returns c = sent_reads_back

@@ -1,0 +1,13 @@
+pub mod Limits
+pub mod Lines
+pub mod Message
+pub mod MessageFault
+pub mod Grammar
+pub mod Meaning
+pub mod Inside
+pub mod Happening
+pub mod Carried
+pub mod Device
+pub mod Memory
+pub mod Faults
+pub mod Turned

@@ -1,0 +1,48 @@
+-- What a turn does: a piece comes over the link, and the lines that it ends are handed to the node.
+use Rattle.std.specs.Prelude.{◌≡◌, ◌⊎◌, ℕ, List, [], ◌∷◌, Some, None, Result, Ok, Err, map}
+use Rattle.wire.specs.declared.turned.Turn.{Turn}
+use Rattle.wire.specs.declared.turned.Turn.TheVariants.{More, End}
+use Rattle.wire.specs.declared.turned.TurnFault.{TurnFault}
+use Rattle.wire.specs.declared.turned.TurnFault.TheVariants.{LinkFault, LedgerFault, Node, NoMemory}
+use Rattle.wire.specs.Happening.{Happening, Came}
+use Rattle.wire.specs.Lines.{Known, Stream, fed}
+use Rattle.wire.specs.Carried.{Answering, Scene, Handed, BrokenOff}
+
+-- a line as a frame: its bytes, and none of a line that was too long
+abbrev pub frame_of : Known → List ℕ
+frame_of (Some bytes) = bytes
+frame_of None = []
+
+abbrev pub event_of : Known → Happening
+event_of line = Came (frame_of line)
+
+abbrev pub events_of : List Known → List Happening
+events_of lines = map event_of lines
+
+-- the stream has ended where no byte came
+abbrev pub turn_of : List ℕ → Turn
+turn_of [] = End
+turn_of (byte ∷ bytes) = More
+
+-- nothing was handed over, written or sent, and the lines are as they were
+abbrev pub IsUntouched : {N : Type 0} → Scene N → Stream → Stream → Scene N → Type 0
+IsUntouched old lines left new = (new ≡ old) × (left ≡ lines)
+
+-- the lines were handed over as far as one that brought a fault; those behind it are left
+abbrev pub IsBroken : {N : Type 0} → Answering N → (N → Type 0) → Scene N → Stream → TurnFault → Stream → Scene N → Type 0
+IsBroken answers is_stopped old lines fault left new =
+    BrokenOff answers is_stopped old (events_of lines.waiting) fault (events_of left.waiting) new × (left.rest ≡ lines.rest)
+
+-- how a turn ended in which this piece came: all lines that then were whole were handed over; or it ended at one of
+-- them; or before the first of them, where the link failed at once, or the lines of the piece weren't taken
+abbrev pub Turned : {N : Type 0} → Answering N → (N → Type 0) → Scene N → Stream → List ℕ → Result Turn TurnFault → Stream → Scene N → Type 0
+Turned answers is_stopped old lines piece (Ok turn) left new =
+    Handed answers old (events_of (fed lines piece).waiting) [] new
+    × (left ≡ record { waiting = []; rest = (fed lines piece).rest }) × (turn ≡ turn_of piece)
+Turned answers is_stopped old lines piece (Err LinkFault) left new =
+    ((piece ≡ []) × IsUntouched old lines left new) ⊎ IsBroken answers is_stopped old (fed lines piece) LinkFault left new
+Turned answers is_stopped old lines piece (Err LedgerFault) left new =
+    IsBroken answers is_stopped old (fed lines piece) LedgerFault left new
+Turned answers is_stopped old lines piece (Err (Node fault)) left new =
+    IsBroken answers is_stopped old (fed lines piece) (Node fault) left new
+Turned answers is_stopped old lines piece (Err NoMemory) left new = IsUntouched old lines left new

@@ -1,0 +1,66 @@
+// The engine: what runs a node over its link and its ledger.
+ghost use Rattle.std.specs.Prelude.{◌≡◌, ◌≢◌, ◌≤◌, ℕ, List, [], length, Ok, Err, OnOk, OnErr, IfErr, IfSome};
+ghost use Rattle.wire.specs.Carried.{kept, IsPartlyKept, scene};
+ghost use Rattle.wire.specs.Device.{preceded};
+ghost use Rattle.wire.specs.Limits.{piece_byte_limit};
+ghost use Rattle.wire.specs.Turned.{Turned};
+
+use crate::carrying::keep;
+use crate::handing::hand_all;
+use crate::ledger_out::LedgerOut;
+use crate::limits::MAX_PIECE_BYTES;
+use crate::lines::Lines;
+use crate::link::Link;
+use crate::node::{Node, Out};
+use crate::turned::{Turn, TurnFault};
+
+/// Carries out the ledger's part of an answer, and nothing else: its cut, and then what is to be appended,
+/// whole. After `LedgerFault` at most the cut was made and a beginning of the rest, and the caller stops
+/// the node.
+pub fn begin<W: LedgerOut>(first: &Out, ledger: &mut W) -> Result<(), TurnFault>
+    ensures ok { OnOk result (W.text ledger.new ≡ kept first.now (W.text ledger.old)) }
+    ensures err { IfErr result (λ e. e ≡ TurnFault.LedgerFault) }
+    ensures partly { OnErr result (IsPartlyKept first.now (W.text ledger.old) (W.text ledger.new)) }
+    ensures count { OnErr result (W.failures ledger.old ≢ W.failures ledger.new) }
+{
+    match keep(first, ledger) {
+        Ok(()) => Ok(()),
+        Err(_) => Err(TurnFault::LedgerFault),
+    }
+}
+
+/// Receives once, at most `MAX_PIECE_BYTES` bytes, and hands each line that then is whole to the node, in
+/// order, a line that is too long as an empty frame. Each answer is carried out before the next line is
+/// handed over: first its ledger's part, whole, and then its frames are sent. `Turn::End` where no byte
+/// came.
+///
+/// After `LinkFault` the last answer's ledger part stands, whole, and a beginning of its frames may have been
+/// sent. After `LedgerFault` no frame of the last answer was sent, at most its cut and a beginning of the
+/// rest was made, and the node is stopped. After the node's own fault, or where memory was refused for the
+/// lines of the piece, each answer was carried out whole. Lines that weren't handed over stay in `lines`,
+/// but for the piece for which memory was refused.
+pub fn turn<N: Node, L: Link, W: LedgerOut>(
+    node: &mut N,
+    lines: &mut Lines,
+    link: &mut L,
+    ledger: &mut W,
+) -> Result<Turn, TurnFault>
+    ensures turned { (piece : List ℕ) × (length piece ≤ piece_byte_limit) × (L.waiting link.old ≡ preceded piece (L.waiting link.new))
+        × Turned N.answers N.is_stopped (scene node.old (W.text ledger.old) (L.sent link.old)) lines.old piece result lines.new (scene node.new (W.text ledger.new) (L.sent link.new)) }
+    ensures step { result ≢ Err TurnFault.LedgerFault → IfSome (W.text ledger.old) (N.in_step node.old) → IfSome (W.text ledger.new) (N.in_step node.new) }
+    ensures end { result ≡ Ok Turn.End → IfSome (L.waiting link.new) (λ bytes. bytes ≡ []) }
+    ensures link { result ≡ Err TurnFault.LinkFault → L.failures link.old ≢ L.failures link.new }
+    ensures ledger { result ≡ Err TurnFault.LedgerFault → W.failures ledger.old ≢ W.failures ledger.new }
+{
+    let mut piece = [0; MAX_PIECE_BYTES];
+    let Ok(count) = link.receive(&mut piece) else {
+        return Err(TurnFault::LinkFault);
+    };
+    lines.feed(&piece[..count])?;
+    hand_all(node, lines, link, ledger)?;
+    if count == 0 {
+        Ok(Turn::End)
+    } else {
+        Ok(Turn::More)
+    }
+}

@@ -1,0 +1,66 @@
+// Handing lines to a node, and carrying out what it answers.
+ghost use Rattle.std.specs.Prelude.{◌≡◌, ◌≢◌, ◌∷◌, [], length, Ok, Err, IfErr, IfSome, OnOk};
+ghost use Rattle.wire.specs.Carried.{Faulted, Handed, kept, scene};
+ghost use Rattle.wire.specs.Device.{grown};
+ghost use Rattle.wire.specs.Lines.{known};
+ghost use Rattle.wire.specs.Turned.{IsBroken, event_of, events_of, frame_of};
+ghost use Rattle.wire.specs.declared.node.Out.{Out as Answer};
+
+use crate::carrying::carry_out;
+use crate::ledger_out::LedgerOut;
+use crate::line::Line;
+use crate::lines::Lines;
+use crate::link::Link;
+use crate::node::{Event, Node};
+use crate::turned::TurnFault;
+
+// A line as a frame.
+fn frame_of(line: &Line) -> &[u8]
+    ensures { result.now ≡ frame_of (known line.now) }
+{
+    match line {
+        Line::Whole(bytes) => bytes,
+        Line::Overlong => &[],
+    }
+}
+
+// Hands one line to the node, and carries out its answer.
+pub fn hand<N: Node, L: Link, W: LedgerOut>(
+    node: &mut N,
+    line: Line,
+    link: &mut L,
+    ledger: &mut W,
+) -> Result<(), TurnFault>
+    ensures ok { OnOk result ((out : Answer) × N.answers node.old (event_of (known line)) (Ok out) node.new
+        × (W.text ledger.new ≡ kept out (W.text ledger.old)) × (L.sent link.new ≡ grown (L.sent link.old) out.frames.items)
+        × (W.failures ledger.new ≡ W.failures ledger.old) × (L.failures link.new ≡ L.failures link.old)) }
+    ensures err { IfErr result (λ fault. Faulted N.answers N.is_stopped (scene node.old (W.text ledger.old) (L.sent link.old)) (event_of (known line)) fault (scene node.new (W.text ledger.new) (L.sent link.new))) }
+    ensures step { result ≢ Err TurnFault.LedgerFault → IfSome (W.text ledger.old) (N.in_step node.old) → IfSome (W.text ledger.new) (N.in_step node.new) }
+    ensures link { result ≡ Err TurnFault.LinkFault → L.failures link.old ≢ L.failures link.new }
+    ensures ledger { result ≡ Err TurnFault.LedgerFault → W.failures ledger.old ≢ W.failures ledger.new }
+    ensures waiting { L.waiting link.new ≡ L.waiting link.old }
+{
+    let out = node.on(Event::Frame(frame_of(&line)))?;
+    carry_out(node, link, ledger, &out)
+}
+
+// Hands each line that waits to the node, and carries out its answers, as far as one that can't be.
+pub fn hand_all<N: Node, L: Link, W: LedgerOut>(
+    node: &mut N,
+    lines: &mut Lines,
+    link: &mut L,
+    ledger: &mut W,
+) -> Result<(), TurnFault>
+    ensures ok { OnOk result (Handed N.answers (scene node.old (W.text ledger.old) (L.sent link.old)) (events_of lines.old.waiting) [] (scene node.new (W.text ledger.new) (L.sent link.new))
+        × (lines.new ≡ record { waiting = []; rest = lines.old.rest })) }
+    ensures err { IfErr result (λ fault. IsBroken N.answers N.is_stopped (scene node.old (W.text ledger.old) (L.sent link.old)) lines.old fault lines.new (scene node.new (W.text ledger.new) (L.sent link.new))) }
+    ensures step { result ≢ Err TurnFault.LedgerFault → IfSome (W.text ledger.old) (N.in_step node.old) → IfSome (W.text ledger.new) (N.in_step node.new) }
+    ensures link { result ≡ Err TurnFault.LinkFault → L.failures link.old ≢ L.failures link.new }
+    ensures ledger { result ≡ Err TurnFault.LedgerFault → W.failures ledger.old ≢ W.failures ledger.new }
+    ensures waiting { L.waiting link.new ≡ L.waiting link.old }
+{
+    'lines: while let Some(line) = lines.next() {
+        hand(node, line, link, ledger)?;
+    }
+    Ok(())
+}

@@ -1,0 +1,49 @@
+//! What stands between a node and the world: the lines of a stream and the messages that they are, a node's
+//! link and its ledger, and the engine that runs it.
+//!
+//! `specs/Lines` says what the lines of a stream are, however it is cut into pieces. `specs/Message` has the
+//! messages as nodes' rules speak of them, `specs/Grammar` the text of each.
+//!
+//! A [`Node`] answers events, and does nothing else: each answer says what is to be cut from its ledger,
+//! what to be appended, and which frames to be sent. `begin` and `turn` carry answers out, the ledger's
+//! part first; `specs/Carried` and `specs/Turned` say what that means.
+#![tactic(auto)]
+
+mod carrying;
+mod decimal;
+mod decoder;
+mod encoder;
+mod engine;
+mod fault;
+mod handing;
+mod laws;
+mod ledger_out;
+mod limits;
+mod line;
+mod lines;
+mod link;
+mod mem_ledger;
+mod mem_link;
+mod message;
+mod message_fault;
+mod node;
+mod trouble;
+mod turned;
+
+pub use decoder::decode;
+pub use encoder::encode;
+pub use engine::{begin, turn};
+pub use fault::Fault;
+pub use laws::{begun_lines_go_on, messages_come_through, messages_read_back, pieces_join};
+pub use ledger_out::LedgerOut;
+pub use limits::{MAX_LINE_BYTES, MAX_PIECE_BYTES};
+pub use line::Line;
+pub use lines::Lines;
+pub use link::Link;
+pub use mem_ledger::MemLedger;
+pub use mem_link::MemLink;
+pub use message::Msg;
+pub use message_fault::MsgFault;
+pub use node::{Event, Node, NodeFault, Note, Out};
+pub use run::NoMemory;
+pub use turned::{Turn, TurnFault};

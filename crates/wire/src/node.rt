@@ -1,0 +1,139 @@
+// What a node is handed, what it answers, and what every node promises.
+ghost use Rattle.std.specs.Prelude.{◌≡◌};
+
+use run::NoMemory;
+use std::error::Error;
+use std::fmt;
+
+/// What happens to a node.
+#[derive(Clone, Copy, Debug)]
+pub enum Event<'a> {
+    /// A frame came: a line, without its newline.
+    Frame(&'a [u8]),
+    /// The moment is now this one, a plain number.
+    Tick(u64),
+    /// There is time to work.
+    Work,
+}
+
+/// A node's answer: what is to be done to its ledger, and then sent.
+#[derive(Debug, Drop)]
+pub struct Out {
+    /// How many of the ledger's bytes stay; none where it isn't cut.
+    pub cut: Option<u64>,
+    /// What the ledger gains, after the cut.
+    pub append: Vec<u8>,
+    /// What is sent, once the ledger has it all: frames, each with its newline.
+    pub frames: Vec<u8>,
+    /// What there is to say of the event.
+    pub note: Note,
+}
+
+/// What a node says of an event, for whoever watches it.
+#[derive(Clone, Copy, Debug, PartialEq, Eq)]
+pub enum Note {
+    /// Nothing.
+    Quiet,
+    /// The frame is no message, or none for this role.
+    Strange,
+    /// It speaks of what is no more.
+    Stale,
+    /// It was refused, with this number.
+    Refused(u16),
+}
+
+/// Why a node didn't answer. Nothing changed.
+#[derive(Clone, Copy, Debug, PartialEq, Eq)]
+pub enum NodeFault {
+    /// It was stopped.
+    Stopped,
+    /// Memory was refused.
+    NoMemory,
+}
+
+/// Answers events. What it knows stands in a ledger, which is kept in step with it: after each answer that
+/// was carried out it is in step again.
+pub trait Node {
+    ghost use Rattle.std.specs.Prelude.{◌≡◌, ◌↔◌, ℕ, List, Result, Err, IfOk, OnErr};
+    ghost use Rattle.wire.specs.Happening.{Happening, seen};
+    ghost use Rattle.wire.specs.Carried.{text_after};
+    ghost use Rattle.wire.specs.declared.node.NodeFault.{NodeFault as Failure};
+    ghost use Rattle.wire.specs.declared.node.Out.{Out as Answer};
+
+    /// It was stopped, or never started.
+    ghost is_stopped: { Self → Type 0 };
+
+    /// A ledger with this text is in step with it.
+    ghost in_step: { Self → List ℕ → Type 0 };
+
+    /// To what happens it may give this answer, and become so.
+    ghost answers: { Self → Happening → Result Answer Failure → Self → Type 0 };
+
+    /// Hands it an event. `Stopped` where it was stopped.
+    fn on(&mut self, e: Event<'_>) -> Result<Out, NodeFault>
+        ensures answer { answers self.old (seen e.entry) result self.new }
+        ensures step { IfOk result (λ out. (text : List ℕ) → in_step self.old text → in_step self.new (text_after out text)) }
+        ensures fault { OnErr result ((text : List ℕ) → in_step self.old text → in_step self.new text) }
+        ensures refused { result ≡ Err NodeFault.Stopped ↔ is_stopped self.old }
+        ensures stopped { is_stopped self.new ↔ is_stopped self.old };
+
+    /// Stops it: from now on it answers every event by `Stopped`.
+    fn stop(&mut self)
+        ensures stopped { is_stopped self.new }
+        ensures step { (text : List ℕ) → in_step self.old text ↔ in_step self.new text };
+}
+
+impl Note {
+    ghost use Rattle.wire.specs.Faults.{note_number};
+
+    /// The refusal number: 501, or that of the refusal; 0 where nothing was refused.
+    pub fn number(&self) -> u16
+        ensures { result ≡ note_number self.now }
+    {
+        match self {
+            Note::Strange => 501,
+            Note::Refused(number) => *number,
+            Note::Quiet | Note::Stale => 0,
+        }
+    }
+}
+
+impl NodeFault {
+    ghost use Rattle.wire.specs.Faults.{node_fault_number};
+
+    /// The refusal number: 502; 0 where memory was refused, which has none.
+    pub fn number(&self) -> u16
+        ensures { result ≡ node_fault_number self.now }
+    {
+        match self {
+            NodeFault::Stopped => 502,
+            NodeFault::NoMemory => 0,
+        }
+    }
+}
+
+impl fmt::Display for NodeFault {
+    ghost use Rattle.std.specs.Prelude.{Some};
+    ghost use Rattle.wire.specs.Faults.{node_fault_text};
+
+    ghost output = { λ fault. Some (node_fault_text fault) };
+
+    fn fmt<W: fmt::Write>(&self, f: &mut fmt::Formatter<W>) -> fmt::Result {
+        match self {
+            NodeFault::Stopped => f.write_str("the node is stopped"),
+            NodeFault::NoMemory => f.write_str("out of memory"),
+        }
+    }
+}
+
+impl Error for NodeFault {}
+
+impl From<NoMemory> for NodeFault {
+    ghost use Rattle.wire.specs.declared.node.NodeFault.TheVariants.{NoMemory};
+
+    ghost from_gives = { λ _ e. e ≡ NoMemory };
+
+    fn from(_: NoMemory) -> NodeFault {
+        NodeFault::NoMemory
+    }
+}

@@ -1,11 +1,9 @@
 -- The lines of a text that is cut in two, or at its first newline.
-use Rattle.std.proofs.Common.{◌≡◌, ℕ, ◌+◌, ◌-◌, ◌<◌, true, false, cond, List, [], ◌∷◌, ◌++◌, length, take, drop, Some, None, refl, sym, ap, ◌∙◌, append_assoc, length-append, length-drop, arith}
-use Rattle.std.specs.Prelude.{nat_le, map, position}
+use Rattle.std.proofs.Common.{◌≡◌, ℕ, ◌<◌, true, false, cond, List, [], ◌∷◌, ◌++◌, length, Some, None, refl, sym, ap, ◌∙◌, append_assoc, length-append, arith}
+use Rattle.std.specs.Prelude.{nat_le, map}
 use Rattle.std.specs.List.{slice_split, onto_first}
 use Rattle.std.proofs.lemmas.Bool.Decides.{nat_tests}
-use Rattle.std.proofs.lemmas.List.{take_all}
 use Rattle.std.proofs.lemmas.List.Splits.{slice_split-cons_yes, slice_split-cons_no, length-slice_split}
-use Rattle.cert.proofs.Cuts.{cut_at}
 use Rattle.wire.specs.Limits.{line_byte_limit}
 use Rattle.wire.specs.Lines.{Known, known_of, with_more, is_newline, going_on, parts_from, but_last, lines_from, last_of, rest_from, Stream, fed}
 
@@ -70,12 +68,6 @@ module _ (k : Known) (xs : List ℕ) (is : slice_split is_newline xs ≡ xs ∷ 
   pub rest_nowhere : rest_from k xs ≡ with_more k xs
   unfolding rest_from parts_from
   rest_nowhere = ap (λ parts. last_of (going_on k parts)) is
-
--- at its first newline
-pub line_cut : (xs : List ℕ) (at : ℕ) → position is_newline xs ≡ Some at → slice_split is_newline xs ≡ take at xs ∷ slice_split is_newline (take (length xs - (at + 1)) (drop (at + 1) xs))
-line_cut xs at found =
-    let rest : take (length xs - (at + 1)) (drop (at + 1) xs) ≡ drop (at + 1) xs = take_all _ _ (omega (arith, length-drop (at + 1) xs)) in
-    cut_at is_newline xs at found ∙ ap (λ r. take at xs ∷ slice_split is_newline r) (sym rest)
 
 -- a byte that is no newline belongs to the line that has begun
 parts_other : (k : Known) (x : ℕ) (xs : List ℕ) → is_newline x ≡ false → parts_from k (x ∷ xs) ≡ parts_from (with_more k (x ∷ [])) xs

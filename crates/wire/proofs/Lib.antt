@@ -1,6 +1,6 @@
+pub mod Cuts
 pub mod Cutting
 pub mod Feeding
-pub mod Spaces
 pub mod Numbers
 pub mod ReadBack
 pub mod OneLine

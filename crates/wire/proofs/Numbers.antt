@@ -9,19 +9,19 @@ use Rattle.std.proofs.lemmas.List.Sums.{fold-append}
 use Rattle.std.proofs.lemmas.Slice.Eq.{bytes_eq-Decides}
 use Rattle.cert.specs.Grammar.{worth_of, decimal_value}
 use Rattle.cert.proofs.Worth.{with_digit}
-use Rattle.wire.proofs.Spaces.{is_space}
+use Rattle.wire.proofs.Cuts.{is_byte}
 
 abbrev pub HasNoSpace : List ℕ → Type 0
-HasNoSpace text = All (λ b. is_space b ≡ false) text
+HasNoSpace text = All (λ b. is_byte 32 b ≡ false) text
 
 pub record IsForm (n : ℕ) (text : List ℕ) : Type 0 where
   pub worth : worth_of text ≡ n
   pub no_space : HasNoSpace text
 
 one_digit : (n : ℕ) → n < 10 → HasNoSpace ((48 + n) ∷ [])
-one_digit n small = All-from_get_or (λ b. is_space b ≡ false) ((48 + n) ∷ []) 0 first
+one_digit n small = All-from_get_or (λ b. is_byte 32 b ≡ false) ((48 + n) ∷ []) 0 first
   where
-    first : (i : ℕ) → i < 1 → is_space (get_or ((48 + n) ∷ []) i 0) ≡ false
+    first : (i : ℕ) → i < 1 → is_byte 32 (get_or ((48 + n) ∷ []) i 0) ≡ false
     first zero below = grind (arith, nat_tests)
     first (suc i) below = absurd (omega arith)
 
@@ -30,7 +30,7 @@ decimal_is_form = decimal_by_steps IsForm
     (λ n small. record { worth = omega arith; no_space = one_digit n small })
     (λ n digits large form. record {
       worth = fold-append with_digit 0 digits ((48 + n % 10) ∷ []) ∙ (let e : 10 * worth_of digits + (48 + n % 10 - 48) ≡ n = omega (arith, form.worth) in e);
-      no_space = All-append (λ b. is_space b ≡ false) digits ((48 + n % 10) ∷ []) form.no_space (one_digit (n % 10) (omega arith));
+      no_space = All-append (λ b. is_byte 32 b ≡ false) digits ((48 + n % 10) ∷ []) form.no_space (one_digit (n % 10) (omega arith));
     })
 
 pub decimal_value-decimal : (n : ℕ) → n < 2 ^ 64 → decimal_value (decimal n) ≡ Some n

@@ -16,7 +16,7 @@ use Rattle.wire.specs.Message.{Message, Ask, Grant, Rec, Ack, Later, Done, Stop,
 use Rattle.wire.specs.Inside.{IsReadable}
 use Rattle.wire.specs.Grammar.{◌>>=◌, read_table, read_record, ask_in, grant_in, done_in, message_in, or_bad, message_of, message_text}
 use Rattle.wire.proofs.Numbers.{decimal_is_form, decimal_value-decimal, length_of_number}
-use Rattle.wire.proofs.Spaces.{cut-append}
+use Rattle.wire.proofs.Cuts.{cut-append}
 
 -- two numbers, and a text behind them
 two_words : (e l : List ℕ) → e ++ codes " " ++ l ≡ e ++ 32 ∷ l
@@ -35,13 +35,13 @@ grant_back : (era lease : ℕ) (table : Packed) → era < 2 ^ 64 → lease < 2 ^
     → grant_in (decimal era ++ codes " " ++ decimal lease ++ codes " " ++ text_of table) ≡ Some (Grant era lease table)
 grant_back era lease table e l t =
     ap grant_in (three_words (decimal era) (decimal lease) (text_of table))
-    ∙ rw (cut-append (decimal era) (decimal lease ++ 32 ∷ text_of table) (decimal_is_form era e).no_space, cut-append (decimal lease) (text_of table) (decimal_is_form lease l).no_space)
+    ∙ rw (cut-append 32 (decimal era) (decimal lease ++ 32 ∷ text_of table) (decimal_is_form era e).no_space, cut-append 32 (decimal lease) (text_of table) (decimal_is_form lease l).no_space)
     (rw (decimal_value-decimal era e, decimal_value-decimal lease l, table_of-text_of table t) refl)
 
 done_back : (era lease : ℕ) → era < 2 ^ 64 → lease < 2 ^ 64 → done_in (decimal era ++ codes " " ++ decimal lease) ≡ Some (Done era lease)
 done_back era lease e l =
     ap done_in (two_words (decimal era) (decimal lease))
-    ∙ rw (cut-append (decimal era) (decimal lease) (decimal_is_form era e).no_space) (rw (decimal_value-decimal era e, decimal_value-decimal lease l) refl)
+    ∙ rw (cut-append 32 (decimal era) (decimal lease) (decimal_is_form era e).no_space) (rw (decimal_value-decimal era e, decimal_value-decimal lease l) refl)
 
 read_back : (m : Message) → IsReadable m → message_in (message_text m) ≡ Some m
 unfolding message_text

@@ -1,5 +1,5 @@
 -- The grammar of messages: a word, alone or with a text behind one space. Bytes are their ASCII codes: 32 is the space.
-use Rattle.std.specs.Prelude.{ℕ, ◌^◌, ◌==◌, nat_lt, if◌then◌else◌, List, [], ◌∷◌, ◌++◌, Option, Some, None, option_map, Result, Ok, Err, length, flat_map, codes, decimal}
+use Rattle.std.specs.Prelude.{ℕ, ◌^◌, nat_lt, if◌then◌else◌, List, [], ◌∷◌, ◌++◌, Option, Some, None, Result, Ok, Err, length, flat_map, codes, decimal}
 use Rattle.std.specs.Str.{bytes_eq}
 use Rattle.machine_text.specs.declared.faults.TextFault.{TextFault}
 use Rattle.machine_text.specs.Packed.{Packed}
@@ -7,6 +7,7 @@ use Rattle.machine_text.specs.Text.{table_of, text_of}
 use Rattle.cert.specs.Claim.{Recorded}
 use Rattle.cert.specs.declared.record_fault.RecordFault.{RecordFault}
 use Rattle.cert.specs.Grammar.{decimal_value, record_of, record_text}
+use Rattle.wire.specs.Cut.{cut_at}
 use Rattle.wire.specs.Limits.{line_byte_limit}
 use Rattle.wire.specs.Message.{Message, Ask, Grant, Rec, Ack, Later, Done, Stop}
 use Rattle.wire.specs.declared.message_fault.MsgFault.{MsgFault}
@@ -17,11 +18,6 @@ infixl 10 ◌>>=◌
 abbrev pub ◌>>=◌ : {A B : Type 0} → Option A → (A → Option B) → Option B
 None >>= f = None
 (Some x) >>= f = f x
-
--- a text cut at its first space: what stands before it and what stands behind it; none where it has no space
-abbrev pub cut_at_space : List ℕ → Option (List ℕ × List ℕ)
-cut_at_space [] = None
-cut_at_space (b ∷ text) = if b == 32 then Some ([], text) else option_map (λ cut. (b ∷ cut.0, cut.1)) (cut_at_space text)
 
 abbrev pub read_table : Result Packed TextFault → Option Packed
 read_table (Ok table) = Some table
@@ -38,7 +34,7 @@ ask_in text = decimal_value text >>= λ id. if nat_lt id (2 ^ 32) then Some (Ask
 -- `era lease table`
 abbrev pub grant_in : List ℕ → Option Message
 grant_in text =
-    cut_at_space text >>= λ first. cut_at_space first.1 >>= λ second.
+    cut_at 32 text >>= λ first. cut_at 32 first.1 >>= λ second.
     decimal_value first.0 >>= λ era. decimal_value second.0 >>= λ lease. read_table (table_of second.1) >>= λ table. Some (Grant era lease table)
 
 abbrev pub rec_in : List ℕ → Option Message
@@ -52,7 +48,7 @@ later_in text = read_table (table_of text) >>= λ table. Some (Later (Some table
 
 -- `era lease`
 abbrev pub done_in : List ℕ → Option Message
-done_in text = cut_at_space text >>= λ cut. decimal_value cut.0 >>= λ era. decimal_value cut.1 >>= λ lease. Some (Done era lease)
+done_in text = cut_at 32 text >>= λ cut. decimal_value cut.0 >>= λ era. decimal_value cut.1 >>= λ lease. Some (Done era lease)
 
 -- a word with a text behind it
 abbrev pub message_with : List ℕ → List ℕ → Option Message
@@ -77,7 +73,7 @@ message_by frame None = message_alone frame
 message_by frame (Some cut) = message_with cut.0 cut.1
 
 abbrev pub message_in : List ℕ → Option Message
-message_in frame = message_by frame (cut_at_space frame)
+message_in frame = message_by frame (cut_at 32 frame)
 
 abbrev pub or_bad : Option Message → Result Message MsgFault
 or_bad None = Err BadMessage

@@ -1,4 +1,5 @@
 pub mod Limits
+pub mod Cut
 pub mod Lines
 pub mod Message
 pub mod MessageFault

@@ -1,9 +1,10 @@
 // Messages as they are read.
-ghost use Rattle.std.specs.Prelude.{◌≡◌, ◌==◌, ◌<◌, length, IfSome, option_map, position};
+ghost use Rattle.std.specs.Prelude.{◌≡◌, option_map};
 ghost use Rattle.machine_text.specs.Text.{table_of};
-ghost use Rattle.wire.specs.Grammar.{cut_at_space, read_table, ask_in, grant_in, rec_in, ack_in, later_in, done_in, message_with, message_alone, message_in, message_of};
+ghost use Rattle.wire.specs.Grammar.{read_table, ask_in, grant_in, rec_in, ack_in, later_in, done_in, message_with, message_alone, message_in, message_of};
 ghost use Rattle.wire.specs.Meaning.{said, decoded};
 
+use crate::cut::cut_at;
 use crate::decimal::decimal_value;
 use crate::limits::MAX_LINE_BYTES;
 use crate::message::Msg;
@@ -29,7 +30,7 @@ pub fn decode(frame: &[u8]) -> Result<Msg<'_>, MsgFault>
 fn message_in(frame: &[u8]) -> Option<Msg<'_>>
     ensures { option_map said result ≡ message_in frame.now }
 {
-    match cut_at_space(frame) {
+    match cut_at(b' ', frame) {
         Some((word, text)) => message_with(word, text),
         None => message_alone(frame),
     }
@@ -81,8 +82,8 @@ fn ask_in(text: &[u8]) -> Option<Msg<'static>>
 fn grant_in(text: &[u8]) -> Option<Msg<'static>>
     ensures { option_map said result ≡ grant_in text.now }
 {
-    let (era, rest) = cut_at_space(text)?;
-    let (lease, table) = cut_at_space(rest)?;
+    let (era, rest) = cut_at(b' ', text)?;
+    let (lease, table) = cut_at(b' ', rest)?;
     Some(Msg::Grant {
         era: decimal_value(era)?,
         lease: decimal_value(lease)?,
@@ -118,7 +119,7 @@ fn later_in(text: &[u8]) -> Option<Msg<'static>>
 fn done_in(text: &[u8]) -> Option<Msg<'static>>
     ensures { option_map said result ≡ done_in text.now }
 {
-    let (era, lease) = cut_at_space(text)?;
+    let (era, lease) = cut_at(b' ', text)?;
     Some(Msg::Done {
         era: decimal_value(era)?,
         lease: decimal_value(lease)?,
@@ -132,20 +133,4 @@ fn table_in(text: &[u8]) -> Option<Table>
         Ok(table) => Some(table),
         Err(_) => None,
     }
-}
-
-// What stands before the first space, and what stands behind it; none where there is no space.
-fn cut_at_space(text: &[u8]) -> Option<(&[u8], &[u8])>
-    ensures { option_map (λ cut. (cut.0.now, cut.1.now)) result ≡ cut_at_space text.now }
-{
-    let at = first_space(text)?;
-    Some((&text[..at], &text[at + 1..]))
-}
-
-// The place of the first space.
-fn first_space(text: &[u8]) -> Option<usize>
-    ensures place { result ≡ position (λ b. b == 32) text.now }
-    ensures within { IfSome result (λ at. at < length text.now) }
-{
-    text.iter().position(|byte| *byte == b' ')
 }

@@ -10,6 +10,7 @@
 #![tactic(auto)]
 
 mod carrying;
+mod cut;
 mod decimal;
 mod decoder;
 mod encoder;

@@ -1,5 +1,5 @@
 // A line of a stream.
-ghost use Rattle.std.specs.Prelude.{◌≡◌, [], Some, IfOk, OnOk, OnErr};
+ghost use Rattle.std.specs.Prelude.{◌≡◌, IfOk, OnOk, OnErr};
 ghost use Rattle.wire.specs.Lines.{IsWithinLimit, known, known_of, with_more};
 
 use crate::limits::MAX_LINE_BYTES;

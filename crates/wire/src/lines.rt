@@ -1,8 +1,10 @@
 // A stream of bytes that comes in pieces, and its lines.
-ghost use Rattle.std.specs.Prelude.{◌≡◌, ◌+◌, ◌<◌, ◌≤◌, ◌++◌, ◌∷◌, [], map, length, None, Some, IfSome, IfOk, IfNone, OnOk, OnErr, position};
-ghost use Rattle.std.specs.List.{All, slice_split};
-ghost use Rattle.wire.specs.Lines.{Stream, IsWithinLimit, fed, known, known_of, is_newline, lines_from, rest_from};
+ghost use Rattle.std.specs.Prelude.{◌≡◌, ◌≤◌, ◌∷◌, [], map, length, Some, IfSome, IfOk, IfNone, OnOk, OnErr};
+ghost use Rattle.std.specs.List.{All};
+ghost use Rattle.wire.specs.Limits.{line_byte_limit};
+ghost use Rattle.wire.specs.Lines.{IsWithinLimit, fed, known, lines_from, rest_from};
 
+use crate::cut::cut_at;
 use crate::line::Line;
 use run::NoMemory;
 use std::alloc::Global;
@@ -47,11 +49,12 @@ impl Lines {
     pub fn feed(&mut self, piece: &[u8]) -> Result<(), NoMemory>
         ensures ok { OnOk result (self.new ≡ fed self.old piece.now) }
         ensures err { OnErr result (self.new ≡ self.old) }
+        ensures within { IfSome self.new.rest (λ bytes. length bytes ≤ line_byte_limit) }
     {
-        let Some((end, left)) = cut_line(piece) else {
+        let Some((end, left)) = cut_at(b'\n', piece) else {
             return self.rest.extend(piece);
         };
-        // All that can be refused comes while the lines are still the old ones.
+        // All that can be refused comes while the lines are still the old ones, and makes room for the new ones.
         let (mut more, rest) = cut_lines(self.alloc, left)?;
         self.waiting.reserve(more.len() + 1)?;
         self.rest.extend(end)?;
@@ -78,27 +81,9 @@ fn cut_lines(alloc: Global, text: &[u8]) -> Result<(VecDeque<Line>, Line), NoMem
 {
     let mut lines = VecDeque::new(alloc);
     let mut left = text;
-    'lines: while let Some((line, behind)) = cut_line(left) {
+    'lines: while let Some((line, behind)) = cut_at(b'\n', left) {
         lines.push_back(Line::of(alloc, line)?)?;
         left = behind;
     }
     Ok((lines, Line::of(alloc, left)?))
-}
-
-// What stands before the first newline, and what stands behind it; none where there is no newline.
-fn cut_line(text: &[u8]) -> Option<(&[u8], &[u8])>
-    ensures some { IfSome result (λ cut. slice_split is_newline text.now ≡ cut.0.now ∷ slice_split is_newline cut.1.now) }
-    ensures none { IfNone result (slice_split is_newline text.now ≡ text.now ∷ []) }
-    ensures shorter { IfSome result (λ cut. length cut.1.now < length text.now) }
-{
-    let at = first_newline(text)?;
-    Some((&text[..at], &text[at + 1..]))
-}
-
-// The place of the first newline.
-fn first_newline(text: &[u8]) -> Option<usize>
-    ensures place { result ≡ position is_newline text.now }
-    ensures within { IfSome result (λ at. at < length text.now) }
-{
-    text.iter().position(|byte| *byte == b'\n')
 }

@@ -1,6 +1,7 @@
 use Rattle.std.proofs.Common.{◌≡◌, ap, subst, sym, ◌∙◌, arith}
 use Rattle.std.specs.Prelude.{OnOk, IsOk, map}
 use Rattle.wire.specs.Lines.{fed, known, IsWithinLimit}
+use Rattle.wire.proofs.Cuts.{split_at_cut, split_nowhere}
 use Rattle.wire.proofs.Feeding.{moved, moved_within, moved_lines, line_fed, lines_fed, when_ok}
 use Rattle.wire.proofs.lines.Lines.feed.Goals as goal
 
@@ -9,7 +10,7 @@ returns-in_default-clause-ok c =
     let waiting = map known c.self.inside.waiting.items in
     let new = known c.extend.new.self in
     subst (λ s. OnOk c.extend.result (record { waiting = waiting; rest = new } ≡ fed s c.args.piece.now)) c.self.view_is
-    (line_fed c.extend.result waiting (known c.self.inside.rest) new c.args.piece.now c.in_default.ensures.none c.extend.ensures.ok)
+    (line_fed c.extend.result waiting (known c.self.inside.rest) new c.args.piece.now (split_nowhere 10 c.args.piece.now c.in_default.ensures.cut) c.extend.ensures.ok)
 
 pub invariant_of-self-2 : goal.invariant_of-self-2
 invariant_of-self-2 c =
@@ -25,5 +26,6 @@ returns-clause-ok c =
     let m = moved c.append.result _ _ _ _ _ _ c.reserve.ensures.items c.push_back_reserved.ensures.items room c.append.ensures.items in
     let one = ap known c.replace-line.ensures.value ∙ c.in_ok-extend.ensures.ok in
     let rest = ap known c.replace-line.ensures.after ∙ c.in_ok-more.ensures.rest in
-    let lines = moved_lines _ _ _ _ _ _ _ _ m one c.in_ok-more.ensures.lines c.in-Some.ensures.some in
-    when_ok c.append.result _ _ (lines_fed _ _ _ _ _ _ _ lines rest c.in-Some.ensures.some ∙ ap (λ s. fed s c.args.piece.now) c.self.view_is)
+    let cut = split_at_cut 10 c.args.piece.now c.in-Some.end.now c.in-Some.left.now c.in-Some.ensures.cut in
+    let lines = moved_lines _ _ _ _ _ _ _ _ m one c.in_ok-more.ensures.lines cut in
+    when_ok c.append.result _ _ (lines_fed _ _ _ _ _ _ _ lines rest cut ∙ ap (λ s. fed s c.args.piece.now) c.self.view_is)

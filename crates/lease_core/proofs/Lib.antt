@@ -1,0 +1,2 @@
+pub mod FreeLaws
+pub mod OfferLaws

@@ -1,0 +1,5 @@
+//! The leases of a coordinator.
+#![tactic(auto)]
+
+mod free_tables;
+mod held_leases;

@@ -1,2 +1,4 @@
 pub mod FreeLaws
 pub mod OfferLaws
+pub mod Members
+pub mod Ending

@@ -3,3 +3,6 @@
 
 mod free_tables;
 mod held_leases;
+mod leased_board;
+
+pub use leased_board::LeasedBoard;

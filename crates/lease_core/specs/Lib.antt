@@ -1,3 +1,4 @@
 pub mod Limits
 pub mod Leases
+pub mod Asks
 pub mod Inside

@@ -1,8 +1,7 @@
 // A board, and the leases on its open tables.
-ghost use Rattle.std.specs.Prelude.{◌≡◌, ℕ, IfOk, OnOk, OnErr, Contains};
-ghost use Rattle.machine_text.specs.Packed.{Packed};
-ghost use Rattle.lease_core.specs.Leases.{IsOpenOn};
+ghost use Rattle.std.specs.Prelude.{◌≡◌, IfOk, OnOk, OnErr};
 
+use crate::board_calls::open_tables;
 use crate::free_tables::FreeTables;
 use crate::held_leases::{Ending, HeldLease, ends, lives, offer_ending};
 use indexmap::IndexMap;
@@ -103,15 +102,4 @@ impl LeasedBoard {
         self.live.retain(|l| !ends(which, l));
         Ok(())
     }
-}
-
-// The open tables of a board.
-fn open_tables(alloc: Global, board: &Board) -> Result<FreeTables, NoMemory>
-    ensures { IfOk result (λ free. (t : Packed) → IsOpenOn board.now t → Contains free.tables t) }
-{
-    let mut free = FreeTables::new(alloc);
-    for t in board.open() {
-        free.push(*t)?;
-    }
-    Ok(free)
 }

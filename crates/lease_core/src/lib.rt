@@ -1,8 +1,12 @@
 //! The leases of a coordinator.
 #![tactic(auto)]
 
+mod board_calls;
+mod first_free;
 mod free_tables;
 mod held_leases;
 mod leased_board;
+mod reply;
 
 pub use leased_board::LeasedBoard;
+pub use reply::Reply;

@@ -1,7 +1,7 @@
 use Rattle.std.proofs.Common.{subst, inl, inr, List, Contains}
 use Rattle.machine_text.specs.Packed.{Packed}
 use Rattle.ledger.proofs.Apart.{first_or_later}
-use Rattle.lease_core.proofs.leased_board.open_tables.Goals as goal
+use Rattle.lease_core.proofs.board_calls.open_tables.Goals as goal
 
 pub loop-t-preserved : goal.loop-t-preserved
 loop-t-preserved c = λ t is_open. elim (c.loop-t.invariant t is_open) [

@@ -2,3 +2,4 @@ pub mod FreeLaws
 pub mod OfferLaws
 pub mod Members
 pub mod Ending
+pub mod Granting

@@ -1,9 +1,9 @@
 -- What a filter keeps, and which leases live.
-use Rattle.std.proofs.Common.{◌≡◌, ℕ, ◌<◌, ◌||◌, ◌&&◌, Bool, true, false, cond, not, refl, sym, ◌∙◌, ap, subst, inl, inr, List, [], ◌∷◌, map, filter, Contains, nat_eq, arith}
+use Rattle.std.proofs.Common.{◌≡◌, ℕ, ◌||◌, Bool, true, false, cond, refl, ap, subst, inl, inr, List, [], ◌∷◌, map, filter, Contains, nat_eq, arith}
 use Rattle.std.specs.List.{list_any}
 use Rattle.std.proofs.lemmas.Bool.{eqb-true, eq-eqb}
 use Rattle.ledger.proofs.Apart.{first_or_later, later_member, first_member}
-use Rattle.lease_core.specs.Leases.{Lease, is_live}
+use Rattle.lease_core.specs.Leases.{is_live}
 use Rattle.lease_core.specs.Inside.Keeping.{held}
 use Rattle.lease_core.specs.declared.held_leases.HeldLease.{HeldLease}
 

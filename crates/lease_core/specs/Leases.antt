@@ -1,16 +1,13 @@
 -- The leases of a coordinator: which leases live, under which of them each open table stands, and what each event
 -- does to them.
-use Rattle.std.specs.Prelude.{◌≡◌, ◌≢◌, ℕ, ◌+◌, ◌<◌, ◌≤◌, ◌==◌, Bool, false, true, not, if◌then◌else◌, max, nat_le, List, [], ◌∷◌, ◌++◌, All, AllPairs, Option, Some, None, length, map, filter}
+use Rattle.std.specs.Prelude.{◌≡◌, ◌≢◌, ℕ, ◌<◌, ◌≤◌, ◌==◌, Bool, not, if◌then◌else◌, max, nat_le, List, [], All, AllPairs, Option, Some, None, length, filter}
 use Rattle.std.specs.List.{list_any}
 use Rattle.std.specs.Map.{lookup}
-use Rattle.std.specs.Ordering.{nat_cmp, is_lt}
-use Rattle.std.specs.Cmp.Lexicographic.{slice_cmp}
 use Rattle.machine_text.specs.Packed.{Packed}
-use Rattle.machine_text.specs.Text.{text_of}
 use Rattle.tree.specs.Closed.{IsOpen}
 use Rattle.ledger.specs.Contents.{Contents}
 use Rattle.ledger.specs.Records.{same_table, mark_in}
-use Rattle.lease_core.specs.Limits.{lease_limit, lease_time, last_number}
+use Rattle.lease_core.specs.Limits.{lease_limit}
 
 -- a live lease: its number, the worker that has it, and the moment at which it ends
 pub record Lease : Type 0 where

@@ -1,5 +1,5 @@
 // What leases ask of a board.
-ghost use Rattle.std.specs.Prelude.{◌≡◌, ℕ, IfOk, IfSome, IfNone, Contains, ◌↔◌, IsTrue};
+ghost use Rattle.std.specs.Prelude.{◌≡◌, IfOk, Contains, ◌↔◌, IsTrue, false};
 ghost use Rattle.machine_text.specs.Packed.{Packed};
 ghost use Rattle.lease_core.specs.Leases.{IsOpenOn};
 
@@ -32,11 +32,13 @@ pub fn is_open(board: &Board, t: &Table) -> bool
     false
 }
 
-// An open table, if there is one.
-pub fn some_open(board: &Board) -> Option<Table>
-    ensures some { IfSome result (λ t. IsOpenOn board.now t) }
-    ensures none { IfNone result ((t : Packed) → IsOpenOn board.now t → ⊥) }
+// Whether any table is open.
+pub fn has_open(board: &Board) -> bool
+    ensures some { IsTrue result → ((t : Packed) × IsOpenOn board.now t) }
+    ensures none { result ≡ false → (t : Packed) → IsOpenOn board.now t → ⊥ }
 {
-    let first = board.open().next()?;
-    Some(*first)
+    match board.open().next() {
+        Some(_) => true,
+        None => false,
+    }
 }

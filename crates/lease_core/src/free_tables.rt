@@ -7,7 +7,7 @@ ghost use Rattle.lease_core.specs.Inside.Free.{Gains, LosesOnly};
 
 use machine_text::Table;
 use run::NoMemory;
-use std::alloc::{Global};
+use std::alloc::Global;
 use std::cmp::Reverse;
 use std::collections::BinaryHeap;
 use std::marker::Model;

@@ -5,11 +5,9 @@ ghost use Rattle.std.specs.List.{list_any};
 ghost use Rattle.lease_core.specs.Inside.Keeping.{held, ends_by, AreOffered};
 
 use crate::free_tables::FreeTables;
+use crate::limits::LEASE_TIME;
 use machine_text::Table;
 use run::NoMemory;
-
-// A lease lasts for so many moments after it was given or renewed.
-const LEASE_TIME: u64 = 60;
 
 // A live lease: its number, its worker, when it was given or renewed, and the tables that came under it, of
 // which some may be recorded by now.

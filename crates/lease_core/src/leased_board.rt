@@ -1,9 +1,12 @@
 // A board, and the leases on its open tables.
 ghost use Rattle.std.specs.Prelude.{◌≡◌, IfOk, OnOk, OnErr};
 
-use crate::board_calls::open_tables;
+use crate::board_calls::{has_open, open_tables};
+use crate::first_free::first_free;
 use crate::free_tables::FreeTables;
 use crate::held_leases::{Ending, HeldLease, ends, lives, offer_ending};
+use crate::limits::may_grant;
+use crate::reply::Reply;
 use indexmap::IndexMap;
 use ledger::Board;
 use machine_text::Table;
@@ -40,6 +43,7 @@ impl Model for LeasedBoard {
 }
 
 impl LeasedBoard {
+    ghost use Rattle.lease_core.specs.Asks.{Asks};
     ghost use Rattle.lease_core.specs.Leases.{AreLeases, no_leases, ended, ticked, IsDone};
     ghost use Rattle.lease_core.specs.Inside.Keeping.{ends_by};
 
@@ -90,6 +94,47 @@ impl LeasedBoard {
         let lived = lives(&self.live, number);
         self.end(Ending::Numbered(number))?;
         Ok(lived)
+    }
+
+    /// A worker asks. Its own lease ends, if it has one. Then it is answered `Stop` where no table is open;
+    /// else, where one more lease may live and some open table is under none, the first such table comes
+    /// under a new lease; else `Later`. Where memory was refused, nothing has changed.
+    pub fn ask(&mut self, id: u32) -> Result<Reply, NoMemory>
+        ensures board { self.new.board ≡ self.old.board }
+        ensures ok { IfOk result (λ reply. Asks self.old.board id self.old.leases reply self.new.leases) }
+        ensures err { OnErr result (self.new.leases ≡ self.old.leases) }
+    {
+        let mut tables = Vec::with_capacity(self.alloc, 1)?;
+        self.live.reserve(1)?;
+        self.came_under.reserve(1)?;
+        offer_ending(&mut self.free, &self.live, Ending::OfWorker(id))?;
+        // From here on nothing is refused: there is room for one more lease and its table.
+        self.live.retain(|l| !ends(Ending::OfWorker(id), l));
+        if !has_open(&self.board) {
+            return Ok(Reply::Stop);
+        }
+        if !may_grant(self.live.len(), self.given) {
+            return Ok(Reply::Later);
+        }
+        match first_free(&mut self.free, &self.board, &self.came_under, &self.live) {
+            Some(table) => {
+                let lease = self.given + 1;
+                tables.push_reserved(table);
+                self.live.push_reserved(HeldLease {
+                    number: lease,
+                    id,
+                    renewed: self.moment,
+                    tables,
+                });
+                match self.came_under.insert(table, lease) {
+                    Ok(_) => {}
+                    Err(_) => unreachable!(),
+                }
+                self.given = lease;
+                Ok(Reply::Grant { lease, table })
+            }
+            None => Ok(Reply::Later),
+        }
     }
 
     // Ends leases.

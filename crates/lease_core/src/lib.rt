@@ -6,7 +6,9 @@ mod first_free;
 mod free_tables;
 mod held_leases;
 mod leased_board;
+mod limits;
 mod reply;
 
 pub use leased_board::LeasedBoard;
+pub use limits::{LEASE_TIME, MAX_LEASES};
 pub use reply::Reply;

@@ -1,5 +1,5 @@
 -- For the code: how leases are kept, and as what they are seen.
-use Rattle.std.specs.Prelude.{◌≡◌, ℕ, ◌+◌, ◌≤◌, ◌==◌, ◌&&◌, Bool, true, nat_eq, nat_le, List, Contains, Option, Some, None, map}
+use Rattle.std.specs.Prelude.{◌≡◌, ℕ, ◌+◌, ◌==◌, Bool, true, nat_le, List, Contains, Some, None, map}
 use Rattle.machine_text.specs.Packed.{Packed}
 use Rattle.ledger.specs.Contents.{Contents}
 use Rattle.lease_core.specs.Limits.{lease_time}

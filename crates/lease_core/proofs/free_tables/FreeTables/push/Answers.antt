@@ -1,5 +1,5 @@
-use Rattle.std.proofs.Common.{sym, ap, subst}
-use Rattle.lease_core.specs.Inside.Free.{Free, Gains}
+use Rattle.std.proofs.Common.{ap}
+use Rattle.lease_core.specs.Inside.Free.{Free}
 use Rattle.lease_core.proofs.FreeLaws.{gains}
 use Rattle.lease_core.proofs.free_tables.FreeTables.push.Goals as goal
 

@@ -15,7 +15,7 @@ invariant_of-self-2 c =
     let is : kept ≡ filter (λ l. not (p (held l))) ls = filter_same _ (λ l. not (p (held l))) _ (λ x b g t. search rules) _ _ c.retain.ensures.filtered in
     let offered : AreOffered c.args.which ls c.offer_ending.new.free.tables = subst (λ (ls : List HeldLease). AreOffered c.args.which ls c.offer_ending.new.free.tables) c.deref.ensures.value c.in_ok-offer_ending.ensures.ok in (
       subst (AreLeases c.self.inside.board) (sym (seen_ended p ls kept came c.self.inside.moment c.self.inside.given is))
-      (still_leases c.self.inside.board p (seen ls came c.self.inside.moment c.self.inside.given) c.self.invariant.0),
+          (still_leases c.self.inside.board p (seen ls came c.self.inside.moment c.self.inside.given) c.self.invariant.0),
       still_kept c.self.inside.board c.args.which ls kept came c.self.inside.free.tables c.offer_ending.new.free.tables is c.in_ok-offer_ending.ensures.more offered c.self.invariant.1,
     )
 

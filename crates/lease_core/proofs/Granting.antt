@@ -13,6 +13,7 @@ use Rattle.ledger.proofs.Apart.{first_member}
 use Rattle.ledger.proofs.Same.{same_is, same_at, not_same, apart}
 use Rattle.lease_core.specs.Leases.{Lease, AreLeases, IsOpenOn, is_live, came_under, while_live}
 use Rattle.lease_core.specs.Asks.{IsFree, Grants}
+use Rattle.lease_core.specs.Inside.Children.{ComesUnder}
 use Rattle.lease_core.specs.Inside.Keeping.{held, seen, IsKept}
 use Rattle.lease_core.specs.declared.held_leases.HeldLease.{HeldLease}
 use Rattle.lease_core.proofs.Members.{or_later}
@@ -31,17 +32,14 @@ other_number : (a n g : ℕ) → a ≡ g + 1 → n ≤ g → nat_eq a n ≡ fals
 other_number a n g is most = elim (eqb_tells a n) [ inl same ↦ let same_number = same.1 in absurd (omega arith) | inr differ ↦ differ.0 ]
 
 -- a table came under the lease of a number, and each other one stays
-abbrev pub ComesUnder : List (Packed × ℕ) → Packed → ℕ → List (Packed × ℕ) → Type 0
-ComesUnder came t n next = (q : Packed) → came_under next q ≡ cond (same_table t q) (Some n) (came_under came q)
-
-came_here : (came next : List (Packed × ℕ)) (t : Packed) (n : ℕ) → ComesUnder came t n next → came_under next t ≡ Some n
+pub came_here : (came next : List (Packed × ℕ)) (t : Packed) (n : ℕ) → ComesUnder came t n next → came_under next t ≡ Some n
 came_here came next t n update = update t ∙ ap (λ v. cond v (Some n) (came_under came t)) (same_at t t refl)
 
-came_other : (came next : List (Packed × ℕ)) (t : Packed) (n : ℕ) (q : Packed) → ComesUnder came t n next → (q ≡ t → ⊥) → came_under next q ≡ came_under came q
+pub came_other : (came next : List (Packed × ℕ)) (t : Packed) (n : ℕ) (q : Packed) → ComesUnder came t n next → (q ≡ t → ⊥) → came_under next q ≡ came_under came q
 came_other came next t n q update other = update q ∙ ap (λ v. cond v (Some n) (came_under came q)) (not_same t q (λ e. other (sym e)))
 
 -- what came under a lease is this table, or did before
-came_cases : (came next : List (Packed × ℕ)) (t : Packed) (n k : ℕ) (q : Packed) → ComesUnder came t n next → came_under next q ≡ Some k → ((t ≡ q) × (n ≡ k)) ⊎ ((q ≡ t → ⊥) × (came_under came q ≡ Some k))
+pub came_cases : (came next : List (Packed × ℕ)) (t : Packed) (n k : ℕ) (q : Packed) → ComesUnder came t n next → came_under next q ≡ Some k → ((t ≡ q) × (n ≡ k)) ⊎ ((q ≡ t → ⊥) × (came_under came q ≡ Some k))
 came_cases came next t n k q update h =
     elim (same_table t q) as (λ v. same_table t q ≡ v → came_under next q ≡ cond v (Some n) (came_under came q) → ((t ≡ q) × (n ≡ k)) ⊎ ((q ≡ t → ⊥) × (came_under came q ≡ Some k))) [
       | true ↦ λ e u. inl (same_is t q e, same_Some n k (sym u ∙ h))
@@ -54,7 +52,7 @@ same_while xs y g None number most = refl
 same_while xs y g (Some n) number most =
     ap (λ v. if v then Some n else None) (live_more xs y n ∙ or_none (is_live xs n) (nat_eq y.number n) (other_number y.number n g number (most n refl)))
 
-new_while : (xs : List Lease) (y : Lease) (n : ℕ) → y.number ≡ n → while_live (xs ++ (y ∷ [])) (Some n) ≡ Some n
+pub new_while : (xs : List Lease) (y : Lease) (n : ℕ) → y.number ≡ n → while_live (xs ++ (y ∷ [])) (Some n) ≡ Some n
 new_while xs y n number = ap (λ v. if v then Some n else None) (live_more xs y n ∙ or_later (is_live xs n) (nat_eq y.number n) (eq-eqb y.number n number))
 
 pub grants : (b : Contents) (ls : List HeldLease) (came next : List (Packed × ℕ)) (moment g : ℕ) (l : HeldLease) (t : Packed) → AreLeases b (seen ls came moment g)

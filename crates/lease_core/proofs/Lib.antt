@@ -3,3 +3,5 @@ pub mod OfferLaws
 pub mod Members
 pub mod Ending
 pub mod Granting
+pub mod ChildCount
+pub mod ChildLaws

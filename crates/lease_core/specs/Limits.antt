@@ -12,3 +12,7 @@ lease_time = 60
 -- the last number that a lease can have
 abbrev pub last_number : ℕ
 last_number = 18446744073709551615
+
+-- a table has so many children at most
+abbrev pub child_limit : ℕ
+child_limit = 24

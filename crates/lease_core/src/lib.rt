@@ -2,6 +2,7 @@
 #![tactic(auto)]
 
 mod board_calls;
+mod children;
 mod first_free;
 mod free_tables;
 mod held_leases;

@@ -5,12 +5,13 @@ use Rattle.machine_text.specs.Packed.{Packed}
 use Rattle.ledger.specs.Records.{same_table}
 use Rattle.lease_core.specs.Leases.{Lease, AreLeases}
 use Rattle.lease_core.specs.Asks.{IsFree, IsFirstFree, Grants}
+use Rattle.lease_core.specs.Inside.Children.{ComesUnder}
 use Rattle.lease_core.specs.Inside.Keeping.{held, seen, AreOffered, IsKept}
 use Rattle.lease_core.specs.declared.held_leases.HeldLease.{HeldLease}
 use Rattle.lease_core.specs.declared.held_leases.Ending.TheVariants.{OfWorker}
 use Rattle.lease_core.specs.declared.reply.Reply.TheVariants.{Stop, Later, Grant}
 use Rattle.lease_core.proofs.Ending.{filter_held, ended_holds, asks_by}
-use Rattle.lease_core.proofs.Granting.{ComesUnder, grants, granted_leases, granted_kept}
+use Rattle.lease_core.proofs.Granting.{grants, granted_leases, granted_kept}
 use Rattle.lease_core.proofs.leased_board.LeasedBoard.ask.Goals as goal
 
 pub invariant_of-self-then-not-has_open : goal.invariant_of-self-then-not-has_open

@@ -1,13 +1,12 @@
 -- Children of a table: how many they are, and when they are open.
-use Rattle.std.proofs.Common.{◌≡◌, ◌≢◌, ℕ, ◌+◌, ◌*◌, ◌≤◌, ◌⊎◌, ◌↔◌, inl, inr, refl, sym, ◌∙◌, ap, subst, List, [], ◌∷◌, ◌++◌, All, AllPairs, length, get_or, Option, Some, None, IfSome, Contains, arith}
+use Rattle.std.proofs.Common.{◌≡◌, ◌≢◌, ℕ, ◌≤◌, ◌⊎◌, ◌↔◌, inl, inr, refl, sym, ◌∙◌, ap, subst, List, [], ◌∷◌, ◌++◌, All, AllPairs, length, get_or, Option, Some, None, IfSome, Contains, arith}
 use Rattle.std.specs.Ordering.{nat_cmp}
 use Rattle.std.specs.declared.cmp.Ordering.TheVariants.{Less, Equal}
 use Rattle.std.specs.Cmp.{tied_itself}
 use Rattle.std.specs.Cmp.Lexicographic.{slice_cmp, nat_list_cmp_total}
 use Rattle.machine_text.specs.declared.transition.Sym.{Sym}
-use Rattle.machine_text.specs.Packed.{Packed, IsTable, entry_of, holes}
+use Rattle.machine_text.specs.Packed.{Packed, IsTable, entry_of}
 use Rattle.machine_text.specs.Text.{text_of}
-use Rattle.run.specs.declared.verdicts.Verdict.TheVariants.{Halts}
 use Rattle.turing.proofs.Counting.{length-le_of_members}
 use Rattle.turing.proofs.TableLaws.{table_machine}
 use Rattle.std.specs.Option.{option_map}
@@ -20,12 +19,11 @@ use Rattle.tree.proofs.Parents.{tree_machine, tree_holes}
 use Rattle.tree.proofs.TableLaws.{child_map, tree_alike, tree_map, one_table_parent}
 use Rattle.tree.proofs.TreeLaws.{child_holes}
 use Rattle.lease_core.proofs.ChildCount.{children_bound}
-use Rattle.cert.specs.Claim.{Recorded, shown_by}
+use Rattle.cert.specs.Claim.{Recorded}
 use Rattle.ledger.specs.Contents.{Contents, IsBoard}
 use Rattle.ledger.specs.Records.{mark_in, mark_of, mark_by}
 use Rattle.ledger.specs.Held.{IsFit, Settles, settled}
 use Rattle.ledger.specs.Tally.{AreAll, IsHalting}
-use Rattle.ledger.specs.Inside.Open.{IsNewChild}
 use Rattle.ledger.proofs.Apart.{first_member, all_members}
 use Rattle.ledger.proofs.BoardLaws.{marked_in_tree}
 use Rattle.ledger.proofs.OpenLaws.{IsTaken, open_taken, open_in_tree}
@@ -50,7 +48,7 @@ few_children t (x ∷ xs) listed table all =
     let bound = children_bound t child.state child.symbol in
     let states = table.limit in
     let within : All (Contains (children_at t child.state child.symbol)) (x ∷ xs) = all_members (Contains (children_at t child.state child.symbol)) (x ∷ xs)
-        (λ q h. (listed t q child.used child.count child.state child.symbol table child.in_order child.halts).1 ((all.exact q).0 h)) in
+    (λ q h. (listed t q child.used child.count child.state child.symbol table child.in_order child.halts).1 ((all.exact q).0 h)) in
     let once : AllPairs (λ (a b : Packed). a ≢ b) (x ∷ xs) = λ i j d less below. texts_apart (get_or (x ∷ xs) i d) (get_or (x ∷ xs) j d) (all.rising i j d less below) in
     let most = length-le_of_members (children_at t child.state child.symbol) (x ∷ xs) within once in
     omega arith
@@ -72,8 +70,8 @@ not_open_before b t q below board in_tree unhalted child is_open =
     elim is_open.place [
       | inl e ↦ root_is_no_child b.root t board.is_table in_tree (subst (IsChildTable t) e child)
       | inr w ↦
-        let same : w.0 ≡ t = one_table_parent b.root w.0 t q board.is_table (marked_in_tree b w.0 (Halting w.1) below board w.2) in_tree w.3 child in
-        unhalted w.1 (subst (λ (p : Packed). mark_in b.records p ≡ Some (Halting w.1)) same w.2)
+          let same : w.0 ≡ t = one_table_parent b.root w.0 t q board.is_table (marked_in_tree b w.0 (Halting w.1) below board w.2) in_tree w.3 child in
+          unhalted w.1 (subst (λ (p : Packed). mark_in b.records p ≡ Some (Halting w.1)) same w.2)
     ]
 
 -- how a record of a table changes which tables are open: they stay, but for the table itself, and some of its children come,

@@ -5,3 +5,4 @@ pub mod Ending
 pub mod Granting
 pub mod ChildCount
 pub mod ChildLaws
+pub mod Offering

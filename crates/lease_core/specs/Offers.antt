@@ -1,11 +1,18 @@
 -- What becomes of the leases when a record is offered to the board.
-use Rattle.std.specs.Prelude.{◌≡◌, ℕ, ◌+◌, ◌==◌, if◌then◌else◌, List, Option, Some, None, Result, Ok, Err, map}
+use Rattle.std.specs.Prelude.{◌≡◌, ◌⊎◌, ℕ, ◌+◌, ◌==◌, if◌then◌else◌, List, Option, Some, None, Result, Ok, Err, map}
 use Rattle.machine_text.specs.Packed.{Packed}
 use Rattle.ledger.specs.declared.taken.Taken.{Taken}
 use Rattle.ledger.specs.declared.taken.Taken.TheVariants.{New, Known, Settled}
+use Rattle.cert.specs.Claim.{Recorded}
+use Rattle.ledger.specs.Offers.{OfferGives}
 use Rattle.ledger.specs.declared.faults.OfferFault.{OfferFault}
+use Rattle.ledger.specs.declared.faults.OfferFault.TheVariants.{NoMemory}
 use Rattle.lease_core.specs.Limits.{lease_time}
 use Rattle.lease_core.specs.Leases.{Lease, Leased, IsOpenOn, lease_of}
+
+-- what becomes of the records: as the board says of an offer; or memory was refused, and they stay as they were
+abbrev pub BoardGives : Packed → List Recorded → Recorded → Result Taken OfferFault → List Recorded → Type 0
+BoardGives root old r result new = OfferGives root old r result new ⊎ ((result ≡ Err NoMemory) × (new ≡ old))
 
 -- the lease of this number is renewed: its deadline counts from the moment
 abbrev pub renewed : Option ℕ → ℕ → List Lease → List Lease

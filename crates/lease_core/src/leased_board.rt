@@ -2,17 +2,21 @@
 ghost use Rattle.std.specs.Prelude.{◌≡◌, IfOk, OnOk, OnErr};
 
 use crate::board_calls::{has_open, open_tables};
-use crate::first_free::first_free;
+use crate::children::free_children;
+use crate::first_free::{first_free, lease_of};
 use crate::free_tables::FreeTables;
 use crate::held_leases::{Ending, HeldLease, ends, lives, offer_ending};
-use crate::limits::may_grant;
+use crate::limits::{MAX_CHILDREN, may_grant};
+use crate::renewing::{make_room, place_of, renew};
 use crate::reply::Reply;
+use cert::Record;
 use indexmap::IndexMap;
-use ledger::Board;
+use ledger::{Board, OfferFault, Taken};
 use machine_text::Table;
 use run::NoMemory;
 use std::alloc::Global;
 use std::marker::Model;
+use tree::child_is_table;
 
 /// A board, and the leases on its open tables: each open table is under none or under one live lease.
 #[derive(Drop)]
@@ -43,8 +47,11 @@ impl Model for LeasedBoard {
 }
 
 impl LeasedBoard {
+    ghost use Rattle.std.specs.Prelude.{Some, None};
+    ghost use Rattle.cert.specs.Kinds.{recorded};
+    ghost use Rattle.lease_core.specs.Offers.{BoardGives, LeasesAfter};
     ghost use Rattle.lease_core.specs.Asks.{Asks};
-    ghost use Rattle.lease_core.specs.Leases.{AreLeases, no_leases, ended, ticked, IsDone};
+    ghost use Rattle.lease_core.specs.Leases.{AreLeases, no_leases, lease_of, ended, ticked, IsDone};
     ghost use Rattle.lease_core.specs.Inside.Keeping.{ends_by};
 
     /// A board without leases, at the moment 0.
@@ -134,6 +141,79 @@ impl LeasedBoard {
                 Ok(Reply::Grant { lease, table })
             }
             None => Ok(Reply::Later),
+        }
+    }
+
+    /// Offers a record to the board, as `Board::offer` does. Where it was taken as `New`, the children that
+    /// became open come under the lease under which its table stood, or under none, and that lease is
+    /// renewed. Where it settled a holdout, the children are under none. After an error nothing has changed.
+    pub fn offer(&mut self, r: &Record) -> Result<Taken, OfferFault>
+        ensures gives { BoardGives self.old.board.root self.old.board.records (recorded r.now) result self.new.board.records }
+        ensures root { self.new.board.root ≡ self.old.board.root }
+        ensures leases { LeasesAfter r.now.table result self.old self.new }
+    {
+        match lease_of(&self.came_under, &self.live, &r.table) {
+            Some(number) => self.offer_under(number, r),
+            None => self.offer_free(r),
+        }
+    }
+
+    // Offers a record of a table that is under none.
+    fn offer_free(&mut self, r: &Record) -> Result<Taken, OfferFault>
+        requires { lease_of self.old.leases r.now.table ≡ None }
+        ensures gives { BoardGives self.old.board.root self.old.board.records (recorded r.now) result self.new.board.records }
+        ensures root { self.new.board.root ≡ self.old.board.root }
+        ensures leases { LeasesAfter r.now.table result self.old self.new }
+    {
+        child_is_table();
+        // The proof needs that it is a board.
+        let _ = self.board.root();
+        self.free.reserve(MAX_CHILDREN)?;
+        match self.board.offer(r) {
+            Ok(Taken::New) => {
+                self.came_under.swap_remove(&r.table);
+                free_children(&mut self.free, &self.board, &r.table);
+                Ok(Taken::New)
+            }
+            Ok(Taken::Settled) => {
+                free_children(&mut self.free, &self.board, &r.table);
+                Ok(Taken::Settled)
+            }
+            Ok(Taken::Known) => Ok(Taken::Known),
+            Err(fault) => Err(fault),
+        }
+    }
+
+    // Offers a record of a table that is under the live lease of this number.
+    fn offer_under(&mut self, number: u64, r: &Record) -> Result<Taken, OfferFault>
+        requires { lease_of self.old.leases r.now.table ≡ Some number }
+        ensures gives { BoardGives self.old.board.root self.old.board.records (recorded r.now) result self.new.board.records }
+        ensures root { self.new.board.root ≡ self.old.board.root }
+        ensures leases { LeasesAfter r.now.table result self.old self.new }
+    {
+        child_is_table();
+        // The proof needs that it is a board.
+        let _ = self.board.root();
+        let at = place_of(&self.live, number);
+        self.came_under.reserve(MAX_CHILDREN)?;
+        make_room(&mut self.live, at)?;
+        match self.board.offer(r) {
+            Ok(Taken::New) => {
+                self.came_under.swap_remove(&r.table);
+                renew(
+                    &mut self.live,
+                    at,
+                    &mut self.came_under,
+                    &self.board,
+                    self.moment,
+                    &r.table,
+                );
+                Ok(Taken::New)
+            }
+            // an open table has no record: neither of these comes
+            Ok(Taken::Known) => Ok(Taken::Known),
+            Ok(Taken::Settled) => Ok(Taken::Settled),
+            Err(fault) => Err(fault),
         }
     }
 

@@ -8,6 +8,7 @@ mod free_tables;
 mod held_leases;
 mod leased_board;
 mod limits;
+mod renewing;
 mod reply;
 
 pub use leased_board::LeasedBoard;

@@ -1,4 +1,4 @@
-use Rattle.std.proofs.Common.{◌≡◌, ◌⊎◌, inl, inr, ap, subst, List, [], length, Contains, arith}
+use Rattle.std.proofs.Common.{inl, inr, ap, subst, List, [], length, Contains, arith}
 use Rattle.machine_text.specs.Packed.{Packed}
 use Rattle.ledger.proofs.Apart.{first_or_later}
 use Rattle.lease_core.proofs.children.free_all.Goals as goal
@@ -15,10 +15,10 @@ loop-child-preserved c =
       all = λ q h. elim (c.loop-child.invariant.all q h) [
         | inl there ↦ inl (gained.others q there)
         | inr left ↦
-          elim (first_or_later c.in-Some.child c.next.new.self q (subst (λ (l : List Packed). Contains l q) c.in-Some.ensures.steps left)) [
-            | inl same ↦ inl (subst (Contains c.push.new.self.tables) same gained.here)
-            | inr later ↦ inr later
-          ]
+            elim (first_or_later c.in-Some.child c.next.new.self q (subst (λ (l : List Packed). Contains l q) c.in-Some.ensures.steps left)) [
+              | inl same ↦ inl (subst (Contains c.push.new.self.tables) same gained.here)
+              | inr later ↦ inr later
+            ]
       ];
     }
 

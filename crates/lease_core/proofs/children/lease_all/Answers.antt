@@ -33,14 +33,14 @@ loop-child-preserved-then-is_open c =
       here = λ q h is_open. elim (same_table child q) as (λ v. same_table child q ≡ v → (came_under next q ≡ Some n) ⊎ Contains rest q) [
         | true ↦ λ e. inl (subst (λ (q : Packed). came_under next q ≡ Some n) (same_is child q e) (came_here came next child n update))
         | false ↦ λ e.
-          let other : q ≡ child → ⊥ = λ w. apart child q e (sym w) in
-          elim (inv.here q h is_open) [
-            | inl was ↦ inl (came_other came next child n q update other ∙ was)
-            | inr left ↦ elim (first_or_later child rest q (subst (λ (l : List Packed). Contains l q) steps left)) [
-              | inl same ↦ absurd (other (sym same))
-              | inr later ↦ inr later
+            let other : q ≡ child → ⊥ = λ w. apart child q e (sym w) in
+            elim (inv.here q h is_open) [
+              | inl was ↦ inl (came_other came next child n q update other ∙ was)
+              | inr left ↦ elim (first_or_later child rest q (subst (λ (l : List Packed). Contains l q) steps left)) [
+                | inl same ↦ absurd (other (sym same))
+                | inr later ↦ inr later
+              ]
             ]
-          ]
       ] refl;
       other = λ q none. came_other came next child n q update (λ w. none (inv.part q (subst (λ (l : List Packed). Contains l q) (sym steps) (first_member child q rest (sym w))))) ∙ inv.other q none;
       only = λ q k h. elim (came_cases came next child n k q update h) [
@@ -74,9 +74,9 @@ loop-child-preserved c =
         | inl was ↦ inl was
         | inr left ↦ elim (first_or_later child rest q (subst (λ (l : List Packed). Contains l q) steps left)) [
           | inl same ↦
-            let is_true = c.is_open.ensures.1 (subst (IsOpenOn c.args.board.now) (sym same) is_open) in
-            let is_false = c.if-is_open.false in
-            absurd (cc)
+              let is_true = c.is_open.ensures.1 (subst (IsOpenOn c.args.board.now) (sym same) is_open) in
+              let is_false = c.if-is_open.false in
+              absurd (cc)
           | inr later ↦ inr later
         ]
       ];

@@ -3,3 +3,4 @@ pub mod Leases
 pub mod Asks
 pub mod Offers
 pub mod Inside
+pub mod Faults

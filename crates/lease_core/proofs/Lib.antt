@@ -6,3 +6,4 @@ pub mod Granting
 pub mod ChildCount
 pub mod ChildLaws
 pub mod Offering
+pub mod InStep

@@ -2,3 +2,5 @@
 pub mod Free
 pub mod Keeping
 pub mod Children
+pub mod Begun
+pub mod Answering

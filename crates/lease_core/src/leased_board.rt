@@ -54,7 +54,7 @@ impl LeasedBoard {
     ghost use Rattle.lease_core.specs.Leases.{AreLeases, no_leases, lease_of, ended, ticked, IsDone};
     ghost use Rattle.lease_core.specs.Inside.Keeping.{ends_by};
 
-    /// A board without leases, at the moment 0.
+    /// A board without leases, at the moment 0. `NoMemory` where there is no room for its open tables.
     pub fn new(alloc: Global, board: Board) -> Result<LeasedBoard, NoMemory>
         ensures { IfOk result (λ new. new ≡ record { board = board; leases = no_leases }) }
     {
@@ -147,6 +147,8 @@ impl LeasedBoard {
     /// Offers a record to the board, as `Board::offer` does. Where it was taken as `New`, the children that
     /// became open come under the lease under which its table stood, or under none, and that lease is
     /// renewed. Where it settled a holdout, the children are under none. After an error nothing has changed.
+    ///
+    /// Room for the children is made before the board is asked, so `NoMemory` may come for any record.
     pub fn offer(&mut self, r: &Record) -> Result<Taken, OfferFault>
         ensures gives { BoardGives self.old.board.root self.old.board.records (recorded r.now) result self.new.board.records }
         ensures root { self.new.board.root ≡ self.old.board.root }

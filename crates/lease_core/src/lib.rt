@@ -1,4 +1,13 @@
-//! The leases of a coordinator.
+//! A board, and the leases of a coordinator on its open tables.
+//!
+//! A worker that asks gets the first open table that is under no lease, under a new lease of its own. What
+//! becomes open by a record is under the lease of the record's table, which is renewed. A lease ends at its
+//! deadline, when its worker asks again or is done; its tables are then under none. A lease never closes a
+//! table: that is the board's.
+//!
+//! `specs/Leases` says what leases are and how they end, `specs/Asks` what a worker that asks is answered,
+//! `specs/Offers` what becomes of the leases when a record is offered. `specs/Inside` and `proofs` are for
+//! the code alone.
 #![tactic(auto)]
 
 mod answering;

@@ -20,18 +20,6 @@ pub fn open_tables(alloc: Global, board: &Board) -> Result<FreeTables, NoMemory>
     Ok(free)
 }
 
-// Whether a table is open.
-pub fn is_open(board: &Board, t: &Table) -> bool
-    ensures { IsTrue result ↔ IsOpenOn board.now t.now }
-{
-    for open in board.open() {
-        if open == t {
-            return true;
-        }
-    }
-    false
-}
-
 // Whether any table is open.
 pub fn has_open(board: &Board) -> bool
     ensures some { IsTrue result → ((t : Packed) × IsOpenOn board.now t) }

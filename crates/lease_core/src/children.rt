@@ -9,7 +9,6 @@ ghost use Rattle.lease_core.specs.Leases.{IsOpenOn, came_under};
 ghost use Rattle.lease_core.specs.Limits.{child_limit};
 ghost use Rattle.lease_core.specs.Inside.Children.{CameOnly, ComesUnder};
 
-use crate::board_calls::is_open;
 use crate::free_tables::FreeTables;
 use indexmap::IndexMap;
 use ledger::Board;
@@ -93,7 +92,7 @@ fn lease_all(
     ensures more { (q : Packed) → Contains tables.old.items q → Contains tables.new.items q }
 {
     for child in found {
-        if is_open(board, &child) {
+        if board.is_open(&child) {
             lease_one(came, tables, number, child);
         }
     }

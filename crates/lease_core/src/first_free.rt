@@ -5,7 +5,6 @@ ghost use Rattle.lease_core.specs.Leases.{IsOpenOn, came_under, while_live};
 ghost use Rattle.lease_core.specs.Asks.{IsFree, IsFirstFree};
 ghost use Rattle.lease_core.specs.Inside.Keeping.{held, seen};
 
-use crate::board_calls::is_open;
 use crate::free_tables::FreeTables;
 use crate::held_leases::{HeldLease, lives};
 use indexmap::IndexMap;
@@ -40,7 +39,7 @@ fn is_free(board: &Board, came: &IndexMap<Table, u64>, live: &[HeldLease], t: &T
 {
     match lease_of(came, live, t) {
         Some(_) => false,
-        None => is_open(board, t),
+        None => board.is_open(t),
     }
 }
 

@@ -25,3 +25,4 @@ pub mod Beginnings
 pub mod Agreement
 pub mod Longest
 pub mod Boards
+pub mod Growing

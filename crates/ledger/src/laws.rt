@@ -1,12 +1,14 @@
 // What is true of all ledgers: laws over the definitions, each the contract of a function without a body.
-ghost use Rattle.std.specs.Prelude.{◌≡◌, ℕ, List, [], ◌++◌};
+ghost use Rattle.std.specs.Prelude.{◌≡◌, ℕ, List, [], ◌∷◌, ◌++◌, take};
 ghost use Rattle.machine_text.specs.Packed.{Packed, IsTable};
 ghost use Rattle.cert.specs.Claim.{Recorded};
+ghost use Rattle.cert.specs.Grammar.{record_text};
 ghost use Rattle.ledger.specs.declared.left.Left.{Left as LeftOver};
-ghost use Rattle.ledger.specs.declared.left.Left.TheVariants.{Nothing};
-ghost use Rattle.ledger.specs.Contents.{IsBoard};
+ghost use Rattle.ledger.specs.declared.left.Left.TheVariants.{Nothing, From};
+ghost use Rattle.ledger.specs.declared.left.Unkept.{Unkept as WhyUnkept};
+ghost use Rattle.ledger.specs.Contents.{Contents, IsBoard};
 ghost use Rattle.ledger.specs.Lists.{AreKept, Offer, AreOffered, answered, held as held_of};
-ghost use Rattle.ledger.specs.LedgerText.{HasHeader, ReadsAs, ledger_text};
+ghost use Rattle.ledger.specs.LedgerText.{HasHeader, IsTaken, ReadsAs, ledger_text};
 ghost use Rattle.ledger.specs.LedgerLaws.{ReadsAsFirst, IsLongest};
 
 /// After any list of offers to an empty board its records are those held of the fit ones among the offered
@@ -33,6 +35,19 @@ pub fn ledgers_read_as_one()
 pub fn ledgers_read_longest()
     ensures { (root : Packed) (text : List ℕ) (rs : List Recorded) (left : LeftOver) → IsTable root →
         (reads : ReadsAs root text rs left) → IsLongest root reads.body reads.keeps.lines rs }
+{}
+
+/// A ledger of a board, all its bytes kept, with the line of one more record behind it reads as the records that
+/// there are once that is taken.
+pub fn ledgers_grow()
+    ensures { (b : Contents) (text : List ℕ) (r : Recorded) (new : List Recorded) → IsBoard b → ReadsAs b.root text b.records Nothing →
+        IsTaken b.root b.records r new → ReadsAs b.root (text ++ (record_text r ++ (10 ∷ []))) new Nothing }
+{}
+
+/// The bytes that are kept of a text read as the same records, and all of them are kept.
+pub fn kept_bytes_load()
+    ensures { (root : Packed) (text : List ℕ) (rs : List Recorded) (line kept : ℕ) (why : WhyUnkept) →
+        ReadsAs root text rs (From line kept why) → ReadsAs root (take kept text) rs Nothing }
 {}
 
 /// A beginning of a text that reads as records, cut anywhere behind its header, reads as the records of the

@@ -46,8 +46,8 @@ fn append_ledger(board: &Board, out: &mut Vec<u8>) -> Result<(), NoMemory>
     append_records(board.records(), out)
 }
 
-// Appends the header of a root; where memory is refused, a beginning of it.
-fn append_header(root: &Table, out: &mut Vec<u8>) -> Result<(), NoMemory>
+/// Appends the header of a root, with its newline; where memory is refused, a beginning of it.
+pub fn append_header(root: &Table, out: &mut Vec<u8>) -> Result<(), NoMemory>
     ensures ok { OnOk result (out.new.items ≡ out.old.items ++ (header_words ++ text_of root.now ++ (10 ∷ []))) }
     ensures kept { take (length out.old.items) out.new.items ≡ out.old.items }
 {
@@ -63,13 +63,13 @@ fn append_records(records: Records<'_>, out: &mut Vec<u8>) -> Result<(), NoMemor
     ensures kept { take (length out.old.items) out.new.items ≡ out.old.items }
 {
     for r in records {
-        append_line(&r, out)?;
+        append_record(&r, out)?;
     }
     Ok(())
 }
 
-// Appends the line of a record; where memory is refused, a beginning of it.
-fn append_line(r: &Record, out: &mut Vec<u8>) -> Result<(), NoMemory>
+/// Appends the line of a record, with its newline; where memory is refused, a beginning of it.
+pub fn append_record(r: &Record, out: &mut Vec<u8>) -> Result<(), NoMemory>
     ensures ok { OnOk result (out.new.items ≡ out.old.items ++ (record_text (recorded r.now) ++ (10 ∷ []))) }
     ensures kept { take (length out.old.items) out.new.items ≡ out.old.items }
 {

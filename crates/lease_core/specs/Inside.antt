@@ -1,0 +1,6 @@
+-- What only the code of this crate needs.
+pub mod Free
+pub mod Keeping
+pub mod Children
+pub mod Begun
+pub mod Answering

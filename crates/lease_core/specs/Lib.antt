@@ -1,0 +1,9 @@
+pub mod Limits
+pub mod Leases
+pub mod Asks
+pub mod Offers
+pub mod Inside
+pub mod Faults
+pub mod Says
+pub mod CoordinatorRules
+pub mod Starts

@@ -1,0 +1,5 @@
+use Rattle.ledger.proofs.Growing.{cut_to_kept}
+use Rattle.ledger.proofs.laws.kept_bytes_load.Goals as goal
+
+pub returns : goal.returns
+returns c = cut_to_kept

@@ -14,7 +14,7 @@ use Rattle.commands.specs.Report.{IsReport}
 use Rattle.commands.specs.declared.outcome.Outcome.{Outcome}
 use Rattle.commands.specs.declared.outcome.Outcome.TheVariants.{Accepted, Refused}
 use Rattle.commands.specs.declared.ended.Ended.{Ended}
-use Rattle.commands.specs.declared.ended.Ended.TheVariants.{BadHeader, WrongRoot, Stream, File, NoMemory}
+use Rattle.commands.specs.declared.ended.Ended.TheVariants.{BadHeader, WrongRoot, Stream, Ledger, File, NoMemory}
 
 -- the line behind the report that says which line wasn't kept
 abbrev pub left_text : Left → List ℕ
@@ -49,5 +49,6 @@ abbrev pub EndsLedger : List ℕ → Ended → Type 0
 EndsLedger text BadHeader = IsTornHeader text ⊎ HasNoHeader text
 EndsLedger text WrongRoot = (root : Packed) × (rest : List ℕ) × HasHeader text root rest × (((u : ℕ) × InOrder u (entry_of root)) → ⊥)
 EndsLedger text Stream = ⊥
+EndsLedger text Ledger = ⊥
 EndsLedger text File = ⊥
 EndsLedger text NoMemory = Unit {0}

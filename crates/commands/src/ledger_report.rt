@@ -50,10 +50,7 @@ fn report_file<R: Read + Drop, W: Write>(
 pub fn bytes_of<R: Read + Drop>(alloc: Global, file: io::Result<Opened<R>>) -> io::Result<Vec<u8>> {
     let opened = file?;
     let mut bytes = Vec::new(alloc);
-    opened
-        .reader
-        .take(opened.length)
-        .read_to_end(&mut bytes)?;
+    opened.reader.take(opened.length).read_to_end(&mut bytes)?;
     Ok(bytes)
 }
 

@@ -135,7 +135,9 @@ fn decide_command<'a>(alloc: Global) -> Result<Command<'a>, NoMemory> {
 
 fn coord_command<'a>(alloc: Global) -> Result<Command<'a>, NoMemory> {
     Command::new(alloc, "coord")
-        .about("Answers workers: frames on standard input, a line each, and frames on standard output.")
+        .about(
+            "Answers workers: frames on standard input, a line each, and frames on standard output.",
+        )
         .after_help(COORD)
         .arg(
             Arg::new(alloc, STATES)
@@ -144,16 +146,15 @@ fn coord_command<'a>(alloc: Global) -> Result<Command<'a>, NoMemory> {
                 .help("How many states the machines have"),
         )?
         .arg(
-            Arg::new(alloc, LEDGER)
-                .long(LEDGER)
-                .value_name("FILE")
-                .help("The ledger file, which is created where it isn't there; none is kept without it"),
+            Arg::new(alloc, LEDGER).long(LEDGER).value_name("FILE").help(
+                "The ledger file, which is created where it isn't there; none is kept without it",
+            ),
         )?
         .arg(
             Arg::new(alloc, ERA)
                 .long(ERA)
                 .value_name("E")
-                .value_parser(value_parser!(u64).range(1..=u64::MAX))
+                .value_parser(value_parser!(u64).range(1..))
                 .default_value("1")
                 .help("Tells this run's leases from those of an earlier one"),
         )

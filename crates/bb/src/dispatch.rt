@@ -1,6 +1,6 @@
 // From the words of a command line to the command, and how it ended.
-ghost use Rattle.std.specs.Prelude.{◌≤◌, IfErr};
-ghost use Rattle.machine_text.specs.Limits.{state_limit};
+ghost use Rattle.std.specs.Prelude.{IfErr};
+ghost use Rattle.bb.specs.Ranges.{IsBeginning};
 ghost use Rattle.bb.specs.Unread.{EndsUnread};
 
 use crate::command_line::options;
@@ -8,7 +8,8 @@ use crate::line_fault::LineFault;
 use backward::BackwardFinder;
 use cert::{Finder, Finders};
 use commands::{
-    Beginning, Ended, Opened, Options, Outcome, Search, cmd_check, cmd_coord, cmd_decide, cmd_report,
+    Beginning, Ended, Opened, Options, Outcome, Search, cmd_check, cmd_coord, cmd_decide,
+    cmd_report,
 };
 use far::FarFinder;
 use loops::{CycleFinder, TranslatedFinder};
@@ -101,7 +102,7 @@ fn coordinate<H: Host, R: Read, W: Write, E: Write>(
     answers: &mut W,
     faults: &mut E,
 ) -> Outcome
-    requires { (1 ≤ beginning.states) × (beginning.states ≤ state_limit) }
+    requires { IsBeginning beginning }
 {
     let Some(path) = path else {
         let nothing = Opened {
@@ -109,7 +110,15 @@ fn coordinate<H: Host, R: Read, W: Write, E: Write>(
             length: 0,
         };
         let mut ledger = MemLedger::new(alloc);
-        return cmd_coord(alloc, beginning, Ok(nothing), &mut ledger, input, answers, faults);
+        return cmd_coord(
+            alloc,
+            beginning,
+            Ok(nothing),
+            &mut ledger,
+            input,
+            answers,
+            faults,
+        );
     };
     match host.ledger(path) {
         Ok(mut ledger) => {

@@ -50,7 +50,10 @@ impl Host for HostRuntime {
     type Ledger = FileLedger<fs::File>;
 
     fn ledger(&self, path: &str) -> io::Result<FileLedger<fs::File>> {
-        let file = OpenOptions::new().append(true).create(true).open(self, path)?;
+        let file = OpenOptions::new()
+            .append(true)
+            .create(true)
+            .open(self, path)?;
         Ok(FileLedger::of(file))
     }
 }

@@ -114,9 +114,19 @@ const LINES: [(&str, Outcome, bool, bool); 26] = [
     ("bb check", Outcome::Accepted, true, false),
     // the input is a record, and no table
     ("bb decide", Outcome::Refused, true, false),
-    ("bb coord 1 --ledger complete", Outcome::Accepted, false, false),
+    (
+        "bb coord 1 --ledger complete",
+        Outcome::Accepted,
+        false,
+        false,
+    ),
     ("bb coord 1 --ledger absent", Outcome::Failed, false, true),
-    ("bb coord 2 --ledger complete", Outcome::Refused, false, true),
+    (
+        "bb coord 2 --ledger complete",
+        Outcome::Refused,
+        false,
+        true,
+    ),
     ("bb coord 1", Outcome::Refused, false, false),
     ("bb report complete", Outcome::Accepted, true, false),
     ("bb report complete --why", Outcome::Accepted, true, false),

@@ -7,3 +7,4 @@ pub mod ChildCount
 pub mod ChildLaws
 pub mod Offering
 pub mod InStep
+pub mod Acknowledged

@@ -14,6 +14,7 @@ mod answering;
 mod board_calls;
 mod children;
 mod coordinator;
+mod coordinator_laws;
 mod first_free;
 mod frames;
 mod free_tables;
@@ -26,6 +27,7 @@ mod start_fault;
 mod starting;
 
 pub use coordinator::Coordinator;
+pub use coordinator_laws::acknowledged_tables_are_recorded;
 pub use leased_board::LeasedBoard;
 pub use limits::{LEASE_TIME, MAX_LEASES};
 pub use reply::Reply;

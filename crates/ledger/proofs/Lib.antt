@@ -26,3 +26,4 @@ pub mod Agreement
 pub mod Longest
 pub mod Boards
 pub mod Growing
+pub mod Answered

@@ -1,11 +1,14 @@
 // What is true of all ledgers: laws over the definitions, each the contract of a function without a body.
-ghost use Rattle.std.specs.Prelude.{◌≡◌, ℕ, List, [], ◌∷◌, ◌++◌, take};
+ghost use Rattle.std.specs.Prelude.{◌≡◌, ℕ, List, [], ◌∷◌, ◌++◌, take, Ok, IsSome};
 ghost use Rattle.machine_text.specs.Packed.{Packed, IsTable};
 ghost use Rattle.cert.specs.Claim.{Recorded};
 ghost use Rattle.cert.specs.Grammar.{record_text};
 ghost use Rattle.ledger.specs.declared.left.Left.{Left as LeftOver};
 ghost use Rattle.ledger.specs.declared.left.Left.TheVariants.{Nothing, From};
 ghost use Rattle.ledger.specs.declared.left.Unkept.{Unkept as WhyUnkept};
+ghost use Rattle.ledger.specs.declared.taken.Taken.{Taken as Answer};
+ghost use Rattle.ledger.specs.Offers.{OfferGives};
+ghost use Rattle.ledger.specs.Records.{claim_in};
 ghost use Rattle.ledger.specs.Contents.{Contents, IsBoard};
 ghost use Rattle.ledger.specs.Lists.{AreKept, Offer, AreOffered, answered, held as held_of};
 ghost use Rattle.ledger.specs.LedgerText.{HasHeader, IsTaken, ReadsAs, ledger_text};
@@ -16,6 +19,12 @@ ghost use Rattle.ledger.specs.LedgerLaws.{ReadsAsFirst, IsLongest};
 pub fn offers_are_held()
     ensures { (root : Packed) (offers : List Offer) (rs : List Recorded) → IsTable root → AreOffered root [] offers rs →
         (kept : List Recorded) × AreKept root [] (answered offers) kept × (rs ≡ held_of kept) }
+{}
+
+/// Where an offer is answered `Ok`, the record's table has a record on the board then.
+pub fn answered_records_are_held()
+    ensures { (root : Packed) (old new : List Recorded) (r : Recorded) (taken : Answer) →
+        OfferGives root old r (Ok taken) new → IsSome (claim_in new r.table) }
 {}
 
 /// The ledger of a board reads as its records, and every byte of it is kept.

@@ -34,8 +34,8 @@ pub use board::{Board, Champions, Holdouts, Open};
 pub use faults::{BoardFault, LoadFault, OfferFault};
 pub use header::peek_root;
 pub use laws::{
-    beginnings_load, kept_bytes_load, ledgers_grow, ledgers_load_whole, ledgers_read_as_one,
-    ledgers_read_longest, offers_are_held,
+    answered_records_are_held, beginnings_load, kept_bytes_load, ledgers_grow, ledgers_load_whole,
+    ledgers_read_as_one, ledgers_read_longest, offers_are_held,
 };
 pub use left::{Left, Unkept};
 pub use records::Records;

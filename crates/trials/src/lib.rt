@@ -14,6 +14,10 @@ mod check_command;
 #[cfg(test)]
 mod children;
 #[cfg(test)]
+mod coord_command;
+#[cfg(test)]
+mod coordinators;
+#[cfg(test)]
 mod cycles;
 #[cfg(test)]
 mod deciding;

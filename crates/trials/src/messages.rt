@@ -21,7 +21,10 @@ const MESSAGES: [(&str, &str); 13] = [
     ("ACK 1RA1RZ", "ACK 1RA---\n"),
     ("LATER", "LATER\n"),
     ("LATER ------", "LATER ------\n"),
-    ("DONE 0 18446744073709551615", "DONE 0 18446744073709551615\n"),
+    (
+        "DONE 0 18446744073709551615",
+        "DONE 0 18446744073709551615\n",
+    ),
     ("STOP", "STOP\n"),
 ];
 
@@ -40,7 +43,8 @@ fn messages_are_read_and_printed(rt: HostRuntime) -> Result<(), Fail> {
 }
 
 // Frames that are no messages.
-const OTHERS: &str = "ASK|ASK |ASK 1 |ASK  1|ask 1|ASK 4294967296|ASK 01|ASK +1|ASK x|GRANT 1 2|GRANT 1 2 \
+const OTHERS: &str =
+    "ASK|ASK |ASK 1 |ASK  1|ask 1|ASK 4294967296|ASK 01|ASK +1|ASK x|GRANT 1 2|GRANT 1 2 \
 |GRANT 1 2 -----|GRANT 1 2 ------ |GRANT 01 2 ------|REC|REC |REC ------|REC ------ H|REC ------ H 01\
 |ACK|ACK |ACK ------ |ACK -----|LATER |LATER ----- |LATER ------ |DONE 0 1 2|DONE 0|DONE 00 1|DONE 0 \
 |STOP |STOP 1|stop|| |ASK 1\r|REC ------ Q";
@@ -48,7 +52,10 @@ const OTHERS: &str = "ASK|ASK |ASK 1 |ASK  1|ask 1|ASK 4294967296|ASK 01|ASK +1|
 #[test]
 fn other_frames_are_no_messages(rt: HostRuntime) -> Result<(), Fail> {
     for text in OTHERS.split('|') {
-        assert!(rt; decode(text.as_bytes()).err() == Some(MsgFault::BadMessage), "{text}");
+        assert!(rt;
+            decode(text.as_bytes()).err() == Some(MsgFault::BadMessage),
+            "{text}"
+        );
     }
     let mut frame = Vec::new(rt.alloc());
     frame.resize(65_536, b'x')?;

@@ -1,0 +1,198 @@
+// `bb coord` over streams and ledgers of the tests' own.
+use crate::streams::{ALWAYS, Sink, Source, file_of};
+use commands::{Beginning, Outcome, cmd_coord};
+use std::alloc::Global;
+use std::process::Abort;
+use std::test::Fail;
+use wire::MemLedger;
+
+// What is run: the ledger's bytes before, the era, the input, the call at which the ledger fails, and how many
+// writes of answers succeed.
+#[derive(Drop)]
+struct Run<'a> {
+    held: &'a [u8],
+    era: u64,
+    input: &'a [u8],
+    ledger_fails_at: u64,
+    writes_left: u64,
+}
+
+// What is answered, what is said of faults, what the ledger then holds, and the outcome.
+#[derive(Drop)]
+struct Ended {
+    answers: Vec<u8>,
+    faults: Vec<u8>,
+    ledger: MemLedger,
+    outcome: Outcome,
+}
+
+fn ended(alloc: Global, run: &Run<'_>) -> Result<Ended, Fail> {
+    let mut ledger = MemLedger::holding(run.held.to_vec(alloc)?);
+    ledger.fail_at(run.ledger_fails_at);
+    let mut input = Source {
+        left: run.input,
+        at_once: 7,
+        calls_left: ALWAYS,
+    };
+    let mut answers = Sink::new(alloc, usize::MAX, run.writes_left);
+    let mut faults = Sink::new(alloc, usize::MAX, ALWAYS);
+    let beginning = Beginning {
+        states: 1,
+        era: run.era,
+    };
+    let outcome = cmd_coord(
+        alloc,
+        beginning,
+        file_of(run.held, 9, ALWAYS),
+        &mut ledger,
+        &mut input,
+        &mut answers,
+        &mut faults,
+    );
+    Ok(Ended {
+        answers: answers.kept,
+        faults: faults.kept,
+        ledger,
+        outcome,
+    })
+}
+
+// Without failures: what is answered, the ledger then, and the outcome.
+fn runs(
+    rt: &impl Abort,
+    alloc: Global,
+    (held, era, input): (&str, u64, &[u8]),
+    (answers, ledger, outcome): (&str, &str, Outcome),
+) -> Result<(), Fail> {
+    let end = ended(
+        alloc,
+        &Run {
+            held: held.as_bytes(),
+            era,
+            input,
+            ledger_fails_at: 0,
+            writes_left: ALWAYS,
+        },
+    )?;
+    assert_eq!(rt; end.answers.as_slice(), answers.as_bytes());
+    assert_eq!(rt; end.ledger.text(), ledger.as_bytes());
+    assert!(rt; end.outcome == outcome);
+    Ok(())
+}
+
+const COMPLETE: &str = "bb-ledger 1 ------\n------ H 1\n0RA--- T 0 1 R\n1RA--- T 0 1 R\n";
+
+const SETTLED: &[u8] = b"ASK 7\nREC ------ H 1\nREC 0RA--- T 0 1 R\nREC 1RA--- T 0 1 R\nASK 7\n";
+
+#[test]
+fn a_tree_is_settled_over_streams(rt: HostRuntime) -> Result<(), Fail> {
+    let answers = "GRANT 1 1 ------\nACK ------\nACK 0RA---\nACK 1RA---\nSTOP\n";
+    let alloc = rt.alloc();
+    runs(
+        &rt,
+        alloc,
+        ("", 1, SETTLED),
+        (answers, COMPLETE, Outcome::Accepted),
+    )?;
+    runs(
+        &rt,
+        alloc,
+        (COMPLETE, 2, b"ASK 7\n"),
+        ("STOP\n", COMPLETE, Outcome::Accepted),
+    )?;
+    // An unfit line of the ledger is cut off with what follows.
+    runs(
+        &rt,
+        alloc,
+        (
+            "bb-ledger 1 ------\n------ H 1\n------ H 1\n0RA--- T 0 1 R\n",
+            3,
+            b"ASK 7\n",
+        ),
+        (
+            "GRANT 3 1 0RA---\n",
+            "bb-ledger 1 ------\n------ H 1\n",
+            Outcome::Refused,
+        ),
+    )
+}
+
+#[test]
+fn odd_lines_are_no_answers(rt: HostRuntime) -> Result<(), Fail> {
+    let alloc = rt.alloc();
+    let mut input = Vec::new(alloc);
+    input.extend_from_slice(b"ASK 7\nREC ------ H 7\nDONE 1 9\n")?;
+    let len = input.len();
+    input.resize(len.saturating_add(70_000), b'x')?;
+    input.extend_from_slice(b"\nREC ------ H 1")?;
+    runs(
+        &rt,
+        alloc,
+        ("", 1, &input),
+        (
+            "GRANT 1 1 ------\n",
+            "bb-ledger 1 ------\n",
+            Outcome::Refused,
+        ),
+    )
+}
+
+#[test]
+fn ledgers_that_fail_end_the_command(rt: HostRuntime) -> Result<(), Fail> {
+    // The header, then a line for each record; the answers of earlier turns were sent.
+    for (call, answers, lines) in [
+        (1, "", 0),
+        (2, "GRANT 1 1 ------\n", 1),
+        (3, "GRANT 1 1 ------\nACK ------\n", 2),
+        (4, "GRANT 1 1 ------\nACK ------\nACK 0RA---\n", 3),
+    ] {
+        let end = ended(
+            rt.alloc(),
+            &Run {
+                held: b"",
+                era: 1,
+                input: SETTLED,
+                ledger_fails_at: call,
+                writes_left: ALWAYS,
+            },
+        )?;
+        assert_eq!(rt; end.answers.as_slice(), answers.as_bytes());
+        assert_eq!(rt; end.faults.as_slice(), b"refused 604\n".as_slice());
+        let kept = end
+            .ledger
+            .text()
+            .iter()
+            .filter(|byte| **byte == b'\n')
+            .count();
+        assert!(rt; kept == lines && end.outcome == Outcome::Failed);
+    }
+    Ok(())
+}
+
+#[test]
+fn streams_and_ledgers_that_are_refused_end_the_command(rt: HostRuntime) -> Result<(), Fail> {
+    for (held, writes_left, faults, outcome) in [
+        ("", 0, "refused 603\n", Outcome::Failed),
+        ("hello\n", ALWAYS, "refused 404\n", Outcome::Refused),
+        (
+            "bb-ledger 1 ------_------\n",
+            ALWAYS,
+            "refused 405\n",
+            Outcome::Refused,
+        ),
+    ] {
+        let end = ended(
+            rt.alloc(),
+            &Run {
+                held: held.as_bytes(),
+                era: 1,
+                input: b"ASK 7\n",
+                ledger_fails_at: 0,
+                writes_left,
+            },
+        )?;
+        assert_eq!(rt; end.faults.as_slice(), faults.as_bytes());
+        assert!(rt; end.outcome == outcome);
+    }
+    Ok(())
+}

@@ -1,0 +1,179 @@
+// A coordinator's answers to frames and ticks, and what it makes of ledgers.
+use lease_core::{Coordinator, StartFault};
+use ledger::Status;
+use std::alloc::Global;
+use std::process::Abort;
+use std::test::Fail;
+use wire::{Event, Node, NodeFault, Note, Out};
+
+// A coordinator for one state that begins with an empty ledger, and the header that it appends.
+fn begun(rt: &impl Abort, alloc: Global) -> Coordinator {
+    for _ in 0..9 {
+        if let (coordinator, Ok(out)) = Coordinator::start(alloc, 1, 1, b"") {
+            assert_eq!(rt; out.append.as_slice(), b"bb-ledger 1 ------\n".as_slice());
+            assert!(rt; out.cut.is_none() && out.frames.is_empty() && out.note == Note::Quiet);
+            return coordinator;
+        }
+    }
+    panic!(rt; "no coordinator")
+}
+
+// Hands over a frame, or a tick as `TICK moment`. Memory may be refused, and then it is handed over again.
+fn handed(rt: &impl Abort, node: &mut Coordinator, event: &str) -> Out {
+    for _ in 0..9 {
+        let answer = match event.strip_prefix("TICK ") {
+            Some(moment) => node.on(Event::Tick(moment.parse().unwrap_or(0))),
+            None => node.on(Event::Frame(event.as_bytes())),
+        };
+        match answer {
+            Ok(out) => return out,
+            Err(fault) => assert!(rt; fault == NodeFault::NoMemory, "{event}: {fault}"),
+        }
+    }
+    panic!(rt; "{event}: no answer")
+}
+
+// Events, each with what is appended and what is sent.
+fn answers(rt: &impl Abort, node: &mut Coordinator, rows: &[(&str, &str, &str)]) {
+    for (event, append, frames) in rows {
+        let out = handed(rt, node, event);
+        assert!(rt; out.cut.is_none());
+        assert!(rt; out.append.as_slice() == append.as_bytes(), "{event}");
+        assert!(rt; out.frames.as_slice() == frames.as_bytes(), "{event}");
+    }
+}
+
+#[test]
+fn records_are_acknowledged_once_they_are_held(rt: HostRuntime) {
+    let mut node = begun(&rt, rt.alloc());
+    answers(
+        &rt,
+        &mut node,
+        &[
+            ("REC 1RA--- T 0 1 R", "", "LATER 1RA---\n"),
+            ("REC ------ H 1", "------ H 1\n", "ACK ------\n"),
+            ("REC 1RA--- T 0 1 R", "1RA--- T 0 1 R\n", "ACK 1RA---\n"),
+            ("REC ------ H 1", "", "ACK ------\n"),
+            ("REC 1RA--- T 0 1 R", "", "ACK 1RA---\n"),
+            // A known table's certificate isn't looked at, an open one's is.
+            ("REC 1RA--- H 5", "", "ACK 1RA---\n"),
+            ("REC 0RA--- H 5", "", ""),
+            ("REC 0RA--- U", "0RA--- U\n", "ACK 0RA---\n"),
+            ("ASK 1", "", "STOP\n"),
+            ("REC 0RA--- T 0 1 R", "0RA--- T 0 1 R\n", "ACK 0RA---\n"),
+        ],
+    );
+    match node.board() {
+        Some(board) => assert!(rt; board.status() == (Status::Complete { best: Some(1) })),
+        None => panic!(rt; "no board"),
+    }
+}
+
+#[test]
+fn leases_end_with_their_deadline(rt: HostRuntime) {
+    let mut node = begun(&rt, rt.alloc());
+    answers(
+        &rt,
+        &mut node,
+        &[
+            ("TICK 0", "", ""),
+            ("ASK 1", "", "GRANT 1 1 ------\n"),
+            ("TICK 59", "", ""),
+            ("ASK 2", "", "LATER\n"),
+            ("TICK 60", "", ""),
+            ("ASK 2", "", "GRANT 1 2 ------\n"),
+            // A tick never goes back.
+            ("TICK 1", "", ""),
+            // The root is recorded; its children come under the second lease, which is renewed.
+            ("REC ------ H 1", "------ H 1\n", "ACK ------\n"),
+            ("TICK 119", "", ""),
+            ("ASK 1", "", "LATER\n"),
+            ("REC 0RA--- T 0 1 R", "0RA--- T 0 1 R\n", "ACK 0RA---\n"),
+            ("REC ------ H 1", "", "ACK ------\n"),
+            ("REC 0RA--- T 0 1 R", "", "ACK 0RA---\n"),
+            // Its own lease ends where a worker asks, and it gets the table under a new number.
+            ("ASK 2", "", "GRANT 1 3 1RA---\n"),
+            ("ASK 2", "", "GRANT 1 4 1RA---\n"),
+            ("DONE 1 4", "", ""),
+            ("ASK 1", "", "GRANT 1 5 1RA---\n"),
+            ("REC 1RA--- T 0 1 R", "1RA--- T 0 1 R\n", "ACK 1RA---\n"),
+            ("REC 1RA--- T 0 1 R", "", "ACK 1RA---\n"),
+            ("ASK 2", "", "STOP\n"),
+        ],
+    );
+}
+
+#[test]
+fn what_is_odd_is_noted(rt: HostRuntime) {
+    let mut node = begun(&rt, rt.alloc());
+    for (frame, note) in [
+        ("ASK 1", Note::Quiet),
+        ("DONE 1 9", Note::Stale),
+        ("DONE 2 1", Note::Stale),
+        ("DONE 1 1", Note::Quiet),
+        ("DONE 1 1", Note::Stale),
+        ("GRANT 1 1 ------", Note::Strange),
+        ("ACK ------", Note::Strange),
+        ("LATER", Note::Strange),
+        ("STOP", Note::Strange),
+        ("", Note::Strange),
+        ("REC ------ H 7", Note::Refused(201)),
+        ("REC ------ H 100000001", Note::Refused(202)),
+        ("REC ------_------ H 1", Note::Refused(403)),
+    ] {
+        let out = handed(&rt, &mut node, frame);
+        assert!(rt; out.note == note, "{frame}: {:?}", out.note);
+        assert!(rt; out.append.is_empty(), "{frame}");
+    }
+}
+
+// A start from a ledger's bytes, tried again where memory is refused.
+fn started(
+    rt: &impl Abort,
+    alloc: Global,
+    ledger: &[u8],
+) -> (Coordinator, Result<Out, StartFault>) {
+    for _ in 0..9 {
+        let (node, first) = Coordinator::start(alloc, 1, 1, ledger);
+        match first {
+            Err(StartFault::NoMemory) => {}
+            first => return (node, first),
+        }
+    }
+    panic!(rt; "no start")
+}
+
+#[test]
+fn ledgers_start_a_coordinator(rt: HostRuntime) {
+    for (ledger, fault) in [
+        (b"hello\n".as_slice(), StartFault::BadHeader),
+        (
+            b"bb-ledger 1 ------_------\n".as_slice(),
+            StartFault::WrongRoot,
+        ),
+    ] {
+        let (mut node, first) = started(&rt, rt.alloc(), ledger);
+        assert!(rt; first.err() == Some(fault));
+        assert!(rt; node.board().is_none());
+        assert!(rt; node.on(Event::Work).err() == Some(NodeFault::Stopped));
+        assert!(rt; node.on(Event::Frame(b"ASK 1")).err() == Some(NodeFault::Stopped));
+    }
+    for (ledger, cut, append) in [
+        ("bb-led", Some(0), "bb-ledger 1 ------\n"),
+        ("bb-ledger 1 ------\n", None, ""),
+        ("bb-ledger 1 ------\n------ H 1\n", None, ""),
+        ("bb-ledger 1 ------\n------ H 1\n0RA", Some(30), ""),
+        ("bb-ledger 1 ------\n------ H 2\n0RA", Some(19), ""),
+    ] {
+        let (mut node, first) = started(&rt, rt.alloc(), ledger.as_bytes());
+        match first {
+            Ok(out) => {
+                assert!(rt; out.cut == cut, "{ledger}");
+                assert!(rt; out.append.as_slice() == append.as_bytes(), "{ledger}");
+            }
+            Err(fault) => panic!(rt; "{ledger}: {fault}"),
+        }
+        node.stop();
+        assert!(rt; node.on(Event::Tick(1)).err() == Some(NodeFault::Stopped));
+    }
+}

@@ -19,14 +19,14 @@ struct Run<'a> {
 
 // What is answered, what is said of faults, what the ledger then holds, and the outcome.
 #[derive(Drop)]
-struct Ended {
+struct Ending {
     answers: Vec<u8>,
     faults: Vec<u8>,
     ledger: MemLedger,
     outcome: Outcome,
 }
 
-fn ended(alloc: Global, run: &Run<'_>) -> Result<Ended, Fail> {
+fn ended(alloc: Global, run: &Run<'_>) -> Result<Ending, Fail> {
     let mut ledger = MemLedger::holding(run.held.to_vec(alloc)?);
     ledger.fail_at(run.ledger_fails_at);
     let mut input = Source {
@@ -49,7 +49,7 @@ fn ended(alloc: Global, run: &Run<'_>) -> Result<Ended, Fail> {
         &mut answers,
         &mut faults,
     );
-    Ok(Ended {
+    Ok(Ending {
         answers: answers.kept,
         faults: faults.kept,
         ledger,

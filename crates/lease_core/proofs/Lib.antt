@@ -6,3 +6,6 @@ pub mod Granting
 pub mod ChildCount
 pub mod ChildLaws
 pub mod Offering
+pub mod WorkerBoards
+pub mod WorkerFrames
+pub mod WorkerLaws

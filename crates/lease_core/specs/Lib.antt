@@ -4,3 +4,6 @@ pub mod Asks
 pub mod Offers
 pub mod Inside
 pub mod Faults
+pub mod WorkerState
+pub mod WorkerRules
+pub mod WorkerStart

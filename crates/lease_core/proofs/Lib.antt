@@ -9,3 +9,4 @@ pub mod Offering
 pub mod WorkerBoards
 pub mod WorkerFrames
 pub mod WorkerLaws
+pub mod WorkerSends

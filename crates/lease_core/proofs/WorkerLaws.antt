@@ -25,10 +25,11 @@ use Rattle.wire.specs.declared.node.Note.{Note}
 use Rattle.wire.specs.declared.node.Note.TheVariants.{Quiet, Strange, Stale, Refused}
 use Rattle.wire.specs.declared.node.NodeFault.{NodeFault}
 use Rattle.wire.specs.declared.node.Out.{Out}
+use Rattle.lease_core.specs.declared.start_fault.StartFault.{StartFault}
 use Rattle.lease_core.specs.declared.lease_name.LeaseName.{LeaseName}
 use Rattle.lease_core.specs.WorkerState.{WorkerState, empty_board, with_record, StandsFor, IsInStep, records_on, unacknowledged}
 use Rattle.lease_core.specs.WorkerRules.{lines_of, Notes, GrantRow, AckRow, FrameRow, Makes, WorkRow, TickBy, TickRow, Row, Answers}
-use Rattle.lease_core.specs.WorkerStart.{ReadsAsBoard, cut_of}
+use Rattle.lease_core.specs.WorkerStart.{ReadsAsBoard, Starts, cut_of}
 
 -- the board and the ledger stay
 abbrev Stays : WorkerState → Out → WorkerState → Type 0
@@ -182,3 +183,16 @@ pub keeps_step : (old : WorkerState) (e : Happening) (r : Result Out NodeFault) 
     → IfOk r (λ (out : Out). (text : List ℕ) → IsInStep old text → IsInStep new (text_after out text))
 keeps_step old e (Ok out) new gives = λ text stands. stays_in_step old out new (steps_of old e out new gives.1) text stands
 keeps_step old e (Err f) new gives = tt
+
+-- what a worker's start makes of its ledger
+pub starts_step : (id : ℕ) (text : List ℕ) (new : WorkerState) (r : Result Out StartFault) → Starts id text new r → IfOk r (λ (out : Out). IsInStep new (text_after out text))
+starts_step id text new (Ok out) starts =
+    let left = starts.1 in
+    let says = starts.3 in
+    let board = ap (λ (w : WorkerState). w.board) starts.4 in
+    let after : text_after out text ≡ cut_by (cut_of left) text =
+    ap (λ (c : Option ℕ). cut_by c text ++ out.append.items) says.cut_is
+    ∙ (ap (λ (l : List ℕ). cut_by (cut_of left) text ++ l) says.append_is ∙ append-nil (cut_by (cut_of left) text)) in
+    subst (λ (l : List ℕ). IsInStep new l) (sym after)
+    (subst (λ (o : Option Contents). StandsFor o (cut_by (cut_of left) text)) (sym board) (starts_in_step starts.0 text left starts.2))
+starts_step id text new (Err f) starts = tt

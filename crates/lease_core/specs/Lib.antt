@@ -7,3 +7,4 @@ pub mod Faults
 pub mod WorkerState
 pub mod WorkerRules
 pub mod WorkerStart
+pub mod WorkerLaws

@@ -16,6 +16,7 @@ mod start_fault;
 mod told;
 mod worker;
 mod worker_answers;
+mod worker_laws;
 mod worker_start;
 mod worker_turns;
 
@@ -25,3 +26,4 @@ pub use limits::{LEASE_TIME, MAX_LEASES, MAX_TICK_RECORDS, MAX_WORK_RECORDS};
 pub use reply::Reply;
 pub use start_fault::StartFault;
 pub use worker::Worker;
+pub use worker_laws::{workers_append_what_they_gain, workers_send_their_records};

@@ -73,6 +73,19 @@ impl Worker {
         budget: u64,
     ) -> (Worker, Result<Out, StartFault>)
         ensures starts { Starts id ledger.now result.0 result.1 }
+        ensures step { IfOk result.1 (λ out. IsInStep result.0 (text_after out ledger.now)) }
+    {
+        Worker::started(alloc, id, ledger, finders, budget)
+    }
+
+    fn started(
+        alloc: Global,
+        id: u32,
+        ledger: &[u8],
+        finders: Vec<Box<dyn Finder>>,
+        budget: u64,
+    ) -> (Worker, Result<Out, StartFault>)
+        ensures { Starts id ledger.now result.0 result.1 }
     {
         let mut worker = Worker::idle(alloc, id, finders, budget);
         match loaded(alloc, ledger) {

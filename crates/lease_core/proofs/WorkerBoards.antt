@@ -1,7 +1,7 @@
 -- What a worker's board says of tables and of texts.
-use Rattle.std.proofs.Common.{◌≡◌, ◌≢◌, ℕ, suc, Bool, true, List, [], ◌∷◌, ◌++◌, Option, Some, None, Ok, Err, inl, inr, ◌⊎◌, refl, sym, ◌∙◌, ap, subst, arith}
+use Rattle.std.proofs.Common.{◌≡◌, ℕ, suc, Bool, true, List, ◌∷◌, Option, Some, None, Ok, Err, inl, inr, refl, sym, ◌∙◌, ap, subst, arith}
 use Rattle.std.proofs.lemmas.List.{append_cancel_left}
-use Rattle.std.specs.List.{Contains, All, AllPairs}
+use Rattle.std.specs.List.{All, AllPairs}
 use Rattle.std.specs.Option.{is_some}
 use Rattle.std.specs.Ordering.{nat_cmp}
 use Rattle.std.specs.declared.cmp.Ordering.TheVariants.{Less}
@@ -12,10 +12,10 @@ use Rattle.machine_text.specs.Text.{table_of, text_of}
 use Rattle.tree.proofs.TableLaws.{tree_alike, tree_table_child}
 use Rattle.cert.specs.Claim.{Claim, NoClaim, Recorded}
 use Rattle.ledger.specs.Contents.{Contents, IsBoard}
-use Rattle.ledger.specs.Records.{claim_in, mark_in, same_table}
+use Rattle.ledger.specs.Records.{claim_in, same_table}
 use Rattle.ledger.specs.Tally.{AreAll}
 use Rattle.ledger.specs.Offers.{OfferGives}
-use Rattle.ledger.specs.LedgerText.{header_words, HasHeader, IsTornHeader, ReadsAs, ReadsAsNone, LoadGives, PeekGives}
+use Rattle.ledger.specs.LedgerText.{header_words, HasHeader, ReadsAs, LoadGives, PeekGives}
 use Rattle.ledger.specs.declared.left.Left.{Left}
 use Rattle.ledger.specs.declared.faults.LoadFault.{LoadFault}
 use Rattle.ledger.specs.declared.faults.LoadFault.TheVariants.{BadHeader, WrongRoot, NoMemory as NoLoadMemory}

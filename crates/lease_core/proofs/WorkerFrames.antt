@@ -1,10 +1,10 @@
 -- The frames of records that aren't acknowledged, one after another; and where none is written.
-use Rattle.std.proofs.Common.{◌≡◌, ℕ, zero, suc, ◌-◌, Bool, true, false, not, nat_eq, List, [], ◌∷◌, ◌++◌, map, take, refl, sym, ◌∙◌, ap, subst, arith, append_assoc, if◌then◌else◌}
+use Rattle.std.proofs.Common.{◌≡◌, ℕ, zero, suc, ◌-◌, Bool, true, false, not, List, [], ◌∷◌, ◌++◌, map, take, refl, sym, ◌∙◌, ap, subst, arith, append_assoc, if◌then◌else◌}
 use Rattle.std.specs.List.{list_any}
 use Rattle.machine_text.specs.Packed.{Packed}
 use Rattle.cert.specs.Claim.{Recorded}
 use Rattle.ledger.specs.Records.{same_table}
-use Rattle.wire.specs.Message.{Message, Rec}
+use Rattle.wire.specs.Message.{Rec}
 use Rattle.wire.specs.Grammar.{frames_of, message_text}
 use Rattle.lease_core.specs.WorkerState.{unacknowledged}
 

@@ -1,6 +1,6 @@
 -- What each answer of a worker does to its board and its ledger.
 use Rattle.std.specs.Prelude.{IfOk}
-use Rattle.std.proofs.Common.{◌≡◌, ℕ, ◌+◌, Bool, true, false, List, [], ◌∷◌, ◌++◌, ◌⊎◌, inl, inr, Option, Some, None, Result, Ok, Err, map, take, length, refl, sym, ◌∙◌, ap, subst, arith, append_assoc, append-nil, length-append}
+use Rattle.std.proofs.Common.{◌≡◌, ℕ, ◌+◌, Bool, true, false, List, [], ◌∷◌, ◌++◌, ◌⊎◌, inl, inr, Option, Some, None, Result, Ok, Err, take, length, refl, sym, ◌∙◌, ap, subst, arith, append_assoc, append-nil, length-append}
 use Rattle.std.proofs.Math.Seq.{take-append_seam}
 use Rattle.machine_text.specs.Packed.{Packed}
 use Rattle.tree.proofs.TableLaws.{tree_alike, tree_table_child}
@@ -27,8 +27,8 @@ use Rattle.wire.specs.declared.node.NodeFault.{NodeFault}
 use Rattle.wire.specs.declared.node.Out.{Out}
 use Rattle.lease_core.specs.declared.start_fault.StartFault.{StartFault}
 use Rattle.lease_core.specs.declared.lease_name.LeaseName.{LeaseName}
-use Rattle.lease_core.specs.WorkerState.{WorkerState, empty_board, with_record, StandsFor, IsInStep, records_on, unacknowledged}
-use Rattle.lease_core.specs.WorkerRules.{lines_of, Notes, GrantRow, AckRow, FrameRow, Makes, WorkRow, TickBy, TickRow, Row, Answers}
+use Rattle.lease_core.specs.WorkerState.{WorkerState, empty_board, StandsFor, IsInStep, records_on, unacknowledged}
+use Rattle.lease_core.specs.WorkerRules.{lines_of, Notes, GrantRow, AckRow, FrameRow, Makes, WorkRow, TickBy, Row, Answers}
 use Rattle.lease_core.specs.WorkerStart.{ReadsAsBoard, Starts, cut_of}
 
 -- the board and the ledger stay

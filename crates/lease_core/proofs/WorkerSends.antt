@@ -1,6 +1,6 @@
 -- What workers send, and what they append.
-use Rattle.std.proofs.Common.{◌≡◌, ℕ, Bool, true, false, List, [], ◌∷◌, ◌++◌, ◌⊎◌, inl, inr, Option, Some, None, Result, Ok, Err, map, take, drop, refl, sym, ◌∙◌, ap, subst, arith, append-nil}
-use Rattle.std.specs.List.{Contains, list_any, filter}
+use Rattle.std.proofs.Common.{◌≡◌, ℕ, Bool, true, false, List, [], ◌∷◌, ◌++◌, inl, inr, Option, Some, None, Result, Ok, Err, map, take, drop, refl, sym, ◌∙◌, ap, subst, arith, append-nil}
+use Rattle.std.specs.List.{Contains, list_any}
 use Rattle.std.specs.Prelude.{not}
 use Rattle.std.proofs.lemmas.List.{take-append-drop, map-append}
 use Rattle.std.proofs.lemmas.List.Elements.{Contains-append_left, Contains-append_right}
@@ -8,19 +8,16 @@ use Rattle.machine_text.specs.Packed.{Packed}
 use Rattle.cert.specs.Claim.{Recorded}
 use Rattle.ledger.specs.Contents.{Contents}
 use Rattle.ledger.specs.Records.{same_table}
-use Rattle.ledger.specs.LedgerText.{ledger_text}
 use Rattle.ledger.proofs.Apart.{first_member, first_or_later, chosen_from}
 use Rattle.wire.specs.Happening.{Happening, Came, Ticked, Worked}
 use Rattle.wire.specs.Message.{Message, Ask, Grant, Rec, Ack, Later, Done, Stop}
 use Rattle.wire.specs.Grammar.{frames_of, message_of}
 use Rattle.wire.specs.declared.message_fault.MsgFault.{MsgFault}
-use Rattle.wire.specs.declared.node.Note.{Note}
-use Rattle.wire.specs.declared.node.Note.TheVariants.{Quiet, Strange, Stale, Refused}
 use Rattle.wire.specs.declared.node.Out.{Out}
 use Rattle.lease_core.specs.declared.lease_name.LeaseName.{LeaseName}
 use Rattle.lease_core.specs.Limits.{tick_record_limit}
-use Rattle.lease_core.specs.WorkerState.{WorkerState, empty_board, with_record, records_on, unacknowledged}
-use Rattle.lease_core.specs.WorkerRules.{Says, lines_of, Notes, GrantRow, AckRow, FrameRow, Makes, WorkRow, TickBy, TickRow, Row, done_with}
+use Rattle.lease_core.specs.WorkerState.{WorkerState, records_on, unacknowledged}
+use Rattle.lease_core.specs.WorkerRules.{GrantRow, AckRow, FrameRow, WorkRow, TickBy, Row, done_with}
 use Rattle.lease_core.specs.WorkerLaws.{SendsOwn, IsGained, Gains}
 use Rattle.lease_core.proofs.WorkerLaws.{Steps, steps_of}
 

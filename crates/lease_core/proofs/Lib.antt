@@ -8,3 +8,7 @@ pub mod ChildLaws
 pub mod Offering
 pub mod InStep
 pub mod Acknowledged
+pub mod WorkerBoards
+pub mod WorkerFrames
+pub mod WorkerLaws
+pub mod WorkerSends

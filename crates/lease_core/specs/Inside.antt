@@ -4,3 +4,4 @@ pub mod Keeping
 pub mod Children
 pub mod Begun
 pub mod Answering
+pub mod Telling

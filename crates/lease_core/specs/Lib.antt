@@ -7,3 +7,7 @@ pub mod Faults
 pub mod Says
 pub mod CoordinatorRules
 pub mod Starts
+pub mod WorkerState
+pub mod WorkerRules
+pub mod WorkerStart
+pub mod WorkerLaws

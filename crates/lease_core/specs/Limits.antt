@@ -16,3 +16,11 @@ last_number = 18446744073709551615
 -- a table has so many children at most
 abbrev pub child_limit : ℕ
 child_limit = 24
+
+-- a work turn makes no record on a board with so many
+abbrev pub work_record_limit : ℕ
+work_record_limit = 32
+
+-- a tick sends so many records at most
+abbrev pub tick_record_limit : ℕ
+tick_record_limit = 64

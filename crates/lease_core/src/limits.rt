@@ -11,6 +11,12 @@ pub const LEASE_TIME: u64 = 60;
 /// A table has so many children at most.
 pub const MAX_CHILDREN: usize = 24;
 
+/// A work turn makes no record on a board with so many.
+pub const MAX_WORK_RECORDS: u64 = 32;
+
+/// A tick sends so many records at most.
+pub const MAX_TICK_RECORDS: usize = 64;
+
 // Whether one more lease may live, and a number is left for it.
 pub fn may_grant(live: usize, given: u64) -> bool
     ensures { IsTrue result ↔ ((live < lease_limit) × (given < last_number)) }

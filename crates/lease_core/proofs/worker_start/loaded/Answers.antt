@@ -1,0 +1,14 @@
+use Rattle.lease_core.specs.Faults.{start_fault_of}
+use Rattle.lease_core.proofs.Offering.{err_is}
+use Rattle.lease_core.proofs.WorkerBoards.{reads_as_board, no_start, peeked}
+use Rattle.lease_core.proofs.worker_start.loaded.Goals as goal
+
+pub returns-in_err-board-in-Some : goal.returns-in_err-board-in-Some
+returns-in_err-board-in-Some c =
+    rw (err_is c.from_residual-in_err-board-in-Some.result (start_fault_of c.in_err-board-in-Some.field-0.0) c.from_residual-in_err-board-in-Some.ensures.1)
+    (no_start c.in-Some.root c.args.ledger.now c.in_err-board-in-Some.field-0.0 (peeked c.args.ledger.now c.in_ok-root.field-0 c.in-Some.root c.in_ok-root.ensures c.in-Some.is) c.in_err-board-in-Some.ensures)
+
+pub returns-in_ok-board-in-Some : goal.returns-in_ok-board-in-Some
+returns-in_ok-board-in-Some c =
+    reads_as_board c.in-Some.root c.args.ledger.now c.in_ok-board-in-Some.board c.in_ok-board-in-Some.left
+    (peeked c.args.ledger.now c.in_ok-root.field-0 c.in-Some.root c.in_ok-root.ensures c.in-Some.is) c.in_ok-board-in-Some.ensures

@@ -1,5 +1,5 @@
 -- A tape as it is stored, the words on each side as a list with the nearest word last: what is read, written and moved.
-use Rattle.std.proofs.Common.{◌≡◌, ◌≢◌, ℕ, ℤ, pos, ◌-ℤ◌, ◌+◌, ◌*◌, ◌^◌, ◌<◌, List, [], ◌∷◌, ◌++◌, length, reverse, Option, Some, None, sym, ◌∙◌, ap, refl, arith, append_assoc, Result, Ok, Err, OnErr}
+use Rattle.std.proofs.Common.{◌≡◌, ◌≢◌, ℕ, ℤ, pos, ◌-ℤ◌, ◌+◌, ◌*◌, ◌^◌, ◌<◌, List, [], ◌∷◌, ◌++◌, length, reverse, Option, Some, None, sym, ◌∙◌, ap, refl, arith, append_assoc, Result, Ok, Err, OnErr, inl, inr}
 use Rattle.std.specs.Option.{option_to_list, unwrap_or, MatchOption}
 use Rattle.std.specs.Int.{bit_at}
 use Rattle.std.specs.Bool.{⊤}
@@ -9,7 +9,7 @@ use Rattle.machine_text.specs.declared.transition.Sym.{Sym}
 use Rattle.machine_text.specs.declared.transition.Dir.TheVariants.{L, R}
 use Rattle.turing.specs.Tape.{blank, symbol_read, written, moved}
 use Rattle.tape.specs.Word.{ones_of, symbol_of, symbols_of}
-use Rattle.tape.specs.Inside.{stored, place_of}
+use Rattle.tape.specs.Inside.{stored, place_of, IsNearest}
 use Rattle.tape.proofs.Cells.{same_tape}
 use Rattle.tape.proofs.Packed.{same_words, get_or-blank_after, blank_word_before, cell_of-between, with_cell-words}
 
@@ -34,17 +34,12 @@ left_inside b k k' left w right step = same_tape _ _ (omega (arith, ints)) refl
 pub right_inside : (b k k' : ℕ) (left : List ℕ) (w : ℕ) (right : List ℕ) → k' ≡ k + 1 → stored b k' left w right ≡ moved (stored b k left w right) R
 right_inside b k k' left w right step = same_tape _ _ (omega (arith, ints)) refl
 
--- after a pop that gave nothing the list is empty; m is its length as the pop counts it
-pub emptied : (o : Option ℕ) (rest : List ℕ) (n m : ℕ) → m ≡ length rest → MatchOption o ((n ≡ 0) × (m ≡ 0)) (λ _. m + 1 ≡ n) → MatchOption o (length rest ≡ 0) (λ _. ⊤)
-emptied None rest n m e h = sym e ∙ h.1
-emptied (Some r) rest n m e h = tt
-
 -- the right side after a word was put last on it
 reverse-push : (right right' : List ℕ) (w : ℕ) → right' ≡ right ++ w ∷ [] → reverse right' ≡ w ∷ reverse right
 reverse-push right right' w pushed = ap reverse pushed ∙ reverse-append right (w ∷ [])
 
 -- a step of the head into the word to the left, or into a blank one that is new
-pub left_edge : (b b' : ℕ) (left left' right right' : List ℕ) (w w' : ℕ) (o : Option ℕ) → b' + 1 ≡ b → left ≡ left' ++ option_to_list o → MatchOption o (length left' ≡ 0) (λ _. ⊤) → w' ≡ unwrap_or o 0 → right' ≡ right ++ w ∷ [] → stored b' 63 left' w' right' ≡ moved (stored b 0 left w right) L
+left_edge : (b b' : ℕ) (left left' right right' : List ℕ) (w w' : ℕ) (o : Option ℕ) → b' + 1 ≡ b → left ≡ left' ++ option_to_list o → MatchOption o (length left' ≡ 0) (λ _. ⊤) → w' ≡ unwrap_or o 0 → right' ≡ right ++ w ∷ [] → stored b' 63 left' w' right' ≡ moved (stored b 0 left w right) L
 left_edge b b' left [] right right' w w' None to popped none is pushed =
     let size : length left ≡ 0 = ap length popped in
     let words : w' ∷ reverse right' ≡ 0 ∷ (w ∷ reverse right) = ap (λ a. a ∷ reverse right') is ∙ ap (λ v. 0 ∷ v) (reverse-push right right' w pushed) in
@@ -61,7 +56,7 @@ left_edge b b' left left' right right' w w' (Some r) to popped none is pushed =
     same_tape _ _ (omega (arith, ints)) (same_at _ _ _ _ first words)
 
 -- a step of the head into the word to the right, or into a blank one that is new
-pub right_edge : (b b' : ℕ) (left left' right right' : List ℕ) (w w' : ℕ) (o : Option ℕ) → b' ≡ b + 1 → right ≡ right' ++ option_to_list o → MatchOption o (length right' ≡ 0) (λ _. ⊤) → w' ≡ unwrap_or o 0 → left' ≡ left ++ w ∷ [] → stored b' 0 left' w' right' ≡ moved (stored b 63 left w right) R
+right_edge : (b b' : ℕ) (left left' right right' : List ℕ) (w w' : ℕ) (o : Option ℕ) → b' ≡ b + 1 → right ≡ right' ++ option_to_list o → MatchOption o (length right' ≡ 0) (λ _. ⊤) → w' ≡ unwrap_or o 0 → left' ≡ left ++ w ∷ [] → stored b' 0 left' w' right' ≡ moved (stored b 63 left w right) R
 right_edge b b' left left' right [] w w' None to popped none is pushed =
     let size : length left' ≡ length left + 1 = ap length pushed ∙ length_push left w in
     let first : place_of (64 * b') -ℤ pos (64 * length left') ≡ place_of (64 * b) -ℤ pos (64 * length left) = omega (arith, ints) in
@@ -75,6 +70,19 @@ right_edge b b' left left' right right' w w' (Some r) to popped none is pushed =
     let tail : w' ∷ reverse right' ≡ reverse right = ap (λ a. a ∷ reverse right') is ∙ sym (reverse-push right' right r popped) in
     let words : left' ++ w' ∷ reverse right' ≡ left ++ w ∷ reverse right = ap (λ v. v ++ w' ∷ reverse right') pushed ∙ append_assoc left (w ∷ []) (w' ∷ reverse right') ∙ ap (λ v. left ++ w ∷ v) tail in
     same_tape _ _ (omega (arith, ints)) (same_at _ _ _ _ first words)
+
+-- the same, where a side gave its nearest word
+pub left_edge-nearest : (b b' : ℕ) (left left' right right' : List ℕ) (w w' : ℕ) → b' + 1 ≡ b → IsNearest left w' left' → right' ≡ right ++ w ∷ [] → stored b' 63 left' w' right' ≡ moved (stored b 0 left w right) L
+left_edge-nearest b b' left left' right right' w w' to (inl popped) pushed = left_edge b b' left left' right right' w w' (Some w') to popped tt refl pushed
+left_edge-nearest b b' left left' right right' w w' to (inr none) pushed =
+    let same : left ≡ left' ++ [] = none.0 ∙ ap (λ (v : List ℕ). v ++ []) (sym none.1) in
+    left_edge b b' left left' right right' w w' None to same (ap length none.1) none.2 pushed
+
+pub right_edge-nearest : (b b' : ℕ) (left left' right right' : List ℕ) (w w' : ℕ) → b' ≡ b + 1 → IsNearest right w' right' → left' ≡ left ++ w ∷ [] → stored b' 0 left' w' right' ≡ moved (stored b 63 left w right) R
+right_edge-nearest b b' left left' right right' w w' to (inl popped) pushed = right_edge b b' left left' right right' w w' (Some w') to popped tt refl pushed
+right_edge-nearest b b' left left' right right' w w' to (inr none) pushed =
+    let same : right ≡ right' ++ [] = none.0 ∙ ap (λ (v : List ℕ). v ++ []) (sym none.1) in
+    right_edge b b' left left' right right' w w' None to same (ap length none.1) none.2 pushed
 
 -- what is so is so after an error
 pub on_err : {T E A : Type 0} (r : Result T E) → A → OnErr r A

@@ -1,6 +1,7 @@
 // The tape: its cells, its head and its moves.
-ghost use Rattle.std.specs.Prelude.{◌≡◌, IfOk, OnOk, OnErr};
+ghost use Rattle.std.specs.Prelude.{◌≡◌, IfOk, OnOk, OnErr, [], ◌∷◌, ◌++◌};
 ghost use Rattle.machine_text.specs.declared.transition.Dir.TheVariants.{L, R};
+ghost use Rattle.tape.specs.Inside.{IsNearest};
 
 use crate::bits::{symbol_at, with_symbol};
 use crate::limits::MAX_PLACE;
@@ -26,6 +27,9 @@ pub struct Tape {
     pub(crate) block: u64,
     // The bit under the head.
     bit: u32,
+    // The symbol under the head. A step takes it from the word as it was before the write: so the next one
+    // needn't wait for the write.
+    read: Sym,
     pub(crate) word: u64,
     // The visited words on each side of that one, the nearest one last. In each word the leftmost cell is
     // the lowest bit.
@@ -44,7 +48,7 @@ impl Model for Tape {
 
     ghost view = { λ a. stored a.block a.bit a.left.items a.word a.right.items };
 
-    ghost invariant = { λ a. IsPacked a.block a.bit (length a.left.items) (length a.right.items) };
+    ghost invariant = { λ a. IsPacked a.block a.bit a.read a.word (length a.left.items) (length a.right.items) };
 }
 
 impl Tape {
@@ -60,6 +64,7 @@ impl Tape {
         Tape {
             block: ORIGIN,
             bit: 0,
+            read: Sym::Zero,
             word: 0,
             left: Vec::new(alloc),
             right: Vec::new(alloc),
@@ -81,7 +86,7 @@ impl Tape {
     pub fn read(&self) -> Sym
         ensures { result ≡ symbol_read self.now }
     {
-        symbol_at(self.word, self.bit)
+        self.read
     }
 
     /// Writes a symbol under the head.
@@ -90,6 +95,7 @@ impl Tape {
         ensures { self.new ≡ written self.old s }
     {
         self.word = with_symbol(self.word, self.bit, s);
+        self.read = s;
     }
 
     /// Moves the head by one cell to the left. After an error the tape is as it was.
@@ -124,13 +130,14 @@ impl Tape {
     {
         let word = with_symbol(self.word, self.bit, s);
         if self.bit > 0 {
-            self.word = word;
             self.bit -= 1;
+            self.read = symbol_at(self.word, self.bit);
+            self.word = word;
         } else {
-            self.right.push(word)?;
-            self.word = self.left.pop().unwrap_or(0);
+            self.word = next_word(&mut self.left, &mut self.right, word)?;
             self.block -= 1;
             self.bit = LAST_BIT;
+            self.read = symbol_at(self.word, LAST_BIT);
         }
         Ok(())
     }
@@ -145,13 +152,14 @@ impl Tape {
     {
         let word = with_symbol(self.word, self.bit, s);
         if self.bit < LAST_BIT {
-            self.word = word;
             self.bit += 1;
+            self.read = symbol_at(self.word, self.bit);
+            self.word = word;
         } else {
-            self.left.push(word)?;
-            self.word = self.right.pop().unwrap_or(0);
+            self.word = next_word(&mut self.right, &mut self.left, word)?;
             self.block += 1;
             self.bit = 0;
+            self.read = symbol_at(self.word, 0);
         }
         Ok(())
     }
@@ -162,6 +170,7 @@ impl Tape {
     {
         self.block = ORIGIN;
         self.bit = 0;
+        self.read = Sym::Zero;
         self.word = 0;
         self.left.clear();
         self.right.clear();
@@ -177,10 +186,12 @@ impl Tape {
         if copied.is_ok() {
             self.block = other.block;
             self.bit = other.bit;
+            self.read = other.read;
             self.word = other.word;
         } else {
             self.block = ORIGIN;
             self.bit = 0;
+            self.read = Sym::Zero;
             self.word = 0;
             self.left.clear();
             self.right.clear();
@@ -195,11 +206,26 @@ impl Tape {
         Ok(Tape {
             block: self.block,
             bit: self.bit,
+            read: self.read,
             word: self.word,
             left: self.left.to_vec(alloc)?,
             right: self.right.to_vec(alloc)?,
         })
     }
+}
+
+// Puts the word that a head leaves on the side behind it, and takes the nearest one of the side ahead, a blank
+// one where there is none. After an error both sides are as they were.
+// Kept apart from the steps: it is needed for few of them, and they are inlined.
+#[inline(never)]
+fn next_word(ahead: &mut Vec<u64>, behind: &mut Vec<u64>, word: u64) -> Result<u64, NoMemory>
+    ensures left { OnOk result (behind.new.items ≡ behind.old.items ++ word ∷ []) }
+    ensures entered { IfOk result (λ next. IsNearest ahead.old.items next ahead.new.items) }
+    ensures err_ahead { OnErr result (ahead.new.items ≡ ahead.old.items) }
+    ensures err_behind { OnErr result (behind.new.items ≡ behind.old.items) }
+{
+    behind.push(word)?;
+    Ok(ahead.pop().unwrap_or(0))
 }
 
 // Puts the visited words of a tape in the place of another's.

@@ -1,5 +1,7 @@
 pub mod Cells
-pub mod Words
+pub mod Symbols
+pub mod Packed
 pub mod Moves
+pub mod WordBits
 pub mod Places
 pub mod Halves

@@ -1,76 +1,88 @@
--- A tape as it is stored, the visited cells as two lists with the nearest cell last: what is read, written and moved.
-use Rattle.std.proofs.Common.{◌≡◌, ℕ, ℤ, pos, ◌+ℤ◌, ◌-ℤ◌, ◌+◌, List, [], ◌∷◌, ◌++◌, length, reverse, Option, Some, None, sym, ◌∙◌, ap, refl, arith, append_assoc, Result, Ok, Err, OnErr}
+-- A tape as it is stored, the words on each side as a list with the nearest word last: what is read, written and moved.
+use Rattle.std.proofs.Common.{◌≡◌, ◌≢◌, ℕ, ℤ, pos, ◌-ℤ◌, ◌+◌, ◌*◌, ◌^◌, ◌<◌, List, [], ◌∷◌, ◌++◌, length, reverse, Option, Some, None, sym, ◌∙◌, ap, refl, arith, append_assoc, Result, Ok, Err, OnErr, inl, inr}
 use Rattle.std.specs.Option.{option_to_list, unwrap_or, MatchOption}
+use Rattle.std.specs.Int.{bit_at}
 use Rattle.std.specs.Bool.{⊤}
 use Rattle.std.proofs.lemmas.Int.{ints}
 use Rattle.std.proofs.lemmas.List.{reverse-append, length_push}
 use Rattle.machine_text.specs.declared.transition.Sym.{Sym}
-use Rattle.machine_text.specs.declared.transition.Sym.TheVariants.{Zero}
 use Rattle.machine_text.specs.declared.transition.Dir.TheVariants.{L, R}
-use Rattle.turing.specs.Tape.{Tape, blank, symbol_read, written, moved}
-use Rattle.tape.specs.Word.{ones_of}
+use Rattle.turing.specs.Tape.{blank, symbol_read, written, moved}
+use Rattle.tape.specs.Word.{ones_of, symbol_of, symbols_of}
+use Rattle.tape.specs.Inside.{stored, place_of, IsNearest}
 use Rattle.tape.proofs.Cells.{same_tape}
-use Rattle.tape.proofs.Words.{cell_between, with_cell-ones_of, ones_of-blank_before, ones_of-blank_after}
+use Rattle.tape.proofs.Packed.{same_words, get_or-blank_after, blank_word_before, cell_of-between, with_cell-words}
 
--- the tape that is stored so
-abbrev pub stored : ℤ → List Sym → Sym → List Sym → Tape
-stored head left read right = record { head = head; ones = ones_of (head -ℤ pos (length left)) (left ++ read ∷ reverse right) }
-
-same_word : (x y : ℤ) (v w : List Sym) → x ≡ y → v ≡ w → ones_of x v ≡ ones_of y w
-same_word x y v w e f = cc
+same_at : (x y : ℤ) (v w : List ℕ) → x ≡ y → v ≡ w → ones_of x (symbols_of v) ≡ ones_of y (symbols_of w)
+same_at x y v w e f = cc
 
 -- nothing is visited yet
-pub stored-blank : stored (pos 0) [] Zero [] ≡ blank
-unfolding ones_of
-stored-blank = same_tape _ _ refl (ones_of-blank_before _ (pos 1) [] refl)
+pub stored-blank : stored (2 ^ 57) 0 [] 0 [] ≡ blank
+unfolding ones_of symbols_of
+stored-blank = same_tape _ _ refl (blank_word_before (place_of (64 * 2 ^ 57) -ℤ pos (64 * 0)) (pos 64) [] refl)
 
-pub symbol_read-stored : (h : ℤ) (left : List Sym) (s : Sym) (right : List Sym) → symbol_read (stored h left s right) ≡ s
-symbol_read-stored h left s right = cell_between _ left (reverse right) s h (omega (arith, ints))
+pub symbol_read-stored : (b k : ℕ) (left : List ℕ) (w : ℕ) (right : List ℕ) → k < 64 → symbol_read (stored b k left w right) ≡ symbol_of (bit_at w k)
+symbol_read-stored b k left w right within = cell_of-between _ left (reverse right) w k _ within (omega (arith, ints))
 
-pub written-stored : (h : ℤ) (left : List Sym) (s s' : Sym) (right : List Sym) → written (stored h left s right) s' ≡ stored h left s' right
-written-stored h left s s' right = same_tape _ _ refl (with_cell-ones_of _ left (reverse right) s s' h (omega (arith, ints)))
+pub written-stored : (b k : ℕ) (left : List ℕ) (w w' : ℕ) (right : List ℕ) (s : Sym) → k < 64 → symbol_of (bit_at w' k) ≡ s → ((i : ℕ) → i < 64 → i ≢ k → bit_at w' i ≡ bit_at w i) → written (stored b k left w right) s ≡ stored b k left w' right
+written-stored b k left w w' right s within here others = same_tape _ _ refl (with_cell-words _ left (reverse right) w w' k s _ within (omega (arith, ints)) here others)
 
--- after a pop that gave nothing the list is empty; m is its length as the pop counts it
-pub emptied : (o : Option Sym) (rest : List Sym) (n m : ℕ) → m ≡ length rest → MatchOption o ((n ≡ 0) × (m ≡ 0)) (λ _. m + 1 ≡ n) → MatchOption o (length rest ≡ 0) (λ _. ⊤)
-emptied None rest n m e h = sym e ∙ h.1
-emptied (Some r) rest n m e h = tt
+-- a step inside the word
+pub left_inside : (b k k' : ℕ) (left : List ℕ) (w : ℕ) (right : List ℕ) → k' + 1 ≡ k → stored b k' left w right ≡ moved (stored b k left w right) L
+left_inside b k k' left w right step = same_tape _ _ (omega (arith, ints)) refl
 
--- what a word reads where a symbol was put last on the right side
-reverse-push : (right right' : List Sym) (s : Sym) → right' ≡ right ++ s ∷ [] → reverse right' ≡ s ∷ reverse right
-reverse-push right right' s pushed = ap reverse pushed ∙ reverse-append right (s ∷ [])
+pub right_inside : (b k k' : ℕ) (left : List ℕ) (w : ℕ) (right : List ℕ) → k' ≡ k + 1 → stored b k' left w right ≡ moved (stored b k left w right) R
+right_inside b k k' left w right step = same_tape _ _ (omega (arith, ints)) refl
 
--- a step of the head to the left: what was left of it is read, or a blank cell that is new
-pub left_step : (h h' : ℤ) (left left' right right' : List Sym) (s s' : Sym) (o : Option Sym) → h' ≡ h -ℤ pos 1 → left ≡ left' ++ option_to_list o → MatchOption o (length left' ≡ 0) (λ _. ⊤) → s' ≡ unwrap_or o Zero → right' ≡ right ++ s ∷ [] → stored h' left' s' right' ≡ moved (stored h left s right) L
-left_step h h' left [] right right' s s' None to popped none is pushed =
+-- the right side after a word was put last on it
+reverse-push : (right right' : List ℕ) (w : ℕ) → right' ≡ right ++ w ∷ [] → reverse right' ≡ w ∷ reverse right
+reverse-push right right' w pushed = ap reverse pushed ∙ reverse-append right (w ∷ [])
+
+-- a step of the head into the word to the left, or into a blank one that is new
+left_edge : (b b' : ℕ) (left left' right right' : List ℕ) (w w' : ℕ) (o : Option ℕ) → b' + 1 ≡ b → left ≡ left' ++ option_to_list o → MatchOption o (length left' ≡ 0) (λ _. ⊤) → w' ≡ unwrap_or o 0 → right' ≡ right ++ w ∷ [] → stored b' 63 left' w' right' ≡ moved (stored b 0 left w right) L
+left_edge b b' left [] right right' w w' None to popped none is pushed =
     let size : length left ≡ 0 = ap length popped in
-    let word : s' ∷ reverse right' ≡ Zero ∷ (s ∷ reverse right) = ap (λ a. a ∷ reverse right') is ∙ ap (λ w. Zero ∷ w) (reverse-push right right' s pushed) in
-    let after : s ∷ reverse right ≡ left ++ s ∷ reverse right = ap (λ w. w ++ s ∷ reverse right) (sym popped) in
-    let first : h' -ℤ pos 0 ≡ h -ℤ pos 1 = omega (arith, ints) in
-    let second : h ≡ h -ℤ pos (length left) = omega (arith, ints) in
-    same_tape _ _ to (same_word _ _ _ _ first word ∙ ones_of-blank_before (h -ℤ pos 1) h (s ∷ reverse right) (omega (arith, ints)) ∙ same_word _ _ _ _ second after)
-left_step h h' left (x ∷ left') right right' s s' None to popped none is pushed = absurd (omega (arith, none))
-left_step h h' left left' right right' s s' (Some r) to popped none is pushed =
+    let words : w' ∷ reverse right' ≡ 0 ∷ (w ∷ reverse right) = ap (λ a. a ∷ reverse right') is ∙ ap (λ v. 0 ∷ v) (reverse-push right right' w pushed) in
+    let after : w ∷ reverse right ≡ left ++ w ∷ reverse right = ap (λ v. v ++ w ∷ reverse right) (sym popped) in
+    let first : place_of (64 * b') -ℤ pos (64 * 0) ≡ place_of (64 * b) -ℤ pos 64 = omega (arith, ints) in
+    let second : place_of (64 * b) ≡ place_of (64 * b) -ℤ pos (64 * length left) = omega (arith, ints) in
+    same_tape _ _ (omega (arith, ints)) (same_at _ _ _ _ first words ∙ blank_word_before (place_of (64 * b) -ℤ pos 64) (place_of (64 * b)) (w ∷ reverse right) (omega (arith, ints)) ∙ same_at _ _ _ _ second after)
+left_edge b b' left (x ∷ left') right right' w w' None to popped none is pushed = absurd (omega (arith, none))
+left_edge b b' left left' right right' w w' (Some r) to popped none is pushed =
     let size : length left ≡ length left' + 1 = ap length popped ∙ length_push left' r in
-    let first : h' -ℤ pos (length left') ≡ h -ℤ pos (length left) = omega (arith, ints) in
-    let tail : s' ∷ reverse right' ≡ r ∷ (s ∷ reverse right) = ap (λ a. a ∷ reverse right') is ∙ ap (λ w. r ∷ w) (reverse-push right right' s pushed) in
-    let word : left' ++ s' ∷ reverse right' ≡ left ++ s ∷ reverse right = ap (λ w. left' ++ w) tail ∙ sym (append_assoc left' (r ∷ []) (s ∷ reverse right)) ∙ ap (λ w. w ++ s ∷ reverse right) (sym popped) in
-    same_tape _ _ to (same_word _ _ _ _ first word)
+    let first : place_of (64 * b') -ℤ pos (64 * length left') ≡ place_of (64 * b) -ℤ pos (64 * length left) = omega (arith, ints) in
+    let tail : w' ∷ reverse right' ≡ r ∷ (w ∷ reverse right) = ap (λ a. a ∷ reverse right') is ∙ ap (λ v. r ∷ v) (reverse-push right right' w pushed) in
+    let words : left' ++ w' ∷ reverse right' ≡ left ++ w ∷ reverse right = ap (λ v. left' ++ v) tail ∙ sym (append_assoc left' (r ∷ []) (w ∷ reverse right)) ∙ ap (λ v. v ++ w ∷ reverse right) (sym popped) in
+    same_tape _ _ (omega (arith, ints)) (same_at _ _ _ _ first words)
 
--- a step of the head to the right: what was right of it is read, or a blank cell that is new
-pub right_step : (h h' : ℤ) (left left' right right' : List Sym) (s s' : Sym) (o : Option Sym) → h' ≡ h +ℤ pos 1 → right ≡ right' ++ option_to_list o → MatchOption o (length right' ≡ 0) (λ _. ⊤) → s' ≡ unwrap_or o Zero → left' ≡ left ++ s ∷ [] → stored h' left' s' right' ≡ moved (stored h left s right) R
-right_step h h' left left' right [] s s' None to popped none is pushed =
-    let size : length left' ≡ length left + 1 = ap length pushed ∙ length_push left s in
-    let first : h' -ℤ pos (length left') ≡ h -ℤ pos (length left) = omega (arith, ints) in
-    let word : left' ++ s' ∷ [] ≡ (left ++ s ∷ []) ++ Zero ∷ [] = ap (λ w. w ++ s' ∷ []) pushed ∙ ap (λ a. (left ++ s ∷ []) ++ a ∷ []) is in
-    let after : left ++ s ∷ [] ≡ left ++ s ∷ reverse right = ap (λ w. left ++ s ∷ reverse w) (sym popped) in
-    same_tape _ _ to (same_word _ _ _ _ first word ∙ ones_of-blank_after (h -ℤ pos (length left)) (left ++ s ∷ []) ∙ same_word _ _ _ _ refl after)
-right_step h h' left left' right (x ∷ right') s s' None to popped none is pushed = absurd (omega (arith, none))
-right_step h h' left left' right right' s s' (Some r) to popped none is pushed =
-    let size : length left' ≡ length left + 1 = ap length pushed ∙ length_push left s in
-    let first : h' -ℤ pos (length left') ≡ h -ℤ pos (length left) = omega (arith, ints) in
-    let tail : s' ∷ reverse right' ≡ reverse right = ap (λ a. a ∷ reverse right') is ∙ sym (reverse-push right' right r popped) in
-    let word : left' ++ s' ∷ reverse right' ≡ left ++ s ∷ reverse right = ap (λ w. w ++ s' ∷ reverse right') pushed ∙ append_assoc left (s ∷ []) (s' ∷ reverse right') ∙ ap (λ w. left ++ s ∷ w) tail in
-    same_tape _ _ to (same_word _ _ _ _ first word)
+-- a step of the head into the word to the right, or into a blank one that is new
+right_edge : (b b' : ℕ) (left left' right right' : List ℕ) (w w' : ℕ) (o : Option ℕ) → b' ≡ b + 1 → right ≡ right' ++ option_to_list o → MatchOption o (length right' ≡ 0) (λ _. ⊤) → w' ≡ unwrap_or o 0 → left' ≡ left ++ w ∷ [] → stored b' 0 left' w' right' ≡ moved (stored b 63 left w right) R
+right_edge b b' left left' right [] w w' None to popped none is pushed =
+    let size : length left' ≡ length left + 1 = ap length pushed ∙ length_push left w in
+    let first : place_of (64 * b') -ℤ pos (64 * length left') ≡ place_of (64 * b) -ℤ pos (64 * length left) = omega (arith, ints) in
+    let words : left' ++ w' ∷ [] ≡ (left ++ w ∷ []) ++ 0 ∷ [] = ap (λ v. v ++ w' ∷ []) pushed ∙ ap (λ a. (left ++ w ∷ []) ++ a ∷ []) is in
+    let after : left ++ w ∷ [] ≡ left ++ w ∷ reverse right = ap (λ v. left ++ w ∷ reverse v) (sym popped) in
+    same_tape _ _ (omega (arith, ints)) (same_at _ _ _ _ first words ∙ same_words _ _ (left ++ w ∷ []) (get_or-blank_after (left ++ w ∷ [])) ∙ same_at _ _ _ _ refl after)
+right_edge b b' left left' right (x ∷ right') w w' None to popped none is pushed = absurd (omega (arith, none))
+right_edge b b' left left' right right' w w' (Some r) to popped none is pushed =
+    let size : length left' ≡ length left + 1 = ap length pushed ∙ length_push left w in
+    let first : place_of (64 * b') -ℤ pos (64 * length left') ≡ place_of (64 * b) -ℤ pos (64 * length left) = omega (arith, ints) in
+    let tail : w' ∷ reverse right' ≡ reverse right = ap (λ a. a ∷ reverse right') is ∙ sym (reverse-push right' right r popped) in
+    let words : left' ++ w' ∷ reverse right' ≡ left ++ w ∷ reverse right = ap (λ v. v ++ w' ∷ reverse right') pushed ∙ append_assoc left (w ∷ []) (w' ∷ reverse right') ∙ ap (λ v. left ++ w ∷ v) tail in
+    same_tape _ _ (omega (arith, ints)) (same_at _ _ _ _ first words)
+
+-- the same, where a side gave its nearest word
+pub left_edge-nearest : (b b' : ℕ) (left left' right right' : List ℕ) (w w' : ℕ) → b' + 1 ≡ b → IsNearest left w' left' → right' ≡ right ++ w ∷ [] → stored b' 63 left' w' right' ≡ moved (stored b 0 left w right) L
+left_edge-nearest b b' left left' right right' w w' to (inl popped) pushed = left_edge b b' left left' right right' w w' (Some w') to popped tt refl pushed
+left_edge-nearest b b' left left' right right' w w' to (inr none) pushed =
+    let same : left ≡ left' ++ [] = none.0 ∙ ap (λ (v : List ℕ). v ++ []) (sym none.1) in
+    left_edge b b' left left' right right' w w' None to same (ap length none.1) none.2 pushed
+
+pub right_edge-nearest : (b b' : ℕ) (left left' right right' : List ℕ) (w w' : ℕ) → b' ≡ b + 1 → IsNearest right w' right' → left' ≡ left ++ w ∷ [] → stored b' 0 left' w' right' ≡ moved (stored b 63 left w right) R
+right_edge-nearest b b' left left' right right' w w' to (inl popped) pushed = right_edge b b' left left' right right' w w' (Some w') to popped tt refl pushed
+right_edge-nearest b b' left left' right right' w w' to (inr none) pushed =
+    let same : right ≡ right' ++ [] = none.0 ∙ ap (λ (v : List ℕ). v ++ []) (sym none.1) in
+    right_edge b b' left left' right right' w w' None to same (ap length none.1) none.2 pushed
 
 -- what is so is so after an error
 pub on_err : {T E A : Type 0} (r : Result T E) → A → OnErr r A

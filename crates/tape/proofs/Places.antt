@@ -1,82 +1,106 @@
--- The cells of a stored tape by their distance from the head, and where its ones end.
-use Rattle.std.proofs.Common.{◌≡◌, ℕ, zero, suc, ℤ, pos, negsuc, neg_ℤ, ◌+ℤ◌, ◌-ℤ◌, ◌<ℤ◌, ◌≤ℤ◌, ◌<◌, ◌≤◌, ◌+◌, ◌-◌, ◌^◌, min, List, ◌∷◌, ◌++◌, length, reverse, get_or, ◌⊎◌, ◌↔◌, inl, inr, sym, ◌∙◌, ap, refl, arith}
-use Rattle.std.specs.Int.RustNames.{unsigned_abs}
-use Rattle.std.specs.Int.{w64, saturate_signed}
+-- The words of a stored tape by their distance from the head's, and where its ones end.
+use Rattle.std.proofs.Common.{◌≡◌, ℕ, zero, suc, ℤ, pos, negsuc, neg_ℤ, ◌+ℤ◌, ◌-ℤ◌, ◌<ℤ◌, ◌≤ℤ◌, ◌<◌, ◌≤◌, ◌+◌, ◌-◌, ◌*◌, ◌/◌, ◌%◌, ◌^◌, min, List, ◌∷◌, ◌++◌, length, reverse, get_or, ◌⊎◌, ◌↔◌, inl, inr, sym, ◌∙◌, ap, refl, arith}
+use Rattle.std.specs.Int.{bit_at, w64, saturate_signed}
+use Rattle.std.specs.Int.RustNames.{bit_or}
 use Rattle.std.specs.Ordering.{int_cmp}
 use Rattle.std.specs.FinSet as set
 use Rattle.std.proofs.lemmas.Int.{ints, by_lt_z}
 use Rattle.std.proofs.lemmas.Bool.{cases_lt}
+use Rattle.std.proofs.lemmas.Nat.Bits.{bit_at-zero}
 use Rattle.std.proofs.lemmas.List.{get_or_append_left, get_or-append-add, get_or-reverse, get_or_past, length-append, length-reverse}
 use Rattle.machine_text.specs.declared.transition.Sym.{Sym}
 use Rattle.machine_text.specs.declared.transition.Sym.TheVariants.{Zero, One}
 use Rattle.machine_text.specs.declared.transition.Dir.{Dir}
 use Rattle.machine_text.specs.declared.transition.Dir.TheVariants.{L, R}
 use Rattle.turing.specs.Tape.{cell_of}
-use Rattle.tape.specs.Limits.{place_limit}
 use Rattle.turing.specs.Translated.{Beyond}
-use Rattle.tape.specs.Inside.{IsVisited, HasOnesWithin, IsReached}
-use Rattle.tape.proofs.Words.{blank_before, cell_in}
-use Rattle.tape.proofs.Moves.{stored}
+use Rattle.tape.specs.Limits.{place_limit}
+use Rattle.tape.specs.Word.{symbol_of, symbols_of, Holds}
+use Rattle.tape.specs.Inside.{stored, place_of, IsPacked, HasOnesWithin, IsReached}
+use Rattle.tape.proofs.Symbols.{blank_before}
+use Rattle.tape.proofs.Packed.{by_word, cell_of-words, cell_of-between}
+use Rattle.tape.proofs.WordBits.{joined_low, joined_high}
 
--- what a side holds at a distance from the head, its nearest cell being the last
-pub record IsAtDistance (side : List Sym) (d : ℕ) (s : Sym) : Type 0 where
-  pub visited : d ≤ length side → s ≡ get_or side (length side - d) Zero
-  pub blank : length side < d → s ≡ Zero
+-- what a side holds at a distance from the head's word, its nearest word being the last
+pub record IsAtDistance (side : List ℕ) (d w : ℕ) : Type 0 where
+  pub visited : d ≤ length side → w ≡ get_or side (length side - d) 0
+  pub blank : length side < d → w ≡ 0
 
--- a cell left of the head
-pub cell_left : (h x : ℤ) (left right : List Sym) (s r : Sym) (d : ℕ) → x <ℤ h → d ≡ unsigned_abs (h -ℤ x) → IsAtDistance left d r → r ≡ cell_of (stored h left s right).ones x
-cell_left h x left right s r d before is at =
+-- a blank word's bits
+blank_bit : (w i : ℕ) → w ≡ 0 → symbol_of (bit_at w i) ≡ Zero
+blank_bit w i blank = ap (λ n. symbol_of (bit_at n i)) blank ∙ ap symbol_of (bit_at-zero i)
+
+-- a word left of the head's
+pub word_left : (b b' k : ℕ) (left right : List ℕ) (w r d : ℕ) → b' < b → d ≡ b - b' → IsAtDistance left d r → Holds r (stored b k left w right).ones (place_of (64 * b'))
+word_left b b' k left right w r d before is at i inside =
     elim (cases_lt (length left) d) [
-      | inl far ↦ at.blank far ∙ sym (blank_before _ (left ++ s ∷ reverse right) x (omega (arith, ints)))
-      | inr near ↦ let i : x ≡ (h -ℤ pos (length left)) +ℤ pos (length left - d) = omega (arith, ints) in
-          let inside : length left - d < length left = omega (arith, ints) in
-          at.visited near ∙ sym (get_or_append_left left (s ∷ reverse right) Zero (length left - d) inside) ∙ sym (cell_in _ (left ++ s ∷ reverse right) (length left - d) x i)
+      | inl far ↦ blank_bit r i (at.blank far) ∙ sym (blank_before _ (symbols_of (left ++ w ∷ reverse right)) _ (omega (arith, ints)))
+      | inr near ↦ let within : length left - d < length left = omega arith in
+          ap (λ n. symbol_of (bit_at n i)) (at.visited near ∙ sym (get_or_append_left left (w ∷ reverse right) 0 (length left - d) within))
+          ∙ sym (cell_of-words _ (left ++ w ∷ reverse right) (length left - d) i _ inside (omega (arith, ints)))
     ]
 
--- a cell right of it
-pub cell_right : (h x : ℤ) (left right : List Sym) (s r : Sym) (d : ℕ) → h <ℤ x → d ≡ unsigned_abs (h -ℤ x) → IsAtDistance right d r → r ≡ cell_of (stored h left s right).ones x
-cell_right h x left right s r zero after is at = absurd (omega (arith, ints))
-cell_right h x left right s r (suc d) after is at =
-    let i : x ≡ (h -ℤ pos (length left)) +ℤ pos (length left + suc d) = omega (arith, ints) in
-    let seen : cell_of (stored h left s right).ones x ≡ get_or (reverse right) d Zero =
-    cell_in _ (left ++ s ∷ reverse right) (length left + suc d) x i ∙ get_or-append-add left (s ∷ reverse right) (suc d) Zero
-    in
+-- the head's word
+pub word_here : (b b' k : ℕ) (left right : List ℕ) (w : ℕ) → b' ≡ b → Holds w (stored b k left w right).ones (place_of (64 * b'))
+word_here b b' k left right w here i inside = sym (cell_of-between _ left (reverse right) w i _ inside (omega (arith, ints)))
+
+-- a word right of it
+pub word_right : (b b' k : ℕ) (left right : List ℕ) (w r d : ℕ) → b < b' → d ≡ b' - b → IsAtDistance right d r → Holds r (stored b k left w right).ones (place_of (64 * b'))
+word_right b b' k left right w r zero after is at i inside = absurd (omega arith)
+word_right b b' k left right w r (suc d) after is at i inside =
     elim (cases_lt (length right) (suc d)) [
-      | inl far ↦ at.blank far ∙ sym (seen ∙ get_or_past (reverse right) d Zero (omega (arith, length-reverse right)))
-      | inr near ↦ let inside : d < length right = omega arith in
+      | inl far ↦ blank_bit r i (at.blank far) ∙ sym (seen ∙ ap (λ n. symbol_of (bit_at n i)) (get_or_past (reverse right) d 0 (omega (arith, length-reverse right))) ∙ ap symbol_of (bit_at-zero i))
+      | inr near ↦ let within : d < length right = omega arith in
           let same : length right - 1 - d ≡ length right - suc d = omega arith in
-          at.visited near ∙ sym (seen ∙ get_or-reverse right d Zero inside ∙ ap (λ k. get_or right k Zero) same)
+          ap (λ n. symbol_of (bit_at n i)) (at.visited near)
+          ∙ sym (seen ∙ ap (λ n. symbol_of (bit_at n i)) (get_or-reverse right d 0 within ∙ ap (λ k. get_or right k 0) same))
+    ]
+  where
+    seen : cell_of (stored b k left w right).ones (place_of (64 * b') +ℤ pos i) ≡ symbol_of (bit_at (get_or (reverse right) d 0) i)
+    seen = cell_of-words _ (left ++ w ∷ reverse right) (length left + suc d) i _ inside (omega (arith, ints)) ∙ ap (λ n. symbol_of (bit_at n i)) (get_or-append-add left (w ∷ reverse right) (suc d) 0)
+
+-- 64 cells from two words side by side
+pub Holds-joined : (ones : set.FinSet int_cmp) (n a b : ℕ) → a < 2 ^ 64 → (n % 64 ≡ 0 → ⊥) → Holds a ones (place_of (64 * (n / 64))) → Holds b ones (place_of (64 * (n / 64 + 1))) → Holds (bit_or (a / 2 ^ (n % 64)) (b * 2 ^ (64 - n % 64) % 2 ^ 64)) ones (place_of n)
+Holds-joined ones n a b fits some first second i inside =
+    elim (cases_lt i (64 - n % 64)) [
+      | inl low ↦ let place : place_of (64 * (n / 64)) +ℤ pos (n % 64 + i) ≡ place_of n +ℤ pos i = omega (arith, ints) in
+          ap symbol_of (joined_low a b (n % 64) i (omega (arith, some)) (omega arith) low) ∙ first (n % 64 + i) (omega arith) ∙ ap (cell_of ones) place
+      | inr high ↦ let place : place_of (64 * (n / 64 + 1)) +ℤ pos (i - (64 - n % 64)) ≡ place_of n +ℤ pos i = omega (arith, ints) in
+          ap symbol_of (joined_high a b (n % 64) i fits (omega (arith, some)) (omega arith) high inside) ∙ second (i - (64 - n % 64)) (omega arith) ∙ ap (cell_of ones) place
     ]
 
--- the ones of a stored tape stand in its visited part
-pub HasOnesWithin-stored : (h : ℤ) (left right : List Sym) (s : Sym) (first last : ℤ) → first ≡ h -ℤ pos (length left) → last ≡ h +ℤ pos (length right) → HasOnesWithin (stored h left s right).ones first last
-HasOnesWithin-stored h left right s first last begins ends = record {
-  low = λ x one. by_lt_z x first (λ out. absurd (let blank : cell_of (stored h left s right).ones x ≡ Zero = blank_before _ (left ++ s ∷ reverse right) x (omega (arith, ints)) in cc)) (λ inside. inside);
+-- the ones of a stored tape stand in its words
+pub HasOnesWithin-stored : (b k : ℕ) (left right : List ℕ) (w : ℕ) (first last : ℤ) → first ≡ place_of (64 * b) -ℤ pos (64 * length left) → last ≡ (place_of (64 * b) +ℤ pos (64 * length right)) +ℤ pos 63 → HasOnesWithin (stored b k left w right).ones first last
+HasOnesWithin-stored b k left right w first last begins ends = record {
+  low = λ x one. by_lt_z x first (λ out. absurd (let blank : cell_of (stored b k left w right).ones x ≡ Zero = blank_before _ (symbols_of (left ++ w ∷ reverse right)) x (omega (arith, ints)) in cc)) (λ inside. inside);
   high = λ x one. by_lt_z last x (λ out. absurd (let blank = blank_after x out in cc)) (λ inside. inside);
 }
   where
-    blank_after : (x : ℤ) → last <ℤ x → cell_of (stored h left s right).ones x ≡ Zero
-    blank_after x out =
-        let k = unsigned_abs (x -ℤ (h -ℤ pos (length left))) in
-        let i : x ≡ (h -ℤ pos (length left)) +ℤ pos k = omega (arith, ints) in
-        let past : length (left ++ s ∷ reverse right) ≤ k = omega (arith, ints, length-append left (s ∷ reverse right), length-reverse right) in
-        cell_in _ (left ++ s ∷ reverse right) k x i ∙ get_or_past (left ++ s ∷ reverse right) k Zero past
+    blank_after : (x : ℤ) → last <ℤ x → cell_of (stored b k left w right).ones x ≡ Zero
+    blank_after x out = by_word (place_of (64 * b) -ℤ pos (64 * length left)) x
+        (λ before. absurd (omega (arith, ints)))
+        (λ i j inside e. cell_of-words _ (left ++ w ∷ reverse right) i j x inside e ∙ blank_bit _ j (get_or_past (left ++ w ∷ reverse right) i 0 (omega (arith, ints, e, length-append left (w ∷ reverse right), length-reverse right))))
 
 -- so they stand where heads within the limit can have come
-pub IsReached-visited : (ones : set.FinSet int_cmp) (first last : ℤ) → HasOnesWithin ones first last → IsVisited first last → IsReached ones
-IsReached-visited ones first last within visited = record {
-  low = λ x one. omega (arith, ints, within.low x one);
-  high = λ x one. omega (arith, ints, within.high x one);
+pub IsReached-packed : (ones : set.FinSet int_cmp) (b k : ℕ) (read : Sym) (w l r : ℕ) (first last : ℤ) → HasOnesWithin ones first last → first ≡ place_of (64 * b) -ℤ pos (64 * l) → last ≡ (place_of (64 * b) +ℤ pos (64 * r)) +ℤ pos 63 → IsPacked b k read w l r → IsReached ones
+IsReached-packed ones b k read w l r first last within begins ends packed = record {
+  low = λ x one. let low = packed.low in omega (arith, ints, within.low x one);
+  high = λ x one. let high = packed.high in omega (arith, ints, within.high x one);
 }
 
 -- beyond them all is blank
-blank_far : (ones : set.FinSet int_cmp) (x : ℤ) → IsReached ones → ((place_limit +ℤ pos 1) <ℤ x) ⊎ (x <ℤ (neg_ℤ place_limit -ℤ pos 1)) → cell_of ones x ≡ Zero
+pub blank_far : (ones : set.FinSet int_cmp) (x : ℤ) → IsReached ones → ((place_limit +ℤ pos 63) <ℤ x) ⊎ (x <ℤ (neg_ℤ place_limit -ℤ pos 64)) → cell_of ones x ≡ Zero
 blank_far ones x reached far = go (cell_of ones x) refl far
   where
-    go : (s : Sym) → cell_of ones x ≡ s → ((place_limit +ℤ pos 1) <ℤ x) ⊎ (x <ℤ (neg_ℤ place_limit -ℤ pos 1)) → cell_of ones x ≡ Zero
+    go : (s : Sym) → cell_of ones x ≡ s → ((place_limit +ℤ pos 63) <ℤ x) ⊎ (x <ℤ (neg_ℤ place_limit -ℤ pos 64)) → cell_of ones x ≡ Zero
     go Zero is far = is
     go One is (inl after) = absurd (omega (arith, ints, reached.high x is))
     go One is (inr before) = absurd (omega (arith, ints, reached.low x is))
+
+-- a word whose first place has no number of the program's is blank
+pub Holds-far : (ones : set.FinSet int_cmp) (x : ℤ) → IsReached ones → ((x +ℤ pos (2 ^ 63)) <ℤ pos 0) ⊎ (pos (2 ^ 64) ≤ℤ (x +ℤ pos (2 ^ 63))) → Holds 0 ones x
+Holds-far ones x reached (inl before) i inside = ap symbol_of (bit_at-zero i) ∙ sym (blank_far ones _ reached (inr (omega (arith, ints))))
+Holds-far ones x reached (inr after) i inside = ap symbol_of (bit_at-zero i) ∙ sym (blank_far ones _ reached (inl (omega (arith, ints))))
 
 -- a number is kept, or it is beyond the range of the program's numbers and the last one of it is taken
 data Saturated (z : ℤ) : Type 0 where
@@ -94,16 +118,8 @@ saturated (negsuc n) = elim (cases_lt n (2 ^ 63)) [
   | inr large ↦ below (omega (arith, ints)) (let last : min n (2 ^ 63 - 1) ≡ 2 ^ 63 - 1 = omega arith in ap negsuc last)
 ]
 
--- a place beyond that range is as blank as the last one of it
-pub cell_of-saturated : (ones : set.FinSet int_cmp) (x : ℤ) → IsReached ones → cell_of ones (saturate_signed w64 x) ≡ cell_of ones x
-cell_of-saturated ones x reached = elim (saturated x) [
-  | kept same ↦ ap (cell_of ones) same
-  | above far last ↦ blank_far ones _ reached (inl (omega (arith, ints, last))) ∙ sym (blank_far ones x reached (inl (omega (arith, ints))))
-  | below far last ↦ blank_far ones _ reached (inr (omega (arith, ints, last))) ∙ sym (blank_far ones x reached (inr (omega (arith, ints))))
-]
-
--- and the same ones stand at or beyond it
-pub Beyond-saturated : (side : Dir) (from x : ℤ) → (neg_ℤ place_limit -ℤ pos 1) ≤ℤ x → x ≤ℤ (place_limit +ℤ pos 1) → Beyond side (saturate_signed w64 from) x ↔ Beyond side from x
+-- the same ones stand at or beyond a place that is beyond that range as at or beyond the last one of it
+pub Beyond-saturated : (side : Dir) (from x : ℤ) → (neg_ℤ place_limit -ℤ pos 64) ≤ℤ x → x ≤ℤ (place_limit +ℤ pos 63) → Beyond side (saturate_signed w64 from) x ↔ Beyond side from x
 Beyond-saturated L from x low high = elim (saturated from) [
   | kept same ↦ (λ b. omega (arith, ints, same), λ b. omega (arith, ints, same))
   | above far last ↦ (λ b. omega (arith, ints, last), λ b. omega (arith, ints, last))

@@ -1,28 +1,54 @@
--- What only the code needs: the places that a tape has visited, where its ones can stand, and one half of what it
--- means that two half tapes are the same.
-use Rattle.std.specs.Prelude.{◌≡◌, ℤ, pos, ◌+ℤ◌, ◌-ℤ◌, neg_ℤ, ◌≤ℤ◌}
+-- What only the code needs: how a tape is kept in words, where its ones can stand, and one half of what it means
+-- that two half tapes are the same.
+use Rattle.std.specs.Prelude.{◌≡◌, ℕ, ◌+◌, ◌*◌, ◌^◌, ◌<◌, ◌≤◌, ℤ, pos, ◌+ℤ◌, ◌-ℤ◌, neg_ℤ, ◌≤ℤ◌, ◌⊎◌, List, [], ◌∷◌, ◌++◌, length, reverse}
+use Rattle.std.specs.Int.{bit_at}
 use Rattle.std.specs.Ordering.{int_cmp}
 use Rattle.std.specs.FinSet as set
+use Rattle.machine_text.specs.declared.transition.Sym.{Sym}
 use Rattle.machine_text.specs.declared.transition.Sym.TheVariants.{One}
 use Rattle.machine_text.specs.declared.transition.Dir.{Dir}
-use Rattle.turing.specs.Tape.{cell_of}
+use Rattle.turing.specs.Tape.{Tape, cell_of}
 use Rattle.turing.specs.Translated.{Beyond}
 use Rattle.tape.specs.Limits.{place_limit}
+use Rattle.tape.specs.Word.{ones_of, symbol_of, symbols_of}
 
--- the first and the last place to which heads came that were within the limit before each move
-pub record IsVisited (first last : ℤ) : Type 0 where
-  pub low : (neg_ℤ place_limit -ℤ pos 1) ≤ℤ first
-  pub high : last ≤ℤ (place_limit +ℤ pos 1)
+-- places are numbered from -2^63 on; the word numbered n holds those numbered from 64 * n on
+abbrev pub place_of : ℕ → ℤ
+place_of n = pos n -ℤ pos (2 ^ 63)
+
+-- the tape whose head stands on a bit of the word numbered `block`, with the words on each side of that one, the
+-- nearest one last
+abbrev pub stored : ℕ → ℕ → List ℕ → ℕ → List ℕ → Tape
+stored block bit left word right = record {
+  head = place_of (64 * block + bit);
+  ones = ones_of (place_of (64 * block) -ℤ pos (64 * length left)) (symbols_of (left ++ word ∷ reverse right));
+}
+
+-- a side gives its nearest word, or a blank one where it has none; which words it has then
+abbrev pub IsNearest : List ℕ → ℕ → List ℕ → Type 0
+IsNearest side word rest = (side ≡ rest ++ word ∷ []) ⊎ ((side ≡ []) × (rest ≡ []) × (word ≡ 0))
+
+-- the head stands in its word, what it reads is the symbol there, and the words are some to which heads came that were within the limit before each
+-- move, where so many stand on each side
+pub record IsPacked (block bit : ℕ) (read : Sym) (word left right : ℕ) : Type 0 where
+  pub inside : bit < 64
+  pub reads : read ≡ symbol_of (bit_at word bit)
+  pub low : 2 ^ 56 + left ≤ block + 1
+  pub high : block + right ≤ 2 ^ 57 + 2 ^ 56
 
 -- all the ones stand from one place to another
 pub record HasOnesWithin (ones : set.FinSet int_cmp) (first last : ℤ) : Type 0 where
   pub low : (x : ℤ) → cell_of ones x ≡ One → first ≤ℤ x
   pub high : (x : ℤ) → cell_of ones x ≡ One → x ≤ℤ last
 
--- all the ones stand where such heads came
+-- all the ones stand in words to which such heads came
 abbrev pub IsReached : set.FinSet int_cmp → Type 0
-IsReached ones = HasOnesWithin ones (neg_ℤ place_limit -ℤ pos 1) (place_limit +ℤ pos 1)
+IsReached ones = HasOnesWithin ones (neg_ℤ place_limit -ℤ pos 64) (place_limit +ℤ pos 63)
 
 -- each one at or beyond a place has a one of the other tape `shift` further to the right
 abbrev pub OnesWithin : Dir → ℤ → ℤ → set.FinSet int_cmp → set.FinSet int_cmp → Type 0
 OnesWithin side from shift ones others = (x : ℤ) → Beyond side from x → cell_of ones x ≡ One → cell_of others (x +ℤ shift) ≡ One
+
+-- the same for the ones of the word so numbered alone
+abbrev pub WordWithin : Dir → ℤ → ℤ → ℕ → set.FinSet int_cmp → set.FinSet int_cmp → Type 0
+WordWithin side from shift block ones others = (i : ℕ) → i < 64 → Beyond side from (place_of (64 * block + i)) → cell_of ones (place_of (64 * block + i)) ≡ One → cell_of others (place_of (64 * block + i) +ℤ shift) ≡ One

@@ -1,16 +1,13 @@
 // Whether two tapes, or two half tapes, hold the same symbols.
-ghost use Rattle.std.specs.Prelude.{◌≡◌, ◌↔◌, IsTrue, ℤ, pos, ◌+ℤ◌, ◌≤ℤ◌, ◌<ℤ◌};
-ghost use Rattle.machine_text.specs.declared.transition.Sym.TheVariants.{One};
-ghost use Rattle.turing.specs.Tape.{cell_of};
-ghost use Rattle.tape.specs.Limits.{place_limit};
-ghost use Rattle.turing.specs.Translated.{Beyond};
+ghost use Rattle.std.specs.Prelude.{◌≡◌, ◌↔◌, ◌<◌, ◌^◌, IsTrue};
 
+use crate::bits::beyond;
 use crate::tape::Tape;
-use machine_text::{Dir, Sym};
+use machine_text::Dir;
 
 impl Tape {
     ghost use Rattle.tape.specs.Places.{IsWithinLimit, SameBeyond};
-    ghost use Rattle.tape.specs.Inside.{OnesWithin, IsReached};
+    ghost use Rattle.tape.specs.Inside.{OnesWithin, WordWithin, IsReached};
 
     /// Whether head and cells are those of another tape.
     pub fn same(&self, other: &Tape) -> bool
@@ -38,39 +35,22 @@ impl Tape {
         ensures ones { IsTrue result ↔ OnesWithin side from shift self.now.ones other.now.ones }
         ensures reached { IsReached self.now.ones }
     {
-        let (first, last) = self.visited();
-        let (begin, end) = part_beyond(side, from, first, last);
-        for x in begin..end {
-            if !self.one_is_in(other, x, shift) {
+        let (first, end) = self.blocks();
+        for block in first..end {
+            if !self.word_is_in(other, block, from, shift, side) {
                 return false;
             }
         }
         true
     }
 
-    // Whether, if there is a one at a place, there is one of the other tape `shift` further to the right.
-    fn one_is_in(&self, other: &Tape, x: i64, shift: i64) -> bool
-        ensures { IsTrue result ↔ (cell_of self.now.ones x ≡ One → cell_of other.now.ones (x +ℤ shift) ≡ One) }
+    // The same for the ones of the word so numbered alone.
+    fn word_is_in(&self, other: &Tape, block: u64, from: i64, shift: i64, side: Dir) -> bool
+        requires { block < 2 ^ 58 }
+        ensures { IsTrue result ↔ WordWithin side from shift block self.now.ones other.now.ones }
     {
-        match self.cell(x) {
-            Sym::Zero => true,
-            Sym::One => match other.cell_shifted(x, shift) {
-                Sym::Zero => false,
-                Sym::One => true,
-            },
-        }
-    }
-}
-
-// Where the places from `first` to `last` that are at or beyond a place begin and end; the end is the
-// place after the last of them.
-fn part_beyond(side: Dir, from: i64, first: i64, last: i64) -> (i64, i64)
-    requires { last ≤ℤ (place_limit +ℤ pos 1) }
-    ensures part { (x : ℤ) → result.0 ≤ℤ x → x <ℤ result.1 → Beyond side from x }
-    ensures all { (x : ℤ) → first ≤ℤ x → x ≤ℤ last → Beyond side from x → (result.0 ≤ℤ x) × (x <ℤ result.1) }
-{
-    match side {
-        Dir::L => (first, last.min(from) + 1),
-        Dir::R => (first.max(from), last + 1),
+        let number = 64 * block;
+        let ones = self.word_at(block) & beyond(side, from, number);
+        ones & !other.word_shifted(number, shift) == 0
     }
 }

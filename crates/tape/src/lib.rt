@@ -1,13 +1,15 @@
 //! A two-sided tape with a head, which grows as the head goes past what was visited.
 //!
-//! Contracts see a tape as turing's record `Tape`: where the head stands, and the finite set of places
-//! that hold ones. `specs/` adds which places are within the limit and what it means that two half tapes
-//! are the same (`Places`), its limit (`Limits`), and the ones of a word of symbols (`Word`).
+//! It is kept in words of 64 cells. Contracts see it as turing's record `Tape`: where the head stands, and
+//! the finite set of places that hold ones. `specs/` adds which places are within the limit and what it means
+//! that two half tapes are the same (`Places`), its limit (`Limits`), and the ones of words of symbols (`Word`).
 #![tactic(auto)]
 
+mod bits;
 mod comparison;
 mod limits;
 mod tape;
+mod words;
 
 pub use limits::MAX_PLACE;
 pub use tape::{NoMemory, Tape};

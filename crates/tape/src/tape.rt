@@ -1,13 +1,18 @@
 // The tape: its cells, its head and its moves.
-ghost use Rattle.std.specs.Prelude.{◌≡◌, ◌-◌, ◌≤◌, ◌<◌, ◌+ℤ◌, IfOk, OnOk, OnErr, length, slice_index_or};
-ghost use Rattle.machine_text.specs.declared.transition.Sym.TheVariants.{Zero};
+ghost use Rattle.std.specs.Prelude.{◌≡◌, IfOk, OnOk, OnErr, [], ◌∷◌, ◌++◌};
 ghost use Rattle.machine_text.specs.declared.transition.Dir.TheVariants.{L, R};
+ghost use Rattle.tape.specs.Inside.{IsNearest};
 
+use crate::bits::{symbol_at, with_symbol};
 use crate::limits::MAX_PLACE;
 use machine_text::Sym;
 use std::alloc::{AllocError, Global};
-use std::cmp::Ordering;
 use std::marker::Model;
+
+// The number of the word that holds place 0.
+const ORIGIN: u64 = 1 << 57;
+// The bit of a word's rightmost cell.
+const LAST_BIT: u32 = 63;
 
 /// The only fault of a tape: memory for a growth was refused.
 pub type NoMemory = AllocError;
@@ -18,36 +23,38 @@ pub type NoMemory = AllocError;
 /// at most `MAX_PLACE` cells from 0 before the move, which is the caller's to see to.
 #[derive(Drop)]
 pub struct Tape {
-    head: i64,
-    // The visited cells on each side of the head, the nearest one last.
-    left: Vec<Sym>,
+    // The number of the word under the head: the word `n` holds the places from `64 * n - 2^63` on.
+    pub(crate) block: u64,
+    // The bit under the head.
+    bit: u32,
+    // The symbol under the head. A step takes it from the word as it was before the write: so the next one
+    // needn't wait for the write.
     read: Sym,
-    right: Vec<Sym>,
+    pub(crate) word: u64,
+    // The visited words on each side of that one, the nearest one last. In each word the leftmost cell is
+    // the lowest bit.
+    pub(crate) left: Vec<u64>,
+    pub(crate) right: Vec<u64>,
 }
 
 impl Model for Tape {
-    ghost use Rattle.std.specs.Prelude.{◌+ℤ◌, ◌-ℤ◌, pos, ◌∷◌, ◌++◌, reverse, length};
+    ghost use Rattle.std.specs.Prelude.{length};
     ghost use Rattle.turing.specs.Tape.{Tape, tape_code};
-    ghost use Rattle.tape.specs.Word.{ones_of};
-    ghost use Rattle.tape.specs.Inside.{IsVisited};
+    ghost use Rattle.tape.specs.Inside.{stored, IsPacked};
 
     ghost Value = { Tape };
 
     ghost coded = { tape_code };
 
-    ghost view = { λ a. record {
-      head = a.head;
-      ones = ones_of (a.head -ℤ pos (length a.left.items)) (a.left.items ++ a.read ∷ reverse a.right.items);
-    } };
+    ghost view = { λ a. stored a.block a.bit a.left.items a.word a.right.items };
 
-    ghost invariant = { λ a. IsVisited (a.head -ℤ pos (length a.left.items)) (a.head +ℤ pos (length a.right.items)) };
+    ghost invariant = { λ a. IsPacked a.block a.bit a.read a.word (length a.left.items) (length a.right.items) };
 }
 
 impl Tape {
-    ghost use Rattle.turing.specs.Tape.{blank, cell_of, symbol_read, written, moved};
+    ghost use Rattle.turing.specs.Tape.{blank, symbol_read, written, moved};
     ghost use Rattle.tape.specs.Limits.{place_limit};
     ghost use Rattle.tape.specs.Places.{IsWithinLimit};
-    ghost use Rattle.tape.specs.Inside.{IsVisited, IsReached, HasOnesWithin};
 
     /// The blank tape with its head at 0.
     pub fn new(alloc: Global) -> Tape
@@ -55,9 +62,11 @@ impl Tape {
         ensures limit { MAX_PLACE ≡ place_limit }
     {
         Tape {
-            head: 0,
-            left: Vec::new(alloc),
+            block: ORIGIN,
+            bit: 0,
             read: Sym::Zero,
+            word: 0,
+            left: Vec::new(alloc),
             right: Vec::new(alloc),
         }
     }
@@ -67,7 +76,9 @@ impl Tape {
     pub fn head(&self) -> i64
         ensures { result ≡ self.now.head }
     {
-        self.head
+        (64 * self.block + self.bit as u64)
+            .wrapping_sub(1 << 63)
+            .cast_signed()
     }
 
     /// The symbol under the head.
@@ -83,6 +94,7 @@ impl Tape {
     pub fn write(&mut self, s: Sym)
         ensures { self.new ≡ written self.old s }
     {
+        self.word = with_symbol(self.word, self.bit, s);
         self.read = s;
     }
 
@@ -116,9 +128,17 @@ impl Tape {
         ensures ok { OnOk result (self.new ≡ moved (written self.old s) L) }
         ensures err { OnErr result (self.new ≡ self.old) }
     {
-        self.right.push(s)?;
-        self.read = self.left.pop().unwrap_or(Sym::Zero);
-        self.head -= 1;
+        let word = with_symbol(self.word, self.bit, s);
+        if self.bit > 0 {
+            self.bit -= 1;
+            self.read = symbol_at(self.word, self.bit);
+            self.word = word;
+        } else {
+            self.word = next_word(&mut self.left, &mut self.right, word)?;
+            self.block -= 1;
+            self.bit = LAST_BIT;
+            self.read = symbol_at(self.word, LAST_BIT);
+        }
         Ok(())
     }
 
@@ -130,52 +150,29 @@ impl Tape {
         ensures ok { OnOk result (self.new ≡ moved (written self.old s) R) }
         ensures err { OnErr result (self.new ≡ self.old) }
     {
-        self.left.push(s)?;
-        self.read = self.right.pop().unwrap_or(Sym::Zero);
-        self.head += 1;
-        Ok(())
-    }
-
-    /// The symbol at a place.
-    pub fn cell(&self, x: i64) -> Sym
-        ensures { result ≡ cell_of self.now.ones x }
-    {
-        let distance = self.head.abs_diff(x);
-        match x.cmp(&self.head) {
-            Ordering::Less => at_distance(&self.left, distance),
-            Ordering::Equal => self.read,
-            Ordering::Greater => at_distance(&self.right, distance),
+        let word = with_symbol(self.word, self.bit, s);
+        if self.bit < LAST_BIT {
+            self.bit += 1;
+            self.read = symbol_at(self.word, self.bit);
+            self.word = word;
+        } else {
+            self.word = next_word(&mut self.right, &mut self.left, word)?;
+            self.block += 1;
+            self.bit = 0;
+            self.read = symbol_at(self.word, 0);
         }
-    }
-
-    // The symbol `shift` cells to the right of a place. A place beyond the range of `i64` is taken for the
-    // last one of it: both are blank.
-    pub(crate) fn cell_shifted(&self, x: i64, shift: i64) -> Sym
-        ensures { result ≡ cell_of self.now.ones (x +ℤ shift) }
-    {
-        // Opens the invariant of the tape: its ones stand where heads can have come.
-        let _ = &self.head;
-        self.cell(x.saturating_add(shift))
-    }
-
-    // The first and the last visited place: all beyond them is blank.
-    pub(crate) fn visited(&self) -> (i64, i64)
-        ensures reached { IsReached self.now.ones }
-        ensures bounds { IsVisited result.0 result.1 }
-        ensures all { HasOnesWithin self.now.ones result.0 result.1 }
-    {
-        let first = self.head - self.left.len() as i64;
-        let last = self.head + self.right.len() as i64;
-        (first, last)
+        Ok(())
     }
 
     /// Makes the tape blank, with its head at 0. It keeps the memory that it has.
     pub fn clear(&mut self)
         ensures { self.new ≡ blank }
     {
-        self.head = 0;
-        self.left.clear();
+        self.block = ORIGIN;
+        self.bit = 0;
         self.read = Sym::Zero;
+        self.word = 0;
+        self.left.clear();
         self.right.clear();
     }
 
@@ -185,14 +182,18 @@ impl Tape {
         ensures ok { OnOk result (self.new ≡ other.now) }
         ensures err { OnErr result (self.new ≡ blank) }
     {
-        let copied = copy_cells(&other.left, &mut self.left, &other.right, &mut self.right);
+        let copied = copy_words(&other.left, &mut self.left, &other.right, &mut self.right);
         if copied.is_ok() {
-            self.head = other.head;
+            self.block = other.block;
+            self.bit = other.bit;
             self.read = other.read;
+            self.word = other.word;
         } else {
-            self.head = 0;
-            self.left.clear();
+            self.block = ORIGIN;
+            self.bit = 0;
             self.read = Sym::Zero;
+            self.word = 0;
+            self.left.clear();
             self.right.clear();
         }
         copied
@@ -203,20 +204,36 @@ impl Tape {
         ensures { IfOk result (λ t. t ≡ self.now) }
     {
         Ok(Tape {
-            head: self.head,
-            left: self.left.to_vec(alloc)?,
+            block: self.block,
+            bit: self.bit,
             read: self.read,
+            word: self.word,
+            left: self.left.to_vec(alloc)?,
             right: self.right.to_vec(alloc)?,
         })
     }
 }
 
-// Puts the visited cells of a tape in the place of another's.
-fn copy_cells(
-    from_left: &[Sym],
-    left: &mut Vec<Sym>,
-    from_right: &[Sym],
-    right: &mut Vec<Sym>,
+// Puts the word that a head leaves on the side behind it, and takes the nearest one of the side ahead, a blank
+// one where there is none. After an error both sides are as they were.
+// Kept apart from the steps: it is needed for few of them, and they are inlined.
+#[inline(never)]
+fn next_word(ahead: &mut Vec<u64>, behind: &mut Vec<u64>, word: u64) -> Result<u64, NoMemory>
+    ensures left { OnOk result (behind.new.items ≡ behind.old.items ++ word ∷ []) }
+    ensures entered { IfOk result (λ next. IsNearest ahead.old.items next ahead.new.items) }
+    ensures err_ahead { OnErr result (ahead.new.items ≡ ahead.old.items) }
+    ensures err_behind { OnErr result (behind.new.items ≡ behind.old.items) }
+{
+    behind.push(word)?;
+    Ok(ahead.pop().unwrap_or(0))
+}
+
+// Puts the visited words of a tape in the place of another's.
+fn copy_words(
+    from_left: &[u64],
+    left: &mut Vec<u64>,
+    from_right: &[u64],
+    right: &mut Vec<u64>,
 ) -> Result<(), NoMemory>
     ensures left { OnOk result (left.new.items ≡ from_left.now) }
     ensures right { OnOk result (right.new.items ≡ from_right.now) }
@@ -225,18 +242,4 @@ fn copy_cells(
     left.extend_from_slice(from_left)?;
     right.clear();
     right.extend_from_slice(from_right)
-}
-
-// The symbol so many cells from the head, on a side whose nearest cell is the last.
-fn at_distance(side: &[Sym], distance: u64) -> Sym
-    requires { 0 < distance }
-    ensures visited { distance ≤ length side.now → result ≡ slice_index_or side.now (length side.now - distance) Zero }
-    ensures blank { length side.now < distance → result ≡ Zero }
-{
-    let distance = distance as usize;
-    if distance <= side.len() {
-        side[side.len() - distance]
-    } else {
-        Sym::Zero
-    }
 }

@@ -6,4 +6,4 @@ use Rattle.tape.proofs.tape.Tape.read.Goals as goal
 pub returns : goal.returns
 returns c =
     let a = c.self.inside in
-    sym (symbol_read-stored a.head a.left.items a.read a.right.items) ∙ ap symbol_read c.self.view_is
+    c.self.invariant.reads ∙ sym (symbol_read-stored a.block a.bit a.left.items a.word a.right.items c.self.invariant.inside) ∙ ap symbol_read c.self.view_is

@@ -6,4 +6,5 @@ use Rattle.tape.proofs.tape.Tape.write.Goals as goal
 pub returns : goal.returns
 returns c =
     let a = c.self.inside in
-    sym (written-stored a.head a.left.items a.read c.args.s a.right.items) ∙ ap (λ (t : Tape). written t c.args.s) c.self.view_is
+    sym (written-stored a.block a.bit a.left.items a.word _ a.right.items c.args.s c.self.invariant.inside c.with_symbol-self-inside.ensures.here c.with_symbol-self-inside.ensures.others)
+    ∙ ap (λ (t : Tape). written t c.args.s) c.self.view_is

@@ -1,15 +1,26 @@
-use Rattle.std.proofs.Common.{◌∙◌, ap, sym, subst, arith}
-use Rattle.std.proofs.lemmas.Int.{ints}
+use Rattle.std.proofs.Common.{◌≡◌, ◌∙◌, ap, sym, arith}
 use Rattle.machine_text.specs.declared.transition.Dir.TheVariants.{L}
 use Rattle.turing.specs.Tape.{Tape, written, moved}
-use Rattle.tape.specs.Places.{IsWithinLimit}
-use Rattle.tape.proofs.Moves.{emptied, written-stored, left_step}
+use Rattle.tape.specs.Inside.{stored}
+use Rattle.tape.proofs.Moves.{written-stored, left_inside, left_edge-nearest}
 use Rattle.tape.proofs.tape.Tape.write_left.Goals as goal
 
-pub returns-clause-ok : goal.returns-clause-ok
-returns-clause-ok c =
+pub returns-then-self-gt0-clause-ok : goal.returns-then-self-gt0-clause-ok
+returns-then-self-gt0-clause-ok c =
     let a = c.self.inside in
-    let room : IsWithinLimit a.head = subst (λ (t : Tape). IsWithinLimit t.head) (sym c.self.view_is) c.requires in
-    left_step a.head _ a.left.items c.pop.new.self.items a.right.items c.push.new.self.items c.args.s _ c.pop.result (omega (arith, ints)) c.pop.ensures.items (emptied _ _ _ _ c.pop.new.self.ok.0 c.pop.ensures.cases) c.unwrap_or-self-inside.ensures c.in_ok-push.ensures.items
-    ∙ ap (λ (t : Tape). moved t L) (sym (written-stored a.head a.left.items a.read c.args.s a.right.items))
+    let w = c.with_symbol-word.ensures in
+    let some = c.if-self-gt0.true in
+    left_inside a.block a.bit _ a.left.items _ a.right.items (omega arith)
+    ∙ ap (λ (t : Tape). moved t L) (sym (written-stored a.block a.bit a.left.items a.word _ a.right.items c.args.s c.self.invariant.inside w.here w.others))
+    ∙ ap (λ (t : Tape). moved (written t c.args.s) L) c.self.view_is
+
+pub returns-in_ok-self-inside-clause-ok : goal.returns-in_ok-self-inside-clause-ok
+returns-in_ok-self-inside-clause-ok c =
+    let a = c.self.inside in
+    let w = c.with_symbol-word.ensures in
+    let first : a.bit ≡ 0 = omega (arith, c.if-self-gt0.false) in
+    let before = c.self.invariant.low in
+    left_edge-nearest a.block _ a.left.items _ a.right.items _ _ _ (omega arith) c.in_ok-self-inside.ensures.entered c.in_ok-self-inside.ensures.left
+    ∙ ap (λ k. moved (stored a.block k a.left.items c.with_symbol-word.result a.right.items) L) (sym first)
+    ∙ ap (λ (t : Tape). moved t L) (sym (written-stored a.block a.bit a.left.items a.word _ a.right.items c.args.s c.self.invariant.inside w.here w.others))
     ∙ ap (λ (t : Tape). moved (written t c.args.s) L) c.self.view_is

@@ -1,0 +1,65 @@
+// A word of 64 cells, the lowest bit leftmost, and the numbers of places.
+ghost use Rattle.std.specs.Prelude.{◌≡◌, ◌≢◌, ℕ, ◌+◌, ◌<◌, ◌↔◌};
+ghost use Rattle.std.specs.Int.{bit_at};
+ghost use Rattle.turing.specs.Translated.{Beyond};
+ghost use Rattle.tape.specs.Word.{symbol_of};
+ghost use Rattle.tape.specs.Inside.{place_of};
+
+use machine_text::{Dir, Sym};
+
+// The number of a place: places are numbered from the least `i64` on.
+#[inline]
+pub(crate) fn number_of(x: i64) -> u64
+    ensures { place_of result ≡ x }
+{
+    x.abs_diff(i64::MIN)
+}
+
+// The symbol at a bit.
+#[inline]
+pub(crate) fn symbol_at(word: u64, bit: u32) -> Sym
+    requires { bit < 64 }
+    ensures { result ≡ symbol_of (bit_at word bit) }
+{
+    if (word >> bit) & 1 == 0 {
+        Sym::Zero
+    } else {
+        Sym::One
+    }
+}
+
+// The word with a symbol at a bit, and all others as they are.
+#[inline]
+pub(crate) fn with_symbol(word: u64, bit: u32, s: Sym) -> u64
+    requires { bit < 64 }
+    ensures here { symbol_of (bit_at result bit) ≡ s }
+    ensures others { (i : ℕ) → i < 64 → i ≢ bit → bit_at result i ≡ bit_at word i }
+{
+    match s {
+        Sym::Zero => word & !(1 << bit),
+        Sym::One => word | (1 << bit),
+    }
+}
+
+// Ones at the bits that are at or beyond a place on a side, in a word whose first place is so numbered.
+pub(crate) fn beyond(side: Dir, from: i64, number: u64) -> u64
+    ensures { (i : ℕ) → i < 64 → (bit_at result i ≡ 1) ↔ Beyond side from (place_of (number + i)) }
+{
+    let from = number_of(from);
+    match side {
+        Dir::L if from < number => 0,
+        Dir::L => up_to((from - number).min(63) as u32),
+        Dir::R => {
+            let skipped = from.saturating_sub(number);
+            if skipped < 64 { u64::MAX << skipped } else { 0 }
+        }
+    }
+}
+
+// Ones from the lowest bit to this one.
+fn up_to(bit: u32) -> u64
+    requires { bit < 64 }
+    ensures { (i : ℕ) → i < 64 → (bit_at result i ≡ 1) ↔ (i < bit + 1) }
+{
+    u64::MAX >> (63 - bit)
+}

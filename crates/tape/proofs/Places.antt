@@ -82,8 +82,8 @@ HasOnesWithin-stored b k left right w first last begins ends = record {
         (λ i j inside e. cell_of-words _ (left ++ w ∷ reverse right) i j x inside e ∙ blank_bit _ j (get_or_past (left ++ w ∷ reverse right) i 0 (omega (arith, ints, e, length-append left (w ∷ reverse right), length-reverse right))))
 
 -- so they stand where heads within the limit can have come
-pub IsReached-packed : (ones : set.FinSet int_cmp) (b k : ℕ) (read : Sym) (w l r : ℕ) (first last : ℤ) → HasOnesWithin ones first last → first ≡ place_of (64 * b) -ℤ pos (64 * l) → last ≡ (place_of (64 * b) +ℤ pos (64 * r)) +ℤ pos 63 → IsPacked b k read w l r → IsReached ones
-IsReached-packed ones b k read w l r first last within begins ends packed = record {
+pub IsReached-packed : (ones : set.FinSet int_cmp) (b k l r : ℕ) (first last : ℤ) → HasOnesWithin ones first last → first ≡ place_of (64 * b) -ℤ pos (64 * l) → last ≡ (place_of (64 * b) +ℤ pos (64 * r)) +ℤ pos 63 → IsPacked b k l r → IsReached ones
+IsReached-packed ones b k l r first last within begins ends packed = record {
   low = λ x one. let low = packed.low in omega (arith, ints, within.low x one);
   high = λ x one. let high = packed.high in omega (arith, ints, within.high x one);
 }

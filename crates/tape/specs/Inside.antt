@@ -1,16 +1,14 @@
 -- What only the code needs: how a tape is kept in words, where its ones can stand, and one half of what it means
 -- that two half tapes are the same.
 use Rattle.std.specs.Prelude.{◌≡◌, ℕ, ◌+◌, ◌*◌, ◌^◌, ◌<◌, ◌≤◌, ℤ, pos, ◌+ℤ◌, ◌-ℤ◌, neg_ℤ, ◌≤ℤ◌, ◌⊎◌, List, [], ◌∷◌, ◌++◌, length, reverse}
-use Rattle.std.specs.Int.{bit_at}
 use Rattle.std.specs.Ordering.{int_cmp}
 use Rattle.std.specs.FinSet as set
-use Rattle.machine_text.specs.declared.transition.Sym.{Sym}
 use Rattle.machine_text.specs.declared.transition.Sym.TheVariants.{One}
 use Rattle.machine_text.specs.declared.transition.Dir.{Dir}
 use Rattle.turing.specs.Tape.{Tape, cell_of}
 use Rattle.turing.specs.Translated.{Beyond}
 use Rattle.tape.specs.Limits.{place_limit}
-use Rattle.tape.specs.Word.{ones_of, symbol_of, symbols_of}
+use Rattle.tape.specs.Word.{ones_of, symbols_of}
 
 -- places are numbered from -2^63 on; the word numbered n holds those numbered from 64 * n on
 abbrev pub place_of : ℕ → ℤ
@@ -28,11 +26,10 @@ stored block bit left word right = record {
 abbrev pub IsNearest : List ℕ → ℕ → List ℕ → Type 0
 IsNearest side word rest = (side ≡ rest ++ word ∷ []) ⊎ ((side ≡ []) × (rest ≡ []) × (word ≡ 0))
 
--- the head stands in its word, what it reads is the symbol there, and the words are some to which heads came that were within the limit before each
+-- the head stands in its word, and the words are some to which heads came that were within the limit before each
 -- move, where so many stand on each side
-pub record IsPacked (block bit : ℕ) (read : Sym) (word left right : ℕ) : Type 0 where
+pub record IsPacked (block bit left right : ℕ) : Type 0 where
   pub inside : bit < 64
-  pub reads : read ≡ symbol_of (bit_at word bit)
   pub low : 2 ^ 56 + left ≤ block + 1
   pub high : block + right ≤ 2 ^ 57 + 2 ^ 56
 

@@ -27,9 +27,6 @@ pub struct Tape {
     pub(crate) block: u64,
     // The bit under the head.
     bit: u32,
-    // The symbol under the head. A step takes it from the word as it was before the write: so the next one
-    // needn't wait for the write.
-    read: Sym,
     pub(crate) word: u64,
     // The visited words on each side of that one, the nearest one last. In each word the leftmost cell is
     // the lowest bit.
@@ -48,7 +45,7 @@ impl Model for Tape {
 
     ghost view = { λ a. stored a.block a.bit a.left.items a.word a.right.items };
 
-    ghost invariant = { λ a. IsPacked a.block a.bit a.read a.word (length a.left.items) (length a.right.items) };
+    ghost invariant = { λ a. IsPacked a.block a.bit (length a.left.items) (length a.right.items) };
 }
 
 impl Tape {
@@ -64,7 +61,6 @@ impl Tape {
         Tape {
             block: ORIGIN,
             bit: 0,
-            read: Sym::Zero,
             word: 0,
             left: Vec::new(alloc),
             right: Vec::new(alloc),
@@ -86,7 +82,7 @@ impl Tape {
     pub fn read(&self) -> Sym
         ensures { result ≡ symbol_read self.now }
     {
-        self.read
+        symbol_at(self.word, self.bit)
     }
 
     /// Writes a symbol under the head.
@@ -95,7 +91,6 @@ impl Tape {
         ensures { self.new ≡ written self.old s }
     {
         self.word = with_symbol(self.word, self.bit, s);
-        self.read = s;
     }
 
     /// Moves the head by one cell to the left. After an error the tape is as it was.
@@ -131,13 +126,11 @@ impl Tape {
         let word = with_symbol(self.word, self.bit, s);
         if self.bit > 0 {
             self.bit -= 1;
-            self.read = symbol_at(self.word, self.bit);
             self.word = word;
         } else {
             self.word = next_word(&mut self.left, &mut self.right, word)?;
             self.block -= 1;
             self.bit = LAST_BIT;
-            self.read = symbol_at(self.word, LAST_BIT);
         }
         Ok(())
     }
@@ -153,13 +146,11 @@ impl Tape {
         let word = with_symbol(self.word, self.bit, s);
         if self.bit < LAST_BIT {
             self.bit += 1;
-            self.read = symbol_at(self.word, self.bit);
             self.word = word;
         } else {
             self.word = next_word(&mut self.right, &mut self.left, word)?;
             self.block += 1;
             self.bit = 0;
-            self.read = symbol_at(self.word, 0);
         }
         Ok(())
     }
@@ -170,7 +161,6 @@ impl Tape {
     {
         self.block = ORIGIN;
         self.bit = 0;
-        self.read = Sym::Zero;
         self.word = 0;
         self.left.clear();
         self.right.clear();
@@ -186,12 +176,10 @@ impl Tape {
         if copied.is_ok() {
             self.block = other.block;
             self.bit = other.bit;
-            self.read = other.read;
             self.word = other.word;
         } else {
             self.block = ORIGIN;
             self.bit = 0;
-            self.read = Sym::Zero;
             self.word = 0;
             self.left.clear();
             self.right.clear();
@@ -206,7 +194,6 @@ impl Tape {
         Ok(Tape {
             block: self.block,
             bit: self.bit,
-            read: self.read,
             word: self.word,
             left: self.left.to_vec(alloc)?,
             right: self.right.to_vec(alloc)?,

@@ -8,7 +8,7 @@ use Rattle.tape.proofs.tape.Tape.blocks.Goals as goal
 pub returns-clause-reached : goal.returns-clause-reached
 returns-clause-reached c =
     let a = c.self.inside in
-    subst (λ (t : Tape). IsReached t.ones) c.self.view_is (IsReached-packed _ a.block a.bit _ _ _ _ _ _ (HasOnesWithin-stored a.block a.bit a.left.items a.right.items a.word _ _ refl refl) refl refl c.self.invariant)
+    subst (λ (t : Tape). IsReached t.ones) c.self.view_is (IsReached-packed _ a.block a.bit _ _ _ _ (HasOnesWithin-stored a.block a.bit a.left.items a.right.items a.word _ _ refl refl) refl refl c.self.invariant)
 
 pub returns-clause-all : goal.returns-clause-all
 returns-clause-all c =

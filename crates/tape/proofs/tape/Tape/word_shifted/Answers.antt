@@ -10,7 +10,7 @@ use Rattle.tape.proofs.tape.Tape.word_shifted.Goals as goal
 pub returns-in-None : goal.returns-in-None
 returns-in-None c =
     let a = c.self.inside in
-    let reached = subst (λ (t : Tape). IsReached t.ones) c.self.view_is (IsReached-packed _ a.block a.bit _ _ _ _ _ _ (HasOnesWithin-stored a.block a.bit a.left.items a.right.items a.word _ _ refl refl) refl refl c.self.invariant) in
+    let reached = subst (λ (t : Tape). IsReached t.ones) c.self.view_is (IsReached-packed _ a.block a.bit _ _ _ _ (HasOnesWithin-stored a.block a.bit a.left.items a.right.items a.word _ _ refl refl) refl refl c.self.invariant) in
     let fits_shift : FitsSigned w64 c.args.shift = c.ranges.shift in
     let none = simp to_z-of_z at c.in-None.ensures in
     let x = place_of c.args.number +ℤ c.args.shift in

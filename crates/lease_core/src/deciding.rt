@@ -1,4 +1,5 @@
-// From finders to a record that is certified.
+// From finders to a record that is certified. The finders of a worker are asked here and not by `cert::decide`:
+// what is proved of a worker would then depend on the body of that.
 ghost use Rattle.std.specs.Prelude.{◌≡◌, IsTrue, IfOk};
 ghost use Rattle.cert.specs.Certified.{IsCertified};
 ghost use Rattle.cert.specs.Kinds.{owned_recorded};

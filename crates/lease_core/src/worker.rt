@@ -17,7 +17,8 @@ use std::alloc::{AllocError, Global};
 use std::marker::Model;
 use wire::{Event, Node, NodeFault, Note, Out};
 
-/// A node that gets tables from a coordinator and hands in records of their trees.
+/// A node that gets tables from a coordinator, makes records of their trees, and hands them in. What it
+/// answers to each event, `specs/WorkerRules` says.
 #[derive(Drop)]
 pub struct Worker {
     alloc: Global,
@@ -78,6 +79,7 @@ impl Worker {
         Worker::started(alloc, id, ledger, finders, budget)
     }
 
+    // The same; that its ledger is in step is shown of what this one promises.
     fn started(
         alloc: Global,
         id: u32,
@@ -164,8 +166,8 @@ impl Worker {
                     note: Note::Quiet,
                 })
             }
-            Err(BoardFault::NotInOrder) => Ok(noted(self.alloc, Note::Refused(401))),
             Err(BoardFault::NoMemory) => Err(AllocError),
+            Err(fault) => Ok(noted(self.alloc, Note::Refused(fault.number()))),
         }
     }
 

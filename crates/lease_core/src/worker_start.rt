@@ -1,5 +1,5 @@
 // What a worker finds in its ledger when it starts.
-ghost use Rattle.std.specs.Prelude.{◌≡◌, [], ◌↔◌};
+ghost use Rattle.std.specs.Prelude.{◌≡◌};
 ghost use Rattle.ledger.specs.LedgerText.{IsTornLeft};
 ghost use Rattle.lease_core.specs.WorkerStart.{Loads, cut_of};
 

@@ -1,5 +1,5 @@
 // What a worker does to its board, and asks of it.
-ghost use Rattle.std.specs.Prelude.{◌≡◌, ◌<◌, ◌↔◌, IsTrue, Some, IfSome, IfNone, IfOk, OnOk, OnErr, length, true, false};
+ghost use Rattle.std.specs.Prelude.{◌≡◌, ◌<◌, ◌↔◌, IsTrue, Some, IfSome, IfNone, IfOk, OnOk, OnErr, length};
 ghost use Rattle.cert.specs.Certified.{IsCertified};
 ghost use Rattle.cert.specs.Kinds.{owned_recorded};
 ghost use Rattle.lease_core.specs.Limits.{work_record_limit};

@@ -15,7 +15,7 @@ const WIDTH: usize = 3;
 const SIZE: usize = 2;
 const MAX_PATHS: usize = 65_536;
 const MAX_LIST_BYTES: usize = 49_152;
-const MAX_BEGINNINGS: u64 = 2_500 * STEPS;
+const MAX_TRIES: u64 = 20_000 * STEPS;
 
 /// A configuration on a byte tape that grows on both sides.
 #[derive(Clone)]
@@ -330,10 +330,6 @@ impl Automata<'_> {
 
     /// The text of the first automata that these transitions begin.
     fn search(&self, delta: &mut Vec<usize>, edges: &[u64], left: &mut u64) -> Option<String> {
-        if *left == 0 {
-            return None;
-        }
-        *left -= 1;
         if delta.len() == 2 * self.size {
             return Some(self.text(delta, edges));
         }
@@ -344,6 +340,10 @@ impl Automata<'_> {
             _ => self.size.min(named + 1),
         };
         for to in 0..count {
+            if *left == 0 {
+                return None;
+            }
+            *left -= 1;
             let mut grown = edges.to_vec();
             delta.push(to);
             self.grow(delta, &mut grown);
@@ -366,7 +366,7 @@ impl Automata<'_> {
 }
 
 fn automata(rows: &[Row], most: usize) -> Option<String> {
-    let mut left = MAX_BEGINNINGS;
+    let mut left = MAX_TRIES;
     (1..=most).find_map(|size| {
         [true, false].into_iter().find_map(|right| {
             let search = Automata { rows, right, size };

@@ -4,3 +4,4 @@ pub mod Parts
 pub mod Reading
 pub mod Owned
 pub mod Steps
+pub mod Growing

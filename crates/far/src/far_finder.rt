@@ -5,21 +5,21 @@ ghost use Rattle.far.specs.Automata.{AreAutomataOf};
 ghost use Rattle.far.specs.Far.{automata_of};
 
 use crate::far::Far;
+use crate::growing::Growing;
 use crate::limits::MAX_SIZE;
-use crate::partial::Partial;
 use machine_text::{Dir, Table};
 use run::NoMemory;
 use std::alloc::Global;
 
-// How many automata in the making are looked at for each step of a budget.
-const PARTIALS_PER_STEP: u64 = 2_500;
+// How many transitions are tried for each step of a budget.
+const TRIES_PER_STEP: u64 = 20_000;
 
 /// Searches automata.
 #[derive(Drop)]
 pub struct FarFinder {
     alloc: Global,
     pub size: u64,
-    partials: Vec<Partial>,
+    growing: Growing,
 }
 
 impl FarFinder {
@@ -30,7 +30,7 @@ impl FarFinder {
         FarFinder {
             alloc,
             size,
-            partials: Vec::new(alloc),
+            growing: Growing::new(alloc),
         }
     }
 
@@ -44,17 +44,16 @@ impl FarFinder {
     /// It tries the sizes one after another, and for each both sides. The transitions of the first automaton
     /// are tried one by one, a state being named where it is first gone to, and the edges of the second are the
     /// least that go with them. They only grow, so where the blank tape leads to the halt state, no automaton
-    /// with these transitions will do.
+    /// with these transitions will do, and the last one is taken back.
     ///
-    /// It looks at no more than 2,500 such beginnings for each step of the budget. Tables of four states took
-    /// less than 300 of them up to size 4, some 25,000 up to size 6 and two million up to size 8. No contract says
-    /// what is found or how long it takes.
+    /// It tries no more than 20,000 transitions for each step of the budget. No contract says what is found or
+    /// how long it takes.
     pub fn search(&mut self, t: &Table, budget: u64) -> Result<Option<Far>, NoMemory>
         ensures found { IfOk result (λ o. IfSome o (λ e. AreAutomataOf (automata_of e) t.now)) }
         ensures size { IfOk result (λ o. IfSome o (λ e. (automata_of e).size ≤ min self.old.size size_limit)) }
         ensures same { self.new.size ≡ self.old.size }
     {
-        let mut left = budget.saturating_mul(PARTIALS_PER_STEP);
+        let mut left = budget.saturating_mul(TRIES_PER_STEP);
         for size in 1..=self.size.min(MAX_SIZE as u64) as u8 {
             if let Some(found) = self.find(t, Dir::R, size, &mut left)? {
                 return Ok(Some(found));
@@ -66,7 +65,7 @@ impl FarFinder {
         Ok(None)
     }
 
-    // Automata of this side and size; `left` is how many beginnings may be looked at.
+    // Automata of this side and size; `left` is how many transitions may be tried.
     fn find(
         &mut self,
         t: &Table,
@@ -79,28 +78,29 @@ impl FarFinder {
         ensures size { IfOk result (λ o. IfSome o (λ e. (automata_of e).size ≡ size)) }
         ensures same { self.new.size ≡ self.old.size }
     {
-        self.partials.clear();
-        self.partials.push(Partial::first(t, side, size))?;
-        'partials: while *left > 0 {
+        self.growing.begin(t, side, size);
+        let mut target = 0;
+        'tries: while *left > 0 {
             *left -= 1;
-            let Some(partial) = self.partials.pop() else {
-                return Ok(None);
-            };
-            if partial.is_complete() {
-                return Ok(standing(&partial, t, size));
+            let will_do = self.growing.extend(target)?;
+            if will_do && self.growing.is_complete() {
+                return Ok(standing(&self.growing, t, size));
             }
-            partial.extend(&mut self.partials)?;
+            match self.growing.next_target(will_do) {
+                Some(next) => target = next,
+                None => return Ok(None),
+            }
         }
         Ok(None)
     }
 }
 
 // The automata, if they are of this size and those of the table.
-fn standing(partial: &Partial, t: &Table, size: u8) -> Option<Far>
+fn standing(growing: &Growing, t: &Table, size: u8) -> Option<Far>
     ensures found { IfSome result (λ e. AreAutomataOf (automata_of e) t.now) }
     ensures size { IfSome result (λ e. (automata_of e).size ≡ size) }
 {
-    let found = partial.automata()?;
+    let found = growing.automata()?;
     if found.size() != size || !found.holds(t) {
         return None;
     }

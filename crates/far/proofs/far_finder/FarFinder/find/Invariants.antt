@@ -1,8 +1,8 @@
-use Rattle.std.proofs.Common.{◌≡◌}
+use Rattle.std.proofs.Common.{◌≡◌, ◌*◌, ◌<◌}
 use Rattle.far.proofs.far_finder.FarFinder.find.Given as goal
 
-abbrev pub decreases-partials : goal.decreases-partials
-decreases-partials l = l.left
+abbrev pub decreases-tries : goal.decreases-tries
+decreases-tries l = l.left
 
-abbrev pub invariant-partials : goal.invariant-partials
-invariant-partials l = l.self.size ≡ l.fn.self.size
+abbrev pub invariant-tries : goal.invariant-tries
+invariant-tries l = (l.self.size ≡ l.fn.self.size) × (l.target < l.self.growing.size) × (l.self.growing.moves < 2 * l.self.growing.size)

@@ -150,6 +150,7 @@ fn cycles_and_translated_cycles(rt: HostRuntime) -> Result<(), Fail> {
             ("1RA--- T 1 1 R", "refused 201"),
             ("1RA--- T 0 63 R", "1RA--- never"),
             ("1RA--- T 0 64 R", "1RA--- never"),
+            ("1RA--- T 0 65 R", "1RA--- never"),
             ("1RA--- T 3 67 R", "1RA--- never"),
             ("1LA--- T 3 67 L", "1LA--- never"),
             ("1LA--- T 3 67 R", "refused 201"),

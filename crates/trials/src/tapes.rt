@@ -1,6 +1,8 @@
-// Each call once on what it is for, and half tapes against words compared by hand.
+// Each call once on what it is for, half tapes against words compared by hand, and random moves and writes
+// against a plain tape.
 use machine_text::{Dir, Sym};
 use std::alloc::Global;
+use std::cmp::Ordering;
 use std::process::Abort;
 use std::test::Fail;
 use tape::{MAX_PLACE, NoMemory, Tape};
@@ -215,6 +217,194 @@ fn grows_after_no_memory(rt: HostRuntime) -> Result<(), Fail> {
             Sym::Zero
         };
         assert_eq!(rt; tape.cell(x), want, "at {x}");
+    }
+    Ok(())
+}
+
+// A tape as two lists of symbols, the nearest cell last: what the tape in words is held against.
+#[derive(Drop)]
+struct Plain {
+    head: i64,
+    left: Vec<Sym>,
+    read: Sym,
+    right: Vec<Sym>,
+}
+
+impl Plain {
+    fn write_left(&mut self, s: Sym) -> Result<(), NoMemory> {
+        self.right.push(s)?;
+        self.read = self.left.pop().unwrap_or(Sym::Zero);
+        self.head = self.head.wrapping_sub(1);
+        Ok(())
+    }
+
+    fn write_right(&mut self, s: Sym) -> Result<(), NoMemory> {
+        self.left.push(s)?;
+        self.read = self.right.pop().unwrap_or(Sym::Zero);
+        self.head = self.head.wrapping_add(1);
+        Ok(())
+    }
+
+    fn cell(&self, x: i64) -> Sym {
+        let distance = self.head.abs_diff(x) as usize;
+        match x.cmp(&self.head) {
+            Ordering::Less => at_distance(&self.left, distance),
+            Ordering::Equal => self.read,
+            Ordering::Greater => at_distance(&self.right, distance),
+        }
+    }
+
+    // All cells that are further than 300 off are blank.
+    fn same_half(&self, other: &Plain, from: i64, shift: i64, side: Dir) -> bool {
+        (-300i64..300).all(|x| {
+            let is_beyond = match side {
+                Dir::L => x <= from,
+                Dir::R => from <= x,
+            };
+            !is_beyond || self.cell(x) == other.cell(x.saturating_add(shift))
+        })
+    }
+
+    fn same(&self, other: &Plain) -> bool {
+        self.head == other.head && self.same_half(other, -300, 0, Dir::R)
+    }
+}
+
+// The symbol so many cells from the head.
+fn at_distance(side: &[Sym], distance: usize) -> Sym {
+    match side.len().checked_sub(distance) {
+        Some(i) if i < side.len() => side[i],
+        _ => Sym::Zero,
+    }
+}
+
+// A tape in words and a plain one, on which the same is done.
+#[derive(Drop)]
+struct Both {
+    packed: Tape,
+    plain: Plain,
+}
+
+impl Both {
+    fn new(alloc: Global) -> Both {
+        Both {
+            packed: Tape::new(alloc),
+            plain: Plain {
+                head: 0,
+                left: Vec::new(alloc),
+                read: Sym::Zero,
+                right: Vec::new(alloc),
+            },
+        }
+    }
+
+    // Writes and moves. No head is further than 1,000 cells off.
+    fn step(&mut self, rt: &impl Abort, s: Sym, side: Dir) -> Result<(), NoMemory> {
+        let head = self.packed.head();
+        assert!(rt; -1000 < head && head < 1000);
+        match side {
+            Dir::L => {
+                self.packed.write_left(s)?;
+                self.plain.write_left(s)
+            }
+            Dir::R => {
+                self.packed.write_right(s)?;
+                self.plain.write_right(s)
+            }
+        }
+    }
+
+    // Random symbols on 150 cells from a place on, with the symbol of the cell `odd` of them turned.
+    fn written(
+        rt: &impl Abort,
+        alloc: Global,
+        from: i64,
+        seed: u64,
+        odd: u8,
+    ) -> Result<Both, NoMemory> {
+        let mut both = Both::new(alloc);
+        let side = if from < 0 { Dir::L } else { Dir::R };
+        for _ in 0..from.unsigned_abs() {
+            both.step(rt, Sym::Zero, side)?;
+        }
+        let mut draws = Draws(seed);
+        for i in 0..150u8 {
+            let is_one = draws.next() & 1 == 1;
+            let s = symbol(is_one != (i == odd));
+            both.step(rt, s, Dir::R)?;
+        }
+        Ok(both)
+    }
+}
+
+fn symbol(is_one: bool) -> Sym {
+    if is_one { Sym::One } else { Sym::Zero }
+}
+
+// Numbers that look random: a linear congruential generator.
+#[derive(Drop)]
+struct Draws(u64);
+
+impl Draws {
+    fn next(&mut self) -> u64 {
+        self.0 = self
+            .0
+            .wrapping_mul(6_364_136_223_846_793_005)
+            .wrapping_add(1_442_695_040_888_963_407);
+        self.0 >> 33
+    }
+}
+
+#[test]
+fn random_steps_as_on_a_plain_tape(rt: HostRuntime) -> Result<(), Fail> {
+    for seed in 0..20u64 {
+        let mut draws = Draws(seed);
+        let mut both = Both::new(rt.alloc());
+        let mut side = Dir::R;
+        for _ in 0..600 {
+            let draw = draws.next();
+            if draw & 0xf0 == 0 {
+                side = match side {
+                    Dir::L => Dir::R,
+                    Dir::R => Dir::L,
+                };
+            }
+            both.step(&rt, symbol(draw & 1 == 1), side)?;
+            assert_eq!(rt; both.packed.head(), both.plain.head, "{seed}");
+            assert_eq!(rt; both.packed.read(), both.plain.read, "{seed}");
+        }
+        for x in -700i64..700 {
+            assert_eq!(rt; both.packed.cell(x), both.plain.cell(x), "{seed} at {x}");
+        }
+    }
+    Ok(())
+}
+
+#[test]
+fn random_halves_as_on_plain_tapes(rt: HostRuntime) -> Result<(), Fail> {
+    let alloc = rt.alloc();
+    for i in 0..140u8 {
+        let shift = i64::from(i) - 70;
+        let one = Both::written(&rt, alloc, -75, 7, 150)?;
+        let other = Both::written(&rt, alloc, shift - 75, 7, i.wrapping_mul(11))?;
+        assert_eq!(rt;
+            one.packed.same(&other.packed),
+            one.plain.same(&other.plain)
+        );
+        for j in 0..70u8 {
+            // All residues by 64 come up.
+            let from = 3 * i64::from(j) - 105;
+            for side in [Dir::L, Dir::R] {
+                for k in 0..2u8 {
+                    let by = i64::from(i) - 70 + i64::from(k);
+                    assert_eq!(rt;
+                        one.packed.same_half(&other.packed, from, by, side),
+                        one.plain.same_half(&other.plain, from, by, side),
+                        "{from} {by} {side:?}"
+                    );
+                }
+            }
+        }
     }
     Ok(())
 }

@@ -28,6 +28,8 @@ mod lines;
 #[cfg(test)]
 mod messages;
 #[cfg(test)]
+mod nodes;
+#[cfg(test)]
 mod position_set_search;
 #[cfg(test)]
 mod position_sets;
@@ -45,3 +47,5 @@ mod tables;
 mod tapes;
 #[cfg(test)]
 mod texts;
+#[cfg(test)]
+mod workers;

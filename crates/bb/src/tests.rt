@@ -11,7 +11,9 @@ use wire::MemLedger;
 
 // A host with one file, which is a complete ledger.
 #[derive(Drop)]
-struct OneFile;
+struct OneFile {
+    alloc: Global,
+}
 
 impl Host for OneFile {
     type File = Bytes;
@@ -32,7 +34,7 @@ impl Host for OneFile {
 
     fn ledger(&self, path: &str) -> io::Result<MemLedger> {
         if path == "complete" {
-            Ok(MemLedger::new(Global))
+            Ok(MemLedger::new(self.alloc))
         } else {
             Err(io::Error::from(io::ErrorKind::PermissionDenied))
         }
@@ -101,7 +103,7 @@ fn ended(alloc: Global, text: &str, fails: (bool, bool)) -> Result<(Outcome, boo
     let outcome = obey(
         alloc,
         Ok(line),
-        &OneFile,
+        &OneFile { alloc },
         &mut input,
         &mut answers,
         &mut faults,
@@ -244,7 +246,7 @@ fn lines_that_cant_be_read_end_early(rt: HostRuntime) {
         let ended = obey(
             rt.alloc(),
             Err(fault),
-            &OneFile,
+            &OneFile { alloc: rt.alloc() },
             &mut input,
             &mut answers,
             &mut faults,

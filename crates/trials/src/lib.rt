@@ -28,8 +28,6 @@ mod lines;
 #[cfg(test)]
 mod messages;
 #[cfg(test)]
-mod nodes;
-#[cfg(test)]
 mod position_set_search;
 #[cfg(test)]
 mod position_sets;
@@ -47,5 +45,3 @@ mod tables;
 mod tapes;
 #[cfg(test)]
 mod texts;
-#[cfg(test)]
-mod workers;

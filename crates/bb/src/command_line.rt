@@ -1,10 +1,10 @@
 // The command line, by clap's builder.
-ghost use Rattle.std.specs.Prelude.{◌≤◌, IfOk};
+ghost use Rattle.std.specs.Prelude.{◌≤◌, IfOk, IfSome};
 ghost use Rattle.bb.specs.Ranges.{AreWithinRanges, IsWithinRange};
 
 use crate::line_fault::LineFault;
 use clap::{Arg, ArgAction, ArgMatches, Command, value_parser};
-use commands::{Beginning, Options, Search};
+use commands::{Beginning, Merging, Options, Search, Settling};
 use run::NoMemory;
 use std::alloc::Global;
 
@@ -18,6 +18,9 @@ pub fn options<'a>(alloc: Global, words: &'a [&'a str]) -> Result<Options<'a>, L
         Some(("check", _)) => Ok(Options::Check),
         Some(("decide", decide)) => Ok(Options::Decide(search_of(decide)?)),
         Some(("coord", coord)) => coord_options(coord),
+        Some(("run", run)) => run_options(run),
+        Some(("retry", retry)) => retry_options(retry),
+        Some(("merge", merge)) => Ok(merge_options(merge)),
         Some(("report", report)) => Ok(report_options(report)),
         _ => Err(LineFault::NoSuchCommand),
     }
@@ -45,6 +48,21 @@ fn number_of(matches: &ArgMatches<'_>, name: &str, least: u64, most: u64) -> Res
     }
 }
 
+// The number of an option that may be left out.
+fn number_if_given(
+    matches: &ArgMatches<'_>,
+    name: &str,
+    least: u64,
+    most: u64,
+) -> Result<Option<u64>, LineFault>
+    ensures { IfOk result (λ given. IfSome given (λ number. (least ≤ number) × (number ≤ most))) }
+{
+    if matches.get_one::<u64>(name).is_none() {
+        return Ok(None);
+    }
+    Ok(Some(number_of(matches, name, least, most)?))
+}
+
 fn coord_options<'a>(coord: &ArgMatches<'a>) -> Result<Options<'a>, LineFault>
     ensures { IfOk result AreWithinRanges }
 {
@@ -55,6 +73,42 @@ fn coord_options<'a>(coord: &ArgMatches<'a>) -> Result<Options<'a>, LineFault>
     Ok(Options::Coord {
         beginning,
         ledger: coord.get_str(LEDGER),
+    })
+}
+
+fn run_options<'a>(run: &ArgMatches<'a>) -> Result<Options<'a>, LineFault>
+    ensures { IfOk result AreWithinRanges }
+{
+    let settling = Settling {
+        states: number_of(run, STATES, 1, 6)? as u8,
+        workers: number_of(run, WORKERS, 1, 64)? as u8,
+        lose: number_if_given(run, LOSE, 2, 1_000)?,
+        rounds: number_of(run, ROUNDS, 1, 1_000_000_000)?,
+        search: search_of(run)?,
+        progress: run.get_flag(PROGRESS),
+    };
+    Ok(Options::Run {
+        settling,
+        ledger: run.get_str(LEDGER),
+    })
+}
+
+fn retry_options<'a>(retry: &ArgMatches<'a>) -> Result<Options<'a>, LineFault>
+    ensures { IfOk result AreWithinRanges }
+{
+    Ok(Options::Retry {
+        file: retry.get_str(FILE).unwrap_or_default(),
+        search: search_of(retry)?,
+    })
+}
+
+fn merge_options<'a>(merge: &ArgMatches<'a>) -> Options<'a>
+    ensures { AreWithinRanges result }
+{
+    Options::Merge(Merging {
+        first: merge.get_str(FIRST).unwrap_or_default(),
+        second: merge.get_str(SECOND).unwrap_or_default(),
+        out: merge.get_str(OUT).unwrap_or_default(),
     })
 }
 
@@ -80,12 +134,15 @@ fn program<'a>(alloc: Global) -> Result<Command<'a>, NoMemory> {
                 .after_help(RECORDS),
         )?
         .subcommand(decide_command(alloc)?)?
+        .subcommand(run_command(alloc)?)?
         .subcommand(coord_command(alloc)?)?
+        .subcommand(retry_command(alloc)?)?
+        .subcommand(merge_command(alloc)?)?
         .subcommand(
             Command::new(alloc, "report")
                 .about("Prints the report of a ledger file.")
                 .after_help(REPORT)
-                .arg(Arg::new(alloc, FILE).required(true).help("The ledger file"))?
+                .arg(file_arg(alloc, FILE, "The ledger file"))?
                 .arg(
                     Arg::new(alloc, WHY)
                         .long(WHY)
@@ -96,9 +153,15 @@ fn program<'a>(alloc: Global) -> Result<Command<'a>, NoMemory> {
 }
 
 fn decide_command<'a>(alloc: Global) -> Result<Command<'a>, NoMemory> {
-    Command::new(alloc, "decide")
+    let decide = Command::new(alloc, "decide")
         .about("Reads a table a line on standard input, and prints a record a line.")
-        .after_help(DECIDE)
+        .after_help(DECIDE);
+    with_search(alloc, decide)
+}
+
+// The command with the options of a search for certificates.
+fn with_search<'a>(alloc: Global, command: Command<'a>) -> Result<Command<'a>, NoMemory> {
+    command
         .arg(
             Arg::new(alloc, STEPS)
                 .long(STEPS)
@@ -133,23 +196,87 @@ fn decide_command<'a>(alloc: Global) -> Result<Command<'a>, NoMemory> {
         )
 }
 
+fn run_command<'a>(alloc: Global) -> Result<Command<'a>, NoMemory> {
+    let run = Command::new(alloc, "run")
+        .about("Settles the tree of all machines of N states in this process, and prints the report.")
+        .after_help(RUN)
+        .arg(states_arg(alloc))?
+        .arg(
+            Arg::new(alloc, WORKERS)
+                .long(WORKERS)
+                .value_name("W")
+                .value_parser(value_parser!(u64).range(1..=64))
+                .default_value("2")
+                .help("How many workers there are"),
+        )?
+        .arg(ledger_arg(alloc))?
+        .arg(
+            Arg::new(alloc, LOSE)
+                .long(LOSE)
+                .value_name("K")
+                .value_parser(value_parser!(u64).range(2..=1_000))
+                .help("Lose every K-th of the first 1,000 frames, in each direction of each link"),
+        )?
+        .arg(
+            Arg::new(alloc, ROUNDS)
+                .long(ROUNDS)
+                .value_name("R")
+                .value_parser(value_parser!(u64).range(1..=1_000_000_000))
+                .default_value("1000000")
+                .help("Stop after so many rounds"),
+        )?
+        .arg(
+            Arg::new(alloc, PROGRESS)
+                .long(PROGRESS)
+                .action(ArgAction::SetTrue)
+                .help("Say on standard error, once a second, how far it is"),
+        )?;
+    with_search(alloc, run)
+}
+
+fn retry_command<'a>(alloc: Global) -> Result<Command<'a>, NoMemory> {
+    let retry = Command::new(alloc, "retry")
+        .about("Tries the holdouts of a ledger again, and prints its report.")
+        .after_help(RETRY)
+        .arg(file_arg(alloc, FILE, "The ledger file"))?;
+    with_search(alloc, retry)
+}
+
+fn merge_command<'a>(alloc: Global) -> Result<Command<'a>, NoMemory> {
+    Command::new(alloc, "merge")
+        .about("Writes the ledger of what two ledgers hold together.")
+        .after_help(MERGE)
+        .arg(file_arg(alloc, FIRST, "The ledger whose records come first"))?
+        .arg(file_arg(alloc, SECOND, "The other ledger"))?
+        .arg(file_arg(alloc, OUT, "The ledger file that is written; it may be one of the two"))
+}
+
+fn file_arg<'a>(alloc: Global, name: &'static str, help: &'static str) -> Arg<'a> {
+    Arg::new(alloc, name).required(true).help(help)
+}
+
+fn states_arg<'a>(alloc: Global) -> Arg<'a> {
+    Arg::new(alloc, STATES)
+        .required(true)
+        .value_parser(value_parser!(u64).range(1..=6))
+        .help("How many states the machines have")
+}
+
+fn ledger_arg<'a>(alloc: Global) -> Arg<'a> {
+    Arg::new(alloc, LEDGER)
+        .long(LEDGER)
+        .value_name("FILE")
+        .help("The ledger file, which is created where it isn't there; none is kept without it")
+}
+
 fn coord_command<'a>(alloc: Global) -> Result<Command<'a>, NoMemory> {
     Command::new(alloc, "coord")
         .about(
             "Answers workers: frames on standard input, a line each, and frames on standard output.",
         )
         .after_help(COORD)
-        .arg(
-            Arg::new(alloc, STATES)
-                .required(true)
-                .value_parser(value_parser!(u64).range(1..=6))
-                .help("How many states the machines have"),
-        )?
-        .arg(
-            Arg::new(alloc, LEDGER).long(LEDGER).value_name("FILE").help(
-                "The ledger file, which is created where it isn't there; none is kept without it",
-            ),
-        )?
+        .arg(states_arg(alloc))?
+        .arg(ledger_arg(alloc))?
         .arg(
             Arg::new(alloc, ERA)
                 .long(ERA)
@@ -174,9 +301,23 @@ const LEDGER: &str = "ledger";
 
 const ERA: &str = "era";
 
+const WORKERS: &str = "workers";
+
+const LOSE: &str = "lose";
+
+const ROUNDS: &str = "rounds";
+
+const PROGRESS: &str = "progress";
+
 const FILE: &str = "FILE";
 
 const WHY: &str = "why";
+
+const FIRST: &str = "A";
+
+const SECOND: &str = "B";
+
+const OUT: &str = "OUT";
 
 // The program's version, and the kit by which it is proved.
 const VERSION: &str = "0.1.0, proved with rattle-kit-13b logic dac8208d650f15bf";
@@ -217,6 +358,35 @@ it is new, and then acknowledged. There is no clock: a lease ends where its work
 Exit status: 0 at the end of the input the board is complete; 1 it isn't, or the ledger was refused
 (`refused 404` no header with a readable table, `refused 405` another root); 2 a wrong command line;
 3 out of memory (`refused memory`); 4 a stream failed (`refused 603`), or the ledger did (`refused 604`).";
+
+const RUN: &str =
+    "A coordinator grants tables to workers; each looks for certificates as `bb decide` does, and the coordinator
+judges what they send. At the end comes the report, as by `bb report`. It is the same however many workers
+there are and whatever frames are lost. With --ledger a run that was stopped goes on where it was.
+
+Exit status: 0 the report says complete; 1 it doesn't, or the ledger was refused (`refused 404` no header
+with a readable table, `refused 405` another root); 2 a wrong command line; 3 out of memory
+(`refused memory`); 4 the ledger failed (`refused 604`), or a stream did (`refused 603`).";
+
+const RETRY: &str =
+    "Holdouts are tables that are recorded without a verdict. Each is looked at again, as by `bb decide`, and a
+record with a verdict is appended to FILE. What follows the last line that can be kept is cut off first.
+What becomes open below a settled table stays open: `bb run --ledger FILE` goes on with it.
+
+Exit status: 0 the report says complete; 1 it doesn't, or the ledger was refused (`refused 404` no header
+with a readable table, `refused 405` its table doesn't name its states in order); 2 a wrong command line;
+3 out of memory (`refused memory`); 4 the file failed (`refused 604`), or a stream did (`refused 603`).";
+
+const MERGE: &str =
+    "Both ledgers are of one tree. OUT gets the records of A, each holdout that B settles settled in its place,
+and then those of B for tables that A has no record of. Each record is judged again. Then comes the line
+`merged R open O holdouts H`: how many records, open tables and holdouts there are; and `left LINE`, as by
+`bb report`, of the first of the two of which not all could be kept.
+
+Exit status: 0 all was kept; 1 it wasn't, or a ledger was refused (`refused 404` no header with a readable
+table, `refused 405` the tables of the two headers differ, or one isn't in order); 2 a wrong command line;
+3 out of memory (`refused memory`); 4 a file couldn't be read (`refused 605`) or written (`refused 604`),
+or a stream failed (`refused 603`).";
 
 const DECIDE: &str =
     "A line is a table in the bbchallenge standard format. Its record has the first certificate that is

@@ -1,42 +1,29 @@
 // From the words of a command line to the command, and how it ended.
 ghost use Rattle.std.specs.Prelude.{IfErr};
-ghost use Rattle.bb.specs.Ranges.{IsBeginning};
+ghost use Rattle.bb.specs.Ranges.{IsBeginning, IsSettling};
+ghost use Rattle.bb.specs.Tasks.{IsTask};
 ghost use Rattle.bb.specs.Unread.{EndsUnread};
 
 use crate::command_line::options;
 use crate::line_fault::LineFault;
 use backward::BackwardFinder;
-use cert::{Finder, Finders};
+use cert::{Decider, Finder, Finders};
 use commands::{
-    Beginning, Ended, Opened, Options, Outcome, Search, cmd_check, cmd_coord, cmd_decide,
-    cmd_report,
+    Beginning, Ended, Host, Opened, Options, Outcome, Search, Settling, cmd_check, cmd_coord,
+    cmd_decide, cmd_merge, cmd_report, cmd_retry, cmd_run, opened,
 };
 use far::FarFinder;
 use loops::{CycleFinder, TranslatedFinder};
 use ngram_cps::NgramFinder;
 use run::{HaltFinder, NoMemory};
 use std::alloc::Global;
-use std::io::{self, Read, Write};
-use wire::{LedgerOut, MemLedger};
-
-/// Where the files stand that a command line names.
-pub trait Host {
-    type File: Read + Drop;
-
-    fn open(&self, path: &str) -> io::Result<Self::File>;
-
-    /// How many bytes a file has now.
-    fn length(&self, file: &Self::File) -> io::Result<u64>;
-
-    type Ledger: LedgerOut + Drop;
-
-    /// A ledger file, to be cut and appended to, which is created where it isn't there.
-    fn ledger(&self, path: &str) -> io::Result<Self::Ledger>;
-}
+use std::io::{self, Empty, Read, Write};
+use std::time::Clock;
+use wire::MemLedger;
 
 /// Does what the words ask for, the program's name first, and answers how it ended. Each end is an
 /// `Outcome`: a line that can't be read or is refused too, and a stream that fails.
-pub fn obey<H: Host, R: Read, W: Write, E: Write>(
+pub fn obey<H: Host + Clock, R: Read, W: Write, E: Write>(
     alloc: Global,
     words: Result<Vec<String>, LineFault>,
     host: &H,
@@ -57,7 +44,7 @@ pub fn obey<H: Host, R: Read, W: Write, E: Write>(
     match options(alloc, &line) {
         Ok(Options::Check) => cmd_check(alloc, input, answers, faults),
         Ok(Options::Decide(search)) => {
-            match decide_with(alloc, search, input, answers, faults) {
+            match with_finders(alloc, search, 1, Task::Decide, host, input, answers, faults) {
                 Ok(outcome) => outcome,
                 Err(_) => Ended::NoMemory.told(faults),
             }
@@ -65,6 +52,30 @@ pub fn obey<H: Host, R: Read, W: Write, E: Write>(
         Ok(Options::Coord { beginning, ledger }) => {
             coordinate(alloc, beginning, ledger, host, input, answers, faults)
         }
+        Ok(Options::Run { settling, ledger }) => {
+            let task = Task::Run { settling, ledger };
+            let workers = settling.workers;
+            match with_finders(
+                alloc,
+                settling.search,
+                workers,
+                task,
+                host,
+                input,
+                answers,
+                faults,
+            ) {
+                Ok(outcome) => outcome,
+                Err(_) => Ended::NoMemory.told(faults),
+            }
+        }
+        Ok(Options::Retry { file, search }) => {
+            match with_finders(alloc, search, 1, Task::Retry(file), host, input, answers, faults) {
+                Ok(outcome) => outcome,
+                Err(_) => Ended::NoMemory.told(faults),
+            }
+        }
+        Ok(Options::Merge(merging)) => cmd_merge(alloc, merging, host, answers, faults),
         Ok(Options::Report { file, why }) => {
             cmd_report(alloc, why, opened(host, file), answers, faults)
         }
@@ -72,24 +83,115 @@ pub fn obey<H: Host, R: Read, W: Write, E: Write>(
     }
 }
 
-// `bb decide`, with its finders in the order in which they are asked.
-fn decide_with<R: Read, W: Write, E: Write>(
+// What is done with finders.
+#[derive(Clone, Copy)]
+pub enum Task<'a> {
+    Decide,
+    Run {
+        settling: Settling,
+        ledger: Option<&'a str>,
+    },
+    Retry(&'a str),
+}
+
+// Makes so many lists of finders, each in the order in which they are asked, and does with them what is asked
+// for. A value that is boxed as any finder can't be handed out by a function, so all that needs finders is
+// called from here.
+fn with_finders<H: Host + Clock, R: Read, W: Write, E: Write>(
     alloc: Global,
     search: Search,
+    count: u8,
+    task: Task<'_>,
+    host: &H,
     input: &mut R,
     answers: &mut W,
     faults: &mut E,
-) -> Result<Outcome, NoMemory> {
+) -> Result<Outcome, NoMemory>
+    requires { IsTask task }
+{
     let steps = search.steps;
-    let mut finders: Vec<Box<dyn Finder>> = Vec::new(alloc);
-    finders.push(Box::new(alloc, HaltFinder::new(alloc, steps))?)?;
-    finders.push(Box::new(alloc, CycleFinder::new(alloc, steps))?)?;
-    finders.push(Box::new(alloc, TranslatedFinder::new(alloc, steps))?)?;
-    finders.push(Box::new(alloc, BackwardFinder::new(alloc, search.depth))?)?;
-    finders.push(Box::new(alloc, NgramFinder::new(alloc, search.gram))?)?;
-    finders.push(Box::new(alloc, FarFinder::new(alloc, search.far))?)?;
-    let mut decider = Finders::new(finders, steps);
-    Ok(cmd_decide(alloc, &mut decider, input, answers, faults))
+    let mut lists = Vec::new(alloc);
+    for _ in 0..count {
+        let mut finders: Vec<Box<dyn Finder>> = Vec::new(alloc);
+        finders.push(Box::new(alloc, HaltFinder::new(alloc, steps))?)?;
+        finders.push(Box::new(alloc, CycleFinder::new(alloc, steps))?)?;
+        finders.push(Box::new(alloc, TranslatedFinder::new(alloc, steps))?)?;
+        finders.push(Box::new(alloc, BackwardFinder::new(alloc, search.depth))?)?;
+        finders.push(Box::new(alloc, NgramFinder::new(alloc, search.gram))?)?;
+        finders.push(Box::new(alloc, FarFinder::new(alloc, search.far))?)?;
+        lists.push(finders)?;
+    }
+    match task {
+        Task::Decide => {
+            let mut decider = Finders::new(lists.pop().unwrap_or(Vec::new(alloc)), steps);
+            Ok(cmd_decide(alloc, &mut decider, input, answers, faults))
+        }
+        Task::Run { settling, ledger } => Ok(run(
+            alloc, &settling, ledger, lists, host, answers, faults,
+        )),
+        Task::Retry(file) => {
+            let mut decider = Finders::new(lists.pop().unwrap_or(Vec::new(alloc)), steps);
+            Ok(retry(alloc, file, &mut decider, host, answers, faults))
+        }
+    }
+}
+
+// `bb run`, with its ledger in a file or in memory.
+fn run<H: Host + Clock, W: Write, E: Write>(
+    alloc: Global,
+    settling: &Settling,
+    path: Option<&str>,
+    finders: Vec<Vec<Box<dyn Finder>>>,
+    host: &H,
+    answers: &mut W,
+    faults: &mut E,
+) -> Outcome
+    requires { IsSettling settling.now }
+{
+    let Some(path) = path else {
+        let mut ledger = MemLedger::new(alloc);
+        return cmd_run(
+            alloc,
+            settling,
+            Ok(nothing()),
+            &mut ledger,
+            finders,
+            host,
+            answers,
+            faults,
+        );
+    };
+    match host.ledger(path) {
+        Ok(mut ledger) => cmd_run(
+            alloc,
+            settling,
+            opened(host, path),
+            &mut ledger,
+            finders,
+            host,
+            answers,
+            faults,
+        ),
+        Err(fault) => Ended::by_ledger(&fault).told(faults),
+    }
+}
+
+// `bb retry`, over a ledger that has to be there.
+fn retry<H: Host, D: Decider, W: Write, E: Write>(
+    alloc: Global,
+    path: &str,
+    decider: &mut D,
+    host: &H,
+    answers: &mut W,
+    faults: &mut E,
+) -> Outcome {
+    match host.old_ledger(path) {
+        Ok(mut ledger) => {
+            let held = opened(host, path);
+            cmd_retry(alloc, held, &mut ledger, decider, answers, faults)
+        }
+        Err(fault) => Ended::by_ledger(&fault).told(faults),
+    }
 }
 
 // `bb coord`, with its ledger in a file or in memory.
@@ -105,15 +207,11 @@ fn coordinate<H: Host, R: Read, W: Write, E: Write>(
     requires { IsBeginning beginning }
 {
     let Some(path) = path else {
-        let nothing = Opened {
-            reader: io::empty(),
-            length: 0,
-        };
         let mut ledger = MemLedger::new(alloc);
         return cmd_coord(
             alloc,
             beginning,
-            Ok(nothing),
+            Ok(nothing()),
             &mut ledger,
             input,
             answers,
@@ -129,19 +227,20 @@ fn coordinate<H: Host, R: Read, W: Write, E: Write>(
     }
 }
 
+// A ledger that is kept in memory begins with nothing.
+fn nothing() -> Opened<Empty> {
+    Opened {
+        reader: io::empty(),
+        length: 0,
+    }
+}
+
 fn line_of(alloc: Global, words: &[String]) -> Result<Vec<&str>, NoMemory> {
     let mut line = Vec::new(alloc);
     for word in words {
         line.push(word.as_str())?;
     }
     Ok(line)
-}
-
-// A file, and how long it is now.
-fn opened<H: Host>(host: &H, path: &str) -> io::Result<Opened<H::File>> {
-    let reader = host.open(path)?;
-    let length = host.length(&reader)?;
-    Ok(Opened { reader, length })
 }
 
 // Prints what there is to say in place of a command: help and the version as answers, all else as faults.

@@ -7,9 +7,11 @@ mod dispatch;
 mod line_fault;
 
 pub use command_line::options;
-use commands::FileLedger;
-pub use commands::{Options, cmd_check, cmd_coord, cmd_decide, cmd_report, report};
-use dispatch::{Host, obey};
+use commands::{FileLedger, Host};
+pub use commands::{
+    Options, cmd_check, cmd_coord, cmd_decide, cmd_merge, cmd_report, cmd_retry, cmd_run, report,
+};
+use dispatch::obey;
 pub use line_fault::LineFault;
 use std::fs::{self, OpenFile, OpenOptions};
 use std::process::ExitCode;
@@ -54,6 +56,11 @@ impl Host for HostRuntime {
             .append(true)
             .create(true)
             .open(self, path)?;
+        Ok(FileLedger::of(file))
+    }
+
+    fn old_ledger(&self, path: &str) -> io::Result<FileLedger<fs::File>> {
+        let file = OpenOptions::new().append(true).open(self, path)?;
         Ok(FileLedger::of(file))
     }
 }

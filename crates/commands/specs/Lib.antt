@@ -1,7 +1,9 @@
 pub mod Outcome
 pub mod Lines
+pub mod Losses
 pub mod Answer
 pub mod Decision
 pub mod Report
 pub mod LedgerReport
 pub mod Passing
+pub mod Retry

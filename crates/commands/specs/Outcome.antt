@@ -48,3 +48,10 @@ ended_by_turn LedgerFault = Ledger
 ended_by_turn (Node Stopped) = Ledger
 ended_by_turn (Node NoNodeMemory) = WantsMemory
 ended_by_turn NoTurnMemory = WantsMemory
+
+-- the same over a link in memory, which fails where memory is refused
+abbrev pub ended_in_memory : TurnFault → Ended
+ended_in_memory LinkFault = WantsMemory
+ended_in_memory LedgerFault = ended_by_turn LedgerFault
+ended_in_memory (Node fault) = ended_by_turn (Node fault)
+ended_in_memory NoTurnMemory = ended_by_turn NoTurnMemory

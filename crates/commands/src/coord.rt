@@ -38,7 +38,7 @@ pub fn cmd_coord<F: Read + Drop, L: LedgerOut, R: Read, W: Write, E: Write>(
 }
 
 // A coordinator whose ledger is in step with it.
-fn coordinator<F: Read + Drop, L: LedgerOut>(
+pub fn coordinator<F: Read + Drop, L: LedgerOut>(
     alloc: Global,
     beginning: Beginning,
     held: io::Result<Opened<F>>,
@@ -87,7 +87,8 @@ fn turned<N: Node, L: LedgerOut, R: Read, W: Write>(
     Ok(())
 }
 
-fn outcome_of(node: &Coordinator) -> Outcome {
+// Accepted where a coordinator's board is complete.
+pub fn outcome_of(node: &Coordinator) -> Outcome {
     match node.board() {
         Some(board) if matches!(board.status(), Status::Complete { .. }) => Outcome::Accepted,
         _ => Outcome::Refused,

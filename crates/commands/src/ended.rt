@@ -1,6 +1,6 @@
 // What ends a command before its work is done.
 ghost use Rattle.std.specs.Prelude.{◌≡◌, ◌⊎◌};
-ghost use Rattle.commands.specs.Outcome.{outcome_of};
+ghost use Rattle.commands.specs.Outcome.{outcome_of, ended_in_memory};
 
 use crate::outcome::Outcome;
 use lease_core::StartFault;
@@ -52,6 +52,16 @@ impl Ended {
         match fault.kind() {
             ErrorKind::OutOfMemory => Ended::NoMemory,
             _ => Ended::Ledger,
+        }
+    }
+
+    /// What ends a command by a turn over a link in memory, which fails where memory is refused.
+    pub fn in_memory(fault: TurnFault) -> Ended
+        ensures { result ≡ ended_in_memory fault }
+    {
+        match fault {
+            TurnFault::LinkFault => Ended::NoMemory,
+            fault => Ended::from(fault),
         }
     }
 

@@ -112,7 +112,7 @@ pub fn write_ledger_report<W: Write>(
 }
 
 // The board of a ledger's text with the root that it names, and what of the text wasn't kept.
-fn loaded(alloc: Global, bytes: &[u8]) -> Result<(Board, Left), Ended>
+pub fn loaded(alloc: Global, bytes: &[u8]) -> Result<(Board, Left), Ended>
     ensures ok { IfOk result (λ l. ReadsAs l.0.root bytes.now l.0.records l.1) }
     ensures err { IfErr result (λ e. EndsLedger bytes.now e) }
 {
@@ -127,7 +127,7 @@ fn loaded(alloc: Global, bytes: &[u8]) -> Result<(Board, Left), Ended>
 }
 
 // Accepted where a board is complete and all of its ledger was kept.
-fn outcome_by(status: Status, left: &Left) -> Outcome
+pub fn outcome_by(status: Status, left: &Left) -> Outcome
     ensures { result ≡ outcome_by status left.now }
 {
     match (status, left) {

@@ -14,6 +14,23 @@ pub enum Options<'a> {
         /// The ledger's path; none where it is kept in memory.
         ledger: Option<&'a str>,
     },
+    /// `bb run N [--workers W] [--ledger FILE] [--lose K] [--rounds R] [--progress]` and the options of
+    /// `decide`
+    Run {
+        /// How the tree is settled.
+        settling: Settling,
+        /// The coordinator's ledger's path; none where it is kept in memory.
+        ledger: Option<&'a str>,
+    },
+    /// `bb retry FILE` and the options of `decide`
+    Retry {
+        /// The ledger's path.
+        file: &'a str,
+        /// How far certificates are searched for.
+        search: Search,
+    },
+    /// `bb merge A B OUT`
+    Merge(Merging<'a>),
     /// `bb report FILE [--why]`
     Report {
         /// The ledger's path.
@@ -21,6 +38,17 @@ pub enum Options<'a> {
         /// Whether to say why the first line that isn't kept isn't.
         why: bool,
     },
+}
+
+/// The paths of two ledgers that are merged, and of the one that is written.
+#[derive(Clone, Copy, Debug, PartialEq, Eq)]
+pub struct Merging<'a> {
+    /// The ledger whose records come first.
+    pub first: &'a str,
+    /// The ledger whose records are then offered.
+    pub second: &'a str,
+    /// The ledger that is written; it may be one of the two.
+    pub out: &'a str,
 }
 
 /// How far certificates are searched for.
@@ -43,4 +71,22 @@ pub struct Beginning {
     pub states: u8,
     /// The number by which its leases are told from those of an earlier run: 1 or more.
     pub era: u64,
+}
+
+/// How a tree is settled by a coordinator and workers in one process.
+#[derive(Clone, Copy, Debug, PartialEq, Eq)]
+pub struct Settling {
+    /// How many states the machines have: 1 to 6.
+    pub states: u8,
+    /// How many workers there are: 1 to 64.
+    pub workers: u8,
+    /// Of the first 1,000 frames in each direction of each worker's link every so many-th is lost, 2 to
+    /// 1,000; or none is.
+    pub lose: Option<u64>,
+    /// The most rounds: 1 to 1,000,000,000.
+    pub rounds: u64,
+    /// How far each worker searches for certificates.
+    pub search: Search,
+    /// Whether to tell on standard error, while it goes on, how far it is.
+    pub progress: bool,
 }

@@ -1,4 +1,5 @@
 // A coordinator's answers to frames and ticks, and what it makes of ledgers.
+use crate::nodes::{answers, handed};
 use lease_core::{Coordinator, StartFault};
 use ledger::Status;
 use std::alloc::Global;
@@ -16,31 +17,6 @@ fn begun(rt: &impl Abort, alloc: Global) -> Coordinator {
         }
     }
     panic!(rt; "no coordinator")
-}
-
-// Hands over a frame, or a tick as `TICK moment`. Memory may be refused, and then it is handed over again.
-fn handed(rt: &impl Abort, node: &mut Coordinator, event: &str) -> Out {
-    for _ in 0..9 {
-        let answer = match event.strip_prefix("TICK ") {
-            Some(moment) => node.on(Event::Tick(moment.parse().unwrap_or(0))),
-            None => node.on(Event::Frame(event.as_bytes())),
-        };
-        match answer {
-            Ok(out) => return out,
-            Err(fault) => assert!(rt; fault == NodeFault::NoMemory, "{event}: {fault}"),
-        }
-    }
-    panic!(rt; "{event}: no answer")
-}
-
-// Events, each with what is appended and what is sent.
-fn answers(rt: &impl Abort, node: &mut Coordinator, rows: &[(&str, &str, &str)]) {
-    for (event, append, frames) in rows {
-        let out = handed(rt, node, event);
-        assert!(rt; out.cut.is_none());
-        assert!(rt; out.append.as_slice() == append.as_bytes(), "{event}");
-        assert!(rt; out.frames.as_slice() == frames.as_bytes(), "{event}");
-    }
 }
 
 #[test]

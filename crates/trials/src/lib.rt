@@ -28,6 +28,8 @@ mod lines;
 #[cfg(test)]
 mod messages;
 #[cfg(test)]
+mod nodes;
+#[cfg(test)]
 mod position_set_search;
 #[cfg(test)]
 mod position_sets;
@@ -35,6 +37,8 @@ mod position_sets;
 mod records;
 #[cfg(test)]
 mod report_command;
+#[cfg(test)]
+mod run_command;
 #[cfg(test)]
 mod runs;
 #[cfg(test)]
@@ -45,3 +49,5 @@ mod tables;
 mod tapes;
 #[cfg(test)]
 mod texts;
+#[cfg(test)]
+mod workers;

@@ -1,0 +1,116 @@
+// `bb retry`: the holdouts of a ledger are tried again.
+ghost use Rattle.std.specs.Prelude.{◌≡◌, OnOk};
+ghost use Rattle.commands.specs.Retry.{StaysInStep};
+
+use crate::ended::Ended;
+use crate::ledger_report::{Opened, bytes_of, loaded, outcome_by};
+use crate::outcome::Outcome;
+use crate::report_writer::write_report;
+use cert::{Decider, Record};
+use ledger::{Board, Left, Taken, append_record};
+use machine_text::Table;
+use std::alloc::Global;
+use std::io::{self, Read, Write};
+use wire::{LedgerOut, Note, Out, begin};
+
+/// Cuts a ledger to the bytes that are kept of it, asks the decider for each of its holdouts in the order of
+/// their texts, and appends a line for each that is settled. Then it prints the report: accepted where that
+/// says complete. What becomes open stays open. `held` reads what the ledger holds; what ends the command early is
+/// said on `faults`.
+pub fn cmd_retry<F: Read + Drop, L: LedgerOut, D: Decider, W: Write, E: Write>(
+    alloc: Global,
+    held: io::Result<Opened<F>>,
+    ledger: &mut L,
+    decider: &mut D,
+    answers: &mut W,
+    faults: &mut E,
+) -> Outcome {
+    match retried(alloc, held, ledger, decider, answers) {
+        Ok(outcome) => outcome,
+        Err(ended) => ended.told(faults),
+    }
+}
+
+fn retried<F: Read + Drop, L: LedgerOut, D: Decider, W: Write>(
+    alloc: Global,
+    held: io::Result<Opened<F>>,
+    ledger: &mut L,
+    decider: &mut D,
+    answers: &mut W,
+) -> Result<Outcome, Ended> {
+    let bytes = match bytes_of(alloc, held) {
+        Ok(bytes) => bytes,
+        Err(fault) => return Err(Ended::by_ledger(&fault)),
+    };
+    let (mut board, left) = loaded(alloc, &bytes)?;
+    drop(bytes);
+    cut_off(&left, ledger)?;
+    retry_holdouts(alloc, &mut board, decider, ledger)?;
+    write_report(alloc, &board, &Left::Nothing, answers)?;
+    Ok(outcome_by(board.status(), &Left::Nothing))
+}
+
+// Cuts off what wasn't kept.
+fn cut_off<L: LedgerOut>(left: &Left, ledger: &mut L) -> Result<(), Ended> {
+    match left {
+        Left::Nothing => Ok(()),
+        Left::From { kept, .. } => match ledger.cut(*kept) {
+            Ok(()) => Ok(()),
+            Err(_) => Err(Ended::Ledger),
+        },
+    }
+}
+
+/// Asks the decider for each holdout of a board, in the order of their texts, offers what it answers, and
+/// appends what is taken to the ledger, so that a ledger that was in step with the board is so again.
+pub fn retry_holdouts<L: LedgerOut, D: Decider>(
+    alloc: Global,
+    board: &mut Board,
+    decider: &mut D,
+    ledger: &mut L,
+) -> Result<(), Ended>
+    ensures root { board.new.root ≡ board.old.root }
+    ensures step { OnOk result (StaysInStep board.old (L.text ledger.old) board.new (L.text ledger.new)) }
+{
+    for table in board.holdouts()? {
+        retry(alloc, board, decider, &table, ledger)?;
+    }
+    Ok(())
+}
+
+fn retry<L: LedgerOut, D: Decider>(
+    alloc: Global,
+    board: &mut Board,
+    decider: &mut D,
+    t: &Table,
+    ledger: &mut L,
+) -> Result<(), Ended>
+    ensures root { board.new.root ≡ board.old.root }
+    ensures step { OnOk result (StaysInStep board.old (L.text ledger.old) board.new (L.text ledger.new)) }
+{
+    let made = decider.decide(alloc, t)?;
+    let record = Record {
+        table: made.table,
+        certificate: made.certificate.lent(),
+    };
+    let mut append = Vec::new(alloc);
+    append_record(&record, &mut append)?;
+    match board.offer(&record) {
+        Ok(Taken::Known) => Ok(()),
+        Ok(Taken::New) | Ok(Taken::Settled) => Ok(begin(&appending(alloc, append), ledger)?),
+        // it is certified, and of a table of the board, so it was memory
+        Err(_) => Err(Ended::NoMemory),
+    }
+}
+
+// An answer by which a ledger gains these bytes, and nothing else happens.
+fn appending(alloc: Global, append: Vec<u8>) -> Out
+    ensures { (result.append.items ≡ append.items) × (result.cut ≡ None) }
+{
+    Out {
+        cut: None,
+        append,
+        frames: Vec::new(alloc),
+        note: Note::Quiet,
+    }
+}

@@ -1,0 +1,216 @@
+// `bb run` over ledgers and clocks of the tests' own.
+use crate::streams::{ALWAYS, Sink, file_of};
+use backward::BackwardFinder;
+use cert::Finder;
+use commands::{Outcome, Search, Settling, cmd_run};
+use far::FarFinder;
+use loops::{CycleFinder, TranslatedFinder};
+use ngram_cps::NgramFinder;
+use run::HaltFinder;
+use std::alloc::Global;
+use std::cell::Cell;
+use std::io;
+use std::process::Abort;
+use std::test::Fail;
+use std::time::{Clock, Duration};
+use wire::MemLedger;
+
+const STEPS: u64 = 1_000;
+
+// Each reading is so many milliseconds after the one before.
+#[derive(Drop)]
+struct Steady {
+    now: Cell<u64>,
+    between: u64,
+}
+
+impl Clock for Steady {
+    fn monotonic(&self) -> io::Result<Duration> {
+        let now = self.now.get().saturating_add(self.between);
+        self.now.set(now);
+        Ok(Duration::from_millis(now))
+    }
+
+    fn since_1970(&self) -> io::Result<Duration> {
+        Err(io::Error::from(io::ErrorKind::Unsupported))
+    }
+}
+
+// The finders of a worker, in the order in which they are asked.
+fn finders_of(alloc: Global) -> Result<Vec<Box<dyn Finder>>, Fail> {
+    let mut finders: Vec<Box<dyn Finder>> = Vec::new(alloc);
+    finders.push(Box::new(alloc, HaltFinder::new(alloc, STEPS))?)?;
+    finders.push(Box::new(alloc, CycleFinder::new(alloc, STEPS))?)?;
+    finders.push(Box::new(alloc, TranslatedFinder::new(alloc, STEPS))?)?;
+    finders.push(Box::new(alloc, BackwardFinder::new(alloc, 20))?)?;
+    finders.push(Box::new(alloc, NgramFinder::new(alloc, 3))?)?;
+    finders.push(Box::new(alloc, FarFinder::new(alloc, 2))?)?;
+    Ok(finders)
+}
+
+// What is run: the states, the workers, which frames are lost, the most rounds, and whether to tell how far it
+// is.
+fn settling(states: u8, workers: u8, lose: Option<u64>, rounds: u64, progress: bool) -> Settling {
+    Settling {
+        states,
+        workers,
+        lose,
+        rounds,
+        search: Search {
+            steps: STEPS,
+            depth: 20,
+            gram: 3,
+            far: 2,
+        },
+        progress,
+    }
+}
+
+// What is answered, what is said beside it, what the ledger then holds, and the outcome.
+#[derive(Drop)]
+struct Ending {
+    answers: Vec<u8>,
+    faults: Vec<u8>,
+    ledger: MemLedger,
+    outcome: Outcome,
+}
+
+fn ended(
+    alloc: Global,
+    settling: &Settling,
+    held: &[u8],
+    ledger_fails_at: u64,
+    writes_left: u64,
+) -> Result<Ending, Fail> {
+    let mut finders = Vec::new(alloc);
+    for _ in 0..settling.workers {
+        finders.push(finders_of(alloc)?)?;
+    }
+    let mut ledger = MemLedger::holding(held.to_vec(alloc)?);
+    ledger.fail_at(ledger_fails_at);
+    let clock = Steady {
+        now: Cell::new(0),
+        between: 500,
+    };
+    let mut answers = Sink::new(alloc, usize::MAX, writes_left);
+    let mut faults = Sink::new(alloc, usize::MAX, ALWAYS);
+    let outcome = cmd_run(
+        alloc,
+        settling,
+        file_of(held, 9, ALWAYS),
+        &mut ledger,
+        finders,
+        &clock,
+        &mut answers,
+        &mut faults,
+    );
+    Ok(Ending {
+        answers: answers.kept,
+        faults: faults.kept,
+        ledger,
+        outcome,
+    })
+}
+
+const ONE_STATE: &[u8] =
+    b"root ------\nstatus complete\nnodes 3\nhalting 1\nnever 2\nholdouts 0\nopen 0\nbest 1\nchampion ------\n";
+
+const TWO_STATES: &[u8] = b"root ------_------\nstatus complete\nnodes 61\nhalting 19\nnever 42\nholdouts 0
+open 0\nbest 6\nchampion 0RB---_1LA1RB\nchampion 1RB---_0LB1LA\nchampion 1RB---_1LB1LA\nchampion 1RB0LB_1LA---
+champion 1RB1LB_1LA---\n";
+
+#[test]
+fn small_trees_are_settled(rt: HostRuntime) -> Result<(), Fail> {
+    for (states, workers, lose, report) in [
+        (1, 2, None, ONE_STATE),
+        (2, 1, None, TWO_STATES),
+        (2, 2, None, TWO_STATES),
+        (2, 5, None, TWO_STATES),
+        (2, 2, Some(2), TWO_STATES),
+        (2, 5, Some(3), TWO_STATES),
+    ] {
+        let asked = settling(states, workers, lose, 1_000_000, false);
+        let end = ended(rt.alloc(), &asked, b"", 0, ALWAYS)?;
+        assert_eq!(rt; end.answers.as_slice(), report);
+        assert!(rt; end.faults.is_empty() && end.outcome == Outcome::Accepted);
+    }
+    Ok(())
+}
+
+const LEDGER: &[u8] = b"bb-ledger 1 ------\n------ H 1\n0RA--- T 0 1 R\n1RA--- T 0 1 R\n";
+
+#[test]
+fn a_run_goes_on_where_its_ledger_ends(rt: HostRuntime) -> Result<(), Fail> {
+    let asked = settling(1, 2, None, 1_000_000, false);
+    for count in 0..=LEDGER.len() {
+        let end = ended(rt.alloc(), &asked, &LEDGER[..count], 0, ALWAYS)?;
+        assert_eq!(rt; end.answers.as_slice(), ONE_STATE);
+        assert!(rt; end.outcome == Outcome::Accepted, "{count}");
+        // Its ledger then holds a complete run: it is loaded, and nothing is appended.
+        let again = ended(rt.alloc(), &asked, end.ledger.text(), 0, ALWAYS)?;
+        assert_eq!(rt; again.answers.as_slice(), ONE_STATE);
+        assert_eq!(rt; again.ledger.text(), end.ledger.text());
+    }
+    Ok(())
+}
+
+#[test]
+fn a_run_that_is_cut_short_is_no_complete_one(rt: HostRuntime) -> Result<(), Fail> {
+    // In the first round the workers only ask.
+    let end = ended(
+        rt.alloc(),
+        &settling(1, 2, None, 1, false),
+        b"",
+        0,
+        ALWAYS,
+    )?;
+    assert_eq!(rt;
+        end.answers.as_slice(),
+        b"root ------\nstatus working\nnodes 1\nhalting 0\nnever 0\nholdouts 0\nopen 1\nbest none\n".as_slice()
+    );
+    assert!(rt; end.outcome == Outcome::Refused);
+    Ok(())
+}
+
+#[test]
+fn what_fails_ends_a_run(rt: HostRuntime) -> Result<(), Fail> {
+    for (held, fails_at, writes_left, faults, outcome) in [
+        (b"".as_slice(), 1, ALWAYS, "refused 604\n", Outcome::Failed),
+        (b"".as_slice(), 2, ALWAYS, "refused 604\n", Outcome::Failed),
+        (b"".as_slice(), 0, 0, "refused 603\n", Outcome::Failed),
+        (
+            b"hello\n".as_slice(),
+            0,
+            ALWAYS,
+            "refused 404\n",
+            Outcome::Refused,
+        ),
+        (
+            b"bb-ledger 1 ------_------\n".as_slice(),
+            0,
+            ALWAYS,
+            "refused 405\n",
+            Outcome::Refused,
+        ),
+    ] {
+        let asked = settling(1, 2, None, 1_000_000, false);
+        let end = ended(rt.alloc(), &asked, held, fails_at, writes_left)?;
+        assert_eq!(rt; end.faults.as_slice(), faults.as_bytes());
+        assert!(rt; end.answers.is_empty() && end.outcome == outcome);
+    }
+    Ok(())
+}
+
+#[test]
+fn a_run_tells_how_far_it_is(rt: HostRuntime) -> Result<(), Fail> {
+    let asked = settling(1, 2, None, 1_000_000, true);
+    let end = ended(rt.alloc(), &asked, b"", 0, ALWAYS)?;
+    assert_eq!(rt; end.answers.as_slice(), ONE_STATE);
+    // The clock is read before the first round and after each, of which there are two: in the first the workers
+    // ask, in the second one of them makes all records.
+    assert_eq!(rt;
+        end.faults.as_slice(),
+        b"3 nodes recorded, 0 open, 0 holdouts, 3 records a second\n".as_slice()
+    );
+    Ok(())
+}

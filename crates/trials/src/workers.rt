@@ -1,0 +1,149 @@
+// A worker's answers to frames, ticks and time to work.
+use crate::nodes::{answers, handed};
+use crate::texts::table_of;
+use cert::Finder;
+use lease_core::{StartFault, Worker};
+use run::HaltFinder;
+use std::alloc::Global;
+use std::process::Abort;
+use std::test::Fail;
+use wire::{Event, Node, NodeFault, Note, Out};
+
+// A worker with the id 7, which looks for halting counts.
+fn started(alloc: Global, ledger: &[u8]) -> Result<(Worker, Result<Out, StartFault>), Fail> {
+    let mut finders: Vec<Box<dyn Finder>> = Vec::new(alloc);
+    finders.push(Box::new(alloc, HaltFinder::new(alloc, 100))?)?;
+    Ok(Worker::start(alloc, 7, ledger, finders, 100))
+}
+
+// The same, without a board.
+fn idle(rt: &impl Abort, alloc: Global) -> Result<Worker, Fail> {
+    let (worker, first) = started(alloc, b"")?;
+    match first {
+        Ok(out) => assert!(rt;
+            out.cut.is_none() && out.append.is_empty() && worker.board().is_none()
+        ),
+        Err(fault) => panic!(rt; "{fault}"),
+    }
+    Ok(worker)
+}
+
+const CHILDREN: &str =
+    "0LA---_1LA--- 0LB---_1LA--- 0RA---_1LA--- 0RB---_1LA--- 1LA---_1LA--- 1LB---_1LA--- 1RA---_1LA--- 1RB---_1LA---";
+
+#[test]
+fn a_granted_tree_is_worked_on(rt: HostRuntime) -> Result<(), Fail> {
+    let mut worker = idle(&rt, rt.alloc())?;
+    let out = handed(&rt, &mut worker, "GRANT 1 1 1RC---_------_------");
+    assert!(rt; out.note == Note::Refused(401) && worker.board().is_none());
+    let out = handed(&rt, &mut worker, "GRANT 1 1 ------_1LA---");
+    assert!(rt; out.cut == Some(0));
+    assert_eq!(rt;
+        out.append.as_slice(),
+        b"bb-ledger 1 ------_1LA---\n".as_slice()
+    );
+    answers(
+        &rt,
+        &mut worker,
+        &[
+            ("TICK 1", "", ""),
+            ("WORK", "------_1LA--- H 1\n", "REC ------_1LA--- H 1\n"),
+        ],
+    );
+    match worker.board() {
+        Some(board) => {
+            for child in CHILDREN.split(' ') {
+                assert!(rt; board.is_open(&table_of(&rt, child)), "{child}");
+            }
+            assert!(rt; board.tally().open_count == 8);
+        }
+        None => panic!(rt; "no board"),
+    }
+    answers(
+        &rt,
+        &mut worker,
+        &[
+            ("WORK", "0LA---_1LA--- U\n", "REC 0LA---_1LA--- U\n"),
+            ("WORK", "0LB---_1LA--- U\n", "REC 0LB---_1LA--- U\n"),
+            (
+                "TICK 2",
+                "",
+                "REC ------_1LA--- H 1\nREC 0LA---_1LA--- U\nREC 0LB---_1LA--- U\n",
+            ),
+            ("ACK ------_1LA---", "", ""),
+            ("ACK 0LB---_1LA---", "", ""),
+            ("TICK 3", "", "REC 0LA---_1LA--- U\n"),
+            ("STOP", "", ""),
+            ("TICK 4", "", ""),
+            // A grant of its own root: nothing is acknowledged any more, and `STOP` is forgotten.
+            ("GRANT 1 2 ------_1LA---", "", ""),
+            (
+                "TICK 5",
+                "",
+                "REC ------_1LA--- H 1\nREC 0LA---_1LA--- U\nREC 0LB---_1LA--- U\n",
+            ),
+        ],
+    );
+    Ok(())
+}
+
+#[test]
+fn a_worker_asks_once_it_is_done(rt: HostRuntime) -> Result<(), Fail> {
+    let mut worker = idle(&rt, rt.alloc())?;
+    answers(
+        &rt,
+        &mut worker,
+        &[("TICK 1", "", "ASK 7\n"), ("WORK", "", "")],
+    );
+    handed(&rt, &mut worker, "GRANT 4 9 1RA---");
+    answers(
+        &rt,
+        &mut worker,
+        &[
+            ("WORK", "1RA--- U\n", "REC 1RA--- U\n"),
+            ("WORK", "", ""),
+            ("ACK 1RA---", "", ""),
+            ("TICK 2", "", "DONE 4 9\nASK 7\n"),
+            ("TICK 3", "", "ASK 7\n"),
+        ],
+    );
+    for (frame, note) in [
+        ("ACK 0RA---", Note::Stale),
+        ("ASK 1", Note::Strange),
+        ("REC 1RA--- U", Note::Strange),
+        ("DONE 4 9", Note::Strange),
+        ("", Note::Strange),
+        ("LATER", Note::Quiet),
+        ("LATER 1RA---", Note::Quiet),
+    ] {
+        let out = handed(&rt, &mut worker, frame);
+        assert!(rt; out.note == note && out.frames.is_empty(), "{frame}");
+    }
+    Ok(())
+}
+
+#[test]
+fn ledgers_start_a_worker(rt: HostRuntime) -> Result<(), Fail> {
+    for (ledger, fault) in [
+        ("hello\n", StartFault::BadHeader),
+        ("bb-ledger 1 1RC---_------_------\n", StartFault::WrongRoot),
+    ] {
+        let (mut worker, first) = started(rt.alloc(), ledger.as_bytes())?;
+        assert!(rt; first.err() == Some(fault), "{ledger}");
+        assert!(rt; worker.on(Event::Work).err() == Some(NodeFault::Stopped));
+    }
+    for (ledger, cut) in [
+        ("bb-led", Some(0)),
+        ("bb-ledger 1 1RA---\n", None),
+        ("bb-ledger 1 1RA---\n1RA--- U\n1RA", Some(28)),
+    ] {
+        let (mut worker, first) = started(rt.alloc(), ledger.as_bytes())?;
+        match first {
+            Ok(out) => assert!(rt; out.cut == cut && out.append.is_empty(), "{ledger}"),
+            Err(fault) => panic!(rt; "{ledger}: {fault}"),
+        }
+        worker.stop();
+        assert!(rt; worker.on(Event::Tick(1)).err() == Some(NodeFault::Stopped));
+    }
+    Ok(())
+}

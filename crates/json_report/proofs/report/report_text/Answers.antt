@@ -1,0 +1,30 @@
+use Rattle.std.proofs.Common.{◌≡◌, [], ◌∷◌, ◌++◌, List, ℕ, ap, ◌∙◌}
+use Rattle.std.specs.Vec.Iter.{into_iter_items}
+use Rattle.serde_json.specs.View.{view}
+use Rattle.serde_json.specs.Written.{has_float, compact_text}
+use Rattle.machine_text.specs.Packed.{Packed}
+use Rattle.json_report.specs.JsonReport.{report_value}
+use Rattle.json_report.proofs.Floats.{report_has_none}
+use Rattle.json_report.proofs.report.report_text.Goals as goal
+
+pub returns : goal.returns
+returns c =
+    let root = c.args.board.now.root in
+    let status = c.status.result in
+    let tally = c.tally-tally.result in
+    let champions = into_iter_items c.in_ok-champions.champions in
+    let holdouts = into_iter_items c.in_ok-holdouts.holdouts in
+    let value : view c.in_ok-report.report ≡ report_value root status tally champions holdouts =
+    c.in_ok-report.ensures ∙ ap (λ (r : Packed). report_value r status tally champions holdouts) c.root.ensures.root in
+    record {
+      status = status;
+      tally = tally;
+      champions = champions;
+      holdouts = holdouts;
+      stands = c.status.ensures.stands;
+      counted = c.tally-tally.ensures;
+      are_champions = c.in_ok-champions.ensures tally.best c.tally-tally.ensures.best;
+      are_holdouts = c.in_ok-holdouts.ensures;
+      is = c.in_ok-push.ensures.items ∙ ap (λ (l : List ℕ). l ++ 10 ∷ []) (
+          c.in_ok-text.ensures.text (ap has_float value ∙ report_has_none root status tally champions holdouts) ∙ ap compact_text value);
+    }

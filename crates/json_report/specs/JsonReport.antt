@@ -1,0 +1,64 @@
+-- The report of a board as JSON: one object, with no space in its text, and a newline.
+use Rattle.std.specs.Prelude.{◌≡◌, ℕ, List, [], ◌∷◌, ◌++◌, Option, Some, None, codes, map}
+use Rattle.serde_json.specs.Data.{Data, null, number, unsigned, string, array, object, member, no_members}
+use Rattle.serde_json.specs.View.{items_of}
+use Rattle.serde_json.specs.Written.{compact_text}
+use Rattle.machine_text.specs.Packed.{Packed}
+use Rattle.machine_text.specs.Text.{text_of}
+use Rattle.cert.specs.Claim.{Recorded}
+use Rattle.ledger.specs.Held.{IsHoldout}
+use Rattle.ledger.specs.Tally.{AreAll, IsStatus, IsTally, IsChampion}
+use Rattle.ledger.specs.declared.tally.Tally.{Tally}
+use Rattle.ledger.specs.declared.status.Status.{Status}
+use Rattle.ledger.specs.declared.status.Status.TheVariants.{Working, Holdouts, Complete}
+
+abbrev pub status_name : Status → List ℕ
+status_name (Working count) = codes "working"
+status_name (Holdouts count) = codes "holdouts"
+status_name (Complete best) = codes "complete"
+
+abbrev pub count_value : ℕ → Data
+count_value n = number (unsigned n)
+
+-- the greatest number of steps, where a table halts
+abbrev pub best_value : Option ℕ → Data
+best_value None = null
+best_value (Some k) = count_value k
+
+abbrev pub table_value : Packed → Data
+table_value t = string (text_of t)
+
+abbrev pub tables_value : List Packed → Data
+tables_value tables = array (items_of (map table_value tables))
+
+-- the members, in the order of the bytes of their names
+abbrev pub report_value : Packed → Status → Tally → List Packed → List Packed → Data
+report_value root status tally champions holdouts =
+    object (
+    member (codes "best") (best_value tally.best) (
+    member (codes "champions") (tables_value champions) (
+    member (codes "halting") (count_value tally.halting) (
+    member (codes "holdout_tables") (tables_value holdouts) (
+    member (codes "holdouts") (count_value tally.holdouts) (
+    member (codes "never") (count_value tally.never) (
+    member (codes "nodes") (count_value tally.nodes) (
+    member (codes "open") (count_value tally.open_count) (
+    member (codes "root") (table_value root) (
+    member (codes "status") (string (status_name status)) no_members))))))))))
+
+-- its text, with no space, and a newline
+abbrev pub report_text : Packed → Status → Tally → List Packed → List Packed → List ℕ
+report_text root status tally champions holdouts = compact_text (report_value root status tally champions holdouts) ++ 10 ∷ []
+
+-- the report of a root and the records held from it: how the board stands, its tallies, and its champions and holdouts
+-- in the order of their texts
+pub record IsJsonReport (root : Packed) (rs : List Recorded) (text : List ℕ) : Type 0 where
+  pub status : Status
+  pub tally : Tally
+  pub champions : List Packed
+  pub holdouts : List Packed
+  pub stands : IsStatus root rs status
+  pub counted : IsTally root rs tally
+  pub are_champions : AreAll (IsChampion rs tally.best) champions
+  pub are_holdouts : AreAll (IsHoldout rs) holdouts
+  pub is : text ≡ report_text root status tally champions holdouts

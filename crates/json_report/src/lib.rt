@@ -1,0 +1,11 @@
+//! The report of a board as JSON.
+//!
+//! `specs/JsonReport` says which object is reported of a root and its records, and that the report is the text
+//! of that object without a space, and a newline. The crate stands alone, so that little else loads
+//! `serde_json`.
+#![tactic(auto)]
+
+mod report;
+mod values;
+
+pub use report::report_json;

@@ -1,0 +1,39 @@
+// The report of a board as JSON.
+ghost use Rattle.std.specs.Prelude.{◌≡◌, ◌++◌, List, ℕ, IfOk, OnOk, OnErr};
+ghost use Rattle.json_report.specs.JsonReport.{IsJsonReport};
+
+use crate::values::report_value;
+use ledger::Board;
+use run::NoMemory;
+use std::alloc::Global;
+
+/// Appends the report of a board as one JSON object, without a space and with its members in the order of
+/// their names, and a newline. `best` is the greatest recorded number of steps, or null; `champions` and
+/// `holdout_tables` are in the order of their texts. Where memory is refused, `out` is as it was.
+pub fn report_json(alloc: Global, board: &Board, out: &mut Vec<u8>) -> Result<(), NoMemory>
+    ensures ok { OnOk result ((text : List ℕ) × IsJsonReport board.now.root board.now.records text × (out.new.items ≡ out.old.items ++ text)) }
+    ensures err { OnErr result (out.new.items ≡ out.old.items) }
+{
+    let text = report_text(alloc, board)?;
+    out.extend_from_slice(&text)
+}
+
+// The text of the report.
+fn report_text(alloc: Global, board: &Board) -> Result<Vec<u8>, NoMemory>
+    ensures { IfOk result (λ text. IsJsonReport board.now.root board.now.records text.items) }
+{
+    let champions = board.champions()?;
+    let holdouts = board.holdouts()?;
+    let tally = board.tally();
+    let report = report_value(
+        alloc,
+        board.root(),
+        board.status(),
+        &tally,
+        champions,
+        holdouts,
+    )?;
+    let mut text = report.to_vec(alloc)?;
+    text.push(b'\n')?;
+    Ok(text)
+}

@@ -1,0 +1,84 @@
+// The values of which a report is made.
+ghost use Rattle.std.specs.Prelude.{◌≡◌, IfOk, codes};
+ghost use Rattle.std.specs.Vec.Iter.{into_iter_items};
+ghost use Rattle.serde_json.specs.View.{view};
+ghost use Rattle.json_report.specs.JsonReport.{status_name, best_value, table_value, tables_value, report_value};
+
+use ledger::{Champions, Holdouts, Status, Tally};
+use machine_text::{TEXT_BYTES, Table};
+use run::NoMemory;
+use serde_json::{Value, json};
+use std::alloc::Global;
+use std::vec::IntoIter;
+
+// The object that is reported.
+pub fn report_value(
+    alloc: Global,
+    root: &Table,
+    status: Status,
+    tally: &Tally,
+    champions: Champions,
+    holdouts: Holdouts,
+) -> Result<Value, NoMemory>
+    ensures { IfOk result (λ report. view report ≡ report_value root.now status tally.now (into_iter_items champions) (into_iter_items holdouts)) }
+{
+    let champions = tables_value(alloc, champions)?;
+    let holdouts = tables_value(alloc, holdouts)?;
+    let root = table_value(alloc, root)?;
+    json!(in alloc; {
+        "best": best_value(tally.best),
+        "champions": champions,
+        "halting": tally.halting,
+        "holdout_tables": holdouts,
+        "holdouts": tally.holdouts,
+        "never": tally.never,
+        "nodes": tally.nodes,
+        "open": tally.open_count,
+        "root": root,
+        "status": status_name(status)
+    })
+}
+
+// The texts of tables, in their order.
+fn tables_value(alloc: Global, tables: IntoIter<Table>) -> Result<Value, NoMemory>
+    ensures { IfOk result (λ texts. view texts ≡ tables_value (into_iter_items tables)) }
+{
+    let mut texts = Vec::new(alloc);
+    for table in tables {
+        texts.push(table_value(alloc, &table)?)?;
+    }
+    Ok(Value::Array(texts))
+}
+
+// The text of a table.
+#[tactic(auto, using(crate::proofs::Texts::text_is_utf8))]
+fn table_value(alloc: Global, t: &Table) -> Result<Value, NoMemory>
+    ensures { IfOk result (λ text. view text ≡ table_value t.now) }
+{
+    let mut buf = [0; TEXT_BYTES];
+    // Nothing is lost: the text of a table is ASCII. The proof needs that it is a table.
+    let _ = t.states();
+    let text = String::from_utf8_lossy(alloc, t.text(&mut buf))?;
+    Ok(Value::from(text))
+}
+
+// A number of steps, or null.
+fn best_value(best: Option<u64>) -> Value
+    ensures { view result ≡ best_value best }
+{
+    match best {
+        Some(steps) => Value::from(steps),
+        None => Value::Null,
+    }
+}
+
+// The word for how a board stands.
+fn status_name(status: Status) -> &'static str
+    ensures { result.now ≡ status_name status }
+{
+    match status {
+        Status::Working { count: _ } => "working",
+        Status::Holdouts { count: _ } => "holdouts",
+        Status::Complete { best: _ } => "complete",
+    }
+}

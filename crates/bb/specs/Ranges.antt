@@ -35,4 +35,4 @@ AreWithinRanges (Coord beginning ledger) = IsBeginning beginning
 AreWithinRanges (Run settling ledger) = IsSettling settling
 AreWithinRanges (Retry file search) = IsWithinRange search
 AreWithinRanges (Merge merging) = Unit {0}
-AreWithinRanges (Report file why) = Unit {0}
+AreWithinRanges (Report file json why) = Unit {0}

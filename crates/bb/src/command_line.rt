@@ -85,6 +85,7 @@ fn run_options<'a>(run: &ArgMatches<'a>) -> Result<Options<'a>, LineFault>
         lose: number_if_given(run, LOSE, 2, 1_000)?,
         rounds: number_of(run, ROUNDS, 1, 1_000_000_000)?,
         search: search_of(run)?,
+        json: run.get_flag(JSON),
         progress: run.get_flag(PROGRESS),
     };
     Ok(Options::Run {
@@ -117,6 +118,7 @@ fn report_options<'a>(report: &ArgMatches<'a>) -> Options<'a>
 {
     Options::Report {
         file: report.get_str(FILE).unwrap_or_default(),
+        json: report.get_flag(JSON),
         why: report.get_flag(WHY),
     }
 }
@@ -143,6 +145,7 @@ fn program<'a>(alloc: Global) -> Result<Command<'a>, NoMemory> {
                 .about("Prints the report of a ledger file.")
                 .after_help(REPORT)
                 .arg(file_arg(alloc, FILE, "The ledger file"))?
+                .arg(json_arg(alloc))?
                 .arg(
                     Arg::new(alloc, WHY)
                         .long(WHY)
@@ -225,6 +228,7 @@ fn run_command<'a>(alloc: Global) -> Result<Command<'a>, NoMemory> {
                 .default_value("1000000")
                 .help("Stop after so many rounds"),
         )?
+        .arg(json_arg(alloc))?
         .arg(
             Arg::new(alloc, PROGRESS)
                 .long(PROGRESS)
@@ -253,6 +257,13 @@ fn merge_command<'a>(alloc: Global) -> Result<Command<'a>, NoMemory> {
 
 fn file_arg<'a>(alloc: Global, name: &'static str, help: &'static str) -> Arg<'a> {
     Arg::new(alloc, name).required(true).help(help)
+}
+
+fn json_arg<'a>(alloc: Global) -> Arg<'a> {
+    Arg::new(alloc, JSON)
+        .long(JSON)
+        .action(ArgAction::SetTrue)
+        .help("Print the report as JSON")
 }
 
 fn states_arg<'a>(alloc: Global) -> Arg<'a> {
@@ -311,6 +322,8 @@ const PROGRESS: &str = "progress";
 
 const FILE: &str = "FILE";
 
+const JSON: &str = "json";
+
 const WHY: &str = "why";
 
 const FIRST: &str = "A";
@@ -344,6 +357,9 @@ The report has these lines
   champion TABLE     a line for each table recorded with that number
   holdout TABLE      a line for each holdout
   left LINE          the number of the first line that wasn't kept, where there is one
+
+With --json it is one object and a newline: best (a number or null), champions, halting, holdout_tables,
+holdouts, never, nodes, open, root, status. It doesn't say what wasn't kept; the status is the same.
 
 Exit status: 0 the report says complete, and all was kept; 1 it doesn't, or the ledger was refused
 (`refused 404` no header with a readable table, `refused 405` its table doesn't name its states in order);

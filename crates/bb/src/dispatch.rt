@@ -13,13 +13,15 @@ use commands::{
     cmd_decide, cmd_merge, cmd_report, cmd_retry, cmd_run, opened,
 };
 use far::FarFinder;
+use json_report::Form;
+use lease_core::Worker;
 use loops::{CycleFinder, TranslatedFinder};
 use ngram_cps::NgramFinder;
 use run::{HaltFinder, NoMemory};
-use std::alloc::Global;
+use std::alloc::{AllocError, Global};
 use std::io::{self, Empty, Read, Write};
 use std::time::Clock;
-use wire::MemLedger;
+use wire::{MemLedger, Node};
 
 /// Does what the words ask for, the program's name first, and answers how it ended. Each end is an
 /// `Outcome`: a line that can't be read or is refused too, and a stream that fails.
@@ -76,8 +78,9 @@ pub fn obey<H: Host + Clock, R: Read, W: Write, E: Write>(
             }
         }
         Ok(Options::Merge(merging)) => cmd_merge(alloc, merging, host, answers, faults),
-        Ok(Options::Report { file, why }) => {
-            cmd_report(alloc, why, opened(host, file), answers, faults)
+        Ok(Options::Report { file, json, why }) => {
+            let form = Form::of(json);
+            cmd_report(alloc, &form, why, opened(host, file), answers, faults)
         }
         Err(fault) => told(alloc, fault, answers, faults),
     }
@@ -126,9 +129,20 @@ fn with_finders<H: Host + Clock, R: Read, W: Write, E: Write>(
             let mut decider = Finders::new(lists.pop().unwrap_or(Vec::new(alloc)), steps);
             Ok(cmd_decide(alloc, &mut decider, input, answers, faults))
         }
-        Task::Run { settling, ledger } => Ok(run(
-            alloc, &settling, ledger, lists, host, answers, faults,
-        )),
+        Task::Run { settling, ledger } => {
+            let mut workers = Vec::new(alloc);
+            for (id, finders) in (1..=u32::MAX).zip(lists) {
+                let (worker, started) = Worker::start(alloc, id, b"", finders, steps);
+                // An empty ledger is refused for want of memory alone.
+                if started.is_err() {
+                    return Err(AllocError);
+                }
+                workers.push(worker)?;
+            }
+            Ok(run(
+                alloc, &settling, ledger, workers, host, answers, faults,
+            ))
+        }
         Task::Retry(file) => {
             let mut decider = Finders::new(lists.pop().unwrap_or(Vec::new(alloc)), steps);
             Ok(retry(alloc, file, &mut decider, host, answers, faults))
@@ -137,25 +151,27 @@ fn with_finders<H: Host + Clock, R: Read, W: Write, E: Write>(
 }
 
 // `bb run`, with its ledger in a file or in memory.
-fn run<H: Host + Clock, W: Write, E: Write>(
+fn run<N: Node + Drop, H: Host + Clock, W: Write, E: Write>(
     alloc: Global,
     settling: &Settling,
     path: Option<&str>,
-    finders: Vec<Vec<Box<dyn Finder>>>,
+    workers: Vec<N>,
     host: &H,
     answers: &mut W,
     faults: &mut E,
 ) -> Outcome
     requires { IsSettling settling.now }
 {
+    let form = Form::of(settling.json);
     let Some(path) = path else {
         let mut ledger = MemLedger::new(alloc);
         return cmd_run(
             alloc,
             settling,
+            &form,
             Ok(nothing()),
             &mut ledger,
-            finders,
+            workers,
             host,
             answers,
             faults,
@@ -165,9 +181,10 @@ fn run<H: Host + Clock, W: Write, E: Write>(
         Ok(mut ledger) => cmd_run(
             alloc,
             settling,
+            &form,
             opened(host, path),
             &mut ledger,
-            finders,
+            workers,
             host,
             answers,
             faults,

@@ -12,6 +12,7 @@ pub use commands::{
     Options, cmd_check, cmd_coord, cmd_decide, cmd_merge, cmd_report, cmd_retry, cmd_run, report,
 };
 use dispatch::obey;
+pub use json_report::report_json;
 pub use line_fault::LineFault;
 use std::fs::{self, OpenFile, OpenOptions};
 use std::process::ExitCode;

@@ -40,9 +40,21 @@ pub record ReportsLedger (text old : List ℕ) (o : Outcome) (left : Left) (new 
   pub ends : o ≡ outcome_by status left
   pub is : new ≡ old ++ report ++ left_text left
 
--- behind what a writer held stands that report
-abbrev pub WritesLedger : List ℕ → Outcome → Left → Option (List ℕ) → Option (List ℕ) → Type 0
-WritesLedger text o left held new_held = (report : List ℕ) × ReportsLedger text [] o left report × Appends held new_held report
+-- the report of the records, and behind it what wasn't kept
+abbrev pub IsLines : Packed → List Recorded → Left → List ℕ → Type 0
+IsLines root rs left text = (report : List ℕ) × IsReport root rs report × (text ≡ report ++ left_text left)
+
+-- behind what a writer held stands, in a form, the report of the records for which the text stands
+pub record WritesLedger (IsText : Packed → List Recorded → Left → List ℕ → Type 0) (text : List ℕ) (o : Outcome) (left : Left) (held new_held : Option (List ℕ)) : Type 0 where
+  pub root : Packed
+  pub records : List Recorded
+  pub loads : ReadsAs root text records left
+  pub written : List ℕ
+  pub is_text : IsText root records left written
+  pub status : Status
+  pub stands : IsStatus root records status
+  pub ends : o ≡ outcome_by status left
+  pub appends : Appends held new_held written
 
 -- why there is no report: the text has no root, or one that isn't in order
 abbrev pub EndsLedger : List ℕ → Ended → Type 0

@@ -6,7 +6,8 @@ ghost use Rattle.commands.specs.LedgerReport.{ReportsLedger, WritesLedger, EndsL
 use crate::board_report::report;
 use crate::ended::Ended;
 use crate::outcome::Outcome;
-use crate::report_writer::{append_left, write_report};
+use crate::report_form::ReportForm;
+use crate::report_writer::append_left;
 use ledger::{Board, Left, Status, Unkept, peek_root};
 use std::alloc::Global;
 use std::io::{self, Read, Write};
@@ -18,30 +19,32 @@ pub struct Opened<R> {
     pub length: u64,
 }
 
-/// Prints the report of a ledger file, and `left LINE` where not all of it could be kept. With `why`, says
-/// on `faults` why that line isn't kept. What ends the command early is said on `faults`: a failed file or
+/// Prints the report of a ledger file in a form. With `why`, where not all of it could be kept, says
+/// on `faults` why the first line that isn't kept isn't. What ends the command early is said on `faults`: a failed file or
 /// stream, a ledger that can't be loaded, or refused memory.
-pub fn cmd_report<R: Read + Drop, W: Write, E: Write>(
+pub fn cmd_report<P: ReportForm, R: Read + Drop, W: Write, E: Write>(
     alloc: Global,
+    form: &P,
     why: bool,
     file: io::Result<Opened<R>>,
     answers: &mut W,
     faults: &mut E,
 ) -> Outcome {
-    match report_file(alloc, file, answers) {
+    match report_file(alloc, form, file, answers) {
         Ok((outcome, left)) if why => outcome.max(left_told(alloc, &left, faults)),
         Ok((outcome, _)) => outcome,
         Err(ended) => ended.told(faults),
     }
 }
 
-fn report_file<R: Read + Drop, W: Write>(
+fn report_file<P: ReportForm, R: Read + Drop, W: Write>(
     alloc: Global,
+    form: &P,
     file: io::Result<Opened<R>>,
     answers: &mut W,
 ) -> Result<(Outcome, Left), Ended> {
     match bytes_of(alloc, file) {
-        Ok(bytes) => write_ledger_report(alloc, bytes, answers),
+        Ok(bytes) => write_ledger_report(alloc, form, bytes, answers),
         Err(fault) => Err(Ended::by_file(&fault)),
     }
 }
@@ -96,18 +99,20 @@ pub fn report_ledger(
     Ok((outcome_by(board.status(), &left), left))
 }
 
-/// Writes what `report_ledger` appends, a piece at a time, once the ledger's text is let go.
-pub fn write_ledger_report<W: Write>(
+/// Writes the report of a ledger's text in a form, once the text is let go: accepted where the board is
+/// complete and all was kept. Answers what is left as well.
+pub fn write_ledger_report<P: ReportForm, W: Write>(
     alloc: Global,
+    form: &P,
     bytes: Vec<u8>,
     answers: &mut W,
 ) -> Result<(Outcome, Left), Ended>
-    ensures ok { IfOk result (λ r. WritesLedger bytes.items r.0 r.1 (W.contents answers.old) (W.contents answers.new)) }
+    ensures ok { IfOk result (λ r. WritesLedger (P.is_text form.now) bytes.items r.0 r.1 (W.contents answers.old) (W.contents answers.new)) }
     ensures err { IfErr result (λ e. (e ≡ Ended.Stream) ⊎ EndsLedger bytes.items e) }
 {
     let (board, left) = loaded(alloc, &bytes)?;
     drop(bytes);
-    write_report(alloc, &board, &left, answers)?;
+    form.write(alloc, &board, &left, answers)?;
     Ok((outcome_by(board.status(), &left), left))
 }
 

@@ -14,8 +14,8 @@ pub enum Options<'a> {
         /// The ledger's path; none where it is kept in memory.
         ledger: Option<&'a str>,
     },
-    /// `bb run N [--workers W] [--ledger FILE] [--lose K] [--rounds R] [--progress]` and the options of
-    /// `decide`
+    /// `bb run N [--workers W] [--ledger FILE] [--lose K] [--rounds R] [--json] [--progress]` and the options
+    /// of `decide`
     Run {
         /// How the tree is settled.
         settling: Settling,
@@ -31,10 +31,12 @@ pub enum Options<'a> {
     },
     /// `bb merge A B OUT`
     Merge(Merging<'a>),
-    /// `bb report FILE [--why]`
+    /// `bb report FILE [--json] [--why]`
     Report {
         /// The ledger's path.
         file: &'a str,
+        /// Whether to print the report as JSON.
+        json: bool,
         /// Whether to say why the first line that isn't kept isn't.
         why: bool,
     },
@@ -87,6 +89,8 @@ pub struct Settling {
     pub rounds: u64,
     /// How far each worker searches for certificates.
     pub search: Search,
+    /// Whether to print the report as JSON.
+    pub json: bool,
     /// Whether to tell on standard error, while it goes on, how far it is.
     pub progress: bool,
 }

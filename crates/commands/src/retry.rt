@@ -88,6 +88,8 @@ fn retry<L: LedgerOut, D: Decider>(
     ensures root { board.new.root ≡ board.old.root }
     ensures step { OnOk result (StaysInStep board.old (L.text ledger.old) board.new (L.text ledger.new)) }
 {
+    // The proof needs that it is a board.
+    let _ = board.root();
     let made = decider.decide(alloc, t)?;
     let record = Record {
         table: made.table,

@@ -10,10 +10,10 @@ use wire::{Event, LedgerOut, Node, TurnFault, begin};
 
 // Runs rounds, numbered from 1, until no table is open or so many were run. A round is a tick of the
 // coordinator, and then each worker's part.
-pub fn run_rounds<L: LedgerOut, C: Clock, E: Write>(
+pub fn run_rounds<N: Node, L: LedgerOut, C: Clock, E: Write>(
     coordinator: &mut Coordinator,
     ledger: &mut L,
-    stations: &mut Vec<Station>,
+    stations: &mut Vec<Station<N>>,
     rounds: u64,
     progress: &mut Progress<'_, C, E>,
 ) -> Result<(), Ended> {
@@ -29,10 +29,10 @@ pub fn run_rounds<L: LedgerOut, C: Clock, E: Write>(
     Ok(())
 }
 
-fn run_round<L: LedgerOut>(
+fn run_round<N: Node, L: LedgerOut>(
     coordinator: &mut Coordinator,
     ledger: &mut L,
-    stations: &mut Vec<Station>,
+    stations: &mut Vec<Station<N>>,
     round: u64,
 ) -> Result<(), Ended> {
     match coordinator.on(Event::Tick(round)) {

@@ -8,47 +8,55 @@ use crate::ledger_report::Opened;
 use crate::options::{Beginning, Settling};
 use crate::outcome::Outcome;
 use crate::progress::Progress;
-use crate::report_writer::write_report;
+use crate::report_form::ReportForm;
 use crate::rounds::run_rounds;
 use crate::station::Station;
-use cert::Finder;
 use lease_core::Coordinator;
 use ledger::Left;
 use std::alloc::Global;
 use std::io::{self, Read, Write};
 use std::time::Clock;
-use wire::LedgerOut;
+use wire::{LedgerOut, Node};
 
-/// Settles the tree of the empty table by a coordinator and one worker for each list of finders, whose links
-/// and ledgers are in memory, and prints the report. The coordinator's board begins with what `held` reads,
-/// and its records go to `ledger`. Accepted where the board is complete at the end. What ends the command
-/// early is said on `faults`, and so is how far it is, where that is asked for.
-pub fn cmd_run<F: Read + Drop, L: LedgerOut, C: Clock, W: Write, E: Write>(
+/// Settles the tree of the empty table by a coordinator and these workers, which were started from empty
+/// ledgers and whose links are in memory, and prints the report in a form. The coordinator's board begins with
+/// what `held` reads, and its records go to `ledger`. Accepted where the board is complete at the end. What
+/// ends the command early is said on `faults`, and so is how far it is, where that is asked for.
+pub fn cmd_run<
+    P: ReportForm,
+    F: Read + Drop,
+    L: LedgerOut,
+    N: Node + Drop,
+    C: Clock,
+    W: Write,
+    E: Write,
+>(
     alloc: Global,
     settling: &Settling,
+    form: &P,
     held: io::Result<Opened<F>>,
     ledger: &mut L,
-    finders: Vec<Vec<Box<dyn Finder>>>,
+    workers: Vec<N>,
     clock: &C,
     answers: &mut W,
     faults: &mut E,
 ) -> Outcome
     requires { (1 ≤ settling.now.states) × (settling.now.states ≤ state_limit) }
 {
-    let run = settled(alloc, settling, held, ledger, finders, clock, faults);
-    match run.and_then(|node| reported(alloc, &node, answers)) {
+    let run = settled(alloc, settling, held, ledger, workers, clock, faults);
+    match run.and_then(|node| reported(alloc, form, &node, answers)) {
         Ok(outcome) => outcome,
         Err(ended) => ended.told(faults),
     }
 }
 
 // A coordinator whose rounds were run.
-fn settled<F: Read + Drop, L: LedgerOut, C: Clock, E: Write>(
+fn settled<F: Read + Drop, L: LedgerOut, N: Node + Drop, C: Clock, E: Write>(
     alloc: Global,
     settling: &Settling,
     held: io::Result<Opened<F>>,
     ledger: &mut L,
-    finders: Vec<Vec<Box<dyn Finder>>>,
+    workers: Vec<N>,
     clock: &C,
     faults: &mut E,
 ) -> Result<Coordinator, Ended>
@@ -59,7 +67,7 @@ fn settled<F: Read + Drop, L: LedgerOut, C: Clock, E: Write>(
         era: 1,
     };
     let mut node = coordinator(alloc, beginning, held, ledger)?;
-    let mut stations = stations(alloc, settling, finders)?;
+    let mut stations = stations(alloc, settling, workers)?;
     let records = recorded(&node);
     let mut progress = Progress::new(alloc, settling.progress, records, clock, faults);
     run_rounds(
@@ -72,16 +80,15 @@ fn settled<F: Read + Drop, L: LedgerOut, C: Clock, E: Write>(
     Ok(node)
 }
 
-// A worker for each list of finders; they are numbered from 1.
-fn stations(
+// Each worker with a link of its own.
+fn stations<N: Node + Drop>(
     alloc: Global,
     settling: &Settling,
-    finders: Vec<Vec<Box<dyn Finder>>>,
-) -> Result<Vec<Station>, Ended> {
+    workers: Vec<N>,
+) -> Result<Vec<Station<N>>, Ended> {
     let mut stations = Vec::new(alloc);
-    for (id, list) in (1..=u32::MAX).zip(finders) {
-        let station = Station::new(alloc, id, list, settling.search.steps, settling.lose)?;
-        if stations.push(station).is_err() {
+    for worker in workers {
+        if stations.push(Station::new(alloc, worker, settling.lose)).is_err() {
             return Err(Ended::NoMemory);
         }
     }
@@ -100,13 +107,14 @@ fn recorded(node: &Coordinator) -> u64 {
 }
 
 // Prints the report of a coordinator's board.
-fn reported<W: Write>(
+fn reported<P: ReportForm, W: Write>(
     alloc: Global,
+    form: &P,
     node: &Coordinator,
     answers: &mut W,
 ) -> Result<Outcome, Ended> {
     if let Some(board) = node.board() {
-        write_report(alloc, board, &Left::Nothing, answers)?;
+        form.write(alloc, board, &Left::Nothing, answers)?;
     }
     Ok(outcome_of(node))
 }

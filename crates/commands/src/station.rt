@@ -1,8 +1,7 @@
 // A worker in the same process as its coordinator.
 use crate::ended::Ended;
 use crate::losses::{Losses, carry};
-use cert::Finder;
-use lease_core::{Coordinator, Worker};
+use lease_core::Coordinator;
 use run::NoMemory;
 use std::alloc::{AllocError, Global};
 use wire::{Event, LedgerOut, Lines, MemLedger, MemLink, Node, TurnFault, begin, turn};
@@ -11,10 +10,11 @@ use wire::Link;
 // How many work turns a worker gets in a round.
 const WORK_TURNS: u32 = 8;
 
-// A worker with its ledger, and both ends of its link with the coordinator, all in memory.
+// A worker with its ledger, and both ends of its link with the coordinator, all in memory. The worker is any
+// node: what is proved of a type that keeps boxed finders would depend on the bodies of its calls.
 #[derive(Drop)]
-pub struct Station {
-    worker: Worker,
+pub struct Station<N> {
+    worker: N,
     ledger: MemLedger,
     near: LinkEnd,
     far: LinkEnd,
@@ -53,26 +53,17 @@ impl LinkEnd {
     }
 }
 
-impl Station {
-    // A worker without a board.
-    pub fn new(
-        alloc: Global,
-        id: u32,
-        finders: Vec<Box<dyn Finder>>,
-        budget: u64,
-        lose: Option<u64>,
-    ) -> Result<Station, Ended> {
-        let (worker, started) = Worker::start(alloc, id, b"", finders, budget);
-        let mut ledger = MemLedger::new(alloc);
-        begin(&started?, &mut ledger)?;
-        Ok(Station {
+impl<N: Node> Station<N> {
+    // A worker that was started from an empty ledger.
+    pub fn new(alloc: Global, worker: N, lose: Option<u64>) -> Station<N> {
+        Station {
             worker,
-            ledger,
+            ledger: MemLedger::new(alloc),
             near: LinkEnd::new(alloc),
             far: LinkEnd::new(alloc),
             to_coordinator: Losses::of(lose),
             to_worker: Losses::of(lose),
-        })
+        }
     }
 
     // Its part of a round: it works, its frames go to the coordinator, and the answers come back.

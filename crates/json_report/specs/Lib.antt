@@ -1,1 +1,2 @@
 pub mod JsonReport
+pub mod Forms

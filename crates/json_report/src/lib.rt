@@ -5,7 +5,9 @@
 //! `serde_json`.
 #![tactic(auto)]
 
+mod form;
 mod report;
 mod values;
 
+pub use form::Form;
 pub use report::report_json;

@@ -18,3 +18,8 @@ stays_with old new r out (Some text) board taken root cut append = λ reads.
         ap (λ c. cut_by c text ++ out.append.items) cut ∙ ap (λ l. text ++ l) append in
     subst (λ p. ReadsAs p (text_after out text) new.records Nothing) (sym root)
     (subst (λ l. ReadsAs old.root l new.records Nothing) (sym is) (grows old text r new.records board reads taken))
+
+pub stays_by : (old new : Contents) (r : Recorded) (out : Out) (before after : Option (List ℕ)) → IsBoard old → IsTaken old.root old.records r new.records
+    → new.root ≡ old.root → out.cut ≡ None → out.append.items ≡ record_text r ++ (10 ∷ []) → after ≡ kept out before → StaysInStep old before new after
+stays_by old new r out before after board taken root cut append is =
+    subst (λ (text : Option (List ℕ)). StaysInStep old before new text) (sym is) (stays_with old new r out before board taken root cut append)

@@ -1,6 +1,7 @@
 // `bb retry`: the holdouts of a ledger are tried again.
-ghost use Rattle.std.specs.Prelude.{◌≡◌, OnOk};
-ghost use Rattle.commands.specs.Retry.{StaysInStep};
+ghost use Rattle.std.specs.Prelude.{◌≡◌, None, IfOk, OnOk};
+ghost use Rattle.cert.specs.Kinds.{recorded};
+ghost use Rattle.commands.specs.Retry.{Gains, StaysInStep};
 
 use crate::ended::Ended;
 use crate::ledger_report::{Opened, bytes_of, loaded, outcome_by};
@@ -88,18 +89,43 @@ fn retry<L: LedgerOut, D: Decider>(
     ensures root { board.new.root ≡ board.old.root }
     ensures step { OnOk result (StaysInStep board.old (L.text ledger.old) board.new (L.text ledger.new)) }
 {
-    // The proof needs that it is a board.
-    let _ = board.root();
     let made = decider.decide(alloc, t)?;
     let record = Record {
         table: made.table,
         certificate: made.certificate.lent(),
     };
+    take(alloc, board, &record, ledger)
+}
+
+// Offers a record, and appends its line where it is taken.
+fn take<L: LedgerOut>(
+    alloc: Global,
+    board: &mut Board,
+    r: &Record,
+    ledger: &mut L,
+) -> Result<(), Ended>
+    ensures root { board.new.root ≡ board.old.root }
+    ensures step { OnOk result (StaysInStep board.old (L.text ledger.old) board.new (L.text ledger.new)) }
+{
+    // The proof needs that it is a board.
+    let _ = board.root();
     let mut append = Vec::new(alloc);
-    append_record(&record, &mut append)?;
-    match board.offer(&record) {
-        Ok(Taken::Known) => Ok(()),
-        Ok(Taken::New) | Ok(Taken::Settled) => Ok(begin(&appending(alloc, append), ledger)?),
+    append_record(r, &mut append)?;
+    if gains(board, r)? {
+        begin(&appending(alloc, append), ledger)?;
+    }
+    Ok(())
+}
+
+// Offers a record, and answers whether it is taken.
+fn gains(board: &mut Board, r: &Record) -> Result<bool, Ended>
+    ensures root { board.new.root ≡ board.old.root }
+    ensures ok { IfOk result (λ gained. Gains board.old.root board.old.records (recorded r.now) gained board.new.records) }
+{
+    match board.offer(r) {
+        Ok(Taken::New) => Ok(true),
+        Ok(Taken::Settled) => Ok(true),
+        Ok(Taken::Known) => Ok(false),
         // it is certified, and of a table of the board, so it was memory
         Err(_) => Err(Ended::NoMemory),
     }

@@ -27,3 +27,4 @@ pub mod Longest
 pub mod Boards
 pub mod Growing
 pub mod Answered
+pub mod Bounds

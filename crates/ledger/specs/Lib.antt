@@ -4,6 +4,7 @@ pub mod Contents
 pub mod Offers
 pub mod Lent
 pub mod Tally
+pub mod Bounds
 pub mod Faults
 pub mod LedgerText
 pub mod Lists

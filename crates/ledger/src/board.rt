@@ -78,7 +78,7 @@ impl Board {
     ghost use Rattle.tree.specs.Closed.{IsOpen};
     ghost use Rattle.cert.specs.Claim.{shown_by};
     ghost use Rattle.cert.specs.Kinds.{claim_of, recorded};
-    ghost use Rattle.ledger.specs.Records.{mark_in, verdict_in};
+    ghost use Rattle.ledger.specs.Records.{claim_in, mark_in, verdict_in};
     ghost use Rattle.ledger.specs.Held.{IsFit, IsHoldout, Settles, settled};
     ghost use Rattle.ledger.specs.Offers.{OfferGives};
     ghost use Rattle.ledger.specs.Inside.Places.{IsRefusal};
@@ -133,6 +133,13 @@ impl Board {
         ensures { IsTrue result ↔ IsOpen self.now.root (mark_in self.now.records) t.now }
     {
         self.open_tables.contains_key(t)
+    }
+
+    /// Whether a table is recorded, with a verdict or as a holdout.
+    pub fn is_recorded(&self, t: &Table) -> bool
+        ensures { IsTrue result ↔ IsSome (claim_in self.now.records t.now) }
+    {
+        certificate_for(&self.records, t).is_some()
     }
 
     /// The holdouts, in the order of their texts: the tables whose record has no verdict.

@@ -12,6 +12,7 @@
 #![tactic(auto)]
 
 mod board;
+mod bound;
 mod children;
 mod counts;
 mod faults;
@@ -31,6 +32,7 @@ mod tally;
 mod writer;
 
 pub use board::{Board, Champions, Holdouts, Open};
+pub use bound::Bound;
 pub use faults::{BoardFault, LoadFault, OfferFault};
 pub use header::peek_root;
 pub use laws::{

@@ -1,6 +1,6 @@
 -- The bound of a table, from those of its children.
 use Prim.Native.Nat.{max}
-use Rattle.std.proofs.Common.{◌≡◌, ℕ, ◌+◌, ◌<◌, ◌≤◌, List, [], ◌∷◌, Option, Some, None, option_map, IsSome, ◌↔◌, ◌⊎◌, inl, inr, refl, sym, ◌∙◌, ap, subst, arith}
+use Rattle.std.proofs.Common.{◌≡◌, ℕ, ◌<◌, ◌≤◌, List, [], ◌∷◌, Option, Some, None, option_map, IsSome, ◌↔◌, ◌⊎◌, inl, inr, refl, sym, ◌∙◌, ap, subst, arith}
 use Rattle.std.specs.List.{Contains}
 use Rattle.std.proofs.lemmas.Bool.{cases_lt}
 use Rattle.machine_text.specs.Packed.{Packed, IsTable, entry_of, holes}
@@ -13,7 +13,7 @@ use Rattle.tree.specs.Tables.{IsChildTable, InTableTree, Itself, OfChild, IsBest
 use Rattle.tree.proofs.TableLaws.{child_alike, child_map}
 use Rattle.tree.proofs.TreeLaws.{child_holes}
 use Rattle.tree.proofs.ClosedLaws.{closed_child}
-use Rattle.cert.specs.Claim.{Claim, Recorded, shown_by}
+use Rattle.cert.specs.Claim.{Claim, Recorded}
 use Rattle.ledger.specs.Records.{claim_in, mark_in, mark_of, mark_by, verdict_in, shown_where}
 use Rattle.ledger.specs.Offers.{IsElsewhere}
 use Rattle.ledger.specs.Contents.{Contents, IsBoard}

@@ -28,3 +28,4 @@ pub mod Boards
 pub mod Growing
 pub mod Answered
 pub mod Bounds
+pub mod Merged

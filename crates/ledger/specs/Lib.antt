@@ -8,5 +8,6 @@ pub mod Bounds
 pub mod Faults
 pub mod LedgerText
 pub mod Lists
+pub mod Merging
 pub mod LedgerLaws
 pub mod Inside

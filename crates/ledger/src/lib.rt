@@ -22,6 +22,7 @@ mod kept;
 mod laws;
 mod left;
 mod loader;
+mod merging;
 mod open_tables;
 mod place;
 mod records;
@@ -33,7 +34,7 @@ mod writer;
 
 pub use board::{Board, Champions, Holdouts, Open};
 pub use bound::Bound;
-pub use faults::{BoardFault, LoadFault, OfferFault};
+pub use faults::{BoardFault, LoadFault, MergeFault, OfferFault};
 pub use header::peek_root;
 pub use laws::{
     answered_records_are_held, beginnings_load, kept_bytes_load, ledgers_grow, ledgers_load_whole,

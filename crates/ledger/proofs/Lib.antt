@@ -29,3 +29,4 @@ pub mod Growing
 pub mod Answered
 pub mod Bounds
 pub mod Merged
+pub mod WholeTree

@@ -284,3 +284,34 @@ so_far_is_final root old all left cur so_far complete = taken_is_final root old 
 
 pub unchanged_for_memory : (root : Packed) (old new : List Recorded) (r : Recorded) (f : OfferFault) → f ≡ NoMemory → OfferGives root old r (Err f) new → new ≡ old
 unchanged_for_memory root old new r f is gives = (subst (λ (x : OfferFault). OfferGives root old r (Err x) new) is gives).1
+
+-- what is shown of a table, and whether it is a holdout, is its mark
+mark_shown : (o : Option Mark) (v : Verdict) → shown_mark o ≡ Some v → o ≡ Some (mark_by (Some v))
+mark_shown None v e = absurd (cc)
+mark_shown (Some (Halting k)) v e = ap (λ (o : Option Verdict). Some (mark_by o)) e
+mark_shown (Some NonHalting) v e = ap (λ (o : Option Verdict). Some (mark_by o)) e
+mark_shown (Some Holdout) v e = absurd (cc)
+
+one_mark : (a b : Option Mark) → ((v : Verdict) → (shown_mark a ≡ Some v) ↔ (shown_mark b ≡ Some v)) → (a ≡ Some Holdout) ↔ (b ≡ Some Holdout) → a ≡ b
+one_mark (Some (Halting k)) b shown held = sym (mark_shown b (Halts k) ((shown (Halts k)).0 refl))
+one_mark (Some NonHalting) b shown held = sym (mark_shown b Never ((shown Never).0 refl))
+one_mark (Some Holdout) b shown held = sym (held.0 refl)
+one_mark None None shown held = refl
+one_mark None (Some (Halting k)) shown held = mark_shown None (Halts k) ((shown (Halts k)).1 refl)
+one_mark None (Some NonHalting) shown held = mark_shown None Never ((shown Never).1 refl)
+one_mark None (Some Holdout) shown held = held.1 refl
+
+either : {P Q : Type 0} → P ⊎ Q → Q ⊎ P
+either (inl p) = inr p
+either (inr q) = inl q
+
+-- the order of two boards doesn't matter
+pub either_order : (a b first second : List Recorded) (t : Packed) → IsMerged a b first → IsMerged b a second → mark_in first t ≡ mark_in second t
+either_order a b first second t one other = one_mark (mark_in first t) (mark_in second t)
+    (λ v. (
+      λ e. sym (verdict_is second t) ∙ (other.verdicts t v).1 (either ((one.verdicts t v).0 (verdict_is first t ∙ e))),
+      λ e. sym (verdict_is first t) ∙ (one.verdicts t v).1 (either ((other.verdicts t v).0 (verdict_is second t ∙ e))),
+    )) (
+      λ e. let h = (one.holdouts t).0 e in (other.holdouts t).1 (either h.0, h.2, h.1),
+      λ e. let h = (other.holdouts t).0 e in (one.holdouts t).1 (either h.0, h.2, h.1),
+    )

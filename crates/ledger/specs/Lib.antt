@@ -10,4 +10,5 @@ pub mod LedgerText
 pub mod Lists
 pub mod Merging
 pub mod LedgerLaws
+pub mod WholeTree
 pub mod Inside

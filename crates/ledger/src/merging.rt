@@ -12,7 +12,8 @@ use tree::{child_is_table, one_true_verdict};
 impl Board {
     /// Offers the records of another board, in their order. Then the tables with a verdict are those of
     /// either board, with the same verdict; the holdouts are those of either board that have a verdict in
-    /// neither. So it doesn't matter for these which of two boards is merged into the other.
+    /// neither. So it doesn't matter for these which of two boards is merged into the other. A complete board
+    /// stays as it is.
     ///
     /// `WrongRoot` where the roots differ; then nothing has changed. `NoMemory` where memory was refused;
     /// then a beginning of the other's records was offered, and the same call may be repeated.

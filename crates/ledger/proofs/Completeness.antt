@@ -40,7 +40,7 @@ true_mark None t h = tt
 true_mark (Some (Halts k)) t h = h
 true_mark (Some Never) t h = h
 
-true_marks : (b : Contents) → Below → OfTables → Claims → IsBoard b → AreTrueMarks (mark_in b.records)
+pub true_marks : (b : Contents) → Below → OfTables → Claims → IsBoard b → AreTrueMarks (mark_in b.records)
 true_marks b below tables claims board = λ t. elim (claim_in b.records t) as (λ o. claim_in b.records t ≡ o → IsTrueMark t (option_map mark_of o)) [
   | None ↦ λ none. tt
   | Some c ↦ λ is.

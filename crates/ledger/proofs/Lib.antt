@@ -27,3 +27,6 @@ pub mod Longest
 pub mod Boards
 pub mod Growing
 pub mod Answered
+pub mod Bounds
+pub mod Merged
+pub mod WholeTree

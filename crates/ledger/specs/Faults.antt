@@ -9,6 +9,8 @@ use Rattle.ledger.specs.declared.faults.OfferFault.{OfferFault}
 use Rattle.ledger.specs.declared.faults.OfferFault.TheVariants.{WrongSize, NotOpen, Refused as IsRefused, NoMemory as NoOfferMemory}
 use Rattle.ledger.specs.declared.faults.LoadFault.{LoadFault}
 use Rattle.ledger.specs.declared.faults.LoadFault.TheVariants.{BadHeader, WrongRoot, NoMemory as NoLoadMemory}
+use Rattle.ledger.specs.declared.faults.MergeFault.{MergeFault}
+use Rattle.ledger.specs.declared.faults.MergeFault.TheVariants.{WrongRoot as OtherRoot, NoMemory as NoMergeMemory}
 use Rattle.ledger.specs.declared.left.Unkept.{Unkept}
 use Rattle.ledger.specs.declared.left.Unkept.TheVariants.{Torn, Unread, Unfit, Repeated}
 
@@ -27,6 +29,10 @@ load_fault_number BadHeader = 404
 load_fault_number WrongRoot = 405
 load_fault_number NoLoadMemory = 0
 
+abbrev pub merge_fault_number : MergeFault → ℕ
+merge_fault_number OtherRoot = 405
+merge_fault_number NoMergeMemory = 0
+
 abbrev pub board_fault_text : BoardFault → List ℕ
 board_fault_text NotInOrder = codes "the root does not name its states in order"
 board_fault_text NoBoardMemory = codes "out of memory"
@@ -44,6 +50,10 @@ abbrev pub load_fault_text : LoadFault → List ℕ
 load_fault_text BadHeader = codes "the first line is no header of a ledger"
 load_fault_text WrongRoot = codes "the ledger is of another root, or of one that does not name its states in order"
 load_fault_text NoLoadMemory = codes "out of memory"
+
+abbrev pub merge_fault_text : MergeFault → List ℕ
+merge_fault_text OtherRoot = codes "the boards are of different roots"
+merge_fault_text NoMergeMemory = codes "out of memory"
 
 abbrev pub unkept_text : Unkept → List ℕ
 unkept_text Torn = codes "the line has no end"

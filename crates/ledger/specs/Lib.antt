@@ -4,8 +4,11 @@ pub mod Contents
 pub mod Offers
 pub mod Lent
 pub mod Tally
+pub mod Bounds
 pub mod Faults
 pub mod LedgerText
 pub mod Lists
+pub mod Merging
 pub mod LedgerLaws
+pub mod WholeTree
 pub mod Inside

@@ -75,10 +75,10 @@ impl Model for Board {
 
 impl Board {
     ghost use Rattle.std.specs.Prelude.{[], ◌∷◌, ◌++◌, OnOk, OnErr, IfErr, ◌⊎◌, IsSome};
-    ghost use Rattle.tree.specs.Closed.{IsOpen};
+    ghost use Rattle.tree.specs.Closed.{IsComplete, IsOpen};
     ghost use Rattle.cert.specs.Claim.{shown_by};
     ghost use Rattle.cert.specs.Kinds.{claim_of, recorded};
-    ghost use Rattle.ledger.specs.Records.{mark_in, verdict_in};
+    ghost use Rattle.ledger.specs.Records.{claim_in, mark_in, verdict_in};
     ghost use Rattle.ledger.specs.Held.{IsFit, IsHoldout, Settles, settled};
     ghost use Rattle.ledger.specs.Offers.{OfferGives};
     ghost use Rattle.ledger.specs.Inside.Places.{IsRefusal};
@@ -133,6 +133,13 @@ impl Board {
         ensures { IsTrue result ↔ IsOpen self.now.root (mark_in self.now.records) t.now }
     {
         self.open_tables.contains_key(t)
+    }
+
+    /// Whether a table is recorded, with a verdict or as a holdout.
+    pub fn is_recorded(&self, t: &Table) -> bool
+        ensures { IsTrue result ↔ IsSome (claim_in self.now.records t.now) }
+    {
+        certificate_for(&self.records, t).is_some()
     }
 
     /// The holdouts, in the order of their texts: the tables whose record has no verdict.
@@ -233,10 +240,11 @@ impl Board {
     /// root, `WrongSize`; its table has a verdict, or is a holdout and no verdict is offered, `Known`,
     /// whatever its certificate; its table is neither open nor a holdout, `NotOpen`; its certificate
     /// doesn't stand, `Refused`; its table is open, `New`; its table is a holdout, `Settled`. After an
-    /// error nothing has changed.
+    /// error nothing has changed, and no offer changes a complete board.
     pub fn offer(&mut self, r: &Record) -> Result<Taken, OfferFault>
         ensures gives { OfferGives self.old.root self.old.records (recorded r.now) result self.new.records }
         ensures root { self.new.root ≡ self.old.root }
+        ensures complete { IsComplete self.old.root (mark_in self.old.records) → self.new.records ≡ self.old.records }
     {
         if r.table.states() != self.root.states() {
             return Err(OfferFault::WrongSize);

@@ -40,6 +40,15 @@ pub enum LoadFault {
     NoMemory,
 }
 
+/// Why two boards weren't merged.
+#[derive(Clone, Copy, Debug, PartialEq, Eq)]
+pub enum MergeFault {
+    /// Their roots differ. Nothing changed.
+    WrongRoot,
+    /// Memory was refused. A beginning of the other board's records was taken in.
+    NoMemory,
+}
+
 impl BoardFault {
     ghost use Rattle.ledger.specs.Faults.{board_fault_number};
 
@@ -81,6 +90,20 @@ impl LoadFault {
             LoadFault::BadHeader => 404,
             LoadFault::WrongRoot => 405,
             LoadFault::NoMemory => 0,
+        }
+    }
+}
+
+impl MergeFault {
+    ghost use Rattle.ledger.specs.Faults.{merge_fault_number};
+
+    /// The refusal number: 405; 0 where memory was refused, which has none.
+    pub fn number(&self) -> u16
+        ensures { result ≡ merge_fault_number self.now }
+    {
+        match self {
+            MergeFault::WrongRoot => 405,
+            MergeFault::NoMemory => 0,
         }
     }
 }
@@ -144,11 +167,27 @@ impl fmt::Display for LoadFault {
     }
 }
 
+impl fmt::Display for MergeFault {
+    ghost use Rattle.std.specs.Prelude.{Some};
+    ghost use Rattle.ledger.specs.Faults.{merge_fault_text};
+
+    ghost output = { λ fault. Some (merge_fault_text fault) };
+
+    fn fmt<W: fmt::Write>(&self, f: &mut fmt::Formatter<W>) -> fmt::Result {
+        match self {
+            MergeFault::WrongRoot => f.write_str("the boards are of different roots"),
+            MergeFault::NoMemory => f.write_str("out of memory"),
+        }
+    }
+}
+
 impl Error for BoardFault {}
 
 impl Error for OfferFault {}
 
 impl Error for LoadFault {}
+
+impl Error for MergeFault {}
 
 impl From<NoMemory> for BoardFault {
     ghost use Rattle.ledger.specs.declared.faults.BoardFault.TheVariants.{NoMemory};

@@ -1,14 +1,22 @@
 // What is true of all ledgers: laws over the definitions, each the contract of a function without a body.
-ghost use Rattle.std.specs.Prelude.{◌≡◌, ℕ, List, [], ◌∷◌, ◌++◌, take, Ok, IsSome};
-ghost use Rattle.machine_text.specs.Packed.{Packed, IsTable};
+ghost use Rattle.std.specs.Prelude.{◌≡◌, ◌↔◌, ℕ, List, [], ◌∷◌, ◌++◌, take, Option, Result, Ok, IsSome};
+ghost use Rattle.machine_text.specs.Packed.{Packed, IsTable, entry_of};
+ghost use Rattle.turing.specs.Halting.{HaltsAt, Never};
+ghost use Rattle.tree.specs.Closed.{IsComplete};
+ghost use Rattle.tree.specs.Tables.{InTableTree};
 ghost use Rattle.cert.specs.Claim.{Recorded};
 ghost use Rattle.cert.specs.Grammar.{record_text};
 ghost use Rattle.ledger.specs.declared.left.Left.{Left as LeftOver};
 ghost use Rattle.ledger.specs.declared.left.Left.TheVariants.{Nothing, From};
 ghost use Rattle.ledger.specs.declared.left.Unkept.{Unkept as WhyUnkept};
 ghost use Rattle.ledger.specs.declared.taken.Taken.{Taken as Answer};
+ghost use Rattle.ledger.specs.declared.faults.OfferFault.{OfferFault as Fault};
 ghost use Rattle.ledger.specs.Offers.{OfferGives};
-ghost use Rattle.ledger.specs.Records.{claim_in};
+ghost use Rattle.ledger.specs.Records.{claim_in, mark_in};
+ghost use Rattle.ledger.specs.Merging.{IsMerged};
+ghost use Rattle.ledger.specs.Tally.{AreAll, HaltsAfter, IsChampion, IsNonHalting, IsTally};
+ghost use Rattle.ledger.specs.WholeTree.{IsTreeTally, IsTreeChampion};
+ghost use Rattle.ledger.specs.declared.tally.Tally.{Tally as Counted};
 ghost use Rattle.ledger.specs.Contents.{Contents, IsBoard};
 ghost use Rattle.ledger.specs.Lists.{AreKept, Offer, AreOffered, answered, held as held_of};
 ghost use Rattle.ledger.specs.LedgerText.{HasHeader, IsTaken, ReadsAs, ledger_text};
@@ -65,4 +73,37 @@ pub fn beginnings_load()
     ensures { (root : Packed) (text start tail body : List ℕ) (rs : List Recorded) (left : LeftOver) →
         (reads : ReadsAs root text rs left) → text ≡ start ++ tail → HasHeader start root body →
         ReadsAsFirst root start reads.keeps.lines }
+{}
+
+/// Merged in either order, two lists of records say the same of each table: the same verdict, that it is a
+/// holdout, or nothing. So the same tables are open.
+pub fn merges_agree()
+    ensures { (a b first second : List Recorded) (t : Packed) → IsMerged a b first → IsMerged b a second → mark_in first t ≡ mark_in second t }
+{}
+
+/// Complete is final: no offer changes the records of a complete board.
+pub fn complete_is_final()
+    ensures { (root : Packed) (old new : List Recorded) (r : Recorded) (answer : Result Answer Fault) → IsComplete root (mark_in old) →
+        OfferGives root old r answer new → new ≡ old }
+{}
+
+/// A complete board holds the tree of its root: recorded as halting are the tables of the tree that halt, with
+/// their numbers of steps, and as never halting those that never do. So its tally and its champions are those
+/// of the tree.
+pub fn complete_boards_hold_the_tree()
+    ensures halting { (b : Contents) (t : Packed) (k : ℕ) → IsBoard b → IsComplete b.root (mark_in b.records) →
+        HaltsAfter b.records k t ↔ (InTableTree b.root t × HaltsAt (entry_of t) k) }
+    ensures never { (b : Contents) (t : Packed) → IsBoard b → IsComplete b.root (mark_in b.records) →
+        IsNonHalting b.records t ↔ (InTableTree b.root t × Never (entry_of t)) }
+    ensures tally { (b : Contents) (tally : Counted) → IsBoard b → IsComplete b.root (mark_in b.records) →
+        IsTally b.root b.records tally → IsTreeTally b.root tally }
+    ensures champions { (b : Contents) (best : Option ℕ) (tables : List Packed) → IsBoard b → IsComplete b.root (mark_in b.records) →
+        AreAll (IsChampion b.records best) tables → AreAll (IsTreeChampion b.root best) tables }
+{}
+
+/// A tree has one tally, and one list of its champions.
+pub fn trees_are_told_once()
+    ensures tally { (root : Packed) (a b : Counted) → IsTreeTally root a → IsTreeTally root b → a ≡ b }
+    ensures champions { (root : Packed) (best : Option ℕ) (xs ys : List Packed) →
+        AreAll (IsTreeChampion root best) xs → AreAll (IsTreeChampion root best) ys → xs ≡ ys }
 {}

@@ -12,6 +12,7 @@
 #![tactic(auto)]
 
 mod board;
+mod bound;
 mod children;
 mod counts;
 mod faults;
@@ -21,6 +22,7 @@ mod kept;
 mod laws;
 mod left;
 mod loader;
+mod merging;
 mod open_tables;
 mod place;
 mod records;
@@ -31,11 +33,13 @@ mod tally;
 mod writer;
 
 pub use board::{Board, Champions, Holdouts, Open};
-pub use faults::{BoardFault, LoadFault, OfferFault};
+pub use bound::Bound;
+pub use faults::{BoardFault, LoadFault, MergeFault, OfferFault};
 pub use header::peek_root;
 pub use laws::{
-    answered_records_are_held, beginnings_load, kept_bytes_load, ledgers_grow, ledgers_load_whole,
-    ledgers_read_as_one, ledgers_read_longest, offers_are_held,
+    answered_records_are_held, beginnings_load, complete_boards_hold_the_tree, complete_is_final,
+    kept_bytes_load, ledgers_grow, ledgers_load_whole, ledgers_read_as_one, ledgers_read_longest,
+    merges_agree, offers_are_held, trees_are_told_once,
 };
 pub use left::{Left, Unkept};
 pub use records::Records;

@@ -1,0 +1,8 @@
+use Rattle.ledger.proofs.WholeTree.{one_tally, one_list_of_champions}
+use Rattle.ledger.proofs.laws.trees_are_told_once.Goals as goal
+
+pub returns-clause-tally : goal.returns-clause-tally
+returns-clause-tally c = one_tally
+
+pub returns-clause-champions : goal.returns-clause-champions
+returns-clause-champions c = one_list_of_champions

@@ -1,12 +1,13 @@
 // Command lines, and what is said in place of a command, also to streams that fail.
 use crate::command_line::options;
-use crate::dispatch::{Host, obey};
+use crate::dispatch::obey;
 use crate::line_fault::LineFault;
-use commands::{Beginning, Options, Outcome, Search};
+use commands::{Beginning, Host, Merging, Options, Outcome, Search, Settling};
 use std::alloc::Global;
 use std::io::{self, Read, Write};
 use std::process::Abort;
 use std::test::Fail;
+use std::time::{Clock, Duration};
 use wire::MemLedger;
 
 // A host with one file, which is a complete ledger.
@@ -38,6 +39,21 @@ impl Host for OneFile {
         } else {
             Err(io::Error::from(io::ErrorKind::PermissionDenied))
         }
+    }
+
+    fn old_ledger(&self, path: &str) -> io::Result<MemLedger> {
+        self.ledger(path)
+    }
+}
+
+// A clock that stands.
+impl Clock for OneFile {
+    fn monotonic(&self) -> io::Result<Duration> {
+        Ok(Duration::ZERO)
+    }
+
+    fn since_1970(&self) -> io::Result<Duration> {
+        Err(io::Error::from(io::ErrorKind::Unsupported))
     }
 }
 
@@ -112,7 +128,7 @@ fn ended(alloc: Global, text: &str, fails: (bool, bool)) -> Result<(Outcome, boo
 }
 
 // Command lines with how each ends, and whether anything is written to either stream.
-const LINES: [(&str, Outcome, bool, bool); 26] = [
+const LINES: [(&str, Outcome, bool, bool); 40] = [
     ("bb check", Outcome::Accepted, true, false),
     // the input is a record, and no table
     ("bb decide", Outcome::Refused, true, false),
@@ -130,6 +146,25 @@ const LINES: [(&str, Outcome, bool, bool); 26] = [
         true,
     ),
     ("bb coord 1", Outcome::Refused, false, false),
+    ("bb run 1", Outcome::Accepted, true, false),
+    ("bb run 1 --rounds 1", Outcome::Refused, true, false),
+    ("bb run 1 --ledger complete --json", Outcome::Accepted, true, false),
+    ("bb run 1 --ledger absent", Outcome::Failed, false, true),
+    ("bb retry complete", Outcome::Accepted, true, false),
+    ("bb retry absent", Outcome::Failed, false, true),
+    (
+        "bb merge complete complete complete",
+        Outcome::Accepted,
+        true,
+        false,
+    ),
+    (
+        "bb merge complete absent complete",
+        Outcome::Failed,
+        false,
+        true,
+    ),
+    ("bb report complete --json", Outcome::Accepted, true, false),
     ("bb report complete", Outcome::Accepted, true, false),
     ("bb report complete --why", Outcome::Accepted, true, false),
     ("bb report absent", Outcome::Failed, false, true),
@@ -150,6 +185,11 @@ const LINES: [(&str, Outcome, bool, bool); 26] = [
     ("bb coord 0", Outcome::BadLine, false, true),
     ("bb coord 7", Outcome::BadLine, false, true),
     ("bb coord 1 --era 0", Outcome::BadLine, false, true),
+    ("bb run 1 --workers 65", Outcome::BadLine, false, true),
+    ("bb run 1 --lose 1", Outcome::BadLine, false, true),
+    ("bb run 1 --rounds 0", Outcome::BadLine, false, true),
+    ("bb merge complete complete", Outcome::BadLine, false, true),
+    ("bb retry", Outcome::BadLine, false, true),
 ];
 
 #[test]
@@ -183,8 +223,11 @@ const SEARCHES: [(&str, [u64; 4]); 3] = [
 fn options_are_read_from_the_words(rt: HostRuntime) -> Result<(), Fail> {
     for (text, expected) in [
         ("bb check", Options::Check),
-        ("bb report file", report(false)),
-        ("bb report --why file", report(true)),
+        ("bb report file", report(false, false)),
+        ("bb report --why file", report(false, true)),
+        ("bb report file --json", report(true, false)),
+        ("bb retry file --steps 7", retry(7)),
+        ("bb merge a b c", merge()),
     ] {
         is_asked(&rt, rt.alloc(), text, expected)?;
     }
@@ -221,8 +264,68 @@ fn is_asked(rt: &impl Abort, alloc: Global, text: &str, expected: Options<'_>) -
     Ok(())
 }
 
-fn report(why: bool) -> Options<'static> {
-    Options::Report { file: "file", why }
+fn report(json: bool, why: bool) -> Options<'static> {
+    Options::Report {
+        file: "file",
+        json,
+        why,
+    }
+}
+
+const DEFAULTS: Search = Search {
+    steps: 1_000,
+    depth: 20,
+    gram: 3,
+    far: 2,
+};
+
+fn retry(steps: u64) -> Options<'static> {
+    Options::Retry {
+        file: "file",
+        search: Search { steps, ..DEFAULTS },
+    }
+}
+
+fn merge() -> Options<'static> {
+    Options::Merge(Merging {
+        first: "a",
+        second: "b",
+        out: "c",
+    })
+}
+
+// What `bb run` is asked for by default.
+const RUN: Settling = Settling {
+    states: 3,
+    workers: 2,
+    lose: None,
+    rounds: 1_000_000,
+    search: DEFAULTS,
+    json: false,
+    progress: false,
+};
+
+#[test]
+fn options_of_a_run_are_read_from_the_words(rt: HostRuntime) -> Result<(), Fail> {
+    let settling = RUN;
+    let ledger = None;
+    is_asked(&rt, rt.alloc(), "bb run 3", Options::Run { settling, ledger })?;
+    let mut settling = RUN;
+    settling.workers = 64;
+    settling.lose = Some(1_000);
+    settling.rounds = 1_000_000_000;
+    settling.search.far = 8;
+    settling.json = true;
+    settling.progress = true;
+    is_asked(
+        &rt,
+        rt.alloc(),
+        "bb run --json 3 --lose 1000 --workers 64 --ledger file --rounds 1000000000 --progress --far 8",
+        Options::Run {
+            settling,
+            ledger: Some("file"),
+        },
+    )
 }
 
 // What the words of a line couldn't be read for is a wrong line, or refused memory.

@@ -4,6 +4,7 @@ pub mod Losses
 pub mod Answer
 pub mod Decision
 pub mod Report
+pub mod TreeReport
 pub mod LedgerReport
 pub mod Passing
 pub mod Retry

@@ -6,9 +6,10 @@ use Rattle.commands.specs.declared.ended.Ended.{Ended}
 use Rattle.commands.specs.declared.ended.Ended.TheVariants.{BadHeader, WrongRoot, Stream, Ledger, File, NoMemory as WantsMemory}
 use Rattle.ledger.specs.declared.faults.LoadFault.{LoadFault}
 use Rattle.ledger.specs.declared.faults.LoadFault.TheVariants.{BadHeader as BadLedgerHeader, WrongRoot as OtherRoot, NoMemory as NoLedgerMemory}
+use Rattle.ledger.specs.declared.faults.MergeFault.{MergeFault}
+use Rattle.ledger.specs.declared.faults.MergeFault.TheVariants.{WrongRoot as RootsDiffer, NoMemory as NoMergeMemory}
 use Rattle.lease_core.specs.declared.start_fault.StartFault.{StartFault}
 use Rattle.lease_core.specs.declared.start_fault.StartFault.TheVariants.{BadHeader as BadStartHeader, WrongRoot as OtherStartRoot, NoMemory as NoStartMemory}
-use Rattle.wire.specs.declared.node.NodeFault.{NodeFault}
 use Rattle.wire.specs.declared.node.NodeFault.TheVariants.{Stopped, NoMemory as NoNodeMemory}
 use Rattle.wire.specs.declared.turned.TurnFault.{TurnFault}
 use Rattle.wire.specs.declared.turned.TurnFault.TheVariants.{LinkFault, LedgerFault, Node, NoMemory as NoTurnMemory}
@@ -34,6 +35,11 @@ abbrev pub ended_by : LoadFault → Ended
 ended_by BadLedgerHeader = BadHeader
 ended_by OtherRoot = WrongRoot
 ended_by NoLedgerMemory = WantsMemory
+
+-- and two that can't be merged
+abbrev pub ended_by_merge : MergeFault → Ended
+ended_by_merge RootsDiffer = WrongRoot
+ended_by_merge NoMergeMemory = WantsMemory
 
 -- and a node whose start is refused
 abbrev pub ended_by_start : StartFault → Ended

@@ -2,6 +2,9 @@
 ghost use Rattle.std.specs.Prelude.{◌≡◌, ◌∷◌, [], ◌++◌, List, ℕ, codes, take, length, decimal, OnOk, OnErr};
 ghost use Rattle.std.specs.Vec.Iter.{into_iter_items};
 ghost use Rattle.machine_text.specs.Text.{text_of};
+ghost use Rattle.tree.specs.Closed.{IsComplete};
+ghost use Rattle.ledger.specs.Records.{mark_in};
+ghost use Rattle.commands.specs.TreeReport.{IsTreeReport};
 ghost use Rattle.commands.specs.Report.{IsReport, IsHead, line_of, lines_of, status_name, best_text, verdicts_text, counts_text, report_text};
 
 use cert::append_number;
@@ -11,12 +14,17 @@ use run::NoMemory;
 use std::vec::IntoIter;
 
 /// Appends the report of a board: its root, how it stands, how many tables there are of each kind, the
-/// greatest recorded number of steps, and the champions and holdouts in the order of their texts. Where
-/// memory is refused, `out` is as it was.
+/// greatest recorded number of steps, and the champions and holdouts in the order of their texts. That of a
+/// complete board is a function of its root alone. Where memory is refused, `out` is as it was.
+#[tactic(auto, using(crate::proofs::TreeReports::tree_report))]
 pub fn report(board: &Board, out: &mut Vec<u8>) -> Result<(), NoMemory>
     ensures ok { OnOk result ((text : List ℕ) × IsReport board.now.root board.now.records text × (out.new.items ≡ out.old.items ++ text)) }
+    ensures complete { OnOk result (IsComplete board.now.root (mark_in board.now.records) →
+        (text : List ℕ) × IsTreeReport board.now.root text × (out.new.items ≡ out.old.items ++ text)) }
     ensures err { OnErr result (out.new.items ≡ out.old.items) }
 {
+    // The proof needs that it is a board.
+    let _ = board.root();
     let len = out.len();
     match append_report(board, out) {
         Ok(()) => Ok(()),

@@ -4,7 +4,7 @@ ghost use Rattle.commands.specs.Outcome.{outcome_of, ended_in_memory};
 
 use crate::outcome::Outcome;
 use lease_core::StartFault;
-use ledger::LoadFault;
+use ledger::{LoadFault, MergeFault};
 use run::NoMemory;
 use std::io::{self, ErrorKind, Write};
 use wire::{NodeFault, TurnFault};
@@ -14,7 +14,7 @@ use wire::{NodeFault, TurnFault};
 pub enum Ended {
     /// A ledger has no header with a readable root.
     BadHeader,
-    /// A ledger's root doesn't name its states in order.
+    /// A ledger's root doesn't name its states in order, or is another than is asked for.
     WrongRoot,
     /// A stream failed.
     Stream,
@@ -124,6 +124,20 @@ impl From<StartFault> for Ended {
             StartFault::BadHeader => Ended::BadHeader,
             StartFault::WrongRoot => Ended::WrongRoot,
             StartFault::NoMemory => Ended::NoMemory,
+        }
+    }
+}
+
+impl From<MergeFault> for Ended {
+    ghost use Rattle.std.specs.Prelude.{◌≡◌};
+    ghost use Rattle.commands.specs.Outcome.{ended_by_merge};
+
+    ghost from_gives = { λ f e. e ≡ ended_by_merge f };
+
+    fn from(fault: MergeFault) -> Ended {
+        match fault {
+            MergeFault::WrongRoot => Ended::WrongRoot,
+            MergeFault::NoMemory => Ended::NoMemory,
         }
     }
 }

@@ -1,3 +1,4 @@
 pub mod Texts
 pub mod Floats
 pub mod Appended
+pub mod TreeJsons

@@ -10,12 +10,7 @@ use Rattle.ledger.specs.Held.{IsHoldout}
 use Rattle.ledger.specs.Tally.{AreAll, IsStatus, IsTally, IsChampion}
 use Rattle.ledger.specs.declared.tally.Tally.{Tally}
 use Rattle.ledger.specs.declared.status.Status.{Status}
-use Rattle.ledger.specs.declared.status.Status.TheVariants.{Working, Holdouts, Complete}
-
-abbrev pub status_name : Status → List ℕ
-status_name (Working count) = codes "working"
-status_name (Holdouts count) = codes "holdouts"
-status_name (Complete best) = codes "complete"
+use Rattle.commands.specs.Report.{status_name}
 
 abbrev pub count_value : ℕ → Data
 count_value n = number (unsigned n)

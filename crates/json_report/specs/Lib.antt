@@ -1,2 +1,3 @@
 pub mod JsonReport
 pub mod Forms
+pub mod TreeJson

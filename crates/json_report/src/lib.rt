@@ -7,7 +7,9 @@
 
 mod form;
 mod report;
+mod tree_reports;
 mod values;
 
 pub use form::Form;
 pub use report::report_json;
+pub use tree_reports::complete_boards_tell_their_tree;

@@ -2,7 +2,8 @@
 ghost use Rattle.std.specs.Prelude.{◌≡◌, IfOk, codes};
 ghost use Rattle.std.specs.Vec.Iter.{into_iter_items};
 ghost use Rattle.serde_json.specs.View.{view};
-ghost use Rattle.json_report.specs.JsonReport.{status_name, best_value, table_value, tables_value, report_value};
+ghost use Rattle.commands.specs.Report.{status_name};
+ghost use Rattle.json_report.specs.JsonReport.{best_value, table_value, tables_value, report_value};
 
 use ledger::{Champions, Holdouts, Status, Tally};
 use machine_text::{TEXT_BYTES, Table};

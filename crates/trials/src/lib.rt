@@ -22,9 +22,13 @@ mod cycles;
 #[cfg(test)]
 mod deciding;
 #[cfg(test)]
+mod json_reports;
+#[cfg(test)]
 mod ledgers;
 #[cfg(test)]
 mod lines;
+#[cfg(test)]
+mod merge_command;
 #[cfg(test)]
 mod messages;
 #[cfg(test)]
@@ -37,6 +41,8 @@ mod position_sets;
 mod records;
 #[cfg(test)]
 mod report_command;
+#[cfg(test)]
+mod retry_command;
 #[cfg(test)]
 mod run_command;
 #[cfg(test)]

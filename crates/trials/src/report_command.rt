@@ -1,6 +1,6 @@
 // `bb report` over files of the tests' own.
 use crate::streams::{ALWAYS, Sink, Source, file_of};
-use commands::{Ended, Opened, Outcome, cmd_report};
+use commands::{AsLines, Ended, Opened, Outcome, cmd_report};
 use std::alloc::Global;
 use std::io;
 use std::process::Abort;
@@ -20,13 +20,13 @@ fn reported(
     let mut said = Sink::new(alloc, usize::MAX, ALWAYS);
     let mut told = Sink::new(alloc, usize::MAX, ALWAYS);
     let file = file_of(ledger, at_once, ALWAYS);
-    let mut ended = cmd_report(alloc, false, file, &mut said, &mut told);
+    let mut ended = cmd_report(alloc, &AsLines, false, file, &mut said, &mut told);
     if ended == Outcome::NoMemory {
         assert_eq!(rt; told.kept.as_slice(), b"refused memory\n".as_slice());
         assert!(rt; said.kept.is_empty());
         told.kept.clear();
         let file = file_of(ledger, at_once, ALWAYS);
-        ended = cmd_report(alloc, false, file, &mut said, &mut told);
+        ended = cmd_report(alloc, &AsLines, false, file, &mut said, &mut told);
     }
     assert_eq!(rt; said.kept.as_slice(), answers);
     assert_eq!(rt; told.kept.as_slice(), faults);
@@ -145,19 +145,19 @@ fn failing_files_end_the_command(rt: HostRuntime) {
     let mut said = Sink::new(alloc, usize::MAX, ALWAYS);
     let mut told = Sink::new(alloc, usize::MAX, ALWAYS);
     let absent: io::Result<Opened<Source<'_>>> = Err(io::Error::from(io::ErrorKind::NotFound));
-    assert!(rt; cmd_report(alloc, false, absent, &mut said, &mut told) == Outcome::Failed);
+    assert!(rt; cmd_report(alloc, &AsLines, false, absent, &mut said, &mut told) == Outcome::Failed);
     assert_eq!(rt; told.kept.as_slice(), b"refused 605\n".as_slice());
     for calls in 0..3 {
         told.kept.clear();
         let file = file_of(COMPLETE, 20, calls);
-        assert!(rt; cmd_report(alloc, false, file, &mut said, &mut told) == Outcome::Failed);
+        assert!(rt; cmd_report(alloc, &AsLines, false, file, &mut said, &mut told) == Outcome::Failed);
         assert_eq!(rt; told.kept.as_slice(), b"refused 605\n".as_slice());
     }
     assert!(rt; said.kept.is_empty());
     told.kept.clear();
     let mut full = Sink::new(alloc, 10, 2);
     let file = file_of(COMPLETE, 20, ALWAYS);
-    assert!(rt; cmd_report(alloc, false, file, &mut full, &mut told) == Outcome::Failed);
+    assert!(rt; cmd_report(alloc, &AsLines, false, file, &mut full, &mut told) == Outcome::Failed);
     assert_eq!(rt; told.kept.as_slice(), b"refused 603\n".as_slice());
 }
 
@@ -192,7 +192,7 @@ fn why_a_line_is_left_is_told(rt: HostRuntime) -> Result<(), Fail> {
         let mut said = Sink::new(alloc, usize::MAX, ALWAYS);
         let mut told = Sink::new(alloc, usize::MAX, ALWAYS);
         let file = file_of(ledger.as_bytes(), 1000, ALWAYS);
-        assert!(rt; cmd_report(alloc, true, file, &mut said, &mut told) == Outcome::Refused);
+        assert!(rt; cmd_report(alloc, &AsLines, true, file, &mut said, &mut told) == Outcome::Refused);
         let begun = format!(in alloc; "line {line} isn't kept: {number}")?;
         assert!(rt; told.kept.starts_with(begun.as_bytes()), "{rest}");
         assert!(rt; begun.len() + 1 < told.kept.len() && told.kept.last() == Some(&b'\n'));
@@ -200,13 +200,13 @@ fn why_a_line_is_left_is_told(rt: HostRuntime) -> Result<(), Fail> {
         let file = file_of(ledger.as_bytes(), 1000, ALWAYS);
         let mut full = Sink::new(alloc, usize::MAX, 0);
         let mut again = Sink::new(alloc, usize::MAX, ALWAYS);
-        assert!(rt; cmd_report(alloc, true, file, &mut again, &mut full) == Outcome::Failed);
+        assert!(rt; cmd_report(alloc, &AsLines, true, file, &mut again, &mut full) == Outcome::Failed);
         assert!(rt; again.kept == said.kept);
     }
     let mut said = Sink::new(alloc, usize::MAX, ALWAYS);
     let mut told = Sink::new(alloc, usize::MAX, ALWAYS);
     let file = file_of(COMPLETE, 1000, ALWAYS);
-    assert!(rt; cmd_report(alloc, true, file, &mut said, &mut told) == Outcome::Accepted);
+    assert!(rt; cmd_report(alloc, &AsLines, true, file, &mut said, &mut told) == Outcome::Accepted);
     assert!(rt; told.kept.is_empty());
     Ok(())
 }

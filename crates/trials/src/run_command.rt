@@ -4,6 +4,8 @@ use backward::BackwardFinder;
 use cert::Finder;
 use commands::{Outcome, Search, Settling, cmd_run};
 use far::FarFinder;
+use json_report::Form;
+use lease_core::Worker;
 use loops::{CycleFinder, TranslatedFinder};
 use ngram_cps::NgramFinder;
 use run::HaltFinder;
@@ -62,6 +64,7 @@ fn settling(states: u8, workers: u8, lose: Option<u64>, rounds: u64, progress: b
             gram: 3,
             far: 2,
         },
+        json: false,
         progress,
     }
 }
@@ -82,9 +85,11 @@ fn ended(
     ledger_fails_at: u64,
     writes_left: u64,
 ) -> Result<Ending, Fail> {
-    let mut finders = Vec::new(alloc);
-    for _ in 0..settling.workers {
-        finders.push(finders_of(alloc)?)?;
+    let mut workers = Vec::new(alloc);
+    for id in 1..=settling.workers {
+        let (worker, started) = Worker::start(alloc, u32::from(id), b"", finders_of(alloc)?, STEPS);
+        started?;
+        workers.push(worker)?;
     }
     let mut ledger = MemLedger::holding(held.to_vec(alloc)?);
     ledger.fail_at(ledger_fails_at);
@@ -94,12 +99,14 @@ fn ended(
     };
     let mut answers = Sink::new(alloc, usize::MAX, writes_left);
     let mut faults = Sink::new(alloc, usize::MAX, ALWAYS);
+    let form = Form::of(settling.json);
     let outcome = cmd_run(
         alloc,
         settling,
+        &form,
         file_of(held, 9, ALWAYS),
         &mut ledger,
-        finders,
+        workers,
         &clock,
         &mut answers,
         &mut faults,
@@ -151,6 +158,19 @@ fn a_run_goes_on_where_its_ledger_ends(rt: HostRuntime) -> Result<(), Fail> {
         assert_eq!(rt; again.answers.as_slice(), ONE_STATE);
         assert_eq!(rt; again.ledger.text(), end.ledger.text());
     }
+    Ok(())
+}
+
+const ONE_STATE_AS_JSON: &[u8] =
+    b"{\"best\":1,\"champions\":[\"------\"],\"halting\":1,\"holdout_tables\":[],\"holdouts\":0,\"never\":2,\"nodes\":3,\"open\":0,\"root\":\"------\",\"status\":\"complete\"}\n";
+
+#[test]
+fn a_run_is_reported_as_json(rt: HostRuntime) -> Result<(), Fail> {
+    let mut asked = settling(1, 2, None, 1_000_000, false);
+    asked.json = true;
+    let end = ended(rt.alloc(), &asked, b"", 0, ALWAYS)?;
+    assert_eq!(rt; end.answers.as_slice(), ONE_STATE_AS_JSON);
+    assert!(rt; end.outcome == Outcome::Accepted);
     Ok(())
 }
 

@@ -3,7 +3,7 @@
 
 use backward::BackwardFinder;
 use cert::{Finder, Finders};
-use commands::{Opened, Outcome, cmd_check, cmd_decide, cmd_report};
+use commands::{AsLines, Opened, Outcome, cmd_check, cmd_decide, cmd_report};
 use far::FarFinder;
 use loops::{CycleFinder, TranslatedFinder};
 use ngram_cps::NgramFinder;
@@ -43,6 +43,7 @@ fn main(rt: HostRuntime) -> io::Result<ExitCode> {
         println!(rt; "$ ./bb report {option}examples/{name}")?;
         let outcome = cmd_report(
             rt.alloc(),
+            &AsLines,
             why,
             opened(&rt, name),
             &mut rt.stdout(),

@@ -1,0 +1,52 @@
+-- A complete board's report as JSON is that of its tree, and a tree has one.
+use Rattle.std.proofs.Common.{◌≡◌, ℕ, ◌∷◌, ◌++◌, List, [], codes, sym, ap, ◌∙◌, subst}
+use Rattle.serde_json.specs.Data.{string, object, member, no_members}
+use Rattle.serde_json.specs.Written.{compact_text}
+use Rattle.machine_text.specs.Packed.{Packed}
+use Rattle.tree.specs.Closed.{IsComplete}
+use Rattle.ledger.specs.Contents.{Contents, IsBoard}
+use Rattle.ledger.specs.Records.{mark_in}
+use Rattle.ledger.specs.Tally.{AreAll}
+use Rattle.ledger.specs.WholeTree.{IsTreeChampion}
+use Rattle.ledger.specs.declared.tally.Tally.{Tally}
+use Rattle.ledger.specs.declared.status.Status.TheVariants.{Complete}
+use Rattle.ledger.proofs.WholeTree.{whole_tally, whole_champions, one_tally, one_list_of_champions}
+use Rattle.commands.proofs.TreeReports.{none_listed, complete_status}
+use Rattle.json_report.specs.JsonReport.{IsJsonReport, report_text, best_value, tables_value, count_value, table_value}
+use Rattle.json_report.specs.TreeJson.{IsTreeJson}
+
+-- the text by the word for the status
+named_text : Packed → List ℕ → Tally → List Packed → List Packed → List ℕ
+named_text root name tally champions holdouts = compact_text (
+    object (
+    member (codes "best") (best_value tally.best) (
+    member (codes "champions") (tables_value champions) (
+    member (codes "halting") (count_value tally.halting) (
+    member (codes "holdout_tables") (tables_value holdouts) (
+    member (codes "holdouts") (count_value tally.holdouts) (
+    member (codes "never") (count_value tally.never) (
+    member (codes "nodes") (count_value tally.nodes) (
+    member (codes "open") (count_value tally.open_count) (
+    member (codes "root") (table_value root) (
+    member (codes "status") (string name) no_members))))))))))) ++ 10 ∷ []
+
+pub tree_json : (b : Contents) (text : List ℕ) → IsBoard b → IsComplete b.root (mark_in b.records) → IsJsonReport b.root b.records text → IsTreeJson b.root text
+tree_json b text board complete r =
+    let holdouts = none_listed _ r.holdouts complete.no_holdout r.are_holdouts in
+    let status = complete_status b.root b.records r.status complete r.stands in
+    record {
+      tally = r.tally;
+      champions = r.champions;
+      counted = whole_tally b r.tally board complete r.counted;
+      are_champions = whole_champions b r.tally.best r.champions board complete r.are_champions;
+      is = r.is ∙ (ap (λ name. named_text b.root name r.tally r.champions r.holdouts) status
+          ∙ ap (λ hs. report_text b.root (Complete r.tally.best) r.tally r.champions hs) holdouts);
+    }
+
+pub one_json : (root : Packed) (a b : List ℕ) → IsTreeJson root a → IsTreeJson root b → a ≡ b
+one_json root a b x y =
+    let tally : x.tally ≡ y.tally = one_tally root x.tally y.tally x.counted y.counted in
+    let champions : x.champions ≡ y.champions = one_list_of_champions root y.tally.best x.champions y.champions
+        (subst (λ (t : Tally). AreAll (IsTreeChampion root t.best) x.champions) tally x.are_champions) y.are_champions in
+    x.is ∙ (ap (λ (t : Tally). report_text root (Complete t.best) t x.champions []) tally
+    ∙ (ap (λ (cs : List Packed). report_text root (Complete y.tally.best) y.tally cs []) champions ∙ sym y.is))

@@ -1,0 +1,85 @@
+// The report of a board as JSON.
+use json_report::report_json;
+use ledger::{Board, Left, LoadFault};
+use machine_text::Table;
+use std::alloc::Global;
+use std::process::Abort;
+use tnf::in_order;
+
+// The board of a ledger all of whose lines are kept. Memory may be refused once.
+fn board_of(rt: &impl Abort, alloc: Global, root: &str, ledger: &str) -> Board {
+    let Ok(root) = Table::parse(root.as_bytes()) else {
+        panic!(rt; "{root}");
+    };
+    if !in_order(&root) {
+        panic!(rt; "out of order");
+    }
+    let loaded = match Board::load(alloc, root, ledger.as_bytes()) {
+        Err(LoadFault::NoMemory) => Board::load(alloc, root, ledger.as_bytes()),
+        loaded => loaded,
+    };
+    match loaded {
+        Ok((board, Left::Nothing)) => board,
+        Ok(_) => panic!(rt; "{ledger}: not all is kept"),
+        Err(fault) => panic!(rt; "{fault:?}"),
+    }
+}
+
+// What is appended to a text that stands already; where memory is refused the text is as it was, and the report
+// is asked for once more.
+fn reported(rt: &impl Abort, alloc: Global, root: &str, ledger: &str, report: &str) {
+    let board = board_of(rt, alloc, root, ledger);
+    let mut out = Vec::new(alloc);
+    if report_json(alloc, &board, &mut out).is_err() {
+        assert!(rt; out.is_empty());
+        if report_json(alloc, &board, &mut out).is_err() {
+            panic!(rt; "no memory");
+        }
+    }
+    assert_eq!(rt; out.as_slice(), report.as_bytes());
+    let len = out.len();
+    if report_json(alloc, &board, &mut out).is_err() {
+        assert_eq!(rt; out.as_slice(), report.as_bytes());
+        if report_json(alloc, &board, &mut out).is_err() {
+            panic!(rt; "no memory");
+        }
+    }
+    assert_eq!(rt; &out[..len.min(out.len())], report.as_bytes());
+    assert_eq!(rt; &out[len.min(out.len())..], report.as_bytes());
+}
+
+#[test]
+fn boards_of_one_state_are_reported(rt: HostRuntime) {
+    for (ledger, report) in [
+        (
+            "bb-ledger 1 ------\n------ H 1\n0RA--- T 0 1 R\n1RA--- T 0 1 R\n",
+            "{\"best\":1,\"champions\":[\"------\"],\"halting\":1,\"holdout_tables\":[],\"holdouts\":0,\
+\"never\":2,\"nodes\":3,\"open\":0,\"root\":\"------\",\"status\":\"complete\"}\n",
+        ),
+        (
+            "bb-ledger 1 ------\n------ H 1\n0RA--- T 0 1 R\n1RA--- U\n",
+            "{\"best\":1,\"champions\":[\"------\"],\"halting\":1,\"holdout_tables\":[\"1RA---\"],\"holdouts\":1,\
+\"never\":1,\"nodes\":3,\"open\":0,\"root\":\"------\",\"status\":\"holdouts\"}\n",
+        ),
+        (
+            "bb-ledger 1 ------\n",
+            "{\"best\":null,\"champions\":[],\"halting\":0,\"holdout_tables\":[],\"holdouts\":0,\
+\"never\":0,\"nodes\":1,\"open\":1,\"root\":\"------\",\"status\":\"working\"}\n",
+        ),
+    ] {
+        reported(&rt, rt.alloc(), "------", ledger, report);
+    }
+}
+
+// Champions come in the order of their texts, whatever the order of their records.
+#[test]
+fn champions_are_in_order(rt: HostRuntime) {
+    reported(
+        &rt,
+        rt.alloc(),
+        "------_------",
+        "bb-ledger 1 ------_------\n------_------ H 1\n1RB---_------ H 2\n0RB---_------ H 2\n",
+        "{\"best\":2,\"champions\":[\"0RB---_------\",\"1RB---_------\"],\"halting\":3,\"holdout_tables\":[],\
+\"holdouts\":0,\"never\":0,\"nodes\":21,\"open\":18,\"root\":\"------_------\",\"status\":\"working\"}\n",
+    );
+}

@@ -1,0 +1,228 @@
+// `bb merge` over files of the tests' own.
+use crate::streams::{ALWAYS, Sink, Source};
+use commands::{Host, Merging, Outcome, cmd_merge};
+use std::alloc::Global;
+use std::io;
+use std::process::Abort;
+use std::test::Fail;
+use wire::{Fault, LedgerOut};
+
+// Two ledgers, `a` and `b`, and what is to be written to `out`.
+#[derive(Drop)]
+struct Shelf {
+    first: &'static [u8],
+    second: &'static [u8],
+    out: &'static [u8],
+}
+
+impl Host for Shelf {
+    type File = Source<'static>;
+
+    fn open(&self, path: &str) -> io::Result<Source<'static>> {
+        let left = match path {
+            "a" => self.first,
+            "b" => self.second,
+            _ => return Err(io::Error::from(io::ErrorKind::NotFound)),
+        };
+        Ok(Source {
+            left,
+            at_once: 9,
+            calls_left: ALWAYS,
+        })
+    }
+
+    fn length(&self, file: &Source<'static>) -> io::Result<u64> {
+        Ok(file.left.len() as u64)
+    }
+
+    type Ledger = Expecting;
+
+    fn ledger(&self, path: &str) -> io::Result<Expecting> {
+        if path == "out" {
+            Ok(Expecting {
+                text: self.out,
+                is_empty: false,
+                failures: 0,
+            })
+        } else {
+            Err(io::Error::from(io::ErrorKind::PermissionDenied))
+        }
+    }
+
+    fn old_ledger(&self, path: &str) -> io::Result<Expecting> {
+        self.ledger(path)
+    }
+}
+
+// A ledger that takes this text alone, at once, and once it is cut to nothing.
+#[derive(Drop)]
+struct Expecting {
+    text: &'static [u8],
+    is_empty: bool,
+    failures: u64,
+}
+
+impl Expecting {
+    ghost use Rattle.std.specs.Prelude.{◌≢◌};
+
+    fn fail(&mut self) -> Fault
+        ensures { self.old.failures ≢ self.new.failures }
+    {
+        self.failures = self.failures.wrapping_add(1);
+        Fault
+    }
+}
+
+impl LedgerOut for Expecting {
+    ghost use Rattle.std.specs.Prelude.{None};
+
+    ghost text = { λ l. None };
+
+    ghost failures = { λ l. l.failures };
+
+    fn cut(&mut self, len: u64) -> Result<(), Fault> {
+        if len > 0 {
+            return Err(self.fail());
+        }
+        self.is_empty = true;
+        Ok(())
+    }
+
+    fn append(&mut self, bytes: &[u8]) -> Result<usize, Fault> {
+        if self.is_empty && bytes == self.text {
+            Ok(bytes.len())
+        } else {
+            Err(self.fail())
+        }
+    }
+}
+
+// What is answered and said of two ledgers that make this one, and the outcome.
+fn merged(
+    rt: &impl Abort,
+    alloc: Global,
+    (first, second, out): (&'static str, &'static str, &'static str),
+    (answers, faults, outcome): (&str, &str, Outcome),
+) {
+    let host = Shelf {
+        first: first.as_bytes(),
+        second: second.as_bytes(),
+        out: out.as_bytes(),
+    };
+    let mut said = Sink::new(alloc, usize::MAX, ALWAYS);
+    let mut told = Sink::new(alloc, usize::MAX, ALWAYS);
+    let merging = Merging {
+        first: "a",
+        second: "b",
+        out: "out",
+    };
+    let ended = cmd_merge(alloc, merging, &host, &mut said, &mut told);
+    assert_eq!(rt; said.kept.as_slice(), answers.as_bytes());
+    assert_eq!(rt; told.kept.as_slice(), faults.as_bytes());
+    assert!(rt; ended == outcome);
+}
+
+const X: &str = "bb-ledger 1 ------_------\n------_------ H 1\n0RB---_------ H 2\n";
+
+const Y: &str =
+    "bb-ledger 1 ------_------\n------_------ H 1\n1RB---_------ H 2\n1RA---_------ T 0 1 R\n";
+
+const X_THEN_Y: &str = "bb-ledger 1 ------_------\n------_------ H 1\n0RB---_------ H 2\n1RB---_------ H 2\n1RA---_------ T 0 1 R\n";
+
+const Y_THEN_X: &str = "bb-ledger 1 ------_------\n------_------ H 1\n1RB---_------ H 2\n1RA---_------ T 0 1 R\n0RB---_------ H 2\n";
+
+#[test]
+fn two_ledgers_are_joined(rt: HostRuntime) {
+    let alloc = rt.alloc();
+    let all = ("merged 4 open 17 holdouts 0\n", "", Outcome::Accepted);
+    merged(&rt, alloc, (X, Y, X_THEN_Y), all);
+    merged(&rt, alloc, (Y, X, Y_THEN_X), all);
+    merged(
+        &rt,
+        alloc,
+        (X, X, X),
+        ("merged 2 open 11 holdouts 0\n", "", Outcome::Accepted),
+    );
+}
+
+#[test]
+fn a_holdout_that_the_other_settles_is_settled(rt: HostRuntime) {
+    let undecided = "bb-ledger 1 ------\n------ H 1\n0RA--- U\n1RA--- U\n";
+    let settled = "bb-ledger 1 ------\n------ H 1\n1RA--- T 0 1 R\n";
+    let both = "bb-ledger 1 ------\n------ H 1\n0RA--- U\n1RA--- T 0 1 R\n";
+    let others = "bb-ledger 1 ------\n------ H 1\n1RA--- T 0 1 R\n0RA--- U\n";
+    let all = ("merged 3 open 0 holdouts 1\n", "", Outcome::Accepted);
+    merged(&rt, rt.alloc(), (undecided, settled, both), all);
+    merged(&rt, rt.alloc(), (settled, undecided, others), all);
+}
+
+#[test]
+fn what_is_left_of_the_first_is_told(rt: HostRuntime) {
+    let alloc = rt.alloc();
+    let whole = "bb-ledger 1 ------\n------ H 1\n";
+    let torn = "bb-ledger 1 ------\n------ H 1\n0RA";
+    let unfit = "bb-ledger 1 ------\n------ H 2\n";
+    merged(
+        &rt,
+        alloc,
+        (whole, unfit, whole),
+        ("merged 1 open 2 holdouts 0\nleft 2\n", "", Outcome::Refused),
+    );
+    merged(
+        &rt,
+        alloc,
+        (torn, unfit, whole),
+        ("merged 1 open 2 holdouts 0\nleft 3\n", "", Outcome::Refused),
+    );
+}
+
+#[test]
+fn faults_come_in_their_order(rt: HostRuntime) {
+    let alloc = rt.alloc();
+    let one = "bb-ledger 1 ------\n";
+    let disordered = "bb-ledger 1 1RC---_------_------\n";
+    for (first, second, faults) in [
+        ("bb-led", disordered, "refused 404\n"),
+        (disordered, "hello\n", "refused 405\n"),
+        (one, "", "refused 404\n"),
+        (one, X, "refused 405\n"),
+    ] {
+        merged(
+            &rt,
+            alloc,
+            (first, second, ""),
+            ("", faults, Outcome::Refused),
+        );
+    }
+    // The written ledger comes last: nothing is answered where it fails.
+    merged(
+        &rt,
+        alloc,
+        (one, one, "other"),
+        ("", "refused 604\n", Outcome::Failed),
+    );
+}
+
+#[test]
+fn absent_files_end_a_merge(rt: HostRuntime) -> Result<(), Fail> {
+    let alloc = rt.alloc();
+    let host = Shelf {
+        first: X.as_bytes(),
+        second: b"hello\n",
+        out: b"",
+    };
+    for (first, second, out, faults) in [
+        ("absent", "b", "out", "refused 605\n"),
+        ("a", "absent", "out", "refused 605\n"),
+        ("b", "absent", "out", "refused 404\n"),
+        ("a", "a", "absent", "refused 604\n"),
+    ] {
+        let mut said = Sink::new(alloc, usize::MAX, ALWAYS);
+        let mut told = Sink::new(alloc, usize::MAX, ALWAYS);
+        let merging = Merging { first, second, out };
+        let ended = cmd_merge(alloc, merging, &host, &mut said, &mut told);
+        assert_eq!(rt; told.kept.as_slice(), faults.as_bytes());
+        assert!(rt; said.kept.is_empty() && ended != Outcome::Accepted, "{first} {second} {out}");
+    }
+    Ok(())
+}

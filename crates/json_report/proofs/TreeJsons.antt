@@ -16,7 +16,7 @@ use Rattle.json_report.specs.JsonReport.{IsJsonReport, report_text, best_value, 
 use Rattle.json_report.specs.TreeJson.{IsTreeJson}
 
 -- the text by the word for the status
-named_text : Packed → List ℕ → Tally → List Packed → List Packed → List ℕ
+abbrev named_text : Packed → List ℕ → Tally → List Packed → List Packed → List ℕ
 named_text root name tally champions holdouts = compact_text (
     object (
     member (codes "best") (best_value tally.best) (

@@ -16,13 +16,14 @@ pub use json_report::report_json;
 pub use line_fault::LineFault;
 use std::fs::{self, OpenFile, OpenOptions};
 use std::process::ExitCode;
+use std::time::{Clock, Duration};
 use std::{env, io};
 
 fn main(rt: HostRuntime) -> ExitCode {
     let outcome = obey(
         rt.alloc(),
         words_of(&rt),
-        &rt,
+        &System { rt: &rt },
         &mut rt.stdin(),
         &mut rt.stdout(),
         &mut rt.stderr(),
@@ -39,11 +40,17 @@ fn words_of(rt: &HostRuntime) -> Result<Vec<String>, LineFault> {
     Ok(words)
 }
 
-impl Host for HostRuntime {
+// The files and the clock of the system.
+#[derive(Drop)]
+struct System<'a> {
+    rt: &'a HostRuntime,
+}
+
+impl<'a> Host for System<'a> {
     type File = fs::File;
 
     fn open(&self, path: &str) -> io::Result<fs::File> {
-        fs::open(self, path)
+        fs::open(self.rt, path)
     }
 
     fn length(&self, file: &fs::File) -> io::Result<u64> {
@@ -56,13 +63,23 @@ impl Host for HostRuntime {
         let file = OpenOptions::new()
             .append(true)
             .create(true)
-            .open(self, path)?;
+            .open(self.rt, path)?;
         Ok(FileLedger::of(file))
     }
 
     fn old_ledger(&self, path: &str) -> io::Result<FileLedger<fs::File>> {
-        let file = OpenOptions::new().append(true).open(self, path)?;
+        let file = OpenOptions::new().append(true).open(self.rt, path)?;
         Ok(FileLedger::of(file))
+    }
+}
+
+impl<'a> Clock for System<'a> {
+    fn monotonic(&self) -> io::Result<Duration> {
+        self.rt.monotonic()
+    }
+
+    fn since_1970(&self) -> io::Result<Duration> {
+        self.rt.since_1970()
     }
 }
 

@@ -1,5 +1,5 @@
 -- Heaps of tables in reversed order: what comes in and goes.
-use Rattle.std.proofs.Common.{◌≡◌, refl, sym, ◌∙◌, ap, subst, inl, inr, List, [], ◌∷◌, map, false, Contains, arith}
+use Rattle.std.proofs.Common.{◌≡◌, refl, sym, ◌∙◌, ap, subst, inl, inr, List, [], ◌∷◌, map, false, Contains, Option, Some, None, IfSome, IfNone, arith}
 use Rattle.std.specs.Ordering.{is_lt}
 use Rattle.std.specs.BinaryHeap.{IsUpperBound}
 use Rattle.std.specs.List.Sorted.{IsPermutation}
@@ -9,7 +9,7 @@ use Rattle.std.proofs.lemmas.List.Sorted.{Contains-permutation}
 use Rattle.machine_text.specs.Packed.{Packed}
 use Rattle.ledger.specs.Inside.Open.{table_cmp}
 use Rattle.ledger.proofs.Apart.{first_or_later, later_member, first_member}
-use Rattle.leases.specs.Inside.Free.{Gains, LosesOnly, reverse_cmp}
+use Rattle.leases.specs.Inside.Free.{Gains, IsOnTop, LosesOnly, reverse_cmp}
 
 -- the members of a list under a map
 pub mapped : {X Y : Type 0} (f : X → Y) (xs : List X) (x : X) → Contains xs x → Contains (map f xs) (f x)
@@ -53,3 +53,9 @@ is_first old r above q h =
     let there = unmapped (λ (r : Reverse Packed). r.0) old q h in
     subst (λ (q : Packed). is_lt (table_cmp q r.0) ≡ false) there.2
     (All-contains (λ (y : Reverse Packed). is_lt (reverse_cmp r y) ≡ false) old there.0 (All-from_recursion (λ (y : Reverse Packed). is_lt (reverse_cmp r y) ≡ false) old above) there.1)
+
+-- the table that stands first was taken out
+pub dropped : (old new : List Packed) (t : Packed) (r : Option Packed) → IsOnTop old t → IfSome r (IsOnTop old) → IfSome r (λ x. LosesOnly old x new) → IfNone r (old ≡ []) → LosesOnly old t new
+dropped [] new t r top first others none = absurd (omega (arith, top.0))
+dropped (y ∷ ys) new t (Some x) top first others none = subst (λ (x : Packed). LosesOnly (y ∷ ys) x new) (first.1 ∙ sym top.1) others
+dropped (y ∷ ys) new t None top first others none = absurd (cc)

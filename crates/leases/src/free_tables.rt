@@ -3,7 +3,7 @@ ghost use Rattle.std.specs.Prelude.{◌≡◌, ℕ, ◌+◌, ◌<◌, ◌≤◌,
 ghost use Rattle.std.specs.Ordering.{is_lt};
 ghost use Rattle.machine_text.specs.Packed.{Packed};
 ghost use Rattle.ledger.specs.Inside.Open.{table_cmp};
-ghost use Rattle.leases.specs.Inside.Free.{Gains, LosesOnly};
+ghost use Rattle.leases.specs.Inside.Free.{Gains, IsOnTop, LosesOnly};
 
 use machine_text::Table;
 use run::NoMemory;
@@ -59,9 +59,19 @@ impl FreeTables {
         Ok(())
     }
 
+    // The first table.
+    pub fn first(&self) -> Option<Table>
+        ensures top { IfSome result (IsOnTop self.now.tables) }
+        ensures first { IfSome result (λ t. (q : Packed) → Contains self.now.tables q → is_lt (table_cmp q t) ≡ false) }
+        ensures none { IfNone result (self.now.tables ≡ []) }
+    {
+        let top = self.heap.peek()?;
+        Some(top.0)
+    }
+
     // Takes the first table out, once.
     pub fn pop(&mut self) -> Option<Table>
-        ensures first { IfSome result (λ t. (q : Packed) → Contains self.old.tables q → is_lt (table_cmp q t) ≡ false) }
+        ensures top { IfSome result (IsOnTop self.old.tables) }
         ensures others { IfSome result (λ t. LosesOnly self.old.tables t self.new.tables) }
         ensures fewer { IfSome result (λ t. length self.new.tables < length self.old.tables) }
         ensures none { IfNone result (self.old.tables ≡ []) }

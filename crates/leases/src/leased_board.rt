@@ -1,13 +1,13 @@
 // A board, and the leases on its open tables.
-ghost use Rattle.std.specs.Prelude.{◌≡◌, IfOk, OnOk, OnErr};
+ghost use Rattle.std.specs.Prelude.{◌≡◌, ◌==◌, IfOk, OnOk, OnErr};
 
 use crate::board_calls::{has_open, open_tables};
 use crate::children::free_children;
 use crate::first_free::{first_free, lease_of};
 use crate::free_tables::FreeTables;
-use crate::held_leases::{Ending, HeldLease, ends, lives, offer_ending};
+use crate::held_leases::HeldLease;
 use crate::limits::{MAX_CHILDREN, may_grant};
-use crate::renewing::{make_room, place_of, renew};
+use crate::live_leases::LiveLeases;
 use crate::reply::Reply;
 use cert::Record;
 use indexmap::IndexMap;
@@ -23,8 +23,7 @@ use tree::child_is_table;
 pub struct LeasedBoard {
     alloc: Global,
     board: Board,
-    // in the order in which they were given
-    live: Vec<HeldLease>,
+    live: LiveLeases,
     // open tables, each with the number of the lease under which it came last, whether or not that lives
     came_under: IndexMap<Table, u64>,
     // the open tables that are under none, and perhaps others
@@ -40,10 +39,10 @@ impl Model for LeasedBoard {
 
     ghost Value = { Leased };
 
-    ghost view = { λ a. record { board = a.board; leases = seen a.live.items a.came_under.entries a.moment a.given } };
+    ghost view = { λ a. record { board = a.board; leases = seen a.live a.came_under.entries a.moment a.given } };
 
-    ghost invariant = { λ a. AreLeases a.board (seen a.live.items a.came_under.entries a.moment a.given)
-        × IsKept a.board a.live.items a.came_under.entries a.free.tables };
+    ghost invariant = { λ a. AreLeases a.board (seen a.live a.came_under.entries a.moment a.given)
+        × IsKept a.board a.live a.came_under.entries a.free.tables };
 }
 
 impl LeasedBoard {
@@ -52,7 +51,6 @@ impl LeasedBoard {
     ghost use Rattle.leases.specs.Offers.{BoardGives, LeasesAfter};
     ghost use Rattle.leases.specs.Asks.{Asks};
     ghost use Rattle.leases.specs.Leases.{AreLeases, no_leases, lease_of, ended, ticked, IsDone};
-    ghost use Rattle.leases.specs.Inside.Keeping.{ends_by};
 
     /// A board without leases, at the moment 0. `NoMemory` where there is no room for its open tables.
     pub fn new(alloc: Global, board: Board) -> Result<LeasedBoard, NoMemory>
@@ -62,7 +60,7 @@ impl LeasedBoard {
         Ok(LeasedBoard {
             alloc,
             board,
-            live: Vec::new(alloc),
+            live: LiveLeases::new(alloc),
             came_under: IndexMap::new(alloc),
             free,
             moment: 0,
@@ -86,7 +84,9 @@ impl LeasedBoard {
         ensures err { OnErr result (self.new.leases ≡ self.old.leases) }
     {
         let moment = self.moment.max(t);
-        self.end(Ending::DueBy(moment))?;
+        let numbers = self.live.due(self.alloc, moment)?;
+        self.live.offer_each(&numbers, &mut self.free)?;
+        self.live.end_each(&numbers);
         self.moment = moment;
         Ok(())
     }
@@ -98,9 +98,20 @@ impl LeasedBoard {
         ensures ok { IfOk result (λ lived. IsDone number self.old.leases lived self.new.leases) }
         ensures err { OnErr result (self.new.leases ≡ self.old.leases) }
     {
-        let lived = lives(&self.live, number);
-        self.end(Ending::Numbered(number))?;
+        let lived = self.live.lives(number);
+        self.end(number)?;
         Ok(lived)
+    }
+
+    // Ends the lease of a number, if it lives.
+    fn end(&mut self, number: u64) -> Result<(), NoMemory>
+        ensures board { self.new.board ≡ self.old.board }
+        ensures ok { OnOk result (self.new.leases ≡ ended (λ l. l.number == number) self.old.leases) }
+        ensures err { OnErr result (self.new.leases ≡ self.old.leases) }
+    {
+        self.live.offer_tables(Some(number), &mut self.free)?;
+        self.live.end(Some(number));
+        Ok(())
     }
 
     /// A worker asks. Its own lease ends, if it has one. Then it is answered `Stop` where no table is open;
@@ -111,28 +122,35 @@ impl LeasedBoard {
         ensures ok { IfOk result (λ reply. Asks self.old.board id self.old.leases reply self.new.leases) }
         ensures err { OnErr result (self.new.leases ≡ self.old.leases) }
     {
-        let mut tables = Vec::with_capacity(self.alloc, 1)?;
-        self.live.reserve(1)?;
-        self.came_under.reserve(1)?;
-        offer_ending(&mut self.free, &self.live, Ending::OfWorker(id))?;
-        // From here on nothing is refused: there is room for one more lease and its table.
-        self.live.retain(|l| !ends(Ending::OfWorker(id), l));
+        // Its own lease goes when nothing more can be refused: it makes way for the new one.
+        let own = self.live.of_worker(id);
+        self.live.offer_tables(own, &mut self.free)?;
         if !has_open(&self.board) {
+            self.live.end(own);
             return Ok(Reply::Stop);
         }
-        if !may_grant(self.live.len(), self.given) {
+        if !may_grant(self.live.len_without(own), self.given) {
+            self.live.end(own);
             return Ok(Reply::Later);
         }
-        match first_free(&mut self.free, &self.board, &self.came_under, &self.live) {
+        match first_free(
+            &mut self.free,
+            &self.board,
+            &self.came_under,
+            &self.live,
+            own,
+        ) {
             Some(table) => {
                 let lease = self.given + 1;
+                let mut tables = Vec::with_capacity(self.alloc, 1)?;
                 tables.push_reserved(table);
-                self.live.push_reserved(HeldLease {
-                    number: lease,
+                self.came_under.reserve(1)?;
+                let new = HeldLease {
                     id,
                     renewed: self.moment,
                     tables,
-                });
+                };
+                self.live.replace(own, lease, new)?;
                 match self.came_under.insert(table, lease) {
                     Ok(_) => {}
                     Err(_) => unreachable!(),
@@ -140,7 +158,10 @@ impl LeasedBoard {
                 self.given = lease;
                 Ok(Reply::Grant { lease, table })
             }
-            None => Ok(Reply::Later),
+            None => {
+                self.live.end(own);
+                Ok(Reply::Later)
+            }
         }
     }
 
@@ -154,7 +175,7 @@ impl LeasedBoard {
         ensures root { self.new.board.root ≡ self.old.board.root }
         ensures leases { LeasesAfter r.now.table result self.old self.new }
     {
-        match lease_of(&self.came_under, &self.live, &r.table) {
+        match lease_of(&self.came_under, &self.live, None, &r.table) {
             Some(number) => self.offer_under(number, r),
             None => self.offer_free(r),
         }
@@ -196,15 +217,13 @@ impl LeasedBoard {
         child_is_table();
         // The proof needs that it is a board.
         let _ = self.board.root();
-        let at = place_of(&self.live, number);
         self.came_under.reserve(MAX_CHILDREN)?;
-        make_room(&mut self.live, at)?;
+        self.live.make_room(number)?;
         match self.board.offer(r) {
             Ok(Taken::New) => {
                 self.came_under.swap_remove(&r.table);
-                renew(
-                    &mut self.live,
-                    at,
+                self.live.renew(
+                    number,
                     &mut self.came_under,
                     &self.board,
                     self.moment,
@@ -217,16 +236,5 @@ impl LeasedBoard {
             Ok(Taken::Settled) => Ok(Taken::Settled),
             Err(fault) => Err(fault),
         }
-    }
-
-    // Ends leases.
-    fn end(&mut self, which: Ending) -> Result<(), NoMemory>
-        ensures board { self.new.board ≡ self.old.board }
-        ensures ok { OnOk result (self.new.leases ≡ ended (ends_by which) self.old.leases) }
-        ensures err { OnErr result (self.new.leases ≡ self.old.leases) }
-    {
-        offer_ending(&mut self.free, &self.live, which)?;
-        self.live.retain(|l| !ends(which, l));
-        Ok(())
     }
 }

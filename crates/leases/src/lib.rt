@@ -14,7 +14,7 @@ mod free_tables;
 mod held_leases;
 mod leased_board;
 mod limits;
-mod renewing;
+mod live_leases;
 mod reply;
 
 pub use leased_board::LeasedBoard;

@@ -1,5 +1,5 @@
 -- For the code: tables that may be free, of which the first in the order of texts comes first.
-use Rattle.std.specs.Prelude.{◌≡◌, ℕ, List, Contains}
+use Rattle.std.specs.Prelude.{◌≡◌, ℕ, ◌<◌, List, Contains, length, slice_index_or}
 use Rattle.std.specs.declared.cmp.Ordering.{Ordering}
 use Rattle.std.specs.declared.cmp.Reverse.{Reverse}
 use Rattle.machine_text.specs.Packed.{Packed}
@@ -22,3 +22,7 @@ pub record Gains (old : List Packed) (t : Packed) (new : List Packed) : Type 0 w
 -- no table but this one went
 abbrev pub LosesOnly : List Packed → Packed → List Packed → Type 0
 LosesOnly old t new = (q : Packed) → Contains old q → (q ≡ t → ⊥) → Contains new q
+
+-- a table stands first
+abbrev pub IsOnTop : List Packed → Packed → Type 0
+IsOnTop tables t = (0 < length tables) × (t ≡ slice_index_or tables 0 t)

@@ -18,15 +18,15 @@ returns-in_err-reserve-clause-gives c = inr (err_is c.from_residual.result NoMem
 pub invariant_of-self-in-Err : goal.invariant_of-self-in-Err
 invariant_of-self-in-Err c =
     let same = same_board c.offer.new.self c.self.inside.board c.in-Err.ensures.root (refused_board c.self.inside.board.root c.self.inside.board.records c.offer.new.self.records (recorded c.args.r.now) c.in-Err.fault c.in-Err.ensures.gives) in
-    subst (λ (b : Contents). AreLeases b (seen c.self.inside.live.items c.self.inside.came_under.entries c.self.inside.moment c.self.inside.given) × IsKept b c.self.inside.live.items c.self.inside.came_under.entries c.reserve.new.self.tables) (sym same)
-    (subst (λ (free : List Packed). AreLeases c.self.inside.board (seen c.self.inside.live.items c.self.inside.came_under.entries c.self.inside.moment c.self.inside.given) × IsKept c.self.inside.board c.self.inside.live.items c.self.inside.came_under.entries free) (sym c.in_ok-reserve.ensures.tables) c.self.invariant)
+    subst (λ (b : Contents). AreLeases b (seen c.self.inside.live c.self.inside.came_under.entries c.self.inside.moment c.self.inside.given) × IsKept b c.self.inside.live c.self.inside.came_under.entries c.reserve.new.self.tables) (sym same)
+    (subst (λ (free : List Packed). AreLeases c.self.inside.board (seen c.self.inside.live c.self.inside.came_under.entries c.self.inside.moment c.self.inside.given) × IsKept c.self.inside.board c.self.inside.live c.self.inside.came_under.entries free) (sym c.in_ok-reserve.ensures.tables) c.self.invariant)
 
 pub invariant_of-self-in-Ok-New : goal.invariant_of-self-in-Ok-New
 unfolding same_table
 invariant_of-self-in-Ok-New c =
     let old = c.self.inside.board in
     let new = c.offer.new.self in
-    let ls = c.self.inside.live.items in
+    let ls = c.self.inside.live in
     let came = c.self.inside.came_under.entries in
     let next = c.swap_remove.new.self.entries in
     let free = c.self.inside.free.tables in
@@ -45,7 +45,7 @@ unfolding same_table
 returns-in-Ok-New-clause-leases c =
     let old = c.self.inside.board in
     let new = c.offer.new.self in
-    let ls = c.self.inside.live.items in
+    let ls = c.self.inside.live in
     let came = c.self.inside.came_under.entries in
     let next = c.swap_remove.new.self.entries in
     let free = c.self.inside.free.tables in
@@ -63,7 +63,7 @@ pub invariant_of-self-in-Ok-Settled : goal.invariant_of-self-in-Ok-Settled
 invariant_of-self-in-Ok-Settled c =
     let old = c.self.inside.board in
     let new = c.offer.new.self in
-    let ls = c.self.inside.live.items in
+    let ls = c.self.inside.live in
     let came = c.self.inside.came_under.entries in
     let free = c.self.inside.free.tables in
     let more = c.free_children-in-Ok-Settled.new.free.tables in
@@ -79,7 +79,7 @@ pub returns-in-Ok-Settled-clause-leases : goal.returns-in-Ok-Settled-clause-leas
 returns-in-Ok-Settled-clause-leases c =
     let old = c.self.inside.board in
     let new = c.offer.new.self in
-    let ls = c.self.inside.live.items in
+    let ls = c.self.inside.live in
     let came = c.self.inside.came_under.entries in
     let free = c.self.inside.free.tables in
     let more = c.free_children-in-Ok-Settled.new.free.tables in

@@ -105,14 +105,6 @@ opens_settled old new r below board root settles is =
     subst (λ (b : Contents). Opens old b r.table) (sym same)
     (opens_by old (settled old.records r) r below board (marked_in_tree old r.table Holdout below board holdout) (λ k marked. absurd (cc)) (taken_settling old.records r holdout))
 
--- a table that a record was taken for isn't open
-pub not_open_after : (old new : Contents) (r : Recorded) → new.root ≡ old.root → new.records ≡ old.records ++ (r ∷ []) → IsFit old.root old.records r → IsOpenOn new r.table → ⊥
-not_open_after old new r root is fit is_open =
-    let here = (taken_last old.records r old.root fit.is_open).here in
-    let marked : mark_in new.records r.table ≡ Some (mark_of r.claim) = ap (λ (rs : List Recorded). mark_in rs r.table) is ∙ ap (option_map mark_of) here in
-    let none = is_open.unmarked in
-    absurd (cc)
-
 pub if_few : (t : Packed) (found : Option (List Packed)) → ChildrenListed → IsTable t → IfSome found (AreAll (IsChildTable t)) → IfSome found (λ found. length found ≤ 24)
 if_few t None listed table all = tt
 if_few t (Some found) listed table all = few_children t found listed table all

@@ -77,10 +77,6 @@ pub and_false : (a : Bool) → (a && false) ≡ false
 and_false true = refl
 and_false false = refl
 
-and_true : (a : Bool) → (a && true) ≡ a
-and_true true = refl
-and_true false = refl
-
 -- which leases live, without one
 pub live_without : (which : Option ℕ) (ls : List Kept) (n : ℕ) → is_live (map held (without which ls)) n ≡ (is_live (map held ls) n && not (is_numbered which n))
 live_without which [] n = refl

@@ -1,6 +1,5 @@
 -- What a filter keeps, and which leases live.
 use Rattle.std.proofs.Common.{◌≡◌, ℕ, ◌||◌, Bool, true, false, cond, refl, ap, subst, inl, inr, List, [], ◌∷◌, map, filter, Contains, nat_eq, arith}
-use Rattle.std.specs.List.{list_any}
 use Rattle.std.proofs.lemmas.Bool.{eqb-true, eq-eqb}
 use Rattle.ledger.proofs.Apart.{first_or_later, later_member, first_member}
 use Rattle.leases.specs.Leases.{is_live}
@@ -52,8 +51,3 @@ member_lives (x ∷ xs) l h =
       | inl same ↦ ap (λ b. b || is_live (map held xs) l.number) (eq-eqb x.number l.number (ap (λ (l : Kept). l.number) same))
       | inr later ↦ or_later (nat_eq x.number l.number) (is_live (map held xs) l.number) (member_lives xs l later)
     ]
-
--- which leases live, as the code looks for them
-pub live_held : (ls : List Kept) (n : ℕ) → list_any (λ l. nat_eq l.number n) ls ≡ is_live (map held ls) n
-live_held [] n = refl
-live_held (l ∷ ls) n = ap (λ b. nat_eq l.number n || b) (live_held ls n)

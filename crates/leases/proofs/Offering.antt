@@ -1,11 +1,10 @@
 -- A record is offered: what becomes of the leases.
-use Rattle.std.proofs.Common.{◌≡◌, ◌≢◌, ℕ, ◌+◌, ◌<◌, ◌≤◌, ◌||◌, ◌==◌, zero, suc, ◌⊎◌, inl, inr, true, false, cond, nat_eq, if◌then◌else◌, refl, sym, ◌∙◌, ap, subst, List, [], ◌∷◌, ◌++◌, map, length, get_or, take, All, AllPairs, Option, Some, None, Result, Ok, Err, Contains, arith}
+use Rattle.std.proofs.Common.{◌≡◌, ◌≢◌, ℕ, ◌+◌, ◌<◌, ◌≤◌, ◌||◌, ◌==◌, zero, suc, ◌⊎◌, inl, inr, true, false, cond, nat_eq, if◌then◌else◌, refl, sym, ◌∙◌, ap, subst, List, [], ◌∷◌, map, length, get_or, All, AllPairs, Option, Some, None, Result, Ok, Err, Contains, arith}
 use Rattle.std.specs.Result.{IsErrAnd}
 use Rattle.std.proofs.lemmas.Bool.Decides.{eqb_tells}
 use Rattle.std.proofs.lemmas.Bool.{eq-eqb, cases_lt}
 use Rattle.std.proofs.lemmas.List.{get_or-set_same, get_or-set_other, get_or-map, length-map}
 use Rattle.std.proofs.Math.ListN.{set, length-set}
-use Rattle.std.proofs.Math.Seq.{take-append_seam}
 use Rattle.std.proofs.lemmas.List.Elements.{All-head, All-tail, All-map, Contains-get_or}
 use Rattle.leases.specs.Limits.{lease_time}
 use Rattle.leases.specs.Inside.Children.{shown, Renews}
@@ -13,13 +12,13 @@ use Rattle.leases.proofs.FreeLaws.{mapped, unmapped}
 use Rattle.leases.proofs.Members.{member_lives}
 use Rattle.std.proofs.lemmas.Option.{same_Some}
 use Rattle.machine_text.specs.Packed.{Packed}
-use Rattle.tree.specs.Closed.{Holdout, IsVerdict}
+use Rattle.tree.specs.Closed.{Holdout}
 use Rattle.tree.specs.Tables.{IsChildTable}
 use Rattle.cert.specs.Claim.{Recorded}
 use Rattle.ledger.specs.Contents.{Contents}
 use Rattle.ledger.specs.Records.{same_table, mark_in}
 use Rattle.ledger.specs.Held.{IsHoldout}
-use Rattle.ledger.specs.Offers.{OfferGives, IsKnown}
+use Rattle.ledger.specs.Offers.{OfferGives}
 use Rattle.ledger.specs.Tally.{IsHalting}
 use Rattle.ledger.specs.declared.faults.OfferFault.{OfferFault}
 use Rattle.ledger.specs.declared.faults.OfferFault.TheVariants.{WrongSize, NotOpen, Refused, NoMemory}
@@ -303,27 +302,6 @@ pub seen_shown : (first ls : List Kept) (before came : List (Packed × ℕ)) (mo
 seen_shown first ls before came moment given same same_came =
     let live = same_held first ls same in
     λ i. record { live = live i; came = same_came i; moment = moment; given = given }
-
-pub shown_length : (first ls : List Kept) → map shown ls ≡ map shown first → length ls ≡ length first
-shown_length first ls same = sym (length-map ls shown) ∙ (ap length same ∙ length-map first shown)
-
-pub shown_number : (first ls : List Kept) (at : ℕ) (l : Kept) → map shown ls ≡ map shown first → at < length ls → at < length first → (get_or ls at l).number ≡ (get_or first at l).number
-shown_number first ls at l same below under =
-    ap (λ (p : Lease × List Packed). p.0.number) (sym (get_or-map shown ls at l (shown l) below) ∙ (ap (λ (xs : List (Lease × List Packed)). get_or xs at (shown l)) same ∙ get_or-map shown first at l (shown l) under))
-
--- what is written back whole
-pub written : (n : ℕ) (xs ys : List Kept) → n ≡ length xs → take n (xs ++ ys) ≡ xs
-written n xs ys e = ap (λ k. take k (xs ++ ys)) e ∙ take-append_seam xs ys
-
-pub while_some : (live : List Lease) (o : Option ℕ) (n : ℕ) → while_live live o ≡ Some n → o ≡ Some n
-while_some live None n h = absurd (cc)
-while_some live (Some m) n h = elim (is_live live m) as (λ b. (if b then Some m else None) ≡ Some n → Some m ≡ Some n) [ true ↦ λ same. same | false ↦ λ none. absurd (cc) ] h
-
-pub known_not_open : (b : Contents) (r : Recorded) → IsKnown b.records r → IsOpenOn b r.table → ⊥
-known_not_open b r known is_open = elim known.is [
-  | inl verdict ↦ subst IsVerdict is_open.unmarked verdict
-  | inr holdout ↦ holdout_not_open b r.table holdout.0 is_open
-]
 
 pub while_lives : (live : List Lease) (o : Option ℕ) (n : ℕ) → while_live live o ≡ Some n → is_live live n ≡ true
 while_lives live None n h = absurd (cc)

@@ -8,7 +8,7 @@ use Rattle.ledger.proofs.Answered.{answered}
 use Rattle.wire.specs.Grammar.{message_text, frames_of}
 use Rattle.wire.specs.Message.{Ack, Later}
 use Rattle.wire.specs.declared.node.Out.{Out}
-use Rattle.lease_core.specs.Leases.{Leased}
+use Rattle.leases.specs.Leases.{Leased}
 use Rattle.lease_core.specs.CoordinatorRules.{OfferRow}
 
 -- the first bytes of frames differ

@@ -2,8 +2,7 @@
 use Rattle.std.proofs.Common.{◌≡◌, ℕ, ◌+◌, ◌≤◌, cond, List, [], ◌∷◌, ◌++◌, length, take, Bool, true, false, nat_eq, Option, Some, None, Result, Ok, Err, IfOk, inl, inr, refl, sym, ap, ◌∙◌, subst, append-nil, length-append, arith}
 use Rattle.std.proofs.lemmas.Bool.{ne_eqb}
 use Rattle.machine_text.specs.Limits.{state_limit}
-use Rattle.machine_text.specs.Packed.{Packed, IsTable, entry_of, empty_table}
-use Rattle.tree.specs.Used.{InOrder}
+use Rattle.machine_text.specs.Packed.{Packed, empty_table}
 use Rattle.tree.proofs.EmptyTable.{empty_table_in_order, empty_is_table}
 use Rattle.cert.specs.Claim.{Recorded}
 use Rattle.cert.specs.Grammar.{record_text}
@@ -11,9 +10,7 @@ use Rattle.ledger.specs.Contents.{Contents, IsBoard}
 use Rattle.ledger.specs.LedgerText.{header_words, joined, ledger_text, ReadsAs, ReadsAsNone}
 use Rattle.ledger.specs.declared.left.Left.{Left}
 use Rattle.ledger.specs.declared.left.Left.TheVariants.{Nothing, From}
-use Rattle.ledger.specs.declared.taken.Taken.{Taken}
 use Rattle.ledger.specs.declared.taken.Taken.TheVariants.{New, Known, Settled}
-use Rattle.ledger.specs.declared.faults.OfferFault.{OfferFault}
 use Rattle.ledger.specs.declared.faults.OfferFault.TheVariants.{WrongSize, NotOpen, Refused as NotStanding, NoMemory as OfferNoMemory}
 use Rattle.ledger.proofs.Growing.{grows, cut_to_kept}
 use Rattle.ledger.proofs.Written.{whole_ledger}
@@ -27,11 +24,11 @@ use Rattle.wire.specs.declared.node.Note.{Note}
 use Rattle.wire.specs.declared.node.NodeFault.{NodeFault}
 use Rattle.wire.specs.declared.node.NodeFault.TheVariants.{Stopped, NoMemory as NodeMemory}
 use Rattle.wire.specs.declared.node.Out.{Out}
-use Rattle.lease_core.specs.Leases.{Leased}
+use Rattle.leases.specs.Leases.{Leased}
 use Rattle.lease_core.specs.Says.{Says, lines_of}
 use Rattle.lease_core.specs.Starts.{Begins, HeldInStep, InStep, cut_of, kept_of, header_line, header_due}
 use Rattle.lease_core.specs.Inside.Begun.{IsBegun, HoldsBoard}
-use Rattle.lease_core.specs.CoordinatorRules.{Coordinating, HeldGives, On, RecRow, OfferRow, DoneRow, MessageRow, FrameRow, Row}
+use Rattle.lease_core.specs.CoordinatorRules.{Coordinating, HeldGives, On, OfferRow, DoneRow, MessageRow, FrameRow, Row}
 
 abbrev Stands : Contents → List ℕ → Type 0
 Stands board text = ReadsAs board.root text board.records Nothing

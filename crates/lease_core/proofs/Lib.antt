@@ -1,11 +1,3 @@
-pub mod FreeLaws
-pub mod OfferLaws
-pub mod Members
-pub mod Ending
-pub mod Granting
-pub mod ChildCount
-pub mod ChildLaws
-pub mod Offering
 pub mod InStep
 pub mod Acknowledged
 pub mod WorkerBoards

@@ -27,7 +27,7 @@ use Rattle.ledger.proofs.HeldLaws.{unmarked}
 use Rattle.ledger.proofs.Lines.{same_line, line_has_newline}
 use Rattle.ledger.proofs.OpenLaws.{recorded_in_tree}
 use Rattle.lease_core.specs.Faults.{start_fault_of}
-use Rattle.lease_core.specs.Leases.{IsOpenOn}
+use Rattle.leases.specs.Leases.{IsOpenOn}
 use Rattle.lease_core.specs.WorkerState.{HasRoot}
 use Rattle.lease_core.specs.WorkerRules.{IsFirstOpen}
 use Rattle.lease_core.specs.WorkerStart.{IsInOrder, IsNoStart, ReadsAsBoard}

@@ -1,6 +1,5 @@
 -- The rules of a coordinator: what it answers to each event, and what becomes of its board and its leases.
-use Rattle.std.specs.Prelude.{◌≡◌, ℕ, ◌==◌, Bool, true, false, List, [], ◌∷◌, Option, Some, None, Result, Ok, Err}
-use Rattle.machine_text.specs.Packed.{Packed}
+use Rattle.std.specs.Prelude.{◌≡◌, ℕ, ◌==◌, Bool, true, false, [], ◌∷◌, Option, Some, None, Result, Ok, Err}
 use Rattle.cert.specs.Claim.{Recorded}
 use Rattle.ledger.specs.Faults.{offer_fault_number}
 use Rattle.ledger.specs.Offers.{OfferGives}
@@ -17,12 +16,12 @@ use Rattle.wire.specs.declared.node.Note.TheVariants.{Quiet, Strange, Stale, Ref
 use Rattle.wire.specs.declared.node.NodeFault.{NodeFault}
 use Rattle.wire.specs.declared.node.NodeFault.TheVariants.{Stopped, NoMemory}
 use Rattle.wire.specs.declared.node.Out.{Out}
-use Rattle.lease_core.specs.Leases.{Leased, ticked, IsDone}
-use Rattle.lease_core.specs.Asks.{Asks}
-use Rattle.lease_core.specs.Offers.{LeasesAfter}
+use Rattle.leases.specs.Leases.{Leased, ticked, IsDone}
+use Rattle.leases.specs.Asks.{Asks}
+use Rattle.leases.specs.Offers.{LeasesAfter}
 use Rattle.lease_core.specs.Says.{Says}
-use Rattle.lease_core.specs.declared.reply.Reply.{Reply}
-use Rattle.lease_core.specs.declared.reply.Reply.TheVariants.{Stop as ToStop, Later as ToWait, Grant as ToGrant}
+use Rattle.leases.specs.declared.reply.Reply.{Reply}
+use Rattle.leases.specs.declared.reply.Reply.TheVariants.{Stop as ToStop, Later as ToWait, Grant as ToGrant}
 
 -- its era, its board with the leases on it, which there are unless its start was refused, and whether it was stopped
 pub record Coordinating : Type 0 where

@@ -1,7 +1,4 @@
 -- What only the code of this crate needs.
-pub mod Free
-pub mod Keeping
-pub mod Children
 pub mod Begun
 pub mod Answering
 pub mod Telling

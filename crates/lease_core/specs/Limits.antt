@@ -1,21 +1,5 @@
--- The limits of leases.
+-- The limits of workers.
 use Rattle.std.specs.Prelude.{ℕ}
-
--- so many leases live at most
-abbrev pub lease_limit : ℕ
-lease_limit = 4096
-
--- a lease lasts for so long after it was given or renewed
-abbrev pub lease_time : ℕ
-lease_time = 60
-
--- the last number that a lease can have
-abbrev pub last_number : ℕ
-last_number = 18446744073709551615
-
--- a table has so many children at most
-abbrev pub child_limit : ℕ
-child_limit = 24
 
 -- a work turn makes no record on a board with so many
 abbrev pub work_record_limit : ℕ

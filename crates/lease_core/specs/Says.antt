@@ -1,5 +1,5 @@
 -- What a node's answer says.
-use Rattle.std.specs.Prelude.{◌≡◌, ℕ, List, [], Option, None, map}
+use Rattle.std.specs.Prelude.{◌≡◌, ℕ, List, None, map}
 use Rattle.cert.specs.Claim.{Recorded}
 use Rattle.cert.specs.Grammar.{record_text}
 use Rattle.ledger.specs.LedgerText.{joined}

@@ -1,5 +1,5 @@
 -- What a start makes of a ledger's bytes.
-use Rattle.std.specs.Prelude.{◌≡◌, ℕ, ◌==◌, if◌then◌else◌, List, [], ◌∷◌, ◌++◌, length, Bool, true, false, Option, Some, None, Result, Ok, Err}
+use Rattle.std.specs.Prelude.{◌≡◌, ℕ, ◌==◌, if◌then◌else◌, List, [], ◌∷◌, ◌++◌, length, true, false, Option, Some, None, Result, Ok, Err}
 use Rattle.machine_text.specs.Packed.{Packed, empty_table}
 use Rattle.machine_text.specs.Text.{text_of}
 use Rattle.ledger.specs.Contents.{Contents}
@@ -9,7 +9,7 @@ use Rattle.ledger.specs.declared.left.Left.TheVariants.{Nothing, From}
 use Rattle.ledger.specs.declared.faults.LoadFault.TheVariants.{BadHeader as BadLedgerHeader, WrongRoot as OtherRoot}
 use Rattle.wire.specs.declared.node.Note.TheVariants.{Quiet}
 use Rattle.wire.specs.declared.node.Out.{Out}
-use Rattle.lease_core.specs.Leases.{Leased, no_leases}
+use Rattle.leases.specs.Leases.{Leased, no_leases}
 use Rattle.lease_core.specs.CoordinatorRules.{Coordinating}
 use Rattle.lease_core.specs.declared.start_fault.StartFault.{StartFault}
 use Rattle.lease_core.specs.declared.start_fault.StartFault.TheVariants.{BadHeader, WrongRoot, NoMemory}

@@ -21,7 +21,7 @@ use Rattle.wire.specs.Happening.{Happening, Came, Ticked, Worked}
 use Rattle.wire.specs.Message.{Message, Ask, Grant, Rec, Ack, Later, Done, Stop}
 use Rattle.wire.specs.Grammar.{frames_of, message_of}
 use Rattle.lease_core.specs.Limits.{work_record_limit, tick_record_limit}
-use Rattle.lease_core.specs.Leases.{IsOpenOn}
+use Rattle.leases.specs.Leases.{IsOpenOn}
 use Rattle.lease_core.specs.declared.lease_name.LeaseName.{LeaseName}
 use Rattle.lease_core.specs.WorkerState.{WorkerState, empty_board, with_record, HasRoot, IsRecordedOn, MayWork, records_on, with_table, unacknowledged}
 

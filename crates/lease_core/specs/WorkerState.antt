@@ -8,7 +8,7 @@ use Rattle.ledger.specs.Records.{same_table, claim_in}
 use Rattle.ledger.specs.LedgerText.{ReadsAs}
 use Rattle.ledger.specs.declared.left.Left.TheVariants.{Nothing}
 use Rattle.lease_core.specs.Limits.{work_record_limit}
-use Rattle.lease_core.specs.Leases.{IsOpenOn}
+use Rattle.leases.specs.Leases.{IsOpenOn}
 use Rattle.lease_core.specs.declared.lease_name.LeaseName.{LeaseName}
 
 pub record WorkerState : Type 0 where

@@ -10,8 +10,8 @@ ghost use Rattle.lease_core.specs.Inside.Answering.{GivesFrame, GivesMessage, Gi
 ghost use Rattle.lease_core.specs.Says.{Says};
 
 use crate::frames::{GRANT_BYTES, ack_frame, later_frame, put_reply};
-use crate::leased_board::LeasedBoard;
 use cert::Record;
+use leases::LeasedBoard;
 use ledger::{OfferFault, Taken, append_record};
 use std::alloc::Global;
 use wire::{Event, Msg, NodeFault, Note, Out, decode};

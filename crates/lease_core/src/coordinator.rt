@@ -3,15 +3,15 @@ ghost use Rattle.std.specs.Prelude.{◌≡◌, ◌≤◌, MatchOption, None, Som
 ghost use Rattle.machine_text.specs.Limits.{state_limit};
 ghost use Rattle.wire.specs.Happening.{seen};
 ghost use Rattle.wire.specs.Carried.{text_after};
-ghost use Rattle.lease_core.specs.Leases.{Leased};
+ghost use Rattle.leases.specs.Leases.{Leased};
 ghost use Rattle.lease_core.specs.CoordinatorRules.{On};
 ghost use Rattle.lease_core.specs.Starts.{Starts, InStep};
 ghost use Rattle.lease_core.specs.Inside.Begun.{HoldsBoard};
 
 use crate::answering::answer;
-use crate::leased_board::LeasedBoard;
 use crate::start_fault::StartFault;
 use crate::starting::begun;
+use leases::LeasedBoard;
 use ledger::Board;
 use std::alloc::Global;
 use std::marker::Model;

@@ -5,7 +5,7 @@ ghost use Rattle.ledger.specs.Records.{claim_in};
 ghost use Rattle.wire.specs.Grammar.{frames_of};
 ghost use Rattle.wire.specs.Message.{Ack};
 ghost use Rattle.wire.specs.declared.node.Out.{Out as Answer};
-ghost use Rattle.lease_core.specs.Leases.{Leased};
+ghost use Rattle.leases.specs.Leases.{Leased};
 ghost use Rattle.lease_core.specs.CoordinatorRules.{OfferRow};
 
 /// Where a record is acknowledged, its table has a record on the board.

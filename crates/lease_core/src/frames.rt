@@ -5,8 +5,8 @@ ghost use Rattle.wire.specs.Grammar.{frames_of};
 ghost use Rattle.wire.specs.Message.{Ack, Later};
 ghost use Rattle.lease_core.specs.CoordinatorRules.{reply_of};
 
-use crate::reply::Reply;
 use itoa::Buffer;
+use leases::Reply;
 use machine_text::{TEXT_BYTES, Table};
 use run::NoMemory;
 use std::alloc::Global;

@@ -6,8 +6,8 @@ ghost use Rattle.ledger.specs.LedgerText.{LoadGives};
 ghost use Rattle.lease_core.specs.Starts.{Begins, kept_of, header_due};
 ghost use Rattle.lease_core.specs.Inside.Begun.{IsBegun};
 
-use crate::leased_board::LeasedBoard;
 use crate::start_fault::StartFault;
+use leases::LeasedBoard;
 use ledger::{Board, Left, append_header};
 use machine_text::Table;
 use run::NoMemory;

@@ -6,7 +6,7 @@ use Rattle.wire.specs.declared.message_fault.MsgFault.{MsgFault}
 use Rattle.wire.specs.declared.node.NodeFault.{NodeFault}
 use Rattle.wire.specs.declared.node.NodeFault.TheVariants.{Stopped, NoMemory}
 use Rattle.wire.specs.declared.node.Out.{Out}
-use Rattle.lease_core.specs.Leases.{Leased}
+use Rattle.leases.specs.Leases.{Leased}
 use Rattle.lease_core.specs.CoordinatorRules.{FrameRow, MessageRow, OfferRow, DoneRow}
 
 -- by its row, or memory was refused and nothing has changed

@@ -1,12 +1,12 @@
 -- For the code: what a start gives before the coordinator is made of it.
 use Rattle.std.specs.Prelude.{◌≡◌, ℕ, List, Option, Some, None, Result, Ok, Err}
-use Rattle.machine_text.specs.Packed.{Packed, empty_table}
+use Rattle.machine_text.specs.Packed.{empty_table}
 use Rattle.ledger.specs.Contents.{IsBoard}
 use Rattle.ledger.specs.LedgerText.{LoadGives}
 use Rattle.ledger.specs.declared.left.Left.{Left}
 use Rattle.ledger.specs.declared.faults.LoadFault.TheVariants.{BadHeader as BadLedgerHeader, WrongRoot as OtherRoot}
 use Rattle.wire.specs.declared.node.Out.{Out}
-use Rattle.lease_core.specs.Leases.{Leased, no_leases}
+use Rattle.leases.specs.Leases.{Leased, no_leases}
 use Rattle.lease_core.specs.Starts.{Begins}
 use Rattle.lease_core.specs.declared.start_fault.StartFault.{StartFault}
 use Rattle.lease_core.specs.declared.start_fault.StartFault.TheVariants.{BadHeader, WrongRoot, NoMemory}

@@ -1,5 +1,5 @@
 use Rattle.lease_core.specs.Faults.{start_fault_of}
-use Rattle.lease_core.proofs.Offering.{err_is}
+use Rattle.leases.proofs.Offering.{err_is}
 use Rattle.lease_core.proofs.WorkerBoards.{reads_as_board, no_start, peeked}
 use Rattle.lease_core.proofs.worker_start.loaded.Goals as goal
 

@@ -1,5 +1,0 @@
-use Rattle.lease_core.proofs.OfferLaws.{KeepsAll, AreFirstOffered}
-use Rattle.lease_core.proofs.held_leases.offer_ending.Given as goal
-
-abbrev pub invariant-loop-l : goal.invariant-loop-l
-invariant-loop-l l = record { more : KeepsAll l.fn.free.tables l.free.tables; offered : AreFirstOffered l.which l.live l.l-index l.free.tables }

@@ -1,0 +1,110 @@
+-- Children of a table: how many they are, and when they are open.
+use Rattle.std.proofs.Common.{◌≡◌, ◌≢◌, ℕ, ◌≤◌, ◌⊎◌, ◌↔◌, inl, inr, refl, sym, ◌∙◌, ap, subst, List, [], ◌∷◌, ◌++◌, All, AllPairs, length, get_or, Option, Some, None, IfSome, Contains, arith}
+use Rattle.std.specs.Ordering.{nat_cmp}
+use Rattle.std.specs.declared.cmp.Ordering.TheVariants.{Less, Equal}
+use Rattle.std.specs.Cmp.{tied_itself}
+use Rattle.std.specs.Cmp.Lexicographic.{slice_cmp, nat_list_cmp_total}
+use Rattle.machine_text.specs.declared.transition.Sym.{Sym}
+use Rattle.machine_text.specs.Packed.{Packed, IsTable, entry_of}
+use Rattle.machine_text.specs.Text.{text_of}
+use Rattle.turing.proofs.Counting.{length-le_of_members}
+use Rattle.turing.proofs.TableLaws.{table_machine}
+use Rattle.std.specs.Option.{option_map}
+use Rattle.run.specs.declared.verdicts.Verdict.{Verdict}
+use Rattle.tree.specs.Closed.{Halting, Holdout}
+use Rattle.tree.specs.Children.{HaltsOn, IsChild}
+use Rattle.tree.specs.Tables.{IsChildTable, InTableTree, children_at}
+use Rattle.tree.specs.Used.{InOrder}
+use Rattle.tree.proofs.Parents.{tree_machine, tree_holes}
+use Rattle.tree.proofs.TableLaws.{child_map, tree_alike, tree_map, one_table_parent}
+use Rattle.tree.proofs.TreeLaws.{child_holes}
+use Rattle.leases.proofs.ChildCount.{children_bound}
+use Rattle.cert.specs.Claim.{Recorded}
+use Rattle.ledger.specs.Contents.{Contents, IsBoard}
+use Rattle.ledger.specs.Records.{mark_in, mark_of, mark_by}
+use Rattle.ledger.specs.Held.{IsFit, Settles, settled}
+use Rattle.ledger.specs.Tally.{AreAll, IsHalting}
+use Rattle.ledger.proofs.Apart.{first_member, all_members}
+use Rattle.ledger.proofs.BoardLaws.{marked_in_tree}
+use Rattle.ledger.proofs.OpenLaws.{IsTaken, open_taken, open_in_tree}
+use Rattle.ledger.proofs.Taking.{Below, taken_last, taken_settling}
+use Rattle.leases.specs.Leases.{IsOpenOn}
+
+texts_apart : (a b : Packed) → slice_cmp nat_cmp (text_of a) (text_of b) ≡ Less → a ≢ b
+texts_apart a b less = λ (e : a ≡ b).
+    let itself : slice_cmp nat_cmp (text_of a) (text_of a) ≡ Less = subst (λ (p : Packed). slice_cmp nat_cmp (text_of a) (text_of p) ≡ Less) (sym e) less in
+    let tied : slice_cmp nat_cmp (text_of a) (text_of a) ≡ Equal = tied_itself nat_list_cmp_total (text_of a) in
+    absurd (cc)
+
+-- the law of the list of a table's children
+abbrev pub ChildrenListed : Type 0
+ChildrenListed = (p t : Packed) (u k q : ℕ) (s : Sym) → IsTable p → InOrder u (entry_of p) → HaltsOn (entry_of p) k q s → Contains (children_at p q s) t ↔ IsChildTable p t
+
+-- a table has no more than 24 children
+pub few_children : (t : Packed) (found : List Packed) → ChildrenListed → IsTable t → AreAll (IsChildTable t) found → length found ≤ 24
+few_children t [] listed table all = omega arith
+few_children t (x ∷ xs) listed table all =
+    let child = (all.exact x).0 (first_member x x xs refl) in
+    let bound = children_bound t child.state child.symbol in
+    let states = table.limit in
+    let within : All (Contains (children_at t child.state child.symbol)) (x ∷ xs) = all_members (Contains (children_at t child.state child.symbol)) (x ∷ xs)
+    (λ q h. (listed t q child.used child.count child.state child.symbol table child.in_order child.halts).1 ((all.exact q).0 h)) in
+    let once : AllPairs (λ (a b : Packed). a ≢ b) (x ∷ xs) = λ i j d less below. texts_apart (get_or (x ∷ xs) i d) (get_or (x ∷ xs) j d) (all.rising i j d less below) in
+    let most = length-le_of_members (children_at t child.state child.symbol) (x ∷ xs) within once in
+    omega arith
+
+-- no table of a tree has the root as a child
+root_is_no_child : (root t : Packed) → IsTable root → InTableTree root t → IsChildTable t root → ⊥
+root_is_no_child root t table below child =
+    let alike = tree_alike root t table below in
+    let map_below = tree_map root t table below in
+    let step : IsChild root.states (entry_of t) (entry_of root) = subst (λ n. IsChild n (entry_of t) (entry_of root)) alike.states (child_map t root alike.is_table child) in
+    let machine = table_machine root table in
+    let fewer = child_holes root.states (entry_of t) (entry_of root) (tree_machine root.states (entry_of root) (entry_of t) machine map_below) step in
+    let less = tree_holes root.states (entry_of root) (entry_of t) machine map_below in
+    omega arith
+
+-- a child of a table that isn't recorded as halting isn't open
+pub not_open_before : (b : Contents) (t q : Packed) → Below → IsBoard b → InTableTree b.root t → ((k : ℕ) → mark_in b.records t ≡ Some (Halting k) → ⊥) → IsChildTable t q → IsOpenOn b q → ⊥
+not_open_before b t q below board in_tree unhalted child is_open =
+    elim is_open.place [
+      | inl e ↦ root_is_no_child b.root t board.is_table in_tree (subst (IsChildTable t) e child)
+      | inr w ↦
+          let same : w.0 ≡ t = one_table_parent b.root w.0 t q board.is_table (marked_in_tree b w.0 (Halting w.1) below board w.2) in_tree w.3 child in
+          unhalted w.1 (subst (λ (p : Packed). mark_in b.records p ≡ Some (Halting w.1)) same w.2)
+    ]
+
+-- how a record of a table changes which tables are open: they stay, but for the table itself, and some of its children come,
+-- none of which was open
+pub record Opens (old new : Contents) (t : Packed) : Type 0 where
+  pub cases : (q : Packed) → IsOpenOn new q → (IsOpenOn old q × (q ≡ t → ⊥)) ⊎ (IsChildTable t q × IsHalting new.records t)
+  pub stays : (q : Packed) → IsOpenOn old q → (q ≡ t → ⊥) → IsOpenOn new q
+  pub not_before : (q : Packed) → IsChildTable t q → IsOpenOn old q → ⊥
+
+opens_by : (b : Contents) (new : List Recorded) (r : Recorded) → Below → IsBoard b → InTableTree b.root r.table → ((k : ℕ) → mark_in b.records r.table ≡ Some (Halting k) → ⊥) → IsTaken b.records new r
+    → Opens b (record { root = b.root; records = new }) r.table
+opens_by b new r below board in_tree unhalted taken = record {
+  cases = λ q h. elim ((open_taken b.root b.records new r q taken).0 h) [
+    | inl u ↦ inl u
+    | inr u ↦ inr (u.child, (u.count, ap (option_map mark_of) taken.here ∙ ap (λ (o : Option Verdict). Some (mark_by o)) u.halts))
+  ];
+  stays = λ q h other. (open_taken b.root b.records new r q taken).1 (inl (h, other));
+  not_before = λ q child is_open. not_open_before b r.table q below board in_tree unhalted child is_open;
+}
+
+pub opens_new : (old new : Contents) (r : Recorded) → Below → IsBoard old → new.root ≡ old.root → IsFit old.root old.records r → new.records ≡ old.records ++ (r ∷ []) → Opens old new r.table
+opens_new old new r below board root fit is =
+    let same : new ≡ record { root = old.root; records = old.records ++ (r ∷ []) } = λ i. record { root = root i; records = is i } in
+    subst (λ (b : Contents). Opens old b r.table) (sym same)
+    (opens_by old (old.records ++ (r ∷ [])) r below board (open_in_tree old.root old.records r.table below board.held fit.is_open) (λ k marked. let none = fit.is_open.unmarked in absurd (cc)) (taken_last old.records r old.root fit.is_open))
+
+pub opens_settled : (old new : Contents) (r : Recorded) → Below → IsBoard old → new.root ≡ old.root → Settles old.records r → new.records ≡ settled old.records r → Opens old new r.table
+opens_settled old new r below board root settles is =
+    let same : new ≡ record { root = old.root; records = settled old.records r } = λ i. record { root = root i; records = is i } in
+    let holdout : mark_in old.records r.table ≡ Some Holdout = settles.is_holdout in
+    subst (λ (b : Contents). Opens old b r.table) (sym same)
+    (opens_by old (settled old.records r) r below board (marked_in_tree old r.table Holdout below board holdout) (λ k marked. absurd (cc)) (taken_settling old.records r holdout))
+
+pub if_few : (t : Packed) (found : Option (List Packed)) → ChildrenListed → IsTable t → IfSome found (AreAll (IsChildTable t)) → IfSome found (λ found. length found ≤ 24)
+if_few t None listed table all = tt
+if_few t (Some found) listed table all = few_children t found listed table all

@@ -1,0 +1,11 @@
+pub mod FreeLaws
+pub mod OfferLaws
+pub mod Members
+pub mod LiveLaws
+pub mod Due
+pub mod Ending
+pub mod Granting
+pub mod Asking
+pub mod ChildCount
+pub mod ChildLaws
+pub mod Offering

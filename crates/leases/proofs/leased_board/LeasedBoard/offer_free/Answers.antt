@@ -1,0 +1,91 @@
+use Rattle.std.proofs.Common.{sym, ap, subst, inr, List, Contains, None, ◌≡◌}
+use Rattle.machine_text.specs.Packed.{Packed}
+use Rattle.cert.specs.Kinds.{recorded}
+use Rattle.ledger.specs.Contents.{Contents}
+use Rattle.ledger.specs.Records.{same_table}
+use Rattle.ledger.specs.declared.faults.OfferFault.TheVariants.{NoMemory}
+use Rattle.leases.specs.Leases.{Leased, AreLeases, lease_of}
+use Rattle.leases.specs.Offers.{TakesNew, TakesSettled}
+use Rattle.leases.specs.Inside.Keeping.{seen, IsKept}
+use Rattle.leases.proofs.ChildLaws.{Opens, opens_new, opens_settled}
+use Rattle.leases.proofs.OfferLaws.{KeepsAll}
+use Rattle.leases.proofs.Offering.{err_is, GoesOut, same_board, refused_board, holdout_not_open, free_new_leases, free_new_kept, free_new_takes, settled_leases, settled_kept, settled_takes}
+use Rattle.leases.proofs.leased_board.LeasedBoard.offer_free.Goals as goal
+
+pub returns-in_err-reserve-clause-gives : goal.returns-in_err-reserve-clause-gives
+returns-in_err-reserve-clause-gives c = inr (err_is c.from_residual.result NoMemory c.from_residual.ensures.1, ap (λ (s : Leased). s.board.records) c.self.view_is)
+
+pub invariant_of-self-in-Err : goal.invariant_of-self-in-Err
+invariant_of-self-in-Err c =
+    let same = same_board c.offer.new.self c.self.inside.board c.in-Err.ensures.root (refused_board c.self.inside.board.root c.self.inside.board.records c.offer.new.self.records (recorded c.args.r.now) c.in-Err.fault c.in-Err.ensures.gives) in
+    subst (λ (b : Contents). AreLeases b (seen c.self.inside.live c.self.inside.came_under.entries c.self.inside.moment c.self.inside.given) × IsKept b c.self.inside.live c.self.inside.came_under.entries c.reserve.new.self.tables) (sym same)
+    (subst (λ (free : List Packed). AreLeases c.self.inside.board (seen c.self.inside.live c.self.inside.came_under.entries c.self.inside.moment c.self.inside.given) × IsKept c.self.inside.board c.self.inside.live c.self.inside.came_under.entries free) (sym c.in_ok-reserve.ensures.tables) c.self.invariant)
+
+pub invariant_of-self-in-Ok-New : goal.invariant_of-self-in-Ok-New
+unfolding same_table
+invariant_of-self-in-Ok-New c =
+    let old = c.self.inside.board in
+    let new = c.offer.new.self in
+    let ls = c.self.inside.live in
+    let came = c.self.inside.came_under.entries in
+    let next = c.swap_remove.new.self.entries in
+    let free = c.self.inside.free.tables in
+    let more = c.free_children.new.free.tables in
+    let t = c.args.r.now.table in
+    let gives = rw c.in-Ok-New.field-0-is at c.in-Ok-New.ensures.gives in
+    let opens : Opens old new t = opens_new old new (recorded c.args.r.now) c.child_is_table.ensures.below c.root.ensures.board c.in-Ok-New.ensures.root gives.0 gives.1 in
+    let keeps : KeepsAll free more = λ q h. c.free_children.ensures.more q (subst (λ (l : List Packed). Contains l q) (sym c.in_ok-reserve.ensures.tables) h) in
+    let out : GoesOut came t next = λ q. c.swap_remove.ensures.updates.0 q in (
+      free_new_leases old new ls came next free more c.self.inside.moment c.self.inside.given t opens c.self.invariant.0 c.self.invariant.1 keeps c.free_children.ensures.all out,
+      free_new_kept old new ls came next free more c.self.inside.moment c.self.inside.given t opens c.self.invariant.0 c.self.invariant.1 keeps c.free_children.ensures.all out,
+    )
+
+pub returns-in-Ok-New-clause-leases : goal.returns-in-Ok-New-clause-leases
+unfolding same_table
+returns-in-Ok-New-clause-leases c =
+    let old = c.self.inside.board in
+    let new = c.offer.new.self in
+    let ls = c.self.inside.live in
+    let came = c.self.inside.came_under.entries in
+    let next = c.swap_remove.new.self.entries in
+    let free = c.self.inside.free.tables in
+    let more = c.free_children.new.free.tables in
+    let t = c.args.r.now.table in
+    let gives = rw c.in-Ok-New.field-0-is at c.in-Ok-New.ensures.gives in
+    let opens : Opens old new t = opens_new old new (recorded c.args.r.now) c.child_is_table.ensures.below c.root.ensures.board c.in-Ok-New.ensures.root gives.0 gives.1 in
+    let keeps : KeepsAll free more = λ q h. c.free_children.ensures.more q (subst (λ (l : List Packed). Contains l q) (sym c.in_ok-reserve.ensures.tables) h) in
+    let out : GoesOut came t next = λ q. c.swap_remove.ensures.updates.0 q in
+    let none = subst (λ (s : Leased). lease_of s.leases t ≡ None) (sym c.self.view_is) c.requires in
+    subst (λ (s : Leased). TakesNew t s (record { board = new; leases = seen ls next c.self.inside.moment c.self.inside.given })) c.self.view_is
+    (free_new_takes old new ls came next free more c.self.inside.moment c.self.inside.given t opens c.self.invariant.0 c.self.invariant.1 keeps c.free_children.ensures.all out none)
+
+pub invariant_of-self-in-Ok-Settled : goal.invariant_of-self-in-Ok-Settled
+invariant_of-self-in-Ok-Settled c =
+    let old = c.self.inside.board in
+    let new = c.offer.new.self in
+    let ls = c.self.inside.live in
+    let came = c.self.inside.came_under.entries in
+    let free = c.self.inside.free.tables in
+    let more = c.free_children-in-Ok-Settled.new.free.tables in
+    let t = c.args.r.now.table in
+    let gives = rw c.in-Ok-Settled.field-0-is at c.in-Ok-Settled.ensures.gives in
+    let opens : Opens old new t = opens_settled old new (recorded c.args.r.now) c.child_is_table.ensures.below c.root.ensures.board c.in-Ok-Settled.ensures.root gives.0 gives.1 in
+    let keeps : KeepsAll free more = λ q h. c.free_children-in-Ok-Settled.ensures.more q (subst (λ (l : List Packed). Contains l q) (sym c.in_ok-reserve.ensures.tables) h) in (
+      settled_leases old new ls came came free more c.self.inside.moment c.self.inside.given t opens c.self.invariant.0 c.self.invariant.1 keeps c.free_children-in-Ok-Settled.ensures.all (holdout_not_open old t gives.0.is_holdout),
+      settled_kept old new ls came came free more c.self.inside.moment c.self.inside.given t opens c.self.invariant.0 c.self.invariant.1 keeps c.free_children-in-Ok-Settled.ensures.all,
+    )
+
+pub returns-in-Ok-Settled-clause-leases : goal.returns-in-Ok-Settled-clause-leases
+returns-in-Ok-Settled-clause-leases c =
+    let old = c.self.inside.board in
+    let new = c.offer.new.self in
+    let ls = c.self.inside.live in
+    let came = c.self.inside.came_under.entries in
+    let free = c.self.inside.free.tables in
+    let more = c.free_children-in-Ok-Settled.new.free.tables in
+    let t = c.args.r.now.table in
+    let gives = rw c.in-Ok-Settled.field-0-is at c.in-Ok-Settled.ensures.gives in
+    let opens : Opens old new t = opens_settled old new (recorded c.args.r.now) c.child_is_table.ensures.below c.root.ensures.board c.in-Ok-Settled.ensures.root gives.0 gives.1 in
+    let keeps : KeepsAll free more = λ q h. c.free_children-in-Ok-Settled.ensures.more q (subst (λ (l : List Packed). Contains l q) (sym c.in_ok-reserve.ensures.tables) h) in
+    subst (λ (s : Leased). TakesSettled s (record { board = new; leases = seen ls came c.self.inside.moment c.self.inside.given })) c.self.view_is
+    (settled_takes old new ls came came free more c.self.inside.moment c.self.inside.given t opens c.self.invariant.0 c.self.invariant.1 keeps c.free_children-in-Ok-Settled.ensures.all)

@@ -1,0 +1,35 @@
+use Rattle.std.proofs.Common.{◌≡◌, ℕ, not, refl, ◌∙◌, ap, subst, List, map, filter}
+use Rattle.leases.specs.Leases.{Leased, ended}
+use Rattle.leases.specs.Inside.Keeping.{held, seen, has_ended, are_numbered, without_each, AreDue, AreOffered}
+use Rattle.leases.proofs.Asking.{at_moment}
+use Rattle.leases.proofs.Due.{ended_each, due_offered}
+use Rattle.leases.proofs.Ending.{seen_ended, ended_holds}
+use Rattle.leases.proofs.leased_board.LeasedBoard.tick.Goals as goal
+
+pub invariant_of-self-2 : goal.invariant_of-self-2
+invariant_of-self-2 c =
+    let b = c.self.inside.board in
+    let ls = c.self.inside.live in
+    let kept = c.end_each.new.self in
+    let came = c.self.inside.came_under.entries in
+    let more = c.offer_each.new.free.tables in
+    let now = c.max-moment.result in
+    let given = c.self.inside.given in
+    let numbers = c.in_ok-numbers.numbers.items in
+    let due : AreDue now (map held ls) numbers = c.in_ok-numbers.ensures in
+    let is : kept ≡ filter (λ l. not (has_ended now (held l))) ls = c.end_each.ensures ∙ (ap (λ ns. without_each ns ls) c.deref-2.ensures.value ∙ ended_each now numbers ls due) in
+    let offered = due_offered now numbers ls more due (subst (λ (ns : List ℕ). AreOffered (λ l. are_numbered ns l.number) ls more) c.deref.ensures.value c.in_ok-offer_each.ensures.ok) in
+    ended_holds b (has_ended now) ls ls kept came came c.self.inside.free.tables more now given refl refl is c.in_ok-offer_each.ensures.more offered
+    (at_moment b ls came c.self.inside.moment now given c.self.invariant.0, c.self.invariant.1)
+
+pub returns-clause-ok : goal.returns-clause-ok
+returns-clause-ok c =
+    let ls = c.self.inside.live in
+    let came = c.self.inside.came_under.entries in
+    let now = c.max-moment.result in
+    let given = c.self.inside.given in
+    let numbers = c.in_ok-numbers.numbers.items in
+    let due : AreDue now (map held ls) numbers = c.in_ok-numbers.ensures in
+    let is : c.end_each.new.self ≡ filter (λ l. not (has_ended now (held l))) ls = c.end_each.ensures ∙ (ap (λ ns. without_each ns ls) c.deref-2.ensures.value ∙ ended_each now numbers ls due) in
+    rw (← ap (λ (s : Leased). s.leases) c.self.view_is)
+    (seen_ended (has_ended now) ls c.end_each.new.self came now given is ∙ ap (λ m. ended (has_ended m) (seen ls came m given)) c.max-moment.ensures)

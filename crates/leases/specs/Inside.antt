@@ -1,0 +1,4 @@
+-- What only the code of this crate needs.
+pub mod Free
+pub mod Keeping
+pub mod Children

@@ -1,0 +1,71 @@
+-- For the code: how leases are kept, and as what they are seen.
+use Rattle.std.specs.Prelude.{◌≡◌, ℕ, ◌+◌, ◌-◌, ◌==◌, ◌↔◌, Bool, true, false, not, nat_le, List, Contains, Option, Some, None, IfSome, map, filter, vec_len, vec_capacity}
+use Rattle.std.specs.List.{list_any}
+use Rattle.machine_text.specs.Packed.{Packed}
+use Rattle.ledger.specs.Contents.{Contents}
+use Rattle.leases.specs.Limits.{lease_time}
+use Rattle.leases.specs.Leases.{Lease, Leases, IsOpenOn, came_under, is_live, while_live}
+use Rattle.leases.specs.declared.held_leases.HeldLease.{HeldLease}
+
+-- a live lease as it is kept: its number, its worker, when it was given or renewed, the tables that came under it, of which some may be
+-- recorded by now, and for how many more tables there is room
+pub record Kept : Type 0 where
+  pub number : ℕ
+  pub id : ℕ
+  pub renewed : ℕ
+  pub tables : List Packed
+  pub room : ℕ
+
+abbrev pub kept : ℕ × HeldLease → Kept
+kept e = record { number = e.0; id = e.1.id; renewed = e.1.renewed; tables = e.1.tables.items; room = vec_capacity e.1.tables - vec_len e.1.tables }
+
+-- a lease as it is seen: the code keeps when it was given or renewed, since a deadline may be greater than its numbers
+abbrev pub held : Kept → Lease
+held l = record { number = l.number; id = l.id; deadline = l.renewed + lease_time }
+
+-- whether a lease has ended by a moment
+abbrev pub has_ended : ℕ → Lease → Bool
+has_ended moment l = nat_le l.deadline moment
+
+-- the leases that are kept so, as they are seen
+abbrev pub seen : List Kept → List (Packed × ℕ) → ℕ → ℕ → Leases
+seen leases came moment given = record { live = map held leases; came = came; moment = moment; given = given }
+
+-- each live lease lists the tables that came under it, and each open table that is under none is among the free ones
+pub record IsKept (b : Contents) (leases : List Kept) (came : List (Packed × ℕ)) (free : List Packed) : Type 0 where
+  pub listed : (l : Kept) (t : Packed) → Contains leases l → came_under came t ≡ Some l.number → Contains l.tables t
+  pub offered : (t : Packed) → IsOpenOn b t → while_live (map held leases) (came_under came t) ≡ None → Contains free t
+
+-- the tables of the leases that pass a test are among the free ones
+abbrev pub AreOffered : (Lease → Bool) → List Kept → List Packed → Type 0
+AreOffered ends leases free = (l : Kept) (t : Packed) → Contains leases l → ends (held l) ≡ true → Contains l.tables t → Contains free t
+
+abbrev pub is_numbered : Option ℕ → ℕ → Bool
+is_numbered None n = false
+is_numbered (Some m) n = n == m
+
+-- the leases without the one of a number
+abbrev pub without : Option ℕ → List Kept → List Kept
+without which leases = filter (λ l. not (is_numbered which l.number)) leases
+
+-- the same of several numbers
+abbrev pub are_numbered : List ℕ → ℕ → Bool
+are_numbered numbers n = list_any (λ m. n == m) numbers
+
+abbrev pub without_each : List ℕ → List Kept → List Kept
+without_each numbers leases = filter (λ l. not (are_numbered numbers l.number)) leases
+
+-- the numbers of the workers' leases, against the leases under their numbers
+abbrev pub AreOfWorkers : (ℕ → Option ℕ) → (ℕ → Option HeldLease) → Type 0
+AreOfWorkers number_of lease_at = (id n : ℕ) → number_of id ≡ Some n ↔ ((l : HeldLease) × (lease_at n ≡ Some l) × (l.id ≡ id))
+
+-- these are the numbers of the leases that have ended by a moment
+pub record AreDue (moment : ℕ) (leases : List Lease) (numbers : List ℕ) : Type 0 where
+  pub all : (l : Lease) → Contains leases l → has_ended moment l ≡ true → Contains numbers l.number
+  pub only : (l : Lease) → Contains leases l → Contains numbers l.number → has_ended moment l ≡ true
+
+-- this is the number of a worker's lease, or none where it has none
+pub record IsOwn (id : ℕ) (own : Option ℕ) (leases : List Kept) : Type 0 where
+  pub lives : IfSome own (λ n. is_live (map held leases) n ≡ true)
+  pub only : (l : Kept) → Contains leases l → l.id ≡ id → own ≡ Some l.number
+  pub exact : (l : Kept) → Contains leases l → own ≡ Some l.number → l.id ≡ id

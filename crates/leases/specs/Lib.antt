@@ -1,0 +1,5 @@
+pub mod Limits
+pub mod Leases
+pub mod Asks
+pub mod Offers
+pub mod Inside

@@ -1,0 +1,116 @@
+// The children of a table that was recorded, which became open.
+ghost use Rattle.std.specs.Prelude.{◌≡◌, ◌↔◌, ◌+◌, ◌≤◌, ℕ, Contains, IsSome, IfSome, length};
+ghost use Rattle.machine_text.specs.Packed.{Packed};
+ghost use Rattle.tree.specs.Tables.{IsChildTable};
+ghost use Rattle.ledger.specs.Tally.{AreAll, IsHalting};
+ghost use Rattle.std.specs.Prelude.{vec_len, vec_capacity, Some, [], ◌∷◌, ◌++◌};
+ghost use Rattle.indexmap.specs.IndexMap.{spare};
+ghost use Rattle.leases.specs.Leases.{IsOpenOn, came_under};
+ghost use Rattle.leases.specs.Limits.{child_limit};
+ghost use Rattle.leases.specs.Inside.Children.{CameOnly, ComesUnder};
+
+use crate::free_tables::FreeTables;
+use indexmap::IndexMap;
+use ledger::Board;
+use machine_text::Table;
+use tnf::Children;
+use tree::children_listed;
+
+// The children of a table that is recorded as halting.
+fn children_of(board: &Board, t: &Table) -> Option<Children>
+    ensures halting { IsSome result ↔ IsHalting board.now.records t.now }
+    ensures all { IfSome result (λ found. AreAll (IsChildTable t.now) found) }
+    ensures most { IfSome result (λ found. length found ≤ child_limit) }
+{
+    children_listed();
+    // The proof needs that it is a table.
+    let _ = t.states();
+    board.children(t)
+}
+
+// Puts the children of a table, if it is recorded as halting, among the free ones. There is room for them.
+pub fn free_children(free: &mut FreeTables, board: &Board, t: &Table)
+    requires { child_limit ≤ free.old.room }
+    ensures more { (q : Packed) → Contains free.old.tables q → Contains free.new.tables q }
+    ensures all { (q : Packed) → IsChildTable t.now q → IsHalting board.now.records t.now → Contains free.new.tables q }
+{
+    match children_of(board, t) {
+        Some(found) => free_all(free, found),
+        None => {}
+    }
+}
+
+// Puts tables among the free ones.
+fn free_all(free: &mut FreeTables, found: Children)
+    requires { length found ≤ free.old.room }
+    ensures more { (q : Packed) → Contains free.old.tables q → Contains free.new.tables q }
+    ensures all { (q : Packed) → Contains found q → Contains free.new.tables q }
+{
+    for child in found {
+        match free.push(child) {
+            Ok(()) => {}
+            Err(_) => unreachable!(),
+        }
+    }
+}
+
+// Puts the open children of a table, if it is recorded as halting, under a lease, whose tables these are.
+// There is room for them.
+pub fn lease_children(
+    came: &mut IndexMap<Table, u64>,
+    tables: &mut Vec<Table>,
+    board: &Board,
+    number: u64,
+    t: &Table,
+)
+    requires came { child_limit ≤ spare came.old }
+    requires tables { vec_len tables.old + child_limit ≤ vec_capacity tables.old }
+    ensures here { (q : Packed) → IsChildTable t.now q → IsHalting board.now.records t.now → IsOpenOn board.now q → came_under came.new.entries q ≡ Some number }
+    ensures other { (q : Packed) → (IsChildTable t.now q → ⊥) → came_under came.new.entries q ≡ came_under came.old.entries q }
+    ensures only { CameOnly board.now number came.old.entries came.new.entries tables.new.items }
+    ensures more { (q : Packed) → Contains tables.old.items q → Contains tables.new.items q }
+{
+    match children_of(board, t) {
+        Some(found) => lease_all(came, tables, board, number, found),
+        None => {}
+    }
+}
+
+// Puts those of the tables that are open under a lease.
+fn lease_all(
+    came: &mut IndexMap<Table, u64>,
+    tables: &mut Vec<Table>,
+    board: &Board,
+    number: u64,
+    found: Children,
+)
+    requires came { length found ≤ spare came.old }
+    requires tables { vec_len tables.old + length found ≤ vec_capacity tables.old }
+    ensures here { (q : Packed) → Contains found q → IsOpenOn board.now q → came_under came.new.entries q ≡ Some number }
+    ensures other { (q : Packed) → (Contains found q → ⊥) → came_under came.new.entries q ≡ came_under came.old.entries q }
+    ensures only { CameOnly board.now number came.old.entries came.new.entries tables.new.items }
+    ensures more { (q : Packed) → Contains tables.old.items q → Contains tables.new.items q }
+{
+    for child in found {
+        if board.is_open(&child) {
+            lease_one(came, tables, number, child);
+        }
+    }
+}
+
+// Puts a table under a lease.
+fn lease_one(came: &mut IndexMap<Table, u64>, tables: &mut Vec<Table>, number: u64, child: Table)
+    requires came { 1 ≤ spare came.old }
+    requires tables { vec_len tables.old + 1 ≤ vec_capacity tables.old }
+    ensures came { ComesUnder came.old.entries child number came.new.entries }
+    ensures tables { tables.new.items ≡ tables.old.items ++ (child ∷ []) }
+    ensures spare { spare came.old ≤ spare came.new + 1 }
+    ensures len { vec_len tables.new ≡ vec_len tables.old + 1 }
+    ensures capacity { vec_capacity tables.new ≡ vec_capacity tables.old }
+{
+    tables.push_reserved(child);
+    match came.insert(child, number) {
+        Ok(_) => {}
+        Err(_) => unreachable!(),
+    }
+}

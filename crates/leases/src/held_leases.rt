@@ -1,0 +1,47 @@
+// Live leases as they are kept.
+ghost use Rattle.std.specs.Prelude.{◌≡◌, ◌+◌, nat_le, Contains, OnOk};
+ghost use Rattle.machine_text.specs.Packed.{Packed};
+ghost use Rattle.leases.specs.Limits.{lease_time};
+ghost use Rattle.leases.specs.Inside.Keeping.{is_numbered};
+
+use crate::free_tables::FreeTables;
+use crate::limits::LEASE_TIME;
+use machine_text::Table;
+use run::NoMemory;
+
+// A live lease, which stands under its number: its worker, when it was given or renewed, and the tables that
+// came under it, of which some may be recorded by now.
+#[derive(Drop)]
+pub struct HeldLease {
+    pub id: u32,
+    pub renewed: u64,
+    pub tables: Vec<Table>,
+}
+
+// Whether a lease that was given or renewed then has ended by a moment.
+pub fn is_due(renewed: u64, moment: u64) -> bool
+    ensures { result ≡ nat_le (renewed + lease_time) moment }
+{
+    moment >= LEASE_TIME && renewed <= moment - LEASE_TIME
+}
+
+// Whether this is the number.
+pub fn is_numbered(which: Option<u64>, number: u64) -> bool
+    ensures { result ≡ is_numbered which number }
+{
+    match which {
+        Some(n) => number == n,
+        None => false,
+    }
+}
+
+// Puts tables among the free ones.
+pub fn offer_all(free: &mut FreeTables, tables: &[Table]) -> Result<(), NoMemory>
+    ensures more { (q : Packed) → Contains free.old.tables q → Contains free.new.tables q }
+    ensures ok { OnOk result ((q : Packed) → Contains tables.now q → Contains free.new.tables q) }
+{
+    for t in tables {
+        free.push(*t)?;
+    }
+    Ok(())
+}

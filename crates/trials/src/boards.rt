@@ -9,7 +9,7 @@ use std::process::Abort;
 use std::test::Fail;
 
 // What a board answers to a record that is offered. Memory may be refused once.
-fn offered(rt: &impl Abort, board: &mut Board, text: &str) -> Result<Taken, OfferFault> {
+pub fn offered(rt: &impl Abort, board: &mut Board, text: &str) -> Result<Taken, OfferFault> {
     match Record::parse(text.as_bytes()) {
         Ok(record) => {
             let answer = board.offer(&record);
@@ -23,7 +23,7 @@ fn offered(rt: &impl Abort, board: &mut Board, text: &str) -> Result<Taken, Offe
 }
 
 // A board without records. Memory may be refused once.
-fn board_of(rt: &impl Abort, alloc: Global, root: &str) -> Board {
+pub fn board_of(rt: &impl Abort, alloc: Global, root: &str) -> Board {
     for _ in 0..2 {
         if let Ok(board) = Board::new(alloc, table_of(rt, root)) {
             return board;
@@ -93,7 +93,7 @@ fn a_root_is_in_order(rt: HostRuntime) {
 }
 
 // Offers a record, which must be taken. Memory may be refused once.
-fn take(rt: &impl Abort, board: &mut Board, text: &str) {
+pub fn take(rt: &impl Abort, board: &mut Board, text: &str) {
     let offered = offered(rt, board, text);
     assert!(rt;
         matches!(&offered, Ok(Taken::New | Taken::Settled)),

@@ -10,6 +10,8 @@ mod backward_reasoning;
 #[cfg(test)]
 mod boards;
 #[cfg(test)]
+mod bounds;
+#[cfg(test)]
 mod check_command;
 #[cfg(test)]
 mod children;

@@ -201,7 +201,9 @@ fn with_search<'a>(alloc: Global, command: Command<'a>) -> Result<Command<'a>, N
 
 fn run_command<'a>(alloc: Global) -> Result<Command<'a>, NoMemory> {
     let run = Command::new(alloc, "run")
-        .about("Settles the tree of all machines of N states in this process, and prints the report.")
+        .about(
+            "Settles the tree of all machines of N states in this process, and prints the report.",
+        )
         .after_help(RUN)
         .arg(states_arg(alloc))?
         .arg(
@@ -252,7 +254,11 @@ fn merge_command<'a>(alloc: Global) -> Result<Command<'a>, NoMemory> {
         .after_help(MERGE)
         .arg(file_arg(alloc, FIRST, "The ledger whose records come first"))?
         .arg(file_arg(alloc, SECOND, "The other ledger"))?
-        .arg(file_arg(alloc, OUT, "The ledger file that is written; it may be one of the two"))
+        .arg(file_arg(
+            alloc,
+            OUT,
+            "The ledger file that is written; it may be one of the two",
+        ))
 }
 
 fn file_arg<'a>(alloc: Global, name: &'static str, help: &'static str) -> Arg<'a> {
@@ -274,10 +280,9 @@ fn states_arg<'a>(alloc: Global) -> Arg<'a> {
 }
 
 fn ledger_arg<'a>(alloc: Global) -> Arg<'a> {
-    Arg::new(alloc, LEDGER)
-        .long(LEDGER)
-        .value_name("FILE")
-        .help("The ledger file, which is created where it isn't there; none is kept without it")
+    Arg::new(alloc, LEDGER).long(LEDGER).value_name("FILE").help(
+        "The ledger file, which is created where it isn't there; none is kept without it",
+    )
 }
 
 fn coord_command<'a>(alloc: Global) -> Result<Command<'a>, NoMemory> {

@@ -72,7 +72,16 @@ pub fn obey<H: Host + Clock, R: Read, W: Write, E: Write>(
             }
         }
         Ok(Options::Retry { file, search }) => {
-            match with_finders(alloc, search, 1, Task::Retry(file), host, input, answers, faults) {
+            match with_finders(
+                alloc,
+                search,
+                1,
+                Task::Retry(file),
+                host,
+                input,
+                answers,
+                faults,
+            ) {
                 Ok(outcome) => outcome,
                 Err(_) => Ended::NoMemory.told(faults),
             }
@@ -139,9 +148,7 @@ fn with_finders<H: Host + Clock, R: Read, W: Write, E: Write>(
                 }
                 workers.push(worker)?;
             }
-            Ok(run(
-                alloc, &settling, ledger, workers, host, answers, faults,
-            ))
+            Ok(run(alloc, &settling, ledger, workers, host, answers, faults))
         }
         Task::Retry(file) => {
             let mut decider = Finders::new(lists.pop().unwrap_or(Vec::new(alloc)), steps);

@@ -148,7 +148,12 @@ const LINES: [(&str, Outcome, bool, bool); 40] = [
     ("bb coord 1", Outcome::Refused, false, false),
     ("bb run 1", Outcome::Accepted, true, false),
     ("bb run 1 --rounds 1", Outcome::Refused, true, false),
-    ("bb run 1 --ledger complete --json", Outcome::Accepted, true, false),
+    (
+        "bb run 1 --ledger complete --json",
+        Outcome::Accepted,
+        true,
+        false,
+    ),
     ("bb run 1 --ledger absent", Outcome::Failed, false, true),
     ("bb retry complete", Outcome::Accepted, true, false),
     ("bb retry absent", Outcome::Failed, false, true),
@@ -309,7 +314,12 @@ const RUN: Settling = Settling {
 fn options_of_a_run_are_read_from_the_words(rt: HostRuntime) -> Result<(), Fail> {
     let settling = RUN;
     let ledger = None;
-    is_asked(&rt, rt.alloc(), "bb run 3", Options::Run { settling, ledger })?;
+    is_asked(
+        &rt,
+        rt.alloc(),
+        "bb run 3",
+        Options::Run { settling, ledger },
+    )?;
     let mut settling = RUN;
     settling.workers = 64;
     settling.lose = Some(1_000);

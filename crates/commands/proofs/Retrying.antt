@@ -15,7 +15,7 @@ pub stays_with : (old new : Contents) (r : Recorded) (out : Out) (before : Optio
 stays_with old new r out None board taken root cut append = λ s. s
 stays_with old new r out (Some text) board taken root cut append = λ reads.
     let is : text_after out text ≡ text ++ (record_text r ++ (10 ∷ [])) =
-        ap (λ c. cut_by c text ++ out.append.items) cut ∙ ap (λ l. text ++ l) append in
+    ap (λ c. cut_by c text ++ out.append.items) cut ∙ ap (λ l. text ++ l) append in
     subst (λ p. ReadsAs p (text_after out text) new.records Nothing) (sym root)
     (subst (λ l. ReadsAs old.root l new.records Nothing) (sym is) (grows old text r new.records board reads taken))
 

@@ -25,7 +25,7 @@ none_listed K (t ∷ ts) none all = absurd (none t ((all.exact t).0 (first_membe
 none_many : (K : Packed → Type 0) (n : ℕ) → 0 < n → AreSoMany K n → ((t : Packed) → K t → ⊥) → ⊥
 none_many K n some x none =
     let zero = as_many K (λ (t : Packed). ⊥) n 0 (λ t. (none t, λ f. absurd f)) x
-        (record { tables = []; exact = λ t. (λ at. nobody at, λ f. absurd f); once = λ i j d less below. absurd (omega arith); is = refl }) in
+    (record { tables = []; exact = λ t. (λ at. nobody at, λ f. absurd f); once = λ i j d less below. absurd (omega arith); is = refl }) in
     omega (arith, some, zero)
 
 pub complete_status : (root : Packed) (rs : List Recorded) (status : Status) → IsComplete root (mark_in rs) → IsStatus root rs status → status_name status ≡ codes "complete"
@@ -43,7 +43,7 @@ tree_report b text board complete r =
       counted = whole_tally b r.tally board complete r.counted;
       are_champions = whole_champions b r.tally.best r.champions board complete r.are_champions;
       is = r.is ∙ (ap (λ name. line_of (codes "root") (text_of b.root) ++ line_of (codes "status") name ++ counts_text r.tally
-              ++ lines_of (codes "champion") r.champions ++ lines_of (codes "holdout") r.holdouts) status
+          ++ lines_of (codes "champion") r.champions ++ lines_of (codes "holdout") r.holdouts) status
           ∙ ap (λ hs. report_text b.root (Complete r.tally.best) r.tally r.champions hs) holdouts);
     }
 
@@ -51,6 +51,6 @@ pub one_report : (root : Packed) (a b : List ℕ) → IsTreeReport root a → Is
 one_report root a b x y =
     let tally : x.tally ≡ y.tally = one_tally root x.tally y.tally x.counted y.counted in
     let champions : x.champions ≡ y.champions = one_list_of_champions root y.tally.best x.champions y.champions
-        (subst (λ (t : Tally). AreAll (IsTreeChampion root t.best) x.champions) tally x.are_champions) y.are_champions in
+    (subst (λ (t : Tally). AreAll (IsTreeChampion root t.best) x.champions) tally x.are_champions) y.are_champions in
     x.is ∙ (ap (λ (t : Tally). report_text root (Complete t.best) t x.champions []) tally
     ∙ (ap (λ (cs : List Packed). report_text root (Complete y.tally.best) y.tally cs []) champions ∙ sym y.is))

@@ -62,12 +62,7 @@ fn read<H: Host>(alloc: Global, host: &H, path: &str) -> Result<(Board, Left), E
 }
 
 // Makes a ledger file hold a board's ledger.
-fn write_whole<H: Host>(
-    alloc: Global,
-    host: &H,
-    path: &str,
-    board: &Board,
-) -> Result<(), Ended> {
+fn write_whole<H: Host>(alloc: Global, host: &H, path: &str, board: &Board) -> Result<(), Ended> {
     let mut append = Vec::new(alloc);
     board.write_ledger(&mut append)?;
     let out = Out {

@@ -65,8 +65,7 @@ impl<'a, C: Clock, E: Write> Progress<'a, C, E> {
     }
 
     fn say(&mut self, tally: &Tally, records: u64, rate: u128) {
-        let line = format!(
-            in self.alloc;
+        let line = format!(in self.alloc;
             "{records} nodes recorded, {} open, {} holdouts, {rate} records a second\n",
             tally.open_count, tally.holdouts
         );

@@ -88,7 +88,10 @@ fn stations<N: Node + Drop>(
 ) -> Result<Vec<Station<N>>, Ended> {
     let mut stations = Vec::new(alloc);
     for worker in workers {
-        if stations.push(Station::new(alloc, worker, settling.lose)).is_err() {
+        if stations
+            .push(Station::new(alloc, worker, settling.lose))
+            .is_err()
+        {
             return Err(Ended::NoMemory);
         }
     }

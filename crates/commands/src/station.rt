@@ -4,8 +4,7 @@ use crate::losses::{Losses, carry};
 use lease_core::Coordinator;
 use run::NoMemory;
 use std::alloc::{AllocError, Global};
-use wire::{Event, LedgerOut, Lines, MemLedger, MemLink, Node, TurnFault, begin, turn};
-use wire::Link;
+use wire::{Event, LedgerOut, Lines, Link, MemLedger, MemLink, Node, TurnFault, begin, turn};
 
 // How many work turns a worker gets in a round.
 const WORK_TURNS: u32 = 8;

@@ -47,6 +47,6 @@ pub one_json : (root : Packed) (a b : List ℕ) → IsTreeJson root a → IsTree
 one_json root a b x y =
     let tally : x.tally ≡ y.tally = one_tally root x.tally y.tally x.counted y.counted in
     let champions : x.champions ≡ y.champions = one_list_of_champions root y.tally.best x.champions y.champions
-        (subst (λ (t : Tally). AreAll (IsTreeChampion root t.best) x.champions) tally x.are_champions) y.are_champions in
+    (subst (λ (t : Tally). AreAll (IsTreeChampion root t.best) x.champions) tally x.are_champions) y.are_champions in
     x.is ∙ (ap (λ (t : Tally). report_text root (Complete t.best) t x.champions []) tally
     ∙ (ap (λ (cs : List Packed). report_text root (Complete y.tally.best) y.tally cs []) champions ∙ sym y.is))

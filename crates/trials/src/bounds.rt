@@ -17,7 +17,11 @@ const NONE: Bound = Bound::Closed { best: None };
 #[test]
 fn a_settled_tree_is_closed(rt: HostRuntime) {
     let mut board = board_of(&rt, rt.alloc(), "------");
-    bounds_are(&rt, &board, &[("------", Bound::Open), ("0RA---", Bound::Unknown)]);
+    bounds_are(
+        &rt,
+        &board,
+        &[("------", Bound::Open), ("0RA---", Bound::Unknown)],
+    );
     for record in ["------ H 1", "0RA--- T 0 1 R", "1RA--- U"] {
         take(&rt, &mut board, record);
     }
@@ -25,7 +29,11 @@ fn a_settled_tree_is_closed(rt: HostRuntime) {
     bounds_are(
         &rt,
         &board,
-        &[("------", Bound::Open), ("0RA---", NONE), ("1RA---", Bound::Open)],
+        &[
+            ("------", Bound::Open),
+            ("0RA---", NONE),
+            ("1RA---", Bound::Open),
+        ],
     );
     assert!(rt; offered(&rt, &mut board, "1RA--- U") == Ok(Taken::Known));
     assert!(rt; offered(&rt, &mut board, "1RA--- T 0 1 R") == Ok(Taken::Settled));
@@ -98,7 +106,12 @@ fn boards_are_merged_in_either_order(rt: HostRuntime) {
                 ("1RB1LB_1LA---", Bound::Unknown),
             ],
         );
-        for text in ["------_------", "0RB---_------", "1RB---_------", "1RA---_------"] {
+        for text in [
+            "------_------",
+            "0RB---_------",
+            "1RB---_------",
+            "1RA---_------",
+        ] {
             assert!(rt; board.verdict(&table_of(&rt, text)).is_some(), "{text}");
             assert!(rt; board.is_recorded(&table_of(&rt, text)), "{text}");
         }

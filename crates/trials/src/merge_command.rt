@@ -127,9 +127,11 @@ const X: &str = "bb-ledger 1 ------_------\n------_------ H 1\n0RB---_------ H 2
 const Y: &str =
     "bb-ledger 1 ------_------\n------_------ H 1\n1RB---_------ H 2\n1RA---_------ T 0 1 R\n";
 
-const X_THEN_Y: &str = "bb-ledger 1 ------_------\n------_------ H 1\n0RB---_------ H 2\n1RB---_------ H 2\n1RA---_------ T 0 1 R\n";
+const X_THEN_Y: &str =
+    "bb-ledger 1 ------_------\n------_------ H 1\n0RB---_------ H 2\n1RB---_------ H 2\n1RA---_------ T 0 1 R\n";
 
-const Y_THEN_X: &str = "bb-ledger 1 ------_------\n------_------ H 1\n1RB---_------ H 2\n1RA---_------ T 0 1 R\n0RB---_------ H 2\n";
+const Y_THEN_X: &str =
+    "bb-ledger 1 ------_------\n------_------ H 1\n1RB---_------ H 2\n1RA---_------ T 0 1 R\n0RB---_------ H 2\n";
 
 #[test]
 fn two_ledgers_are_joined(rt: HostRuntime) {
@@ -222,7 +224,10 @@ fn absent_files_end_a_merge(rt: HostRuntime) -> Result<(), Fail> {
         let merging = Merging { first, second, out };
         let ended = cmd_merge(alloc, merging, &host, &mut said, &mut told);
         assert_eq!(rt; told.kept.as_slice(), faults.as_bytes());
-        assert!(rt; said.kept.is_empty() && ended != Outcome::Accepted, "{first} {second} {out}");
+        assert!(rt;
+            said.kept.is_empty() && ended != Outcome::Accepted,
+            "{first} {second} {out}"
+        );
     }
     Ok(())
 }

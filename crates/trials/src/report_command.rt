@@ -145,12 +145,16 @@ fn failing_files_end_the_command(rt: HostRuntime) {
     let mut said = Sink::new(alloc, usize::MAX, ALWAYS);
     let mut told = Sink::new(alloc, usize::MAX, ALWAYS);
     let absent: io::Result<Opened<Source<'_>>> = Err(io::Error::from(io::ErrorKind::NotFound));
-    assert!(rt; cmd_report(alloc, &AsLines, false, absent, &mut said, &mut told) == Outcome::Failed);
+    assert!(rt;
+        cmd_report(alloc, &AsLines, false, absent, &mut said, &mut told) == Outcome::Failed
+    );
     assert_eq!(rt; told.kept.as_slice(), b"refused 605\n".as_slice());
     for calls in 0..3 {
         told.kept.clear();
         let file = file_of(COMPLETE, 20, calls);
-        assert!(rt; cmd_report(alloc, &AsLines, false, file, &mut said, &mut told) == Outcome::Failed);
+        assert!(rt;
+            cmd_report(alloc, &AsLines, false, file, &mut said, &mut told) == Outcome::Failed
+        );
         assert_eq!(rt; told.kept.as_slice(), b"refused 605\n".as_slice());
     }
     assert!(rt; said.kept.is_empty());
@@ -192,7 +196,9 @@ fn why_a_line_is_left_is_told(rt: HostRuntime) -> Result<(), Fail> {
         let mut said = Sink::new(alloc, usize::MAX, ALWAYS);
         let mut told = Sink::new(alloc, usize::MAX, ALWAYS);
         let file = file_of(ledger.as_bytes(), 1000, ALWAYS);
-        assert!(rt; cmd_report(alloc, &AsLines, true, file, &mut said, &mut told) == Outcome::Refused);
+        assert!(rt;
+            cmd_report(alloc, &AsLines, true, file, &mut said, &mut told) == Outcome::Refused
+        );
         let begun = format!(in alloc; "line {line} isn't kept: {number}")?;
         assert!(rt; told.kept.starts_with(begun.as_bytes()), "{rest}");
         assert!(rt; begun.len() + 1 < told.kept.len() && told.kept.last() == Some(&b'\n'));
@@ -200,7 +206,9 @@ fn why_a_line_is_left_is_told(rt: HostRuntime) -> Result<(), Fail> {
         let file = file_of(ledger.as_bytes(), 1000, ALWAYS);
         let mut full = Sink::new(alloc, usize::MAX, 0);
         let mut again = Sink::new(alloc, usize::MAX, ALWAYS);
-        assert!(rt; cmd_report(alloc, &AsLines, true, file, &mut again, &mut full) == Outcome::Failed);
+        assert!(rt;
+            cmd_report(alloc, &AsLines, true, file, &mut again, &mut full) == Outcome::Failed
+        );
         assert!(rt; again.kept == said.kept);
     }
     let mut said = Sink::new(alloc, usize::MAX, ALWAYS);

@@ -92,19 +92,26 @@ fn what_becomes_open_stays_open(rt: HostRuntime) -> Result<(), Fail> {
         assert!(rt; out.frames.starts_with(b"ACK "), "{frame}");
     }
     let out = node.on(Event::Frame(b"ASK 1"))?;
-    assert_eq!(rt; out.frames.as_slice(), b"GRANT 1 1 1RB---_0LA---\n".as_slice());
+    assert_eq!(rt;
+        out.frames.as_slice(),
+        b"GRANT 1 1 1RB---_0LA---\n".as_slice()
+    );
     Ok(())
 }
 
 #[test]
 fn a_ledger_is_cut_to_what_is_kept(rt: HostRuntime) -> Result<(), Fail> {
     // Nothing is settled: the holdout needs a cycle, which isn't looked for.
-    let kept = b"bb-ledger 1 ------_------\n------_------ H 1\n0RB---_------ H 2\n0RB---_0LA--- U\n";
+    let kept =
+        b"bb-ledger 1 ------_------\n------_------ H 1\n0RB---_------ H 2\n0RB---_0LA--- U\n";
     let mut held = kept.to_vec(rt.alloc())?;
     held.extend_from_slice(b"0RB---_0LA--- C 0")?;
     let end = ended(rt.alloc(), &held, 0)?;
     assert_eq!(rt; end.ledger.text(), kept.as_slice());
-    assert!(rt; end.answers.starts_with(b"root ------_------\nstatus working\n"));
+    assert!(rt;
+        end.answers
+            .starts_with(b"root ------_------\nstatus working\n")
+    );
     assert!(rt; end.faults.is_empty() && end.outcome == Outcome::Refused);
     Ok(())
 }

@@ -79,12 +79,14 @@ struct Ending {
 }
 
 fn ended(
+    rt: &impl Abort,
     alloc: Global,
     settling: &Settling,
     held: &[u8],
     ledger_fails_at: u64,
     writes_left: u64,
 ) -> Result<Ending, Fail> {
+    assert!(rt; 1 <= settling.states && settling.states <= 6);
     let mut workers = Vec::new(alloc);
     for id in 1..=settling.workers {
         let (worker, started) = Worker::start(alloc, u32::from(id), b"", finders_of(alloc)?, STEPS);
@@ -122,7 +124,8 @@ fn ended(
 const ONE_STATE: &[u8] =
     b"root ------\nstatus complete\nnodes 3\nhalting 1\nnever 2\nholdouts 0\nopen 0\nbest 1\nchampion ------\n";
 
-const TWO_STATES: &[u8] = b"root ------_------\nstatus complete\nnodes 61\nhalting 19\nnever 42\nholdouts 0
+const TWO_STATES: &[u8] =
+    b"root ------_------\nstatus complete\nnodes 61\nhalting 19\nnever 42\nholdouts 0
 open 0\nbest 6\nchampion 0RB---_1LA1RB\nchampion 1RB---_0LB1LA\nchampion 1RB---_1LB1LA\nchampion 1RB0LB_1LA---
 champion 1RB1LB_1LA---\n";
 
@@ -137,7 +140,7 @@ fn small_trees_are_settled(rt: HostRuntime) -> Result<(), Fail> {
         (2, 5, Some(3), TWO_STATES),
     ] {
         let asked = settling(states, workers, lose, 1_000_000, false);
-        let end = ended(rt.alloc(), &asked, b"", 0, ALWAYS)?;
+        let end = ended(&rt, rt.alloc(), &asked, b"", 0, ALWAYS)?;
         assert_eq!(rt; end.answers.as_slice(), report);
         assert!(rt; end.faults.is_empty() && end.outcome == Outcome::Accepted);
     }
@@ -150,11 +153,11 @@ const LEDGER: &[u8] = b"bb-ledger 1 ------\n------ H 1\n0RA--- T 0 1 R\n1RA--- T
 fn a_run_goes_on_where_its_ledger_ends(rt: HostRuntime) -> Result<(), Fail> {
     let asked = settling(1, 2, None, 1_000_000, false);
     for count in 0..=LEDGER.len() {
-        let end = ended(rt.alloc(), &asked, &LEDGER[..count], 0, ALWAYS)?;
+        let end = ended(&rt, rt.alloc(), &asked, &LEDGER[..count], 0, ALWAYS)?;
         assert_eq!(rt; end.answers.as_slice(), ONE_STATE);
         assert!(rt; end.outcome == Outcome::Accepted, "{count}");
         // Its ledger then holds a complete run: it is loaded, and nothing is appended.
-        let again = ended(rt.alloc(), &asked, end.ledger.text(), 0, ALWAYS)?;
+        let again = ended(&rt, rt.alloc(), &asked, end.ledger.text(), 0, ALWAYS)?;
         assert_eq!(rt; again.answers.as_slice(), ONE_STATE);
         assert_eq!(rt; again.ledger.text(), end.ledger.text());
     }
@@ -168,7 +171,7 @@ const ONE_STATE_AS_JSON: &[u8] =
 fn a_run_is_reported_as_json(rt: HostRuntime) -> Result<(), Fail> {
     let mut asked = settling(1, 2, None, 1_000_000, false);
     asked.json = true;
-    let end = ended(rt.alloc(), &asked, b"", 0, ALWAYS)?;
+    let end = ended(&rt, rt.alloc(), &asked, b"", 0, ALWAYS)?;
     assert_eq!(rt; end.answers.as_slice(), ONE_STATE_AS_JSON);
     assert!(rt; end.outcome == Outcome::Accepted);
     Ok(())
@@ -178,6 +181,7 @@ fn a_run_is_reported_as_json(rt: HostRuntime) -> Result<(), Fail> {
 fn a_run_that_is_cut_short_is_no_complete_one(rt: HostRuntime) -> Result<(), Fail> {
     // In the first round the workers only ask.
     let end = ended(
+        &rt,
         rt.alloc(),
         &settling(1, 2, None, 1, false),
         b"",
@@ -214,7 +218,7 @@ fn what_fails_ends_a_run(rt: HostRuntime) -> Result<(), Fail> {
         ),
     ] {
         let asked = settling(1, 2, None, 1_000_000, false);
-        let end = ended(rt.alloc(), &asked, held, fails_at, writes_left)?;
+        let end = ended(&rt, rt.alloc(), &asked, held, fails_at, writes_left)?;
         assert_eq!(rt; end.faults.as_slice(), faults.as_bytes());
         assert!(rt; end.answers.is_empty() && end.outcome == outcome);
     }
@@ -224,7 +228,7 @@ fn what_fails_ends_a_run(rt: HostRuntime) -> Result<(), Fail> {
 #[test]
 fn a_run_tells_how_far_it_is(rt: HostRuntime) -> Result<(), Fail> {
     let asked = settling(1, 2, None, 1_000_000, true);
-    let end = ended(rt.alloc(), &asked, b"", 0, ALWAYS)?;
+    let end = ended(&rt, rt.alloc(), &asked, b"", 0, ALWAYS)?;
     assert_eq!(rt; end.answers.as_slice(), ONE_STATE);
     // The clock is read before the first round and after each, of which there are two: in the first the workers
     // ask, in the second one of them makes all records.

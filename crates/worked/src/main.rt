@@ -1,16 +1,21 @@
-//! The worked examples of README: each is run on its file of `examples/`, and printed as README shows it.
+//! The worked examples of README: each is run, on its file of `examples/` where it has one, and printed as README shows
+//! it.
 #![tactic(auto)]
 
 use backward::BackwardFinder;
 use cert::{Finder, Finders};
-use commands::{AsLines, Opened, Outcome, cmd_check, cmd_decide, cmd_report};
+use commands::{
+    AsLines, Opened, Outcome, Search, Settling, cmd_check, cmd_decide, cmd_report, cmd_run,
+};
 use far::FarFinder;
+use lease_core::Worker;
 use loops::{CycleFinder, TranslatedFinder};
 use ngram_cps::NgramFinder;
 use run::HaltFinder;
 use std::fs::{self, OpenFile};
 use std::io;
 use std::process::ExitCode;
+use wire::MemLedger;
 
 const CHECKED: [&str; 1] = ["champions.txt"];
 
@@ -25,9 +30,32 @@ const DECIDED: [(&str, &str, u64, u64); 2] = [
     ("--gram 4 --far 3 ", "known.txt", 4, 3),
 ];
 
-const REPORTED: [(&str, bool); 2] = [("one-state.ledger", false), ("two-states.ledger", true)];
+const REPORTED: [(&str, bool); 4] = [
+    ("one-state.ledger", false),
+    ("two-states.ledger", false),
+    ("three-states.ledger", false),
+    ("unfit.ledger", true),
+];
+
+// `bb run 3 --far 3`
+const SETTLING: Settling = Settling {
+    states: 3,
+    workers: 2,
+    lose: None,
+    rounds: 1_000_000,
+    search: Search {
+        steps: STEPS,
+        depth: DEPTH,
+        gram: 3,
+        far: 3,
+    },
+    json: false,
+    progress: false,
+};
 
 fn main(rt: HostRuntime) -> io::Result<ExitCode> {
+    println!(rt; "$ ./bb run 3 --far 3")?;
+    settled(&rt)?;
     for name in CHECKED {
         println!(rt; "$ ./bb check < examples/{name}")?;
         let mut records = fs::open(&rt, name)?;
@@ -52,6 +80,41 @@ fn main(rt: HostRuntime) -> io::Result<ExitCode> {
         ended(&rt, outcome)?;
     }
     Ok(ExitCode::SUCCESS)
+}
+
+// `bb run`, with workers that search as far as `SETTLING` says.
+fn settled(rt: &HostRuntime) -> io::Result<()> {
+    let alloc = rt.alloc();
+    let mut workers = Vec::new(alloc);
+    for id in [1, 2] {
+        let mut finders: Vec<Box<dyn Finder>> = Vec::new(alloc);
+        finders.push(Box::new(alloc, HaltFinder::new(alloc, STEPS))?)?;
+        finders.push(Box::new(alloc, CycleFinder::new(alloc, STEPS))?)?;
+        finders.push(Box::new(alloc, TranslatedFinder::new(alloc, STEPS))?)?;
+        finders.push(Box::new(alloc, BackwardFinder::new(alloc, DEPTH))?)?;
+        finders.push(Box::new(alloc, NgramFinder::new(alloc, SETTLING.search.gram))?)?;
+        finders.push(Box::new(alloc, FarFinder::new(alloc, SETTLING.search.far))?)?;
+        let (worker, started) = Worker::start(alloc, id, b"", finders, STEPS);
+        if started.is_ok() {
+            workers.push(worker)?;
+        }
+    }
+    let nothing = Opened {
+        reader: io::empty(),
+        length: 0,
+    };
+    let outcome = cmd_run(
+        alloc,
+        &SETTLING,
+        &AsLines,
+        Ok(nothing),
+        &mut MemLedger::new(alloc),
+        workers,
+        rt,
+        &mut rt.stdout(),
+        &mut rt.stdout(),
+    );
+    ended(rt, outcome)
 }
 
 // `bb decide`, with its defaults but for the width of words and the size of automata.

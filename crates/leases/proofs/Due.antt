@@ -120,7 +120,7 @@ drop_past [] (suc i) all = refl
 drop_past (x ∷ xs) zero all = absurd (omega arith)
 drop_past (x ∷ xs) (suc i) all = drop_past xs i (omega arith)
 
-same_place : (xs : List ℕ) (i d e : ℕ) → i < length xs → get_or xs i d ≡ get_or xs i e
+pub same_place : (xs : List ℕ) (i d e : ℕ) → i < length xs → get_or xs i d ≡ get_or xs i e
 same_place [] i d e below = absurd (omega arith)
 same_place (x ∷ xs) zero d e below = refl
 same_place (x ∷ xs) (suc i) d e below = same_place xs i d e (omega arith)

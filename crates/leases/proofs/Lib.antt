@@ -9,3 +9,4 @@ pub mod Asking
 pub mod ChildCount
 pub mod ChildLaws
 pub mod Offering
+pub mod DeadlineLaws

@@ -142,7 +142,7 @@ holds_shown b first ls before came free moment given same same_came holds =
     )
 
 -- a write to a list puts its item in, and leaves those at other places
-set_member : (xs : List Kept) (i : ℕ) (y x : Kept) → i < length xs → Contains (set xs i y) x → (x ≡ y) ⊎ ((j : ℕ) × (j ≢ i) × (j < length xs) × (get_or xs j x ≡ x))
+pub set_member : (xs : List Kept) (i : ℕ) (y x : Kept) → i < length xs → Contains (set xs i y) x → (x ≡ y) ⊎ ((j : ℕ) × (j ≢ i) × (j < length xs) × (get_or xs j x ≡ x))
 set_member xs i y x within h =
     elim (eqb_tells h.0 i) [
       | inl same ↦ inl (sym h.2 ∙ (ap (λ k. get_or (set xs i y) k x) same.1 ∙ get_or-set_same xs i y x within))

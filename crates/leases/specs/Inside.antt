@@ -2,3 +2,4 @@
 pub mod Free
 pub mod Keeping
 pub mod Children
+pub mod Deadlines

@@ -9,6 +9,8 @@
 
 mod board_calls;
 mod children;
+mod deadlines;
+mod ended_leases;
 mod first_free;
 mod free_tables;
 mod held_leases;

@@ -9,10 +9,13 @@ ghost use Rattle.leases.specs.Leases.{is_live};
 ghost use Rattle.leases.specs.Limits.{child_limit};
 ghost use Rattle.leases.specs.Inside.Keeping.{Kept, kept, held, is_numbered, without, are_numbered, without_each, AreDue, AreOffered, IsOwn};
 ghost use Rattle.leases.specs.Inside.Children.{Renews, RenewsOne, HasRoom, shown};
+ghost use Rattle.leases.specs.Inside.Deadlines.{AreNotAhead};
 
 use crate::children::lease_children;
+use crate::deadlines::Deadlines;
+use crate::ended_leases::{put_back, take_ended};
 use crate::free_tables::FreeTables;
-use crate::held_leases::{HeldLease, is_due, offer_all};
+use crate::held_leases::{HeldLease, offer_all};
 use crate::limits::MAX_CHILDREN;
 use indexmap::IndexMap;
 use ledger::Board;
@@ -28,6 +31,8 @@ pub struct LiveLeases {
     leases: BTreeMap<u64, HeldLease>,
     // the number of each worker's lease
     of_worker: IndexMap<u32, u64>,
+    // for each lease an entry at the moment when it was given or renewed, or before; others may be there
+    deadlines: Deadlines,
 }
 
 impl Model for LiveLeases {
@@ -36,12 +41,14 @@ impl Model for LiveLeases {
     ghost use Rattle.std.specs.BTreeMap.{get as lease_at, IsOrdered};
     ghost use Rattle.indexmap.specs.IndexMap.{get as number_of};
     ghost use Rattle.leases.specs.Inside.Keeping.{Kept, kept, AreOfWorkers};
+    ghost use Rattle.leases.specs.Inside.Deadlines.{AreAwaited};
 
     ghost Value = { List Kept };
 
     ghost view = { λ a. map kept a.leases.entries };
 
-    ghost invariant = { λ a. IsOrdered nat_cmp a.leases × AreOfWorkers (number_of nat_eq a.of_worker) (lease_at nat_cmp a.leases) };
+    ghost invariant = { λ a. IsOrdered nat_cmp a.leases × AreOfWorkers (number_of nat_eq a.of_worker) (lease_at nat_cmp a.leases)
+        × AreAwaited a.deadlines.entries (lease_at nat_cmp a.leases) };
 }
 
 impl LiveLeases {
@@ -52,6 +59,7 @@ impl LiveLeases {
         LiveLeases {
             leases: BTreeMap::new(alloc),
             of_worker: IndexMap::new(alloc),
+            deadlines: Deadlines::new(alloc),
         }
     }
 
@@ -85,15 +93,15 @@ impl LiveLeases {
     }
 
     // The numbers of the leases that have ended by a moment.
-    pub fn due(&self, alloc: Global, moment: u64) -> Result<Vec<u64>, NoMemory>
-        ensures { IfOk result (λ numbers. AreDue moment (map held self.now) numbers.items) }
+    pub fn due(&mut self, alloc: Global, moment: u64) -> Result<Vec<u64>, NoMemory>
+        ensures same { self.new ≡ self.old }
+        ensures ok { IfOk result (λ numbers. AreDue moment (map held self.old) numbers.items) }
     {
         let mut numbers = Vec::new(alloc);
-        for (number, lease) in self.leases.iter() {
-            if is_due(lease.renewed, moment) {
-                numbers.push(*number)?;
-            }
-        }
+        let all = take_ended(&mut self.deadlines, &self.leases, &mut numbers, moment);
+        // They live until they are ended: where memory is refused meanwhile, the next tick finds them.
+        put_back(&mut self.deadlines, &numbers);
+        all?;
         Ok(numbers)
     }
 
@@ -156,7 +164,9 @@ impl LiveLeases {
         ensures err { OnErr result (self.new ≡ self.old) }
     {
         let id = lease.id;
+        let renewed = lease.renewed;
         self.of_worker.reserve(1)?;
+        self.deadlines.reserve_one()?;
         self.leases.insert(number, lease)?;
         // From here on nothing is refused.
         take_out(&mut self.leases, own);
@@ -164,6 +174,7 @@ impl LiveLeases {
             Ok(_) => {}
             Err(_) => unreachable!(),
         }
+        self.deadlines.push(renewed, number);
         Ok(())
     }
 
@@ -190,6 +201,7 @@ impl LiveLeases {
         requires lives { is_live (map held self.old) number ≡ true }
         requires room { HasRoom number self.old }
         requires came { child_limit ≤ spare came.old }
+        requires ahead { AreNotAhead moment self.old }
         ensures { RenewsOne board.now t.now number moment self.old self.new came.old.entries came.new.entries }
     {
         match self.leases.get_mut(&number) {

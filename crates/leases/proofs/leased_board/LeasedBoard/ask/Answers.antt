@@ -10,6 +10,7 @@ use Rattle.leases.specs.declared.reply.Reply.TheVariants.{Stop, Later, Grant}
 use Rattle.leases.proofs.Asking.{own_ends, own_ended, refused_holds, below_next}
 use Rattle.leases.proofs.Ending.{filter_held, asks_by}
 use Rattle.leases.proofs.Granting.{grants, granted_leases, granted_kept}
+use Rattle.leases.proofs.DeadlineLaws.{without_not_ahead, same_not_ahead, granted_not_ahead}
 use Rattle.leases.proofs.leased_board.LeasedBoard.ask.Goals as goal
 
 pub invariant_of-self-then-not-has_open : goal.invariant_of-self-then-not-has_open
@@ -24,7 +25,7 @@ invariant_of-self-then-not-has_open c =
     let given = c.self.inside.given in
     let is = c.of_worker-own.ensures in
     let offered = c.in_ok-offer_tables.ensures in
-    own_ended b c.args.id own ls c.end.new.self before before free more moment given is c.end.ensures refl offered.more offered.ok c.self.invariant
+    (own_ended b c.args.id own ls c.end.new.self before before free more moment given is c.end.ensures refl offered.more offered.ok c.self.invariant.0, without_not_ahead own moment ls c.end.new.self c.end.ensures c.self.invariant.1)
 
 pub returns-then-not-has_open-clause-ok : goal.returns-then-not-has_open-clause-ok
 returns-then-not-has_open-clause-ok c =
@@ -42,8 +43,10 @@ invariant_of-self-then-not-may_grant c =
     let moment = c.self.inside.moment in
     let given = c.self.inside.given in
     let is = c.of_worker-own.ensures in
-    let offered = c.in_ok-offer_tables.ensures in
-    own_ended b c.args.id own ls c.end-then-not-may_grant.new.self before before free more moment given is c.end-then-not-may_grant.ensures refl offered.more offered.ok c.self.invariant
+    let offered = c.in_ok-offer_tables.ensures in (
+      own_ended b c.args.id own ls c.end-then-not-may_grant.new.self before before free more moment given is c.end-then-not-may_grant.ensures refl offered.more offered.ok c.self.invariant.0,
+      without_not_ahead own moment ls c.end-then-not-may_grant.new.self c.end-then-not-may_grant.ensures c.self.invariant.1,
+    )
 
 pub returns-then-not-may_grant-clause-ok : goal.returns-then-not-may_grant-clause-ok
 returns-then-not-may_grant-clause-ok c =
@@ -71,26 +74,32 @@ first_free-requires c =
     let given = c.self.inside.given in
     let is = c.of_worker-own.ensures in
     let offered = c.in_ok-offer_tables.ensures in
-    let holds = own_ended b c.args.id own ls (without own ls) before before free more moment given is refl refl offered.more offered.ok c.self.invariant in
+    let holds = own_ended b c.args.id own ls (without own ls) before before free more moment given is refl refl offered.more offered.ok c.self.invariant.0 in
     λ q free. holds.1.offered q free.0 free.1
 
 pub invariant_of-self-in_err-tables-in-Some : goal.invariant_of-self-in_err-tables-in-Some
-invariant_of-self-in_err-tables-in-Some c =
-    refused_holds c.self.inside.board c.of_worker-own.result c.self.inside.live c.self.inside.live c.self.inside.came_under.entries c.self.inside.came_under.entries c.self.inside.free.tables c.first_free.new.free.tables
-    c.self.inside.moment c.self.inside.given refl refl c.first_free.ensures.kept c.self.invariant
+invariant_of-self-in_err-tables-in-Some c = (
+  refused_holds c.self.inside.board c.of_worker-own.result c.self.inside.live c.self.inside.live c.self.inside.came_under.entries c.self.inside.came_under.entries c.self.inside.free.tables c.first_free.new.free.tables
+      c.self.inside.moment c.self.inside.given refl refl c.first_free.ensures.kept c.self.invariant.0,
+  c.self.invariant.1,
+)
 
 pub invariant_of-self-in_err-reserve-in-Some : goal.invariant_of-self-in_err-reserve-in-Some
-invariant_of-self-in_err-reserve-in-Some c =
-    refused_holds c.self.inside.board c.of_worker-own.result c.self.inside.live c.self.inside.live c.self.inside.came_under.entries c.reserve.new.self.entries c.self.inside.free.tables c.first_free.new.free.tables
-    c.self.inside.moment c.self.inside.given refl c.reserve.ensures.entries c.first_free.ensures.kept c.self.invariant
+invariant_of-self-in_err-reserve-in-Some c = (
+  refused_holds c.self.inside.board c.of_worker-own.result c.self.inside.live c.self.inside.live c.self.inside.came_under.entries c.reserve.new.self.entries c.self.inside.free.tables c.first_free.new.free.tables
+      c.self.inside.moment c.self.inside.given refl c.reserve.ensures.entries c.first_free.ensures.kept c.self.invariant.0,
+  c.self.invariant.1,
+)
 
 pub replace-requires-clause-last : goal.replace-requires-clause-last
-replace-requires-clause-last c = below_next c.self.inside.board c.self.inside.live c.self.inside.came_under.entries c.self.inside.moment c.self.inside.given c.self.invariant.0
+replace-requires-clause-last c = below_next c.self.inside.board c.self.inside.live c.self.inside.came_under.entries c.self.inside.moment c.self.inside.given c.self.invariant.0.0
 
 pub invariant_of-self-in_err-replace-in-Some : goal.invariant_of-self-in_err-replace-in-Some
-invariant_of-self-in_err-replace-in-Some c =
-    refused_holds c.self.inside.board c.of_worker-own.result c.self.inside.live c.replace.new.self c.self.inside.came_under.entries c.reserve.new.self.entries c.self.inside.free.tables c.first_free.new.free.tables
-    c.self.inside.moment c.self.inside.given c.in_err-replace-in-Some.ensures.err c.reserve.ensures.entries c.first_free.ensures.kept c.self.invariant
+invariant_of-self-in_err-replace-in-Some c = (
+  refused_holds c.self.inside.board c.of_worker-own.result c.self.inside.live c.replace.new.self c.self.inside.came_under.entries c.reserve.new.self.entries c.self.inside.free.tables c.first_free.new.free.tables
+      c.self.inside.moment c.self.inside.given c.in_err-replace-in-Some.ensures.err c.reserve.ensures.entries c.first_free.ensures.kept c.self.invariant.0,
+  same_not_ahead c.self.inside.moment c.self.inside.live c.replace.new.self c.in_err-replace-in-Some.ensures.err c.self.invariant.1,
+)
 
 pub invariant_of-self-in-Some : goal.invariant_of-self-in-Some
 unfolding same_table
@@ -115,13 +124,15 @@ invariant_of-self-in-Some c =
     let update : ComesUnder came t (given + 1) next = λ q. c.in-Ok.ensures.updates.0 q in
     let count : length (map held kept_ones) ≡ c.len_without.result = length-map kept_ones held ∙ sym c.len_without.ensures in
     let may = c.may_grant.ensures.0 c.if-not-may_grant.false in
-    let holds = own_ended b c.args.id own ls kept_ones before came free more moment given is refl same_came offered.more offered.ok c.self.invariant in
+    let holds = own_ended b c.args.id own ls kept_ones before came free more moment given is refl same_came offered.more offered.ok c.self.invariant.0 in
     let ended : map held kept_ones ≡ filter (λ x. not (nat_eq x.id c.args.id)) (map held ls) = ap (map held) (own_ends c.args.id own ls kept_ones is refl) ∙ filter_held (λ (x : Lease). nat_eq x.id c.args.id) ls in
     let tables : l.tables ≡ t ∷ [] = c.push_reserved.ensures.items ∙ ap (λ (ts : List Packed). ts ++ (t ∷ [])) c.in_ok-tables-in-Some.ensures.items in
-    let left = subst (λ (came : List (Packed × ℕ)). (q : Packed) → IsFree b (seen kept_ones came 0 0) q → Contains rest q) (sym same_came) c.first_free.ensures.kept in
-    subst (λ (items : List Kept). AreLeases b (seen items next moment (given + 1)) × IsKept b items next rest) (sym c.in_ok-replace-in-Some.ensures.ok) (
-      granted_leases b kept_ones came next moment given l t (map held ls) holds.0 ended (subst (λ n. n < 4096) (sym count) may.0) refl c.in-Some.ensures.first.0.0 update,
-      granted_kept b kept_ones came next moment given l t more rest holds.0 holds.1 refl tables update (λ q free other. left q free),
+    let left = subst (λ (came : List (Packed × ℕ)). (q : Packed) → IsFree b (seen kept_ones came 0 0) q → Contains rest q) (sym same_came) c.first_free.ensures.kept in (
+      subst (λ (items : List Kept). AreLeases b (seen items next moment (given + 1)) × IsKept b items next rest) (sym c.in_ok-replace-in-Some.ensures.ok) (
+        granted_leases b kept_ones came next moment given l t (map held ls) holds.0 ended (subst (λ n. n < 4096) (sym count) may.0) refl c.in-Some.ensures.first.0.0 update,
+        granted_kept b kept_ones came next moment given l t more rest holds.0 holds.1 refl tables update (λ q free other. left q free),
+      ),
+      granted_not_ahead own moment ls c.replace.new.self l c.in_ok-replace-in-Some.ensures.ok refl c.self.invariant.1,
     )
 
 pub invariant_of-self-in-None : goal.invariant_of-self-in-None
@@ -137,9 +148,9 @@ invariant_of-self-in-None c =
     let is = c.of_worker-own.ensures in
     let offered = c.in_ok-offer_tables.ensures in
     let kept_ones = c.end-in-None.new.self in
-    let holds = own_ended b c.args.id own ls kept_ones before before free more moment given is c.end-in-None.ensures refl offered.more offered.ok c.self.invariant in
+    let holds = own_ended b c.args.id own ls kept_ones before before free more moment given is c.end-in-None.ensures refl offered.more offered.ok c.self.invariant.0 in
     let none = subst (λ (live : List Kept). (q : Packed) → IsFree b (seen live before 0 0) q → ⊥) (sym c.end-in-None.ensures) c.in-None.ensures.none in
-    (holds.0, record { listed = holds.1.listed; offered = λ t is_open free. absurd (none t (is_open, free)) })
+    ((holds.0, record { listed = holds.1.listed; offered = λ t is_open free. absurd (none t (is_open, free)) }), without_not_ahead own moment ls c.end-in-None.new.self c.end-in-None.ensures c.self.invariant.1)
 
 pub returns-in-Ok-clause-ok : goal.returns-in-Ok-clause-ok
 unfolding same_table
@@ -164,7 +175,7 @@ returns-in-Ok-clause-ok c =
     let update : ComesUnder came t (given + 1) next = λ q. c.in-Ok.ensures.updates.0 q in
     let count : length (map held kept_ones) ≡ c.len_without.result = length-map kept_ones held ∙ sym c.len_without.ensures in
     let may = c.may_grant.ensures.0 c.if-not-may_grant.false in
-    let holds = own_ended b c.args.id own ls kept_ones before came free more moment given is refl same_came offered.more offered.ok c.self.invariant in
+    let holds = own_ended b c.args.id own ls kept_ones before came free more moment given is refl same_came offered.more offered.ok c.self.invariant.0 in
     let first = subst (λ (came : List (Packed × ℕ)). IsFirstFree b (seen kept_ones came 0 0) t) (sym same_came) c.in-Some.ensures.first in
     let granted = subst (λ (items : List Kept). Grants c.args.id t (seen kept_ones came moment given) (seen items next moment (given + 1))) (sym c.in_ok-replace-in-Some.ensures.ok)
     (grants b kept_ones came next moment given l t holds.0 refl refl update) in

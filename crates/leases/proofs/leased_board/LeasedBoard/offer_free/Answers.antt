@@ -17,9 +17,11 @@ returns-in_err-reserve-clause-gives c = inr (err_is c.from_residual.result NoMem
 
 pub invariant_of-self-in-Err : goal.invariant_of-self-in-Err
 invariant_of-self-in-Err c =
-    let same = same_board c.offer.new.self c.self.inside.board c.in-Err.ensures.root (refused_board c.self.inside.board.root c.self.inside.board.records c.offer.new.self.records (recorded c.args.r.now) c.in-Err.fault c.in-Err.ensures.gives) in
-    subst (λ (b : Contents). AreLeases b (seen c.self.inside.live c.self.inside.came_under.entries c.self.inside.moment c.self.inside.given) × IsKept b c.self.inside.live c.self.inside.came_under.entries c.reserve.new.self.tables) (sym same)
-    (subst (λ (free : List Packed). AreLeases c.self.inside.board (seen c.self.inside.live c.self.inside.came_under.entries c.self.inside.moment c.self.inside.given) × IsKept c.self.inside.board c.self.inside.live c.self.inside.came_under.entries free) (sym c.in_ok-reserve.ensures.tables) c.self.invariant)
+    let same = same_board c.offer.new.self c.self.inside.board c.in-Err.ensures.root (refused_board c.self.inside.board.root c.self.inside.board.records c.offer.new.self.records (recorded c.args.r.now) c.in-Err.fault c.in-Err.ensures.gives) in (
+      subst (λ (b : Contents). AreLeases b (seen c.self.inside.live c.self.inside.came_under.entries c.self.inside.moment c.self.inside.given) × IsKept b c.self.inside.live c.self.inside.came_under.entries c.reserve.new.self.tables) (sym same)
+          (subst (λ (free : List Packed). AreLeases c.self.inside.board (seen c.self.inside.live c.self.inside.came_under.entries c.self.inside.moment c.self.inside.given) × IsKept c.self.inside.board c.self.inside.live c.self.inside.came_under.entries free) (sym c.in_ok-reserve.ensures.tables) c.self.invariant.0),
+      c.self.invariant.1,
+    )
 
 pub invariant_of-self-in-Ok-New : goal.invariant_of-self-in-Ok-New
 unfolding same_table
@@ -36,8 +38,11 @@ invariant_of-self-in-Ok-New c =
     let opens : Opens old new t = opens_new old new (recorded c.args.r.now) c.child_is_table.ensures.below c.root.ensures.board c.in-Ok-New.ensures.root gives.0 gives.1 in
     let keeps : KeepsAll free more = λ q h. c.free_children.ensures.more q (subst (λ (l : List Packed). Contains l q) (sym c.in_ok-reserve.ensures.tables) h) in
     let out : GoesOut came t next = λ q. c.swap_remove.ensures.updates.0 q in (
-      free_new_leases old new ls came next free more c.self.inside.moment c.self.inside.given t opens c.self.invariant.0 c.self.invariant.1 keeps c.free_children.ensures.all out,
-      free_new_kept old new ls came next free more c.self.inside.moment c.self.inside.given t opens c.self.invariant.0 c.self.invariant.1 keeps c.free_children.ensures.all out,
+      (
+        free_new_leases old new ls came next free more c.self.inside.moment c.self.inside.given t opens c.self.invariant.0.0 c.self.invariant.0.1 keeps c.free_children.ensures.all out,
+        free_new_kept old new ls came next free more c.self.inside.moment c.self.inside.given t opens c.self.invariant.0.0 c.self.invariant.0.1 keeps c.free_children.ensures.all out,
+      ),
+      c.self.invariant.1,
     )
 
 pub returns-in-Ok-New-clause-leases : goal.returns-in-Ok-New-clause-leases
@@ -57,7 +62,7 @@ returns-in-Ok-New-clause-leases c =
     let out : GoesOut came t next = λ q. c.swap_remove.ensures.updates.0 q in
     let none = subst (λ (s : Leased). lease_of s.leases t ≡ None) (sym c.self.view_is) c.requires in
     subst (λ (s : Leased). TakesNew t s (record { board = new; leases = seen ls next c.self.inside.moment c.self.inside.given })) c.self.view_is
-    (free_new_takes old new ls came next free more c.self.inside.moment c.self.inside.given t opens c.self.invariant.0 c.self.invariant.1 keeps c.free_children.ensures.all out none)
+    (free_new_takes old new ls came next free more c.self.inside.moment c.self.inside.given t opens c.self.invariant.0.0 c.self.invariant.0.1 keeps c.free_children.ensures.all out none)
 
 pub invariant_of-self-in-Ok-Settled : goal.invariant_of-self-in-Ok-Settled
 invariant_of-self-in-Ok-Settled c =
@@ -71,8 +76,11 @@ invariant_of-self-in-Ok-Settled c =
     let gives = rw c.in-Ok-Settled.field-0-is at c.in-Ok-Settled.ensures.gives in
     let opens : Opens old new t = opens_settled old new (recorded c.args.r.now) c.child_is_table.ensures.below c.root.ensures.board c.in-Ok-Settled.ensures.root gives.0 gives.1 in
     let keeps : KeepsAll free more = λ q h. c.free_children-in-Ok-Settled.ensures.more q (subst (λ (l : List Packed). Contains l q) (sym c.in_ok-reserve.ensures.tables) h) in (
-      settled_leases old new ls came came free more c.self.inside.moment c.self.inside.given t opens c.self.invariant.0 c.self.invariant.1 keeps c.free_children-in-Ok-Settled.ensures.all (holdout_not_open old t gives.0.is_holdout),
-      settled_kept old new ls came came free more c.self.inside.moment c.self.inside.given t opens c.self.invariant.0 c.self.invariant.1 keeps c.free_children-in-Ok-Settled.ensures.all,
+      (
+        settled_leases old new ls came came free more c.self.inside.moment c.self.inside.given t opens c.self.invariant.0.0 c.self.invariant.0.1 keeps c.free_children-in-Ok-Settled.ensures.all (holdout_not_open old t gives.0.is_holdout),
+        settled_kept old new ls came came free more c.self.inside.moment c.self.inside.given t opens c.self.invariant.0.0 c.self.invariant.0.1 keeps c.free_children-in-Ok-Settled.ensures.all,
+      ),
+      c.self.invariant.1,
     )
 
 pub returns-in-Ok-Settled-clause-leases : goal.returns-in-Ok-Settled-clause-leases
@@ -88,4 +96,4 @@ returns-in-Ok-Settled-clause-leases c =
     let opens : Opens old new t = opens_settled old new (recorded c.args.r.now) c.child_is_table.ensures.below c.root.ensures.board c.in-Ok-Settled.ensures.root gives.0 gives.1 in
     let keeps : KeepsAll free more = λ q h. c.free_children-in-Ok-Settled.ensures.more q (subst (λ (l : List Packed). Contains l q) (sym c.in_ok-reserve.ensures.tables) h) in
     subst (λ (s : Leased). TakesSettled s (record { board = new; leases = seen ls came c.self.inside.moment c.self.inside.given })) c.self.view_is
-    (settled_takes old new ls came came free more c.self.inside.moment c.self.inside.given t opens c.self.invariant.0 c.self.invariant.1 keeps c.free_children-in-Ok-Settled.ensures.all)
+    (settled_takes old new ls came came free more c.self.inside.moment c.self.inside.given t opens c.self.invariant.0.0 c.self.invariant.0.1 keeps c.free_children-in-Ok-Settled.ensures.all)

@@ -12,6 +12,7 @@ use Rattle.leases.specs.Inside.Keeping.{Kept, held, seen, IsKept}
 use Rattle.leases.specs.Inside.Children.{RenewsOne, shown}
 use Rattle.leases.proofs.ChildLaws.{Opens, opens_new}
 use Rattle.leases.proofs.Offering.{GoesOut, err_is, same_board, refused_board, same_held, holds_shown, seen_shown, while_lives, under_new_leases, under_new_kept, under_new_takes}
+use Rattle.leases.proofs.DeadlineLaws.{shown_not_ahead, renewed_not_ahead}
 use Rattle.leases.proofs.leased_board.LeasedBoard.offer_under.Goals as goal
 
 pub invariant_of-self-in_err-make_room : goal.invariant_of-self-in_err-make_room
@@ -27,7 +28,7 @@ invariant_of-self-in_err-make_room c =
     let t = c.args.r.now.table in
     let same : map shown ls ≡ map shown first = c.make_room.ensures.shown in
     let same_came : came ≡ before = c.in_ok-reserve.ensures.entries in
-    holds_shown old first ls before came free moment given same same_came c.self.invariant
+    (holds_shown old first ls before came free moment given same same_came c.self.invariant.0, shown_not_ahead moment first ls same c.self.invariant.1)
 
 pub returns-in_err-make_room-clause-leases : goal.returns-in_err-make_room-clause-leases
 returns-in_err-make_room-clause-leases c =
@@ -58,7 +59,7 @@ invariant_of-self-in-Ok-New c =
     let t = c.args.r.now.table in
     let same : map shown ls ≡ map shown first = c.make_room.ensures.shown in
     let same_came : came ≡ before = c.in_ok-reserve.ensures.entries in
-    let holds = holds_shown old first ls before came free moment given same same_came c.self.invariant in
+    let holds = holds_shown old first ls before came free moment given same same_came c.self.invariant.0 in
     let new = c.offer.new.self in
     let mid = c.swap_remove.new.self.entries in
     let next = c.renew.new.came.entries in
@@ -67,11 +68,16 @@ invariant_of-self-in-Ok-New c =
     let out : GoesOut came t mid = λ q. c.swap_remove.ensures.updates.0 q in
     let put : RenewsOne new t c.args.number moment ls c.renew.new.self mid next = c.renew.ensures in
     let at = put.0 in
-    let l = put.1 in
-    subst (λ (xs : List Kept). AreLeases new (seen xs next moment given) × IsKept new xs next free) (sym put.4) (
-      under_new_leases old new ls at l came mid next free moment given c.args.number t opens holds.0 holds.1 put.2 out put.3 put.5,
-      under_new_kept old new ls at l came mid next free moment given c.args.number t opens holds.0 holds.1 put.2 out put.3 put.5,
+    let l = put.1 in (
+      subst (λ (xs : List Kept). AreLeases new (seen xs next moment given) × IsKept new xs next free) (sym put.4) (
+        under_new_leases old new ls at l came mid next free moment given c.args.number t opens holds.0 holds.1 put.2 out put.3 put.5,
+        under_new_kept old new ls at l came mid next free moment given c.args.number t opens holds.0 holds.1 put.2 out put.3 put.5,
+      ),
+      renewed_not_ahead moment ls c.renew.new.self at l put.2 put.4 put.5.renewed (shown_not_ahead moment first ls same c.self.invariant.1),
     )
+
+pub renew-requires-clause-ahead : goal.renew-requires-clause-ahead
+renew-requires-clause-ahead c = shown_not_ahead c.self.inside.moment c.self.inside.live c.make_room.new.self c.make_room.ensures.shown c.self.invariant.1
 
 pub invariant_of-self-in-Err : goal.invariant_of-self-in-Err
 invariant_of-self-in-Err c =
@@ -86,8 +92,10 @@ invariant_of-self-in-Err c =
     let t = c.args.r.now.table in
     let same : map shown ls ≡ map shown first = c.make_room.ensures.shown in
     let same_came : came ≡ before = c.in_ok-reserve.ensures.entries in
-    let same_now = same_board c.offer.new.self old c.in-Err.ensures.root (refused_board old.root old.records c.offer.new.self.records (recorded c.args.r.now) c.in-Err.fault c.in-Err.ensures.gives) in
-    subst (λ (b : Contents). AreLeases b (seen ls came moment given) × IsKept b ls came free) (sym same_now) (holds_shown old first ls before came free moment given same same_came c.self.invariant)
+    let same_now = same_board c.offer.new.self old c.in-Err.ensures.root (refused_board old.root old.records c.offer.new.self.records (recorded c.args.r.now) c.in-Err.fault c.in-Err.ensures.gives) in (
+      subst (λ (b : Contents). AreLeases b (seen ls came moment given) × IsKept b ls came free) (sym same_now) (holds_shown old first ls before came free moment given same same_came c.self.invariant.0),
+      shown_not_ahead moment first ls same c.self.invariant.1,
+    )
 
 pub returns-in-Ok-New-clause-leases : goal.returns-in-Ok-New-clause-leases
 unfolding same_table
@@ -103,7 +111,7 @@ returns-in-Ok-New-clause-leases c =
     let t = c.args.r.now.table in
     let same : map shown ls ≡ map shown first = c.make_room.ensures.shown in
     let same_came : came ≡ before = c.in_ok-reserve.ensures.entries in
-    let holds = holds_shown old first ls before came free moment given same same_came c.self.invariant in
+    let holds = holds_shown old first ls before came free moment given same same_came c.self.invariant.0 in
     let new = c.offer.new.self in
     let mid = c.swap_remove.new.self.entries in
     let next = c.renew.new.came.entries in

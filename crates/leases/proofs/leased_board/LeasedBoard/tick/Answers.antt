@@ -1,10 +1,28 @@
-use Rattle.std.proofs.Common.{◌≡◌, ℕ, not, refl, ◌∙◌, ap, subst, List, map, filter}
-use Rattle.leases.specs.Leases.{Leased, ended}
-use Rattle.leases.specs.Inside.Keeping.{held, seen, has_ended, are_numbered, without_each, AreDue, AreOffered}
+use Rattle.std.proofs.Common.{◌≡◌, ℕ, sym, not, refl, ◌∙◌, ap, subst, List, map, filter}
+use Rattle.leases.specs.Leases.{Leased, AreLeases, ended}
+use Rattle.leases.specs.Inside.Keeping.{Kept, held, seen, has_ended, are_numbered, without_each, AreDue, AreOffered, IsKept}
+use Rattle.leases.specs.Inside.Deadlines.{AreNotAhead}
 use Rattle.leases.proofs.Asking.{at_moment}
 use Rattle.leases.proofs.Due.{ended_each, due_offered}
 use Rattle.leases.proofs.Ending.{seen_ended, ended_holds}
+use Rattle.leases.proofs.DeadlineLaws.{fewer_not_ahead, later_not_ahead}
 use Rattle.leases.proofs.leased_board.LeasedBoard.tick.Goals as goal
+
+pub invariant_of-self : goal.invariant_of-self
+invariant_of-self c =
+    let b = c.self.inside.board in
+    let came = c.self.inside.came_under.entries in
+    let moment = c.self.inside.moment in
+    subst (λ (ls : List Kept). (AreLeases b (seen ls came moment c.self.inside.given) × IsKept b ls came c.self.inside.free.tables) × AreNotAhead moment ls) (sym c.due.ensures.same) c.self.invariant
+
+pub invariant_of-self-in_err-offer_each : goal.invariant_of-self-in_err-offer_each
+invariant_of-self-in_err-offer_each c =
+    let b = c.self.inside.board in
+    let came = c.self.inside.came_under.entries in
+    let moment = c.self.inside.moment in
+    let was = c.self.invariant.0.1 in
+    subst (λ (ls : List Kept). (AreLeases b (seen ls came moment c.self.inside.given) × IsKept b ls came c.offer_each.new.free.tables) × AreNotAhead moment ls) (sym c.due.ensures.same)
+    ((c.self.invariant.0.0, record { listed = was.listed; offered = λ t is_open none. c.offer_each.ensures.more t (was.offered t is_open none) }), c.self.invariant.1)
 
 pub invariant_of-self-2 : goal.invariant_of-self-2
 invariant_of-self-2 c =
@@ -16,11 +34,14 @@ invariant_of-self-2 c =
     let now = c.max-moment.result in
     let given = c.self.inside.given in
     let numbers = c.in_ok-numbers.numbers.items in
-    let due : AreDue now (map held ls) numbers = c.in_ok-numbers.ensures in
-    let is : kept ≡ filter (λ l. not (has_ended now (held l))) ls = c.end_each.ensures ∙ (ap (λ ns. without_each ns ls) c.deref-2.ensures.value ∙ ended_each now numbers ls due) in
-    let offered = due_offered now numbers ls more due (subst (λ (ns : List ℕ). AreOffered (λ l. are_numbered ns l.number) ls more) c.deref.ensures.value c.in_ok-offer_each.ensures.ok) in
-    ended_holds b (has_ended now) ls ls kept came came c.self.inside.free.tables more now given refl refl is c.in_ok-offer_each.ensures.more offered
-    (at_moment b ls came c.self.inside.moment now given c.self.invariant.0, c.self.invariant.1)
+    let due : AreDue now (map held ls) numbers = c.in_ok-numbers.ensures.ok in
+    let is : kept ≡ filter (λ l. not (has_ended now (held l))) ls = c.end_each.ensures ∙ (ap (λ xs. without_each c.deref-2.result.now xs) c.due.ensures.same ∙ (ap (λ ns. without_each ns ls) c.deref-2.ensures.value ∙ ended_each now numbers ls due)) in
+    let offered = due_offered now numbers ls more due (subst (λ (xs : List Kept). AreOffered (λ l. are_numbered numbers l.number) xs more) c.due.ensures.same
+    (subst (λ (ns : List ℕ). AreOffered (λ l. are_numbered ns l.number) c.due.new.self more) c.deref.ensures.value c.in_ok-offer_each.ensures.ok)) in (
+      ended_holds b (has_ended now) ls ls kept came came c.self.inside.free.tables more now given refl refl is c.in_ok-offer_each.ensures.more offered
+          (at_moment b ls came c.self.inside.moment now given c.self.invariant.0.0, c.self.invariant.0.1),
+      fewer_not_ahead (λ l. not (has_ended now (held l))) now ls kept is (later_not_ahead c.self.inside.moment c.args.t now ls c.max-moment.ensures c.self.invariant.1),
+    )
 
 pub returns-clause-ok : goal.returns-clause-ok
 returns-clause-ok c =
@@ -29,7 +50,7 @@ returns-clause-ok c =
     let now = c.max-moment.result in
     let given = c.self.inside.given in
     let numbers = c.in_ok-numbers.numbers.items in
-    let due : AreDue now (map held ls) numbers = c.in_ok-numbers.ensures in
-    let is : c.end_each.new.self ≡ filter (λ l. not (has_ended now (held l))) ls = c.end_each.ensures ∙ (ap (λ ns. without_each ns ls) c.deref-2.ensures.value ∙ ended_each now numbers ls due) in
+    let due : AreDue now (map held ls) numbers = c.in_ok-numbers.ensures.ok in
+    let is : c.end_each.new.self ≡ filter (λ l. not (has_ended now (held l))) ls = c.end_each.ensures ∙ (ap (λ xs. without_each c.deref-2.result.now xs) c.due.ensures.same ∙ (ap (λ ns. without_each ns ls) c.deref-2.ensures.value ∙ ended_each now numbers ls due)) in
     rw (← ap (λ (s : Leased). s.leases) c.self.view_is)
     (seen_ended (has_ended now) ls c.end_each.new.self came now given is ∙ ap (λ m. ended (has_ended m) (seen ls came m given)) c.max-moment.ensures)

@@ -7,13 +7,15 @@ use Rattle.indexmap.specs.IndexMap.{get as number_of}
 use Rattle.machine_text.specs.Packed.{Packed}
 use Rattle.leases.specs.Inside.Keeping.{kept, held, AreOfWorkers}
 use Rattle.leases.specs.Inside.Children.{HasRoom, shown}
+use Rattle.leases.specs.Inside.Deadlines.{AreAwaited}
 use Rattle.leases.specs.declared.held_leases.HeldLease.{HeldLease}
 use Rattle.leases.proofs.LiveLaws.{set_place, workers_same, room_one, room_none, if_ok}
+use Rattle.leases.proofs.DeadlineLaws.{written_awaited}
 use Rattle.leases.proofs.live_leases.LiveLeases.make_room.Goals as goal
 
 pub invariant_of-self : goal.invariant_of-self
 invariant_of-self c =
-    subst (λ (m : BTreeMap ℕ HeldLease). IsOrdered nat_cmp m × AreOfWorkers (number_of nat_eq c.self.inside.of_worker) (get nat_cmp m)) (sym c.get_mut.follows.holds-at-none) c.self.invariant
+    subst (λ (m : BTreeMap ℕ HeldLease). IsOrdered nat_cmp m × AreOfWorkers (number_of nat_eq c.self.inside.of_worker) (get nat_cmp m) × AreAwaited c.self.inside.deadlines.entries (get nat_cmp m)) (sym c.get_mut.follows.holds-at-none) c.self.invariant
 
 pub returns-in_default-clause-ok : goal.returns-in_default-clause-ok
 returns-in_default-clause-ok c =
@@ -28,6 +30,7 @@ invariant_of-self-2 c =
     let writes = c.get_mut.follows.holds w in (
       writes.4,
       workers_same _ _ _ c.args.number v w c.self.invariant.1 found refl (writes.3 (subst IsSome (sym found) refl)).0,
+      written_awaited _ c.args.number v w _ _ found (omega arith) (writes.3 (subst IsSome (sym found) refl)).0 c.self.invariant.2,
     )
 
 pub returns-clause-shown : goal.returns-clause-shown

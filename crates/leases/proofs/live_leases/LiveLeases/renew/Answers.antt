@@ -1,9 +1,10 @@
-use Rattle.std.proofs.Common.{refl, sym, ◌∙◌, ap, subst, List, Contains, IsSome, map}
+use Rattle.std.proofs.Common.{◌≤◌, arith, refl, sym, ◌∙◌, ap, subst, List, Contains, IsSome, map}
 use Rattle.std.specs.Option.{option_copied_mut, is_some}
 use Rattle.leases.specs.Leases.{is_live}
 use Rattle.leases.specs.Inside.Keeping.{Kept, kept, held}
 use Rattle.leases.specs.Inside.Children.{Renews, RenewsOne}
 use Rattle.leases.proofs.LiveLaws.{lives_is, found_member, set_place, workers_same}
+use Rattle.leases.proofs.DeadlineLaws.{written_awaited}
 use Rattle.leases.proofs.live_leases.LiveLeases.renew.Goals as goal
 
 pub renew_lease-requires-clause-room : goal.renew_lease-requires-clause-room
@@ -24,9 +25,13 @@ invariant_of-self c =
     let v = c.in-Some.lease.now in
     let w = c.renew_lease.new.lease in
     let found = sym c.get_mut.ensures.value ∙ ap option_copied_mut c.in-Some.is in
+    let now = c.renew_lease.ensures.renewed in
+    let before = c.requires.ahead (kept (c.args.number, v)) (subst (λ (ls : List Kept). Contains ls (kept (c.args.number, v))) c.self.view_is (found_member c.args.number v c.self.inside.leases.entries found)) in
+    let later : v.renewed ≤ w.renewed = omega (arith, now, before) in
     let writes = c.get_mut.follows.holds w in (
       writes.4,
       workers_same _ _ _ c.args.number v w c.self.invariant.1 found c.renew_lease.ensures.id (writes.3 (subst IsSome (sym found) refl)).0,
+      written_awaited _ c.args.number v w _ _ found later (writes.3 (subst IsSome (sym found) refl)).0 c.self.invariant.2,
     )
 
 pub returns : goal.returns

@@ -4,3 +4,4 @@ pub mod WorkerBoards
 pub mod WorkerFrames
 pub mod WorkerLaws
 pub mod WorkerSends
+pub mod Finals

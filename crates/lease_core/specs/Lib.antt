@@ -8,3 +8,4 @@ pub mod WorkerState
 pub mod WorkerRules
 pub mod WorkerStart
 pub mod WorkerLaws
+pub mod Finals

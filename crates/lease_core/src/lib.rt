@@ -24,10 +24,14 @@ mod worker_start;
 mod worker_turns;
 
 pub use coordinator::Coordinator;
-pub use coordinator_laws::acknowledged_tables_are_recorded;
+pub use coordinator_laws::{
+    acknowledged_tables_are_recorded, complete_boards_of_coordinators_stay,
+};
 pub use lease_name::LeaseName;
 pub use leases::{LEASE_TIME, LeasedBoard, MAX_LEASES, Reply};
 pub use limits::{MAX_TICK_RECORDS, MAX_WORK_RECORDS};
 pub use start_fault::StartFault;
 pub use worker::Worker;
-pub use worker_laws::{workers_append_what_they_gain, workers_send_their_records};
+pub use worker_laws::{
+    complete_boards_of_workers_stay, workers_append_what_they_gain, workers_send_their_records,
+};

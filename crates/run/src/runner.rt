@@ -46,6 +46,7 @@ impl Runner {
     ghost use Rattle.run.specs.Limits.{run_step_limit};
     ghost use Rattle.run.specs.Standing.{OnRun};
     ghost use Rattle.run.specs.Steps.{StepsTo, RunsTo, IsBetween};
+    ghost use Rattle.run.specs.Inside.{AdvancesTo};
 
     /// The run at time 0.
     pub fn new(alloc: Global, t: Table) -> Result<Runner, NoMemory>
@@ -106,13 +107,32 @@ impl Runner {
         ensures err { OnErr result (IsBetween k self.old self.new) }
         ensures limit { MAX_RUN_STEPS ≡ run_step_limit }
     {
-        for time in self.steps..k {
-            let step = self.step()?;
+        while self.steps() < k {
+            let step = self.advance(k)?;
             if let Step::Halts { count } = step {
                 return Ok(Step::Halts { count });
             }
         }
         Ok(Step::Went)
+    }
+
+    // Carries out one step, or several at once up to time k: those of a state that stays as it is while the head
+    // reads one symbol. After an error nothing has changed.
+    #[inline(always)]
+    fn advance(&mut self, k: u64) -> Result<Step, NoMemory>
+        requires onward { self.old.steps < k }
+        requires limit { k ≤ run_step_limit }
+        ensures ok { IfOk result (λ step. AdvancesTo k self.old step self.new) }
+        ensures err { OnErr result (self.new ≡ self.old) }
+        ensures stands { OnRun self.new }
+    {
+        match self.table.get(self.state, self.tape.read()) {
+            Some(entry) if entry.next == self.state => {
+                self.steps += self.tape.sweep(entry.dir, entry.write, k - self.steps)?;
+                Ok(Step::Went)
+            }
+            _ => self.step(),
+        }
     }
 
     /// How many steps were carried out: the time at which the runner stands.

@@ -3,5 +3,7 @@ pub mod Symbols
 pub mod Packed
 pub mod Moves
 pub mod WordBits
+pub mod LikeBits
+pub mod Sweeps
 pub mod Places
 pub mod Halves

@@ -75,7 +75,7 @@ blank_word_before x y words next =
         cell_of-words x (0 ∷ words) (suc i) j q within e ∙ sym (cell_of-words y words i j q within (omega (arith, ints)))
 
 -- the bits of the words around one don't depend on it
-bit_around : (front back : List ℕ) (w w' i j : ℕ) → (i ≡ length front → bit_at w j ≡ bit_at w' j) → bit_at (get_or (front ++ w ∷ back) i 0) j ≡ bit_at (get_or (front ++ w' ∷ back) i 0) j
+pub bit_around : (front back : List ℕ) (w w' i j : ℕ) → (i ≡ length front → bit_at w j ≡ bit_at w' j) → bit_at (get_or (front ++ w ∷ back) i 0) j ≡ bit_at (get_or (front ++ w' ∷ back) i 0) j
 bit_around [] back w w' zero j here = here refl
 bit_around [] back w w' (suc i) j here = refl
 bit_around (f ∷ front) back w w' zero j here = refl

@@ -48,13 +48,13 @@ from_bits k i within inside = (
     same = ap (λ n. bit_at n i) (ones_shl 64 k (omega arith))
 
 -- the bits of a word that is cut off above
-bit_at_low : (n i : ℕ) → i < 64 → bit_at (n % 2 ^ 64) i ≡ bit_at n i
+pub bit_at_low : (n i : ℕ) → i < 64 → bit_at (n % 2 ^ 64) i ≡ bit_at n i
 bit_at_low n i inside =
     let parts : n ≡ n / 2 ^ 64 * 2 ^ 64 + n % 2 ^ 64 = omega arith in
     sym (ap (λ m. bit_at m i) parts ∙ bit_at_cat_low (n / 2 ^ 64) 64 (n % 2 ^ 64) i inside)
 
 -- a word whose bits are moved down by k
-shifted_down : (a k i : ℕ) → bit_at (a / 2 ^ k) i ≡ bit_at a (k + i)
+pub shifted_down : (a k i : ℕ) → bit_at (a / 2 ^ k) i ≡ bit_at a (k + i)
 shifted_down a k i = ap (λ n. n % 2) (shr-shr a k i)
 
 -- two words side by side, from bit k of the first one on

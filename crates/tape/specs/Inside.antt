@@ -1,10 +1,11 @@
 -- What only the code needs: how a tape is kept in words, where its ones can stand, and one half of what it means
 -- that two half tapes are the same.
-use Rattle.std.specs.Prelude.{◌≡◌, ℕ, ◌+◌, ◌*◌, ◌^◌, ◌<◌, ◌≤◌, ℤ, pos, ◌+ℤ◌, ◌-ℤ◌, neg_ℤ, ◌≤ℤ◌, ◌⊎◌, List, [], ◌∷◌, ◌++◌, length, reverse}
+use Rattle.std.specs.Prelude.{◌≡◌, ℕ, ◌+◌, ◌-◌, ◌*◌, ◌^◌, ◌<◌, ◌≤◌, ℤ, pos, ◌+ℤ◌, ◌-ℤ◌, neg_ℤ, ◌≤ℤ◌, ◌⊎◌, List, [], ◌∷◌, ◌++◌, length, reverse}
 use Rattle.std.specs.Ordering.{int_cmp}
 use Rattle.std.specs.FinSet as set
 use Rattle.machine_text.specs.declared.transition.Sym.TheVariants.{One}
 use Rattle.machine_text.specs.declared.transition.Dir.{Dir}
+use Rattle.machine_text.specs.declared.transition.Dir.TheVariants.{L, R}
 use Rattle.turing.specs.Tape.{Tape, cell_of}
 use Rattle.turing.specs.Translated.{Beyond}
 use Rattle.tape.specs.Limits.{place_limit}
@@ -49,3 +50,18 @@ OnesWithin side from shift ones others = (x : ℤ) → Beyond side from x → ce
 -- the same for the ones of the word so numbered alone
 abbrev pub WordWithin : Dir → ℤ → ℤ → ℕ → set.FinSet int_cmp → set.FinSet int_cmp → Type 0
 WordWithin side from shift block ones others = (i : ℕ) → i < 64 → Beyond side from (place_of (64 * block + i)) → cell_of ones (place_of (64 * block + i)) ≡ One → cell_of others (place_of (64 * block + i) +ℤ shift) ≡ One
+
+-- the bit so many cells ahead of a bit, on a side
+abbrev pub bit_ahead : Dir → ℕ → ℕ → ℕ
+bit_ahead L k i = k - i
+bit_ahead R k i = k + i
+
+-- so many cells stand in a word from a bit on, towards a side
+abbrev pub HasCells : Dir → ℕ → ℕ → Type 0
+HasCells L k n = n ≤ k + 1
+HasCells R k n = k + n ≤ 64
+
+-- the leftmost of them
+abbrev pub IsLowest : Dir → ℕ → ℕ → ℕ → Type 0
+IsLowest L k n low = low + n ≡ k + 1
+IsLowest R k n low = low ≡ k

@@ -1,4 +1,5 @@
 pub mod Limits
 pub mod Places
+pub mod Sweeps
 pub mod Word
 pub mod Inside

@@ -3,7 +3,7 @@ ghost use Rattle.std.specs.Prelude.{◌≡◌, ◌≢◌, ℕ, ◌+◌, ◌<◌,
 ghost use Rattle.std.specs.Int.{bit_at};
 ghost use Rattle.turing.specs.Translated.{Beyond};
 ghost use Rattle.tape.specs.Word.{symbol_of};
-ghost use Rattle.tape.specs.Inside.{place_of};
+ghost use Rattle.tape.specs.Inside.{place_of, bit_ahead, HasCells, IsLowest};
 
 use machine_text::{Dir, Sym};
 
@@ -62,4 +62,70 @@ fn up_to(bit: u32) -> u64
     ensures { (i : ℕ) → i < 64 → (bit_at result i ≡ 1) ↔ (i < bit + 1) }
 {
     u64::MAX >> (63 - bit)
+}
+
+// How many cells of a word hold the symbol of a bit's cell, from that one on towards a side.
+pub(crate) fn alike(word: u64, bit: u32, dir: Dir) -> u32
+    requires { bit < 64 }
+    ensures some { 0 < result }
+    ensures inside { HasCells dir bit result }
+    ensures alike { (i : ℕ) → i < result → bit_at word (bit_ahead dir bit i) ≡ bit_at word bit }
+{
+    let others = differing(word, bit);
+    match dir {
+        Dir::L => {
+            let ahead = others & up_to(bit);
+            if ahead == 0 {
+                bit + 1
+            } else {
+                bit - ahead.ilog2()
+            }
+        }
+        Dir::R => {
+            let ahead = others >> bit;
+            if ahead == 0 {
+                64 - bit
+            } else {
+                ahead.trailing_zeros()
+            }
+        }
+    }
+}
+
+// Ones at the bits that differ from one of them.
+fn differing(word: u64, bit: u32) -> u64
+    requires { bit < 64 }
+    ensures { (i : ℕ) → i < 64 → (bit_at result i ≡ 0) ↔ (bit_at word i ≡ bit_at word bit) }
+{
+    match symbol_at(word, bit) {
+        Sym::Zero => word,
+        Sym::One => !word,
+    }
+}
+
+// The word with a symbol in so many cells from a bit on towards a side, and all others as they are.
+pub(crate) fn with_symbols(word: u64, bit: u32, dir: Dir, count: u32, s: Sym) -> u64
+    requires bit { bit < 64 }
+    requires some { 0 < count }
+    requires inside { HasCells dir bit count }
+    ensures here { (i : ℕ) → i < count → symbol_of (bit_at result (bit_ahead dir bit i)) ≡ s }
+    ensures others { (j : ℕ) → j < 64 → ((i : ℕ) → i < count → j ≢ bit_ahead dir bit i) → bit_at result j ≡ bit_at word j }
+{
+    let cells = up_to(count - 1) << lowest(bit, dir, count);
+    match s {
+        Sym::Zero => word & !cells,
+        Sym::One => word | cells,
+    }
+}
+
+// The leftmost of so many cells from a bit on towards a side.
+fn lowest(bit: u32, dir: Dir, count: u32) -> u32
+    requires bit { bit < 64 }
+    requires inside { HasCells dir bit count }
+    ensures { IsLowest dir bit count result }
+{
+    match dir {
+        Dir::L => bit + 1 - count,
+        Dir::R => bit,
+    }
 }

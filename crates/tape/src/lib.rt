@@ -2,12 +2,14 @@
 //!
 //! It is kept in words of 64 cells. Contracts see it as turing's record `Tape`: where the head stands, and
 //! the finite set of places that hold ones. `specs/` adds which places are within the limit and what it means
-//! that two half tapes are the same (`Places`), its limit (`Limits`), and the ones of words of symbols (`Word`).
+//! that two half tapes are the same (`Places`), what a sweep over like cells is (`Sweeps`), the limit (`Limits`), and
+//! the ones of words of symbols (`Word`).
 #![tactic(auto)]
 
 mod bits;
 mod comparison;
 mod limits;
+mod sweep;
 mod tape;
 mod words;
 

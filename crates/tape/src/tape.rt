@@ -12,7 +12,7 @@ use std::marker::Model;
 // The number of the word that holds place 0.
 const ORIGIN: u64 = 1 << 57;
 // The bit of a word's rightmost cell.
-const LAST_BIT: u32 = 63;
+pub(crate) const LAST_BIT: u32 = 63;
 
 /// The only fault of a tape: memory for a growth was refused.
 pub type NoMemory = AllocError;
@@ -26,7 +26,7 @@ pub struct Tape {
     // The number of the word under the head: the word `n` holds the places from `64 * n - 2^63` on.
     pub(crate) block: u64,
     // The bit under the head.
-    bit: u32,
+    pub(crate) bit: u32,
     pub(crate) word: u64,
     // The visited words on each side of that one, the nearest one last. In each word the leftmost cell is
     // the lowest bit.
@@ -205,7 +205,11 @@ impl Tape {
 // one where there is none. After an error both sides are as they were.
 // Kept apart from the steps: it is needed for few of them, and they are inlined.
 #[inline(never)]
-fn next_word(ahead: &mut Vec<u64>, behind: &mut Vec<u64>, word: u64) -> Result<u64, NoMemory>
+pub(crate) fn next_word(
+    ahead: &mut Vec<u64>,
+    behind: &mut Vec<u64>,
+    word: u64,
+) -> Result<u64, NoMemory>
     ensures left { OnOk result (behind.new.items ≡ behind.old.items ++ word ∷ []) }
     ensures entered { IfOk result (λ next. IsNearest ahead.old.items next ahead.new.items) }
     ensures err_ahead { OnErr result (ahead.new.items ≡ ahead.old.items) }

@@ -314,6 +314,38 @@ impl Both {
         }
     }
 
+    // Sweeps, and writes and moves as often. No head is further than 1,000 cells off.
+    fn sweep(
+        &mut self,
+        rt: &impl Abort,
+        side: Dir,
+        s: Sym,
+        limit: u64,
+    ) -> Result<(), NoMemory> {
+        let head = self.packed.head();
+        assert!(rt; -1000 < head && head < 1000 && 0 < limit && limit < 1000);
+        let over = self.plain.read;
+        let count = self.packed.sweep(side, s, limit)?;
+        assert!(rt; 0 < count && count <= limit);
+        for _ in 0..count {
+            assert_eq!(rt; self.plain.read, over);
+            match side {
+                Dir::L => self.plain.write_left(s)?,
+                Dir::R => self.plain.write_right(s)?,
+            }
+        }
+        assert_eq!(rt; self.packed.head(), self.plain.head);
+        assert_eq!(rt; self.packed.read(), self.plain.read);
+        // It stops for its limit, for another symbol, or at the edge of a word.
+        let edge = match side {
+            Dir::L => -1,
+            Dir::R => 0,
+        };
+        let is_edge = self.plain.head.rem_euclid(64) == i64::rem_euclid(edge, 64);
+        assert!(rt; count == limit || self.plain.read != over || is_edge);
+        Ok(())
+    }
+
     // Random symbols on 150 cells from a place on, with the symbol of the cell `odd` of them turned.
     fn written(
         rt: &impl Abort,
@@ -374,6 +406,34 @@ fn random_steps_as_on_a_plain_tape(rt: HostRuntime) -> Result<(), Fail> {
             assert_eq!(rt; both.packed.read(), both.plain.read, "{seed}");
         }
         for x in -700i64..700 {
+            assert_eq!(rt; both.packed.cell(x), both.plain.cell(x), "{seed} at {x}");
+        }
+    }
+    Ok(())
+}
+
+#[test]
+fn sweeps_as_steps_on_a_plain_tape(rt: HostRuntime) -> Result<(), Fail> {
+    for seed in 0..20u64 {
+        let mut draws = Draws(seed);
+        let mut both = Both::new(rt.alloc());
+        // Long runs of like cells, as machines leave them.
+        for i in 0..8u8 {
+            for _ in 0..draws.next() % 90 {
+                both.step(&rt, symbol(i & 1 == 0), Dir::R)?;
+            }
+        }
+        for _ in 0..100 {
+            let draw = draws.next();
+            let side = match both.plain.head {
+                ..-600 => Dir::R,
+                600.. => Dir::L,
+                _ if draw & 6 == 0 => Dir::L,
+                _ => Dir::R,
+            };
+            both.sweep(&rt, side, symbol(draw & 1 == 1), 1 + (draw >> 3) % 100)?;
+        }
+        for x in -1000i64..1000 {
             assert_eq!(rt; both.packed.cell(x), both.plain.cell(x), "{seed} at {x}");
         }
     }

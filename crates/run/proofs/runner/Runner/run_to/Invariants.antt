@@ -1,7 +1,9 @@
-use Rattle.std.proofs.Common.{◌≡◌}
-use Rattle.run.specs.Standing.{OnRun}
+use Rattle.std.proofs.Common.{◌≡◌, ◌≤◌, ◌-◌}
 use Rattle.run.proofs.runner.Runner.run_to.Given as goal
 
--- as many steps as the loop has counted
-abbrev pub invariant-loop-time : goal.invariant-loop-time
-invariant-loop-time l = record { steps : l.self.steps ≡ l.time; table : l.self.table ≡ l.fn.self.table; stands : OnRun l.self }
+-- a later time of the same run
+abbrev pub invariant-loop-self : goal.invariant-loop-self
+invariant-loop-self l = record { table : l.self.table ≡ l.fn.self.table; low : l.fn.self.steps ≤ l.self.steps; high : l.self.steps ≤ l.k }
+
+abbrev pub decreases-loop-self : goal.decreases-loop-self
+decreases-loop-self l = l.k - l.self.steps

@@ -1,0 +1,27 @@
+use Rattle.std.proofs.Common.{◌≡◌, ℕ, ◌<◌, subst, ap, ◌∙◌, arith}
+use Rattle.machine_text.specs.declared.transition.Dir.TheVariants.{L}
+use Rattle.turing.specs.Tape.{Tape, symbol_read}
+use Rattle.tape.specs.Inside.{HasCells}
+use Rattle.tape.specs.Sweeps.{swept}
+use Rattle.tape.proofs.Sweeps.{IsSweptWord, alike_ahead, left_swept, left_swept-edge}
+use Rattle.tape.proofs.tape.Tape.sweep_left.Goals as goal
+use Rattle.tape.proofs.tape.Tape.sweep_left.Goals.{then-count-self, else-count-self+in_ok-self-inside}
+
+pub returns-clause-ok : goal.returns-clause-ok
+returns-clause-ok c =
+    let a = c.self.inside in
+    let n = c.min-count.result in
+    let some : 0 < n = omega (arith, c.min-count.ensures, c.alike.ensures.some, c.requires.some) in
+    let room : HasCells L a.bit n = omega (arith, c.min-count.ensures, c.alike.ensures.inside) in
+    let w : IsSweptWord L c.args.s a.bit n a.word c.with_symbols-word.result = (c.with_symbols-word.ensures.here, c.with_symbols-word.ensures.others) in (
+      record {
+        some = some;
+        alike = subst (λ (t : Tape). (i : ℕ) → i < n → symbol_read (swept L c.args.s t i) ≡ symbol_read t) c.self.view_is
+            (alike_ahead L c.args.s a.block a.bit a.left.items a.word a.right.items n c.self.invariant.inside room (λ i less. c.alike.ensures.alike i (omega (arith, c.min-count.ensures, less))));
+        after = elim c.if-count-self.branch [
+          | then-count-self d ↦ d.self-is ∙ left_swept c.args.s a.block a.bit _ a.left.items a.word _ a.right.items n c.self.invariant.inside (omega (arith, d.if-count-self.true)) w ∙ ap (λ (t : Tape). swept L c.args.s t n) c.self.view_is
+          | else-count-self+in_ok-self-inside d ↦ d.self-is ∙ left_swept-edge c.args.s a.block _ a.bit a.left.items _ a.right.items _ a.word _ _ n c.self.invariant.inside (omega (arith, room, d.if-count-self.false)) w (omega (arith, c.self.invariant.low)) d.in_ok-self-inside.ensures.entered d.in_ok-self-inside.ensures.left ∙ ap (λ (t : Tape). swept L c.args.s t n) c.self.view_is
+        ];
+      },
+      omega (arith, c.min-count.ensures),
+    )

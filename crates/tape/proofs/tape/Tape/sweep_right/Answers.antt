@@ -1,0 +1,27 @@
+use Rattle.std.proofs.Common.{refl, ◌≡◌, ℕ, ◌<◌, subst, ap, ◌∙◌, arith}
+use Rattle.machine_text.specs.declared.transition.Dir.TheVariants.{R}
+use Rattle.turing.specs.Tape.{Tape, symbol_read}
+use Rattle.tape.specs.Inside.{HasCells}
+use Rattle.tape.specs.Sweeps.{swept}
+use Rattle.tape.proofs.Sweeps.{IsSweptWord, alike_ahead, right_swept, right_swept-edge}
+use Rattle.tape.proofs.tape.Tape.sweep_right.Goals as goal
+use Rattle.tape.proofs.tape.Tape.sweep_right.Goals.{then-self-count-le-LAST_BIT, else-self-count-le-LAST_BIT+in_ok-self-inside}
+
+pub returns-clause-ok : goal.returns-clause-ok
+returns-clause-ok c =
+    let a = c.self.inside in
+    let n = c.min-count.result in
+    let some : 0 < n = omega (arith, c.min-count.ensures, c.alike.ensures.some, c.requires.some) in
+    let room : HasCells R a.bit n = omega (arith, c.min-count.ensures, c.alike.ensures.inside) in
+    let w : IsSweptWord R c.args.s a.bit n a.word c.with_symbols-word.result = (c.with_symbols-word.ensures.here, c.with_symbols-word.ensures.others) in (
+      record {
+        some = some;
+        alike = subst (λ (t : Tape). (i : ℕ) → i < n → symbol_read (swept R c.args.s t i) ≡ symbol_read t) c.self.view_is
+            (alike_ahead R c.args.s a.block a.bit a.left.items a.word a.right.items n c.self.invariant.inside room (λ i less. c.alike.ensures.alike i (omega (arith, c.min-count.ensures, less))));
+        after = elim c.if-self-count-le-LAST_BIT.branch [
+          | then-self-count-le-LAST_BIT d ↦ d.self-is ∙ right_swept c.args.s a.block a.bit _ a.left.items a.word _ a.right.items n (omega (arith, d.if-self-count-le-LAST_BIT.true)) refl w ∙ ap (λ (t : Tape). swept R c.args.s t n) c.self.view_is
+          | else-self-count-le-LAST_BIT+in_ok-self-inside d ↦ d.self-is ∙ right_swept-edge c.args.s a.block _ a.bit a.left.items _ a.right.items _ a.word _ _ n c.self.invariant.inside (omega (arith, room, d.if-self-count-le-LAST_BIT.false)) w refl d.in_ok-self-inside.ensures.entered d.in_ok-self-inside.ensures.left ∙ ap (λ (t : Tape). swept R c.args.s t n) c.self.view_is
+        ];
+      },
+      omega (arith, c.min-count.ensures),
+    )

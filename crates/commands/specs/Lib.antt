@@ -6,5 +6,6 @@ pub mod Decision
 pub mod Report
 pub mod TreeReport
 pub mod LedgerReport
+pub mod Merge
 pub mod Passing
 pub mod Retry

@@ -42,7 +42,7 @@ pub use file_ledger::FileLedger;
 pub use host::{Host, opened};
 pub use ledger_report::{Opened, cmd_report, report_ledger, write_ledger_report};
 pub use losses::{Losses, carry};
-pub use merge::cmd_merge;
+pub use merge::{LedgerSource, cmd_merge, joined};
 pub use options::{Beginning, Merging, Options, Search, Settling};
 pub use outcome::Outcome;
 pub use progress::Progress;

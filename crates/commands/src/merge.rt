@@ -1,4 +1,7 @@
 // `bb merge`: two ledgers in, one that holds what either does out.
+ghost use Rattle.std.specs.Prelude.{◌≡◌, Ok, Err, IfOk, IfErr};
+ghost use Rattle.commands.specs.Merge.{IsLoaded, AreJoined, first_left};
+
 use crate::ended::Ended;
 use crate::host::{Host, opened};
 use crate::ledger_report::{bytes_of, loaded};
@@ -35,14 +38,16 @@ fn merged<H: Host, W: Write>(
     host: &H,
     answers: &mut W,
 ) -> Result<Outcome, Ended> {
-    let (mut board, first_left) = read(alloc, host, merging.first)?;
-    let (other, second_left) = read(alloc, host, merging.second)?;
-    board.merge(&other)?;
-    write_whole(alloc, host, merging.out, &board)?;
-    let left = match first_left {
-        Left::Nothing => second_left,
-        left => left,
+    let first = AtPath {
+        host,
+        path: merging.first,
     };
+    let second = AtPath {
+        host,
+        path: merging.second,
+    };
+    let (board, left) = joined(alloc, &first, &second)?;
+    write_whole(alloc, host, merging.out, &board)?;
     let mut said = Vec::new(alloc);
     append_merged(&board.tally(), &mut said)?;
     append_left(&left, &mut said)?;
@@ -53,12 +58,70 @@ fn merged<H: Host, W: Write>(
     }
 }
 
-// The board of a ledger file, and what of it wasn't kept.
-fn read<H: Host>(alloc: Global, host: &H, path: &str) -> Result<(Board, Left), Ended> {
-    match bytes_of(alloc, opened(host, path)) {
-        Ok(bytes) => loaded(alloc, &bytes),
-        Err(fault) => Err(Ended::by_file(&fault)),
+/// Where the bytes of a ledger are read from.
+pub trait LedgerSource {
+    ghost use Rattle.std.specs.Prelude.{List, ℕ, Result, Ok, Err, IfOk, IfErr};
+    ghost use Rattle.commands.specs.declared.ended.Ended.{Ended};
+
+    /// What may come of reading it.
+    ghost reads: { Self → Result (List ℕ) Ended → Type 0 };
+
+    fn bytes(&self, alloc: Global) -> Result<Vec<u8>, Ended>
+        ensures ok { IfOk result (λ bytes. reads self.now (Ok bytes.items)) }
+        ensures err { IfErr result (λ e. reads self.now (Err e)) };
+}
+
+// A ledger file by its path.
+#[derive(Drop)]
+struct AtPath<'a, H> {
+    host: &'a H,
+    path: &'a str,
+}
+
+impl<H: Host> LedgerSource for AtPath<'_, H> {
+    ghost reads = { λ s r. Unit {0} };
+
+    fn bytes(&self, alloc: Global) -> Result<Vec<u8>, Ended> {
+        match bytes_of(alloc, opened(self.host, self.path)) {
+            Ok(bytes) => Ok(bytes),
+            Err(fault) => Err(Ended::by_file(&fault)),
+        }
     }
+}
+
+/// Reads and loads a ledger, then another, and takes the records of the second into the board of the first.
+/// Answers that board, and what wasn't kept of the first of the two of which not all was. What ends it is
+/// of the first ledger, where that can't be read or loaded, else of the second; then the roots may differ.
+pub fn joined<A: LedgerSource, B: LedgerSource>(
+    alloc: Global,
+    first: &A,
+    second: &B,
+) -> Result<(Board, Left), Ended>
+    ensures ok { IfOk result (λ j. AreJoined (A.reads first.now) (B.reads second.now) (Ok j)) }
+    ensures err { IfErr result (λ e. AreJoined (A.reads first.now) (B.reads second.now) (Err e)) }
+{
+    let (mut board, first_left) = loaded_from(alloc, first)?;
+    let (other, second_left) = loaded_from(alloc, second)?;
+    board.merge(&other)?;
+    Ok((board, earlier(first_left, second_left)))
+}
+
+// What is told as left of two ledgers: of the first, where not all of it was kept.
+fn earlier(first: Left, second: Left) -> Left
+    ensures { result ≡ first_left first second }
+{
+    match first {
+        Left::Nothing => second,
+        Left::From { .. } => first,
+    }
+}
+
+// The board of a ledger, and what of it wasn't kept.
+fn loaded_from<S: LedgerSource>(alloc: Global, source: &S) -> Result<(Board, Left), Ended>
+    ensures ok { IfOk result (λ l. IsLoaded (S.reads source.now) (Ok l)) }
+    ensures err { IfErr result (λ e. IsLoaded (S.reads source.now) (Err e)) }
+{
+    loaded(alloc, &source.bytes(alloc)?)
 }
 
 // Makes a ledger file hold a board's ledger.

@@ -4,6 +4,6 @@ use Rattle.bb.specs.declared.dispatch.Task.{Task}
 use Rattle.bb.specs.declared.dispatch.Task.TheVariants.{Decide, Run, Retry}
 
 abbrev pub IsTask : Task → Type 0
-IsTask Decide = Unit {0}
+IsTask (Decide search) = Unit {0}
 IsTask (Run settling ledger) = IsSettling settling
-IsTask (Retry file) = Unit {0}
+IsTask (Retry file search) = Unit {0}

@@ -46,45 +46,18 @@ pub fn obey<H: Host + Clock, R: Read, W: Write, E: Write>(
     match options(alloc, &line) {
         Ok(Options::Check) => cmd_check(alloc, input, answers, faults),
         Ok(Options::Decide(search)) => {
-            match with_finders(alloc, search, 1, Task::Decide, host, input, answers, faults) {
-                Ok(outcome) => outcome,
-                Err(_) => Ended::NoMemory.told(faults),
-            }
+            search_for(alloc, Task::Decide(search), host, input, answers, faults)
         }
         Ok(Options::Coord { beginning, ledger }) => {
             coordinate(alloc, beginning, ledger, host, input, answers, faults)
         }
         Ok(Options::Run { settling, ledger }) => {
             let task = Task::Run { settling, ledger };
-            let workers = settling.workers;
-            match with_finders(
-                alloc,
-                settling.search,
-                workers,
-                task,
-                host,
-                input,
-                answers,
-                faults,
-            ) {
-                Ok(outcome) => outcome,
-                Err(_) => Ended::NoMemory.told(faults),
-            }
+            search_for(alloc, task, host, input, answers, faults)
         }
         Ok(Options::Retry { file, search }) => {
-            match with_finders(
-                alloc,
-                search,
-                1,
-                Task::Retry(file),
-                host,
-                input,
-                answers,
-                faults,
-            ) {
-                Ok(outcome) => outcome,
-                Err(_) => Ended::NoMemory.told(faults),
-            }
+            let task = Task::Retry { file, search };
+            search_for(alloc, task, host, input, answers, faults)
         }
         Ok(Options::Merge(merging)) => cmd_merge(alloc, merging, host, answers, faults),
         Ok(Options::Report { file, json, why }) => {
@@ -98,21 +71,56 @@ pub fn obey<H: Host + Clock, R: Read, W: Write, E: Write>(
 // What is done with finders.
 #[derive(Clone, Copy)]
 pub enum Task<'a> {
-    Decide,
+    Decide(Search),
     Run {
         settling: Settling,
         ledger: Option<&'a str>,
     },
-    Retry(&'a str),
+    Retry {
+        file: &'a str,
+        search: Search,
+    },
 }
 
-// Makes so many lists of finders, each in the order in which they are asked, and does with them what is asked
+impl Task<'_> {
+    fn search(&self) -> &Search {
+        match self {
+            Task::Decide(search) | Task::Retry { search, .. } => search,
+            Task::Run { settling, .. } => &settling.search,
+        }
+    }
+
+    // How many lists of finders it takes: one for each that searches.
+    fn lists(&self) -> u8 {
+        match self {
+            Task::Decide(_) | Task::Retry { .. } => 1,
+            Task::Run { settling, .. } => settling.workers,
+        }
+    }
+}
+
+// Does what is done with finders, and answers how it ended.
+fn search_for<H: Host + Clock, R: Read, W: Write, E: Write>(
+    alloc: Global,
+    task: Task<'_>,
+    host: &H,
+    input: &mut R,
+    answers: &mut W,
+    faults: &mut E,
+) -> Outcome
+    requires { IsTask task }
+{
+    match with_finders(alloc, task, host, input, answers, faults) {
+        Ok(outcome) => outcome,
+        Err(_) => Ended::NoMemory.told(faults),
+    }
+}
+
+// Makes the lists of finders, each in the order in which they are asked, and does with them what is asked
 // for. A value that is boxed as any finder can't be handed out by a function, so all that needs finders is
 // called from here.
 fn with_finders<H: Host + Clock, R: Read, W: Write, E: Write>(
     alloc: Global,
-    search: Search,
-    count: u8,
     task: Task<'_>,
     host: &H,
     input: &mut R,
@@ -121,9 +129,10 @@ fn with_finders<H: Host + Clock, R: Read, W: Write, E: Write>(
 ) -> Result<Outcome, NoMemory>
     requires { IsTask task }
 {
+    let search = *task.search();
     let steps = search.steps;
     let mut lists = Vec::new(alloc);
-    for _ in 0..count {
+    for _ in 0..task.lists() {
         let mut finders: Vec<Box<dyn Finder>> = Vec::new(alloc);
         finders.push(Box::new(alloc, HaltFinder::new(alloc, steps))?)?;
         finders.push(Box::new(alloc, CycleFinder::new(alloc, steps))?)?;
@@ -134,7 +143,7 @@ fn with_finders<H: Host + Clock, R: Read, W: Write, E: Write>(
         lists.push(finders)?;
     }
     match task {
-        Task::Decide => {
+        Task::Decide(_) => {
             let mut decider = Finders::new(lists.pop().unwrap_or(Vec::new(alloc)), steps);
             Ok(cmd_decide(alloc, &mut decider, input, answers, faults))
         }
@@ -150,7 +159,7 @@ fn with_finders<H: Host + Clock, R: Read, W: Write, E: Write>(
             }
             Ok(run(alloc, &settling, ledger, workers, host, answers, faults))
         }
-        Task::Retry(file) => {
+        Task::Retry { file, .. } => {
             let mut decider = Finders::new(lists.pop().unwrap_or(Vec::new(alloc)), steps);
             Ok(retry(alloc, file, &mut decider, host, answers, faults))
         }

@@ -23,6 +23,7 @@ mod writer;
 
 pub use certificate::{Certificate, OwnedCertificate};
 pub use deciding::{Decider, Finders, decide};
+pub use decimal::decimal_value;
 pub use finder::Finder;
 pub use judgement::{Judged, judge, judge_on};
 pub use laws::{

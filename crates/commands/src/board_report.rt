@@ -54,18 +54,18 @@ pub fn append_head(board: &Board, out: &mut Vec<u8>) -> Result<(), NoMemory>
     ensures kept { take (length out.old.items) out.new.items ≡ out.old.items }
 {
     append_table_line(b"root", board.root(), out)?;
-    append_line(b"status", status_name(board.status()), out)?;
+    append_line(b"status", status_name(board.status()).as_bytes(), out)?;
     append_counts(&board.tally(), out)
 }
 
-// The word for how a board stands.
-fn status_name(status: Status) -> &'static [u8]
+/// The word for how a board stands.
+pub fn status_name(status: Status) -> &'static str
     ensures { result.now ≡ status_name status }
 {
     match status {
-        Status::Working { count: _ } => b"working",
-        Status::Holdouts { count: _ } => b"holdouts",
-        Status::Complete { best: _ } => b"complete",
+        Status::Working { .. } => "working",
+        Status::Holdouts { .. } => "holdouts",
+        Status::Complete { .. } => "complete",
     }
 }
 

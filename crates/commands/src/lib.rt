@@ -32,7 +32,7 @@ mod streams;
 mod tree_reports;
 
 pub use answers::answer;
-pub use board_report::report;
+pub use board_report::{report, status_name};
 pub use check::cmd_check;
 pub use coord::cmd_coord;
 pub use cutter::{Cutter, MAX_LINE_BYTES, cut};

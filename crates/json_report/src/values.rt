@@ -2,9 +2,9 @@
 ghost use Rattle.std.specs.Prelude.{◌≡◌, IfOk, codes};
 ghost use Rattle.std.specs.Vec.Iter.{into_iter_items};
 ghost use Rattle.serde_json.specs.View.{view};
-ghost use Rattle.commands.specs.Report.{status_name};
 ghost use Rattle.json_report.specs.JsonReport.{best_value, table_value, tables_value, report_value};
 
+use commands::status_name;
 use ledger::{Champions, Holdouts, Status, Tally};
 use machine_text::{TEXT_BYTES, Table};
 use run::NoMemory;
@@ -70,16 +70,5 @@ fn best_value(best: Option<u64>) -> Value
     match best {
         Some(steps) => Value::from(steps),
         None => Value::Null,
-    }
-}
-
-// The word for how a board stands.
-fn status_name(status: Status) -> &'static str
-    ensures { result.now ≡ status_name status }
-{
-    match status {
-        Status::Working { count: _ } => "working",
-        Status::Holdouts { count: _ } => "holdouts",
-        Status::Complete { best: _ } => "complete",
     }
 }

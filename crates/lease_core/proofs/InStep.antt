@@ -34,20 +34,20 @@ abbrev Stands : Contents → List ℕ → Type 0
 Stands board text = ReadsAs board.root text board.records Nothing
 
 -- what a ledger holds after an answer
-text_with : (out : Out) (lines : List Recorded) (sent : List Message) (note : Note) (text : List ℕ) → Says out lines sent note → text_after out text ≡ text ++ lines_of lines
-text_with out lines sent note text says = ap (λ c. cut_by c text ++ out.append.items) says.cut_is ∙ ap (λ l. text ++ l) says.append_is
+text_with : (out : Out) (added : List ℕ) (sent : List Message) (note : Note) (text : List ℕ) → Says out None added sent note → text_after out text ≡ text ++ added
+text_with out added sent note text says = ap (λ c. cut_by c text ++ out.append.items) says.cut_is ∙ ap (λ l. text ++ l) says.append_is
 
 -- no line is gained
-same_text : (old new : Contents) (out : Out) (sent : List Message) (note : Note) (text : List ℕ) → Says out [] sent note → new ≡ old → Stands old text → Stands new (text_after out text)
+same_text : (old new : Contents) (out : Out) (sent : List Message) (note : Note) (text : List ℕ) → Says out None [] sent note → new ≡ old → Stands old text → Stands new (text_after out text)
 same_text old new out sent note text says same stands =
     subst (λ (b : Contents). Stands b (text_after out text)) (sym same) (subst (Stands old) (sym (text_with out [] sent note text says ∙ append-nil text)) stands)
 
 -- the line of a record is
-more_text : (old new : Contents) (r : Recorded) (out : Out) (sent : List Message) (note : Note) (text : List ℕ) → Says out (r ∷ []) sent note
+more_text : (old new : Contents) (r : Recorded) (out : Out) (sent : List Message) (note : Note) (text : List ℕ) → Says out None (lines_of (r ∷ [])) sent note
     → ReadsAs old.root (text ++ (record_text r ++ (10 ∷ []))) new.records Nothing → new.root ≡ old.root → Stands new (text_after out text)
 more_text old new r out sent note text says reads root =
     subst (λ (p : Packed). ReadsAs p (text_after out text) new.records Nothing) (sym root)
-    (subst (λ (l : List ℕ). ReadsAs old.root l new.records Nothing) (sym (text_with out (r ∷ []) sent note text says)) reads)
+    (subst (λ (l : List ℕ). ReadsAs old.root l new.records Nothing) (sym (text_with out (lines_of (r ∷ [])) sent note text says)) reads)
 
 same_board : (old new : Contents) → new.root ≡ old.root → new.records ≡ old.records → new ≡ old
 same_board old new root records = ap (λ (p : Packed). record { root = p; records = new.records }) root ∙ ap (λ (rs : List Recorded). record { root = old.root; records = rs }) records
@@ -62,7 +62,7 @@ module _ (old new : Leased) (board : IsBoard old.board) (out : Out) (text : List
   offer_step r (Err (NotStanding f), gives, root, leases, row) = same_text old.board new.board out _ _ text row (same_board old.board new.board root gives.2) stands
   offer_step r (Err OfferNoMemory, gives, root, leases, row) = absurd row
 
-  noted_step : (note : Note) → Says out [] [] note × (new ≡ old) → Stands new.board (text_after out text)
+  noted_step : (note : Note) → Says out None [] [] note × (new ≡ old) → Stands new.board (text_after out text)
   noted_step note row = same_text old.board new.board out [] note text row.0 (ap (λ (l : Leased). l.board) row.1) stands
 
   done_step : (is_own : Bool) (number : ℕ) → DoneRow is_own number old out new → Stands new.board (text_after out text)

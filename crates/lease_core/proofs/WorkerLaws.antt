@@ -28,7 +28,8 @@ use Rattle.wire.specs.declared.node.Out.{Out}
 use Rattle.lease_core.specs.declared.start_fault.StartFault.{StartFault}
 use Rattle.lease_core.specs.declared.lease_name.LeaseName.{LeaseName}
 use Rattle.lease_core.specs.WorkerState.{WorkerState, empty_board, StandsFor, IsInStep, records_on, unacknowledged}
-use Rattle.lease_core.specs.WorkerRules.{lines_of, Notes, GrantRow, AckRow, FrameRow, Makes, WorkRow, TickBy, Row, Answers}
+use Rattle.lease_core.specs.Says.{lines_of}
+use Rattle.lease_core.specs.WorkerRules.{Notes, GrantRow, AckRow, FrameRow, Makes, WorkRow, TickBy, Row, Answers}
 use Rattle.lease_core.specs.WorkerStart.{ReadsAsBoard, Starts, cut_of}
 
 -- the board and the ledger stay

@@ -19,7 +19,7 @@ use Rattle.wire.specs.declared.node.Out.{Out}
 use Rattle.leases.specs.Leases.{Leased, ticked, IsDone}
 use Rattle.leases.specs.Asks.{Asks}
 use Rattle.leases.specs.Offers.{LeasesAfter}
-use Rattle.lease_core.specs.Says.{Says}
+use Rattle.lease_core.specs.Says.{Says, lines_of}
 use Rattle.leases.specs.declared.reply.Reply.{Reply}
 use Rattle.leases.specs.declared.reply.Reply.TheVariants.{Stop as ToStop, Later as ToWait, Grant as ToGrant}
 
@@ -37,12 +37,12 @@ reply_of era (ToGrant number table) = Grant era number table
 
 -- REC, by what the board says of the record
 abbrev pub RecRow : Recorded → Result Taken OfferFault → Out → Type 0
-RecRow r (Ok New) out = Says out (r ∷ []) (Ack r.table ∷ []) Quiet
-RecRow r (Ok Settled) out = Says out (r ∷ []) (Ack r.table ∷ []) Quiet
-RecRow r (Ok Known) out = Says out [] (Ack r.table ∷ []) Quiet
-RecRow r (Err NotOpen) out = Says out [] (Later (Some r.table) ∷ []) Quiet
-RecRow r (Err WrongSize) out = Says out [] [] (Refused (offer_fault_number WrongSize))
-RecRow r (Err (NotStanding f)) out = Says out [] [] (Refused (offer_fault_number (NotStanding f)))
+RecRow r (Ok New) out = Says out None (lines_of (r ∷ [])) (Ack r.table ∷ []) Quiet
+RecRow r (Ok Settled) out = Says out None (lines_of (r ∷ [])) (Ack r.table ∷ []) Quiet
+RecRow r (Ok Known) out = Says out None [] (Ack r.table ∷ []) Quiet
+RecRow r (Err NotOpen) out = Says out None [] (Later (Some r.table) ∷ []) Quiet
+RecRow r (Err WrongSize) out = Says out None [] [] (Refused (offer_fault_number WrongSize))
+RecRow r (Err (NotStanding f)) out = Says out None [] [] (Refused (offer_fault_number (NotStanding f)))
 RecRow r (Err OfferNoMemory) out = ⊥
 
 abbrev pub OfferRow : Leased → Recorded → Out → Leased → Type 0
@@ -56,16 +56,16 @@ note_of true = Quiet
 note_of false = Stale
 
 abbrev pub DoneRow : Bool → ℕ → Leased → Out → Leased → Type 0
-DoneRow true number old out new = (lived : Bool) × IsDone number old.leases lived new.leases × (new.board ≡ old.board) × Says out [] [] (note_of lived)
-DoneRow false number old out new = Says out [] [] Stale × (new ≡ old)
+DoneRow true number old out new = (lived : Bool) × IsDone number old.leases lived new.leases × (new.board ≡ old.board) × Says out None [] [] (note_of lived)
+DoneRow false number old out new = Says out None [] [] Stale × (new ≡ old)
 
 -- nothing happens, but that this is noted
 abbrev pub OnlyNotes : Note → Leased → Out → Leased → Type 0
-OnlyNotes note old out new = Says out [] [] note × (new ≡ old)
+OnlyNotes note old out new = Says out None [] [] note × (new ≡ old)
 
 abbrev pub MessageRow : ℕ → Leased → Message → Out → Leased → Type 0
 MessageRow era old (Ask id) out new =
-    (reply : Reply) × Asks old.board id old.leases reply new.leases × (new.board ≡ old.board) × Says out [] (reply_of era reply ∷ []) Quiet
+    (reply : Reply) × Asks old.board id old.leases reply new.leases × (new.board ≡ old.board) × Says out None [] (reply_of era reply ∷ []) Quiet
 MessageRow era old (Rec r) out new = OfferRow old r out new
 MessageRow era old (Done named number) out new = DoneRow (named == era) number old out new
 MessageRow era old (Grant named number table) out new = OnlyNotes Strange old out new
@@ -80,7 +80,7 @@ FrameRow era old (Err fault) out new = OnlyNotes Strange old out new
 -- the row of an event
 abbrev pub Row : ℕ → Leased → Happening → Out → Leased → Type 0
 Row era old (Came frame) out new = FrameRow era old (message_of frame) out new
-Row era old (Ticked t) out new = Says out [] [] Quiet × (new ≡ record { board = old.board; leases = ticked t old.leases })
+Row era old (Ticked t) out new = Says out None [] [] Quiet × (new ≡ record { board = old.board; leases = ticked t old.leases })
 Row era old Worked out new = OnlyNotes Quiet old out new
 
 -- what a coordinator with a board answers: by the row, or memory was refused and nothing has changed

@@ -1,5 +1,5 @@
 -- What a node's answer says.
-use Rattle.std.specs.Prelude.{◌≡◌, ℕ, List, None, map}
+use Rattle.std.specs.Prelude.{◌≡◌, ℕ, List, Option, map}
 use Rattle.cert.specs.Claim.{Recorded}
 use Rattle.cert.specs.Grammar.{record_text}
 use Rattle.ledger.specs.LedgerText.{joined}
@@ -12,9 +12,9 @@ use Rattle.wire.specs.declared.node.Out.{Out}
 abbrev pub lines_of : List Recorded → List ℕ
 lines_of rs = joined (map record_text rs)
 
--- the ledger isn't cut and gains the lines of these records, these messages are sent, and this is noted
-pub record Says (out : Out) (lines : List Recorded) (sent : List Message) (note : Note) : Type 0 where
-  pub cut_is : out.cut ≡ None
-  pub append_is : out.append.items ≡ lines_of lines
+-- the ledger is cut so and gains these bytes, these messages are sent, and this is noted
+pub record Says (out : Out) (cut : Option ℕ) (appended : List ℕ) (sent : List Message) (note : Note) : Type 0 where
+  pub cut_is : out.cut ≡ cut
+  pub append_is : out.append.items ≡ appended
   pub frames_are : out.frames.items ≡ frames_of sent
   pub note_is : out.note ≡ note

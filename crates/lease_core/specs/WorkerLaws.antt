@@ -8,7 +8,7 @@ use Rattle.wire.specs.declared.node.Out.{Out}
 use Rattle.wire.specs.Message.{Message, Rec}
 use Rattle.wire.specs.Grammar.{frames_of}
 use Rattle.lease_core.specs.WorkerState.{empty_board, records_on}
-use Rattle.lease_core.specs.WorkerRules.{lines_of}
+use Rattle.lease_core.specs.Says.{lines_of}
 
 -- each record that is sent is a record of the board
 abbrev pub SendsOwn : Out → Option Contents → Type 0

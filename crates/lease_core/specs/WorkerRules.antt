@@ -22,19 +22,9 @@ use Rattle.wire.specs.Message.{Message, Ask, Grant, Rec, Ack, Later, Done, Stop}
 use Rattle.wire.specs.Grammar.{frames_of, message_of}
 use Rattle.lease_core.specs.Limits.{work_record_limit, tick_record_limit}
 use Rattle.leases.specs.Leases.{IsOpenOn}
+use Rattle.lease_core.specs.Says.{Says, lines_of}
 use Rattle.lease_core.specs.declared.lease_name.LeaseName.{LeaseName}
 use Rattle.lease_core.specs.WorkerState.{WorkerState, empty_board, with_record, HasRoot, IsRecordedOn, MayWork, records_on, with_table, unacknowledged}
-
--- an answer says: cut so, append this, send these messages, and note this
-pub record Says (out : Out) (cut : Option ℕ) (appended : List ℕ) (sent : List Message) (note : Note) : Type 0 where
-  pub cut_is : out.cut ≡ cut
-  pub append_is : out.append.items ≡ appended
-  pub frames_are : out.frames.items ≡ frames_of sent
-  pub note_is : out.note ≡ note
-
--- the lines of records
-abbrev pub lines_of : List Recorded → List ℕ
-lines_of rs = joined (map record_text rs)
 
 -- it stays as it is, and only notes this
 abbrev pub Notes : Note → WorkerState → Out → WorkerState → Type 0

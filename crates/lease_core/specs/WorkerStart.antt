@@ -11,7 +11,7 @@ use Rattle.wire.specs.declared.node.Note.TheVariants.{Quiet}
 use Rattle.lease_core.specs.declared.start_fault.StartFault.{StartFault}
 use Rattle.lease_core.specs.declared.start_fault.StartFault.TheVariants.{BadHeader, WrongRoot, NoMemory}
 use Rattle.lease_core.specs.WorkerState.{WorkerState}
-use Rattle.lease_core.specs.WorkerRules.{Says}
+use Rattle.lease_core.specs.Says.{Says}
 
 abbrev pub IsInOrder : Packed → Type 0
 IsInOrder t = (u : ℕ) × InOrder u (entry_of t)

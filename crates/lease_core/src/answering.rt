@@ -1,15 +1,13 @@
 // What a coordinator answers to an event, over its board and its leases.
-ghost use Rattle.std.specs.Prelude.{◌≡◌, [], None};
 ghost use Rattle.cert.specs.Kinds.{recorded};
 ghost use Rattle.wire.specs.Grammar.{message_of};
 ghost use Rattle.wire.specs.Happening.{seen};
 ghost use Rattle.wire.specs.Message.{Ask};
-ghost use Rattle.wire.specs.declared.node.Note.TheVariants.{Quiet};
 ghost use Rattle.lease_core.specs.CoordinatorRules.{Gives};
 ghost use Rattle.lease_core.specs.Inside.Answering.{GivesFrame, GivesMessage, GivesOffer, GivesDone};
-ghost use Rattle.lease_core.specs.Says.{Says};
 
 use crate::frames::{GRANT_BYTES, ack_frame, later_frame, put_reply};
+use crate::plain_answers::{noted, sent};
 use cert::Record;
 use leases::LeasedBoard;
 use ledger::{OfferFault, Taken, append_record};
@@ -102,32 +100,5 @@ fn answer_done(
         Ok(noted(alloc, Note::Quiet))
     } else {
         Ok(noted(alloc, Note::Stale))
-    }
-}
-
-// Nothing is sent, and this is noted.
-fn noted(alloc: Global, note: Note) -> Out
-    ensures { Says result [] [] note }
-{
-    Out {
-        cut: None,
-        append: Vec::new(alloc),
-        frames: Vec::new(alloc),
-        note,
-    }
-}
-
-// Frames are sent, and no more.
-fn sent(alloc: Global, frames: Vec<u8>) -> Out
-    ensures cut { result.cut ≡ None }
-    ensures append { result.append.items ≡ [] }
-    ensures frames { result.frames.items ≡ frames.items }
-    ensures note { result.note ≡ Quiet }
-{
-    Out {
-        cut: None,
-        append: Vec::new(alloc),
-        frames,
-        note: Note::Quiet,
     }
 }

@@ -14,6 +14,7 @@ mod deciding;
 mod frames;
 mod lease_name;
 mod limits;
+mod plain_answers;
 mod start_fault;
 mod starting;
 mod told;

@@ -3,9 +3,10 @@ ghost use Rattle.std.specs.Prelude.{◌≡◌, IfOk, OnErr, option_map};
 
 use crate::deciding::decided;
 use crate::lease_name::LeaseName;
+use crate::plain_answers::{noted, sent};
 use crate::start_fault::StartFault;
 use crate::told::{Telling, told};
-use crate::worker_answers::{asking, frames_due, ledger_of, noted, sending};
+use crate::worker_answers::{asking, frames_due, ledger_of};
 use crate::worker_start::{cut_of, loaded};
 use crate::worker_turns::{acknowledge, has_root, is_recorded, make, next_table};
 use cert::Finder;
@@ -185,7 +186,7 @@ impl Worker {
         ensures ok { IfOk result (λ out. AckRow self.old t out self.new) }
         ensures err { OnErr result (self.new ≡ self.old) }
     {
-        if !is_recorded(&mut self.board, &t) {
+        if !is_recorded(&self.board, &t) {
             return Ok(noted(self.alloc, Note::Stale));
         }
         acknowledge(&mut self.acknowledged, t)?;
@@ -202,14 +203,14 @@ impl Worker {
         }
         let due = self.due()?;
         if !due.is_empty() {
-            return Ok(sending(self.alloc, due));
+            return Ok(sent(self.alloc, due));
         }
         if self.may_work() {
             return Ok(noted(self.alloc, Note::Quiet));
         }
         let frames = asking(self.alloc, self.lease, self.id)?;
         self.lease = None;
-        Ok(sending(self.alloc, frames))
+        Ok(sent(self.alloc, frames))
     }
 
     // The frames of the first records that aren't acknowledged.

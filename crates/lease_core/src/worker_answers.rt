@@ -1,13 +1,13 @@
 // What a worker's answers are made of.
-ghost use Rattle.std.specs.Prelude.{◌≡◌, ◌++◌, ◌∷◌, [], None, IfOk, OnOk, map, take};
+ghost use Rattle.std.specs.Prelude.{◌≡◌, ◌++◌, ◌∷◌, [], IfOk, OnOk, map, take};
 ghost use Rattle.cert.specs.Kinds.{owned_recorded, recorded};
 ghost use Rattle.ledger.specs.LedgerText.{ledger_text};
 ghost use Rattle.wire.specs.Grammar.{frames_of};
 ghost use Rattle.wire.specs.Meaning.{said};
 ghost use Rattle.wire.specs.Message.{Ask as AskMessage, Done as DoneMessage, Rec as RecMessage};
-ghost use Rattle.wire.specs.declared.node.Note.TheVariants.{Quiet};
 ghost use Rattle.lease_core.specs.Limits.{tick_record_limit};
-ghost use Rattle.lease_core.specs.WorkerRules.{Says, lines_of, done_with};
+ghost use Rattle.lease_core.specs.WorkerRules.{done_with};
+ghost use Rattle.lease_core.specs.Says.{lines_of};
 ghost use Rattle.lease_core.specs.WorkerState.{unacknowledged};
 
 use crate::lease_name::LeaseName;
@@ -18,34 +18,7 @@ use ledger::Board;
 use machine_text::Table;
 use run::NoMemory;
 use std::alloc::Global;
-use wire::{Msg, Note, Out, encode};
-
-// An answer that only notes something.
-pub fn noted(alloc: Global, note: Note) -> Out
-    ensures { Says result None [] [] note }
-{
-    Out {
-        cut: None,
-        append: Vec::new(alloc),
-        frames: Vec::new(alloc),
-        note,
-    }
-}
-
-// An answer that only sends.
-pub fn sending(alloc: Global, frames: Vec<u8>) -> Out
-    ensures cut { result.cut ≡ None }
-    ensures append { result.append.items ≡ [] }
-    ensures frames { result.frames ≡ frames }
-    ensures note { result.note ≡ Quiet }
-{
-    Out {
-        cut: None,
-        append: Vec::new(alloc),
-        frames,
-        note: Note::Quiet,
-    }
-}
+use wire::{Msg, encode};
 
 // The line of a record.
 pub fn line_of(alloc: Global, r: &Record) -> Result<Vec<u8>, NoMemory>

@@ -8,7 +8,7 @@ ghost use Rattle.lease_core.specs.WorkerRules.{IsFirstOpen, Makes};
 
 use crate::limits::MAX_WORK_RECORDS;
 use crate::worker_answers::{frame_of, line_of};
-use cert::{Certificate, OwnedRecord, Record};
+use cert::{OwnedRecord, Record};
 use indexmap::IndexSet;
 use ledger::{Board, Taken};
 use machine_text::Table;
@@ -49,34 +49,13 @@ pub fn has_root(board: &Option<Board>, t: &Table) -> bool
     }
 }
 
-// Whether a table has a record on a board. An undecided record is offered where that changes nothing: its
-// table isn't open.
-pub fn is_recorded(board: &mut Option<Board>, t: &Table) -> bool
-    ensures recorded { IsTrue result ↔ IsRecordedOn board.old t.now }
-    ensures board { board.new ≡ board.old }
+// Whether a table has a record on a board.
+pub fn is_recorded(board: &Option<Board>, t: &Table) -> bool
+    ensures { IsTrue result ↔ IsRecordedOn board.now t.now }
 {
     match board {
-        Some(board) => is_recorded_on(board, t),
+        Some(board) => board.is_recorded(t),
         None => false,
-    }
-}
-
-fn is_recorded_on(board: &mut Board, t: &Table) -> bool
-    ensures recorded { IsTrue result ↔ IsRecordedOn (Some board.old) t.now }
-    ensures board { board.new ≡ board.old }
-{
-    // The proof needs that it is a board.
-    let _ = board.root();
-    if board.is_open(t) {
-        return false;
-    }
-    let nothing = Record {
-        table: *t,
-        certificate: Certificate::Undecided,
-    };
-    match board.offer(&nothing) {
-        Ok(_) => true,
-        Err(_) => false,
     }
 }
 

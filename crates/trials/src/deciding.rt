@@ -60,24 +60,48 @@ fn finders_are_not_trusted(rt: HostRuntime) -> Result<(), Fail> {
 }
 
 #[test]
-fn each_finder_alone_gives_its_kind(rt: HostRuntime) -> Result<(), Fail> {
+fn a_finder_of_cycles_alone_gives_one(rt: HostRuntime) -> Result<(), Fail> {
     let alloc = rt.alloc();
     let mut finders: Vec<Box<dyn Finder>> = Vec::new(alloc);
     finders.push(Box::new(alloc, CycleFinder::new(alloc, 10))?)?;
     let record = decide(alloc, &mut finders, &table_of(&rt, "0RB---_0LA---"), 100)?;
     assert!(rt; matches!(record.lent().certificate, Certificate::Cycle(_)));
+    Ok(())
+}
+
+#[test]
+fn a_finder_of_translated_cycles_alone_gives_one(rt: HostRuntime) -> Result<(), Fail> {
+    let alloc = rt.alloc();
     let mut finders: Vec<Box<dyn Finder>> = Vec::new(alloc);
     finders.push(Box::new(alloc, TranslatedFinder::new(alloc, 10))?)?;
     let record = decide(alloc, &mut finders, &table_of(&rt, "1RA---"), 100)?;
     assert!(rt; matches!(record.lent().certificate, Certificate::Translated(_)));
+    Ok(())
+}
+
+#[test]
+fn a_finder_of_depths_alone_gives_one(rt: HostRuntime) -> Result<(), Fail> {
+    let alloc = rt.alloc();
     let mut finders: Vec<Box<dyn Finder>> = Vec::new(alloc);
     finders.push(Box::new(alloc, BackwardFinder::new(alloc, 20))?)?;
     let record = decide(alloc, &mut finders, &table_of(&rt, "1RB---_0RB1RB"), 100)?;
     assert!(rt; matches!(record.lent().certificate, Certificate::Backward(_)));
+    Ok(())
+}
+
+#[test]
+fn a_finder_of_position_sets_alone_gives_one(rt: HostRuntime) -> Result<(), Fail> {
+    let alloc = rt.alloc();
     let mut finders: Vec<Box<dyn Finder>> = Vec::new(alloc);
     finders.push(Box::new(alloc, NgramFinder::new(alloc, 1))?)?;
     let record = decide(alloc, &mut finders, &table_of(&rt, "1RA---"), 100)?;
     assert!(rt; matches!(record.lent().certificate, Certificate::Ngram(_)));
+    Ok(())
+}
+
+#[test]
+fn a_finder_of_automata_alone_gives_some(rt: HostRuntime) -> Result<(), Fail> {
+    let alloc = rt.alloc();
     let mut finders: Vec<Box<dyn Finder>> = Vec::new(alloc);
     finders.push(Box::new(alloc, FarFinder::new(alloc, 2))?)?;
     let record = decide(alloc, &mut finders, &table_of(&rt, "1RA---"), 100)?;

@@ -315,13 +315,7 @@ impl Both {
     }
 
     // Sweeps, and writes and moves as often. No head is further than 1,000 cells off.
-    fn sweep(
-        &mut self,
-        rt: &impl Abort,
-        side: Dir,
-        s: Sym,
-        limit: u64,
-    ) -> Result<(), NoMemory> {
+    fn sweep(&mut self, rt: &impl Abort, side: Dir, s: Sym, limit: u64) -> Result<(), NoMemory> {
         let head = self.packed.head();
         assert!(rt; -1000 < head && head < 1000 && 0 < limit && limit < 1000);
         let over = self.plain.read;

@@ -5,11 +5,10 @@ ghost use Rattle.wire.specs.Grammar.{read_table, ask_in, grant_in, rec_in, ack_i
 ghost use Rattle.wire.specs.Meaning.{said, decoded};
 
 use crate::cut::cut_at;
-use crate::decimal::decimal_value;
 use crate::limits::MAX_LINE_BYTES;
 use crate::message::Msg;
 use crate::message_fault::MsgFault;
-use cert::Record;
+use cert::{Record, decimal_value};
 use machine_text::Table;
 
 /// The message that a frame is; its record is lent from the frame.

@@ -11,7 +11,6 @@
 
 mod carrying;
 mod cut;
-mod decimal;
 mod decoder;
 mod encoder;
 mod engine;

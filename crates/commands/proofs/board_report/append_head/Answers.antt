@@ -19,6 +19,6 @@ returns-clause-ok c = on_ok c.append_counts.result (λ last. (
   joined c.args.out.now.items c.append_table_line.new.out.items c.append_line.new.out.items c.append_counts.new.out.items
       (line_of (codes "root") (text_of c.args.board.now.root)) (line_of (codes "status") (status_name c.status.result)) (counts_text c.tally.result)
       (c.in_ok-append_table_line.ensures.ok ∙ ap (λ (t : Packed). c.args.out.now.items ++ line_of (codes "root") (text_of t)) c.root.ensures.root)
-      (c.in_ok-append_line.ensures.ok ∙ ap (λ (l : List ℕ). c.append_table_line.new.out.items ++ line_of (codes "status") l) c.status_name.ensures)
+      (c.in_ok-append_line.ensures.ok ∙ ap (λ (l : List ℕ). c.append_table_line.new.out.items ++ line_of (codes "status") l) (c.as_bytes.ensures.value ∙ c.status_name.ensures))
       last,
 )) c.append_counts.ensures.ok

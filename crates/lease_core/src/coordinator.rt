@@ -112,12 +112,15 @@ impl Node for Coordinator {
     ghost use Rattle.std.specs.Prelude.{◌≡◌, true};
     ghost use Rattle.lease_core.specs.CoordinatorRules.{On};
     ghost use Rattle.lease_core.specs.Starts.{InStep};
+    ghost use Rattle.lease_core.specs.Finals.{KeepsComplete, board_of};
 
     ghost is_stopped = { λ s. s.stopped ≡ true };
 
     ghost in_step = { λ s text. InStep s text };
 
     ghost answers = { On };
+
+    ghost keeps_final = { λ old e new. KeepsComplete (board_of old.held) (board_of new.held) };
 
     fn on(&mut self, e: Event<'_>) -> Result<Out, NodeFault> {
         self.knows_board();

@@ -267,12 +267,15 @@ impl Node for Worker {
     ghost use Rattle.std.specs.Prelude.{◌≡◌, true};
     ghost use Rattle.lease_core.specs.WorkerState.{IsInStep};
     ghost use Rattle.lease_core.specs.WorkerRules.{Answers};
+    ghost use Rattle.lease_core.specs.Finals.{IsGrant, KeepsComplete};
 
     ghost is_stopped = { λ w. w.stopped ≡ true };
 
     ghost in_step = { IsInStep };
 
     ghost answers = { Answers };
+
+    ghost keeps_final = { λ old e new. (IsGrant e → ⊥) → KeepsComplete old.board new.board };
 
     fn on(&mut self, e: Event<'_>) -> Result<Out, NodeFault> {
         self.handle(e)

@@ -69,9 +69,13 @@ pub trait Node {
     /// To what happens it may give this answer, and become so.
     ghost answers: { Self → Happening → Result Answer Failure → Self → Type 0 };
 
+    /// What happens leaves what is final of what it holds as it was.
+    ghost keeps_final: { Self → Happening → Self → Type 0 };
+
     /// Hands it an event. `Stopped` where it was stopped.
     fn on(&mut self, e: Event<'_>) -> Result<Out, NodeFault>
         ensures answer { answers self.old (seen e.entry) result self.new }
+        ensures final_kept { keeps_final self.old (seen e.entry) self.new }
         ensures step { IfOk result (λ out. (text : List ℕ) → in_step self.old text → in_step self.new (text_after out text)) }
         ensures fault { OnErr result ((text : List ℕ) → in_step self.old text → in_step self.new text) }
         ensures refused { result ≡ Err NodeFault.Stopped ↔ is_stopped self.old }

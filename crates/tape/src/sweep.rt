@@ -12,7 +12,8 @@ impl Tape {
 
     /// Makes several moves to a side at once, at most `limit` of them: as long as the head reads what it read
     /// before the first one, it writes a symbol and moves. It answers how many moves it made, one at least; it
-    /// stops at the edge of a word, so more may follow. After an error the tape is as it was.
+    /// stops at the edge of a word, so more may follow. After an error the tape is as it was. The head stands at
+    /// least `limit` cells within `MAX_PLACE`, which is the caller's to see to.
     ///
     /// A machine that stays in its state on such cells does just these steps. Long runs consist of little else.
     pub fn sweep(&mut self, dir: Dir, s: Sym, limit: u64) -> Result<u64, NoMemory>

@@ -74,6 +74,17 @@ alike_left others mask w k p within differ up high i less =
     let inside : k - i < 64 = omega (arith, within) in
     (differ (k - i) inside).0 (unmasked others mask k (k - i) up inside (omega arith) (bit_at_above _ (p + 1) (k - i) (omega (arith, high, pow-add 2 p 1)) (omega (arith, less))))
 
+-- which isn't alike
+pub unlike_left : (others mask w k p : ℕ) → k < 64 → Differ others w k → UpTo mask k → 2 ^ p ≤ bit_and others mask → bit_and others mask < 2 * 2 ^ p → p < k → bit_at w (k - (k - p)) ≢ bit_at w k
+unlike_left others mask w k p within differ up low high near = λ same.
+    let both : bit_at (bit_and others mask) p ≡ 1 = highest_set _ _ low high in
+    let set : bit_at others p ≡ 1 = omega (arith, both, bit_at_and others mask p, bit_at-lt others p) in
+    let inside : k - (k - p) < 64 = omega (arith, within) in
+    let none : bit_at others (k - (k - p)) ≡ 0 = (differ (k - (k - p)) inside).1 same in
+    let is : k - (k - p) ≡ p = omega (arith, near) in
+    let at : bit_at others (k - (k - p)) ≡ bit_at others p = ap (bit_at others) is in
+    omega (arith, at, none, set)
+
 -- towards the right: no bit differs
 pub alike_right-all : (others w k : ℕ) → k < 64 → Differ others w k → others / 2 ^ k ≡ 0 → (i : ℕ) → i < 64 - k → bit_at w (k + i) ≡ bit_at w k
 alike_right-all others w k within differ none i less =
@@ -88,12 +99,17 @@ Found others k = (nearest others k < 64) × (bit_at (others / 2 ^ k) (nearest ot
 
 pub nearest_right : (others w k : ℕ) → k < 64 → others < 2 ^ 64 → Differ others w k → others / 2 ^ k < 2 ^ 64 → 0 < others / 2 ^ k
     → (0 < nearest others k) × (k + nearest others k ≤ 64) × ((i : ℕ) → i < nearest others k → bit_at w (k + i) ≡ bit_at w k)
+    × (bit_at w (k + nearest others k) ≢ bit_at w k)
 nearest_right others w k within fits differ small some =
     let found = bit_at-trailing_zeros w64 (others / 2 ^ k) some small in
     let inside : (i : ℕ) → i < nearest others k → k + i < 64 = λ i less. elim (cases_lt (k + i) 64) [ inl lt ↦ lt | inr above ↦ absurd (beyond found i less above) ] in (
       elim (cases_lt 0 (nearest others k)) [ inl more ↦ more | inr here ↦ absurd (first found here) ],
       elim (cases_lt 64 (k + nearest others k)) [ inl above ↦ absurd (last found (omega (arith, above))) | inr le ↦ le ],
       λ i less. (differ (k + i) (inside i less)).0 (sym (shifted_down others k i) ∙ found.2 i less),
+      λ same. elim (cases_lt (k + nearest others k) 64) [
+        | inl lt ↦ (let none = (differ (k + nearest others k) lt).1 same in omega (arith, none, set found))
+        | inr above ↦ last found above
+      ],
     )
   where
     set : Found others k → bit_at others (k + nearest others k) ≡ 1

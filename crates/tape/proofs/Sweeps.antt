@@ -1,15 +1,16 @@
 -- A sweep changes the cells that the head goes over, and no other: of a tape, and of one stored in words.
-use Rattle.std.proofs.Common.{◌≡◌, ℕ, zero, suc, ℤ, pos, ◌+ℤ◌, ◌-ℤ◌, ◌+◌, ◌*◌, ◌<◌, List, [], ◌∷◌, ◌++◌, length, reverse, sym, ◌∙◌, ap, refl, arith, inl, inr}
+use Rattle.std.proofs.Common.{◌≢◌, ◌≤◌, ◌≡◌, ℕ, zero, suc, ℤ, pos, ◌+ℤ◌, ◌-ℤ◌, ◌+◌, ◌*◌, ◌<◌, List, [], ◌∷◌, ◌++◌, length, reverse, ◌⊎◌, subst, sym, ◌∙◌, ap, refl, arith, inl, inr}
 use Rattle.std.specs.Int.{bit_at}
 use Rattle.std.proofs.lemmas.Int.{ints}
 use Rattle.std.proofs.lemmas.Bool.{cases_lt}
+use Rattle.std.proofs.lemmas.Nat.Bits.{bit_at-lt}
 use Rattle.machine_text.specs.declared.transition.Sym.{Sym}
 use Rattle.machine_text.specs.declared.transition.Dir.{Dir}
 use Rattle.machine_text.specs.declared.transition.Dir.TheVariants.{L, R}
 use Rattle.turing.specs.Tape.{Tape, cell_of, symbol_read}
 use Rattle.tape.specs.Word.{ones_of, symbol_of, symbols_of}
-use Rattle.tape.specs.Inside.{stored, place_of, bit_ahead, HasCells, IsNearest}
-use Rattle.tape.specs.Sweeps.{swept}
+use Rattle.tape.specs.Inside.{stored, place_of, bit_ahead, HasCells, HasAllCells, IsNearest}
+use Rattle.tape.specs.Sweeps.{swept, IsPastEdge, EndsSweep}
 use Rattle.tape.proofs.Cells.{by_place, cell_same, cell_other, same_ones, same_tape}
 use Rattle.tape.proofs.Symbols.{blank_before}
 use Rattle.tape.proofs.Packed.{by_word, bit_around, cell_of-words, cell_of-between}
@@ -140,3 +141,52 @@ pub right_swept-edge : (s : Sym) (b b' k : ℕ) (left left' right right' : List 
 right_swept-edge s b b' k left left' right right' w w' next n within all word to nearest pushed =
     right_edge-nearest b b' left left' right right' w' next to nearest pushed
     ∙ same_tape _ _ (omega (arith, ints, all, swept_head R s (stored b k left w right) n)) (sym (swept-stored R s b k left w w' right n within (omega (arith, all)) word.0 word.1))
+
+-- bits that stand for one symbol are the same
+same_bit : (a b : ℕ) → a < 2 → b < 2 → symbol_of a ≡ symbol_of b → a ≡ b
+same_bit zero zero small small' same = refl
+same_bit (suc zero) (suc zero) small small' same = refl
+same_bit zero (suc b) small small' same = absurd cc
+same_bit (suc a) zero small small' same = absurd cc
+same_bit (suc (suc a)) b small small' same = absurd (omega (arith, small))
+same_bit a (suc (suc b)) small small' same = absurd (omega (arith, small'))
+
+-- a word has no more cells there, or one more
+one_more : (d : Dir) (k n : ℕ) → HasCells d k n → HasAllCells d k n ⊎ HasCells d k (n + 1)
+one_more L k n room = elim (cases_lt k n) [ inl all ↦ inl (omega (arith, room, all)) | inr more ↦ inr (omega (arith, more)) ]
+one_more R k n room = elim (cases_lt 63 (k + n)) [ inl all ↦ inl (omega (arith, room, all)) | inr more ↦ inr (omega (arith, more)) ]
+
+-- beyond all of them the head is past the edge
+past_edge : (d : Dir) (s : Sym) (b k : ℕ) (left : List ℕ) (w : ℕ) (right : List ℕ) (n : ℕ) → HasAllCells d k n → IsPastEdge d (swept d s (stored b k left w right) n).head
+past_edge L s b k left w right n all = (b, omega (arith, ints, all, swept_head L s (stored b k left w right) n))
+past_edge R s b k left w right n all = (b + 1, omega (arith, ints, all, swept_head R s (stored b k left w right) n))
+
+-- what the head reads after a sweep within the word
+read_after : (d : Dir) (s : Sym) (b k : ℕ) (left : List ℕ) (w : ℕ) (right : List ℕ) (n : ℕ) → k < 64 → HasCells d k (n + 1)
+    → symbol_read (swept d s (stored b k left w right) n) ≡ symbol_of (bit_at w (bit_ahead d k n))
+read_after d s b k left w right n within room =
+    let less : n < n + 1 = omega arith in
+    let first : place_of (64 * b) -ℤ pos (64 * length left) +ℤ pos (64 * length left + bit_ahead d k n) ≡ place_of (64 * b + bit_ahead d k n) = omega (arith, ints) in
+    read_ahead d s (stored b k left w right) n
+    ∙ cell_of-between _ left (reverse right) w (bit_ahead d k n) _ (bit_inside d k (n + 1) n within room less) (place_ahead d b k (n + 1) n room less ∙ sym first)
+
+-- a sweep over as many like cells as the word has, or as the limit allows, ends as it should
+pub sweep_ends : (d : Dir) (s : Sym) (b k : ℕ) (left : List ℕ) (w : ℕ) (right : List ℕ) (limit n : ℕ) → k < 64 → HasCells d k n
+    → (n ≡ limit) ⊎ (HasAllCells d k n ⊎ (bit_at w (bit_ahead d k n) ≢ bit_at w k)) → EndsSweep d limit (stored b k left w right) n (swept d s (stored b k left w right) n)
+sweep_ends d s b k left w right limit n within room ends = elim ends [
+  | inl most ↦ inl most
+  | inr (inl all) ↦ inr (inr (past_edge d s b k left w right n all))
+  | inr (inr unlike) ↦ elim (one_more d k n room) [
+    | inl all ↦ inr (inr (past_edge d s b k left w right n all))
+    | inr more ↦ inr (inl (λ same. unlike (same_bit _ _ (bit_at-lt w (bit_ahead d k n)) (bit_at-lt w k)
+        (sym (read_after d s b k left w right n within more) ∙ same ∙ symbol_read-stored b k left w right within))))
+  ]
+]
+
+-- the lesser of two counts is one of them
+pub lesser : (count like limit : ℕ) (A : ℕ → Type 0) → count ≤ like → count ≤ limit → (count < like → count ≡ limit) → A like → (count ≡ limit) ⊎ A count
+lesser count like limit A fewer within is holds =
+    elim (cases_lt count like) [
+      | inl less ↦ inl (is less)
+      | inr same ↦ inr (subst A (let all : like ≡ count = omega (arith, fewer, same) in all) holds)
+    ]

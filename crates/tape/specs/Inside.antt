@@ -65,3 +65,8 @@ HasCells R k n = k + n ≤ 64
 abbrev pub IsLowest : Dir → ℕ → ℕ → ℕ → Type 0
 IsLowest L k n low = low + n ≡ k + 1
 IsLowest R k n low = low ≡ k
+
+-- they are all that the word has there
+abbrev pub HasAllCells : Dir → ℕ → ℕ → Type 0
+HasAllCells L k n = n ≡ k + 1
+HasAllCells R k n = k + n ≡ 64

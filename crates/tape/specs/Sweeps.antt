@@ -1,7 +1,8 @@
 -- A sweep: the head goes over cells that hold one symbol, and leaves one symbol in each of them.
-use Rattle.std.specs.Prelude.{◌≡◌, ℕ, zero, suc, ◌<◌}
+use Rattle.std.specs.Prelude.{◌≡◌, ◌≢◌, ◌⊎◌, ℕ, zero, suc, ◌*◌, ◌^◌, ◌<◌, ℤ, pos, ◌+ℤ◌}
 use Rattle.machine_text.specs.declared.transition.Sym.{Sym}
 use Rattle.machine_text.specs.declared.transition.Dir.{Dir}
+use Rattle.machine_text.specs.declared.transition.Dir.TheVariants.{L, R}
 use Rattle.turing.specs.Tape.{Tape, symbol_read, written, moved}
 
 -- the tape after so many times a symbol was written and the head moved to a side
@@ -14,3 +15,12 @@ pub record Sweeps (d : Dir) (s : Sym) (old : Tape) (count : ℕ) (new : Tape) : 
   pub some : 0 < count
   pub alike : (i : ℕ) → i < count → symbol_read (swept d s old i) ≡ symbol_read old
   pub after : new ≡ swept d s old count
+
+-- a place to which a head comes from a word's last cell on that side: words of 64 cells follow one another from -2^63 on
+abbrev pub IsPastEdge : Dir → ℤ → Type 0
+IsPastEdge L x = (n : ℕ) × (x +ℤ pos (2 ^ 63) +ℤ pos 1 ≡ pos (64 * n))
+IsPastEdge R x = (n : ℕ) × (x +ℤ pos (2 ^ 63) ≡ pos (64 * n))
+
+-- why a sweep went no further: its limit, another symbol, or the edge of a word
+abbrev pub EndsSweep : Dir → ℕ → Tape → ℕ → Tape → Type 0
+EndsSweep d limit old count new = (count ≡ limit) ⊎ ((symbol_read new ≢ symbol_read old) ⊎ IsPastEdge d new.head)

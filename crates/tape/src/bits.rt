@@ -1,9 +1,9 @@
 // A word of 64 cells, the lowest bit leftmost, and the numbers of places.
-ghost use Rattle.std.specs.Prelude.{◌≡◌, ◌≢◌, ℕ, ◌+◌, ◌<◌, ◌↔◌};
+ghost use Rattle.std.specs.Prelude.{◌≡◌, ◌≢◌, ◌⊎◌, ℕ, ◌+◌, ◌<◌, ◌↔◌};
 ghost use Rattle.std.specs.Int.{bit_at};
 ghost use Rattle.turing.specs.Translated.{Beyond};
 ghost use Rattle.tape.specs.Word.{symbol_of};
-ghost use Rattle.tape.specs.Inside.{place_of, bit_ahead, HasCells, IsLowest};
+ghost use Rattle.tape.specs.Inside.{place_of, bit_ahead, HasCells, HasAllCells, IsLowest};
 
 use machine_text::{Dir, Sym};
 
@@ -70,6 +70,7 @@ pub(crate) fn alike(word: u64, bit: u32, dir: Dir) -> u32
     ensures some { 0 < result }
     ensures inside { HasCells dir bit result }
     ensures alike { (i : ℕ) → i < result → bit_at word (bit_ahead dir bit i) ≡ bit_at word bit }
+    ensures all { HasAllCells dir bit result ⊎ (bit_at word (bit_ahead dir bit result) ≢ bit_at word bit) }
 {
     let others = differing(word, bit);
     match dir {

@@ -8,11 +8,12 @@ use machine_text::{Dir, Sym};
 
 impl Tape {
     ghost use Rattle.tape.specs.Places.{IsWithinLimit};
-    ghost use Rattle.tape.specs.Sweeps.{Sweeps};
+    ghost use Rattle.tape.specs.Sweeps.{Sweeps, EndsSweep};
 
     /// Makes several moves to a side at once, at most `limit` of them: as long as the head reads what it read
     /// before the first one, it writes a symbol and moves. It answers how many moves it made, one at least; it
-    /// stops at the edge of a word, so more may follow. After an error the tape is as it was. The head stands at
+    /// stops at the edge of a word too, at a place that is a multiple of 64 on the right, or one before such a place
+    /// on the left, so more may follow. After an error the tape is as it was. The head stands at
     /// least `limit` cells within `MAX_PLACE`, which is the caller's to see to.
     ///
     /// A machine that stays in its state on such cells does just these steps. Long runs consist of little else.
@@ -21,6 +22,7 @@ impl Tape {
         requires left { IsWithinLimit (self.old.head -ℤ pos limit) }
         requires right { IsWithinLimit (self.old.head +ℤ pos limit) }
         ensures ok { IfOk result (λ count. Sweeps dir s self.old count self.new × count ≤ limit) }
+        ensures all { IfOk result (λ count. EndsSweep dir limit self.old count self.new) }
         ensures err { OnErr result (self.new ≡ self.old) }
     {
         match dir {
@@ -34,6 +36,7 @@ impl Tape {
         requires left { IsWithinLimit (self.old.head -ℤ pos limit) }
         requires right { IsWithinLimit (self.old.head +ℤ pos limit) }
         ensures ok { IfOk result (λ count. Sweeps L s self.old count self.new × count ≤ limit) }
+        ensures all { IfOk result (λ count. EndsSweep L limit self.old count self.new) }
         ensures err { OnErr result (self.new ≡ self.old) }
     {
         let count = (alike(self.word, self.bit, Dir::L) as u64).min(limit) as u32;
@@ -54,6 +57,7 @@ impl Tape {
         requires left { IsWithinLimit (self.old.head -ℤ pos limit) }
         requires right { IsWithinLimit (self.old.head +ℤ pos limit) }
         ensures ok { IfOk result (λ count. Sweeps R s self.old count self.new × count ≤ limit) }
+        ensures all { IfOk result (λ count. EndsSweep R limit self.old count self.new) }
         ensures err { OnErr result (self.new ≡ self.old) }
     {
         let count = (alike(self.word, self.bit, Dir::R) as u64).min(limit) as u32;

@@ -1,9 +1,10 @@
-use Rattle.std.proofs.Common.{refl, ◌≡◌, ℕ, ◌<◌, subst, ap, ◌∙◌, arith}
+use Rattle.std.proofs.Common.{◌⊎◌, ◌≢◌, refl, ◌≡◌, ℕ, ◌<◌, subst, sym, ap, ◌∙◌, arith}
+use Rattle.std.specs.Int.{bit_at}
 use Rattle.machine_text.specs.declared.transition.Dir.TheVariants.{R}
 use Rattle.turing.specs.Tape.{Tape, symbol_read}
-use Rattle.tape.specs.Inside.{HasCells}
-use Rattle.tape.specs.Sweeps.{swept}
-use Rattle.tape.proofs.Sweeps.{IsSweptWord, alike_ahead, right_swept, right_swept-edge}
+use Rattle.tape.specs.Inside.{bit_ahead, HasCells, HasAllCells}
+use Rattle.tape.specs.Sweeps.{swept, EndsSweep}
+use Rattle.tape.proofs.Sweeps.{IsSweptWord, alike_ahead, sweep_ends, lesser, right_swept, right_swept-edge}
 use Rattle.tape.proofs.tape.Tape.sweep_right.Goals as goal
 use Rattle.tape.proofs.tape.Tape.sweep_right.Goals.{then-self-count-le-LAST_BIT, else-self-count-le-LAST_BIT+in_ok-self-inside}
 
@@ -25,3 +26,13 @@ returns-clause-ok c =
       },
       omega (arith, c.min-count.ensures),
     )
+
+pub returns-clause-all : goal.returns-clause-all
+returns-clause-all c =
+    let a = c.self.inside in
+    let n = c.min-count.result in
+    let room : HasCells R a.bit n = omega (arith, c.min-count.ensures, c.alike.ensures.inside) in
+    let ends = lesser n c.alike.result c.args.limit (λ (m : ℕ). HasAllCells R a.bit m ⊎ (bit_at a.word (bit_ahead R a.bit m) ≢ bit_at a.word a.bit)) (omega (arith, c.min-count.ensures)) (omega (arith, c.min-count.ensures)) (λ less. omega (arith, c.min-count.ensures, less)) c.alike.ensures.all in
+    let swept_is = (returns-clause-ok c).0.after in
+    subst (λ (u : Tape). EndsSweep R c.args.limit c.args.self.now n u) (sym swept_is)
+    (subst (λ (t : Tape). EndsSweep R c.args.limit t n (swept R c.args.s t n)) c.self.view_is (sweep_ends R c.args.s a.block a.bit a.left.items a.word a.right.items c.args.limit n c.self.invariant.inside room ends))

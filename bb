@@ -17,15 +17,16 @@ below() {
         END { visit("bb") }' "$top/crates.txt"
 }
 
-# Says which crate of how many the build is at, as the log tells it.
+# Says how many crates of how many are proved, as the log tells it.
 watch() {
     count=$(below | wc -l)
-    last=
+    last=0
     while sleep 2; do
-        at=$(grep -o 'chose --jobs [0-9]* for [a-z_]*' "$1" | tail -n 1 | sed 's/.* //')
-        if [ -n "$at" ] && [ "$at" != "$last" ]; then
-            echo "bb: crate $(below | grep -nx "$at" | cut -d: -f1) of $count: $at" >&2
-            last=$at
+        proved=$(grep -o '^crate [a-z_]*:' "$1" | sort -u | wc -l)
+        if [ "$proved" -gt "$last" ]; then
+            name=$(grep -o '^crate [a-z_]*:' "$1" | tail -n 1 | sed 's/^crate //; s/:$//')
+            echo "bb: $proved of $count crates proved, $name the last" >&2
+            last=$proved
         fi
     done
 }

@@ -1,5 +1,5 @@
 //! Writes a ledger of the tree of n states with so many records: `H K` where a table halts within 200 steps, else
-//! `U`. Build with `rustc -O grow_ledger.rs`; arguments: n, the number, and the order in which open tables are
+//! `U`. Build with `rustc --edition 2021 -O grow_ledger.rs`; arguments: n, the number, and the order in which open tables are
 //! taken: `first`, always the first in the order of their texts, as who settles a tree by itself takes them; or
 //! `nearest`, the nearest to the root, which leaves as many tables open as can be.
 #[allow(dead_code)]

@@ -1,5 +1,5 @@
 //! Runs a command, and says on standard error its seconds and the most memory in bytes that it ever held. Python can't:
-//! the peak of a process that it starts is never below its own. Build with `rustc -O peak.rs`; arguments: the command.
+//! the peak of a process that it starts is never below its own. Build with `rustc --edition 2021 -O peak.rs`; arguments: the command.
 use std::process::Command;
 use std::time::Instant;
 

@@ -1,5 +1,5 @@
 //! What bb check does for the records that are judged by runs, in plain Rust on a growing byte tape: a yardstick for speed.
-//! Build with `rustc -O plain.rs`. Reads records of the kinds H, C and T from standard input, as bb check does.
+//! Build with `rustc --edition 2021 -O plain.rs`. Reads records of the kinds H, C and T from standard input, as bb check does.
 #[allow(dead_code)]
 mod machine;
 

@@ -1,5 +1,5 @@
 //! What bb coord does with frames `REC` of the kinds H and U, in plain Rust: parse, judge, index, append, answer. A
-//! yardstick for speed. Build with `rustc -O`; arguments: the number of states and the ledger's path.
+//! yardstick for speed. Build with `rustc --edition 2021 -O`; arguments: the number of states and the ledger's path.
 #[allow(dead_code)]
 mod machine;
 

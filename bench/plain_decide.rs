@@ -1,5 +1,5 @@
 //! What bb decide does, in plain Rust: a yardstick for speed, and, since it shares no code with bb, for what is
-//! found. Build with `rustc -O`. Reads tables from standard input. The greatest width of words and the greatest
+//! found. Build with `rustc --edition 2021 -O`. Reads tables from standard input. The greatest width of words and the greatest
 //! size of a first automaton may be given as arguments.
 #[allow(dead_code)]
 mod machine;

@@ -1,5 +1,5 @@
 //! What bb report does for ledgers of the kinds H and U, in plain Rust: parse, judge, index, report. A yardstick
-//! for speed and memory. Build with `rustc -O plain_report.rs`; argument: the ledger's path.
+//! for speed and memory. Build with `rustc --edition 2021 -O plain_report.rs`; argument: the ledger's path.
 #[allow(dead_code)]
 mod machine;
 

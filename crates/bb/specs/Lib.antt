@@ -1,3 +1,1 @@
-pub mod Ranges
 pub mod Tasks
-pub mod Unread

@@ -1,5 +1,5 @@
 -- What is done with finders, whose numbers are within their ranges.
-use Rattle.bb.specs.Ranges.{IsSettling}
+use Rattle.command_line.specs.Ranges.{IsSettling}
 use Rattle.bb.specs.declared.dispatch.Task.{Task}
 use Rattle.bb.specs.declared.dispatch.Task.TheVariants.{Decide, Run, Retry}
 

@@ -1,13 +1,12 @@
 // From the words of a command line to the command, and how it ended.
 ghost use Rattle.std.specs.Prelude.{IfErr};
-ghost use Rattle.bb.specs.Ranges.{IsBeginning, IsSettling};
 ghost use Rattle.bb.specs.Tasks.{IsTask};
-ghost use Rattle.bb.specs.Unread.{EndsUnread};
+ghost use Rattle.command_line.specs.Ranges.{IsBeginning, IsSettling};
+ghost use Rattle.command_line.specs.Unread.{EndsUnread};
 
-use crate::command_line::options;
-use crate::line_fault::LineFault;
 use backward::BackwardFinder;
 use cert::{Decider, Finder, Finders};
+use command_line::{LineFault, options};
 use commands::{
     Beginning, Ended, Host, Opened, Options, Outcome, Search, Settling, cmd_check, cmd_coord,
     cmd_decide, cmd_merge, cmd_report, cmd_retry, cmd_run, opened,
@@ -37,7 +36,7 @@ pub fn obey<H: Host + Clock, R: Read, W: Write, E: Write>(
 {
     let words = match words {
         Ok(words) => words,
-        Err(fault) => return told(alloc, fault, answers, faults),
+        Err(fault) => return fault.told(alloc, answers, faults),
     };
     let line = match line_of(alloc, &words) {
         Ok(line) => line,
@@ -64,7 +63,7 @@ pub fn obey<H: Host + Clock, R: Read, W: Write, E: Write>(
             let form = Form::of(json);
             cmd_report(alloc, &form, why, opened(host, file), answers, faults)
         }
-        Err(fault) => told(alloc, fault, answers, faults),
+        Err(fault) => fault.told(alloc, answers, faults),
     }
 }
 
@@ -274,33 +273,4 @@ fn line_of(alloc: Global, words: &[String]) -> Result<Vec<&str>, NoMemory> {
         line.push(word.as_str())?;
     }
     Ok(line)
-}
-
-// Prints what there is to say in place of a command: help and the version as answers, all else as faults.
-fn told<W: Write, E: Write>(
-    alloc: Global,
-    fault: LineFault,
-    answers: &mut W,
-    faults: &mut E,
-) -> Outcome
-    ensures { EndsUnread fault result }
-{
-    let is_answer = match &fault {
-        LineFault::Refused(refused) => !refused.use_stderr(),
-        LineFault::NotText | LineFault::NoSuchCommand | LineFault::OutOfRange => false,
-        LineFault::NoMemory => return Ended::NoMemory.told(faults),
-    };
-    let Ok(text) = format!(in alloc; "{fault}") else {
-        return Ended::NoMemory.told(faults);
-    };
-    let written = if is_answer {
-        answers.write_all(text.as_bytes())
-    } else {
-        faults.write_all(text.as_bytes())
-    };
-    match written {
-        Ok(()) if is_answer => Outcome::Accepted,
-        Ok(()) => Outcome::BadLine,
-        Err(_) => Ended::Stream.told(faults),
-    }
 }

@@ -1,19 +1,17 @@
-//! `bb`, a verified tool for the busy beaver problem: the words of the command line, and the streams and
-//! files that its commands work on. What the commands do stands in the crate `commands`.
+//! `bb`, a verified tool for the busy beaver problem: the way from the words of the command line to the command,
+//! and the streams and files that it works on. The words are read in the crate `command_line`; what the commands
+//! do stands in the crate `commands`.
 #![tactic(auto)]
 
-mod command_line;
 mod dispatch;
-mod line_fault;
 
-pub use command_line::options;
+pub use command_line::{LineFault, options};
 use commands::{FileLedger, Host};
 pub use commands::{
     Options, cmd_check, cmd_coord, cmd_decide, cmd_merge, cmd_report, cmd_retry, cmd_run, report,
 };
 use dispatch::obey;
 pub use json_report::report_json;
-pub use line_fault::LineFault;
 use std::fs::{self, OpenFile, OpenOptions};
 use std::process::ExitCode;
 use std::time::{Clock, Duration};

@@ -1,7 +1,6 @@
 // Command lines, and what is said in place of a command, also to streams that fail.
-use crate::command_line::options;
 use crate::dispatch::obey;
-use crate::line_fault::LineFault;
+use command_line::{LineFault, options};
 use commands::{Beginning, Host, Merging, Options, Outcome, Search, Settling};
 use std::alloc::Global;
 use std::io::{self, Read, Write};

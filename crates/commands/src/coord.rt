@@ -27,14 +27,25 @@ pub fn cmd_coord<F: Read + Drop, L: LedgerOut, R: Read, W: Write, E: Write>(
 ) -> Outcome
     requires { (1 ≤ beginning.states) × (beginning.states ≤ state_limit) }
 {
-    let ended = match coordinator(alloc, beginning, held, ledger) {
-        Ok(mut node) => match served(alloc, &mut node, ledger, input, answers) {
-            Ok(()) => return outcome_of(&node),
-            Err(ended) => ended,
-        },
-        Err(ended) => ended,
-    };
-    ended.told(faults)
+    match coordinated(alloc, beginning, held, ledger, input, answers) {
+        Ok(outcome) => outcome,
+        Err(ended) => ended.told(faults),
+    }
+}
+
+fn coordinated<F: Read + Drop, L: LedgerOut, R: Read, W: Write>(
+    alloc: Global,
+    beginning: Beginning,
+    held: io::Result<Opened<F>>,
+    ledger: &mut L,
+    input: &mut R,
+    answers: &mut W,
+) -> Result<Outcome, Ended>
+    requires { (1 ≤ beginning.states) × (beginning.states ≤ state_limit) }
+{
+    let mut node = coordinator(alloc, beginning, held, ledger)?;
+    served(alloc, &mut node, ledger, input, answers)?;
+    Ok(outcome_of(&node))
 }
 
 // A coordinator whose ledger is in step with it.
@@ -46,12 +57,22 @@ pub fn coordinator<F: Read + Drop, L: LedgerOut>(
 ) -> Result<Coordinator, Ended>
     requires { (1 ≤ beginning.states) × (beginning.states ≤ state_limit) }
 {
-    let bytes = match bytes_of(alloc, held) {
-        Ok(bytes) => bytes,
-        Err(fault) => return Err(Ended::by_ledger(&fault)),
-    };
-    let (node, started) = Coordinator::start(alloc, beginning.states, beginning.era, &bytes);
-    begin(&started?, ledger)?;
+    match bytes_of(alloc, held) {
+        Ok(bytes) => started(alloc, beginning, &bytes, ledger),
+        Err(fault) => Err(Ended::by_ledger(&fault)),
+    }
+}
+
+fn started<L: LedgerOut>(
+    alloc: Global,
+    beginning: Beginning,
+    bytes: &[u8],
+    ledger: &mut L,
+) -> Result<Coordinator, Ended>
+    requires { (1 ≤ beginning.states) × (beginning.states ≤ state_limit) }
+{
+    let (node, first) = Coordinator::start(alloc, beginning.states, beginning.era, bytes);
+    begin(&first?, ledger)?;
     Ok(node)
 }
 

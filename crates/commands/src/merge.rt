@@ -48,14 +48,20 @@ fn merged<H: Host, W: Write>(
     };
     let (board, left) = joined(alloc, &first, &second)?;
     write_whole(alloc, host, merging.out, &board)?;
-    let mut said = Vec::new(alloc);
-    append_merged(&board.tally(), &mut said)?;
-    append_left(&left, &mut said)?;
-    answers.write_all(&said)?;
+    tell(alloc, &board.tally(), &left, answers)?;
     match left {
         Left::Nothing => Ok(Outcome::Accepted),
         Left::From { .. } => Ok(Outcome::Refused),
     }
+}
+
+// Prints what the board holds, and what wasn't kept.
+fn tell<W: Write>(alloc: Global, tally: &Tally, left: &Left, answers: &mut W) -> Result<(), Ended> {
+    let mut said = Vec::new(alloc);
+    append_merged(tally, &mut said)?;
+    append_left(left, &mut said)?;
+    answers.write_all(&said)?;
+    Ok(())
 }
 
 /// Where the bytes of a ledger are read from.

@@ -67,17 +67,24 @@ fn settled<F: Read + Drop, L: LedgerOut, N: Node + Drop, C: Clock, E: Write>(
         era: 1,
     };
     let mut node = coordinator(alloc, beginning, held, ledger)?;
-    let mut stations = stations(alloc, settling, workers)?;
-    let records = recorded(&node);
-    let mut progress = Progress::new(alloc, settling.progress, records, clock, faults);
-    run_rounds(
-        &mut node,
-        ledger,
-        &mut stations,
-        settling.rounds,
-        &mut progress,
-    )?;
+    run_workers(alloc, settling, &mut node, ledger, workers, clock, faults)?;
     Ok(node)
+}
+
+// The rounds of a coordinator and its workers.
+fn run_workers<L: LedgerOut, N: Node + Drop, C: Clock, E: Write>(
+    alloc: Global,
+    settling: &Settling,
+    node: &mut Coordinator,
+    ledger: &mut L,
+    workers: Vec<N>,
+    clock: &C,
+    faults: &mut E,
+) -> Result<(), Ended> {
+    let mut stations = stations(alloc, settling, workers)?;
+    let records = recorded(node);
+    let mut progress = Progress::new(alloc, settling.progress, records, clock, faults);
+    run_rounds(node, ledger, &mut stations, settling.rounds, &mut progress)
 }
 
 // Each worker with a link of its own.

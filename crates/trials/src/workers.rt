@@ -31,8 +31,15 @@ fn idle(rt: &impl Abort, alloc: Global) -> Result<Worker, Fail> {
 const CHILDREN: &str =
     "0LA---_1LA--- 0LB---_1LA--- 0RA---_1LA--- 0RB---_1LA--- 1LA---_1LA--- 1LB---_1LA--- 1RA---_1LA--- 1RB---_1LA---";
 
+// The same, with the tree of a table that has one entry, as lease 1 of era 1.
+fn granted(rt: &impl Abort, alloc: Global) -> Result<Worker, Fail> {
+    let mut worker = idle(rt, alloc)?;
+    handed(rt, &mut worker, "GRANT 1 1 ------_1LA---");
+    Ok(worker)
+}
+
 #[test]
-fn a_granted_tree_is_worked_on(rt: HostRuntime) -> Result<(), Fail> {
+fn a_grant_begins_a_board(rt: HostRuntime) -> Result<(), Fail> {
     let mut worker = idle(&rt, rt.alloc())?;
     let out = handed(&rt, &mut worker, "GRANT 1 1 1RC---_------_------");
     assert!(rt; out.note == Note::Refused(401) && worker.board().is_none());
@@ -42,6 +49,12 @@ fn a_granted_tree_is_worked_on(rt: HostRuntime) -> Result<(), Fail> {
         out.append.as_slice(),
         b"bb-ledger 1 ------_1LA---\n".as_slice()
     );
+    Ok(())
+}
+
+#[test]
+fn a_granted_tree_is_worked_on(rt: HostRuntime) -> Result<(), Fail> {
+    let mut worker = granted(&rt, rt.alloc())?;
     answers(
         &rt,
         &mut worker,
@@ -65,6 +78,21 @@ fn a_granted_tree_is_worked_on(rt: HostRuntime) -> Result<(), Fail> {
         &[
             ("WORK", "0LA---_1LA--- U\n", "REC 0LA---_1LA--- U\n"),
             ("WORK", "0LB---_1LA--- U\n", "REC 0LB---_1LA--- U\n"),
+        ],
+    );
+    Ok(())
+}
+
+#[test]
+fn records_are_sent_until_they_are_acknowledged(rt: HostRuntime) -> Result<(), Fail> {
+    let mut worker = granted(&rt, rt.alloc())?;
+    for _ in 0..3 {
+        handed(&rt, &mut worker, "WORK");
+    }
+    answers(
+        &rt,
+        &mut worker,
+        &[
             (
                 "TICK 2",
                 "",

@@ -2,8 +2,8 @@
 use Rattle.std.specs.Prelude.{◌≡◌, ◌⊎◌}
 use Rattle.commands.specs.declared.outcome.Outcome.{Outcome}
 use Rattle.commands.specs.declared.outcome.Outcome.TheVariants.{Accepted, BadLine, NoMemory, Failed}
-use Rattle.bb.specs.declared.line_fault.LineFault.{LineFault}
-use Rattle.bb.specs.declared.line_fault.LineFault.TheVariants.{Refused, NotText, NoSuchCommand, OutOfRange, NoMemory as WantsMemory}
+use Rattle.command_line.specs.declared.line_fault.LineFault.{LineFault}
+use Rattle.command_line.specs.declared.line_fault.LineFault.TheVariants.{Refused, NotText, NoSuchCommand, OutOfRange, NoMemory as WantsMemory}
 
 -- memory was refused, or a stream failed when the fault was to be said
 abbrev pub EndsGravely : Outcome → Type 0

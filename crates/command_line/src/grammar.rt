@@ -1,0 +1,182 @@
+// The commands with their arguments and options, by clap's builder.
+use crate::help::{COORD, DECIDE, MERGE, RECORDS, REPORT, RETRY, RUN, STATUSES, VERSION};
+use crate::words::{
+    DEPTH, ERA, FAR, FILE, FIRST, GRAM, JSON, LEDGER, LOSE, OUT, PROGRESS, ROUNDS, SECOND, STATES,
+    STEPS, WHY, WORKERS,
+};
+use clap::{Arg, ArgAction, Command, value_parser};
+use run::NoMemory;
+use std::alloc::Global;
+
+/// The program's commands.
+pub(crate) fn program<'a>(alloc: Global) -> Result<Command<'a>, NoMemory> {
+    let program = with(empty_program(alloc), Ok(check_command(alloc)))?;
+    let program = with(program, decide_command(alloc))?;
+    let program = with(program, run_command(alloc))?;
+    let program = with(program, coord_command(alloc))?;
+    let program = with(program, retry_command(alloc))?;
+    let program = with(program, merge_command(alloc))?;
+    with(program, report_command(alloc))
+}
+
+fn empty_program<'a>(alloc: Global) -> Command<'a> {
+    Command::new(alloc, "bb")
+        .version(VERSION)
+        .about("A verified tool for the busy beaver problem.")
+        .after_help(STATUSES)
+        .subcommand_required(true)
+        .arg_required_else_help(true)
+}
+
+// The program with one more command.
+fn with<'a>(
+    program: Command<'a>,
+    command: Result<Command<'a>, NoMemory>,
+) -> Result<Command<'a>, NoMemory> {
+    program.subcommand(command?)
+}
+
+fn check_command<'a>(alloc: Global) -> Command<'a> {
+    Command::new(alloc, "check")
+        .about("Checks a record a line on standard input, and prints an answer a line.")
+        .after_help(RECORDS)
+}
+
+fn decide_command<'a>(alloc: Global) -> Result<Command<'a>, NoMemory> {
+    let decide = Command::new(alloc, "decide")
+        .about("Reads a table a line on standard input, and prints a record a line.")
+        .after_help(DECIDE);
+    with_search(alloc, decide)
+}
+
+// The command with the options of a search for certificates.
+fn with_search<'a>(alloc: Global, command: Command<'a>) -> Result<Command<'a>, NoMemory> {
+    let steps = "Steps that each search runs a table at most";
+    let depth = "Greatest depth of backward reasoning";
+    let gram = "Greatest width of words in closed position sets; 0 for none";
+    let far = "Most states of a first automaton, in finite automata reduction; 0 for none";
+    command
+        .arg(number_arg(alloc, STEPS, "K", 1, 100_000_000, steps).default_value("1000"))?
+        .arg(number_arg(alloc, DEPTH, "D", 0, 1_000, depth).default_value("20"))?
+        .arg(number_arg(alloc, GRAM, "G", 0, 8, gram).default_value("3"))?
+        .arg(number_arg(alloc, FAR, "M", 0, 8, far).default_value("2"))
+}
+
+fn run_command<'a>(alloc: Global) -> Result<Command<'a>, NoMemory> {
+    let workers = "How many workers there are";
+    let lose = "Lose every K-th of the first 1,000 frames, in each direction of each link";
+    let rounds = "Stop after so many rounds";
+    let run = Command::new(alloc, "run")
+        .about(
+            "Settles the tree of all machines of N states in this process, and prints the report.",
+        )
+        .after_help(RUN)
+        .arg(states_arg(alloc))?
+        .arg(number_arg(alloc, WORKERS, "W", 1, 64, workers).default_value("2"))?
+        .arg(ledger_arg(alloc))?
+        .arg(number_arg(alloc, LOSE, "K", 2, 1_000, lose))?
+        .arg(number_arg(alloc, ROUNDS, "R", 1, 1_000_000_000, rounds).default_value("1000000"))?
+        .arg(json_arg(alloc))?
+        .arg(flag_arg(
+            alloc,
+            PROGRESS,
+            "Say on standard error, once a second, how far it is",
+        ))?;
+    with_search(alloc, run)
+}
+
+fn coord_command<'a>(alloc: Global) -> Result<Command<'a>, NoMemory> {
+    Command::new(alloc, "coord")
+        .about(
+            "Answers workers: frames on standard input, a line each, and frames on standard output.",
+        )
+        .after_help(COORD)
+        .arg(states_arg(alloc))?
+        .arg(ledger_arg(alloc))?
+        .arg(
+            Arg::new(alloc, ERA)
+                .long(ERA)
+                .value_name("E")
+                .value_parser(value_parser!(u64).range(1..))
+                .default_value("1")
+                .help("Tells this run's leases from those of an earlier one"),
+        )
+}
+
+fn retry_command<'a>(alloc: Global) -> Result<Command<'a>, NoMemory> {
+    let retry = Command::new(alloc, "retry")
+        .about("Tries the holdouts of a ledger again, and prints its report.")
+        .after_help(RETRY)
+        .arg(file_arg(alloc, FILE, "The ledger file"))?;
+    with_search(alloc, retry)
+}
+
+fn merge_command<'a>(alloc: Global) -> Result<Command<'a>, NoMemory> {
+    Command::new(alloc, "merge")
+        .about("Writes the ledger of what two ledgers hold together.")
+        .after_help(MERGE)
+        .arg(file_arg(alloc, FIRST, "The ledger whose records come first"))?
+        .arg(file_arg(alloc, SECOND, "The other ledger"))?
+        .arg(file_arg(
+            alloc,
+            OUT,
+            "The ledger file that is written; it may be one of the two",
+        ))
+}
+
+fn report_command<'a>(alloc: Global) -> Result<Command<'a>, NoMemory> {
+    Command::new(alloc, "report")
+        .about("Prints the report of a ledger file.")
+        .after_help(REPORT)
+        .arg(file_arg(alloc, FILE, "The ledger file"))?
+        .arg(json_arg(alloc))?
+        .arg(flag_arg(
+            alloc,
+            WHY,
+            "Say on standard error why the first line that isn't kept isn't",
+        ))
+}
+
+// An option with a number from a range.
+fn number_arg<'a>(
+    alloc: Global,
+    name: &'static str,
+    value: &'static str,
+    least: i64,
+    most: i64,
+    help: &'static str,
+) -> Arg<'a> {
+    Arg::new(alloc, name)
+        .long(name)
+        .value_name(value)
+        .value_parser(value_parser!(u64).range(least..=most))
+        .help(help)
+}
+
+fn flag_arg<'a>(alloc: Global, name: &'static str, help: &'static str) -> Arg<'a> {
+    Arg::new(alloc, name)
+        .long(name)
+        .action(ArgAction::SetTrue)
+        .help(help)
+}
+
+fn json_arg<'a>(alloc: Global) -> Arg<'a> {
+    flag_arg(alloc, JSON, "Print the report as JSON")
+}
+
+fn file_arg<'a>(alloc: Global, name: &'static str, help: &'static str) -> Arg<'a> {
+    Arg::new(alloc, name).required(true).help(help)
+}
+
+fn states_arg<'a>(alloc: Global) -> Arg<'a> {
+    Arg::new(alloc, STATES)
+        .required(true)
+        .value_parser(value_parser!(u64).range(1..=6))
+        .help("How many states the machines have")
+}
+
+fn ledger_arg<'a>(alloc: Global) -> Arg<'a> {
+    Arg::new(alloc, LEDGER).long(LEDGER).value_name("FILE").help(
+        "The ledger file, which is created where it isn't there; none is kept without it",
+    )
+}

@@ -1,0 +1,114 @@
+// What help says of the program and of each command.
+
+// The program's version, and the kit by which it is proved.
+pub(crate) const VERSION: &str = "0.1.0, proved with rattle-kit-13b logic dac8208d650f15bf";
+
+pub(crate) const STATUSES: &str =
+    "Exit status: 0 all accepted; 1 something was refused; 2 a wrong command line; \
+3 out of memory; 4 a stream or a file failed.";
+
+pub(crate) const REPORT: &str =
+    "A ledger is the line `bb-ledger 1 TABLE`, which names the root of a tree, and then records, one a
+line. Each record is judged again; what stands behind the first line that can't be taken isn't kept.
+
+The report has these lines
+  root TABLE
+  status working     tables are open: neither recorded nor below a table without a record
+  status holdouts    none is open, but some are recorded without a verdict
+  status complete    neither
+  nodes N            records and open tables together
+  halting N          tables recorded as halting
+  never N            tables recorded as never halting
+  holdouts N         tables recorded without a verdict
+  open N             open tables
+  best K             the greatest recorded number of steps, or `none`
+  champion TABLE     a line for each table recorded with that number
+  holdout TABLE      a line for each holdout
+  left LINE          the number of the first line that wasn't kept, where there is one
+
+With --json it is one object and a newline: best (a number or null), champions, halting, holdout_tables,
+holdouts, never, nodes, open, root, status. It doesn't say what wasn't kept; the status is the same.
+
+Exit status: 0 the report says complete, and all was kept; 1 it doesn't, or the ledger was refused
+(`refused 404` no header with a readable table, `refused 405` its table doesn't name its states in order);
+2 a wrong command line; 3 out of memory (`refused memory`); 4 the file couldn't be read (`refused 605`)
+or a stream failed (`refused 603`).";
+
+pub(crate) const COORD: &str =
+    "A frame is a line; docs/FORMATS.md has the messages. A worker that asks (`ASK ID`) is granted the first open
+table that no other worker has; a record that it sends (`REC RECORD`) is judged, appended to the ledger where
+it is new, and then acknowledged. There is no clock: a lease ends where its worker asks again or is done.
+
+Exit status: 0 at the end of the input the board is complete; 1 it isn't, or the ledger was refused
+(`refused 404` no header with a readable table, `refused 405` another root); 2 a wrong command line;
+3 out of memory (`refused memory`); 4 a stream failed (`refused 603`), or the ledger did (`refused 604`).";
+
+pub(crate) const RUN: &str =
+    "A coordinator grants tables to workers; each looks for certificates as `bb decide` does, and the coordinator
+judges what they send. At the end comes the report, as by `bb report`. It is the same however many workers
+there are and whatever frames are lost. With --ledger a run that was stopped goes on where it was.
+
+Exit status: 0 the report says complete; 1 it doesn't, or the ledger was refused (`refused 404` no header
+with a readable table, `refused 405` another root); 2 a wrong command line; 3 out of memory
+(`refused memory`); 4 the ledger failed (`refused 604`), or a stream did (`refused 603`).";
+
+pub(crate) const RETRY: &str =
+    "Holdouts are tables that are recorded without a verdict. Each is looked at again, as by `bb decide`, and a
+record with a verdict is appended to FILE. What follows the last line that can be kept is cut off first.
+What becomes open below a settled table stays open: `bb run --ledger FILE` goes on with it.
+
+Exit status: 0 the report says complete; 1 it doesn't, or the ledger was refused (`refused 404` no header
+with a readable table, `refused 405` its table doesn't name its states in order); 2 a wrong command line;
+3 out of memory (`refused memory`); 4 the file failed (`refused 604`), or a stream did (`refused 603`).";
+
+pub(crate) const MERGE: &str =
+    "Both ledgers are of one tree. OUT gets the records of A, each holdout that B settles settled in its place,
+and then those of B for tables that A has no record of. Each record is judged again. Then comes the line
+`merged R open O holdouts H`: how many records, open tables and holdouts there are; and `left LINE`, as by
+`bb report`, of the first of the two of which not all could be kept.
+
+Exit status: 0 all was kept; 1 it wasn't, or a ledger was refused (`refused 404` no header with a readable
+table, `refused 405` the tables of the two headers differ, or one isn't in order); 2 a wrong command line;
+3 out of memory (`refused memory`); 4 a file couldn't be read (`refused 605`) or written (`refused 604`),
+or a stream failed (`refused 603`).";
+
+pub(crate) const DECIDE: &str =
+    "A line is a table in the bbchallenge standard format. Its record has the first certificate that is
+found and stands, looked for in this order: that it halts, a cycle, a translated cycle, backward
+reasoning, a closed position set, finite automata; or `U`, undecided. A text that is no table is answered
+`refused 301` with its fault, as by `bb check`, and a line over 65,536 bytes `refused 305`.
+`bb decide | bb check` checks what was found.
+
+Exit status: 0 each line was a table; 1 some wasn't; 2 a wrong command line; 3 out of memory
+(`refused memory` on standard error); 4 a stream failed (`refused 603`).";
+
+pub(crate) const RECORDS: &str =
+    "A record is a table in the bbchallenge standard format, a space and a certificate:
+  H k         it halts in k steps (the halting step counts); k up to 100,000,000
+  C i j       the configurations at the times i and j are equal; j up to 10,000,000
+  T i j side  they are, but for a shift to that side (L or R) and for what lies behind it
+  B d         it does d steps, and no configuration at all halts after exactly d; d up to 1,000
+  N g L R C   no step leaves these words of g symbols on the left and on the right of the head, and these
+              local configurations; g from 1 to 8, each list sorted and joined by commas, and the three
+              together up to 49,152 bytes
+  F side m delta rows keep
+              two automata, by which the run never comes to a halt; the first has m states, from 1 to 8, and
+              goes where the digits of delta say; rows and keep are sets of states of the second, in hexadecimal
+  U           nothing is claimed
+
+An answer is one of
+  TABLE halts K      the certificate stands: the table halts in K steps
+  TABLE never        the certificate stands: the table never halts
+  TABLE undecided    nothing was claimed
+  refused 201        the certificate doesn't stand
+  refused 202        it asks for more than its limit
+  refused 203        more than 65,536 paths lead to a halting pair in as many steps
+  refused 301 F P    no table: its fault is F (101 length, 102 bar, 103 symbol, 104 direction,
+                     105 state), at place P
+  refused 302        no such kind, or another number of fields
+  refused 303        no number, no side, or a width that isn't from 1 to 8
+  refused 304        no list
+  refused 305        the line is too long, or the lists are
+
+Exit status: 0 all accepted; 1 a line was refused; 2 a wrong command line; 3 out of memory
+(`refused memory` on standard error); 4 a stream failed (`refused 603`).";

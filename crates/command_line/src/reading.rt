@@ -1,0 +1,128 @@
+// From what clap made of the words to the options.
+ghost use Rattle.std.specs.Prelude.{◌≤◌, IfOk, IfSome};
+ghost use Rattle.command_line.specs.Ranges.{AreWithinRanges, IsWithinRange};
+
+use crate::grammar::program;
+use crate::line_fault::LineFault;
+use crate::words::{
+    DEPTH, ERA, FAR, FILE, FIRST, GRAM, JSON, LEDGER, LOSE, OUT, PROGRESS, ROUNDS, SECOND, STATES,
+    STEPS, WHY, WORKERS,
+};
+use clap::ArgMatches;
+use commands::{Beginning, Merging, Options, Search, Settling};
+use std::alloc::Global;
+
+/// What the words of a command line ask for, the program's name first. Where there are options, each number
+/// is within its range.
+pub fn options<'a>(alloc: Global, words: &'a [&'a str]) -> Result<Options<'a>, LineFault>
+    ensures { IfOk result AreWithinRanges }
+{
+    let matches = program(alloc)?.try_get_matches_from(words)?;
+    match matches.subcommand() {
+        Some(("check", _)) => Ok(Options::Check),
+        Some(("decide", decide)) => Ok(Options::Decide(search_of(decide)?)),
+        Some(("coord", coord)) => coord_options(coord),
+        Some(("run", run)) => run_options(run),
+        Some(("retry", retry)) => retry_options(retry),
+        Some(("merge", merge)) => Ok(merge_options(merge)),
+        Some(("report", report)) => Ok(report_options(report)),
+        _ => Err(LineFault::NoSuchCommand),
+    }
+}
+
+// How far to search. clap has refused what is out of range.
+fn search_of(matches: &ArgMatches<'_>) -> Result<Search, LineFault>
+    ensures { IfOk result IsWithinRange }
+{
+    Ok(Search {
+        steps: number_of(matches, STEPS, 1, 100_000_000)?,
+        depth: number_of(matches, DEPTH, 0, 1_000)?,
+        gram: number_of(matches, GRAM, 0, 8)?,
+        far: number_of(matches, FAR, 0, 8)?,
+    })
+}
+
+// The number of an option.
+fn number_of(matches: &ArgMatches<'_>, name: &str, least: u64, most: u64) -> Result<u64, LineFault>
+    ensures { IfOk result (λ number. (least ≤ number) × (number ≤ most)) }
+{
+    match matches.get_one::<u64>(name) {
+        Some(number) if least <= number && number <= most => Ok(number),
+        _ => Err(LineFault::OutOfRange),
+    }
+}
+
+// The number of an option that may be left out.
+fn number_if_given(
+    matches: &ArgMatches<'_>,
+    name: &str,
+    least: u64,
+    most: u64,
+) -> Result<Option<u64>, LineFault>
+    ensures { IfOk result (λ given. IfSome given (λ number. (least ≤ number) × (number ≤ most))) }
+{
+    if matches.get_one::<u64>(name).is_none() {
+        return Ok(None);
+    }
+    Ok(Some(number_of(matches, name, least, most)?))
+}
+
+fn coord_options<'a>(coord: &ArgMatches<'a>) -> Result<Options<'a>, LineFault>
+    ensures { IfOk result AreWithinRanges }
+{
+    let beginning = Beginning {
+        states: number_of(coord, STATES, 1, 6)? as u8,
+        era: number_of(coord, ERA, 1, u64::MAX)?,
+    };
+    Ok(Options::Coord {
+        beginning,
+        ledger: coord.get_str(LEDGER),
+    })
+}
+
+fn run_options<'a>(run: &ArgMatches<'a>) -> Result<Options<'a>, LineFault>
+    ensures { IfOk result AreWithinRanges }
+{
+    let settling = Settling {
+        states: number_of(run, STATES, 1, 6)? as u8,
+        workers: number_of(run, WORKERS, 1, 64)? as u8,
+        lose: number_if_given(run, LOSE, 2, 1_000)?,
+        rounds: number_of(run, ROUNDS, 1, 1_000_000_000)?,
+        search: search_of(run)?,
+        json: run.get_flag(JSON),
+        progress: run.get_flag(PROGRESS),
+    };
+    Ok(Options::Run {
+        settling,
+        ledger: run.get_str(LEDGER),
+    })
+}
+
+fn retry_options<'a>(retry: &ArgMatches<'a>) -> Result<Options<'a>, LineFault>
+    ensures { IfOk result AreWithinRanges }
+{
+    Ok(Options::Retry {
+        file: retry.get_str(FILE).unwrap_or_default(),
+        search: search_of(retry)?,
+    })
+}
+
+fn merge_options<'a>(merge: &ArgMatches<'a>) -> Options<'a>
+    ensures { AreWithinRanges result }
+{
+    Options::Merge(Merging {
+        first: merge.get_str(FIRST).unwrap_or_default(),
+        second: merge.get_str(SECOND).unwrap_or_default(),
+        out: merge.get_str(OUT).unwrap_or_default(),
+    })
+}
+
+fn report_options<'a>(report: &ArgMatches<'a>) -> Options<'a>
+    ensures { AreWithinRanges result }
+{
+    Options::Report {
+        file: report.get_str(FILE).unwrap_or_default(),
+        json: report.get_flag(JSON),
+        why: report.get_flag(WHY),
+    }
+}

@@ -1,22 +1,18 @@
 // From the words of a command line to the command, and how it ended.
 ghost use Rattle.std.specs.Prelude.{IfErr};
-ghost use Rattle.bb.specs.Tasks.{IsTask};
 ghost use Rattle.command_line.specs.Ranges.{IsBeginning, IsSettling};
 ghost use Rattle.command_line.specs.Unread.{EndsUnread};
 
-use backward::BackwardFinder;
+use crate::any_finder::all_finders;
 use cert::{Decider, Finder, Finders};
 use command_line::{LineFault, options};
 use commands::{
     Beginning, Ended, Host, Opened, Options, Outcome, Search, Settling, cmd_check, cmd_coord,
     cmd_decide, cmd_merge, cmd_report, cmd_retry, cmd_run, opened,
 };
-use far::FarFinder;
 use json_report::Form;
 use lease_core::Worker;
-use loops::{CycleFinder, TranslatedFinder};
-use ngram_cps::NgramFinder;
-use run::{HaltFinder, NoMemory};
+use run::NoMemory;
 use std::alloc::{AllocError, Global};
 use std::io::{self, Empty, Read, Write};
 use std::time::Clock;
@@ -45,18 +41,19 @@ pub fn obey<H: Host + Clock, R: Read, W: Write, E: Write>(
     match options(alloc, &line) {
         Ok(Options::Check) => cmd_check(alloc, input, answers, faults),
         Ok(Options::Decide(search)) => {
-            search_for(alloc, Task::Decide(search), host, input, answers, faults)
+            let ended = decide(alloc, &search, input, answers, faults);
+            or_told(ended, faults)
         }
         Ok(Options::Coord { beginning, ledger }) => {
             coordinate(alloc, beginning, ledger, host, input, answers, faults)
         }
         Ok(Options::Run { settling, ledger }) => {
-            let task = Task::Run { settling, ledger };
-            search_for(alloc, task, host, input, answers, faults)
+            let ended = settle(alloc, &settling, ledger, host, answers, faults);
+            or_told(ended, faults)
         }
         Ok(Options::Retry { file, search }) => {
-            let task = Task::Retry { file, search };
-            search_for(alloc, task, host, input, answers, faults)
+            let ended = retry(alloc, file, &search, host, answers, faults);
+            or_told(ended, faults)
         }
         Ok(Options::Merge(merging)) => cmd_merge(alloc, merging, host, answers, faults),
         Ok(Options::Report { file, json, why }) => {
@@ -67,105 +64,60 @@ pub fn obey<H: Host + Clock, R: Read, W: Write, E: Write>(
     }
 }
 
-// What is done with finders.
-#[derive(Clone, Copy)]
-pub enum Task<'a> {
-    Decide(Search),
-    Run {
-        settling: Settling,
-        ledger: Option<&'a str>,
-    },
-    Retry {
-        file: &'a str,
-        search: Search,
-    },
-}
-
-impl Task<'_> {
-    fn search(&self) -> &Search {
-        match self {
-            Task::Decide(search) | Task::Retry { search, .. } => search,
-            Task::Run { settling, .. } => &settling.search,
-        }
-    }
-
-    // How many lists of finders it takes: one for each that searches.
-    fn lists(&self) -> u8 {
-        match self {
-            Task::Decide(_) | Task::Retry { .. } => 1,
-            Task::Run { settling, .. } => settling.workers,
-        }
-    }
-}
-
-// Does what is done with finders, and answers how it ended.
-fn search_for<H: Host + Clock, R: Read, W: Write, E: Write>(
-    alloc: Global,
-    task: Task<'_>,
-    host: &H,
-    input: &mut R,
-    answers: &mut W,
-    faults: &mut E,
-) -> Outcome
-    requires { IsTask task }
-{
-    match with_finders(alloc, task, host, input, answers, faults) {
+// How a command ended, also one for which there was no memory to begin.
+fn or_told<E: Write>(ended: Result<Outcome, NoMemory>, faults: &mut E) -> Outcome {
+    match ended {
         Ok(outcome) => outcome,
         Err(_) => Ended::NoMemory.told(faults),
     }
 }
 
-// Makes the lists of finders, each in the order in which they are asked, and does with them what is asked
-// for. A value that is boxed as any finder can't be handed out by a function, so all that needs finders is
-// called from here.
-fn with_finders<H: Host + Clock, R: Read, W: Write, E: Write>(
+// `bb decide`. A value that is boxed as any finder can't be handed out by a function, so each command that
+// needs finders boxes them itself.
+fn decide<R: Read, W: Write, E: Write>(
     alloc: Global,
-    task: Task<'_>,
-    host: &H,
+    search: &Search,
     input: &mut R,
     answers: &mut W,
     faults: &mut E,
-) -> Result<Outcome, NoMemory>
-    requires { IsTask task }
-{
-    let search = *task.search();
-    let steps = search.steps;
-    let mut lists = Vec::new(alloc);
-    for _ in 0..task.lists() {
-        let mut finders: Vec<Box<dyn Finder>> = Vec::new(alloc);
-        finders.push(Box::new(alloc, HaltFinder::new(alloc, steps))?)?;
-        finders.push(Box::new(alloc, CycleFinder::new(alloc, steps))?)?;
-        finders.push(Box::new(alloc, TranslatedFinder::new(alloc, steps))?)?;
-        finders.push(Box::new(alloc, BackwardFinder::new(alloc, search.depth))?)?;
-        finders.push(Box::new(alloc, NgramFinder::new(alloc, search.gram))?)?;
-        finders.push(Box::new(alloc, FarFinder::new(alloc, search.far))?)?;
-        lists.push(finders)?;
+) -> Result<Outcome, NoMemory> {
+    let mut finders: Vec<Box<dyn Finder>> = Vec::new(alloc);
+    for finder in all_finders(alloc, search)? {
+        finders.push(Box::new(alloc, finder)?)?;
     }
-    match task {
-        Task::Decide(_) => {
-            let mut decider = Finders::new(lists.pop().unwrap_or(Vec::new(alloc)), steps);
-            Ok(cmd_decide(alloc, &mut decider, input, answers, faults))
-        }
-        Task::Run { settling, ledger } => {
-            let mut workers = Vec::new(alloc);
-            for (id, finders) in (1..=u32::MAX).zip(lists) {
-                let (worker, started) = Worker::start(alloc, id, b"", finders, steps);
-                // An empty ledger is refused for want of memory alone.
-                if started.is_err() {
-                    return Err(AllocError);
-                }
-                workers.push(worker)?;
-            }
-            Ok(run(alloc, &settling, ledger, workers, host, answers, faults))
-        }
-        Task::Retry { file, .. } => {
-            let mut decider = Finders::new(lists.pop().unwrap_or(Vec::new(alloc)), steps);
-            Ok(retry(alloc, file, &mut decider, host, answers, faults))
-        }
-    }
+    let mut decider = Finders::new(finders, search.steps);
+    Ok(cmd_decide(alloc, &mut decider, input, answers, faults))
 }
 
-// `bb run`, with its ledger in a file or in memory.
+// `bb run`, with as many workers as are asked for.
+fn settle<H: Host + Clock, W: Write, E: Write>(
+    alloc: Global,
+    settling: &Settling,
+    path: Option<&str>,
+    host: &H,
+    answers: &mut W,
+    faults: &mut E,
+) -> Result<Outcome, NoMemory>
+    requires { IsSettling settling.now }
+{
+    let steps = settling.search.steps;
+    let mut workers = Vec::new(alloc);
+    for id in 1..=u32::from(settling.workers) {
+        let mut finders: Vec<Box<dyn Finder>> = Vec::new(alloc);
+        for finder in all_finders(alloc, &settling.search)? {
+            finders.push(Box::new(alloc, finder)?)?;
+        }
+        let (worker, started) = Worker::start(alloc, id, b"", finders, steps);
+        // An empty ledger is refused for want of memory alone.
+        if started.is_err() {
+            return Err(AllocError);
+        }
+        workers.push(worker)?;
+    }
+    Ok(run(alloc, settling, path, workers, host, answers, faults))
+}
+
+// The same with these workers, and with its ledger in a file or in memory.
 fn run<N: Node + Drop, H: Host + Clock, W: Write, E: Write>(
     alloc: Global,
     settling: &Settling,
@@ -209,7 +161,23 @@ fn run<N: Node + Drop, H: Host + Clock, W: Write, E: Write>(
 }
 
 // `bb retry`, over a ledger that has to be there.
-fn retry<H: Host, D: Decider, W: Write, E: Write>(
+fn retry<H: Host, W: Write, E: Write>(
+    alloc: Global,
+    path: &str,
+    search: &Search,
+    host: &H,
+    answers: &mut W,
+    faults: &mut E,
+) -> Result<Outcome, NoMemory> {
+    let mut finders: Vec<Box<dyn Finder>> = Vec::new(alloc);
+    for finder in all_finders(alloc, search)? {
+        finders.push(Box::new(alloc, finder)?)?;
+    }
+    let mut decider = Finders::new(finders, search.steps);
+    Ok(retried(alloc, path, &mut decider, host, answers, faults))
+}
+
+fn retried<H: Host, D: Decider, W: Write, E: Write>(
     alloc: Global,
     path: &str,
     decider: &mut D,

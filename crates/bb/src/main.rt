@@ -3,6 +3,7 @@
 //! do stands in the crate `commands`.
 #![tactic(auto)]
 
+mod any_finder;
 mod dispatch;
 
 pub use command_line::{LineFault, options};

@@ -29,12 +29,7 @@ impl LineFault {
     /// Says it, help and the version on `answers`, all else on `faults`, and answers how the command line
     /// ended: `Accepted` after help or the version, `BadLine` after another fault, `NoMemory` or `Failed`
     /// where memory is refused or the stream fails.
-    pub fn told<W: Write, E: Write>(
-        self,
-        alloc: Global,
-        answers: &mut W,
-        faults: &mut E,
-    ) -> Outcome
+    pub fn told<W: Write, E: Write>(self, alloc: Global, answers: &mut W, faults: &mut E) -> Outcome
         ensures { EndsUnread self result }
     {
         let is_answer = match &self {

@@ -1,6 +1,6 @@
 // From the words of a command line to the command, and how it ended.
 ghost use Rattle.std.specs.Prelude.{IfErr};
-ghost use Rattle.command_line.specs.Ranges.{IsBeginning, IsSettling};
+ghost use Rattle.command_line.specs.Ranges.{IsBeginning, IsSettling, AreWithinRanges};
 ghost use Rattle.command_line.specs.Unread.{EndsUnread};
 
 use crate::any_finder::all_finders;
@@ -39,28 +39,44 @@ pub fn obey<H: Host + Clock, R: Read, W: Write, E: Write>(
         Err(_) => return Ended::NoMemory.told(faults),
     };
     match options(alloc, &line) {
-        Ok(Options::Check) => cmd_check(alloc, input, answers, faults),
-        Ok(Options::Decide(search)) => {
+        Ok(asked) => carry_out(alloc, asked, host, input, answers, faults),
+        Err(fault) => fault.told(alloc, answers, faults),
+    }
+}
+
+// Does what the words were read as.
+fn carry_out<H: Host + Clock, R: Read, W: Write, E: Write>(
+    alloc: Global,
+    asked: Options<'_>,
+    host: &H,
+    input: &mut R,
+    answers: &mut W,
+    faults: &mut E,
+) -> Outcome
+    requires { AreWithinRanges asked }
+{
+    match asked {
+        Options::Check => cmd_check(alloc, input, answers, faults),
+        Options::Decide(search) => {
             let ended = decide(alloc, &search, input, answers, faults);
             or_told(ended, faults)
         }
-        Ok(Options::Coord { beginning, ledger }) => {
+        Options::Coord { beginning, ledger } => {
             coordinate(alloc, beginning, ledger, host, input, answers, faults)
         }
-        Ok(Options::Run { settling, ledger }) => {
+        Options::Run { settling, ledger } => {
             let ended = settle(alloc, &settling, ledger, host, answers, faults);
             or_told(ended, faults)
         }
-        Ok(Options::Retry { file, search }) => {
+        Options::Retry { file, search } => {
             let ended = retry(alloc, file, &search, host, answers, faults);
             or_told(ended, faults)
         }
-        Ok(Options::Merge(merging)) => cmd_merge(alloc, merging, host, answers, faults),
-        Ok(Options::Report { file, json, why }) => {
+        Options::Merge(merging) => cmd_merge(alloc, merging, host, answers, faults),
+        Options::Report { file, json, why } => {
             let form = Form::of(json);
             cmd_report(alloc, &form, why, opened(host, file), answers, faults)
         }
-        Err(fault) => fault.told(alloc, answers, faults),
     }
 }
 

@@ -77,9 +77,36 @@ fn merged(rt: &impl Abort, board: &mut Board, other: &Board) {
     panic!(rt; "not merged")
 }
 
+// What a board says that has the records of both.
+fn holds_both(rt: &impl Abort, board: &Board) {
+    let tally = board.tally();
+    assert!(rt; tally.nodes == 21 && tally.open_count == 17 && tally.holdouts == 0);
+    bounds_are(
+        rt,
+        board,
+        &[
+            ("0RB---_------", Bound::Open),
+            ("1RA---_------", NONE),
+            ("1RB1LB_1LA---", Bound::Unknown),
+        ],
+    );
+    for text in [
+        "------_------",
+        "0RB---_------",
+        "1RB---_------",
+        "1RA---_------",
+    ] {
+        let table = table_of(rt, text);
+        assert!(rt;
+            board.verdict(&table).is_some() && board.is_recorded(&table),
+            "{text}"
+        );
+    }
+}
+
 #[test]
 fn boards_are_merged_in_either_order(rt: HostRuntime) {
-    let x = with(&rt, rt.alloc(), &X);
+    let mut x = with(&rt, rt.alloc(), &X);
     bounds_are(
         &rt,
         &x,
@@ -89,34 +116,17 @@ fn boards_are_merged_in_either_order(rt: HostRuntime) {
             ("1RB1LB_1LA---", Bound::Unknown),
         ],
     );
-    let y = with(&rt, rt.alloc(), &Y);
-    let mut first = with(&rt, rt.alloc(), &X);
-    merged(&rt, &mut first, &y);
-    let mut second = with(&rt, rt.alloc(), &Y);
-    merged(&rt, &mut second, &x);
-    for board in [&first, &second] {
-        let tally = board.tally();
-        assert!(rt; tally.nodes == 21 && tally.open_count == 17 && tally.holdouts == 0);
-        bounds_are(
-            &rt,
-            board,
-            &[
-                ("0RB---_------", Bound::Open),
-                ("1RA---_------", NONE),
-                ("1RB1LB_1LA---", Bound::Unknown),
-            ],
-        );
-        for text in [
-            "------_------",
-            "0RB---_------",
-            "1RB---_------",
-            "1RA---_------",
-        ] {
-            assert!(rt; board.verdict(&table_of(&rt, text)).is_some(), "{text}");
-            assert!(rt; board.is_recorded(&table_of(&rt, text)), "{text}");
-        }
-    }
+    let mut y = with(&rt, rt.alloc(), &Y);
+    merged(&rt, &mut y, &x);
+    holds_both(&rt, &y);
+    merged(&rt, &mut x, &with(&rt, rt.alloc(), &Y));
+    holds_both(&rt, &x);
+}
+
+#[test]
+fn boards_of_two_roots_are_not_merged(rt: HostRuntime) {
+    let mut board = board_of(&rt, rt.alloc(), "------_------");
     let other = board_of(&rt, rt.alloc(), "------");
-    assert!(rt; first.merge(&other) == Err(MergeFault::WrongRoot));
+    assert!(rt; board.merge(&other) == Err(MergeFault::WrongRoot));
     assert_eq!(rt; MergeFault::WrongRoot.number(), 405);
 }

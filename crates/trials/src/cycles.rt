@@ -167,10 +167,10 @@ fn translated_in(
 }
 
 #[test]
-fn cycles_are_found(rt: HostRuntime) {
+fn a_cycle_is_found_within_its_steps(rt: HostRuntime) {
     let alloc = rt.alloc();
+    let table = table_of(&rt, "0RB---_0LA---");
     for (steps, budget) in [(10, 100), (100, 10)] {
-        let table = table_of(&rt, "0RB---_0LA---");
         let Some(cycle) = cycle_in(&rt, alloc, steps, budget, &table) else {
             panic!(rt; "nothing found")
         };
@@ -179,30 +179,32 @@ fn cycles_are_found(rt: HostRuntime) {
         assert!(rt; cycle_in(&rt, alloc, steps, 1, &table) == None);
         assert!(rt; cycle_in(&rt, alloc, 1, budget, &table) == None);
     }
+}
+
+#[test]
+fn no_cycle_is_found_where_there_is_none(rt: HostRuntime) {
     for text in ["1RA---", "------", "1RB1LB_1LA---"] {
-        assert!(rt;
-            cycle_in(&rt, alloc, 100, 100, &table_of(&rt, text)) == None,
-            "{text}"
-        );
-    }
-    for (text, _, j) in CYCLES {
-        let table = table_of(&rt, text);
-        let Some(cycle) = cycle_in(&rt, alloc, 3 * j, 1000, &table) else {
-            panic!(rt; "{text}: nothing found")
-        };
-        assert!(rt;
-            answer_to(alloc, &cycle, &table) == NEVER,
-            "{text} {cycle:?}"
-        );
-        assert!(rt;
-            translated_in(&rt, alloc, 500, 1000, &table) == None,
-            "{text}"
-        );
+        let found = cycle_in(&rt, rt.alloc(), 100, 100, &table_of(&rt, text));
+        assert!(rt; found == None, "{text}");
     }
 }
 
 #[test]
-fn translated_cycles_are_found(rt: HostRuntime) {
+fn known_cycles_are_found(rt: HostRuntime) {
+    let alloc = rt.alloc();
+    for (text, _, j) in CYCLES {
+        let table = table_of(&rt, text);
+        match cycle_in(&rt, alloc, 3 * j, 1000, &table) {
+            Some(cycle) => assert!(rt; answer_to(alloc, &cycle, &table) == NEVER, "{text}"),
+            None => panic!(rt; "{text}: nothing found"),
+        }
+        let translated = translated_in(&rt, alloc, 500, 1000, &table);
+        assert!(rt; translated == None, "{text}");
+    }
+}
+
+#[test]
+fn a_translated_cycle_is_found_within_its_steps(rt: HostRuntime) {
     let alloc = rt.alloc();
     for (text, side) in [("1RA---", Dir::R), ("1LA---", Dir::L)] {
         let table = table_of(&rt, text);
@@ -214,27 +216,50 @@ fn translated_cycles_are_found(rt: HostRuntime) {
         assert!(rt; translated_in(&rt, alloc, 0, 100, &table) == None);
         assert!(rt; translated_in(&rt, alloc, 10, 0, &table) == None);
     }
+}
+
+#[test]
+fn no_translated_cycle_is_found_where_there_is_none(rt: HostRuntime) {
     for text in ["0RB---_0LA---", "------", "1RB1LB_1LA---"] {
-        assert!(rt;
-            translated_in(&rt, alloc, 100, 100, &table_of(&rt, text)) == None,
-            "{text}"
-        );
+        let found = translated_in(&rt, rt.alloc(), 100, 100, &table_of(&rt, text));
+        assert!(rt; found == None, "{text}");
     }
+}
+
+#[test]
+fn known_translated_cycles_are_found(rt: HostRuntime) {
+    let alloc = rt.alloc();
     for (text, _, j, side) in TRANSLATED {
         let table = table_of(&rt, text);
-        let Some(translated) = translated_in(&rt, alloc, 4 * j, 1000, &table) else {
-            panic!(rt; "{text}: nothing found")
-        };
-        assert!(rt; translated.side == side, "{text} {translated:?}");
-        assert!(rt;
-            answer_to(alloc, &translated, &table) == NEVER,
-            "{text} {translated:?}"
-        );
+        match translated_in(&rt, alloc, 4 * j, 1000, &table) {
+            Some(found) => assert!(rt;
+                found.side == side && answer_to(alloc, &found, &table) == NEVER,
+                "{text} {found:?}"
+            ),
+            None => panic!(rt; "{text}: nothing found"),
+        }
         assert!(rt; cycle_in(&rt, alloc, 500, 1000, &table) == None, "{text}");
     }
 }
 
-// What a finder finds of a table doesn't hang on the tables before it.
+// What a finder finds of a table with a cycle doesn't hang on the tables before it.
+fn finds_a_cycle_as_anew(rt: &impl Abort, alloc: Global, finder: &mut CycleFinder, t: &Table) {
+    let found = cycle_by(rt, finder, 1000, t);
+    let afresh = cycle_in(rt, alloc, 500, 1000, t);
+    assert!(rt; found.is_some() && found == afresh);
+}
+
+fn finds_a_translated_cycle_as_anew(
+    rt: &impl Abort,
+    alloc: Global,
+    finder: &mut TranslatedFinder,
+    t: &Table,
+) {
+    let found = translated_by(rt, finder, 1000, t);
+    let afresh = translated_in(rt, alloc, 500, 1000, t);
+    assert!(rt; found.is_some() && found == afresh);
+}
+
 #[test]
 fn finders_begin_anew(rt: HostRuntime) {
     let alloc = rt.alloc();
@@ -243,20 +268,13 @@ fn finders_begin_anew(rt: HostRuntime) {
     for _ in 0..2 {
         for (text, _, _) in CYCLES {
             let table = table_of(&rt, text);
-            let found = cycle_by(&rt, &mut cycles, 1000, &table);
-            assert!(rt; found == cycle_in(&rt, alloc, 500, 1000, &table), "{text}");
-            assert!(rt;
-                found.is_some() && translated_by(&rt, &mut translated, 1000, &table) == None
-            );
+            finds_a_cycle_as_anew(&rt, alloc, &mut cycles, &table);
+            assert!(rt; translated_by(&rt, &mut translated, 1000, &table) == None);
         }
         for (text, _, _, _) in TRANSLATED {
             let table = table_of(&rt, text);
-            let found = translated_by(&rt, &mut translated, 1000, &table);
-            assert!(rt;
-                found == translated_in(&rt, alloc, 500, 1000, &table),
-                "{text}"
-            );
-            assert!(rt; found.is_some() && cycle_by(&rt, &mut cycles, 1000, &table) == None);
+            finds_a_translated_cycle_as_anew(&rt, alloc, &mut translated, &table);
+            assert!(rt; cycle_by(&rt, &mut cycles, 1000, &table) == None);
         }
     }
 }

@@ -4,6 +4,7 @@ use crate::texts::table_of;
 use machine_text::Table;
 use ngram_cps::{Ngram, NgramFinder, OwnedNgram};
 use run::{Evidence, Verdict};
+use std::alloc::Global;
 use std::process::Abort;
 
 // Machines with the least width at which they have a closed position set, and its lists.
@@ -133,22 +134,23 @@ fn the_budget_bounds_the_search(rt: HostRuntime) {
 }
 
 // What a finder finds of a table doesn't hang on the tables before it.
+fn finds_as_anew(rt: &impl Abort, alloc: Global, finder: &mut NgramFinder, text: &str) {
+    let table = table_of(rt, text);
+    let now = found(rt, finder, 1000, &table);
+    let afresh = found(rt, &mut NgramFinder::new(alloc, 8), 1000, &table);
+    assert!(rt; now.is_some() && now == afresh, "{text}");
+}
+
 #[test]
 fn a_finder_begins_anew(rt: HostRuntime) {
     let alloc = rt.alloc();
     let mut finder = NgramFinder::new(alloc, 8);
     for _ in 0..2 {
         for (text, _, _, _, _) in LARGE_SETS {
-            let table = table_of(&rt, text);
-            let now = found(&rt, &mut finder, 1000, &table);
-            let afresh = found(&rt, &mut NgramFinder::new(alloc, 8), 1000, &table);
-            assert!(rt; now.is_some() && now == afresh, "{text}");
+            finds_as_anew(&rt, alloc, &mut finder, text);
         }
         for (text, _, _, _, _) in SETS {
-            let table = table_of(&rt, text);
-            let now = found(&rt, &mut finder, 1000, &table);
-            let afresh = found(&rt, &mut NgramFinder::new(alloc, 8), 1000, &table);
-            assert!(rt; now.is_some() && now == afresh, "{text}");
+            finds_as_anew(&rt, alloc, &mut finder, text);
         }
         let halting = table_of(&rt, "1RB1LB_1LA---");
         assert!(rt; found(&rt, &mut finder, 1000, &halting) == None);

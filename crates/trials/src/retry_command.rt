@@ -6,6 +6,7 @@ use lease_core::Coordinator;
 use loops::TranslatedFinder;
 use run::HaltFinder;
 use std::alloc::Global;
+use std::process::Abort;
 use std::test::Fail;
 use wire::{Event, MemLedger, Node};
 
@@ -18,13 +19,18 @@ struct Ending {
     outcome: Outcome,
 }
 
-fn ended(alloc: Global, held: &[u8], ledger_fails_at: u64) -> Result<Ending, Fail> {
+// Finders of halting counts and of translated cycles.
+fn finders_of(alloc: Global) -> Result<Vec<Box<dyn Finder>>, Fail> {
     let mut finders: Vec<Box<dyn Finder>> = Vec::new(alloc);
     finders.push(Box::new(alloc, HaltFinder::new(alloc, 100))?)?;
     finders.push(Box::new(alloc, TranslatedFinder::new(alloc, 100))?)?;
-    let mut decider = Finders::new(finders, 100);
+    Ok(finders)
+}
+
+fn ended(alloc: Global, held: &[u8], ledger_fails_at: u64) -> Result<Ending, Fail> {
     let mut ledger = MemLedger::holding(held.to_vec(alloc)?);
     ledger.fail_at(ledger_fails_at);
+    let mut decider = Finders::new(finders_of(alloc)?, 100);
     let mut answers = Sink::new(alloc, usize::MAX, ALWAYS);
     let mut faults = Sink::new(alloc, usize::MAX, ALWAYS);
     let outcome = cmd_retry(
@@ -46,21 +52,22 @@ fn ended(alloc: Global, held: &[u8], ledger_fails_at: u64) -> Result<Ending, Fai
 const ONE_STATE: &[u8] =
     b"root ------\nstatus complete\nnodes 3\nhalting 1\nnever 2\nholdouts 0\nopen 0\nbest 1\nchampion ------\n";
 
+// A retry after which the tree of one state is settled, and what its ledger then holds.
+fn settles(rt: &impl Abort, alloc: Global, held: &[u8], left: &[u8]) -> Result<(), Fail> {
+    let end = ended(alloc, held, 0)?;
+    assert_eq!(rt; end.answers.as_slice(), ONE_STATE);
+    assert!(rt; end.faults.is_empty() && end.outcome == Outcome::Accepted);
+    assert_eq!(rt; end.ledger.text(), left);
+    Ok(())
+}
+
 #[test]
 fn a_holdout_is_settled(rt: HostRuntime) -> Result<(), Fail> {
     let held = b"bb-ledger 1 ------\n------ H 1\n0RA--- T 0 1 R\n1RA--- U\n";
-    let end = ended(rt.alloc(), held, 0)?;
-    assert_eq!(rt; end.answers.as_slice(), ONE_STATE);
-    assert!(rt; end.faults.is_empty() && end.outcome == Outcome::Accepted);
-    assert_eq!(rt;
-        end.ledger.text(),
-        b"bb-ledger 1 ------\n------ H 1\n0RA--- T 0 1 R\n1RA--- U\n1RA--- T 0 1 R\n".as_slice()
-    );
+    let left = b"bb-ledger 1 ------\n------ H 1\n0RA--- T 0 1 R\n1RA--- U\n1RA--- T 0 1 R\n";
+    settles(&rt, rt.alloc(), held, left)?;
     // Again: nothing is left to try, and nothing is appended.
-    let again = ended(rt.alloc(), end.ledger.text(), 0)?;
-    assert_eq!(rt; again.answers.as_slice(), ONE_STATE);
-    assert_eq!(rt; again.ledger.text(), end.ledger.text());
-    Ok(())
+    settles(&rt, rt.alloc(), left, left)
 }
 
 const SETTLED: &[u8] =

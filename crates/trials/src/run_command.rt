@@ -78,6 +78,17 @@ struct Ending {
     outcome: Outcome,
 }
 
+// So many workers, with the ids from 1 on.
+fn workers_of(alloc: Global, count: u8) -> Result<Vec<Worker>, Fail> {
+    let mut workers = Vec::new(alloc);
+    for id in 1..=count {
+        let (worker, started) = Worker::start(alloc, u32::from(id), b"", finders_of(alloc)?, STEPS);
+        started?;
+        workers.push(worker)?;
+    }
+    Ok(workers)
+}
+
 fn ended(
     rt: &impl Abort,
     alloc: Global,
@@ -87,14 +98,9 @@ fn ended(
     writes_left: u64,
 ) -> Result<Ending, Fail> {
     assert!(rt; 1 <= settling.states && settling.states <= 6);
-    let mut workers = Vec::new(alloc);
-    for id in 1..=settling.workers {
-        let (worker, started) = Worker::start(alloc, u32::from(id), b"", finders_of(alloc)?, STEPS);
-        started?;
-        workers.push(worker)?;
-    }
     let mut ledger = MemLedger::holding(held.to_vec(alloc)?);
     ledger.fail_at(ledger_fails_at);
+    let workers = workers_of(alloc, settling.workers)?;
     let clock = Steady {
         now: Cell::new(0),
         between: 500,
@@ -149,17 +155,22 @@ fn small_trees_are_settled(rt: HostRuntime) -> Result<(), Fail> {
 
 const LEDGER: &[u8] = b"bb-ledger 1 ------\n------ H 1\n0RA--- T 0 1 R\n1RA--- T 0 1 R\n";
 
+// What the ledger of a run of one state holds at the end, which is complete, where it holds this before.
+fn completed(rt: &impl Abort, alloc: Global, held: &[u8]) -> Result<MemLedger, Fail> {
+    let asked = settling(1, 2, None, 1_000_000, false);
+    let end = ended(rt, alloc, &asked, held, 0, ALWAYS)?;
+    assert_eq!(rt; end.answers.as_slice(), ONE_STATE);
+    assert!(rt; end.outcome == Outcome::Accepted);
+    Ok(end.ledger)
+}
+
 #[test]
 fn a_run_goes_on_where_its_ledger_ends(rt: HostRuntime) -> Result<(), Fail> {
-    let asked = settling(1, 2, None, 1_000_000, false);
     for count in 0..=LEDGER.len() {
-        let end = ended(&rt, rt.alloc(), &asked, &LEDGER[..count], 0, ALWAYS)?;
-        assert_eq!(rt; end.answers.as_slice(), ONE_STATE);
-        assert!(rt; end.outcome == Outcome::Accepted, "{count}");
-        // Its ledger then holds a complete run: it is loaded, and nothing is appended.
-        let again = ended(&rt, rt.alloc(), &asked, end.ledger.text(), 0, ALWAYS)?;
-        assert_eq!(rt; again.answers.as_slice(), ONE_STATE);
-        assert_eq!(rt; again.ledger.text(), end.ledger.text());
+        let ledger = completed(&rt, rt.alloc(), &LEDGER[..count])?;
+        // It is loaded, and nothing is appended.
+        let again = completed(&rt, rt.alloc(), ledger.text())?;
+        assert_eq!(rt; again.text(), ledger.text(), "{count}");
     }
     Ok(())
 }

@@ -49,33 +49,43 @@ fn symbol_at(from: i64, word: &[u8], x: i64) -> bool {
     i < word.len() && word[i] == b'1'
 }
 
+// Where the head is, and what it reads.
+fn is_at(rt: &impl Abort, tape: &Tape, head: i64, read: Sym) {
+    assert_eq!(rt; tape.head(), head);
+    assert_eq!(rt; tape.read(), read);
+}
+
+fn cells_are(rt: &impl Abort, tape: &Tape, cells: &[(i64, Sym)]) {
+    for (x, want) in cells {
+        assert_eq!(rt; tape.cell(*x), *want, "at {x}");
+    }
+}
+
 #[test]
 fn moves_and_writes(rt: HostRuntime) -> Result<(), Fail> {
     let mut tape = Tape::new(rt.alloc());
-    assert_eq!(rt; tape.head(), 0);
-    assert_eq!(rt; tape.read(), Sym::Zero);
+    is_at(&rt, &tape, 0, Sym::Zero);
     tape.write(Sym::One);
-    assert_eq!(rt; tape.read(), Sym::One);
+    is_at(&rt, &tape, 0, Sym::One);
     tape.left()?;
-    assert_eq!(rt; tape.head(), -1);
-    assert_eq!(rt; tape.read(), Sym::Zero);
+    is_at(&rt, &tape, -1, Sym::Zero);
     tape.right()?;
-    assert_eq!(rt; tape.head(), 0);
-    assert_eq!(rt; tape.read(), Sym::One);
+    is_at(&rt, &tape, 0, Sym::One);
     tape.write_right(Sym::Zero)?;
     tape.write_left(Sym::One)?;
-    assert_eq!(rt; tape.head(), 0);
-    assert_eq!(rt; tape.read(), Sym::Zero);
-    for (x, want) in [
-        (-1, Sym::Zero),
-        (0, Sym::Zero),
-        (1, Sym::One),
-        (2, Sym::Zero),
-    ] {
-        assert_eq!(rt; tape.cell(x), want, "at {x}");
-    }
-    assert_eq!(rt; tape.cell(i64::MIN), Sym::Zero);
-    assert_eq!(rt; tape.cell(i64::MAX), Sym::Zero);
+    is_at(&rt, &tape, 0, Sym::Zero);
+    cells_are(
+        &rt,
+        &tape,
+        &[
+            (-1, Sym::Zero),
+            (0, Sym::Zero),
+            (1, Sym::One),
+            (2, Sym::Zero),
+            (i64::MIN, Sym::Zero),
+            (i64::MAX, Sym::Zero),
+        ],
+    );
     Ok(())
 }
 
@@ -328,8 +338,7 @@ impl Both {
                 Dir::R => self.plain.write_right(s)?,
             }
         }
-        assert_eq!(rt; self.packed.head(), self.plain.head);
-        assert_eq!(rt; self.packed.read(), self.plain.read);
+        self.heads_agree(rt);
         // It stops for its limit, for another symbol, or at the edge of a word.
         let edge = match side {
             Dir::L => -1,
@@ -338,6 +347,17 @@ impl Both {
         let is_edge = self.plain.head.rem_euclid(64) == i64::rem_euclid(edge, 64);
         assert!(rt; count == limit || self.plain.read != over || is_edge);
         Ok(())
+    }
+
+    fn heads_agree(&self, rt: &impl Abort) {
+        assert_eq!(rt; self.packed.head(), self.plain.head);
+        assert_eq!(rt; self.packed.read(), self.plain.read);
+    }
+
+    fn cells_agree(&self, rt: &impl Abort) {
+        for x in -1000i64..1000 {
+            assert_eq!(rt; self.packed.cell(x), self.plain.cell(x), "at {x}");
+        }
     }
 
     // Random symbols on 150 cells from a place on, with the symbol of the cell `odd` of them turned.
@@ -396,12 +416,9 @@ fn random_steps_as_on_a_plain_tape(rt: HostRuntime) -> Result<(), Fail> {
                 };
             }
             both.step(&rt, symbol(draw & 1 == 1), side)?;
-            assert_eq!(rt; both.packed.head(), both.plain.head, "{seed}");
-            assert_eq!(rt; both.packed.read(), both.plain.read, "{seed}");
+            both.heads_agree(&rt);
         }
-        for x in -700i64..700 {
-            assert_eq!(rt; both.packed.cell(x), both.plain.cell(x), "{seed} at {x}");
-        }
+        both.cells_agree(&rt);
     }
     Ok(())
 }
@@ -427,9 +444,7 @@ fn sweeps_as_steps_on_a_plain_tape(rt: HostRuntime) -> Result<(), Fail> {
             };
             both.sweep(&rt, side, symbol(draw & 1 == 1), 1 + (draw >> 3) % 100)?;
         }
-        for x in -1000i64..1000 {
-            assert_eq!(rt; both.packed.cell(x), both.plain.cell(x), "{seed} at {x}");
-        }
+        both.cells_agree(&rt);
     }
     Ok(())
 }

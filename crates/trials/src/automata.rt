@@ -2,6 +2,7 @@
 use far::{Far, FarFinder, OwnedFar};
 use machine_text::{Dir, Table};
 use run::{Evidence, Refused, Verdict};
+use std::alloc::Global;
 use std::process::Abort;
 
 fn table_of(rt: &impl Abort, text: &str) -> Table {
@@ -105,75 +106,64 @@ fn automata_are_judged(rt: HostRuntime) {
     }
 }
 
-// Texts, which are automata for tables of one state or not.
-const TEXTS: [(&str, bool); 39] = [
-    ("1RA--- R 1 00 1,2 1", true),
-    // The last number that has no bit but those of the states, and the first that has.
-    ("1RA--- R 1 00 1,2 3", true),
-    ("1RA--- R 1 00 1,2 4", false),
-    ("1RA--- R 1 00 3,3 0", true),
-    ("1RA--- R 1 00 4,2 1", false),
-    ("1RA--- R 1 00 1,4 1", false),
-    // Too few digits, too many, one that is no state, none.
-    ("1RA--- R 1 0 1,2 1", false),
-    ("1RA--- R 1 000 1,2 1", false),
-    ("1RA--- R 1 01 1,2 1", false),
-    ("1RA--- R 1  1,2 1", false),
-    ("1RA--- R 1 0/ 1,2 1", false),
-    // Too few rows, too many, an empty one, another separator.
-    ("1RA--- R 1 00 1 1", false),
-    ("1RA--- R 1 00 1,2,1 1", false),
-    ("1RA--- R 1 00 1,2, 1", false),
-    ("1RA--- R 1 00 ,1 1", false),
-    ("1RA--- R 1 00 1,,2 1", false),
-    ("1RA--- R 1 00  1", false),
-    ("1RA--- R 1 00 1;2 1", false),
-    // Leading zeros, no number, none, a sign.
-    ("1RA--- R 1 00 01,2 1", false),
-    ("1RA--- R 1 00 1,02 1", false),
-    ("1RA--- R 1 00 1,2 01", false),
-    ("1RA--- R 1 00 1,2 00", false),
-    ("1RA--- R 1 00 1,2 0", true),
-    ("1RA--- R 1 00 0,0 0", true),
-    ("1RA--- R 1 00 1,2 ", false),
-    ("1RA--- R 1 00 1,2 +1", false),
-    ("1RA--- R 1 00 1,2 g", false),
-    ("1RA--- R 1 00 1,2 :", false),
-    // Sizes 3 and 8, with numbers of more bits.
-    ("1RA--- R 3 012012 f,e,a,0,1,2 c", true),
-    ("1RA--- R 3 012012 f,e,a,0,1,2 10", false),
-    ("1RA--- R 3 012013 f,e,a,0,1,2 c", false),
-    ("1RA--- R 3 012012 F,e,a,0,1,2 c", false),
-    ("1RA--- R 3 012012 f,e,a,0,1,2 C", false),
-    ("1RA--- R 3 012012 f,e,a,0,1,0x2 c", false),
-    (
-        "1RA--- R 8 0123456701234567 1ff,1ab,9,0,1,2,1ff,1ab,9,0,1,2,1ff,1ab,9,0 1ff",
-        true,
-    ),
-    (
-        "1RA--- R 8 0123456701234567 1ff,1ab,9,0,1,2,1ff,1ab,9,0,1,2,1ff,1ab,9,0 200",
-        false,
-    ),
-    (
-        "1RA--- R 8 0123456701234568 1ff,1ab,9,0,1,2,1ff,1ab,9,0,1,2,1ff,1ab,9,0 1ff",
-        false,
-    ),
-    (
-        "1RA--- R 8 0123456701234567 1ff,1ab,9,0,1,2,1ff,1ab,9,0,1,2,1ff,1ab,9,200 1ff",
-        false,
-    ),
-    (
-        "1RA--- R 8 0123456701234567 1ff,1ab,9,0,1,2,1ff,1ab,9,0,1,2,1ff,1ab,9,100000000000000001 1ff",
-        false,
-    ),
-];
+// Texts that are automata for tables of one state.
+const AUTOMATA: &str = "\
+1RA--- R 1 00 1,2 1
+1RA--- R 1 00 1,2 3
+1RA--- R 1 00 3,3 0
+1RA--- R 1 00 1,2 0
+1RA--- R 1 00 0,0 0
+1RA--- L 1 00 0,0 0
+1RA--- R 3 012012 f,e,a,0,1,2 c
+1RA--- R 8 0123456701234567 1ff,1ab,9,0,1,2,1ff,1ab,9,0,1,2,1ff,1ab,9,0 1ff
+1RA--- L 8 0123456701234567 1ff,1ab,9,0,1,2,1ff,1ab,9,0,1,2,1ff,1ab,9,0 fe";
+
+// Texts that aren't: the first number that has a bit but those of the states; too few digits, too many, one that
+// is no state, none; too few rows, too many, an empty one, another separator; leading zeros, no number, none, a
+// sign; the same of sizes 3 and 8, with numbers of more bits.
+const NO_AUTOMATA: &str = "\
+1RA--- R 1 00 1,2 4
+1RA--- R 1 00 4,2 1
+1RA--- R 1 00 1,4 1
+1RA--- R 1 0 1,2 1
+1RA--- R 1 000 1,2 1
+1RA--- R 1 01 1,2 1
+1RA--- R 1  1,2 1
+1RA--- R 1 0/ 1,2 1
+1RA--- R 1 00 1 1
+1RA--- R 1 00 1,2,1 1
+1RA--- R 1 00 1,2, 1
+1RA--- R 1 00 ,1 1
+1RA--- R 1 00 1,,2 1
+1RA--- R 1 00  1
+1RA--- R 1 00 1;2 1
+1RA--- R 1 00 01,2 1
+1RA--- R 1 00 1,02 1
+1RA--- R 1 00 1,2 01
+1RA--- R 1 00 1,2 00
+1RA--- R 1 00 1,2 +1
+1RA--- R 1 00 1,2 g
+1RA--- R 1 00 1,2 :
+1RA--- R 3 012012 f,e,a,0,1,2 10
+1RA--- R 3 012013 f,e,a,0,1,2 c
+1RA--- R 3 012012 F,e,a,0,1,2 c
+1RA--- R 3 012012 f,e,a,0,1,2 C
+1RA--- R 3 012012 f,e,a,0,1,0x2 c
+1RA--- R 8 0123456701234567 1ff,1ab,9,0,1,2,1ff,1ab,9,0,1,2,1ff,1ab,9,0 200
+1RA--- R 8 0123456701234568 1ff,1ab,9,0,1,2,1ff,1ab,9,0,1,2,1ff,1ab,9,0 1ff
+1RA--- R 8 0123456701234567 1ff,1ab,9,0,1,2,1ff,1ab,9,0,1,2,1ff,1ab,9,200 1ff
+1RA--- R 8 0123456701234567 1ff,1ab,9,0,1,2,1ff,1ab,9,0,1,2,1ff,1ab,9,100000000000000001 1ff";
 
 #[test]
 fn texts_are_automata_or_not(rt: HostRuntime) {
-    for (row, answer) in TEXTS {
-        assert!(rt; read(&rt, row).1.is_some() == answer, "{row}");
+    for row in AUTOMATA.split('\n') {
+        assert!(rt; read(&rt, row).1.is_some(), "{row}");
     }
-    // A space is no digit.
+    for row in NO_AUTOMATA.split('\n') {
+        assert!(rt; read(&rt, row).1.is_none(), "{row}");
+    }
+    // Nothing is no number, and a space is no digit.
+    assert!(rt; automata_of(&rt, 1, Dir::R, 1, "00", "1,2", "").is_none());
     assert!(rt; automata_of(&rt, 1, Dir::R, 1, "0 ", "1,2", "1").is_none());
     assert!(rt; automata_of(&rt, 1, Dir::R, 1, "00", "1,2", " 1").is_none());
 }
@@ -194,23 +184,26 @@ fn the_widest_sets_have_49_bits(rt: HostRuntime) {
     assert!(rt; automata_of(&rt, 6, Dir::L, 8, delta, rows, "2000000000000").is_none());
 }
 
+// The automata of a row that is such.
+fn made(rt: &impl Abort, row: &str) -> Far {
+    match read(rt, row).1 {
+        Some(automata) => automata,
+        None => panic!(rt; "{row}: no automata"),
+    }
+}
+
 // Automata are made for tables of a number of states, and fit no other.
 #[test]
 fn automata_keep_their_fields(rt: HostRuntime) {
-    let Some(automata) = automata_of(&rt, 1, Dir::R, 2, "0111", "2,4,2,4", "3") else {
-        panic!(rt; "these are automata");
-    };
+    let automata = made(&rt, "1RA--- R 2 0111 2,4,2,4 3");
     assert!(rt; automata.states() == 1 && automata.size() == 2);
     assert!(rt; automata.side() == Dir::R && automata.keep() == 3);
     assert!(rt; automata.delta() == [0, 1, 1, 1].as_slice());
     assert!(rt; automata.rows() == [2, 4, 2, 4].as_slice());
-    assert!(rt; automata.holds(&table_of(&rt, "1RA---")));
-    assert!(rt; !automata.holds(&table_of(&rt, "1RA---_------")));
-    let Some(automata) = automata_of(&rt, 2, Dir::R, 1, "00", "1,4,4,4", "1") else {
-        panic!(rt; "these are automata for two states");
-    };
-    assert!(rt; automata.holds(&table_of(&rt, "1RA---_------")));
-    assert!(rt; !automata.holds(&table_of(&rt, "1RA---")));
+    let (one, two) = (table_of(&rt, "1RA---"), table_of(&rt, "1RA---_------"));
+    assert!(rt; automata.holds(&one) && !automata.holds(&two));
+    let automata = made(&rt, "1RA---_------ R 1 00 1,4,4,4 1");
+    assert!(rt; automata.holds(&two) && !automata.holds(&one));
 }
 
 #[test]
@@ -223,35 +216,28 @@ fn sizes_have_a_limit(rt: HostRuntime) {
 // What is written reads back, and so does what an owned claim lends.
 #[test]
 fn automata_are_written_and_owned(rt: HostRuntime) {
-    let alloc = rt.alloc();
-    for (states, side, size, delta, rows, keep) in [
-        (1, Dir::R, 1, "00", "1,2", "1"),
-        (1, Dir::L, 1, "00", "0,0", "0"),
-        (2, Dir::R, 2, "0111", "2,10,0,10,8,10,10,1f", "3"),
-        (
-            1,
-            Dir::L,
-            8,
-            "0123456701234567",
-            "1ff,1ab,9,0,1,2,1ff,1ab,9,0,1,2,1ff,1ab,9,0",
-            "fe",
-        ),
-    ] {
-        let Some(automata) = automata_of(&rt, states, side, size, delta, rows, keep) else {
-            panic!(rt; "{rows} are rows");
-        };
-        let mut text = Vec::new(alloc);
-        let written = automata.append_fields(&mut text);
-        assert!(rt; written.is_ok());
-        let fields = format!(in alloc; "{delta} {rows} {keep}");
-        assert!(rt;
-            fields.is_ok_and(|fields| fields.as_bytes() == text.as_slice()),
-            "{rows}"
-        );
-        match OwnedFar::of(alloc, &automata) {
-            Ok(owned) => assert!(rt; owned.lent() == automata, "{rows}"),
-            Err(fault) => panic!(rt; "{fault:?}"),
-        }
+    for row in AUTOMATA.split('\n') {
+        is_written_and_owned(&rt, rt.alloc(), row);
+    }
+    is_written_and_owned(
+        &rt,
+        rt.alloc(),
+        "0RB---_0LA--- R 2 0111 2,10,0,10,8,10,10,1f 3",
+    );
+}
+
+// What is written are the fields of the row from delta on.
+fn is_written_and_owned(rt: &impl Abort, alloc: Global, row: &str) {
+    let automata = made(rt, row);
+    let (_, rest) = parted(rt, row);
+    let (_, rest) = parted(rt, rest);
+    let (_, fields) = parted(rt, rest);
+    let mut text = Vec::new(alloc);
+    assert!(rt; automata.append_fields(&mut text).is_ok());
+    assert!(rt; text.as_slice() == fields.as_bytes(), "{row}");
+    match OwnedFar::of(alloc, &automata) {
+        Ok(owned) => assert!(rt; owned.lent() == automata, "{row}"),
+        Err(fault) => panic!(rt; "{fault:?}"),
     }
 }
 

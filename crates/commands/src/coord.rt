@@ -7,11 +7,11 @@ use crate::ledger_report::{Opened, bytes_of};
 use crate::options::Beginning;
 use crate::outcome::Outcome;
 use crate::streams::Streams;
-use lease_core::Coordinator;
+use lease_core::{Coordinator, StartFault};
 use ledger::Status;
 use std::alloc::Global;
 use std::io::{self, BufWriter, Read, Write};
-use wire::{LedgerOut, Lines, Node, Turn, begin, turn};
+use wire::{LedgerOut, Lines, Node, Out, Turn, begin, turn};
 
 /// Begins a coordinator from what a ledger holds, and answers the frames of `input`, a line each, until it ends:
 /// what is new stands in the ledger before a frame says so. `held` reads what the ledger holds. Accepted where
@@ -44,8 +44,9 @@ fn coordinated<F: Read + Drop, L: LedgerOut, R: Read, W: Write>(
     requires { (1 ≤ beginning.states) × (beginning.states ≤ state_limit) }
 {
     let mut node = coordinator(alloc, beginning, held, ledger)?;
-    served(alloc, &mut node, ledger, input, answers)?;
-    Ok(outcome_of(&node))
+    let served = served(alloc, &mut node, ledger, input, answers);
+    let outcome = outcome_of(&node);
+    served.and(Ok(outcome))
 }
 
 // A coordinator whose ledger is in step with it.
@@ -72,8 +73,16 @@ fn started<L: LedgerOut>(
     requires { (1 ≤ beginning.states) × (beginning.states ≤ state_limit) }
 {
     let (node, first) = Coordinator::start(alloc, beginning.states, beginning.era, bytes);
-    begin(&first?, ledger)?;
+    carry_out_first(first, ledger)?;
     Ok(node)
+}
+
+// Does what a node asks for when it has started.
+fn carry_out_first<L: LedgerOut>(
+    first: Result<Out, StartFault>,
+    ledger: &mut L,
+) -> Result<(), Ended> {
+    Ok(begin(&first?, ledger)?)
 }
 
 // Answers what comes, to the end of the input.

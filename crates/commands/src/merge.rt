@@ -47,8 +47,20 @@ fn merged<H: Host, W: Write>(
         path: merging.second,
     };
     let (board, left) = joined(alloc, &first, &second)?;
-    write_whole(alloc, host, merging.out, &board)?;
-    tell(alloc, &board.tally(), &left, answers)?;
+    written(alloc, host, merging.out, &board, &left, answers)
+}
+
+// Writes the ledger of a board to a file and tells what it holds, and what wasn't kept.
+fn written<H: Host, W: Write>(
+    alloc: Global,
+    host: &H,
+    path: &str,
+    board: &Board,
+    left: &Left,
+    answers: &mut W,
+) -> Result<Outcome, Ended> {
+    write_whole(alloc, host, path, board)?;
+    tell(alloc, &board.tally(), left, answers)?;
     match left {
         Left::Nothing => Ok(Outcome::Accepted),
         Left::From { .. } => Ok(Outcome::Refused),

@@ -45,9 +45,21 @@ fn retried<F: Read + Drop, L: LedgerOut, D: Decider, W: Write>(
     };
     let (mut board, left) = loaded(alloc, &bytes)?;
     drop(bytes);
-    cut_off(&left, ledger)?;
-    retry_holdouts(alloc, &mut board, decider, ledger)?;
-    write_report(alloc, &board, &Left::Nothing, answers)?;
+    settled_further(alloc, &mut board, &left, ledger, decider, answers)
+}
+
+// The same from the board of the ledger, and what of it wasn't kept.
+fn settled_further<L: LedgerOut, D: Decider, W: Write>(
+    alloc: Global,
+    board: &mut Board,
+    left: &Left,
+    ledger: &mut L,
+    decider: &mut D,
+    answers: &mut W,
+) -> Result<Outcome, Ended> {
+    cut_off(left, ledger)?;
+    retry_holdouts(alloc, board, decider, ledger)?;
+    write_report(alloc, board, &Left::Nothing, answers)?;
     Ok(outcome_by(board.status(), &Left::Nothing))
 }
 

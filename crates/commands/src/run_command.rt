@@ -43,23 +43,35 @@ pub fn cmd_run<
 ) -> Outcome
     requires { (1 ≤ settling.now.states) × (settling.now.states ≤ state_limit) }
 {
-    let run = settled(alloc, settling, held, ledger, workers, clock, faults);
-    match run.and_then(|node| reported(alloc, form, &node, answers)) {
+    let ended = settled(
+        alloc, settling, form, held, ledger, workers, clock, answers, faults,
+    );
+    match ended {
         Ok(outcome) => outcome,
         Err(ended) => ended.told(faults),
     }
 }
 
-// A coordinator whose rounds were run.
-fn settled<F: Read + Drop, L: LedgerOut, N: Node + Drop, C: Clock, E: Write>(
+// A coordinator that is settled with these workers, and its report.
+fn settled<
+    P: ReportForm,
+    F: Read + Drop,
+    L: LedgerOut,
+    N: Node + Drop,
+    C: Clock,
+    W: Write,
+    E: Write,
+>(
     alloc: Global,
     settling: &Settling,
+    form: &P,
     held: io::Result<Opened<F>>,
     ledger: &mut L,
     workers: Vec<N>,
     clock: &C,
+    answers: &mut W,
     faults: &mut E,
-) -> Result<Coordinator, Ended>
+) -> Result<Outcome, Ended>
     requires { (1 ≤ settling.now.states) × (settling.now.states ≤ state_limit) }
 {
     let beginning = Beginning {
@@ -67,11 +79,28 @@ fn settled<F: Read + Drop, L: LedgerOut, N: Node + Drop, C: Clock, E: Write>(
         era: 1,
     };
     let mut node = coordinator(alloc, beginning, held, ledger)?;
-    run_workers(alloc, settling, &mut node, ledger, workers, clock, faults)?;
-    Ok(node)
+    run_and_report(
+        alloc, settling, form, &mut node, ledger, workers, clock, answers, faults,
+    )
 }
 
-// The rounds of a coordinator and its workers.
+// The rounds of a coordinator and its workers, and then the report.
+fn run_and_report<P: ReportForm, L: LedgerOut, N: Node + Drop, C: Clock, W: Write, E: Write>(
+    alloc: Global,
+    settling: &Settling,
+    form: &P,
+    node: &mut Coordinator,
+    ledger: &mut L,
+    workers: Vec<N>,
+    clock: &C,
+    answers: &mut W,
+    faults: &mut E,
+) -> Result<Outcome, Ended> {
+    run_workers(alloc, settling, node, ledger, workers, clock, faults)?;
+    reported(alloc, form, node, answers)
+}
+
+// The rounds alone.
 fn run_workers<L: LedgerOut, N: Node + Drop, C: Clock, E: Write>(
     alloc: Global,
     settling: &Settling,

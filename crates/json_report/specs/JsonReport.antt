@@ -27,19 +27,23 @@ abbrev pub tables_value : List Packed → Data
 tables_value tables = array (items_of (map table_value tables))
 
 -- the members, in the order of the bytes of their names
-abbrev pub report_value : Packed → Status → Tally → List Packed → List Packed → Data
-report_value root status tally champions holdouts =
+abbrev pub object_of : Data → Status → Tally → Data → Data → Data
+object_of root status tally champions holdouts =
     object (
     member (codes "best") (best_value tally.best) (
-    member (codes "champions") (tables_value champions) (
+    member (codes "champions") champions (
     member (codes "halting") (count_value tally.halting) (
-    member (codes "holdout_tables") (tables_value holdouts) (
+    member (codes "holdout_tables") holdouts (
     member (codes "holdouts") (count_value tally.holdouts) (
     member (codes "never") (count_value tally.never) (
     member (codes "nodes") (count_value tally.nodes) (
     member (codes "open") (count_value tally.open_count) (
-    member (codes "root") (table_value root) (
+    member (codes "root") root (
     member (codes "status") (string (status_name status)) no_members))))))))))
+
+abbrev pub report_value : Packed → Status → Tally → List Packed → List Packed → Data
+report_value root status tally champions holdouts =
+    object_of (table_value root) status tally (tables_value champions) (tables_value holdouts)
 
 -- its text, with no space, and a newline
 abbrev pub report_text : Packed → Status → Tally → List Packed → List Packed → List ℕ

@@ -2,7 +2,7 @@
 ghost use Rattle.std.specs.Prelude.{◌≡◌, IfOk, codes};
 ghost use Rattle.std.specs.Vec.Iter.{into_iter_items};
 ghost use Rattle.serde_json.specs.View.{view};
-ghost use Rattle.json_report.specs.JsonReport.{best_value, table_value, tables_value, report_value};
+ghost use Rattle.json_report.specs.JsonReport.{best_value, table_value, tables_value, object_of, report_value};
 
 use commands::status_name;
 use ledger::{Champions, Holdouts, Status, Tally};
@@ -23,19 +23,41 @@ pub fn report_value(
 ) -> Result<Value, NoMemory>
     ensures { IfOk result (λ report. view report ≡ report_value root.now status tally.now (into_iter_items champions) (into_iter_items holdouts)) }
 {
-    let champions = tables_value(alloc, champions)?;
-    let holdouts = tables_value(alloc, holdouts)?;
-    let root = table_value(alloc, root)?;
+    let mut champions = tables_value(alloc, champions)?;
+    let mut holdouts = tables_value(alloc, holdouts)?;
+    let mut root = table_value(alloc, root)?;
+    object_of(
+        alloc,
+        &mut root,
+        status,
+        tally,
+        &mut champions,
+        &mut holdouts,
+    )
+}
+
+// The same from values that are taken out of their places, so that where memory is refused the object alone
+// is let go, and not what isn't in it yet.
+fn object_of(
+    alloc: Global,
+    root: &mut Value,
+    status: Status,
+    tally: &Tally,
+    champions: &mut Value,
+    holdouts: &mut Value,
+) -> Result<Value, NoMemory>
+    ensures { IfOk result (λ report. view report ≡ object_of (view root.old) status tally.now (view champions.old) (view holdouts.old)) }
+{
     json!(in alloc; {
         "best": best_value(tally.best),
-        "champions": champions,
+        "champions": champions.take(),
         "halting": tally.halting,
-        "holdout_tables": holdouts,
+        "holdout_tables": holdouts.take(),
         "holdouts": tally.holdouts,
         "never": tally.never,
         "nodes": tally.nodes,
         "open": tally.open_count,
-        "root": root,
+        "root": root.take(),
         "status": status_name(status)
     })
 }

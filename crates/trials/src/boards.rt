@@ -119,11 +119,9 @@ fn open_tables(alloc: Global, board: &Board) -> Result<Vec<Table>, Fail> {
 
 #[test]
 fn children_are_open(rt: HostRuntime) -> Result<(), Fail> {
-    let root = table_of(&rt, "------_1LA---");
     let mut board = board_of(&rt, rt.alloc(), "------_1LA---");
-    assert!(rt; board.status() == Status::Working { count: 1 });
-    assert!(rt; board.children(&root).is_none());
-    are_tables(&rt, &open_tables(rt.alloc(), &board)?, &["------_1LA---"]);
+    has_no_children(&rt, &board, "------_1LA---");
+    are_open(&rt, rt.alloc(), &board, &["------_1LA---"])?;
     take(&rt, &mut board, "------_1LA--- H 1");
     let texts = [
         "0LA---_1LA---",
@@ -135,18 +133,40 @@ fn children_are_open(rt: HostRuntime) -> Result<(), Fail> {
         "1RA---_1LA---",
         "1RB---_1LA---",
     ];
-    are_tables(&rt, &open_tables(rt.alloc(), &board)?, &texts);
-    match board.children(&root) {
-        Some(children) => {
-            let tables: Vec<Table> = children.collect(rt.alloc())?;
-            are_tables(&rt, &tables, &texts);
-        }
-        None => panic!(rt; "no children"),
-    }
-    assert!(rt; board.status() == Status::Working { count: 8 });
+    are_open(&rt, rt.alloc(), &board, &texts)?;
+    are_children(&rt, rt.alloc(), &board, "------_1LA---", &texts)?;
     take(&rt, &mut board, "0LA---_1LA--- U");
-    assert!(rt; board.children(&table_of(&rt, "0LA---_1LA---")).is_none());
-    are_tables(&rt, &open_tables(rt.alloc(), &board)?, &texts[1..]);
+    has_no_children(&rt, &board, "0LA---_1LA---");
+    are_open(&rt, rt.alloc(), &board, &texts[1..])
+}
+
+// A table without a halting verdict has no children.
+fn has_no_children(rt: &impl Abort, board: &Board, text: &str) {
+    assert!(rt; board.children(&table_of(rt, text)).is_none(), "{text}");
+}
+
+fn are_children(
+    rt: &impl Abort,
+    alloc: Global,
+    board: &Board,
+    parent: &str,
+    texts: &[&str],
+) -> Result<(), Fail> {
+    match board.children(&table_of(rt, parent)) {
+        Some(children) => {
+            let tables: Vec<Table> = children.collect(alloc)?;
+            are_tables(rt, &tables, texts);
+            Ok(())
+        }
+        None => panic!(rt; "{parent}: no children"),
+    }
+}
+
+// The open tables of a board, which are as many as its status says.
+fn are_open(rt: &impl Abort, alloc: Global, board: &Board, texts: &[&str]) -> Result<(), Fail> {
+    are_tables(rt, &open_tables(alloc, board)?, texts);
+    let count = texts.len() as u64;
+    assert!(rt; board.status() == Status::Working { count });
     Ok(())
 }
 

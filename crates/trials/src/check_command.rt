@@ -1,5 +1,6 @@
 // `bb check` over streams of the tests' own: the worked rows, and what a stream may do.
 use crate::streams::{ALWAYS, Sink, Source};
+use crate::texts::assert_bytes;
 use commands::{Outcome, cmd_check};
 use std::alloc::Global;
 use std::process::Abort;
@@ -19,13 +20,13 @@ fn checked(
     let mut faults = Sink::new(alloc, usize::MAX, ALWAYS);
     let mut ended = asked(alloc, input, at_once, &mut sink, &mut faults);
     if ended == Outcome::NoMemory {
-        assert_eq!(rt; faults.kept.as_slice(), b"refused memory\n".as_slice());
+        assert_bytes(rt, &faults.kept, b"refused memory\n");
         assert!(rt; answers.starts_with(&sink.kept));
         sink.kept.clear();
         faults.kept.clear();
         ended = asked(alloc, input, at_once, &mut sink, &mut faults);
     }
-    assert_eq!(rt; sink.kept.as_slice(), answers);
+    assert_bytes(rt, &sink.kept, answers);
     assert!(rt; ended == outcome);
     assert!(rt; faults.kept.is_empty());
 }
@@ -356,7 +357,7 @@ fn failing_streams_end_the_command(rt: HostRuntime) {
         let mut faults = Sink::new(alloc, usize::MAX, ALWAYS);
         let ended = cmd_check(alloc, &mut source, &mut sink, &mut faults);
         assert!(rt; ended == Outcome::Failed);
-        assert_eq!(rt; faults.kept.as_slice(), b"refused 603\n".as_slice());
+        assert_bytes(&rt, &faults.kept, b"refused 603\n");
         assert_eq!(rt;
             sink.kept.len() as u64,
             15 * calls,

@@ -1,5 +1,6 @@
 // `bb coord` over streams and ledgers of the tests' own.
 use crate::streams::{ALWAYS, Sink, Source, file_of};
+use crate::texts::assert_bytes;
 use commands::{Beginning, Outcome, cmd_coord};
 use std::alloc::Global;
 use std::process::Abort;
@@ -74,8 +75,8 @@ fn runs(
             writes_left: ALWAYS,
         },
     )?;
-    assert_eq!(rt; end.answers.as_slice(), answers.as_bytes());
-    assert_eq!(rt; end.ledger.text(), ledger.as_bytes());
+    assert_bytes(rt, &end.answers, answers.as_bytes());
+    assert_bytes(rt, end.ledger.text(), ledger.as_bytes());
     assert!(rt; end.outcome == outcome);
     Ok(())
 }
@@ -156,8 +157,8 @@ fn ledgers_that_fail_end_the_command(rt: HostRuntime) -> Result<(), Fail> {
                 writes_left: ALWAYS,
             },
         )?;
-        assert_eq!(rt; end.answers.as_slice(), answers.as_bytes());
-        assert_eq!(rt; end.faults.as_slice(), b"refused 604\n".as_slice());
+        assert_bytes(&rt, &end.answers, answers.as_bytes());
+        assert_bytes(&rt, &end.faults, b"refused 604\n");
         let kept = end
             .ledger
             .text()
@@ -191,7 +192,7 @@ fn streams_and_ledgers_that_are_refused_end_the_command(rt: HostRuntime) -> Resu
                 writes_left,
             },
         )?;
-        assert_eq!(rt; end.faults.as_slice(), faults.as_bytes());
+        assert_bytes(&rt, &end.faults, faults.as_bytes());
         assert!(rt; end.outcome == outcome);
     }
     Ok(())

@@ -1,6 +1,6 @@
 // Deciding tables by finders, honest and not, and `bb decide` over streams of the tests' own.
 use crate::streams::{ALWAYS, Sink, Source};
-use crate::texts::table_of;
+use crate::texts::{assert_bytes, table_of};
 use backward::BackwardFinder;
 use cert::{Certificate, Finder, Finders, OwnedCertificate, decide};
 use commands::{Outcome, cmd_decide};
@@ -129,7 +129,7 @@ fn decided(
     let mut faults = Sink::new(alloc, usize::MAX, ALWAYS);
     let mut decider = Finders::new(finders, 100);
     let ended = cmd_decide(alloc, &mut decider, &mut source, &mut sink, &mut faults);
-    assert_eq!(rt; sink.kept.as_slice(), answers);
+    assert_bytes(rt, &sink.kept, answers);
     assert!(rt; ended == outcome && faults.kept.is_empty());
     Ok(())
 }

@@ -1,4 +1,5 @@
 // The report of a board as JSON.
+use crate::texts::assert_bytes;
 use json_report::report_json;
 use ledger::{Board, Left, LoadFault};
 use machine_text::Table;
@@ -36,16 +37,16 @@ fn reported(rt: &impl Abort, alloc: Global, root: &str, ledger: &str, report: &s
             panic!(rt; "no memory");
         }
     }
-    assert_eq!(rt; out.as_slice(), report.as_bytes());
+    assert_bytes(rt, &out, report.as_bytes());
     let len = out.len();
     if report_json(alloc, &board, &mut out).is_err() {
-        assert_eq!(rt; out.as_slice(), report.as_bytes());
+        assert_bytes(rt, &out, report.as_bytes());
         if report_json(alloc, &board, &mut out).is_err() {
             panic!(rt; "no memory");
         }
     }
-    assert_eq!(rt; &out[..len.min(out.len())], report.as_bytes());
-    assert_eq!(rt; &out[len.min(out.len())..], report.as_bytes());
+    assert_bytes(rt, &out[..len.min(out.len())], report.as_bytes());
+    assert_bytes(rt, &out[len.min(out.len())..], report.as_bytes());
 }
 
 #[test]

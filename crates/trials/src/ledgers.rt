@@ -1,4 +1,5 @@
 // Ledgers, whole, cut and spoilt. What wants memory is tried again once.
+use crate::texts::table_of;
 use cert::RecordFault;
 use ledger::{Board, Left, LoadFault, OfferFault, Unkept, peek_root};
 use machine_text::{Table, TextFault};
@@ -161,30 +162,37 @@ fn a_ledger_has_the_header_of_its_root(rt: HostRuntime) {
         let refused = load(&rt, rt.alloc(), text.as_bytes()).err();
         assert!(rt; refused == Some(fault), "{text}");
     }
+}
+
+// The root that a header names, or why there is none.
+#[test]
+fn a_root_is_peeked_at(rt: HostRuntime) {
     for (text, peeked) in [
-        ("", Ok(None)),
-        ("bb-led", Ok(None)),
-        ("bb-ledger 1 1RC", Ok(None)),
-        ("bb-ledger 1 ------\n------ Q\n", Ok(Some("------"))),
-        ("bb-ledger 1 1RZ---\n", Ok(Some("------"))),
-        ("bb-ledger 1 1RB1RH_------\n", Ok(Some("1RB---_------"))),
-        (
-            "bb-ledger 1 1RC---_------_------\n",
-            Err(LoadFault::WrongRoot),
-        ),
-        ("hello\n", Err(LoadFault::BadHeader)),
-        ("hello", Err(LoadFault::BadHeader)),
+        ("", "nothing"),
+        ("bb-led", "nothing"),
+        ("bb-ledger 1 1RC", "nothing"),
+        ("bb-ledger 1 ------\n------ Q\n", "------"),
+        ("bb-ledger 1 1RZ---\n", "------"),
+        ("bb-ledger 1 1RB1RH_------\n", "1RB---_------"),
+        ("bb-ledger 1 1RC---_------_------\n", "wrong root"),
+        ("hello\n", "bad header"),
+        ("hello", "bad header"),
     ] {
-        let expected = match peeked {
-            Ok(Some(root)) => Ok(Table::parse(root.as_bytes()).ok()),
-            Ok(None) => Ok(None),
-            Err(fault) => Err(fault),
-        };
-        assert!(rt; peek_root(text.as_bytes()) == expected, "{text}");
+        match peek_root(text.as_bytes()) {
+            Ok(Some(root)) => assert!(rt; root == table_of(&rt, peeked), "{text}"),
+            Ok(None) => assert!(rt; peeked == "nothing", "{text}"),
+            Err(LoadFault::WrongRoot) => assert!(rt; peeked == "wrong root", "{text}"),
+            Err(LoadFault::BadHeader) => assert!(rt; peeked == "bad header", "{text}"),
+            Err(LoadFault::NoMemory) => panic!(rt; "{text}: no memory is taken"),
+        }
     }
-    assert_eq!(rt; LoadFault::BadHeader.number(), 404);
-    assert_eq!(rt; LoadFault::WrongRoot.number(), 405);
-    assert_eq!(rt; LoadFault::NoMemory.number(), 0);
+}
+
+#[test]
+fn load_faults_have_their_numbers(rt: HostRuntime) {
+    assert!(rt; LoadFault::BadHeader.number() == 404);
+    assert!(rt; LoadFault::WrongRoot.number() == 405);
+    assert!(rt; LoadFault::NoMemory.number() == 0);
 }
 
 // A holdout and its settling are two lines and one record, and a halting entry is written as an undefined

@@ -1,10 +1,10 @@
 // `bb merge` over files of the tests' own.
 use crate::streams::{ALWAYS, Sink, Source};
+use crate::texts::assert_bytes;
 use commands::{Host, Merging, Outcome, cmd_merge};
 use std::alloc::Global;
 use std::io;
 use std::process::Abort;
-use std::test::Fail;
 use wire::{Fault, LedgerOut};
 
 // Two ledgers, `a` and `b`, and what is to be written to `out`.
@@ -117,8 +117,8 @@ fn merged(
         out: "out",
     };
     let ended = cmd_merge(alloc, merging, &host, &mut said, &mut told);
-    assert_eq!(rt; said.kept.as_slice(), answers.as_bytes());
-    assert_eq!(rt; told.kept.as_slice(), faults.as_bytes());
+    assert_bytes(rt, &said.kept, answers.as_bytes());
+    assert_bytes(rt, &told.kept, faults.as_bytes());
     assert!(rt; ended == outcome);
 }
 
@@ -206,7 +206,7 @@ fn faults_come_in_their_order(rt: HostRuntime) {
 }
 
 #[test]
-fn absent_files_end_a_merge(rt: HostRuntime) -> Result<(), Fail> {
+fn absent_files_end_a_merge(rt: HostRuntime) {
     let alloc = rt.alloc();
     let host = Shelf {
         first: X.as_bytes(),
@@ -219,15 +219,15 @@ fn absent_files_end_a_merge(rt: HostRuntime) -> Result<(), Fail> {
         ("b", "absent", "out", "refused 404\n"),
         ("a", "a", "absent", "refused 604\n"),
     ] {
-        let mut said = Sink::new(alloc, usize::MAX, ALWAYS);
-        let mut told = Sink::new(alloc, usize::MAX, ALWAYS);
-        let merging = Merging { first, second, out };
-        let ended = cmd_merge(alloc, merging, &host, &mut said, &mut told);
-        assert_eq!(rt; told.kept.as_slice(), faults.as_bytes());
-        assert!(rt;
-            said.kept.is_empty() && ended != Outcome::Accepted,
-            "{first} {second} {out}"
-        );
+        fails(&rt, alloc, &host, Merging { first, second, out }, faults);
     }
-    Ok(())
+}
+
+// A merge says this of its fault, and nothing else.
+fn fails(rt: &impl Abort, alloc: Global, host: &Shelf, merging: Merging<'_>, faults: &str) {
+    let mut said = Sink::new(alloc, usize::MAX, ALWAYS);
+    let mut told = Sink::new(alloc, usize::MAX, ALWAYS);
+    let ended = cmd_merge(alloc, merging, host, &mut said, &mut told);
+    assert_bytes(rt, &told.kept, faults.as_bytes());
+    assert!(rt; said.kept.is_empty() && ended != Outcome::Accepted);
 }

@@ -1,6 +1,6 @@
 // What is searched of closed position sets, and lists that keep their own text. All sets here were computed
 // by a program apart from this one, from the definition.
-use crate::texts::table_of;
+use crate::texts::{assert_bytes, table_of};
 use machine_text::Table;
 use ngram_cps::{Ngram, NgramFinder, OwnedNgram};
 use run::{Evidence, Verdict};
@@ -56,30 +56,49 @@ fn found(
 
 #[test]
 fn least_sets_are_found(rt: HostRuntime) {
-    let alloc = rt.alloc();
-    for (text, width, left, right, local) in SETS {
-        let table = table_of(&rt, text);
-        for finder_width in 0..=8 {
-            let mut finder = NgramFinder::new(alloc, finder_width);
-            let found = found(&rt, &mut finder, 1000, &table);
-            if finder_width < width as u64 {
-                assert!(rt; found == None, "{text} {finder_width}: {found:?}");
-                continue;
-            }
-            let Some(found) = found else {
-                panic!(rt; "{text} {finder_width}: nothing was found")
-            };
-            let lists = found.lent();
-            assert!(rt;
-                lists.states() == table.states() && lists.width() == width,
-                "{text}"
-            );
-            assert!(rt; lists.left() == left.as_bytes(), "{text}");
-            assert!(rt; lists.right() == right.as_bytes(), "{text}");
-            assert!(rt; lists.local() == local.as_bytes(), "{text}");
-            assert!(rt; lists.check(alloc, &table) == Ok(Verdict::Never), "{text}");
+    for sets in SETS {
+        for width in 0..=8 {
+            are_found(&rt, rt.alloc(), &sets, width);
         }
     }
+}
+
+// A finder finds nothing up to a width below that of these sets, and otherwise them.
+fn are_found(
+    rt: &impl Abort,
+    alloc: Global,
+    sets: &(&str, u8, &str, &str, &str),
+    finder_width: u64,
+) {
+    let table = table_of(rt, sets.0);
+    let mut finder = NgramFinder::new(alloc, finder_width);
+    match found(rt, &mut finder, 1000, &table) {
+        Some(found) => {
+            assert!(rt; sets.1 as u64 <= finder_width, "{finder_width}: found");
+            are_these(rt, alloc, &found.lent(), &table, sets);
+        }
+        None => assert!(rt;
+            finder_width < sets.1 as u64,
+            "{finder_width}: nothing was found"
+        ),
+    }
+}
+
+fn are_these(
+    rt: &impl Abort,
+    alloc: Global,
+    lists: &Ngram<'_>,
+    table: &Table,
+    (text, width, left, right, local): &(&str, u8, &str, &str, &str),
+) {
+    assert!(rt;
+        lists.states() == table.states() && lists.width() == *width,
+        "{text}"
+    );
+    assert_bytes(rt, lists.left(), left.as_bytes());
+    assert_bytes(rt, lists.right(), right.as_bytes());
+    assert_bytes(rt, lists.local(), local.as_bytes());
+    assert!(rt; lists.check(alloc, table) == Ok(Verdict::Never), "{text}");
 }
 
 #[test]

@@ -1,5 +1,6 @@
 // `bb report` over files of the tests' own.
 use crate::streams::{ALWAYS, Sink, Source, file_of};
+use crate::texts::assert_bytes;
 use commands::{AsLines, Ended, Opened, Outcome, cmd_report};
 use std::alloc::Global;
 use std::io;
@@ -22,14 +23,14 @@ fn reported(
     let file = file_of(ledger, at_once, ALWAYS);
     let mut ended = cmd_report(alloc, &AsLines, false, file, &mut said, &mut told);
     if ended == Outcome::NoMemory {
-        assert_eq!(rt; told.kept.as_slice(), b"refused memory\n".as_slice());
+        assert_bytes(rt, &told.kept, b"refused memory\n");
         assert!(rt; said.kept.is_empty());
         told.kept.clear();
         let file = file_of(ledger, at_once, ALWAYS);
         ended = cmd_report(alloc, &AsLines, false, file, &mut said, &mut told);
     }
-    assert_eq!(rt; said.kept.as_slice(), answers);
-    assert_eq!(rt; told.kept.as_slice(), faults);
+    assert_bytes(rt, &said.kept, answers);
+    assert_bytes(rt, &told.kept, faults);
     assert!(rt; ended == outcome);
 }
 
@@ -148,21 +149,21 @@ fn failing_files_end_the_command(rt: HostRuntime) {
     assert!(rt;
         cmd_report(alloc, &AsLines, false, absent, &mut said, &mut told) == Outcome::Failed
     );
-    assert_eq!(rt; told.kept.as_slice(), b"refused 605\n".as_slice());
+    assert_bytes(&rt, &told.kept, b"refused 605\n");
     for calls in 0..3 {
         told.kept.clear();
         let file = file_of(COMPLETE, 20, calls);
         assert!(rt;
             cmd_report(alloc, &AsLines, false, file, &mut said, &mut told) == Outcome::Failed
         );
-        assert_eq!(rt; told.kept.as_slice(), b"refused 605\n".as_slice());
+        assert_bytes(&rt, &told.kept, b"refused 605\n");
     }
     assert!(rt; said.kept.is_empty());
     told.kept.clear();
     let mut full = Sink::new(alloc, 10, 2);
     let file = file_of(COMPLETE, 20, ALWAYS);
     assert!(rt; cmd_report(alloc, &AsLines, false, file, &mut full, &mut told) == Outcome::Failed);
-    assert_eq!(rt; told.kept.as_slice(), b"refused 603\n".as_slice());
+    assert_bytes(&rt, &told.kept, b"refused 603\n");
 }
 
 #[test]

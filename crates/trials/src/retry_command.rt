@@ -1,5 +1,6 @@
 // `bb retry` over ledgers of the tests' own.
 use crate::streams::{ALWAYS, Sink, file_of};
+use crate::texts::assert_bytes;
 use cert::{Finder, Finders};
 use commands::{Outcome, cmd_retry};
 use lease_core::Coordinator;
@@ -55,9 +56,9 @@ const ONE_STATE: &[u8] =
 // A retry after which the tree of one state is settled, and what its ledger then holds.
 fn settles(rt: &impl Abort, alloc: Global, held: &[u8], left: &[u8]) -> Result<(), Fail> {
     let end = ended(alloc, held, 0)?;
-    assert_eq!(rt; end.answers.as_slice(), ONE_STATE);
+    assert_bytes(rt, &end.answers, ONE_STATE);
     assert!(rt; end.faults.is_empty() && end.outcome == Outcome::Accepted);
-    assert_eq!(rt; end.ledger.text(), left);
+    assert_bytes(rt, end.ledger.text(), left);
     Ok(())
 }
 
@@ -80,12 +81,13 @@ fn what_becomes_open_stays_open(rt: HostRuntime) -> Result<(), Fail> {
         b"bb-ledger 1 ------_------\n------_------ H 1\n1RB---_------ U\n",
         0,
     )?;
-    assert_eq!(rt;
-        end.answers.as_slice(),
-        b"root ------_------\nstatus working\nnodes 13\nhalting 2\nnever 0\nholdouts 0\nopen 11\nbest 2\nchampion 1RB---_------\n".as_slice()
+    assert_bytes(
+        &rt,
+        &end.answers,
+        b"root ------_------\nstatus working\nnodes 13\nhalting 2\nnever 0\nholdouts 0\nopen 11\nbest 2\nchampion 1RB---_------\n",
     );
     assert!(rt; end.outcome == Outcome::Refused);
-    assert_eq!(rt; end.ledger.text(), SETTLED);
+    assert_bytes(&rt, end.ledger.text(), SETTLED);
     // A coordinator that starts from it grants what became open: its first open table is another, so all before
     // them are recorded first.
     let (mut node, started) = Coordinator::start(rt.alloc(), 2, 1, end.ledger.text());
@@ -99,10 +101,7 @@ fn what_becomes_open_stays_open(rt: HostRuntime) -> Result<(), Fail> {
         assert!(rt; out.frames.starts_with(b"ACK "), "{frame}");
     }
     let out = node.on(Event::Frame(b"ASK 1"))?;
-    assert_eq!(rt;
-        out.frames.as_slice(),
-        b"GRANT 1 1 1RB---_0LA---\n".as_slice()
-    );
+    assert_bytes(&rt, &out.frames, b"GRANT 1 1 1RB---_0LA---\n");
     Ok(())
 }
 
@@ -114,7 +113,7 @@ fn a_ledger_is_cut_to_what_is_kept(rt: HostRuntime) -> Result<(), Fail> {
     let mut held = kept.to_vec(rt.alloc())?;
     held.extend_from_slice(b"0RB---_0LA--- C 0")?;
     let end = ended(rt.alloc(), &held, 0)?;
-    assert_eq!(rt; end.ledger.text(), kept.as_slice());
+    assert_bytes(&rt, end.ledger.text(), kept);
     assert!(rt;
         end.answers
             .starts_with(b"root ------_------\nstatus working\n")
@@ -149,7 +148,7 @@ fn what_fails_ends_a_retry(rt: HostRuntime) -> Result<(), Fail> {
         ),
     ] {
         let end = ended(rt.alloc(), held.as_bytes(), fails_at)?;
-        assert_eq!(rt; end.faults.as_slice(), faults.as_bytes());
+        assert_bytes(&rt, &end.faults, faults.as_bytes());
         assert!(rt; end.answers.is_empty() && end.outcome == outcome, "{held}");
     }
     Ok(())

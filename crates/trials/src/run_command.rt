@@ -1,5 +1,6 @@
 // `bb run` over ledgers and clocks of the tests' own.
 use crate::streams::{ALWAYS, Sink, file_of};
+use crate::texts::assert_bytes;
 use backward::BackwardFinder;
 use cert::Finder;
 use commands::{Outcome, Search, Settling, cmd_run};
@@ -40,14 +41,19 @@ impl Clock for Steady {
 
 // The finders of a worker, in the order in which they are asked.
 fn finders_of(alloc: Global) -> Result<Vec<Box<dyn Finder>>, Fail> {
-    let mut finders: Vec<Box<dyn Finder>> = Vec::new(alloc);
+    let mut finders = Vec::new(alloc);
+    add_finders(alloc, &mut finders)?;
+    Ok(finders)
+}
+
+fn add_finders(alloc: Global, finders: &mut Vec<Box<dyn Finder>>) -> Result<(), Fail> {
     finders.push(Box::new(alloc, HaltFinder::new(alloc, STEPS))?)?;
     finders.push(Box::new(alloc, CycleFinder::new(alloc, STEPS))?)?;
     finders.push(Box::new(alloc, TranslatedFinder::new(alloc, STEPS))?)?;
     finders.push(Box::new(alloc, BackwardFinder::new(alloc, 20))?)?;
     finders.push(Box::new(alloc, NgramFinder::new(alloc, 3))?)?;
     finders.push(Box::new(alloc, FarFinder::new(alloc, 2))?)?;
-    Ok(finders)
+    Ok(())
 }
 
 // What is run: the states, the workers, which frames are lost, the most rounds, and whether to tell how far it
@@ -82,11 +88,15 @@ struct Ending {
 fn workers_of(alloc: Global, count: u8) -> Result<Vec<Worker>, Fail> {
     let mut workers = Vec::new(alloc);
     for id in 1..=count {
-        let (worker, started) = Worker::start(alloc, u32::from(id), b"", finders_of(alloc)?, STEPS);
-        started?;
-        workers.push(worker)?;
+        workers.push(worker_of(alloc, id)?)?;
     }
     Ok(workers)
+}
+
+fn worker_of(alloc: Global, id: u8) -> Result<Worker, Fail> {
+    let (worker, started) = Worker::start(alloc, u32::from(id), b"", finders_of(alloc)?, STEPS);
+    started?;
+    Ok(worker)
 }
 
 fn ended(
@@ -147,7 +157,7 @@ fn small_trees_are_settled(rt: HostRuntime) -> Result<(), Fail> {
     ] {
         let asked = settling(states, workers, lose, 1_000_000, false);
         let end = ended(&rt, rt.alloc(), &asked, b"", 0, ALWAYS)?;
-        assert_eq!(rt; end.answers.as_slice(), report);
+        assert_bytes(&rt, &end.answers, report);
         assert!(rt; end.faults.is_empty() && end.outcome == Outcome::Accepted);
     }
     Ok(())
@@ -159,7 +169,7 @@ const LEDGER: &[u8] = b"bb-ledger 1 ------\n------ H 1\n0RA--- T 0 1 R\n1RA--- T
 fn completed(rt: &impl Abort, alloc: Global, held: &[u8]) -> Result<MemLedger, Fail> {
     let asked = settling(1, 2, None, 1_000_000, false);
     let end = ended(rt, alloc, &asked, held, 0, ALWAYS)?;
-    assert_eq!(rt; end.answers.as_slice(), ONE_STATE);
+    assert_bytes(rt, &end.answers, ONE_STATE);
     assert!(rt; end.outcome == Outcome::Accepted);
     Ok(end.ledger)
 }
@@ -170,7 +180,7 @@ fn a_run_goes_on_where_its_ledger_ends(rt: HostRuntime) -> Result<(), Fail> {
         let ledger = completed(&rt, rt.alloc(), &LEDGER[..count])?;
         // It is loaded, and nothing is appended.
         let again = completed(&rt, rt.alloc(), ledger.text())?;
-        assert_eq!(rt; again.text(), ledger.text(), "{count}");
+        assert_bytes(&rt, again.text(), ledger.text());
     }
     Ok(())
 }
@@ -183,7 +193,7 @@ fn a_run_is_reported_as_json(rt: HostRuntime) -> Result<(), Fail> {
     let mut asked = settling(1, 2, None, 1_000_000, false);
     asked.json = true;
     let end = ended(&rt, rt.alloc(), &asked, b"", 0, ALWAYS)?;
-    assert_eq!(rt; end.answers.as_slice(), ONE_STATE_AS_JSON);
+    assert_bytes(&rt, &end.answers, ONE_STATE_AS_JSON);
     assert!(rt; end.outcome == Outcome::Accepted);
     Ok(())
 }
@@ -199,9 +209,10 @@ fn a_run_that_is_cut_short_is_no_complete_one(rt: HostRuntime) -> Result<(), Fai
         0,
         ALWAYS,
     )?;
-    assert_eq!(rt;
-        end.answers.as_slice(),
-        b"root ------\nstatus working\nnodes 1\nhalting 0\nnever 0\nholdouts 0\nopen 1\nbest none\n".as_slice()
+    assert_bytes(
+        &rt,
+        &end.answers,
+        b"root ------\nstatus working\nnodes 1\nhalting 0\nnever 0\nholdouts 0\nopen 1\nbest none\n",
     );
     assert!(rt; end.outcome == Outcome::Refused);
     Ok(())
@@ -230,7 +241,7 @@ fn what_fails_ends_a_run(rt: HostRuntime) -> Result<(), Fail> {
     ] {
         let asked = settling(1, 2, None, 1_000_000, false);
         let end = ended(&rt, rt.alloc(), &asked, held, fails_at, writes_left)?;
-        assert_eq!(rt; end.faults.as_slice(), faults.as_bytes());
+        assert_bytes(&rt, &end.faults, faults.as_bytes());
         assert!(rt; end.answers.is_empty() && end.outcome == outcome);
     }
     Ok(())
@@ -240,12 +251,13 @@ fn what_fails_ends_a_run(rt: HostRuntime) -> Result<(), Fail> {
 fn a_run_tells_how_far_it_is(rt: HostRuntime) -> Result<(), Fail> {
     let asked = settling(1, 2, None, 1_000_000, true);
     let end = ended(&rt, rt.alloc(), &asked, b"", 0, ALWAYS)?;
-    assert_eq!(rt; end.answers.as_slice(), ONE_STATE);
+    assert_bytes(&rt, &end.answers, ONE_STATE);
     // The clock is read before the first round and after each, of which there are two: in the first the workers
     // ask, in the second one of them makes all records.
-    assert_eq!(rt;
-        end.faults.as_slice(),
-        b"3 nodes recorded, 0 open, 0 holdouts, 3 records a second\n".as_slice()
+    assert_bytes(
+        &rt,
+        &end.faults,
+        b"3 nodes recorded, 0 open, 0 holdouts, 3 records a second\n",
     );
     Ok(())
 }

@@ -1,4 +1,4 @@
-// Texts that the tests take for granted.
+// Texts that the tests take for granted, and texts that are compared.
 use machine_text::Table;
 use std::process::Abort;
 
@@ -8,4 +8,9 @@ pub fn table_of(rt: &impl Abort, text: &str) -> Table {
         Ok(table) => table,
         Err(fault) => panic!(rt; "{text}: {fault}"),
     }
+}
+
+/// The bytes must be these. A function, since what an assertion compares and prints is proved wherever it stands.
+pub fn assert_bytes(rt: &impl Abort, found: &[u8], expected: &[u8]) {
+    assert_eq!(rt; found, expected);
 }

@@ -1,4 +1,4 @@
-use Rattle.std.proofs.Common.{Option, subst, ◌∙◌}
+use Rattle.std.proofs.Common.{rules, Option, subst, ◌∙◌}
 use Rattle.machine_text.specs.Packed.{Packed}
 use Rattle.ledger.specs.LedgerText.{IsTaken, LineGives}
 use Rattle.ledger.specs.declared.left.Unkept.{Unkept}
@@ -16,3 +16,6 @@ loop-first-preserved c =
           (subst (λ (p : Packed). IsTaken p board.records taken.0 new) root taken.2),
       c.in_ok-why.ensures.root ∙ root,
     )
+
+pub returns-clause-keeps : goal.returns-clause-keeps
+returns-clause-keeps c = search rules

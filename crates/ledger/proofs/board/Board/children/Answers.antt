@@ -1,4 +1,4 @@
-use Rattle.std.proofs.Common.{subst}
+use Rattle.std.proofs.Common.{rules, subst}
 use Rattle.tree.specs.Closed.{Halting}
 use Rattle.ledger.specs.Contents.{Contents, IsBoard}
 use Rattle.ledger.specs.Tally.{HaltsAfter}
@@ -10,3 +10,6 @@ children_on-requires-clause-in_order c =
     let known = c.in-Some.ensures.some in
     let here = subst (λ (b : Contents). HaltsAfter b.records known.0 c.args.t.now) c.self.view_is known.1 in
     marked_in_order c.args.self.now c.args.t.now (Halting known.0) c.child_is_table.ensures.below c.child_is_table.ensures.order (subst IsBoard c.self.view_is c.self.invariant.0) here
+
+pub returns-in-Some-clause-halting : goal.returns-in-Some-clause-halting
+returns-in-Some-clause-halting c = search rules

@@ -126,86 +126,87 @@ fn ended(alloc: Global, text: &str, fails: (bool, bool)) -> Result<(Outcome, boo
     Ok((outcome, answers.written > 0, faults.written > 0))
 }
 
-// Command lines with how each ends, and whether anything is written to either stream.
-const LINES: [(&str, Outcome, bool, bool); 40] = [
-    ("bb check", Outcome::Accepted, true, false),
-    // the input is a record, and no table
-    ("bb decide", Outcome::Refused, true, false),
-    (
-        "bb coord 1 --ledger complete",
-        Outcome::Accepted,
-        false,
-        false,
-    ),
-    ("bb coord 1 --ledger absent", Outcome::Failed, false, true),
-    (
-        "bb coord 2 --ledger complete",
-        Outcome::Refused,
-        false,
-        true,
-    ),
-    ("bb coord 1", Outcome::Refused, false, false),
-    ("bb run 1", Outcome::Accepted, true, false),
-    ("bb run 1 --rounds 1", Outcome::Refused, true, false),
-    (
-        "bb run 1 --ledger complete --json",
-        Outcome::Accepted,
-        true,
-        false,
-    ),
-    ("bb run 1 --ledger absent", Outcome::Failed, false, true),
-    ("bb retry complete", Outcome::Accepted, true, false),
-    ("bb retry absent", Outcome::Failed, false, true),
-    (
-        "bb merge complete complete complete",
-        Outcome::Accepted,
-        true,
-        false,
-    ),
-    (
-        "bb merge complete absent complete",
-        Outcome::Failed,
-        false,
-        true,
-    ),
-    ("bb report complete --json", Outcome::Accepted, true, false),
-    ("bb report complete", Outcome::Accepted, true, false),
-    ("bb report complete --why", Outcome::Accepted, true, false),
-    ("bb report absent", Outcome::Failed, false, true),
-    ("bb --help", Outcome::Accepted, true, false),
-    ("bb report --help", Outcome::Accepted, true, false),
-    ("bb --version", Outcome::Accepted, true, false),
-    ("bb", Outcome::BadLine, false, true),
-    ("bb chek", Outcome::BadLine, false, true),
-    ("bb check file", Outcome::BadLine, false, true),
-    ("bb report", Outcome::BadLine, false, true),
-    ("bb report a b", Outcome::BadLine, false, true),
-    ("bb --steps", Outcome::BadLine, false, true),
-    ("bb decide --steps 0", Outcome::BadLine, false, true),
-    ("bb decide --steps 100000001", Outcome::BadLine, false, true),
-    ("bb decide --depth 1001", Outcome::BadLine, false, true),
-    ("bb decide --gram 9", Outcome::BadLine, false, true),
-    ("bb decide --far 9", Outcome::BadLine, false, true),
-    ("bb coord 0", Outcome::BadLine, false, true),
-    ("bb coord 7", Outcome::BadLine, false, true),
-    ("bb coord 1 --era 0", Outcome::BadLine, false, true),
-    ("bb run 1 --workers 65", Outcome::BadLine, false, true),
-    ("bb run 1 --lose 1", Outcome::BadLine, false, true),
-    ("bb run 1 --rounds 0", Outcome::BadLine, false, true),
-    ("bb merge complete complete", Outcome::BadLine, false, true),
-    ("bb retry", Outcome::BadLine, false, true),
-];
+// Command lines behind the exit status of each and the stream that something is written to. The input of
+// `bb decide` is a record, and no table.
+const LINES: &str = "\
+0 out bb check
+1 out bb decide
+0 none bb coord 1 --ledger complete
+4 err bb coord 1 --ledger absent
+1 err bb coord 2 --ledger complete
+1 none bb coord 1
+0 out bb run 1
+1 out bb run 1 --rounds 1
+0 out bb run 1 --ledger complete --json
+4 err bb run 1 --ledger absent
+0 out bb retry complete
+4 err bb retry absent
+0 out bb merge complete complete complete
+4 err bb merge complete absent complete
+0 out bb report complete --json
+0 out bb report complete
+0 out bb report complete --why
+4 err bb report absent
+0 out bb --help
+0 out bb report --help
+0 out bb --version
+2 err bb
+2 err bb chek
+2 err bb check file
+2 err bb report
+2 err bb report a b
+2 err bb --steps
+2 err bb decide --steps 0
+2 err bb decide --steps 100000001
+2 err bb decide --depth 1001
+2 err bb decide --gram 9
+2 err bb decide --far 9
+2 err bb coord 0
+2 err bb coord 7
+2 err bb coord 1 --era 0
+2 err bb run 1 --workers 65
+2 err bb run 1 --lose 1
+2 err bb run 1 --rounds 0
+2 err bb merge complete complete
+2 err bb retry";
 
 #[test]
 fn each_command_line_ends_with_its_outcome(rt: HostRuntime) -> Result<(), Fail> {
-    for (line, outcome, answers, faults) in LINES {
-        let said = ended(rt.alloc(), line, (false, false))?;
-        assert!(rt; said == (outcome, answers, faults), "{line}: {said:?}");
-        // Where what there is to say can't be written, that is how it ends.
-        if answers || faults {
-            let said = ended(rt.alloc(), line, (answers, faults))?;
-            assert!(rt; said.0 == Outcome::Failed, "{line}: {said:?}");
-        }
+    for row in LINES.split('\n') {
+        let (status, row) = parted(&rt, row);
+        let (stream, line) = parted(&rt, row);
+        ends_so(&rt, rt.alloc(), line, status, stream)?;
+    }
+    Ok(())
+}
+
+// What stands before the first space of a row, and behind it.
+fn parted<'a>(rt: &impl Abort, row: &'a str) -> (&'a str, &'a str) {
+    match row.split_once(' ') {
+        Some(parts) => parts,
+        None => panic!(rt; "{row}: no space"),
+    }
+}
+
+// The line ends with this status, and writes to this stream alone.
+fn ends_so(
+    rt: &impl Abort,
+    alloc: Global,
+    line: &str,
+    status: &str,
+    stream: &str,
+) -> Result<(), Fail> {
+    let writes = (stream == "out", stream == "err");
+    let (outcome, answers, faults) = ended(alloc, line, (false, false))?;
+    assert!(rt;
+        status.parse() == Ok(outcome.status()),
+        "{line}: {outcome:?}"
+    );
+    assert!(rt; (answers, faults) == writes, "{line}: {answers} {faults}");
+    // Where what there is to say can't be written, that is how it ends.
+    if stream != "none" {
+        let (outcome, _, _) = ended(alloc, line, writes)?;
+        assert!(rt; outcome == Outcome::Failed, "{line}: {outcome:?}");
     }
     Ok(())
 }

@@ -116,33 +116,21 @@ fn settle<H: Host + Clock, W: Write, E: Write>(
 ) -> Result<Outcome, NoMemory>
     requires { IsSettling settling.now }
 {
+    let steps = settling.search.steps;
     let mut workers = Vec::new(alloc);
     for id in 1..=u32::from(settling.workers) {
-        let made = all_finders(alloc, &settling.search)?;
         let mut finders: Vec<Box<dyn Finder>> = Vec::new(alloc);
-        for finder in made {
+        for finder in all_finders(alloc, &settling.search)? {
             finders.push(Box::new(alloc, finder)?)?;
         }
-        add_worker(alloc, id, finders, settling.search.steps, &mut workers)?;
+        let (worker, started) = Worker::start(alloc, id, b"", finders, steps);
+        // An empty ledger is refused for want of memory alone.
+        if started.is_err() {
+            return Err(AllocError);
+        }
+        workers.push(worker)?;
     }
     Ok(run(alloc, settling, path, workers, host, answers, faults))
-}
-
-// One worker more, that has nothing yet.
-fn add_worker(
-    alloc: Global,
-    id: u32,
-    finders: Vec<Box<dyn Finder>>,
-    steps: u64,
-    workers: &mut Vec<Worker>,
-) -> Result<(), NoMemory> {
-    let (worker, started) = Worker::start(alloc, id, b"", finders, steps);
-    // An empty ledger is refused for want of memory alone.
-    if started.is_err() {
-        return Err(AllocError);
-    }
-    workers.push(worker)?;
-    Ok(())
 }
 
 // The same with these workers, and with its ledger in a file or in memory.

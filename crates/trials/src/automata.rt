@@ -1,16 +1,10 @@
 // Automata with their answers, texts that aren't automata, and what the finder finds.
+use crate::texts::{number_of, parted, table_of};
 use far::{Far, FarFinder, OwnedFar};
 use machine_text::{Dir, Table};
 use run::{Evidence, Refused, Verdict};
 use std::alloc::Global;
 use std::process::Abort;
-
-fn table_of(rt: &impl Abort, text: &str) -> Table {
-    match Table::parse(text.as_bytes()) {
-        Ok(table) => table,
-        Err(fault) => panic!(rt; "{text}: {fault:?}"),
-    }
-}
 
 // The automata of a size that the texts are, if they are such.
 fn automata_of(
@@ -56,46 +50,35 @@ fn read(rt: &impl Abort, row: &str) -> (Table, Option<Far>) {
     (table, automata)
 }
 
-// What stands before the first space, and behind it.
-fn parted<'a>(rt: &impl Abort, text: &'a str) -> (&'a str, &'a str) {
-    match text.split_once(' ') {
-        Some(parts) => parts,
-        None => panic!(rt; "{text}: no space"),
-    }
-}
+// Automata behind the answer to them: the halt state is kept, or the halting pair has no edge to it; nothing is kept,
+// then only the halt state; the other way is ahead, so that the table moves back; what is kept isn't closed; the
+// first automaton leaves 0 on 0; more edges than are needed; the mirror image; left movers.
+const JUDGED: &str = "\
+never 1RA--- R 1 00 1,2 1
+fails 1RA--- R 1 00 1,2 3
+fails 1RA--- R 1 00 1,0 1
+fails 1RA--- R 1 00 1,2 0
+fails 1RA--- R 1 00 1,2 2
+fails 1RA--- L 1 00 2,2 1
+fails 1RA--- R 2 0111 2,4,2,4 1
+never 1RA--- R 2 0111 2,4,2,4 3
+fails 1RA--- R 2 0111 2,4,2,4 7
+fails 1RA--- R 2 1111 2,4,2,4 3
+never 1RA--- R 1 00 1,3 1
+fails 1RA--- R 1 00 3,2 1
+never 1LA--- L 1 00 1,2 1
+fails 1LA--- R 1 00 1,2 1
+never 1LA--- L 2 0111 2,4,2,4 3
+fails ------ R 1 00 2,2 1
+never 0RB---_0LA--- R 2 0111 2,10,0,10,8,10,10,10 3
+fails 0RB---_0LA--- R 2 0111 2,10,0,10,8,10,0,10 3
+never 0LB---_0RA--- L 2 0111 2,10,0,10,8,10,10,10 3";
 
 #[test]
 fn automata_are_judged(rt: HostRuntime) {
-    for (row, answer) in [
-        ("1RA--- R 1 00 1,2 1", "never"),
-        // The halt state is kept, or the halting pair has no edge to it.
-        ("1RA--- R 1 00 1,2 3", "fails"),
-        ("1RA--- R 1 00 1,0 1", "fails"),
-        // Nothing is kept; then only the halt state.
-        ("1RA--- R 1 00 1,2 0", "fails"),
-        ("1RA--- R 1 00 1,2 2", "fails"),
-        // The other way is ahead: the table moves back.
-        ("1RA--- L 1 00 2,2 1", "fails"),
-        // What is kept isn't closed.
-        ("1RA--- R 2 0111 2,4,2,4 1", "fails"),
-        ("1RA--- R 2 0111 2,4,2,4 3", "never"),
-        ("1RA--- R 2 0111 2,4,2,4 7", "fails"),
-        // The first automaton leaves 0 on 0.
-        ("1RA--- R 2 1111 2,4,2,4 3", "fails"),
-        // More edges than are needed.
-        ("1RA--- R 1 00 1,3 1", "never"),
-        ("1RA--- R 1 00 3,2 1", "fails"),
-        // The mirror image.
-        ("1LA--- L 1 00 1,2 1", "never"),
-        ("1LA--- R 1 00 1,2 1", "fails"),
-        ("1LA--- L 2 0111 2,4,2,4 3", "never"),
-        ("------ R 1 00 2,2 1", "fails"),
-        // Left movers.
-        ("0RB---_0LA--- R 2 0111 2,10,0,10,8,10,10,10 3", "never"),
-        ("0RB---_0LA--- R 2 0111 2,10,0,10,8,10,0,10 3", "fails"),
-        ("0LB---_0RA--- L 2 0111 2,10,0,10,8,10,10,10 3", "never"),
-    ] {
-        let (table, automata) = read(&rt, row);
+    for row in JUDGED.split('\n') {
+        let (answer, automata) = parted(&rt, row);
+        let (table, automata) = read(&rt, automata);
         let found = match automata.map(|automata| automata.check(rt.alloc(), &table)) {
             Some(Ok(Verdict::Never)) => "never",
             Some(Err(Refused::Fails)) => "fails",
@@ -241,44 +224,49 @@ fn is_written_and_owned(rt: &impl Abort, alloc: Global, row: &str) {
     }
 }
 
-// The least size of automata for a table, up to 3, as an enumeration of all of them by their definition gives it;
-// 0 where there are none.
+// Tables with the least size of automata for them, up to 3, as an enumeration of all of them by their definition
+// gives it; 0 where there are none.
+const LEAST_SIZES: &str = "\
+1RA--- 1
+0RB---_0LA--- 2
+------ 0
+1RB---_1LB0RC_1LC1LA 0
+1RB1LB_1LA0LC_---1LD_1RD0RA 0
+---1LB_1LA1RA 0
+1LB1LB_---1LA_1RC1LB 0
+0RB1RB_---1RB_1LC1RB 0
+---0RB_0LC0RC_1LB1RA 0
+0RB1LA_1LC1LB_0RD---_1LA1RD 1
+1RB---_0RA1LA 1
+0RC1RB_0RC---_1LC0LC 1
+1RB---_0RC1LB_1LA0LA 1
+0RB1RC_0LB---_0RB0RC 2
+0LC---_0LB1LC_1RA1LB 2
+0RB1RC_1LB1RA_1RB--- 2
+0LB---_1RC0LA_1LC0LA 2
+1RB1LB_0RC0RC_0LA--- 2
+1RB0RB_0LC1RC_---0RA 2
+0RB1RB_1LC1RB_1LA1LD_---0LA 3
+0RB0LC_1LC0RD_1LA---_1RB1RA 3
+0RB1RC_1LC1RB_1LA1LD_---1LA 3
+0RB0LC_0LC0RD_1LA1RC_1RB--- 3
+0RB0LA_0LC1RB_1LA0RD_1RC--- 3
+1RB0LC_0RC---_1LD1RB_0LA0LC 3
+1RC1RB_0RA0LC_1LB--- 3
+0RB1RC_1LC1RB_1LA1LD_---0LA 3";
+
 #[test]
 fn automata_of_the_least_size_are_found(rt: HostRuntime) {
     let mut finder = FarFinder::new(rt.alloc(), 3);
-    for (text, size) in [
-        ("1RA---", 1),
-        ("0RB---_0LA---", 2),
-        ("------", 0),
-        ("1RB---_1LB0RC_1LC1LA", 0),
-        ("1RB1LB_1LA0LC_---1LD_1RD0RA", 0),
-        ("---1LB_1LA1RA", 0),
-        ("1LB1LB_---1LA_1RC1LB", 0),
-        ("0RB1RB_---1RB_1LC1RB", 0),
-        ("---0RB_0LC0RC_1LB1RA", 0),
-        ("0RB1LA_1LC1LB_0RD---_1LA1RD", 1),
-        ("1RB---_0RA1LA", 1),
-        ("0RC1RB_0RC---_1LC0LC", 1),
-        ("1RB---_0RC1LB_1LA0LA", 1),
-        ("0RB1RC_0LB---_0RB0RC", 2),
-        ("0LC---_0LB1LC_1RA1LB", 2),
-        ("0RB1RC_1LB1RA_1RB---", 2),
-        ("0LB---_1RC0LA_1LC0LA", 2),
-        ("1RB1LB_0RC0RC_0LA---", 2),
-        ("1RB0RB_0LC1RC_---0RA", 2),
-        ("0RB1RB_1LC1RB_1LA1LD_---0LA", 3),
-        ("0RB0LC_1LC0RD_1LA---_1RB1RA", 3),
-        ("0RB1RC_1LC1RB_1LA1LD_---1LA", 3),
-        ("0RB0LC_0LC0RD_1LA1RC_1RB---", 3),
-        ("0RB0LA_0LC1RB_1LA0RD_1RC---", 3),
-        ("1RB0LC_0RC---_1LD1RB_0LA0LC", 3),
-        ("1RC1RB_0RA0LC_1LB---", 3),
-        ("0RB1RC_1LC1RB_1LA1LD_---0LA", 3),
-    ] {
-        let table = table_of(&rt, text);
+    for row in LEAST_SIZES.split('\n') {
+        let (text, size) = parted(&rt, row);
+        let (table, size) = (table_of(&rt, text), number_of(&rt, size));
         match finder.search(&table, 1_000) {
-            Ok(Some(found)) => assert!(rt; found.size() == size && found.holds(&table), "{text}"),
-            Ok(None) => assert!(rt; size == 0, "{text}"),
+            Ok(Some(found)) => assert!(rt;
+                found.size() as u64 == size && found.holds(&table),
+                "{row}"
+            ),
+            Ok(None) => assert!(rt; size == 0, "{row}"),
             Err(fault) => panic!(rt; "{fault:?}"),
         }
     }

@@ -1,5 +1,5 @@
 // Checks and searches of tables whose answers come from elsewhere.
-use crate::texts::table_of;
+use crate::texts::{number_of, parted, table_of};
 use backward::{Backward, BackwardFinder, MAX_DEPTH};
 use run::{Evidence, Refused, Verdict};
 use std::process::Abort;
@@ -34,23 +34,22 @@ fn claims_are_checked(rt: HostRuntime) {
 }
 
 // The least depths are those of a program apart from this one, which keeps the whole tape of each path.
-const SETTLED: [(&str, u64); 15] = [
-    ("1RB---_0RB1RB", 1),
-    ("1RB1LA_1LA1RB", 0),
-    ("0LB1RA_1LA0RC_1LB---", 3),
-    ("1LA0RB_---0RC_1LB1LA", 5),
-    ("0RB0LC_0LC---_0LA1RA", 5),
-    ("1LC0LB_---1RA_0LC0RA", 7),
-    ("0LB---_0LC1LC_0RB1RA", 7),
-    ("0RC---_0LC0RB_1LA1RB", 8),
-    ("0LB0LB_0RA1LC_------", 3),
-    ("1RB---_0RC0LA_0RC1LB", 3),
-    ("1LA0RD_---0RC_0RD0LB_0RA1RA", 3),
-    ("1RA1LA_1RD1RC_1LB---_0RD0LA", 4),
-    ("1LD1RB_0RB0LA_0RD---_0LC---", 9),
-    ("0RA0LA_0RA---_0LB1LB_1RC0LC", 3),
-    ("1LD---_1LB1RB_0LD1RD_0LB1RA", 5),
-];
+const SETTLED: &str = "\
+1RB---_0RB1RB 1
+1RB1LA_1LA1RB 0
+0LB1RA_1LA0RC_1LB--- 3
+1LA0RB_---0RC_1LB1LA 5
+0RB0LC_0LC---_0LA1RA 5
+1LC0LB_---1RA_0LC0RA 7
+0LB---_0LC1LC_0RB1RA 7
+0RC---_0LC0RB_1LA1RB 8
+0LB0LB_0RA1LC_------ 3
+1RB---_0RC0LA_0RC1LB 3
+1LA0RD_---0RC_0RD0LB_0RA1RA 3
+1RA1LA_1RD1RC_1LB---_0RD0LA 4
+1LD1RB_0RB0LA_0RD---_0LC--- 9
+0RA0LA_0RA---_0LB1LB_1RC0LC 3
+1LD---_1LB1RB_0LD1RD_0LB1RA 5";
 
 // What a search finds, though memory be refused once: the finder goes on as if nothing had been.
 fn found(
@@ -71,7 +70,9 @@ fn found(
 #[test]
 fn least_depths_are_found(rt: HostRuntime) {
     let mut finder = BackwardFinder::new(rt.alloc(), 20);
-    for (text, depth) in SETTLED {
+    for row in SETTLED.split('\n') {
+        let (text, depth) = parted(&rt, row);
+        let depth = number_of(&rt, depth);
         assert!(rt;
             found(&rt, &mut finder, text, 1000) == Some(Backward { depth }),
             "{text}"

@@ -1,5 +1,5 @@
 // A board of the tree of one state, and offers that it refuses.
-use crate::texts::table_of;
+use crate::texts::{parted, table_of};
 use cert::Record;
 use ledger::{Board, BoardFault, OfferFault, Status, Taken, Tally};
 use machine_text::Table;
@@ -101,15 +101,18 @@ pub fn take(rt: &impl Abort, board: &mut Board, text: &str) {
     );
 }
 
-// Whether the tables are those of these texts, in this order.
-fn are_tables(rt: &impl Abort, tables: &[Table], texts: &[&str]) {
-    assert_eq!(rt; tables.len(), texts.len());
-    for (table, text) in tables.iter().zip(texts) {
+// Whether the tables are those of these texts, in this order, with a space behind each.
+fn are_tables(rt: &impl Abort, tables: &[Table], texts: &str) {
+    let mut left = texts;
+    for table in tables {
+        let (text, rest) = parted(rt, left);
         assert!(rt;
             *table == table_of(rt, text),
             "{table:?} where {text} comes"
         );
+        left = rest;
     }
+    assert!(rt; left.is_empty(), "{left} is missing");
 }
 
 // The open tables of a board.
@@ -117,27 +120,21 @@ fn open_tables(alloc: Global, board: &Board) -> Result<Vec<Table>, Fail> {
     Ok(board.open().copied().collect(alloc)?)
 }
 
+const CHILDREN: &str =
+    "0LA---_1LA--- 0LB---_1LA--- 0RA---_1LA--- 0RB---_1LA--- 1LA---_1LA--- 1LB---_1LA--- 1RA---_1LA--- 1RB---_1LA--- ";
+
 #[test]
 fn children_are_open(rt: HostRuntime) -> Result<(), Fail> {
     let mut board = board_of(&rt, rt.alloc(), "------_1LA---");
     has_no_children(&rt, &board, "------_1LA---");
-    are_open(&rt, rt.alloc(), &board, &["------_1LA---"])?;
+    are_open(&rt, rt.alloc(), &board, 1, "------_1LA--- ")?;
     take(&rt, &mut board, "------_1LA--- H 1");
-    let texts = [
-        "0LA---_1LA---",
-        "0LB---_1LA---",
-        "0RA---_1LA---",
-        "0RB---_1LA---",
-        "1LA---_1LA---",
-        "1LB---_1LA---",
-        "1RA---_1LA---",
-        "1RB---_1LA---",
-    ];
-    are_open(&rt, rt.alloc(), &board, &texts)?;
-    are_children(&rt, rt.alloc(), &board, "------_1LA---", &texts)?;
+    are_open(&rt, rt.alloc(), &board, 8, CHILDREN)?;
+    are_children(&rt, rt.alloc(), &board, "------_1LA---", CHILDREN)?;
     take(&rt, &mut board, "0LA---_1LA--- U");
     has_no_children(&rt, &board, "0LA---_1LA---");
-    are_open(&rt, rt.alloc(), &board, &texts[1..])
+    let (_, others) = parted(&rt, CHILDREN);
+    are_open(&rt, rt.alloc(), &board, 7, others)
 }
 
 // A table without a halting verdict has no children.
@@ -150,7 +147,7 @@ fn are_children(
     alloc: Global,
     board: &Board,
     parent: &str,
-    texts: &[&str],
+    texts: &str,
 ) -> Result<(), Fail> {
     match board.children(&table_of(rt, parent)) {
         Some(children) => {
@@ -162,10 +159,15 @@ fn are_children(
     }
 }
 
-// The open tables of a board, which are as many as its status says.
-fn are_open(rt: &impl Abort, alloc: Global, board: &Board, texts: &[&str]) -> Result<(), Fail> {
+// The open tables of a board, and how many its status says that there are.
+fn are_open(
+    rt: &impl Abort,
+    alloc: Global,
+    board: &Board,
+    count: u64,
+    texts: &str,
+) -> Result<(), Fail> {
     are_tables(rt, &open_tables(alloc, board)?, texts);
-    let count = texts.len() as u64;
     assert!(rt; board.status() == Status::Working { count });
     Ok(())
 }
@@ -180,6 +182,11 @@ fn holdouts_of(rt: &impl Abort, alloc: Global, board: &Board) -> Result<Vec<Tabl
     panic!(rt; "memory was refused twice")
 }
 
+fn are_holdouts(rt: &impl Abort, alloc: Global, board: &Board, texts: &str) -> Result<(), Fail> {
+    are_tables(rt, &holdouts_of(rt, alloc, board)?, texts);
+    Ok(())
+}
+
 #[test]
 fn a_board_is_complete_without_holdouts(rt: HostRuntime) -> Result<(), Fail> {
     let mut board = board_of(&rt, rt.alloc(), "------");
@@ -189,18 +196,14 @@ fn a_board_is_complete_without_holdouts(rt: HostRuntime) -> Result<(), Fail> {
     assert!(rt; board.status() == Status::Working { count: 1 });
     take(&rt, &mut board, "0RA--- U");
     assert!(rt; board.status() == Status::Holdouts { count: 2 });
-    are_tables(
-        &rt,
-        &holdouts_of(&rt, rt.alloc(), &board)?,
-        &["0RA---", "1RA---"],
-    );
+    are_holdouts(&rt, rt.alloc(), &board, "0RA--- 1RA--- ")?;
     take(&rt, &mut board, "0RA--- T 0 1 R");
     assert!(rt; board.status() == Status::Holdouts { count: 1 });
-    are_tables(&rt, &holdouts_of(&rt, rt.alloc(), &board)?, &["1RA---"]);
+    are_holdouts(&rt, rt.alloc(), &board, "1RA--- ")?;
     assert!(rt; offered(&rt, &mut board, "1RA--- U") == Ok(Taken::Known));
     take(&rt, &mut board, "1RA--- T 0 1 R");
     assert!(rt; board.status() == Status::Complete { best: Some(1) });
-    are_tables(&rt, &holdouts_of(&rt, rt.alloc(), &board)?, &[]);
+    are_holdouts(&rt, rt.alloc(), &board, "")?;
     assert!(rt; board.verdict(&table_of(&rt, "1RA---")) == Some(Verdict::Never));
     let mut number = 0u64;
     for _record in board.records() {
@@ -218,7 +221,7 @@ fn a_board_is_complete_without_holdouts(rt: HostRuntime) -> Result<(), Fail> {
     assert!(rt; board.tally() == tally);
     assert!(rt; *board.root() == table_of(&rt, "------"));
     let champions: Vec<Table> = board.champions()?.collect(rt.alloc())?;
-    are_tables(&rt, &champions, &["------"]);
+    are_tables(&rt, &champions, "------ ");
     Ok(())
 }
 

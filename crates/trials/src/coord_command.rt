@@ -138,62 +138,87 @@ fn odd_lines_are_no_answers(rt: HostRuntime) -> Result<(), Fail> {
     )
 }
 
+// The header, then a line for each record; the answers of earlier turns were sent.
 #[test]
 fn ledgers_that_fail_end_the_command(rt: HostRuntime) -> Result<(), Fail> {
-    // The header, then a line for each record; the answers of earlier turns were sent.
-    for (call, answers, lines) in [
-        (1, "", 0),
-        (2, "GRANT 1 1 ------\n", 1),
-        (3, "GRANT 1 1 ------\nACK ------\n", 2),
-        (4, "GRANT 1 1 ------\nACK ------\nACK 0RA---\n", 3),
-    ] {
-        let end = ended(
-            rt.alloc(),
-            &Run {
-                held: b"",
-                era: 1,
-                input: SETTLED,
-                ledger_fails_at: call,
-                writes_left: ALWAYS,
-            },
-        )?;
-        assert_bytes(&rt, &end.answers, answers.as_bytes());
-        assert_bytes(&rt, &end.faults, b"refused 604\n");
-        let kept = end
-            .ledger
-            .text()
-            .iter()
-            .filter(|byte| **byte == b'\n')
-            .count();
-        assert!(rt; kept == lines && end.outcome == Outcome::Failed);
-    }
+    let alloc = rt.alloc();
+    fails_at(&rt, alloc, 1, "", 0)?;
+    fails_at(&rt, alloc, 2, "GRANT 1 1 ------\n", 1)?;
+    fails_at(&rt, alloc, 3, "GRANT 1 1 ------\nACK ------\n", 2)?;
+    fails_at(
+        &rt,
+        alloc,
+        4,
+        "GRANT 1 1 ------\nACK ------\nACK 0RA---\n",
+        3,
+    )
+}
+
+// A ledger that fails at a call ends the command, with these answers sent and so many lines kept.
+fn fails_at(
+    rt: &impl Abort,
+    alloc: Global,
+    call: u64,
+    answers: &str,
+    lines: usize,
+) -> Result<(), Fail> {
+    let end = ended(
+        alloc,
+        &Run {
+            held: b"",
+            era: 1,
+            input: SETTLED,
+            ledger_fails_at: call,
+            writes_left: ALWAYS,
+        },
+    )?;
+    assert_bytes(rt, &end.answers, answers.as_bytes());
+    assert_bytes(rt, &end.faults, b"refused 604\n");
+    assert!(rt; lines_in(end.ledger.text()) == lines && end.outcome == Outcome::Failed);
     Ok(())
+}
+
+fn lines_in(text: &[u8]) -> usize {
+    text.iter().filter(|byte| **byte == b'\n').count()
 }
 
 #[test]
 fn streams_and_ledgers_that_are_refused_end_the_command(rt: HostRuntime) -> Result<(), Fail> {
-    for (held, writes_left, faults, outcome) in [
-        ("", 0, "refused 603\n", Outcome::Failed),
-        ("hello\n", ALWAYS, "refused 404\n", Outcome::Refused),
-        (
-            "bb-ledger 1 ------_------\n",
-            ALWAYS,
-            "refused 405\n",
-            Outcome::Refused,
-        ),
-    ] {
-        let end = ended(
-            rt.alloc(),
-            &Run {
-                held: held.as_bytes(),
-                era: 1,
-                input: b"ASK 7\n",
-                ledger_fails_at: 0,
-                writes_left,
-            },
-        )?;
-        assert_bytes(&rt, &end.faults, faults.as_bytes());
-        assert!(rt; end.outcome == outcome);
-    }
+    let alloc = rt.alloc();
+    let two_states: &[u8] = b"bb-ledger 1 ------_------\n";
+    ends_with(&rt, alloc, (b"", 0), (b"refused 603\n", Outcome::Failed))?;
+    ends_with(
+        &rt,
+        alloc,
+        (b"hello\n", ALWAYS),
+        (b"refused 404\n", Outcome::Refused),
+    )?;
+    ends_with(
+        &rt,
+        alloc,
+        (two_states, ALWAYS),
+        (b"refused 405\n", Outcome::Refused),
+    )
+}
+
+// What is held, and how many writes the answers take; what is said of faults, and the outcome.
+fn ends_with(
+    rt: &impl Abort,
+    alloc: Global,
+    (held, writes_left): (&[u8], u64),
+    (faults, outcome): (&[u8], Outcome),
+) -> Result<(), Fail> {
+    let end = ended(
+        alloc,
+        &Run {
+            held,
+            era: 1,
+            input: b"ASK 7\n",
+            ledger_fails_at: 0,
+            writes_left,
+        },
+    )?;
+    assert_bytes(rt, &end.faults, faults);
+    assert!(rt; end.outcome == outcome);
     Ok(())
 }

@@ -1,5 +1,6 @@
 // A coordinator's answers to frames and ticks, and what it makes of ledgers.
 use crate::nodes::{answers, handed};
+use crate::texts::assert_bytes;
 use lease_core::{Coordinator, StartFault};
 use ledger::Status;
 use std::alloc::Global;
@@ -11,12 +12,16 @@ use wire::{Event, Node, NodeFault, Note, Out};
 fn begun(rt: &impl Abort, alloc: Global) -> Coordinator {
     for _ in 0..9 {
         if let (coordinator, Ok(out)) = Coordinator::start(alloc, 1, 1, b"") {
-            assert_eq!(rt; out.append.as_slice(), b"bb-ledger 1 ------\n".as_slice());
-            assert!(rt; out.cut.is_none() && out.frames.is_empty() && out.note == Note::Quiet);
+            appends_the_header(rt, &out);
             return coordinator;
         }
     }
     panic!(rt; "no coordinator")
+}
+
+fn appends_the_header(rt: &impl Abort, out: &Out) {
+    assert_bytes(rt, &out.append, b"bb-ledger 1 ------\n");
+    assert!(rt; out.cut.is_none() && out.frames.is_empty() && out.note == Note::Quiet);
 }
 
 #[test]

@@ -1,6 +1,6 @@
 // Certificates with their answers, and machines that are known to loop.
-use crate::texts::table_of;
-use loops::{Cycle, CycleFinder, MAX_TIME, Translated, TranslatedFinder};
+use crate::texts::{number_of, parted, table_of};
+use loops::{Cycle, CycleFinder, Translated, TranslatedFinder};
 use machine_text::{Dir, Table};
 use run::{Evidence, Refused, Verdict};
 use std::alloc::Global;
@@ -14,28 +14,44 @@ const TOO_LONG: Result<Verdict, Refused> = Err(Refused::TooLong);
 
 // Machines whose cycle is entered at the first time and is back at the second. A program apart from this one
 // found them, which keeps every configuration of the run.
-const CYCLES: [(&str, u64, u64); 6] = [
-    ("1LB0LB_0LC1LA_1RB0RC", 2, 12),
-    ("1RC0LB_0RC1LB_0RD0LD_1LA0LB", 9, 15),
-    ("0RC0RD_1RD0RD_1LA1RC_1LA1LB", 6, 10),
-    ("1LB0RA_1LD0RE_1RE0LC_1RC1RB_0LD1LB", 15, 19),
-    ("0RE0RC_0LC0LB_1RD1LB_0LA1RE_1LC0LD", 3, 17),
-    ("1RE0RB_1RD1LD_0LE0LB_1LB1RE_0LC0RC", 8, 14),
-];
+const CYCLES: &str = "\
+1LB0LB_0LC1LA_1RB0RC 2 12
+1RC0LB_0RC1LB_0RD0LD_1LA0LB 9 15
+0RC0RD_1RD0RD_1LA1RC_1LA1LB 6 10
+1LB0RA_1LD0RE_1RE0LC_1RC1RB_0LD1LB 15 19
+0RE0RC_0LC0LB_1RD1LB_0LA1RE_1LC0LD 3 17
+1RE0RB_1RD1LD_0LE0LB_1LB1RE_0LC0RC 8 14";
 
 // Machines with a translated cycle: the first time from which on the tape repeats, the same a period later,
 // and the side. The first time is no record of the head. A program apart from this one found them, which
 // holds configurations against one another as sets of places.
-const TRANSLATED: [(&str, u64, u64, Dir); 8] = [
-    ("0LC1LC_1LA1RA_1RB0RB", 17, 32, Dir::R),
-    ("1LD1LB_0LA1RC_1LB0RC_1RB1LC", 38, 64, Dir::R),
-    ("1RD1RC_1RC1LD_1RA0LE_0LB1LD_---0RB", 25, 41, Dir::R),
-    ("1RB1LA_0LD1RC_1LD0RA_1RA1LC_1LD0RB", 6, 26, Dir::R),
-    ("1LC1LA_1RB0RA_0LB0RA", 11, 23, Dir::L),
-    ("1RC0LD_1RA0LD_1RD0RD_0LB1LD", 15, 37, Dir::L),
-    ("0LD0LB_1RC1LC_1RE1LA_1LB0RA_1RA1RC", 14, 46, Dir::L),
-    ("0LB0LE_1RC1LE_1LE---_0RD1RE_1LA1RD", 5, 32, Dir::L),
-];
+const TRANSLATED: &str = "\
+0LC1LC_1LA1RA_1RB0RB 17 32 R
+1LD1LB_0LA1RC_1LB0RC_1RB1LC 38 64 R
+1RD1RC_1RC1LD_1RA0LE_0LB1LD_---0RB 25 41 R
+1RB1LA_0LD1RC_1LD0RA_1RA1LC_1LD0RB 6 26 R
+1LC1LA_1RB0RA_0LB0RA 11 23 L
+1RC0LD_1RA0LD_1RD0RD_0LB1LD 15 37 L
+0LD0LB_1RC1LC_1RE1LA_1LB0RA_1RA1RC 14 46 L
+0LB0LE_1RC1LE_1LE---_0RD1RE_1LA1RD 5 32 L";
+
+// The table and the cycle of a row.
+fn cycle_of(rt: &impl Abort, row: &str) -> (Table, Cycle) {
+    let (text, times) = parted(rt, row);
+    let (i, j) = parted(rt, times);
+    let (i, j) = (number_of(rt, i), number_of(rt, j));
+    (table_of(rt, text), Cycle { i, j })
+}
+
+// The table and the translated cycle of a row.
+fn translated_of(rt: &impl Abort, row: &str) -> (Table, Translated) {
+    let (text, fields) = parted(rt, row);
+    let (i, fields) = parted(rt, fields);
+    let (j, side) = parted(rt, fields);
+    let (i, j) = (number_of(rt, i), number_of(rt, j));
+    let side = if side == "L" { Dir::L } else { Dir::R };
+    (table_of(rt, text), Translated { i, j, side })
+}
 
 // The answer to evidence. Where memory is refused, the check is made once more.
 fn answer_to<E: Evidence>(alloc: Global, evidence: &E, t: &Table) -> Result<Verdict, Refused> {
@@ -45,60 +61,95 @@ fn answer_to<E: Evidence>(alloc: Global, evidence: &E, t: &Table) -> Result<Verd
     }
 }
 
+// Claims of a cycle behind the answer to them.
+const JUDGED: &str = "\
+never 0RB---_0LA--- 0 2
+fails 0RB---_0LA--- 0 1
+fails 0RB---_0LA--- 2 2
+fails 0RB---_0LA--- 2 0
+never 0RB---_0LA--- 5 1005
+long 1RA--- 0 10000001
+fails 1RA--- 0 1
+fails ------ 0 1
+long ------ 0 10000001
+fails 1RB1LB_1LA--- 5 6";
+
+// An answer by its word.
+fn answer_of(rt: &impl Abort, word: &str) -> Result<Verdict, Refused> {
+    match word {
+        "never" => NEVER,
+        "fails" => FAILS,
+        "long" => TOO_LONG,
+        _ => panic!(rt; "{word} is no answer"),
+    }
+}
+
+// The claim of a cycle must have this answer.
+fn is_cycle(
+    rt: &impl Abort,
+    alloc: Global,
+    i: u64,
+    j: u64,
+    t: &Table,
+    answer: Result<Verdict, Refused>,
+) {
+    let checked = answer_to(alloc, &Cycle { i, j }, t);
+    assert!(rt; checked == answer, "C {i} {j}: {checked:?}");
+}
+
 #[test]
 fn cycles_are_judged(rt: HostRuntime) {
-    for (text, i, j, answer) in [
-        ("0RB---_0LA---", 0, 2, NEVER),
-        ("0RB---_0LA---", 0, 1, FAILS),
-        ("0RB---_0LA---", 2, 2, FAILS),
-        ("0RB---_0LA---", 2, 0, FAILS),
-        ("0RB---_0LA---", 5, 1005, NEVER),
-        ("1RA---", 0, MAX_TIME + 1, TOO_LONG),
-        ("1RA---", 0, 1, FAILS),
-        ("------", 0, 1, FAILS),
-        ("------", 0, MAX_TIME + 1, TOO_LONG),
-        ("1RB1LB_1LA---", 5, 6, FAILS),
-    ] {
-        let checked = answer_to(rt.alloc(), &Cycle { i, j }, &table_of(&rt, text));
-        assert!(rt; checked == answer, "{text} C {i} {j}: {checked:?}");
+    let alloc = rt.alloc();
+    for row in JUDGED.split('\n') {
+        let (word, row) = parted(&rt, row);
+        let (table, Cycle { i, j }) = cycle_of(&rt, row);
+        is_cycle(&rt, alloc, i, j, &table, answer_of(&rt, word));
     }
-    for (text, i, j) in CYCLES {
-        let table = table_of(&rt, text);
-        for (cycle, answer) in [
-            (Cycle { i, j }, NEVER),
-            (Cycle { i: i - 1, j: j - 1 }, FAILS),
-            (Cycle { i, j: j - 1 }, FAILS),
-        ] {
-            let checked = answer_to(rt.alloc(), &cycle, &table);
-            assert!(rt; checked == answer, "{text} {cycle:?}: {checked:?}");
-        }
+    for row in CYCLES.split('\n') {
+        let (table, Cycle { i, j }) = cycle_of(&rt, row);
+        is_cycle(&rt, alloc, i, j, &table, NEVER);
+        is_cycle(
+            &rt,
+            alloc,
+            i.saturating_sub(1),
+            j.saturating_sub(1),
+            &table,
+            FAILS,
+        );
+        is_cycle(&rt, alloc, i, j.saturating_sub(1), &table, FAILS);
     }
+}
+
+// The claim of a translated cycle must have this answer.
+fn is_translated(
+    rt: &impl Abort,
+    alloc: Global,
+    claim: Translated,
+    t: &Table,
+    answer: Result<Verdict, Refused>,
+) {
+    let checked = answer_to(alloc, &claim, t);
+    assert!(rt; checked == answer, "{claim:?}: {checked:?}");
 }
 
 // The rows of `bb check` have more.
 #[test]
 fn translated_cycles_are_judged(rt: HostRuntime) {
-    for (text, i, j, side) in TRANSLATED {
-        let table = table_of(&rt, text);
-        let other = match side {
+    let alloc = rt.alloc();
+    for row in TRANSLATED.split('\n') {
+        let (table, claim) = translated_of(&rt, row);
+        is_translated(&rt, alloc, claim, &table, NEVER);
+        let earlier = Translated {
+            i: claim.i.saturating_sub(1),
+            j: claim.j.saturating_sub(1),
+            side: claim.side,
+        };
+        is_translated(&rt, alloc, earlier, &table, FAILS);
+        let side = match claim.side {
             Dir::L => Dir::R,
             Dir::R => Dir::L,
         };
-        for (translated, answer) in [
-            (Translated { i, j, side }, NEVER),
-            (
-                Translated {
-                    i: i - 1,
-                    j: j - 1,
-                    side,
-                },
-                FAILS,
-            ),
-            (Translated { i, j, side: other }, FAILS),
-        ] {
-            let checked = answer_to(rt.alloc(), &translated, &table);
-            assert!(rt; checked == answer, "{text} {translated:?}: {checked:?}");
-        }
+        is_translated(&rt, alloc, Translated { side, ..claim }, &table, FAILS);
     }
 }
 
@@ -107,24 +158,17 @@ fn translated_cycles_are_judged(rt: HostRuntime) {
 #[test]
 fn latest_times_are_judged(rt: HostRuntime) {
     let alloc = rt.alloc();
-    for (i, j, answer) in [
-        (0, 10_000_000, NEVER),
-        (1, 10_000_000, FAILS),
-        (0, 10_000_001, TOO_LONG),
-    ] {
-        let checked = answer_to(alloc, &Cycle { i, j }, &table_of(&rt, "0RB---_0LA---"));
-        assert!(rt; checked == answer, "C {i} {j}: {checked:?}");
-    }
-    // With a shift, and without one.
-    for (text, j, side, answer) in [
-        ("1RA---", 10_000_000, Dir::R, NEVER),
-        ("1RA---", 10_000_001, Dir::R, TOO_LONG),
-        ("0RB---_0LA---", 10_000_000, Dir::L, NEVER),
-    ] {
-        let translated = Translated { i: 0, j, side };
-        let checked = answer_to(alloc, &translated, &table_of(&rt, text));
-        assert!(rt; checked == answer, "{text} T 0 {j} {side:?}: {checked:?}");
-    }
+    let table = table_of(&rt, "0RB---_0LA---");
+    is_cycle(&rt, alloc, 0, 10_000_000, &table, NEVER);
+    is_cycle(&rt, alloc, 1, 10_000_000, &table, FAILS);
+    is_cycle(&rt, alloc, 0, 10_000_001, &table, TOO_LONG);
+    // Without a shift, and with one.
+    let (table, claim) = translated_of(&rt, "0RB---_0LA--- 0 10000000 L");
+    is_translated(&rt, alloc, claim, &table, NEVER);
+    let (table, claim) = translated_of(&rt, "1RA--- 0 10000000 R");
+    is_translated(&rt, alloc, claim, &table, NEVER);
+    let (table, claim) = translated_of(&rt, "1RA--- 0 10000001 R");
+    is_translated(&rt, alloc, claim, &table, TOO_LONG);
 }
 
 // What a cycle finder finds. Where memory is refused, it is asked once more.
@@ -192,14 +236,14 @@ fn no_cycle_is_found_where_there_is_none(rt: HostRuntime) {
 #[test]
 fn known_cycles_are_found(rt: HostRuntime) {
     let alloc = rt.alloc();
-    for (text, _, j) in CYCLES {
-        let table = table_of(&rt, text);
-        match cycle_in(&rt, alloc, 3 * j, 1000, &table) {
-            Some(cycle) => assert!(rt; answer_to(alloc, &cycle, &table) == NEVER, "{text}"),
-            None => panic!(rt; "{text}: nothing found"),
+    for row in CYCLES.split('\n') {
+        let (table, Cycle { j, .. }) = cycle_of(&rt, row);
+        match cycle_in(&rt, alloc, j.saturating_mul(3), 1000, &table) {
+            Some(cycle) => assert!(rt; answer_to(alloc, &cycle, &table) == NEVER, "{row}"),
+            None => panic!(rt; "{row}: nothing found"),
         }
         let translated = translated_in(&rt, alloc, 500, 1000, &table);
-        assert!(rt; translated == None, "{text}");
+        assert!(rt; translated == None, "{row}");
     }
 }
 
@@ -229,16 +273,16 @@ fn no_translated_cycle_is_found_where_there_is_none(rt: HostRuntime) {
 #[test]
 fn known_translated_cycles_are_found(rt: HostRuntime) {
     let alloc = rt.alloc();
-    for (text, _, j, side) in TRANSLATED {
-        let table = table_of(&rt, text);
-        match translated_in(&rt, alloc, 4 * j, 1000, &table) {
+    for row in TRANSLATED.split('\n') {
+        let (table, Translated { j, side, .. }) = translated_of(&rt, row);
+        match translated_in(&rt, alloc, j.saturating_mul(4), 1000, &table) {
             Some(found) => assert!(rt;
                 found.side == side && answer_to(alloc, &found, &table) == NEVER,
-                "{text} {found:?}"
+                "{row} {found:?}"
             ),
-            None => panic!(rt; "{text}: nothing found"),
+            None => panic!(rt; "{row}: nothing found"),
         }
-        assert!(rt; cycle_in(&rt, alloc, 500, 1000, &table) == None, "{text}");
+        assert!(rt; cycle_in(&rt, alloc, 500, 1000, &table) == None, "{row}");
     }
 }
 
@@ -266,15 +310,33 @@ fn finders_begin_anew(rt: HostRuntime) {
     let mut cycles = CycleFinder::new(alloc, 500);
     let mut translated = TranslatedFinder::new(alloc, 500);
     for _ in 0..2 {
-        for (text, _, _) in CYCLES {
-            let table = table_of(&rt, text);
-            finds_a_cycle_as_anew(&rt, alloc, &mut cycles, &table);
-            assert!(rt; translated_by(&rt, &mut translated, 1000, &table) == None);
-        }
-        for (text, _, _, _) in TRANSLATED {
-            let table = table_of(&rt, text);
-            finds_a_translated_cycle_as_anew(&rt, alloc, &mut translated, &table);
-            assert!(rt; cycle_by(&rt, &mut cycles, 1000, &table) == None);
-        }
+        begin_anew_over_cycles(&rt, alloc, &mut cycles, &mut translated);
+        begin_anew_over_translated_cycles(&rt, alloc, &mut cycles, &mut translated);
+    }
+}
+
+fn begin_anew_over_cycles(
+    rt: &impl Abort,
+    alloc: Global,
+    cycles: &mut CycleFinder,
+    translated: &mut TranslatedFinder,
+) {
+    for row in CYCLES.split('\n') {
+        let (table, _) = cycle_of(rt, row);
+        finds_a_cycle_as_anew(rt, alloc, cycles, &table);
+        assert!(rt; translated_by(rt, translated, 1000, &table) == None);
+    }
+}
+
+fn begin_anew_over_translated_cycles(
+    rt: &impl Abort,
+    alloc: Global,
+    cycles: &mut CycleFinder,
+    translated: &mut TranslatedFinder,
+) {
+    for row in TRANSLATED.split('\n') {
+        let (table, _) = translated_of(rt, row);
+        finds_a_translated_cycle_as_anew(rt, alloc, translated, &table);
+        assert!(rt; cycle_by(rt, cycles, 1000, &table) == None);
     }
 }

@@ -26,27 +26,27 @@ fn board_of(rt: &impl Abort, alloc: Global, root: &str, ledger: &str) -> Board {
     }
 }
 
-// What is appended to a text that stands already; where memory is refused the text is as it was, and the report
-// is asked for once more.
+// What is appended to a text; where memory is refused the text is as it was, and the report is asked for once more.
+fn append_report(rt: &impl Abort, alloc: Global, board: &Board, out: &mut Vec<u8>) {
+    let len = out.len();
+    if report_json(alloc, board, out).is_err() {
+        assert!(rt; out.len() == len);
+        if report_json(alloc, board, out).is_err() {
+            panic!(rt; "no memory");
+        }
+    }
+}
+
+// The report, also behind a text that stands already.
 fn reported(rt: &impl Abort, alloc: Global, root: &str, ledger: &str, report: &str) {
     let board = board_of(rt, alloc, root, ledger);
     let mut out = Vec::new(alloc);
-    if report_json(alloc, &board, &mut out).is_err() {
-        assert!(rt; out.is_empty());
-        if report_json(alloc, &board, &mut out).is_err() {
-            panic!(rt; "no memory");
-        }
-    }
+    append_report(rt, alloc, &board, &mut out);
     assert_bytes(rt, &out, report.as_bytes());
-    let len = out.len();
-    if report_json(alloc, &board, &mut out).is_err() {
-        assert_bytes(rt, &out, report.as_bytes());
-        if report_json(alloc, &board, &mut out).is_err() {
-            panic!(rt; "no memory");
-        }
-    }
-    assert_bytes(rt, &out[..len.min(out.len())], report.as_bytes());
-    assert_bytes(rt, &out[len.min(out.len())..], report.as_bytes());
+    append_report(rt, alloc, &board, &mut out);
+    let (first, second) = out.split_at(report.len().min(out.len()));
+    assert_bytes(rt, first, report.as_bytes());
+    assert_bytes(rt, second, report.as_bytes());
 }
 
 #[test]

@@ -1,5 +1,5 @@
 // Ledgers, whole, cut and spoilt. What wants memory is tried again once.
-use crate::texts::table_of;
+use crate::texts::{assert_bytes, table_of};
 use cert::RecordFault;
 use ledger::{Board, Left, LoadFault, OfferFault, Unkept, peek_root};
 use machine_text::{Table, TextFault};
@@ -136,15 +136,24 @@ const CUT_SHORT: [(&str, u64, u64, Unkept); 10] = [
 #[test]
 fn a_line_that_cant_be_taken_ends_what_is_kept(rt: HostRuntime) {
     for (text, line, kept, why) in CUT_SHORT {
-        let (left, out) = left_and_written(&rt, rt.alloc(), text.as_bytes());
-        assert!(rt; left == Left::From { line, kept, why }, "{text}: {left:?}");
-        // the lines that are kept are the first of that ledger
-        let len = if kept < 19 { 19 } else { kept as usize };
-        assert!(rt;
-            LEDGER.as_bytes().get(..len) == Some(out.as_slice()),
-            "{text}"
-        );
+        is_cut_short(&rt, rt.alloc(), text, Left::From { line, kept, why });
+        keeps_the_first_lines(&rt, rt.alloc(), text, kept);
     }
+}
+
+fn is_cut_short(rt: &impl Abort, alloc: Global, text: &str, expected: Left) {
+    let (left, _) = left_and_written(rt, alloc, text.as_bytes());
+    assert!(rt; left == expected, "{text}: {left:?}");
+}
+
+// The lines that are kept are the first of that ledger.
+fn keeps_the_first_lines(rt: &impl Abort, alloc: Global, text: &str, kept: u64) {
+    let (_, out) = left_and_written(rt, alloc, text.as_bytes());
+    let len = if kept < 19 { 19 } else { kept as usize };
+    assert!(rt;
+        LEDGER.as_bytes().get(..len) == Some(out.as_slice()),
+        "{text}"
+    );
 }
 
 #[test]
@@ -203,19 +212,25 @@ fn a_written_ledger_loads_again(rt: HostRuntime) {
         "bb-ledger 1 1RZ---_------\n------_------ H 1\n1RB---_------ U\n1RB---_------ H 2\n1RB---_1LA--- U\n";
     let settled =
         "bb-ledger 1 ------_------\n------_------ H 1\n1RB---_------ H 2\n1RB---_1LA--- U\n";
-    let Ok((board, left)) = load_with(&rt, rt.alloc(), "------_------", text.as_bytes()) else {
-        panic!(rt; "not loaded");
-    };
-    assert!(rt; left == Left::Nothing);
+    let board = loaded_whole(&rt, rt.alloc(), text.as_bytes());
     let out = written(&rt, rt.alloc(), &board);
-    assert_eq!(rt; out.as_slice(), settled.as_bytes());
-    let Ok((again, left)) = load_with(&rt, rt.alloc(), "------_------", &out) else {
-        panic!(rt; "not loaded again");
-    };
-    assert!(rt; left == Left::Nothing);
-    let mut others = again.records();
-    for r in board.records() {
-        assert!(rt; others.next() == Some(r));
+    assert_bytes(&rt, &out, settled.as_bytes());
+    let again = loaded_whole(&rt, rt.alloc(), &out);
+    have_the_same_records(&rt, &again, &board);
+}
+
+// The board of a text that is kept to its end, with the root of two states.
+fn loaded_whole(rt: &impl Abort, alloc: Global, text: &[u8]) -> Board {
+    match load_with(rt, alloc, "------_------", text) {
+        Ok((board, Left::Nothing)) => board,
+        _ => panic!(rt; "not loaded whole"),
+    }
+}
+
+fn have_the_same_records(rt: &impl Abort, board: &Board, other: &Board) {
+    let mut others = other.records();
+    for record in board.records() {
+        assert!(rt; others.next() == Some(record));
     }
     assert!(rt; others.next().is_none());
 }

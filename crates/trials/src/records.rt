@@ -1,71 +1,78 @@
 // Records of the field's champions, and lines that are none.
+use crate::texts::{number_of, parted};
 use cert::{Certificate, OwnedCertificate, OwnedRecord, Record, RecordFault, judge, judge_on};
 use machine_text::{Pair, State, Sym, TextFault};
 use run::{HaltsIn, Refused, Verdict};
+use std::alloc::Global;
+use std::process::Abort;
 use std::test::Fail;
 
-// Texts with the number of their fault, 0 where there is none.
-const TEXTS: [(&str, u16); 49] = [
-    ("1RC1LB_1LA--- H 6", 301),
-    ("", 301),
-    ("1RB1LB_1LA---", 302),
-    ("1RB1LB_1LA---  H 6", 302),
-    ("1RB1LB_1LA--- H 06", 303),
-    ("1RB1LB_1LA--- H +6", 303),
-    ("1RB1LB_1LA--- H 6\r", 303),
-    ("1RB1LB_1LA--- H ", 303),
-    ("1RB1LB_1LA--- H 18446744073709551616", 303),
-    ("1RB1LB_1LA--- H 6 ", 302),
-    ("1RB1LB_1LA--- H", 302),
-    ("1RB1LB_1LA--- h 6", 302),
-    ("1RB1LB_1LA--- U 6", 302),
-    ("1RA--- T 0 1 X", 303),
-    ("1RA--- T 0 1", 302),
-    ("1RA--- T 0 1 R ", 302),
-    ("1RA--- T 0  R", 303),
-    ("1RA--- C 0", 302),
-    ("1RA--- C 0 01", 303),
-    ("1RA--- B", 302),
-    ("1RA--- B -1", 303),
-    ("1RA--- N 1 0,1 0", 302),
-    ("1RA--- N 1 0,1 0 0A00,1A00 ", 302),
-    ("1RA--- N 0 0,1 0 0A00,1A00", 303),
-    ("1RA--- N 01 0,1 0 0A00,1A00", 303),
-    ("1RA--- N 9 0 0 0A00", 303),
-    ("1RA--- N 1 1,0 0 0A00,1A00", 304),
-    ("1RA--- N 1 0,1  0A00,1A00", 304),
-    ("1RA--- N 1 0,1 0 0A00,1B00", 304),
-    ("1RA--- N 1 0,1 0 0A00,1A00", 0),
-    ("1RA--- F R 1 00 1,2", 302),
-    ("1RA--- F R 1 00 1,2 1 ", 302),
-    ("1RA--- F X 1 00 1,2 1", 303),
-    ("1RA--- F R 0 00 1,2 1", 303),
-    ("1RA--- F R 9 00 1,2 1", 303),
-    ("1RA--- F R 01 00 1,2 1", 303),
-    ("1RA--- F X 9 0 1 g", 303),
-    ("1RA--- F R 1 0 1,2 1", 304),
-    ("1RA--- F R 1 00 1 1", 304),
-    ("1RA--- F R 1 00 1,2 4", 304),
-    ("1RA--- F R 1 00 1,2 3", 0),
-    ("1RA--- F L 1 00 2,2 1", 0),
-    ("1RA--- T 0 1 R", 0),
-    ("1RA--- T 0 1 L", 0),
-    ("1RA--- C 1 0", 0),
-    ("1RA--- B 1001", 0),
-    ("1RB1LB_1LA--- U", 0),
-    ("1RB1LB_1LA--- H 0", 0),
-    ("1RB1LB_1LA--- H 18446744073709551615", 0),
-];
+// Texts behind the number of their fault, 0 where there is none.
+const TEXTS: &str = "\
+301 1RC1LB_1LA--- H 6
+301 
+302 1RB1LB_1LA---
+302 1RB1LB_1LA---  H 6
+303 1RB1LB_1LA--- H 06
+303 1RB1LB_1LA--- H +6
+303 1RB1LB_1LA--- H 6\r
+303 1RB1LB_1LA--- H 
+303 1RB1LB_1LA--- H 18446744073709551616
+302 1RB1LB_1LA--- H 6 
+302 1RB1LB_1LA--- H
+302 1RB1LB_1LA--- h 6
+302 1RB1LB_1LA--- U 6
+303 1RA--- T 0 1 X
+302 1RA--- T 0 1
+302 1RA--- T 0 1 R 
+303 1RA--- T 0  R
+302 1RA--- C 0
+303 1RA--- C 0 01
+302 1RA--- B
+303 1RA--- B -1
+302 1RA--- N 1 0,1 0
+302 1RA--- N 1 0,1 0 0A00,1A00 
+303 1RA--- N 0 0,1 0 0A00,1A00
+303 1RA--- N 01 0,1 0 0A00,1A00
+303 1RA--- N 9 0 0 0A00
+304 1RA--- N 1 1,0 0 0A00,1A00
+304 1RA--- N 1 0,1  0A00,1A00
+304 1RA--- N 1 0,1 0 0A00,1B00
+0 1RA--- N 1 0,1 0 0A00,1A00
+302 1RA--- F R 1 00 1,2
+302 1RA--- F R 1 00 1,2 1 
+303 1RA--- F X 1 00 1,2 1
+303 1RA--- F R 0 00 1,2 1
+303 1RA--- F R 9 00 1,2 1
+303 1RA--- F R 01 00 1,2 1
+303 1RA--- F X 9 0 1 g
+304 1RA--- F R 1 0 1,2 1
+304 1RA--- F R 1 00 1 1
+304 1RA--- F R 1 00 1,2 4
+0 1RA--- F R 1 00 1,2 3
+0 1RA--- F L 1 00 2,2 1
+0 1RA--- T 0 1 R
+0 1RA--- T 0 1 L
+0 1RA--- C 1 0
+0 1RA--- B 1001
+0 1RB1LB_1LA--- U
+0 1RB1LB_1LA--- H 0
+0 1RB1LB_1LA--- H 18446744073709551615";
 
 #[test]
 fn records_are_read_or_refused(rt: HostRuntime) {
-    for (text, number) in TEXTS {
+    for row in TEXTS.split('\n') {
+        let (number, text) = parted(&rt, row);
         let found = match Record::parse(text.as_bytes()) {
             Ok(_) => 0,
-            Err(fault) => fault.number(),
+            Err(fault) => u64::from(fault.number()),
         };
-        assert!(rt; found == number, "{text}: {found}");
+        assert!(rt; found == number_of(&rt, number), "{row}: {found}");
     }
+}
+
+#[test]
+fn faults_of_records_have_numbers(rt: HostRuntime) {
     for (fault, number) in [
         (RecordFault::BadTable(TextFault::BadLength), 301),
         (RecordFault::BadKind, 302),
@@ -111,46 +118,67 @@ fn records_are_written_in_their_printed_form(rt: HostRuntime) -> Result<(), Fail
     Ok(())
 }
 
+// What a record is judged as. Memory may be refused once, but not to a record of lists or automata, or one that
+// claims nothing.
+fn judged(rt: &impl Abort, alloc: Global, text: &str) -> Result<Option<Verdict>, Refused> {
+    match Record::parse(text.as_bytes()) {
+        Ok(record) => {
+            let judged = judge(alloc, &record);
+            let takes_none = matches!(
+                record.certificate,
+                Certificate::Ngram(_) | Certificate::Far(_) | Certificate::Undecided
+            );
+            if judged == Err(Refused::NoMemory) && !takes_none {
+                judge(alloc, &record)
+            } else {
+                judged
+            }
+        }
+        Err(fault) => panic!(rt; "{text}: {fault:?}"),
+    }
+}
+
+const NEVER: &str = "\
+0RB---_0LA--- C 0 2
+1RA--- T 0 1 R
+1RB---_0RB1RB B 1
+1RA--- N 1 0,1 0 0A00,1A00
+1RA--- F R 1 00 1,2 1";
+
+// Just within a limit a certificate is looked at.
+const FAILING: &str = "\
+1RB1LB_1LA--- H 7
+1RB1LB_1LA--- H 100000000
+1RB1LB_1LA--- C 0 10000000
+1RB1LB_1LA--- T 0 10000000 R
+1RB1LB_1LA--- B 1000
+0RB---_0LA--- C 0 1
+1RA--- T 0 1 L
+1RB---_0RB1RB B 0
+1RA--- N 1 0 0 0A00,1A00
+1RA--- F R 1 00 1,2 3";
+
+const TOO_LONG: &str = "\
+1RB1LB_1LA--- H 100000001
+1RA--- C 0 10000001
+1RB---_0RB1RB B 1001";
+
 #[test]
 fn certificates_are_judged(rt: HostRuntime) {
-    for (text, answer) in [
-        ("1RB1LB_1LA--- H 6", Ok(Some(Verdict::Halts(6)))),
-        ("1RB1LB_1LA--- H 7", Err(Refused::Fails)),
-        // just within a limit the certificate is looked at, beyond it it isn't
-        ("1RB1LB_1LA--- H 100000000", Err(Refused::Fails)),
-        ("1RB1LB_1LA--- H 100000001", Err(Refused::TooLong)),
-        ("1RB1LB_1LA--- C 0 10000000", Err(Refused::Fails)),
-        ("1RB1LB_1LA--- T 0 10000000 R", Err(Refused::Fails)),
-        ("1RB1LB_1LA--- B 1000", Err(Refused::Fails)),
-        ("1RB1LB_1LA--- U", Ok(None)),
-        ("0RB---_0LA--- C 0 2", Ok(Some(Verdict::Never))),
-        ("0RB---_0LA--- C 0 1", Err(Refused::Fails)),
-        ("1RA--- T 0 1 R", Ok(Some(Verdict::Never))),
-        ("1RA--- T 0 1 L", Err(Refused::Fails)),
-        ("1RA--- C 0 10000001", Err(Refused::TooLong)),
-        ("1RB---_0RB1RB B 1", Ok(Some(Verdict::Never))),
-        ("1RB---_0RB1RB B 0", Err(Refused::Fails)),
-        ("1RB---_0RB1RB B 1001", Err(Refused::TooLong)),
-        ("1RA--- N 1 0,1 0 0A00,1A00", Ok(Some(Verdict::Never))),
-        ("1RA--- N 1 0 0 0A00,1A00", Err(Refused::Fails)),
-        ("1RA--- F R 1 00 1,2 1", Ok(Some(Verdict::Never))),
-        ("1RA--- F R 1 00 1,2 3", Err(Refused::Fails)),
-    ] {
-        match Record::parse(text.as_bytes()) {
-            Ok(record) => {
-                let mut judged = judge(rt.alloc(), &record);
-                // Memory may be refused once, but not to a record of lists or automata, or one that claims nothing.
-                let takes_none = matches!(
-                    record.certificate,
-                    Certificate::Ngram(_) | Certificate::Far(_) | Certificate::Undecided
-                );
-                if judged == Err(Refused::NoMemory) && !takes_none {
-                    judged = judge(rt.alloc(), &record);
-                }
-                assert!(rt; judged == answer, "{text}");
-            }
-            Err(fault) => panic!(rt; "{text}: {fault:?}"),
-        }
+    let alloc = rt.alloc();
+    assert!(rt; judged(&rt, alloc, "1RB1LB_1LA--- H 6") == Ok(Some(Verdict::Halts(6))));
+    assert!(rt; judged(&rt, alloc, "1RB1LB_1LA--- U") == Ok(None));
+    for text in NEVER.split('\n') {
+        assert!(rt;
+            judged(&rt, alloc, text) == Ok(Some(Verdict::Never)),
+            "{text}"
+        );
+    }
+    for text in FAILING.split('\n') {
+        assert!(rt; judged(&rt, alloc, text) == Err(Refused::Fails), "{text}");
+    }
+    for text in TOO_LONG.split('\n') {
+        assert!(rt; judged(&rt, alloc, text) == Err(Refused::TooLong), "{text}");
     }
     assert!(rt; Certificate::Halts(HaltsIn(1)) != Certificate::Undecided);
 }

@@ -93,35 +93,50 @@ fn what_is_left_is_told(rt: HostRuntime) -> Result<(), Fail> {
         "root ------\nstatus working\nnodes 1\nhalting 0\nnever 0\nholdouts 0\nopen 1\nbest none\n";
     let one =
         "root ------\nstatus working\nnodes 3\nhalting 1\nnever 0\nholdouts 0\nopen 2\nbest 1\nchampion ------\n";
-    for (rest, report, line) in [
-        ("------ H 2\n", none, 2),
-        ("0RA--- T 0 1 R\n", none, 2),
-        ("------ Q\n", none, 2),
-        ("------ H 1", none, 2),
-        ("------ H 1\n------ H 1\n", one, 3),
-        ("------ H 1\n\n0RA--- T 0 1 R\n", one, 3),
-        ("------ H 1\n0RA--- T 0 1 R", one, 3),
-        ("------ H 1\n------_------ H 1\n", one, 3),
+    for rest in [
+        "------ H 2\n",
+        "0RA--- T 0 1 R\n",
+        "------ Q\n",
+        "------ H 1",
     ] {
-        let ledger = format!(in alloc; "bb-ledger 1 ------\n{rest}")?;
-        let answers = format!(in alloc; "{report}left {line}\n")?;
-        reported(
-            &rt,
-            alloc,
-            ledger.as_bytes(),
-            1000,
-            answers.as_bytes(),
-            b"",
-            Outcome::Refused,
-        );
+        leaves(&rt, alloc, rest, none, 2)?;
     }
-    // Complete, but for a line too many.
-    let mut ledger = Vec::new(alloc);
+    for rest in [
+        "------ H 1\n------ H 1\n",
+        "------ H 1\n\n0RA--- T 0 1 R\n",
+        "------ H 1\n0RA--- T 0 1 R",
+        "------ H 1\n------_------ H 1\n",
+    ] {
+        leaves(&rt, alloc, rest, one, 3)?;
+    }
+    Ok(())
+}
+
+// Of a ledger whose header has this behind it there is this report, and this line is left.
+fn leaves(rt: &impl Abort, alloc: Global, rest: &str, report: &str, line: u64) -> Result<(), Fail> {
+    let ledger = format!(in alloc; "bb-ledger 1 ------\n{rest}")?;
+    let answers = format!(in alloc; "{report}left {line}\n")?;
+    let (ledger, answers) = (ledger.as_bytes(), answers.as_bytes());
+    reported(rt, alloc, ledger, 1000, answers, b"", Outcome::Refused);
+    Ok(())
+}
+
+#[test]
+fn a_line_too_many_is_left(rt: HostRuntime) -> Result<(), Fail> {
+    let mut ledger = Vec::new(rt.alloc());
     ledger.extend_from_slice(COMPLETE)?;
     ledger.extend_from_slice(b"1RA--- T 0 1 R\n")?;
     let report = b"root ------\nstatus complete\nnodes 3\nhalting 1\nnever 2\nholdouts 0\nopen 0\n\
 best 1\nchampion ------\nleft 5\n";
-    reported(&rt, alloc, &ledger, 1000, report, b"", Outcome::Refused);
+    reported(
+        &rt,
+        rt.alloc(),
+        &ledger,
+        1000,
+        report,
+        b"",
+        Outcome::Refused,
+    );
     Ok(())
 }
 
@@ -142,28 +157,30 @@ fn ledgers_without_root_are_refused(rt: HostRuntime) {
 
 #[test]
 fn failing_files_end_the_command(rt: HostRuntime) {
-    let alloc = rt.alloc();
+    let absent = Err(io::Error::from(io::ErrorKind::NotFound));
+    fails(&rt, rt.alloc(), absent);
+    for calls in 0..3 {
+        fails(&rt, rt.alloc(), file_of(COMPLETE, 20, calls));
+    }
+}
+
+// Of a file that fails nothing is printed.
+fn fails(rt: &impl Abort, alloc: Global, file: io::Result<Opened<Source<'_>>>) {
     let mut said = Sink::new(alloc, usize::MAX, ALWAYS);
     let mut told = Sink::new(alloc, usize::MAX, ALWAYS);
-    let absent: io::Result<Opened<Source<'_>>> = Err(io::Error::from(io::ErrorKind::NotFound));
-    assert!(rt;
-        cmd_report(alloc, &AsLines, false, absent, &mut said, &mut told) == Outcome::Failed
-    );
-    assert_bytes(&rt, &told.kept, b"refused 605\n");
-    for calls in 0..3 {
-        told.kept.clear();
-        let file = file_of(COMPLETE, 20, calls);
-        assert!(rt;
-            cmd_report(alloc, &AsLines, false, file, &mut said, &mut told) == Outcome::Failed
-        );
-        assert_bytes(&rt, &told.kept, b"refused 605\n");
-    }
-    assert!(rt; said.kept.is_empty());
-    told.kept.clear();
-    let mut full = Sink::new(alloc, 10, 2);
+    let ended = cmd_report(alloc, &AsLines, false, file, &mut said, &mut told);
+    assert_bytes(rt, &told.kept, b"refused 605\n");
+    assert!(rt; ended == Outcome::Failed && said.kept.is_empty());
+}
+
+#[test]
+fn failing_streams_end_the_command(rt: HostRuntime) {
+    let mut full = Sink::new(rt.alloc(), 10, 2);
+    let mut told = Sink::new(rt.alloc(), usize::MAX, ALWAYS);
     let file = file_of(COMPLETE, 20, ALWAYS);
-    assert!(rt; cmd_report(alloc, &AsLines, false, file, &mut full, &mut told) == Outcome::Failed);
+    let ended = cmd_report(rt.alloc(), &AsLines, false, file, &mut full, &mut told);
     assert_bytes(&rt, &told.kept, b"refused 603\n");
+    assert!(rt; ended == Outcome::Failed);
 }
 
 #[test]
@@ -182,40 +199,50 @@ fn each_early_end_has_its_outcome(rt: HostRuntime) {
 // Why the first line that isn't kept isn't is said apart from the report, and only where it is asked for.
 #[test]
 fn why_a_line_is_left_is_told(rt: HostRuntime) -> Result<(), Fail> {
-    let alloc = rt.alloc();
-    for (rest, line, number) in [
-        ("------ H 2\n", 2, "201, "),
-        ("------ H 100000001\n", 2, "202, "),
-        ("------ Q\n", 2, "302, "),
-        ("------ H 1\n0RB--- U\n", 3, "301, "),
-        ("0RA--- T 0 1 R\n", 2, "402, "),
-        ("------_------ H 1\n", 2, "403, "),
-        ("------ H 1", 2, ""),
-        ("------ H 1\n------ H 1\n", 3, ""),
+    for (rest, begun) in [
+        ("------ H 2\n", "line 2 isn't kept: 201, "),
+        ("------ H 100000001\n", "line 2 isn't kept: 202, "),
+        ("------ Q\n", "line 2 isn't kept: 302, "),
+        ("------ H 1\n0RB--- U\n", "line 3 isn't kept: 301, "),
+        ("0RA--- T 0 1 R\n", "line 2 isn't kept: 402, "),
+        ("------_------ H 1\n", "line 2 isn't kept: 403, "),
+        ("------ H 1", "line 2 isn't kept: "),
+        ("------ H 1\n------ H 1\n", "line 3 isn't kept: "),
     ] {
-        let ledger = format!(in alloc; "bb-ledger 1 ------\n{rest}")?;
-        let mut said = Sink::new(alloc, usize::MAX, ALWAYS);
-        let mut told = Sink::new(alloc, usize::MAX, ALWAYS);
-        let file = file_of(ledger.as_bytes(), 1000, ALWAYS);
-        assert!(rt;
-            cmd_report(alloc, &AsLines, true, file, &mut said, &mut told) == Outcome::Refused
-        );
-        let begun = format!(in alloc; "line {line} isn't kept: {number}")?;
-        assert!(rt; told.kept.starts_with(begun.as_bytes()), "{rest}");
-        assert!(rt; begun.len() + 1 < told.kept.len() && told.kept.last() == Some(&b'\n'));
-        told.kept.clear();
-        let file = file_of(ledger.as_bytes(), 1000, ALWAYS);
-        let mut full = Sink::new(alloc, usize::MAX, 0);
-        let mut again = Sink::new(alloc, usize::MAX, ALWAYS);
-        assert!(rt;
-            cmd_report(alloc, &AsLines, true, file, &mut again, &mut full) == Outcome::Failed
-        );
-        assert!(rt; again.kept == said.kept);
+        tells_why(&rt, rt.alloc(), rest, begun)?;
     }
+    Ok(())
+}
+
+// What is said of a ledger whose header has this behind it begins so, and ends with its line.
+fn tells_why(rt: &impl Abort, alloc: Global, rest: &str, begun: &str) -> Result<(), Fail> {
+    let ledger = format!(in alloc; "bb-ledger 1 ------\n{rest}")?;
     let mut said = Sink::new(alloc, usize::MAX, ALWAYS);
     let mut told = Sink::new(alloc, usize::MAX, ALWAYS);
-    let file = file_of(COMPLETE, 1000, ALWAYS);
-    assert!(rt; cmd_report(alloc, &AsLines, true, file, &mut said, &mut told) == Outcome::Accepted);
-    assert!(rt; told.kept.is_empty());
+    let ended = explained(alloc, ledger.as_bytes(), &mut said, &mut told);
+    assert!(rt;
+        ended == Outcome::Refused && told.kept.starts_with(begun.as_bytes()),
+        "{rest}"
+    );
+    assert!(rt; begun.len() + 1 < told.kept.len() && told.kept.last() == Some(&b'\n'));
+    // The report is the same where the reason can't be written.
+    let mut full = Sink::new(alloc, usize::MAX, 0);
+    let mut again = Sink::new(alloc, usize::MAX, ALWAYS);
+    assert!(rt; explained(alloc, ledger.as_bytes(), &mut again, &mut full) == Outcome::Failed);
+    assert_bytes(rt, &again.kept, &said.kept);
     Ok(())
+}
+
+// `bb report --why`.
+fn explained(alloc: Global, ledger: &[u8], said: &mut Sink, told: &mut Sink) -> Outcome {
+    let file = file_of(ledger, 1000, ALWAYS);
+    cmd_report(alloc, &AsLines, true, file, said, told)
+}
+
+#[test]
+fn of_a_whole_ledger_nothing_is_explained(rt: HostRuntime) {
+    let mut said = Sink::new(rt.alloc(), usize::MAX, ALWAYS);
+    let mut told = Sink::new(rt.alloc(), usize::MAX, ALWAYS);
+    let ended = explained(rt.alloc(), COMPLETE, &mut said, &mut told);
+    assert!(rt; ended == Outcome::Accepted && told.kept.is_empty());
 }

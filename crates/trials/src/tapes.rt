@@ -255,6 +255,25 @@ impl Plain {
         Ok(())
     }
 
+    // Writes and moves so often, each time over the symbol under the head.
+    fn write_over(
+        &mut self,
+        rt: &impl Abort,
+        side: Dir,
+        s: Sym,
+        count: u64,
+    ) -> Result<(), NoMemory> {
+        let over = self.read;
+        for _ in 0..count {
+            assert_eq!(rt; self.read, over);
+            match side {
+                Dir::L => self.write_left(s)?,
+                Dir::R => self.write_right(s)?,
+            }
+        }
+        Ok(())
+    }
+
     fn cell(&self, x: i64) -> Sym {
         let distance = self.head.abs_diff(x) as usize;
         match x.cmp(&self.head) {
@@ -331,13 +350,7 @@ impl Both {
         let over = self.plain.read;
         let count = self.packed.sweep(side, s, limit)?;
         assert!(rt; 0 < count && count <= limit);
-        for _ in 0..count {
-            assert_eq!(rt; self.plain.read, over);
-            match side {
-                Dir::L => self.plain.write_left(s)?,
-                Dir::R => self.plain.write_right(s)?,
-            }
-        }
+        self.plain.write_over(rt, side, s, count)?;
         self.heads_agree(rt);
         // It stops for its limit, for another symbol, or at the edge of a word.
         let edge = match side {

@@ -3,6 +3,7 @@ use crate::nodes::{answers, handed};
 use crate::texts::table_of;
 use cert::Finder;
 use lease_core::{StartFault, Worker};
+use ledger::Board;
 use run::HaltFinder;
 use std::alloc::Global;
 use std::process::Abort;
@@ -63,15 +64,7 @@ fn a_granted_tree_is_worked_on(rt: HostRuntime) -> Result<(), Fail> {
             ("WORK", "------_1LA--- H 1\n", "REC ------_1LA--- H 1\n"),
         ],
     );
-    match worker.board() {
-        Some(board) => {
-            for child in CHILDREN.split(' ') {
-                assert!(rt; board.is_open(&table_of(&rt, child)), "{child}");
-            }
-            assert!(rt; board.tally().open_count == 8);
-        }
-        None => panic!(rt; "no board"),
-    }
+    children_are_open(&rt, worker.board());
     answers(
         &rt,
         &mut worker,
@@ -81,6 +74,16 @@ fn a_granted_tree_is_worked_on(rt: HostRuntime) -> Result<(), Fail> {
         ],
     );
     Ok(())
+}
+
+fn children_are_open(rt: &impl Abort, board: Option<&Board>) {
+    let Some(board) = board else {
+        panic!(rt; "no board");
+    };
+    for child in CHILDREN.split(' ') {
+        assert!(rt; board.is_open(&table_of(rt, child)), "{child}");
+    }
+    assert!(rt; board.tally().open_count == 8);
 }
 
 #[test]
@@ -135,19 +138,26 @@ fn a_worker_asks_once_it_is_done(rt: HostRuntime) -> Result<(), Fail> {
             ("TICK 3", "", "ASK 7\n"),
         ],
     );
-    for (frame, note) in [
-        ("ACK 0RA---", Note::Stale),
-        ("ASK 1", Note::Strange),
-        ("REC 1RA--- U", Note::Strange),
-        ("DONE 4 9", Note::Strange),
-        ("", Note::Strange),
-        ("LATER", Note::Quiet),
-        ("LATER 1RA---", Note::Quiet),
-    ] {
-        let out = handed(&rt, &mut worker, frame);
-        assert!(rt; out.note == note && out.frames.is_empty(), "{frame}");
-    }
     Ok(())
+}
+
+#[test]
+fn odd_frames_are_noted(rt: HostRuntime) -> Result<(), Fail> {
+    let mut worker = idle(&rt, rt.alloc())?;
+    handed(&rt, &mut worker, "GRANT 4 9 1RA---");
+    is_noted(&rt, &mut worker, "ACK 0RA---", Note::Stale);
+    for frame in ["ASK 1", "REC 1RA--- U", "DONE 4 9", ""] {
+        is_noted(&rt, &mut worker, frame, Note::Strange);
+    }
+    is_noted(&rt, &mut worker, "LATER", Note::Quiet);
+    is_noted(&rt, &mut worker, "LATER 1RA---", Note::Quiet);
+    Ok(())
+}
+
+// A frame is noted so, and nothing is sent.
+fn is_noted(rt: &impl Abort, worker: &mut Worker, frame: &str, note: Note) {
+    let out = handed(rt, worker, frame);
+    assert!(rt; out.note == note && out.frames.is_empty(), "{frame}");
 }
 
 #[test]

@@ -187,24 +187,46 @@ fn are_holdouts(rt: &impl Abort, alloc: Global, board: &Board, texts: &str) -> R
     Ok(())
 }
 
+// Takes a record, and has this status then.
+fn takes(rt: &impl Abort, board: &mut Board, text: &str, status: Status) {
+    take(rt, board, text);
+    assert!(rt; board.status() == status, "{text}");
+}
+
 #[test]
 fn a_board_is_complete_without_holdouts(rt: HostRuntime) -> Result<(), Fail> {
     let mut board = board_of(&rt, rt.alloc(), "------");
-    take(&rt, &mut board, "------ H 1");
-    assert!(rt; board.status() == Status::Working { count: 2 });
-    take(&rt, &mut board, "1RA--- U");
-    assert!(rt; board.status() == Status::Working { count: 1 });
-    take(&rt, &mut board, "0RA--- U");
-    assert!(rt; board.status() == Status::Holdouts { count: 2 });
-    are_holdouts(&rt, rt.alloc(), &board, "0RA--- 1RA--- ")?;
-    take(&rt, &mut board, "0RA--- T 0 1 R");
-    assert!(rt; board.status() == Status::Holdouts { count: 1 });
-    are_holdouts(&rt, rt.alloc(), &board, "1RA--- ")?;
-    assert!(rt; offered(&rt, &mut board, "1RA--- U") == Ok(Taken::Known));
-    take(&rt, &mut board, "1RA--- T 0 1 R");
-    assert!(rt; board.status() == Status::Complete { best: Some(1) });
-    are_holdouts(&rt, rt.alloc(), &board, "")?;
-    assert!(rt; board.verdict(&table_of(&rt, "1RA---")) == Some(Verdict::Never));
+    is_undecided(&rt, rt.alloc(), &mut board)?;
+    is_settled(&rt, rt.alloc(), &mut board)?;
+    tells_its_tree(&rt, &board);
+    let champions: Vec<Table> = board.champions()?.collect(rt.alloc())?;
+    are_tables(&rt, &champions, "------ ");
+    Ok(())
+}
+
+fn is_undecided(rt: &impl Abort, alloc: Global, board: &mut Board) -> Result<(), Fail> {
+    takes(rt, board, "------ H 1", Status::Working { count: 2 });
+    takes(rt, board, "1RA--- U", Status::Working { count: 1 });
+    takes(rt, board, "0RA--- U", Status::Holdouts { count: 2 });
+    are_holdouts(rt, alloc, board, "0RA--- 1RA--- ")
+}
+
+fn is_settled(rt: &impl Abort, alloc: Global, board: &mut Board) -> Result<(), Fail> {
+    takes(rt, board, "0RA--- T 0 1 R", Status::Holdouts { count: 1 });
+    are_holdouts(rt, alloc, board, "1RA--- ")?;
+    assert!(rt; offered(rt, board, "1RA--- U") == Ok(Taken::Known));
+    takes(
+        rt,
+        board,
+        "1RA--- T 0 1 R",
+        Status::Complete { best: Some(1) },
+    );
+    are_holdouts(rt, alloc, board, "")
+}
+
+// Of a settled board of one state.
+fn tells_its_tree(rt: &impl Abort, board: &Board) {
+    assert!(rt; board.verdict(&table_of(rt, "1RA---")) == Some(Verdict::Never));
     let mut number = 0u64;
     for _record in board.records() {
         number = number.saturating_add(1);
@@ -219,10 +241,7 @@ fn a_board_is_complete_without_holdouts(rt: HostRuntime) -> Result<(), Fail> {
         best: Some(1),
     };
     assert!(rt; board.tally() == tally);
-    assert!(rt; *board.root() == table_of(&rt, "------"));
-    let champions: Vec<Table> = board.champions()?.collect(rt.alloc())?;
-    are_tables(&rt, &champions, "------ ");
-    Ok(())
+    assert!(rt; *board.root() == table_of(rt, "------"));
 }
 
 #[test]

@@ -126,19 +126,6 @@ fn started(
 
 #[test]
 fn ledgers_start_a_coordinator(rt: HostRuntime) {
-    for (ledger, fault) in [
-        (b"hello\n".as_slice(), StartFault::BadHeader),
-        (
-            b"bb-ledger 1 ------_------\n".as_slice(),
-            StartFault::WrongRoot,
-        ),
-    ] {
-        let (mut node, first) = started(&rt, rt.alloc(), ledger);
-        assert!(rt; first.err() == Some(fault));
-        assert!(rt; node.board().is_none());
-        assert!(rt; node.on(Event::Work).err() == Some(NodeFault::Stopped));
-        assert!(rt; node.on(Event::Frame(b"ASK 1")).err() == Some(NodeFault::Stopped));
-    }
     for (ledger, cut, append) in [
         ("bb-led", Some(0), "bb-ledger 1 ------\n"),
         ("bb-ledger 1 ------\n", None, ""),
@@ -146,15 +133,45 @@ fn ledgers_start_a_coordinator(rt: HostRuntime) {
         ("bb-ledger 1 ------\n------ H 1\n0RA", Some(30), ""),
         ("bb-ledger 1 ------\n------ H 2\n0RA", Some(19), ""),
     ] {
-        let (mut node, first) = started(&rt, rt.alloc(), ledger.as_bytes());
-        match first {
-            Ok(out) => {
-                assert!(rt; out.cut == cut, "{ledger}");
-                assert!(rt; out.append.as_slice() == append.as_bytes(), "{ledger}");
-            }
-            Err(fault) => panic!(rt; "{ledger}: {fault}"),
-        }
-        node.stop();
-        assert!(rt; node.on(Event::Tick(1)).err() == Some(NodeFault::Stopped));
+        starts_with(&rt, rt.alloc(), ledger, cut, append);
     }
+}
+
+#[test]
+fn other_ledgers_start_no_coordinator(rt: HostRuntime) {
+    starts_none(&rt, rt.alloc(), "hello\n", StartFault::BadHeader);
+    starts_none(
+        &rt,
+        rt.alloc(),
+        "bb-ledger 1 ------_------\n",
+        StartFault::WrongRoot,
+    );
+}
+
+// What is cut and appended at a start from a ledger; a coordinator that is stopped then answers so.
+fn starts_with(rt: &impl Abort, alloc: Global, ledger: &str, cut: Option<u64>, append: &str) {
+    let (mut node, first) = started(rt, alloc, ledger.as_bytes());
+    match first {
+        Ok(out) => cuts_and_appends(rt, &out, cut, append),
+        Err(fault) => panic!(rt; "{ledger}: {fault}"),
+    }
+    node.stop();
+    assert!(rt; node.on(Event::Tick(1)).err() == Some(NodeFault::Stopped));
+}
+
+fn cuts_and_appends(rt: &impl Abort, out: &Out, cut: Option<u64>, append: &str) {
+    assert!(rt; out.cut == cut);
+    assert_bytes(rt, &out.append, append.as_bytes());
+}
+
+fn starts_none(rt: &impl Abort, alloc: Global, ledger: &str, fault: StartFault) {
+    let (mut node, first) = started(rt, alloc, ledger.as_bytes());
+    assert!(rt; first.err() == Some(fault));
+    is_stopped(rt, &mut node);
+}
+
+fn is_stopped(rt: &impl Abort, node: &mut Coordinator) {
+    assert!(rt; node.board().is_none());
+    assert!(rt; node.on(Event::Work).err() == Some(NodeFault::Stopped));
+    assert!(rt; node.on(Event::Frame(b"ASK 1")).err() == Some(NodeFault::Stopped));
 }

@@ -48,13 +48,32 @@ fn finders_are_not_trusted(rt: HostRuntime) -> Result<(), Fail> {
     let table = table_of(&rt, "1RB1LB_1LA---");
     let mut finders: Vec<Box<dyn Finder>> = Vec::new(alloc);
     finders.push(Box::new(alloc, Five)?)?;
-    let alone = decide(alloc, &mut finders, &table, 100)?;
-    assert!(rt; alone.table == table);
-    assert!(rt; matches!(alone.lent().certificate, Certificate::Undecided));
+    is_undecided_by(&rt, alloc, &mut finders, &table)?;
     finders.push(Box::new(alloc, Shy)?)?;
     finders.push(Box::new(alloc, HaltFinder::new(alloc, 10))?)?;
     finders.push(Box::new(alloc, HaltFinder::new(alloc, 5))?)?;
-    let record = decide(alloc, &mut finders, &table, 100)?;
+    halts_in_six_by(&rt, alloc, &mut finders, &table)
+}
+
+fn is_undecided_by(
+    rt: &impl Abort,
+    alloc: Global,
+    finders: &mut [Box<dyn Finder>],
+    table: &Table,
+) -> Result<(), Fail> {
+    let record = decide(alloc, finders, table, 100)?;
+    assert!(rt; record.table == *table);
+    assert!(rt; matches!(record.lent().certificate, Certificate::Undecided));
+    Ok(())
+}
+
+fn halts_in_six_by(
+    rt: &impl Abort,
+    alloc: Global,
+    finders: &mut [Box<dyn Finder>],
+    table: &Table,
+) -> Result<(), Fail> {
+    let record = decide(alloc, finders, table, 100)?;
     assert!(rt; matches!(record.lent().certificate, Certificate::Halts(HaltsIn(6))));
     Ok(())
 }

@@ -36,6 +36,8 @@ mod messages;
 #[cfg(test)]
 mod nodes;
 #[cfg(test)]
+mod plain_tapes;
+#[cfg(test)]
 mod position_set_search;
 #[cfg(test)]
 mod position_sets;

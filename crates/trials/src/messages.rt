@@ -1,4 +1,6 @@
 // Messages, their texts, and texts that are none.
+use std::alloc::Global;
+use std::process::Abort;
 use std::test::Fail;
 use wire::{MsgFault, decode, encode};
 
@@ -31,14 +33,23 @@ const MESSAGES: [(&str, &str); 13] = [
 #[test]
 fn messages_are_read_and_printed(rt: HostRuntime) -> Result<(), Fail> {
     for (text, printed) in MESSAGES {
-        let mut out = Vec::new(rt.alloc());
-        out.push(b'>')?;
-        match decode(text.as_bytes()) {
-            Ok(message) => encode(&message, &mut out)?,
-            Err(fault) => panic!(rt; "{text}: {fault}"),
-        }
-        assert_eq!(rt; &out[1..], printed.as_bytes());
+        is_printed_as(&rt, rt.alloc(), text, printed)?;
     }
+    Ok(())
+}
+
+// Prints a message behind what stands before it.
+fn is_printed_as(rt: &impl Abort, alloc: Global, text: &str, printed: &str) -> Result<(), Fail> {
+    let mut out = Vec::new(alloc);
+    out.push(b'>')?;
+    match decode(text.as_bytes()) {
+        Ok(message) => encode(&message, &mut out)?,
+        Err(fault) => panic!(rt; "{text}: {fault}"),
+    }
+    assert!(rt;
+        out.strip_prefix(b">") == Some(printed.as_bytes()),
+        "{text}"
+    );
     Ok(())
 }
 

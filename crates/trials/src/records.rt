@@ -102,19 +102,26 @@ fn records_are_written_in_their_printed_form(rt: HostRuntime) -> Result<(), Fail
         ("1RA--- F L 1 00 2,2 1", "1RA--- F L 1 00 2,2 1"),
     ] {
         match Record::parse(text.as_bytes()) {
-            Ok(record) => {
-                let owned = OwnedRecord {
-                    table: record.table,
-                    certificate: OwnedCertificate::of(rt.alloc(), &record.certificate)?,
-                };
-                let mut out = Vec::new(rt.alloc());
-                out.push(b'>')?;
-                owned.lent().write_text(&mut out)?;
-                assert_eq!(rt; &out[1..], printed.as_bytes());
-            }
+            Ok(record) => is_written(&rt, rt.alloc(), &record, printed)?,
             Err(fault) => panic!(rt; "{text}: {fault:?}"),
         }
     }
+    Ok(())
+}
+
+// Writes an owned copy of a record behind what stands before it.
+fn is_written(rt: &impl Abort, alloc: Global, record: &Record, printed: &str) -> Result<(), Fail> {
+    let owned = OwnedRecord {
+        table: record.table,
+        certificate: OwnedCertificate::of(alloc, &record.certificate)?,
+    };
+    let mut out = Vec::new(alloc);
+    out.push(b'>')?;
+    owned.lent().write_text(&mut out)?;
+    assert!(rt;
+        out.strip_prefix(b">") == Some(printed.as_bytes()),
+        "{printed}"
+    );
     Ok(())
 }
 

@@ -1,4 +1,5 @@
 // `bb retry` over ledgers of the tests' own.
+use crate::nodes::handed;
 use crate::streams::{ALWAYS, Sink, file_of};
 use crate::texts::assert_bytes;
 use cert::{Finder, Finders};
@@ -9,7 +10,7 @@ use run::HaltFinder;
 use std::alloc::Global;
 use std::process::Abort;
 use std::test::Fail;
-use wire::{Event, MemLedger, Node};
+use wire::MemLedger;
 
 // What is answered, what is said beside it, what the ledger then holds, and the outcome.
 #[derive(Drop)]
@@ -88,21 +89,21 @@ fn what_becomes_open_stays_open(rt: HostRuntime) -> Result<(), Fail> {
     );
     assert!(rt; end.outcome == Outcome::Refused);
     assert_bytes(&rt, end.ledger.text(), SETTLED);
-    // A coordinator that starts from it grants what became open: its first open table is another, so all before
-    // them are recorded first.
-    let (mut node, started) = Coordinator::start(rt.alloc(), 2, 1, end.ledger.text());
+    let (mut node, started) = Coordinator::start(rt.alloc(), 2, 1, SETTLED);
     started?;
-    for frame in [
-        "REC 0RA---_------ U",
-        "REC 0RB---_------ U",
-        "REC 1RA---_------ U",
-    ] {
-        let out = node.on(Event::Frame(frame.as_bytes()))?;
+    grants_what_became_open(&rt, &mut node);
+    Ok(())
+}
+
+// A coordinator that starts from that ledger grants what became open: its first open table is another, so all
+// before them are recorded first.
+fn grants_what_became_open(rt: &impl Abort, node: &mut Coordinator) {
+    for frame in "REC 0RA---_------ U|REC 0RB---_------ U|REC 1RA---_------ U".split('|') {
+        let out = handed(rt, node, frame);
         assert!(rt; out.frames.starts_with(b"ACK "), "{frame}");
     }
-    let out = node.on(Event::Frame(b"ASK 1"))?;
-    assert_bytes(&rt, &out.frames, b"GRANT 1 1 1RB---_0LA---\n");
-    Ok(())
+    let out = handed(rt, node, "ASK 1");
+    assert_bytes(rt, &out.frames, b"GRANT 1 1 1RB---_0LA---\n");
 }
 
 #[test]

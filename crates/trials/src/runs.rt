@@ -1,8 +1,9 @@
 // Step counts and a tape of the field, and runs for which memory is refused.
 use crate::texts::table_of;
-use machine_text::{Pair, State, Sym};
+use machine_text::{Pair, State, Sym, Table};
 use run::{Evidence, HaltFinder, HaltsIn, MAX_HALT_STEPS, Refused, Runner, Step, Verdict};
 use std::alloc::Global;
+use std::process::Abort;
 use std::test::Fail;
 
 // The champions of 1 to 4 states, with Radó's numbers S(1) to S(4).
@@ -17,21 +18,35 @@ const CHAMPIONS: [(&str, u64); 4] = [
 fn champions_halt_in_their_counts(rt: HostRuntime) -> Result<(), Fail> {
     for (text, count) in CHAMPIONS {
         let table = table_of(&rt, text);
-        let mut runner = Runner::new(rt.alloc(), table)?;
-        assert!(rt; runner.run_to(1000)? == Step::Halts { count }, "{text}");
-        assert_eq!(rt; runner.steps() + 1, count);
-        if runner.steps() < 1000 {
-            assert!(rt;
-                runner.step()? == Step::Halts { count },
-                "{text}: the same again"
-            );
-        }
+        halts_in(&rt, rt.alloc(), table, count)?;
         assert!(rt;
-            HaltFinder::new(rt.alloc(), count).search(&table, 1000)? == Some(HaltsIn(count))
+            found(rt.alloc(), &table, count)? == Some(HaltsIn(count)),
+            "{text}"
         );
-        assert!(rt; HaltFinder::new(rt.alloc(), count - 1).search(&table, 1000)? == None);
+        assert!(rt;
+            found(rt.alloc(), &table, count.saturating_sub(1))? == None,
+            "{text}"
+        );
     }
     Ok(())
+}
+
+// The run ends after so many steps, and a step at its end says so again.
+fn halts_in(rt: &impl Abort, alloc: Global, table: Table, count: u64) -> Result<(), Fail> {
+    let mut runner = Runner::new(alloc, table)?;
+    assert!(rt; runner.run_to(1000)? == Step::Halts { count }, "{table:?}");
+    let steps = runner.steps();
+    assert!(rt; steps < 1000 && steps + 1 == count, "{table:?}");
+    assert!(rt;
+        runner.step()? == Step::Halts { count },
+        "{table:?}: the same again"
+    );
+    Ok(())
+}
+
+// The halting count that is found within so many steps.
+fn found(alloc: Global, table: &Table, steps: u64) -> Result<Option<HaltsIn>, Fail> {
+    Ok(HaltFinder::new(alloc, steps).search(table, 1000)?)
 }
 
 // At its last time the champion of four states stands in C at -10 on a blank cell, with twelve ones from -8
@@ -46,7 +61,11 @@ fn the_four_state_champion_leaves_its_tape(rt: HostRuntime) -> Result<(), Fail> 
         let one = -8 <= x && x <= 3;
         assert!(rt; (runner.tape().cell(x) == Sym::One) == one, "{x}");
     }
-    runner.restart(table_of(&rt, "1RB1LB_1LA---"));
+    begins_again(&rt, &mut runner)
+}
+
+fn begins_again(rt: &impl Abort, runner: &mut Runner) -> Result<(), Fail> {
+    runner.restart(table_of(rt, "1RB1LB_1LA---"));
     assert_eq!(rt; runner.steps(), 0);
     assert!(rt; runner.state() == State(0) && runner.tape().head() == 0);
     assert!(rt; (-20..20).all(|x| runner.tape().cell(x) == Sym::Zero));

@@ -162,26 +162,39 @@ fn is_noted(rt: &impl Abort, worker: &mut Worker, frame: &str, note: Note) {
 
 #[test]
 fn ledgers_start_a_worker(rt: HostRuntime) -> Result<(), Fail> {
-    for (ledger, fault) in [
-        ("hello\n", StartFault::BadHeader),
-        ("bb-ledger 1 1RC---_------_------\n", StartFault::WrongRoot),
-    ] {
-        let (mut worker, first) = started(rt.alloc(), ledger.as_bytes())?;
-        assert!(rt; first.err() == Some(fault), "{ledger}");
-        assert!(rt; worker.on(Event::Work).err() == Some(NodeFault::Stopped));
+    let alloc = rt.alloc();
+    starts_with(&rt, alloc, "bb-led", Some(0))?;
+    starts_with(&rt, alloc, "bb-ledger 1 1RA---\n", None)?;
+    starts_with(&rt, alloc, "bb-ledger 1 1RA---\n1RA--- U\n1RA", Some(28))
+}
+
+// What is cut at a start from a ledger; a worker that is stopped then answers so.
+fn starts_with(rt: &impl Abort, alloc: Global, ledger: &str, cut: Option<u64>) -> Result<(), Fail> {
+    let (mut worker, first) = started(alloc, ledger.as_bytes())?;
+    match first {
+        Ok(out) => assert!(rt; out.cut == cut && out.append.is_empty(), "{ledger}"),
+        Err(fault) => panic!(rt; "{ledger}: {fault}"),
     }
-    for (ledger, cut) in [
-        ("bb-led", Some(0)),
-        ("bb-ledger 1 1RA---\n", None),
-        ("bb-ledger 1 1RA---\n1RA--- U\n1RA", Some(28)),
-    ] {
-        let (mut worker, first) = started(rt.alloc(), ledger.as_bytes())?;
-        match first {
-            Ok(out) => assert!(rt; out.cut == cut && out.append.is_empty(), "{ledger}"),
-            Err(fault) => panic!(rt; "{ledger}: {fault}"),
-        }
-        worker.stop();
-        assert!(rt; worker.on(Event::Tick(1)).err() == Some(NodeFault::Stopped));
-    }
+    worker.stop();
+    assert!(rt; worker.on(Event::Tick(1)).err() == Some(NodeFault::Stopped));
+    Ok(())
+}
+
+#[test]
+fn other_ledgers_start_no_worker(rt: HostRuntime) -> Result<(), Fail> {
+    let other = "bb-ledger 1 1RC---_------_------\n";
+    starts_none(&rt, rt.alloc(), "hello\n", StartFault::BadHeader)?;
+    starts_none(&rt, rt.alloc(), other, StartFault::WrongRoot)
+}
+
+fn starts_none(
+    rt: &impl Abort,
+    alloc: Global,
+    ledger: &str,
+    fault: StartFault,
+) -> Result<(), Fail> {
+    let (mut worker, first) = started(alloc, ledger.as_bytes())?;
+    assert!(rt; first.err() == Some(fault), "{ledger}");
+    assert!(rt; worker.on(Event::Work).err() == Some(NodeFault::Stopped));
     Ok(())
 }

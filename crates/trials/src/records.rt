@@ -7,7 +7,7 @@ use std::alloc::Global;
 use std::process::Abort;
 use std::test::Fail;
 
-// Texts behind the number of their fault, 0 where there is none.
+// Texts behind the number of their fault, 0 where there is none. A space at the end of a line belongs to its text.
 const TEXTS: &str = "\
 301 1RC1LB_1LA--- H 6
 301 

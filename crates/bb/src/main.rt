@@ -1,28 +1,23 @@
-//! `bb`, a verified tool for the busy beaver problem: the way from the words of the command line to the command,
-//! and the streams and files that it works on. The words are read in the crate `command_line`; what the commands
-//! do stands in the crate `commands`.
+//! `bb`, a verified tool for the busy beaver problem: `main` hands the words of the command line, the streams and
+//! the system's files to `obey`. The words are read in the crate `command_line`, the command that they ask for
+//! is begun in `dispatch`, and what the commands do stands in `commands`.
 #![tactic(auto)]
 
-mod any_finder;
-mod dispatch;
-
+use command_line::obey;
 pub use command_line::{LineFault, options};
-use commands::{FileLedger, Host};
 pub use commands::{
     Options, cmd_check, cmd_coord, cmd_decide, cmd_merge, cmd_report, cmd_retry, cmd_run, report,
 };
-use dispatch::obey;
+use dispatch::System;
 pub use json_report::report_json;
-use std::fs::{self, OpenFile, OpenOptions};
+use std::env;
 use std::process::ExitCode;
-use std::time::{Clock, Duration};
-use std::{env, io};
 
 fn main(rt: HostRuntime) -> ExitCode {
     let outcome = obey(
         rt.alloc(),
         words_of(&rt),
-        &System { rt: &rt },
+        &System::of(&rt),
         &mut rt.stdin(),
         &mut rt.stdout(),
         &mut rt.stderr(),
@@ -37,49 +32,6 @@ fn words_of(rt: &HostRuntime) -> Result<Vec<String>, LineFault> {
         words.push(word)?;
     }
     Ok(words)
-}
-
-// The files and the clock of the system.
-#[derive(Drop)]
-struct System<'a> {
-    rt: &'a HostRuntime,
-}
-
-impl<'a> Host for System<'a> {
-    type File = fs::File;
-
-    fn open(&self, path: &str) -> io::Result<fs::File> {
-        fs::open(self.rt, path)
-    }
-
-    fn length(&self, file: &fs::File) -> io::Result<u64> {
-        Ok(file.metadata()?.len())
-    }
-
-    type Ledger = FileLedger<fs::File>;
-
-    fn ledger(&self, path: &str) -> io::Result<FileLedger<fs::File>> {
-        let file = OpenOptions::new()
-            .append(true)
-            .create(true)
-            .open(self.rt, path)?;
-        Ok(FileLedger::of(file))
-    }
-
-    fn old_ledger(&self, path: &str) -> io::Result<FileLedger<fs::File>> {
-        let file = OpenOptions::new().append(true).open(self.rt, path)?;
-        Ok(FileLedger::of(file))
-    }
-}
-
-impl<'a> Clock for System<'a> {
-    fn monotonic(&self) -> io::Result<Duration> {
-        self.rt.monotonic()
-    }
-
-    fn since_1970(&self) -> io::Result<Duration> {
-        self.rt.since_1970()
-    }
 }
 
 #[cfg(test)]

@@ -1,6 +1,5 @@
 // Command lines, and what is said in place of a command, also to streams that fail.
-use crate::dispatch::obey;
-use command_line::{LineFault, options};
+use command_line::{LineFault, obey, options};
 use commands::{Beginning, Host, Merging, Options, Outcome, Search, Settling};
 use std::alloc::Global;
 use std::io::{self, Read, Write};

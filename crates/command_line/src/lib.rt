@@ -1,14 +1,18 @@
-//! The words of a command line, read by clap: what they ask for, and what is said where they ask for nothing.
+//! The words of a command line, read by clap: what they ask for, that it is done, and what is said where they
+//! ask for nothing.
 //!
-//! What loads clap is slow to check, so it stands here with as little code as will do. `specs/Ranges` has the
-//! ranges of the options' numbers, `specs/Unread` how a command line ends that can't be read.
+//! What loads clap is slow to check, so it stands here with as little code as will do. The ranges of the
+//! options' numbers are in `specs/Ranges` of `commands`; `specs/Unread` has how a command line ends that can't
+//! be read.
 #![tactic(auto)]
 
 mod grammar;
 mod help;
 mod line_fault;
+mod obeying;
 mod reading;
 mod words;
 
 pub use line_fault::LineFault;
+pub use obeying::obey;
 pub use reading::options;

@@ -1,6 +1,6 @@
 // From what clap made of the words to the options.
 ghost use Rattle.std.specs.Prelude.{◌≤◌, IfOk, IfSome};
-ghost use Rattle.command_line.specs.Ranges.{AreWithinRanges, IsWithinRange};
+ghost use Rattle.commands.specs.Ranges.{AreWithinRanges, IsWithinRange};
 
 use crate::grammar::program;
 use crate::line_fault::LineFault;

@@ -1,4 +1,5 @@
 pub mod Outcome
+pub mod Ranges
 pub mod Lines
 pub mod Losses
 pub mod Answer

@@ -2,40 +2,21 @@
 //! it.
 #![tactic(auto)]
 
-use backward::BackwardFinder;
-use cert::{Finder, Finders};
-use commands::{
-    AsLines, Opened, Outcome, Search, Settling, cmd_check, cmd_decide, cmd_report, cmd_run,
-};
-use far::FarFinder;
-use lease_core::Worker;
-use loops::{CycleFinder, TranslatedFinder};
-use ngram_cps::NgramFinder;
-use run::HaltFinder;
-use std::fs::{self, OpenFile};
-use std::io;
-use std::process::ExitCode;
-use wire::MemLedger;
+ghost use Rattle.commands.specs.Ranges.{AreWithinRanges};
 
-const CHECKED: [&str; 1] = ["champions.txt"];
+use commands::{Options, Search, Settling};
+use dispatch::{System, carry_out};
+use std::fs;
+use std::io::{self, Read};
+use std::process::ExitCode;
 
 // The defaults of `bb decide`.
-const STEPS: u64 = 1_000;
-
-const DEPTH: u64 = 20;
-
-// Options, a file, and the width of words and the size of automata that they ask for.
-const DECIDED: [(&str, &str, u64, u64); 2] = [
-    ("", "tables.txt", 3, 2),
-    ("--gram 4 --far 3 ", "known.txt", 4, 3),
-];
-
-const REPORTED: [(&str, bool); 4] = [
-    ("one-state.ledger", false),
-    ("two-states.ledger", false),
-    ("three-states.ledger", false),
-    ("unfit.ledger", true),
-];
+const SEARCH: Search = Search {
+    steps: 1_000,
+    depth: 20,
+    gram: 3,
+    far: 2,
+};
 
 // `bb run 3 --far 3`
 const SETTLING: Settling = Settling {
@@ -44,8 +25,8 @@ const SETTLING: Settling = Settling {
     lose: None,
     rounds: 1_000_000,
     search: Search {
-        steps: STEPS,
-        depth: DEPTH,
+        steps: 1_000,
+        depth: 20,
         gram: 3,
         far: 3,
     },
@@ -53,98 +34,64 @@ const SETTLING: Settling = Settling {
     progress: false,
 };
 
+const REPORTED: [&str; 3] = [
+    "one-state.ledger",
+    "two-states.ledger",
+    "three-states.ledger",
+];
+
 fn main(rt: HostRuntime) -> io::Result<ExitCode> {
     println!(rt; "$ ./bb run 3 --far 3")?;
-    settled(&rt)?;
-    for name in CHECKED {
-        println!(rt; "$ ./bb check < examples/{name}")?;
-        let mut records = fs::open(&rt, name)?;
-        let outcome = cmd_check(rt.alloc(), &mut records, &mut rt.stdout(), &mut rt.stdout());
-        ended(&rt, outcome)?;
+    let settling = Options::Run {
+        settling: SETTLING,
+        ledger: None,
+    };
+    carried_out(&rt, settling, &mut io::empty())?;
+    reading(&rt, "check", Options::Check, "champions.txt")?;
+    reading(&rt, "decide", Options::Decide(SEARCH), "tables.txt")?;
+    let further = Options::Decide(Search {
+        gram: 4,
+        far: 3,
+        ..SEARCH
+    });
+    reading(&rt, "decide --gram 4 --far 3", further, "known.txt")?;
+    for file in REPORTED {
+        println!(rt; "$ ./bb report examples/{file}")?;
+        reported(&rt, file, false)?;
     }
-    for (options, name, width, size) in DECIDED {
-        println!(rt; "$ ./bb decide {options}< examples/{name}")?;
-        decided(&rt, name, width, size)?;
-    }
-    for (name, why) in REPORTED {
-        let option = if why { "--why " } else { "" };
-        println!(rt; "$ ./bb report {option}examples/{name}")?;
-        let outcome = cmd_report(
-            rt.alloc(),
-            &AsLines,
-            why,
-            opened(&rt, name),
-            &mut rt.stdout(),
-            &mut rt.stdout(),
-        );
-        ended(&rt, outcome)?;
-    }
+    println!(rt; "$ ./bb report --why examples/unfit.ledger")?;
+    reported(&rt, "unfit.ledger", true)?;
     Ok(ExitCode::SUCCESS)
 }
 
-// `bb run`, with workers that search as far as `SETTLING` says.
-fn settled(rt: &HostRuntime) -> io::Result<()> {
-    let alloc = rt.alloc();
-    let mut workers = Vec::new(alloc);
-    for id in [1, 2] {
-        let mut finders: Vec<Box<dyn Finder>> = Vec::new(alloc);
-        finders.push(Box::new(alloc, HaltFinder::new(alloc, STEPS))?)?;
-        finders.push(Box::new(alloc, CycleFinder::new(alloc, STEPS))?)?;
-        finders.push(Box::new(alloc, TranslatedFinder::new(alloc, STEPS))?)?;
-        finders.push(Box::new(alloc, BackwardFinder::new(alloc, DEPTH))?)?;
-        finders.push(Box::new(alloc, NgramFinder::new(alloc, SETTLING.search.gram))?)?;
-        finders.push(Box::new(alloc, FarFinder::new(alloc, SETTLING.search.far))?)?;
-        let (worker, started) = Worker::start(alloc, id, b"", finders, STEPS);
-        if started.is_ok() {
-            workers.push(worker)?;
-        }
-    }
-    let nothing = Opened {
-        reader: io::empty(),
-        length: 0,
+// A command that reads a file of `examples/`.
+fn reading(rt: &HostRuntime, words: &str, asked: Options<'_>, name: &str) -> io::Result<()>
+    requires { AreWithinRanges asked }
+{
+    println!(rt; "$ ./bb {words} < examples/{name}")?;
+    carried_out(rt, asked, &mut fs::open(rt, name)?)
+}
+
+fn reported(rt: &HostRuntime, file: &str, why: bool) -> io::Result<()> {
+    let asked = Options::Report {
+        file,
+        json: false,
+        why,
     };
-    let outcome = cmd_run(
-        alloc,
-        &SETTLING,
-        &AsLines,
-        Ok(nothing),
-        &mut MemLedger::new(alloc),
-        workers,
-        rt,
+    carried_out(rt, asked, &mut io::empty())
+}
+
+// Does what is asked for, and says how it ended.
+fn carried_out<R: Read>(rt: &HostRuntime, asked: Options<'_>, input: &mut R) -> io::Result<()>
+    requires { AreWithinRanges asked }
+{
+    let outcome = carry_out(
+        rt.alloc(),
+        asked,
+        &System::of(rt),
+        input,
         &mut rt.stdout(),
         &mut rt.stdout(),
     );
-    ended(rt, outcome)
-}
-
-// `bb decide`, with its defaults but for the width of words and the size of automata.
-fn decided(rt: &HostRuntime, name: &str, width: u64, size: u64) -> io::Result<()> {
-    let alloc = rt.alloc();
-    let mut finders: Vec<Box<dyn Finder>> = Vec::new(alloc);
-    finders.push(Box::new(alloc, HaltFinder::new(alloc, STEPS))?)?;
-    finders.push(Box::new(alloc, CycleFinder::new(alloc, STEPS))?)?;
-    finders.push(Box::new(alloc, TranslatedFinder::new(alloc, STEPS))?)?;
-    finders.push(Box::new(alloc, BackwardFinder::new(alloc, DEPTH))?)?;
-    finders.push(Box::new(alloc, NgramFinder::new(alloc, width))?)?;
-    finders.push(Box::new(alloc, FarFinder::new(alloc, size))?)?;
-    let mut tables = fs::open(rt, name)?;
-    let mut decider = Finders::new(finders, STEPS);
-    let outcome = cmd_decide(
-        alloc,
-        &mut decider,
-        &mut tables,
-        &mut rt.stdout(),
-        &mut rt.stdout(),
-    );
-    ended(rt, outcome)
-}
-
-fn opened(rt: &HostRuntime, name: &str) -> io::Result<Opened<fs::File>> {
-    let reader = fs::open(rt, name)?;
-    let length = reader.metadata()?.len();
-    Ok(Opened { reader, length })
-}
-
-fn ended(rt: &HostRuntime, outcome: Outcome) -> io::Result<()> {
     println!(rt; "(exit status {})", outcome.status())
 }

@@ -1,4 +1,4 @@
-use Rattle.std.proofs.Common.{◌∷◌, ◌++◌, take, get_or, append_assoc, sym, ◌∙◌, ap, arith}
+use Rattle.std.proofs.Common.{◌∷◌, ◌++◌, take, get_or, append_assoc, sym, ◌∙◌, ap, arith, rules}
 use Rattle.far.specs.Texts.{hex_text, rows_text}
 use Rattle.far.proofs.RoundTrip.{begun, rows_more}
 use Rattle.far.proofs.writing.append_rows.Goals as goal
@@ -13,3 +13,7 @@ loop-k-preserved c =
     let k = c.loop-k.k in
     c.in_ok-append_row.ensures.ok ∙ ap (λ xs. xs ++ 44 ∷ hex_text (get_or rows k 0)) c.loop-k.invariant
     ∙ append_assoc old (rows_text (take k rows)) (44 ∷ hex_text (get_or rows k 0)) ∙ ap (λ xs. old ++ xs) (sym (rows_more rows k (omega arith) (omega arith)))
+
+-- answered by name, so that nothing is offered where an edit makes it false
+pub loop-k-init : goal.loop-k-init
+loop-k-init c = search rules steps 100000

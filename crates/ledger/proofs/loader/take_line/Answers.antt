@@ -2,4 +2,4 @@ use Rattle.std.proofs.Common.{rules}
 use Rattle.ledger.proofs.loader.take_line.Goals as goal
 
 pub returns-in-Err-offer : goal.returns-in-Err-offer
-returns-in-Err-offer c = search rules
+returns-in-Err-offer c = search rules steps 1000000

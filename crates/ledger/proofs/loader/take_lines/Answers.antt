@@ -18,4 +18,4 @@ loop-first-preserved c =
     )
 
 pub returns-clause-keeps : goal.returns-clause-keeps
-returns-clause-keeps c = search rules
+returns-clause-keeps c = search rules steps 1000000

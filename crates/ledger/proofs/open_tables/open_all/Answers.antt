@@ -1,4 +1,4 @@
-use Rattle.std.proofs.Common.{◌∙◌}
+use Rattle.std.proofs.Common.{◌∙◌, rules}
 use Rattle.ledger.specs.Inside.Keeping.{records_of}
 use Rattle.ledger.proofs.Sets.{brings}
 use Rattle.ledger.proofs.open_tables.open_all.Goals as goal
@@ -8,3 +8,7 @@ loop-child-preserved c = record {
   opens = λ q. brings (records_of c.args.records.now.entries) c.args.parent.now c.in-Some.child q c.loop-child.child-iterator c.next.new.self _ _ _ c.in-Some.ensures.steps (c.loop-child.invariant.opens q) (c.in_default.ensures.ok q);
   back = c.open_child.ensures.others ∙ c.loop-child.invariant.back;
 }
+
+-- answered by name, so that nothing is offered where an edit makes it false
+pub returns-in-Err-clause-err : goal.returns-in-Err-clause-err
+returns-in-Err-clause-err c = search rules steps 100000

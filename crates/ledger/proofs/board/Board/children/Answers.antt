@@ -12,4 +12,4 @@ children_on-requires-clause-in_order c =
     marked_in_order c.args.self.now c.args.t.now (Halting known.0) c.child_is_table.ensures.below c.child_is_table.ensures.order (subst IsBoard c.self.view_is c.self.invariant.0) here
 
 pub returns-in-Some-clause-halting : goal.returns-in-Some-clause-halting
-returns-in-Some-clause-halting c = search rules
+returns-in-Some-clause-halting c = search rules steps 1000000

@@ -1,4 +1,4 @@
-use Rattle.std.proofs.Common.{◌≡◌, ◌+◌, ◌-◌, ◌*◌, ◌∙◌, take, length, arith, length-take}
+use Rattle.std.proofs.Common.{◌≡◌, ◌+◌, ◌-◌, ◌*◌, ◌∙◌, take, length, arith, length-take, rules}
 use Rattle.std.proofs.lemmas.List.{get_or-take}
 use Rattle.machine_text.proofs.Rows.{text_from_bytes}
 use Rattle.machine_text.proofs.RoundTrip.{table_of-text_of, no_halting_letter}
@@ -19,3 +19,10 @@ returns-clause-no_halting_letter c = rw (returns-clause-text c) (rw (← c.self.
 -- and parsing them gives the table again
 pub returns-clause-parses : goal.returns-clause-parses
 returns-clause-parses c = rw (returns-clause-text c) (rw (← c.self.view_is) (table_of-text_of _ c.self.invariant))
+
+-- answered by name, so that nothing is offered where an edit makes it false
+pub loop-place-init : goal.loop-place-init
+loop-place-init c = search rules steps 100000
+
+pub returns-clause-limit : goal.returns-clause-limit
+returns-clause-limit c = search rules steps 100000

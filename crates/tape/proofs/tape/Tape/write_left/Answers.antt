@@ -1,4 +1,4 @@
-use Rattle.std.proofs.Common.{◌≡◌, ◌∙◌, ap, sym, arith}
+use Rattle.std.proofs.Common.{◌≡◌, ◌∙◌, ap, sym, arith, rules}
 use Rattle.machine_text.specs.declared.transition.Dir.TheVariants.{L}
 use Rattle.turing.specs.Tape.{Tape, written, moved}
 use Rattle.tape.specs.Inside.{stored}
@@ -24,3 +24,7 @@ returns-in_ok-self-inside-clause-ok c =
     ∙ ap (λ k. moved (stored a.block k a.left.items c.with_symbol-word.result a.right.items) L) (sym first)
     ∙ ap (λ (t : Tape). moved t L) (sym (written-stored a.block a.bit a.left.items a.word _ a.right.items c.args.s c.self.invariant.inside w.here w.others))
     ∙ ap (λ (t : Tape). moved (written t c.args.s) L) c.self.view_is
+
+-- answered by name, so that nothing is offered where an edit makes it false
+pub returns-in_err-self-inside-clause-err : goal.returns-in_err-self-inside-clause-err
+returns-in_err-self-inside-clause-err c = search rules steps 1000000

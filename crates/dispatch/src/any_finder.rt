@@ -1,0 +1,51 @@
+// The finders that the command line can ask for.
+use backward::BackwardFinder;
+use cert::{Finder, OwnedCertificate};
+use commands::Search;
+use far::FarFinder;
+use loops::{CycleFinder, TranslatedFinder};
+use machine_text::Table;
+use ngram_cps::NgramFinder;
+use run::{HaltFinder, NoMemory};
+use std::alloc::Global;
+
+// One of them. A list of these can be made by a function, as one of boxed finders can't.
+#[derive(Drop)]
+pub(crate) enum AnyFinder {
+    Halts(HaltFinder),
+    Cycle(CycleFinder),
+    Translated(TranslatedFinder),
+    Backward(BackwardFinder),
+    Ngram(NgramFinder),
+    Far(FarFinder),
+}
+
+impl Finder for AnyFinder {
+    ghost use Rattle.std.specs.Prelude.{⊤};
+
+    ghost gives = { λ finder p budget claim. ⊤ };
+
+    fn find(&mut self, t: &Table, budget: u64) -> Result<Option<OwnedCertificate>, NoMemory> {
+        match self {
+            AnyFinder::Halts(finder) => finder.find(t, budget),
+            AnyFinder::Cycle(finder) => finder.find(t, budget),
+            AnyFinder::Translated(finder) => finder.find(t, budget),
+            AnyFinder::Backward(finder) => finder.find(t, budget),
+            AnyFinder::Ngram(finder) => finder.find(t, budget),
+            AnyFinder::Far(finder) => finder.find(t, budget),
+        }
+    }
+}
+
+// One of each, in the order in which they are asked.
+pub(crate) fn all_finders(alloc: Global, search: &Search) -> Result<Vec<AnyFinder>, NoMemory> {
+    let steps = search.steps;
+    let mut finders = Vec::new(alloc);
+    finders.push(AnyFinder::Halts(HaltFinder::new(alloc, steps)))?;
+    finders.push(AnyFinder::Cycle(CycleFinder::new(alloc, steps)))?;
+    finders.push(AnyFinder::Translated(TranslatedFinder::new(alloc, steps)))?;
+    finders.push(AnyFinder::Backward(BackwardFinder::new(alloc, search.depth)))?;
+    finders.push(AnyFinder::Ngram(NgramFinder::new(alloc, search.gram)))?;
+    finders.push(AnyFinder::Far(FarFinder::new(alloc, search.far)))?;
+    Ok(finders)
+}

@@ -1,0 +1,225 @@
+// From what a command line asks for to the command, and how it ended.
+ghost use Rattle.commands.specs.Ranges.{IsBeginning, IsSettling, AreWithinRanges};
+
+use crate::any_finder::all_finders;
+use cert::{Decider, Finder, Finders};
+use commands::{
+    Beginning, Ended, Host, Opened, Options, Outcome, Search, Settling, cmd_check, cmd_coord,
+    cmd_decide, cmd_merge, cmd_report, cmd_retry, cmd_run, opened,
+};
+use json_report::Form;
+use lease_core::Worker;
+use run::NoMemory;
+use std::alloc::{AllocError, Global};
+use std::io::{self, Empty, Read, Write};
+use std::time::Clock;
+use wire::{MemLedger, Node};
+
+/// Does what is asked for: `bb check` and `bb decide` read `input`, and so does `bb coord`. The answer goes to
+/// `answers`, and what ends the command early to `faults`. Each end is an `Outcome`: want of memory and a
+/// stream or a file that fails too.
+pub fn carry_out<H: Host + Clock, R: Read, W: Write, E: Write>(
+    alloc: Global,
+    asked: Options<'_>,
+    host: &H,
+    input: &mut R,
+    answers: &mut W,
+    faults: &mut E,
+) -> Outcome
+    requires { AreWithinRanges asked }
+{
+    match asked {
+        Options::Check => cmd_check(alloc, input, answers, faults),
+        Options::Decide(search) => {
+            let ended = decide(alloc, &search, input, answers, faults);
+            or_told(ended, faults)
+        }
+        Options::Coord { beginning, ledger } => {
+            coordinate(alloc, beginning, ledger, host, input, answers, faults)
+        }
+        Options::Run { settling, ledger } => {
+            let ended = settle(alloc, &settling, ledger, host, answers, faults);
+            or_told(ended, faults)
+        }
+        Options::Retry { file, search } => {
+            let ended = retry(alloc, file, &search, host, answers, faults);
+            or_told(ended, faults)
+        }
+        Options::Merge(merging) => cmd_merge(alloc, merging, host, answers, faults),
+        Options::Report { file, json, why } => {
+            let form = Form::of(json);
+            cmd_report(alloc, &form, why, opened(host, file), answers, faults)
+        }
+    }
+}
+
+// How a command ended, also one for which there was no memory to begin.
+fn or_told<E: Write>(ended: Result<Outcome, NoMemory>, faults: &mut E) -> Outcome {
+    match ended {
+        Ok(outcome) => outcome,
+        Err(_) => Ended::NoMemory.told(faults),
+    }
+}
+
+// `bb decide`. A value that is boxed as any finder can't be handed out by a function, so each command that
+// needs finders boxes them itself.
+fn decide<R: Read, W: Write, E: Write>(
+    alloc: Global,
+    search: &Search,
+    input: &mut R,
+    answers: &mut W,
+    faults: &mut E,
+) -> Result<Outcome, NoMemory> {
+    let mut finders: Vec<Box<dyn Finder>> = Vec::new(alloc);
+    for finder in all_finders(alloc, search)? {
+        finders.push(Box::new(alloc, finder)?)?;
+    }
+    let mut decider = Finders::new(finders, search.steps);
+    Ok(cmd_decide(alloc, &mut decider, input, answers, faults))
+}
+
+// `bb run`, with as many workers as are asked for.
+fn settle<H: Host + Clock, W: Write, E: Write>(
+    alloc: Global,
+    settling: &Settling,
+    path: Option<&str>,
+    host: &H,
+    answers: &mut W,
+    faults: &mut E,
+) -> Result<Outcome, NoMemory>
+    requires { IsSettling settling.now }
+{
+    let steps = settling.search.steps;
+    let mut workers = Vec::new(alloc);
+    for id in 1..=u32::from(settling.workers) {
+        let mut finders: Vec<Box<dyn Finder>> = Vec::new(alloc);
+        for finder in all_finders(alloc, &settling.search)? {
+            finders.push(Box::new(alloc, finder)?)?;
+        }
+        let (worker, started) = Worker::start(alloc, id, b"", finders, steps);
+        // An empty ledger is refused for want of memory alone.
+        if started.is_err() {
+            return Err(AllocError);
+        }
+        workers.push(worker)?;
+    }
+    Ok(run(alloc, settling, path, workers, host, answers, faults))
+}
+
+// The same with these workers, and with its ledger in a file or in memory.
+fn run<N: Node + Drop, H: Host + Clock, W: Write, E: Write>(
+    alloc: Global,
+    settling: &Settling,
+    path: Option<&str>,
+    workers: Vec<N>,
+    host: &H,
+    answers: &mut W,
+    faults: &mut E,
+) -> Outcome
+    requires { IsSettling settling.now }
+{
+    let form = Form::of(settling.json);
+    let Some(path) = path else {
+        let mut ledger = MemLedger::new(alloc);
+        return cmd_run(
+            alloc,
+            settling,
+            &form,
+            Ok(nothing()),
+            &mut ledger,
+            workers,
+            host,
+            answers,
+            faults,
+        );
+    };
+    match host.ledger(path) {
+        Ok(mut ledger) => cmd_run(
+            alloc,
+            settling,
+            &form,
+            opened(host, path),
+            &mut ledger,
+            workers,
+            host,
+            answers,
+            faults,
+        ),
+        Err(fault) => Ended::by_ledger(&fault).told(faults),
+    }
+}
+
+// `bb retry`, over a ledger that has to be there.
+fn retry<H: Host, W: Write, E: Write>(
+    alloc: Global,
+    path: &str,
+    search: &Search,
+    host: &H,
+    answers: &mut W,
+    faults: &mut E,
+) -> Result<Outcome, NoMemory> {
+    let mut finders: Vec<Box<dyn Finder>> = Vec::new(alloc);
+    for finder in all_finders(alloc, search)? {
+        finders.push(Box::new(alloc, finder)?)?;
+    }
+    let mut decider = Finders::new(finders, search.steps);
+    Ok(retried(alloc, path, &mut decider, host, answers, faults))
+}
+
+fn retried<H: Host, D: Decider, W: Write, E: Write>(
+    alloc: Global,
+    path: &str,
+    decider: &mut D,
+    host: &H,
+    answers: &mut W,
+    faults: &mut E,
+) -> Outcome {
+    match host.old_ledger(path) {
+        Ok(mut ledger) => {
+            let held = opened(host, path);
+            cmd_retry(alloc, held, &mut ledger, decider, answers, faults)
+        }
+        Err(fault) => Ended::by_ledger(&fault).told(faults),
+    }
+}
+
+// `bb coord`, with its ledger in a file or in memory.
+fn coordinate<H: Host, R: Read, W: Write, E: Write>(
+    alloc: Global,
+    beginning: Beginning,
+    path: Option<&str>,
+    host: &H,
+    input: &mut R,
+    answers: &mut W,
+    faults: &mut E,
+) -> Outcome
+    requires { IsBeginning beginning }
+{
+    let Some(path) = path else {
+        let mut ledger = MemLedger::new(alloc);
+        return cmd_coord(
+            alloc,
+            beginning,
+            Ok(nothing()),
+            &mut ledger,
+            input,
+            answers,
+            faults,
+        );
+    };
+    match host.ledger(path) {
+        Ok(mut ledger) => {
+            let held = opened(host, path);
+            cmd_coord(alloc, beginning, held, &mut ledger, input, answers, faults)
+        }
+        Err(fault) => Ended::by_ledger(&fault).told(faults),
+    }
+}
+
+// A ledger that is kept in memory begins with nothing.
+fn nothing() -> Opened<Empty> {
+    Opened {
+        reader: io::empty(),
+        length: 0,
+    }
+}

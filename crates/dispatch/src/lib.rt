@@ -1,0 +1,11 @@
+//! From what a command line asks for to the command: its finders, its files and its ledger.
+//!
+//! Nothing here reads words, so that nothing here loads what reads them.
+#![tactic(auto)]
+
+mod any_finder;
+mod executing;
+mod system;
+
+pub use executing::carry_out;
+pub use system::System;

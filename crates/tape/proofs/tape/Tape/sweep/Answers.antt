@@ -1,0 +1,9 @@
+use Rattle.std.proofs.Common.{rules}
+use Rattle.tape.proofs.tape.Tape.sweep.Goals as goal
+
+-- answered by name, so that nothing is offered where an edit makes it false
+pub returns-in-L-clause-ok : goal.returns-in-L-clause-ok
+returns-in-L-clause-ok c = search rules steps 100000
+
+pub returns-in-L-clause-all : goal.returns-in-L-clause-all
+returns-in-L-clause-all c = search rules steps 1000000

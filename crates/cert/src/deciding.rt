@@ -94,12 +94,20 @@ fn is_decided(alloc: Global, r: &OwnedRecord) -> Result<bool, NoMemory>
 /// Answers a table by a record of it that is certified, or undecided.
 pub trait Decider {
     ghost use Rattle.std.specs.Prelude.{◌≡◌, IfOk};
+    ghost use Rattle.machine_text.specs.Packed.{Packed};
     ghost use Rattle.cert.specs.Certified.{IsCertified};
+    ghost use Rattle.cert.specs.Claim.{Recorded};
     ghost use Rattle.cert.specs.Kinds.{owned_recorded};
 
+    /// What it may answer for a table: who takes a record for its answer has to have asked. A decider that
+    /// promises nothing of what it answers may answer anything that is certified.
+    ghost answers: { Self → Packed → Recorded → Type 0 };
+
+    /// Its record of the table. After `NoMemory` it can be asked again.
     fn decide(&mut self, alloc: Global, t: &Table) -> Result<OwnedRecord, NoMemory>
         ensures table { IfOk result (λ r. r.table ≡ t.now) }
-        ensures certified { IfOk result (λ r. IsCertified (owned_recorded r)) };
+        ensures certified { IfOk result (λ r. IsCertified (owned_recorded r)) }
+        ensures answers { IfOk result (λ r. answers self.old t.now (owned_recorded r)) };
 }
 
 /// Finders in the order in which they are asked, with the budget that each is given.
@@ -117,6 +125,10 @@ impl Finders {
 }
 
 impl Decider for Finders {
+    ghost use Rattle.std.specs.Prelude.{⊤};
+
+    ghost answers = { λ finders p r. ⊤ };
+
     fn decide(&mut self, alloc: Global, t: &Table) -> Result<OwnedRecord, NoMemory> {
         decide(alloc, &mut self.finders, t, self.budget)
     }

@@ -13,9 +13,10 @@ use Rattle.commands.specs.Answer.{fault_text}
 use Rattle.commands.specs.declared.outcome.Outcome.{Outcome}
 use Rattle.commands.specs.declared.outcome.Outcome.TheVariants.{Accepted, Refused}
 
--- a record of the table, whose certificate stands within the limits, or claims nothing
-pub record DecidesTable (t : Packed) (o : Outcome) (answer : List ℕ) : Type 0 where
+-- a record of the table that the decider answers, whose certificate stands within the limits, or claims nothing
+pub record DecidesTable (Answers : Packed → Recorded → Type 0) (t : Packed) (o : Outcome) (answer : List ℕ) : Type 0 where
   pub decided : Recorded
+  pub asked : Answers t decided
   pub table : decided.table ≡ t
   pub certified : IsCertified decided
   pub accepted : o ≡ Accepted
@@ -30,7 +31,7 @@ abbrev pub read_table : Option (Bor (List ℕ)) → Result Packed RecordFault
 read_table None = Err TooLong
 read_table (Some line) = table_read (table_of line.now)
 
--- what is printed for what was read
-abbrev pub Decides : Result Packed RecordFault → Outcome → List ℕ → Type 0
-Decides (Ok t) o answer = DecidesTable t o answer
-Decides (Err f) o answer = (o ≡ Refused) × (answer ≡ fault_text f)
+-- what is printed for what was read, by what the decider answers
+abbrev pub Decides : (Packed → Recorded → Type 0) → Result Packed RecordFault → Outcome → List ℕ → Type 0
+Decides Answers (Ok t) o answer = DecidesTable Answers t o answer
+Decides Answers (Err f) o answer = (o ≡ Refused) × (answer ≡ fault_text f)

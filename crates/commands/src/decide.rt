@@ -45,7 +45,7 @@ pub fn decide_line<D: Decider>(
     line: Option<&[u8]>,
     out: &mut Vec<u8>,
 ) -> Result<Outcome, NoMemory>
-    ensures { IfOk result (λ o. (answer : List ℕ) × Decides (read_table line.entry) o answer × (out.new.items ≡ out.old.items ++ answer ++ 10 ∷ [])) }
+    ensures { IfOk result (λ o. (answer : List ℕ) × Decides (D.answers decider.old) (read_table line.entry) o answer × (out.new.items ≡ out.old.items ++ answer ++ 10 ∷ [])) }
 {
     let outcome = match read_table(line) {
         Ok(table) => append_record(alloc, decider, &table, out)?,
@@ -78,7 +78,7 @@ fn append_record<D: Decider>(
     t: &Table,
     out: &mut Vec<u8>,
 ) -> Result<Outcome, NoMemory>
-    ensures { IfOk result (λ o. (answer : List ℕ) × DecidesTable t.now o answer × (out.new.items ≡ out.old.items ++ answer)) }
+    ensures { IfOk result (λ o. (answer : List ℕ) × DecidesTable (D.answers decider.old) t.now o answer × (out.new.items ≡ out.old.items ++ answer)) }
 {
     let record = decider.decide(alloc, t)?;
     record.lent().write_text(out)?;

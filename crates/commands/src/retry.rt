@@ -1,7 +1,9 @@
 // `bb retry`: the holdouts of a ledger are tried again.
 ghost use Rattle.std.specs.Prelude.{◌≡◌, None, IfOk, OnOk};
+ghost use Rattle.cert.specs.Claim.{shown_by};
 ghost use Rattle.cert.specs.Kinds.{recorded};
-ghost use Rattle.commands.specs.Retry.{Gains, StaysInStep, IsTried, AreRetried};
+ghost use Rattle.ledger.specs.Held.{IsHoldout};
+ghost use Rattle.commands.specs.Retry.{Gains, StaysInStep, AtSomeTime, ChangesBy, IsTried, AreRetried};
 
 use crate::ended::Ended;
 use crate::ledger_report::{Opened, bytes_of, loaded, outcome_by};
@@ -74,8 +76,9 @@ fn cut_off<L: LedgerOut>(left: &Left, ledger: &mut L) -> Result<(), Ended> {
     }
 }
 
-/// Asks the decider for each holdout of a board, in the order of their texts, offers what it answers, and
-/// appends what is taken to the ledger, so that a ledger that was in step with the board is so again.
+/// Asks the decider for each holdout of a board, in the order of their texts. What it answers is taken where
+/// it has a verdict, and its line is appended to the ledger, so that a ledger that was in step with the
+/// board is so again; else nothing changes.
 pub fn retry_holdouts<L: LedgerOut, D: Decider>(
     alloc: Global,
     board: &mut Board,
@@ -84,7 +87,7 @@ pub fn retry_holdouts<L: LedgerOut, D: Decider>(
 ) -> Result<(), Ended>
     ensures root { board.new.root ≡ board.old.root }
     ensures step { OnOk result (StaysInStep board.old (L.text ledger.old) board.new (L.text ledger.new)) }
-    ensures order { OnOk result (AreRetried board.old (L.text ledger.old) board.new (L.text ledger.new)) }
+    ensures order { OnOk result (AreRetried (AtSomeTime D D.answers) board.old (L.text ledger.old) board.new (L.text ledger.new)) }
 {
     for table in board.holdouts()? {
         retry(alloc, board, decider, &table, ledger)?;
@@ -92,6 +95,7 @@ pub fn retry_holdouts<L: LedgerOut, D: Decider>(
     Ok(())
 }
 
+// Asks the decider for a holdout.
 fn retry<L: LedgerOut, D: Decider>(
     alloc: Global,
     board: &mut Board,
@@ -99,9 +103,10 @@ fn retry<L: LedgerOut, D: Decider>(
     t: &Table,
     ledger: &mut L,
 ) -> Result<(), Ended>
+    requires { IsHoldout board.old.records t.now }
     ensures root { board.new.root ≡ board.old.root }
     ensures step { OnOk result (StaysInStep board.old (L.text ledger.old) board.new (L.text ledger.new)) }
-    ensures tried { OnOk result (IsTried board.old.root t.now board.old.records (L.text ledger.old) board.new.records (L.text ledger.new)) }
+    ensures tried { OnOk result (IsTried (AtSomeTime D D.answers) t.now board.old.records (L.text ledger.old) board.new.records (L.text ledger.new)) }
 {
     let made = decider.decide(alloc, t)?;
     let record = Record {
@@ -111,16 +116,17 @@ fn retry<L: LedgerOut, D: Decider>(
     take(alloc, board, &record, ledger)
 }
 
-// Offers a record, and appends its line where it is taken.
+// Offers a record of a holdout, and appends its line where it is taken.
 fn take<L: LedgerOut>(
     alloc: Global,
     board: &mut Board,
     r: &Record,
     ledger: &mut L,
 ) -> Result<(), Ended>
+    requires { IsHoldout board.old.records (recorded r.now).table }
     ensures root { board.new.root ≡ board.old.root }
     ensures step { OnOk result (StaysInStep board.old (L.text ledger.old) board.new (L.text ledger.new)) }
-    ensures tried { OnOk result (IsTried board.old.root (recorded r.now).table board.old.records (L.text ledger.old) board.new.records (L.text ledger.new)) }
+    ensures changes { OnOk result (ChangesBy (shown_by (recorded r.now).claim) (recorded r.now) board.old.records (L.text ledger.old) board.new.records (L.text ledger.new)) }
 {
     // The proof needs that it is a board.
     let _ = board.root();
@@ -132,14 +138,16 @@ fn take<L: LedgerOut>(
     Ok(())
 }
 
-// Offers a record, and answers whether it is taken.
+// Offers a record of a holdout, and answers whether it is taken.
 fn gains(board: &mut Board, r: &Record) -> Result<bool, Ended>
+    requires { IsHoldout board.old.records (recorded r.now).table }
     ensures root { board.new.root ≡ board.old.root }
-    ensures ok { IfOk result (λ gained. Gains board.old.root board.old.records (recorded r.now) gained board.new.records) }
+    ensures ok { IfOk result (λ gained. Gains board.old.records (recorded r.now) gained board.new.records) }
 {
     match board.offer(r) {
-        Ok(Taken::New) => Ok(true),
         Ok(Taken::Settled) => Ok(true),
+        // for an open table alone
+        Ok(Taken::New) => Ok(true),
         Ok(Taken::Known) => Ok(false),
         // it is certified, and of a table of the board, so it was memory
         Err(_) => Err(Ended::NoMemory),

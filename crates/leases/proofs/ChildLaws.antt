@@ -1,12 +1,7 @@
 -- Children of a table: how many they are, and when they are open.
 use Rattle.std.proofs.Common.{◌≡◌, ◌≢◌, ℕ, ◌≤◌, ◌⊎◌, ◌↔◌, inl, inr, refl, sym, ◌∙◌, ap, subst, List, [], ◌∷◌, ◌++◌, All, AllPairs, length, get_or, Option, Some, None, IfSome, Contains, arith}
-use Rattle.std.specs.Ordering.{nat_cmp}
-use Rattle.std.specs.declared.cmp.Ordering.TheVariants.{Less, Equal}
-use Rattle.std.specs.Cmp.{tied_itself}
-use Rattle.std.specs.Cmp.Lexicographic.{slice_cmp, nat_list_cmp_total}
 use Rattle.machine_text.specs.declared.transition.Sym.{Sym}
 use Rattle.machine_text.specs.Packed.{Packed, IsTable, entry_of}
-use Rattle.machine_text.specs.Text.{text_of}
 use Rattle.turing.proofs.Counting.{length-le_of_members}
 use Rattle.turing.proofs.TableLaws.{table_machine}
 use Rattle.std.specs.Option.{option_map}
@@ -28,13 +23,8 @@ use Rattle.ledger.proofs.Apart.{first_member, all_members}
 use Rattle.ledger.proofs.BoardLaws.{marked_in_tree}
 use Rattle.ledger.proofs.OpenLaws.{IsTaken, open_taken, open_in_tree}
 use Rattle.ledger.proofs.Taking.{Below, taken_last, taken_settling}
+use Rattle.ledger.proofs.TextOrder.{all_apart}
 use Rattle.leases.specs.Leases.{IsOpenOn}
-
-texts_apart : (a b : Packed) → slice_cmp nat_cmp (text_of a) (text_of b) ≡ Less → a ≢ b
-texts_apart a b less = λ (e : a ≡ b).
-    let itself : slice_cmp nat_cmp (text_of a) (text_of a) ≡ Less = subst (λ (p : Packed). slice_cmp nat_cmp (text_of a) (text_of p) ≡ Less) (sym e) less in
-    let tied : slice_cmp nat_cmp (text_of a) (text_of a) ≡ Equal = tied_itself nat_list_cmp_total (text_of a) in
-    absurd (cc)
 
 -- the law of the list of a table's children
 abbrev pub ChildrenListed : Type 0
@@ -49,8 +39,7 @@ few_children t (x ∷ xs) listed table all =
     let states = table.limit in
     let within : All (Contains (children_at t child.state child.symbol)) (x ∷ xs) = all_members (Contains (children_at t child.state child.symbol)) (x ∷ xs)
     (λ q h. (listed t q child.used child.count child.state child.symbol table child.in_order child.halts).1 ((all.exact q).0 h)) in
-    let once : AllPairs (λ (a b : Packed). a ≢ b) (x ∷ xs) = λ i j d less below. texts_apart (get_or (x ∷ xs) i d) (get_or (x ∷ xs) j d) (all.rising i j d less below) in
-    let most = length-le_of_members (children_at t child.state child.symbol) (x ∷ xs) within once in
+    let most = length-le_of_members (children_at t child.state child.symbol) (x ∷ xs) within (all_apart (IsChildTable t) (x ∷ xs) all) in
     omega arith
 
 -- no table of a tree has the root as a child

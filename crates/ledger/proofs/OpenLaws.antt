@@ -41,7 +41,7 @@ same_after x xs ys t same =
       | false ↦ λ no. claim_past x xs t no ∙ (same ∙ sym (claim_past x ys t no))
     ] refl
 
-settled_other : (rs : List Recorded) (r : Recorded) (t : Packed) → t ≢ r.table → claim_in (settled rs r) t ≡ claim_in rs t
+pub settled_other : (rs : List Recorded) (r : Recorded) (t : Packed) → t ≢ r.table → claim_in (settled rs r) t ≡ claim_in rs t
 unfolding settled
 settled_other [] r t other = refl
 settled_other (x ∷ xs) r t other =

@@ -3,7 +3,9 @@ use Rattle.std.proofs.Common.{◌≡◌, ◌≢◌, ℕ, zero, suc, ◌+◌, ◌
 use Rattle.std.specs.List.{Contains, AllPairs}
 use Rattle.std.specs.List.Sorted.{IsPermutation, IsSorted, IsStrictlySortedBy}
 use Rattle.std.specs.Bool.{Decides}
-use Rattle.std.specs.Ordering.{is_lt, ordering_reverse}
+use Rattle.std.specs.Cmp.{tied_itself}
+use Rattle.std.specs.Cmp.Lexicographic.{slice_cmp, nat_list_cmp_total}
+use Rattle.std.specs.Ordering.{is_lt, nat_cmp, ordering_reverse}
 use Rattle.std.specs.declared.cmp.Ordering.{Ordering}
 use Rattle.std.specs.declared.cmp.Ordering.TheVariants.{Less, Equal, Greater}
 use Rattle.std.proofs.lemmas.List.Elements.{All-contains_itself}
@@ -11,6 +13,7 @@ use Rattle.std.proofs.lemmas.List.Sorted.{Contains-permutation, IsPermutation-sy
 use Rattle.std.proofs.lemmas.Map.Keys.{IsDistinct-IsPermutation, Less-from_sorted}
 use Rattle.std.proofs.lemmas.Map.Made.{AllPairs-from_IsDistinct, IsDistinct-from_AllPairs}
 use Rattle.machine_text.specs.Packed.{Packed, IsTable}
+use Rattle.machine_text.specs.Text.{text_of}
 use Rattle.machine_text.proofs.Order.{order_of_texts}
 use Rattle.ledger.specs.Records.{same_table}
 use Rattle.ledger.specs.Inside.Open.{table_cmp}
@@ -77,3 +80,13 @@ all_sorted IsOfKind xs ys from to are_tables once same sorted = record {
   exact = λ t. (λ at. from t (Contains-permutation ys xs t (IsPermutation-sym xs ys same) at), λ kind. Contains-permutation xs ys t same (to t kind));
   rising = in_text_order ys (λ t at. are_tables t (from t (Contains-permutation ys xs t (IsPermutation-sym xs ys same) at))) (sorted_rising ys sorted (permuted_once xs ys same once));
 }
+
+-- tables in the order of their texts differ
+texts_apart : (a b : Packed) → slice_cmp nat_cmp (text_of a) (text_of b) ≡ Less → a ≢ b
+texts_apart a b less = λ (e : a ≡ b).
+    let itself : slice_cmp nat_cmp (text_of a) (text_of a) ≡ Less = subst (λ (p : Packed). slice_cmp nat_cmp (text_of a) (text_of p) ≡ Less) (sym e) less in
+    let tied : slice_cmp nat_cmp (text_of a) (text_of a) ≡ Equal = tied_itself nat_list_cmp_total (text_of a) in
+    absurd (cc)
+
+pub all_apart : (IsOfKind : Packed → Type 0) (tables : List Packed) → AreAll IsOfKind tables → AllPairs (λ (a b : Packed). a ≢ b) tables
+all_apart IsOfKind tables all = λ i j d less below. texts_apart (get_or tables i d) (get_or tables j d) (all.rising i j d less below)

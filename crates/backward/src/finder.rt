@@ -5,7 +5,7 @@ ghost use Rattle.turing.specs.Backward.{Backward as IsBackward};
 ghost use Rattle.backward.specs.Limits.{depth_limit};
 ghost use Rattle.backward.specs.Paths.{IsTooWide};
 
-use crate::evidence::{Backward, does_steps};
+use crate::backward::{Backward, does_steps};
 use crate::limits::MAX_DEPTH;
 use crate::path_counter::PathCounter;
 use machine_text::Table;

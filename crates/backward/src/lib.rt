@@ -7,13 +7,13 @@
 //! of known cells tells of a configuration (`Known`), and how many paths go further back than one (`Counts`).
 #![tactic(auto)]
 
-mod evidence;
+mod backward;
 mod finder;
 mod limits;
 mod path_counter;
 mod step_back;
 mod too_wide;
 
-pub use evidence::Backward;
+pub use backward::Backward;
 pub use finder::BackwardFinder;
 pub use limits::{MAX_DEPTH, MAX_PATHS};

@@ -1,15 +1,17 @@
 //! `bb`, a verified tool for the busy beaver problem: `main` hands the words of the command line, the streams and
-//! the system's files to `obey`. The words are read in the crate `command_line`, the command that they ask for
-//! is begun in `dispatch`, and what the commands do stands in `commands`.
+//! the system's files to `obey` (`program`). The words are read in the crate `command_line`, the command that they
+//! ask for is begun in `dispatch`, and what the commands do stands in `line_commands`, `ledger_commands` and
+//! `node_commands`.
 #![tactic(auto)]
 
-use command_line::obey;
 pub use command_line::{LineFault, options};
-pub use commands::{
-    Options, cmd_check, cmd_coord, cmd_decide, cmd_merge, cmd_report, cmd_retry, cmd_run, report,
-};
 use dispatch::System;
 pub use json_report::report_json;
+pub use ledger_commands::{cmd_merge, cmd_report, cmd_retry, report};
+pub use line_commands::{cmd_check, cmd_decide};
+pub use node_commands::{cmd_coord, cmd_run};
+pub use options::Options;
+use program::obey;
 use std::env;
 use std::process::ExitCode;
 

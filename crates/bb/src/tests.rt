@@ -1,6 +1,8 @@
 // Command lines, and what is said in place of a command, also to streams that fail.
-use command_line::{LineFault, obey, options};
-use commands::{Beginning, Host, Merging, Options, Outcome, Search, Settling};
+use command_line::{LineFault, options};
+use ledger_commands::Host;
+use options::{Beginning, Merging, Options, Outcome, Search, Settling};
+use program::obey;
 use std::alloc::Global;
 use std::io::{self, Read, Write};
 use std::process::Abort;

@@ -1,6 +1,6 @@
 -- What is refused isn't certified.
-use Rattle.run.specs.declared.verdicts.Refused.{Refused}
-use Rattle.run.specs.declared.verdicts.Refused.TheVariants.{Fails, TooLong, TooWide, NoMemory}
+use Rattle.evidence.specs.declared.verdicts.Refused.{Refused}
+use Rattle.evidence.specs.declared.verdicts.Refused.TheVariants.{Fails, TooLong, TooWide, NoMemory}
 use Rattle.cert.specs.Claim.{Recorded}
 use Rattle.cert.specs.Certified.{IsCertified, IsRefusedBy}
 

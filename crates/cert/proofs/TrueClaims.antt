@@ -11,7 +11,7 @@ use Rattle.far.specs.Automata.{described}
 use Rattle.ngram_cps.specs.Listing.{IsItem}
 use Rattle.ngram_cps.specs.Words.{word_text}
 use Rattle.ngram_cps.specs.Lists.{IsLocalItem}
-use Rattle.run.specs.Verdict.{IsTrueOf}
+use Rattle.evidence.specs.Verdict.{IsTrueOf}
 use Rattle.cert.specs.Claim.{Claim, HaltsClaim, CycleClaim, TranslatedClaim, BackwardClaim, NgramClaim, FarClaim, NoClaim, Stands, shown_by}
 
 pub standing_is_true : (c : Claim) (p : Packed) → IsTable p → Stands c p → IfSome (shown_by c) (λ v. IsTrueOf v (entry_of p))

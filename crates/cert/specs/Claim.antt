@@ -12,8 +12,8 @@ use Rattle.backward.specs.Paths.{IsTooWide}
 use Rattle.far.specs.Automata.{Automata, AreAutomata, AreWithin as AreSized, AreAutomataOf}
 use Rattle.ngram_cps.specs.Lists.{Lists, AreLists, AreWithin, IsPositionSet}
 use Rattle.run.specs.Limits.{halt_step_limit}
-use Rattle.run.specs.declared.verdicts.Verdict.{Verdict}
-use Rattle.run.specs.declared.verdicts.Verdict.TheVariants.{Halts, Never}
+use Rattle.evidence.specs.declared.verdicts.Verdict.{Verdict}
+use Rattle.evidence.specs.declared.verdicts.Verdict.TheVariants.{Halts, Never}
 
 -- H k: halts in k steps; C i j: the same configuration at the times i and j; T i j side: the same but for a
 -- shift and for what lies behind; B d: no configuration comes to a halting pair after d steps; N g L R C: the

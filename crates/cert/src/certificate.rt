@@ -2,10 +2,11 @@
 ghost use Rattle.std.specs.Prelude.{◌≡◌, IfOk};
 
 use backward::Backward;
+use evidence::{NoMemory, Verdict};
 use far::{Far, OwnedFar};
 use loops::{Cycle, Translated};
 use ngram_cps::{Ngram, OwnedNgram};
-use run::{HaltsIn, NoMemory, Verdict};
+use run::HaltsIn;
 use std::alloc::Global;
 
 /// What is put forward for a table.

@@ -9,8 +9,8 @@ use crate::certificate::OwnedCertificate;
 use crate::finder::Finder;
 use crate::judgement::judge;
 use crate::record::{OwnedRecord, Record};
+use evidence::{NoMemory, Refused};
 use machine_text::Table;
-use run::{NoMemory, Refused};
 use std::alloc::{AllocError, Global};
 
 /// A record of the table with the first certificate that stands of those that the finders give, asked in

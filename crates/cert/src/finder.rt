@@ -1,11 +1,12 @@
 // Finders: what looks for certificates.
 use crate::certificate::OwnedCertificate;
 use backward::BackwardFinder;
+use evidence::NoMemory;
 use far::{FarFinder, OwnedFar};
 use loops::{CycleFinder, TranslatedFinder};
 use machine_text::Table;
 use ngram_cps::NgramFinder;
-use run::{HaltFinder, NoMemory};
+use run::HaltFinder;
 
 /// Looks for a certificate for a table. What it gives need not stand: whoever asks a finder judges it.
 pub trait Finder: Drop {

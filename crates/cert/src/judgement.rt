@@ -6,8 +6,8 @@ ghost use Rattle.cert.specs.Kinds.{claim_of, recorded};
 
 use crate::certificate::Certificate;
 use crate::record::Record;
+use evidence::{Evidence, Refused, Verdict};
 use machine_text::Pair;
-use run::{Evidence, Refused, Verdict};
 use std::alloc::Global;
 
 /// What a certificate that stands shows of its table.

@@ -24,6 +24,7 @@ mod writer;
 pub use certificate::{Certificate, OwnedCertificate};
 pub use deciding::{Decider, Finders, decide};
 pub use decimal::decimal_value;
+pub use evidence::NoMemory;
 pub use finder::Finder;
 pub use judgement::{Judged, judge, judge_on};
 pub use laws::{
@@ -33,5 +34,4 @@ pub use laws::{
 pub use limits::MAX_RECORD_BYTES;
 pub use record::{OwnedRecord, Record};
 pub use record_fault::RecordFault;
-pub use run::NoMemory;
 pub use text::{append_number, append_table};

@@ -2,9 +2,9 @@
 ghost use Rattle.std.specs.Prelude.{◌≡◌, ◌++◌, decimal, OnOk, OnErr};
 ghost use Rattle.machine_text.specs.Text.{text_of};
 
+use evidence::NoMemory;
 use itoa::Buffer;
 use machine_text::{TEXT_BYTES, Table};
-use run::NoMemory;
 
 /// Appends a number in decimal. Where memory is refused, `out` is as it was.
 pub fn append_number(n: u64, out: &mut Vec<u8>) -> Result<(), NoMemory>

@@ -11,10 +11,10 @@ use crate::certificate::Certificate;
 use crate::laws::records_parse_back;
 use crate::record::Record;
 use crate::text::{append_number, append_table};
+use evidence::NoMemory;
 use far::Far;
 use machine_text::Dir;
 use ngram_cps::Ngram;
-use run::NoMemory;
 
 impl Record<'_> {
     /// Appends the record's text, which reads back as the record where lists and automata are made for tables of as many

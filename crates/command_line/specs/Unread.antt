@@ -1,7 +1,7 @@
 -- How a command line ends that asks for nothing.
 use Rattle.std.specs.Prelude.{◌≡◌, ◌⊎◌}
-use Rattle.commands.specs.declared.outcome.Outcome.{Outcome}
-use Rattle.commands.specs.declared.outcome.Outcome.TheVariants.{Accepted, BadLine, NoMemory, Failed}
+use Rattle.options.specs.declared.outcome.Outcome.{Outcome}
+use Rattle.options.specs.declared.outcome.Outcome.TheVariants.{Accepted, BadLine, NoMemory, Failed}
 use Rattle.command_line.specs.declared.line_fault.LineFault.{LineFault}
 use Rattle.command_line.specs.declared.line_fault.LineFault.TheVariants.{Refused, NotText, NoSuchCommand, OutOfRange, NoMemory as WantsMemory}
 

@@ -5,7 +5,7 @@ use crate::words::{
     STEPS, WHY, WORKERS,
 };
 use clap::{Arg, ArgAction, Command, value_parser};
-use run::NoMemory;
+use options::NoMemory;
 use std::alloc::Global;
 
 /// The program's commands.

@@ -9,10 +9,8 @@
 mod grammar;
 mod help;
 mod line_fault;
-mod obeying;
 mod reading;
 mod words;
 
 pub use line_fault::LineFault;
-pub use obeying::obey;
 pub use reading::options;

@@ -3,8 +3,7 @@ ghost use Rattle.command_line.specs.Unread.{EndsUnread};
 
 use clap::Error;
 use clap::error::ErrorKind;
-use commands::{Ended, Outcome};
-use run::NoMemory;
+use options::{Ended, NoMemory, Outcome};
 use std::alloc::{AllocFailed, Global};
 use std::io::{self, Write};
 use thiserror::Error as Fault;

@@ -1,6 +1,6 @@
 // From what clap made of the words to the options.
 ghost use Rattle.std.specs.Prelude.{◌≤◌, IfOk, IfSome};
-ghost use Rattle.commands.specs.Ranges.{AreWithinRanges, IsWithinRange};
+ghost use Rattle.options.specs.Ranges.{AreWithinRanges, IsWithinRange};
 
 use crate::grammar::program;
 use crate::line_fault::LineFault;
@@ -9,7 +9,7 @@ use crate::words::{
     STEPS, WHY, WORKERS,
 };
 use clap::ArgMatches;
-use commands::{Beginning, Merging, Options, Search, Settling};
+use options::{Beginning, Merging, Options, Search, Settling};
 use std::alloc::Global;
 
 /// What the words of a command line ask for, the program's name first. Where there are options, each number

@@ -1,12 +1,13 @@
 // The finders that the command line can ask for.
 use backward::BackwardFinder;
 use cert::{Finder, OwnedCertificate};
-use commands::Search;
+use evidence::NoMemory;
 use far::FarFinder;
 use loops::{CycleFinder, TranslatedFinder};
 use machine_text::Table;
 use ngram_cps::NgramFinder;
-use run::{HaltFinder, NoMemory};
+use options::Search;
+use run::HaltFinder;
 use std::alloc::Global;
 
 // One of them. A list of these can be made by a function, as one of boxed finders can't.

@@ -1,15 +1,15 @@
 // From what a command line asks for to the command, and how it ended.
-ghost use Rattle.commands.specs.Ranges.{IsBeginning, IsSettling, AreWithinRanges};
+ghost use Rattle.options.specs.Ranges.{IsBeginning, IsSettling, AreWithinRanges};
 
 use crate::any_finder::all_finders;
 use cert::{Decider, Finder, Finders};
-use commands::{
-    Beginning, Ended, Host, Opened, Options, Outcome, Search, Settling, cmd_check, cmd_coord,
-    cmd_decide, cmd_merge, cmd_report, cmd_retry, cmd_run, opened,
-};
+use evidence::NoMemory;
 use json_report::Form;
 use lease_core::Worker;
-use run::NoMemory;
+use ledger_commands::{Host, Opened, cmd_merge, cmd_report, cmd_retry, opened};
+use line_commands::{cmd_check, cmd_decide};
+use node_commands::{cmd_coord, cmd_run};
+use options::{Beginning, Ended, Options, Outcome, Search, Settling};
 use std::alloc::{AllocError, Global};
 use std::io::{self, Empty, Read, Write};
 use std::time::Clock;

@@ -1,5 +1,5 @@
 // The files and the clock of the system.
-use commands::{FileLedger, Host};
+use ledger_commands::{FileLedger, Host};
 use std::fs::{self, OpenFile, OpenOptions};
 use std::io;
 use std::time::{Clock, Duration};

@@ -2,7 +2,7 @@
 ghost use Rattle.std.specs.Prelude.{◌≡◌, ◌++◌, ◌<◌, ◌≤◌, ℕ, OnOk, length, take, slice_index};
 
 use crate::limits::{MAX_MOVES, MAX_ROWS, Set};
-use run::NoMemory;
+use evidence::NoMemory;
 
 // Appends the numbers of delta.
 pub(crate) fn append_moves(delta: &[u8], numbers: &mut Vec<Set>) -> Result<(), NoMemory>

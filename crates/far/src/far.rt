@@ -7,8 +7,8 @@ ghost use Rattle.far.specs.Automata.{automata, AreAutomata, AreWithin};
 use crate::hexadecimal::hex_number;
 use crate::limits::{MAX_MOVES, MAX_ROWS, MAX_SIZE, Set};
 use crate::numbers::{are_sets, are_states, delta_of, rows_of, set_limit};
+use evidence::{Evidence, Refused, Verdict};
 use machine_text::{Dir, Table};
-use run::{Evidence, Refused, Verdict};
 use std::alloc::Global;
 
 /// The claim that two automata fit a table, by which it never halts. The first, with the states 0 to `size` - 1,
@@ -174,7 +174,7 @@ impl Far {
 impl Evidence for Far {
     ghost use Rattle.std.specs.Prelude.{⊤};
     ghost use Rattle.machine_text.specs.Packed.{entry_of};
-    ghost use Rattle.run.specs.declared.verdicts.Verdict.TheVariants.{Never};
+    ghost use Rattle.evidence.specs.declared.verdicts.Verdict.TheVariants.{Never};
     ghost use Rattle.far.specs.Automata.{AreAutomataOf, described};
     ghost use Rattle.far.specs.Far.{automata_of};
     ghost use Rattle.turing.proofs.AutomataLaws.{automata_never};

@@ -7,8 +7,8 @@ ghost use Rattle.far.specs.Far.{automata_of};
 use crate::far::Far;
 use crate::growing::Growing;
 use crate::limits::MAX_SIZE;
+use evidence::NoMemory;
 use machine_text::{Dir, Table};
-use run::NoMemory;
 use std::alloc::Global;
 
 // How many transitions are tried for each step of a budget.

@@ -5,8 +5,8 @@ ghost use Rattle.far.specs.Limits.{size_limit};
 
 use crate::far::Far;
 use crate::limits::{MAX_MOVES, MAX_ROWS, Set};
+use evidence::NoMemory;
 use machine_text::{Dir, Entry, State, Sym, Table};
-use run::NoMemory;
 use std::alloc::Global;
 use std::marker::Model;
 

@@ -8,8 +8,8 @@ ghost use Rattle.far.specs.inside.Owned.{owned_delta, owned_rows, owned_keep};
 use crate::copies::{append_moves, moves_from, rows_from};
 use crate::far::Far;
 use crate::limits::Set;
+use evidence::NoMemory;
 use machine_text::Dir;
-use run::NoMemory;
 use std::alloc::Global;
 
 /// The same claim as `Far`, with as much memory as its numbers need: `Far` itself has room for the largest ones,

@@ -6,7 +6,7 @@ ghost use Rattle.far.specs.Texts.{hex_text, delta_text, rows_text, fields_text};
 use crate::far::Far;
 use crate::hexadecimal::{MAX_DIGITS, hex_text};
 use crate::limits::Set;
-use run::NoMemory;
+use evidence::NoMemory;
 
 impl Far {
     /// Appends the fields of a record from delta on, with a space between each two: they read back as the same

@@ -11,7 +11,7 @@ use Rattle.ledger.specs.WholeTree.{IsTreeChampion}
 use Rattle.ledger.specs.declared.tally.Tally.{Tally}
 use Rattle.ledger.specs.declared.status.Status.TheVariants.{Complete}
 use Rattle.ledger.proofs.WholeTree.{whole_tally, whole_champions, one_tally, one_list_of_champions}
-use Rattle.commands.proofs.TreeReports.{none_listed, complete_status}
+use Rattle.ledger_commands.proofs.TreeReports.{none_listed, complete_status}
 use Rattle.json_report.specs.JsonReport.{IsJsonReport, report_text, best_value, tables_value, count_value, table_value}
 use Rattle.json_report.specs.TreeJson.{IsTreeJson}
 

@@ -3,7 +3,7 @@ use Rattle.std.specs.Prelude.{ℕ, List, Bool, true, false}
 use Rattle.machine_text.specs.Packed.{Packed}
 use Rattle.cert.specs.Claim.{Recorded}
 use Rattle.ledger.specs.declared.left.Left.{Left}
-use Rattle.commands.specs.LedgerReport.{IsLines}
+use Rattle.ledger_commands.specs.LedgerReport.{IsLines}
 use Rattle.json_report.specs.JsonReport.{IsJsonReport}
 use Rattle.json_report.specs.declared.form.Form.{Form}
 use Rattle.json_report.specs.declared.form.Form.TheVariants.{Lines, Json}

@@ -10,7 +10,7 @@ use Rattle.ledger.specs.Held.{IsHoldout}
 use Rattle.ledger.specs.Tally.{AreAll, IsStatus, IsTally, IsChampion}
 use Rattle.ledger.specs.declared.tally.Tally.{Tally}
 use Rattle.ledger.specs.declared.status.Status.{Status}
-use Rattle.commands.specs.Report.{status_name}
+use Rattle.ledger_commands.specs.Report.{status_name}
 
 abbrev pub count_value : ℕ → Data
 count_value n = number (unsigned n)

@@ -3,8 +3,9 @@ ghost use Rattle.std.specs.Prelude.{◌≡◌};
 ghost use Rattle.json_report.specs.Forms.{form_of};
 
 use crate::report::report_json;
-use commands::{AsLines, Ended, ReportForm};
 use ledger::{Board, Left};
+use ledger_commands::{AsLines, ReportForm};
+use options::Ended;
 use std::alloc::Global;
 use std::io::Write;
 

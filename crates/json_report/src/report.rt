@@ -6,8 +6,8 @@ ghost use Rattle.json_report.specs.JsonReport.{IsJsonReport};
 ghost use Rattle.json_report.specs.TreeJson.{IsTreeJson};
 
 use crate::values::report_value;
+use evidence::NoMemory;
 use ledger::Board;
-use run::NoMemory;
 use std::alloc::Global;
 
 /// Appends the report of a board as one JSON object, without a space and with its members in the order of

@@ -4,10 +4,10 @@ ghost use Rattle.std.specs.Vec.Iter.{into_iter_items};
 ghost use Rattle.serde_json.specs.View.{view};
 ghost use Rattle.json_report.specs.JsonReport.{best_value, table_value, tables_value, object_of, report_value};
 
-use commands::status_name;
+use evidence::NoMemory;
 use ledger::{Champions, Holdouts, Status, Tally};
+use ledger_commands::status_name;
 use machine_text::{TEXT_BYTES, Table};
-use run::NoMemory;
 use serde_json::{Value, json};
 use std::alloc::Global;
 use std::vec::IntoIter;

@@ -5,7 +5,7 @@ use Rattle.machine_text.specs.Packed.{Packed, IsTable, entry_of}
 use Rattle.turing.proofs.Counting.{length-le_of_members}
 use Rattle.turing.proofs.TableLaws.{table_machine}
 use Rattle.std.specs.Option.{option_map}
-use Rattle.run.specs.declared.verdicts.Verdict.{Verdict}
+use Rattle.evidence.specs.declared.verdicts.Verdict.{Verdict}
 use Rattle.tree.specs.Closed.{Halting, Holdout}
 use Rattle.tree.specs.Children.{HaltsOn, IsChild}
 use Rattle.tree.specs.Tables.{IsChildTable, InTableTree, children_at}
@@ -15,7 +15,7 @@ use Rattle.tree.proofs.TableLaws.{child_map, tree_alike, tree_map, one_table_par
 use Rattle.tree.proofs.TreeLaws.{child_holes}
 use Rattle.leases.proofs.ChildCount.{children_bound}
 use Rattle.cert.specs.Claim.{Recorded}
-use Rattle.ledger.specs.Contents.{Contents, IsBoard}
+use Rattle.ledger.specs.Contents.{Contents, IsBoard, IsOpenOn}
 use Rattle.ledger.specs.Records.{mark_in, mark_of, mark_by}
 use Rattle.ledger.specs.Held.{IsFit, Settles, settled}
 use Rattle.ledger.specs.Tally.{AreAll, IsHalting}
@@ -24,7 +24,6 @@ use Rattle.ledger.proofs.BoardLaws.{marked_in_tree}
 use Rattle.ledger.proofs.OpenLaws.{IsTaken, open_taken, open_in_tree}
 use Rattle.ledger.proofs.Taking.{Below, taken_last, taken_settling}
 use Rattle.ledger.proofs.TextOrder.{all_apart}
-use Rattle.leases.specs.Leases.{IsOpenOn}
 
 -- the law of the list of a table's children
 abbrev pub ChildrenListed : Type 0

@@ -7,11 +7,11 @@ use Rattle.std.proofs.lemmas.List.Elements.{All-push, All-weaker, All-contains, 
 use Rattle.std.proofs.lemmas.List.Quantifiers.{all_pairs_push}
 use Rattle.std.proofs.lemmas.Option.{same_Some}
 use Rattle.machine_text.specs.Packed.{Packed}
-use Rattle.ledger.specs.Contents.{Contents}
+use Rattle.ledger.specs.Contents.{Contents, IsOpenOn}
 use Rattle.ledger.specs.Records.{same_table}
 use Rattle.ledger.proofs.Apart.{first_member}
 use Rattle.ledger.proofs.Same.{same_is, same_at, not_same, apart}
-use Rattle.leases.specs.Leases.{Lease, AreLeases, IsOpenOn, is_live, came_under, while_live}
+use Rattle.leases.specs.Leases.{Lease, AreLeases, is_live, came_under, while_live}
 use Rattle.leases.specs.Asks.{IsFree, Grants}
 use Rattle.leases.specs.Inside.Children.{ComesUnder}
 use Rattle.leases.specs.Inside.Keeping.{Kept, held, seen, IsKept}

@@ -15,7 +15,7 @@ use Rattle.machine_text.specs.Packed.{Packed}
 use Rattle.tree.specs.Closed.{Holdout}
 use Rattle.tree.specs.Tables.{IsChildTable}
 use Rattle.cert.specs.Claim.{Recorded}
-use Rattle.ledger.specs.Contents.{Contents}
+use Rattle.ledger.specs.Contents.{Contents, IsOpenOn}
 use Rattle.ledger.specs.Records.{same_table, mark_in}
 use Rattle.ledger.specs.Held.{IsHoldout}
 use Rattle.ledger.specs.Offers.{OfferGives}
@@ -23,7 +23,7 @@ use Rattle.ledger.specs.Tally.{IsHalting}
 use Rattle.ledger.specs.declared.faults.OfferFault.{OfferFault}
 use Rattle.ledger.specs.declared.faults.OfferFault.TheVariants.{WrongSize, NotOpen, Refused, NoMemory}
 use Rattle.ledger.proofs.Same.{not_same, apart}
-use Rattle.leases.specs.Leases.{Lease, AreLeases, IsOpenOn, is_live, came_under, while_live}
+use Rattle.leases.specs.Leases.{Lease, AreLeases, is_live, came_under, while_live}
 use Rattle.leases.specs.Offers.{renewed, TakesNew, TakesSettled}
 use Rattle.leases.specs.Inside.Keeping.{Kept, held, seen, IsKept}
 use Rattle.leases.proofs.ChildLaws.{Opens}

@@ -4,9 +4,9 @@ use Rattle.std.specs.Ordering.{nat_cmp, is_lt}
 use Rattle.std.specs.Cmp.Lexicographic.{slice_cmp}
 use Rattle.machine_text.specs.Packed.{Packed}
 use Rattle.machine_text.specs.Text.{text_of}
-use Rattle.ledger.specs.Contents.{Contents}
+use Rattle.ledger.specs.Contents.{Contents, IsOpenOn}
 use Rattle.leases.specs.Limits.{lease_limit, lease_time, last_number}
-use Rattle.leases.specs.Leases.{Leases, IsOpenOn, lease_of, ended}
+use Rattle.leases.specs.Leases.{Leases, lease_of, ended}
 use Rattle.leases.specs.declared.reply.Reply.{Reply}
 use Rattle.leases.specs.declared.reply.Reply.TheVariants.{Stop, Later, Grant}
 

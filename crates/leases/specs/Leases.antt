@@ -4,9 +4,8 @@ use Rattle.std.specs.Prelude.{◌≡◌, ◌≢◌, ℕ, ◌<◌, ◌≤◌, ◌
 use Rattle.std.specs.List.{list_any}
 use Rattle.std.specs.Map.{lookup}
 use Rattle.machine_text.specs.Packed.{Packed}
-use Rattle.tree.specs.Closed.{IsOpen}
-use Rattle.ledger.specs.Contents.{Contents}
-use Rattle.ledger.specs.Records.{same_table, mark_in}
+use Rattle.ledger.specs.Contents.{Contents, IsOpenOn}
+use Rattle.ledger.specs.Records.{same_table}
 use Rattle.leases.specs.Limits.{lease_limit}
 
 -- a live lease: its number, the worker that has it, and the moment at which it ends
@@ -44,9 +43,6 @@ came_under came t = lookup (same_table t) came
 -- the number of the live lease under which a table stands, or none
 abbrev pub lease_of : Leases → Packed → Option ℕ
 lease_of s t = while_live s.live (came_under s.came t)
-
-abbrev pub IsOpenOn : Contents → Packed → Type 0
-IsOpenOn b t = IsOpen b.root (mark_in b.records) t
 
 -- what holds at each moment: so many leases live at most, no number and no id stands twice, each number was given, and
 -- each table that came under a lease is open

@@ -8,7 +8,8 @@ use Rattle.ledger.specs.Offers.{OfferGives}
 use Rattle.ledger.specs.declared.faults.OfferFault.{OfferFault}
 use Rattle.ledger.specs.declared.faults.OfferFault.TheVariants.{NoMemory}
 use Rattle.leases.specs.Limits.{lease_time}
-use Rattle.leases.specs.Leases.{Lease, Leased, IsOpenOn, lease_of}
+use Rattle.ledger.specs.Contents.{IsOpenOn}
+use Rattle.leases.specs.Leases.{Lease, Leased, lease_of}
 
 -- what becomes of the records: as the board says of an offer; or memory was refused, and they stay as they were
 abbrev pub BoardGives : Packed → List Recorded → Recorded → Result Taken OfferFault → List Recorded → Type 0

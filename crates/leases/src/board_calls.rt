@@ -1,12 +1,12 @@
 // What leases ask of a board.
 ghost use Rattle.std.specs.Prelude.{◌≡◌, IfOk, Contains, ◌↔◌, IsTrue, false};
 ghost use Rattle.machine_text.specs.Packed.{Packed};
-ghost use Rattle.leases.specs.Leases.{IsOpenOn};
+ghost use Rattle.ledger.specs.Contents.{IsOpenOn};
 
 use crate::free_tables::FreeTables;
+use evidence::NoMemory;
 use ledger::Board;
 use machine_text::Table;
-use run::NoMemory;
 use std::alloc::Global;
 
 // The open tables of a board.

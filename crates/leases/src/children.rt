@@ -5,7 +5,8 @@ ghost use Rattle.tree.specs.Tables.{IsChildTable};
 ghost use Rattle.ledger.specs.Tally.{AreAll, IsHalting};
 ghost use Rattle.std.specs.Prelude.{vec_len, vec_capacity, Some, [], ◌∷◌, ◌++◌};
 ghost use Rattle.indexmap.specs.IndexMap.{spare};
-ghost use Rattle.leases.specs.Leases.{IsOpenOn, came_under};
+ghost use Rattle.ledger.specs.Contents.{IsOpenOn};
+ghost use Rattle.leases.specs.Leases.{came_under};
 ghost use Rattle.leases.specs.Limits.{child_limit};
 ghost use Rattle.leases.specs.Inside.Children.{CameOnly, ComesUnder};
 

@@ -5,7 +5,7 @@ ghost use Rattle.std.specs.declared.cmp.Reverse.{Reverse};
 ghost use Rattle.leases.specs.Inside.Deadlines.{entry, is_past, TakesPast};
 
 use crate::held_leases::is_due;
-use run::NoMemory;
+use evidence::NoMemory;
 use std::alloc::Global;
 use std::cmp::Reverse;
 use std::collections::BinaryHeap;

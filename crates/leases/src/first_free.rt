@@ -1,7 +1,8 @@
 // The first of the open tables that are under none.
 ghost use Rattle.std.specs.Prelude.{◌≡◌, Some, IfSome, IfNone, IsTrue, ◌↔◌, Contains, map};
 ghost use Rattle.machine_text.specs.Packed.{Packed};
-ghost use Rattle.leases.specs.Leases.{IsOpenOn, came_under, while_live};
+ghost use Rattle.ledger.specs.Contents.{IsOpenOn};
+ghost use Rattle.leases.specs.Leases.{came_under, while_live};
 ghost use Rattle.leases.specs.Asks.{IsFree, IsFirstFree};
 ghost use Rattle.leases.specs.Inside.Keeping.{held, seen, without};
 

@@ -5,8 +5,8 @@ ghost use Rattle.machine_text.specs.Packed.{Packed};
 ghost use Rattle.ledger.specs.Inside.Open.{table_cmp};
 ghost use Rattle.leases.specs.Inside.Free.{Gains, IsOnTop, LosesOnly};
 
+use evidence::NoMemory;
 use machine_text::Table;
-use run::NoMemory;
 use std::alloc::Global;
 use std::cmp::Reverse;
 use std::collections::BinaryHeap;

@@ -6,8 +6,8 @@ ghost use Rattle.leases.specs.Inside.Keeping.{is_numbered};
 
 use crate::free_tables::FreeTables;
 use crate::limits::LEASE_TIME;
+use evidence::NoMemory;
 use machine_text::Table;
-use run::NoMemory;
 
 // A live lease, which stands under its number: its worker, when it was given or renewed, and the tables that
 // came under it, of which some may be recorded by now.

@@ -3,13 +3,14 @@ use Rattle.std.proofs.Common.{◌≡◌, ℕ, ◌+◌, ◌-◌, ◌≤◌, List,
 use Rattle.std.specs.List.{position}
 use Rattle.machine_text.specs.Packed.{Packed}
 use Rattle.cert.specs.Claim.{Recorded}
-use Rattle.ledger.specs.LedgerText.{header_words, HasNoNewline, BeginsWithLine, HasHeader, AreTaken, joined, IsUnkept, IsUnkeptLine, IsLeft, ReadsAs}
+use Rattle.text.specs.Lines.{HasNoNewline, BeginsWithLine}
+use Rattle.ledger.specs.LedgerText.{header_words, HasHeader, AreTaken, joined, IsUnkept, IsUnkeptLine, IsLeft, ReadsAs}
 use Rattle.ledger.specs.LedgerLaws.{ReadsAsFirst}
 use Rattle.ledger.specs.declared.left.Left.{Left}
 use Rattle.ledger.specs.declared.left.Left.TheVariants.{Nothing, From}
 use Rattle.ledger.specs.declared.left.Unkept.{Unkept}
 use Rattle.ledger.specs.declared.left.Unkept.TheVariants.{Torn, Unread, Unfit, Repeated}
-use Rattle.ledger.proofs.Lines.{is_newline, no_newline, cut_line, same_line, same_cut, line_has_newline}
+use Rattle.text.proofs.Lines.{is_newline, no_newline, cut_line, same_line, same_cut, line_has_newline}
 
 -- a text has no newline, or begins with a line
 pub cases_line : (text : List ℕ) → HasNoNewline text ⊎ ((line : List ℕ) × (rest : List ℕ) × BeginsWithLine text line rest)

@@ -6,8 +6,8 @@ use Rattle.std.proofs.lemmas.Bool.{cases_lt}
 use Rattle.machine_text.specs.Packed.{Packed, IsTable, entry_of, holes}
 use Rattle.turing.specs.Halting.{HaltsAt, Never}
 use Rattle.turing.proofs.TableLaws.{table_machine}
-use Rattle.run.specs.declared.verdicts.Verdict.{Verdict}
-use Rattle.run.specs.declared.verdicts.Verdict.TheVariants.{Halts, Never as NeverHalts}
+use Rattle.evidence.specs.declared.verdicts.Verdict.{Verdict}
+use Rattle.evidence.specs.declared.verdicts.Verdict.TheVariants.{Halts, Never as NeverHalts}
 use Rattle.tree.specs.Closed.{Mark, Halting, NonHalting, Holdout, IsTrueMark, AreTrueMarks, IsVerdict, IsOpen, IsClosed, IsGreatestRecorded}
 use Rattle.tree.specs.Tables.{IsChildTable, InTableTree, Itself, OfChild, IsBestOfTable}
 use Rattle.tree.proofs.TableLaws.{child_alike, child_map}

@@ -3,9 +3,9 @@ use Rattle.std.proofs.Common.{◌≡◌, ℕ, ◌≤◌, List, Option, Some, Non
 use Rattle.machine_text.specs.Packed.{Packed, IsTable, entry_of, empty_table}
 use Rattle.machine_text.specs.declared.limits.TheConstants.{MAX_STATES}
 use Rattle.turing.specs.Halting.{HaltsAt, IsRado}
-use Rattle.run.specs.Verdict.{IsTrueOf}
-use Rattle.run.specs.declared.verdicts.Verdict.{Verdict}
-use Rattle.run.specs.declared.verdicts.Verdict.TheVariants.{Halts, Never}
+use Rattle.evidence.specs.Verdict.{IsTrueOf}
+use Rattle.evidence.specs.declared.verdicts.Verdict.{Verdict}
+use Rattle.evidence.specs.declared.verdicts.Verdict.TheVariants.{Halts, Never}
 use Rattle.tree.specs.Used.{InOrder}
 use Rattle.tree.specs.Closed.{Mark, Halting, IsTrueMark, AreTrueMarks, IsClosed, IsComplete, IsGreatestRecorded}
 use Rattle.tree.specs.Tables.{InTableTree, Itself, IsBestOfTable}

@@ -7,8 +7,8 @@ use Rattle.std.proofs.lemmas.List.Elements.{All-cons, All-nil}
 use Rattle.std.proofs.lemmas.Option.{slice_get-map, slice_get_within}
 use Rattle.indexmap.specs.IndexMap.{insert_entry}
 use Rattle.machine_text.specs.Packed.{Packed}
-use Rattle.run.specs.declared.verdicts.Verdict.{Verdict}
-use Rattle.run.specs.declared.verdicts.Verdict.TheVariants.{Halts, Never}
+use Rattle.evidence.specs.declared.verdicts.Verdict.{Verdict}
+use Rattle.evidence.specs.declared.verdicts.Verdict.TheVariants.{Halts, Never}
 use Rattle.tree.specs.Closed.{Holdout}
 use Rattle.cert.specs.Claim.{Claim, Recorded, shown_by}
 use Rattle.cert.specs.Kinds.{owned_claim}

@@ -7,8 +7,9 @@ use Rattle.std.proofs.lemmas.List.{append_cancel_left, take-append-drop, take_at
 use Rattle.machine_text.specs.declared.faults.TextFault.{TextFault}
 use Rattle.machine_text.specs.Packed.{Packed}
 use Rattle.machine_text.specs.Text.{table_of}
-use Rattle.ledger.specs.LedgerText.{header_words, HasNoNewline, BeginsWithLine, BeginsAsHeader, HasHeader, HasNoHeader}
-use Rattle.ledger.proofs.Lines.{line_has_newline, same_line}
+use Rattle.text.specs.Lines.{HasNoNewline, BeginsWithLine}
+use Rattle.ledger.specs.LedgerText.{header_words, BeginsAsHeader, HasHeader, HasNoHeader}
+use Rattle.text.proofs.Lines.{line_has_newline, same_line}
 
 module _ (text : List ℕ) where
   -- the words begin with the text

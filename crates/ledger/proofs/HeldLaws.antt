@@ -1,7 +1,7 @@
 -- What is true of every held list, and what keeps a list held.
 use Rattle.std.proofs.Common.{◌≡◌, ℕ, true, false, List, [], ◌∷◌, ◌++◌, Option, Some, None, option_map, inl, inr, refl, sym, ◌∙◌, ap, subst, append_assoc, append-nil, IfSome, ◌⊎◌}
-use Rattle.run.specs.Verdict.{IsTrueOf}
-use Rattle.run.specs.declared.verdicts.Verdict.{Verdict}
+use Rattle.evidence.specs.Verdict.{IsTrueOf}
+use Rattle.evidence.specs.declared.verdicts.Verdict.{Verdict}
 use Rattle.machine_text.specs.Packed.{Packed, IsTable, entry_of}
 use Rattle.tree.specs.Closed.{Mark, Halting, Holdout, IsOpen}
 use Rattle.cert.specs.Claim.{Claim, Recorded, Stands, shown_by}

@@ -15,7 +15,6 @@ pub mod TextOrder
 pub mod BoardLaws
 pub mod Completeness
 pub mod Sets
-pub mod Lines
 pub mod HeaderLaws
 pub mod LinesTaken
 pub mod Loads

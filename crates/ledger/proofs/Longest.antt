@@ -7,7 +7,8 @@ use Rattle.cert.specs.Claim.{Recorded}
 use Rattle.cert.specs.Grammar.{record_of}
 use Rattle.ledger.specs.Held.{IsFit, Settles}
 use Rattle.ledger.specs.Offers.{OfferGives}
-use Rattle.ledger.specs.LedgerText.{header_words, BeginsWithLine, HasHeader, AreTaken, joined, IsUnkept, ReadsAs}
+use Rattle.text.specs.Lines.{BeginsWithLine}
+use Rattle.ledger.specs.LedgerText.{header_words, HasHeader, AreTaken, joined, IsUnkept, ReadsAs}
 use Rattle.ledger.specs.LedgerLaws.{IsLongest}
 use Rattle.ledger.specs.Lists.{IsFitAfter, AreKept, held, Offer, AreOffered, answered, answered_with, AreFitLines}
 use Rattle.ledger.specs.declared.taken.Taken.{Taken}
@@ -17,7 +18,7 @@ use Rattle.ledger.specs.declared.faults.OfferFault.TheVariants.{WrongSize, NotOp
 use Rattle.ledger.specs.declared.left.Left.{Left}
 use Rattle.ledger.specs.declared.left.Unkept.{Unkept}
 use Rattle.ledger.specs.declared.left.Unkept.TheVariants.{Torn, Unread, Unfit, Repeated}
-use Rattle.ledger.proofs.Lines.{same_cut, same_line, line_has_newline}
+use Rattle.text.proofs.Lines.{same_cut, same_line, line_has_newline}
 use Rattle.ledger.proofs.Beginnings.{EndsAt, ends_by}
 use Rattle.ledger.proofs.Agreement.{Agree, agree_none, agree_new, agree_settled, new_fit, settling_fit, fit_now, fit_or_known, fit_or_refused}
 

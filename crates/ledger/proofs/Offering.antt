@@ -1,8 +1,8 @@
 -- Where an offered record stands, and what becomes of it.
 use Rattle.std.proofs.Common.{◌≡◌, List, [], ◌∷◌, ◌++◌, Option, Some, None, option_map, IsSome, inl, inr, ◌⊎◌, Result, Ok, Err, IfOk, IfErr, OnErr, refl, sym, ap, subst}
 use Rattle.machine_text.specs.Packed.{Packed}
-use Rattle.run.specs.declared.verdicts.Verdict.{Verdict}
-use Rattle.run.specs.declared.verdicts.Verdict.TheVariants.{Halts, Never}
+use Rattle.evidence.specs.declared.verdicts.Verdict.{Verdict}
+use Rattle.evidence.specs.declared.verdicts.Verdict.TheVariants.{Halts, Never}
 use Rattle.tree.specs.Closed.{IsVerdict, IsOpen}
 use Rattle.cert.specs.Claim.{Claim, Recorded, shown_by}
 use Rattle.ledger.specs.Records.{claim_in, mark_in, mark_of, mark_by}

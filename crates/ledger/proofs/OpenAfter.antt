@@ -1,8 +1,8 @@
 -- Which tables are opened by a record, and the pair that is known of a recorded table.
 use Rattle.std.proofs.Common.{◌≡◌, ℕ, ◌⊎◌, inl, inr, ◌↔◌, Some, None, List, Option, Contains, IfSome, IfNone, option_map, OnOk, Result, Ok, Err, refl, sym, ◌∙◌, ap}
 use Rattle.machine_text.specs.Packed.{Packed}
-use Rattle.run.specs.declared.verdicts.Verdict.{Verdict}
-use Rattle.run.specs.declared.verdicts.Verdict.TheVariants.{Halts, Never}
+use Rattle.evidence.specs.declared.verdicts.Verdict.{Verdict}
+use Rattle.evidence.specs.declared.verdicts.Verdict.TheVariants.{Halts, Never}
 use Rattle.tree.specs.Tables.{IsChildTable}
 use Rattle.cert.specs.Claim.{Claim, Recorded, shown_by}
 use Rattle.tree.specs.Closed.{Halting}

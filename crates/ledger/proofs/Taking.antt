@@ -7,8 +7,8 @@ use Rattle.std.specs.Option.{is_some}
 use Rattle.std.specs.BTreeMap.{BTreeMap, ContainsKey, is_at}
 use Rattle.machine_text.specs.Packed.{Packed, IsTable, entry_of}
 use Rattle.machine_text.specs.declared.transition.Pair.{Pair}
-use Rattle.run.specs.declared.verdicts.Verdict.{Verdict}
-use Rattle.run.specs.declared.verdicts.Verdict.TheVariants.{Halts, Never}
+use Rattle.evidence.specs.declared.verdicts.Verdict.{Verdict}
+use Rattle.evidence.specs.declared.verdicts.Verdict.TheVariants.{Halts, Never}
 use Rattle.tree.specs.Used.{InOrder}
 use Rattle.tree.specs.Closed.{IsOpen, Holdout}
 use Rattle.tree.specs.Tables.{IsChildTable, InTableTree}

@@ -1,12 +1,13 @@
 -- The text of a ledger: a header with the root of its tree, then records, each on a line. A line ends with a
 -- newline, the byte 10. A text is read as the records of its lines, up to the first that can't be taken.
-use Rattle.std.specs.Prelude.{◌≡◌, ◌≢◌, ℕ, ◌+◌, ◌⊎◌, List, [], ◌∷◌, ◌++◌, map, length, All, codes, Option, Some, None, Result, Ok, Err}
+use Rattle.std.specs.Prelude.{◌≡◌, ◌≢◌, ℕ, ◌+◌, ◌⊎◌, List, [], ◌∷◌, ◌++◌, map, length, codes, Option, Some, None, Result, Ok, Err}
 use Rattle.machine_text.specs.Packed.{Packed, entry_of}
 use Rattle.machine_text.specs.Text.{table_of, text_of}
 use Rattle.tree.specs.Used.{InOrder}
 use Rattle.cert.specs.Claim.{Recorded}
 use Rattle.cert.specs.Grammar.{record_of, record_text}
 use Rattle.ledger.specs.Contents.{Contents}
+use Rattle.text.specs.Lines.{HasNoNewline, BeginsWithLine}
 use Rattle.ledger.specs.Held.{IsFit, Settles, settled}
 use Rattle.ledger.specs.Offers.{OfferGives}
 use Rattle.ledger.specs.declared.taken.Taken.TheVariants.{Known}
@@ -21,14 +22,6 @@ use Rattle.ledger.specs.declared.faults.LoadFault.TheVariants.{BadHeader, WrongR
 -- what a header begins with; the text of the root follows
 abbrev pub header_words : List ℕ
 header_words = codes "bb-ledger 1 "
-
-abbrev pub HasNoNewline : List ℕ → Type 0
-HasNoNewline text = All (λ byte. byte ≢ 10) text
-
--- the text begins with a whole line, behind which the rest stands
-pub record BeginsWithLine (text line rest : List ℕ) : Type 0 where
-  pub is : text ≡ line ++ (10 ∷ rest)
-  pub one_line : HasNoNewline line
 
 -- a beginning of what a header begins with, or more than that
 abbrev pub BeginsAsHeader : List ℕ → Type 0

@@ -1,14 +1,14 @@
 -- Lists of records, in order: which of them are fit in their turn, and what is held of them in the end.
 use Rattle.std.specs.Prelude.{◌≡◌, ◌≢◌, ℕ, ◌⊎◌, if◌then◌else◌, List, [], ◌∷◌, ◌++◌, Contains, Some, None, Result, Ok, Err, fold}
 use Rattle.machine_text.specs.Packed.{Packed}
-use Rattle.run.specs.declared.verdicts.Verdict.TheVariants.{Halts}
+use Rattle.evidence.specs.declared.verdicts.Verdict.TheVariants.{Halts}
 use Rattle.tree.specs.Tables.{IsChildTable}
 use Rattle.cert.specs.Claim.{Recorded, shown_by}
 use Rattle.cert.specs.Certified.{IsCertified}
 use Rattle.cert.specs.Grammar.{record_of}
 use Rattle.ledger.specs.Records.{same_table}
 use Rattle.ledger.specs.Offers.{OfferGives}
-use Rattle.ledger.specs.LedgerText.{HasNoNewline}
+use Rattle.text.specs.Lines.{HasNoNewline}
 use Rattle.ledger.specs.declared.taken.Taken.{Taken}
 use Rattle.ledger.specs.declared.faults.OfferFault.{OfferFault}
 use Rattle.ledger.specs.declared.faults.OfferFault.TheVariants.{NoMemory}

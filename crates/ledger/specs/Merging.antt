@@ -1,7 +1,7 @@
 -- What two boards of one root come to together.
 use Rattle.std.specs.Prelude.{◌≡◌, ◌≢◌, ◌↔◌, ◌⊎◌, List, [], ◌∷◌, ◌++◌, Some, None, Result, Ok, Err}
 use Rattle.machine_text.specs.Packed.{Packed}
-use Rattle.run.specs.declared.verdicts.Verdict.{Verdict}
+use Rattle.evidence.specs.declared.verdicts.Verdict.{Verdict}
 use Rattle.cert.specs.Claim.{Recorded}
 use Rattle.ledger.specs.Records.{verdict_in}
 use Rattle.ledger.specs.Held.{IsHoldout}

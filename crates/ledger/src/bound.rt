@@ -7,8 +7,8 @@ ghost use Rattle.ledger.specs.Records.{verdict_in};
 
 use crate::board::Board;
 use cert::standing_claims_are_true;
+use evidence::Verdict;
 use machine_text::Table;
-use run::Verdict;
 use tree::{best_of_closed, child_is_table};
 
 /// What a board says of the best of a table: the greatest number of steps of all its extensions that halt,

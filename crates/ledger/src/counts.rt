@@ -2,7 +2,7 @@
 ghost use Rattle.std.specs.Prelude.{◌≡◌, ℕ, ◌<◌, ◌^◌, None};
 ghost use Rattle.ledger.specs.Inside.Counting.{with_shown, without_holdout, greater};
 
-use run::Verdict;
+use evidence::Verdict;
 
 // How many records there are of each kind, and the greatest number of steps of those that say that their
 // table halts.

@@ -1,6 +1,7 @@
 // The first line of a ledger's text.
 ghost use Rattle.std.specs.Prelude.{◌≡◌, ◌≢◌, ◌==◌, ◌<◌, ℕ, ◌++◌, ◌↔◌, List, length, position, IsTrue, IfSome, IfNone};
-ghost use Rattle.ledger.specs.LedgerText.{HasNoNewline, BeginsWithLine, BeginsAsHeader, PeekGives};
+ghost use Rattle.text.specs.Lines.{HasNoNewline, BeginsWithLine};
+ghost use Rattle.ledger.specs.LedgerText.{BeginsAsHeader, PeekGives};
 ghost use Rattle.ledger.specs.Inside.HeaderRead.{HeaderGives, OrderGives};
 
 use crate::faults::LoadFault;

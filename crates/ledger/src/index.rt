@@ -11,9 +11,9 @@ ghost use Rattle.ledger.specs.Records.{claim_in, verdict_in};
 
 use crate::kept::Kept;
 use cert::Certificate;
+use evidence::Verdict;
 use indexmap::IndexMap;
 use machine_text::{Pair, Table};
-use run::Verdict;
 
 // What the record for a table claims of it.
 pub fn certificate_for<'a>(records: &'a IndexMap<Table, Kept>, t: &Table) -> Option<Certificate<'a>>

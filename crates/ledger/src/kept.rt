@@ -7,8 +7,8 @@ ghost use Rattle.ledger.specs.Inside.Places.{IsRefusal};
 
 use crate::faults::OfferFault;
 use cert::{Judged, OwnedCertificate, Record, judge_on};
+use evidence::Refused;
 use machine_text::Pair;
-use run::Refused;
 use std::alloc::Global;
 
 // A certificate, and the pair on which its table halts, where it says that it does: so the children of the

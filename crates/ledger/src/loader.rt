@@ -10,8 +10,8 @@ use crate::header::{first_line, read_header};
 use crate::left::{Left, Unkept};
 use crate::taken::Taken;
 use cert::Record;
+use evidence::NoMemory;
 use machine_text::Table;
-use run::NoMemory;
 use std::alloc::{AllocError, Global};
 
 impl Board {

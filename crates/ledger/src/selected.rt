@@ -9,9 +9,9 @@ ghost use Rattle.ledger.specs.Inside.Open.{table_cmp};
 
 use crate::records::Records;
 use cert::Record;
+use evidence::{NoMemory, Verdict};
 use itertools::Itertools;
 use machine_text::Table;
-use run::{NoMemory, Verdict};
 use std::alloc::Global;
 use std::vec::IntoIter;
 

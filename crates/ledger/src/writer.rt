@@ -11,8 +11,8 @@ use crate::header::HEADER_WORDS;
 use crate::laws::ledgers_load_whole;
 use crate::records::Records;
 use cert::Record;
+use evidence::NoMemory;
 use machine_text::{TEXT_BYTES, Table};
-use run::NoMemory;
 
 impl Board {
     /// Appends the board's ledger: a header with the root, and each record on a line. It loads again whole,

@@ -3,7 +3,8 @@ ghost use Rattle.std.specs.Prelude.{◌≡◌, ◌+◌, ◌<◌, ◌≤◌, IfOk
 ghost use Rattle.loops.specs.Limits.{time_limit};
 ghost use Rattle.loops.specs.inside.Arrival.{ComesTo};
 
-use run::{NoMemory, Runner, Step};
+use evidence::NoMemory;
+use run::{Runner, Step};
 
 // Whether the run comes to time k. If so, the runner then stands there.
 pub(crate) fn comes_to(runner: &mut Runner, k: u64) -> Result<bool, NoMemory>

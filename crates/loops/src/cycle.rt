@@ -7,8 +7,9 @@ ghost use Rattle.loops.specs.Limits.{time_limit};
 use crate::arrival::comes_to;
 use crate::limits::MAX_TIME;
 use crate::snapshot::Snapshot;
+use evidence::{Evidence, NoMemory, Refused, Verdict};
 use machine_text::Table;
-use run::{Evidence, NoMemory, Refused, Runner, Verdict};
+use run::Runner;
 use std::alloc::Global;
 
 /// The claim that a table's run has the same configuration at the times `i` and `j`, of which `i` is the
@@ -22,7 +23,7 @@ pub struct Cycle {
 
 impl Evidence for Cycle {
     ghost use Rattle.turing.proofs.CycleLaws.{cycle_never};
-    ghost use Rattle.run.specs.declared.verdicts.Verdict.TheVariants.{Never};
+    ghost use Rattle.evidence.specs.declared.verdicts.Verdict.TheVariants.{Never};
 
     ghost within = { λ e. e.j ≤ time_limit };
 

@@ -7,8 +7,8 @@ ghost use Rattle.loops.specs.Limits.{time_limit};
 use crate::cycle::Cycle;
 use crate::cycle_watch::CycleWatch;
 use crate::search::Search;
+use evidence::NoMemory;
 use machine_text::Table;
-use run::NoMemory;
 use std::alloc::Global;
 
 /// Searches cycles.

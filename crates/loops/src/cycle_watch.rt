@@ -7,7 +7,8 @@ use crate::allowance::Allowance;
 use crate::cycle::Cycle;
 use crate::search::Watch;
 use crate::snapshot::Snapshot;
-use run::{NoMemory, Runner};
+use evidence::NoMemory;
+use run::Runner;
 use std::alloc::Global;
 
 // Keeps the configuration at each power of two of the time, and compares each later one that has the same

@@ -5,8 +5,9 @@ ghost use Rattle.loops.specs.Limits.{time_limit};
 ghost use Rattle.loops.specs.inside.Trail.{GoesTo};
 
 use crate::arrival::goes_on;
+use evidence::NoMemory;
 use machine_text::Dir;
-use run::{NoMemory, Runner};
+use run::Runner;
 
 // The farthest head of the times from where a runner stands to just before time j, at which it then
 // stands; none where the run doesn't come to time j.

@@ -5,8 +5,9 @@ ghost use Rattle.loops.specs.Limits.{time_limit};
 
 use crate::arrival::goes_on;
 use crate::limits::MAX_TIME;
+use evidence::NoMemory;
 use machine_text::Table;
-use run::{NoMemory, Runner};
+use run::Runner;
 use std::alloc::Global;
 
 // What looks at a run, time by time, until it finds a loop.

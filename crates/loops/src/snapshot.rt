@@ -6,8 +6,9 @@ ghost use Rattle.run.specs.Standing.{OnRun};
 ghost use Rattle.tape.specs.Places.{IsWithinLimit};
 ghost use Rattle.loops.specs.Limits.{time_limit};
 
+use evidence::NoMemory;
 use machine_text::{Dir, State};
-use run::{NoMemory, Runner};
+use run::Runner;
 use std::alloc::Global;
 use std::marker::Model;
 use tape::Tape;

@@ -9,8 +9,9 @@ use crate::allowance::Allowance;
 use crate::farthest_head::farther;
 use crate::snapshot::Snapshot;
 use crate::translated::Translated;
+use evidence::NoMemory;
 use machine_text::Dir;
-use run::{NoMemory, Runner};
+use run::Runner;
 use std::alloc::Global;
 
 // How far a run went on a side, and the last record that was kept. A record is a time at which the head is

@@ -8,8 +8,9 @@ use crate::arrival::comes_to;
 use crate::farthest_head::farthest_head;
 use crate::limits::MAX_TIME;
 use crate::snapshot::Snapshot;
+use evidence::{Evidence, NoMemory, Refused, Verdict};
 use machine_text::{Dir, Table};
-use run::{Evidence, NoMemory, Refused, Runner, Verdict};
+use run::Runner;
 use std::alloc::Global;
 
 /// The claim that a table's run has, at the times `i` and `j`, of which `i` is the earlier one, the same
@@ -28,7 +29,7 @@ pub struct Translated {
 
 impl Evidence for Translated {
     ghost use Rattle.turing.proofs.TranslatedLaws.{translated_never};
-    ghost use Rattle.run.specs.declared.verdicts.Verdict.TheVariants.{Never};
+    ghost use Rattle.evidence.specs.declared.verdicts.Verdict.TheVariants.{Never};
 
     ghost within = { λ e. e.j ≤ time_limit };
 

@@ -7,8 +7,8 @@ ghost use Rattle.loops.specs.Limits.{time_limit};
 use crate::search::Search;
 use crate::translated::Translated;
 use crate::translated_watch::TranslatedWatch;
+use evidence::NoMemory;
 use machine_text::Table;
-use run::NoMemory;
 use std::alloc::Global;
 
 /// Searches translated cycles, on both sides at once.

@@ -2,8 +2,9 @@
 use crate::search::Watch;
 use crate::trail::Trail;
 use crate::translated::Translated;
+use evidence::NoMemory;
 use machine_text::Dir;
-use run::{NoMemory, Runner};
+use run::Runner;
 use std::alloc::Global;
 
 #[derive(Drop)]

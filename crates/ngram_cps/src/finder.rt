@@ -10,8 +10,8 @@ use crate::list_texts::ListTexts;
 use crate::ngram::Ngram;
 use crate::owned::OwnedNgram;
 use crate::word::Width;
+use evidence::NoMemory;
 use machine_text::Table;
-use run::NoMemory;
 use std::alloc::Global;
 
 // How many members a search may come to for each step of the budget, all widths together. A width is given up

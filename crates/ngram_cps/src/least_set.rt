@@ -7,8 +7,8 @@ use crate::member::Member;
 use crate::members::Members;
 use crate::side::Side;
 use crate::word::{Width, opposite};
+use evidence::NoMemory;
 use machine_text::{Dir, Entry, Table};
-use run::NoMemory;
 use std::alloc::Global;
 
 // The least set of a width that holds the blank tape and that no step of a table leaves. Its memory is kept

@@ -8,8 +8,8 @@ use crate::limits::{MAX_LIST_BYTES, MAX_WIDTH};
 use crate::listing::Listing;
 use crate::local_list::local_list;
 use crate::word_list::word_list;
+use evidence::{Evidence, Refused, Verdict};
 use machine_text::Table;
-use run::{Evidence, Refused, Verdict};
 use std::alloc::Global;
 
 /// The claim that three lists are a closed position set of a table, by which it never halts: words of
@@ -129,7 +129,7 @@ impl<'a> Ngram<'a> {
 impl Evidence for Ngram<'_> {
     ghost use Rattle.std.specs.Prelude.{⊤};
     ghost use Rattle.machine_text.specs.Packed.{entry_of};
-    ghost use Rattle.run.specs.declared.verdicts.Verdict.TheVariants.{Never};
+    ghost use Rattle.evidence.specs.declared.verdicts.Verdict.TheVariants.{Never};
     ghost use Rattle.ngram_cps.specs.Lists.{IsLocalItem, IsPositionSet};
     ghost use Rattle.ngram_cps.specs.Ngram.{lists_of};
     ghost use Rattle.turing.proofs.ClosedSets.{closed_never};

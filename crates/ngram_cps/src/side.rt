@@ -2,8 +2,8 @@
 use crate::arrival::{Arrival, Chain, Link};
 use crate::members::Members;
 use crate::word::{WORD_COUNT, Width};
+use evidence::NoMemory;
 use machine_text::{Dir, Sym};
-use run::NoMemory;
 use std::alloc::Global;
 
 // The words that may stand on a side, and the heads that have arrived there.

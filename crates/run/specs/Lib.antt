@@ -1,5 +1,4 @@
 pub mod Limits
-pub mod Verdict
 pub mod Standing
 pub mod Inside
 pub mod Steps

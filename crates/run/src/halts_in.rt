@@ -4,10 +4,9 @@ ghost use Rattle.machine_text.specs.Packed.{entry_of};
 ghost use Rattle.turing.specs.Halting.{HaltsAt, HaltsOn};
 ghost use Rattle.run.specs.Limits.{halt_step_limit};
 
-use crate::evidence::Evidence;
 use crate::limits::MAX_HALT_STEPS;
 use crate::runner::{Runner, Step};
-use crate::verdicts::{Refused, Verdict};
+use evidence::{Evidence, Refused, Verdict};
 use machine_text::{Pair, Table};
 use std::alloc::Global;
 
@@ -44,7 +43,7 @@ impl HaltsIn {
 }
 
 impl Evidence for HaltsIn {
-    ghost use Rattle.run.specs.declared.verdicts.Verdict.TheVariants.{Halts};
+    ghost use Rattle.evidence.specs.declared.verdicts.Verdict.TheVariants.{Halts};
     ghost use Rattle.run.specs.Limits.{halt_step_limit};
 
     ghost within = { λ e. e.0 ≤ halt_step_limit };

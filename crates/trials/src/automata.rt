@@ -1,8 +1,8 @@
 // Automata with their answers, texts that aren't automata, and what the finder finds.
 use crate::texts::{number_of, parted, table_of};
+use evidence::{Evidence, Refused, Verdict};
 use far::{Far, FarFinder, OwnedFar};
 use machine_text::{Dir, Table};
-use run::{Evidence, Refused, Verdict};
 use std::alloc::Global;
 use std::process::Abort;
 

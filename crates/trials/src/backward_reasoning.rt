@@ -1,7 +1,7 @@
 // Checks and searches of tables whose answers come from elsewhere.
 use crate::texts::{number_of, parted, table_of};
 use backward::{Backward, BackwardFinder, MAX_DEPTH};
-use run::{Evidence, Refused, Verdict};
+use evidence::{Evidence, Refused, Verdict};
 use std::process::Abort;
 
 #[test]

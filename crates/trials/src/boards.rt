@@ -1,9 +1,9 @@
 // A board of the tree of one state, and offers that it refuses.
 use crate::texts::{parted, table_of};
 use cert::Record;
+use evidence::{Refused, Verdict};
 use ledger::{Board, BoardFault, OfferFault, Status, Taken, Tally};
 use machine_text::Table;
-use run::{Refused, Verdict};
 use std::alloc::Global;
 use std::process::Abort;
 use std::test::Fail;

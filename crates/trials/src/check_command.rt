@@ -1,7 +1,8 @@
 // `bb check` over streams of the tests' own: the worked rows, and what a stream may do.
 use crate::streams::{ALWAYS, Sink, Source};
 use crate::texts::assert_bytes;
-use commands::{Outcome, cmd_check};
+use line_commands::cmd_check;
+use options::Outcome;
 use std::alloc::Global;
 use std::process::Abort;
 use std::test::Fail;

@@ -1,7 +1,8 @@
 // `bb coord` over streams and ledgers of the tests' own.
 use crate::streams::{ALWAYS, Sink, Source, file_of};
 use crate::texts::assert_bytes;
-use commands::{Beginning, Outcome, cmd_coord};
+use node_commands::cmd_coord;
+use options::{Beginning, Outcome};
 use std::alloc::Global;
 use std::process::Abort;
 use std::test::Fail;

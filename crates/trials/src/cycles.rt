@@ -1,8 +1,8 @@
 // Certificates with their answers, and machines that are known to loop.
 use crate::texts::{number_of, parted, table_of};
+use evidence::{Evidence, Refused, Verdict};
 use loops::{Cycle, CycleFinder, Translated, TranslatedFinder};
 use machine_text::{Dir, Table};
-use run::{Evidence, Refused, Verdict};
 use std::alloc::Global;
 use std::process::Abort;
 

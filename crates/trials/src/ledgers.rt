@@ -1,9 +1,9 @@
 // Ledgers, whole, cut and spoilt. What wants memory is tried again once.
 use crate::texts::{assert_bytes, table_of};
 use cert::RecordFault;
+use evidence::Refused;
 use ledger::{Board, Left, LoadFault, OfferFault, Unkept, peek_root};
 use machine_text::{Table, TextFault};
-use run::Refused;
 use std::alloc::Global;
 use std::process::Abort;
 use tnf::in_order;

@@ -1,7 +1,8 @@
 // `bb merge` over files of the tests' own.
 use crate::streams::{ALWAYS, Sink, Source};
 use crate::texts::assert_bytes;
-use commands::{Host, Merging, Outcome, cmd_merge};
+use ledger_commands::{Host, cmd_merge};
+use options::{Merging, Outcome};
 use std::alloc::Global;
 use std::io;
 use std::process::Abort;

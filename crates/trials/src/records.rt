@@ -1,8 +1,9 @@
 // Records of the field's champions, and lines that are none.
 use crate::texts::{number_of, parted};
 use cert::{Certificate, OwnedCertificate, OwnedRecord, Record, RecordFault, judge, judge_on};
+use evidence::{Refused, Verdict};
 use machine_text::{Pair, State, Sym, TextFault};
-use run::{HaltsIn, Refused, Verdict};
+use run::HaltsIn;
 use std::alloc::Global;
 use std::process::Abort;
 use std::test::Fail;

@@ -1,7 +1,8 @@
 // `bb report` over files of the tests' own.
 use crate::streams::{ALWAYS, Sink, Source, file_of};
 use crate::texts::assert_bytes;
-use commands::{AsLines, Ended, Opened, Outcome, cmd_report};
+use ledger_commands::{AsLines, Opened, cmd_report};
+use options::{Ended, Outcome};
 use std::alloc::Global;
 use std::io;
 use std::process::Abort;

@@ -1,7 +1,8 @@
 // Step counts and a tape of the field, and runs for which memory is refused.
 use crate::texts::table_of;
+use evidence::{Evidence, Refused, Verdict};
 use machine_text::{Pair, State, Sym, Table};
-use run::{Evidence, HaltFinder, HaltsIn, MAX_HALT_STEPS, Refused, Runner, Step, Verdict};
+use run::{HaltFinder, HaltsIn, MAX_HALT_STEPS, Runner, Step};
 use std::alloc::Global;
 use std::process::Abort;
 use std::test::Fail;

@@ -1,5 +1,5 @@
 // Streams and files of the tests' own.
-use commands::Opened;
+use ledger_commands::Opened;
 use std::alloc::Global;
 use std::io::{self, Read, Write};
 

@@ -12,8 +12,8 @@ ghost use Rattle.wire.specs.Meaning.{said};
 
 use crate::message::Msg;
 use cert::{Record, append_number, append_table};
+use evidence::NoMemory;
 use machine_text::Table;
-use run::NoMemory;
 
 /// Appends the message's text and a newline. The text reads back as the message, where the lists of a record
 /// are made for tables of as many states as its table has. Where memory is refused, `out` is as it was.

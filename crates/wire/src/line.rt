@@ -3,7 +3,7 @@ ghost use Rattle.std.specs.Prelude.{◌≡◌, IfOk, OnOk, OnErr};
 ghost use Rattle.wire.specs.Lines.{IsWithinLimit, known, known_of, with_more};
 
 use crate::limits::MAX_LINE_BYTES;
-use run::NoMemory;
+use evidence::NoMemory;
 use std::alloc::Global;
 
 /// A line of a stream, without its newline.

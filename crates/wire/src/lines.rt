@@ -6,7 +6,7 @@ ghost use Rattle.wire.specs.Lines.{IsWithinLimit, fed, known, lines_from, rest_f
 
 use crate::cut::cut_at;
 use crate::line::Line;
-use run::NoMemory;
+use evidence::NoMemory;
 use std::alloc::Global;
 use std::collections::VecDeque;
 use std::marker::Model;

@@ -2,7 +2,7 @@
 ghost use Rattle.std.specs.Prelude.{◌≡◌};
 
 use crate::node::NodeFault;
-use run::NoMemory;
+use evidence::NoMemory;
 use std::error::Error;
 use std::fmt;
 

@@ -1,11 +1,11 @@
-//! The worked examples of README: each is run, on its file of `examples/` where it has one, and printed as README shows
-//! it.
+//! The worked examples of README and docs/TOUR.md: each is run, on its file of `examples/` where it has one, and
+//! printed as they show it.
 #![tactic(auto)]
 
-ghost use Rattle.commands.specs.Ranges.{AreWithinRanges};
+ghost use Rattle.options.specs.Ranges.{AreWithinRanges};
 
-use commands::{Options, Search, Settling};
 use dispatch::{System, carry_out};
+use options::{Options, Search, Settling};
 use std::fs;
 use std::io::{self, Read};
 use std::process::ExitCode;

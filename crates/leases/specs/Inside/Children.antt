@@ -1,12 +1,12 @@
 -- For the code: children that come under a lease.
 use Rattle.std.specs.Prelude.{◌≡◌, ℕ, ◌⊎◌, ◌<◌, ◌≤◌, if◌then◌else◌, List, Contains, Some, length, slice_index_or, slice_set}
 use Rattle.machine_text.specs.Packed.{Packed}
-use Rattle.ledger.specs.Contents.{Contents}
+use Rattle.ledger.specs.Contents.{Contents, IsOpenOn}
 use Rattle.ledger.specs.Records.{same_table}
 use Rattle.tree.specs.Tables.{IsChildTable}
 use Rattle.ledger.specs.Tally.{IsHalting}
 use Rattle.leases.specs.Limits.{child_limit}
-use Rattle.leases.specs.Leases.{Lease, IsOpenOn, came_under}
+use Rattle.leases.specs.Leases.{Lease, came_under}
 use Rattle.leases.specs.Inside.Keeping.{Kept, held}
 
 -- what came under a lease had come before, or came under this one now: then it is open, and listed

@@ -2,9 +2,9 @@
 use Rattle.std.specs.Prelude.{◌≡◌, ℕ, ◌+◌, ◌-◌, ◌==◌, ◌↔◌, Bool, true, false, not, nat_le, List, Contains, Option, Some, None, IfSome, map, filter, vec_len, vec_capacity}
 use Rattle.std.specs.List.{list_any}
 use Rattle.machine_text.specs.Packed.{Packed}
-use Rattle.ledger.specs.Contents.{Contents}
+use Rattle.ledger.specs.Contents.{Contents, IsOpenOn}
 use Rattle.leases.specs.Limits.{lease_time}
-use Rattle.leases.specs.Leases.{Lease, Leases, IsOpenOn, came_under, is_live, while_live}
+use Rattle.leases.specs.Leases.{Lease, Leases, came_under, is_live, while_live}
 use Rattle.leases.specs.declared.held_leases.HeldLease.{HeldLease}
 
 -- a live lease as it is kept: its number, its worker, when it was given or renewed, the tables that came under it, of which some may be

@@ -5,7 +5,7 @@ use Rattle.std.specs.Ordering.{nat_cmp, ordering_then}
 use Rattle.std.specs.declared.cmp.Ordering.{Ordering}
 use Rattle.std.specs.Cmp.Lexicographic.{slice_cmp}
 use Rattle.machine_text.specs.Packed.{Packed}
-use Rattle.run.specs.declared.verdicts.Verdict.TheVariants.{Halts}
+use Rattle.evidence.specs.declared.verdicts.Verdict.TheVariants.{Halts}
 use Rattle.tree.specs.Closed.{IsOpen}
 use Rattle.tree.specs.Tables.{IsChildTable}
 use Rattle.cert.specs.Claim.{Recorded, shown_by}

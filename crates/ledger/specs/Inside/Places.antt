@@ -1,7 +1,7 @@
 -- For the code: where an offered record stands, and why it isn't taken.
 use Rattle.std.specs.Prelude.{List, Option, Some, None, IsSome}
 use Rattle.machine_text.specs.Packed.{Packed}
-use Rattle.run.specs.declared.verdicts.Verdict.{Verdict}
+use Rattle.evidence.specs.declared.verdicts.Verdict.{Verdict}
 use Rattle.tree.specs.Closed.{IsOpen}
 use Rattle.cert.specs.Claim.{Recorded, shown_by}
 use Rattle.ledger.specs.Records.{mark_in}

@@ -1,6 +1,6 @@
 use Rattle.std.proofs.Common.{◌⊎◌, Contains}
 use Rattle.machine_text.specs.Packed.{Packed}
-use Rattle.leases.specs.Leases.{IsOpenOn}
+use Rattle.ledger.specs.Contents.{IsOpenOn}
 use Rattle.leases.proofs.board_calls.open_tables.Given as goal
 
 abbrev pub invariant-loop-t : goal.invariant-loop-t

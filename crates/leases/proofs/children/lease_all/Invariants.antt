@@ -1,7 +1,8 @@
 use Rattle.std.proofs.Common.{◌≡◌, ◌+◌, ◌≤◌, ◌⊎◌, Some, length, Contains, vec_len, vec_capacity}
 use Rattle.machine_text.specs.Packed.{Packed}
 use Rattle.indexmap.specs.IndexMap.{spare}
-use Rattle.leases.specs.Leases.{IsOpenOn, came_under}
+use Rattle.ledger.specs.Contents.{IsOpenOn}
+use Rattle.leases.specs.Leases.{came_under}
 use Rattle.leases.specs.Inside.Children.{CameOnly}
 use Rattle.leases.proofs.OfferLaws.{KeepsAll}
 use Rattle.leases.proofs.children.lease_all.Given as goal

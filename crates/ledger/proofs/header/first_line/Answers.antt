@@ -1,5 +1,5 @@
 use Rattle.std.proofs.Common.{sym}
-use Rattle.ledger.proofs.Lines.{cut_line, no_newline}
+use Rattle.text.proofs.Lines.{cut_line, no_newline}
 use Rattle.ledger.proofs.header.first_line.Goals as goal
 
 pub returns-in_err-at-clause-none : goal.returns-in_err-at-clause-none

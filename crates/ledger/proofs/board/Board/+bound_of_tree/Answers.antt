@@ -2,7 +2,7 @@ use Rattle.std.proofs.Common.{ℕ, ◌<◌, List, refl, sym, ◌∙◌, ap, subs
 use Rattle.std.specs.List.{Contains}
 use Rattle.machine_text.specs.Packed.{Packed, entry_of, holes}
 use Rattle.tree.specs.Closed.{IsGreatestRecorded}
-use Rattle.run.specs.declared.verdicts.Verdict.TheVariants.{Halts}
+use Rattle.evidence.specs.declared.verdicts.Verdict.TheVariants.{Halts}
 use Rattle.ledger.specs.Records.{mark_in}
 use Rattle.ledger.proofs.Apart.{first_member}
 use Rattle.ledger.proofs.Completeness.{true_marks}

@@ -1,0 +1,72 @@
+// The evidence of backward reasoning, and its check.
+ghost use Rattle.std.specs.Prelude.{◌≤◌, IfOk};
+ghost use Rattle.backward.specs.Limits.{depth_limit};
+ghost use Rattle.backward.specs.inside.Counts.{SaysDone};
+
+use crate::limits::MAX_DEPTH;
+use crate::path_counter::PathCounter;
+use evidence::{Evidence, Refused, Verdict};
+use machine_text::Table;
+use run::{Runner, Step};
+use std::alloc::Global;
+use tape::NoMemory;
+
+/// The claim that a table never halts, since its run does `depth` steps and no configuration whatever of its
+/// states comes to a halting pair after exactly so many.
+///
+/// The limit is `MAX_DEPTH`. The check refuses a claim where some depth up to this one has more than
+/// `MAX_PATHS` paths.
+#[derive(Clone, Copy, Debug, PartialEq, Eq)]
+pub struct Backward {
+    pub depth: u64,
+}
+
+impl Evidence for Backward {
+    ghost use Rattle.std.specs.Prelude.{◌≤◌};
+    ghost use Rattle.machine_text.specs.Packed.{entry_of};
+    ghost use Rattle.turing.specs.Backward.{Backward as IsBackward};
+    ghost use Rattle.evidence.specs.declared.verdicts.Verdict.TheVariants.{Never};
+    ghost use Rattle.backward.specs.Paths.{IsTooWide};
+
+    ghost within = { λ e. e.depth ≤ depth_limit };
+
+    ghost stands = { λ e p. IsBackward p.states (entry_of p) e.depth };
+
+    ghost is_wide = { λ e p. IsTooWide p e.depth };
+
+    ghost shows = { λ e. Never };
+
+    // The run is looked at first: a table whose run does fewer steps is refused as false, however wide it is.
+    fn check(&self, alloc: Global, t: &Table) -> Result<Verdict, Refused> {
+        if self.depth > MAX_DEPTH {
+            return Err(Refused::TooLong);
+        }
+        if !does_steps(alloc, t, self.depth)? {
+            return Err(Refused::Fails);
+        }
+        let mut paths = PathCounter::new(alloc);
+        if paths.count(t, self.depth)?.is_err() {
+            return Err(Refused::TooWide);
+        }
+        if paths.counts[self.depth as usize] == 0 {
+            Ok(Verdict::Never)
+        } else {
+            Err(Refused::Fails)
+        }
+    }
+
+    ghost use Rattle.turing.proofs.BackwardLaws.{backward_never};
+    ghost use Rattle.turing.proofs.TableLaws.{table_machine};
+
+    ghost law = { λ e p is_table stands. backward_never p.states (entry_of p) e.depth (table_machine p is_table) stands };
+}
+
+// Whether the run of a table does so many steps.
+pub(crate) fn does_steps(alloc: Global, t: &Table, steps: u64) -> Result<bool, NoMemory>
+    requires { steps ≤ depth_limit }
+    ensures { IfOk result (λ done. SaysDone t.now steps done) }
+{
+    let mut runner = Runner::new(alloc, *t)?;
+    let step = runner.run_to(steps)?;
+    Ok(step == Step::Went)
+}

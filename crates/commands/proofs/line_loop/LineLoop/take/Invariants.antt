@@ -1,6 +1,0 @@
-use Rattle.std.proofs.Common.{length}
-use Rattle.commands.proofs.line_loop.LineLoop.take.Given as goal
-
--- each turn takes a line from the piece
-abbrev pub decreases-lines : goal.decreases-lines
-decreases-lines g l = length l.left

@@ -1,8 +1,0 @@
-use Rattle.commands.proofs.TreeReports.{tree_report, one_report}
-use Rattle.commands.proofs.tree_reports.complete_boards_report_their_tree.Goals as goal
-
-pub returns-clause-tree : goal.returns-clause-tree
-returns-clause-tree c = tree_report
-
-pub returns-clause-one : goal.returns-clause-one
-returns-clause-one c = one_report

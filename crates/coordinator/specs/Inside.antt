@@ -1,0 +1,3 @@
+-- What only the code of this crate needs.
+pub mod Begun
+pub mod Answering

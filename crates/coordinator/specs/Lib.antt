@@ -1,0 +1,4 @@
+pub mod Inside
+pub mod CoordinatorRules
+pub mod Starts
+pub mod Finals

@@ -1,0 +1,52 @@
+-- What a start makes of a ledger's bytes.
+use Rattle.std.specs.Prelude.{◌≡◌, ℕ, ◌==◌, if◌then◌else◌, List, [], ◌∷◌, ◌++◌, length, true, false, Option, Some, None, Result, Ok, Err}
+use Rattle.machine_text.specs.Packed.{Packed, empty_table}
+use Rattle.machine_text.specs.Text.{text_of}
+use Rattle.ledger.specs.Contents.{Contents}
+use Rattle.ledger.specs.LedgerText.{header_words, LoadGives, ReadsAs}
+use Rattle.ledger.specs.declared.left.Left.{Left}
+use Rattle.ledger.specs.declared.left.Left.TheVariants.{Nothing, From}
+use Rattle.ledger.specs.declared.faults.LoadFault.TheVariants.{BadHeader as BadLedgerHeader, WrongRoot as OtherRoot}
+use Rattle.wire.specs.declared.node.Note.TheVariants.{Quiet}
+use Rattle.wire.specs.declared.node.Out.{Out}
+use Rattle.leases.specs.Leases.{Leased, no_leases}
+use Rattle.roles.specs.Kept.{kept_of, cut_of}
+use Rattle.coordinator.specs.CoordinatorRules.{Coordinating}
+use Rattle.roles.specs.declared.start_fault.StartFault.{StartFault}
+use Rattle.roles.specs.declared.start_fault.StartFault.TheVariants.{BadHeader, WrongRoot, NoMemory}
+
+abbrev pub header_line : Packed → List ℕ
+header_line root = header_words ++ text_of root ++ (10 ∷ [])
+
+-- the header is due where no byte was kept
+abbrev pub header_due : Packed → ℕ → List ℕ
+header_due root kept = if kept == 0 then header_line root else []
+
+-- the answer of a start: the ledger is cut to what was kept of it, and gains a header where that is nothing
+pub record Begins (root : Packed) (text : List ℕ) (left : Left) (out : Out) : Type 0 where
+  pub cut_is : out.cut ≡ cut_of left
+  pub append_is : out.append.items ≡ header_due root (kept_of text left)
+  pub frames_are : out.frames.items ≡ []
+  pub note_is : out.note ≡ Quiet
+
+abbrev pub started : ℕ → Contents → Coordinating
+started era board = record { era = era; held = Some (record { board = board; leases = no_leases }); stopped = false }
+
+abbrev pub not_started : ℕ → Coordinating
+not_started era = record { era = era; held = None; stopped = true }
+
+-- a coordinator for machines of n states is started from a ledger's text
+abbrev pub Starts : ℕ → ℕ → List ℕ → Coordinating → Result Out StartFault → Type 0
+Starts n era text new (Ok out) =
+    (board : Contents) × (left : Left) × LoadGives (empty_table n) text (Ok (board, left)) × (new ≡ started era board) × Begins (empty_table n) text left out
+Starts n era text new (Err BadHeader) = LoadGives (empty_table n) text (Err BadLedgerHeader) × (new ≡ not_started era)
+Starts n era text new (Err WrongRoot) = LoadGives (empty_table n) text (Err OtherRoot) × (new ≡ not_started era)
+Starts n era text new (Err NoMemory) = new ≡ not_started era
+
+-- a ledger's text is in step with a coordinator: its header is whole, and it stands, all its bytes kept, for the board
+abbrev pub HeldInStep : Option Leased → List ℕ → Type 0
+HeldInStep None text = Unit {0}
+HeldInStep (Some held) text = ReadsAs held.board.root text held.board.records Nothing
+
+abbrev pub InStep : Coordinating → List ℕ → Type 0
+InStep s text = HeldInStep s.held text

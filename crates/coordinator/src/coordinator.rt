@@ -1,0 +1,134 @@
+// The coordinator.
+ghost use Rattle.std.specs.Prelude.{◌≡◌, ◌≤◌, MatchOption, None, Some, IfOk, List, ℕ};
+ghost use Rattle.machine_text.specs.Limits.{state_limit};
+ghost use Rattle.wire.specs.Happening.{seen};
+ghost use Rattle.wire.specs.Carried.{text_after};
+ghost use Rattle.leases.specs.Leases.{Leased};
+ghost use Rattle.coordinator.specs.CoordinatorRules.{On};
+ghost use Rattle.coordinator.specs.Starts.{Starts, InStep};
+ghost use Rattle.coordinator.specs.Inside.Begun.{HoldsBoard};
+
+use crate::answering::answer;
+use crate::starting::begun;
+use leases::LeasedBoard;
+use ledger::Board;
+use roles::StartFault;
+use std::alloc::Global;
+use std::marker::Model;
+use wire::{Event, Node, NodeFault, Out};
+
+/// Holds the board of a tree, grants its open tables to workers, and takes their records. What it holds
+/// stands in a ledger that is in step with it.
+#[derive(Drop)]
+pub struct Coordinator {
+    alloc: Global,
+    era: u64,
+    held: Option<LeasedBoard>,
+    stopped: bool,
+}
+
+impl Model for Coordinator {
+    ghost use Rattle.std.specs.Prelude.{◌≡◌, None, true};
+    ghost use Rattle.coordinator.specs.CoordinatorRules.{Coordinating};
+
+    ghost Value = { Coordinating };
+
+    ghost view = { λ a. record { era = a.era; held = a.held; stopped = a.stopped } };
+
+    ghost invariant = { λ a. a.held ≡ None → a.stopped ≡ true };
+}
+
+impl Coordinator {
+    /// A coordinator for machines of n states, from the bytes of its ledger. The answer says how many of these
+    /// were kept, where not all were, and appends a header where none were; once it is carried out (`begin`) the
+    /// ledger is in step. `era` tells its leases from those of an earlier run. Where the start is refused, the
+    /// coordinator is stopped: `BadHeader` and `WrongRoot` as a board's `load` refuses the bytes.
+    pub fn start(
+        alloc: Global,
+        n: u8,
+        era: u64,
+        ledger: &[u8],
+    ) -> (Coordinator, Result<Out, StartFault>)
+        requires { (1 ≤ n) × (n ≤ state_limit) }
+        ensures starts { Starts n era ledger.now result.0 result.1 }
+        ensures step { IfOk result.1 (λ out. InStep result.0 (text_after out ledger.now)) }
+    {
+        match begun(alloc, n, ledger) {
+            Ok((held, out)) => {
+                let coordinator = Coordinator {
+                    alloc,
+                    era,
+                    held: Some(held),
+                    stopped: false,
+                };
+                (coordinator, Ok(out))
+            }
+            Err(fault) => {
+                let coordinator = Coordinator {
+                    alloc,
+                    era,
+                    held: None,
+                    stopped: true,
+                };
+                (coordinator, Err(fault))
+            }
+        }
+    }
+
+    /// Its board; none where its start was refused.
+    pub fn board(&self) -> Option<&Board>
+        ensures { MatchOption result (self.now.held ≡ None) (λ board. (held : Leased) × (self.now.held ≡ Some held) × (board.now ≡ held.board)) }
+    {
+        match &self.held {
+            Some(held) => Some(held.board()),
+            None => None,
+        }
+    }
+
+    // What it holds is a board.
+    fn knows_board(&self)
+        ensures { HoldsBoard self.now.held }
+    {
+        if let Some(held) = &self.held {
+            let _ = held.board().root();
+        }
+    }
+
+    // Answers an event.
+    fn handle(&mut self, e: Event<'_>) -> Result<Out, NodeFault>
+        ensures { On self.old (seen e.entry) result self.new }
+    {
+        if self.stopped {
+            return Err(NodeFault::Stopped);
+        }
+        match &mut self.held {
+            Some(held) => answer(self.alloc, self.era, held, e),
+            None => Err(NodeFault::Stopped),
+        }
+    }
+}
+
+impl Node for Coordinator {
+    ghost use Rattle.std.specs.Prelude.{◌≡◌, true};
+    ghost use Rattle.coordinator.specs.CoordinatorRules.{On};
+    ghost use Rattle.coordinator.specs.Starts.{InStep};
+    ghost use Rattle.roles.specs.Finals.{KeepsComplete};
+    ghost use Rattle.coordinator.specs.Finals.{board_of};
+
+    ghost is_stopped = { λ s. s.stopped ≡ true };
+
+    ghost in_step = { λ s text. InStep s text };
+
+    ghost answers = { On };
+
+    ghost keeps_final = { λ old e new. KeepsComplete (board_of old.held) (board_of new.held) };
+
+    fn on(&mut self, e: Event<'_>) -> Result<Out, NodeFault> {
+        self.knows_board();
+        self.handle(e)
+    }
+
+    fn stop(&mut self) {
+        self.stopped = true;
+    }
+}

@@ -1,0 +1,12 @@
+//! What is said of a table's run, and what evidence for it is.
+//!
+//! A verdict says that a table halts in so many steps, or never; `Evidence` is a claim that can be checked and
+//! that makes its verdict true. `specs/Verdict` says when a verdict is true of a machine.
+#![tactic(auto)]
+
+mod evidence;
+mod verdicts;
+
+pub use evidence::Evidence;
+pub use std::alloc::AllocError as NoMemory;
+pub use verdicts::{Refused, Verdict};

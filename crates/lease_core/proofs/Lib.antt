@@ -1,7 +1,0 @@
-pub mod InStep
-pub mod Acknowledged
-pub mod WorkerBoards
-pub mod WorkerFrames
-pub mod WorkerLaws
-pub mod WorkerSends
-pub mod Finals

@@ -1,0 +1,108 @@
+-- A ledger stays in step with a board when a record is taken and its line is appended; and the holdouts that are left stay holdouts.
+use Rattle.std.proofs.Common.{◌≡◌, ◌≢◌, ◌⊎◌, inl, inr, ℕ, suc, true, false, List, [], ◌∷◌, ◌++◌, All, AllPairs, get_or, Option, Some, None, Result, Ok, IsSome, refl, sym, ap, ◌∙◌, subst, arith}
+use Rattle.std.specs.Option.{option_map}
+use Rattle.std.proofs.lemmas.List.Elements.{All-contains_itself}
+use Rattle.machine_text.specs.Packed.{Packed}
+use Rattle.evidence.specs.declared.verdicts.Verdict.{Verdict}
+use Rattle.tree.specs.Closed.{IsVerdict}
+use Rattle.cert.specs.Claim.{Recorded, shown_by}
+use Rattle.cert.specs.Grammar.{record_text}
+use Rattle.ledger.specs.Contents.{Contents, IsBoard}
+use Rattle.ledger.specs.Held.{IsHoldout, Settles, settled}
+use Rattle.ledger.specs.LedgerText.{IsTaken, ReadsAs}
+use Rattle.ledger.specs.Offers.{OfferGives}
+use Rattle.ledger.specs.Records.{mark_of}
+use Rattle.ledger.specs.Tally.{AreAll}
+use Rattle.ledger.specs.declared.left.Left.TheVariants.{Nothing}
+use Rattle.ledger.specs.declared.taken.Taken.{Taken}
+use Rattle.ledger.specs.declared.taken.Taken.TheVariants.{New, Known}
+use Rattle.ledger.specs.declared.faults.OfferFault.{OfferFault}
+use Rattle.ledger.proofs.Growing.{grows}
+use Rattle.ledger.proofs.OpenLaws.{settled_other}
+use Rattle.ledger.proofs.TextOrder.{all_apart}
+use Rattle.wire.specs.Carried.{text_after, cut_by, kept}
+use Rattle.wire.specs.declared.node.Out.{Out}
+use Rattle.ledger_commands.specs.Retry.{StaysInStep, Gains, ChangesBy, with_line}
+
+pub stays_with : (old new : Contents) (r : Recorded) (out : Out) (before : Option (List ℕ)) → IsBoard old → IsTaken old.root old.records r new.records
+    → new.root ≡ old.root → out.cut ≡ None → out.append.items ≡ record_text r ++ (10 ∷ []) → StaysInStep old before new (kept out before)
+stays_with old new r out None board taken root cut append = λ s. s
+stays_with old new r out (Some text) board taken root cut append = λ reads.
+    let is : text_after out text ≡ text ++ (record_text r ++ (10 ∷ [])) =
+    ap (λ c. cut_by c text ++ out.append.items) cut ∙ ap (λ l. text ++ l) append in
+    subst (λ p. ReadsAs p (text_after out text) new.records Nothing) (sym root)
+    (subst (λ l. ReadsAs old.root l new.records Nothing) (sym is) (grows old text r new.records board reads taken))
+
+pub kept_line : (r : Recorded) (out : Out) (before : Option (List ℕ)) → out.cut ≡ None → out.append.items ≡ record_text r ++ (10 ∷ []) → kept out before ≡ with_line r before
+kept_line r out None cut append = refl
+kept_line r out (Some text) cut append = ap (λ (l : List ℕ). Some l) (ap (λ c. cut_by c text ++ out.append.items) cut ∙ ap (λ l. text ++ l) append)
+
+-- what is appended to nothing
+pub one_line : (r : Recorded) (appended items begun : List ℕ) → appended ≡ items → items ≡ begun ++ (record_text r ++ (10 ∷ [])) → begun ≡ [] → appended ≡ record_text r ++ (10 ∷ [])
+one_line r appended items begun same line none = same ∙ (line ∙ ap (λ (l : List ℕ). l ++ (record_text r ++ (10 ∷ []))) none)
+
+pub stays_by : (old new : Contents) (r : Recorded) (out : Out) (before after : Option (List ℕ)) → IsBoard old → IsTaken old.root old.records r new.records
+    → new.root ≡ old.root → out.cut ≡ None → out.append.items ≡ record_text r ++ (10 ∷ []) → after ≡ kept out before → StaysInStep old before new after
+stays_by old new r out before after board taken root cut append is =
+    subst (λ (text : Option (List ℕ)). StaysInStep old before new text) (sym is) (stays_with old new r out before board taken root cut append)
+
+-- what comes of an offer of a record for a holdout: it is never new, and known only where it has no verdict
+pub new_holdout : (root : Packed) (old new : List Recorded) (r : Recorded) (result : Result Taken OfferFault) → IsHoldout old r.table → result ≡ Ok New
+    → OfferGives root old r result new → Gains old r true new
+new_holdout root old new r result holdout is gives =
+    let fit : OfferGives root old r (Ok New) new = subst (λ (x : Result Taken OfferFault). OfferGives root old r x new) is gives in
+    let unmarked = fit.0.is_open.unmarked in
+    absurd (cc)
+
+pub known_holdout : (root : Packed) (old new : List Recorded) (r : Recorded) (result : Result Taken OfferFault) → IsHoldout old r.table → result ≡ Ok Known
+    → OfferGives root old r result new → Gains old r false new
+known_holdout root old new r result holdout is gives =
+    let known : OfferGives root old r (Ok Known) new = subst (λ (x : Result Taken OfferFault). OfferGives root old r x new) is gives in (
+      elim known.0.is [
+        | inl verdict ↦ absurd (subst IsVerdict holdout verdict)
+        | inr later ↦ later.1
+      ],
+      known.1,
+    )
+
+-- what its offer changes
+pub changes_settled : (o : Option Verdict) (r : Recorded) (old new : List Recorded) (before after : Option (List ℕ)) → IsSome o
+    → Settles old r → new ≡ settled old r → after ≡ with_line r before → ChangesBy o r old before new after
+changes_settled (Some v) r old new before after some settles is line = (settles, is, line)
+changes_settled None r old new before after some settles is line = absurd (cc)
+
+pub changes_none : (o : Option Verdict) (r : Recorded) (old new : List Recorded) (before after : Option (List ℕ)) → o ≡ None → new ≡ old → after ≡ before → ChangesBy o r old before new after
+changes_none o r old new before after none is same = subst (λ (x : Option Verdict). ChangesBy x r old before new after) (sym none) (is, same)
+
+changes : (o : Option Verdict) (r : Recorded) (old new : List Recorded) (before after : Option (List ℕ)) → ChangesBy o r old before new after → (new ≡ old) ⊎ (new ≡ settled old r)
+changes None r old new before after by = inl by.0
+changes (Some v) r old new before after by = inr by.1
+
+-- tables that wait to be tried: holdouts, each once
+pub record AreWaiting (rs : List Recorded) (ts : List Packed) : Type 0 where
+  pub apart : AllPairs (λ (a b : Packed). a ≢ b) ts
+  pub holdouts : All (IsHoldout rs) ts
+
+pub all_wait : (rs : List Recorded) (ts : List Packed) → AreAll (IsHoldout rs) ts → AreWaiting rs ts
+all_wait rs ts all = record {
+  apart = all_apart (IsHoldout rs) ts all;
+  holdouts = λ i d below. (all.exact (get_or ts i d)).0 (All-contains_itself ts i d below);
+}
+
+pub first_waits : (rs : List Recorded) (t : Packed) (ts : List Packed) → AreWaiting rs (t ∷ ts) → IsHoldout rs t
+first_waits rs t ts waiting = waiting.holdouts 0 t (omega arith)
+
+stays_holdout : (rs new : List Recorded) (r : Recorded) (t : Packed) → t ≢ r.table → (new ≡ rs) ⊎ (new ≡ settled rs r) → IsHoldout rs t → IsHoldout new t
+stays_holdout rs new r t other (inl same) holdout = subst (λ (l : List Recorded). IsHoldout l t) (sym same) holdout
+stays_holdout rs new r t other (inr is) holdout = subst (λ (l : List Recorded). IsHoldout l t) (sym is) (ap (option_map mark_of) (settled_other rs r t other) ∙ holdout)
+
+-- once the first was tried the others wait as before
+pub others_wait : (rs new : List Recorded) (before after : Option (List ℕ)) (r : Recorded) (t : Packed) (ts : List Packed) → r.table ≡ t → ChangesBy (shown_by r.claim) r rs before new after
+    → AreWaiting rs (t ∷ ts) → AreWaiting new ts
+others_wait rs new before after r t ts of by waiting = record {
+  apart = λ i j d less below. waiting.apart (suc i) (suc j) d (omega arith) (omega arith);
+  holdouts = λ i d below.
+      let other : t ≢ get_or ts i d = waiting.apart 0 (suc i) d (omega arith) (omega arith) in
+      stays_holdout rs new r (get_or ts i d) (λ e. other (sym of ∙ sym e)) (changes (shown_by r.claim) r rs new before after by)
+      (waiting.holdouts (suc i) d (omega arith));
+}

@@ -1,0 +1,56 @@
+-- A complete board's report is that of its tree, and a tree has one.
+use Rattle.std.proofs.Common.{◌≡◌, ℕ, ◌<◌, ◌++◌, List, [], ◌∷◌, codes, refl, sym, ap, ◌∙◌, subst, arith}
+use Rattle.machine_text.specs.Packed.{Packed}
+use Rattle.machine_text.specs.Text.{text_of}
+use Rattle.tree.specs.Closed.{IsComplete}
+use Rattle.cert.specs.Claim.{Recorded}
+use Rattle.ledger.specs.Contents.{Contents, IsBoard}
+use Rattle.ledger.specs.Records.{mark_in}
+use Rattle.ledger.specs.Tally.{AreAll, AreSoMany, IsStatus}
+use Rattle.ledger.specs.WholeTree.{IsTreeChampion}
+use Rattle.ledger.specs.declared.tally.Tally.{Tally}
+use Rattle.ledger.specs.declared.status.Status.{Status}
+use Rattle.ledger.specs.declared.status.Status.TheVariants.{Working, Holdouts, Complete}
+use Rattle.ledger.proofs.Apart.{first_member}
+use Rattle.ledger.proofs.Sets.{nobody}
+use Rattle.ledger.proofs.WholeTree.{as_many, whole_tally, whole_champions, one_tally, one_list_of_champions}
+use Rattle.ledger_commands.specs.Report.{IsReport, status_name, line_of, lines_of, counts_text, report_text}
+use Rattle.ledger_commands.specs.TreeReport.{IsTreeReport}
+
+-- where no table is of a kind, none is listed, and there are none
+pub none_listed : (K : Packed → Type 0) (tables : List Packed) → ((t : Packed) → K t → ⊥) → AreAll K tables → tables ≡ []
+none_listed K [] none all = refl
+none_listed K (t ∷ ts) none all = absurd (none t ((all.exact t).0 (first_member t t ts refl)))
+
+none_many : (K : Packed → Type 0) (n : ℕ) → 0 < n → AreSoMany K n → ((t : Packed) → K t → ⊥) → ⊥
+none_many K n some x none =
+    let zero = as_many K (λ (t : Packed). ⊥) n 0 (λ t. (none t, λ f. absurd f)) x
+    (record { tables = []; exact = λ t. (λ at. nobody at, λ f. absurd f); once = λ i j d less below. absurd (omega arith); is = refl }) in
+    omega (arith, some, zero)
+
+pub complete_status : (root : Packed) (rs : List Recorded) (status : Status) → IsComplete root (mark_in rs) → IsStatus root rs status → status_name status ≡ codes "complete"
+complete_status root rs (Working count) complete stands = absurd (none_many _ count stands.0 stands.1 complete.none_open)
+complete_status root rs (Holdouts count) complete stands = absurd (none_many _ count stands.1 stands.2 complete.no_holdout)
+complete_status root rs (Complete best) complete stands = refl
+
+pub tree_report : (b : Contents) (text : List ℕ) → IsBoard b → IsComplete b.root (mark_in b.records) → IsReport b.root b.records text → IsTreeReport b.root text
+tree_report b text board complete r =
+    let holdouts = none_listed _ r.holdouts complete.no_holdout r.are_holdouts in
+    let status = complete_status b.root b.records r.status complete r.stands in
+    record {
+      tally = r.tally;
+      champions = r.champions;
+      counted = whole_tally b r.tally board complete r.counted;
+      are_champions = whole_champions b r.tally.best r.champions board complete r.are_champions;
+      is = r.is ∙ (ap (λ name. line_of (codes "root") (text_of b.root) ++ line_of (codes "status") name ++ counts_text r.tally
+          ++ lines_of (codes "champion") r.champions ++ lines_of (codes "holdout") r.holdouts) status
+          ∙ ap (λ hs. report_text b.root (Complete r.tally.best) r.tally r.champions hs) holdouts);
+    }
+
+pub one_report : (root : Packed) (a b : List ℕ) → IsTreeReport root a → IsTreeReport root b → a ≡ b
+one_report root a b x y =
+    let tally : x.tally ≡ y.tally = one_tally root x.tally y.tally x.counted y.counted in
+    let champions : x.champions ≡ y.champions = one_list_of_champions root y.tally.best x.champions y.champions
+    (subst (λ (t : Tally). AreAll (IsTreeChampion root t.best) x.champions) tally x.are_champions) y.are_champions in
+    x.is ∙ (ap (λ (t : Tally). report_text root (Complete t.best) t x.champions []) tally
+    ∙ (ap (λ (cs : List Packed). report_text root (Complete y.tally.best) y.tally cs []) champions ∙ sym y.is))

@@ -1,0 +1,26 @@
+use Rattle.std.proofs.Common.{List, [], ◌++◌, sym, ap, ◌∙◌, append_assoc, append-nil}
+use Rattle.std.specs.Vec.Iter.{into_iter_items}
+use Rattle.machine_text.specs.Packed.{Packed}
+use Rattle.machine_text.specs.Text.{text_of}
+use Rattle.ledger_commands.specs.Report.{line_of, lines_of}
+use Rattle.ledger_commands.proofs.Passing.{only_appended, line_passed}
+use Rattle.ledger_commands.proofs.report_writer.write_tables.Goals as goal
+
+pub loop-table-init : goal.loop-table-init
+loop-table-init g c = (
+  [],
+  only_appended (g.W.Write.contents c.args.answers.now) c.args.piece.now.items c.args.piece.now.items [] (sym (append-nil c.args.piece.now.items)),
+  ap (λ tables. lines_of c.args.name.now (into_iter_items tables)) c.into_iter-table-iterator.ensures.into_iter_gives,
+)
+
+pub loop-table-preserved : goal.loop-table-preserved
+loop-table-preserved g c =
+    let before = c.loop-table.invariant in
+    let line = line_of c.args.name.now (text_of c.in-Some.table) in (
+      before.0 ++ line,
+      line_passed (g.W.Write.contents c.args.answers.now) (g.W.Write.contents c.loop-table.answers) (g.W.Write.contents c.write_full.new.answers)
+          c.args.piece.now.items c.loop-table.piece.items c.append_table_line.new.out.items c.write_full.new.piece.items before.0 line
+          before.1 c.in_ok-append_table_line.ensures.ok c.in_ok-write_full.ensures.ok,
+      append_assoc before.0 line (lines_of c.args.name.now (into_iter_items c.next.new.self))
+          ∙ (ap (λ (ts : List Packed). before.0 ++ lines_of c.args.name.now ts) (sym c.in-Some.ensures.steps.0) ∙ before.2),
+    )

@@ -1,0 +1,7 @@
+pub mod Faults
+pub mod Report
+pub mod TreeReport
+pub mod LedgerReport
+pub mod Merge
+pub mod Passing
+pub mod Retry

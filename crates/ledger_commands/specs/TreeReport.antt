@@ -1,0 +1,17 @@
+-- The report of a whole tree: a complete board's, whatever way it came about.
+use Rattle.std.specs.Prelude.{◌≡◌, ℕ, List, []}
+use Rattle.machine_text.specs.Packed.{Packed}
+use Rattle.ledger.specs.Tally.{AreAll}
+use Rattle.ledger.specs.WholeTree.{IsTreeTally, IsTreeChampion}
+use Rattle.ledger.specs.declared.tally.Tally.{Tally}
+use Rattle.ledger.specs.declared.status.Status.TheVariants.{Complete}
+use Rattle.ledger_commands.specs.Report.{report_text}
+
+-- of the tree of a root: how many tables it has, how many halt and how many never do, the greatest number of steps, and
+-- the tables that halt after so many, in the order of their texts; nothing is open, and there is no holdout
+pub record IsTreeReport (root : Packed) (text : List ℕ) : Type 0 where
+  pub tally : Tally
+  pub champions : List Packed
+  pub counted : IsTreeTally root tally
+  pub are_champions : AreAll (IsTreeChampion root tally.best) champions
+  pub is : text ≡ report_text root (Complete tally.best) tally champions []

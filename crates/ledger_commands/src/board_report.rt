@@ -1,0 +1,144 @@
+// The report of a board.
+ghost use Rattle.std.specs.Prelude.{◌≡◌, ◌∷◌, [], ◌++◌, List, ℕ, codes, take, length, decimal, OnOk, OnErr};
+ghost use Rattle.std.specs.Vec.Iter.{into_iter_items};
+ghost use Rattle.machine_text.specs.Text.{text_of};
+ghost use Rattle.tree.specs.Closed.{IsComplete};
+ghost use Rattle.ledger.specs.Records.{mark_in};
+ghost use Rattle.ledger_commands.specs.TreeReport.{IsTreeReport};
+ghost use Rattle.ledger_commands.specs.Report.{IsReport, IsHead, line_of, lines_of, status_name, best_text, verdicts_text, counts_text, report_text};
+
+use cert::append_number;
+use evidence::NoMemory;
+use ledger::{Board, Status, Tally};
+use machine_text::{TEXT_BYTES, Table};
+use std::vec::IntoIter;
+
+/// Appends the report of a board: its root, how it stands, how many tables there are of each kind, the
+/// greatest recorded number of steps, and the champions and holdouts in the order of their texts. That of a
+/// complete board is a function of its root alone. Where memory is refused, `out` is as it was.
+#[tactic(auto, using(crate::proofs::TreeReports::tree_report))]
+pub fn report(board: &Board, out: &mut Vec<u8>) -> Result<(), NoMemory>
+    ensures ok { OnOk result ((text : List ℕ) × IsReport board.now.root board.now.records text × (out.new.items ≡ out.old.items ++ text)) }
+    ensures complete { OnOk result (IsComplete board.now.root (mark_in board.now.records) →
+        (text : List ℕ) × IsTreeReport board.now.root text × (out.new.items ≡ out.old.items ++ text)) }
+    ensures err { OnErr result (out.new.items ≡ out.old.items) }
+{
+    // The proof needs that it is a board.
+    let _ = board.root();
+    let len = out.len();
+    match append_report(board, out) {
+        Ok(()) => Ok(()),
+        Err(fault) => {
+            out.truncate(len);
+            Err(fault)
+        }
+    }
+}
+
+// Appends the report; where memory is refused, a beginning of it.
+fn append_report(board: &Board, out: &mut Vec<u8>) -> Result<(), NoMemory>
+    ensures ok { OnOk result ((text : List ℕ) × IsReport board.now.root board.now.records text × (out.new.items ≡ out.old.items ++ text)) }
+    ensures kept { take (length out.old.items) out.new.items ≡ out.old.items }
+{
+    let champions = board.champions()?;
+    let holdouts = board.holdouts()?;
+    append_head(board, out)?;
+    append_tables(b"champion", champions, out)?;
+    append_tables(b"holdout", holdouts, out)
+}
+
+/// Appends the lines of a report that stand before those of the tables; where memory is refused, a
+/// beginning of them.
+pub fn append_head(board: &Board, out: &mut Vec<u8>) -> Result<(), NoMemory>
+    ensures ok { OnOk result ((head : List ℕ) × IsHead board.now.root board.now.records head × (out.new.items ≡ out.old.items ++ head)) }
+    ensures kept { take (length out.old.items) out.new.items ≡ out.old.items }
+{
+    append_table_line(b"root", board.root(), out)?;
+    append_line(b"status", status_name(board.status()).as_bytes(), out)?;
+    append_counts(&board.tally(), out)
+}
+
+/// The word for how a board stands.
+pub fn status_name(status: Status) -> &'static str
+    ensures { result.now ≡ status_name status }
+{
+    match status {
+        Status::Working { .. } => "working",
+        Status::Holdouts { .. } => "holdouts",
+        Status::Complete { .. } => "complete",
+    }
+}
+
+// Appends the lines of the counts.
+fn append_counts(tally: &Tally, out: &mut Vec<u8>) -> Result<(), NoMemory>
+    ensures ok { OnOk result (out.new.items ≡ out.old.items ++ counts_text tally.now) }
+    ensures kept { take (length out.old.items) out.new.items ≡ out.old.items }
+{
+    append_verdict_counts(tally, out)?;
+    append_count(b"holdouts", tally.holdouts, out)?;
+    append_count(b"open", tally.open_count, out)?;
+    append_best(tally.best, out)
+}
+
+// Appends the lines of the nodes and of the verdicts.
+fn append_verdict_counts(tally: &Tally, out: &mut Vec<u8>) -> Result<(), NoMemory>
+    ensures ok { OnOk result (out.new.items ≡ out.old.items ++ verdicts_text tally.now) }
+    ensures kept { take (length out.old.items) out.new.items ≡ out.old.items }
+{
+    append_count(b"nodes", tally.nodes, out)?;
+    append_count(b"halting", tally.halting, out)?;
+    append_count(b"never", tally.never, out)
+}
+
+// Appends the line of the greatest number of steps.
+fn append_best(best: Option<u64>, out: &mut Vec<u8>) -> Result<(), NoMemory>
+    ensures ok { OnOk result (out.new.items ≡ out.old.items ++ line_of (codes "best") (best_text best)) }
+    ensures kept { take (length out.old.items) out.new.items ≡ out.old.items }
+{
+    match best {
+        Some(best) => append_count(b"best", best, out),
+        None => append_line(b"best", b"none", out),
+    }
+}
+
+// Appends a line for each table.
+fn append_tables(name: &[u8], tables: IntoIter<Table>, out: &mut Vec<u8>) -> Result<(), NoMemory>
+    ensures ok { OnOk result (out.new.items ≡ out.old.items ++ lines_of name.now (into_iter_items tables)) }
+    ensures kept { take (length out.old.items) out.new.items ≡ out.old.items }
+{
+    for table in tables {
+        append_table_line(name, &table, out)?;
+    }
+    Ok(())
+}
+
+/// Appends a line of a table; where memory is refused, a beginning of it.
+pub fn append_table_line(name: &[u8], t: &Table, out: &mut Vec<u8>) -> Result<(), NoMemory>
+    ensures ok { OnOk result (out.new.items ≡ out.old.items ++ line_of name.now (text_of t.now)) }
+    ensures kept { take (length out.old.items) out.new.items ≡ out.old.items }
+{
+    let mut buf = [0; TEXT_BYTES];
+    append_line(name, t.text(&mut buf), out)
+}
+
+// Appends a line of a number.
+fn append_count(name: &[u8], n: u64, out: &mut Vec<u8>) -> Result<(), NoMemory>
+    ensures ok { OnOk result (out.new.items ≡ out.old.items ++ line_of name.now (decimal n)) }
+    ensures kept { take (length out.old.items) out.new.items ≡ out.old.items }
+{
+    out.extend_from_slice(name)?;
+    out.extend_from_slice(b" ")?;
+    append_number(n, out)?;
+    out.extend_from_slice(b"\n")
+}
+
+// Appends a line.
+fn append_line(name: &[u8], value: &[u8], out: &mut Vec<u8>) -> Result<(), NoMemory>
+    ensures ok { OnOk result (out.new.items ≡ out.old.items ++ line_of name.now value.now) }
+    ensures kept { take (length out.old.items) out.new.items ≡ out.old.items }
+{
+    out.extend_from_slice(name)?;
+    out.extend_from_slice(b" ")?;
+    out.extend_from_slice(value)?;
+    out.extend_from_slice(b"\n")
+}

@@ -1,0 +1,27 @@
+//! The commands of `bb` that read ledgers, over readers, writers and files: `report`, `retry` and `merge`.
+//!
+//! `specs/Report` is the report of a board, `specs/TreeReport` that of a complete one, `specs/LedgerReport` what is
+//! printed for a ledger's text, `specs/Retry` what becomes of holdouts that are tried again, `specs/Merge` of two
+//! ledgers that are joined.
+#![tactic(auto)]
+
+mod board_report;
+mod faults;
+mod file_ledger;
+mod host;
+mod ledger_report;
+mod merge;
+mod report_form;
+mod report_writer;
+mod retry;
+mod tree_reports;
+
+pub use board_report::{report, status_name};
+pub use faults::keep_answer;
+pub use file_ledger::FileLedger;
+pub use host::{Host, opened};
+pub use ledger_report::{Opened, bytes_of, cmd_report, report_ledger, write_ledger_report};
+pub use merge::{LedgerSource, cmd_merge, joined};
+pub use report_form::{AsLines, ReportForm};
+pub use retry::{cmd_retry, retry_holdouts};
+pub use tree_reports::complete_boards_report_their_tree;

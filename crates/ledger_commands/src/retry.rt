@@ -1,0 +1,167 @@
+// `bb retry`: the holdouts of a ledger are tried again.
+ghost use Rattle.std.specs.Prelude.{◌≡◌, None, IfOk, OnOk};
+ghost use Rattle.cert.specs.Claim.{shown_by};
+ghost use Rattle.cert.specs.Kinds.{recorded};
+ghost use Rattle.ledger.specs.Held.{IsHoldout};
+ghost use Rattle.ledger_commands.specs.Retry.{Gains, StaysInStep, AtSomeTime, ChangesBy, IsTried, AreRetried};
+
+use crate::faults::keep_answer;
+use crate::ledger_report::{Opened, bytes_of, loaded, outcome_by};
+use crate::report_writer::write_report;
+use cert::{Decider, Record};
+use ledger::{Board, Left, Taken, append_record};
+use machine_text::Table;
+use options::{Ended, Outcome};
+use std::alloc::Global;
+use std::io::{self, Read, Write};
+use wire::{LedgerOut, Note, Out};
+
+/// Cuts a ledger to the bytes that are kept of it, asks the decider for each of its holdouts in the order of
+/// their texts, and appends a line for each that is settled. Then it prints the report: accepted where that
+/// says complete. What becomes open stays open. `held` reads what the ledger holds; what ends the command early is
+/// said on `faults`.
+pub fn cmd_retry<F: Read + Drop, L: LedgerOut, D: Decider, W: Write, E: Write>(
+    alloc: Global,
+    held: io::Result<Opened<F>>,
+    ledger: &mut L,
+    decider: &mut D,
+    answers: &mut W,
+    faults: &mut E,
+) -> Outcome {
+    match retried(alloc, held, ledger, decider, answers) {
+        Ok(outcome) => outcome,
+        Err(ended) => ended.told(faults),
+    }
+}
+
+fn retried<F: Read + Drop, L: LedgerOut, D: Decider, W: Write>(
+    alloc: Global,
+    held: io::Result<Opened<F>>,
+    ledger: &mut L,
+    decider: &mut D,
+    answers: &mut W,
+) -> Result<Outcome, Ended> {
+    let bytes = match bytes_of(alloc, held) {
+        Ok(bytes) => bytes,
+        Err(fault) => return Err(Ended::by_ledger(&fault)),
+    };
+    let (mut board, left) = loaded(alloc, &bytes)?;
+    drop(bytes);
+    settled_further(alloc, &mut board, &left, ledger, decider, answers)
+}
+
+// The same from the board of the ledger, and what of it wasn't kept.
+fn settled_further<L: LedgerOut, D: Decider, W: Write>(
+    alloc: Global,
+    board: &mut Board,
+    left: &Left,
+    ledger: &mut L,
+    decider: &mut D,
+    answers: &mut W,
+) -> Result<Outcome, Ended> {
+    cut_off(left, ledger)?;
+    retry_holdouts(alloc, board, decider, ledger)?;
+    write_report(alloc, board, &Left::Nothing, answers)?;
+    Ok(outcome_by(board.status(), &Left::Nothing))
+}
+
+// Cuts off what wasn't kept.
+fn cut_off<L: LedgerOut>(left: &Left, ledger: &mut L) -> Result<(), Ended> {
+    match left {
+        Left::Nothing => Ok(()),
+        Left::From { kept, .. } => match ledger.cut(*kept) {
+            Ok(()) => Ok(()),
+            Err(_) => Err(Ended::Ledger),
+        },
+    }
+}
+
+/// Asks the decider for each holdout of a board, in the order of their texts. What it answers is taken where
+/// it has a verdict, and its line is appended to the ledger, so that a ledger that was in step with the
+/// board is so again; else nothing changes.
+pub fn retry_holdouts<L: LedgerOut, D: Decider>(
+    alloc: Global,
+    board: &mut Board,
+    decider: &mut D,
+    ledger: &mut L,
+) -> Result<(), Ended>
+    ensures root { board.new.root ≡ board.old.root }
+    ensures step { OnOk result (StaysInStep board.old (L.text ledger.old) board.new (L.text ledger.new)) }
+    ensures order { OnOk result (AreRetried (AtSomeTime D D.answers) board.old (L.text ledger.old) board.new (L.text ledger.new)) }
+{
+    for table in board.holdouts()? {
+        retry(alloc, board, decider, &table, ledger)?;
+    }
+    Ok(())
+}
+
+// Asks the decider for a holdout.
+fn retry<L: LedgerOut, D: Decider>(
+    alloc: Global,
+    board: &mut Board,
+    decider: &mut D,
+    t: &Table,
+    ledger: &mut L,
+) -> Result<(), Ended>
+    requires { IsHoldout board.old.records t.now }
+    ensures root { board.new.root ≡ board.old.root }
+    ensures step { OnOk result (StaysInStep board.old (L.text ledger.old) board.new (L.text ledger.new)) }
+    ensures tried { OnOk result (IsTried (AtSomeTime D D.answers) t.now board.old.records (L.text ledger.old) board.new.records (L.text ledger.new)) }
+{
+    let made = decider.decide(alloc, t)?;
+    let record = Record {
+        table: made.table,
+        certificate: made.certificate.lent(),
+    };
+    take(alloc, board, &record, ledger)
+}
+
+// Offers a record of a holdout, and appends its line where it is taken.
+fn take<L: LedgerOut>(
+    alloc: Global,
+    board: &mut Board,
+    r: &Record,
+    ledger: &mut L,
+) -> Result<(), Ended>
+    requires { IsHoldout board.old.records (recorded r.now).table }
+    ensures root { board.new.root ≡ board.old.root }
+    ensures step { OnOk result (StaysInStep board.old (L.text ledger.old) board.new (L.text ledger.new)) }
+    ensures changes { OnOk result (ChangesBy (shown_by (recorded r.now).claim) (recorded r.now) board.old.records (L.text ledger.old) board.new.records (L.text ledger.new)) }
+{
+    // The proof needs that it is a board.
+    let _ = board.root();
+    let mut append = Vec::new(alloc);
+    append_record(r, &mut append)?;
+    if gains(board, r)? {
+        keep_answer(&appending(alloc, append), ledger)?;
+    }
+    Ok(())
+}
+
+// Offers a record of a holdout, and answers whether it is taken.
+fn gains(board: &mut Board, r: &Record) -> Result<bool, Ended>
+    requires { IsHoldout board.old.records (recorded r.now).table }
+    ensures root { board.new.root ≡ board.old.root }
+    ensures ok { IfOk result (λ gained. Gains board.old.records (recorded r.now) gained board.new.records) }
+{
+    match board.offer(r) {
+        Ok(Taken::Settled) => Ok(true),
+        // for an open table alone
+        Ok(Taken::New) => Ok(true),
+        Ok(Taken::Known) => Ok(false),
+        // it is certified, and of a table of the board, so it was memory
+        Err(_) => Err(Ended::NoMemory),
+    }
+}
+
+// An answer by which a ledger gains these bytes, and nothing else happens.
+fn appending(alloc: Global, append: Vec<u8>) -> Out
+    ensures { (result.append.items ≡ append.items) × (result.cut ≡ None) }
+{
+    Out {
+        cut: None,
+        append,
+        frames: Vec::new(alloc),
+        note: Note::Quiet,
+    }
+}

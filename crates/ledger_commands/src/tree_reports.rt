@@ -1,0 +1,16 @@
+// What is true of the reports of complete boards: laws over the definitions.
+ghost use Rattle.std.specs.Prelude.{◌≡◌, List, ℕ};
+ghost use Rattle.machine_text.specs.Packed.{Packed};
+ghost use Rattle.tree.specs.Closed.{IsComplete};
+ghost use Rattle.ledger.specs.Contents.{Contents, IsBoard};
+ghost use Rattle.ledger.specs.Records.{mark_in};
+ghost use Rattle.ledger_commands.specs.Report.{IsReport};
+ghost use Rattle.ledger_commands.specs.TreeReport.{IsTreeReport};
+
+/// The report of a complete board is that of its root's tree, and a tree has one: it is a function of the root
+/// alone, whatever records, certificates and restarts the board came from.
+pub fn complete_boards_report_their_tree()
+    ensures tree { (b : Contents) (text : List ℕ) → IsBoard b → IsComplete b.root (mark_in b.records) →
+        IsReport b.root b.records text → IsTreeReport b.root text }
+    ensures one { (root : Packed) (a b : List ℕ) → IsTreeReport root a → IsTreeReport root b → a ≡ b }
+{}

@@ -1,0 +1,64 @@
+-- The answer to a line: what is printed for what its record's certificate shows, or for why it is refused.
+use Rattle.std.specs.Prelude.{◌≡◌, ℕ, List, [], ◌++◌, Option, Some, None, Result, Ok, Err, codes, decimal}
+use Rattle.machine_text.specs.Text.{text_of}
+use Rattle.machine_text.specs.Fault as text
+use Rattle.machine_text.specs.declared.faults.TextFault.{TextFault}
+use Rattle.evidence.specs.declared.verdicts.Verdict.{Verdict}
+use Rattle.evidence.specs.declared.verdicts.Verdict.TheVariants.{Halts, Never}
+use Rattle.evidence.specs.declared.verdicts.Refused.{Refused as Refusal}
+use Rattle.cert.specs.Claim.{Recorded, shown_by}
+use Rattle.cert.specs.Certified.{IsCertified, IsRefusedBy}
+use Rattle.evidence.specs.Verdict as verdict
+use Rattle.std.specs.Borrow.{Bor}
+use Rattle.cert.specs.Grammar.{record_of}
+use Rattle.cert.specs.Fault as record_fault
+use Rattle.cert.specs.declared.record_fault.RecordFault.{RecordFault}
+use Rattle.cert.specs.declared.record_fault.RecordFault.TheVariants.{BadTable, BadKind, BadNumber, BadList, TooLong}
+use Rattle.options.specs.declared.outcome.Outcome.{Outcome}
+use Rattle.options.specs.declared.outcome.Outcome.TheVariants.{Accepted, Refused, BadLine, NoMemory, Failed}
+
+-- what is said of a table, behind it
+abbrev pub verdict_text : Option Verdict → List ℕ
+verdict_text (Some (Halts k)) = codes " halts " ++ decimal k
+verdict_text (Some Never) = codes " never"
+verdict_text None = codes " undecided"
+
+abbrev pub refusal_text : ℕ → List ℕ
+refusal_text n = codes "refused " ++ decimal n
+
+-- a table's fault behind the record's: its number, and its place where it has one
+abbrev pub place_text : Option ℕ → List ℕ
+place_text None = []
+place_text (Some i) = codes " " ++ decimal i
+
+abbrev pub text_fault_text : TextFault → List ℕ
+text_fault_text f = codes " " ++ decimal (text.text_fault_number f) ++ place_text (text.place_of f)
+
+abbrev pub inner_text : RecordFault → List ℕ
+inner_text (BadTable f) = text_fault_text f
+inner_text BadKind = []
+inner_text BadNumber = []
+inner_text BadList = []
+inner_text TooLong = []
+
+abbrev pub fault_text : RecordFault → List ℕ
+fault_text f = refusal_text (record_fault.record_fault_number f) ++ inner_text f
+
+-- the answer to a record: accepted, with its table and what its claim shows, where that is certified; or why it is
+-- refused
+abbrev pub AnswersRecord : Recorded → Outcome → List ℕ → Type 0
+AnswersRecord r Accepted answer = IsCertified r × (answer ≡ text_of r.table ++ verdict_text (shown_by r.claim))
+AnswersRecord r Refused answer = (why : Refusal) × IsRefusedBy why r × (answer ≡ refusal_text (verdict.refused_number why))
+AnswersRecord r BadLine answer = ⊥
+AnswersRecord r NoMemory answer = ⊥
+AnswersRecord r Failed answer = ⊥
+
+-- what is read of a line, which is none where it was too long
+abbrev pub read_line : Option (Bor (List ℕ)) → Result Recorded RecordFault
+read_line None = Err TooLong
+read_line (Some line) = record_of line.now
+
+-- an answer to what was read
+abbrev pub Answers : Result Recorded RecordFault → Outcome → List ℕ → Type 0
+Answers (Ok r) o answer = AnswersRecord r o answer
+Answers (Err f) o answer = (o ≡ Refused) × (answer ≡ fault_text f)

@@ -1,0 +1,86 @@
+// `bb decide`: tables in, records out.
+ghost use Rattle.std.specs.Prelude.{◌≡◌, ◌∷◌, [], ◌++◌, List, ℕ, IfOk};
+ghost use Rattle.line_commands.specs.Decision.{Decides, DecidesTable, read_table, table_read};
+
+use crate::answers::append_fault;
+use crate::line_loop::{Answerer, answer_lines};
+use cert::{Decider, RecordFault};
+use evidence::NoMemory;
+use machine_text::Table;
+use options::Outcome;
+use std::alloc::Global;
+use std::io::{Read, Write};
+
+/// Reads a table a line and prints a record a line, as the decider answers: certified, or undecided. Lines are answered as they come, and
+/// a last line without newline is read too. What a failed stream or refused memory ends is said on
+/// `faults`.
+pub fn cmd_decide<D: Decider, R: Read, W: Write, E: Write>(
+    alloc: Global,
+    decider: &mut D,
+    input: &mut R,
+    answers: &mut W,
+    faults: &mut E,
+) -> Outcome {
+    let mut answerer = TableAnswerer { alloc, decider };
+    answer_lines(alloc, &mut answerer, input, answers, faults)
+}
+
+#[derive(Drop)]
+struct TableAnswerer<'a, D> {
+    alloc: Global,
+    decider: &'a mut D,
+}
+
+impl<'a, D: Decider> Answerer for TableAnswerer<'a, D> {
+    fn answer(&mut self, line: Option<&[u8]>, out: &mut Vec<u8>) -> Result<Outcome, NoMemory> {
+        decide_line(self.alloc, self.decider, line, out)
+    }
+}
+
+/// Appends the record of a line's table, which is none where the line was too long, with a newline; of a
+/// text that is no table its fault.
+pub fn decide_line<D: Decider>(
+    alloc: Global,
+    decider: &mut D,
+    line: Option<&[u8]>,
+    out: &mut Vec<u8>,
+) -> Result<Outcome, NoMemory>
+    ensures { IfOk result (λ o. (answer : List ℕ) × Decides (D.answers decider.old) (read_table line.entry) o answer × (out.new.items ≡ out.old.items ++ answer ++ 10 ∷ [])) }
+{
+    let outcome = match read_table(line) {
+        Ok(table) => append_record(alloc, decider, &table, out)?,
+        Err(fault) => {
+            append_fault(fault, out)?;
+            Outcome::Refused
+        }
+    };
+    out.push(b'\n')?;
+    Ok(outcome)
+}
+
+// The table of a line.
+fn read_table(line: Option<&[u8]>) -> Result<Table, RecordFault>
+    ensures { result ≡ read_table line.entry }
+{
+    match line {
+        Some(text) => match Table::parse(text) {
+            Ok(table) => Ok(table),
+            Err(fault) => Err(RecordFault::BadTable(fault)),
+        },
+        None => Err(RecordFault::TooLong),
+    }
+}
+
+// Appends a record of a table.
+fn append_record<D: Decider>(
+    alloc: Global,
+    decider: &mut D,
+    t: &Table,
+    out: &mut Vec<u8>,
+) -> Result<Outcome, NoMemory>
+    ensures { IfOk result (λ o. (answer : List ℕ) × DecidesTable (D.answers decider.old) t.now o answer × (out.new.items ≡ out.old.items ++ answer)) }
+{
+    let record = decider.decide(alloc, t)?;
+    record.lent().write_text(out)?;
+    Ok(Outcome::Accepted)
+}

@@ -1,0 +1,14 @@
+//! The commands of `bb` that answer a stream of lines, over readers and writers: `check` and `decide`.
+//!
+//! `specs/Answer` is the answer to a line of `bb check`, `specs/Decision` that of `bb decide`.
+#![tactic(auto)]
+
+mod answers;
+mod check;
+mod decide;
+mod line_loop;
+mod pieces;
+
+pub use answers::answer;
+pub use check::cmd_check;
+pub use decide::{cmd_decide, decide_line};

@@ -1,0 +1,126 @@
+// `bb coord`: a coordinator over two streams and a ledger.
+ghost use Rattle.std.specs.Prelude.{◌≤◌};
+ghost use Rattle.machine_text.specs.Limits.{state_limit};
+
+use crate::faults::{by_start, by_turn};
+use crate::streams::Streams;
+use coordinator::{Coordinator, StartFault};
+use ledger::Status;
+use ledger_commands::{Opened, bytes_of, keep_answer};
+use options::{Beginning, Ended, Outcome};
+use std::alloc::Global;
+use std::io::{self, BufWriter, Read, Write};
+use wire::{LedgerOut, Lines, Node, Out, Turn, turn};
+
+/// Begins a coordinator from what a ledger holds, and answers the frames of `input`, a line each, until it ends:
+/// what is new stands in the ledger before a frame says so. `held` reads what the ledger holds. Accepted where
+/// the board is complete at the end. What ends the command early is said on `faults`.
+pub fn cmd_coord<F: Read + Drop, L: LedgerOut, R: Read, W: Write, E: Write>(
+    alloc: Global,
+    beginning: Beginning,
+    held: io::Result<Opened<F>>,
+    ledger: &mut L,
+    input: &mut R,
+    answers: &mut W,
+    faults: &mut E,
+) -> Outcome
+    requires { (1 ≤ beginning.states) × (beginning.states ≤ state_limit) }
+{
+    match coordinated(alloc, beginning, held, ledger, input, answers) {
+        Ok(outcome) => outcome,
+        Err(ended) => ended.told(faults),
+    }
+}
+
+fn coordinated<F: Read + Drop, L: LedgerOut, R: Read, W: Write>(
+    alloc: Global,
+    beginning: Beginning,
+    held: io::Result<Opened<F>>,
+    ledger: &mut L,
+    input: &mut R,
+    answers: &mut W,
+) -> Result<Outcome, Ended>
+    requires { (1 ≤ beginning.states) × (beginning.states ≤ state_limit) }
+{
+    let mut node = coordinator(alloc, beginning, held, ledger)?;
+    let served = served(alloc, &mut node, ledger, input, answers);
+    let outcome = outcome_of(&node);
+    served.and(Ok(outcome))
+}
+
+// A coordinator whose ledger is in step with it.
+pub fn coordinator<F: Read + Drop, L: LedgerOut>(
+    alloc: Global,
+    beginning: Beginning,
+    held: io::Result<Opened<F>>,
+    ledger: &mut L,
+) -> Result<Coordinator, Ended>
+    requires { (1 ≤ beginning.states) × (beginning.states ≤ state_limit) }
+{
+    match bytes_of(alloc, held) {
+        Ok(bytes) => started(alloc, beginning, &bytes, ledger),
+        Err(fault) => Err(Ended::by_ledger(&fault)),
+    }
+}
+
+fn started<L: LedgerOut>(
+    alloc: Global,
+    beginning: Beginning,
+    bytes: &[u8],
+    ledger: &mut L,
+) -> Result<Coordinator, Ended>
+    requires { (1 ≤ beginning.states) × (beginning.states ≤ state_limit) }
+{
+    let (node, first) = Coordinator::start(alloc, beginning.states, beginning.era, bytes);
+    carry_out_first(first, ledger)?;
+    Ok(node)
+}
+
+// Does what a node asks for when it has started.
+fn carry_out_first<L: LedgerOut>(
+    first: Result<Out, StartFault>,
+    ledger: &mut L,
+) -> Result<(), Ended> {
+    keep_answer(&first.map_err(by_start)?, ledger)
+}
+
+// Answers what comes, to the end of the input.
+fn served<N: Node, L: LedgerOut, R: Read, W: Write>(
+    alloc: Global,
+    node: &mut N,
+    ledger: &mut L,
+    input: &mut R,
+    answers: &mut W,
+) -> Result<(), Ended> {
+    let mut output = BufWriter::new(alloc, answers)?;
+    let turned = turned(alloc, node, ledger, input, &mut output);
+    // What was answered before a fault is sent all the same.
+    output.flush()?;
+    turned
+}
+
+fn turned<N: Node, L: LedgerOut, R: Read, W: Write>(
+    alloc: Global,
+    node: &mut N,
+    ledger: &mut L,
+    input: &mut R,
+    output: &mut W,
+) -> Result<(), Ended> {
+    let mut lines = Lines::new(alloc);
+    let mut link = Streams::of(input, output);
+    for _ in 0..u64::MAX {
+        let turned = turn(node, &mut lines, &mut link, ledger).map_err(by_turn)?;
+        if turned == Turn::End {
+            break;
+        }
+    }
+    Ok(())
+}
+
+// Accepted where a coordinator's board is complete.
+pub fn outcome_of(node: &Coordinator) -> Outcome {
+    match node.board() {
+        Some(board) if matches!(board.status(), Status::Complete { .. }) => Outcome::Accepted,
+        _ => Outcome::Refused,
+    }
+}

@@ -1,0 +1,20 @@
+//! The commands of `bb` that serve a tree, over readers, writers and links: `coord`, a coordinator alone, and `run`, a
+//! coordinator and workers in one process.
+//!
+//! `specs/Losses` says which frames of a link are lost on purpose.
+#![tactic(auto)]
+
+mod coord;
+mod faults;
+mod losses;
+mod progress;
+mod rounds;
+mod run_command;
+mod station;
+mod streams;
+
+pub use coord::cmd_coord;
+pub use losses::{Losses, carry};
+pub use progress::Progress;
+pub use run_command::cmd_run;
+pub use streams::Streams;

@@ -1,0 +1,156 @@
+// `bb run`: a coordinator and workers in one process, and then the report.
+ghost use Rattle.std.specs.Prelude.{◌≤◌};
+ghost use Rattle.machine_text.specs.Limits.{state_limit};
+
+use crate::coord::{coordinator, outcome_of};
+use crate::progress::Progress;
+use crate::rounds::run_rounds;
+use crate::station::Station;
+use coordinator::Coordinator;
+use ledger::Left;
+use ledger_commands::{Opened, ReportForm};
+use options::{Beginning, Ended, Outcome, Settling};
+use std::alloc::Global;
+use std::io::{self, Read, Write};
+use std::time::Clock;
+use wire::{LedgerOut, Node};
+
+/// Settles the tree of the empty table by a coordinator and these workers, which were started from empty
+/// ledgers and whose links are in memory, and prints the report in a form. The coordinator's board begins with
+/// what `held` reads, and its records go to `ledger`. Accepted where the board is complete at the end. What
+/// ends the command early is said on `faults`, and so is how far it is, where that is asked for.
+pub fn cmd_run<
+    P: ReportForm,
+    F: Read + Drop,
+    L: LedgerOut,
+    N: Node + Drop,
+    C: Clock,
+    W: Write,
+    E: Write,
+>(
+    alloc: Global,
+    settling: &Settling,
+    form: &P,
+    held: io::Result<Opened<F>>,
+    ledger: &mut L,
+    workers: Vec<N>,
+    clock: &C,
+    answers: &mut W,
+    faults: &mut E,
+) -> Outcome
+    requires { (1 ≤ settling.now.states) × (settling.now.states ≤ state_limit) }
+{
+    let ended = settled(
+        alloc, settling, form, held, ledger, workers, clock, answers, faults,
+    );
+    match ended {
+        Ok(outcome) => outcome,
+        Err(ended) => ended.told(faults),
+    }
+}
+
+// A coordinator that is settled with these workers, and its report.
+fn settled<
+    P: ReportForm,
+    F: Read + Drop,
+    L: LedgerOut,
+    N: Node + Drop,
+    C: Clock,
+    W: Write,
+    E: Write,
+>(
+    alloc: Global,
+    settling: &Settling,
+    form: &P,
+    held: io::Result<Opened<F>>,
+    ledger: &mut L,
+    workers: Vec<N>,
+    clock: &C,
+    answers: &mut W,
+    faults: &mut E,
+) -> Result<Outcome, Ended>
+    requires { (1 ≤ settling.now.states) × (settling.now.states ≤ state_limit) }
+{
+    let beginning = Beginning {
+        states: settling.states,
+        era: 1,
+    };
+    let mut node = coordinator(alloc, beginning, held, ledger)?;
+    run_and_report(
+        alloc, settling, form, &mut node, ledger, workers, clock, answers, faults,
+    )
+}
+
+// The rounds of a coordinator and its workers, and then the report.
+fn run_and_report<P: ReportForm, L: LedgerOut, N: Node + Drop, C: Clock, W: Write, E: Write>(
+    alloc: Global,
+    settling: &Settling,
+    form: &P,
+    node: &mut Coordinator,
+    ledger: &mut L,
+    workers: Vec<N>,
+    clock: &C,
+    answers: &mut W,
+    faults: &mut E,
+) -> Result<Outcome, Ended> {
+    run_workers(alloc, settling, node, ledger, workers, clock, faults)?;
+    reported(alloc, form, node, answers)
+}
+
+// The rounds alone.
+fn run_workers<L: LedgerOut, N: Node + Drop, C: Clock, E: Write>(
+    alloc: Global,
+    settling: &Settling,
+    node: &mut Coordinator,
+    ledger: &mut L,
+    workers: Vec<N>,
+    clock: &C,
+    faults: &mut E,
+) -> Result<(), Ended> {
+    let mut stations = stations(alloc, settling, workers)?;
+    let records = recorded(node);
+    let mut progress = Progress::new(alloc, settling.progress, records, clock, faults);
+    run_rounds(node, ledger, &mut stations, settling.rounds, &mut progress)
+}
+
+// Each worker with a link of its own.
+fn stations<N: Node + Drop>(
+    alloc: Global,
+    settling: &Settling,
+    workers: Vec<N>,
+) -> Result<Vec<Station<N>>, Ended> {
+    let mut stations = Vec::new(alloc);
+    for worker in workers {
+        if stations
+            .push(Station::new(alloc, worker, settling.lose))
+            .is_err()
+        {
+            return Err(Ended::NoMemory);
+        }
+    }
+    Ok(stations)
+}
+
+// How many records a coordinator begins with.
+fn recorded(node: &Coordinator) -> u64 {
+    match node.board() {
+        Some(board) => {
+            let tally = board.tally();
+            tally.nodes.saturating_sub(tally.open_count)
+        }
+        None => 0,
+    }
+}
+
+// Prints the report of a coordinator's board.
+fn reported<P: ReportForm, W: Write>(
+    alloc: Global,
+    form: &P,
+    node: &Coordinator,
+    answers: &mut W,
+) -> Result<Outcome, Ended> {
+    if let Some(board) = node.board() {
+        form.write(alloc, board, &Left::Nothing, answers)?;
+    }
+    Ok(outcome_of(node))
+}

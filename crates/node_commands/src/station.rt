@@ -1,0 +1,117 @@
+// A worker in the same process as its coordinator.
+use crate::faults::in_memory;
+use crate::losses::{Losses, carry};
+use coordinator::Coordinator;
+use evidence::NoMemory;
+use options::Ended;
+use std::alloc::{AllocError, Global};
+use wire::{Event, LedgerOut, Lines, Link, MemLedger, MemLink, Node, TurnFault, begin, turn};
+
+// How many work turns a worker gets in a round.
+const WORK_TURNS: u32 = 8;
+
+// A worker with its ledger, and both ends of its link with the coordinator, all in memory. The worker is any
+// node: what is proved of a type that keeps boxed finders would depend on the bodies of its calls.
+#[derive(Drop)]
+pub struct Station<N> {
+    worker: N,
+    ledger: MemLedger,
+    near: LinkEnd,
+    far: LinkEnd,
+    to_coordinator: Losses,
+    to_worker: Losses,
+}
+
+// One end of a link, and the lines that came to it.
+#[derive(Drop)]
+struct LinkEnd {
+    link: MemLink,
+    lines: Lines,
+}
+
+impl LinkEnd {
+    fn new(alloc: Global) -> LinkEnd {
+        LinkEnd {
+            link: MemLink::new(alloc),
+            lines: Lines::new(alloc),
+        }
+    }
+
+    // Hands all that waits to a node, and carries out what it answers.
+    fn serve<N: Node, L: LedgerOut>(
+        &mut self,
+        node: &mut N,
+        ledger: &mut L,
+    ) -> Result<(), TurnFault> {
+        for _ in 0..u64::MAX {
+            if self.link.waiting().is_empty() {
+                break;
+            }
+            turn(node, &mut self.lines, &mut self.link, ledger)?;
+        }
+        Ok(())
+    }
+}
+
+impl<N: Node> Station<N> {
+    // A worker that was started from an empty ledger.
+    pub fn new(alloc: Global, worker: N, lose: Option<u64>) -> Station<N> {
+        Station {
+            worker,
+            ledger: MemLedger::new(alloc),
+            near: LinkEnd::new(alloc),
+            far: LinkEnd::new(alloc),
+            to_coordinator: Losses::of(lose),
+            to_worker: Losses::of(lose),
+        }
+    }
+
+    // Its part of a round: it works, its frames go to the coordinator, and the answers come back.
+    pub fn take_round<L: LedgerOut>(
+        &mut self,
+        round: u64,
+        coordinator: &mut Coordinator,
+        ledger: &mut L,
+    ) -> Result<(), Ended> {
+        self.work(round)?;
+        carry(
+            &mut self.near.link,
+            &mut self.far.link,
+            &mut self.to_coordinator,
+        )?;
+        match self.far.serve(coordinator, ledger) {
+            Ok(()) => {}
+            Err(fault) => return Err(in_memory(fault)),
+        }
+        carry(&mut self.far.link, &mut self.near.link, &mut self.to_worker)?;
+        match self.near.serve(&mut self.worker, &mut self.ledger) {
+            Ok(()) => Ok(()),
+            // All that is its own is in memory.
+            Err(_) => Err(Ended::NoMemory),
+        }
+    }
+
+    // Its work turns, and then the tick.
+    fn work(&mut self, round: u64) -> Result<(), NoMemory> {
+        for _ in 0..WORK_TURNS {
+            self.handle(Event::Work)?;
+        }
+        self.handle(Event::Tick(round))
+    }
+
+    // Hands it an event, and carries out what it answers: its ledger's part first. A failure of what stands in
+    // memory is refused memory.
+    fn handle(&mut self, event: Event<'_>) -> Result<(), NoMemory> {
+        let Ok(out) = self.worker.on(event) else {
+            return Err(AllocError);
+        };
+        if begin(&out, &mut self.ledger).is_err() {
+            self.worker.stop();
+            return Err(AllocError);
+        }
+        match self.near.link.send(&out.frames) {
+            Ok(_) => Ok(()),
+            Err(_) => Err(AllocError),
+        }
+    }
+}

@@ -1,0 +1,13 @@
+//! What a command line asks for, and how a command ends.
+//!
+//! `specs/Ranges` has the ranges of the options' numbers, `specs/Outcome` the exit statuses.
+#![tactic(auto)]
+
+mod ended;
+mod options;
+mod outcome;
+
+pub use ended::Ended;
+pub use options::{Beginning, Merging, Options, Search, Settling};
+pub use outcome::Outcome;
+pub use std::alloc::AllocError as NoMemory;

@@ -1,0 +1,21 @@
+-- The refusal number of each fault of a start, the sentence that says it, and the fault that a ledger brings.
+use Rattle.std.specs.Prelude.{ℕ, List, codes}
+use Rattle.ledger.specs.declared.faults.LoadFault.{LoadFault}
+use Rattle.ledger.specs.declared.faults.LoadFault.TheVariants.{BadHeader as BadLedgerHeader, WrongRoot as OtherRoot, NoMemory as NoLedgerMemory}
+use Rattle.roles.specs.declared.start_fault.StartFault.{StartFault}
+use Rattle.roles.specs.declared.start_fault.StartFault.TheVariants.{BadHeader, WrongRoot, NoMemory}
+
+abbrev pub start_fault_number : StartFault → ℕ
+start_fault_number BadHeader = 404
+start_fault_number WrongRoot = 405
+start_fault_number NoMemory = 0
+
+abbrev pub start_fault_text : StartFault → List ℕ
+start_fault_text BadHeader = codes "the ledger has no header with a table"
+start_fault_text WrongRoot = codes "the ledger is of another root"
+start_fault_text NoMemory = codes "out of memory"
+
+abbrev pub start_fault_of : LoadFault → StartFault
+start_fault_of BadLedgerHeader = BadHeader
+start_fault_of OtherRoot = WrongRoot
+start_fault_of NoLedgerMemory = NoMemory

@@ -1,0 +1,4 @@
+pub mod Faults
+pub mod Says
+pub mod Kept
+pub mod Finals

@@ -1,0 +1,74 @@
+// Why a node doesn't start.
+ghost use Rattle.std.specs.Prelude.{◌≡◌};
+
+use evidence::NoMemory;
+use ledger::LoadFault;
+use std::error::Error;
+use std::fmt;
+
+/// Why a node wasn't started. It is stopped.
+#[derive(Clone, Copy, Debug, PartialEq, Eq)]
+pub enum StartFault {
+    /// The first line of its ledger is no header with a table that reads.
+    BadHeader,
+    /// The ledger's header is of another root, or of a table that doesn't name its states in order.
+    WrongRoot,
+    /// Memory was refused.
+    NoMemory,
+}
+
+impl StartFault {
+    ghost use Rattle.roles.specs.Faults.{start_fault_number};
+
+    /// The refusal number: 404, 405; 0 where memory was refused, which has none.
+    pub fn number(&self) -> u16
+        ensures { result ≡ start_fault_number self.now }
+    {
+        match self {
+            StartFault::BadHeader => 404,
+            StartFault::WrongRoot => 405,
+            StartFault::NoMemory => 0,
+        }
+    }
+}
+
+impl fmt::Display for StartFault {
+    ghost use Rattle.std.specs.Prelude.{Some};
+    ghost use Rattle.roles.specs.Faults.{start_fault_text};
+
+    ghost output = { λ fault. Some (start_fault_text fault) };
+
+    fn fmt<W: fmt::Write>(&self, f: &mut fmt::Formatter<W>) -> fmt::Result {
+        match self {
+            StartFault::BadHeader => f.write_str("the ledger has no header with a table"),
+            StartFault::WrongRoot => f.write_str("the ledger is of another root"),
+            StartFault::NoMemory => f.write_str("out of memory"),
+        }
+    }
+}
+
+impl Error for StartFault {}
+
+impl From<LoadFault> for StartFault {
+    ghost use Rattle.roles.specs.Faults.{start_fault_of};
+
+    ghost from_gives = { λ f e. e ≡ start_fault_of f };
+
+    fn from(fault: LoadFault) -> StartFault {
+        match fault {
+            LoadFault::BadHeader => StartFault::BadHeader,
+            LoadFault::WrongRoot => StartFault::WrongRoot,
+            LoadFault::NoMemory => StartFault::NoMemory,
+        }
+    }
+}
+
+impl From<NoMemory> for StartFault {
+    ghost use Rattle.roles.specs.declared.start_fault.StartFault.TheVariants.{NoMemory};
+
+    ghost from_gives = { λ _ e. e ≡ NoMemory };
+
+    fn from(_: NoMemory) -> StartFault {
+        StartFault::NoMemory
+    }
+}

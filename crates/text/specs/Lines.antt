@@ -1,0 +1,36 @@
+-- The lines of a stream that comes in pieces: what stands before each newline, the byte 10. Of a line that is
+-- longer than the limit only that is kept.
+use Rattle.std.specs.Prelude.{◌≡◌, ◌≢◌, ℕ, ◌==◌, nat_le, Bool, if◌then◌else◌, List, ◌∷◌, ◌++◌, length, All, Option, Some, None}
+use Rattle.std.specs.Borrow.{Bor}
+
+abbrev pub HasNoNewline : List ℕ → Type 0
+HasNoNewline text = All (λ byte. byte ≢ 10) text
+
+-- the text begins with a whole line, behind which the rest stands
+pub record BeginsWithLine (text line rest : List ℕ) : Type 0 where
+  pub is : text ≡ line ++ (10 ∷ rest)
+  pub one_line : HasNoNewline line
+
+-- the most bytes of a line, without its newline
+abbrev pub line_byte_limit : ℕ
+line_byte_limit = 65536
+
+-- what is kept of a line, as far as it has come: its bytes, or that there are too many
+abbrev pub Kept : Type 0
+Kept = Option (List ℕ)
+
+abbrev pub kept_of : List ℕ → Kept
+kept_of bytes = if nat_le (length bytes) line_byte_limit then Some bytes else None
+
+-- with more bytes of the same line
+abbrev pub with_more : Kept → List ℕ → Kept
+with_more None more = None
+with_more (Some bytes) more = kept_of (bytes ++ more)
+
+-- a piece cut at its first newline, which stands in neither part; nothing follows where there is no newline
+abbrev pub IsCut : List ℕ → List ℕ → Option (Bor (List ℕ)) → Type 0
+IsCut piece line None = HasNoNewline piece × (line ≡ piece)
+IsCut piece line (Some rest) = BeginsWithLine piece line rest.now
+
+abbrev pub is_newline : ℕ → Bool
+is_newline byte = byte == 10

@@ -1,0 +1,200 @@
+-- What each answer of a worker does to its board and its ledger.
+use Rattle.std.specs.Prelude.{IfOk}
+use Rattle.std.proofs.Common.{◌≡◌, ℕ, ◌+◌, Bool, true, false, List, [], ◌∷◌, ◌++◌, ◌⊎◌, inl, inr, Option, Some, None, Result, Ok, Err, take, length, refl, sym, ◌∙◌, ap, subst, arith, append_assoc, append-nil, length-append}
+use Rattle.std.proofs.Math.Seq.{take-append_seam}
+use Rattle.machine_text.specs.Packed.{Packed}
+use Rattle.tree.proofs.TableLaws.{tree_alike, tree_table_child}
+use Rattle.cert.specs.Claim.{Recorded}
+use Rattle.cert.specs.Grammar.{record_text}
+use Rattle.cert.proofs.Lines.{record_line, certified_writable, certified_made}
+use Rattle.cert.proofs.RoundTrip.{record_of-record_text}
+use Rattle.ledger.specs.Contents.{Contents, IsBoard}
+use Rattle.ledger.specs.Held.{IsFit}
+use Rattle.ledger.specs.LedgerText.{header_words, joined, ledger_text, ReadsAs}
+use Rattle.ledger.specs.declared.left.Left.{Left}
+use Rattle.ledger.specs.declared.left.Left.TheVariants.{Nothing, From}
+use Rattle.ledger.proofs.LinesTaken.{taken_more, joined-append}
+use Rattle.ledger.proofs.OpenLaws.{open_in_tree}
+use Rattle.ledger.proofs.Written.{whole_ledger}
+use Rattle.wire.specs.Carried.{cut_by, text_after}
+use Rattle.wire.specs.Happening.{Happening, Came, Ticked, Worked}
+use Rattle.wire.specs.Message.{Message, Ask, Grant, Rec, Ack, Later, Done, Stop}
+use Rattle.wire.specs.Grammar.{message_of}
+use Rattle.wire.specs.declared.message_fault.MsgFault.{MsgFault}
+use Rattle.wire.specs.declared.node.Note.{Note}
+use Rattle.wire.specs.declared.node.Note.TheVariants.{Quiet, Strange, Stale, Refused}
+use Rattle.wire.specs.declared.node.NodeFault.{NodeFault}
+use Rattle.wire.specs.declared.node.Out.{Out}
+use Rattle.roles.specs.declared.start_fault.StartFault.{StartFault}
+use Rattle.worker.specs.declared.lease_name.LeaseName.{LeaseName}
+use Rattle.worker.specs.WorkerState.{WorkerState, empty_board, StandsFor, IsInStep, records_on, unacknowledged}
+use Rattle.roles.specs.Says.{lines_of}
+use Rattle.worker.specs.WorkerRules.{Notes, GrantRow, AckRow, FrameRow, Makes, WorkRow, TickBy, Row, Answers}
+use Rattle.roles.specs.Kept.{cut_of}
+use Rattle.worker.specs.WorkerStart.{ReadsAsBoard, Starts}
+
+-- the board and the ledger stay
+abbrev Stays : WorkerState → Out → WorkerState → Type 0
+Stays old out new = (new.board ≡ old.board) × (out.cut ≡ None) × (out.append.items ≡ [])
+
+-- a board is begun
+abbrev Begins : Out → WorkerState → Type 0
+Begins out new = (t : Packed) × IsBoard (empty_board t) × (new.board ≡ Some (empty_board t)) × (out.cut ≡ Some 0) × (out.append.items ≡ ledger_text t [])
+
+-- the board gains a record
+abbrev Gains : WorkerState → Out → WorkerState → Type 0
+Gains old out new = (b : Contents) × (r : Recorded) × (old.board ≡ Some b) × Makes b r out new.board
+
+abbrev pub Steps : WorkerState → Out → WorkerState → Type 0
+Steps old out new = Stays old out new ⊎ (Begins out new ⊎ Gains old out new)
+
+noted : (note : Note) (old : WorkerState) (out : Out) (new : WorkerState) → Notes note old out new → Steps old out new
+noted note old out new row = inl (ap (λ (w : WorkerState). w.board) row.1, row.0.cut_is, row.0.append_is)
+
+grant_steps : (old : WorkerState) (name : LeaseName) (t : Packed) (out : Out) (new : WorkerState) → GrantRow old name t out new → Steps old out new
+grant_steps old name t out new row = elim row [
+  | inl refused ↦ noted (Refused 401) old out new refused.1
+  | inr others ↦ elim others [
+    | inl same ↦ inl (ap (λ (w : WorkerState). w.board) same.3, same.2.cut_is, same.2.append_is)
+    | inr begun ↦ inr (inl (t, begun.0, ap (λ (w : WorkerState). w.board) begun.3, begun.2.cut_is, begun.2.append_is))
+  ]
+]
+
+ack_steps : (old : WorkerState) (t : Packed) (out : Out) (new : WorkerState) → AckRow old t out new → Steps old out new
+ack_steps old t out new row = elim row [
+  | inl held ↦ inl (ap (λ (w : WorkerState). w.board) held.2, held.1.cut_is, held.1.append_is)
+  | inr stale ↦ noted Stale old out new stale.1
+]
+
+frame_steps : (old : WorkerState) (m : Result Message MsgFault) (out : Out) (new : WorkerState) → FrameRow old m out new → Steps old out new
+frame_steps old (Ok (Grant era number t)) out new row = grant_steps old (record { era = era; number = number }) t out new row
+frame_steps old (Ok (Ack t)) out new row = ack_steps old t out new row
+frame_steps old (Ok (Later t)) out new row = noted Quiet old out new row
+frame_steps old (Ok Stop) out new row = inl (ap (λ (w : WorkerState). w.board) row.1, row.0.cut_is, row.0.append_is)
+frame_steps old (Ok (Ask id)) out new row = noted Strange old out new row
+frame_steps old (Ok (Rec r)) out new row = noted Strange old out new row
+frame_steps old (Ok (Done era number)) out new row = noted Strange old out new row
+frame_steps old (Err f) out new row = noted Strange old out new row
+
+tick_steps : (old : WorkerState) (rests : Bool) (rs : List Recorded) (out : Out) (new : WorkerState) → TickBy rests rs old out new → Steps old out new
+tick_steps old true rs out new row = noted Quiet old out new row
+tick_steps old false (r ∷ rs) out new row = inl (ap (λ (w : WorkerState). w.board) row.1, row.0.cut_is, row.0.append_is)
+tick_steps old false [] out new row = elim row [
+  | inl works ↦ noted Quiet old out new works.1
+  | inr asks ↦ inl (ap (λ (w : WorkerState). w.board) asks.2, asks.1.cut_is, asks.1.append_is)
+]
+
+work_steps : (old : WorkerState) (out : Out) (new : WorkerState) → WorkRow old out new → Steps old out new
+work_steps old out new row = elim row [
+  | inl none ↦ noted Quiet old out new none.1
+  | inr made ↦ inr (inr (made.0, made.1, made.2, made.3))
+]
+
+pub steps_of : (old : WorkerState) (e : Happening) (out : Out) (new : WorkerState) → Row old e out new → Steps old out new
+steps_of old (Came frame) out new row = frame_steps old (message_of frame) out new row
+steps_of old (Ticked t) out new row = tick_steps old old.rests (unacknowledged old.acknowledged (records_on old.board)) out new row
+steps_of old Worked out new row = work_steps old out new row
+
+-- the text of a ledger with the line of one more record
+one_more : (b : Contents) (r : Recorded) (text : List ℕ) → IsBoard b → IsFit b.root b.records r → ReadsAs b.root text b.records Nothing
+    → ReadsAs b.root (text ++ lines_of (r ∷ [])) (b.records ++ (r ∷ [])) Nothing
+one_more b r text board fit reads =
+    let line = lines_of (r ∷ []) in
+    let words = header_words ++ reads.header.name in
+    let lines = reads.keeps.lines in
+    let is_table = (tree_alike b.root r.table board.is_table (open_in_tree b.root b.records r.table tree_table_child board.held fit.is_open)).is_table in
+    let writable = certified_writable r fit.certified in
+    let body : reads.body ≡ joined lines = reads.keeps.is ∙ (ap (λ (l : List ℕ). joined lines ++ l) reads.keeps.ends ∙ append-nil (joined lines)) in
+    record {
+      body = reads.body ++ line;
+      header = record {
+        name = reads.header.name;
+        line = record { is = ap (λ (l : List ℕ). l ++ line) reads.header.line.is ∙ append_assoc words (10 ∷ reads.body) line; one_line = reads.header.line.one_line };
+        reads = reads.header.reads;
+      };
+      keeps = record {
+        lines = lines ++ (record_text r ∷ []);
+        rest = [];
+        is = ap (λ (l : List ℕ). l ++ line) body ∙ (sym (joined-append lines (record_text r ∷ [])) ∙ sym (append-nil (joined (lines ++ (record_text r ∷ [])))));
+        taken = taken_more b.root [] b.records (b.records ++ (r ∷ [])) lines (record_text r) r reads.keeps.taken (record_line r is_table writable)
+            (record_of-record_text r is_table writable (certified_made r fit.certified)) (inl (fit, refl));
+        ends = refl;
+      };
+    }
+
+-- an answer keeps a ledger in step
+pub stays_in_step : (old : WorkerState) (out : Out) (new : WorkerState) → Steps old out new → (text : List ℕ) → IsInStep old text → IsInStep new (text_after out text)
+stays_in_step old out new steps text stands = elim steps [
+  | inl same ↦
+      let after : text_after out text ≡ text =
+      ap (λ (c : Option ℕ). cut_by c text ++ out.append.items) same.1 ∙ (ap (λ (l : List ℕ). text ++ l) same.2 ∙ append-nil text) in
+      subst (λ (l : List ℕ). IsInStep new l) (sym after) (subst (λ (o : Option Contents). StandsFor o text) (sym same.0) stands)
+  | inr others ↦ elim others [
+    | inl begun ↦
+        let after : text_after out text ≡ ledger_text begun.0 [] =
+        ap (λ (c : Option ℕ). cut_by c text ++ out.append.items) begun.3 ∙ begun.4 in
+        subst (λ (l : List ℕ). IsInStep new l) (sym after)
+        (subst (λ (o : Option Contents). StandsFor o (ledger_text begun.0 [])) (sym begun.2) (whole_ledger begun.0 [] begun.1))
+    | inr made ↦
+        let b = made.0 in
+        let r = made.1 in
+        let makes = made.3 in
+        let reads : ReadsAs b.root text b.records Nothing = subst (λ (o : Option Contents). StandsFor o text) made.2 stands in
+        let after : text_after out text ≡ text ++ lines_of (r ∷ []) =
+        ap (λ (c : Option ℕ). cut_by c text ++ out.append.items) makes.says.cut_is ∙ ap (λ (l : List ℕ). text ++ l) makes.says.append_is in
+        subst (λ (l : List ℕ). IsInStep new l) (sym after)
+        (subst (λ (o : Option Contents). StandsFor o (text ++ lines_of (r ∷ []))) (sym makes.taken) (one_more b r text makes.is_board makes.fit reads))
+  ]
+]
+
+-- what is kept of a ledger that is loaded
+kept_reads : (root : Packed) (text : List ℕ) (rs : List Recorded) (left : Left) → ReadsAs root text rs left → ReadsAs root (cut_by (cut_of left) text) rs Nothing
+kept_reads root text rs Nothing reads = reads
+kept_reads root text rs (From line kept why) reads =
+    let words = header_words ++ reads.header.name in
+    let lines = reads.keeps.lines in
+    let rest = reads.keeps.rest in
+    let front = words ++ (10 ∷ joined lines) in
+    let whole : text ≡ front ++ rest = reads.header.line.is ∙ (ap (λ (l : List ℕ). words ++ (10 ∷ l)) reads.keeps.is ∙ sym (append_assoc words (10 ∷ joined lines) rest)) in
+    let long : length text ≡ length front + length rest = ap length whole ∙ length-append front rest in
+    let sum : kept + length rest ≡ length text = reads.keeps.ends.1 in
+    let count : kept ≡ length front = omega (arith, long, sum) in
+    record {
+      body = joined lines;
+      header = record {
+        name = reads.header.name;
+        line = record {
+          is = ap (λ (n : ℕ). take n text) count ∙ (ap (λ (l : List ℕ). take (length front) l) whole ∙ take-append_seam front rest);
+          one_line = reads.header.line.one_line;
+        };
+        reads = reads.header.reads;
+      };
+      keeps = record { lines = lines; rest = []; is = sym (append-nil (joined lines)); taken = reads.keeps.taken; ends = refl };
+    }
+
+torn_empty : (text : List ℕ) (left : Left) → ReadsAsBoard text None left → cut_by (cut_of left) text ≡ []
+torn_empty text Nothing reads = reads.ends
+torn_empty text (From line kept why) reads = ap (λ (n : ℕ). take n text) reads.ends.2
+
+-- what is kept of a ledger from which a worker starts is in step with it
+pub starts_in_step : (board : Option Contents) (text : List ℕ) (left : Left) → ReadsAsBoard text board left → StandsFor board (cut_by (cut_of left) text)
+starts_in_step None text left reads = torn_empty text left reads
+starts_in_step (Some b) text left reads = kept_reads b.root text b.records left reads.1
+
+pub keeps_step : (old : WorkerState) (e : Happening) (r : Result Out NodeFault) (new : WorkerState) → Answers old e r new
+    → IfOk r (λ (out : Out). (text : List ℕ) → IsInStep old text → IsInStep new (text_after out text))
+keeps_step old e (Ok out) new gives = λ text stands. stays_in_step old out new (steps_of old e out new gives.1) text stands
+keeps_step old e (Err f) new gives = tt
+
+-- what a worker's start makes of its ledger
+pub starts_step : (id : ℕ) (text : List ℕ) (new : WorkerState) (r : Result Out StartFault) → Starts id text new r → IfOk r (λ (out : Out). IsInStep new (text_after out text))
+starts_step id text new (Ok out) starts =
+    let left = starts.1 in
+    let says = starts.3 in
+    let board = ap (λ (w : WorkerState). w.board) starts.4 in
+    let after : text_after out text ≡ cut_by (cut_of left) text =
+    ap (λ (c : Option ℕ). cut_by c text ++ out.append.items) says.cut_is
+    ∙ (ap (λ (l : List ℕ). cut_by (cut_of left) text ++ l) says.append_is ∙ append-nil (cut_by (cut_of left) text)) in
+    subst (λ (l : List ℕ). IsInStep new l) (sym after)
+    (subst (λ (o : Option Contents). StandsFor o (cut_by (cut_of left) text)) (sym board) (starts_in_step starts.0 text left starts.2))
+starts_step id text new (Err f) starts = tt

@@ -1,0 +1,6 @@
+use Rattle.std.proofs.Common.{rules}
+use Rattle.worker.proofs.worker.Worker.on_work.Goals as goal
+
+-- answered by name, so that nothing is offered where an edit makes it false
+pub returns-clause-ok : goal.returns-clause-ok
+returns-clause-ok g c = search rules steps 1000000

@@ -1,0 +1,5 @@
+use Rattle.worker.proofs.WorkerSends.{sends_own}
+use Rattle.worker.proofs.worker_laws.workers_send_their_records.Goals as goal
+
+pub returns : goal.returns
+returns c = sends_own

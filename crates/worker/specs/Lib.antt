@@ -1,0 +1,7 @@
+pub mod Limits
+pub mod Inside
+pub mod WorkerState
+pub mod WorkerRules
+pub mod WorkerStart
+pub mod WorkerLaws
+pub mod Finals

@@ -1,0 +1,27 @@
+-- What holds of all answers of workers.
+use Rattle.std.specs.Prelude.{◌≡◌, ◌⊎◌, List, [], ◌++◌, Option, Some, None, Contains}
+use Rattle.machine_text.specs.Packed.{Packed}
+use Rattle.cert.specs.Claim.{Recorded}
+use Rattle.ledger.specs.Contents.{Contents}
+use Rattle.ledger.specs.LedgerText.{ledger_text}
+use Rattle.wire.specs.declared.node.Out.{Out}
+use Rattle.wire.specs.Message.{Message, Rec}
+use Rattle.wire.specs.Grammar.{frames_of}
+use Rattle.worker.specs.WorkerState.{empty_board, records_on}
+use Rattle.roles.specs.Says.{lines_of}
+
+-- each record that is sent is a record of the board
+abbrev pub SendsOwn : Out → Option Contents → Type 0
+SendsOwn out board =
+    (sent : List Message) × (out.frames.items ≡ frames_of sent) × ((r : Recorded) → Contains sent (Rec r) → Contains (records_on board) r)
+
+-- the board gained these records; without a board there are none
+abbrev pub IsGained : Option Contents → List Recorded → Option Contents → Type 0
+IsGained None rs new = (rs ≡ []) × (new ≡ None)
+IsGained (Some b) rs new = new ≡ Some (record { root = b.root; records = b.records ++ rs })
+
+-- the ledger gains exactly the lines of the records gained; or a board is begun, and its header comes after a cut to nothing
+abbrev pub Gains : Option Contents → Out → Option Contents → Type 0
+Gains old out new =
+    ((rs : List Recorded) × IsGained old rs new × (out.cut ≡ None) × (out.append.items ≡ lines_of rs))
+    ⊎ ((root : Packed) × (new ≡ Some (empty_board root)) × (out.cut ≡ Some 0) × (out.append.items ≡ ledger_text root []))

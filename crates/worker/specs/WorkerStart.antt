@@ -1,0 +1,43 @@
+-- How a worker starts from the text of its ledger.
+use Rattle.std.specs.Prelude.{◌≡◌, ℕ, Bool, true, false, List, [], Option, Some, None, Result, Ok, Err}
+use Rattle.machine_text.specs.Packed.{Packed, entry_of}
+use Rattle.tree.specs.Used.{InOrder}
+use Rattle.ledger.specs.Contents.{Contents}
+use Rattle.ledger.specs.LedgerText.{HasHeader, HasNoHeader, ReadsAs, ReadsAsNone}
+use Rattle.ledger.specs.declared.left.Left.{Left}
+use Rattle.ledger.specs.declared.left.Left.TheVariants.{Nothing, From}
+use Rattle.wire.specs.declared.node.Out.{Out}
+use Rattle.wire.specs.declared.node.Note.TheVariants.{Quiet}
+use Rattle.roles.specs.declared.start_fault.StartFault.{StartFault}
+use Rattle.roles.specs.declared.start_fault.StartFault.TheVariants.{BadHeader, WrongRoot, NoMemory}
+use Rattle.roles.specs.Kept.{cut_of}
+use Rattle.worker.specs.WorkerState.{WorkerState}
+use Rattle.roles.specs.Says.{Says}
+
+abbrev pub IsInOrder : Packed → Type 0
+IsInOrder t = (u : ℕ) × InOrder u (entry_of t)
+
+-- a text as a board, and what of it isn't kept: no board where it is torn off within its header
+abbrev pub ReadsAsBoard : List ℕ → Option Contents → Left → Type 0
+ReadsAsBoard text None left = ReadsAsNone text [] left
+ReadsAsBoard text (Some b) left = IsInOrder b.root × ReadsAs b.root text b.records left
+
+-- why a worker doesn't start
+abbrev pub IsNoStart : List ℕ → StartFault → Type 0
+IsNoStart text BadHeader = HasNoHeader text
+IsNoStart text WrongRoot = (root : Packed) × (rest : List ℕ) × HasHeader text root rest × (IsInOrder root → ⊥)
+IsNoStart text NoMemory = (root : Packed) × (rest : List ℕ) × HasHeader text root rest
+
+abbrev pub Loads : List ℕ → Result (Option Contents × Left) StartFault → Type 0
+Loads text (Ok loaded) = ReadsAsBoard text loaded.0 loaded.1
+Loads text (Err fault) = IsNoStart text fault
+
+-- at first it has no lease, and all records count as not acknowledged
+abbrev pub at_first : ℕ → Option Contents → Bool → WorkerState
+at_first id board stopped = record { id = id; board = board; lease = None; acknowledged = []; rests = false; stopped = stopped }
+
+-- its board is as which its ledger reads, and what of that isn't kept is cut off; or it can't start, and is stopped
+abbrev pub Starts : ℕ → List ℕ → WorkerState → Result Out StartFault → Type 0
+Starts id text new (Ok out) =
+    (board : Option Contents) × (left : Left) × ReadsAsBoard text board left × Says out (cut_of left) [] [] Quiet × (new ≡ at_first id board false)
+Starts id text new (Err fault) = IsNoStart text fault × (new ≡ at_first id None true)

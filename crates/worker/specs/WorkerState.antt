@@ -1,0 +1,65 @@
+-- What a worker is, apart from how that is kept, and which ledgers are in step with it.
+use Rattle.std.specs.Prelude.{◌≡◌, ℕ, ◌<◌, Bool, not, List, [], ◌∷◌, ◌++◌, if◌then◌else◌, Option, Some, None, IsSome, length, filter}
+use Rattle.std.specs.List.{list_any}
+use Rattle.machine_text.specs.Packed.{Packed}
+use Rattle.cert.specs.Claim.{Recorded}
+use Rattle.ledger.specs.Contents.{Contents, IsOpenOn}
+use Rattle.ledger.specs.Records.{same_table, claim_in}
+use Rattle.ledger.specs.LedgerText.{ReadsAs}
+use Rattle.ledger.specs.declared.left.Left.TheVariants.{Nothing}
+use Rattle.worker.specs.Limits.{work_record_limit}
+use Rattle.worker.specs.declared.lease_name.LeaseName.{LeaseName}
+
+pub record WorkerState : Type 0 where
+  pub id : ℕ
+  pub board : Option Contents
+  -- the name of the lease under which it works
+  pub lease : Option LeaseName
+  -- the tables whose records were acknowledged since the last grant, each once
+  pub acknowledged : List Packed
+  -- a coordinator said `STOP` since the last grant
+  pub rests : Bool
+  -- it answers nothing more
+  pub stopped : Bool
+
+-- a board without records
+abbrev pub empty_board : Packed → Contents
+empty_board root = record { root = root; records = [] }
+
+-- a board with one more record
+abbrev pub with_record : Contents → Recorded → Contents
+with_record b r = record { root = b.root; records = b.records ++ (r ∷ []) }
+
+abbrev pub HasRoot : Option Contents → Packed → Type 0
+HasRoot None t = ⊥
+HasRoot (Some b) t = b.root ≡ t
+
+-- the table has a record on the board
+abbrev pub IsRecordedOn : Option Contents → Packed → Type 0
+IsRecordedOn None t = ⊥
+IsRecordedOn (Some b) t = IsSome (claim_in b.records t)
+
+-- the board has an open table, and fewer records than work turns may make
+abbrev pub MayWork : Option Contents → Type 0
+MayWork None = ⊥
+MayWork (Some b) = ((t : Packed) × IsOpenOn b t) × (length b.records < work_record_limit)
+
+abbrev pub records_on : Option Contents → List Recorded
+records_on None = []
+records_on (Some b) = b.records
+
+-- tables with one more, unless it is among them
+abbrev pub with_table : List Packed → Packed → List Packed
+with_table tables t = if list_any (same_table t) tables then tables else tables ++ (t ∷ [])
+
+-- the records whose tables aren't among these, in their order
+abbrev pub unacknowledged : List Packed → List Recorded → List Recorded
+unacknowledged tables rs = filter (λ r. not (list_any (same_table r.table) tables)) rs
+
+-- the text of a ledger reads as the board, and every byte of it is kept; without a board it is empty
+abbrev pub StandsFor : Option Contents → List ℕ → Type 0
+StandsFor None text = text ≡ []
+StandsFor (Some b) text = ReadsAs b.root text b.records Nothing
+
+abbrev pub IsInStep : WorkerState → List ℕ → Type 0
+IsInStep w text = StandsFor w.board text

@@ -1,0 +1,114 @@
+// What a worker's answers are made of.
+ghost use Rattle.std.specs.Prelude.{◌≡◌, ◌++◌, ◌∷◌, [], IfOk, OnOk, map, take};
+ghost use Rattle.cert.specs.Kinds.{owned_recorded, recorded};
+ghost use Rattle.ledger.specs.LedgerText.{ledger_text};
+ghost use Rattle.wire.specs.Grammar.{frames_of};
+ghost use Rattle.wire.specs.Meaning.{said};
+ghost use Rattle.wire.specs.Message.{Ask as AskMessage, Done as DoneMessage, Rec as RecMessage};
+ghost use Rattle.worker.specs.Limits.{tick_record_limit};
+ghost use Rattle.worker.specs.WorkerRules.{done_with};
+ghost use Rattle.roles.specs.Says.{lines_of};
+ghost use Rattle.worker.specs.WorkerState.{unacknowledged};
+
+use crate::lease_name::LeaseName;
+use crate::limits::MAX_TICK_RECORDS;
+use cert::{OwnedRecord, Record, append_number};
+use evidence::NoMemory;
+use indexmap::IndexSet;
+use ledger::Board;
+use machine_text::Table;
+use std::alloc::Global;
+use wire::{Msg, encode};
+
+// The line of a record.
+pub fn line_of(alloc: Global, r: &Record) -> Result<Vec<u8>, NoMemory>
+    ensures { IfOk result (λ line. line.items ≡ lines_of (recorded r.now ∷ [])) }
+{
+    let mut line = Vec::new(alloc);
+    r.write_text(&mut line)?;
+    line.extend_from_slice(b"\n")?;
+    Ok(line)
+}
+
+// The ledger of a board.
+pub fn ledger_of(alloc: Global, board: &Board) -> Result<Vec<u8>, NoMemory>
+    ensures { IfOk result (λ text. text.items ≡ ledger_text board.now.root board.now.records) }
+{
+    let mut text = Vec::new(alloc);
+    board.write_ledger(&mut text)?;
+    Ok(text)
+}
+
+// Sends one more message.
+pub fn send(m: &Msg<'_>, frames: &mut Vec<u8>) -> Result<(), NoMemory>
+    ensures { OnOk result (frames.new.items ≡ frames.old.items ++ frames_of (said m.now ∷ [])) }
+{
+    encode(m, frames)
+}
+
+// The frame of a record.
+pub fn frame_of(alloc: Global, r: &OwnedRecord) -> Result<Vec<u8>, NoMemory>
+    ensures { IfOk result (λ frames. frames.items ≡ frames_of (RecMessage (owned_recorded r.now) ∷ [])) }
+{
+    let mut frames = Vec::new(alloc);
+    let message = Msg::Rec(Record {
+        table: r.table,
+        certificate: r.certificate.lent(),
+    });
+    send(&message, &mut frames)?;
+    Ok(frames)
+}
+
+// The frames of the first records whose tables aren't among those that were acknowledged.
+pub fn frames_due(
+    alloc: Global,
+    acknowledged: &IndexSet<Table>,
+    board: &Board,
+) -> Result<Vec<u8>, NoMemory>
+    ensures { IfOk result (λ frames. frames.items ≡ frames_of (map RecMessage (take tick_record_limit (unacknowledged acknowledged.now.keys board.now.records)))) }
+{
+    let mut frames = Vec::new(alloc);
+    let mut room = MAX_TICK_RECORDS;
+    for r in board.records() {
+        if room == 0 {
+            return Ok(frames);
+        }
+        if !acknowledged.contains(&r.table) {
+            send(&Msg::Rec(r), &mut frames)?;
+            room -= 1;
+        }
+    }
+    Ok(frames)
+}
+
+// The frames of a worker that is done with its lease, if it has one, and asks for another.
+pub fn asking(alloc: Global, lease: Option<LeaseName>, id: u32) -> Result<Vec<u8>, NoMemory>
+    ensures { IfOk result (λ frames. frames.items ≡ frames_of (done_with lease ++ (AskMessage id ∷ []))) }
+{
+    let mut frames = Vec::new(alloc);
+    if let Some(name) = lease {
+        send_done(name, &mut frames)?;
+    }
+    send_ask(id, &mut frames)?;
+    Ok(frames)
+}
+
+#[tactic(auto, unfolding(wire::specs::Grammar::message_text))]
+fn send_done(name: LeaseName, frames: &mut Vec<u8>) -> Result<(), NoMemory>
+    ensures { OnOk result (frames.new.items ≡ frames.old.items ++ frames_of (DoneMessage name.era name.number ∷ [])) }
+{
+    frames.extend_from_slice(b"DONE ")?;
+    append_number(name.era, frames)?;
+    frames.extend_from_slice(b" ")?;
+    append_number(name.number, frames)?;
+    frames.extend_from_slice(b"\n")
+}
+
+#[tactic(auto, unfolding(wire::specs::Grammar::message_text))]
+fn send_ask(id: u32, frames: &mut Vec<u8>) -> Result<(), NoMemory>
+    ensures { OnOk result (frames.new.items ≡ frames.old.items ++ frames_of (AskMessage id ∷ [])) }
+{
+    frames.extend_from_slice(b"ASK ")?;
+    append_number(u64::from(id), frames)?;
+    frames.extend_from_slice(b"\n")
+}

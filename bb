@@ -26,9 +26,20 @@ if [ ! -x "$built" ] || [ "$(cat "$stamp" 2> /dev/null)" != "$sources" ]; then
     echo "bb: proving and building the program, $why; that takes some minutes the first time" >&2
     mkdir -p "$top/crates/bb/out"
     log=$top/crates/bb/out/build.log
-    if ! { "$top/tools/prove" bb && cd "$top/crates/bb" && rt run -- --help > "$log" 2>&1; } < /dev/null >&2; then
-        tail -n 20 "$log" >&2
-        echo "bb: the build failed" >&2
+    # Crates that don't wait for one another are proved side by side. One that waits for those below it holds a
+    # place too, so there are more places than processors.
+    jobs=$(($(nproc 2> /dev/null || echo 1) * 2))
+    [ "$jobs" -le 8 ] || jobs=8
+    {
+        if cd "$top/crates" && rt all check --jobs "$jobs" && cd bb && rt run -- --help; then
+            echo "== bb, the program"
+        else
+            echo "== failed"
+        fi
+    } 2>&1 < /dev/null | tee "$log" | sed -n -u '/^== summary/d; s/^== /bb: proved or tried: /p' >&2
+    if [ "$(tail -n 1 "$log")" != "== bb, the program" ]; then
+        tail -n 40 "$log" >&2
+        echo "bb: the build failed; its log is $log" >&2
         exit 1
     fi
     echo "$sources" > "$stamp"

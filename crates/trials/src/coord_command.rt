@@ -4,6 +4,8 @@ use crate::texts::assert_bytes;
 use node_commands::cmd_coord;
 use options::{Beginning, Outcome};
 use std::alloc::Global;
+use std::cell::Cell;
+use std::io::{self, Read, Write};
 use std::process::Abort;
 use std::test::Fail;
 use wire::MemLedger;
@@ -222,4 +224,79 @@ fn ends_with(
     assert_bytes(rt, &end.faults, faults);
     assert!(rt; end.outcome == outcome);
     Ok(())
+}
+
+// A worker that sends its next line only once so many bytes of answers were flushed to it.
+#[derive(Drop)]
+struct Peer<'a> {
+    lines: &'a [(usize, &'a [u8])],
+    sent: usize,
+    flushed: &'a Cell<usize>,
+}
+
+impl Read for Peer<'_> {
+    fn read(&mut self, buf: &mut [u8]) -> io::Result<usize> {
+        let Some((due, line)) = self.lines.get(self.sent) else {
+            return Ok(0);
+        };
+        if self.flushed.get() != *due || buf.len() < line.len() {
+            return Err(io::Error::from(io::ErrorKind::Other));
+        }
+        buf[..line.len()].copy_from_slice(line);
+        self.sent = self.sent.saturating_add(1);
+        Ok(line.len())
+    }
+}
+
+// Takes answers three bytes at a time, and counts those that were flushed.
+#[derive(Drop)]
+struct Pipe<'a> {
+    written: usize,
+    flushed: &'a Cell<usize>,
+}
+
+impl Write for Pipe<'_> {
+    fn write(&mut self, buf: &[u8]) -> io::Result<usize> {
+        let count = buf.len().min(3);
+        self.written = self.written.saturating_add(count);
+        Ok(count)
+    }
+
+    fn flush(&mut self) -> io::Result<()> {
+        self.flushed.set(self.written);
+        Ok(())
+    }
+}
+
+#[test]
+fn answers_are_flushed_before_more_is_awaited(rt: HostRuntime) {
+    let flushed = Cell::new(0);
+    let mut input = Peer {
+        lines: &[
+            (0, b"ASK 7\n"),
+            (17, b"REC ------ H 1\nREC 0RA--- T 0 1 R\n"),
+            (39, b"REC 1RA--- T 0 1 R\n"),
+            (50, b"ASK 7\n"),
+        ],
+        sent: 0,
+        flushed: &flushed,
+    };
+    let mut answers = Pipe {
+        written: 0,
+        flushed: &flushed,
+    };
+    let alloc = rt.alloc();
+    let mut faults = Sink::new(alloc, usize::MAX, ALWAYS);
+    let mut ledger = MemLedger::new(alloc);
+    let outcome = cmd_coord(
+        alloc,
+        Beginning { states: 1, era: 1 },
+        file_of(b"", 9, ALWAYS),
+        &mut ledger,
+        &mut input,
+        &mut answers,
+        &mut faults,
+    );
+    assert!(rt; outcome == Outcome::Accepted);
+    assert!(rt; flushed.get() == 55);
 }

@@ -24,6 +24,8 @@ mod cycles;
 #[cfg(test)]
 mod deciding;
 #[cfg(test)]
+mod file_ledgers;
+#[cfg(test)]
 mod json_reports;
 #[cfg(test)]
 mod ledgers;

@@ -7,8 +7,10 @@ import sys
 import tempfile
 import time
 
+from program import PROGRAM
+
 HERE = os.path.dirname(os.path.abspath(__file__))
-BB = [os.path.join(HERE, "..", "crates", "bb", "out", "bb"), "check"]
+BB = [PROGRAM, "check"]
 CHAMPION = "1RB1LC_1RC1RB_1RD0LE_1LA1LD_---0LA H 47176870\n"
 SHORT = ["1RB1LB_1LA--- H 6", "1RB1RZ_1LB0RC_1LC1LA H 21", "------ H 1", "1RB1LB_1LA--- H 7",
          "1RB1LB_1LA---", "1RB1LB_1LA--- H 06", "1RB1LB_1LA--- H +6", "1RC1LB_1LA--- H 6", "", "1RB1LB-1LA--- H 6",

@@ -7,8 +7,10 @@ import sys
 import tempfile
 import time
 
+from program import PROGRAM
+
 HERE = os.path.dirname(os.path.abspath(__file__))
-BB = os.path.join(HERE, "..", "crates", "bb", "out", "bb")
+BB = PROGRAM
 TURNS = 3
 
 

@@ -10,8 +10,10 @@ import sys
 import tempfile
 import time
 
+from program import PROGRAM
+
 HERE = os.path.dirname(os.path.abspath(__file__))
-BB = [os.path.join(HERE, "..", "crates", "bb", "out", "bb"), "decide"]
+BB = [PROGRAM, "decide"]
 TURNS = 5
 SAMPLE = 20_000
 

@@ -9,8 +9,10 @@ import tempfile
 import threading
 import time
 
+from program import PROGRAM
+
 HERE = os.path.dirname(os.path.abspath(__file__))
-BB = os.path.join(HERE, "..", "crates", "bb", "out", "bb")
+BB = PROGRAM
 
 
 def records(folder):

@@ -8,8 +8,10 @@ import sys
 import tempfile
 import time
 
+from program import PROGRAM
+
 HERE = os.path.dirname(os.path.abspath(__file__))
-BB = [os.path.join(HERE, "..", "crates", "bb", "out", "bb"), "run", "3", "--far", "3"]
+BB = [PROGRAM, "run", "3", "--far", "3"]
 
 
 def killed(ledger, seconds):

@@ -7,8 +7,10 @@ import shutil
 import subprocess
 import sys
 
+from program import PROGRAM
+
 HERE = os.path.dirname(os.path.abspath(__file__))
-BB = os.path.join(HERE, "..", "crates", "bb", "out", "bb")
+BB = PROGRAM
 EXAMPLES = os.path.join(HERE, "..", "examples")
 REPORTS = [["run", "1"], ["run", "2"], ["run", "3"], ["run", "2", "--rounds", "2"]] + [
     ["report", os.path.join(EXAMPLES, name)] for name in sorted(os.listdir(EXAMPLES)) if name.endswith(".ledger")]

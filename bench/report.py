@@ -8,8 +8,10 @@ import subprocess
 import sys
 import tempfile
 
+from program import PROGRAM
+
 HERE = os.path.dirname(os.path.abspath(__file__))
-BB = os.path.join(HERE, "..", "crates", "bb", "out", "bb")
+BB = PROGRAM
 TURNS = 3
 
 

@@ -9,8 +9,10 @@ import sys
 import tempfile
 import time
 
+from program import PROGRAM
+
 HERE = os.path.dirname(os.path.abspath(__file__))
-BB = [os.path.join(HERE, "..", "crates", "bb", "out", "bb"), "run"]
+BB = [PROGRAM, "run"]
 TREES = [("2", 3, 2, 5), ("3", 3, 3, 5), ("4", 8, 4, 2)]
 
 

@@ -2,7 +2,7 @@
 //! ask for nothing.
 //!
 //! What loads clap is slow to check, so it stands here with as little code as will do. The ranges of the
-//! options' numbers are in `specs/Ranges` of `commands`; `specs/Unread` has how a command line ends that can't
+//! options' numbers are in `specs/Ranges` of `options`; `specs/Unread` has how a command line ends that can't
 //! be read.
 #![tactic(auto)]
 

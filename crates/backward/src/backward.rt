@@ -34,6 +34,9 @@ impl Evidence for Backward {
 
     ghost is_wide = { λ e p. IsTooWide p e.depth };
 
+    // One over its limit isn't carried out.
+    ghost takes_memory = { λ e. e.depth ≤ depth_limit };
+
     ghost shows = { λ e. Never };
 
     // The run is looked at first: a table whose run does fewer steps is refused as false, however wide it is.

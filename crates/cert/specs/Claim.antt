@@ -93,12 +93,12 @@ Stands (NgramClaim s) p = AreLists s × IsPositionSet s p
 Stands (FarClaim a) p = AreAutomata a × AreAutomataOf a p
 Stands NoClaim p = Unit {0}
 
--- to check the claim takes memory
+-- to check the claim takes memory: it is carried out, being within its limit and its times in order
 abbrev pub TakesMemory : Claim → Type 0
-TakesMemory (HaltsClaim k) = Unit {0}
-TakesMemory (CycleClaim i j) = Unit {0}
-TakesMemory (TranslatedClaim i j side) = Unit {0}
-TakesMemory (BackwardClaim d) = Unit {0}
+TakesMemory (HaltsClaim k) = k ≤ halt_step_limit
+TakesMemory (CycleClaim i j) = (i < j) × (j ≤ time_limit)
+TakesMemory (TranslatedClaim i j side) = (i < j) × (j ≤ time_limit)
+TakesMemory (BackwardClaim d) = d ≤ depth_limit
 TakesMemory (NgramClaim s) = ⊥
 TakesMemory (FarClaim a) = ⊥
 TakesMemory NoClaim = ⊥

@@ -1,5 +1,6 @@
 // What a board holds.
 ghost use Rattle.std.specs.Prelude.{◌≡◌, ℕ, IfSome, IfOk, Err, ◌↔◌, ◌≤◌, Option, Some, IsTrue};
+ghost use Rattle.machine_text.specs.Limits.{state_limit};
 ghost use Rattle.machine_text.specs.Packed.{entry_of, empty_table};
 ghost use Rattle.tree.specs.Used.{InOrder};
 ghost use Rattle.evidence.specs.Verdict.{IsTrueOf};
@@ -25,7 +26,7 @@ use crate::tally::Tally;
 use cert::{Record, standing_claims_are_true};
 use evidence::{NoMemory, Verdict};
 use indexmap::IndexMap;
-use machine_text::{MAX_STATES, Table};
+use machine_text::Table;
 use std::alloc::Global;
 use std::collections::BTreeMap;
 use std::collections::btree_map::Keys;
@@ -88,6 +89,7 @@ impl Board {
         ensures ok { IfOk result (λ board. board ≡ record { root = root; records = [] }) }
         ensures in_order { IfOk result (λ board. (u : ℕ) × InOrder u (entry_of root)) }
         ensures not_in_order { result ≡ Err BoardFault.NotInOrder → ((u : ℕ) × InOrder u (entry_of root)) → ⊥ }
+        ensures memory { result ≡ Err BoardFault.NoMemory → (u : ℕ) × InOrder u (entry_of root) }
     {
         // The proof needs that the root is a table.
         let _ = root.states();
@@ -194,7 +196,7 @@ impl Board {
     pub fn status(&self) -> Status
         ensures stands { IsStatus self.now.root self.now.records result }
         ensures best { (best : Option ℕ) → result ≡ Status.Complete best → IsBestOfTable HaltsAt self.now.root best }
-        ensures rado { (n s : ℕ) → 1 ≤ n → n ≤ MAX_STATES → self.now.root ≡ empty_table n → result ≡ Status.Complete (Some s) → IsRado n s }
+        ensures rado { (n s : ℕ) → 1 ≤ n → n ≤ state_limit → self.now.root ≡ empty_table n → result ≡ Status.Complete (Some s) → IsRado n s }
     {
         child_is_table();
         standing_claims_are_true();

@@ -1,5 +1,6 @@
 -- The answer to a line: what is printed for what its record's certificate shows, or for why it is refused.
-use Rattle.std.specs.Prelude.{◌≡◌, ℕ, List, [], ◌++◌, Option, Some, None, Result, Ok, Err, codes, decimal}
+use Rattle.std.specs.Prelude.{◌≡◌, ℕ, List, [], ◌++◌, Option, Some, None, IfSome, Result, Ok, Err, codes, decimal}
+use Rattle.machine_text.specs.Packed.{entry_of}
 use Rattle.machine_text.specs.Text.{text_of}
 use Rattle.machine_text.specs.Fault as text
 use Rattle.machine_text.specs.declared.faults.TextFault.{TextFault}
@@ -8,6 +9,7 @@ use Rattle.evidence.specs.declared.verdicts.Verdict.TheVariants.{Halts, Never}
 use Rattle.evidence.specs.declared.verdicts.Refused.{Refused as Refusal}
 use Rattle.cert.specs.Claim.{Recorded, shown_by}
 use Rattle.cert.specs.Certified.{IsCertified, IsRefusedBy}
+use Rattle.evidence.specs.Verdict.{IsTrueOf}
 use Rattle.evidence.specs.Verdict as verdict
 use Rattle.std.specs.Borrow.{Bor}
 use Rattle.cert.specs.Grammar.{record_of}
@@ -44,21 +46,31 @@ inner_text TooLong = []
 abbrev pub fault_text : RecordFault → List ℕ
 fault_text f = refusal_text (record_fault.record_fault_number f) ++ inner_text f
 
--- the answer to a record: accepted, with its table and what its claim shows, where that is certified; or why it is
--- refused
+-- the answer to a record: accepted, with its table and what its claim shows, which is true of the table, where the
+-- claim is certified; or why it is refused
 abbrev pub AnswersRecord : Recorded → Outcome → List ℕ → Type 0
-AnswersRecord r Accepted answer = IsCertified r × (answer ≡ text_of r.table ++ verdict_text (shown_by r.claim))
+AnswersRecord r Accepted answer =
+    IsCertified r × IfSome (shown_by r.claim) (λ v. IsTrueOf v (entry_of r.table)) × (answer ≡ text_of r.table ++ verdict_text (shown_by r.claim))
 AnswersRecord r Refused answer = (why : Refusal) × IsRefusedBy why r × (answer ≡ refusal_text (verdict.refused_number why))
 AnswersRecord r BadLine answer = ⊥
 AnswersRecord r NoMemory answer = ⊥
 AnswersRecord r Failed answer = ⊥
 
+-- a line that is lent, or none
+abbrev pub lent_line : Option (Bor (List ℕ)) → Option (List ℕ)
+lent_line None = None
+lent_line (Some line) = Some line.now
+
 -- what is read of a line, which is none where it was too long
-abbrev pub read_line : Option (Bor (List ℕ)) → Result Recorded RecordFault
+abbrev pub read_line : Option (List ℕ) → Result Recorded RecordFault
 read_line None = Err TooLong
-read_line (Some line) = record_of line.now
+read_line (Some line) = record_of line
 
 -- an answer to what was read
 abbrev pub Answers : Result Recorded RecordFault → Outcome → List ℕ → Type 0
 Answers (Ok r) o answer = AnswersRecord r o answer
 Answers (Err f) o answer = (o ≡ Refused) × (answer ≡ fault_text f)
+
+-- what `bb check` says to a line
+abbrev pub SaysOfRecord : Option (List ℕ) → Outcome → List ℕ → Type 0
+SaysOfRecord line o answer = Answers (read_line line) o answer

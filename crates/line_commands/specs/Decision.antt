@@ -1,6 +1,5 @@
 -- What is printed for a line with a table: a record of it that is certified, or the fault of its text.
 use Rattle.std.specs.Prelude.{◌≡◌, ℕ, List, Option, Some, None, Result, Ok, Err}
-use Rattle.std.specs.Borrow.{Bor}
 use Rattle.machine_text.specs.Packed.{Packed}
 use Rattle.machine_text.specs.Text.{table_of}
 use Rattle.machine_text.specs.declared.faults.TextFault.{TextFault}
@@ -27,11 +26,15 @@ table_read (Ok t) = Ok t
 table_read (Err f) = Err (BadTable f)
 
 -- what is read of a line, which is none where it was too long
-abbrev pub read_table : Option (Bor (List ℕ)) → Result Packed RecordFault
+abbrev pub read_table : Option (List ℕ) → Result Packed RecordFault
 read_table None = Err TooLong
-read_table (Some line) = table_read (table_of line.now)
+read_table (Some line) = table_read (table_of line)
 
 -- what is printed for what was read, by what the decider answers
 abbrev pub Decides : (Packed → Recorded → Type 0) → Result Packed RecordFault → Outcome → List ℕ → Type 0
 Decides Answers (Ok t) o answer = DecidesTable Answers t o answer
 Decides Answers (Err f) o answer = (o ≡ Refused) × (answer ≡ fault_text f)
+
+-- what `bb decide` says to a line, where so the decider answers as it stands then
+abbrev pub SaysOfTable : {D : Type 0} → (D → Packed → Recorded → Type 0) → Option (List ℕ) → Outcome → List ℕ → Type 0
+SaysOfTable {D} Answers line o answer = (decider : D) × Decides (Answers decider) (read_table line) o answer

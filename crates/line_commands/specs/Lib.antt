@@ -1,2 +1,4 @@
 pub mod Answer
 pub mod Decision
+pub mod Stream
+pub mod inside

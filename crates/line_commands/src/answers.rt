@@ -2,9 +2,9 @@
 ghost use Rattle.std.specs.Prelude.{◌≡◌, ◌∷◌, [], ◌++◌, List, ℕ, decimal, OnOk, IfOk};
 ghost use Rattle.machine_text.specs.Text.{text_of};
 ghost use Rattle.cert.specs.Kinds.{recorded, read_as};
-ghost use Rattle.line_commands.specs.Answer.{Answers, AnswersRecord, read_line, verdict_text, text_fault_text, fault_text};
+ghost use Rattle.line_commands.specs.Answer.{Answers, AnswersRecord, lent_line, read_line, verdict_text, text_fault_text, fault_text};
 
-use cert::{Record, RecordFault, append_number, append_table, judge};
+use cert::{Record, RecordFault, append_number, append_table, judge, standing_claims_are_true};
 use evidence::{NoMemory, Refused, Verdict};
 use machine_text::TextFault;
 use options::Outcome;
@@ -12,7 +12,7 @@ use std::alloc::{AllocError, Global};
 
 /// Appends the answer to a line, which is none where it was too long, with a newline.
 pub fn answer(alloc: Global, line: Option<&[u8]>, out: &mut Vec<u8>) -> Result<Outcome, NoMemory>
-    ensures { IfOk result (λ o. (answer : List ℕ) × Answers (read_line line.entry) o answer × (out.new.items ≡ out.old.items ++ answer ++ 10 ∷ [])) }
+    ensures { IfOk result (λ o. (answer : List ℕ) × Answers (read_line (lent_line line.entry)) o answer × (out.new.items ≡ out.old.items ++ answer ++ 10 ∷ [])) }
 {
     let outcome = match read_line(line) {
         Ok(record) => answer_record(alloc, &record, out)?,
@@ -27,7 +27,7 @@ pub fn answer(alloc: Global, line: Option<&[u8]>, out: &mut Vec<u8>) -> Result<O
 
 // The record of a line.
 fn read_line(line: Option<&[u8]>) -> Result<Record<'_>, RecordFault>
-    ensures { read_as result ≡ read_line line.entry }
+    ensures { read_as result ≡ read_line (lent_line line.entry) }
 {
     match line {
         Some(text) => Record::parse(text),
@@ -39,6 +39,9 @@ fn read_line(line: Option<&[u8]>) -> Result<Record<'_>, RecordFault>
 fn answer_record(alloc: Global, r: &Record, out: &mut Vec<u8>) -> Result<Outcome, NoMemory>
     ensures { IfOk result (λ o. (answer : List ℕ) × AnswersRecord (recorded r.now) o answer × (out.new.items ≡ out.old.items ++ answer)) }
 {
+    standing_claims_are_true();
+    // The proof needs that it is a table.
+    let _ = r.table.states();
     match judge(alloc, r) {
         Ok(verdict) => {
             append_table(&r.table, out)?;

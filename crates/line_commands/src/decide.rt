@@ -1,6 +1,8 @@
 // `bb decide`: tables in, records out.
-ghost use Rattle.std.specs.Prelude.{◌≡◌, ◌∷◌, [], ◌++◌, List, ℕ, IfOk};
-ghost use Rattle.line_commands.specs.Decision.{Decides, DecidesTable, read_table, table_read};
+ghost use Rattle.std.specs.Prelude.{◌≡◌, ◌⊎◌, ◌∷◌, [], ◌++◌, List, ℕ, IfOk};
+ghost use Rattle.line_commands.specs.Answer.{lent_line};
+ghost use Rattle.line_commands.specs.Decision.{Decides, DecidesTable, SaysOfTable, read_table, table_read};
+ghost use Rattle.line_commands.specs.Stream.{AnswersStream};
 
 use crate::answers::append_fault;
 use crate::line_loop::{Answerer, answer_lines};
@@ -11,16 +13,19 @@ use options::Outcome;
 use std::alloc::Global;
 use std::io::{Read, Write};
 
-/// Reads a table a line and prints a record a line, as the decider answers: certified, or undecided. Lines are answered as they come, and
-/// a last line without newline is read too. What a failed stream or refused memory ends is said on
-/// `faults`.
+/// Reads a table a line and prints a record a line, as the decider answers: certified, or undecided. Lines are
+/// answered as they come, and a last line without newline is read too. What a failed stream or refused memory ends
+/// is said on `faults`; else what was printed is the answers to the lines of the input, in their order.
 pub fn cmd_decide<D: Decider, R: Read, W: Write, E: Write>(
     alloc: Global,
     decider: &mut D,
     input: &mut R,
     answers: &mut W,
     faults: &mut E,
-) -> Outcome {
+) -> Outcome
+    ensures { AnswersStream (SaysOfTable D.answers) (R.remaining input.old) (R.remaining input.new) (W.contents answers.old) (W.contents answers.new) result
+        ⊎ (result ≡ Outcome.NoMemory) ⊎ (result ≡ Outcome.Failed) }
+{
     let mut answerer = TableAnswerer { alloc, decider };
     answer_lines(alloc, &mut answerer, input, answers, faults)
 }
@@ -32,6 +37,10 @@ struct TableAnswerer<'a, D> {
 }
 
 impl<'a, D: Decider> Answerer for TableAnswerer<'a, D> {
+    ghost use Rattle.line_commands.specs.Decision.{SaysOfTable};
+
+    ghost says = { SaysOfTable D.answers };
+
     fn answer(&mut self, line: Option<&[u8]>, out: &mut Vec<u8>) -> Result<Outcome, NoMemory> {
         decide_line(self.alloc, self.decider, line, out)
     }
@@ -45,7 +54,7 @@ pub fn decide_line<D: Decider>(
     line: Option<&[u8]>,
     out: &mut Vec<u8>,
 ) -> Result<Outcome, NoMemory>
-    ensures { IfOk result (λ o. (answer : List ℕ) × Decides (D.answers decider.old) (read_table line.entry) o answer × (out.new.items ≡ out.old.items ++ answer ++ 10 ∷ [])) }
+    ensures { IfOk result (λ o. (answer : List ℕ) × Decides (D.answers decider.old) (read_table (lent_line line.entry)) o answer × (out.new.items ≡ out.old.items ++ answer ++ 10 ∷ [])) }
 {
     let outcome = match read_table(line) {
         Ok(table) => append_record(alloc, decider, &table, out)?,
@@ -60,7 +69,7 @@ pub fn decide_line<D: Decider>(
 
 // The table of a line.
 fn read_table(line: Option<&[u8]>) -> Result<Table, RecordFault>
-    ensures { result ≡ read_table line.entry }
+    ensures { result ≡ read_table (lent_line line.entry) }
 {
     match line {
         Some(text) => match Table::parse(text) {

@@ -7,7 +7,6 @@ mod answers;
 mod check;
 mod decide;
 mod line_loop;
-mod pieces;
 
 pub use answers::answer;
 pub use check::cmd_check;

@@ -37,6 +37,9 @@ impl Evidence for Translated {
 
     ghost is_wide = { λ e p. ⊥ };
 
+    // One over its limit, or whose times aren't in order, isn't carried out.
+    ghost takes_memory = { λ e. (e.i < e.j) × (e.j ≤ time_limit) };
+
     ghost shows = { λ e. Never };
 
     fn check(&self, alloc: Global, t: &Table) -> Result<Verdict, Refused> {

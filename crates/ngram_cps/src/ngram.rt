@@ -142,9 +142,10 @@ impl Evidence for Ngram<'_> {
 
     ghost is_wide = { λ e p. ⊥ };
 
+    ghost takes_memory = { λ e. ⊥ };
+
     ghost shows = { λ e. Never };
 
-    // It takes no memory, and so never answers that it was refused.
     fn check(&self, alloc: Global, t: &Table) -> Result<Verdict, Refused> {
         if self.holds(t) {
             Ok(Verdict::Never)

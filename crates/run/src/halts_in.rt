@@ -24,6 +24,7 @@ impl HaltsIn {
         ensures fails { result ≡ Err Refused.Fails → (self.now.0 ≤ halt_step_limit) × (HaltsAt (entry_of t.now) self.now.0 → ⊥) }
         ensures long { result ≡ Err Refused.TooLong → self.now.0 ≤ halt_step_limit → ⊥ }
         ensures narrow { result ≡ Err Refused.TooWide → ⊥ }
+        ensures memory { result ≡ Err Refused.NoMemory → self.now.0 ≤ halt_step_limit }
     {
         if self.0 > MAX_HALT_STEPS {
             return Err(Refused::TooLong);
@@ -51,6 +52,9 @@ impl Evidence for HaltsIn {
     ghost stands = { λ e p. HaltsAt (entry_of p) e.0 };
 
     ghost is_wide = { λ e p. ⊥ };
+
+    // One over its limit isn't carried out.
+    ghost takes_memory = { λ e. e.0 ≤ halt_step_limit };
 
     ghost shows = { λ e. Halts e.0 };
 

@@ -9,22 +9,17 @@ use Rattle.machine_text.specs.declared.transition.Dir.TheVariants.{L, R}
 use Rattle.machine_text.specs.declared.transition.Entry.{Entry}
 use Rattle.turing.specs.Program.{Program, IsMachine}
 use Rattle.turing.specs.Tape.{symbol_read, moved_head}
-use Rattle.turing.specs.Run.{Config, start, cell, next}
+use Rattle.turing.specs.Run.{Config, start, cell, next, from}
 use Rattle.turing.specs.Step.{Takes}
 use Rattle.turing.specs.Halting.{Never}
 use Rattle.turing.specs.Mirror.{opposite, mirrored}
 use Rattle.turing.specs.PositionSet.{word}
-use Rattle.turing.specs.Automata.{Node, At, Halt, Automata, Fits}
+use Rattle.turing.specs.Automata.{Node, At, Halt, Automata, Fits, Reaches}
 use Rattle.turing.proofs.Steps.{takes, halts_at_pair}
 use Rattle.turing.proofs.Invariants.{backward_law}
 use Rattle.turing.proofs.Words.{word_first, word_last, word_same, word_blank}
 use Rattle.turing.proofs.HalfTapes.{Reads, reads_same, reads_more, reads_less, reads_below, reads_blank}
 use Rattle.turing.proofs.Exchanges.{mirror_keeps, mirrored_machine, unmirrored, opposite_twice}
-
--- the second automaton comes from u to v by a word
-abbrev pub Reaches : Automata → Node → List Sym → Node → Type 0
-Reaches a u [] v = u ≡ v
-Reaches a u (s ∷ w) v = (t : Node) × IsTrue (a.edge u s t) × Reaches a t w v
 
 -- the halt state stays
 longer : (a : Automata) → ((s : Sym) → IsTrue (a.edge Halt s Halt)) → (u : Node) (w : List Sym) (s : Sym) → Reaches a u w Halt → Reaches a u (w ++ s ∷ []) Halt
@@ -170,12 +165,16 @@ module _ (n : ℕ) (m : Program) (machine : IsMachine n m) (a : Automata) (fits 
       go e t L left = leads_left c d e t left leads
       go e t R right = leads_right c d e t right leads
 
+  -- before a whole run that comes to a halting pair
+  pub leads_from : (k : ℕ) (c d : Config) → from m k c ≡ Some d → next m d ≡ None → c.state < n → (q : ℕ) → Reads a.delta c c.tape.head q →
+      (j : ℕ) × Reaches a (At q c.state) (word c c.tape.head j) Halt
+  unfolding Leads
+  leads_from k c d is over = backward_law m (Leads n a) leads_at_end leads_back k c d is over
+
   -- the blank tape leads to no halt state
   pub far_right_never : Never m
-  unfolding Leads
   far_right_never k s =
-      let leads : Leads n a start = backward_law m (Leads n a) leads_at_end leads_back s.last start s.at s.is s.over in
-      let (j, reaches) = leads machine.some 0 (reads_blank a.delta (pos 0)) in
+      let (j, reaches) = leads_from s.last start s.at s.is s.over machine.some 0 (reads_blank a.delta (pos 0)) in
       let kept : IsTrue (a.keep Halt) = kept_blank a fits.blank_kept j (At 0 0) Halt fits.start_kept (subst (λ w. Reaches a (At 0 0) w Halt) (word_blank (pos 0) j) reaches) in
       let clash : false ≡ true = sym fits.halt_not_kept ∙ kept in
       absurd (cc)

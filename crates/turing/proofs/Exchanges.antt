@@ -111,7 +111,7 @@ back_moved : (x : ℤ) (d : Dir) → moved_head (back x) (opposite d) ≡ back (
 back_moved x L = omega (arith, ints)
 back_moved x R = omega (arith, ints)
 
-back_apart : (x y : ℤ) → back x ≡ back y → x ≡ y
+pub back_apart : (x y : ℤ) → back x ≡ back y → x ≡ y
 back_apart x y e = omega (arith, ints)
 
 pub mirror_renames : (m : Program) → Renames same_state back opposite m (mirrored m)

@@ -3,13 +3,14 @@ use Rattle.std.proofs.Common.{◌≡◌, ℕ, zero, suc, ◌<◌, ℤ, pos, ◌+
 use Rattle.std.proofs.lemmas.Int.{ints}
 use Rattle.machine_text.specs.declared.transition.Sym.{Sym}
 use Rattle.machine_text.specs.declared.transition.Sym.TheVariants.{Zero}
+use Rattle.machine_text.specs.declared.transition.Dir.TheVariants.{R}
 use Rattle.turing.specs.Run.{Config, start, cell}
+use Rattle.turing.specs.Automata.{read_behind}
 use Rattle.turing.proofs.OneState.{start_blank}
 
 -- the state after so many cells left of x are read, the nearest last
 abbrev pub read : (ℕ → Sym → ℕ) → Config → ℤ → ℕ → ℕ
-read delta c x zero = 0
-read delta c x (suc far) = delta (read delta c (x -ℤ pos 1) far) (cell c (x -ℤ pos 1))
+read delta c x far = read_behind delta R c x far
 
 -- q is the state after the half tape left of x is read: enough cells for all beyond them to be blank
 pub record Reads (delta : ℕ → Sym → ℕ) (c : Config) (x : ℤ) (q : ℕ) : Type 0 where

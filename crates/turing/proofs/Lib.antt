@@ -18,6 +18,8 @@ pub mod Words
 pub mod ClosedSets
 pub mod HalfTapes
 pub mod AutomataLaws
+pub mod TurnedTapes
+pub mod AutomataTapes
 pub mod Listed
 pub mod LevelLaws
 pub mod Mirrored

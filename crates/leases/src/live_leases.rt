@@ -1,11 +1,11 @@
 // The live leases, each found by its number and by its worker.
-ghost use Rattle.std.specs.Prelude.{◌≡◌, ◌<◌, ◌≤◌, ◌∷◌, ◌++◌, [], All, Contains, IfOk, OnOk, OnErr, true, map, length};
+ghost use Rattle.std.specs.Prelude.{◌≡◌, ◌<◌, ◌≤◌, ◌∷◌, ◌++◌, [], All, Contains, IfOk, IfSome, OnOk, OnErr, true, map, length};
 ghost use Rattle.std.specs.Prelude.{ℕ, None, cond};
 ghost use Rattle.std.specs.Ordering.{nat_cmp};
 ghost use Rattle.std.specs.BTreeMap.{get as lease_at, IsOrdered};
 ghost use Rattle.machine_text.specs.Packed.{Packed};
 ghost use Rattle.indexmap.specs.IndexMap.{spare};
-ghost use Rattle.leases.specs.Leases.{is_live};
+ghost use Rattle.leases.specs.Leases.{SomeEnds, is_live};
 ghost use Rattle.leases.specs.Limits.{child_limit};
 ghost use Rattle.leases.specs.Inside.Keeping.{Kept, kept, held, is_numbered, without, are_numbered, without_each, AreDue, AreOffered, IsOwn};
 ghost use Rattle.leases.specs.Inside.Children.{Renews, RenewsOne, HasRoom, shown};
@@ -92,10 +92,11 @@ impl LiveLeases {
         self.of_worker.get(&id).copied()
     }
 
-    // The numbers of the leases that have ended by a moment.
+    // The numbers of the leases that have ended by a moment. Memory is refused only where there is one.
     pub fn due(&mut self, alloc: Global, moment: u64) -> Result<Vec<u64>, NoMemory>
         ensures same { self.new ≡ self.old }
         ensures ok { IfOk result (λ numbers. AreDue moment (map held self.old) numbers.items) }
+        ensures err { OnErr result (SomeEnds moment (map held self.old)) }
     {
         let mut numbers = Vec::new(alloc);
         let all = take_ended(&mut self.deadlines, &self.leases, &mut numbers, moment);
@@ -105,10 +106,11 @@ impl LiveLeases {
         Ok(numbers)
     }
 
-    // Puts the tables of a lease among the free ones.
+    // Puts the tables of a lease among the free ones. Memory is refused only where it lives.
     pub fn offer_tables(&self, which: Option<u64>, free: &mut FreeTables) -> Result<(), NoMemory>
         ensures more { (q : Packed) → Contains free.old.tables q → Contains free.new.tables q }
         ensures ok { OnOk result (AreOffered (λ l. is_numbered which l.number) self.now free.new.tables) }
+        ensures err { OnErr result (IfSome which (λ n. is_live (map held self.now) n ≡ true)) }
     {
         let Some(number) = which else {
             return Ok(());
@@ -131,10 +133,11 @@ impl LiveLeases {
         }
     }
 
-    // Puts the tables of leases among the free ones.
+    // Puts the tables of leases among the free ones. Memory is refused only where one of them lives.
     pub fn offer_each(&self, numbers: &[u64], free: &mut FreeTables) -> Result<(), NoMemory>
         ensures more { (q : Packed) → Contains free.old.tables q → Contains free.new.tables q }
         ensures ok { OnOk result (AreOffered (λ l. are_numbered numbers.now l.number) self.now free.new.tables) }
+        ensures err { OnErr result ((n : ℕ) × Contains numbers.now n × (is_live (map held self.now) n ≡ true)) }
     {
         for number in numbers {
             self.offer_tables(Some(*number), free)?;

@@ -156,6 +156,7 @@ impl LeasedBoard {
                     Ok(_) => {}
                     Err(_) => unreachable!(),
                 }
+                self.free.drop_first(&table);
                 self.given = lease;
                 Ok(Reply::Grant { lease, table })
             }

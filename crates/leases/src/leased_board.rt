@@ -5,7 +5,7 @@ use crate::board_calls::{has_open, open_tables};
 use crate::children::free_children;
 use crate::first_free::{first_free, lease_of};
 use crate::free_tables::FreeTables;
-use crate::held_leases::HeldLease;
+use crate::held_leases::{HeldLease, only};
 use crate::limits::{MAX_CHILDREN, may_grant};
 use crate::live_leases::LiveLeases;
 use crate::reply::Reply;
@@ -143,8 +143,7 @@ impl LeasedBoard {
         ) {
             Some(table) => {
                 let lease = self.given + 1;
-                let mut tables = Vec::with_capacity(self.alloc, 1)?;
-                tables.push_reserved(table);
+                let tables = only(self.alloc, table)?;
                 self.came_under.reserve(1)?;
                 let new = HeldLease {
                     id,

@@ -116,7 +116,7 @@ impl LiveLeases {
             return Ok(());
         };
         match self.leases.get(&number) {
-            Some(lease) => offer_all(free, &lease.tables),
+            Some(lease) => offer_all(free, lease.tables.as_slice()),
             None => Ok(()),
         }
     }
@@ -192,7 +192,7 @@ impl LiveLeases {
         lease.tables.reserve(MAX_CHILDREN)
     }
 
-    // Renews a lease, and puts the open children of a table under it. There is room for them.
+    // Renews a lease, and puts the open children of a table under it in its place. There is room for them.
     pub fn renew(
         &mut self,
         number: u64,
@@ -240,5 +240,6 @@ fn renew_lease(
     ensures { Renews board.now t.now moment (kept (number, lease.old)) (kept (number, lease.new)) came.old.entries came.new.entries }
 {
     lease.renewed = moment;
+    lease.tables.swap_remove(t);
     lease_children(came, &mut lease.tables, board, number, t);
 }

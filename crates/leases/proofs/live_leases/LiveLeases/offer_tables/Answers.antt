@@ -12,7 +12,7 @@ returns-in-Some-get-clause-ok c =
     subst (λ (ls : List Kept). OnOk c.offer_all.result (AreOffered (λ l. is_numbered c.args.which l.number) ls c.offer_all.new.free.tables)) c.self.view_is
     (if_ok c.offer_all.result (λ all. offered_one c.args.which c.in-Some.number c.in-Some-get.lease.now c.self.inside.leases c.offer_all.new.free.tables c.self.invariant.0 c.in-Some.is
     (sym c.get.ensures.value ∙ ap option_copied c.in-Some-get.is)
-    (λ q h. all q (subst (λ (ts : List Packed). Contains ts q) (sym c.deref.ensures.value) h))) c.offer_all.ensures.ok)
+    (λ q h. all q (subst (λ (ts : List Packed). Contains ts q) (sym c.as_slice.ensures.keys) h))) c.offer_all.ensures.ok)
 
 pub returns-in-None-clause-ok : goal.returns-in-None-clause-ok
 returns-in-None-clause-ok c =

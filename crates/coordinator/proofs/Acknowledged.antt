@@ -1,15 +1,12 @@
 -- Tables that are acknowledged are recorded.
-use Rattle.std.proofs.Common.{◌≡◌, ℕ, Bool, true, false, nat_eq, List, [], ◌∷◌, inl, inr, Option, Some, None, Result, Ok, Err, IsSome, subst, arith}
+use Rattle.std.proofs.Common.{◌≡◌, ℕ, Bool, true, false, nat_eq, [], ◌∷◌, inl, inr, Option, Some, None, Result, Ok, Err, IsSome, subst, arith}
 use Rattle.std.specs.List.{Contains}
 use Rattle.machine_text.specs.Packed.{Packed}
 use Rattle.cert.specs.Claim.{Recorded}
 use Rattle.ledger.specs.Contents.{Contents}
 use Rattle.ledger.specs.Records.{claim_in}
-use Rattle.ledger.specs.declared.taken.Taken.{Taken}
 use Rattle.ledger.specs.declared.taken.Taken.TheVariants.{New, Known, Settled}
-use Rattle.ledger.specs.declared.faults.OfferFault.{OfferFault}
 use Rattle.ledger.specs.declared.faults.OfferFault.TheVariants.{WrongSize, NotOpen, Refused as NotStanding, NoMemory as OfferNoMemory}
-use Rattle.ledger.specs.Offers.{OfferGives}
 use Rattle.ledger.proofs.Answered.{answered}
 use Rattle.ledger.proofs.Apart.{first_or_later}
 use Rattle.wire.specs.Grammar.{frames_of, message_of}

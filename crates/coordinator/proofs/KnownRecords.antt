@@ -2,8 +2,8 @@
 use Rattle.std.proofs.Common.{◌≡◌, List, inl, inr, Option, Some, None, IsSome, option_map, refl, sym, ◌∙◌, ap, subst}
 use Rattle.evidence.specs.declared.verdicts.Verdict.{Verdict}
 use Rattle.evidence.specs.declared.verdicts.Verdict.TheVariants.{Halts, Never}
-use Rattle.tree.specs.Closed.{Mark, Holdout, IsVerdict}
-use Rattle.cert.specs.Claim.{Claim, Recorded, shown_by}
+use Rattle.tree.specs.Closed.{Holdout, IsVerdict}
+use Rattle.cert.specs.Claim.{Recorded, shown_by}
 use Rattle.ledger.specs.Offers.{IsKnown}
 use Rattle.ledger.specs.Records.{claim_in, mark_in, mark_by, mark_of, shown_where, verdict_in}
 

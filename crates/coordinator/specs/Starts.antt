@@ -1,11 +1,11 @@
 -- What a start makes of a ledger's bytes.
-use Rattle.std.specs.Prelude.{◌≡◌, ◌≢◌, ◌⊎◌, ℕ, ◌==◌, if◌then◌else◌, List, [], ◌∷◌, ◌++◌, length, true, false, Option, Some, None, Result, Ok, Err}
+use Rattle.std.specs.Prelude.{◌≡◌, ◌≢◌, ◌⊎◌, ℕ, ◌==◌, if◌then◌else◌, List, [], ◌∷◌, ◌++◌, true, false, Option, Some, None, Result, Ok, Err}
 use Rattle.machine_text.specs.Packed.{Packed, empty_table}
 use Rattle.machine_text.specs.Text.{text_of}
 use Rattle.ledger.specs.Contents.{Contents}
 use Rattle.ledger.specs.LedgerText.{header_words, HasHeader, HasNoHeader, IsTornHeader, LoadGives, ReadsAs}
 use Rattle.ledger.specs.declared.left.Left.{Left}
-use Rattle.ledger.specs.declared.left.Left.TheVariants.{Nothing, From}
+use Rattle.ledger.specs.declared.left.Left.TheVariants.{Nothing}
 use Rattle.wire.specs.declared.node.Note.TheVariants.{Quiet}
 use Rattle.wire.specs.declared.node.Out.{Out}
 use Rattle.leases.specs.Leases.{Leased, no_leases}

@@ -102,7 +102,12 @@ fn lease_all(
 }
 
 // Puts a table under a lease.
-fn lease_one(came: &mut IndexMap<Table, u64>, tables: &mut IndexSet<Table>, number: u64, child: Table)
+fn lease_one(
+    came: &mut IndexMap<Table, u64>,
+    tables: &mut IndexSet<Table>,
+    number: u64,
+    child: Table,
+)
     requires came { 1 ≤ spare came.old }
     requires tables { 1 ≤ spare_of tables.old }
     ensures came { ComesUnder came.old.entries child number came.new.entries }

@@ -1,4 +1,4 @@
-use Rattle.std.proofs.Common.{◌≡◌, refl, sym, ◌∙◌, ap, subst, Ok, Err, arith}
+use Rattle.std.proofs.Common.{refl, ◌∙◌, ap, Ok, Err, arith}
 use Rattle.ledger.specs.declared.taken.Taken.TheVariants.{Known}
 use Rattle.ledger.specs.declared.faults.OfferFault.TheVariants.{WrongSize}
 use Rattle.wire.specs.declared.node.Note.TheVariants.{Refused}

@@ -1,4 +1,4 @@
-use Rattle.std.proofs.Common.{◌≡◌, ◌⊎◌, true, false, inl, inr, refl, sym, ◌∙◌, ap, subst, List, [], ◌∷◌, Some, length, Contains, arith}
+use Rattle.std.proofs.Common.{◌≡◌, ◌⊎◌, true, false, inl, inr, refl, sym, ◌∙◌, ap, subst, List, ◌∷◌, Some, length, Contains, arith}
 use Rattle.machine_text.specs.Packed.{Packed}
 use Rattle.ledger.specs.Records.{same_table}
 use Rattle.ledger.proofs.Apart.{first_or_later, first_member, later_member}

@@ -63,7 +63,7 @@ returns-in_err-offer_each-clause-err c =
     let numbers = c.in_ok-numbers.numbers.items in
     let late = c.in_err-offer_each.ensures.err in
     let some = number_ends c.max-moment.result ls numbers late.0 c.in_ok-numbers.ensures.ok (subst (λ (ns : List ℕ). Contains ns late.0) c.deref.ensures.value late.1)
-        (subst (λ (xs : List Kept). is_live (map held xs) late.0 ≡ true) c.due.ensures.same late.2) in
+    (subst (λ (xs : List Kept). is_live (map held xs) late.0 ≡ true) c.due.ensures.same late.2) in
     rw p.1 (rw (← ap (λ (s : Leased). s.leases) c.self.view_is) (
       subst (λ (m : ℕ). SomeEnds m (map held ls)) c.max-moment.ensures some,
       ap (λ (xs : List Kept). seen xs c.self.inside.came_under.entries c.self.inside.moment c.self.inside.given) c.due.ensures.same,

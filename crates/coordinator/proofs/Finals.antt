@@ -1,10 +1,8 @@
 -- Complete is final: a coordinator keeps a complete board.
-use Rattle.std.proofs.Common.{◌≡◌, ℕ, Bool, true, false, List, [], ◌∷◌, nat_eq, inl, inr, Option, Some, None, Result, Ok, Err, refl, sym, ◌∙◌, ap, subst, cond}
+use Rattle.std.proofs.Common.{◌≡◌, ℕ, Bool, true, false, List, nat_eq, Option, Some, None, Result, Ok, Err, sym, ◌∙◌, ap, subst}
 use Rattle.machine_text.specs.Packed.{Packed}
 use Rattle.cert.specs.Claim.{Recorded}
 use Rattle.ledger.specs.Contents.{Contents}
-use Rattle.ledger.specs.declared.faults.OfferFault.{OfferFault}
-use Rattle.ledger.specs.declared.taken.Taken.{Taken}
 use Rattle.ledger.proofs.Merged.{offer_is_final}
 use Rattle.wire.specs.Happening.{Happening, Came, Ticked, Worked}
 use Rattle.wire.specs.Grammar.{message_of}

@@ -1,3 +1,4 @@
 pub mod InStep
 pub mod Acknowledged
+pub mod KnownRecords
 pub mod Finals

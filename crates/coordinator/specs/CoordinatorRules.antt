@@ -1,5 +1,5 @@
 -- The rules of a coordinator: what it answers to each event, and what becomes of its board and its leases.
-use Rattle.std.specs.Prelude.{◌≡◌, ℕ, ◌==◌, Bool, true, false, [], ◌∷◌, Option, Some, None, Result, Ok, Err}
+use Rattle.std.specs.Prelude.{◌≡◌, ℕ, ◌==◌, Bool, true, false, max, [], ◌∷◌, Option, Some, None, Result, Ok, Err}
 use Rattle.cert.specs.Claim.{Recorded}
 use Rattle.ledger.specs.Faults.{offer_fault_number}
 use Rattle.ledger.specs.Offers.{OfferGives}
@@ -16,7 +16,7 @@ use Rattle.wire.specs.declared.node.Note.TheVariants.{Quiet, Strange, Stale, Ref
 use Rattle.wire.specs.declared.node.NodeFault.{NodeFault}
 use Rattle.wire.specs.declared.node.NodeFault.TheVariants.{Stopped, NoMemory}
 use Rattle.wire.specs.declared.node.Out.{Out}
-use Rattle.leases.specs.Leases.{Leased, ticked, IsDone}
+use Rattle.leases.specs.Leases.{Leased, SomeEnds, is_live, ticked, IsDone}
 use Rattle.leases.specs.Asks.{Asks}
 use Rattle.leases.specs.Offers.{LeasesAfter}
 use Rattle.roles.specs.Says.{Says, lines_of}
@@ -83,10 +83,27 @@ Row era old (Came frame) out new = FrameRow era old (message_of frame) out new
 Row era old (Ticked t) out new = Says out None [] [] Quiet × (new ≡ record { board = old.board; leases = ticked t old.leases })
 Row era old Worked out new = OnlyNotes Quiet old out new
 
--- what a coordinator with a board answers: by the row, or memory was refused and nothing has changed
+-- what may take memory to answer: ASK; REC of a table with as many states as the root; DONE of its own era, whose
+-- lease lives; a tick at which a lease ends. Nothing else does
+abbrev pub MayGrowFor : ℕ → Leased → Result Message MsgFault → Type 0
+MayGrowFor era held (Ok (Ask id)) = Unit {0}
+MayGrowFor era held (Ok (Rec r)) = r.table.states ≡ held.board.root.states
+MayGrowFor era held (Ok (Done named number)) = (named ≡ era) × (is_live held.leases.live number ≡ true)
+MayGrowFor era held (Ok (Grant named number table)) = ⊥
+MayGrowFor era held (Ok (Ack table)) = ⊥
+MayGrowFor era held (Ok (Later table)) = ⊥
+MayGrowFor era held (Ok Stop) = ⊥
+MayGrowFor era held (Err fault) = ⊥
+
+abbrev pub MayGrow : ℕ → Leased → Happening → Type 0
+MayGrow era held (Came frame) = MayGrowFor era held (message_of frame)
+MayGrow era held (Ticked t) = SomeEnds (max held.leases.moment t) held.leases.live
+MayGrow era held Worked = ⊥
+
+-- what a coordinator with a board answers: by the row, or memory was refused where it may be, and nothing has changed
 abbrev pub Gives : ℕ → Leased → Happening → Result Out NodeFault → Leased → Type 0
 Gives era old e (Ok out) new = Row era old e out new
-Gives era old e (Err NoMemory) new = new ≡ old
+Gives era old e (Err NoMemory) new = MayGrow era old e × (new ≡ old)
 Gives era old e (Err Stopped) new = ⊥
 
 abbrev pub HeldGives : ℕ → Option Leased → Happening → Result Out NodeFault → Option Leased → Type 0
@@ -97,5 +114,5 @@ HeldGives era None e result new = ⊥
 -- what a coordinator answers to an event: `Stopped` where it was stopped, and then nothing changes
 abbrev pub On : Coordinating → Happening → Result Out NodeFault → Coordinating → Type 0
 On old e (Err Stopped) new = (old.stopped ≡ true) × (new ≡ old)
-On old e (Err NoMemory) new = (old.stopped ≡ false) × (new ≡ old)
+On old e (Err NoMemory) new = (old.stopped ≡ false) × (new ≡ old) × HeldGives old.era old.held e (Err NoMemory) new.held
 On old e (Ok out) new = (old.stopped ≡ false) × (new.stopped ≡ false) × (new.era ≡ old.era) × HeldGives old.era old.held e (Ok out) new.held

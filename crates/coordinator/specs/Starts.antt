@@ -1,12 +1,11 @@
 -- What a start makes of a ledger's bytes.
-use Rattle.std.specs.Prelude.{◌≡◌, ℕ, ◌==◌, if◌then◌else◌, List, [], ◌∷◌, ◌++◌, length, true, false, Option, Some, None, Result, Ok, Err}
+use Rattle.std.specs.Prelude.{◌≡◌, ◌≢◌, ◌⊎◌, ℕ, ◌==◌, if◌then◌else◌, List, [], ◌∷◌, ◌++◌, true, false, Option, Some, None, Result, Ok, Err}
 use Rattle.machine_text.specs.Packed.{Packed, empty_table}
 use Rattle.machine_text.specs.Text.{text_of}
 use Rattle.ledger.specs.Contents.{Contents}
-use Rattle.ledger.specs.LedgerText.{header_words, LoadGives, ReadsAs}
+use Rattle.ledger.specs.LedgerText.{header_words, HasHeader, HasNoHeader, IsTornHeader, LoadGives, ReadsAs}
 use Rattle.ledger.specs.declared.left.Left.{Left}
-use Rattle.ledger.specs.declared.left.Left.TheVariants.{Nothing, From}
-use Rattle.ledger.specs.declared.faults.LoadFault.TheVariants.{BadHeader as BadLedgerHeader, WrongRoot as OtherRoot}
+use Rattle.ledger.specs.declared.left.Left.TheVariants.{Nothing}
 use Rattle.wire.specs.declared.node.Note.TheVariants.{Quiet}
 use Rattle.wire.specs.declared.node.Out.{Out}
 use Rattle.leases.specs.Leases.{Leased, no_leases}
@@ -35,17 +34,23 @@ started era board = record { era = era; held = Some (record { board = board; lea
 abbrev pub not_started : ℕ → Coordinating
 not_started era = record { era = era; held = None; stopped = true }
 
--- a coordinator for machines of n states is started from a ledger's text
+-- why a coordinator doesn't start: the ledger has no header, or one of another root; where memory was refused it has
+-- the header of this root, or is torn off within its header
+abbrev pub IsNoStart : Packed → List ℕ → StartFault → Type 0
+IsNoStart root text BadHeader = HasNoHeader text
+IsNoStart root text WrongRoot = (other : Packed) × (rest : List ℕ) × HasHeader text other rest × (other ≢ root)
+IsNoStart root text NoMemory = IsTornHeader text ⊎ ((rest : List ℕ) × HasHeader text root rest)
+
+-- a coordinator for machines of n states is started from a ledger's text; or it can't start, and is stopped
 abbrev pub Starts : ℕ → ℕ → List ℕ → Coordinating → Result Out StartFault → Type 0
 Starts n era text new (Ok out) =
     (board : Contents) × (left : Left) × LoadGives (empty_table n) text (Ok (board, left)) × (new ≡ started era board) × Begins (empty_table n) text left out
-Starts n era text new (Err BadHeader) = LoadGives (empty_table n) text (Err BadLedgerHeader) × (new ≡ not_started era)
-Starts n era text new (Err WrongRoot) = LoadGives (empty_table n) text (Err OtherRoot) × (new ≡ not_started era)
-Starts n era text new (Err NoMemory) = new ≡ not_started era
+Starts n era text new (Err fault) = IsNoStart (empty_table n) text fault × (new ≡ not_started era)
 
--- a ledger's text is in step with a coordinator: its header is whole, and it stands, all its bytes kept, for the board
+-- a ledger's text is in step with a coordinator: its header is whole, and it stands, all its bytes kept, for the
+-- board; none is in step with a coordinator that wasn't started
 abbrev pub HeldInStep : Option Leased → List ℕ → Type 0
-HeldInStep None text = Unit {0}
+HeldInStep None text = ⊥
 HeldInStep (Some held) text = ReadsAs held.board.root text held.board.records Nothing
 
 abbrev pub InStep : Coordinating → List ℕ → Type 0

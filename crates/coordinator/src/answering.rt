@@ -1,4 +1,5 @@
 // What a coordinator answers to an event, over its board and its leases.
+ghost use Rattle.std.specs.Prelude.{◌≡◌};
 ghost use Rattle.cert.specs.Kinds.{recorded};
 ghost use Rattle.wire.specs.Grammar.{message_of};
 ghost use Rattle.wire.specs.Happening.{seen};
@@ -7,6 +8,7 @@ ghost use Rattle.coordinator.specs.CoordinatorRules.{Gives};
 ghost use Rattle.coordinator.specs.Inside.Answering.{GivesFrame, GivesMessage, GivesOffer, GivesDone};
 
 use crate::frames::{GRANT_BYTES, ack_frame, later_frame, put_reply};
+use crate::known::is_known;
 use cert::Record;
 use leases::LeasedBoard;
 use ledger::{OfferFault, Taken, append_record};
@@ -64,8 +66,24 @@ fn answer_ask(alloc: Global, era: u64, held: &mut LeasedBoard, id: u32) -> Resul
     })
 }
 
-// The texts come before the offer: once the board has taken the record, nothing may be refused.
+// In the order in which a board judges a record. Of a table of another size nothing is written, and of a record
+// that brings nothing new only that it is held.
 fn answer_record(alloc: Global, held: &mut LeasedBoard, r: &Record<'_>) -> Result<Out, NodeFault>
+    ensures { GivesOffer held.old (recorded r.now) result held.new }
+{
+    if r.table.states() != held.board().root().states() {
+        return Ok(noted(alloc, Note::Refused(OfferFault::WrongSize.number())));
+    }
+    if is_known(held.board(), r) {
+        let frames = ack_frame(alloc, &r.table)?;
+        return Ok(sent(alloc, frames));
+    }
+    offer_record(alloc, held, r)
+}
+
+// The texts come before the offer: once the board has taken the record, nothing may be refused.
+fn offer_record(alloc: Global, held: &mut LeasedBoard, r: &Record<'_>) -> Result<Out, NodeFault>
+    requires { r.now.table.states ≡ held.old.board.root.states }
     ensures { GivesOffer held.old (recorded r.now) result held.new }
 {
     let mut append = Vec::new(alloc);

@@ -3,7 +3,7 @@ ghost use Rattle.std.specs.Prelude.{◌≡◌, ◌≤◌, MatchOption, None, Som
 ghost use Rattle.machine_text.specs.Limits.{state_limit};
 ghost use Rattle.wire.specs.Happening.{seen};
 ghost use Rattle.wire.specs.Carried.{text_after};
-ghost use Rattle.leases.specs.Leases.{Leased};
+ghost use Rattle.leases.specs.Leases.{AreLeases, Leased};
 ghost use Rattle.coordinator.specs.CoordinatorRules.{On};
 ghost use Rattle.coordinator.specs.Starts.{Starts, InStep};
 ghost use Rattle.coordinator.specs.Inside.Begun.{HoldsBoard};
@@ -42,7 +42,8 @@ impl Coordinator {
     /// A coordinator for machines of n states, from the bytes of its ledger. The answer says how many of these
     /// were kept, where not all were, and appends a header where none were; once it is carried out (`begin`) the
     /// ledger is in step. `era` tells its leases from those of an earlier run. Where the start is refused, the
-    /// coordinator is stopped: `BadHeader` and `WrongRoot` as a board's `load` refuses the bytes.
+    /// coordinator is stopped: `BadHeader` and `WrongRoot` as a board's `load` refuses the bytes, and `NoMemory`
+    /// for no bytes that are refused so.
     pub fn start(
         alloc: Global,
         n: u8,
@@ -75,9 +76,9 @@ impl Coordinator {
         }
     }
 
-    /// Its board; none where its start was refused.
+    /// Its board, on which it has its leases; none where its start was refused.
     pub fn board(&self) -> Option<&Board>
-        ensures { MatchOption result (self.now.held ≡ None) (λ board. (held : Leased) × (self.now.held ≡ Some held) × (board.now ≡ held.board)) }
+        ensures { MatchOption result (self.now.held ≡ None) (λ board. (held : Leased) × (self.now.held ≡ Some held) × (board.now ≡ held.board) × AreLeases held.board held.leases) }
     {
         match &self.held {
             Some(held) => Some(held.board()),

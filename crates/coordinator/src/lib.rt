@@ -9,6 +9,7 @@ mod answering;
 mod coordinator;
 mod coordinator_laws;
 mod frames;
+mod known;
 mod starting;
 
 pub use coordinator::Coordinator;

@@ -1,5 +1,5 @@
 -- Children of a table: how many they are, and when they are open.
-use Rattle.std.proofs.Common.{◌≡◌, ◌≢◌, ℕ, ◌≤◌, ◌⊎◌, ◌↔◌, inl, inr, refl, sym, ◌∙◌, ap, subst, List, [], ◌∷◌, ◌++◌, All, AllPairs, length, get_or, Option, Some, None, IfSome, Contains, arith}
+use Rattle.std.proofs.Common.{◌≡◌, ℕ, ◌≤◌, ◌⊎◌, ◌↔◌, inl, inr, refl, sym, ◌∙◌, ap, subst, List, [], ◌∷◌, ◌++◌, All, length, Option, Some, None, IfSome, Contains, arith}
 use Rattle.machine_text.specs.declared.transition.Sym.{Sym}
 use Rattle.machine_text.specs.Packed.{Packed, IsTable, entry_of}
 use Rattle.turing.proofs.Counting.{length-le_of_members}

@@ -8,9 +8,9 @@ use Rattle.std.specs.declared.cmp.Reverse.{Reverse}
 use Rattle.std.proofs.lemmas.List.Sorted.{Contains-permutation, sum_by_pushed, sum_by_popped}
 use Rattle.std.proofs.lemmas.Option.{same_Some}
 use Rattle.ledger.proofs.Apart.{first_or_later, later_member, first_member}
-use Rattle.leases.specs.Leases.{Lease}
+use Rattle.leases.specs.Leases.{Lease, SomeEnds}
 use Rattle.leases.specs.Inside.Keeping.{Kept, kept, held, has_ended, without, is_numbered, AreDue}
-use Rattle.leases.specs.Inside.Deadlines.{entry, is_past, TakesPast, Awaits, AreAwaited, AreAwaitedBut, HaveEnded, AreNotAhead}
+use Rattle.leases.specs.Inside.Deadlines.{entry, is_past, TakesPast, Awaits, AreAwaited, AreAwaitedBut, HaveEnded, SomePast, AreNotAhead}
 use Rattle.leases.specs.declared.held_leases.HeldLease.{HeldLease}
 use Rattle.leases.specs.Inside.Children.{shown}
 use Rattle.machine_text.specs.Packed.{Packed}
@@ -19,7 +19,7 @@ use Rattle.std.proofs.Math.Nat.{le-max_left}
 use Rattle.leases.proofs.FreeLaws.{mapped, unmapped}
 use Rattle.leases.proofs.Members.{filter_member}
 use Rattle.leases.proofs.Offering.{set_member}
-use Rattle.leases.proofs.LiveLaws.{member_at, at_number}
+use Rattle.leases.proofs.LiveLaws.{member_at, at_number, found_member}
 use Rattle.leases.proofs.Due.{same_place}
 use Rattle.std.specs.Ordering.{is_eq}
 use Rattle.std.proofs.lemmas.Bool.{leb-true, le-leb}
@@ -245,3 +245,8 @@ replaced_awaited old new own n v at after put is awaited q l found =
           (v.renewed, subst (λ k. Contains new (entry v.renewed k)) (sym this.1) (has_put v.renewed n old new put), omega (arith, moments))
       | inr other ↦ still_awaits old new q l.renewed (keeps_put v.renewed n old new put) (awaited q l (sym (ap (λ b. cond b (Some v) (at q)) other.0) ∙ stays))
     ]
+
+-- a lease that is past ends
+pub past_ends : (moment : ℕ) (m : BTreeMap ℕ HeldLease) → SomePast moment (get nat_cmp m) → SomeEnds moment (map held (map kept m.entries))
+past_ends moment m (n, l, found, late) =
+    (held (kept (n, l)), mapped held (map kept m.entries) (kept (n, l)) (found_member n l m.entries found), leb-true (l.renewed + 60) moment late)

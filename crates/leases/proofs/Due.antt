@@ -5,15 +5,15 @@ use Rattle.std.specs.BTreeMap.{BTreeMap, IsOrdered, get}
 use Rattle.std.proofs.lemmas.List.Elements.{All-contains, filter_passes, at_read}
 use Rattle.std.proofs.lemmas.List.{drop_more}
 use Rattle.std.proofs.lemmas.Option.{same_Some}
-use Rattle.std.proofs.lemmas.Bool.{eqb-true, eq-eqb}
+use Rattle.std.proofs.lemmas.Bool.{eqb-true, eq-eqb, leb-true}
 use Rattle.ledger.proofs.Apart.{first_member, later_member, first_or_later}
 use Rattle.machine_text.specs.Packed.{Packed}
-use Rattle.leases.specs.Leases.{Lease}
+use Rattle.leases.specs.Leases.{Lease, SomeEnds, is_live}
 use Rattle.leases.specs.Inside.Keeping.{Kept, kept, held, has_ended, without, are_numbered, without_each, AreDue, AreOffered}
 use Rattle.leases.specs.declared.held_leases.HeldLease.{HeldLease}
 use Rattle.leases.proofs.FreeLaws.{mapped, unmapped}
 use Rattle.leases.proofs.LiveLaws.{member_at}
-use Rattle.leases.proofs.Members.{filter_member, in_filter, or_later}
+use Rattle.leases.proofs.Members.{filter_member, found_live, in_filter, or_later}
 
 -- the numbers of the leases that have ended
 abbrev pub due_of : ℕ → List Kept → List ℕ
@@ -133,3 +133,10 @@ pub next_ended : (numbers : List ℕ) (i d : ℕ) (ls new : List Kept) → i < l
 next_ended numbers i d ls new below is =
     ap (λ (ns : List ℕ). without_each ns ls) (drop_more numbers i d below)
     ∙ (without_next (get_or numbers i d) (drop (i + 1) numbers) ls ∙ ap (without_each (drop (i + 1) numbers)) (sym is))
+
+-- a number that is due is that of a lease that ends
+pub number_ends : (moment : ℕ) (ls : List Kept) (numbers : List ℕ) (n : ℕ) → AreDue moment (map held ls) numbers → Contains numbers n → is_live (map held ls) n ≡ true → SomeEnds moment (map held ls)
+number_ends moment ls numbers n due listed lives =
+    let l = found_live ls n lives in
+    let member = mapped held ls l.0 l.1 in
+    (held l.0, member, leb-true (held l.0).deadline moment (due.only (held l.0) member (subst (Contains numbers) (sym l.2) listed)))

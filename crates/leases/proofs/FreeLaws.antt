@@ -1,5 +1,5 @@
 -- Heaps of tables in reversed order: what comes in and goes.
-use Rattle.std.proofs.Common.{◌≡◌, refl, sym, ◌∙◌, ap, subst, inl, inr, List, [], ◌∷◌, map, false, Contains, Option, Some, None, IfSome, IfNone, arith}
+use Rattle.std.proofs.Common.{◌≡◌, ◌||◌, ◌++◌, Bool, true, cond, if◌then◌else◌, refl, sym, ◌∙◌, ap, subst, inl, inr, List, [], ◌∷◌, map, false, Contains, Option, Some, None, IfSome, IfNone, arith}
 use Rattle.std.specs.Ordering.{is_lt}
 use Rattle.std.specs.BinaryHeap.{IsUpperBound}
 use Rattle.std.specs.List.Sorted.{IsPermutation}
@@ -9,6 +9,12 @@ use Rattle.std.proofs.lemmas.List.Sorted.{Contains-permutation}
 use Rattle.machine_text.specs.Packed.{Packed}
 use Rattle.ledger.specs.Inside.Open.{table_cmp}
 use Rattle.ledger.proofs.Apart.{first_or_later, later_member, first_member}
+use Rattle.ledger.specs.Records.{same_table}
+use Rattle.ledger.proofs.Same.{same_is, same_at, not_same}
+use Rattle.indexmap.specs.IndexSet.{insert_key}
+use Rattle.indexmap.proofs.CallerLemmas.{Contains-insert_key, Contains-list_any}
+use Rattle.std.specs.List.{list_any}
+use Rattle.std.proofs.lemmas.List.Elements.{Contains-append_left}
 use Rattle.leases.specs.Inside.Free.{Gains, IsOnTop, LosesOnly, reverse_cmp}
 
 -- the members of a list under a map
@@ -59,3 +65,25 @@ pub dropped : (old new : List Packed) (t : Packed) (r : Option Packed) → IsOnT
 dropped [] new t r top first others none = absurd (omega (arith, top.0))
 dropped (y ∷ ys) new t (Some x) top first others none = subst (λ (x : Packed). LosesOnly (y ∷ ys) x new) (first.1 ∙ sym top.1) others
 dropped (y ∷ ys) new t None top first others none = absurd (cc)
+
+or_later : (a b : Bool) → b ≡ true → (a || b) ≡ true
+or_later true b h = refl
+or_later false b h = h
+
+-- sets of tables: what comes in and goes
+is_here : (ks : List Packed) (q : Packed) → Contains ks q → list_any (same_table q) ks ≡ true
+is_here [] q h = absurd (omega (arith, h.1))
+is_here (x ∷ xs) q h = elim (first_or_later x xs q h) [
+  | inl same ↦ ap (λ b. b || list_any (same_table q) xs) (same_at q x (sym same))
+  | inr later ↦ or_later (same_table q x) (list_any (same_table q) xs) (is_here xs q later)
+]
+
+pub gains_key : (ks : List Packed) (k : Packed) → Gains ks k (insert_key same_table ks k)
+gains_key ks k = record {
+  here = Contains-insert_key same_table same_is ks k;
+  others = λ q h. elim (list_any (same_table k) ks) as (λ b. Contains (if b then ks else ks ++ (k ∷ [])) q) [ true ↦ h | false ↦ Contains-append_left ks (k ∷ []) q h ];
+}
+
+pub loses_key : (t : Packed) (old new : List Packed) → ((q : Packed) → list_any (same_table q) new ≡ cond (same_table t q) false (list_any (same_table q) old)) → LosesOnly old t new
+loses_key t old new goes q h other =
+    Contains-list_any same_table same_is new q (goes q ∙ (ap (λ b. cond b false (list_any (same_table q) old)) (not_same t q (λ e. other (sym e))) ∙ is_here old q h))

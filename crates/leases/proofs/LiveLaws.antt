@@ -281,13 +281,13 @@ is_own id own m numbers ordered were is = record {
       sym (ap (λ (l : Kept). l.id) there.2) ∙ (ap (λ (v : HeldLease). v.id) (same_Some there.0 found.0 (sym there.1 ∙ found.1)) ∙ found.2);
 }
 
-pub offered_one : (which : Option ℕ) (n : ℕ) (v : HeldLease) (m : BTreeMap ℕ HeldLease) (free : List Packed) → IsOrdered nat_cmp m → which ≡ Some n → get nat_cmp m n ≡ Some v → ((q : Packed) → Contains v.tables.items q → Contains free q)
+pub offered_one : (which : Option ℕ) (n : ℕ) (v : HeldLease) (m : BTreeMap ℕ HeldLease) (free : List Packed) → IsOrdered nat_cmp m → which ≡ Some n → get nat_cmp m n ≡ Some v → ((q : Packed) → Contains v.tables.keys q → Contains free q)
     → AreOffered (λ l. is_numbered which l.number) (map kept m.entries) free
 offered_one which n v m free ordered is found all l t member ends h =
     let there = member_at m ordered l member in
     let number : l.number ≡ n = eqb-true l.number n (ap (λ o. is_numbered o l.number) (sym is) ∙ ends) in
     let one : there.0 ≡ v = same_Some there.0 v (sym there.1 ∙ (ap (get nat_cmp m) number ∙ found)) in
-    all t (subst (λ (v : HeldLease). Contains v.tables.items t) one (subst (λ (l : Kept). Contains l.tables t) (sym there.2) h))
+    all t (subst (λ (v : HeldLease). Contains v.tables.keys t) one (subst (λ (l : Kept). Contains l.tables t) (sym there.2) h))
 
 pub offered_none : (which : Option ℕ) (n : ℕ) (m : BTreeMap ℕ HeldLease) (free : List Packed) → IsOrdered nat_cmp m → which ≡ Some n → get nat_cmp m n ≡ None
     → AreOffered (λ l. is_numbered which l.number) (map kept m.entries) free

@@ -267,7 +267,7 @@ module _ (old new : Contents) (ls : List Kept) (at : ℕ) (l : Kept) (came mid n
   under_new_kept = record {
     listed = λ x q member h. elim (set_member ls at l x within member) [
       | inl same ↦ subst (λ (x : Kept). Contains x.tables q) (sym same) (elim (renews.only q x.number h) [
-        | inl before ↦ renews.more q (kept.listed (get_or ls at l) q (Contains-get_or ls at l within) ((out_cases came mid t q x.number out before).1 ∙ ap Some (ap (λ (x : Kept). x.number) same ∙ renews.number)))
+        | inl before ↦ renews.more q (kept.listed (get_or ls at l) q (Contains-get_or ls at l within) ((out_cases came mid t q x.number out before).1 ∙ ap Some (ap (λ (x : Kept). x.number) same ∙ renews.number))) (out_cases came mid t q x.number out before).0
         | inr now ↦ now.2
       ])
       | inr other ↦ elim (renews.only q x.number h) [

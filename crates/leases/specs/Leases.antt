@@ -1,6 +1,6 @@
 -- The leases of a coordinator: which leases live, under which of them each open table stands, and what each event
 -- does to them.
-use Rattle.std.specs.Prelude.{◌≡◌, ◌≢◌, ℕ, ◌<◌, ◌≤◌, ◌==◌, Bool, not, if◌then◌else◌, max, nat_le, List, [], All, AllPairs, Option, Some, None, length, filter}
+use Rattle.std.specs.Prelude.{◌≡◌, ◌≢◌, ℕ, ◌<◌, ◌≤◌, ◌==◌, Bool, not, if◌then◌else◌, max, nat_le, List, [], All, AllPairs, Option, Some, None, Contains, length, filter}
 use Rattle.std.specs.List.{list_any}
 use Rattle.std.specs.Map.{lookup}
 use Rattle.machine_text.specs.Packed.{Packed}
@@ -61,6 +61,10 @@ no_leases = record { live = []; came = []; moment = 0; given = 0 }
 -- the leases that pass a test end: their tables are under none
 abbrev pub ended : (Lease → Bool) → Leases → Leases
 ended ends s = record { live = filter (λ l. not (ends l)) s.live; came = s.came; moment = s.moment; given = s.given }
+
+-- some live lease ends by a moment
+abbrev pub SomeEnds : ℕ → List Lease → Type 0
+SomeEnds moment live = (l : Lease) × Contains live l × (l.deadline ≤ moment)
 
 -- a tick: the moment becomes the greater of itself and t, and each lease whose deadline is at most the moment ends
 abbrev pub ticked : ℕ → Leases → Leases

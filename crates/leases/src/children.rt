@@ -3,15 +3,17 @@ ghost use Rattle.std.specs.Prelude.{◌≡◌, ◌↔◌, ◌+◌, ◌≤◌, �
 ghost use Rattle.machine_text.specs.Packed.{Packed};
 ghost use Rattle.tree.specs.Tables.{IsChildTable};
 ghost use Rattle.ledger.specs.Tally.{AreAll, IsHalting};
-ghost use Rattle.std.specs.Prelude.{vec_len, vec_capacity, Some, [], ◌∷◌, ◌++◌};
+ghost use Rattle.std.specs.Prelude.{Some};
 ghost use Rattle.indexmap.specs.IndexMap.{spare};
+ghost use Rattle.indexmap.specs.IndexSet.{spare as spare_of};
 ghost use Rattle.ledger.specs.Contents.{IsOpenOn};
 ghost use Rattle.leases.specs.Leases.{came_under};
 ghost use Rattle.leases.specs.Limits.{child_limit};
 ghost use Rattle.leases.specs.Inside.Children.{CameOnly, ComesUnder};
+ghost use Rattle.leases.specs.Inside.Free.{Gains};
 
 use crate::free_tables::FreeTables;
-use indexmap::IndexMap;
+use indexmap::{IndexMap, IndexSet};
 use ledger::Board;
 use machine_text::Table;
 use tnf::Children;
@@ -59,17 +61,17 @@ fn free_all(free: &mut FreeTables, found: Children)
 // There is room for them.
 pub fn lease_children(
     came: &mut IndexMap<Table, u64>,
-    tables: &mut Vec<Table>,
+    tables: &mut IndexSet<Table>,
     board: &Board,
     number: u64,
     t: &Table,
 )
     requires came { child_limit ≤ spare came.old }
-    requires tables { vec_len tables.old + child_limit ≤ vec_capacity tables.old }
+    requires tables { child_limit ≤ spare_of tables.old }
     ensures here { (q : Packed) → IsChildTable t.now q → IsHalting board.now.records t.now → IsOpenOn board.now q → came_under came.new.entries q ≡ Some number }
     ensures other { (q : Packed) → (IsChildTable t.now q → ⊥) → came_under came.new.entries q ≡ came_under came.old.entries q }
-    ensures only { CameOnly board.now number came.old.entries came.new.entries tables.new.items }
-    ensures more { (q : Packed) → Contains tables.old.items q → Contains tables.new.items q }
+    ensures only { CameOnly board.now number came.old.entries came.new.entries tables.new.keys }
+    ensures more { (q : Packed) → Contains tables.old.keys q → Contains tables.new.keys q }
 {
     match children_of(board, t) {
         Some(found) => lease_all(came, tables, board, number, found),
@@ -80,17 +82,17 @@ pub fn lease_children(
 // Puts those of the tables that are open under a lease.
 fn lease_all(
     came: &mut IndexMap<Table, u64>,
-    tables: &mut Vec<Table>,
+    tables: &mut IndexSet<Table>,
     board: &Board,
     number: u64,
     found: Children,
 )
     requires came { length found ≤ spare came.old }
-    requires tables { vec_len tables.old + length found ≤ vec_capacity tables.old }
+    requires tables { length found ≤ spare_of tables.old }
     ensures here { (q : Packed) → Contains found q → IsOpenOn board.now q → came_under came.new.entries q ≡ Some number }
     ensures other { (q : Packed) → (Contains found q → ⊥) → came_under came.new.entries q ≡ came_under came.old.entries q }
-    ensures only { CameOnly board.now number came.old.entries came.new.entries tables.new.items }
-    ensures more { (q : Packed) → Contains tables.old.items q → Contains tables.new.items q }
+    ensures only { CameOnly board.now number came.old.entries came.new.entries tables.new.keys }
+    ensures more { (q : Packed) → Contains tables.old.keys q → Contains tables.new.keys q }
 {
     for child in found {
         if board.is_open(&child) {
@@ -100,16 +102,23 @@ fn lease_all(
 }
 
 // Puts a table under a lease.
-fn lease_one(came: &mut IndexMap<Table, u64>, tables: &mut Vec<Table>, number: u64, child: Table)
+fn lease_one(
+    came: &mut IndexMap<Table, u64>,
+    tables: &mut IndexSet<Table>,
+    number: u64,
+    child: Table,
+)
     requires came { 1 ≤ spare came.old }
-    requires tables { vec_len tables.old + 1 ≤ vec_capacity tables.old }
+    requires tables { 1 ≤ spare_of tables.old }
     ensures came { ComesUnder came.old.entries child number came.new.entries }
-    ensures tables { tables.new.items ≡ tables.old.items ++ (child ∷ []) }
-    ensures spare { spare came.old ≤ spare came.new + 1 }
-    ensures len { vec_len tables.new ≡ vec_len tables.old + 1 }
-    ensures capacity { vec_capacity tables.new ≡ vec_capacity tables.old }
+    ensures tables { Gains tables.old.keys child tables.new.keys }
+    ensures came_spare { spare came.old ≤ spare came.new + 1 }
+    ensures tables_spare { spare_of tables.old ≤ spare_of tables.new + 1 }
 {
-    tables.push_reserved(child);
+    match tables.insert(child) {
+        Ok(_) => {}
+        Err(_) => unreachable!(),
+    }
     match came.insert(child, number) {
         Ok(_) => {}
         Err(_) => unreachable!(),

@@ -1,9 +1,10 @@
 // Which of the live leases have ended.
-ghost use Rattle.std.specs.Prelude.{◌≡◌, ℕ, ◌≤◌, [], Contains, OnOk, length, Some, true};
+ghost use Rattle.std.specs.Prelude.{◌≡◌, ℕ, ◌+◌, ◌<◌, ◌≤◌, [], ◌∷◌, ◌++◌, Contains, OnOk, OnErr, length, Some, true};
 ghost use Rattle.std.specs.Ordering.{nat_cmp};
+ghost use Rattle.std.specs.List.Sorted.{IsPermutation};
 ghost use Rattle.std.specs.BTreeMap.{get as lease_at};
 ghost use Rattle.std.specs.declared.cmp.Reverse.{Reverse};
-ghost use Rattle.leases.specs.Inside.Deadlines.{AreAwaited, AreAwaitedBut, HaveEnded, entry, is_past};
+ghost use Rattle.leases.specs.Inside.Deadlines.{AreAwaited, AreAwaitedBut, HaveEnded, SomePast, entry, is_past};
 ghost use Rattle.leases.specs.declared.held_leases.HeldLease.{HeldLease};
 
 use crate::deadlines::Deadlines;
@@ -13,6 +14,7 @@ use std::collections::BTreeMap;
 
 // Takes out the entries of the leases that have ended by a moment, and lists their numbers. What it meets
 // meanwhile of leases that live no more goes too, and where a lease was renewed, its entry is put at that moment.
+// Memory is refused only where a lease has ended.
 pub fn take_ended(
     deadlines: &mut Deadlines,
     leases: &BTreeMap<u64, HeldLease>,
@@ -25,19 +27,44 @@ pub fn take_ended(
     ensures room { length numbers.new.items ≤ deadlines.new.room }
     ensures only { HaveEnded moment numbers.new.items (lease_at nat_cmp leases.now) }
     ensures all { OnOk result ((n : ℕ) (l : HeldLease) → lease_at nat_cmp leases.now n ≡ Some l → is_past moment l.renewed ≡ true → Contains numbers.new.items n) }
+    ensures err { OnErr result (SomePast moment (lease_at nat_cmp leases.now)) }
 {
-    numbers.reserve(1)?;
     while let Some(number) = deadlines.pop_due(moment) {
         if let Some(lease) = leases.get(&number) {
             if is_due(lease.renewed, moment) {
-                numbers.push_reserved(number);
-                numbers.reserve(1)?;
+                list_ended(deadlines, numbers, lease.renewed, number)?;
             } else {
                 deadlines.push(lease.renewed, number);
             }
         }
     }
     Ok(())
+}
+
+// Lists the number of a lease that has ended. Where memory is refused, its entry is put back: there is room for it.
+fn list_ended(
+    deadlines: &mut Deadlines,
+    numbers: &mut Vec<u64>,
+    renewed: u64,
+    number: u64,
+) -> Result<(), NoMemory>
+    requires { 0 < deadlines.old.room }
+    ensures listed { OnOk result (numbers.new.items ≡ numbers.old.items ++ (number ∷ [])) }
+    ensures stays { OnOk result (deadlines.new ≡ deadlines.old) }
+    ensures unlisted { OnErr result (numbers.new.items ≡ numbers.old.items) }
+    ensures back { OnErr result (IsPermutation (entry renewed number ∷ deadlines.old.entries) deadlines.new.entries) }
+    ensures room { OnErr result (deadlines.old.room ≤ deadlines.new.room + 1) }
+{
+    match numbers.reserve(1) {
+        Ok(()) => {
+            numbers.push_reserved(number);
+            Ok(())
+        }
+        Err(refused) => {
+            deadlines.push(renewed, number);
+            Err(refused)
+        }
+    }
 }
 
 // Puts an entry of the moment 0 in for each of the numbers. There is room for them.

@@ -57,7 +57,7 @@ fn is_free(
 }
 
 // The first open table that is under none. Those before it among the tables that may be free aren't, and are
-// taken out. It stays there itself: where it comes under a lease, it is found not to be free the next time.
+// taken out. It stays there itself, until it comes under a lease.
 pub fn first_free(
     free: &mut FreeTables,
     board: &Board,

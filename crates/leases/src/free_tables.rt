@@ -69,6 +69,18 @@ impl FreeTables {
         Some(top.0)
     }
 
+    // Takes a table out as often as it comes first.
+    pub fn drop_first(&mut self, t: &Table)
+        ensures { LosesOnly self.old.tables t.now self.new.tables }
+    {
+        while let Some(first) = self.first() {
+            if first != *t {
+                return;
+            }
+            self.pop();
+        }
+    }
+
     // Takes the first table out, once.
     pub fn pop(&mut self) -> Option<Table>
         ensures top { IfSome result (IsOnTop self.old.tables) }

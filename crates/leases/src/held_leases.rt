@@ -1,5 +1,5 @@
 // Live leases as they are kept.
-ghost use Rattle.std.specs.Prelude.{◌≡◌, ◌+◌, nat_le, Contains, OnOk};
+ghost use Rattle.std.specs.Prelude.{◌≡◌, ◌+◌, ◌∷◌, [], nat_le, Contains, IfOk, OnOk};
 ghost use Rattle.machine_text.specs.Packed.{Packed};
 ghost use Rattle.leases.specs.Limits.{lease_time};
 ghost use Rattle.leases.specs.Inside.Keeping.{is_numbered};
@@ -7,15 +7,17 @@ ghost use Rattle.leases.specs.Inside.Keeping.{is_numbered};
 use crate::free_tables::FreeTables;
 use crate::limits::LEASE_TIME;
 use evidence::NoMemory;
+use indexmap::IndexSet;
 use machine_text::Table;
+use std::alloc::Global;
 
-// A live lease, which stands under its number: its worker, when it was given or renewed, and the tables that
-// came under it, of which some may be recorded by now.
+// A live lease, which stands under its number: its worker, when it was given or renewed, and the open tables that
+// are under it.
 #[derive(Drop)]
 pub struct HeldLease {
     pub id: u32,
     pub renewed: u64,
-    pub tables: Vec<Table>,
+    pub tables: IndexSet<Table>,
 }
 
 // Whether a lease that was given or renewed then has ended by a moment.
@@ -33,6 +35,15 @@ pub fn is_numbered(which: Option<u64>, number: u64) -> bool
         Some(n) => number == n,
         None => false,
     }
+}
+
+// A table alone.
+pub fn only(alloc: Global, t: Table) -> Result<IndexSet<Table>, NoMemory>
+    ensures { IfOk result (λ tables. tables.keys ≡ t ∷ []) }
+{
+    let mut tables = IndexSet::new(alloc);
+    tables.insert(t)?;
+    Ok(tables)
 }
 
 // Puts tables among the free ones.

@@ -1,11 +1,11 @@
 // A board, and the leases on its open tables.
-ghost use Rattle.std.specs.Prelude.{◌≡◌, ◌==◌, IfOk, OnOk, OnErr};
+ghost use Rattle.std.specs.Prelude.{◌≡◌, ◌==◌, IfOk, OnOk, OnErr, max, true};
 
 use crate::board_calls::{has_open, open_tables};
 use crate::children::free_children;
 use crate::first_free::{first_free, lease_of};
 use crate::free_tables::FreeTables;
-use crate::held_leases::HeldLease;
+use crate::held_leases::{HeldLease, only};
 use crate::limits::{MAX_CHILDREN, may_grant};
 use crate::live_leases::LiveLeases;
 use crate::reply::Reply;
@@ -51,7 +51,7 @@ impl LeasedBoard {
     ghost use Rattle.cert.specs.Kinds.{recorded};
     ghost use Rattle.leases.specs.Offers.{BoardGives, LeasesAfter};
     ghost use Rattle.leases.specs.Asks.{Asks};
-    ghost use Rattle.leases.specs.Leases.{AreLeases, no_leases, lease_of, ended, ticked, IsDone};
+    ghost use Rattle.leases.specs.Leases.{AreLeases, SomeEnds, no_leases, is_live, lease_of, ended, ticked, IsDone};
 
     /// A board without leases, at the moment 0. `NoMemory` where there is no room for its open tables.
     pub fn new(alloc: Global, board: Board) -> Result<LeasedBoard, NoMemory>
@@ -78,11 +78,11 @@ impl LeasedBoard {
     }
 
     /// A tick: the moment becomes the greater of itself and `t`, and each lease whose deadline is at most
-    /// the moment ends. Where memory was refused, nothing has changed.
+    /// the moment ends. Memory is refused only where a lease ends, and then nothing has changed.
     pub fn tick(&mut self, t: u64) -> Result<(), NoMemory>
         ensures board { self.new.board ≡ self.old.board }
         ensures ok { OnOk result (self.new.leases ≡ ticked t self.old.leases) }
-        ensures err { OnErr result (self.new.leases ≡ self.old.leases) }
+        ensures err { OnErr result (SomeEnds (max self.old.leases.moment t) self.old.leases.live × (self.new.leases ≡ self.old.leases)) }
     {
         let moment = self.moment.max(t);
         let numbers = self.live.due(self.alloc, moment)?;
@@ -92,12 +92,12 @@ impl LeasedBoard {
         Ok(())
     }
 
-    /// Ends the lease of a number, and answers whether it lived. Where memory was refused, nothing has
-    /// changed.
+    /// Ends the lease of a number, and answers whether it lived. Memory is refused only where it lived, and
+    /// then nothing has changed.
     pub fn done(&mut self, number: u64) -> Result<bool, NoMemory>
         ensures board { self.new.board ≡ self.old.board }
         ensures ok { IfOk result (λ lived. IsDone number self.old.leases lived self.new.leases) }
-        ensures err { OnErr result (self.new.leases ≡ self.old.leases) }
+        ensures err { OnErr result ((is_live self.old.leases.live number ≡ true) × (self.new.leases ≡ self.old.leases)) }
     {
         let lived = self.live.lives(number);
         self.end(number)?;
@@ -108,7 +108,7 @@ impl LeasedBoard {
     fn end(&mut self, number: u64) -> Result<(), NoMemory>
         ensures board { self.new.board ≡ self.old.board }
         ensures ok { OnOk result (self.new.leases ≡ ended (λ l. l.number == number) self.old.leases) }
-        ensures err { OnErr result (self.new.leases ≡ self.old.leases) }
+        ensures err { OnErr result ((is_live self.old.leases.live number ≡ true) × (self.new.leases ≡ self.old.leases)) }
     {
         self.live.offer_tables(Some(number), &mut self.free)?;
         self.live.end(Some(number));
@@ -143,8 +143,7 @@ impl LeasedBoard {
         ) {
             Some(table) => {
                 let lease = self.given + 1;
-                let mut tables = Vec::with_capacity(self.alloc, 1)?;
-                tables.push_reserved(table);
+                let tables = only(self.alloc, table)?;
                 self.came_under.reserve(1)?;
                 let new = HeldLease {
                     id,
@@ -156,6 +155,7 @@ impl LeasedBoard {
                     Ok(_) => {}
                     Err(_) => unreachable!(),
                 }
+                self.free.drop_first(&table);
                 self.given = lease;
                 Ok(Reply::Grant { lease, table })
             }

@@ -1,11 +1,11 @@
 // The live leases, each found by its number and by its worker.
-ghost use Rattle.std.specs.Prelude.{◌≡◌, ◌<◌, ◌≤◌, ◌∷◌, ◌++◌, [], All, Contains, IfOk, OnOk, OnErr, true, map, length};
+ghost use Rattle.std.specs.Prelude.{◌≡◌, ◌<◌, ◌≤◌, ◌∷◌, ◌++◌, [], All, Contains, IfOk, IfSome, OnOk, OnErr, true, map, length};
 ghost use Rattle.std.specs.Prelude.{ℕ, None, cond};
 ghost use Rattle.std.specs.Ordering.{nat_cmp};
 ghost use Rattle.std.specs.BTreeMap.{get as lease_at, IsOrdered};
 ghost use Rattle.machine_text.specs.Packed.{Packed};
 ghost use Rattle.indexmap.specs.IndexMap.{spare};
-ghost use Rattle.leases.specs.Leases.{is_live};
+ghost use Rattle.leases.specs.Leases.{SomeEnds, is_live};
 ghost use Rattle.leases.specs.Limits.{child_limit};
 ghost use Rattle.leases.specs.Inside.Keeping.{Kept, kept, held, is_numbered, without, are_numbered, without_each, AreDue, AreOffered, IsOwn};
 ghost use Rattle.leases.specs.Inside.Children.{Renews, RenewsOne, HasRoom, shown};
@@ -92,10 +92,11 @@ impl LiveLeases {
         self.of_worker.get(&id).copied()
     }
 
-    // The numbers of the leases that have ended by a moment.
+    // The numbers of the leases that have ended by a moment. Memory is refused only where there is one.
     pub fn due(&mut self, alloc: Global, moment: u64) -> Result<Vec<u64>, NoMemory>
         ensures same { self.new ≡ self.old }
         ensures ok { IfOk result (λ numbers. AreDue moment (map held self.old) numbers.items) }
+        ensures err { OnErr result (SomeEnds moment (map held self.old)) }
     {
         let mut numbers = Vec::new(alloc);
         let all = take_ended(&mut self.deadlines, &self.leases, &mut numbers, moment);
@@ -105,16 +106,17 @@ impl LiveLeases {
         Ok(numbers)
     }
 
-    // Puts the tables of a lease among the free ones.
+    // Puts the tables of a lease among the free ones. Memory is refused only where it lives.
     pub fn offer_tables(&self, which: Option<u64>, free: &mut FreeTables) -> Result<(), NoMemory>
         ensures more { (q : Packed) → Contains free.old.tables q → Contains free.new.tables q }
         ensures ok { OnOk result (AreOffered (λ l. is_numbered which l.number) self.now free.new.tables) }
+        ensures err { OnErr result (IfSome which (λ n. is_live (map held self.now) n ≡ true)) }
     {
         let Some(number) = which else {
             return Ok(());
         };
         match self.leases.get(&number) {
-            Some(lease) => offer_all(free, &lease.tables),
+            Some(lease) => offer_all(free, lease.tables.as_slice()),
             None => Ok(()),
         }
     }
@@ -131,10 +133,11 @@ impl LiveLeases {
         }
     }
 
-    // Puts the tables of leases among the free ones.
+    // Puts the tables of leases among the free ones. Memory is refused only where one of them lives.
     pub fn offer_each(&self, numbers: &[u64], free: &mut FreeTables) -> Result<(), NoMemory>
         ensures more { (q : Packed) → Contains free.old.tables q → Contains free.new.tables q }
         ensures ok { OnOk result (AreOffered (λ l. are_numbered numbers.now l.number) self.now free.new.tables) }
+        ensures err { OnErr result ((n : ℕ) × Contains numbers.now n × (is_live (map held self.now) n ≡ true)) }
     {
         for number in numbers {
             self.offer_tables(Some(*number), free)?;
@@ -189,7 +192,7 @@ impl LiveLeases {
         lease.tables.reserve(MAX_CHILDREN)
     }
 
-    // Renews a lease, and puts the open children of a table under it. There is room for them.
+    // Renews a lease, and puts the open children of a table under it in its place. There is room for them.
     pub fn renew(
         &mut self,
         number: u64,
@@ -237,5 +240,6 @@ fn renew_lease(
     ensures { Renews board.now t.now moment (kept (number, lease.old)) (kept (number, lease.new)) came.old.entries came.new.entries }
 {
     lease.renewed = moment;
+    lease.tables.swap_remove(t);
     lease_children(came, &mut lease.tables, board, number, t);
 }

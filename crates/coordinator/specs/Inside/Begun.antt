@@ -4,18 +4,14 @@ use Rattle.machine_text.specs.Packed.{empty_table}
 use Rattle.ledger.specs.Contents.{IsBoard}
 use Rattle.ledger.specs.LedgerText.{LoadGives}
 use Rattle.ledger.specs.declared.left.Left.{Left}
-use Rattle.ledger.specs.declared.faults.LoadFault.TheVariants.{BadHeader as BadLedgerHeader, WrongRoot as OtherRoot}
 use Rattle.wire.specs.declared.node.Out.{Out}
 use Rattle.leases.specs.Leases.{Leased, no_leases}
-use Rattle.coordinator.specs.Starts.{Begins}
+use Rattle.coordinator.specs.Starts.{Begins, IsNoStart}
 use Rattle.roles.specs.declared.start_fault.StartFault.{StartFault}
-use Rattle.roles.specs.declared.start_fault.StartFault.TheVariants.{BadHeader, WrongRoot, NoMemory}
 
 abbrev pub IsBegun : ℕ → List ℕ → Result (Leased × Out) StartFault → Type 0
 IsBegun n text (Ok begun) = (begun.0.leases ≡ no_leases) × ((left : Left) × LoadGives (empty_table n) text (Ok (begun.0.board, left)) × Begins (empty_table n) text left begun.1)
-IsBegun n text (Err BadHeader) = LoadGives (empty_table n) text (Err BadLedgerHeader)
-IsBegun n text (Err WrongRoot) = LoadGives (empty_table n) text (Err OtherRoot)
-IsBegun n text (Err NoMemory) = Unit {0}
+IsBegun n text (Err fault) = IsNoStart (empty_table n) text fault
 
 abbrev pub HoldsBoard : Option Leased → Type 0
 HoldsBoard None = Unit {0}

@@ -18,7 +18,7 @@ CameOnly b number old new listed =
 abbrev pub ComesUnder : List (Packed × ℕ) → Packed → ℕ → List (Packed × ℕ) → Type 0
 ComesUnder came t n next = (q : Packed) → came_under next q ≡ (if same_table t q then Some n else came_under came q)
 
--- a lease is renewed, and the children of a table come under it
+-- a lease is renewed, a table leaves it, and the children of that come under it
 pub record Renews (b : Contents) (t : Packed) (moment : ℕ) (old new : Kept) (came next : List (Packed × ℕ)) : Type 0 where
   pub number : new.number ≡ old.number
   pub id : new.id ≡ old.id
@@ -26,7 +26,7 @@ pub record Renews (b : Contents) (t : Packed) (moment : ℕ) (old new : Kept) (c
   pub here : (q : Packed) → IsChildTable t q → IsHalting b.records t → IsOpenOn b q → came_under next q ≡ Some old.number
   pub other : (q : Packed) → (IsChildTable t q → ⊥) → came_under next q ≡ came_under came q
   pub only : CameOnly b old.number came next new.tables
-  pub more : (q : Packed) → Contains old.tables q → Contains new.tables q
+  pub more : (q : Packed) → Contains old.tables q → (q ≡ t → ⊥) → Contains new.tables q
 
 -- the lease of a number is renewed so, and the others stay
 abbrev pub RenewsOne : Contents → Packed → ℕ → ℕ → List Kept → List Kept → List (Packed × ℕ) → List (Packed × ℕ) → Type 0

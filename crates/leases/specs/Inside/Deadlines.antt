@@ -45,6 +45,10 @@ AreAwaitedBut entries numbers lease_at = (n : ℕ) (l : HeldLease) → lease_at 
 abbrev pub HaveEnded : ℕ → List ℕ → (ℕ → Option HeldLease) → Type 0
 HaveEnded moment numbers lease_at = (n : ℕ) → Contains numbers n → (l : HeldLease) × (lease_at n ≡ Some l) × (is_past moment l.renewed ≡ true)
 
+-- some lease has ended by a moment
+abbrev pub SomePast : ℕ → (ℕ → Option HeldLease) → Type 0
+SomePast moment lease_at = (n : ℕ) × (l : HeldLease) × (lease_at n ≡ Some l) × (is_past moment l.renewed ≡ true)
+
 -- no lease was given or renewed after a moment
 abbrev pub AreNotAhead : ℕ → List Kept → Type 0
 AreNotAhead moment leases = (l : Kept) → Contains leases l → l.renewed ≤ moment

@@ -1,14 +1,15 @@
 -- For the code: how leases are kept, and as what they are seen.
-use Rattle.std.specs.Prelude.{◌≡◌, ℕ, ◌+◌, ◌-◌, ◌==◌, ◌↔◌, Bool, true, false, not, nat_le, List, Contains, Option, Some, None, IfSome, map, filter, vec_len, vec_capacity}
+use Rattle.std.specs.Prelude.{◌≡◌, ℕ, ◌+◌, ◌==◌, ◌↔◌, Bool, true, false, not, nat_le, List, Contains, Option, Some, None, IfSome, map, filter}
 use Rattle.std.specs.List.{list_any}
+use Rattle.indexmap.specs.IndexSet.{spare}
 use Rattle.machine_text.specs.Packed.{Packed}
 use Rattle.ledger.specs.Contents.{Contents, IsOpenOn}
 use Rattle.leases.specs.Limits.{lease_time}
 use Rattle.leases.specs.Leases.{Lease, Leases, came_under, is_live, while_live}
 use Rattle.leases.specs.declared.held_leases.HeldLease.{HeldLease}
 
--- a live lease as it is kept: its number, its worker, when it was given or renewed, the tables that came under it, of which some may be
--- recorded by now, and for how many more tables there is room
+-- a live lease as it is kept: its number, its worker, when it was given or renewed, the open tables that are under it, and for how
+-- many more there is room
 pub record Kept : Type 0 where
   pub number : ℕ
   pub id : ℕ
@@ -17,7 +18,7 @@ pub record Kept : Type 0 where
   pub room : ℕ
 
 abbrev pub kept : ℕ × HeldLease → Kept
-kept e = record { number = e.0; id = e.1.id; renewed = e.1.renewed; tables = e.1.tables.items; room = vec_capacity e.1.tables - vec_len e.1.tables }
+kept e = record { number = e.0; id = e.1.id; renewed = e.1.renewed; tables = e.1.tables.keys; room = spare e.1.tables }
 
 -- a lease as it is seen: the code keeps when it was given or renewed, since a deadline may be greater than its numbers
 abbrev pub held : Kept → Lease

@@ -1,5 +1,4 @@
-use Rattle.std.proofs.Common.{◌≡◌, ◌⊎◌, true, false, inl, inr, refl, sym, ◌∙◌, ap, subst, List, [], ◌∷◌, ◌++◌, Some, length, Contains, arith}
-use Rattle.std.proofs.lemmas.List.Elements.{Contains-append_left, Contains-push}
+use Rattle.std.proofs.Common.{◌≡◌, ◌⊎◌, true, false, inl, inr, refl, sym, ◌∙◌, ap, subst, List, ◌∷◌, Some, length, Contains, arith}
 use Rattle.machine_text.specs.Packed.{Packed}
 use Rattle.ledger.specs.Records.{same_table}
 use Rattle.ledger.proofs.Apart.{first_or_later, first_member, later_member}
@@ -22,9 +21,8 @@ loop-child-preserved-then-is_open c =
     let update : ComesUnder came child n next = c.lease_one.ensures.came in
     let steps : c.loop-child.child-iterator ≡ child ∷ rest = c.in-Some.ensures.steps in
     let fewer = ap length steps in
-    let spares = c.lease_one.ensures.spare in
-    let len = c.lease_one.ensures.len in
-    let capacity = c.lease_one.ensures.capacity in
+    let came_spare = c.lease_one.ensures.came_spare in
+    let tables_spare = c.lease_one.ensures.tables_spare in
     let came_room = inv.came_room in
     let tables_room = inv.tables_room in
     record {
@@ -48,14 +46,14 @@ loop-child-preserved-then-is_open c =
         | inl this ↦ inr (
           sym this.1,
           subst (IsOpenOn b) this.0 (c.is_open.ensures.0 c.if-is_open.true),
-          subst (λ (l : List Packed). Contains l q) (sym c.lease_one.ensures.tables) (subst (Contains (c.loop-child.tables.items ++ (child ∷ []))) this.0 (Contains-push c.loop-child.tables.items child)),
+          subst (Contains c.lease_one.new.tables.keys) this.0 c.lease_one.ensures.tables.here,
         )
         | inr before ↦ elim (inv.only q k before.1) [
           | inl was ↦ inl was
-          | inr now ↦ inr (now.0, now.1, subst (λ (l : List Packed). Contains l q) (sym c.lease_one.ensures.tables) (Contains-append_left c.loop-child.tables.items (child ∷ []) q now.2))
+          | inr now ↦ inr (now.0, now.1, c.lease_one.ensures.tables.others q now.2)
         ]
       ];
-      more = λ q h. subst (λ (l : List Packed). Contains l q) (sym c.lease_one.ensures.tables) (Contains-append_left c.loop-child.tables.items (child ∷ []) q (inv.more q h));
+      more = λ q h. c.lease_one.ensures.tables.others q (inv.more q h);
     }
 
 pub loop-child-preserved : goal.loop-child-preserved

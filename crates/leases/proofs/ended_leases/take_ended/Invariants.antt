@@ -1,4 +1,4 @@
-use Rattle.std.proofs.Common.{◌+◌, ◌≤◌, length, vec_len, vec_capacity}
+use Rattle.std.proofs.Common.{◌≤◌, length}
 use Rattle.std.specs.Ordering.{nat_cmp}
 use Rattle.std.specs.BTreeMap.{get as lease_at}
 use Rattle.leases.specs.Inside.Deadlines.{AreAwaitedBut, HaveEnded}
@@ -10,7 +10,6 @@ invariant-loop-number l = record {
   awaited : AreAwaitedBut l.deadlines.entries l.numbers.items (lease_at nat_cmp l.leases);
   only : HaveEnded l.moment l.numbers.items (lease_at nat_cmp l.leases);
   room : length l.numbers.items ≤ l.deadlines.room;
-  spare : vec_len l.numbers + 1 ≤ vec_capacity l.numbers;
 }
 
 abbrev pub decreases-loop-number : goal.decreases-loop-number

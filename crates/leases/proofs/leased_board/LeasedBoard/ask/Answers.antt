@@ -1,4 +1,4 @@
-use Rattle.std.proofs.Common.{◌≡◌, ℕ, ◌+◌, ◌<◌, ◌++◌, ◌∷◌, [], not, nat_eq, refl, sym, ◌∙◌, ap, subst, List, map, filter, length, Contains}
+use Rattle.std.proofs.Common.{◌≡◌, ℕ, ◌+◌, ◌<◌, ◌∷◌, [], not, nat_eq, refl, sym, ◌∙◌, ap, subst, List, map, filter, length, Contains}
 use Rattle.std.proofs.lemmas.List.{length-map}
 use Rattle.machine_text.specs.Packed.{Packed}
 use Rattle.ledger.specs.Records.{same_table}
@@ -118,19 +118,19 @@ invariant_of-self-in-Some c =
     let t = c.in-Some.table in
     let came = c.reserve.new.self.entries in
     let next = c.insert.new.self.entries in
-    let rest = c.first_free.new.free.tables in
-    let l : Kept = kept (given + 1, record { id = c.args.id; renewed = moment; tables = c.push_reserved.new.self }) in
+    let rest = c.drop_first.new.self.tables in
+    let l : Kept = kept (given + 1, record { id = c.args.id; renewed = moment; tables = c.in_ok-tables-in-Some.tables }) in
     let same_came : came ≡ before = c.in_ok-reserve-in-Some.ensures.entries in
     let update : ComesUnder came t (given + 1) next = λ q. c.in-Ok.ensures.updates.0 q in
     let count : length (map held kept_ones) ≡ c.len_without.result = length-map kept_ones held ∙ sym c.len_without.ensures in
     let may = c.may_grant.ensures.0 c.if-not-may_grant.false in
     let holds = own_ended b c.args.id own ls kept_ones before came free more moment given is refl same_came offered.more offered.ok c.self.invariant.0 in
     let ended : map held kept_ones ≡ filter (λ x. not (nat_eq x.id c.args.id)) (map held ls) = ap (map held) (own_ends c.args.id own ls kept_ones is refl) ∙ filter_held (λ (x : Lease). nat_eq x.id c.args.id) ls in
-    let tables : l.tables ≡ t ∷ [] = c.push_reserved.ensures.items ∙ ap (λ (ts : List Packed). ts ++ (t ∷ [])) c.in_ok-tables-in-Some.ensures.items in
-    let left = subst (λ (came : List (Packed × ℕ)). (q : Packed) → IsFree b (seen kept_ones came 0 0) q → Contains rest q) (sym same_came) c.first_free.ensures.kept in (
+    let tables : l.tables ≡ t ∷ [] = c.in_ok-tables-in-Some.ensures in
+    let left = subst (λ (came : List (Packed × ℕ)). (q : Packed) → IsFree b (seen kept_ones came 0 0) q → Contains c.first_free.new.free.tables q) (sym same_came) c.first_free.ensures.kept in (
       subst (λ (items : List Kept). AreLeases b (seen items next moment (given + 1)) × IsKept b items next rest) (sym c.in_ok-replace-in-Some.ensures.ok) (
         granted_leases b kept_ones came next moment given l t (map held ls) holds.0 ended (subst (λ n. n < 4096) (sym count) may.0) refl c.in-Some.ensures.first.0.0 update,
-        granted_kept b kept_ones came next moment given l t more rest holds.0 holds.1 refl tables update (λ q free other. left q free),
+        granted_kept b kept_ones came next moment given l t more rest holds.0 holds.1 refl tables update (λ q free other. c.drop_first.ensures q (left q free) other),
       ),
       granted_not_ahead own moment ls c.replace.new.self l c.in_ok-replace-in-Some.ensures.ok refl c.self.invariant.1,
     )
@@ -170,7 +170,7 @@ returns-in-Ok-clause-ok c =
     let came = c.reserve.new.self.entries in
     let next = c.insert.new.self.entries in
     let rest = c.first_free.new.free.tables in
-    let l : Kept = kept (given + 1, record { id = c.args.id; renewed = moment; tables = c.push_reserved.new.self }) in
+    let l : Kept = kept (given + 1, record { id = c.args.id; renewed = moment; tables = c.in_ok-tables-in-Some.tables }) in
     let same_came : came ≡ before = c.in_ok-reserve-in-Some.ensures.entries in
     let update : ComesUnder came t (given + 1) next = λ q. c.in-Ok.ensures.updates.0 q in
     let count : length (map held kept_ones) ≡ c.len_without.result = length-map kept_ones held ∙ sym c.len_without.ensures in

@@ -1,9 +1,10 @@
-use Rattle.std.proofs.Common.{◌≡◌, ℕ, sym, not, refl, ◌∙◌, ap, subst, List, map, filter}
-use Rattle.leases.specs.Leases.{Leased, AreLeases, ended}
+use Rattle.std.proofs.Common.{◌≡◌, ℕ, sym, not, refl, ◌∙◌, ap, subst, true, List, map, filter, Contains}
+use Rattle.std.proofs.lemmas.Result.{err_from_is_err_and}
+use Rattle.leases.specs.Leases.{Leased, AreLeases, SomeEnds, ended, is_live}
 use Rattle.leases.specs.Inside.Keeping.{Kept, held, seen, has_ended, are_numbered, without_each, AreDue, AreOffered, IsKept}
 use Rattle.leases.specs.Inside.Deadlines.{AreNotAhead}
 use Rattle.leases.proofs.Asking.{at_moment}
-use Rattle.leases.proofs.Due.{ended_each, due_offered}
+use Rattle.leases.proofs.Due.{ended_each, due_offered, number_ends}
 use Rattle.leases.proofs.Ending.{seen_ended, ended_holds}
 use Rattle.leases.proofs.DeadlineLaws.{fewer_not_ahead, later_not_ahead}
 use Rattle.leases.proofs.leased_board.LeasedBoard.tick.Goals as goal
@@ -54,3 +55,16 @@ returns-clause-ok c =
     let is : c.end_each.new.self ≡ filter (λ l. not (has_ended now (held l))) ls = c.end_each.ensures ∙ (ap (λ xs. without_each c.deref-2.result.now xs) c.due.ensures.same ∙ (ap (λ ns. without_each ns ls) c.deref-2.ensures.value ∙ ended_each now numbers ls due)) in
     rw (← ap (λ (s : Leased). s.leases) c.self.view_is)
     (seen_ended (has_ended now) ls c.end_each.new.self came now given is ∙ ap (λ m. ended (has_ended m) (seen ls came m given)) c.max-moment.ensures)
+
+pub returns-in_err-offer_each-clause-err : goal.returns-in_err-offer_each-clause-err
+returns-in_err-offer_each-clause-err c =
+    let p = err_from_is_err_and c.from_residual-in_err-offer_each.result c.from_residual-in_err-offer_each.ensures.1 in
+    let ls = c.self.inside.live in
+    let numbers = c.in_ok-numbers.numbers.items in
+    let late = c.in_err-offer_each.ensures.err in
+    let some = number_ends c.max-moment.result ls numbers late.0 c.in_ok-numbers.ensures.ok (subst (λ (ns : List ℕ). Contains ns late.0) c.deref.ensures.value late.1)
+    (subst (λ (xs : List Kept). is_live (map held xs) late.0 ≡ true) c.due.ensures.same late.2) in
+    rw p.1 (rw (← ap (λ (s : Leased). s.leases) c.self.view_is) (
+      subst (λ (m : ℕ). SomeEnds m (map held ls)) c.max-moment.ensures some,
+      ap (λ (xs : List Kept). seen xs c.self.inside.came_under.entries c.self.inside.moment c.self.inside.given) c.due.ensures.same,
+    ))

@@ -42,7 +42,7 @@ returns-clause-shown c =
     let place = set_place n v w es (sym c.get_mut.ensures.value ∙ ap option_copied_mut c.in-Some.is) in
     let writes = c.get_mut.follows.holds w in
     ap (map shown) (ap (map kept) writes.0 ∙ place.3)
-    ∙ (map-set_same shown (map kept es) place.0 (kept (n, w)) (kept (n, w)) (ap (λ (ts : List Packed). (held (kept (n, v)), ts)) c.reserve.ensures.items ∙ ap shown (sym place.2)) ∙ ap (map shown) c.self.view_is)
+    ∙ (map-set_same shown (map kept es) place.0 (kept (n, w)) (kept (n, w)) (ap (λ (ts : List Packed). (held (kept (n, v)), ts)) c.reserve.ensures.keys ∙ ap shown (sym place.2)) ∙ ap (map shown) c.self.view_is)
 
 pub returns-clause-ok : goal.returns-clause-ok
 returns-clause-ok c =
@@ -51,4 +51,4 @@ returns-clause-ok c =
     let w : HeldLease = record { id = v.id; renewed = v.renewed; tables = c.reserve.new.self } in
     let found = sym c.get_mut.ensures.value ∙ ap option_copied_mut c.in-Some.is in
     let writes = c.get_mut.follows.holds w in
-    if_ok c.reserve.result (λ room. room_one n w (c.get_mut.follows.lender w) writes.4 (writes.3 (subst IsSome (sym found) refl)).1 (omega (arith, room))) c.reserve.ensures.ok
+    if_ok c.reserve.result (λ room. room_one n w (c.get_mut.follows.lender w) writes.4 (writes.3 (subst IsSome (sym found) refl)).1 room) c.reserve.ensures.ok

@@ -113,21 +113,27 @@ pub trait Decider {
 /// Finders in the order in which they are asked, with the budget that each is given.
 #[derive(Drop)]
 pub struct Finders {
-    finders: Vec<Box<dyn Finder>>,
-    budget: u64,
+    /// The finders, the first of which is asked first.
+    pub finders: Vec<Box<dyn Finder>>,
+    /// For how many steps each is asked.
+    pub budget: u64,
 }
 
 impl Finders {
     /// These finders, with this budget in steps.
-    pub fn new(finders: Vec<Box<dyn Finder>>, budget: u64) -> Finders {
+    pub fn new(finders: Vec<Box<dyn Finder>>, budget: u64) -> Finders
+        ensures finders { result.finders ≡ finders }
+        ensures budget { result.budget ≡ budget }
+    {
         Finders { finders, budget }
     }
 }
 
 impl Decider for Finders {
-    ghost use Rattle.std.specs.Prelude.{⊤};
+    ghost use Rattle.cert.specs.Asking.{Answered};
 
-    ghost answers = { λ finders p r. ⊤ };
+    /// What comes of asking all of them in their order, each with the whole budget.
+    ghost answers = { λ asked p r. Answered (λ f claim. (Finder-box f).gives f.value p asked.budget claim) p asked.finders.items r.claim };
 
     fn decide(&mut self, alloc: Global, t: &Table) -> Result<OwnedRecord, NoMemory> {
         decide(alloc, &mut self.finders, t, self.budget)

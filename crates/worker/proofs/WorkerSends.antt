@@ -19,7 +19,7 @@ use Rattle.worker.specs.Limits.{tick_record_limit}
 use Rattle.worker.specs.WorkerState.{WorkerState, records_on, unacknowledged}
 use Rattle.worker.specs.WorkerRules.{GrantRow, AckRow, FrameRow, WorkRow, TickBy, Row, done_with}
 use Rattle.worker.specs.WorkerLaws.{SendsOwn, IsGained, Gains}
-use Rattle.worker.proofs.WorkerLaws.{Steps, steps_of}
+use Rattle.worker.proofs.WorkerLaws.{Steps, same_board, steps_of}
 
 no_member : {X : Type 0} {y : X} → Contains [] y → ⊥
 no_member (k, below, is) = omega arith
@@ -27,16 +27,16 @@ no_member (k, below, is) = omega arith
 none_sent : (out : Out) (board : Option Contents) → out.frames.items ≡ frames_of [] → SendsOwn out board
 none_sent out board is = ([], is, λ r there. absurd (no_member there))
 
-grant_sends : (old : WorkerState) (name : LeaseName) (t : Packed) (out : Out) (new : WorkerState) → GrantRow old name t out new → SendsOwn out new.board
+grant_sends : {D : Type 0} (old : WorkerState D) (name : LeaseName) (t : Packed) (out : Out) (new : WorkerState D) → GrantRow old name t out new → SendsOwn out new.board
 grant_sends old name t out new row = elim row [
   | inl refused ↦ none_sent out new.board refused.1.0.frames_are
   | inr others ↦ elim others [ inl same ↦ none_sent out new.board same.2.frames_are | inr begun ↦ none_sent out new.board begun.2.frames_are ]
 ]
 
-ack_sends : (old : WorkerState) (t : Packed) (out : Out) (new : WorkerState) → AckRow old t out new → SendsOwn out new.board
+ack_sends : {D : Type 0} (old : WorkerState D) (t : Packed) (out : Out) (new : WorkerState D) → AckRow old t out new → SendsOwn out new.board
 ack_sends old t out new row = elim row [ inl held ↦ none_sent out new.board held.1.frames_are | inr stale ↦ none_sent out new.board stale.1.0.frames_are ]
 
-frame_sends : (old : WorkerState) (m : Result Message MsgFault) (out : Out) (new : WorkerState) → FrameRow old m out new → SendsOwn out new.board
+frame_sends : {D : Type 0} (old : WorkerState D) (m : Result Message MsgFault) (out : Out) (new : WorkerState D) → FrameRow old m out new → SendsOwn out new.board
 frame_sends old (Ok (Grant era number t)) out new row = grant_sends old (record { era = era; number = number }) t out new row
 frame_sends old (Ok (Ack t)) out new row = ack_sends old t out new row
 frame_sends old (Ok (Later t)) out new row = none_sent out new.board row.0.frames_are
@@ -67,26 +67,26 @@ asks_only None id r there = ask_only id r there
 asks_only (Some name) id r there =
     elim (first_or_later (Done name.era name.number) (Ask id ∷ []) (Rec r) there) [ inl same ↦ cc | inr later ↦ ask_only id r later ]
 
-tick_sends : (old : WorkerState) (rests : Bool) (rs : List Recorded) (out : Out) (new : WorkerState)
+tick_sends : {D : Type 0} (old : WorkerState D) (rests : Bool) (rs : List Recorded) (out : Out) (new : WorkerState D)
     → ((r : Recorded) → Contains (map Rec (take tick_record_limit rs)) (Rec r) → Contains (records_on old.board) r) → TickBy rests rs old out new → SendsOwn out new.board
 tick_sends old true rs out new own row = none_sent out new.board row.0.frames_are
 tick_sends old false (q ∷ rs) out new own row = (
   map Rec (take tick_record_limit (q ∷ rs)),
   row.0.frames_are,
-  λ r there. subst (λ (w : WorkerState). Contains (records_on w.board) r) (sym row.1) (own r there),
+  λ r there. subst (λ (o : Option Contents). Contains (records_on o) r) (sym (same_board row.1)) (own r there),
 )
 tick_sends old false [] out new own row = elim row [
   | inl works ↦ none_sent out new.board works.1.0.frames_are
   | inr asks ↦ (done_with old.lease ++ (Ask old.id ∷ []), asks.1.frames_are, λ r there. absurd (asks_only old.lease old.id r there))
 ]
 
-work_sends : (old : WorkerState) (out : Out) (new : WorkerState) → WorkRow old out new → SendsOwn out new.board
-work_sends old out new row = elim row [
+work_sends : {D : Type 0} (asked : D → Packed → Recorded → Type 0) (old : WorkerState D) (out : Out) (new : WorkerState D) → WorkRow asked old out new → SendsOwn out new.board
+work_sends asked old out new row = elim row [
   | inl none ↦ none_sent out new.board none.1.0.frames_are
   | inr made ↦
       let b = made.0 in
       let r = made.1 in
-      let makes = made.3 in (
+      let makes = made.4 in (
         Rec r ∷ [],
         makes.says.frames_are,
         λ q there. subst (λ (o : Option Contents). Contains (records_on o) q) (sym makes.taken) (elim (first_or_later (Rec r) [] (Rec q) there) [
@@ -96,17 +96,17 @@ work_sends old out new row = elim row [
       )
 ]
 
-pub sends_own : (old new : WorkerState) (e : Happening) (out : Out) → Row old e out new → SendsOwn out new.board
-sends_own old new (Came frame) out row = frame_sends old (message_of frame) out new row
-sends_own old new (Ticked t) out row =
+pub sends_own : {D : Type 0} (asked : D → Packed → Recorded → Type 0) (old new : WorkerState D) (e : Happening) (out : Out) → Row asked old e out new → SendsOwn out new.board
+sends_own asked old new (Came frame) out row = frame_sends old (message_of frame) out new row
+sends_own asked old new (Ticked t) out row =
     tick_sends old old.rests (unacknowledged old.acknowledged (records_on old.board)) out new (due_own tick_record_limit old.acknowledged (records_on old.board)) row
-sends_own old new Worked out row = work_sends old out new row
+sends_own asked old new Worked out row = work_sends asked old out new row
 
 none_gained : (old new : Option Contents) → new ≡ old → IsGained old [] new
 none_gained None new is = (refl, is)
 none_gained (Some b) new is = is ∙ ap (λ (rs : List Recorded). Some (record { root = b.root; records = rs })) (sym (append-nil b.records))
 
-by_steps : (old : WorkerState) (out : Out) (new : WorkerState) → Steps old out new → Gains old.board out new.board
+by_steps : {D : Type 0} (old : WorkerState D) (out : Out) (new : WorkerState D) → Steps old out new → Gains old.board out new.board
 by_steps old out new steps = elim steps [
   | inl same ↦ inl ([], none_gained old.board new.board same.0, same.1, same.2)
   | inr others ↦ elim others [
@@ -117,5 +117,5 @@ by_steps old out new steps = elim steps [
   ]
 ]
 
-pub gains : (old new : WorkerState) (e : Happening) (out : Out) → Row old e out new → Gains old.board out new.board
-gains old new e out row = by_steps old out new (steps_of old e out new row)
+pub gains : {D : Type 0} (asked : D → Packed → Recorded → Type 0) (old new : WorkerState D) (e : Happening) (out : Out) → Row asked old e out new → Gains old.board out new.board
+gains asked old new e out row = by_steps old out new (steps_of asked old e out new row)

@@ -25,38 +25,6 @@ use Rattle.roles.specs.Says.{Says, lines_of}
 use Rattle.worker.specs.declared.lease_name.LeaseName.{LeaseName}
 use Rattle.worker.specs.WorkerState.{WorkerState, empty_board, with_record, HasRoot, IsRecordedOn, MayWork, records_on, with_table, unacknowledged}
 
--- it stays as it is, and only notes this
-abbrev pub Notes : Note → WorkerState → Out → WorkerState → Type 0
-Notes note old out new = Says out None [] [] note × (new ≡ old)
-
--- under a lease of this name, with this board: no record of it is acknowledged, and a former `STOP` is forgotten
-abbrev pub granted : WorkerState → LeaseName → Option Contents → WorkerState
-granted w name board = record { id = w.id; board = board; lease = Some name; acknowledged = []; rests = false; stopped = w.stopped }
-
--- `GRANT`: of a table that doesn't name its states in order; of the root of its board; of another table, whose board is begun
-abbrev pub GrantRow : WorkerState → LeaseName → Packed → Out → WorkerState → Type 0
-GrantRow old name t out new =
-    ((((u : ℕ) × InOrder u (entry_of t)) → ⊥) × Notes (Refused 401) old out new)
-    ⊎ (((u : ℕ) × InOrder u (entry_of t)) × HasRoot old.board t × Says out None [] [] Quiet × (new ≡ granted old name old.board))
-    ⊎ (IsBoard (empty_board t) × (HasRoot old.board t → ⊥) × Says out (Some 0) (ledger_text t []) [] Quiet × (new ≡ granted old name (Some (empty_board t))))
-
--- `ACK`: of a record of its board, which is acknowledged; of no such record
-abbrev pub AckRow : WorkerState → Packed → Out → WorkerState → Type 0
-AckRow old t out new =
-    (IsRecordedOn old.board t × Says out None [] [] Quiet × (new ≡ record old { acknowledged = with_table old.acknowledged t }))
-    ⊎ ((IsRecordedOn old.board t → ⊥) × Notes Stale old out new)
-
--- a frame, by the message that it is
-abbrev pub FrameRow : WorkerState → Result Message MsgFault → Out → WorkerState → Type 0
-FrameRow old (Ok (Grant era number t)) out new = GrantRow old (record { era = era; number = number }) t out new
-FrameRow old (Ok (Ack t)) out new = AckRow old t out new
-FrameRow old (Ok (Later t)) out new = Notes Quiet old out new
-FrameRow old (Ok Stop) out new = Says out None [] [] Quiet × (new ≡ record old { rests = true })
-FrameRow old (Ok (Ask id)) out new = Notes Strange old out new
-FrameRow old (Ok (Rec r)) out new = Notes Strange old out new
-FrameRow old (Ok (Done era number)) out new = Notes Strange old out new
-FrameRow old (Err f) out new = Notes Strange old out new
-
 -- the first open table, in the order of texts: each other one comes after it
 abbrev pub IsFirstOpen : Contents → Packed → Type 0
 IsFirstOpen b t = IsOpenOn b t × ((q : Packed) → IsOpenOn b q → (q ≡ t) ⊎ (slice_cmp nat_cmp (text_of t) (text_of q) ≡ Less))
@@ -70,35 +38,76 @@ pub record Makes (b : Contents) (r : Recorded) (out : Out) (board : Option Conte
   pub says : Says out None (lines_of (r ∷ [])) (Rec r ∷ []) Quiet
   pub taken : board ≡ Some (with_record b r)
 
--- a work turn: any record may be made that is certified
-abbrev pub WorkRow : WorkerState → Out → WorkerState → Type 0
-WorkRow old out new =
-    ((MayWork old.board → ⊥) × Notes Quiet old out new)
-    ⊎ ((b : Contents) × (r : Recorded) × (old.board ≡ Some b) × Makes b r out new.board × (new ≡ record old { board = new.board }))
-
 -- a lease that ends
 abbrev pub done_with : Option LeaseName → List Message
 done_with None = []
 done_with (Some name) = Done name.era name.number ∷ []
 
--- a tick, by whether it rests and by the records that aren't acknowledged
-abbrev pub TickBy : Bool → List Recorded → WorkerState → Out → WorkerState → Type 0
-TickBy true rs old out new = Notes Quiet old out new
-TickBy false (r ∷ rs) old out new = Says out None [] (map Rec (take tick_record_limit (r ∷ rs))) Quiet × (new ≡ old)
-TickBy false [] old out new =
-    (MayWork old.board × Notes Quiet old out new)
-    ⊎ ((MayWork old.board → ⊥) × Says out None [] (done_with old.lease ++ (Ask old.id ∷ [])) Quiet × (new ≡ record old { lease = None }))
+module _ {D : Type 0} where
+  -- it stays as it is, and only notes this
+  abbrev pub Notes : Note → WorkerState D → Out → WorkerState D → Type 0
+  Notes note old out new = Says out None [] [] note × (new ≡ old)
 
-abbrev pub TickRow : WorkerState → Out → WorkerState → Type 0
-TickRow old out new = TickBy old.rests (unacknowledged old.acknowledged (records_on old.board)) old out new
+  -- under a lease of this name, with this board: no record of it is acknowledged, and a former `STOP` is forgotten
+  abbrev pub granted : WorkerState D → LeaseName → Option Contents → WorkerState D
+  granted w name board = record { id = w.id; decider = w.decider; board = board; lease = Some name; acknowledged = []; rests = false; stopped = w.stopped }
 
-abbrev pub Row : WorkerState → Happening → Out → WorkerState → Type 0
-Row old (Came frame) out new = FrameRow old (message_of frame) out new
-Row old (Ticked t) out new = TickRow old out new
-Row old Worked out new = WorkRow old out new
+  -- `GRANT`: of a table that doesn't name its states in order; of the root of its board; of another table, whose board is begun
+  abbrev pub GrantRow : WorkerState D → LeaseName → Packed → Out → WorkerState D → Type 0
+  GrantRow old name t out new =
+      ((((u : ℕ) × InOrder u (entry_of t)) → ⊥) × Notes (Refused 401) old out new)
+      ⊎ (((u : ℕ) × InOrder u (entry_of t)) × HasRoot old.board t × Says out None [] [] Quiet × (new ≡ granted old name old.board))
+      ⊎ (IsBoard (empty_board t) × (HasRoot old.board t → ⊥) × Says out (Some 0) (ledger_text t []) [] Quiet × (new ≡ granted old name (Some (empty_board t))))
 
--- how a worker answers: `Stopped` where it is stopped; else by the row of what happens, unless memory is refused
-abbrev pub Answers : WorkerState → Happening → Result Out NodeFault → WorkerState → Type 0
-Answers old e (Ok out) new = (old.stopped ≡ false) × Row old e out new
-Answers old e (Err Stopped) new = (old.stopped ≡ true) × (new ≡ old)
-Answers old e (Err NoMemory) new = (old.stopped ≡ false) × (new ≡ old)
+  -- `ACK`: of a record of its board, which is acknowledged; of no such record
+  abbrev pub AckRow : WorkerState D → Packed → Out → WorkerState D → Type 0
+  AckRow old t out new =
+      (IsRecordedOn old.board t × Says out None [] [] Quiet × (new ≡ record old { acknowledged = with_table old.acknowledged t }))
+      ⊎ ((IsRecordedOn old.board t → ⊥) × Notes Stale old out new)
+
+  -- a frame, by the message that it is
+  abbrev pub FrameRow : WorkerState D → Result Message MsgFault → Out → WorkerState D → Type 0
+  FrameRow old (Ok (Grant era number t)) out new = GrantRow old (record { era = era; number = number }) t out new
+  FrameRow old (Ok (Ack t)) out new = AckRow old t out new
+  FrameRow old (Ok (Later t)) out new = Notes Quiet old out new
+  FrameRow old (Ok Stop) out new = Says out None [] [] Quiet × (new ≡ record old { rests = true })
+  FrameRow old (Ok (Ask id)) out new = Notes Strange old out new
+  FrameRow old (Ok (Rec r)) out new = Notes Strange old out new
+  FrameRow old (Ok (Done era number)) out new = Notes Strange old out new
+  FrameRow old (Err f) out new = Notes Strange old out new
+
+  -- a tick, by whether it rests and by the records that aren't acknowledged
+  abbrev pub TickBy : Bool → List Recorded → WorkerState D → Out → WorkerState D → Type 0
+  TickBy true rs old out new = Notes Quiet old out new
+  TickBy false (r ∷ rs) old out new = Says out None [] (map Rec (take tick_record_limit (r ∷ rs))) Quiet × (new ≡ old)
+  TickBy false [] old out new =
+      (MayWork old.board × Notes Quiet old out new)
+      ⊎ ((MayWork old.board → ⊥) × Says out None [] (done_with old.lease ++ (Ask old.id ∷ [])) Quiet × (new ≡ record old { lease = None }))
+
+  abbrev pub TickRow : WorkerState D → Out → WorkerState D → Type 0
+  TickRow old out new = TickBy old.rests (unacknowledged old.acknowledged (records_on old.board)) old out new
+
+  -- what is there after refused memory: all as it was, but that a work turn may have asked the decider
+  abbrev pub IsLeft : Happening → WorkerState D → WorkerState D → Type 0
+  IsLeft (Came frame) old new = new ≡ old
+  IsLeft (Ticked t) old new = new ≡ old
+  IsLeft Worked old new = new ≡ record old { decider = new.decider }
+
+-- by what a decider may answer for a table
+module _ {D : Type 0} (asked : D → Packed → Recorded → Type 0) where
+  -- a work turn: of the first open table the record is made that the decider answers; where none is to be made, it isn't asked
+  abbrev pub WorkRow : WorkerState D → Out → WorkerState D → Type 0
+  WorkRow old out new =
+      ((MayWork old.board → ⊥) × Notes Quiet old out new)
+      ⊎ ((b : Contents) × (r : Recorded) × (old.board ≡ Some b) × asked old.decider r.table r × Makes b r out new.board × (new ≡ record old { decider = new.decider; board = new.board }))
+
+  abbrev pub Row : WorkerState D → Happening → Out → WorkerState D → Type 0
+  Row old (Came frame) out new = FrameRow old (message_of frame) out new
+  Row old (Ticked t) out new = TickRow old out new
+  Row old Worked out new = WorkRow old out new
+
+  -- how a worker answers: `Stopped` where it is stopped; else by the row of what happens, unless memory is refused
+  abbrev pub Answers : WorkerState D → Happening → Result Out NodeFault → WorkerState D → Type 0
+  Answers old e (Ok out) new = (old.stopped ≡ false) × Row old e out new
+  Answers old e (Err Stopped) new = (old.stopped ≡ true) × (new ≡ old)
+  Answers old e (Err NoMemory) new = (old.stopped ≡ false) × IsLeft e old new

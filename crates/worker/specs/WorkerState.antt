@@ -10,8 +10,11 @@ use Rattle.ledger.specs.declared.left.Left.TheVariants.{Nothing}
 use Rattle.worker.specs.Limits.{work_record_limit}
 use Rattle.worker.specs.declared.lease_name.LeaseName.{LeaseName}
 
-pub record WorkerState : Type 0 where
+-- a worker, with a decider of any type
+pub record WorkerState (D : Type 0) : Type 0 where
   pub id : ℕ
+  -- what answers its tables
+  pub decider : D
   pub board : Option Contents
   -- the name of the lease under which it works
   pub lease : Option LeaseName
@@ -61,5 +64,5 @@ abbrev pub StandsFor : Option Contents → List ℕ → Type 0
 StandsFor None text = text ≡ []
 StandsFor (Some b) text = ReadsAs b.root text b.records Nothing
 
-abbrev pub IsInStep : WorkerState → List ℕ → Type 0
+abbrev pub IsInStep : {D : Type 0} → WorkerState D → List ℕ → Type 0
 IsInStep w text = StandsFor w.board text

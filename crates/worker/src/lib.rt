@@ -5,7 +5,6 @@
 //! bytes, `specs/WorkerLaws` what is true of all its answers.
 #![tactic(auto)]
 
-mod deciding;
 mod lease_name;
 mod limits;
 mod told;

@@ -1,13 +1,12 @@
 // Workers.
 ghost use Rattle.std.specs.Prelude.{◌≡◌, IfOk, OnErr, option_map};
 
-use crate::deciding::decided;
 use crate::lease_name::LeaseName;
 use crate::told::{Telling, told};
 use crate::worker_answers::{asking, frames_due, ledger_of};
 use crate::worker_start::loaded;
 use crate::worker_turns::{acknowledge, has_root, is_recorded, make, next_table};
-use cert::Finder;
+use cert::{Decider, Finder, Finders};
 use evidence::NoMemory;
 use indexmap::IndexSet;
 use ledger::{Board, BoardFault};
@@ -17,14 +16,13 @@ use std::alloc::{AllocError, Global};
 use std::marker::Model;
 use wire::{Event, Node, NodeFault, Note, Out};
 
-/// A node that gets tables from a coordinator, makes records of their trees, and hands them in. What it
-/// answers to each event, `specs/WorkerRules` says.
+/// A node that gets tables from a coordinator, makes the records of their trees that its decider answers, and
+/// hands them in. What it answers to each event, `specs/WorkerRules` says.
 #[derive(Drop)]
-pub struct Worker {
+pub struct Worker<D> {
     alloc: Global,
     id: u32,
-    finders: Vec<Box<dyn Finder>>,
-    budget: u64,
+    decider: D,
     board: Option<Board>,
     lease: Option<LeaseName>,
     acknowledged: IndexSet<Table>,
@@ -32,13 +30,14 @@ pub struct Worker {
     stopped: bool,
 }
 
-impl Model for Worker {
+impl<D> Model for Worker<D> {
     ghost use Rattle.worker.specs.WorkerState.{WorkerState};
 
-    ghost Value = { WorkerState };
+    ghost Value = { WorkerState D };
 
     ghost view = { λ a. record {
       id = a.id;
+      decider = a.decider;
       board = a.board;
       lease = a.lease;
       acknowledged = a.acknowledged.keys;
@@ -47,18 +46,10 @@ impl Model for Worker {
     } };
 }
 
-impl Worker {
+impl Worker<Finders> {
     ghost use Rattle.wire.specs.Carried.{text_after};
-    ghost use Rattle.wire.specs.Grammar.{message_of};
-    ghost use Rattle.wire.specs.Happening.{seen};
-    ghost use Rattle.worker.specs.WorkerState.{IsInStep, MayWork};
-    ghost use Rattle.worker.specs.WorkerStart.{Starts, at_first};
-    ghost use Rattle.worker.specs.WorkerRules.{Answers, FrameRow, GrantRow, AckRow, TickRow, WorkRow, granted};
-    ghost use Rattle.std.specs.Prelude.{None, IsTrue, ◌↔◌, false, map, take};
-    ghost use Rattle.wire.specs.Grammar.{frames_of};
-    ghost use Rattle.wire.specs.Message.{Rec};
-    ghost use Rattle.worker.specs.Limits.{tick_record_limit};
-    ghost use Rattle.worker.specs.WorkerState.{records_on, unacknowledged};
+    ghost use Rattle.worker.specs.WorkerState.{IsInStep};
+    ghost use Rattle.worker.specs.WorkerStart.{Starts};
 
     /// Starts a worker from the text of its ledger: with the board as which that reads, or without a board
     /// where it is empty or torn off within its header. What isn't kept of it is cut off.
@@ -72,11 +63,33 @@ impl Worker {
         ledger: &[u8],
         finders: Vec<Box<dyn Finder>>,
         budget: u64,
-    ) -> (Worker, Result<Out, StartFault>)
-        ensures starts { Starts id ledger.now result.0 result.1 }
+    ) -> (Worker<Finders>, Result<Out, StartFault>)
+        ensures starts { Starts id (record { finders = finders; budget = budget }) ledger.now result.0 result.1 }
         ensures step { IfOk result.1 (λ out. IsInStep result.0 (text_after out ledger.now)) }
     {
-        Worker::started(alloc, id, ledger, finders, budget)
+        // Not `Finders::new`: what is proved of a function that is given boxed finders and hands them to one of
+        // another crate would depend on the body of that.
+        Worker::over(alloc, id, ledger, Finders { finders, budget })
+    }
+}
+
+impl<D: Drop> Worker<D> {
+    ghost use Rattle.wire.specs.Carried.{text_after};
+    ghost use Rattle.worker.specs.WorkerState.{IsInStep};
+    ghost use Rattle.worker.specs.WorkerStart.{Starts, at_first};
+    ghost use Rattle.std.specs.Prelude.{None, false};
+
+    /// The same with any decider, which is asked for each record that it makes.
+    pub fn over(
+        alloc: Global,
+        id: u32,
+        ledger: &[u8],
+        decider: D,
+    ) -> (Worker<D>, Result<Out, StartFault>)
+        ensures starts { Starts id decider ledger.now result.0 result.1 }
+        ensures step { IfOk result.1 (λ out. IsInStep result.0 (text_after out ledger.now)) }
+    {
+        Worker::started(alloc, id, ledger, decider)
     }
 
     // The same; that its ledger is in step is shown of what this one promises.
@@ -84,12 +97,11 @@ impl Worker {
         alloc: Global,
         id: u32,
         ledger: &[u8],
-        finders: Vec<Box<dyn Finder>>,
-        budget: u64,
-    ) -> (Worker, Result<Out, StartFault>)
-        ensures { Starts id ledger.now result.0 result.1 }
+        decider: D,
+    ) -> (Worker<D>, Result<Out, StartFault>)
+        ensures { Starts id decider ledger.now result.0 result.1 }
     {
-        let mut worker = Worker::idle(alloc, id, finders, budget);
+        let mut worker = Worker::idle(alloc, id, decider);
         match loaded(alloc, ledger) {
             Ok((board, left)) => {
                 worker.board = board;
@@ -105,14 +117,13 @@ impl Worker {
     }
 
     // A worker without a board.
-    fn idle(alloc: Global, id: u32, finders: Vec<Box<dyn Finder>>, budget: u64) -> Worker
-        ensures { result ≡ at_first id None false }
+    fn idle(alloc: Global, id: u32, decider: D) -> Worker<D>
+        ensures { result ≡ at_first id decider None false }
     {
         Worker {
             alloc,
             id,
-            finders,
-            budget,
+            decider,
             board: None,
             lease: None,
             acknowledged: IndexSet::new(alloc),
@@ -127,6 +138,18 @@ impl Worker {
     {
         self.board.as_ref()
     }
+}
+
+impl<D: Decider + Drop> Worker<D> {
+    ghost use Rattle.wire.specs.Grammar.{message_of};
+    ghost use Rattle.wire.specs.Happening.{seen};
+    ghost use Rattle.worker.specs.WorkerState.{MayWork};
+    ghost use Rattle.worker.specs.WorkerRules.{Answers, FrameRow, GrantRow, AckRow, TickRow, WorkRow, granted};
+    ghost use Rattle.std.specs.Prelude.{IsTrue, ◌↔◌, map, take};
+    ghost use Rattle.wire.specs.Grammar.{frames_of};
+    ghost use Rattle.wire.specs.Message.{Rec};
+    ghost use Rattle.worker.specs.Limits.{tick_record_limit};
+    ghost use Rattle.worker.specs.WorkerState.{records_on, unacknowledged};
 
     // A frame came.
     fn on_frame(&mut self, frame: &[u8]) -> Result<Out, NoMemory>
@@ -234,8 +257,8 @@ impl Worker {
 
     // There is time to work.
     fn on_work(&mut self) -> Result<Out, NoMemory>
-        ensures ok { IfOk result (λ out. WorkRow self.old out self.new) }
-        ensures err { OnErr result (self.new ≡ self.old) }
+        ensures ok { IfOk result (λ out. WorkRow D.answers self.old out self.new) }
+        ensures err { OnErr result (self.new ≡ record self.old { decider = self.new.decider }) }
     {
         let Some(board) = &mut self.board else {
             return Ok(noted(self.alloc, Note::Quiet));
@@ -243,13 +266,13 @@ impl Worker {
         let Some(t) = next_table(board) else {
             return Ok(noted(self.alloc, Note::Quiet));
         };
-        let made = decided(self.alloc, &mut self.finders, &t, self.budget)?;
+        let made = self.decider.decide(self.alloc, &t)?;
         make(self.alloc, board, &made)
     }
 
     // Something happens.
     fn handle(&mut self, e: Event<'_>) -> Result<Out, NodeFault>
-        ensures { Answers self.old (seen e.entry) result self.new }
+        ensures { Answers D.answers self.old (seen e.entry) result self.new }
     {
         if self.stopped {
             return Err(NodeFault::Stopped);
@@ -262,7 +285,7 @@ impl Worker {
     }
 }
 
-impl Node for Worker {
+impl<D: Decider + Drop> Node for Worker<D> {
     ghost use Rattle.std.specs.Prelude.{◌≡◌, true};
     ghost use Rattle.worker.specs.WorkerState.{IsInStep};
     ghost use Rattle.worker.specs.WorkerRules.{Answers};
@@ -273,7 +296,7 @@ impl Node for Worker {
 
     ghost in_step = { IsInStep };
 
-    ghost answers = { Answers };
+    ghost answers = { Answers D.answers };
 
     ghost keeps_final = { λ old e new. (IsGrant e → ⊥) → KeepsComplete old.board new.board };
 

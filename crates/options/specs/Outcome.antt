@@ -1,5 +1,5 @@
 -- The exit status of each way in which a command ends.
-use Rattle.std.specs.Prelude.{ℕ}
+use Rattle.std.specs.Prelude.{ℕ, List, [], ◌∷◌, ◌++◌, codes}
 use Rattle.options.specs.declared.outcome.Outcome.{Outcome}
 use Rattle.options.specs.declared.outcome.Outcome.TheVariants.{Accepted, Refused, BadLine, NoMemory, Failed}
 use Rattle.options.specs.declared.ended.Ended.{Ended}
@@ -20,3 +20,16 @@ outcome_of Stream = Failed
 outcome_of Ledger = Failed
 outcome_of File = Failed
 outcome_of WantsMemory = NoMemory
+
+-- the line that says what ended it
+abbrev pub ended_line : Ended → List ℕ
+ended_line BadHeader = codes "refused 404"
+ended_line WrongRoot = codes "refused 405"
+ended_line Stream = codes "refused 603"
+ended_line Ledger = codes "refused 604"
+ended_line File = codes "refused 605"
+ended_line WantsMemory = codes "refused memory"
+
+-- with its newline
+abbrev pub ended_text : Ended → List ℕ
+ended_text e = ended_line e ++ 10 ∷ []

@@ -1,6 +1,7 @@
 // What ends a command before its work is done.
 ghost use Rattle.std.specs.Prelude.{◌≡◌, ◌⊎◌};
-ghost use Rattle.options.specs.Outcome.{outcome_of};
+ghost use Rattle.std.specs.Io.KnownBytes.{Appends};
+ghost use Rattle.options.specs.Outcome.{ended_text, outcome_of};
 
 use crate::outcome::Outcome;
 use std::alloc::AllocError as NoMemory;
@@ -25,7 +26,9 @@ pub enum Ended {
 
 impl Ended {
     // The line that says so, with its newline.
-    fn line(self) -> &'static [u8] {
+    fn line(self) -> &'static [u8]
+        ensures { result.now ≡ ended_text self }
+    {
         match self {
             Ended::BadHeader => b"refused 404\n",
             Ended::WrongRoot => b"refused 405\n",
@@ -63,9 +66,10 @@ impl Ended {
         }
     }
 
-    /// Says why a command ended; where that can't be said either, a stream has failed.
+    /// Says why a command ended, on a line; where that can't be said either, a stream has failed.
     pub fn told<E: Write>(self, faults: &mut E) -> Outcome
-        ensures { (result ≡ outcome_of self) ⊎ (result ≡ Outcome.Failed) }
+        ensures outcome { (result ≡ outcome_of self) ⊎ (result ≡ Outcome.Failed) }
+        ensures said { Appends (E.contents faults.old) (E.contents faults.new) (ended_text self) ⊎ (result ≡ Outcome.Failed) }
     {
         match faults.write_all(self.line()) {
             Ok(()) => self.outcome(),

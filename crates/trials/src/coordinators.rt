@@ -1,6 +1,6 @@
 // A coordinator's answers to frames and ticks, and what it makes of ledgers.
 use crate::nodes::{answers, handed};
-use crate::texts::assert_bytes;
+use crate::texts::{assert_bytes, table_of};
 use lease_core::{Coordinator, StartFault};
 use ledger::Status;
 use std::alloc::Global;
@@ -82,6 +82,46 @@ fn leases_end_with_their_deadline(rt: HostRuntime) {
             ("ASK 2", "", "STOP\n"),
         ],
     );
+}
+
+const SIX_STATES: &str = "------_------_------_------_------_------";
+
+// As large as tables and numbers get.
+#[test]
+fn the_largest_tables_and_numbers_are_answered(rt: HostRuntime) -> Result<(), Fail> {
+    let (mut node, first) = Coordinator::start(rt.alloc(), 6, u64::MAX, b"");
+    let header = first?.append;
+    assert!(rt; header.starts_with(b"bb-ledger 1 ") && header.len() == 54);
+    for (frame, note) in [
+        ("ASK 4294967295", Note::Quiet),
+        ("DONE 18446744073709551615 1", Note::Quiet),
+        (
+            "DONE 18446744073709551615 18446744073709551615",
+            Note::Stale,
+        ),
+        ("DONE 18446744073709551614 2", Note::Stale),
+        (
+            "REC ------_------_------_------_------ H 1",
+            Note::Refused(403),
+        ),
+        (
+            "REC ------_------_------_------_------_------ H 2",
+            Note::Refused(201),
+        ),
+        (
+            "REC ------_------_------_------_------_------ H 1",
+            Note::Quiet,
+        ),
+    ] {
+        let out = handed(&rt, &mut node, frame);
+        assert!(rt; out.note == note, "{frame}: {:?}", out.note);
+        assert!(rt; out.append.is_empty() || frame.ends_with("H 1"), "{frame}");
+    }
+    match node.board() {
+        Some(board) => assert!(rt; board.is_recorded(&table_of(&rt, SIX_STATES))),
+        None => panic!(rt; "no board"),
+    }
+    Ok(())
 }
 
 #[test]

@@ -4,16 +4,46 @@ use crate::texts::assert_bytes;
 use ledger_commands::{Host, cmd_merge};
 use options::{Merging, Outcome};
 use std::alloc::Global;
+use std::cell::Cell;
 use std::io;
 use std::process::Abort;
 use wire::{Fault, LedgerOut};
 
-// Two ledgers, `a` and `b`, and what is to be written to `out`.
+// Two ledgers, `a` and `b`, and what is to be written to `out`: in a file beside it where `out` is a plain file, and
+// else over it.
 #[derive(Drop)]
 struct Shelf {
     first: &'static [u8],
     second: &'static [u8],
     out: &'static [u8],
+    is_plain: bool,
+    // how many files were opened to be read
+    reads: Cell<u64>,
+    // whether the file beside `out` was put in its place
+    renamed: Cell<bool>,
+}
+
+impl Shelf {
+    fn new(
+        first: &'static [u8],
+        second: &'static [u8],
+        out: &'static [u8],
+        is_plain: bool,
+    ) -> Shelf {
+        Shelf {
+            first,
+            second,
+            out,
+            is_plain,
+            reads: Cell::new(0),
+            renamed: Cell::new(false),
+        }
+    }
+
+    // The path at which the joined ledger is written.
+    fn written_at(&self) -> &'static str {
+        if self.is_plain { "out.new" } else { "out" }
+    }
 }
 
 impl Host for Shelf {
@@ -25,6 +55,7 @@ impl Host for Shelf {
             "b" => self.second,
             _ => return Err(io::Error::from(io::ErrorKind::NotFound)),
         };
+        self.reads.set(self.reads.get().saturating_add(1));
         Ok(Source {
             left,
             at_once: 9,
@@ -38,8 +69,9 @@ impl Host for Shelf {
 
     type Ledger = Expecting;
 
+    // It opens once both ledgers were read.
     fn ledger(&self, path: &str) -> io::Result<Expecting> {
-        if path == "out" {
+        if path == self.written_at() && self.reads.get() >= 2 {
             Ok(Expecting {
                 text: self.out,
                 is_empty: false,
@@ -50,8 +82,16 @@ impl Host for Shelf {
         }
     }
 
-    fn old_ledger(&self, path: &str) -> io::Result<Expecting> {
-        self.ledger(path)
+    fn is_replaceable(&self, path: &str) -> bool {
+        self.is_plain && (path == "out" || path == "out.new")
+    }
+
+    fn rename(&self, from: &str, to: &str) -> io::Result<()> {
+        if from != "out.new" || to != "out" {
+            return Err(io::Error::from(io::ErrorKind::NotFound));
+        }
+        self.renamed.set(true);
+        Ok(())
     }
 }
 
@@ -98,18 +138,32 @@ impl LedgerOut for Expecting {
     }
 }
 
-// What is answered and said of two ledgers that make this one, and the outcome.
+// What is answered and said of two ledgers that make this one, and the outcome, whether it is written beside its
+// place or over what stands there.
 fn merged(
+    rt: &impl Abort,
+    alloc: Global,
+    ledgers: (&'static str, &'static str, &'static str),
+    end: (&str, &str, Outcome),
+) {
+    for is_plain in [true, false] {
+        merged_at(rt, alloc, ledgers, end, is_plain);
+    }
+}
+
+fn merged_at(
     rt: &impl Abort,
     alloc: Global,
     (first, second, out): (&'static str, &'static str, &'static str),
     (answers, faults, outcome): (&str, &str, Outcome),
+    is_plain: bool,
 ) {
-    let host = Shelf {
-        first: first.as_bytes(),
-        second: second.as_bytes(),
-        out: out.as_bytes(),
-    };
+    let host = Shelf::new(
+        first.as_bytes(),
+        second.as_bytes(),
+        out.as_bytes(),
+        is_plain,
+    );
     let mut said = Sink::new(alloc, usize::MAX, ALWAYS);
     let mut told = Sink::new(alloc, usize::MAX, ALWAYS);
     let merging = Merging {
@@ -121,6 +175,8 @@ fn merged(
     assert_bytes(rt, &said.kept, answers.as_bytes());
     assert_bytes(rt, &told.kept, faults.as_bytes());
     assert!(rt; ended == outcome);
+    // A plain file is put in its place once it is whole.
+    assert!(rt; host.renamed.get() == (is_plain && faults.is_empty()));
 }
 
 const X: &str = "bb-ledger 1 ------_------\n------_------ H 1\n0RB---_------ H 2\n";
@@ -209,11 +265,7 @@ fn faults_come_in_their_order(rt: HostRuntime) {
 #[test]
 fn absent_files_end_a_merge(rt: HostRuntime) {
     let alloc = rt.alloc();
-    let host = Shelf {
-        first: X.as_bytes(),
-        second: b"hello\n",
-        out: b"",
-    };
+    let host = Shelf::new(X.as_bytes(), b"hello\n", b"", true);
     for (first, second, out, faults) in [
         ("absent", "b", "out", "refused 605\n"),
         ("a", "absent", "out", "refused 605\n"),

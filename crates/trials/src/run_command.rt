@@ -2,7 +2,7 @@
 use crate::streams::{ALWAYS, Sink, file_of};
 use crate::texts::assert_bytes;
 use backward::BackwardFinder;
-use cert::Finder;
+use cert::{Finder, Finders};
 use far::FarFinder;
 use json_report::Form;
 use lease_core::Worker;
@@ -53,7 +53,7 @@ fn add_finders(alloc: Global, finders: &mut Vec<Box<dyn Finder>>) -> Result<(), 
     finders.push(Box::new(alloc, TranslatedFinder::new(alloc, STEPS))?)?;
     finders.push(Box::new(alloc, BackwardFinder::new(alloc, 20))?)?;
     finders.push(Box::new(alloc, NgramFinder::new(alloc, 3))?)?;
-    finders.push(Box::new(alloc, FarFinder::new(alloc, 2))?)?;
+    finders.push(Box::new(alloc, FarFinder::new(alloc, 3))?)?;
     Ok(())
 }
 
@@ -69,7 +69,7 @@ fn settling(states: u8, workers: u8, lose: Option<u64>, rounds: u64, progress: b
             steps: STEPS,
             depth: 20,
             gram: 3,
-            far: 2,
+            far: 3,
         },
         json: false,
         progress,
@@ -86,7 +86,7 @@ struct Ending {
 }
 
 // So many workers, with the ids from 1 on.
-fn workers_of(alloc: Global, count: u8) -> Result<Vec<Worker>, Fail> {
+fn workers_of(alloc: Global, count: u8) -> Result<Vec<Worker<Finders>>, Fail> {
     let mut workers = Vec::new(alloc);
     for id in 1..=count {
         workers.push(worker_of(alloc, id)?)?;
@@ -94,7 +94,7 @@ fn workers_of(alloc: Global, count: u8) -> Result<Vec<Worker>, Fail> {
     Ok(workers)
 }
 
-fn worker_of(alloc: Global, id: u8) -> Result<Worker, Fail> {
+fn worker_of(alloc: Global, id: u8) -> Result<Worker<Finders>, Fail> {
     let (worker, started) = Worker::start(alloc, u32::from(id), b"", finders_of(alloc)?, STEPS);
     started?;
     Ok(worker)
@@ -161,6 +161,24 @@ fn small_trees_are_settled(rt: HostRuntime) -> Result<(), Fail> {
         assert_bytes(&rt, &end.answers, report);
         assert!(rt; end.faults.is_empty() && end.outcome == Outcome::Accepted);
     }
+    Ok(())
+}
+
+// S(3) is 21, and one table in tree normal form has it (Radó and Lin 1965). The tree has thousands of tables: memory
+// is refused to none of them.
+#[test]
+fn three_states_are_settled(rt: HostRuntime) -> Result<(), Fail> {
+    let asked = settling(3, 2, None, 1_000_000, false);
+    let end = ended(&rt, rt.alloc(), &asked, b"", 0, ALWAYS)?;
+    assert!(rt;
+        end.answers
+            .starts_with(b"root ------_------_------\nstatus complete\nnodes ")
+    );
+    assert!(rt;
+        end.answers
+            .ends_with(b"\nbest 21\nchampion 1RB---_1LB0RC_1LC1LA\n")
+    );
+    assert!(rt; end.faults.is_empty() && end.outcome == Outcome::Accepted);
     Ok(())
 }
 

@@ -1,7 +1,7 @@
 // A worker's answers to frames, ticks and time to work.
 use crate::nodes::{answers, handed};
 use crate::texts::table_of;
-use cert::Finder;
+use cert::{Finder, Finders};
 use lease_core::{StartFault, Worker};
 use ledger::Board;
 use run::HaltFinder;
@@ -11,14 +11,17 @@ use std::test::Fail;
 use wire::{Event, Node, NodeFault, Note, Out};
 
 // A worker with the id 7, which looks for halting counts.
-fn started(alloc: Global, ledger: &[u8]) -> Result<(Worker, Result<Out, StartFault>), Fail> {
+fn started(
+    alloc: Global,
+    ledger: &[u8],
+) -> Result<(Worker<Finders>, Result<Out, StartFault>), Fail> {
     let mut finders: Vec<Box<dyn Finder>> = Vec::new(alloc);
     finders.push(Box::new(alloc, HaltFinder::new(alloc, 100))?)?;
     Ok(Worker::start(alloc, 7, ledger, finders, 100))
 }
 
 // The same, without a board.
-fn idle(rt: &impl Abort, alloc: Global) -> Result<Worker, Fail> {
+fn idle(rt: &impl Abort, alloc: Global) -> Result<Worker<Finders>, Fail> {
     let (worker, first) = started(alloc, b"")?;
     match first {
         Ok(out) => assert!(rt;
@@ -33,7 +36,7 @@ const CHILDREN: &str =
     "0LA---_1LA--- 0LB---_1LA--- 0RA---_1LA--- 0RB---_1LA--- 1LA---_1LA--- 1LB---_1LA--- 1RA---_1LA--- 1RB---_1LA---";
 
 // The same, with the tree of a table that has one entry, as lease 1 of era 1.
-fn granted(rt: &impl Abort, alloc: Global) -> Result<Worker, Fail> {
+fn granted(rt: &impl Abort, alloc: Global) -> Result<Worker<Finders>, Fail> {
     let mut worker = idle(rt, alloc)?;
     handed(rt, &mut worker, "GRANT 1 1 ------_1LA---");
     Ok(worker)
@@ -155,7 +158,7 @@ fn odd_frames_are_noted(rt: HostRuntime) -> Result<(), Fail> {
 }
 
 // A frame is noted so, and nothing is sent.
-fn is_noted(rt: &impl Abort, worker: &mut Worker, frame: &str, note: Note) {
+fn is_noted(rt: &impl Abort, worker: &mut Worker<Finders>, frame: &str, note: Note) {
     let out = handed(rt, worker, frame);
     assert!(rt; out.note == note && out.frames.is_empty(), "{frame}");
 }

@@ -10,20 +10,21 @@ use std::test::Fail;
 use std::time::{Clock, Duration};
 use wire::MemLedger;
 
-// A host with one file, which is a complete ledger.
+// A host with a complete ledger, `complete`, another that can't be written, `sealed`, and a file that is no ledger and
+// can't be written either, `damaged`.
 #[derive(Drop)]
-struct OneFile {
+struct Shelf {
     alloc: Global,
 }
 
-impl Host for OneFile {
+impl Host for Shelf {
     type File = Bytes;
 
     fn open(&self, path: &str) -> io::Result<Bytes> {
-        if path == "complete" {
-            Ok(Bytes { left: COMPLETE })
-        } else {
-            Err(io::Error::from(io::ErrorKind::NotFound))
+        match path {
+            "complete" | "sealed" => Ok(Bytes { left: COMPLETE }),
+            "damaged" => Ok(Bytes { left: b"hello\n" }),
+            _ => Err(io::Error::from(io::ErrorKind::NotFound)),
         }
     }
 
@@ -41,13 +42,17 @@ impl Host for OneFile {
         }
     }
 
-    fn old_ledger(&self, path: &str) -> io::Result<MemLedger> {
-        self.ledger(path)
+    fn is_replaceable(&self, _path: &str) -> bool {
+        false
+    }
+
+    fn rename(&self, _from: &str, _to: &str) -> io::Result<()> {
+        Err(io::Error::from(io::ErrorKind::Unsupported))
     }
 }
 
 // A clock that stands.
-impl Clock for OneFile {
+impl Clock for Shelf {
     fn monotonic(&self) -> io::Result<Duration> {
         Ok(Duration::ZERO)
     }
@@ -119,7 +124,7 @@ fn ended(alloc: Global, text: &str, fails: (bool, bool)) -> Result<(Outcome, boo
     let outcome = obey(
         alloc,
         Ok(line),
-        &OneFile { alloc },
+        &Shelf { alloc },
         &mut input,
         &mut answers,
         &mut faults,
@@ -133,14 +138,20 @@ const LINES: &str = "\
 0 out bb check
 1 out bb decide
 0 none bb coord 1 --ledger complete
+0 none bb coord 1 --ledger sealed
+1 err bb coord 1 --ledger damaged
 4 err bb coord 1 --ledger absent
 1 err bb coord 2 --ledger complete
 1 none bb coord 1
 0 out bb run 1
 1 out bb run 1 --rounds 1
 0 out bb run 1 --ledger complete --json
+0 out bb run 1 --ledger sealed
+1 err bb run 1 --ledger damaged
 4 err bb run 1 --ledger absent
 0 out bb retry complete
+0 out bb retry sealed
+1 err bb retry damaged
 4 err bb retry absent
 0 out bb merge complete complete complete
 4 err bb merge complete absent complete
@@ -360,7 +371,7 @@ fn lines_that_cant_be_read_end_early(rt: HostRuntime) {
         let ended = obey(
             rt.alloc(),
             Err(fault),
-            &OneFile { alloc: rt.alloc() },
+            &Shelf { alloc: rt.alloc() },
             &mut input,
             &mut answers,
             &mut faults,

@@ -6,14 +6,14 @@ use cert::{Decider, Finder, Finders};
 use evidence::NoMemory;
 use json_report::Form;
 use lease_core::Worker;
-use ledger_commands::{Host, Opened, cmd_merge, cmd_report, cmd_retry, opened};
+use ledger_commands::{Host, LedgerAt, Opened, cmd_merge, cmd_report, cmd_retry, held_at, opened};
 use line_commands::{cmd_check, cmd_decide};
-use node_commands::{cmd_coord, cmd_run};
+use node_commands::{NoLedger, cmd_coord, cmd_run};
 use options::{Beginning, Ended, Options, Outcome, Search, Settling};
 use std::alloc::{AllocError, Global};
 use std::io::{self, Empty, Read, Write};
 use std::time::Clock;
-use wire::{MemLedger, Node};
+use wire::Node;
 
 /// Does what is asked for: `bb check` and `bb decide` read `input`, and so does `bb coord`. The answer goes to
 /// `answers`, and what ends the command early to `faults`. Each end is an `Outcome`: want of memory and a
@@ -106,7 +106,7 @@ fn settle<H: Host + Clock, W: Write, E: Write>(
     Ok(run(alloc, settling, path, workers, host, answers, faults))
 }
 
-// The same with these workers, and with its ledger in a file or in memory.
+// The same with these workers, and with its ledger in a file, which is read before it is opened for writing, or none.
 fn run<N: Node + Drop, H: Host + Clock, W: Write, E: Write>(
     alloc: Global,
     settling: &Settling,
@@ -119,33 +119,29 @@ fn run<N: Node + Drop, H: Host + Clock, W: Write, E: Write>(
     requires { IsSettling settling.now }
 {
     let form = Form::of(settling.json);
-    let Some(path) = path else {
-        let mut ledger = MemLedger::new(alloc);
-        return cmd_run(
+    match path {
+        Some(path) => cmd_run(
             alloc,
             settling,
             &form,
-            Ok(nothing()),
-            &mut ledger,
-            workers,
-            host,
-            answers,
-            faults,
-        );
-    };
-    match host.ledger(path) {
-        Ok(mut ledger) => cmd_run(
-            alloc,
-            settling,
-            &form,
-            opened(host, path),
-            &mut ledger,
+            held_at(host, path),
+            &mut LedgerAt::new(host, path),
             workers,
             host,
             answers,
             faults,
         ),
-        Err(fault) => Ended::by_ledger(&fault).told(faults),
+        None => cmd_run(
+            alloc,
+            settling,
+            &form,
+            Ok(nothing()),
+            &mut NoLedger,
+            workers,
+            host,
+            answers,
+            faults,
+        ),
     }
 }
 
@@ -174,16 +170,12 @@ fn retried<H: Host, D: Decider, W: Write, E: Write>(
     answers: &mut W,
     faults: &mut E,
 ) -> Outcome {
-    match host.old_ledger(path) {
-        Ok(mut ledger) => {
-            let held = opened(host, path);
-            cmd_retry(alloc, held, &mut ledger, decider, answers, faults)
-        }
-        Err(fault) => Ended::by_ledger(&fault).told(faults),
-    }
+    let held = opened(host, path);
+    let mut ledger = LedgerAt::new(host, path);
+    cmd_retry(alloc, held, &mut ledger, decider, answers, faults)
 }
 
-// `bb coord`, with its ledger in a file or in memory.
+// `bb coord`, with its ledger in a file, which is read before it is opened for writing, or none.
 fn coordinate<H: Host, R: Read, W: Write, E: Write>(
     alloc: Global,
     beginning: Beginning,
@@ -195,28 +187,28 @@ fn coordinate<H: Host, R: Read, W: Write, E: Write>(
 ) -> Outcome
     requires { IsBeginning beginning }
 {
-    let Some(path) = path else {
-        let mut ledger = MemLedger::new(alloc);
-        return cmd_coord(
-            alloc,
-            beginning,
-            Ok(nothing()),
-            &mut ledger,
-            input,
-            answers,
-            faults,
-        );
-    };
-    match host.ledger(path) {
-        Ok(mut ledger) => {
-            let held = opened(host, path);
+    match path {
+        Some(path) => {
+            let held = held_at(host, path);
+            let mut ledger = LedgerAt::new(host, path);
             cmd_coord(alloc, beginning, held, &mut ledger, input, answers, faults)
         }
-        Err(fault) => Ended::by_ledger(&fault).told(faults),
+        None => {
+            let held = Ok(nothing());
+            cmd_coord(
+                alloc,
+                beginning,
+                held,
+                &mut NoLedger,
+                input,
+                answers,
+                faults,
+            )
+        }
     }
 }
 
-// A ledger that is kept in memory begins with nothing.
+// Where there is no ledger, nothing is held.
 fn nothing() -> Opened<Empty> {
     Opened {
         reader: io::empty(),

@@ -1,7 +1,7 @@
 // The files and the clock of the system.
 use ledger_commands::{FileLedger, Host};
 use std::fs::{self, OpenFile, OpenOptions};
-use std::io;
+use std::io::{self, ErrorKind};
 use std::time::{Clock, Duration};
 
 /// The files and the clock of the system.
@@ -38,9 +38,15 @@ impl<'a> Host for System<'a> {
         Ok(FileLedger::of(file))
     }
 
-    fn old_ledger(&self, path: &str) -> io::Result<FileLedger<fs::File>> {
-        let file = OpenOptions::new().append(true).open(self.rt, path)?;
-        Ok(FileLedger::of(file))
+    fn is_replaceable(&self, path: &str) -> bool {
+        match fs::symlink_metadata(self.rt, path) {
+            Ok(found) => found.is_file(),
+            Err(fault) => fault.kind() == ErrorKind::NotFound,
+        }
+    }
+
+    fn rename(&self, from: &str, to: &str) -> io::Result<()> {
+        fs::rename(self.rt, from, to)
     }
 }
 

@@ -7,6 +7,9 @@ use Rattle.ledger_commands.specs.LedgerReport.{IsLines}
 use Rattle.json_report.specs.JsonReport.{IsJsonReport}
 use Rattle.json_report.specs.declared.form.Form.{Form}
 use Rattle.json_report.specs.declared.form.Form.TheVariants.{Lines, Json}
+use Rattle.ledger_commands.specs.Passing.{bytes_of_lines}
+use Rattle.json_report.specs.declared.form.Made.{Made}
+use Rattle.json_report.specs.declared.form.Made.TheVariants.{Lines as MadeLines, Json as MadeJson}
 
 abbrev pub form_of : Bool → Form
 form_of true = Json
@@ -15,3 +18,8 @@ form_of false = Lines
 abbrev pub IsText : Form → Packed → List Recorded → Left → List ℕ → Type 0
 IsText Lines root rs left text = IsLines root rs left text
 IsText Json root rs left text = IsJsonReport root rs text
+
+-- the bytes of a report that is made
+abbrev pub bytes_of : Made → List ℕ
+bytes_of (MadeLines report) = bytes_of_lines report
+bytes_of (MadeJson text) = text.items

@@ -3,11 +3,11 @@ ghost use Rattle.std.specs.Prelude.{◌≡◌};
 ghost use Rattle.json_report.specs.Forms.{form_of};
 
 use crate::report::report_json;
+use evidence::NoMemory;
 use ledger::{Board, Left};
-use ledger_commands::{AsLines, ReportForm};
-use options::Ended;
+use ledger_commands::{AsLines, LineReport, ReportForm};
 use std::alloc::Global;
-use std::io::Write;
+use std::io::{self, Write};
 
 /// A form of which a command line says whether it is JSON.
 #[derive(Clone, Copy, Debug, PartialEq, Eq, Drop)]
@@ -27,25 +27,39 @@ impl Form {
     }
 }
 
+/// A report that is made, in one of the forms.
+#[derive(Drop)]
+pub enum Made {
+    /// As lines.
+    Lines(LineReport),
+    /// As JSON.
+    Json(Vec<u8>),
+}
+
 impl ReportForm for Form {
-    ghost use Rattle.json_report.specs.Forms.{IsText};
+    ghost use Rattle.json_report.specs.Forms.{IsText, bytes_of};
+
+    type Made = Made;
 
     ghost is_text = { IsText };
 
-    fn write<W: Write>(
-        &self,
-        alloc: Global,
-        board: &Board,
-        left: &Left,
-        answers: &mut W,
-    ) -> Result<(), Ended> {
+    ghost bytes = { bytes_of };
+
+    fn make(&self, alloc: Global, board: &Board, left: &Left) -> Result<Made, NoMemory> {
         match self {
-            Form::Lines => AsLines.write(alloc, board, left, answers),
+            Form::Lines => Ok(Made::Lines(AsLines.make(alloc, board, left)?)),
             Form::Json => {
                 let mut text = Vec::new(alloc);
                 report_json(alloc, board, &mut text)?;
-                Ok(answers.write_all(&text)?)
+                Ok(Made::Json(text))
             }
+        }
+    }
+
+    fn write<W: Write>(&self, made: Made, answers: &mut W) -> io::Result<()> {
+        match made {
+            Made::Lines(lines) => AsLines.write(lines, answers),
+            Made::Json(text) => answers.write_all(&text),
         }
     }
 }

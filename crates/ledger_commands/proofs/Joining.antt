@@ -1,12 +1,50 @@
--- Why two boards that were loaded aren't joined.
-use Rattle.std.proofs.Common.{Err, inl, inr, refl}
+-- Texts that are taken into a board, and ledgers that are rewritten.
+use Rattle.std.proofs.Common.{◌≡◌, ℕ, List, Option, Some, None, Ok, Err, inl, inr, refl, sym, subst, ◌∙◌}
+use Rattle.machine_text.specs.Packed.{Packed, entry_of}
+use Rattle.tree.specs.Used.{InOrder}
 use Rattle.ledger.specs.Contents.{Contents}
+use Rattle.ledger.specs.LedgerText.{HasHeader, LoadGives, PeekGives, ReadsAs, ledger_text}
+use Rattle.ledger.specs.declared.left.Left.{Left}
+use Rattle.text.proofs.Lines.{line_has_newline}
 use Rattle.ledger.specs.Merging.{MergeGives}
+use Rattle.ledger.specs.declared.faults.LoadFault.{LoadFault}
+use Rattle.ledger.specs.declared.faults.LoadFault.TheVariants.{BadHeader, WrongRoot, NoMemory}
 use Rattle.ledger.specs.declared.faults.MergeFault.{MergeFault}
-use Rattle.ledger.specs.declared.faults.MergeFault.TheVariants.{WrongRoot, NoMemory}
-use Rattle.ledger_commands.specs.Merge.{EndsJoining}
-use Rattle.ledger_commands.specs.Faults.{ended_by_merge}
+use Rattle.ledger.specs.declared.faults.MergeFault.TheVariants.{WrongRoot as RootsDiffer, NoMemory as NoMergeMemory}
+use Rattle.wire.specs.Carried.{kept}
+use Rattle.wire.specs.declared.node.Out.{Out}
+use Rattle.ledger_commands.specs.Merge.{EndsTakingIn, rewritten}
+use Rattle.ledger_commands.specs.Faults.{ended_by_load, ended_by_merge}
 
-pub ends_joining : (old other new : Contents) (fault : MergeFault) → MergeGives old other (Err fault) new → EndsJoining old other (ended_by_merge fault)
-ends_joining old other new WrongRoot gives = inl (gives.0, refl)
-ends_joining old other new NoMemory gives = inr refl
+-- a text whose root isn't read
+pub peek_ends_taking : (text : List ℕ) (root : Packed) (f : LoadFault) → ((u : ℕ) × InOrder u (entry_of root)) → PeekGives text (Err f) → EndsTakingIn root text (ended_by_load f)
+peek_ends_taking text root BadHeader ordered h = inr h
+peek_ends_taking text root WrongRoot ordered h =
+    (h.0, h.1, h.2, λ same. h.3 (subst (λ (p : Packed). (u : ℕ) × InOrder u (entry_of p)) (sym same) ordered))
+peek_ends_taking text root NoMemory ordered h = absurd h
+
+-- a text with a header which isn't loaded
+pub load_ends_taking : (text : List ℕ) (root : Packed) (f : LoadFault) → ((other : Packed) × (rest : List ℕ) × HasHeader text other rest) → LoadGives root text (Err f) → EndsTakingIn root text (ended_by_load f)
+load_ends_taking text root BadHeader header h = inr h
+load_ends_taking text root WrongRoot header h = h
+load_ends_taking text root NoMemory header h = elim h [
+  | inl torn ↦ absurd (line_has_newline header.2.line torn.no_newline)
+  | inr same ↦ same
+]
+
+-- a text with a header which is loaded
+pub load_taken : (text : List ℕ) (root : Packed) (loaded : Contents × Left) → ((other : Packed) × (rest : List ℕ) × HasHeader text other rest) → LoadGives root text (Ok loaded) → ReadsAs root text loaded.0.records loaded.1
+load_taken text root loaded header h = elim h.1 [
+  | inl none ↦ absurd (line_has_newline header.2.line none.torn.no_newline)
+  | inr stands ↦ stands
+]
+
+-- boards of one root are merged but for refused memory
+pub merge_ends_taking : (text : List ℕ) (old other new : Contents) (f : MergeFault) → other.root ≡ old.root → ((rest : List ℕ) × HasHeader text old.root rest) → MergeGives old other (Err f) new → EndsTakingIn old.root text (ended_by_merge f)
+merge_ends_taking text old other new RootsDiffer same header gives = absurd (gives.0 (sym same))
+merge_ends_taking text old other new NoMergeMemory same header gives = header
+
+-- a ledger that is cut to nothing and gains a board's
+pub rewritten_by : (b : Contents) (out : Out) (before after : Option (List ℕ)) → out.cut ≡ Some 0 → out.append.items ≡ ledger_text b.root b.records → after ≡ kept out before → after ≡ rewritten b before
+rewritten_by b out None after cut append is = is
+rewritten_by b out (Some text) after cut append is = is ∙ rw cut (rw append refl)

@@ -9,6 +9,7 @@ use Rattle.ledger.specs.declared.left.Left.{Left}
 use Rattle.ledger.specs.declared.faults.LoadFault.{LoadFault}
 use Rattle.ledger.specs.declared.faults.LoadFault.TheVariants.{BadHeader, WrongRoot, NoMemory}
 use Rattle.text.proofs.Lines.{line_has_newline, same_line}
+use Rattle.options.specs.declared.ended.Ended.TheVariants.{NoMemory as WantsMemory}
 use Rattle.ledger_commands.specs.Faults.{ended_by_load}
 use Rattle.ledger_commands.specs.LedgerReport.{EndsLedger}
 
@@ -30,7 +31,11 @@ peek_ends text NoMemory h = absurd h
 pub load_ends : (text : List ℕ) (root : Packed) (f : LoadFault) → PeekGives text (Ok (Some root)) → LoadGives root text (Err f) → EndsLedger text (ended_by_load f)
 load_ends text root BadHeader peek h = inr h
 load_ends text root WrongRoot peek h = absurd (h.3 (one_header text h.0 root h.1 peek.0.0 h.2 peek.0.1))
-load_ends text root NoMemory peek h = tt
+load_ends text root NoMemory peek h = (root, peek.0.0, peek.0.1, peek.1)
+
+-- a text with a root in order
+pub peek_reads : (text : List ℕ) (root : Packed) → PeekGives text (Ok (Some root)) → EndsLedger text WantsMemory
+peek_reads text root peek = (root, peek.0.0, peek.0.1, peek.1)
 
 pub load_stands : (text : List ℕ) (root : Packed) (loaded : Contents × Left) → PeekGives text (Ok (Some root)) → LoadGives root text (Ok loaded) → ReadsAs loaded.0.root text loaded.0.records loaded.1
 load_stands text root loaded peek h = subst (λ (p : Packed). ReadsAs p text loaded.0.records loaded.1) (sym h.0) (elim h.1 [

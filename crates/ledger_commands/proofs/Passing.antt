@@ -1,5 +1,5 @@
 -- What passes to a writer by way of a piece.
-use Rattle.std.proofs.Common.{◌≡◌, ℕ, List, [], ◌++◌, Option, sym, ap, ◌∙◌, append_assoc, append-nil, subst}
+use Rattle.std.proofs.Common.{◌≡◌, ℕ, List, [], ◌++◌, Option, refl, sym, ap, ◌∙◌, append_assoc, append-nil, subst}
 use Rattle.std.specs.Io.KnownBytes.{Appends}
 use Rattle.std.proofs.KnownBytes.{Appends-nil, Appends-trans}
 use Rattle.ledger_commands.specs.Passing.{Passes}
@@ -25,17 +25,28 @@ passes_on h1 h2 h3 p1 p2 p3 a b x y = record {
 pub passed : (h1 h2 h3 : Option (List ℕ)) (piece text : List ℕ) → Passes h1 [] h2 piece text → Appends h2 h3 piece → Appends h1 h3 text
 passed h1 h2 h3 piece text x last = subst (Appends h1 h3) x.is (Appends-trans h1 h2 h3 x.written piece x.appended last)
 
--- a line that is appended to the piece, which may be written then
-pub line_passed : (h1 h2 h3 : Option (List ℕ)) (p1 p2 with_line p3 done line : List ℕ) → Passes h1 p1 h2 p2 done → with_line ≡ p2 ++ line → Passes h2 with_line h3 p3 []
-    → Passes h1 p1 h3 p3 (done ++ line)
-line_passed h1 h2 h3 p1 p2 with_line p3 done line x is y =
-    subst (Passes h1 p1 h3 p3) (append-nil (done ++ line))
-    (passes_on h1 h2 h3 p1 with_line p3 (done ++ line) [] (passes_on h1 h2 h2 p1 p2 with_line done line x (only_appended h2 p2 with_line line is)) y)
+-- a text that is written with nothing in the piece passes
+pub straight : (h1 h2 : Option (List ℕ)) (p1 p2 text : List ℕ) → p1 ≡ [] → p2 ≡ [] → Appends h1 h2 text → Passes h1 p1 h2 p2 text
+straight h1 h2 p1 p2 text e1 e2 appended = record {
+  written = text;
+  appended = appended;
+  is = ap (λ (l : List ℕ). text ++ l) e2 ∙ (append-nil text ∙ sym (ap (λ (l : List ℕ). l ++ text) e1));
+}
 
--- the parts of a report one after another, of which the last is appended before the last piece is written
-pub report_passed : (h1 h2 h3 h4 : Option (List ℕ)) (p1 p2 p3 p4 head a b last : List ℕ) → p1 ≡ head → Passes h1 p1 h2 p2 a → Passes h2 p2 h3 p3 b → p4 ≡ p3 ++ last
-    → Appends h3 h4 p4 → Appends h1 h4 (head ++ a ++ b ++ last)
-report_passed h1 h2 h3 h4 p1 p2 p3 p4 head a b last begun x y is written =
-    let begins : Passes h1 [] h1 p1 head = only_appended h1 [] p1 head begun in
-    let tables = passes_on h1 h2 h3 [] p2 p3 (head ++ a) b (passes_on h1 h1 h2 [] p1 p2 head a begins x) y in
-    passed h1 h3 h4 p4 (head ++ a ++ b ++ last) (passes_on h1 h3 h3 [] p3 p4 (head ++ a ++ b) last tables (only_appended h3 p3 p4 last is)) written
+-- a text passes once the piece is written
+pub written_first : (h1 h2 h3 : Option (List ℕ)) (p1 p2 p3 text : List ℕ) → Appends h1 h2 p1 → p2 ≡ [] → Passes h2 p2 h3 p3 text → Passes h1 p1 h3 p3 text
+written_first h1 h2 h3 p1 p2 p3 text appended none x = passes_on h1 h2 h3 p1 p2 p3 [] text (all_written h1 h2 p1 p2 appended none) x
+
+-- the parts of a report one after another, of which the last is what is left in the piece
+pub report_passed : (h1 h2 h3 h4 h5 : Option (List ℕ)) (p1 p2 p3 p4 a b last : List ℕ) → Passes h1 p1 h2 p2 a → Passes h2 p2 h3 p3 b → Passes h3 p3 h4 p4 last
+    → Appends h4 h5 p4 → Appends h1 h5 (p1 ++ a ++ b ++ last)
+report_passed h1 h2 h3 h4 h5 p1 p2 p3 p4 a b last x y z written =
+    let begins : Passes h1 [] h1 p1 p1 = only_appended h1 [] p1 p1 refl in
+    let tables = passes_on h1 h2 h3 [] p2 p3 (p1 ++ a) b (passes_on h1 h1 h2 [] p1 p2 p1 a begins x) y in
+    passed h1 h4 h5 p4 (p1 ++ a ++ b ++ last) (passes_on h1 h3 h4 [] p3 p4 (p1 ++ a ++ b) last tables z) written
+
+-- four texts one after another
+pub line_passed : (h1 h2 h3 h4 h5 : Option (List ℕ)) (p1 p2 p3 p4 p5 a b c d : List ℕ) → Passes h1 p1 h2 p2 a → Passes h2 p2 h3 p3 b → Passes h3 p3 h4 p4 c → Passes h4 p4 h5 p5 d
+    → Passes h1 p1 h5 p5 (a ++ b ++ c ++ d)
+line_passed h1 h2 h3 h4 h5 p1 p2 p3 p4 p5 a b c d x y z w =
+    passes_on h1 h4 h5 p1 p4 p5 (a ++ b ++ c) d (passes_on h1 h3 h4 p1 p3 p4 (a ++ b) c (passes_on h1 h2 h3 p1 p2 p3 a b x y) z) w

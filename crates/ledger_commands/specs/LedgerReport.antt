@@ -56,11 +56,11 @@ pub record WritesLedger (IsText : Packed → List Recorded → Left → List ℕ
   pub ends : o ≡ outcome_by status left
   pub appends : Appends held new_held written
 
--- why there is no report: the text has no root, or one that isn't in order
+-- why there is no report: the text has no root, or one that isn't in order; memory may be refused where it has one in order
 abbrev pub EndsLedger : List ℕ → Ended → Type 0
 EndsLedger text BadHeader = IsTornHeader text ⊎ HasNoHeader text
 EndsLedger text WrongRoot = (root : Packed) × (rest : List ℕ) × HasHeader text root rest × (((u : ℕ) × InOrder u (entry_of root)) → ⊥)
 EndsLedger text Stream = ⊥
 EndsLedger text Ledger = ⊥
 EndsLedger text File = ⊥
-EndsLedger text NoMemory = Unit {0}
+EndsLedger text NoMemory = (root : Packed) × (rest : List ℕ) × HasHeader text root rest × ((u : ℕ) × InOrder u (entry_of root))

@@ -1,13 +1,16 @@
 -- Two ledgers that are read one after the other, and joined.
-use Rattle.std.specs.Prelude.{◌≡◌, ◌≢◌, ◌⊎◌, ℕ, List, Result, Ok, Err}
+use Rattle.std.specs.Prelude.{◌≡◌, ◌≢◌, ◌⊎◌, ℕ, List, Option, Some, None, Result, Ok, Err}
+use Rattle.machine_text.specs.Packed.{Packed}
 use Rattle.ledger.specs.Contents.{Contents}
-use Rattle.ledger.specs.LedgerText.{ReadsAs}
+use Rattle.ledger.specs.LedgerText.{IsTornHeader, HasHeader, HasNoHeader, ReadsAs, ledger_text}
 use Rattle.ledger.specs.Merging.{MergeGives}
+use Rattle.ledger.specs.Tally.{IsTally}
 use Rattle.ledger.specs.declared.left.Left.{Left}
 use Rattle.ledger.specs.declared.left.Left.TheVariants.{Nothing, From}
+use Rattle.ledger.specs.declared.tally.Tally.{Tally}
 use Rattle.ledger_commands.specs.LedgerReport.{EndsLedger}
 use Rattle.options.specs.declared.ended.Ended.{Ended}
-use Rattle.options.specs.declared.ended.Ended.TheVariants.{WrongRoot, NoMemory}
+use Rattle.options.specs.declared.ended.Ended.TheVariants.{BadHeader, WrongRoot, Stream, Ledger, File, NoMemory}
 
 -- what may come of reading a ledger: its bytes, or what ends the command
 abbrev pub Readings : Type 1
@@ -23,16 +26,43 @@ abbrev pub first_left : Left → Left → Left
 first_left Nothing other = other
 first_left (From line kept why) other = From line kept why
 
--- two boards that were loaded aren't joined: their roots differ, or memory was refused
-abbrev pub EndsJoining : Contents → Contents → Ended → Type 0
-EndsJoining first second e = ((first.root ≢ second.root) × (e ≡ WrongRoot)) ⊎ (e ≡ NoMemory)
+-- the records for which a text stands are taken into a board of the same root
+abbrev pub TakesIn : Contents → List ℕ → Left → Contents → Type 0
+TakesIn old text left new = (other : Contents) × ReadsAs other.root text other.records left × MergeGives old other (Ok tt) new
+
+-- why a text isn't taken into a board of this root: it has no root, or another one; memory may be refused where it has
+-- the same one
+abbrev pub EndsTakingIn : Packed → List ℕ → Ended → Type 0
+EndsTakingIn root text BadHeader = IsTornHeader text ⊎ HasNoHeader text
+EndsTakingIn root text WrongRoot = (other : Packed) × (rest : List ℕ) × HasHeader text other rest × (other ≢ root)
+EndsTakingIn root text Stream = ⊥
+EndsTakingIn root text Ledger = ⊥
+EndsTakingIn root text File = ⊥
+EndsTakingIn root text NoMemory = (rest : List ℕ) × HasHeader text root rest
 
 -- the second ledger is read once the first one is loaded, and its records are taken into the first one's board
 abbrev pub AreJoined : Readings → Readings → Result (Contents × Left) Ended → Type 0
 AreJoined one other (Ok joined) =
-    (first : Contents × Left) × (second : Contents × Left) × IsLoaded one (Ok first) × IsLoaded other (Ok second)
-    × MergeGives first.0 second.0 (Ok tt) joined.0 × (joined.1 ≡ first_left first.1 second.1)
+    (first : Contents × Left) × (bytes : List ℕ) × (left : Left) × IsLoaded one (Ok first) × other (Ok bytes)
+    × TakesIn first.0 bytes left joined.0 × (joined.1 ≡ first_left first.1 left)
 AreJoined one other (Err e) =
     IsLoaded one (Err e)
     ⊎ ((first : Contents × Left) × IsLoaded one (Ok first)
-    × (IsLoaded other (Err e) ⊎ ((second : Contents × Left) × IsLoaded other (Ok second) × EndsJoining first.0 second.0 e)))
+    × (other (Err e) ⊎ ((bytes : List ℕ) × other (Ok bytes) × EndsTakingIn first.0.root bytes e)))
+
+-- what a ledger holds, where that is known, once it is made to hold that of a board and nothing else
+abbrev pub rewritten : Contents → Option (List ℕ) → Option (List ℕ)
+rewritten b (Some text) = Some (ledger_text b.root b.records)
+rewritten b None = None
+
+-- two ledgers are joined, and a third holds what they come to, which is told
+abbrev pub JoinsInto : Readings → Readings → Tally → Left → Option (List ℕ) → Option (List ℕ) → Type 0
+JoinsInto one other tally left before after =
+    (b : Contents) × AreJoined one other (Ok (b, left)) × IsTally b.root b.records tally × (after ≡ rewritten b before)
+
+-- why no third ledger is made, and whether it is as it was: the two aren't joined; or they are, but memory is refused for
+-- the text; or else the third has failed
+abbrev pub EndsJoiningInto : Readings → Readings → Ended → Type 0 → Type 0
+EndsJoiningInto one other e IsUntouched =
+    (AreJoined one other (Err e) × IsUntouched)
+    ⊎ ((joined : Contents × Left) × AreJoined one other (Ok joined) × (((e ≡ NoMemory) × IsUntouched) ⊎ (e ≡ Ledger)))

@@ -1,11 +1,11 @@
 // `bb report`: a ledger file in, its report out.
-ghost use Rattle.std.specs.Prelude.{◌≡◌, ◌⊎◌, IfOk, IfErr};
+ghost use Rattle.std.specs.Prelude.{◌≡◌, ◌⊎◌, IfOk, IfErr, OnOk};
 ghost use Rattle.ledger.specs.LedgerText.{ReadsAs};
 ghost use Rattle.ledger_commands.specs.LedgerReport.{ReportsLedger, WritesLedger, EndsLedger, outcome_by};
 
 use crate::board_report::report;
 use crate::faults::by_load;
-use crate::report_form::ReportForm;
+use crate::report_form::{ReportForm, write_report};
 use crate::report_writer::append_left;
 use ledger::{Board, Left, Status, Unkept, peek_root};
 use options::{Ended, Outcome};
@@ -108,11 +108,11 @@ pub fn write_ledger_report<P: ReportForm, W: Write>(
     answers: &mut W,
 ) -> Result<(Outcome, Left), Ended>
     ensures ok { IfOk result (λ r. WritesLedger (P.is_text form.now) bytes.items r.0 r.1 (W.contents answers.old) (W.contents answers.new)) }
-    ensures err { IfErr result (λ e. (e ≡ Ended.Stream) ⊎ EndsLedger bytes.items e) }
+    ensures err { IfErr result (λ e. (e ≡ Ended.Stream) ⊎ (EndsLedger bytes.items e × (answers.new ≡ answers.old))) }
 {
     let (board, left) = loaded(alloc, &bytes)?;
     drop(bytes);
-    form.write(alloc, &board, &left, answers)?;
+    write_report(alloc, form, &board, &left, answers)?;
     Ok((outcome_by(board.status(), &left), left))
 }
 
@@ -120,6 +120,7 @@ pub fn write_ledger_report<P: ReportForm, W: Write>(
 pub fn loaded(alloc: Global, bytes: &[u8]) -> Result<(Board, Left), Ended>
     ensures ok { IfOk result (λ l. ReadsAs l.0.root bytes.now l.0.records l.1) }
     ensures err { IfErr result (λ e. EndsLedger bytes.now e) }
+    ensures header { OnOk result (EndsLedger bytes.now Ended.NoMemory) }
 {
     match peek_root(bytes) {
         Ok(Some(root)) => match Board::load(alloc, root, bytes) {

@@ -9,6 +9,7 @@ mod board_report;
 mod faults;
 mod file_ledger;
 mod host;
+mod ledger_at;
 mod ledger_report;
 mod merge;
 mod report_form;
@@ -19,9 +20,13 @@ mod tree_reports;
 pub use board_report::{report, status_name};
 pub use faults::keep_answer;
 pub use file_ledger::FileLedger;
-pub use host::{Host, opened};
-pub use ledger_report::{Opened, bytes_of, cmd_report, report_ledger, write_ledger_report};
-pub use merge::{LedgerSource, cmd_merge, joined};
-pub use report_form::{AsLines, ReportForm};
+pub use host::{Held, Host, held_at, opened};
+pub use ledger_at::LedgerAt;
+pub use ledger_report::{
+    Opened, bytes_of, cmd_report, outcome_by, report_ledger, write_ledger_report,
+};
+pub use merge::{LedgerSource, cmd_merge, join_into, joined};
+pub use report_form::{AsLines, ReportForm, write_report};
+pub use report_writer::LineReport;
 pub use retry::{cmd_retry, retry_holdouts};
 pub use tree_reports::complete_boards_report_their_tree;

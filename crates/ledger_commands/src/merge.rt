@@ -1,23 +1,33 @@
 // `bb merge`: two ledgers in, one that holds what either does out.
-ghost use Rattle.std.specs.Prelude.{◌≡◌, Ok, Err, IfOk, IfErr};
-ghost use Rattle.ledger_commands.specs.Merge.{IsLoaded, AreJoined, first_left};
+ghost use Rattle.std.specs.Prelude.{◌≡◌, ◌⊎◌, List, ℕ, Ok, Err, IfOk, IfErr, OnOk};
+ghost use Rattle.machine_text.specs.Packed.{Packed, entry_of};
+ghost use Rattle.tree.specs.Used.{InOrder};
+ghost use Rattle.ledger.specs.LedgerText.{HasHeader, ReadsAs};
+ghost use Rattle.ledger_commands.specs.Merge.{AreJoined, EndsJoiningInto, EndsTakingIn, IsLoaded, JoinsInto, TakesIn, first_left, rewritten};
 
-use crate::faults::{by_merge, keep_answer};
+use crate::faults::{by_load, by_merge, keep_answer};
 use crate::host::{Host, opened};
+use crate::ledger_at::LedgerAt;
 use crate::ledger_report::{bytes_of, loaded};
 use crate::report_writer::append_left;
 use cert::append_number;
 use evidence::NoMemory;
-use ledger::{Board, Left, Tally};
+use ledger::{Board, Left, Tally, peek_root};
+use machine_text::Table;
 use options::{Ended, Merging, Outcome};
 use std::alloc::Global;
 use std::io::Write;
-use wire::{Note, Out};
+use wire::{LedgerOut, Note, Out};
+
+// What is put behind the path of a ledger to name the file in which it is made.
+const NEW_SUFFIX: &str = ".new";
 
 /// Writes the ledger of what two ledgers hold together, and prints how many records, open tables and holdouts
 /// that has, and `left LINE` for the first of the two of which not all could be kept. Each of the two is read
-/// and judged before the next, and both before anything is written. Accepted where all was kept. What ends
-/// the command early is said on `faults`.
+/// and judged before the next, and both before anything is written. Where a plain file or nothing stands at the
+/// path that is to be written, the ledger is made in a file beside it, `.new`, which is then put in its place, so that
+/// a program that is killed leaves the old ledger or the new one; after a failure that file is left. Accepted where
+/// all was kept. What ends the command early is said on `faults`.
 pub fn cmd_merge<H: Host, W: Write, E: Write>(
     alloc: Global,
     merging: Merging<'_>,
@@ -37,6 +47,42 @@ fn merged<H: Host, W: Write>(
     host: &H,
     answers: &mut W,
 ) -> Result<Outcome, Ended> {
+    let beside = path_beside(alloc, merging.out)?;
+    let (tally, left) = if is_made_beside(host, merging, &beside) {
+        let joined = joined_at(alloc, merging, host, &beside)?;
+        put(host, &beside, merging.out)?;
+        joined
+    } else {
+        joined_at(alloc, merging, host, merging.out)?
+    };
+    tell(alloc, &tally, &left, answers)?;
+    match left {
+        Left::Nothing => Ok(Outcome::Accepted),
+        Left::From { .. } => Ok(Outcome::Refused),
+    }
+}
+
+// The path of the file in which a ledger is made.
+fn path_beside(alloc: Global, path: &str) -> Result<String, NoMemory> {
+    let mut beside = String::new(alloc);
+    beside.push_str(path)?;
+    beside.push_str(NEW_SUFFIX)?;
+    Ok(beside)
+}
+
+// Whether a ledger is made in a file beside its place: nothing is lost at either path by that.
+fn is_made_beside<H: Host>(host: &H, merging: Merging<'_>, beside: &str) -> bool {
+    let is_read = beside == merging.first || beside == merging.second;
+    !is_read && host.is_replaceable(merging.out) && host.is_replaceable(beside)
+}
+
+// Joins the two ledgers into one at a path.
+fn joined_at<H: Host>(
+    alloc: Global,
+    merging: Merging<'_>,
+    host: &H,
+    path: &str,
+) -> Result<(Tally, Left), Ended> {
     let first = AtPath {
         host,
         path: merging.first,
@@ -45,24 +91,14 @@ fn merged<H: Host, W: Write>(
         host,
         path: merging.second,
     };
-    let (board, left) = joined(alloc, &first, &second)?;
-    written(alloc, host, merging.out, &board, &left, answers)
+    join_into(alloc, &first, &second, &mut LedgerAt::new(host, path))
 }
 
-// Writes the ledger of a board to a file and tells what it holds, and what wasn't kept.
-fn written<H: Host, W: Write>(
-    alloc: Global,
-    host: &H,
-    path: &str,
-    board: &Board,
-    left: &Left,
-    answers: &mut W,
-) -> Result<Outcome, Ended> {
-    write_whole(alloc, host, path, board)?;
-    tell(alloc, &board.tally(), left, answers)?;
-    match left {
-        Left::Nothing => Ok(Outcome::Accepted),
-        Left::From { .. } => Ok(Outcome::Refused),
+// Puts a ledger that was made in its place.
+fn put<H: Host>(host: &H, from: &str, to: &str) -> Result<(), Ended> {
+    match host.rename(from, to) {
+        Ok(()) => Ok(()),
+        Err(fault) => Err(Ended::by_ledger(&fault)),
     }
 }
 
@@ -106,9 +142,27 @@ impl<H: Host> LedgerSource for AtPath<'_, H> {
     }
 }
 
-/// Reads and loads a ledger, then another, and takes the records of the second into the board of the first.
-/// Answers that board, and what wasn't kept of the first of the two of which not all was. What ends it is
-/// of the first ledger, where that can't be read or loaded, else of the second; then the roots may differ.
+/// Joins two ledgers, and makes a third hold the ledger of what they hold together, whatever it held before. Answers
+/// how many tables there are of each kind, and what wasn't kept. Where the two aren't joined, or memory is refused, the
+/// third isn't touched.
+pub fn join_into<A: LedgerSource, B: LedgerSource, L: LedgerOut>(
+    alloc: Global,
+    first: &A,
+    second: &B,
+    ledger: &mut L,
+) -> Result<(Tally, Left), Ended>
+    ensures ok { IfOk result (λ told. JoinsInto (A.reads first.now) (B.reads second.now) told.0 told.1 (L.text ledger.old) (L.text ledger.new)) }
+    ensures err { IfErr result (λ e. EndsJoiningInto (A.reads first.now) (B.reads second.now) e (ledger.new ≡ ledger.old)) }
+{
+    let (board, left) = joined(alloc, first, second)?;
+    write_whole(alloc, &board, ledger)?;
+    Ok((board.tally(), left))
+}
+
+/// Reads and loads a ledger, then reads another, and takes its records into the board of the first. Answers that
+/// board, and what wasn't kept of the first of the two of which not all was. What ends it is of the first ledger,
+/// where that can't be read or loaded, else of the second: a header that doesn't read or another root, and only then
+/// refused memory.
 pub fn joined<A: LedgerSource, B: LedgerSource>(
     alloc: Global,
     first: &A,
@@ -118,11 +172,9 @@ pub fn joined<A: LedgerSource, B: LedgerSource>(
     ensures err { IfErr result (λ e. AreJoined (A.reads first.now) (B.reads second.now) (Err e)) }
 {
     let (mut board, first_left) = loaded_from(alloc, first)?;
-    let (other, second_left) = loaded_from(alloc, second)?;
-    match board.merge(&other) {
-        Ok(()) => Ok((board, earlier(first_left, second_left))),
-        Err(fault) => Err(by_merge(fault)),
-    }
+    let bytes = second.bytes(alloc)?;
+    let second_left = take_in(alloc, &mut board, bytes)?;
+    Ok((board, earlier(first_left, second_left)))
 }
 
 // What is told as left of two ledgers: of the first, where not all of it was kept.
@@ -143,8 +195,53 @@ fn loaded_from<S: LedgerSource>(alloc: Global, source: &S) -> Result<(Board, Lef
     loaded(alloc, &source.bytes(alloc)?)
 }
 
-// Makes a ledger file hold a board's ledger.
-fn write_whole<H: Host>(alloc: Global, host: &H, path: &str, board: &Board) -> Result<(), Ended> {
+// Takes the records of a ledger's text into a board of its root, and answers what wasn't kept of the text.
+fn take_in(alloc: Global, board: &mut Board, bytes: Vec<u8>) -> Result<Left, Ended>
+    ensures ok { IfOk result (λ left. TakesIn board.old bytes.items left board.new) }
+    ensures err { IfErr result (λ e. EndsTakingIn board.old.root bytes.items e) }
+{
+    let root = *board.root();
+    let (other, left) = loaded_of(alloc, root, &bytes)?;
+    drop(bytes);
+    match board.merge(&other) {
+        Ok(()) => Ok(left),
+        Err(fault) => Err(by_merge(fault)),
+    }
+}
+
+// The board of a ledger's text that names this root, and what of it wasn't kept.
+fn loaded_of(alloc: Global, root: Table, bytes: &[u8]) -> Result<(Board, Left), Ended>
+    requires { (u : ℕ) × InOrder u (entry_of root) }
+    ensures ok { IfOk result (λ l. (l.0.root ≡ root) × ReadsAs l.0.root bytes.now l.0.records l.1) }
+    ensures err { IfErr result (λ e. EndsTakingIn root bytes.now e) }
+    ensures header { OnOk result (EndsTakingIn root bytes.now Ended.NoMemory) }
+{
+    match peek_root(bytes) {
+        Ok(Some(_)) => loaded_with(alloc, root, bytes),
+        Ok(None) => Err(Ended::BadHeader),
+        Err(fault) => Err(by_load(fault)),
+    }
+}
+
+// The same of a text that has a header.
+fn loaded_with(alloc: Global, root: Table, bytes: &[u8]) -> Result<(Board, Left), Ended>
+    requires order { (u : ℕ) × InOrder u (entry_of root) }
+    requires header { (other : Packed) × (rest : List ℕ) × HasHeader bytes.now other rest }
+    ensures ok { IfOk result (λ l. (l.0.root ≡ root) × ReadsAs l.0.root bytes.now l.0.records l.1) }
+    ensures err { IfErr result (λ e. EndsTakingIn root bytes.now e) }
+    ensures header { OnOk result (EndsTakingIn root bytes.now Ended.NoMemory) }
+{
+    match Board::load(alloc, root, bytes) {
+        Ok(loaded) => Ok(loaded),
+        Err(fault) => Err(by_load(fault)),
+    }
+}
+
+// Makes a ledger hold a board's ledger, and nothing else.
+fn write_whole<L: LedgerOut>(alloc: Global, board: &Board, ledger: &mut L) -> Result<(), Ended>
+    ensures ok { OnOk result (L.text ledger.new ≡ rewritten board.now (L.text ledger.old)) }
+    ensures err { IfErr result (λ e. ((e ≡ Ended.NoMemory) × (ledger.new ≡ ledger.old)) ⊎ (e ≡ Ended.Ledger)) }
+{
     let mut append = Vec::new(alloc);
     board.write_ledger(&mut append)?;
     let out = Out {
@@ -153,10 +250,7 @@ fn write_whole<H: Host>(alloc: Global, host: &H, path: &str, board: &Board) -> R
         frames: Vec::new(alloc),
         note: Note::Quiet,
     };
-    match host.ledger(path) {
-        Ok(mut ledger) => keep_answer(&out, &mut ledger),
-        Err(fault) => Err(Ended::by_ledger(&fault)),
-    }
+    keep_answer(&out, ledger)
 }
 
 // Appends the line that says what the merged ledger holds.

@@ -1,74 +1,115 @@
-// The report of a ledger as it is written, a piece at a time.
-ghost use Rattle.std.specs.Prelude.{◌≡◌, ◌⊎◌, ◌++◌, [], List, ℕ, IfErr, OnOk};
+// The report of a board as lines, made first and then written a piece at a time.
+ghost use Rattle.std.specs.Prelude.{◌≡◌, ◌++◌, List, ℕ, IfOk, OnOk};
 ghost use Rattle.std.specs.Vec.Iter.{into_iter_items};
 ghost use Rattle.std.specs.Io.KnownBytes.{Appends};
-ghost use Rattle.ledger_commands.specs.Report.{IsReport, lines_of};
-ghost use Rattle.ledger_commands.specs.LedgerReport.{left_text};
-ghost use Rattle.ledger_commands.specs.Passing.{Passes};
+ghost use Rattle.machine_text.specs.Text.{text_of};
+ghost use Rattle.ledger_commands.specs.Report.{line_of, lines_of};
+ghost use Rattle.ledger_commands.specs.LedgerReport.{IsLines, left_text};
+ghost use Rattle.ledger_commands.specs.Passing.{Passes, bytes_of_lines};
 
-use crate::board_report::{append_head, append_table_line};
+use crate::board_report::append_head;
 use cert::append_number;
 use evidence::NoMemory;
-use ledger::{Board, Left};
-use machine_text::Table;
-use options::Ended;
+use ledger::{Board, Champions, Holdouts, Left};
+use machine_text::{TEXT_BYTES, Table};
 use std::alloc::Global;
-use std::io::Write;
+use std::io::{self, Write};
 use std::vec::IntoIter;
 
 // How many bytes are gathered before they are written.
 const PIECE_BYTES: usize = 16_384;
 
-/// Writes the report of a board, and `left LINE` where not all of its ledger was kept. The whole text never
-/// stands in memory; what memory is taken is taken before the first byte is written.
-pub fn write_report<W: Write>(
-    alloc: Global,
-    board: &Board,
-    left: &Left,
-    answers: &mut W,
-) -> Result<(), Ended>
-    ensures ok { OnOk result ((report : List ℕ) × IsReport board.now.root board.now.records report
-        × Appends (W.contents answers.old) (W.contents answers.new) (report ++ left_text left.now)) }
-    ensures err { IfErr result (λ e. (e ≡ Ended.NoMemory) ⊎ (e ≡ Ended.Stream)) }
+/// The lines of a report, with all the memory that they take.
+#[derive(Drop)]
+pub struct LineReport {
+    // the lines before those of the tables, with room for more
+    head: Vec<u8>,
+    champions: Champions,
+    holdouts: Holdouts,
+    // what wasn't kept
+    tail: Vec<u8>,
+}
+
+// Makes the report of a board, and `left LINE` where not all of its ledger was kept.
+pub fn line_report(alloc: Global, board: &Board, left: &Left) -> Result<LineReport, NoMemory>
+    ensures { IfOk result (λ made. IsLines board.now.root board.now.records left.now (bytes_of_lines made)) }
 {
     let champions = board.champions()?;
     let holdouts = board.holdouts()?;
-    // There is room for a piece and for what it grows by before it is written.
-    let mut piece = Vec::with_capacity(alloc, 2 * PIECE_BYTES)?;
-    append_head(board, &mut piece)?;
-    write_tables(b"champion", champions, &mut piece, answers)?;
-    write_tables(b"holdout", holdouts, &mut piece, answers)?;
-    append_left(left, &mut piece)?;
-    Ok(answers.write_all(&piece)?)
+    let mut head = Vec::with_capacity(alloc, PIECE_BYTES)?;
+    append_head(board, &mut head)?;
+    let mut tail = Vec::new(alloc);
+    append_left(left, &mut tail)?;
+    Ok(LineReport {
+        head,
+        champions,
+        holdouts,
+        tail,
+    })
+}
+
+// Writes a report that is made. The whole text never stands in memory.
+pub fn write_lines<W: Write>(made: LineReport, answers: &mut W) -> io::Result<()>
+    ensures { OnOk result (Appends (W.contents answers.old) (W.contents answers.new) (bytes_of_lines made)) }
+{
+    let LineReport {
+        head,
+        champions,
+        holdouts,
+        tail,
+    } = made;
+    let mut piece = head;
+    pass_tables(b"champion", champions, &mut piece, answers)?;
+    pass_tables(b"holdout", holdouts, &mut piece, answers)?;
+    pass(&tail, &mut piece, answers)?;
+    answers.write_all(&piece)
 }
 
 // Passes on a line for each table.
-fn write_tables<W: Write>(
+fn pass_tables<W: Write>(
     name: &[u8],
     tables: IntoIter<Table>,
     piece: &mut Vec<u8>,
     answers: &mut W,
-) -> Result<(), Ended>
-    ensures ok { OnOk result (Passes (W.contents answers.old) piece.old.items (W.contents answers.new) piece.new.items (lines_of name.now (into_iter_items tables))) }
-    ensures err { IfErr result (λ e. (e ≡ Ended.NoMemory) ⊎ (e ≡ Ended.Stream)) }
+) -> io::Result<()>
+    ensures { OnOk result (Passes (W.contents answers.old) piece.old.items (W.contents answers.new) piece.new.items (lines_of name.now (into_iter_items tables))) }
 {
     for table in tables {
-        append_table_line(name, &table, piece)?;
-        write_full(piece, answers)?;
+        pass_line(name, &table, piece, answers)?;
     }
     Ok(())
 }
 
-// Writes a piece that is long enough, and begins another.
-fn write_full<W: Write>(piece: &mut Vec<u8>, answers: &mut W) -> Result<(), Ended>
-    ensures ok { OnOk result (Passes (W.contents answers.old) piece.old.items (W.contents answers.new) piece.new.items []) }
-    ensures err { IfErr result (λ e. e ≡ Ended.Stream) }
+// Passes on the line of a table.
+fn pass_line<W: Write>(
+    name: &[u8],
+    t: &Table,
+    piece: &mut Vec<u8>,
+    answers: &mut W,
+) -> io::Result<()>
+    ensures { OnOk result (Passes (W.contents answers.old) piece.old.items (W.contents answers.new) piece.new.items (line_of name.now (text_of t.now))) }
 {
-    if piece.len() >= PIECE_BYTES {
+    let mut buf = [0; TEXT_BYTES];
+    pass(name, piece, answers)?;
+    pass(b" ", piece, answers)?;
+    pass(t.text(&mut buf), piece, answers)?;
+    pass(b"\n", piece, answers)
+}
+
+// Passes bytes on: they come behind the piece, or, where it has no room for them, they are written behind it. The
+// piece never grows.
+fn pass<W: Write>(bytes: &[u8], piece: &mut Vec<u8>, answers: &mut W) -> io::Result<()>
+    ensures { OnOk result (Passes (W.contents answers.old) piece.old.items (W.contents answers.new) piece.new.items bytes.now) }
+{
+    if bytes.len() > piece.capacity() - piece.len() {
         answers.write_all(piece.as_slice())?;
         piece.clear();
+        return answers.write_all(bytes);
     }
-    Ok(())
+    match piece.extend_from_slice(bytes) {
+        Ok(()) => Ok(()),
+        Err(_) => unreachable!(),
+    }
 }
 
 /// Appends which line wasn't kept, where there is one.

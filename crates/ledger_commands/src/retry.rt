@@ -1,15 +1,20 @@
 // `bb retry`: the holdouts of a ledger are tried again.
-ghost use Rattle.std.specs.Prelude.{◌≡◌, None, IfOk, OnOk};
+ghost use Rattle.std.specs.Prelude.{◌≡◌, None, IfOk, IfSome, OnOk};
 ghost use Rattle.cert.specs.Claim.{shown_by};
 ghost use Rattle.cert.specs.Kinds.{recorded};
 ghost use Rattle.ledger.specs.Held.{IsHoldout};
-ghost use Rattle.ledger_commands.specs.Retry.{Gains, StaysInStep, AtSomeTime, ChangesBy, IsTried, AreRetried};
+ghost use Rattle.ledger.specs.Contents.{Contents};
+ghost use Rattle.ledger.specs.LedgerText.{ReadsAs};
+ghost use Rattle.ledger.specs.Tally.{IsStatus};
+ghost use Rattle.ledger.specs.declared.status.Status.{Status as Standing};
+ghost use Rattle.ledger_commands.specs.LedgerReport.{outcome_by};
+ghost use Rattle.ledger_commands.specs.Retry.{IsInStep, Gains, StaysInStep, AtSomeTime, ChangesBy, IsTried, AreRetried};
 
 use crate::faults::keep_answer;
 use crate::ledger_report::{Opened, bytes_of, loaded, outcome_by};
-use crate::report_writer::write_report;
+use crate::report_form::{AsLines, write_report};
 use cert::{Decider, Record};
-use ledger::{Board, Left, Taken, append_record};
+use ledger::{Board, Left, Taken, append_record, kept_bytes_load};
 use machine_text::Table;
 use options::{Ended, Outcome};
 use std::alloc::Global;
@@ -58,15 +63,21 @@ fn settled_further<L: LedgerOut, D: Decider, W: Write>(
     ledger: &mut L,
     decider: &mut D,
     answers: &mut W,
-) -> Result<Outcome, Ended> {
+) -> Result<Outcome, Ended>
+    ensures step { IfOk result (λ o. IfSome (L.text ledger.old) (λ text. ReadsAs board.old.root text board.old.records left.now) → IfSome (L.text ledger.new) (IsInStep board.new)) }
+    ensures outcome { IfOk result (λ o. (status : Standing) × IsStatus board.new.root board.new.records status × (o ≡ outcome_by status Left.Nothing)) }
+{
     cut_off(left, ledger)?;
     retry_holdouts(alloc, board, decider, ledger)?;
-    write_report(alloc, board, &Left::Nothing, answers)?;
+    write_report(alloc, &AsLines, board, &Left::Nothing, answers)?;
     Ok(outcome_by(board.status(), &Left::Nothing))
 }
 
-// Cuts off what wasn't kept.
-fn cut_off<L: LedgerOut>(left: &Left, ledger: &mut L) -> Result<(), Ended> {
+// Cuts off what wasn't kept of a board's ledger.
+fn cut_off<L: LedgerOut>(left: &Left, ledger: &mut L) -> Result<(), Ended>
+    ensures step { OnOk result ((b : Contents) → IfSome (L.text ledger.old) (λ text. ReadsAs b.root text b.records left.now) → IfSome (L.text ledger.new) (IsInStep b)) }
+{
+    kept_bytes_load();
     match left {
         Left::Nothing => Ok(()),
         Left::From { kept, .. } => match ledger.cut(*kept) {

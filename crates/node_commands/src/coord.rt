@@ -1,12 +1,15 @@
 // `bb coord`: a coordinator over two streams and a ledger.
-ghost use Rattle.std.specs.Prelude.{◌≤◌};
+ghost use Rattle.std.specs.Prelude.{◌≡◌, ◌≤◌, None, IfSome};
 ghost use Rattle.machine_text.specs.Limits.{state_limit};
+ghost use Rattle.ledger.specs.Tally.{IsStatus};
+ghost use Rattle.ledger.specs.declared.status.Status.{Status as Standing};
+ghost use Rattle.ledger_commands.specs.LedgerReport.{outcome_by};
 
 use crate::faults::{by_start, by_turn};
 use crate::streams::Streams;
 use coordinator::{Coordinator, StartFault};
-use ledger::Status;
-use ledger_commands::{Opened, bytes_of, keep_answer};
+use ledger::Left;
+use ledger_commands::{Opened, bytes_of, keep_answer, outcome_by};
 use options::{Beginning, Ended, Outcome};
 use std::alloc::Global;
 use std::io::{self, BufWriter, Read, Write};
@@ -92,7 +95,9 @@ fn served<N: Node, L: LedgerOut, R: Read, W: Write>(
     input: &mut R,
     answers: &mut W,
 ) -> Result<(), Ended> {
-    let mut output = BufWriter::new(alloc, answers)?;
+    let Ok(mut output) = BufWriter::new(alloc, answers) else {
+        return Err(Ended::NoMemory);
+    };
     let turned = turned(alloc, node, ledger, input, &mut output);
     // What was answered before a fault is sent all the same.
     output.flush()?;
@@ -118,9 +123,12 @@ fn turned<N: Node, L: LedgerOut, R: Read, W: Write>(
 }
 
 // Accepted where a coordinator's board is complete.
-pub fn outcome_of(node: &Coordinator) -> Outcome {
+pub fn outcome_of(node: &Coordinator) -> Outcome
+    ensures board { IfSome node.now.held (λ held. (status : Standing) × IsStatus held.board.root held.board.records status × (result ≡ outcome_by status Left.Nothing)) }
+    ensures none { node.now.held ≡ None → result ≡ Outcome.Refused }
+{
     match node.board() {
-        Some(board) if matches!(board.status(), Status::Complete { .. }) => Outcome::Accepted,
-        _ => Outcome::Refused,
+        Some(board) => outcome_by(board.status(), &Left::Nothing),
+        None => Outcome::Refused,
     }
 }

@@ -7,6 +7,7 @@
 mod coord;
 mod faults;
 mod losses;
+mod no_ledger;
 mod progress;
 mod rounds;
 mod run_command;
@@ -15,6 +16,7 @@ mod streams;
 
 pub use coord::cmd_coord;
 pub use losses::{Losses, carry};
+pub use no_ledger::NoLedger;
 pub use progress::Progress;
 pub use run_command::cmd_run;
 pub use streams::Streams;

@@ -1,6 +1,6 @@
 // Frames on their way over a link in memory, of which some may be lost.
-ghost use Rattle.std.specs.Prelude.{◌≡◌, ◌++◌, [], None, OnOk};
-ghost use Rattle.node_commands.specs.Losses.{is_lost};
+ghost use Rattle.std.specs.Prelude.{◌≡◌, ◌++◌, List, ℕ, [], None, OnOk};
+ghost use Rattle.node_commands.specs.Losses.{Carries, counted_on, is_lost, left_of};
 
 use evidence::NoMemory;
 use text::cut;
@@ -28,12 +28,16 @@ impl Losses {
     // Counts one more frame, and answers whether it is lost.
     fn loses_next(&mut self) -> bool
         ensures every { self.new.every ≡ self.old.every }
-        ensures lost { result ≡ is_lost self.old.every (self.old.counted) }
+        ensures counted { self.new.counted ≡ counted_on self.old.counted }
+        ensures lost { result ≡ is_lost self.old.every self.old.counted }
     {
         let before = self.counted;
-        self.counted = before.saturating_add(1);
+        if before >= COUNTED_FRAMES {
+            return false;
+        }
+        self.counted = before + 1;
         match self.every {
-            Some(every) => before < COUNTED_FRAMES && every > 0 && (before + 1) % every == 0,
+            Some(every) => every > 0 && (before + 1) % every == 0,
             None => false,
         }
     }
@@ -42,29 +46,42 @@ impl Losses {
 /// Delivers to one end what was sent from the other, but for the frames that are lost.
 pub fn carry(from: &mut MemLink, to: &mut MemLink, losses: &mut Losses) -> Result<(), NoMemory>
     ensures every { losses.new.every ≡ losses.old.every }
+    ensures frames { OnOk result ((delivered : List ℕ) × Carries losses.old.every losses.old.counted from.old.sent delivered losses.new.counted
+        × (to.new.waiting ≡ to.old.waiting ++ delivered)) }
     ensures whole { OnOk result (losses.old.every ≡ None → to.new.waiting ≡ to.old.waiting ++ from.old.sent) }
     ensures sent { OnOk result (from.new.sent ≡ []) }
 {
-    if losses.every.is_none() {
-        to.deliver(from.sent())?;
-    } else {
-        carry_some(from.sent(), to, losses)?;
-    }
+    carry_frames(from.sent(), to, losses)?;
     from.clear_sent();
     Ok(())
 }
 
-// Delivers frames, each with its newline, but for those that are lost.
-fn carry_some(frames: &[u8], to: &mut MemLink, losses: &mut Losses) -> Result<(), NoMemory>
+// Delivers frames, each with its newline, but for those that are lost, and what stands behind the last newline.
+fn carry_frames(sent: &[u8], to: &mut MemLink, losses: &mut Losses) -> Result<(), NoMemory>
     ensures every { losses.new.every ≡ losses.old.every }
+    ensures frames { OnOk result ((delivered : List ℕ) × Carries losses.old.every losses.old.counted sent.now delivered losses.new.counted
+        × (to.new.waiting ≡ to.old.waiting ++ delivered)) }
 {
-    let mut left = frames;
-    'frames: while let (frame, Some(rest)) = cut(left) {
-        if !losses.loses_next() {
-            to.deliver(frame)?;
-            to.deliver(b"\n")?;
-        }
+    let mut left = sent;
+    'frames: loop {
+        let (frame, rest) = cut(left);
+        let Some(rest) = rest else {
+            return to.deliver(frame);
+        };
+        carry_frame(frame, to, losses)?;
         left = rest;
     }
-    Ok(())
+}
+
+// Counts a frame, and delivers it with its newline where it isn't lost.
+fn carry_frame(frame: &[u8], to: &mut MemLink, losses: &mut Losses) -> Result<(), NoMemory>
+    ensures every { losses.new.every ≡ losses.old.every }
+    ensures counted { losses.new.counted ≡ counted_on losses.old.counted }
+    ensures left { OnOk result (to.new.waiting ≡ to.old.waiting ++ left_of losses.old.every losses.old.counted frame.now) }
+{
+    if losses.loses_next() {
+        return Ok(());
+    }
+    to.deliver(frame)?;
+    to.deliver(b"\n")
 }

@@ -8,7 +8,7 @@ use crate::rounds::run_rounds;
 use crate::station::Station;
 use coordinator::Coordinator;
 use ledger::Left;
-use ledger_commands::{Opened, ReportForm};
+use ledger_commands::{Opened, ReportForm, write_report};
 use options::{Beginning, Ended, Outcome, Settling};
 use std::alloc::Global;
 use std::io::{self, Read, Write};
@@ -150,7 +150,7 @@ fn reported<P: ReportForm, W: Write>(
     answers: &mut W,
 ) -> Result<Outcome, Ended> {
     if let Some(board) = node.board() {
-        form.write(alloc, board, &Left::Nothing, answers)?;
+        write_report(alloc, form, board, &Left::Nothing, answers)?;
     }
     Ok(outcome_of(node))
 }

@@ -1,21 +1,22 @@
 // A worker in the same process as its coordinator.
 use crate::faults::in_memory;
 use crate::losses::{Losses, carry};
+use crate::no_ledger::NoLedger;
 use coordinator::Coordinator;
 use evidence::NoMemory;
 use options::Ended;
 use std::alloc::{AllocError, Global};
-use wire::{Event, LedgerOut, Lines, Link, MemLedger, MemLink, Node, TurnFault, begin, turn};
+use wire::{Event, LedgerOut, Lines, Link, MemLink, Node, TurnFault, begin, turn};
 
 // How many work turns a worker gets in a round.
 const WORK_TURNS: u32 = 8;
 
-// A worker with its ledger, and both ends of its link with the coordinator, all in memory. The worker is any
-// node: what is proved of a type that keeps boxed finders would depend on the bodies of its calls.
+// A worker, whose ledger nobody reads, and both ends of its link with the coordinator, which are in memory. The worker
+// is any node: what is proved of a type that keeps boxed finders would depend on the bodies of its calls.
 #[derive(Drop)]
 pub struct Station<N> {
     worker: N,
-    ledger: MemLedger,
+    ledger: NoLedger,
     near: LinkEnd,
     far: LinkEnd,
     to_coordinator: Losses,
@@ -58,7 +59,7 @@ impl<N: Node> Station<N> {
     pub fn new(alloc: Global, worker: N, lose: Option<u64>) -> Station<N> {
         Station {
             worker,
-            ledger: MemLedger::new(alloc),
+            ledger: NoLedger,
             near: LinkEnd::new(alloc),
             far: LinkEnd::new(alloc),
             to_coordinator: Losses::of(lose),

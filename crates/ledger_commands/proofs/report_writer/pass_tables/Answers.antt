@@ -3,8 +3,8 @@ use Rattle.std.specs.Vec.Iter.{into_iter_items}
 use Rattle.machine_text.specs.Packed.{Packed}
 use Rattle.machine_text.specs.Text.{text_of}
 use Rattle.ledger_commands.specs.Report.{line_of, lines_of}
-use Rattle.ledger_commands.proofs.Passing.{only_appended, line_passed}
-use Rattle.ledger_commands.proofs.report_writer.write_tables.Goals as goal
+use Rattle.ledger_commands.proofs.Passing.{only_appended, passes_on}
+use Rattle.ledger_commands.proofs.report_writer.pass_tables.Goals as goal
 
 pub loop-table-init : goal.loop-table-init
 loop-table-init g c = (
@@ -18,9 +18,8 @@ loop-table-preserved g c =
     let before = c.loop-table.invariant in
     let line = line_of c.args.name.now (text_of c.in-Some.table) in (
       before.0 ++ line,
-      line_passed (g.W.Write.contents c.args.answers.now) (g.W.Write.contents c.loop-table.answers) (g.W.Write.contents c.write_full.new.answers)
-          c.args.piece.now.items c.loop-table.piece.items c.append_table_line.new.out.items c.write_full.new.piece.items before.0 line
-          before.1 c.in_ok-append_table_line.ensures.ok c.in_ok-write_full.ensures.ok,
+      passes_on (g.W.Write.contents c.args.answers.now) (g.W.Write.contents c.loop-table.answers) (g.W.Write.contents c.pass_line.new.answers)
+          c.args.piece.now.items c.loop-table.piece.items c.pass_line.new.piece.items before.0 line before.1 c.in_ok-pass_line.ensures,
       append_assoc before.0 line (lines_of c.args.name.now (into_iter_items c.next.new.self))
           ∙ (ap (λ (ts : List Packed). before.0 ++ lines_of c.args.name.now ts) (sym c.in-Some.ensures.steps.0) ∙ before.2),
     )

@@ -2,7 +2,7 @@ use Rattle.std.proofs.Common.{◌≡◌, ℕ, List, ◌++◌}
 use Rattle.std.specs.Vec.Iter.{into_iter_items}
 use Rattle.ledger_commands.specs.Report.{lines_of}
 use Rattle.ledger_commands.specs.Passing.{Passes}
-use Rattle.ledger_commands.proofs.report_writer.write_tables.Given as goal
+use Rattle.ledger_commands.proofs.report_writer.pass_tables.Given as goal
 
 -- some lines have passed, and they and those of the tables that are left are the lines of all
 abbrev pub invariant-loop-table : goal.invariant-loop-table

@@ -2,7 +2,8 @@
 //! it answers events and does nothing else.
 //!
 //! `specs/CoordinatorRules` is the table of its rules, row by row; `specs/Starts` says what it makes of a ledger's
-//! bytes. Its board has leases on its open tables: what these are and how they end, `leases` says.
+//! bytes, `specs/CoordinatorLaws` what holds of all its answers. Its board has leases on its open tables: what these
+//! are and how they end, `leases` says.
 #![tactic(auto)]
 
 mod answering;

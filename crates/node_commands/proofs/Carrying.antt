@@ -1,7 +1,7 @@
 -- Frames that are carried one after another.
-use Rattle.std.proofs.Common.{◌≡◌, ℕ, List, [], ◌∷◌, ◌++◌, Option, Some, None, refl, sym, ap, ◌∙◌, append_assoc, subst}
+use Rattle.std.proofs.Common.{◌≡◌, ℕ, List, [], ◌∷◌, ◌++◌, Option, None, refl, sym, ap, ◌∙◌, append_assoc}
 use Rattle.text.specs.Lines.{HasNoNewline, BeginsWithLine}
-use Rattle.node_commands.specs.Losses.{AreFrames, Carries, counted_on, counted_after, delivered_of, left_of}
+use Rattle.node_commands.specs.Losses.{AreFrames, Carries, counted_on, delivered_of, left_of}
 
 -- nothing but a beginning of a frame
 pub carries_rest : (every : Option ℕ) (before : ℕ) (rest : List ℕ) → HasNoNewline rest → Carries every before rest rest before

@@ -15,10 +15,12 @@ frames-preserved c =
     let left : c.carry_frame.new.to.waiting ≡ c.frames.to.waiting ++ piece =
     subst (λ (o : Option ℕ). c.carry_frame.new.to.waiting ≡ c.frames.to.waiting ++ left_of o c.frames.losses.counted frame) inv.0 c.in_ok-carry_frame.ensures.left in (
       c.carry_frame.ensures.every ∙ inv.0,
-      (inv.1.0 ++ piece,
-      left ∙ (ap (λ (l : List ℕ). l ++ piece) inv.1.1 ∙ append_assoc c.args.to.now.waiting inv.1.0 piece),
-      λ delivered after carries. subst (λ (l : List ℕ). Carries every c.args.losses.now.counted c.args.sent.now l after) (sym (append_assoc inv.1.0 piece delivered))
-          (inv.1.2 (piece ++ delivered) after
-          (carries_frame every c.frames.losses.counted after c.frames.left.now frame c.in-Some.rest.now delivered begins
-          (subst (λ (n : ℕ). Carries every n c.in-Some.rest.now delivered after) c.carry_frame.ensures.counted carries)))),
+      (
+        inv.1.0 ++ piece,
+        left ∙ (ap (λ (l : List ℕ). l ++ piece) inv.1.1 ∙ append_assoc c.args.to.now.waiting inv.1.0 piece),
+        λ delivered after carries. subst (λ (l : List ℕ). Carries every c.args.losses.now.counted c.args.sent.now l after) (sym (append_assoc inv.1.0 piece delivered))
+            (inv.1.2 (piece ++ delivered) after
+            (carries_frame every c.frames.losses.counted after c.frames.left.now frame c.in-Some.rest.now delivered begins
+            (subst (λ (n : ℕ). Carries every n c.in-Some.rest.now delivered after) c.carry_frame.ensures.counted carries))),
+      ),
     )

@@ -48,7 +48,11 @@ answered_push : (Says : Option (List ℕ) → Outcome → List ℕ → Type 0) (
 answered_push Says [] line o first answers answer so says =
     (first, answer, Accepted, [], says, (refl, refl), ap (λ p. first_fault p first) so.0 ∙ fault_none first, ap (λ t. t ++ (answer ++ (10 ∷ []))) so.1)
 answered_push Says (l ∷ lines) line o first answers answer (f, a, later, others, said, so, outcome, text) says = (
-  f, a, first_fault later first, others ++ (answer ++ (10 ∷ [])), said,
+  f,
+  a,
+  first_fault later first,
+  others ++ (answer ++ (10 ∷ [])),
+  said,
   answered_push Says lines line later first others answer so says,
   ap (λ p. first_fault p first) outcome ∙ sym (fault_assoc f later first),
   ap (λ t. t ++ (answer ++ (10 ∷ []))) text ∙ append_assoc a (10 ∷ others) (answer ++ (10 ∷ [])),

@@ -63,11 +63,13 @@ left_leads n m a machine fits c within k d is over q reads =
     let like = turned_carried c in
     let (there, at, alike) = alike_at (Carried same_state back) m (mirrored m) (carried_step same_state back _ m (mirrored m) (mirror_renames m)) k c (turned c) d like is in
     let halts : next (mirrored m) there ≡ None = alike_none (Carried same_state back) (next (mirrored m) there)
-        (subst (λ o. Alike (Carried same_state back) o (next (mirrored m) there)) over (carried_step same_state back _ m (mirrored m) (mirror_renames m) d there alike)) in
+    (subst (λ o. Alike (Carried same_state back) o (next (mirrored m) there)) over (carried_step same_state back _ m (mirrored m) (mirror_renames m) d there alike)) in
     let (j, reaches) = right_leads n (mirrored m) a (mirrored_machine n m machine) (fits_mirrored n m L a fits) (turned c)
-        (subst (λ s. s < n) (sym like.state) within) k there at halts q (reads_turned c (turned c) like a.delta q reads) in
-    (j, subst (λ w. Reaches a (At q c.state) w Halt) (symbols_turned c (turned c) like c.tape.head (turned c).tape.head j like.head)
-        (subst (λ s. Reaches a (At q s) (symbols_ahead R (turned c) (turned c).tape.head j) Halt) like.state reaches))
+    (subst (λ s. s < n) (sym like.state) within) k there at halts q (reads_turned c (turned c) like a.delta q reads) in (
+      j,
+      subst (λ w. Reaches a (At q c.state) w Halt) (symbols_turned c (turned c) like c.tape.head (turned c).tape.head j like.head)
+          (subst (λ s. Reaches a (At q s) (symbols_ahead R (turned c) (turned c).tape.head j) Halt) like.state reaches),
+    )
 
 -- whichever side is ahead: a configuration of one of n states that comes to a halting pair leads to the halt state
 pub automata_lead : (n : ℕ) (m : Program) (side : Dir) (a : Automata) → IsMachine n m → Fits n m side a →

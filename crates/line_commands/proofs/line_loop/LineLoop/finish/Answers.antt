@@ -8,7 +8,7 @@ pub returns-clause-ok : goal.returns-clause-ok
 returns-clause-ok g c = λ read new_read held whole going.
     let start : going.answers ++ c.args.self.now.pending.items ≡ going.answers = ap (λ (t : List ℕ). going.answers ++ t) c.requires.none ∙ append-nil going.answers in
     let (lines, are, answered) = c.in_ok-ended.ensures going.text going.answers
-        (subst (λ t. IsAnswered g.A.Answerer.says going.text c.args.self.now.cutter c.args.self.now.outcome t) (sym start) going.is_answered) in
+    (subst (λ t. IsAnswered g.A.Answerer.says going.text c.args.self.now.cutter c.args.self.now.outcome t) (sym start) going.is_answered) in
     record {
       text = going.text;
       lines = lines;

@@ -11,7 +11,7 @@ loop-preserved g c =
     let text : List ℕ = going.text ++ take c.in_ok-count.count c.read.new.buf in
     let answers : List ℕ = going.answers ++ c.take-taken.new.self.pending.items in
     let so : IsAnswered g.A.Answerer.says text c.take-taken.new.self.cutter c.take-taken.new.self.outcome answers = c.in_ok-taken.ensures going.text going.answers
-        (subst (λ t. IsAnswered g.A.Answerer.says going.text c.loop.self.cutter c.loop.self.outcome t) (sym start) going.is_answered) in (
+    (subst (λ t. IsAnswered g.A.Answerer.says going.text c.loop.self.cutter c.loop.self.outcome t) (sym start) going.is_answered) in (
       record {
         text = text;
         answers = answers;

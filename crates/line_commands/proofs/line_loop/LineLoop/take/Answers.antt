@@ -11,10 +11,10 @@ lines-preserved g c text before so =
     let (first, answer, says, outcome, pending) = c.in_ok-answer_line.ensures.answer in
     let begins : BeginsWithLine c.lines.left.now c.cut.result.0.now c.in-Some.rest.now = subst (IsCut c.lines.left.now c.cut.result.0.now) c.in-Some.is c.cut.ensures.cut in
     let (x, rest, now) = whole_line g.A.Answerer.says (text ++ c.args.piece.now) done c.lines.left.now c.cut.result.0.now c.in-Some.rest.now
-        c.lines.self.cutter c.lines.self.outcome first (before ++ c.lines.self.pending.items) answer is begins at
-        (subst (λ k. g.A.Answerer.says k first answer) c.in_ok-take.ensures.ok says) in
+    c.lines.self.cutter c.lines.self.outcome first (before ++ c.lines.self.pending.items) answer is begins at
+    (subst (λ k. g.A.Answerer.says k first answer) c.in_ok-take.ensures.ok says) in
     let same : (before ++ c.lines.self.pending.items) ++ (answer ++ (10 ∷ [])) ≡ before ++ c.answer_line.new.self.pending.items =
-        behind_all before c.lines.self.pending.items answer c.answer_line.new.self.pending.items pending in (
+    behind_all before c.lines.self.pending.items answer c.answer_line.new.self.pending.items pending in (
       x,
       rest,
       subst (λ k. IsAnswered g.A.Answerer.says x k c.answer_line.new.self.outcome (before ++ c.answer_line.new.self.pending.items)) (sym c.in_ok-answer_line.ensures.cutter)

@@ -1,5 +1,8 @@
 -- How a command line ends that asks for nothing.
 use Rattle.std.specs.Prelude.{◌≡◌, ◌⊎◌}
+use Rattle.clap.specs.Words.{kind_of}
+use Rattle.clap.specs.declared.error.Error.{Error}
+use Rattle.clap.specs.declared.error.kind.ErrorKind.TheVariants.{DisplayHelp, DisplayVersion}
 use Rattle.options.specs.declared.outcome.Outcome.{Outcome}
 use Rattle.options.specs.declared.outcome.Outcome.TheVariants.{Accepted, BadLine, NoMemory, Failed}
 use Rattle.command_line.specs.declared.line_fault.LineFault.{LineFault}
@@ -9,9 +12,13 @@ use Rattle.command_line.specs.declared.line_fault.LineFault.TheVariants.{Refused
 abbrev pub EndsGravely : Outcome → Type 0
 EndsGravely o = (o ≡ NoMemory) ⊎ (o ≡ Failed)
 
--- a wrong line ends as one; what clap refuses may be a call for help, which is answered
+-- what clap refuses because help or the version is asked for
+abbrev pub IsAskedFor : Error → Type 0
+IsAskedFor told = (kind_of told ≡ DisplayHelp) ⊎ (kind_of told ≡ DisplayVersion)
+
+-- a wrong line ends as one; help and the version are answered
 abbrev pub EndsUnread : LineFault → Outcome → Type 0
-EndsUnread (Refused told) o = (o ≡ Accepted) ⊎ (o ≡ BadLine) ⊎ EndsGravely o
+EndsUnread (Refused told) o = (IsAskedFor told × (o ≡ Accepted)) ⊎ ((IsAskedFor told → ⊥) × (o ≡ BadLine)) ⊎ EndsGravely o
 EndsUnread NotText o = (o ≡ BadLine) ⊎ EndsGravely o
 EndsUnread NoSuchCommand o = (o ≡ BadLine) ⊎ EndsGravely o
 EndsUnread OutOfRange o = (o ≡ BadLine) ⊎ EndsGravely o

@@ -1,8 +1,9 @@
 -- A complete board's report as JSON is that of its tree, and a tree has one.
-use Rattle.std.proofs.Common.{◌≡◌, ℕ, ◌∷◌, ◌++◌, List, [], codes, sym, ap, ◌∙◌, subst}
+use Rattle.std.proofs.Common.{◌≡◌, ℕ, ◌≤◌, ◌∷◌, ◌++◌, List, [], Option, codes, sym, ap, ◌∙◌, subst}
 use Rattle.serde_json.specs.Data.{string, object, member, no_members}
 use Rattle.serde_json.specs.Written.{compact_text}
-use Rattle.machine_text.specs.Packed.{Packed}
+use Rattle.machine_text.specs.Limits.{state_limit}
+use Rattle.machine_text.specs.Packed.{Packed, empty_table}
 use Rattle.tree.specs.Closed.{IsComplete}
 use Rattle.ledger.specs.Contents.{Contents, IsBoard}
 use Rattle.ledger.specs.Records.{mark_in}
@@ -11,9 +12,9 @@ use Rattle.ledger.specs.WholeTree.{IsTreeChampion}
 use Rattle.ledger.specs.declared.tally.Tally.{Tally}
 use Rattle.ledger.specs.declared.status.Status.TheVariants.{Complete}
 use Rattle.ledger.proofs.WholeTree.{whole_tally, whole_champions, one_tally, one_list_of_champions}
-use Rattle.ledger_commands.proofs.TreeReports.{none_listed, complete_status}
+use Rattle.ledger_commands.proofs.TreeReports.{none_listed, complete_status, best_tells}
 use Rattle.json_report.specs.JsonReport.{IsJsonReport, report_text, best_value, tables_value, count_value, table_value}
-use Rattle.json_report.specs.TreeJson.{IsTreeJson}
+use Rattle.json_report.specs.TreeJson.{IsTreeJson, JsonTellsRado}
 
 -- the text by the word for the status
 abbrev named_text : Packed → List ℕ → Tally → List Packed → List Packed → List ℕ
@@ -50,3 +51,18 @@ one_json root a b x y =
     (subst (λ (t : Tally). AreAll (IsTreeChampion root t.best) x.champions) tally x.are_champions) y.are_champions in
     x.is ∙ (ap (λ (t : Tally). report_text root (Complete t.best) t x.champions []) tally
     ∙ (ap (λ (cs : List Packed). report_text root (Complete y.tally.best) y.tally cs []) champions ∙ sym y.is))
+
+pub json_tells_rado : (b : Contents) (n : ℕ) (text : List ℕ) → IsBoard b → IsComplete b.root (mark_in b.records) → 1 ≤ n → n ≤ state_limit → b.root ≡ empty_table n
+    → IsJsonReport b.root b.records text → JsonTellsRado n text
+json_tells_rado b n text board complete some limit root r =
+    let tree = tree_json b text board complete r in
+    let (s, best, rado) = best_tells b n tree.tally.best board complete some limit root tree.counted.best in
+    record {
+      s = s;
+      is_rado = rado;
+      tally = tree.tally;
+      champions = tree.champions;
+      best = best;
+      is = tree.is ∙ (ap (λ (p : Packed). report_text p (Complete tree.tally.best) tree.tally tree.champions []) root
+          ∙ ap (λ (o : Option ℕ). report_text (empty_table n) (Complete o) tree.tally tree.champions []) best);
+    }

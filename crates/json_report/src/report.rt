@@ -1,9 +1,11 @@
 // The report of a board as JSON.
-ghost use Rattle.std.specs.Prelude.{◌≡◌, ◌++◌, List, ℕ, IfOk, OnOk, OnErr};
+ghost use Rattle.std.specs.Prelude.{◌≡◌, ◌++◌, List, ℕ, ◌≤◌, IfOk, OnOk, OnErr};
+ghost use Rattle.machine_text.specs.Limits.{state_limit};
+ghost use Rattle.machine_text.specs.Packed.{empty_table};
 ghost use Rattle.tree.specs.Closed.{IsComplete};
 ghost use Rattle.ledger.specs.Records.{mark_in};
 ghost use Rattle.json_report.specs.JsonReport.{IsJsonReport};
-ghost use Rattle.json_report.specs.TreeJson.{IsTreeJson};
+ghost use Rattle.json_report.specs.TreeJson.{IsTreeJson, JsonTellsRado};
 
 use crate::values::report_value;
 use evidence::NoMemory;
@@ -12,13 +14,16 @@ use std::alloc::Global;
 
 /// Appends the report of a board as one JSON object, without a space and with its members in the order of
 /// their names, and a newline. `best` is the greatest recorded number of steps, or null; `champions` and
-/// `holdout_tables` are in the order of their texts. The text of a complete board is a function of its root alone.
-/// Where memory is refused, `out` is as it was.
-#[tactic(auto, using(crate::proofs::TreeJsons::tree_json))]
+/// `holdout_tables` are in the order of their texts. The text of a complete board is a function of its root alone;
+/// where that root is the empty table of n states, `best` is S(n) (Radó 1962). Where memory is refused, `out` is as it
+/// was.
+#[tactic(auto, using(crate::proofs::TreeJsons::tree_json, crate::proofs::TreeJsons::json_tells_rado))]
 pub fn report_json(alloc: Global, board: &Board, out: &mut Vec<u8>) -> Result<(), NoMemory>
     ensures ok { OnOk result ((text : List ℕ) × IsJsonReport board.now.root board.now.records text × (out.new.items ≡ out.old.items ++ text)) }
     ensures complete { OnOk result (IsComplete board.now.root (mark_in board.now.records) →
         (text : List ℕ) × IsTreeJson board.now.root text × (out.new.items ≡ out.old.items ++ text)) }
+    ensures rado { OnOk result (IsComplete board.now.root (mark_in board.now.records) → (n : ℕ) → 1 ≤ n → n ≤ state_limit →
+        board.now.root ≡ empty_table n → (text : List ℕ) × JsonTellsRado n text × (out.new.items ≡ out.old.items ++ text)) }
     ensures err { OnErr result (out.new.items ≡ out.old.items) }
 {
     // The proof needs that it is a board.

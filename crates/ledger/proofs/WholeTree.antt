@@ -30,7 +30,7 @@ use Rattle.ledger.proofs.Completeness.{true_marks}
 of_tables : OfTables
 of_tables p t is_table inside = let alike = tree_alike p t is_table inside in (alike.is_table, alike.states)
 
-board_marks : (b : Contents) → IsBoard b → AreTrueMarks (mark_in b.records)
+pub board_marks : (b : Contents) → IsBoard b → AreTrueMarks (mark_in b.records)
 board_marks b board = true_marks b tree_table_child of_tables standing_is_true board
 
 -- a verdict that is true of a table of the tree is the recorded one

@@ -1,6 +1,7 @@
 -- The report of a whole tree: a complete board's, whatever way it came about.
-use Rattle.std.specs.Prelude.{◌≡◌, ℕ, List, []}
-use Rattle.machine_text.specs.Packed.{Packed}
+use Rattle.std.specs.Prelude.{◌≡◌, ℕ, List, [], Some}
+use Rattle.machine_text.specs.Packed.{Packed, empty_table}
+use Rattle.turing.specs.Halting.{IsRado}
 use Rattle.ledger.specs.Tally.{AreAll}
 use Rattle.ledger.specs.WholeTree.{IsTreeTally, IsTreeChampion}
 use Rattle.ledger.specs.declared.tally.Tally.{Tally}
@@ -15,3 +16,12 @@ pub record IsTreeReport (root : Packed) (text : List ℕ) : Type 0 where
   pub counted : IsTreeTally root tally
   pub are_champions : AreAll (IsTreeChampion root tally.best) champions
   pub is : text ≡ report_text root (Complete tally.best) tally champions []
+
+-- of the tree of the empty table of n states: its best is Radó's S(n)
+pub record TellsRado (n : ℕ) (text : List ℕ) : Type 0 where
+  pub s : ℕ
+  pub is_rado : IsRado n s
+  pub tally : Tally
+  pub champions : List Packed
+  pub best : tally.best ≡ Some s
+  pub is : text ≡ report_text (empty_table n) (Complete (Some s)) tally champions []

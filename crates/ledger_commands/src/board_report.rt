@@ -1,10 +1,12 @@
 // The report of a board.
-ghost use Rattle.std.specs.Prelude.{◌≡◌, ◌∷◌, [], ◌++◌, List, ℕ, codes, take, length, decimal, OnOk, OnErr};
+ghost use Rattle.std.specs.Prelude.{◌≡◌, ◌∷◌, [], ◌++◌, List, ℕ, ◌≤◌, codes, take, length, decimal, OnOk, OnErr};
 ghost use Rattle.std.specs.Vec.Iter.{into_iter_items};
+ghost use Rattle.machine_text.specs.Limits.{state_limit};
+ghost use Rattle.machine_text.specs.Packed.{empty_table};
 ghost use Rattle.machine_text.specs.Text.{text_of};
 ghost use Rattle.tree.specs.Closed.{IsComplete};
 ghost use Rattle.ledger.specs.Records.{mark_in};
-ghost use Rattle.ledger_commands.specs.TreeReport.{IsTreeReport};
+ghost use Rattle.ledger_commands.specs.TreeReport.{IsTreeReport, TellsRado};
 ghost use Rattle.ledger_commands.specs.Report.{IsReport, IsHead, line_of, lines_of, status_name, best_text, verdicts_text, counts_text, report_text};
 
 use cert::append_number;
@@ -15,12 +17,15 @@ use std::vec::IntoIter;
 
 /// Appends the report of a board: its root, how it stands, how many tables there are of each kind, the
 /// greatest recorded number of steps, and the champions and holdouts in the order of their texts. That of a
-/// complete board is a function of its root alone. Where memory is refused, `out` is as it was.
-#[tactic(auto, using(crate::proofs::TreeReports::tree_report))]
+/// complete board is a function of its root alone; where that root is the empty table of n states, its best is S(n)
+/// (Radó 1962). Where memory is refused, `out` is as it was.
+#[tactic(auto, using(crate::proofs::TreeReports::tree_report, crate::proofs::TreeReports::tells_rado))]
 pub fn report(board: &Board, out: &mut Vec<u8>) -> Result<(), NoMemory>
     ensures ok { OnOk result ((text : List ℕ) × IsReport board.now.root board.now.records text × (out.new.items ≡ out.old.items ++ text)) }
     ensures complete { OnOk result (IsComplete board.now.root (mark_in board.now.records) →
         (text : List ℕ) × IsTreeReport board.now.root text × (out.new.items ≡ out.old.items ++ text)) }
+    ensures rado { OnOk result (IsComplete board.now.root (mark_in board.now.records) → (n : ℕ) → 1 ≤ n → n ≤ state_limit →
+        board.now.root ≡ empty_table n → (text : List ℕ) × TellsRado n text × (out.new.items ≡ out.old.items ++ text)) }
     ensures err { OnErr result (out.new.items ≡ out.old.items) }
 {
     // The proof needs that it is a board.

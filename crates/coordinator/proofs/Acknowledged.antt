@@ -19,7 +19,7 @@ use Rattle.leases.specs.declared.reply.Reply.{Reply}
 use Rattle.leases.specs.declared.reply.Reply.TheVariants.{Stop as ToStop, Later as ToWait, Grant as ToGrant}
 use Rattle.coordinator.specs.CoordinatorRules as coordinating
 use Rattle.coordinator.specs.CoordinatorRules.{Coordinating, DoneRow, HeldGives, MessageRow, OfferRow, On, reply_of}
-use Rattle.coordinator.specs.CoordinatorLaws.{AcknowledgesRecorded, IsRecordedOn}
+use Rattle.coordinator.specs.CoordinatorLaws.{AcknowledgesRecorded, HasRecordOn}
 use Rattle.coordinator.specs.Finals.{board_of}
 
 no_member : {X : Type 0} (x : X) → Contains [] x → ⊥
@@ -29,7 +29,7 @@ no_member x h = omega (arith, h.1)
 none_sent : (out : Out) (board : Option Contents) → out.frames.items ≡ frames_of [] → AcknowledgesRecorded out board
 none_sent out board frames = ([], frames, λ t there. absurd (no_member (Ack t) there))
 
-one_sent : (out : Out) (board : Option Contents) (m : Message) → out.frames.items ≡ frames_of (m ∷ []) → ((t : Packed) → m ≡ Ack t → IsRecordedOn board t) → AcknowledgesRecorded out board
+one_sent : (out : Out) (board : Option Contents) (m : Message) → out.frames.items ≡ frames_of (m ∷ []) → ((t : Packed) → m ≡ Ack t → HasRecordOn board t) → AcknowledgesRecorded out board
 one_sent out board m frames own = (
   m ∷ [],
   frames,

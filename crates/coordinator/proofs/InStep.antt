@@ -26,9 +26,9 @@ use Rattle.wire.specs.declared.node.NodeFault.TheVariants.{Stopped, NoMemory as 
 use Rattle.wire.specs.declared.node.Out.{Out}
 use Rattle.leases.specs.Leases.{Leased}
 use Rattle.roles.specs.Says.{Says, lines_of}
-use Rattle.roles.specs.Kept.{cut_of, kept_of}
+use Rattle.roles.specs.Kept.{cut_of, kept_bytes}
 use Rattle.coordinator.specs.Starts.{Begins, HeldInStep, InStep, header_line, header_due}
-use Rattle.coordinator.specs.Inside.Begun.{IsBegun, HoldsBoard}
+use Rattle.coordinator.specs.Inside.Begun.{BeginsSo, HoldsBoard}
 use Rattle.coordinator.specs.CoordinatorRules.{Coordinating, HeldGives, On, OfferRow, DoneRow, MessageRow, FrameRow, Row}
 
 abbrev Stands : Contents → List ℕ → Type 0
@@ -111,7 +111,7 @@ fresh n some limit =
     subst (λ (l : List ℕ). ReadsAs (empty_table n) l [] Nothing) (ledger_of_none (empty_table n)) whole
 
 -- some bytes of a ledger with a header are kept
-some_kept : (root : Packed) (text : List ℕ) (rs : List Recorded) (left : Left) → ReadsAs root text rs left → 1 ≤ kept_of text left
+some_kept : (root : Packed) (text : List ℕ) (rs : List Recorded) (left : Left) → ReadsAs root text rs left → 1 ≤ kept_bytes text left
 some_kept root text rs Nothing reads =
     let line = header_words ++ reads.header.name in
     omega (arith, ap length reads.header.line.is, length-append line (10 ∷ reads.body))
@@ -126,7 +126,7 @@ not_due root kept some = ap (λ b. cond b (header_line root) []) (ne_eqb kept 0 
 due : (root : Packed) (kept : ℕ) → kept ≡ 0 → header_due root kept ≡ header_line root
 due root kept none = ap (header_due root) none
 
-after_start : (root : Packed) (text : List ℕ) (left : Left) (out : Out) → Begins root text left out → text_after out text ≡ cut_by (cut_of left) text ++ header_due root (kept_of text left)
+after_start : (root : Packed) (text : List ℕ) (left : Left) (out : Out) → Begins root text left out → text_after out text ≡ cut_by (cut_of left) text ++ header_due root (kept_bytes text left)
 after_start root text left out begins = ap (λ c. cut_by c text ++ out.append.items) begins.cut_is ∙ ap (λ l. cut_by (cut_of left) text ++ l) begins.append_is
 
 module _ (n : ℕ) (some : 1 ≤ n) (limit : n ≤ state_limit) (text : List ℕ) (out : Out) (rs : List Recorded) where
@@ -150,7 +150,7 @@ module _ (n : ℕ) (some : 1 ≤ n) (limit : n ≤ state_limit) (text : List ℕ
       (sym (after_start (empty_table n) text (From line kept why) out begins ∙ ap (λ k. take k text ++ header_due (empty_table n) k) torn.ends.2))
       (subst (λ (l : List Recorded). ReadsAs (empty_table n) (header_line (empty_table n)) l Nothing) (sym torn.none) (fresh n some limit))
 
-pub start_step : (n : ℕ) (text : List ℕ) (held : Leased) (out : Out) → 1 ≤ n → n ≤ state_limit → IsBegun n text (Ok (held, out)) → ReadsAs held.board.root (text_after out text) held.board.records Nothing
+pub start_step : (n : ℕ) (text : List ℕ) (held : Leased) (out : Out) → 1 ≤ n → n ≤ state_limit → BeginsSo n text (Ok (held, out)) → ReadsAs held.board.root (text_after out text) held.board.records Nothing
 start_step n text held out some limit (leases, (left, (root, inl torn), begins)) =
     subst (λ (p : Packed). ReadsAs p (text_after out text) held.board.records Nothing) (sym root) (without n some limit text out held.board.records left begins torn)
 start_step n text held out some limit (leases, (left, (root, inr reads), begins)) =

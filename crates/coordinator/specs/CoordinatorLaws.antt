@@ -8,11 +8,11 @@ use Rattle.wire.specs.Grammar.{frames_of}
 use Rattle.wire.specs.Message.{Message, Ack}
 
 -- the table has a record on the board
-abbrev pub IsRecordedOn : Option Contents → Packed → Type 0
-IsRecordedOn None t = ⊥
-IsRecordedOn (Some b) t = IsSome (claim_in b.records t)
+abbrev pub HasRecordOn : Option Contents → Packed → Type 0
+HasRecordOn None t = ⊥
+HasRecordOn (Some b) t = IsSome (claim_in b.records t)
 
 -- each table that is acknowledged, by whichever of the messages that are sent, has a record on the board
 abbrev pub AcknowledgesRecorded : Out → Option Contents → Type 0
 AcknowledgesRecorded out board =
-    (sent : List Message) × (out.frames.items ≡ frames_of sent) × ((t : Packed) → Contains sent (Ack t) → IsRecordedOn board t)
+    (sent : List Message) × (out.frames.items ≡ frames_of sent) × ((t : Packed) → Contains sent (Ack t) → HasRecordOn board t)

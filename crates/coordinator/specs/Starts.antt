@@ -9,7 +9,7 @@ use Rattle.ledger.specs.declared.left.Left.TheVariants.{Nothing}
 use Rattle.wire.specs.declared.node.Note.TheVariants.{Quiet}
 use Rattle.wire.specs.declared.node.Out.{Out}
 use Rattle.leases.specs.Leases.{Leased, no_leases}
-use Rattle.roles.specs.Kept.{kept_of, cut_of}
+use Rattle.roles.specs.Kept.{kept_bytes, cut_of}
 use Rattle.coordinator.specs.CoordinatorRules.{Coordinating}
 use Rattle.roles.specs.declared.start_fault.StartFault.{StartFault}
 use Rattle.roles.specs.declared.start_fault.StartFault.TheVariants.{BadHeader, WrongRoot, NoMemory}
@@ -24,7 +24,7 @@ header_due root kept = if kept == 0 then header_line root else []
 -- the answer of a start: the ledger is cut to what was kept of it, and gains a header where that is nothing
 pub record Begins (root : Packed) (text : List ℕ) (left : Left) (out : Out) : Type 0 where
   pub cut_is : out.cut ≡ cut_of left
-  pub append_is : out.append.items ≡ header_due root (kept_of text left)
+  pub append_is : out.append.items ≡ header_due root (kept_bytes text left)
   pub frames_are : out.frames.items ≡ []
   pub note_is : out.note ≡ Quiet
 
@@ -36,16 +36,16 @@ not_started era = record { era = era; held = None; stopped = true }
 
 -- why a coordinator doesn't start: the ledger has no header, or one of another root; where memory was refused it has
 -- the header of this root, or is torn off within its header
-abbrev pub IsNoStart : Packed → List ℕ → StartFault → Type 0
-IsNoStart root text BadHeader = HasNoHeader text
-IsNoStart root text WrongRoot = (other : Packed) × (rest : List ℕ) × HasHeader text other rest × (other ≢ root)
-IsNoStart root text NoMemory = IsTornHeader text ⊎ ((rest : List ℕ) × HasHeader text root rest)
+abbrev pub CantStart : Packed → List ℕ → StartFault → Type 0
+CantStart root text BadHeader = HasNoHeader text
+CantStart root text WrongRoot = (other : Packed) × (rest : List ℕ) × HasHeader text other rest × (other ≢ root)
+CantStart root text NoMemory = IsTornHeader text ⊎ ((rest : List ℕ) × HasHeader text root rest)
 
 -- a coordinator for machines of n states is started from a ledger's text; or it can't start, and is stopped
 abbrev pub Starts : ℕ → ℕ → List ℕ → Coordinating → Result Out StartFault → Type 0
 Starts n era text new (Ok out) =
     (board : Contents) × (left : Left) × LoadGives (empty_table n) text (Ok (board, left)) × (new ≡ started era board) × Begins (empty_table n) text left out
-Starts n era text new (Err fault) = IsNoStart (empty_table n) text fault × (new ≡ not_started era)
+Starts n era text new (Err fault) = CantStart (empty_table n) text fault × (new ≡ not_started era)
 
 -- a ledger's text is in step with a coordinator: its header is whole, and it stands, all its bytes kept, for the
 -- board; none is in step with a coordinator that wasn't started

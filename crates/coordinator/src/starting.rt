@@ -4,8 +4,8 @@ ghost use Rattle.machine_text.specs.Limits.{state_limit};
 ghost use Rattle.machine_text.specs.Packed.{Packed, empty_table};
 ghost use Rattle.ledger.specs.LedgerText.{LoadGives};
 ghost use Rattle.coordinator.specs.Starts.{Begins, header_due};
-ghost use Rattle.roles.specs.Kept.{kept_of};
-ghost use Rattle.coordinator.specs.Inside.Begun.{IsBegun};
+ghost use Rattle.roles.specs.Kept.{kept_bytes};
+ghost use Rattle.coordinator.specs.Inside.Begun.{BeginsSo};
 
 use evidence::NoMemory;
 use leases::LeasedBoard;
@@ -20,7 +20,7 @@ use wire::{Note, Out};
 // The board of a ledger's bytes, without leases, and the answer of the start.
 pub fn begun(alloc: Global, n: u8, ledger: &[u8]) -> Result<(LeasedBoard, Out), StartFault>
     requires { (1 ≤ n) × (n ≤ state_limit) }
-    ensures { IsBegun n ledger.now result }
+    ensures { BeginsSo n ledger.now result }
 {
     rado_of_tables();
     let root = root(n);

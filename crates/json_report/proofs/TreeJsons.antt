@@ -13,7 +13,7 @@ use Rattle.ledger.specs.declared.tally.Tally.{Tally}
 use Rattle.ledger.specs.declared.status.Status.TheVariants.{Complete}
 use Rattle.ledger.proofs.WholeTree.{whole_tally, whole_champions, one_tally, one_list_of_champions}
 use Rattle.ledger_commands.proofs.TreeReports.{none_listed, complete_status, best_tells}
-use Rattle.json_report.specs.JsonReport.{IsJsonReport, report_text, best_value, tables_value, count_value, table_value}
+use Rattle.json_report.specs.JsonReport.{IsJsonReport, json_text, best_value, tables_value, count_value, table_value}
 use Rattle.json_report.specs.TreeJson.{IsTreeJson, JsonTellsRado}
 
 -- the text by the word for the status
@@ -41,7 +41,7 @@ tree_json b text board complete r =
       counted = whole_tally b r.tally board complete r.counted;
       are_champions = whole_champions b r.tally.best r.champions board complete r.are_champions;
       is = r.is ∙ (ap (λ name. named_text b.root name r.tally r.champions r.holdouts) status
-          ∙ ap (λ hs. report_text b.root (Complete r.tally.best) r.tally r.champions hs) holdouts);
+          ∙ ap (λ hs. json_text b.root (Complete r.tally.best) r.tally r.champions hs) holdouts);
     }
 
 pub one_json : (root : Packed) (a b : List ℕ) → IsTreeJson root a → IsTreeJson root b → a ≡ b
@@ -49,8 +49,8 @@ one_json root a b x y =
     let tally : x.tally ≡ y.tally = one_tally root x.tally y.tally x.counted y.counted in
     let champions : x.champions ≡ y.champions = one_list_of_champions root y.tally.best x.champions y.champions
     (subst (λ (t : Tally). AreAll (IsTreeChampion root t.best) x.champions) tally x.are_champions) y.are_champions in
-    x.is ∙ (ap (λ (t : Tally). report_text root (Complete t.best) t x.champions []) tally
-    ∙ (ap (λ (cs : List Packed). report_text root (Complete y.tally.best) y.tally cs []) champions ∙ sym y.is))
+    x.is ∙ (ap (λ (t : Tally). json_text root (Complete t.best) t x.champions []) tally
+    ∙ (ap (λ (cs : List Packed). json_text root (Complete y.tally.best) y.tally cs []) champions ∙ sym y.is))
 
 pub json_tells_rado : (b : Contents) (n : ℕ) (text : List ℕ) → IsBoard b → IsComplete b.root (mark_in b.records) → 1 ≤ n → n ≤ state_limit → b.root ≡ empty_table n
     → IsJsonReport b.root b.records text → JsonTellsRado n text
@@ -63,6 +63,6 @@ json_tells_rado b n text board complete some limit root r =
       tally = tree.tally;
       champions = tree.champions;
       best = best;
-      is = tree.is ∙ (ap (λ (p : Packed). report_text p (Complete tree.tally.best) tree.tally tree.champions []) root
-          ∙ ap (λ (o : Option ℕ). report_text (empty_table n) (Complete o) tree.tally tree.champions []) best);
+      is = tree.is ∙ (ap (λ (p : Packed). json_text p (Complete tree.tally.best) tree.tally tree.champions []) root
+          ∙ ap (λ (o : Option ℕ). json_text (empty_table n) (Complete o) tree.tally tree.champions []) best);
     }

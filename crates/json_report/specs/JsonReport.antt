@@ -46,8 +46,8 @@ report_value root status tally champions holdouts =
     object_of (table_value root) status tally (tables_value champions) (tables_value holdouts)
 
 -- its text, with no space, and a newline
-abbrev pub report_text : Packed → Status → Tally → List Packed → List Packed → List ℕ
-report_text root status tally champions holdouts = compact_text (report_value root status tally champions holdouts) ++ 10 ∷ []
+abbrev pub json_text : Packed → Status → Tally → List Packed → List Packed → List ℕ
+json_text root status tally champions holdouts = compact_text (report_value root status tally champions holdouts) ++ 10 ∷ []
 
 -- the report of a root and the records held from it: how the board stands, its tallies, and its champions and holdouts
 -- in the order of their texts
@@ -60,4 +60,4 @@ pub record IsJsonReport (root : Packed) (rs : List Recorded) (text : List ℕ) :
   pub counted : IsTally root rs tally
   pub are_champions : AreAll (IsChampion rs tally.best) champions
   pub are_holdouts : AreAll (IsHoldout rs) holdouts
-  pub is : text ≡ report_text root status tally champions holdouts
+  pub is : text ≡ json_text root status tally champions holdouts

@@ -6,14 +6,14 @@ use Rattle.ledger.specs.Tally.{AreAll}
 use Rattle.ledger.specs.WholeTree.{IsTreeTally, IsTreeChampion}
 use Rattle.ledger.specs.declared.tally.Tally.{Tally}
 use Rattle.ledger.specs.declared.status.Status.TheVariants.{Complete}
-use Rattle.json_report.specs.JsonReport.{report_text}
+use Rattle.json_report.specs.JsonReport.{json_text}
 
 pub record IsTreeJson (root : Packed) (text : List ℕ) : Type 0 where
   pub tally : Tally
   pub champions : List Packed
   pub counted : IsTreeTally root tally
   pub are_champions : AreAll (IsTreeChampion root tally.best) champions
-  pub is : text ≡ report_text root (Complete tally.best) tally champions []
+  pub is : text ≡ json_text root (Complete tally.best) tally champions []
 
 -- of the tree of the empty table of n states: its best is Radó's S(n)
 pub record JsonTellsRado (n : ℕ) (text : List ℕ) : Type 0 where
@@ -22,4 +22,4 @@ pub record JsonTellsRado (n : ℕ) (text : List ℕ) : Type 0 where
   pub tally : Tally
   pub champions : List Packed
   pub best : tally.best ≡ Some s
-  pub is : text ≡ report_text (empty_table n) (Complete (Some s)) tally champions []
+  pub is : text ≡ json_text (empty_table n) (Complete (Some s)) tally champions []

@@ -15,7 +15,7 @@ use Rattle.indexmap.specs.IndexSet.{insert_key}
 use Rattle.indexmap.proofs.CallerLemmas.{Contains-insert_key, Contains-list_any}
 use Rattle.std.specs.List.{list_any}
 use Rattle.std.proofs.lemmas.List.Elements.{Contains-append_left}
-use Rattle.leases.specs.Inside.Free.{Gains, IsOnTop, LosesOnly, reverse_cmp}
+use Rattle.leases.specs.Inside.Free.{ComesIn, IsOnTop, LosesOnly, reverse_cmp}
 
 -- the members of a list under a map
 pub mapped : {X Y : Type 0} (f : X → Y) (xs : List X) (x : X) → Contains xs x → Contains (map f xs) (f x)
@@ -37,7 +37,7 @@ unmapped f (x ∷ xs) y h =
 abbrev bare : List (Reverse Packed) → List Packed
 bare rs = map (λ (r : Reverse Packed). r.0) rs
 
-pub gains : (old new : List (Reverse Packed)) (r : Reverse Packed) → IsPermutation (r ∷ old) new → Gains (bare old) r.0 (bare new)
+pub gains : (old new : List (Reverse Packed)) (r : Reverse Packed) → IsPermutation (r ∷ old) new → ComesIn (bare old) r.0 (bare new)
 gains old new r moved = record {
   here = mapped (λ (r : Reverse Packed). r.0) new r (Contains-permutation (r ∷ old) new r moved (first_member r r old refl));
   others = λ q h.
@@ -78,7 +78,7 @@ is_here (x ∷ xs) q h = elim (first_or_later x xs q h) [
   | inr later ↦ or_later (same_table q x) (list_any (same_table q) xs) (is_here xs q later)
 ]
 
-pub gains_key : (ks : List Packed) (k : Packed) → Gains ks k (insert_key same_table ks k)
+pub gains_key : (ks : List Packed) (k : Packed) → ComesIn ks k (insert_key same_table ks k)
 gains_key ks k = record {
   here = Contains-insert_key same_table same_is ks k;
   others = λ q h. elim (list_any (same_table k) ks) as (λ b. Contains (if b then ks else ks ++ (k ∷ [])) q) [ true ↦ h | false ↦ Contains-append_left ks (k ∷ []) q h ];

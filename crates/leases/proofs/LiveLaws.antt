@@ -18,11 +18,11 @@ use Rattle.std.proofs.lemmas.Map.Views.{All-found, Contains-from_lookup}
 use Rattle.std.proofs.lemmas.Option.{same_Some}
 use Rattle.ledger.proofs.Apart.{first_member, later_member}
 use Rattle.leases.specs.Leases.{is_live}
-use Rattle.leases.specs.Inside.Keeping.{Kept, kept, held, is_numbered, without, AreOfWorkers, IsOwn, AreOffered}
+use Rattle.leases.specs.Inside.Keeping.{KeptLease, kept, held, is_numbered, without, AreOfWorkers, IsOwn, AreAmongFree}
 use Rattle.machine_text.specs.Packed.{Packed}
 use Rattle.std.proofs.lemmas.List.{length-map}
 use Rattle.leases.specs.declared.held_leases.HeldLease.{HeldLease}
-use Rattle.leases.specs.Inside.Children.{HasRoom}
+use Rattle.leases.specs.Inside.Children.{HasRoomForChildren}
 use Rattle.leases.proofs.Members.{found_live}
 use Rattle.leases.proofs.FreeLaws.{mapped, unmapped}
 
@@ -46,14 +46,14 @@ lives_is n (e ∷ es) =
     ] (at_number n e.0)
 
 -- a lease that is kept is found under its number
-pub member_at : (m : BTreeMap ℕ HeldLease) → IsOrdered nat_cmp m → (l : Kept) → Contains (map kept m.entries) l → (v : HeldLease) × (get nat_cmp m l.number ≡ Some v) × (kept (l.number, v) ≡ l)
+pub member_at : (m : BTreeMap ℕ HeldLease) → IsOrdered nat_cmp m → (l : KeptLease) → Contains (map kept m.entries) l → (v : HeldLease) × (get nat_cmp m l.number ≡ Some v) × (kept (l.number, v) ≡ l)
 member_at m ordered l member =
     let e = unmapped kept m.entries l member in
-    let number : e.0.0 ≡ l.number = ap (λ (l : Kept). l.number) e.2 in
+    let number : e.0.0 ≡ l.number = ap (λ (l : KeptLease). l.number) e.2 in
     let found : get nat_cmp m e.0.0 ≡ Some e.0.1 = All-contains (λ (e : ℕ × HeldLease). get nat_cmp m e.0 ≡ Some e.1) m.entries e.0 (All-found nat_cmp_total m ordered) e.1 in
     (e.0.1, subst (λ n. get nat_cmp m n ≡ Some e.0.1) number found, ap (λ n. kept (n, e.0.1)) (sym number) ∙ e.2)
 
-pub without_none : (ls : List Kept) → without None ls ≡ ls
+pub without_none : (ls : List KeptLease) → without None ls ≡ ls
 without_none [] = refl
 without_none (l ∷ ls) = ap (λ xs. l ∷ xs) (without_none ls)
 
@@ -78,7 +78,7 @@ and_false true = refl
 and_false false = refl
 
 -- which leases live, without one
-pub live_without : (which : Option ℕ) (ls : List Kept) (n : ℕ) → is_live (map held (without which ls)) n ≡ (is_live (map held ls) n && not (is_numbered which n))
+pub live_without : (which : Option ℕ) (ls : List KeptLease) (n : ℕ) → is_live (map held (without which ls)) n ≡ (is_live (map held ls) n && not (is_numbered which n))
 live_without which [] n = refl
 live_without which (l ∷ ls) n =
     let live = is_live (map held ls) n in
@@ -97,14 +97,14 @@ live_without which (l ∷ ls) n =
     ] refl
 
 -- a lease with the greatest number comes last
-pub added_last : (n : ℕ) (v : HeldLease) (es : List (ℕ × HeldLease)) → All (λ (l : Kept). l.number < n) (map kept es) → insert_entry nat_cmp es n v ≡ es ++ ((n, v) ∷ [])
+pub added_last : (n : ℕ) (v : HeldLease) (es : List (ℕ × HeldLease)) → All (λ (l : KeptLease). l.number < n) (map kept es) → insert_entry nat_cmp es n v ≡ es ++ ((n, v) ∷ [])
 added_last n v [] below = refl
 added_last n v (e ∷ es) below =
-    let less : e.0 < n = All-head (λ (l : Kept). l.number < n) (kept e) (map kept es) below in
+    let less : e.0 < n = All-head (λ (l : KeptLease). l.number < n) (kept e) (map kept es) below in
     ap (λ o. match_ordering o ((n, v) ∷ e ∷ es) ((e.0, v) ∷ es) (e ∷ insert_entry nat_cmp es n v)) (sym (nat_cmp_is n e.0 Greater less))
-    ∙ ap (λ xs. e ∷ xs) (added_last n v es (All-tail (λ (l : Kept). l.number < n) (kept e) (map kept es) below))
+    ∙ ap (λ xs. e ∷ xs) (added_last n v es (All-tail (λ (l : KeptLease). l.number < n) (kept e) (map kept es) below))
 
-pub without_last : (which : Option ℕ) (ls : List Kept) (l : Kept) → is_numbered which l.number ≡ false → without which (ls ++ (l ∷ [])) ≡ without which ls ++ (l ∷ [])
+pub without_last : (which : Option ℕ) (ls : List KeptLease) (l : KeptLease) → is_numbered which l.number ≡ false → without which (ls ++ (l ∷ [])) ≡ without which ls ++ (l ∷ [])
 without_last which [] l other = ap (λ v. cond (not v) (l ∷ []) []) other
 without_last which (x ∷ xs) l other =
     elim (is_numbered which x.number) as (λ v. cond (not v) (x ∷ without which (xs ++ (l ∷ []))) (without which (xs ++ (l ∷ []))) ≡ cond (not v) (x ∷ without which xs) (without which xs) ++ (l ∷ [])) [
@@ -222,7 +222,7 @@ workers_replaced numbers next at after own n v were fresh only exact other_own p
 )
 
 -- the leases without a worker's own one are those of the others
-pub of_others : (id : ℕ) (own : Option ℕ) (ls : List Kept) → ((l : Kept) → Contains ls l → l.id ≡ id → own ≡ Some l.number) → ((l : Kept) → Contains ls l → own ≡ Some l.number → l.id ≡ id)
+pub of_others : (id : ℕ) (own : Option ℕ) (ls : List KeptLease) → ((l : KeptLease) → Contains ls l → l.id ≡ id → own ≡ Some l.number) → ((l : KeptLease) → Contains ls l → own ≡ Some l.number → l.id ≡ id)
     → without own ls ≡ filter (λ l. not (nat_eq l.id id)) ls
 of_others id own [] only exact = refl
 of_others id own (l ∷ ls) only exact =
@@ -257,11 +257,11 @@ length_removed n (e ∷ es) =
 
 pub length_found : (n : ℕ) (es : List (ℕ × HeldLease)) → IsStrictlySortedBy nat_cmp (keys_of es) → is_some (lookup (is_at (nat_cmp n)) es) ≡ true → length (without (Some n) (map kept es)) + 1 ≡ length es
 length_found n es sorted found =
-    length_left n es (ap (λ (ls : List Kept). length ls + (if is_some (lookup (is_at (nat_cmp n)) es) then 1 else 0)) (sym (removed_is n es sorted)) ∙ length_removed n es) true found
+    length_left n es (ap (λ (ls : List KeptLease). length ls + (if is_some (lookup (is_at (nat_cmp n)) es) then 1 else 0)) (sym (removed_is n es sorted)) ∙ length_removed n es) true found
 
 pub length_missing : (n : ℕ) (es : List (ℕ × HeldLease)) → IsStrictlySortedBy nat_cmp (keys_of es) → is_some (lookup (is_at (nat_cmp n)) es) ≡ false → length (without (Some n) (map kept es)) ≡ length es
 length_missing n es sorted none =
-    let same = length_left n es (ap (λ (ls : List Kept). length ls + (if is_some (lookup (is_at (nat_cmp n)) es) then 1 else 0)) (sym (removed_is n es sorted)) ∙ length_removed n es) false none in
+    let same = length_left n es (ap (λ (ls : List KeptLease). length ls + (if is_some (lookup (is_at (nat_cmp n)) es) then 1 else 0)) (sym (removed_is n es sorted)) ∙ length_removed n es) false none in
     omega arith
 
 pub is_own : (id : ℕ) (own : Option ℕ) (m : BTreeMap ℕ HeldLease) (numbers : ℕ → Option ℕ) → IsOrdered nat_cmp m → AreOfWorkers numbers (get nat_cmp m) → own ≡ numbers id → IsOwn id own (map kept m.entries)
@@ -274,23 +274,23 @@ is_own id own m numbers ordered were is = record {
   ] refl;
   only = λ l member same.
       let there = member_at m ordered l member in
-      is ∙ (were id l.number).1 (there.0, there.1, ap (λ (l : Kept). l.id) there.2 ∙ same);
+      is ∙ (were id l.number).1 (there.0, there.1, ap (λ (l : KeptLease). l.id) there.2 ∙ same);
   exact = λ l member e.
       let there = member_at m ordered l member in
       let found = (were id l.number).0 (sym is ∙ e) in
-      sym (ap (λ (l : Kept). l.id) there.2) ∙ (ap (λ (v : HeldLease). v.id) (same_Some there.0 found.0 (sym there.1 ∙ found.1)) ∙ found.2);
+      sym (ap (λ (l : KeptLease). l.id) there.2) ∙ (ap (λ (v : HeldLease). v.id) (same_Some there.0 found.0 (sym there.1 ∙ found.1)) ∙ found.2);
 }
 
 pub offered_one : (which : Option ℕ) (n : ℕ) (v : HeldLease) (m : BTreeMap ℕ HeldLease) (free : List Packed) → IsOrdered nat_cmp m → which ≡ Some n → get nat_cmp m n ≡ Some v → ((q : Packed) → Contains v.tables.keys q → Contains free q)
-    → AreOffered (λ l. is_numbered which l.number) (map kept m.entries) free
+    → AreAmongFree (λ l. is_numbered which l.number) (map kept m.entries) free
 offered_one which n v m free ordered is found all l t member ends h =
     let there = member_at m ordered l member in
     let number : l.number ≡ n = eqb-true l.number n (ap (λ o. is_numbered o l.number) (sym is) ∙ ends) in
     let one : there.0 ≡ v = same_Some there.0 v (sym there.1 ∙ (ap (get nat_cmp m) number ∙ found)) in
-    all t (subst (λ (v : HeldLease). Contains v.tables.keys t) one (subst (λ (l : Kept). Contains l.tables t) (sym there.2) h))
+    all t (subst (λ (v : HeldLease). Contains v.tables.keys t) one (subst (λ (l : KeptLease). Contains l.tables t) (sym there.2) h))
 
 pub offered_none : (which : Option ℕ) (n : ℕ) (m : BTreeMap ℕ HeldLease) (free : List Packed) → IsOrdered nat_cmp m → which ≡ Some n → get nat_cmp m n ≡ None
-    → AreOffered (λ l. is_numbered which l.number) (map kept m.entries) free
+    → AreAmongFree (λ l. is_numbered which l.number) (map kept m.entries) free
 offered_none which n m free ordered is none l t member ends h =
     let there = member_at m ordered l member in
     let number : l.number ≡ n = eqb-true l.number n (ap (λ o. is_numbered o l.number) (sym is) ∙ ends) in
@@ -304,11 +304,11 @@ if_ok (Err e) f p = tt
 pub found_member : (n : ℕ) (v : HeldLease) (es : List (ℕ × HeldLease)) → lookup (is_at (nat_cmp n)) es ≡ Some v → Contains (map kept es) (kept (n, v))
 found_member n v es found = mapped kept es (n, v) (Contains-from_lookup {eq = λ x y. is_at (nat_cmp x) y} (λ x y e. sym (eqb-true y x (sym (at_number x y) ∙ e))) n v es found)
 
-pub fresh_at : (n : ℕ) (es : List (ℕ × HeldLease)) → All (λ (l : Kept). l.number < n) (map kept es) → lookup (is_at (nat_cmp n)) es ≡ None
+pub fresh_at : (n : ℕ) (es : List (ℕ × HeldLease)) → All (λ (l : KeptLease). l.number < n) (map kept es) → lookup (is_at (nat_cmp n)) es ≡ None
 fresh_at n es last =
     elim (lookup (is_at (nat_cmp n)) es) as (λ o. lookup (is_at (nat_cmp n)) es ≡ o → o ≡ None) [
       | None ↦ λ e. refl
-      | Some v ↦ λ e. let less = All-contains (λ (l : Kept). l.number < n) (map kept es) (kept (n, v)) last (found_member n v es e) in absurd (omega arith)
+      | Some v ↦ λ e. let less = All-contains (λ (l : KeptLease). l.number < n) (map kept es) (kept (n, v)) last (found_member n v es e) in absurd (omega arith)
     ] refl
 
 pub own_one : (id : ℕ) (own : Option ℕ) (m : BTreeMap ℕ HeldLease) → IsOwn id own (map kept m.entries) → (k : ℕ) (l : HeldLease) → get nat_cmp m k ≡ Some l → l.id ≡ id → is_numbered own k ≡ true
@@ -318,22 +318,22 @@ pub owned : (id : ℕ) (own : Option ℕ) (m : BTreeMap ℕ HeldLease) → IsOwn
 owned id own m is k l found e = is.exact (kept (k, l)) (found_member k l m.entries found) (own_number own k e)
 
 -- a number that is greater than all isn't a worker's
-pub not_own : (id : ℕ) (own : Option ℕ) (n : ℕ) (ls : List Kept) → IsOwn id own ls → All (λ (l : Kept). l.number < n) ls → is_numbered own n ≡ false
+pub not_own : (id : ℕ) (own : Option ℕ) (n : ℕ) (ls : List KeptLease) → IsOwn id own ls → All (λ (l : KeptLease). l.number < n) ls → is_numbered own n ≡ false
 not_own id None n ls is last = refl
 not_own id (Some m) n ls is last =
     let l = found_live ls m is.lives in
-    let less = All-contains (λ (l : Kept). l.number < n) ls l.0 last l.1 in
+    let less = All-contains (λ (l : KeptLease). l.number < n) ls l.0 last l.1 in
     let number = l.2 in
     elim (eqb_tells n m) [ inl same ↦ let e = same.1 in absurd (omega arith) | inr differ ↦ differ.0 ]
 
 -- room under a number
-pub room_one : (n : ℕ) (w : HeldLease) (m : BTreeMap ℕ HeldLease) → IsOrdered nat_cmp m → get nat_cmp m n ≡ Some w → 24 ≤ (kept (n, w)).room → HasRoom n (map kept m.entries)
+pub room_one : (n : ℕ) (w : HeldLease) (m : BTreeMap ℕ HeldLease) → IsOrdered nat_cmp m → get nat_cmp m n ≡ Some w → 24 ≤ (kept (n, w)).room → HasRoomForChildren n (map kept m.entries)
 room_one n w m ordered found room l member number =
     let there = member_at m ordered l member in
     let one : there.0 ≡ w = same_Some there.0 w (sym there.1 ∙ (ap (get nat_cmp m) number ∙ found)) in
-    subst (λ (l : Kept). 24 ≤ l.room) there.2 (subst (λ (v : HeldLease). 24 ≤ (kept (l.number, v)).room) (sym one) room)
+    subst (λ (l : KeptLease). 24 ≤ l.room) there.2 (subst (λ (v : HeldLease). 24 ≤ (kept (l.number, v)).room) (sym one) room)
 
-pub room_none : (n : ℕ) (m : BTreeMap ℕ HeldLease) → IsOrdered nat_cmp m → get nat_cmp m n ≡ None → HasRoom n (map kept m.entries)
+pub room_none : (n : ℕ) (m : BTreeMap ℕ HeldLease) → IsOrdered nat_cmp m → get nat_cmp m n ≡ None → HasRoomForChildren n (map kept m.entries)
 room_none n m ordered none l member number =
     let there = member_at m ordered l member in
     let gone = sym there.1 ∙ (ap (get nat_cmp m) number ∙ none) in

@@ -25,7 +25,7 @@ use Rattle.ledger.specs.declared.faults.OfferFault.TheVariants.{WrongSize, NotOp
 use Rattle.ledger.proofs.Same.{not_same, apart}
 use Rattle.leases.specs.Leases.{Lease, AreLeases, is_live, came_under, while_live}
 use Rattle.leases.specs.Offers.{renewed, TakesNew, TakesSettled}
-use Rattle.leases.specs.Inside.Keeping.{Kept, held, seen, IsKept}
+use Rattle.leases.specs.Inside.Keeping.{KeptLease, held, seen, IsKept}
 use Rattle.leases.proofs.ChildLaws.{Opens}
 use Rattle.leases.proofs.OfferLaws.{KeepsAll}
 
@@ -62,7 +62,7 @@ pub holdout_not_open : (b : Contents) (t : Packed) → IsHoldout b.records t →
 holdout_not_open b t holdout is_open = let none = is_open.unmarked in let marked : mark_in b.records t ≡ Some Holdout = holdout in absurd (cc)
 
 -- where the table was under none
-module _ (old new : Contents) (ls : List Kept) (came next : List (Packed × ℕ)) (free more : List Packed) (moment given : ℕ) (t : Packed)
+module _ (old new : Contents) (ls : List KeptLease) (came next : List (Packed × ℕ)) (free more : List Packed) (moment given : ℕ) (t : Packed)
     (opens : Opens old new t) (are : AreLeases old (seen ls came moment given)) (kept : IsKept old ls came free) (more_free : KeepsAll free more)
     (all : (q : Packed) → IsChildTable t q → IsHalting new.records t → Contains more q) where
   pub free_new_leases : GoesOut came t next → AreLeases new (seen ls next moment given)
@@ -121,14 +121,14 @@ err_is (Ok x) e h = absurd h
 err_is (Err x) e h = ap Err h
 
 -- a lease that is kept otherwise, and seen as before
-held_shown : (ls : List Kept) → map (λ (p : Lease × List Packed). p.0) (map shown ls) ≡ map held ls
+held_shown : (ls : List KeptLease) → map (λ (p : Lease × List Packed). p.0) (map shown ls) ≡ map held ls
 held_shown [] = refl
 held_shown (l ∷ ls) = ap (λ xs. held l ∷ xs) (held_shown ls)
 
-pub same_held : (first ls : List Kept) → map shown ls ≡ map shown first → map held ls ≡ map held first
+pub same_held : (first ls : List KeptLease) → map shown ls ≡ map shown first → map held ls ≡ map held first
 same_held first ls same = sym (held_shown ls) ∙ (ap (map (λ (p : Lease × List Packed). p.0)) same ∙ held_shown first)
 
-pub holds_shown : (b : Contents) (first ls : List Kept) (before came : List (Packed × ℕ)) (free : List Packed) (moment given : ℕ) → map shown ls ≡ map shown first → came ≡ before
+pub holds_shown : (b : Contents) (first ls : List KeptLease) (before came : List (Packed × ℕ)) (free : List Packed) (moment given : ℕ) → map shown ls ≡ map shown first → came ≡ before
     → AreLeases b (seen first before moment given) × IsKept b first before free → AreLeases b (seen ls came moment given) × IsKept b ls came free
 holds_shown b first ls before came free moment given same same_came holds =
     subst (λ (came : List (Packed × ℕ)). AreLeases b (seen ls came moment given) × IsKept b ls came free) (sym same_came) (
@@ -142,7 +142,7 @@ holds_shown b first ls before came free moment given same same_came holds =
     )
 
 -- a write to a list puts its item in, and leaves those at other places
-pub set_member : (xs : List Kept) (i : ℕ) (y x : Kept) → i < length xs → Contains (set xs i y) x → (x ≡ y) ⊎ ((j : ℕ) × (j ≢ i) × (j < length xs) × (get_or xs j x ≡ x))
+pub set_member : (xs : List KeptLease) (i : ℕ) (y x : KeptLease) → i < length xs → Contains (set xs i y) x → (x ≡ y) ⊎ ((j : ℕ) × (j ≢ i) × (j < length xs) × (get_or xs j x ≡ x))
 set_member xs i y x within h =
     elim (eqb_tells h.0 i) [
       | inl same ↦ inl (sym h.2 ∙ (ap (λ k. get_or (set xs i y) k x) same.1 ∙ get_or-set_same xs i y x within))
@@ -179,7 +179,7 @@ none_renewed n moment (x ∷ xs) above =
     ap (λ b. (if b then record { number = x.number; id = x.id; deadline = moment + lease_time } else x) ∷ map (renew_one n moment) xs) other
     ∙ ap (λ ys. x ∷ ys) (none_renewed n moment xs (All-tail (λ (x : Lease). n < x.number) x xs above))
 
-first_renewed : (x l : Kept) (n moment : ℕ) → n ≡ x.number → l.number ≡ x.number → l.id ≡ x.id → l.renewed ≡ moment → held l ≡ renew_one n moment (held x)
+first_renewed : (x l : KeptLease) (n moment : ℕ) → n ≡ x.number → l.number ≡ x.number → l.id ≡ x.id → l.renewed ≡ moment → held l ≡ renew_one n moment (held x)
 unfolding renew_one
 first_renewed x l n moment is number id renewed =
     let same : held l ≡ record { number = x.number; id = x.id; deadline = moment + lease_time } = λ i. record { number = number i; id = id i; deadline = renewed i + lease_time } in
@@ -191,7 +191,7 @@ other_renewed x n moment less =
     let other : nat_eq x.number n ≡ false = elim (eqb_tells x.number n) [ inl same ↦ let e = same.1 in absurd (omega arith) | inr differ ↦ differ.0 ] in
     ap (λ b. if b then record { number = x.number; id = x.id; deadline = moment + lease_time } else x) other
 
-set_renewed : (ls : List Kept) (at n moment : ℕ) (l : Kept) → at < length ls → AllPairs (λ (a b : Lease). a.number < b.number) (map held ls)
+set_renewed : (ls : List KeptLease) (at n moment : ℕ) (l : KeptLease) → at < length ls → AllPairs (λ (a b : Lease). a.number < b.number) (map held ls)
     → n ≡ (get_or ls at l).number → l.number ≡ (get_or ls at l).number → l.id ≡ (get_or ls at l).id → l.renewed ≡ moment → map held (set ls at l) ≡ map (renew_one n moment) (map held ls)
 set_renewed [] at n moment l below rising is number id renewed = absurd (omega arith)
 set_renewed (x ∷ xs) zero n moment l below rising is number id renewed =
@@ -216,7 +216,7 @@ less_or_more : (j k : ℕ) → j ≢ k → (j < k) ⊎ (k < j)
 less_or_more j k differ = elim (cases_lt j k) [ inl less ↦ inl less | inr most ↦ inr (omega arith) ]
 
 -- where the table is under a live lease: the lease at a place is renewed, and the children come under it
-module _ (old new : Contents) (ls : List Kept) (at : ℕ) (l : Kept) (came mid next : List (Packed × ℕ)) (free : List Packed) (moment given number : ℕ) (t : Packed)
+module _ (old new : Contents) (ls : List KeptLease) (at : ℕ) (l : KeptLease) (came mid next : List (Packed × ℕ)) (free : List Packed) (moment given number : ℕ) (t : Packed)
     (opens : Opens old new t) (are : AreLeases old (seen ls came moment given)) (kept : IsKept old ls came free) (within : at < length ls) (out : GoesOut came t mid)
     (is : number ≡ (get_or ls at l).number) (renews : Renews new t moment (get_or ls at l) l mid next) where
   after : map held (set ls at l) ≡ map (renew_one number moment) (map held ls)
@@ -254,9 +254,9 @@ module _ (old new : Contents) (ls : List Kept) (at : ℕ) (l : Kept) (came mid n
       })
 
   -- the leases at other places have other numbers
-  apart_from : (j : ℕ) (x : Kept) → (j ≢ at) → j < length ls → get_or ls j x ≡ x → x.number ≡ (get_or ls at l).number → ⊥
+  apart_from : (j : ℕ) (x : KeptLease) → (j ≢ at) → j < length ls → get_or ls j x ≡ x → x.number ≡ (get_or ls at l).number → ⊥
   apart_from j x differ below e same =
-      let first : (get_or (map held ls) j (held x)).number ≡ x.number = ap (λ (y : Lease). y.number) (get_or-map held ls j x (held x) below) ∙ ap (λ (y : Kept). y.number) e in
+      let first : (get_or (map held ls) j (held x)).number ≡ x.number = ap (λ (y : Lease). y.number) (get_or-map held ls j x (held x) below) ∙ ap (λ (y : KeptLease). y.number) e in
       let second : (get_or (map held ls) at (held x)).number ≡ (get_or ls at l).number = ap (λ (y : Lease). y.number) (get_or-map held ls at l (held x) within) in
       elim (less_or_more j at differ) [
         | inl less ↦ let rising = are.numbers j at (held x) less (omega (arith, length-map ls held)) in omega (arith, rising, first, second, same)
@@ -266,8 +266,8 @@ module _ (old new : Contents) (ls : List Kept) (at : ℕ) (l : Kept) (came mid n
   pub under_new_kept : IsKept new (set ls at l) next free
   under_new_kept = record {
     listed = λ x q member h. elim (set_member ls at l x within member) [
-      | inl same ↦ subst (λ (x : Kept). Contains x.tables q) (sym same) (elim (renews.only q x.number h) [
-        | inl before ↦ renews.more q (kept.listed (get_or ls at l) q (Contains-get_or ls at l within) ((out_cases came mid t q x.number out before).1 ∙ ap Some (ap (λ (x : Kept). x.number) same ∙ renews.number))) (out_cases came mid t q x.number out before).0
+      | inl same ↦ subst (λ (x : KeptLease). Contains x.tables q) (sym same) (elim (renews.only q x.number h) [
+        | inl before ↦ renews.more q (kept.listed (get_or ls at l) q (Contains-get_or ls at l within) ((out_cases came mid t q x.number out before).1 ∙ ap Some (ap (λ (x : KeptLease). x.number) same ∙ renews.number))) (out_cases came mid t q x.number out before).0
         | inr now ↦ now.2
       ])
       | inr other ↦ elim (renews.only q x.number h) [
@@ -298,7 +298,7 @@ module _ (old new : Contents) (ls : List Kept) (at : ℕ) (l : Kept) (came mid n
     given = refl;
   }
 
-pub seen_shown : (first ls : List Kept) (before came : List (Packed × ℕ)) (moment given : ℕ) → map shown ls ≡ map shown first → came ≡ before → seen ls came moment given ≡ seen first before moment given
+pub seen_shown : (first ls : List KeptLease) (before came : List (Packed × ℕ)) (moment given : ℕ) → map shown ls ≡ map shown first → came ≡ before → seen ls came moment given ≡ seen first before moment given
 seen_shown first ls before came moment given same same_came =
     let live = same_held first ls same in
     λ i. record { live = live i; came = same_came i; moment = moment; given = given }

@@ -31,11 +31,11 @@ pub record Grants (id : ℕ) (t : Packed) (old new : Leases) : Type 0 where
   pub given : new.given ≡ old.given + 1
 
 -- what is answered, once the worker's own lease has ended
-abbrev pub Answers : Contents → ℕ → Leases → Reply → Leases → Type 0
-Answers b id s Stop new = ((t : Packed) → IsOpenOn b t → ⊥) × (new ≡ s)
-Answers b id s Later new = ((t : Packed) × IsOpenOn b t) × (MayGrant s → (t : Packed) → IsFree b s t → ⊥) × (new ≡ s)
-Answers b id s (Grant number t) new = MayGrant s × (number ≡ s.given + 1) × IsFirstFree b s t × Grants id t s new
+abbrev pub IsReply : Contents → ℕ → Leases → Reply → Leases → Type 0
+IsReply b id s Stop new = ((t : Packed) → IsOpenOn b t → ⊥) × (new ≡ s)
+IsReply b id s Later new = ((t : Packed) × IsOpenOn b t) × (MayGrant s → (t : Packed) → IsFree b s t → ⊥) × (new ≡ s)
+IsReply b id s (Grant number t) new = MayGrant s × (number ≡ s.given + 1) × IsFirstFree b s t × Grants id t s new
 
 -- a worker asks: its own lease ends, if it has one, and it is answered
 abbrev pub Asks : Contents → ℕ → Leases → Reply → Leases → Type 0
-Asks b id old reply new = Answers b id (ended (λ l. l.id == id) old) reply new
+Asks b id old reply new = IsReply b id (ended (λ l. l.id == id) old) reply new

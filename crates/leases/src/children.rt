@@ -10,7 +10,7 @@ ghost use Rattle.ledger.specs.Contents.{IsOpenOn};
 ghost use Rattle.leases.specs.Leases.{came_under};
 ghost use Rattle.leases.specs.Limits.{child_limit};
 ghost use Rattle.leases.specs.Inside.Children.{CameOnly, ComesUnder};
-ghost use Rattle.leases.specs.Inside.Free.{Gains};
+ghost use Rattle.leases.specs.Inside.Free.{ComesIn};
 
 use crate::free_tables::FreeTables;
 use indexmap::{IndexMap, IndexSet};
@@ -111,7 +111,7 @@ fn lease_one(
     requires came { 1 ≤ spare came.old }
     requires tables { 1 ≤ spare_of tables.old }
     ensures came { ComesUnder came.old.entries child number came.new.entries }
-    ensures tables { Gains tables.old.keys child tables.new.keys }
+    ensures tables { ComesIn tables.old.keys child tables.new.keys }
     ensures came_spare { spare came.old ≤ spare came.new + 1 }
     ensures tables_spare { spare_of tables.old ≤ spare_of tables.new + 1 }
 {

@@ -3,7 +3,7 @@ ghost use Rattle.std.specs.Prelude.{◌≡◌, ℕ, ◌+◌, ◌<◌, ◌≤◌,
 ghost use Rattle.std.specs.Ordering.{is_lt};
 ghost use Rattle.machine_text.specs.Packed.{Packed};
 ghost use Rattle.ledger.specs.Inside.Open.{table_cmp};
-ghost use Rattle.leases.specs.Inside.Free.{Gains, IsOnTop, LosesOnly};
+ghost use Rattle.leases.specs.Inside.Free.{ComesIn, IsOnTop, LosesOnly};
 
 use evidence::NoMemory;
 use machine_text::Table;
@@ -50,7 +50,7 @@ impl FreeTables {
 
     // Puts a table in. Where there is room, no memory is needed.
     pub fn push(&mut self, t: Table) -> Result<(), NoMemory>
-        ensures ok { OnOk result (Gains self.old.tables t self.new.tables) }
+        ensures ok { OnOk result (ComesIn self.old.tables t self.new.tables) }
         ensures err { OnErr result (self.new.tables ≡ self.old.tables) }
         ensures succeeds { 0 < self.old.room → IsOk result }
         ensures room { self.old.room ≤ self.new.room + 1 }

@@ -7,8 +7,8 @@ ghost use Rattle.machine_text.specs.Packed.{Packed};
 ghost use Rattle.indexmap.specs.IndexMap.{spare};
 ghost use Rattle.leases.specs.Leases.{SomeEnds, is_live};
 ghost use Rattle.leases.specs.Limits.{child_limit};
-ghost use Rattle.leases.specs.Inside.Keeping.{Kept, kept, held, is_numbered, without, are_numbered, without_each, AreDue, AreOffered, IsOwn};
-ghost use Rattle.leases.specs.Inside.Children.{Renews, RenewsOne, HasRoom, shown};
+ghost use Rattle.leases.specs.Inside.Keeping.{KeptLease, kept, held, is_numbered, without, are_numbered, without_each, AreDue, AreAmongFree, IsOwn};
+ghost use Rattle.leases.specs.Inside.Children.{Renews, RenewsOne, HasRoomForChildren, shown};
 ghost use Rattle.leases.specs.Inside.Deadlines.{AreNotAhead};
 
 use crate::children::lease_children;
@@ -40,10 +40,10 @@ impl Model for LiveLeases {
     ghost use Rattle.std.specs.Ordering.{nat_cmp};
     ghost use Rattle.std.specs.BTreeMap.{get as lease_at, IsOrdered};
     ghost use Rattle.indexmap.specs.IndexMap.{get as number_of};
-    ghost use Rattle.leases.specs.Inside.Keeping.{Kept, kept, AreOfWorkers};
+    ghost use Rattle.leases.specs.Inside.Keeping.{KeptLease, kept, AreOfWorkers};
     ghost use Rattle.leases.specs.Inside.Deadlines.{AreAwaited};
 
-    ghost Value = { List Kept };
+    ghost Value = { List KeptLease };
 
     ghost view = { λ a. map kept a.leases.entries };
 
@@ -109,7 +109,7 @@ impl LiveLeases {
     // Puts the tables of a lease among the free ones. Memory is refused only where it lives.
     pub fn offer_tables(&self, which: Option<u64>, free: &mut FreeTables) -> Result<(), NoMemory>
         ensures more { (q : Packed) → Contains free.old.tables q → Contains free.new.tables q }
-        ensures ok { OnOk result (AreOffered (λ l. is_numbered which l.number) self.now free.new.tables) }
+        ensures ok { OnOk result (AreAmongFree (λ l. is_numbered which l.number) self.now free.new.tables) }
         ensures err { OnErr result (IfSome which (λ n. is_live (map held self.now) n ≡ true)) }
     {
         let Some(number) = which else {
@@ -136,7 +136,7 @@ impl LiveLeases {
     // Puts the tables of leases among the free ones. Memory is refused only where one of them lives.
     pub fn offer_each(&self, numbers: &[u64], free: &mut FreeTables) -> Result<(), NoMemory>
         ensures more { (q : Packed) → Contains free.old.tables q → Contains free.new.tables q }
-        ensures ok { OnOk result (AreOffered (λ l. are_numbered numbers.now l.number) self.now free.new.tables) }
+        ensures ok { OnOk result (AreAmongFree (λ l. are_numbered numbers.now l.number) self.now free.new.tables) }
         ensures err { OnErr result ((n : ℕ) × Contains numbers.now n × (is_live (map held self.now) n ≡ true)) }
     {
         for number in numbers {
@@ -184,7 +184,7 @@ impl LiveLeases {
     // Makes room for the children of a table under a lease.
     pub fn make_room(&mut self, number: u64) -> Result<(), NoMemory>
         ensures shown { map shown self.new ≡ map shown self.old }
-        ensures ok { OnOk result (HasRoom number self.new) }
+        ensures ok { OnOk result (HasRoomForChildren number self.new) }
     {
         let Some(lease) = self.leases.get_mut(&number) else {
             return Ok(());
@@ -202,7 +202,7 @@ impl LiveLeases {
         t: &Table,
     )
         requires lives { is_live (map held self.old) number ≡ true }
-        requires room { HasRoom number self.old }
+        requires room { HasRoomForChildren number self.old }
         requires came { child_limit ≤ spare came.old }
         requires ahead { AreNotAhead moment self.old }
         ensures { RenewsOne board.now t.now number moment self.old self.new came.old.entries came.new.entries }

@@ -1,5 +1,5 @@
 -- Texts that are taken into a board, and ledgers that are rewritten.
-use Rattle.std.proofs.Common.{◌≡◌, ℕ, List, Option, Some, None, Ok, Err, inl, inr, refl, sym, subst, ◌∙◌}
+use Rattle.std.proofs.Common.{◌≡◌, ℕ, List, ◌++◌, Option, Some, None, Ok, Err, inl, inr, sym, ap, subst, ◌∙◌}
 use Rattle.machine_text.specs.Packed.{Packed, entry_of}
 use Rattle.tree.specs.Used.{InOrder}
 use Rattle.ledger.specs.Contents.{Contents}
@@ -11,8 +11,8 @@ use Rattle.ledger.specs.declared.faults.LoadFault.{LoadFault}
 use Rattle.ledger.specs.declared.faults.LoadFault.TheVariants.{BadHeader, WrongRoot, NoMemory}
 use Rattle.ledger.specs.declared.faults.MergeFault.{MergeFault}
 use Rattle.ledger.specs.declared.faults.MergeFault.TheVariants.{WrongRoot as RootsDiffer, NoMemory as NoMergeMemory}
-use Rattle.wire.specs.Carried.{kept}
-use Rattle.wire.specs.declared.node.Out.{Out}
+use Rattle.wire.specs.Carried.{cut_to}
+use Rattle.wire.specs.Device.{grown}
 use Rattle.ledger_commands.specs.Merge.{EndsTakingIn, rewritten}
 use Rattle.ledger_commands.specs.Faults.{ended_by_load, ended_by_merge}
 
@@ -45,6 +45,8 @@ merge_ends_taking text old other new RootsDiffer same header gives = absurd (giv
 merge_ends_taking text old other new NoMergeMemory same header gives = header
 
 -- a ledger that is cut to nothing and gains a board's
-pub rewritten_by : (b : Contents) (out : Out) (before after : Option (List ℕ)) → out.cut ≡ Some 0 → out.append.items ≡ ledger_text b.root b.records → after ≡ kept out before → after ≡ rewritten b before
-rewritten_by b out None after cut append is = is
-rewritten_by b out (Some text) after cut append is = is ∙ rw cut (rw append refl)
+pub rewritten_by : (b : Contents) (text begun : List ℕ) (before cut after : Option (List ℕ)) → text ≡ begun ++ ledger_text b.root b.records → begun ≡ []
+    → cut ≡ cut_to (Some 0) before → after ≡ grown cut text → after ≡ rewritten b before
+rewritten_by b text begun None cut after is none of gains = gains ∙ ap (λ (o : Option (List ℕ)). grown o text) of
+rewritten_by b text begun (Some old) cut after is none of gains =
+    gains ∙ (ap (λ (o : Option (List ℕ)). grown o text) of ∙ ap (λ (l : List ℕ). Some l) (is ∙ ap (λ (l : List ℕ). l ++ ledger_text b.root b.records) none))

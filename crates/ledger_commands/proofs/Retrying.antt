@@ -20,42 +20,35 @@ use Rattle.ledger.specs.declared.faults.OfferFault.{OfferFault}
 use Rattle.ledger.proofs.Growing.{grows}
 use Rattle.ledger.proofs.OpenLaws.{settled_other}
 use Rattle.ledger.proofs.TextOrder.{all_apart}
-use Rattle.wire.specs.Carried.{text_after, cut_by, kept}
-use Rattle.wire.specs.declared.node.Out.{Out}
-use Rattle.ledger_commands.specs.Retry.{StaysInStep, Gains, ChangesBy, with_line}
+use Rattle.wire.specs.Device.{grown}
+use Rattle.ledger_commands.specs.Retry.{StaysInStep, SettlesOrStays, ChangesBy, with_line}
 
-pub stays_with : (old new : Contents) (r : Recorded) (out : Out) (before : Option (List ℕ)) → IsBoard old → IsTaken old.root old.records r new.records
-    → new.root ≡ old.root → out.cut ≡ None → out.append.items ≡ record_text r ++ (10 ∷ []) → StaysInStep old before new (kept out before)
-stays_with old new r out None board taken root cut append = λ s. s
-stays_with old new r out (Some text) board taken root cut append = λ reads.
-    let is : text_after out text ≡ text ++ (record_text r ++ (10 ∷ [])) =
-    ap (λ c. cut_by c text ++ out.append.items) cut ∙ ap (λ l. text ++ l) append in
-    subst (λ p. ReadsAs p (text_after out text) new.records Nothing) (sym root)
-    (subst (λ l. ReadsAs old.root l new.records Nothing) (sym is) (grows old text r new.records board reads taken))
+stays_with : (old new : Contents) (r : Recorded) (before : Option (List ℕ)) → IsBoard old → IsTaken old.root old.records r new.records
+    → new.root ≡ old.root → StaysInStep old before new (with_line r before)
+stays_with old new r None board taken root = λ s. s
+stays_with old new r (Some text) board taken root = λ reads.
+    subst (λ p. ReadsAs p (text ++ (record_text r ++ (10 ∷ []))) new.records Nothing) (sym root) (grows old text r new.records board reads taken)
 
-pub kept_line : (r : Recorded) (out : Out) (before : Option (List ℕ)) → out.cut ≡ None → out.append.items ≡ record_text r ++ (10 ∷ []) → kept out before ≡ with_line r before
-kept_line r out None cut append = refl
-kept_line r out (Some text) cut append = ap (λ (l : List ℕ). Some l) (ap (λ c. cut_by c text ++ out.append.items) cut ∙ ap (λ l. text ++ l) append)
+pub stays_by : (old new : Contents) (r : Recorded) (before after : Option (List ℕ)) → IsBoard old → IsTaken old.root old.records r new.records
+    → new.root ≡ old.root → after ≡ with_line r before → StaysInStep old before new after
+stays_by old new r before after board taken root is =
+    subst (λ (text : Option (List ℕ)). StaysInStep old before new text) (sym is) (stays_with old new r before board taken root)
 
--- what is appended to nothing
-pub one_line : (r : Recorded) (appended items begun : List ℕ) → appended ≡ items → items ≡ begun ++ (record_text r ++ (10 ∷ [])) → begun ≡ [] → appended ≡ record_text r ++ (10 ∷ [])
-one_line r appended items begun same line none = same ∙ (line ∙ ap (λ (l : List ℕ). l ++ (record_text r ++ (10 ∷ []))) none)
-
-pub stays_by : (old new : Contents) (r : Recorded) (out : Out) (before after : Option (List ℕ)) → IsBoard old → IsTaken old.root old.records r new.records
-    → new.root ≡ old.root → out.cut ≡ None → out.append.items ≡ record_text r ++ (10 ∷ []) → after ≡ kept out before → StaysInStep old before new after
-stays_by old new r out before after board taken root cut append is =
-    subst (λ (text : Option (List ℕ)). StaysInStep old before new text) (sym is) (stays_with old new r out before board taken root cut append)
+-- a ledger that gained the line of a record
+pub one_line : (r : Recorded) (line begun : List ℕ) (before after : Option (List ℕ)) → line ≡ begun ++ (record_text r ++ (10 ∷ [])) → begun ≡ [] → after ≡ grown before line → after ≡ with_line r before
+one_line r line begun before after is none gains =
+    gains ∙ ap (λ (l : List ℕ). grown before l) (is ∙ ap (λ (l : List ℕ). l ++ (record_text r ++ (10 ∷ []))) none)
 
 -- what comes of an offer of a record for a holdout: it is never new, and known only where it has no verdict
 pub new_holdout : (root : Packed) (old new : List Recorded) (r : Recorded) (result : Result Taken OfferFault) → IsHoldout old r.table → result ≡ Ok New
-    → OfferGives root old r result new → Gains old r true new
+    → OfferGives root old r result new → SettlesOrStays old r true new
 new_holdout root old new r result holdout is gives =
     let fit : OfferGives root old r (Ok New) new = subst (λ (x : Result Taken OfferFault). OfferGives root old r x new) is gives in
     let unmarked = fit.0.is_open.unmarked in
     absurd (cc)
 
 pub known_holdout : (root : Packed) (old new : List Recorded) (r : Recorded) (result : Result Taken OfferFault) → IsHoldout old r.table → result ≡ Ok Known
-    → OfferGives root old r result new → Gains old r false new
+    → OfferGives root old r result new → SettlesOrStays old r false new
 known_holdout root old new r result holdout is gives =
     let known : OfferGives root old r (Ok Known) new = subst (λ (x : Result Taken OfferFault). OfferGives root old r x new) is gives in (
       elim known.0.is [

@@ -25,7 +25,7 @@ use Rattle.ledger.specs.declared.status.Status.TheVariants.{Working, Holdouts, C
 use Rattle.ledger.proofs.Apart.{first_member}
 use Rattle.ledger.proofs.Sets.{nobody}
 use Rattle.ledger.proofs.WholeTree.{board_marks, as_many, whole_tally, whole_champions, one_tally, one_list_of_champions}
-use Rattle.ledger_commands.specs.Report.{IsReport, status_name, line_of, lines_of, counts_text, report_text}
+use Rattle.ledger_commands.specs.Report.{IsReport, status_name, line_of, table_lines, counts_text, report_text}
 use Rattle.ledger_commands.specs.TreeReport.{IsTreeReport, TellsRado}
 
 -- where no table is of a kind, none is listed, and there are none
@@ -54,7 +54,7 @@ tree_report b text board complete r =
       counted = whole_tally b r.tally board complete r.counted;
       are_champions = whole_champions b r.tally.best r.champions board complete r.are_champions;
       is = r.is ∙ (ap (λ name. line_of (codes "root") (text_of b.root) ++ line_of (codes "status") name ++ counts_text r.tally
-          ++ lines_of (codes "champion") r.champions ++ lines_of (codes "holdout") r.holdouts) status
+          ++ table_lines (codes "champion") r.champions ++ table_lines (codes "holdout") r.holdouts) status
           ∙ ap (λ hs. report_text b.root (Complete r.tally.best) r.tally r.champions hs) holdouts);
     }
 

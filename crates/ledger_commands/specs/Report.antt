@@ -22,8 +22,8 @@ best_text None = codes "none"
 best_text (Some k) = decimal k
 
 -- a line for each table
-abbrev pub lines_of : List ℕ → List Packed → List ℕ
-lines_of name tables = flat_map (λ t. line_of name (text_of t)) tables
+abbrev pub table_lines : List ℕ → List Packed → List ℕ
+table_lines name tables = flat_map (λ t. line_of name (text_of t)) tables
 
 abbrev pub verdicts_text : Tally → List ℕ
 verdicts_text tally =
@@ -50,8 +50,8 @@ report_text root status tally champions holdouts =
     line_of (codes "root") (text_of root)
     ++ line_of (codes "status") (status_name status)
     ++ counts_text tally
-    ++ lines_of (codes "champion") champions
-    ++ lines_of (codes "holdout") holdouts
+    ++ table_lines (codes "champion") champions
+    ++ table_lines (codes "holdout") holdouts
 
 -- the report of a root and the records held from it: how the board stands, its tallies, and its champions and holdouts
 -- in the order of their texts

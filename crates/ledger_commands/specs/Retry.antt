@@ -9,24 +9,24 @@ use Rattle.ledger.specs.Held.{IsHoldout, Settles, settled}
 use Rattle.ledger.specs.LedgerText.{ReadsAs}
 use Rattle.ledger.specs.Tally.{AreAll}
 use Rattle.ledger.specs.declared.left.Left.TheVariants.{Nothing}
+use Rattle.wire.specs.Device.{grown}
 
 -- the text of a ledger reads as a board's records, and all of it is kept
-abbrev pub IsInStep : Contents → List ℕ → Type 0
-IsInStep b text = ReadsAs b.root text b.records Nothing
+abbrev pub IsLedgerOf : Contents → List ℕ → Type 0
+IsLedgerOf b text = ReadsAs b.root text b.records Nothing
 
 -- where a ledger's text was known and in step with the old board, it is in step with the new one
 abbrev pub StaysInStep : Contents → Option (List ℕ) → Contents → Option (List ℕ) → Type 0
-StaysInStep old before new after = IfSome before (IsInStep old) → IfSome after (IsInStep new)
+StaysInStep old before new after = IfSome before (IsLedgerOf old) → IfSome after (IsLedgerOf new)
 
 -- whether a record for a holdout is taken, as it is where it has a verdict; where it isn't, the records stay as they were
-abbrev pub Gains : List Recorded → Recorded → Bool → List Recorded → Type 0
-Gains old r true new = Settles old r × (new ≡ settled old r)
-Gains old r false new = (shown_by r.claim ≡ None) × (new ≡ old)
+abbrev pub SettlesOrStays : List Recorded → Recorded → Bool → List Recorded → Type 0
+SettlesOrStays old r true new = Settles old r × (new ≡ settled old r)
+SettlesOrStays old r false new = (shown_by r.claim ≡ None) × (new ≡ old)
 
 -- a ledger's text, where it is known, with the line of a record behind it
 abbrev pub with_line : Recorded → Option (List ℕ) → Option (List ℕ)
-with_line r (Some text) = Some (text ++ (record_text r ++ (10 ∷ [])))
-with_line r None = None
+with_line r text = grown text (record_text r ++ (10 ∷ []))
 
 -- by the verdict that is shown for a holdout: where there is none nothing changes; else the record stands in the holdout's
 -- place, and its line is appended

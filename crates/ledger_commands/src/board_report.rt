@@ -7,7 +7,7 @@ ghost use Rattle.machine_text.specs.Text.{text_of};
 ghost use Rattle.tree.specs.Closed.{IsComplete};
 ghost use Rattle.ledger.specs.Records.{mark_in};
 ghost use Rattle.ledger_commands.specs.TreeReport.{IsTreeReport, TellsRado};
-ghost use Rattle.ledger_commands.specs.Report.{IsReport, IsHead, line_of, lines_of, status_name, best_text, verdicts_text, counts_text, report_text};
+ghost use Rattle.ledger_commands.specs.Report.{IsReport, IsHead, line_of, table_lines, status_name, best_text, verdicts_text, counts_text, report_text};
 
 use cert::append_number;
 use evidence::NoMemory;
@@ -108,7 +108,7 @@ fn append_best(best: Option<u64>, out: &mut Vec<u8>) -> Result<(), NoMemory>
 
 // Appends a line for each table.
 fn append_tables(name: &[u8], tables: IntoIter<Table>, out: &mut Vec<u8>) -> Result<(), NoMemory>
-    ensures ok { OnOk result (out.new.items ≡ out.old.items ++ lines_of name.now (into_iter_items tables)) }
+    ensures ok { OnOk result (out.new.items ≡ out.old.items ++ table_lines name.now (into_iter_items tables)) }
     ensures kept { take (length out.old.items) out.new.items ≡ out.old.items }
 {
     for table in tables {

@@ -10,6 +10,7 @@ mod faults;
 mod file_ledger;
 mod host;
 mod ledger_at;
+mod ledger_changes;
 mod ledger_report;
 mod merge;
 mod report_form;
@@ -18,14 +19,14 @@ mod retry;
 mod tree_reports;
 
 pub use board_report::{report, status_name};
-pub use faults::keep_answer;
 pub use file_ledger::FileLedger;
 pub use host::{Held, Host, held_at, opened};
 pub use ledger_at::LedgerAt;
+pub use ledger_changes::keep_answer;
 pub use ledger_report::{
     Opened, bytes_of, cmd_report, outcome_by, report_ledger, write_ledger_report,
 };
-pub use merge::{LedgerSource, cmd_merge, join_into, joined};
+pub use merge::{LedgerSource, cmd_merge, join, join_into};
 pub use report_form::{AsLines, ReportForm, write_report};
 pub use report_writer::LineReport;
 pub use retry::{cmd_retry, retry_holdouts};

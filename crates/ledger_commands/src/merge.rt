@@ -5,9 +5,10 @@ ghost use Rattle.tree.specs.Used.{InOrder};
 ghost use Rattle.ledger.specs.LedgerText.{HasHeader, ReadsAs};
 ghost use Rattle.ledger_commands.specs.Merge.{AreJoined, EndsJoiningInto, EndsTakingIn, IsLoaded, JoinsInto, TakesIn, first_left, rewritten};
 
-use crate::faults::{by_load, by_merge, keep_answer};
+use crate::faults::{by_load, by_merge};
 use crate::host::{Host, opened};
 use crate::ledger_at::LedgerAt;
+use crate::ledger_changes::{append_to, cut_to};
 use crate::ledger_report::{bytes_of, loaded};
 use crate::report_writer::append_left;
 use cert::append_number;
@@ -17,7 +18,7 @@ use machine_text::Table;
 use options::{Ended, Merging, Outcome};
 use std::alloc::Global;
 use std::io::Write;
-use wire::{LedgerOut, Note, Out};
+use wire::LedgerOut;
 
 // What is put behind the path of a ledger to name the file in which it is made.
 const NEW_SUFFIX: &str = ".new";
@@ -35,13 +36,13 @@ pub fn cmd_merge<H: Host, W: Write, E: Write>(
     answers: &mut W,
     faults: &mut E,
 ) -> Outcome {
-    match merged(alloc, merging, host, answers) {
+    match merge_ledgers(alloc, merging, host, answers) {
         Ok(outcome) => outcome,
         Err(ended) => ended.told(faults),
     }
 }
 
-fn merged<H: Host, W: Write>(
+fn merge_ledgers<H: Host, W: Write>(
     alloc: Global,
     merging: Merging<'_>,
     host: &H,
@@ -49,11 +50,11 @@ fn merged<H: Host, W: Write>(
 ) -> Result<Outcome, Ended> {
     let beside = path_beside(alloc, merging.out)?;
     let (tally, left) = if is_made_beside(host, merging, &beside) {
-        let joined = joined_at(alloc, merging, host, &beside)?;
+        let joined = join_at(alloc, merging, host, &beside)?;
         put(host, &beside, merging.out)?;
         joined
     } else {
-        joined_at(alloc, merging, host, merging.out)?
+        join_at(alloc, merging, host, merging.out)?
     };
     tell(alloc, &tally, &left, answers)?;
     match left {
@@ -77,7 +78,7 @@ fn is_made_beside<H: Host>(host: &H, merging: Merging<'_>, beside: &str) -> bool
 }
 
 // Joins the two ledgers into one at a path.
-fn joined_at<H: Host>(
+fn join_at<H: Host>(
     alloc: Global,
     merging: Merging<'_>,
     host: &H,
@@ -154,7 +155,7 @@ pub fn join_into<A: LedgerSource, B: LedgerSource, L: LedgerOut>(
     ensures ok { IfOk result (λ told. JoinsInto (A.reads first.now) (B.reads second.now) told.0 told.1 (L.text ledger.old) (L.text ledger.new)) }
     ensures err { IfErr result (λ e. EndsJoiningInto (A.reads first.now) (B.reads second.now) e (ledger.new ≡ ledger.old)) }
 {
-    let (board, left) = joined(alloc, first, second)?;
+    let (board, left) = join(alloc, first, second)?;
     write_whole(alloc, &board, ledger)?;
     Ok((board.tally(), left))
 }
@@ -163,7 +164,7 @@ pub fn join_into<A: LedgerSource, B: LedgerSource, L: LedgerOut>(
 /// board, and what wasn't kept of the first of the two of which not all was. What ends it is of the first ledger,
 /// where that can't be read or loaded, else of the second: a header that doesn't read or another root, and only then
 /// refused memory.
-pub fn joined<A: LedgerSource, B: LedgerSource>(
+pub fn join<A: LedgerSource, B: LedgerSource>(
     alloc: Global,
     first: &A,
     second: &B,
@@ -171,7 +172,7 @@ pub fn joined<A: LedgerSource, B: LedgerSource>(
     ensures ok { IfOk result (λ j. AreJoined (A.reads first.now) (B.reads second.now) (Ok j)) }
     ensures err { IfErr result (λ e. AreJoined (A.reads first.now) (B.reads second.now) (Err e)) }
 {
-    let (mut board, first_left) = loaded_from(alloc, first)?;
+    let (mut board, first_left) = load_from(alloc, first)?;
     let bytes = second.bytes(alloc)?;
     let second_left = take_in(alloc, &mut board, bytes)?;
     Ok((board, earlier(first_left, second_left)))
@@ -188,7 +189,7 @@ fn earlier(first: Left, second: Left) -> Left
 }
 
 // The board of a ledger, and what of it wasn't kept.
-fn loaded_from<S: LedgerSource>(alloc: Global, source: &S) -> Result<(Board, Left), Ended>
+fn load_from<S: LedgerSource>(alloc: Global, source: &S) -> Result<(Board, Left), Ended>
     ensures ok { IfOk result (λ l. IsLoaded (S.reads source.now) (Ok l)) }
     ensures err { IfErr result (λ e. IsLoaded (S.reads source.now) (Err e)) }
 {
@@ -201,7 +202,7 @@ fn take_in(alloc: Global, board: &mut Board, bytes: Vec<u8>) -> Result<Left, End
     ensures err { IfErr result (λ e. EndsTakingIn board.old.root bytes.items e) }
 {
     let root = *board.root();
-    let (other, left) = loaded_of(alloc, root, &bytes)?;
+    let (other, left) = load_with_root(alloc, root, &bytes)?;
     drop(bytes);
     match board.merge(&other) {
         Ok(()) => Ok(left),
@@ -210,21 +211,21 @@ fn take_in(alloc: Global, board: &mut Board, bytes: Vec<u8>) -> Result<Left, End
 }
 
 // The board of a ledger's text that names this root, and what of it wasn't kept.
-fn loaded_of(alloc: Global, root: Table, bytes: &[u8]) -> Result<(Board, Left), Ended>
+fn load_with_root(alloc: Global, root: Table, bytes: &[u8]) -> Result<(Board, Left), Ended>
     requires { (u : ℕ) × InOrder u (entry_of root) }
     ensures ok { IfOk result (λ l. (l.0.root ≡ root) × ReadsAs l.0.root bytes.now l.0.records l.1) }
     ensures err { IfErr result (λ e. EndsTakingIn root bytes.now e) }
     ensures header { OnOk result (EndsTakingIn root bytes.now Ended.NoMemory) }
 {
     match peek_root(bytes) {
-        Ok(Some(_)) => loaded_with(alloc, root, bytes),
+        Ok(Some(_)) => load_behind_header(alloc, root, bytes),
         Ok(None) => Err(Ended::BadHeader),
         Err(fault) => Err(by_load(fault)),
     }
 }
 
 // The same of a text that has a header.
-fn loaded_with(alloc: Global, root: Table, bytes: &[u8]) -> Result<(Board, Left), Ended>
+fn load_behind_header(alloc: Global, root: Table, bytes: &[u8]) -> Result<(Board, Left), Ended>
     requires order { (u : ℕ) × InOrder u (entry_of root) }
     requires header { (other : Packed) × (rest : List ℕ) × HasHeader bytes.now other rest }
     ensures ok { IfOk result (λ l. (l.0.root ≡ root) × ReadsAs l.0.root bytes.now l.0.records l.1) }
@@ -242,15 +243,10 @@ fn write_whole<L: LedgerOut>(alloc: Global, board: &Board, ledger: &mut L) -> Re
     ensures ok { OnOk result (L.text ledger.new ≡ rewritten board.now (L.text ledger.old)) }
     ensures err { IfErr result (λ e. ((e ≡ Ended.NoMemory) × (ledger.new ≡ ledger.old)) ⊎ (e ≡ Ended.Ledger)) }
 {
-    let mut append = Vec::new(alloc);
-    board.write_ledger(&mut append)?;
-    let out = Out {
-        cut: Some(0),
-        append,
-        frames: Vec::new(alloc),
-        note: Note::Quiet,
-    };
-    keep_answer(&out, ledger)
+    let mut text = Vec::new(alloc);
+    board.write_ledger(&mut text)?;
+    cut_to(ledger, 0)?;
+    append_to(ledger, &text)
 }
 
 // Appends the line that says what the merged ledger holds.

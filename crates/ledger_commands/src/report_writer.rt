@@ -3,7 +3,7 @@ ghost use Rattle.std.specs.Prelude.{◌≡◌, ◌++◌, List, ℕ, IfOk, OnOk};
 ghost use Rattle.std.specs.Vec.Iter.{into_iter_items};
 ghost use Rattle.std.specs.Io.KnownBytes.{Appends};
 ghost use Rattle.machine_text.specs.Text.{text_of};
-ghost use Rattle.ledger_commands.specs.Report.{line_of, lines_of};
+ghost use Rattle.ledger_commands.specs.Report.{line_of, table_lines};
 ghost use Rattle.ledger_commands.specs.LedgerReport.{IsLines, left_text};
 ghost use Rattle.ledger_commands.specs.Passing.{Passes, bytes_of_lines};
 
@@ -72,7 +72,7 @@ fn pass_tables<W: Write>(
     piece: &mut Vec<u8>,
     answers: &mut W,
 ) -> io::Result<()>
-    ensures { OnOk result (Passes (W.contents answers.old) piece.old.items (W.contents answers.new) piece.new.items (lines_of name.now (into_iter_items tables))) }
+    ensures { OnOk result (Passes (W.contents answers.old) piece.old.items (W.contents answers.new) piece.new.items (table_lines name.now (into_iter_items tables))) }
 {
     for table in tables {
         pass_line(name, &table, piece, answers)?;

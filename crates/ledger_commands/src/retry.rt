@@ -1,5 +1,5 @@
 // `bb retry`: the holdouts of a ledger are tried again.
-ghost use Rattle.std.specs.Prelude.{◌≡◌, None, IfOk, IfSome, OnOk};
+ghost use Rattle.std.specs.Prelude.{◌≡◌, IfOk, IfSome, OnOk};
 ghost use Rattle.cert.specs.Claim.{shown_by};
 ghost use Rattle.cert.specs.Kinds.{recorded};
 ghost use Rattle.ledger.specs.Held.{IsHoldout};
@@ -8,9 +8,9 @@ ghost use Rattle.ledger.specs.LedgerText.{ReadsAs};
 ghost use Rattle.ledger.specs.Tally.{IsStatus};
 ghost use Rattle.ledger.specs.declared.status.Status.{Status as Standing};
 ghost use Rattle.ledger_commands.specs.LedgerReport.{outcome_by};
-ghost use Rattle.ledger_commands.specs.Retry.{IsInStep, Gains, StaysInStep, AtSomeTime, ChangesBy, IsTried, AreRetried};
+ghost use Rattle.ledger_commands.specs.Retry.{IsLedgerOf, SettlesOrStays, StaysInStep, AtSomeTime, ChangesBy, IsTried, AreRetried};
 
-use crate::faults::keep_answer;
+use crate::ledger_changes::{append_to, cut_to};
 use crate::ledger_report::{Opened, bytes_of, loaded, outcome_by};
 use crate::report_form::{AsLines, write_report};
 use cert::{Decider, Record};
@@ -19,7 +19,7 @@ use machine_text::Table;
 use options::{Ended, Outcome};
 use std::alloc::Global;
 use std::io::{self, Read, Write};
-use wire::{LedgerOut, Note, Out};
+use wire::LedgerOut;
 
 /// Cuts a ledger to the bytes that are kept of it, asks the decider for each of its holdouts in the order of
 /// their texts, and appends a line for each that is settled. Then it prints the report: accepted where that
@@ -33,7 +33,7 @@ pub fn cmd_retry<F: Read + Drop, L: LedgerOut, D: Decider, W: Write, E: Write>(
     answers: &mut W,
     faults: &mut E,
 ) -> Outcome {
-    match retried(alloc, held, ledger, decider, answers) {
+    match retry_ledger(alloc, held, ledger, decider, answers) {
         Ok(outcome) => outcome,
         Err(ended) => ended.told(faults),
     }
@@ -52,7 +52,7 @@ fn retried<F: Read + Drop, L: LedgerOut, D: Decider, W: Write>(
     };
     let (mut board, left) = loaded(alloc, &bytes)?;
     drop(bytes);
-    settled_further(alloc, &mut board, &left, ledger, decider, answers)
+    settle_further(alloc, &mut board, &left, ledger, decider, answers)
 }
 
 // The same from the board of the ledger, and what of it wasn't kept.
@@ -64,7 +64,7 @@ fn settled_further<L: LedgerOut, D: Decider, W: Write>(
     decider: &mut D,
     answers: &mut W,
 ) -> Result<Outcome, Ended>
-    ensures step { IfOk result (λ o. IfSome (L.text ledger.old) (λ text. ReadsAs board.old.root text board.old.records left.now) → IfSome (L.text ledger.new) (IsInStep board.new)) }
+    ensures step { IfOk result (λ o. IfSome (L.text ledger.old) (λ text. ReadsAs board.old.root text board.old.records left.now) → IfSome (L.text ledger.new) (IsLedgerOf board.new)) }
     ensures outcome { IfOk result (λ o. (status : Standing) × IsStatus board.new.root board.new.records status × (o ≡ outcome_by status Left.Nothing)) }
 {
     cut_off(left, ledger)?;
@@ -75,15 +75,12 @@ fn settled_further<L: LedgerOut, D: Decider, W: Write>(
 
 // Cuts off what wasn't kept of a board's ledger.
 fn cut_off<L: LedgerOut>(left: &Left, ledger: &mut L) -> Result<(), Ended>
-    ensures step { OnOk result ((b : Contents) → IfSome (L.text ledger.old) (λ text. ReadsAs b.root text b.records left.now) → IfSome (L.text ledger.new) (IsInStep b)) }
+    ensures step { OnOk result ((b : Contents) → IfSome (L.text ledger.old) (λ text. ReadsAs b.root text b.records left.now) → IfSome (L.text ledger.new) (IsLedgerOf b)) }
 {
     kept_bytes_load();
     match left {
         Left::Nothing => Ok(()),
-        Left::From { kept, .. } => match ledger.cut(*kept) {
-            Ok(()) => Ok(()),
-            Err(_) => Err(Ended::Ledger),
-        },
+        Left::From { kept, .. } => cut_to(ledger, *kept),
     }
 }
 
@@ -141,11 +138,12 @@ fn take<L: LedgerOut>(
 {
     // The proof needs that it is a board.
     let _ = board.root();
-    let mut append = Vec::new(alloc);
-    append_record(r, &mut append)?;
-    if gains(board, r)? {
-        keep_answer(&appending(alloc, append), ledger)?;
+    let mut line = Vec::new(alloc);
+    append_record(r, &mut line)?;
+    if !gains(board, r)? {
+        return Ok(());
     }
+    append_to(ledger, &line)?;
     Ok(())
 }
 
@@ -153,7 +151,7 @@ fn take<L: LedgerOut>(
 fn gains(board: &mut Board, r: &Record) -> Result<bool, Ended>
     requires { IsHoldout board.old.records (recorded r.now).table }
     ensures root { board.new.root ≡ board.old.root }
-    ensures ok { IfOk result (λ gained. Gains board.old.records (recorded r.now) gained board.new.records) }
+    ensures ok { IfOk result (λ gained. SettlesOrStays board.old.records (recorded r.now) gained board.new.records) }
 {
     match board.offer(r) {
         Ok(Taken::Settled) => Ok(true),
@@ -162,17 +160,5 @@ fn gains(board: &mut Board, r: &Record) -> Result<bool, Ended>
         Ok(Taken::Known) => Ok(false),
         // it is certified, and of a table of the board, so it was memory
         Err(_) => Err(Ended::NoMemory),
-    }
-}
-
-// An answer by which a ledger gains these bytes, and nothing else happens.
-fn appending(alloc: Global, append: Vec<u8>) -> Out
-    ensures { (result.append.items ≡ append.items) × (result.cut ≡ None) }
-{
-    Out {
-        cut: None,
-        append,
-        frames: Vec::new(alloc),
-        note: Note::Quiet,
     }
 }

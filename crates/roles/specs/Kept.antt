@@ -3,9 +3,9 @@ use Rattle.std.specs.Prelude.{ℕ, List, length, Option, Some, None}
 use Rattle.ledger.specs.declared.left.Left.{Left}
 use Rattle.ledger.specs.declared.left.Left.TheVariants.{Nothing, From}
 
-abbrev pub kept_of : List ℕ → Left → ℕ
-kept_of text Nothing = length text
-kept_of text (From line kept why) = kept
+abbrev pub kept_bytes : List ℕ → Left → ℕ
+kept_bytes text Nothing = length text
+kept_bytes text (From line kept why) = kept
 
 abbrev pub cut_of : Left → Option ℕ
 cut_of Nothing = None

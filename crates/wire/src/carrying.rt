@@ -9,7 +9,7 @@ use crate::link::Link;
 use crate::node::{Node, Out};
 use crate::turned::TurnFault;
 
-// Appends all of the bytes, in as many calls as that takes.
+/// Appends all of the bytes to a ledger, in as many calls as that takes; a call that takes none is a fault.
 pub fn append_all<W: LedgerOut>(ledger: &mut W, bytes: &[u8]) -> Result<(), Fault>
     ensures ok { OnOk result ((W.text ledger.new ≡ grown (W.text ledger.old) bytes.now) × (W.failures ledger.new ≡ W.failures ledger.old)) }
     ensures err { OnErr result ((W.failures ledger.old ≢ W.failures ledger.new) × IsBegun (W.text ledger.old) bytes.now (W.text ledger.new)) }

@@ -30,6 +30,7 @@ mod node;
 mod trouble;
 mod turned;
 
+pub use carrying::append_all;
 pub use decoder::decode;
 pub use encoder::encode;
 pub use engine::{begin, turn};

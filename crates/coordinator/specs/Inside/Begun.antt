@@ -6,12 +6,12 @@ use Rattle.ledger.specs.LedgerText.{LoadGives}
 use Rattle.ledger.specs.declared.left.Left.{Left}
 use Rattle.wire.specs.declared.node.Out.{Out}
 use Rattle.leases.specs.Leases.{Leased, no_leases}
-use Rattle.coordinator.specs.Starts.{Begins, IsNoStart}
+use Rattle.coordinator.specs.Starts.{Begins, CantStart}
 use Rattle.roles.specs.declared.start_fault.StartFault.{StartFault}
 
-abbrev pub IsBegun : ℕ → List ℕ → Result (Leased × Out) StartFault → Type 0
-IsBegun n text (Ok begun) = (begun.0.leases ≡ no_leases) × ((left : Left) × LoadGives (empty_table n) text (Ok (begun.0.board, left)) × Begins (empty_table n) text left begun.1)
-IsBegun n text (Err fault) = IsNoStart (empty_table n) text fault
+abbrev pub BeginsSo : ℕ → List ℕ → Result (Leased × Out) StartFault → Type 0
+BeginsSo n text (Ok begun) = (begun.0.leases ≡ no_leases) × ((left : Left) × LoadGives (empty_table n) text (Ok (begun.0.board, left)) × Begins (empty_table n) text left begun.1)
+BeginsSo n text (Err fault) = CantStart (empty_table n) text fault
 
 abbrev pub HoldsBoard : Option Leased → Type 0
 HoldsBoard None = Unit {0}

@@ -15,7 +15,7 @@ abbrev pub reverse_cmp : Reverse Packed → Reverse Packed → Ordering
 reverse_cmp a b = table_cmp b.0 a.0
 
 -- a table came in, and none went
-pub record Gains (old : List Packed) (t : Packed) (new : List Packed) : Type 0 where
+pub record ComesIn (old : List Packed) (t : Packed) (new : List Packed) : Type 0 where
   pub here : Contains new t
   pub others : (q : Packed) → Contains old q → Contains new q
 

@@ -10,18 +10,18 @@ use Rattle.leases.specs.declared.held_leases.HeldLease.{HeldLease}
 
 -- a live lease as it is kept: its number, its worker, when it was given or renewed, the open tables that are under it, and for how
 -- many more there is room
-pub record Kept : Type 0 where
+pub record KeptLease : Type 0 where
   pub number : ℕ
   pub id : ℕ
   pub renewed : ℕ
   pub tables : List Packed
   pub room : ℕ
 
-abbrev pub kept : ℕ × HeldLease → Kept
+abbrev pub kept : ℕ × HeldLease → KeptLease
 kept e = record { number = e.0; id = e.1.id; renewed = e.1.renewed; tables = e.1.tables.keys; room = spare e.1.tables }
 
 -- a lease as it is seen: the code keeps when it was given or renewed, since a deadline may be greater than its numbers
-abbrev pub held : Kept → Lease
+abbrev pub held : KeptLease → Lease
 held l = record { number = l.number; id = l.id; deadline = l.renewed + lease_time }
 
 -- whether a lease has ended by a moment
@@ -29,31 +29,31 @@ abbrev pub has_ended : ℕ → Lease → Bool
 has_ended moment l = nat_le l.deadline moment
 
 -- the leases that are kept so, as they are seen
-abbrev pub seen : List Kept → List (Packed × ℕ) → ℕ → ℕ → Leases
+abbrev pub seen : List KeptLease → List (Packed × ℕ) → ℕ → ℕ → Leases
 seen leases came moment given = record { live = map held leases; came = came; moment = moment; given = given }
 
 -- each live lease lists the tables that came under it, and each open table that is under none is among the free ones
-pub record IsKept (b : Contents) (leases : List Kept) (came : List (Packed × ℕ)) (free : List Packed) : Type 0 where
-  pub listed : (l : Kept) (t : Packed) → Contains leases l → came_under came t ≡ Some l.number → Contains l.tables t
+pub record IsKept (b : Contents) (leases : List KeptLease) (came : List (Packed × ℕ)) (free : List Packed) : Type 0 where
+  pub listed : (l : KeptLease) (t : Packed) → Contains leases l → came_under came t ≡ Some l.number → Contains l.tables t
   pub offered : (t : Packed) → IsOpenOn b t → while_live (map held leases) (came_under came t) ≡ None → Contains free t
 
 -- the tables of the leases that pass a test are among the free ones
-abbrev pub AreOffered : (Lease → Bool) → List Kept → List Packed → Type 0
-AreOffered ends leases free = (l : Kept) (t : Packed) → Contains leases l → ends (held l) ≡ true → Contains l.tables t → Contains free t
+abbrev pub AreAmongFree : (Lease → Bool) → List KeptLease → List Packed → Type 0
+AreAmongFree ends leases free = (l : KeptLease) (t : Packed) → Contains leases l → ends (held l) ≡ true → Contains l.tables t → Contains free t
 
 abbrev pub is_numbered : Option ℕ → ℕ → Bool
 is_numbered None n = false
 is_numbered (Some m) n = n == m
 
 -- the leases without the one of a number
-abbrev pub without : Option ℕ → List Kept → List Kept
+abbrev pub without : Option ℕ → List KeptLease → List KeptLease
 without which leases = filter (λ l. not (is_numbered which l.number)) leases
 
 -- the same of several numbers
 abbrev pub are_numbered : List ℕ → ℕ → Bool
 are_numbered numbers n = list_any (λ m. n == m) numbers
 
-abbrev pub without_each : List ℕ → List Kept → List Kept
+abbrev pub without_each : List ℕ → List KeptLease → List KeptLease
 without_each numbers leases = filter (λ l. not (are_numbered numbers l.number)) leases
 
 -- the numbers of the workers' leases, against the leases under their numbers
@@ -66,7 +66,7 @@ pub record AreDue (moment : ℕ) (leases : List Lease) (numbers : List ℕ) : Ty
   pub only : (l : Lease) → Contains leases l → Contains numbers l.number → has_ended moment l ≡ true
 
 -- this is the number of a worker's lease, or none where it has none
-pub record IsOwn (id : ℕ) (own : Option ℕ) (leases : List Kept) : Type 0 where
+pub record IsOwn (id : ℕ) (own : Option ℕ) (leases : List KeptLease) : Type 0 where
   pub lives : IfSome own (λ n. is_live (map held leases) n ≡ true)
-  pub only : (l : Kept) → Contains leases l → l.id ≡ id → own ≡ Some l.number
-  pub exact : (l : Kept) → Contains leases l → own ≡ Some l.number → l.id ≡ id
+  pub only : (l : KeptLease) → Contains leases l → l.id ≡ id → own ≡ Some l.number
+  pub exact : (l : KeptLease) → Contains leases l → own ≡ Some l.number → l.id ≡ id

@@ -1,7 +1,7 @@
 use Rattle.std.proofs.Common.{ℕ, List, ◌++◌, refl, ap, ◌∙◌}
 use Rattle.std.specs.Prelude.{codes}
 use Rattle.std.specs.Vec.Iter.{into_iter_items}
-use Rattle.ledger_commands.specs.Report.{lines_of, head_text, report_text}
+use Rattle.ledger_commands.specs.Report.{table_lines, head_text, report_text}
 use Rattle.ledger_commands.proofs.Reports.{on_ok, joined}
 use Rattle.ledger_commands.proofs.board_report.append_report.Goals as goal
 
@@ -25,6 +25,6 @@ returns-clause-ok c =
         is = refl;
       },
       joined c.args.out.now.items c.append_head.new.out.items c.append_tables.new.out.items c.append_tables-2.new.out.items
-          (head_text c.args.board.now.root head.status head.tally) (lines_of (codes "champion") champions) (lines_of (codes "holdout") holdouts)
+          (head_text c.args.board.now.root head.status head.tally) (table_lines (codes "champion") champions) (table_lines (codes "holdout") holdouts)
           (found.2 ∙ ap (λ (l : List ℕ). c.args.out.now.items ++ l) head.is) c.in_ok-append_tables.ensures.ok last,
     )) c.append_tables-2.ensures.ok

@@ -2,7 +2,7 @@ use Rattle.std.proofs.Common.{List, [], ◌++◌, sym, ap, ◌∙◌, append_ass
 use Rattle.std.specs.Vec.Iter.{into_iter_items}
 use Rattle.machine_text.specs.Packed.{Packed}
 use Rattle.machine_text.specs.Text.{text_of}
-use Rattle.ledger_commands.specs.Report.{line_of, lines_of}
+use Rattle.ledger_commands.specs.Report.{line_of, table_lines}
 use Rattle.ledger_commands.proofs.Passing.{only_appended, passes_on}
 use Rattle.ledger_commands.proofs.report_writer.pass_tables.Goals as goal
 
@@ -10,7 +10,7 @@ pub loop-table-init : goal.loop-table-init
 loop-table-init g c = (
   [],
   only_appended (g.W.Write.contents c.args.answers.now) c.args.piece.now.items c.args.piece.now.items [] (sym (append-nil c.args.piece.now.items)),
-  ap (λ tables. lines_of c.args.name.now (into_iter_items tables)) c.into_iter-table-iterator.ensures.into_iter_gives,
+  ap (λ tables. table_lines c.args.name.now (into_iter_items tables)) c.into_iter-table-iterator.ensures.into_iter_gives,
 )
 
 pub loop-table-preserved : goal.loop-table-preserved
@@ -20,6 +20,6 @@ loop-table-preserved g c =
       before.0 ++ line,
       passes_on (g.W.Write.contents c.args.answers.now) (g.W.Write.contents c.loop-table.answers) (g.W.Write.contents c.pass_line.new.answers)
           c.args.piece.now.items c.loop-table.piece.items c.pass_line.new.piece.items before.0 line before.1 c.in_ok-pass_line.ensures,
-      append_assoc before.0 line (lines_of c.args.name.now (into_iter_items c.next.new.self))
-          ∙ (ap (λ (ts : List Packed). before.0 ++ lines_of c.args.name.now ts) (sym c.in-Some.ensures.steps.0) ∙ before.2),
+      append_assoc before.0 line (table_lines c.args.name.now (into_iter_items c.next.new.self))
+          ∙ (ap (λ (ts : List Packed). before.0 ++ table_lines c.args.name.now ts) (sym c.in-Some.ensures.steps.0) ∙ before.2),
     )

@@ -1,6 +1,6 @@
 use Rattle.std.proofs.Common.{◌≡◌, ℕ, List, ◌++◌}
 use Rattle.std.specs.Vec.Iter.{into_iter_items}
-use Rattle.ledger_commands.specs.Report.{lines_of}
+use Rattle.ledger_commands.specs.Report.{table_lines}
 use Rattle.ledger_commands.specs.Passing.{Passes}
 use Rattle.ledger_commands.proofs.report_writer.pass_tables.Given as goal
 
@@ -8,4 +8,4 @@ use Rattle.ledger_commands.proofs.report_writer.pass_tables.Given as goal
 abbrev pub invariant-loop-table : goal.invariant-loop-table
 invariant-loop-table g l = (done : List ℕ)
     × Passes (g.W.Write.contents l.fn.answers) l.fn.piece.items (g.W.Write.contents l.answers) l.piece.items done
-    × (done ++ lines_of l.name (into_iter_items l.table-iterator) ≡ lines_of l.name (into_iter_items l.fn.tables))
+    × (done ++ table_lines l.name (into_iter_items l.table-iterator) ≡ table_lines l.name (into_iter_items l.fn.tables))

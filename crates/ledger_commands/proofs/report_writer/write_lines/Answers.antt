@@ -2,7 +2,7 @@ use Rattle.std.proofs.Common.{List, ℕ, subst}
 use Rattle.std.specs.Prelude.{codes}
 use Rattle.std.specs.Vec.Iter.{into_iter_items}
 use Rattle.std.specs.Io.KnownBytes.{Appends}
-use Rattle.ledger_commands.specs.Report.{lines_of}
+use Rattle.ledger_commands.specs.Report.{table_lines}
 use Rattle.ledger_commands.specs.Passing.{Passes}
 use Rattle.ledger_commands.proofs.Reports.{on_ok}
 use Rattle.ledger_commands.proofs.Passing.{report_passed}
@@ -14,7 +14,7 @@ returns g c =
     on_ok c.write_all.result
     (λ last. report_passed (g.W.Write.contents c.args.answers.now) (g.W.Write.contents c.pass_tables.new.answers) (g.W.Write.contents c.pass_tables-2.new.answers) (g.W.Write.contents c.pass.new.answers) (g.W.Write.contents c.write_all.new.self)
     c.args.made.head.items c.pass_tables.new.piece.items c.pass_tables-2.new.piece.items c.pass.new.piece.items
-    (lines_of (codes "champion") (into_iter_items c.args.made.champions)) (lines_of (codes "holdout") (into_iter_items c.args.made.holdouts)) c.args.made.tail.items
+    (table_lines (codes "champion") (into_iter_items c.args.made.champions)) (table_lines (codes "holdout") (into_iter_items c.args.made.holdouts)) c.args.made.tail.items
     c.in_ok-pass_tables.ensures c.in_ok-pass_tables-2.ensures tail
     (subst (λ (l : List ℕ). Appends (g.W.Write.contents c.pass.new.answers) (g.W.Write.contents c.write_all.new.self) l) c.deref-2.ensures.value last))
     c.write_all.ensures.bytes

@@ -6,7 +6,7 @@ use Rattle.std.proofs.Math.Seq.{map-set_same}
 use Rattle.indexmap.specs.IndexMap.{get as number_of}
 use Rattle.machine_text.specs.Packed.{Packed}
 use Rattle.leases.specs.Inside.Keeping.{kept, held, AreOfWorkers}
-use Rattle.leases.specs.Inside.Children.{HasRoom, shown}
+use Rattle.leases.specs.Inside.Children.{HasRoomForChildren, shown}
 use Rattle.leases.specs.Inside.Deadlines.{AreAwaited}
 use Rattle.leases.specs.declared.held_leases.HeldLease.{HeldLease}
 use Rattle.leases.proofs.LiveLaws.{set_place, workers_same, room_one, room_none, if_ok}
@@ -19,7 +19,7 @@ invariant_of-self c =
 
 pub returns-in_default-clause-ok : goal.returns-in_default-clause-ok
 returns-in_default-clause-ok c =
-    subst (λ (m : BTreeMap ℕ HeldLease). HasRoom c.args.number (map kept m.entries)) (sym c.get_mut.follows.holds-at-none)
+    subst (λ (m : BTreeMap ℕ HeldLease). HasRoomForChildren c.args.number (map kept m.entries)) (sym c.get_mut.follows.holds-at-none)
     (room_none c.args.number c.self.inside.leases c.self.invariant.0 (sym c.get_mut.ensures.value ∙ ap option_copied_mut c.in_default.is))
 
 pub invariant_of-self-2 : goal.invariant_of-self-2

@@ -7,7 +7,7 @@ use Rattle.leases.specs.declared.held_leases.HeldLease.{HeldLease}
 use Rattle.std.specs.Map.{lookup}
 use Rattle.leases.specs.Inside.Deadlines.{AreAwaited}
 use Rattle.std.specs.declared.cmp.Reverse.{Reverse}
-use Rattle.leases.specs.Inside.Keeping.{Kept, kept, without, is_numbered, AreOfWorkers, IsOwn}
+use Rattle.leases.specs.Inside.Keeping.{KeptLease, kept, without, is_numbered, AreOfWorkers, IsOwn}
 use Rattle.leases.proofs.LiveLaws.{at_number, added_last, without_last, fresh_at, not_own, owned, own_one, workers_replaced}
 use Rattle.leases.proofs.DeadlineLaws.{replaced_awaited}
 use Rattle.leases.proofs.live_leases.LiveLeases.replace.Goals as goal
@@ -37,7 +37,7 @@ invariant_of-self-2 c =
     let m = c.self.inside.leases in
     let n = c.args.number in
     let v = c.args.lease in
-    let last = subst (All (λ (l : Kept). l.number < n)) (sym c.self.view_is) c.requires.last in
+    let last = subst (All (λ (l : KeptLease). l.number < n)) (sym c.self.view_is) c.requires.last in
     let own = subst (IsOwn v.id c.args.own) (sym c.self.view_is) c.requires.own in (
       c.take_out.ensures.ordered,
       workers_replaced (number_of nat_eq c.self.inside.of_worker) _ (get nat_cmp m) _ c.args.own n v c.self.invariant.1 (fresh_at n m.entries last)
@@ -54,7 +54,7 @@ returns-clause-ok c =
     let es = c.self.inside.leases.entries in
     let n = c.args.number in
     let v = c.args.lease in
-    let last = subst (All (λ (l : Kept). l.number < n)) (sym c.self.view_is) c.requires.last in
+    let last = subst (All (λ (l : KeptLease). l.number < n)) (sym c.self.view_is) c.requires.last in
     let own = subst (IsOwn v.id c.args.own) (sym c.self.view_is) c.requires.own in
     c.take_out.ensures.kept ∙ (ap (λ es. without c.args.own (map kept es)) (c.in_ok-insert.ensures.entries ∙ added_last n v es last)
     ∙ (ap (without c.args.own) (map-append kept es ((n, v) ∷ [])) ∙ (without_last c.args.own (map kept es) (kept (n, v)) (not_own v.id c.args.own n (map kept es) own last)

@@ -3,7 +3,7 @@ use Rattle.machine_text.specs.Packed.{Packed}
 use Rattle.ledger.specs.LedgerText.{ReadsAs}
 use Rattle.ledger_commands.specs.Merge.{EndsTakingIn}
 use Rattle.ledger_commands.proofs.Joining.{load_ends_taking, load_taken}
-use Rattle.ledger_commands.proofs.merge.loaded_with.Goals as goal
+use Rattle.ledger_commands.proofs.merge.load_behind_header.Goals as goal
 
 pub returns-in-Ok-clause-ok : goal.returns-in-Ok-clause-ok
 returns-in-Ok-clause-ok c =

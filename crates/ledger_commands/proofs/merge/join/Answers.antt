@@ -4,7 +4,7 @@ use Rattle.ledger.specs.Contents.{Contents}
 use Rattle.ledger.specs.declared.left.Left.{Left}
 use Rattle.ledger_commands.specs.Merge.{EndsTakingIn}
 use Rattle.options.specs.declared.ended.Ended.{Ended}
-use Rattle.ledger_commands.proofs.merge.joined.Goals as goal
+use Rattle.ledger_commands.proofs.merge.join.Goals as goal
 
 pub returns-in_err-bytes-clause-err : goal.returns-in_err-bytes-clause-err
 returns-in_err-bytes-clause-err g c =

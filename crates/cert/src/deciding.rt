@@ -1,5 +1,5 @@
 // From finders to a record that is certified.
-ghost use Rattle.std.specs.Prelude.{◌≡◌, ◌↔◌, IsTrue, Option, Some, IfOk, MatchOption, option_map};
+ghost use Rattle.std.specs.Prelude.{◌≡◌, ◌↔◌, IsTrue, Option, Some, IfOk, MatchOption};
 ghost use Rattle.cert.specs.Asking.{Answered, IsTaken};
 ghost use Rattle.cert.specs.Certified.{IsCertified};
 ghost use Rattle.cert.specs.Claim.{Claim};
@@ -17,15 +17,15 @@ use std::alloc::{AllocError, Global};
 /// their order; undecided where none does. Each certificate is judged, whatever finder gave it, and none
 /// that is refused or claims nothing is taken. Memory that is refused to a finder or to a judgement is
 /// passed on; then the finders' scratch may have changed.
-pub fn decide(
+pub fn decide<F: Finder>(
     alloc: Global,
-    finders: &mut [Box<dyn Finder>],
+    finders: &mut [F],
     t: &Table,
     budget: u64,
 ) -> Result<OwnedRecord, NoMemory>
     ensures table { IfOk result (λ r. r.table ≡ t.now) }
     ensures certified { IfOk result (λ r. IsCertified (owned_recorded r)) }
-    ensures order { IfOk result (λ r. Answered (λ f claim. gives f t.now budget claim) t.now finders.old (owned_claim r.certificate)) }
+    ensures order { IfOk result (λ r. Answered (λ f claim. F.gives f t.now budget claim) t.now finders.old (owned_claim r.certificate)) }
 {
     for finder in finders.iter_mut() {
         if let Some(record) = taken(alloc, finder, t, budget)? {
@@ -39,16 +39,16 @@ pub fn decide(
 }
 
 // The record of what a finder gives for a table, if it claims something and stands.
-fn taken(
+fn taken<F: Finder>(
     alloc: Global,
-    finder: &mut Box<dyn Finder>,
+    finder: &mut F,
     t: &Table,
     budget: u64,
 ) -> Result<Option<OwnedRecord>, NoMemory>
-    ensures { IfOk result (λ o. (given : Option Claim) × gives finder.old t.now budget given
+    ensures { IfOk result (λ o. (given : Option Claim) × F.gives finder.old t.now budget given
         × MatchOption o (IsTaken t.now given → ⊥) (λ r. (r.table ≡ t.now) × IsTaken t.now given × (given ≡ Some (owned_claim r.certificate)))) }
 {
-    match ask(finder, t, budget)? {
+    match finder.find(t, budget)? {
         Some(certificate) => {
             let record = OwnedRecord {
                 table: *t,
@@ -62,17 +62,6 @@ fn taken(
         }
         None => Ok(None),
     }
-}
-
-// What a finder gives for a table.
-fn ask(
-    finder: &mut Box<dyn Finder>,
-    t: &Table,
-    budget: u64,
-) -> Result<Option<OwnedCertificate>, NoMemory>
-    ensures { IfOk result (λ o. gives finder.old t.now budget (option_map owned_claim o)) }
-{
-    finder.find(t, budget)
 }
 
 // Whether a record claims something, and that stands.
@@ -112,16 +101,16 @@ pub trait Decider {
 
 /// Finders in the order in which they are asked, with the budget that each is given.
 #[derive(Drop)]
-pub struct Finders {
+pub struct Finders<F> {
     /// The finders, the first of which is asked first.
-    pub finders: Vec<Box<dyn Finder>>,
+    pub finders: Vec<F>,
     /// For how many steps each is asked.
     pub budget: u64,
 }
 
-impl Finders {
+impl<F: Finder> Finders<F> {
     /// These finders, with this budget in steps.
-    pub fn new(finders: Vec<Box<dyn Finder>>, budget: u64) -> Finders
+    pub fn new(finders: Vec<F>, budget: u64) -> Finders<F>
         ensures finders { result.finders ≡ finders }
         ensures budget { result.budget ≡ budget }
     {
@@ -129,11 +118,11 @@ impl Finders {
     }
 }
 
-impl Decider for Finders {
+impl<F: Finder> Decider for Finders<F> {
     ghost use Rattle.cert.specs.Asking.{Answered};
 
     /// What comes of asking all of them in their order, each with the whole budget.
-    ghost answers = { λ asked p r. Answered (λ f claim. (Finder-box f).gives f.value p asked.budget claim) p asked.finders.items r.claim };
+    ghost answers = { λ asked p r. Answered (λ f claim. F.gives f p asked.budget claim) p asked.finders.items r.claim };
 
     fn decide(&mut self, alloc: Global, t: &Table) -> Result<OwnedRecord, NoMemory> {
         decide(alloc, &mut self.finders, t, self.budget)

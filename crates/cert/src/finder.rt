@@ -25,6 +25,15 @@ pub trait Finder: Drop {
         ensures { IfOk result (λ o. gives self.old t.now budget (option_map owned_claim o)) };
 }
 
+// Finders of several kinds stand boxed in one list.
+impl Finder for Box<dyn Finder> {
+    ghost gives = { λ b p budget claim. (Finder-box b).gives b.value p budget claim };
+
+    fn find(&mut self, t: &Table, budget: u64) -> Result<Option<OwnedCertificate>, NoMemory> {
+        (**self).find(t, budget)
+    }
+}
+
 impl Finder for HaltFinder {
     ghost use Rattle.std.specs.Prelude.{⊤};
 

@@ -10,7 +10,7 @@ use options::Search;
 use run::HaltFinder;
 use std::alloc::Global;
 
-// One of them. A list of these can be made by a function, as one of boxed finders can't.
+// One of them, so that a list of them needs no boxes.
 #[derive(Drop)]
 pub(crate) enum AnyFinder {
     Halts(HaltFinder),

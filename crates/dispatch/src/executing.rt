@@ -2,7 +2,7 @@
 ghost use Rattle.options.specs.Ranges.{IsBeginning, IsSettling, AreWithinRanges};
 
 use crate::any_finder::all_finders;
-use cert::{Decider, Finder, Finders};
+use cert::{Decider, Finders};
 use evidence::NoMemory;
 use json_report::Form;
 use lease_core::Worker;
@@ -61,8 +61,7 @@ fn or_told<E: Write>(ended: Result<Outcome, NoMemory>, faults: &mut E) -> Outcom
     }
 }
 
-// `bb decide`. A value that is boxed as any finder can't be handed out by a function, so each command that
-// needs finders boxes them itself.
+// `bb decide`.
 fn decide<R: Read, W: Write, E: Write>(
     alloc: Global,
     search: &Search,
@@ -70,11 +69,7 @@ fn decide<R: Read, W: Write, E: Write>(
     answers: &mut W,
     faults: &mut E,
 ) -> Result<Outcome, NoMemory> {
-    let mut finders: Vec<Box<dyn Finder>> = Vec::new(alloc);
-    for finder in all_finders(alloc, search)? {
-        finders.push(Box::new(alloc, finder)?)?;
-    }
-    let mut decider = Finders::new(finders, search.steps);
+    let mut decider = Finders::new(all_finders(alloc, search)?, search.steps);
     Ok(cmd_decide(alloc, &mut decider, input, answers, faults))
 }
 
@@ -92,11 +87,8 @@ fn settle<H: Host + Clock, W: Write, E: Write>(
     let steps = settling.search.steps;
     let mut workers = Vec::new(alloc);
     for id in 1..=u32::from(settling.workers) {
-        let mut finders: Vec<Box<dyn Finder>> = Vec::new(alloc);
-        for finder in all_finders(alloc, &settling.search)? {
-            finders.push(Box::new(alloc, finder)?)?;
-        }
-        let (worker, started) = Worker::start(alloc, id, b"", finders, steps);
+        let finders = Finders::new(all_finders(alloc, &settling.search)?, steps);
+        let (worker, started) = Worker::over(alloc, id, b"", finders);
         // An empty ledger is refused for want of memory alone.
         if started.is_err() {
             return Err(AllocError);
@@ -154,11 +146,7 @@ fn retry<H: Host, W: Write, E: Write>(
     answers: &mut W,
     faults: &mut E,
 ) -> Result<Outcome, NoMemory> {
-    let mut finders: Vec<Box<dyn Finder>> = Vec::new(alloc);
-    for finder in all_finders(alloc, search)? {
-        finders.push(Box::new(alloc, finder)?)?;
-    }
-    let mut decider = Finders::new(finders, search.steps);
+    let mut decider = Finders::new(all_finders(alloc, search)?, search.steps);
     Ok(retried(alloc, path, &mut decider, host, answers, faults))
 }
 

@@ -86,7 +86,7 @@ struct Ending {
 }
 
 // So many workers, with the ids from 1 on.
-fn workers_of(alloc: Global, count: u8) -> Result<Vec<Worker<Finders>>, Fail> {
+fn workers_of(alloc: Global, count: u8) -> Result<Vec<Worker<Finders<Box<dyn Finder>>>>, Fail> {
     let mut workers = Vec::new(alloc);
     for id in 1..=count {
         workers.push(worker_of(alloc, id)?)?;
@@ -94,7 +94,7 @@ fn workers_of(alloc: Global, count: u8) -> Result<Vec<Worker<Finders>>, Fail> {
     Ok(workers)
 }
 
-fn worker_of(alloc: Global, id: u8) -> Result<Worker<Finders>, Fail> {
+fn worker_of(alloc: Global, id: u8) -> Result<Worker<Finders<Box<dyn Finder>>>, Fail> {
     let (worker, started) = Worker::start(alloc, u32::from(id), b"", finders_of(alloc)?, STEPS);
     started?;
     Ok(worker)

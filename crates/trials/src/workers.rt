@@ -14,14 +14,14 @@ use wire::{Event, Node, NodeFault, Note, Out};
 fn started(
     alloc: Global,
     ledger: &[u8],
-) -> Result<(Worker<Finders>, Result<Out, StartFault>), Fail> {
+) -> Result<(Worker<Finders<Box<dyn Finder>>>, Result<Out, StartFault>), Fail> {
     let mut finders: Vec<Box<dyn Finder>> = Vec::new(alloc);
     finders.push(Box::new(alloc, HaltFinder::new(alloc, 100))?)?;
     Ok(Worker::start(alloc, 7, ledger, finders, 100))
 }
 
 // The same, without a board.
-fn idle(rt: &impl Abort, alloc: Global) -> Result<Worker<Finders>, Fail> {
+fn idle(rt: &impl Abort, alloc: Global) -> Result<Worker<Finders<Box<dyn Finder>>>, Fail> {
     let (worker, first) = started(alloc, b"")?;
     match first {
         Ok(out) => assert!(rt;
@@ -36,7 +36,7 @@ const CHILDREN: &str =
     "0LA---_1LA--- 0LB---_1LA--- 0RA---_1LA--- 0RB---_1LA--- 1LA---_1LA--- 1LB---_1LA--- 1RA---_1LA--- 1RB---_1LA---";
 
 // The same, with the tree of a table that has one entry, as lease 1 of era 1.
-fn granted(rt: &impl Abort, alloc: Global) -> Result<Worker<Finders>, Fail> {
+fn granted(rt: &impl Abort, alloc: Global) -> Result<Worker<Finders<Box<dyn Finder>>>, Fail> {
     let mut worker = idle(rt, alloc)?;
     handed(rt, &mut worker, "GRANT 1 1 ------_1LA---");
     Ok(worker)
@@ -158,7 +158,12 @@ fn odd_frames_are_noted(rt: HostRuntime) -> Result<(), Fail> {
 }
 
 // A frame is noted so, and nothing is sent.
-fn is_noted(rt: &impl Abort, worker: &mut Worker<Finders>, frame: &str, note: Note) {
+fn is_noted(
+    rt: &impl Abort,
+    worker: &mut Worker<Finders<Box<dyn Finder>>>,
+    frame: &str,
+    note: Note,
+) {
     let out = handed(rt, worker, frame);
     assert!(rt; out.note == note && out.frames.is_empty(), "{frame}");
 }

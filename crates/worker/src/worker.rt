@@ -46,7 +46,7 @@ impl<D> Model for Worker<D> {
     } };
 }
 
-impl Worker<Finders> {
+impl Worker<Finders<Box<dyn Finder>>> {
     ghost use Rattle.wire.specs.Carried.{text_after};
     ghost use Rattle.worker.specs.WorkerState.{IsInStep};
     ghost use Rattle.worker.specs.WorkerStart.{Starts};
@@ -63,7 +63,7 @@ impl Worker<Finders> {
         ledger: &[u8],
         finders: Vec<Box<dyn Finder>>,
         budget: u64,
-    ) -> (Worker<Finders>, Result<Out, StartFault>)
+    ) -> (Worker<Finders<Box<dyn Finder>>>, Result<Out, StartFault>)
         ensures starts { Starts id (record { finders = finders; budget = budget }) ledger.now result.0 result.1 }
         ensures step { IfOk result.1 (λ out. IsInStep result.0 (text_after out ledger.now)) }
     {

@@ -3,4 +3,4 @@ use Rattle.cert.proofs.deciding.decide.Given as goal
 
 abbrev pub invariant-loop-finder : goal.invariant-loop-finder
 invariant-loop-finder g l =
-    IsAskedTo (λ f claim. (goal.Finder-dyn g (f.vtable, f.value)).gives f.value l.fn.t l.fn.budget claim) l.fn.t l.finder-index l.finders l.fn.finders
+    IsAskedTo (λ f claim. g.F.Finder.gives f l.fn.t l.fn.budget claim) l.fn.t l.finder-index l.finders l.fn.finders

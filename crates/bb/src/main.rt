@@ -9,7 +9,7 @@ use dispatch::System;
 pub use json_report::report_json;
 pub use ledger_commands::{cmd_merge, cmd_report, cmd_retry, report};
 pub use line_commands::{cmd_check, cmd_decide};
-pub use node_commands::{cmd_coord, cmd_run};
+pub use node_commands::{Run, cmd_coord, cmd_run};
 pub use options::Options;
 use program::obey;
 use std::env;

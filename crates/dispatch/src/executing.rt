@@ -8,7 +8,7 @@ use json_report::Form;
 use lease_core::Worker;
 use ledger_commands::{Host, LedgerAt, Opened, cmd_merge, cmd_report, cmd_retry, held_at, opened};
 use line_commands::{cmd_check, cmd_decide};
-use node_commands::{NoLedger, cmd_coord, cmd_run};
+use node_commands::{NoLedger, Run, cmd_coord, cmd_run};
 use options::{Beginning, Ended, Options, Outcome, Search, Settling};
 use std::alloc::{AllocError, Global};
 use std::io::{self, Empty, Read, Write};
@@ -111,29 +111,19 @@ fn run<N: Node + Drop, H: Host + Clock, W: Write, E: Write>(
     requires { IsSettling settling.now }
 {
     let form = Form::of(settling.json);
+    let run = Run {
+        settling,
+        form: &form,
+        workers,
+        clock: host,
+    };
     match path {
-        Some(path) => cmd_run(
-            alloc,
-            settling,
-            &form,
-            held_at(host, path),
-            &mut LedgerAt::new(host, path),
-            workers,
-            host,
-            answers,
-            faults,
-        ),
-        None => cmd_run(
-            alloc,
-            settling,
-            &form,
-            Ok(nothing()),
-            &mut NoLedger,
-            workers,
-            host,
-            answers,
-            faults,
-        ),
+        Some(path) => {
+            let held = held_at(host, path);
+            let mut ledger = LedgerAt::new(host, path);
+            cmd_run(alloc, run, held, &mut ledger, answers, faults)
+        }
+        None => cmd_run(alloc, run, Ok(nothing()), &mut NoLedger, answers, faults),
     }
 }
 
@@ -147,10 +137,11 @@ fn retry<H: Host, W: Write, E: Write>(
     faults: &mut E,
 ) -> Result<Outcome, NoMemory> {
     let mut decider = Finders::new(all_finders(alloc, search)?, search.steps);
-    Ok(retried(alloc, path, &mut decider, host, answers, faults))
+    Ok(retry_at(alloc, path, &mut decider, host, answers, faults))
 }
 
-fn retried<H: Host, D: Decider, W: Write, E: Write>(
+// The same with this decider.
+fn retry_at<H: Host, D: Decider, W: Write, E: Write>(
     alloc: Global,
     path: &str,
     decider: &mut D,

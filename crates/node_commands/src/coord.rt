@@ -29,13 +29,13 @@ pub fn cmd_coord<F: Read + Drop, L: LedgerOut, R: Read, W: Write, E: Write>(
 ) -> Outcome
     requires { (1 ≤ beginning.states) × (beginning.states ≤ state_limit) }
 {
-    match coordinated(alloc, beginning, held, ledger, input, answers) {
+    match coordinate(alloc, beginning, held, ledger, input, answers) {
         Ok(outcome) => outcome,
         Err(ended) => ended.told(faults),
     }
 }
 
-fn coordinated<F: Read + Drop, L: LedgerOut, R: Read, W: Write>(
+fn coordinate<F: Read + Drop, L: LedgerOut, R: Read, W: Write>(
     alloc: Global,
     beginning: Beginning,
     held: io::Result<Opened<F>>,
@@ -45,14 +45,14 @@ fn coordinated<F: Read + Drop, L: LedgerOut, R: Read, W: Write>(
 ) -> Result<Outcome, Ended>
     requires { (1 ≤ beginning.states) × (beginning.states ≤ state_limit) }
 {
-    let mut node = coordinator(alloc, beginning, held, ledger)?;
-    let served = served(alloc, &mut node, ledger, input, answers);
+    let mut node = start_coordinator(alloc, beginning, held, ledger)?;
+    let served = serve(alloc, &mut node, ledger, input, answers);
     let outcome = outcome_of(&node);
     served.and(Ok(outcome))
 }
 
 // A coordinator whose ledger is in step with it.
-pub fn coordinator<F: Read + Drop, L: LedgerOut>(
+pub fn start_coordinator<F: Read + Drop, L: LedgerOut>(
     alloc: Global,
     beginning: Beginning,
     held: io::Result<Opened<F>>,
@@ -61,12 +61,12 @@ pub fn coordinator<F: Read + Drop, L: LedgerOut>(
     requires { (1 ≤ beginning.states) × (beginning.states ≤ state_limit) }
 {
     match bytes_of(alloc, held) {
-        Ok(bytes) => started(alloc, beginning, &bytes, ledger),
+        Ok(bytes) => start(alloc, beginning, &bytes, ledger),
         Err(fault) => Err(Ended::by_ledger(&fault)),
     }
 }
 
-fn started<L: LedgerOut>(
+fn start<L: LedgerOut>(
     alloc: Global,
     beginning: Beginning,
     bytes: &[u8],
@@ -88,7 +88,7 @@ fn carry_out_first<L: LedgerOut>(
 }
 
 // Answers what comes, to the end of the input.
-fn served<N: Node, L: LedgerOut, R: Read, W: Write>(
+fn serve<N: Node, L: LedgerOut, R: Read, W: Write>(
     alloc: Global,
     node: &mut N,
     ledger: &mut L,
@@ -98,13 +98,13 @@ fn served<N: Node, L: LedgerOut, R: Read, W: Write>(
     let Ok(mut output) = BufWriter::new(alloc, answers) else {
         return Err(Ended::NoMemory);
     };
-    let turned = turned(alloc, node, ledger, input, &mut output);
+    let turned = take_turns(alloc, node, ledger, input, &mut output);
     // What was answered before a fault is sent all the same.
     output.flush()?;
     turned
 }
 
-fn turned<N: Node, L: LedgerOut, R: Read, W: Write>(
+fn take_turns<N: Node, L: LedgerOut, R: Read, W: Write>(
     alloc: Global,
     node: &mut N,
     ledger: &mut L,

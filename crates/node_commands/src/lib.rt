@@ -18,5 +18,5 @@ pub use coord::cmd_coord;
 pub use losses::{Losses, carry};
 pub use no_ledger::NoLedger;
 pub use progress::Progress;
-pub use run_command::cmd_run;
+pub use run_command::{Run, cmd_run};
 pub use streams::Streams;

@@ -2,7 +2,7 @@
 ghost use Rattle.std.specs.Prelude.{◌≤◌};
 ghost use Rattle.machine_text.specs.Limits.{state_limit};
 
-use crate::coord::{coordinator, outcome_of};
+use crate::coord::{outcome_of, start_coordinator};
 use crate::progress::Progress;
 use crate::rounds::run_rounds;
 use crate::station::Station;
@@ -15,10 +15,23 @@ use std::io::{self, Read, Write};
 use std::time::Clock;
 use wire::{LedgerOut, Node};
 
-/// Settles the tree of the empty table by a coordinator and these workers, which were started from empty
-/// ledgers and whose links are in memory, and prints the report in a form. The coordinator's board begins with
-/// what `held` reads, and its records go to `ledger`. Accepted where the board is complete at the end. What
-/// ends the command early is said on `faults`, and so is how far it is, where that is asked for.
+/// What is run.
+#[derive(Drop)]
+pub struct Run<'a, P, N, C> {
+    /// How the tree is settled.
+    pub settling: &'a Settling,
+    /// The form of the report.
+    pub form: &'a P,
+    /// The workers, which were started from empty ledgers, and whose links are in memory.
+    pub workers: Vec<N>,
+    /// The clock by which is told how far it is.
+    pub clock: &'a C,
+}
+
+/// Settles the tree of the empty table by a coordinator and workers, and prints the report in a form. The
+/// coordinator's board begins with what `held` reads, and its records go to `ledger`. Accepted where the board is
+/// complete at the end. What ends the command early is said on `faults`, and so is how far it is, where that is asked
+/// for.
 pub fn cmd_run<
     P: ReportForm,
     F: Read + Drop,
@@ -29,28 +42,22 @@ pub fn cmd_run<
     E: Write,
 >(
     alloc: Global,
-    settling: &Settling,
-    form: &P,
+    run: Run<'_, P, N, C>,
     held: io::Result<Opened<F>>,
     ledger: &mut L,
-    workers: Vec<N>,
-    clock: &C,
     answers: &mut W,
     faults: &mut E,
 ) -> Outcome
-    requires { (1 ≤ settling.now.states) × (settling.now.states ≤ state_limit) }
+    requires { (1 ≤ run.settling.now.states) × (run.settling.now.states ≤ state_limit) }
 {
-    let ended = settled(
-        alloc, settling, form, held, ledger, workers, clock, answers, faults,
-    );
-    match ended {
+    match settle(alloc, run, held, ledger, answers, faults) {
         Ok(outcome) => outcome,
         Err(ended) => ended.told(faults),
     }
 }
 
-// A coordinator that is settled with these workers, and its report.
-fn settled<
+// A coordinator that is settled by its workers, and its report.
+fn settle<
     P: ReportForm,
     F: Read + Drop,
     L: LedgerOut,
@@ -60,56 +67,36 @@ fn settled<
     E: Write,
 >(
     alloc: Global,
-    settling: &Settling,
-    form: &P,
+    run: Run<'_, P, N, C>,
     held: io::Result<Opened<F>>,
     ledger: &mut L,
-    workers: Vec<N>,
-    clock: &C,
     answers: &mut W,
     faults: &mut E,
 ) -> Result<Outcome, Ended>
-    requires { (1 ≤ settling.now.states) × (settling.now.states ≤ state_limit) }
+    requires { (1 ≤ run.settling.now.states) × (run.settling.now.states ≤ state_limit) }
 {
     let beginning = Beginning {
-        states: settling.states,
+        states: run.settling.states,
         era: 1,
     };
-    let mut node = coordinator(alloc, beginning, held, ledger)?;
-    run_and_report(
-        alloc, settling, form, &mut node, ledger, workers, clock, answers, faults,
-    )
-}
-
-// The rounds of a coordinator and its workers, and then the report.
-fn run_and_report<P: ReportForm, L: LedgerOut, N: Node + Drop, C: Clock, W: Write, E: Write>(
-    alloc: Global,
-    settling: &Settling,
-    form: &P,
-    node: &mut Coordinator,
-    ledger: &mut L,
-    workers: Vec<N>,
-    clock: &C,
-    answers: &mut W,
-    faults: &mut E,
-) -> Result<Outcome, Ended> {
-    run_workers(alloc, settling, node, ledger, workers, clock, faults)?;
-    reported(alloc, form, node, answers)
+    let mut node = start_coordinator(alloc, beginning, held, ledger)?;
+    let form = run.form;
+    run_workers(alloc, run, &mut node, ledger, faults)?;
+    report_board(alloc, form, &node, answers)
 }
 
 // The rounds alone.
-fn run_workers<L: LedgerOut, N: Node + Drop, C: Clock, E: Write>(
+fn run_workers<P, L: LedgerOut, N: Node + Drop, C: Clock, E: Write>(
     alloc: Global,
-    settling: &Settling,
+    run: Run<'_, P, N, C>,
     node: &mut Coordinator,
     ledger: &mut L,
-    workers: Vec<N>,
-    clock: &C,
     faults: &mut E,
 ) -> Result<(), Ended> {
-    let mut stations = stations(alloc, settling, workers)?;
+    let settling = run.settling;
+    let mut stations = stations(alloc, settling, run.workers)?;
     let records = recorded(node);
-    let mut progress = Progress::new(alloc, settling.progress, records, clock, faults);
+    let mut progress = Progress::new(alloc, settling.progress, records, run.clock, faults);
     run_rounds(node, ledger, &mut stations, settling.rounds, &mut progress)
 }
 
@@ -143,7 +130,7 @@ fn recorded(node: &Coordinator) -> u64 {
 }
 
 // Prints the report of a coordinator's board.
-fn reported<P: ReportForm, W: Write>(
+fn report_board<P: ReportForm, W: Write>(
     alloc: Global,
     form: &P,
     node: &Coordinator,

@@ -8,7 +8,7 @@ use json_report::Form;
 use lease_core::Worker;
 use loops::{CycleFinder, TranslatedFinder};
 use ngram_cps::NgramFinder;
-use node_commands::cmd_run;
+use node_commands::{Run, cmd_run};
 use options::{Outcome, Search, Settling};
 use run::HaltFinder;
 use std::alloc::Global;
@@ -119,14 +119,17 @@ fn ended(
     let mut answers = Sink::new(alloc, usize::MAX, writes_left);
     let mut faults = Sink::new(alloc, usize::MAX, ALWAYS);
     let form = Form::of(settling.json);
+    let run = Run {
+        settling,
+        form: &form,
+        workers,
+        clock: &clock,
+    };
     let outcome = cmd_run(
         alloc,
-        settling,
-        &form,
+        run,
         file_of(held, 9, ALWAYS),
         &mut ledger,
-        workers,
-        &clock,
         &mut answers,
         &mut faults,
     );

@@ -1,4 +1,6 @@
 pub mod Limits
+pub mod Meaning
+pub mod meanings
 pub mod Claim
 pub mod Certified
 pub mod Grammar

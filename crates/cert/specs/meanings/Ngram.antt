@@ -1,0 +1,16 @@
+-- N g L R C: the lists are a closed position set.
+use Rattle.std.specs.Prelude.{◌≡◌, Some}
+use Rattle.ngram_cps.specs.Lists.{Lists, AreLists, AreWithin, IsPositionSet}
+use Rattle.evidence.specs.declared.verdicts.Verdict.TheVariants.{Never}
+use Rattle.cert.specs.Meaning.{Meaning}
+
+abbrev pub ngram_meaning : Lists → Meaning
+ngram_meaning s = record {
+  writable = AreLists s × AreWithin s;
+  made_for = λ n. s.states ≡ n;
+  shows = Some Never;
+  within = AreWithin s;
+  wide = λ p. ⊥;
+  stands = λ p. AreLists s × IsPositionSet s p;
+  takes_memory = ⊥;
+}

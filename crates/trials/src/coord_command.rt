@@ -1,14 +1,14 @@
 // `bb coord` over streams and ledgers of the tests' own.
 use crate::streams::{ALWAYS, Sink, Source, file_of};
 use crate::texts::assert_bytes;
-use node_commands::cmd_coord;
+use node_commands::{Streams, cmd_coord};
 use options::{Beginning, Outcome};
 use std::alloc::Global;
 use std::cell::Cell;
 use std::io::{self, Read, Write};
 use std::process::Abort;
 use std::test::Fail;
-use wire::MemLedger;
+use wire::{Link, MemLedger};
 
 // What is run: the ledger's bytes before, the era, the input, the call at which the ledger fails, and how many
 // writes of answers succeed.
@@ -299,4 +299,23 @@ fn answers_are_flushed_before_more_is_awaited(rt: HostRuntime) {
     );
     assert!(rt; outcome == Outcome::Accepted);
     assert!(rt; flushed.get() == 55);
+}
+
+// A stream says how many bytes it took, so that the others follow, and fails where it takes none.
+#[test]
+fn a_stream_says_what_it_took(rt: HostRuntime) {
+    let mut input = b"".as_slice();
+    let mut answers = Sink::new(rt.alloc(), 3, 2);
+    let mut link = Streams::of(&mut input, &mut answers);
+    for taken in [Some(3), Some(1), None] {
+        let bytes = if taken == Some(1) {
+            b"\n".as_slice()
+        } else {
+            b"STOP"
+        };
+        assert!(rt; link.send(bytes).ok() == taken);
+    }
+    assert_bytes(&rt, &answers.kept, b"STO\n");
+    let mut full = Sink::new(rt.alloc(), 0, ALWAYS);
+    assert!(rt; Streams::of(&mut input, &mut full).send(b"STOP").is_err());
 }

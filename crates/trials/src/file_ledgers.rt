@@ -1,61 +1,12 @@
 // Ledgers in files, over files of the tests' own.
+use crate::papers::{Desk, Paper};
 use crate::texts::assert_bytes;
-use ledger_commands::FileLedger;
+use ledger_commands::{FileLedger, LedgerAt};
 use std::alloc::Global;
 use std::cell::RefCell;
-use std::fs::{Metadata, OpenFile};
-use std::io::{self, Write};
 use std::process::Abort;
 use std::test::Fail;
-use wire::{Note, Out, begin};
-
-// A file in memory, which takes so many bytes at a time.
-#[derive(Drop)]
-struct Paper<'a> {
-    text: &'a RefCell<Vec<u8>>,
-    at_once: usize,
-}
-
-impl Write for Paper<'_> {
-    fn write(&mut self, buf: &[u8]) -> io::Result<usize> {
-        let count = self.at_once.min(buf.len());
-        match self.text.try_borrow_mut() {
-            Ok(mut text) => text.extend_from_slice(&buf[..count])?,
-            Err(_) => return Err(io::Error::from(io::ErrorKind::Other)),
-        }
-        Ok(count)
-    }
-
-    fn flush(&mut self) -> io::Result<()> {
-        Ok(())
-    }
-}
-
-impl OpenFile for Paper<'_> {
-    fn metadata(&self) -> io::Result<Metadata> {
-        Err(io::Error::from(io::ErrorKind::Unsupported))
-    }
-
-    fn set_len(&self, size: u64) -> io::Result<()> {
-        match self.text.try_borrow_mut() {
-            Ok(mut text) => {
-                if size < text.len() as u64 {
-                    text.truncate(size as usize);
-                }
-                Ok(())
-            }
-            Err(_) => Err(io::Error::from(io::ErrorKind::Other)),
-        }
-    }
-
-    fn sync_all(&self) -> io::Result<()> {
-        Ok(())
-    }
-
-    fn sync_data(&self) -> io::Result<()> {
-        Ok(())
-    }
-}
+use wire::{LedgerOut, Note, Out, begin};
 
 // A file that is cut and then appended to, so many bytes at a time, and whether that went well.
 fn written(
@@ -102,4 +53,41 @@ fn files_that_take_nothing_fail(rt: HostRuntime) -> Result<(), Fail> {
     let alloc = rt.alloc();
     written(&rt, alloc, ("abc", Some(1), "d"), 0, ("a", false))?;
     written(&rt, alloc, ("abc", Some(1), ""), 0, ("a", true))
+}
+
+// What a path holds is kept: it is opened once, by what is first written, and what follows goes to its end.
+#[test]
+fn a_path_is_opened_by_what_is_first_written(rt: HostRuntime) -> Result<(), Fail> {
+    let alloc = rt.alloc();
+    let a = RefCell::new(b"bb-ledger 1 ------\n------ H 1\n0RA".to_vec(alloc)?);
+    let b = RefCell::new(Vec::new(alloc));
+    let desk = Desk::of(&a, &b, 4);
+    let mut ledger = LedgerAt::new(&desk, "a");
+    for (cut, append, opened) in [
+        (None, "", 0),
+        (Some(30), "", 1),
+        (None, "0RA--- T 0 1 R\n", 1),
+        (None, "1RA--- T 0 1 R\n", 1),
+    ] {
+        let out = Out {
+            cut,
+            append: append.as_bytes().to_vec(alloc)?,
+            frames: Vec::new(alloc),
+            note: Note::Quiet,
+        };
+        assert!(rt; begin(&out, &mut ledger).is_ok() && desk.opened.get() == opened);
+    }
+    let whole = b"bb-ledger 1 ------\n------ H 1\n0RA--- T 0 1 R\n1RA--- T 0 1 R\n";
+    assert_bytes(&rt, &a.into_inner(), whole);
+    Ok(())
+}
+
+// A path that can't be opened fails at each call.
+#[test]
+fn a_path_that_is_not_opened_fails(rt: HostRuntime) {
+    let a = RefCell::new(Vec::new(rt.alloc()));
+    let b = RefCell::new(Vec::new(rt.alloc()));
+    let desk = Desk::of(&a, &b, 4);
+    let mut ledger = LedgerAt::new(&desk, "absent");
+    assert!(rt; ledger.cut(0).is_err() && ledger.append(b"abc").is_err());
 }

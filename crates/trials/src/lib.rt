@@ -24,6 +24,8 @@ mod cycles;
 #[cfg(test)]
 mod deciding;
 #[cfg(test)]
+mod dispatched;
+#[cfg(test)]
 mod file_ledgers;
 #[cfg(test)]
 mod json_reports;
@@ -32,11 +34,15 @@ mod ledgers;
 #[cfg(test)]
 mod lines;
 #[cfg(test)]
+mod losses;
+#[cfg(test)]
 mod merge_command;
 #[cfg(test)]
 mod messages;
 #[cfg(test)]
 mod nodes;
+#[cfg(test)]
+mod papers;
 #[cfg(test)]
 mod plain_tapes;
 #[cfg(test)]
@@ -44,11 +50,15 @@ mod position_set_search;
 #[cfg(test)]
 mod position_sets;
 #[cfg(test)]
+mod probes;
+#[cfg(test)]
 mod records;
 #[cfg(test)]
 mod report_command;
 #[cfg(test)]
 mod retry_command;
+#[cfg(test)]
+mod rounds;
 #[cfg(test)]
 mod run_command;
 #[cfg(test)]

@@ -1,9 +1,15 @@
 //! The worked examples of README and docs/TOUR.md: each is run, on its file of `examples/` where it has one, and
-//! printed as they show it.
+//! printed as they show it. Then the commands that write ledgers are killed in each call by which they do, and begun
+//! again.
 #![tactic(auto)]
 
 ghost use Rattle.options.specs.Ranges.{AreWithinRanges};
 
+mod commands;
+mod killed;
+mod restarts;
+
+use commands::restart_all;
 use dispatch::{System, carry_out};
 use options::{Options, Search, Settling};
 use std::fs;
@@ -61,6 +67,7 @@ fn main(rt: HostRuntime) -> io::Result<ExitCode> {
     }
     println!(rt; "$ ./bb report --why examples/unfit.ledger")?;
     reported(&rt, "unfit.ledger", true)?;
+    restart_all(&rt)?;
     Ok(ExitCode::SUCCESS)
 }
 

@@ -1,0 +1,131 @@
+// The commands of `bb` that write ledgers, and what has to come of them.
+use crate::restarts::{Command, LEDGER, OTHER, restarted};
+use options::{Beginning, Merging, Options, Search, Settling};
+use std::io;
+
+// The defaults of the program.
+const SEARCH: Search = Search {
+    steps: 1_000,
+    depth: 20,
+    gram: 3,
+    far: 2,
+};
+
+const ONE_STATE: &str =
+    "root ------\nstatus complete\nnodes 3\nhalting 1\nnever 2\nholdouts 0\nopen 0\nbest 1\nchampion ------\n";
+
+const COORD: Command = Command {
+    words: "coord 1",
+    asked: Options::Coord {
+        beginning: Beginning { states: 1, era: 1 },
+        ledger: Some(LEDGER),
+    },
+    input: "ASK 7\nREC ------ H 1\nREC 0RA--- T 0 1 R\nREC 1RA--- T 0 1 R\nASK 7\n",
+    before: None,
+    other: None,
+    report: ONE_STATE,
+    after: Some("bb-ledger 1 ------\n------ H 1\n0RA--- T 0 1 R\n1RA--- T 0 1 R\n"),
+};
+
+// `bb run 1`
+const RUN_ONE: Command = Command {
+    words: "run 1",
+    asked: Options::Run {
+        settling: Settling {
+            states: 1,
+            workers: 2,
+            lose: None,
+            rounds: 1_000_000,
+            search: SEARCH,
+            json: false,
+            progress: false,
+        },
+        ledger: Some(LEDGER),
+    },
+    input: "",
+    before: None,
+    other: None,
+    report: ONE_STATE,
+    after: None,
+};
+
+// `bb run 2`
+const RUN_TWO: Command = Command {
+    words: "run 2",
+    asked: Options::Run {
+        settling: Settling {
+            states: 2,
+            workers: 2,
+            lose: None,
+            rounds: 1_000_000,
+            search: SEARCH,
+            json: false,
+            progress: false,
+        },
+        ledger: Some(LEDGER),
+    },
+    input: "",
+    before: None,
+    other: None,
+    report: "root ------_------\nstatus complete\nnodes 61\nhalting 19\nnever 42\nholdouts 0\nopen 0\nbest 6\nchampion 0RB---_1LA1RB\nchampion 1RB---_0LB1LA\nchampion 1RB---_1LB1LA\nchampion 1RB0LB_1LA---\nchampion 1RB1LB_1LA---\n",
+    after: None,
+};
+
+// A holdout that is settled, in a ledger whose last line is torn.
+const RETRY: Command = Command {
+    words: "retry of one state",
+    asked: Options::Retry {
+        file: LEDGER,
+        search: SEARCH,
+    },
+    input: "",
+    before: Some("bb-ledger 1 ------\n------ H 1\n0RA--- T 0 1 R\n1RA--- U\n1RA--- T 0 1"),
+    other: None,
+    report: ONE_STATE,
+    after: Some("bb-ledger 1 ------\n------ H 1\n0RA--- T 0 1 R\n1RA--- U\n1RA--- T 0 1 R\n"),
+};
+
+// A holdout that halts, so that its children become open, before a line that is no record.
+const RETRY_OPENING: Command = Command {
+    words: "retry of two states",
+    asked: Options::Retry {
+        file: LEDGER,
+        search: SEARCH,
+    },
+    input: "",
+    before: Some("bb-ledger 1 ------_------\n------_------ H 1\n1RB---_------ U\nhello\n"),
+    other: None,
+    report: "root ------_------\nstatus working\nnodes 13\nhalting 2\nnever 0\nholdouts 0\nopen 11\nbest 2\nchampion 1RB---_------\n",
+    after: Some(
+        "bb-ledger 1 ------_------\n------_------ H 1\n1RB---_------ U\n1RB---_------ H 2\n",
+    ),
+};
+
+// A merge into the first of its ledgers.
+const MERGE: Command = Command {
+    words: "merge",
+    asked: Options::Merge(Merging {
+        first: LEDGER,
+        second: OTHER,
+        out: LEDGER,
+    }),
+    input: "",
+    before: Some("bb-ledger 1 ------_------\n------_------ H 1\n0RB---_------ H 2\n"),
+    other: Some(
+        "bb-ledger 1 ------_------\n------_------ H 1\n1RB---_------ H 2\n1RA---_------ T 0 1 R\n",
+    ),
+    report: "root ------_------\nstatus working\nnodes 21\nhalting 3\nnever 1\nholdouts 0\nopen 17\nbest 2\nchampion 0RB---_------\nchampion 1RB---_------\n",
+    after: Some(
+        "bb-ledger 1 ------_------\n------_------ H 1\n0RB---_------ H 2\n1RB---_------ H 2\n1RA---_------ T 0 1 R\n",
+    ),
+};
+
+/// Kills each of the commands in each call of its ledger, and begins it again.
+pub fn restart_all(rt: &HostRuntime) -> io::Result<()> {
+    restarted(rt, &COORD)?;
+    restarted(rt, &RUN_ONE)?;
+    restarted(rt, &RUN_TWO)?;
+    restarted(rt, &RETRY)?;
+    restarted(rt, &RETRY_OPENING)?;
+    restarted(rt, &MERGE)
+}

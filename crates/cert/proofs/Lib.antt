@@ -1,5 +1,3 @@
-pub mod Cuts
-pub mod Worth
 pub mod RoundTrip
 pub mod TrueClaims
 pub mod Lines

@@ -1,15 +1,15 @@
 -- The text of a record has no newline, and what is certified has numbers of 64 bits.
-use Rattle.std.proofs.Common.{◌≡◌, ◌≢◌, ℕ, ◌+◌, ◌%◌, ◌<◌, ◌≤◌, ◌^◌, true, false, ◌&&◌, not, eqb, List, [], ◌∷◌, ◌++◌, get_or, refl, arith}
+use Rattle.std.proofs.Common.{◌≡◌, ◌≢◌, ℕ, ◌<◌, ◌≤◌, ◌^◌, true, false, ◌&&◌, not, eqb, List, [], ◌∷◌, ◌++◌, get_or, refl, arith}
 use Rattle.std.specs.Prelude.{All, codes, decimal}
 use Rattle.std.specs.List.{list_all}
 use Rattle.std.proofs.lemmas.Bool.Decides.{nat_tests}
-use Rattle.std.proofs.lemmas.Fmt.{decimal_by_steps}
 use Rattle.std.proofs.lemmas.List.Elements.{All-append, All-cons, All-nil, All-get_or, All-from_get_or}
 use Rattle.machine_text.specs.declared.transition.Dir.{Dir}
 use Rattle.machine_text.specs.declared.transition.Dir.TheVariants.{L, R}
 use Rattle.machine_text.specs.Packed.{Packed, IsTable}
 use Rattle.machine_text.specs.Text.{text_of}
 use Rattle.machine_text.proofs.RoundTrip.{text_of_from_45}
+use Rattle.text.proofs.Numbers.{decimal_line}
 use Rattle.far.specs.Automata.{Automata}
 use Rattle.far.specs.Texts.{delta_text, rows_text, hex_text, fields_text}
 use Rattle.far.proofs.RoundTrip.{bytes_from_comma}
@@ -41,11 +41,6 @@ by_test (byte ∷ text) passes =
 
 space : IsLine (codes " ")
 space = by_test (codes " ") refl
-
-decimal_line : (n : ℕ) → n < 2 ^ 64 → IsLine (decimal n)
-decimal_line = decimal_by_steps (λ n text. IsLine text)
-    (λ n small. one (48 + n) (omega arith))
-    (λ n digits large none. both digits ((48 + n % 10) ∷ []) none (one (48 + n % 10) (omega arith)))
 
 pub text_line : (p : Packed) → IsTable p → IsLine (text_of p)
 text_line p table = All-from_get_or IsOther (text_of p) 0 (λ i below.

@@ -1,19 +1,18 @@
 -- Reading the text of a record gives the record again.
-use Rattle.std.proofs.Common.{◌≡◌, ℕ, zero, suc, ◌+◌, ◌-◌, ◌*◌, ◌%◌, ◌^◌, ◌<◌, ◌≤◌, Bool, true, false, eqb, ltb, List, [], ◌∷◌, ◌++◌, length, get_or, Some, Ok, refl, ap, subst, ◌∙◌, append_assoc, length-append, arith}
+use Rattle.std.proofs.Common.{◌≡◌, ℕ, ◌+◌, ◌^◌, ◌<◌, ◌≤◌, Bool, true, false, eqb, ltb, List, [], ◌∷◌, ◌++◌, length, get_or, Some, Ok, refl, ap, subst, ◌∙◌, append_assoc, length-append, arith}
 use Rattle.std.specs.Prelude.{codes, decimal, All}
-use Rattle.std.specs.Str.{bytes_eq}
 use Rattle.std.proofs.lemmas.Bool.Decides.{nat_tests}
-use Rattle.std.proofs.lemmas.Fmt.{decimal_by_steps, length-decimal-le}
-use Rattle.std.proofs.lemmas.List.Elements.{All-append, All-cons, All-nil, All-get_or, All-from_get_or}
+use Rattle.std.proofs.lemmas.List.Elements.{All-cons, All-nil, All-get_or, All-from_get_or}
 use Rattle.std.proofs.lemmas.List.Splits.{slice_split_at, slice_split_none}
-use Rattle.std.proofs.lemmas.List.Sums.{fold-append}
-use Rattle.std.proofs.lemmas.Slice.Eq.{bytes_eq-Decides}
 use Rattle.machine_text.specs.declared.transition.Dir.{Dir}
 use Rattle.machine_text.specs.declared.transition.Dir.TheVariants.{L, R}
 use Rattle.machine_text.specs.Packed.{Packed, IsTable}
 use Rattle.machine_text.specs.Text.{text_of}
 use Rattle.machine_text.proofs.Rows.{length-text_of}
 use Rattle.machine_text.proofs.RoundTrip.{table_of-text_of, text_of_from_45}
+use Rattle.text.specs.Parts.{parts_of}
+use Rattle.text.specs.Decimal.{decimal_value}
+use Rattle.text.proofs.Numbers.{decimal_value-decimal, decimal_without, length_of_number}
 use Rattle.far.specs.Limits.{size_limit}
 use Rattle.far.specs.Automata.{Automata, AreAutomata, AreWithin as AreSized}
 use Rattle.far.specs.Texts.{delta_text, rows_text, hex_text, fields_text}
@@ -28,8 +27,7 @@ use Rattle.ngram_cps.proofs.Tested.{lists_decide}
 use Rattle.ngram_cps.proofs.Bytes.{AreHigh, lists_are_high}
 use Rattle.cert.specs.Limits.{record_byte_limit}
 use Rattle.cert.specs.Claim.{Claim, HaltsClaim, CycleClaim, TranslatedClaim, BackwardClaim, NgramClaim, FarClaim, NoClaim, Recorded, IsWritable, IsMadeFor}
-use Rattle.cert.specs.Grammar.{parts_of, worth_of, decimal_value, side_of, side_text, with_field, halts_by, cycle_by, translated_by, backward_by, ngram_by, width_in, lists_claim, far_by, size_in, automata_claim, claim_from, lists_text, automata_text, claim_text, record_with, record_after, record_from, record_of, record_text}
-use Rattle.cert.proofs.Worth.{with_digit}
+use Rattle.cert.specs.Grammar.{side_of, side_text, with_field, halts_by, cycle_by, translated_by, backward_by, ngram_by, width_in, lists_claim, far_by, size_in, automata_claim, claim_from, lists_text, automata_text, claim_text, record_with, record_after, record_from, record_of, record_text}
 
 abbrev IsSpace : ℕ → Bool
 IsSpace b = eqb b 32
@@ -37,64 +35,33 @@ IsSpace b = eqb b 32
 abbrev HasNoSpace : List ℕ → Type 0
 HasNoSpace text = All (λ b. IsSpace b ≡ false) text
 
--- the decimal form of a number is worth it, and is one part
-record IsForm (n : ℕ) (text : List ℕ) : Type 0 where
-  worth : worth_of text ≡ n
-  no_space : HasNoSpace text
-
-digit_is_no_space : (n : ℕ) → n < 10 → IsSpace (48 + n) ≡ false
-digit_is_no_space n small = grind (arith, nat_tests)
-
-one_digit : (n : ℕ) → n < 10 → HasNoSpace ((48 + n) ∷ [])
-one_digit n small = All-from_get_or (λ b. IsSpace b ≡ false) ((48 + n) ∷ []) 0 first
-  where
-    first : (i : ℕ) → i < 1 → IsSpace (get_or ((48 + n) ∷ []) i 0) ≡ false
-    first zero below = digit_is_no_space n small
-    first (suc i) below = absurd (omega arith)
-
-decimal_is_form : (n : ℕ) → n < 2 ^ 64 → IsForm n (decimal n)
-decimal_is_form = decimal_by_steps IsForm
-    (λ n small. record { worth = omega arith; no_space = one_digit n small })
-    (λ n digits large form. record {
-      worth = fold-append with_digit 0 digits ((48 + n % 10) ∷ []) ∙ (let e : 10 * worth_of digits + (48 + n % 10 - 48) ≡ n = omega (arith, form.worth) in e);
-      no_space = All-append (λ b. IsSpace b ≡ false) digits ((48 + n % 10) ∷ []) form.no_space (one_digit (n % 10) (omega arith));
-    })
-
-decimal_value-decimal : (n : ℕ) → n < 2 ^ 64 → decimal_value (decimal n) ≡ Some n
-unfolding decimal_value
-decimal_value-decimal n small =
-    let worth = (decimal_is_form n small).worth in
-    let within : ltb n (2 ^ 64) ≡ true = grind (arith, nat_tests) in
-    let same : bytes_eq (decimal n) (decimal n) ≡ true = (bytes_eq-Decides (decimal n) (decimal n)).1 refl in
-    rw (worth, within, same) refl
-
 text_has_no_space : (p : Packed) → IsTable p → HasNoSpace (text_of p)
 text_has_no_space p table = All-from_get_or (λ b. IsSpace b ≡ false) (text_of p) 0 (λ i below.
     let above : 45 ≤ get_or (text_of p) i 0 = text_of_from_45 p table i below in
     grind (arith, nat_tests))
 
 -- a number is one part, whatever follows its space
-number_part : (n : ℕ) → n < 2 ^ 64 → parts_of (decimal n) ≡ decimal n ∷ []
-number_part n small = slice_split_none IsSpace (decimal n) (decimal_is_form n small).no_space
+number_part : (n : ℕ) → n < 2 ^ 64 → parts_of 32 (decimal n) ≡ decimal n ∷ []
+number_part n small = slice_split_none IsSpace (decimal n) (decimal_without 32 n (omega arith) small)
 
-number_then : (n : ℕ) (rest : List ℕ) → n < 2 ^ 64 → parts_of (decimal n ++ 32 ∷ rest) ≡ decimal n ∷ parts_of rest
-number_then n rest small = slice_split_at IsSpace (decimal n) 32 rest (decimal_is_form n small).no_space refl
+number_then : (n : ℕ) (rest : List ℕ) → n < 2 ^ 64 → parts_of 32 (decimal n ++ 32 ∷ rest) ≡ decimal n ∷ parts_of 32 rest
+number_then n rest small = slice_split_at IsSpace (decimal n) 32 rest (decimal_without 32 n (omega arith) small) refl
 
-times_parts : (i j : ℕ) → i < 2 ^ 64 → j < 2 ^ 64 → parts_of (decimal i ++ 32 ∷ decimal j) ≡ decimal i ∷ (decimal j ∷ [])
+times_parts : (i j : ℕ) → i < 2 ^ 64 → j < 2 ^ 64 → parts_of 32 (decimal i ++ 32 ∷ decimal j) ≡ decimal i ∷ (decimal j ∷ [])
 times_parts i j small_i small_j = number_then i (decimal j) small_i ∙ ap (λ l. decimal i ∷ l) (number_part j small_j)
 
 side_back : (side : Dir) → side_of (side_text side) ≡ Some side
 side_back L = refl
 side_back R = refl
 
-side_part : (side : Dir) → parts_of (side_text side) ≡ side_text side ∷ []
+side_part : (side : Dir) → parts_of 32 (side_text side) ≡ side_text side ∷ []
 side_part L = refl
 side_part R = refl
 
 fields_of_translated : (i j : ℕ) (side : Dir) → i < 2 ^ 64 → j < 2 ^ 64
-    → parts_of (decimal i ++ codes " " ++ decimal j ++ codes " " ++ side_text side) ≡ decimal i ∷ (decimal j ∷ (side_text side ∷ []))
+    → parts_of 32 (decimal i ++ codes " " ++ decimal j ++ codes " " ++ side_text side) ≡ decimal i ∷ (decimal j ∷ (side_text side ∷ []))
 fields_of_translated i j side small_i small_j =
-    ap parts_of (
+    ap (parts_of 32) (
     append_assoc (decimal i ++ codes " " ++ decimal j) (codes " ") (side_text side)
     ∙ ap (λ l. l ++ 32 ∷ side_text side) (append_assoc (decimal i) (codes " ") (decimal j))
     ∙ append_assoc (decimal i) (32 ∷ decimal j) (32 ∷ side_text side)
@@ -116,10 +83,10 @@ in_turn d l r c =
     ∙ append_assoc (d ++ codes " ") l (32 ∷ (r ++ 32 ∷ c))
     ∙ append_assoc d (codes " ") (l ++ 32 ∷ (r ++ 32 ∷ c))
 
-fields_of_lists : (s : Lists) → AreLists s → s.width < 2 ^ 64 → parts_of (lists_text s) ≡ decimal s.width ∷ (s.left ∷ (s.right ∷ (s.local ∷ [])))
+fields_of_lists : (s : Lists) → AreLists s → s.width < 2 ^ 64 → parts_of 32 (lists_text s) ≡ decimal s.width ∷ (s.left ∷ (s.right ∷ (s.local ∷ [])))
 fields_of_lists s l small =
     let high = lists_are_high s l in
-    ap parts_of (in_turn (decimal s.width) s.left s.right s.local)
+    ap (parts_of 32) (in_turn (decimal s.width) s.left s.right s.local)
     ∙ number_then s.width (s.left ++ 32 ∷ (s.right ++ 32 ∷ s.local)) small
     ∙ ap (λ ps. decimal s.width ∷ ps) (
     slice_split_at IsSpace s.left 32 (s.right ++ 32 ∷ s.local) (high_has_no_space s.left high.left) refl
@@ -142,7 +109,7 @@ lists_back s l within =
     let tested : are_lists s ≡ true = (lists_decide s).1 l in
     rw (fits, tested) refl
 
-ngram_back : (s : Lists) → AreLists s → AreWithin s → claim_from s.states (parts_of (claim_text (NgramClaim s))) ≡ Ok (NgramClaim s)
+ngram_back : (s : Lists) → AreLists s → AreWithin s → claim_from s.states (parts_of 32 (claim_text (NgramClaim s))) ≡ Ok (NgramClaim s)
 ngram_back s l within =
     let narrow = within.narrow in
     ap (ngram_by s.states) (fields_of_lists s l (omega arith))
@@ -167,11 +134,11 @@ side_no_space L = All-cons (λ b. IsSpace b ≡ false) 76 [] refl (All-nil (λ b
 side_no_space R = All-cons (λ b. IsSpace b ≡ false) 82 [] refl (All-nil (λ b. IsSpace b ≡ false))
 
 fields_of_automata : (a : Automata) → a.size < 2 ^ 64
-    → parts_of (automata_text a) ≡ side_text a.side ∷ (decimal a.size ∷ (delta_text a.delta ∷ (rows_text a.rows ∷ (hex_text a.keep ∷ []))))
+    → parts_of 32 (automata_text a) ≡ side_text a.side ∷ (decimal a.size ∷ (delta_text a.delta ∷ (rows_text a.rows ∷ (hex_text a.keep ∷ []))))
 fields_of_automata a small =
     let high = bytes_from_comma a in
     let numbers = delta_text a.delta ++ 32 ∷ (rows_text a.rows ++ 32 ∷ hex_text a.keep) in
-    ap parts_of (fields_in_turn (side_text a.side) (decimal a.size) a)
+    ap (parts_of 32) (fields_in_turn (side_text a.side) (decimal a.size) a)
     ∙ slice_split_at IsSpace (side_text a.side) 32 (decimal a.size ++ 32 ∷ numbers) (side_no_space a.side) refl
     ∙ ap (λ ps. side_text a.side ∷ ps) (
     number_then a.size numbers small
@@ -196,7 +163,7 @@ automata_back a numbers within =
     (texts_decide a.states a.size (delta_text a.delta) (rows_text a.rows) (hex_text a.keep)).1 (texts_back a within.some within.made numbers) in
     rw tested (ap (λ b. Ok (FarClaim b)) (same_back a within.some within.made numbers))
 
-far_back : (a : Automata) → AreAutomata a → AreSized a → claim_from a.states (parts_of (claim_text (FarClaim a))) ≡ Ok (FarClaim a)
+far_back : (a : Automata) → AreAutomata a → AreSized a → claim_from a.states (parts_of 32 (claim_text (FarClaim a))) ≡ Ok (FarClaim a)
 far_back a numbers within =
     let small = within.small in
     ap (far_by a.states) (fields_of_automata a (omega (arith, small)))
@@ -204,11 +171,11 @@ far_back a numbers within =
     ∙ ap (λ o. with_field o (λ m. automata_claim a.states a.side m (delta_text a.delta) (rows_text a.rows) (hex_text a.keep))) (size_back a within)
     ∙ automata_back a numbers within
 
-claim_back : (c : Claim) (n : ℕ) → IsWritable c → IsMadeFor c n → claim_from n (parts_of (claim_text c)) ≡ Ok c
+claim_back : (c : Claim) (n : ℕ) → IsWritable c → IsMadeFor c n → claim_from n (parts_of 32 (claim_text c)) ≡ Ok c
 claim_back (HaltsClaim k) n small made =
     ap halts_by (number_part k small) ∙ ap (λ o. with_field o (λ k. Ok (HaltsClaim k))) (decimal_value-decimal k small)
 claim_back (CycleClaim i j) n small made =
-    ap cycle_by (ap parts_of (append_assoc (decimal i) (codes " ") (decimal j)) ∙ times_parts i j small.0 small.1)
+    ap cycle_by (ap (parts_of 32) (append_assoc (decimal i) (codes " ") (decimal j)) ∙ times_parts i j small.0 small.1)
     ∙ rw (decimal_value-decimal i small.0, decimal_value-decimal j small.1) refl
 claim_back (TranslatedClaim i j side) n small made =
     ap translated_by (fields_of_translated i j side small.0 small.1)
@@ -216,13 +183,10 @@ claim_back (TranslatedClaim i j side) n small made =
 claim_back (BackwardClaim d) n small made =
     ap backward_by (number_part d small) ∙ ap (λ o. with_field o (λ d. Ok (BackwardClaim d))) (decimal_value-decimal d small)
 claim_back (NgramClaim s) n lists made =
-    subst (λ n. claim_from n (parts_of (claim_text (NgramClaim s))) ≡ Ok (NgramClaim s)) made (ngram_back s lists.0 lists.1)
+    subst (λ n. claim_from n (parts_of 32 (claim_text (NgramClaim s))) ≡ Ok (NgramClaim s)) made (ngram_back s lists.0 lists.1)
 claim_back (FarClaim a) n automata made =
-    subst (λ n. claim_from n (parts_of (claim_text (FarClaim a))) ≡ Ok (FarClaim a)) made (far_back a automata.0 automata.1)
+    subst (λ n. claim_from n (parts_of 32 (claim_text (FarClaim a))) ≡ Ok (FarClaim a)) made (far_back a automata.0 automata.1)
 claim_back NoClaim n small made = refl
-
-length_of_number : (n : ℕ) → n < 2 ^ 64 → length (decimal n) ≤ 20
-length_of_number n small = length-decimal-le 20 n (omega arith) (omega arith) small
 
 length_of_side : (side : Dir) → length (side_text side) ≡ 1
 length_of_side L = refl
@@ -263,14 +227,14 @@ short r table writable =
     let begun = length-append (text_of r.table) (codes " ") in
     omega (arith, table_length, all, begun, length_of_claim r.claim writable, table.limit)
 
-parts_of-record_text : (r : Recorded) → IsTable r.table → parts_of (record_text r) ≡ text_of r.table ∷ parts_of (claim_text r.claim)
+parts_of-record_text : (r : Recorded) → IsTable r.table → parts_of 32 (record_text r) ≡ text_of r.table ∷ parts_of 32 (claim_text r.claim)
 unfolding record_text
 parts_of-record_text r table =
-    ap parts_of (append_assoc (text_of r.table) (codes " ") (claim_text r.claim))
+    ap (parts_of 32) (append_assoc (text_of r.table) (codes " ") (claim_text r.claim))
     ∙ slice_split_at IsSpace (text_of r.table) 32 (claim_text r.claim) (text_has_no_space r.table table) refl
 
 pub record_of-record_text : (r : Recorded) → IsTable r.table → IsWritable r.claim → IsMadeFor r.claim r.table.states → record_of (record_text r) ≡ Ok r
 unfolding record_of
 record_of-record_text r table writable made =
     let fits : ltb record_byte_limit (length (record_text r)) ≡ false = grind (arith, nat_tests, short r table writable) in
-    rw fits (ap record_from (parts_of-record_text r table) ∙ ap (λ t. record_after t (parts_of (claim_text r.claim))) (table_of-text_of r.table table) ∙ ap (record_with r.table) (claim_back r.claim r.table.states writable made))
+    rw fits (ap record_from (parts_of-record_text r table) ∙ ap (λ t. record_after t (parts_of 32 (claim_text r.claim))) (table_of-text_of r.table table) ∙ ap (record_with r.table) (claim_back r.claim r.table.states writable made))

@@ -1,13 +1,14 @@
 -- The grammar of a record's text: a table, a space, a kind, and so many fields, each after a space. Bytes
--- are their ASCII codes: 32 is the space, 48 `0`.
-use Rattle.std.specs.Prelude.{ℕ, ◌+◌, ◌-◌, ◌*◌, ◌^◌, ◌==◌, ◌&&◌, not, nat_lt, if◌then◌else◌, List, [], ◌∷◌, ◌++◌, Option, Some, None, Result, Ok, Err, length, fold, codes, decimal}
-use Rattle.std.specs.List.{slice_split}
+-- are their ASCII codes: 32 is the space.
+use Rattle.std.specs.Prelude.{ℕ, ◌+◌, ◌&&◌, not, nat_lt, if◌then◌else◌, List, [], ◌∷◌, ◌++◌, Option, Some, None, Result, Ok, Err, length, codes, decimal}
 use Rattle.std.specs.Str.{bytes_eq}
 use Rattle.machine_text.specs.declared.faults.TextFault.{TextFault}
 use Rattle.machine_text.specs.declared.transition.Dir.{Dir}
 use Rattle.machine_text.specs.declared.transition.Dir.TheVariants.{L, R}
 use Rattle.machine_text.specs.Packed.{Packed}
 use Rattle.machine_text.specs.Text.{table_of, text_of}
+use Rattle.text.specs.Parts.{parts_of}
+use Rattle.text.specs.Decimal.{decimal_value}
 use Rattle.far.specs.Limits.{size_limit}
 use Rattle.far.specs.Automata.{Automata}
 use Rattle.far.specs.Texts.{automata_by, fields_text}
@@ -19,18 +20,6 @@ use Rattle.cert.specs.Limits.{record_byte_limit}
 use Rattle.cert.specs.declared.record_fault.RecordFault.{RecordFault}
 use Rattle.cert.specs.declared.record_fault.RecordFault.TheVariants.{BadTable, BadKind, BadNumber, BadList, TooLong}
 use Rattle.cert.specs.Claim.{Claim, HaltsClaim, CycleClaim, TranslatedClaim, BackwardClaim, NgramClaim, FarClaim, NoClaim, Recorded}
-
--- the parts of a text, cut at every space
-abbrev pub parts_of : List ℕ → List (List ℕ)
-parts_of text = slice_split (λ b. b == 32) text
-
--- what a row of digits is worth in base ten
-abbrev pub worth_of : List ℕ → ℕ
-worth_of digits = fold (λ n b. 10 * n + (b - 48)) 0 digits
-
--- the number of which a text is the decimal form: no sign, no leading zero, and at most 64 bits
-unfoldable pub decimal_value : List ℕ → Option ℕ
-decimal_value text = if nat_lt (worth_of text) (2 ^ 64) && bytes_eq (decimal (worth_of text)) text then Some (worth_of text) else None
 
 -- the side that a text names
 abbrev pub side_of : List ℕ → Option Dir
@@ -125,7 +114,7 @@ record_from (table ∷ parts) = record_after (table_of table) parts
 
 -- what a text is read as: its length is judged first, then its parts from left to right
 unfoldable pub record_of : List ℕ → Result Recorded RecordFault
-record_of text = if nat_lt record_byte_limit (length text) then Err TooLong else record_from (parts_of text)
+record_of text = if nat_lt record_byte_limit (length text) then Err TooLong else record_from (parts_of 32 text)
 
 abbrev pub side_text : Dir → List ℕ
 side_text L = codes "L"

@@ -7,4 +7,3 @@ pub mod Grammar
 pub mod Asking
 pub mod Kinds
 pub mod Fault
-pub mod Inside

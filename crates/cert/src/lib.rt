@@ -7,23 +7,21 @@
 //! Each kind of certificate is known in this crate alone: crates above cite what is so of all claims.
 #![tactic(auto)]
 
+mod appending;
 mod certificate;
 mod deciding;
-mod decimal;
 mod finder;
 mod judgement;
 mod laws;
 mod limits;
 mod parser;
-mod parts;
 mod record;
 mod record_fault;
-mod text;
 mod writer;
 
+pub use appending::append_table;
 pub use certificate::{Certificate, OwnedCertificate};
 pub use deciding::{Decider, Finders, decide};
-pub use decimal::decimal_value;
 pub use evidence::NoMemory;
 pub use finder::Finder;
 pub use judgement::{Judged, judge, judge_on};
@@ -34,4 +32,3 @@ pub use laws::{
 pub use limits::MAX_RECORD_BYTES;
 pub use record::{OwnedRecord, Record};
 pub use record_fault::RecordFault;
-pub use text::{append_number, append_table};

@@ -1,7 +1,8 @@
 // Records as they are read.
-ghost use Rattle.std.specs.Prelude.{◌≡◌, ◌∷◌, [], ◌≤◌, length, IfSome, IfNone, option_map};
+ghost use Rattle.std.specs.Prelude.{◌≡◌, ◌∷◌, [], ◌≤◌, ℕ, List, length, IfSome, IfNone, IfOk, IfErr, OnOk, option_map};
 ghost use Rattle.cert.specs.Grammar.{record_of, record_with, claim_from, halts_by, cycle_by, translated_by, backward_by, ngram_by, width_in, far_by, size_in, side_of, undecided_by};
-ghost use Rattle.cert.specs.Grammar.{decimal_value, lists_claim, automata_claim};
+ghost use Rattle.cert.specs.Grammar.{lists_claim, automata_claim};
+ghost use Rattle.text.specs.Decimal.{decimal_value};
 ghost use Rattle.cert.specs.Kinds.{read_as, claimed_as};
 ghost use Rattle.machine_text.specs.Limits.{state_limit};
 ghost use Rattle.far.specs.Limits.{size_limit};
@@ -9,9 +10,7 @@ ghost use Rattle.ngram_cps.specs.Limits.{width_limit};
 ghost use Rattle.ngram_cps.specs.Lists.{lists};
 
 use crate::certificate::Certificate;
-use crate::decimal::decimal_value;
 use crate::limits::MAX_RECORD_BYTES;
-use crate::parts::Parts;
 use crate::record::Record;
 use crate::record_fault::RecordFault;
 use backward::Backward;
@@ -20,6 +19,7 @@ use loops::{Cycle, Translated};
 use machine_text::{Dir, Table};
 use ngram_cps::Ngram;
 use run::HaltsIn;
+use text::{Parts, decimal_value};
 
 impl<'a> Record<'a> {
     #[tactic(auto, unfolding(crate::specs::Grammar::record_of))]
@@ -30,10 +30,8 @@ impl<'a> Record<'a> {
         if text.len() > MAX_RECORD_BYTES {
             return Err(RecordFault::TooLong);
         }
-        let mut parts = Parts::of(text);
-        let Some(first) = parts.next() else {
-            return Err(RecordFault::BadKind);
-        };
+        let mut parts = Parts::of(b' ', text);
+        let first = next_field(&mut parts)?;
         match Table::parse(first) {
             Ok(table) => with_certificate(table, certificate_from(table.states(), parts)),
             Err(fault) => Err(RecordFault::BadTable(fault)),
@@ -59,9 +57,7 @@ fn certificate_from(states: u8, mut parts: Parts<'_>) -> Result<Certificate<'_>,
     requires { (1 ≤ states) × (states ≤ state_limit) }
     ensures { claimed_as result ≡ claim_from states parts.entry }
 {
-    let Some(kind) = parts.next() else {
-        return Err(RecordFault::BadKind);
-    };
+    let kind = next_field(&mut parts)?;
     if kind == b"H".as_slice() {
         halts_by(parts)
     } else if kind == b"C".as_slice() {
@@ -85,12 +81,8 @@ fn certificate_from(states: u8, mut parts: Parts<'_>) -> Result<Certificate<'_>,
 fn halts_by(mut fields: Parts<'_>) -> Result<Certificate<'static>, RecordFault>
     ensures { claimed_as result ≡ halts_by fields.entry }
 {
-    let Some(field) = fields.next() else {
-        return Err(RecordFault::BadKind);
-    };
-    if fields.next().is_some() {
-        return Err(RecordFault::BadKind);
-    }
+    let field = next_field(&mut fields)?;
+    end_of(fields)?;
     match decimal_value(field) {
         Some(k) => Ok(Certificate::Halts(HaltsIn(k))),
         None => Err(RecordFault::BadNumber),
@@ -101,15 +93,9 @@ fn halts_by(mut fields: Parts<'_>) -> Result<Certificate<'static>, RecordFault>
 fn cycle_by(mut fields: Parts<'_>) -> Result<Certificate<'static>, RecordFault>
     ensures { claimed_as result ≡ cycle_by fields.entry }
 {
-    let Some(i) = fields.next() else {
-        return Err(RecordFault::BadKind);
-    };
-    let Some(j) = fields.next() else {
-        return Err(RecordFault::BadKind);
-    };
-    if fields.next().is_some() {
-        return Err(RecordFault::BadKind);
-    }
+    let i = next_field(&mut fields)?;
+    let j = next_field(&mut fields)?;
+    end_of(fields)?;
     match (decimal_value(i), decimal_value(j)) {
         (Some(i), Some(j)) => Ok(Certificate::Cycle(Cycle { i, j })),
         _ => Err(RecordFault::BadNumber),
@@ -120,18 +106,10 @@ fn cycle_by(mut fields: Parts<'_>) -> Result<Certificate<'static>, RecordFault>
 fn translated_by(mut fields: Parts<'_>) -> Result<Certificate<'static>, RecordFault>
     ensures { claimed_as result ≡ translated_by fields.entry }
 {
-    let Some(i) = fields.next() else {
-        return Err(RecordFault::BadKind);
-    };
-    let Some(j) = fields.next() else {
-        return Err(RecordFault::BadKind);
-    };
-    let Some(side) = fields.next() else {
-        return Err(RecordFault::BadKind);
-    };
-    if fields.next().is_some() {
-        return Err(RecordFault::BadKind);
-    }
+    let i = next_field(&mut fields)?;
+    let j = next_field(&mut fields)?;
+    let side = next_field(&mut fields)?;
+    end_of(fields)?;
     match (decimal_value(i), decimal_value(j), side_of(side)) {
         (Some(i), Some(j), Some(side)) => Ok(Certificate::Translated(Translated { i, j, side })),
         _ => Err(RecordFault::BadNumber),
@@ -142,12 +120,8 @@ fn translated_by(mut fields: Parts<'_>) -> Result<Certificate<'static>, RecordFa
 fn backward_by(mut fields: Parts<'_>) -> Result<Certificate<'static>, RecordFault>
     ensures { claimed_as result ≡ backward_by fields.entry }
 {
-    let Some(field) = fields.next() else {
-        return Err(RecordFault::BadKind);
-    };
-    if fields.next().is_some() {
-        return Err(RecordFault::BadKind);
-    }
+    let field = next_field(&mut fields)?;
+    end_of(fields)?;
     match decimal_value(field) {
         Some(depth) => Ok(Certificate::Backward(Backward { depth })),
         None => Err(RecordFault::BadNumber),
@@ -159,21 +133,11 @@ fn ngram_by(states: u8, mut fields: Parts<'_>) -> Result<Certificate<'_>, Record
     requires { (1 ≤ states) × (states ≤ state_limit) }
     ensures { claimed_as result ≡ ngram_by states fields.entry }
 {
-    let Some(width) = fields.next() else {
-        return Err(RecordFault::BadKind);
-    };
-    let Some(left) = fields.next() else {
-        return Err(RecordFault::BadKind);
-    };
-    let Some(right) = fields.next() else {
-        return Err(RecordFault::BadKind);
-    };
-    let Some(local) = fields.next() else {
-        return Err(RecordFault::BadKind);
-    };
-    if fields.next().is_some() {
-        return Err(RecordFault::BadKind);
-    }
+    let width = next_field(&mut fields)?;
+    let left = next_field(&mut fields)?;
+    let right = next_field(&mut fields)?;
+    let local = next_field(&mut fields)?;
+    end_of(fields)?;
     match width_of(width) {
         Some(width) => lists_of(states, width, left, right, local),
         None => Err(RecordFault::BadNumber),
@@ -219,24 +183,12 @@ fn far_by(states: u8, mut fields: Parts<'_>) -> Result<Certificate<'static>, Rec
     requires { (1 ≤ states) × (states ≤ state_limit) }
     ensures { claimed_as result ≡ far_by states fields.entry }
 {
-    let Some(side) = fields.next() else {
-        return Err(RecordFault::BadKind);
-    };
-    let Some(size) = fields.next() else {
-        return Err(RecordFault::BadKind);
-    };
-    let Some(delta) = fields.next() else {
-        return Err(RecordFault::BadKind);
-    };
-    let Some(rows) = fields.next() else {
-        return Err(RecordFault::BadKind);
-    };
-    let Some(keep) = fields.next() else {
-        return Err(RecordFault::BadKind);
-    };
-    if fields.next().is_some() {
-        return Err(RecordFault::BadKind);
-    }
+    let side = next_field(&mut fields)?;
+    let size = next_field(&mut fields)?;
+    let delta = next_field(&mut fields)?;
+    let rows = next_field(&mut fields)?;
+    let keep = next_field(&mut fields)?;
+    end_of(fields)?;
     match (side_of(side), size_of(size)) {
         (Some(side), Some(size)) => automata_of(states, side, size, delta, rows, keep),
         _ => Err(RecordFault::BadNumber),
@@ -289,11 +241,31 @@ fn side_of(text: &[u8]) -> Option<Dir>
 }
 
 // `U`
-fn undecided_by(mut fields: Parts<'_>) -> Result<Certificate<'static>, RecordFault>
+fn undecided_by(fields: Parts<'_>) -> Result<Certificate<'static>, RecordFault>
     ensures { claimed_as result ≡ undecided_by fields.entry }
 {
+    end_of(fields)?;
+    Ok(Certificate::Undecided)
+}
+
+// The next field, which has to be there.
+fn next_field<'a>(fields: &mut Parts<'a>) -> Result<&'a [u8], RecordFault>
+    ensures ok { IfOk result (λ field. fields.old ≡ field.now ∷ fields.new) }
+    ensures err { IfErr result (λ fault. (fault ≡ RecordFault.BadKind) × (fields.old ≡ [])) }
+{
     match fields.next() {
-        None => Ok(Certificate::Undecided),
+        Some(field) => Ok(field),
+        None => Err(RecordFault::BadKind),
+    }
+}
+
+// There is no other field.
+fn end_of(mut fields: Parts<'_>) -> Result<(), RecordFault>
+    ensures ok { OnOk result (fields.entry ≡ []) }
+    ensures err { IfErr result (λ fault. (fault ≡ RecordFault.BadKind) × (field : List ℕ) × (left : List (List ℕ)) × (fields.entry ≡ field ∷ left)) }
+{
+    match fields.next() {
         Some(_) => Err(RecordFault::BadKind),
+        None => Ok(()),
     }
 }

@@ -7,14 +7,15 @@ ghost use Rattle.far.specs.Far.{automata_of};
 ghost use Rattle.ngram_cps.specs.Ngram.{lists_of};
 ghost use Rattle.cert.specs.Kinds.{recorded, claim_of};
 
+use crate::appending::append_table;
 use crate::certificate::Certificate;
 use crate::laws::records_parse_back;
 use crate::record::Record;
-use crate::text::{append_number, append_table};
 use evidence::NoMemory;
 use far::Far;
 use machine_text::Dir;
 use ngram_cps::Ngram;
+use text::append_number;
 
 impl Record<'_> {
     /// Appends the record's text, which reads back as the record where lists and automata are made for tables of as many

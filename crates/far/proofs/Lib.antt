@@ -1,6 +1,5 @@
 pub mod Bits
 pub mod Edges
-pub mod Cuts
 pub mod Digits
 pub mod Reading
 pub mod WellFormed

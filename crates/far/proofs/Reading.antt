@@ -2,7 +2,8 @@
 use Rattle.std.proofs.Common.{◌≡◌, ℕ, zero, suc, ◌+◌, ◌-◌, ◌*◌, ◌<◌, ◌≤◌, List, [], ◌∷◌, ◌++◌, length, take, drop, get_or, map, set, inl, inr, sym, ◌∙◌, ap, subst, arith}
 use Rattle.std.proofs.lemmas.Bool.{cases_eq}
 use Rattle.std.proofs.lemmas.List.{take_more, take_more_set, take_all, map-append, length-set, length-drop}
-use Rattle.far.specs.Texts.{hex_worth, IsHex, IsDelta, IsRows, delta_of, rows_of, parts_of}
+use Rattle.text.specs.Parts.{parts_of}
+use Rattle.far.specs.Texts.{hex_worth, IsHex, IsDelta, IsRows, delta_of, rows_of}
 use Rattle.far.specs.inside.Reading.{AreMoves, AreEdges}
 
 -- one number of delta more
@@ -39,17 +40,17 @@ next_part (p ∷ ps) part rest (suc k) is = let (less, same, rest_is) = next_par
 pub edges_more : (limit : ℕ) (text : List ℕ) (k : ℕ) (left rest : List (List ℕ)) (rows part : List ℕ) (number : ℕ) → k < 96 → left ≡ part ∷ rest → number ≡ hex_worth part → IsHex limit part → AreEdges limit text k left rows
     → AreEdges limit text (k + 1) rest (set rows k number)
 edges_more limit text k left rest rows part number room is worth hex e =
-    let (less, same, rest_is) = next_part (parts_of text) part rest k (sym is ∙ e.left_is) in
+    let (less, same, rest_is) = next_part (parts_of 44 text) part rest k (sym is ∙ e.left_is) in
     let long = e.length_is in
     record {
       left_is = rest_is;
       there = omega arith;
       length_is = length-set rows k number ∙ e.length_is;
       same = take_more_set rows k number (omega arith) ∙ ap (λ xs. xs ++ number ∷ []) e.same
-          ∙ ap (λ n. map hex_worth (take k (parts_of text)) ++ n ∷ []) (worth ∙ ap hex_worth same)
-          ∙ sym (map-append hex_worth (take k (parts_of text)) (get_or (parts_of text) k [] ∷ [])) ∙ ap (map hex_worth) (sym (take_more (parts_of text) k [] less));
+          ∙ ap (λ n. map hex_worth (take k (parts_of 44 text)) ++ n ∷ []) (worth ∙ ap hex_worth same)
+          ∙ sym (map-append hex_worth (take k (parts_of 44 text)) (get_or (parts_of 44 text) k [] ∷ [])) ∙ ap (map hex_worth) (sym (take_more (parts_of 44 text) k [] less));
       each = λ i below. elim (cases_eq i k) [
-        | inl same_place ↦ subst (λ n. IsHex limit (get_or (parts_of text) n [])) (sym same_place) (subst (IsHex limit) same hex)
+        | inl same_place ↦ subst (λ n. IsHex limit (get_or (parts_of 44 text) n [])) (sym same_place) (subst (IsHex limit) same hex)
         | inr other ↦ e.each i (omega arith)
       ];
     }
@@ -57,27 +58,27 @@ edges_more limit text k left rest rows part number room is worth hex e =
 -- and all of them, where nothing is left
 pub edges_all : (limit : ℕ) (text : List ℕ) (count : ℕ) (left : List (List ℕ)) (rows : List ℕ) → left ≡ [] → AreEdges limit text count left rows → (take count rows ≡ rows_of text) × IsRows count limit text × (length rows ≡ 96)
 edges_all limit text count left rows none e =
-    let rest : length (drop count (parts_of text)) ≡ 0 = ap length (sym e.left_is) ∙ ap length none in
-    let size = length-drop count (parts_of text) in
+    let rest : length (drop count (parts_of 44 text)) ≡ 0 = ap length (sym e.left_is) ∙ ap length none in
+    let size = length-drop count (parts_of 44 text) in
     let there = e.there in
-    let all : length (parts_of text) ≡ count = omega arith in
-    (e.same ∙ ap (map hex_worth) (take_all count (parts_of text) (omega arith)), record { count_is = all; each = e.each }, e.length_is)
+    let all : length (parts_of 44 text) ≡ count = omega arith in
+    (e.same ∙ ap (map hex_worth) (take_all count (parts_of 44 text) (omega arith)), record { count_is = all; each = e.each }, e.length_is)
 
 -- where the parts end too soon, or one isn't a number, or some are left, they aren't rows
 pub too_few : (limit : ℕ) (text : List ℕ) (count k : ℕ) (left : List (List ℕ)) (rows : List ℕ) → k < count → left ≡ [] → AreEdges limit text k left rows → IsRows count limit text → ⊥
 too_few limit text count k left rows less none e r =
-    let rest : length (drop k (parts_of text)) ≡ 0 = ap length (sym e.left_is) ∙ ap length none in
-    let size = length-drop k (parts_of text) in
+    let rest : length (drop k (parts_of 44 text)) ≡ 0 = ap length (sym e.left_is) ∙ ap length none in
+    let size = length-drop k (parts_of 44 text) in
     let all = r.count_is in
     omega arith
 
 pub no_number : (limit : ℕ) (text : List ℕ) (count k : ℕ) (left rest : List (List ℕ)) (rows part : List ℕ) → k < count → left ≡ part ∷ rest → (IsHex limit part → ⊥) → AreEdges limit text k left rows → IsRows count limit text → ⊥
 no_number limit text count k left rest rows part less is not_hex e r =
-    let (within, same, rest_is) = next_part (parts_of text) part rest k (sym is ∙ e.left_is) in
+    let (within, same, rest_is) = next_part (parts_of 44 text) part rest k (sym is ∙ e.left_is) in
     not_hex (subst (IsHex limit) (sym same) (r.each k less))
 
 pub too_many : (limit : ℕ) (text : List ℕ) (count : ℕ) (left rest : List (List ℕ)) (rows part : List ℕ) → left ≡ part ∷ rest → AreEdges limit text count left rows → IsRows count limit text → ⊥
 too_many limit text count left rest rows part is e r =
-    let (within, same, rest_is) = next_part (parts_of text) part rest count (sym is ∙ e.left_is) in
+    let (within, same, rest_is) = next_part (parts_of 44 text) part rest count (sym is ∙ e.left_is) in
     let all = r.count_is in
     omega arith

@@ -9,7 +9,8 @@ use Rattle.std.proofs.lemmas.List.{length-map, get_or-map, length-append, length
 use Rattle.std.proofs.lemmas.List.Elements.{All-append, All-cons, All-nil}
 use Rattle.std.proofs.lemmas.List.Splits.{slice_split_at, slice_split_none}
 use Rattle.far.specs.Automata.{Automata, automata, AreAutomata}
-use Rattle.far.specs.Texts.{hex_glyph, hex_value, hex_text, hex_worth, IsHex, IsDelta, IsRows, AreTexts, delta_of, delta_text, rows_of, rows_text, parts_of, automata_by}
+use Rattle.text.specs.Parts.{parts_of}
+use Rattle.far.specs.Texts.{hex_glyph, hex_value, hex_text, hex_worth, IsHex, IsDelta, IsRows, AreTexts, delta_of, delta_text, rows_of, rows_text, automata_by}
 
 -- a digit
 glyph_low : (d : ℕ) → d < 10 → hex_glyph d ≡ 48 + d
@@ -71,11 +72,11 @@ from_comma : (n : ℕ) → All (λ b. 44 ≤ b) (hex_text n)
 from_comma n = weaken (λ b. 48 ≤ b) (λ b. 44 ≤ b) (λ b above. omega arith) (hex_text n) (text_above n)
 
 -- rows
-parts_back : (x : ℕ) (xs : List ℕ) → parts_of (rows_text (x ∷ xs)) ≡ map hex_text (x ∷ xs)
+parts_back : (x : ℕ) (xs : List ℕ) → parts_of 44 (rows_text (x ∷ xs)) ≡ map hex_text (x ∷ xs)
 parts_back x [] = slice_split_none (λ b. eqb b 44) (hex_text x) (no_comma x)
 parts_back x (y ∷ ys) = slice_split_at (λ b. eqb b 44) (hex_text x) 44 (rows_text (y ∷ ys)) (no_comma x) refl ∙ ap (λ ps. hex_text x ∷ ps) (parts_back y ys)
 
-parts_of_rows : (rows : List ℕ) → 1 ≤ length rows → parts_of (rows_text rows) ≡ map hex_text rows
+parts_of_rows : (rows : List ℕ) → 1 ≤ length rows → parts_of 44 (rows_text rows) ≡ map hex_text rows
 parts_of_rows [] some = absurd (omega arith)
 parts_of_rows (x ∷ xs) some = parts_back x xs
 

@@ -3,7 +3,8 @@ use Rattle.std.proofs.Common.{ℕ, ◌+◌, ◌*◌, ◌^◌, ◌<◌, ◌≤◌
 use Rattle.std.specs.Prelude.{Decides}
 use Rattle.std.proofs.lemmas.Bool.Decides.{nat_tests, Decides-and, Decides-eqb, Decides-ltb, Decides-below_and}
 use Rattle.std.proofs.lemmas.Slice.Eq.{bytes_eq-Decides}
-use Rattle.far.specs.Texts.{hex_text, hex_worth, parts_of, IsHex, IsDelta, IsRows, AreTexts}
+use Rattle.text.specs.Parts.{parts_of}
+use Rattle.far.specs.Texts.{hex_text, hex_worth, IsHex, IsDelta, IsRows, AreTexts}
 use Rattle.far.specs.Tests.{each_below, is_hex, is_delta, is_rows, are_texts}
 
 below_decides : (p : ℕ → Bool) (P : ℕ → Type 0) → ((k : ℕ) → Decides (p k) (P k)) → (n : ℕ) → Decides (each_below p n) ((k : ℕ) → k < n → P k)
@@ -26,8 +27,8 @@ delta_decides size text =
 
 rows_decide : (count limit : ℕ) (text : List ℕ) → Decides (is_rows count limit text) (IsRows count limit text)
 rows_decide count limit text =
-    let numbers = below_decides (λ k. _) (λ k. _) (λ k. hex_decides limit (get_or (parts_of text) k [])) count in
-    let all = Decides-and _ _ (Decides-eqb (length (parts_of text)) count) numbers in
+    let numbers = below_decides (λ k. _) (λ k. _) (λ k. hex_decides limit (get_or (parts_of 44 text) k [])) count in
+    let all = Decides-and _ _ (Decides-eqb (length (parts_of 44 text)) count) numbers in
     (λ t. let r = all.0 t in record { count_is = r.0; each = r.1 }, λ r. all.1 (r.count_is, r.each))
 
 pub texts_decide : (states size : ℕ) (delta rows keep : List ℕ) → Decides (are_texts states size delta rows keep) (AreTexts states size delta rows keep)

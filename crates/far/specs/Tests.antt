@@ -1,7 +1,8 @@
 -- Whether texts are those of automata, as tests: a grammar needs an answer, and not the fact alone.
 use Rattle.std.specs.Prelude.{ℕ, zero, suc, ◌+◌, ◌*◌, ◌^◌, ◌==◌, ◌&&◌, nat_lt, Bool, true, not, List, [], length, get_or, slice_index}
 use Rattle.std.specs.Str.{bytes_eq}
-use Rattle.far.specs.Texts.{hex_text, hex_worth, parts_of}
+use Rattle.text.specs.Parts.{parts_of}
+use Rattle.far.specs.Texts.{hex_text, hex_worth}
 
 -- each number below one passes
 unfoldable pub each_below : (ℕ → Bool) → ℕ → Bool
@@ -15,7 +16,7 @@ abbrev pub is_delta : ℕ → List ℕ → Bool
 is_delta size text = (length text == 2 * size) && each_below (λ k. not (nat_lt (slice_index text k) 48) && nat_lt (slice_index text k) (48 + size)) (2 * size)
 
 abbrev pub is_rows : ℕ → ℕ → List ℕ → Bool
-is_rows count limit text = (length (parts_of text) == count) && each_below (λ k. is_hex limit (get_or (parts_of text) k [])) count
+is_rows count limit text = (length (parts_of 44 text) == count) && each_below (λ k. is_hex limit (get_or (parts_of 44 text) k [])) count
 
 -- whether the texts are those of automata of this size, made for so many states
 unfoldable pub are_texts : ℕ → ℕ → List ℕ → List ℕ → List ℕ → Bool

@@ -1,8 +1,9 @@
 -- The texts of automata's numbers. Bytes are their ASCII codes: 44 is the comma, 48 `0`, 97 `a`.
 use Rattle.std.specs.Prelude.{◌≡◌, ℕ, ◌+◌, ◌-◌, ◌*◌, ◌^◌, ◌<◌, ◌≤◌, ◌==◌, nat_lt, if◌then◌else◌, List, [], ◌∷◌, ◌++◌, codes, length, get_or, map, slice_index}
-use Rattle.std.specs.List.{slice_split, join_with_byte}
+use Rattle.std.specs.List.{join_with_byte}
 use Rattle.std.specs.Int.Digits.{digits_of, number_from_digits}
 use Rattle.machine_text.specs.declared.transition.Dir.{Dir}
+use Rattle.text.specs.Parts.{parts_of}
 use Rattle.far.specs.Automata.{Automata, automata}
 
 -- a digit in hexadecimal, and what such a byte is worth
@@ -38,15 +39,12 @@ abbrev pub delta_text : List ℕ → List ℕ
 delta_text delta = map (λ d. 48 + d) delta
 
 -- rows: so many numbers in hexadecimal, with a comma between each two
-abbrev pub parts_of : List ℕ → List (List ℕ)
-parts_of text = slice_split (λ b. b == 44) text
-
 pub record IsRows (count limit : ℕ) (text : List ℕ) : Type 0 where
-  pub count_is : length (parts_of text) ≡ count
-  pub each : (k : ℕ) → k < count → IsHex limit (get_or (parts_of text) k [])
+  pub count_is : length (parts_of 44 text) ≡ count
+  pub each : (k : ℕ) → k < count → IsHex limit (get_or (parts_of 44 text) k [])
 
 abbrev pub rows_of : List ℕ → List ℕ
-rows_of text = map hex_worth (parts_of text)
+rows_of text = map hex_worth (parts_of 44 text)
 
 abbrev pub rows_text : List ℕ → List ℕ
 rows_text rows = join_with_byte 44 (map hex_text rows)

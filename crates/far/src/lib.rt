@@ -17,7 +17,6 @@ mod laws;
 mod limits;
 mod numbers;
 mod owned_far;
-mod parts;
 mod sets;
 mod writing;
 

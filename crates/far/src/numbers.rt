@@ -6,7 +6,7 @@ ghost use Rattle.far.specs.Texts.{IsDelta, IsRows, delta_of, rows_of};
 
 use crate::hexadecimal::hex_number;
 use crate::limits::{MAX_MOVES, MAX_ROWS, Set};
-use crate::parts::Parts;
+use text::Parts;
 
 // Where the first automaton goes.
 pub(crate) fn delta_of(text: &[u8], size: u8) -> Option<[u8; MAX_MOVES]>
@@ -39,7 +39,7 @@ pub(crate) fn rows_of(text: &[u8], count: usize, limit: Set) -> Option<[Set; MAX
     ensures none { IfNone result (IsRows count limit text.now → ⊥) }
 {
     let mut rows = [0; MAX_ROWS];
-    let mut parts = Parts::of(text);
+    let mut parts = Parts::of(b',', text);
     for k in 0..count {
         let part = parts.next()?;
         rows[k] = hex_number(part, limit)?;

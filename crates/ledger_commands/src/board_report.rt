@@ -9,11 +9,11 @@ ghost use Rattle.ledger.specs.Records.{mark_in};
 ghost use Rattle.ledger_commands.specs.TreeReport.{IsTreeReport, TellsRado};
 ghost use Rattle.ledger_commands.specs.Report.{IsReport, IsHead, line_of, table_lines, status_name, best_text, verdicts_text, counts_text, report_text};
 
-use cert::append_number;
 use evidence::NoMemory;
 use ledger::{Board, Status, Tally};
 use machine_text::{TEXT_BYTES, Table};
 use std::vec::IntoIter;
+use text::append_number;
 
 /// Appends the report of a board: its root, how it stands, how many tables there are of each kind, the
 /// greatest recorded number of steps, and the champions and holdouts in the order of their texts. That of a

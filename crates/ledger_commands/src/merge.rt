@@ -11,13 +11,13 @@ use crate::ledger_at::LedgerAt;
 use crate::ledger_changes::{append_to, cut_to};
 use crate::ledger_report::{bytes_of, loaded};
 use crate::report_writer::append_left;
-use cert::append_number;
 use evidence::NoMemory;
 use ledger::{Board, Left, Tally, peek_root};
 use machine_text::Table;
 use options::{Ended, Merging, Outcome};
 use std::alloc::Global;
 use std::io::Write;
+use text::append_number;
 use wire::LedgerOut;
 
 // What is put behind the path of a ledger to name the file in which it is made.

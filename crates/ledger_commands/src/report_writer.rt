@@ -8,13 +8,13 @@ ghost use Rattle.ledger_commands.specs.LedgerReport.{IsLines, left_text};
 ghost use Rattle.ledger_commands.specs.Passing.{Passes, bytes_of_lines};
 
 use crate::board_report::append_head;
-use cert::append_number;
 use evidence::NoMemory;
 use ledger::{Board, Champions, Holdouts, Left};
 use machine_text::{TEXT_BYTES, Table};
 use std::alloc::Global;
 use std::io::{self, Write};
 use std::vec::IntoIter;
+use text::append_number;
 
 // How many bytes are gathered before they are written.
 const PIECE_BYTES: usize = 16_384;

@@ -4,11 +4,12 @@ ghost use Rattle.machine_text.specs.Text.{text_of};
 ghost use Rattle.cert.specs.Kinds.{recorded, read_as};
 ghost use Rattle.line_commands.specs.Answer.{Answers, AnswersRecord, lent_line, read_line, verdict_text, text_fault_text, fault_text};
 
-use cert::{Record, RecordFault, append_number, append_table, judge, standing_claims_are_true};
+use cert::{Record, RecordFault, append_table, judge, standing_claims_are_true};
 use evidence::{NoMemory, Refused, Verdict};
 use machine_text::TextFault;
 use options::Outcome;
 use std::alloc::{AllocError, Global};
+use text::append_number;
 
 /// Appends the answer to a line, which is none where it was too long, with a newline.
 pub fn answer(alloc: Global, line: Option<&[u8]>, out: &mut Vec<u8>) -> Result<Outcome, NoMemory>

@@ -1,1 +1,4 @@
+pub mod Cuts
 pub mod Lines
+pub mod Worth
+pub mod Numbers

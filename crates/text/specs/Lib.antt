@@ -1,1 +1,6 @@
+pub mod Limits
+pub mod Cut
+pub mod Parts
 pub mod Lines
+pub mod Decimal
+pub mod Inside

@@ -1,7 +1,8 @@
 -- The lines of a stream that comes in pieces: what stands before each newline, the byte 10. Of a line that is
 -- longer than the limit only that is kept.
-use Rattle.std.specs.Prelude.{◌≡◌, ◌≢◌, ℕ, ◌==◌, nat_le, Bool, if◌then◌else◌, List, ◌∷◌, ◌++◌, length, All, Option, Some, None}
+use Rattle.std.specs.Prelude.{◌≡◌, ◌≢◌, ℕ, ◌≤◌, nat_le, if◌then◌else◌, List, ◌∷◌, ◌++◌, length, All, Option, Some, None, IfSome}
 use Rattle.std.specs.Borrow.{Bor}
+use Rattle.text.specs.Limits.{line_byte_limit}
 
 abbrev pub HasNoNewline : List ℕ → Type 0
 HasNoNewline text = All (λ byte. byte ≢ 10) text
@@ -10,10 +11,6 @@ HasNoNewline text = All (λ byte. byte ≢ 10) text
 pub record BeginsWithLine (text line rest : List ℕ) : Type 0 where
   pub is : text ≡ line ++ (10 ∷ rest)
   pub one_line : HasNoNewline line
-
--- the most bytes of a line, without its newline
-abbrev pub line_byte_limit : ℕ
-line_byte_limit = 65536
 
 -- what is kept of a line, as far as it has come: its bytes, or that there are too many
 abbrev pub Kept : Type 0
@@ -27,10 +24,11 @@ abbrev pub with_more : Kept → List ℕ → Kept
 with_more None more = None
 with_more (Some bytes) more = kept_of (bytes ++ more)
 
+-- what is kept are no more bytes than the limit
+abbrev pub IsShort : Kept → Type 0
+IsShort line = IfSome line (λ bytes. length bytes ≤ line_byte_limit)
+
 -- a piece cut at its first newline, which stands in neither part; nothing follows where there is no newline
 abbrev pub IsCut : List ℕ → List ℕ → Option (Bor (List ℕ)) → Type 0
 IsCut piece line None = HasNoNewline piece × (line ≡ piece)
 IsCut piece line (Some rest) = BeginsWithLine piece line rest.now
-
-abbrev pub is_newline : ℕ → Bool
-is_newline byte = byte == 10

@@ -2,7 +2,8 @@
 use std::alloc::Global;
 use std::process::Abort;
 use std::test::Fail;
-use wire::{Line, Lines, MAX_LINE_BYTES};
+use text::MAX_LINE_BYTES;
+use wire::{Line, Lines};
 
 // The stream, in pieces of so many bytes, has these lines; none stands for one that is too long.
 fn comes_as(

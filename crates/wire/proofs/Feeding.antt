@@ -2,16 +2,18 @@
 use Rattle.std.proofs.Common.{◌≡◌, ℕ, cond, List, [], ◌∷◌, ◌++◌, Some, Result, Ok, Err, refl, sym, ap, ◌∙◌, subst, append_assoc, append-nil}
 use Rattle.std.specs.Prelude.{map, is_ok, IsOk, OnOk}
 use Rattle.std.specs.declared.alloc.AllocError.{AllocError}
-use Rattle.std.specs.List.{All, slice_split}
+use Rattle.std.specs.List.{All}
 use Rattle.std.proofs.lemmas.List.{map-append}
 use Rattle.std.proofs.lemmas.List.Elements.{All-append, All-cons, All-nil}
-use Rattle.wire.specs.Lines.{Known, Stream, IsWithinLimit, known, known_of, with_more, fed, is_newline, lines_from, rest_from}
+use Rattle.text.specs.Lines.{Kept, kept_of, with_more}
+use Rattle.text.specs.Parts.{parts_of}
+use Rattle.wire.specs.Lines.{Stream, IsShortLine, known, fed, lines_from, rest_from}
 use Rattle.wire.specs.declared.line.Line.{Line}
 use Rattle.wire.proofs.Cutting.{lines_at, rest_at, lines_nowhere, rest_nowhere}
 
 -- a line that is cut off goes to the others
-pub line_added : (old new : List Line) (line : Line) (text first behind : List ℕ) → new ≡ old ++ (line ∷ []) → known line ≡ known_of first
-    → slice_split is_newline text ≡ first ∷ slice_split is_newline behind → map known new ++ lines_from (Some []) behind ≡ map known old ++ lines_from (Some []) text
+pub line_added : (old new : List Line) (line : Line) (text first behind : List ℕ) → new ≡ old ++ (line ∷ []) → known line ≡ kept_of first
+    → parts_of 10 text ≡ first ∷ parts_of 10 behind → map known new ++ lines_from (Some []) behind ≡ map known old ++ lines_from (Some []) text
 line_added old new line text first behind is known_line cut =
     ap (λ ls. map known ls ++ lines_from (Some []) behind) is
     ∙ ap (λ ls. ls ++ lines_from (Some []) behind) (map-append known old (line ∷ []))
@@ -20,11 +22,11 @@ line_added old new line text first behind is known_line cut =
     ∙ ap (λ ls. map known old ++ ls) (sym (lines_at (Some []) text first behind cut))
 
 -- all lines are cut off
-pub all_cut : (lines : List Known) (text all : List ℕ) → slice_split is_newline text ≡ text ∷ [] → lines ++ lines_from (Some []) text ≡ lines_from (Some []) all → lines ≡ lines_from (Some []) all
+pub all_cut : (lines : List Kept) (text all : List ℕ) → parts_of 10 text ≡ text ∷ [] → lines ++ lines_from (Some []) text ≡ lines_from (Some []) all → lines ≡ lines_from (Some []) all
 all_cut lines text all cut is = sym (append-nil lines) ∙ ap (λ ls. lines ++ ls) (sym (lines_nowhere (Some []) text cut)) ∙ is
 
-pub within_limit_added : (old new : List Line) (line : Line) → new ≡ old ++ (line ∷ []) → All IsWithinLimit old → IsWithinLimit line → All IsWithinLimit new
-within_limit_added old new line is before one = subst (All IsWithinLimit) (sym is) (All-append IsWithinLimit old (line ∷ []) before (All-cons IsWithinLimit line [] one (All-nil IsWithinLimit)))
+pub short_added : (old new : List Line) (line : Line) → new ≡ old ++ (line ∷ []) → All IsShortLine old → IsShortLine line → All IsShortLine new
+short_added old new line is before one = subst (All IsShortLine) (sym is) (All-append IsShortLine old (line ∷ []) before (All-cons IsShortLine line [] one (All-nil IsShortLine)))
 
 -- what there is room for is appended
 appended : (r : Result (Unit {0}) AllocError) (new old more : List Line) → IsOk r → new ≡ cond (is_ok r) (old ++ more) old → new ≡ old ++ more
@@ -41,29 +43,29 @@ moved r old reserved pushed new more line kept added ok is = record {
   is = appended r new pushed more ok is ∙ ap (λ ls. ls ++ more) (added ∙ ap (λ ls. ls ++ (line ∷ [])) kept);
 }
 
-pub moved_within : (old new more : List Line) (line : Line) → Moved old new more line → All IsWithinLimit old → IsWithinLimit line → All IsWithinLimit more → All IsWithinLimit new
-moved_within old new more line m before one others =
-    subst (All IsWithinLimit) (sym m.is) (All-append IsWithinLimit (old ++ (line ∷ [])) more (within_limit_added old (old ++ (line ∷ [])) line refl before one) others)
+pub moved_short : (old new more : List Line) (line : Line) → Moved old new more line → All IsShortLine old → IsShortLine line → All IsShortLine more → All IsShortLine new
+moved_short old new more line m before one others =
+    subst (All IsShortLine) (sym m.is) (All-append IsShortLine (old ++ (line ∷ [])) more (short_added old (old ++ (line ∷ [])) line refl before one) others)
 
 -- the queue holds the lines of the piece too
-pub moved_lines : (old new more : List Line) (line begun : Line) (piece first behind : List ℕ) → Moved old new more line → known line ≡ with_more (known begun) first
-    → map known more ≡ lines_from (Some []) behind → slice_split is_newline piece ≡ first ∷ slice_split is_newline behind
-    → map known new ≡ map known old ++ lines_from (known begun) piece
+pub moved_lines : (old new more : List Line) (line : Line) (begun : Kept) (piece first behind : List ℕ) → Moved old new more line → known line ≡ with_more begun first
+    → map known more ≡ lines_from (Some []) behind → parts_of 10 piece ≡ first ∷ parts_of 10 behind
+    → map known new ≡ map known old ++ lines_from begun piece
 moved_lines old new more line begun piece first behind m one others cut =
     ap (map known) m.is ∙ map-append known (old ++ (line ∷ [])) more ∙ ap (λ ls. ls ++ map known more) (map-append known old (line ∷ []))
     ∙ append_assoc (map known old) (known line ∷ []) (map known more)
-    ∙ ap (λ k. map known old ++ (k ∷ map known more)) one ∙ ap (λ ls. map known old ++ (with_more (known begun) first ∷ ls)) others
-    ∙ ap (λ ls. map known old ++ ls) (sym (lines_at (known begun) piece first behind cut))
+    ∙ ap (λ k. map known old ++ (k ∷ map known more)) one ∙ ap (λ ls. map known old ++ (with_more begun first ∷ ls)) others
+    ∙ ap (λ ls. map known old ++ ls) (sym (lines_at begun piece first behind cut))
 
 -- of a piece without newline, nothing but the begun line changes
-no_line_fed : (waiting : List Known) (begun new : Known) (piece : List ℕ) → slice_split is_newline piece ≡ piece ∷ [] → new ≡ with_more begun piece
+no_line_fed : (waiting : List Kept) (begun new : Kept) (piece : List ℕ) → parts_of 10 piece ≡ piece ∷ [] → new ≡ with_more begun piece
     → record { waiting = waiting; rest = new } ≡ fed (record { waiting = waiting; rest = begun }) piece
 no_line_fed waiting begun new piece cut is =
     ap (λ k. record { waiting = waiting; rest = k }) (is ∙ sym (rest_nowhere begun piece cut))
     ∙ ap (λ ls. record { waiting = ls; rest = rest_from begun piece }) (sym (append-nil waiting) ∙ ap (λ ls. waiting ++ ls) (sym (lines_nowhere begun piece cut)))
 
-pub lines_fed : (waiting new : List Known) (begun rest : Known) (piece first behind : List ℕ) → new ≡ waiting ++ lines_from begun piece → rest ≡ rest_from (Some []) behind
-    → slice_split is_newline piece ≡ first ∷ slice_split is_newline behind → record { waiting = new; rest = rest } ≡ fed (record { waiting = waiting; rest = begun }) piece
+pub lines_fed : (waiting new : List Kept) (begun rest : Kept) (piece first behind : List ℕ) → new ≡ waiting ++ lines_from begun piece → rest ≡ rest_from (Some []) behind
+    → parts_of 10 piece ≡ first ∷ parts_of 10 behind → record { waiting = new; rest = rest } ≡ fed (record { waiting = waiting; rest = begun }) piece
 lines_fed waiting new begun rest piece first behind is ends cut =
     ap (λ ls. record { waiting = ls; rest = rest }) is
     ∙ ap (λ k. record { waiting = waiting ++ lines_from begun piece; rest = k }) (ends ∙ sym (rest_at begun piece first behind cut))
@@ -73,7 +75,7 @@ when_ok (Ok u) p q h = h
 when_ok (Err e) p q h = tt
 
 -- where the begun line took the piece, the stream did
-pub line_fed : (r : Result (Unit {0}) AllocError) (waiting : List Known) (begun new : Known) (piece : List ℕ) → slice_split is_newline piece ≡ piece ∷ []
+pub line_fed : (r : Result (Unit {0}) AllocError) (waiting : List Kept) (begun new : Kept) (piece : List ℕ) → parts_of 10 piece ≡ piece ∷ []
     → OnOk r (new ≡ with_more begun piece) → OnOk r (record { waiting = waiting; rest = new } ≡ fed (record { waiting = waiting; rest = begun }) piece)
 line_fed (Ok u) waiting begun new piece cut is = no_line_fed waiting begun new piece cut is
 line_fed (Err e) waiting begun new piece cut is = tt

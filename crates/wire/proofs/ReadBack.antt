@@ -10,13 +10,14 @@ use Rattle.cert.specs.Limits.{record_byte_limit}
 use Rattle.cert.specs.Claim.{Recorded}
 use Rattle.cert.proofs.RoundTrip.{record_of-record_text}
 use Rattle.cert.specs.declared.record_fault.RecordFault.TheVariants.{TooLong}
-use Rattle.cert.specs.Grammar.{parts_of, record_from, record_of, record_text}
-use Rattle.wire.specs.Limits.{line_byte_limit}
+use Rattle.cert.specs.Grammar.{record_from, record_of, record_text}
+use Rattle.text.specs.Limits.{line_byte_limit}
+use Rattle.text.specs.Parts.{parts_of}
+use Rattle.text.proofs.Cuts.{cut-append}
+use Rattle.text.proofs.Numbers.{decimal_value-decimal, decimal_without, length_of_number}
 use Rattle.wire.specs.Message.{Message, Ask, Grant, Rec, Ack, Later, Done, Stop, IsSendable}
 use Rattle.wire.specs.Inside.{IsReadable}
 use Rattle.wire.specs.Grammar.{◌>>=◌, read_table, read_record, ask_in, grant_in, done_in, message_in, or_bad, message_of, message_text}
-use Rattle.wire.proofs.Numbers.{decimal_is_form, decimal_value-decimal, length_of_number}
-use Rattle.wire.proofs.Cuts.{cut-append}
 
 -- two numbers, and a text behind them
 two_words : (e l : List ℕ) → e ++ codes " " ++ l ≡ e ++ 32 ∷ l
@@ -35,13 +36,13 @@ grant_back : (era lease : ℕ) (table : Packed) → era < 2 ^ 64 → lease < 2 ^
     → grant_in (decimal era ++ codes " " ++ decimal lease ++ codes " " ++ text_of table) ≡ Some (Grant era lease table)
 grant_back era lease table e l t =
     ap grant_in (three_words (decimal era) (decimal lease) (text_of table))
-    ∙ rw (cut-append 32 (decimal era) (decimal lease ++ 32 ∷ text_of table) (decimal_is_form era e).no_space, cut-append 32 (decimal lease) (text_of table) (decimal_is_form lease l).no_space)
+    ∙ rw (cut-append 32 (decimal era) (decimal lease ++ 32 ∷ text_of table) (decimal_without 32 era (lit≤ tt) e), cut-append 32 (decimal lease) (text_of table) (decimal_without 32 lease (lit≤ tt) l))
     (rw (decimal_value-decimal era e, decimal_value-decimal lease l, table_of-text_of table t) refl)
 
 done_back : (era lease : ℕ) → era < 2 ^ 64 → lease < 2 ^ 64 → done_in (decimal era ++ codes " " ++ decimal lease) ≡ Some (Done era lease)
 done_back era lease e l =
     ap done_in (two_words (decimal era) (decimal lease))
-    ∙ rw (cut-append 32 (decimal era) (decimal lease) (decimal_is_form era e).no_space) (rw (decimal_value-decimal era e, decimal_value-decimal lease l) refl)
+    ∙ rw (cut-append 32 (decimal era) (decimal lease) (decimal_without 32 era (lit≤ tt) e)) (rw (decimal_value-decimal era e, decimal_value-decimal lease l) refl)
 
 read_back : (m : Message) → IsReadable m → message_in (message_text m) ≡ Some m
 unfolding message_text
@@ -61,7 +62,7 @@ length_of_table p table = omega (arith, length-text_of p table.some, table.limit
 length_of_record : (text : List ℕ) (r : Recorded) → record_of text ≡ Ok r → length text ≤ record_byte_limit
 unfolding record_of
 length_of_record text r reads =
-    elim (ltb record_byte_limit (length text)) as (λ v. ltb record_byte_limit (length text) ≡ v → cond v (Err TooLong) (record_from (parts_of text)) ≡ Ok r → length text ≤ record_byte_limit) [
+    elim (ltb record_byte_limit (length text)) as (λ v. ltb record_byte_limit (length text) ≡ v → cond v (Err TooLong) (record_from (parts_of 32 text)) ≡ Ok r → length text ≤ record_byte_limit) [
       | true ↦ λ is reads. cc
       | false ↦ λ is reads. grind (arith, nat_tests)
     ] refl reads

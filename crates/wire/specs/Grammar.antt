@@ -6,9 +6,10 @@ use Rattle.machine_text.specs.Packed.{Packed}
 use Rattle.machine_text.specs.Text.{table_of, text_of}
 use Rattle.cert.specs.Claim.{Recorded}
 use Rattle.cert.specs.declared.record_fault.RecordFault.{RecordFault}
-use Rattle.cert.specs.Grammar.{decimal_value, record_of, record_text}
-use Rattle.wire.specs.Cut.{cut_at}
-use Rattle.wire.specs.Limits.{line_byte_limit}
+use Rattle.cert.specs.Grammar.{record_of, record_text}
+use Rattle.text.specs.Cut.{cut_at}
+use Rattle.text.specs.Decimal.{decimal_value}
+use Rattle.text.specs.Limits.{line_byte_limit}
 use Rattle.wire.specs.Message.{Message, Ask, Grant, Rec, Ack, Later, Done, Stop}
 use Rattle.wire.specs.declared.message_fault.MsgFault.{MsgFault}
 use Rattle.wire.specs.declared.message_fault.MsgFault.TheVariants.{BadMessage, TooLong}

@@ -1,5 +1,4 @@
 pub mod Limits
-pub mod Cut
 pub mod Lines
 pub mod Message
 pub mod MessageFault

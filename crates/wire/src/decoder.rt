@@ -4,12 +4,11 @@ ghost use Rattle.machine_text.specs.Text.{table_of};
 ghost use Rattle.wire.specs.Grammar.{read_table, ask_in, grant_in, rec_in, ack_in, later_in, done_in, message_with, message_alone, message_in, message_of};
 ghost use Rattle.wire.specs.Meaning.{said, decoded};
 
-use crate::cut::cut_at;
-use crate::limits::MAX_LINE_BYTES;
 use crate::message::Msg;
 use crate::message_fault::MsgFault;
-use cert::{Record, decimal_value};
+use cert::Record;
 use machine_text::Table;
+use text::{MAX_LINE_BYTES, cut_at, decimal_value};
 
 /// The message that a frame is; its record is lent from the frame.
 #[tactic(auto, unfolding(crate::specs::Grammar::message_of))]

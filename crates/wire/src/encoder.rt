@@ -11,9 +11,10 @@ ghost use Rattle.wire.specs.Grammar.{message_of, message_text};
 ghost use Rattle.wire.specs.Meaning.{said};
 
 use crate::message::Msg;
-use cert::{Record, append_number, append_table};
+use cert::{Record, append_table};
 use evidence::NoMemory;
 use machine_text::Table;
+use text::append_number;
 
 /// Appends the message's text and a newline. The text reads back as the message, where the lists of a record
 /// are made for tables of as many states as its table has. Where memory is refused, `out` is as it was.

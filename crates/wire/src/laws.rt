@@ -1,7 +1,8 @@
 // What is true of all streams and messages: laws over the definitions, each the contract of a function without a
 // body.
-ghost use Rattle.std.specs.Prelude.{◌≡◌, ◌≢◌, ℕ, [], ◌++◌, List, All, Some, Ok, map};
-ghost use Rattle.wire.specs.Lines.{Stream, fed, known_of, lines_from, rest_from};
+ghost use Rattle.std.specs.Prelude.{◌≡◌, ℕ, [], ◌++◌, List, All, Some, Ok, map};
+ghost use Rattle.text.specs.Lines.{HasNoNewline, kept_of};
+ghost use Rattle.wire.specs.Lines.{Stream, fed, lines_from, rest_from};
 ghost use Rattle.wire.specs.Message.{Message, IsSendable};
 ghost use Rattle.wire.specs.Grammar.{message_of, message_text, frames_of};
 
@@ -12,10 +13,10 @@ pub fn pieces_join()
 
 /// What has begun goes on with the next piece, also where only that it is too long is kept of it.
 pub fn begun_lines_go_on()
-    ensures lines { (begun piece : List ℕ) → All (λ byte. byte ≢ 10) begun
-        → lines_from (known_of begun) piece ≡ lines_from (Some []) (begun ++ piece) }
-    ensures rest { (begun piece : List ℕ) → All (λ byte. byte ≢ 10) begun
-        → rest_from (known_of begun) piece ≡ rest_from (Some []) (begun ++ piece) }
+    ensures lines { (begun piece : List ℕ) → HasNoNewline begun
+        → lines_from (kept_of begun) piece ≡ lines_from (Some []) (begun ++ piece) }
+    ensures rest { (begun piece : List ℕ) → HasNoNewline begun
+        → rest_from (kept_of begun) piece ≡ rest_from (Some []) (begun ++ piece) }
 {}
 
 /// Reading the text of a message gives the message again.

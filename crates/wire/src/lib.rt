@@ -10,7 +10,6 @@
 #![tactic(auto)]
 
 mod carrying;
-mod cut;
 mod decoder;
 mod encoder;
 mod engine;
@@ -38,7 +37,7 @@ pub use evidence::NoMemory;
 pub use fault::Fault;
 pub use laws::{begun_lines_go_on, messages_come_through, messages_read_back, pieces_join};
 pub use ledger_out::LedgerOut;
-pub use limits::{MAX_LINE_BYTES, MAX_PIECE_BYTES};
+pub use limits::MAX_PIECE_BYTES;
 pub use line::Line;
 pub use lines::Lines;
 pub use link::Link;

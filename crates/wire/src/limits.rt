@@ -1,7 +1,4 @@
-// How long lines may be.
-
-/// The most bytes of a line, without its newline.
-pub const MAX_LINE_BYTES: usize = 65_536;
+// How much of a link is received at once.
 
 /// The most bytes that one turn receives.
 pub const MAX_PIECE_BYTES: usize = 4096;

@@ -9,7 +9,7 @@ use std::fmt;
 pub enum MsgFault {
     /// It is not the text of a message.
     BadMessage,
-    /// It is longer than `MAX_LINE_BYTES`.
+    /// It is longer than text's `MAX_LINE_BYTES`.
     TooLong,
 }
 

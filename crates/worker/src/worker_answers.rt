@@ -12,12 +12,13 @@ ghost use Rattle.worker.specs.WorkerState.{unacknowledged};
 
 use crate::lease_name::LeaseName;
 use crate::limits::MAX_TICK_RECORDS;
-use cert::{OwnedRecord, Record, append_number};
+use cert::{OwnedRecord, Record};
 use evidence::NoMemory;
 use indexmap::IndexSet;
 use ledger::Board;
 use machine_text::Table;
 use std::alloc::Global;
+use text::append_number;
 use wire::{Msg, encode};
 
 // The line of a record.

@@ -1,7 +1,8 @@
 -- How far texts are read or written.
 use Rattle.std.specs.Prelude.{◌≡◌, ℕ, ◌+◌, ◌^◌, ◌<◌, ◌≤◌, List, [], ◌++◌, length, get_or, map, take, drop, slice_index}
 use Rattle.std.specs.Int.Digits.{digits_of}
-use Rattle.far.specs.Texts.{hex_glyph, hex_worth, IsHex, delta_of, parts_of}
+use Rattle.text.specs.Parts.{parts_of}
+use Rattle.far.specs.Texts.{hex_glyph, hex_worth, IsHex, delta_of}
 
 -- so many digits of a number in hexadecimal are read
 pub record IsWorth (text : List ℕ) (reach number : ℕ) : Type 0 where
@@ -28,8 +29,8 @@ pub record AreMoves (size : ℕ) (text : List ℕ) (reach : ℕ) (delta : List �
 
 -- so many rows are read
 pub record AreEdges (limit : ℕ) (text : List ℕ) (reach : ℕ) (left : List (List ℕ)) (rows : List ℕ) : Type 0 where
-  pub left_is : left ≡ drop reach (parts_of text)
-  pub there : reach ≤ length (parts_of text)
+  pub left_is : left ≡ drop reach (parts_of 44 text)
+  pub there : reach ≤ length (parts_of 44 text)
   pub length_is : length rows ≡ 96
-  pub same : take reach rows ≡ map hex_worth (take reach (parts_of text))
-  pub each : (k : ℕ) → k < reach → IsHex limit (get_or (parts_of text) k [])
+  pub same : take reach rows ≡ map hex_worth (take reach (parts_of 44 text))
+  pub each : (k : ℕ) → k < reach → IsHex limit (get_or (parts_of 44 text) k [])

@@ -1,11 +1,12 @@
-// Decimal numbers.
+// Numbers in decimal.
 ghost use Rattle.std.specs.Prelude.{◌≡◌, ◌+◌, ◌-◌, ◌*◌, ◌++◌, ◌^◌, ◌<◌, ◌≤◌, IfSome, IfNone, OnOk, OnErr, decimal};
-ghost use Rattle.cert.specs.Grammar.{decimal_value, worth_of};
+ghost use Rattle.text.specs.Decimal.{decimal_value, worth_of};
 
 use itoa::Buffer;
+use std::alloc::AllocError as NoMemory;
 
 /// The number of which a text is the decimal form: no sign, no leading zero, and at most 64 bits.
-#[tactic(auto, unfolding(crate::specs::Grammar::decimal_value))]
+#[tactic(auto, unfolding(crate::specs::Decimal::decimal_value))]
 pub fn decimal_value(text: &[u8]) -> Option<u64>
     ensures { result ≡ decimal_value text.now }
 {
@@ -16,6 +17,15 @@ pub fn decimal_value(text: &[u8]) -> Option<u64>
     } else {
         None
     }
+}
+
+/// Appends a number in decimal. Where memory is refused, `out` is as it was.
+pub fn append_number(n: u64, out: &mut Vec<u8>) -> Result<(), NoMemory>
+    ensures ok { OnOk result (out.new.items ≡ out.old.items ++ decimal n) }
+    ensures err { OnErr result (out.new.items ≡ out.old.items) }
+{
+    let mut buffer = Buffer::new();
+    out.extend_from_slice(buffer.format(n).as_bytes())
 }
 
 // What a row of digits is worth, where that has at most 64 bits.

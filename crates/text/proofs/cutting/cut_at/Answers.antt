@@ -1,6 +1,6 @@
 use Rattle.std.proofs.Common.{sym, ◌∙◌}
-use Rattle.wire.proofs.Cuts.{cut_found, cut_missing}
-use Rattle.wire.proofs.cut.cut_at.Goals as goal
+use Rattle.text.proofs.Cuts.{cut_found, cut_missing}
+use Rattle.text.proofs.cutting.cut_at.Goals as goal
 
 pub returns-in_err-at-clause-cut : goal.returns-in_err-at-clause-cut
 returns-in_err-at-clause-cut c = rw c.from_residual.ensures (sym (cut_missing c.args.byte c.args.text.now (sym c.first_place.ensures.place ∙ c.in_err-at.was)))

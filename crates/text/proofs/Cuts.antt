@@ -5,7 +5,7 @@ use Rattle.std.specs.List.{position_or_len, slice_split, onto_first}
 use Rattle.std.proofs.lemmas.Bool.Decides.{nat_tests}
 use Rattle.std.proofs.lemmas.List.{take_all}
 use Rattle.std.proofs.lemmas.List.Elements.{All-head, All-tail}
-use Rattle.wire.specs.Cut.{cut_at}
+use Rattle.text.specs.Cut.{cut_at}
 
 abbrev pub Cut : Type 0
 Cut = Option (List ℕ × List ℕ)

@@ -1,6 +1,6 @@
 use Rattle.std.proofs.Common.{◌≡◌, take}
-use Rattle.cert.specs.Grammar.{worth_of}
-use Rattle.cert.proofs.decimal.worth_of.Given as goal
+use Rattle.text.specs.Decimal.{worth_of}
+use Rattle.text.proofs.decimal.worth_of.Given as goal
 
 abbrev pub invariant-loop-byte : goal.invariant-loop-byte
 invariant-loop-byte l = l.number ≡ worth_of (take l.byte-index l.text)

@@ -1,6 +1,6 @@
 use Rattle.std.proofs.Common.{◌+◌, arith}
-use Rattle.cert.proofs.Worth.{worth_more, worth_so_far}
-use Rattle.cert.proofs.decimal.worth_of.Goals as goal
+use Rattle.text.proofs.Worth.{worth_more, worth_so_far}
+use Rattle.text.proofs.decimal.worth_of.Goals as goal
 
 -- a beginning of the digits is worth too much, so all are
 pub returns-in_err-number-clause-none : goal.returns-in_err-number-clause-none

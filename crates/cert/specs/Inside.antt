@@ -1,8 +1,0 @@
--- For the code: the parts of what is left of a text.
-use Rattle.std.specs.Prelude.{ℕ, List, [], Option, None, Some}
-use Rattle.std.specs.Borrow.{Bor}
-use Rattle.cert.specs.Grammar.{parts_of}
-
-abbrev pub parts_left : Option (Bor (List ℕ)) → List (List ℕ)
-parts_left None = []
-parts_left (Some text) = parts_of text.now

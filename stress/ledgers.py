@@ -1,0 +1,79 @@
+#!/usr/bin/env python3
+"""Ledgers, damaged at random: what `bb report` prints against stress/tree.py.
+
+stress/ledgers.py [SEED [LEDGERS]]: prints how many ledgers of each end were compared, and the first that differs, and
+then ends with 1.
+"""
+import collections
+import os
+import random
+import subprocess
+import sys
+import tempfile
+
+from records import PROGRAM, damaged
+from tree import reported
+
+
+def whole(states):
+    """The lines of a ledger of so many states, as a run leaves it."""
+    with tempfile.TemporaryDirectory() as folder:
+        path = os.path.join(folder, "ledger")
+        subprocess.run([PROGRAM, "run", str(states), "--ledger", path], capture_output=True, check=False)
+        with open(path, "rb") as file:
+            return file.read().split(b"\n")[:-1]
+
+
+def damage(rng, lines):
+    lines = list(lines[:rng.choice([3, 20, 100, len(lines)])])
+    for _ in range(rng.choice([0, 1, 1, 2, 3])):
+        place = rng.randrange(len(lines)) if rng.random() < 0.9 else 0
+        way = rng.randrange(8)
+        if way == 0:
+            lines.pop(place)
+        elif way == 1:
+            lines.insert(place, lines[rng.randrange(len(lines))])
+        elif way == 2:
+            other = rng.randrange(len(lines))
+            lines[place], lines[other] = lines[other], lines[place]
+        elif way == 3:
+            lines[place] = lines[place].split(b" ")[0] + b" U"
+        elif way == 4:
+            lines.append(lines[place])
+        else:
+            lines[place] = damaged(rng, lines[place], lines)
+        if not lines:
+            lines = [b""]
+    text = b"".join(line + b"\n" for line in lines)
+    return text[:rng.randrange(len(text) + 1)] if rng.random() < 0.2 else text
+
+
+def main():
+    seed = int(sys.argv[1]) if len(sys.argv) > 1 else 1
+    count = int(sys.argv[2]) if len(sys.argv) > 2 else 1_000
+    rng = random.Random(seed)
+    ledgers = [whole(1), whole(2), whole(2), whole(3)[:400]]
+    counts = collections.Counter()
+    with tempfile.TemporaryDirectory() as folder:
+        path = os.path.join(folder, "ledger")
+        for _ in range(count):
+            text = damage(rng, rng.choice(ledgers))
+            report, fault = reported(text)
+            if fault is None:
+                counts["too long to judge here"] += 1
+                continue
+            with open(path, "wb") as file:
+                file.write(text)
+            run = subprocess.run([PROGRAM, "report", path], capture_output=True, check=False)
+            if (run.stdout.decode(), run.stderr.decode()) != (report or "", fault):
+                print(f"ledgers: seed {seed}: {text!r}: {run.stdout.decode()!r}, {run.stderr.decode()!r}, and not {report!r}, {fault!r}")
+                return 1
+            counts[fault.strip() or ("left a line" if "\nleft " in report else "kept whole")] += 1
+    for kind, number in sorted(counts.items()):
+        print(f"{number:9} {kind}")
+    print(f"ledgers: {count} of seed {seed}, none differs")
+    return 0
+
+
+if __name__ == "__main__":
+    sys.exit(main())

@@ -1,0 +1,129 @@
+"""The tree of machines and the board of a ledger, written anew from docs/FORMATS.md and the field's definitions."""
+from oracle import Refused, answer, printed, read_table, run, step
+
+HEADER = b"bb-ledger 1 "
+
+
+def used(rows):
+    """A, each state that has an entry, and each that is a target."""
+    states = {0}
+    for number, row in enumerate(rows):
+        for entry in row:
+            if entry is not None:
+                states |= {number, entry[2]}
+    return states
+
+
+def is_in_order(rows):
+    states = used(rows)
+    return states == set(range(len(states)))
+
+
+def halting_pair(rows, count):
+    """The pair on which a table stands that is known to halt in so many steps."""
+    state, head, ones = run(rows, count - 1)[-1]
+    return state, int(head in ones)
+
+
+def children(rows, count):
+    undefined = sum(entry is None for row in rows for entry in row)
+    if undefined < 2:
+        return []
+    state, symbol = halting_pair(rows, count)
+    states = used(rows)
+    targets = sorted(states) + ([len(states)] if len(states) < len(rows) else [])
+    is_empty = undefined == 2 * len(rows)
+    found = []
+    for write in (0, 1):
+        for move in ((1,) if is_empty else (-1, 1)):
+            for target in targets:
+                child = [list(row) for row in rows]
+                child[state][symbol] = (write, move, target)
+                found.append(child)
+    return found
+
+
+class Board:
+    """What a ledger's records come to."""
+
+    def __init__(self, root):
+        self.root = root
+        self.shown = {}
+        self.open = {printed(root)}
+
+    def take(self, line):
+        """Takes a record's line; says why it isn't kept, or None where it is. `too long` where that can't be judged here."""
+        told = answer(line)
+        try:
+            rows = read_table(line.split(b" ")[0])
+        except Refused as refused:
+            return str(refused)
+        if told is None:
+            return "too long"
+        if told.startswith("refused") and not told.startswith("refused 20"):
+            return told
+        if len(rows) != len(self.root):
+            return "refused 403"
+        table = printed(rows)
+        is_holdout = self.shown.get(table) == "undecided"
+        if table in self.shown and not is_holdout:
+            return "repeated"
+        if is_holdout and line.endswith(b" U"):
+            return "repeated"
+        if table not in self.open and not is_holdout:
+            return "refused 402"
+        if told.startswith("refused"):
+            return told
+        self.open.discard(table)
+        shown = told.split(" ", 1)[1]
+        self.shown[table] = shown
+        if shown.startswith("halts "):
+            for child in children(rows, int(shown.split(" ")[1])):
+                self.open.add(printed(child))
+        return None
+
+    def report(self, left):
+        shown = list(self.shown.values())
+        counts = [int(s.split(" ")[1]) for s in shown if s.startswith("halts ")]
+        holdouts = sorted(t for t, s in self.shown.items() if s == "undecided")
+        best = max(counts, default=None)
+        status = "working" if self.open else "holdouts" if holdouts else "complete"
+        lines = [
+            f"root {printed(self.root)}", f"status {status}", f"nodes {len(shown) + len(self.open)}", f"halting {len(counts)}",
+            f"never {shown.count('never')}", f"holdouts {len(holdouts)}", f"open {len(self.open)}",
+            f"best {'none' if best is None else best}",
+        ]
+        lines += [f"champion {t}" for t in sorted(t for t, s in self.shown.items() if best is not None and s == f"halts {best}")]
+        lines += [f"holdout {t}" for t in holdouts]
+        if left is not None:
+            lines.append(f"left {left}")
+        return "".join(line + "\n" for line in lines)
+
+
+def reported(text):
+    """What is printed for a ledger's text: the report, or `refused N` as the fault; None where it takes too long."""
+    end = text.find(b"\n")
+    if end < 0 and (HEADER.startswith(text) or text.startswith(HEADER)):
+        return None, "refused 404\n"
+    first = text if end < 0 else text[:end]
+    if end < 0 or not first.startswith(HEADER):
+        return None, "refused 404\n"
+    try:
+        root = read_table(first[len(HEADER):])
+    except Refused:
+        return None, "refused 404\n"
+    if not is_in_order(root):
+        return None, "refused 405\n"
+    board = Board(root)
+    lines = text[end + 1:].split(b"\n")
+    left = None
+    for number, line in enumerate(lines[:-1]):
+        why = board.take(line)
+        if why == "too long":
+            return None, None
+        if why is not None:
+            left = number + 2
+            break
+    if left is None and lines[-1]:
+        left = len(lines) + 1
+    return board.report(left), ""

@@ -1,8 +1,11 @@
 -- The code's map of records, and the records that it holds.
-use Rattle.std.proofs.Common.{◌≡◌, ℕ, suc, ◌<◌, ◌^◌, true, false, cond, List, [], ◌∷◌, ◌++◌, length, Option, Some, None, option_map, refl, sym, ◌∙◌, ap, subst, arith}
+use Rattle.std.proofs.Common.{◌≡◌, ℕ, suc, ◌<◌, ◌^◌, true, false, cond, List, [], ◌∷◌, ◌++◌, length, map, drop, min, inl, inr, Option, Some, None, option_map, refl, sym, ◌∙◌, ap, subst, arith}
 use Rattle.std.specs.Prelude.{slice_get}
 use Rattle.std.specs.List.{All}
 use Rattle.std.specs.Map.{lookup, lookup_key}
+use Rattle.std.proofs.Math.ListN.{drop_of_length-le}
+use Rattle.std.proofs.lemmas.Bool.{cases_lt}
+use Rattle.std.proofs.lemmas.List.{drop-map, length-map}
 use Rattle.std.proofs.lemmas.List.Elements.{All-cons, All-nil}
 use Rattle.std.proofs.lemmas.Option.{slice_get-map, slice_get_within}
 use Rattle.indexmap.specs.IndexMap.{insert_entry}
@@ -131,3 +134,13 @@ holdout_there es t holdout none = let gone = ap (option_map mark_of) (no_claim e
 
 pub place_small : (es : List (Packed × Kept)) (place : ℕ) (e : Packed × Kept) → slice_get es place ≡ Some e → length es < 2 ^ 63 → place < 2 ^ 63
 place_small es place e at small = omega (arith, slice_get_within es place e at)
+
+-- from a place on, but no farther than to the end, is from the place on
+pub recorded_from : (es : List (Packed × Kept)) (place n : ℕ) → n ≡ min place (length es) → records_of (drop n es) ≡ drop place (records_of es)
+recorded_from es place n is = elim (cases_lt place (length es)) [
+  | inl small ↦ let here : n ≡ place = omega (arith, is, small) in ap (λ (k : ℕ). records_of (drop k es)) here ∙ sym (drop-map entry_recorded place es)
+  | inr large ↦
+      let size = length-map es entry_recorded in
+      let none : drop n es ≡ [] = drop_of_length-le es (omega (arith, is, large)) in
+      ap records_of none ∙ sym (drop_of_length-le (records_of es) (omega (arith, large, size)))
+]

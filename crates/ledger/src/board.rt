@@ -1,5 +1,5 @@
 // What a board holds.
-ghost use Rattle.std.specs.Prelude.{◌≡◌, ℕ, IfSome, IfOk, Err, ◌↔◌, ◌≤◌, Option, Some, IsTrue};
+ghost use Rattle.std.specs.Prelude.{◌≡◌, ℕ, IfSome, IfOk, Err, ◌↔◌, ◌≤◌, Option, Some, IsTrue, drop};
 ghost use Rattle.machine_text.specs.Limits.{state_limit};
 ghost use Rattle.machine_text.specs.Packed.{entry_of, empty_table};
 ghost use Rattle.tree.specs.Used.{InOrder};
@@ -15,7 +15,7 @@ use crate::children::children_on;
 use crate::counts::Counts;
 use crate::faults::{BoardFault, OfferFault};
 use crate::index::{certificate_for, pair_for, place_of, verdict_in};
-use crate::kept::Kept;
+use crate::kept::{Judging, Kept};
 use crate::open_tables::{only, open_children, opener_place};
 use crate::place::{Place, recorded_place};
 use crate::records::Records;
@@ -78,6 +78,7 @@ impl Board {
     ghost use Rattle.std.specs.Prelude.{[], ◌∷◌, ◌++◌, OnOk, OnErr, IfErr, ◌⊎◌, IsSome};
     ghost use Rattle.tree.specs.Closed.{IsComplete, IsOpen};
     ghost use Rattle.cert.specs.Claim.{shown_by};
+    ghost use Rattle.cert.specs.Certified.{IsCertified};
     ghost use Rattle.cert.specs.Kinds.{claim_of, recorded};
     ghost use Rattle.ledger.specs.Records.{claim_in, mark_in, verdict_in};
     ghost use Rattle.ledger.specs.Held.{IsFit, IsHoldout, Settles, settled};
@@ -119,6 +120,14 @@ impl Board {
         ensures { result ≡ self.now.records }
     {
         Records::of(&self.records)
+    }
+
+    /// The records from a place on, lent, in their order: the first has the place 0. None where there are no
+    /// more than that many. It takes the same time for each place.
+    pub fn records_from(&self, place: usize) -> Records<'_>
+        ensures { result ≡ drop place self.now.records }
+    {
+        Records::from_place(&self.records, place)
     }
 
     /// The open tables, in the order of their texts: the root or a child of a table recorded as halting,
@@ -248,14 +257,35 @@ impl Board {
         ensures root { self.new.root ≡ self.old.root }
         ensures complete { IsComplete self.old.root (mark_in self.old.records) → self.new.records ≡ self.old.records }
     {
+        self.put(r, Judging::Due)
+    }
+
+    /// Offers a record that is certified already, as what a decider answers is. It does what `offer` does, but
+    /// the certificate isn't judged once more: only a table that halts is run, for its children.
+    pub fn offer_certified(&mut self, r: &Record) -> Result<Taken, OfferFault>
+        requires { IsCertified (recorded r.now) }
+        ensures gives { OfferGives self.old.root self.old.records (recorded r.now) result self.new.records }
+        ensures root { self.new.root ≡ self.old.root }
+        ensures complete { IsComplete self.old.root (mark_in self.old.records) → self.new.records ≡ self.old.records }
+    {
+        self.put(r, Judging::Done)
+    }
+
+    // Offers a record, by whether it is yet to be judged.
+    fn put(&mut self, r: &Record, judging: Judging) -> Result<Taken, OfferFault>
+        requires { judging ≡ Judging.Done → IsCertified (recorded r.now) }
+        ensures gives { OfferGives self.old.root self.old.records (recorded r.now) result self.new.records }
+        ensures root { self.new.root ≡ self.old.root }
+        ensures complete { IsComplete self.old.root (mark_in self.old.records) → self.new.records ≡ self.old.records }
+    {
         if r.table.states() != self.root.states() {
             return Err(OfferFault::WrongSize);
         }
         match self.place(r) {
             Place::Known => Ok(Taken::Known),
             Place::Elsewhere => Err(OfferFault::NotOpen),
-            Place::Open => self.take(r),
-            Place::Holdout => self.settle(r),
+            Place::Open => self.take(r, judging),
+            Place::Holdout => self.settle(r, judging),
         }
     }
 
@@ -282,15 +312,16 @@ impl Board {
     }
 
     // Takes a record of an open table.
-    fn take(&mut self, r: &Record) -> Result<Taken, OfferFault>
-        requires { IsOpen self.old.root (mark_in self.old.records) r.now.table }
+    fn take(&mut self, r: &Record, judging: Judging) -> Result<Taken, OfferFault>
+        requires is_open { IsOpen self.old.root (mark_in self.old.records) r.now.table }
+        requires judged { judging ≡ Judging.Done → IsCertified (recorded r.now) }
         ensures ok { IfOk result (λ taken. (taken ≡ Taken.New) × IsFit self.old.root self.old.records (recorded r.now) × (self.new.records ≡ self.old.records ++ (recorded r.now ∷ []))) }
         ensures err { OnErr result (self.new.records ≡ self.old.records) }
         ensures root { self.new.root ≡ self.old.root }
         ensures refusal { IfErr result (λ f. IsRefusal f (recorded r.now)) }
     {
         child_is_table();
-        let kept = Kept::of(self.alloc, r)?;
+        let kept = Kept::of(self.alloc, r, judging)?;
         let count = self.records.len();
         let place = opener_place(count)?;
         self.records.reserve(1)?;
@@ -312,16 +343,17 @@ impl Board {
     }
 
     // Takes a record with a verdict on a holdout.
-    fn settle(&mut self, r: &Record) -> Result<Taken, OfferFault>
+    fn settle(&mut self, r: &Record, judging: Judging) -> Result<Taken, OfferFault>
         requires holdout { IsHoldout self.old.records r.now.table }
         requires verdict { IsSome (shown_by (claim_of r.now.certificate)) }
+        requires judged { judging ≡ Judging.Done → IsCertified (recorded r.now) }
         ensures ok { IfOk result (λ taken. (taken ≡ Taken.Settled) × Settles self.old.records (recorded r.now) × (self.new.records ≡ settled self.old.records (recorded r.now))) }
         ensures err { OnErr result (self.new.records ≡ self.old.records) }
         ensures root { self.new.root ≡ self.old.root }
         ensures refusal { IfErr result (λ f. IsRefusal f (recorded r.now)) }
     {
         child_is_table();
-        let kept = Kept::of(self.alloc, r)?;
+        let kept = Kept::of(self.alloc, r, judging)?;
         let found = place_of(&self.records, &r.table);
         let place = opener_place(found)?;
         open_children(

@@ -6,8 +6,8 @@ ghost use Rattle.cert.specs.Kinds.{claim_of, owned_claim, recorded};
 ghost use Rattle.ledger.specs.Inside.Places.{IsRefusal};
 
 use crate::faults::OfferFault;
-use cert::{Judged, OwnedCertificate, Record, judge_on};
-use evidence::Refused;
+use cert::{OwnedCertificate, Record, judge_on};
+use evidence::{Refused, Verdict};
 use machine_text::Pair;
 use std::alloc::Global;
 
@@ -19,32 +19,67 @@ pub struct Kept {
     pub halts_on: Option<Pair>,
 }
 
+// Whether a record is yet to be judged.
+#[derive(Clone, Copy)]
+pub enum Judging {
+    // nothing is known of its certificate
+    Due,
+    // it is certified
+    Done,
+}
+
 impl Kept {
     // The certificate of a record, once it is judged.
-    pub fn of(alloc: Global, r: &Record) -> Result<Kept, OfferFault>
+    pub fn of(alloc: Global, r: &Record, judging: Judging) -> Result<Kept, OfferFault>
+        requires { judging ≡ Judging.Done → IsCertified (recorded r.now) }
         ensures certified { OnOk result (IsCertified (recorded r.now)) }
         ensures claim { IfOk result (λ kept. owned_claim kept.certificate ≡ claim_of r.now.certificate) }
         ensures pair { IfOk result (λ kept. IsPairOf (shown_by (claim_of r.now.certificate)) r.now.table kept.halts_on) }
         ensures refusal { IfErr result (λ f. IsRefusal f (recorded r.now)) }
     {
-        let judged = judged(alloc, r)?;
+        let halts_on = halting_pair(alloc, r, judging)?;
         let certificate = OwnedCertificate::of(alloc, &r.certificate)?;
         Ok(Kept {
             certificate,
-            halts_on: judged.halts_on,
+            halts_on,
         })
     }
 }
 
-// What a record's certificate shows.
-fn judged(alloc: Global, r: &Record) -> Result<Judged, OfferFault>
+// The pair on which a record's table halts, where its certificate stands and shows that it does.
+fn halting_pair(alloc: Global, r: &Record, judging: Judging) -> Result<Option<Pair>, OfferFault>
+    requires { judging ≡ Judging.Done → IsCertified (recorded r.now) }
     ensures certified { OnOk result (IsCertified (recorded r.now)) }
-    ensures pair { IfOk result (λ judged. IsPairOf (shown_by (claim_of r.now.certificate)) r.now.table judged.halts_on) }
+    ensures pair { IfOk result (λ pair. IsPairOf (shown_by (claim_of r.now.certificate)) r.now.table pair) }
+    ensures refusal { IfErr result (λ f. IsRefusal f (recorded r.now)) }
+{
+    match judging {
+        Judging::Due => judged_pair(alloc, r),
+        Judging::Done => certified_pair(alloc, r),
+    }
+}
+
+// The same; whether the certificate stands is judged.
+fn judged_pair(alloc: Global, r: &Record) -> Result<Option<Pair>, OfferFault>
+    ensures certified { OnOk result (IsCertified (recorded r.now)) }
+    ensures pair { IfOk result (λ pair. IsPairOf (shown_by (claim_of r.now.certificate)) r.now.table pair) }
     ensures refusal { IfErr result (λ f. IsRefusal f (recorded r.now)) }
 {
     match judge_on(alloc, r) {
-        Ok(judged) => Ok(judged),
+        Ok(judged) => Ok(judged.halts_on),
         Err(Refused::NoMemory) => Err(OfferFault::NoMemory),
         Err(refused) => Err(OfferFault::Refused(refused)),
+    }
+}
+
+// The same of a certificate that is known to stand: only a table that halts is run.
+fn certified_pair(alloc: Global, r: &Record) -> Result<Option<Pair>, OfferFault>
+    ensures pair { IfOk result (λ pair. IsPairOf (shown_by (claim_of r.now.certificate)) r.now.table pair) }
+    ensures refusal { IfErr result (λ f. IsRefusal f (recorded r.now)) }
+{
+    match r.certificate.verdict() {
+        Some(Verdict::Halts(_)) => judged_pair(alloc, r),
+        Some(Verdict::Never) => Ok(None),
+        None => Ok(None),
     }
 }

@@ -1,5 +1,5 @@
 // The records of a board, one by one.
-ghost use Rattle.std.specs.Prelude.{◌≡◌};
+ghost use Rattle.std.specs.Prelude.{◌≡◌, drop};
 
 use crate::kept::Kept;
 use cert::Record;
@@ -34,6 +34,16 @@ impl<'a> Records<'a> {
     {
         Records {
             left: records.iter(),
+        }
+    }
+
+    // Those of a board from a place on.
+    pub(crate) fn from_place(records: &'a IndexMap<Table, Kept>, place: usize) -> Records<'a>
+        ensures { result ≡ drop place (records_of records.now.entries) }
+    {
+        let parts = records.as_slice().split_at(place.min(records.len()));
+        Records {
+            left: parts.1.iter(),
         }
     }
 }

@@ -14,7 +14,7 @@ use Rattle.ledger.proofs.Taking.{open_in_order, same_map}
 use Rattle.ledger.proofs.board.Board.take.Goals as goal
 
 pub open_children-requires-clause-in_order : goal.open_children-requires-clause-in_order
-open_children-requires-clause-in_order c = open_in_order c.args.self.now c.args.r.now.table c.child_is_table.ensures.below c.child_is_table.ensures.order (subst IsBoard c.self.view_is c.self.invariant.0) c.requires
+open_children-requires-clause-in_order c = open_in_order c.args.self.now c.args.r.now.table c.child_is_table.ensures.below c.child_is_table.ensures.order (subst IsBoard c.self.view_is c.self.invariant.0) c.requires.is_open
 
 pub open_children-requires-clause-none : goal.open_children-requires-clause-none
 open_children-requires-clause-none c =
@@ -47,7 +47,7 @@ invariant_of-self-2 c =
     let es = c.reserve.new.self.entries in
     let kept = subst (λ (l : List (Packed × Kept)). IsKept c.self.inside.root l c.self.inside.open_tables c.self.inside.counts) (sym c.in_ok-reserve.ensures.entries) c.self.invariant in
     let open_now = subst (λ (l : List (Packed × Kept)). IsOpen c.self.inside.root (mark_in (records_of l)) c.args.r.now.table) (sym c.in_ok-reserve.ensures.entries)
-    (subst (λ (b : Contents). IsOpen b.root (mark_in b.records) c.args.r.now.table) (sym c.self.view_is) c.requires) in
+    (subst (λ (b : Contents). IsOpen b.root (mark_in b.records) c.args.r.now.table) (sym c.self.view_is) c.requires.is_open) in
     rw (c.with-self-inside.ensures, c.verdict.ensures)
     (kept_more c.self.inside.root es c.insert.new.self.entries (recorded c.args.r.now) c.in_ok-kept.kept c.in_ok-place.place c.self.inside.open_tables c.open_children.new.tables c.remove.new.self c.self.inside.counts
     kept open_now c.in_ok-kept.ensures.certified c.in_ok-kept.ensures.claim c.in_ok-kept.ensures.pair c.in-Ok.ensures.entries (c.in_ok-place.ensures.is ∙ (c.len-count.ensures.len ∙ ap length (sym c.in_ok-reserve.ensures.entries)))
@@ -59,10 +59,10 @@ unfolding same_table
 returns-clause-ok c =
     let es = c.reserve.new.self.entries in
     let open_now = subst (λ (l : List (Packed × Kept)). IsOpen c.self.inside.root (mark_in (records_of l)) c.args.r.now.table) (sym c.in_ok-reserve.ensures.entries)
-    (subst (λ (b : Contents). IsOpen b.root (mark_in b.records) c.args.r.now.table) (sym c.self.view_is) c.requires) in
+    (subst (λ (b : Contents). IsOpen b.root (mark_in b.records) c.args.r.now.table) (sym c.self.view_is) c.requires.is_open) in
     let before = ap records_of c.in_ok-reserve.ensures.entries ∙ ap (λ (b : Contents). b.records) c.self.view_is in (
       refl,
-      record { is_open = c.requires; certified = c.in_ok-kept.ensures.certified },
+      record { is_open = c.requires.is_open; certified = c.in_ok-kept.ensures.certified },
       records_more es c.insert.new.self.entries (recorded c.args.r.now) c.in_ok-kept.kept c.in_ok-kept.ensures.claim (unmarked _ open_now.unmarked) c.in-Ok.ensures.entries
           ∙ ap (λ (l : List Recorded). l ++ (recorded c.args.r.now ∷ [])) before,
     )

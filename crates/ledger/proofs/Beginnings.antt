@@ -1,6 +1,5 @@
 -- A beginning of a text that is read as records is read as the records of the first of its lines.
-use Rattle.std.proofs.Common.{◌≡◌, ℕ, ◌+◌, ◌-◌, ◌≤◌, List, [], ◌∷◌, ◌++◌, length, Some, None, inl, inr, ◌⊎◌, refl, sym, ap, ◌∙◌, subst, arith, append_assoc, length-append}
-use Rattle.std.specs.List.{position}
+use Rattle.std.proofs.Common.{◌≡◌, ℕ, ◌+◌, ◌-◌, ◌≤◌, List, [], ◌∷◌, ◌++◌, length, inl, inr, ◌⊎◌, refl, sym, ap, ◌∙◌, subst, arith, append_assoc, length-append}
 use Rattle.machine_text.specs.Packed.{Packed}
 use Rattle.cert.specs.Claim.{Recorded}
 use Rattle.text.specs.Lines.{HasNoNewline, BeginsWithLine}
@@ -10,14 +9,7 @@ use Rattle.ledger.specs.declared.left.Left.{Left}
 use Rattle.ledger.specs.declared.left.Left.TheVariants.{Nothing, From}
 use Rattle.ledger.specs.declared.left.Unkept.{Unkept}
 use Rattle.ledger.specs.declared.left.Unkept.TheVariants.{Torn, Unread, Unfit, Repeated}
-use Rattle.text.proofs.Lines.{is_newline, no_newline, cut_line, same_line, same_cut, line_has_newline}
-
--- a text has no newline, or begins with a line
-pub cases_line : (text : List ℕ) → HasNoNewline text ⊎ ((line : List ℕ) × (rest : List ℕ) × BeginsWithLine text line rest)
-cases_line text = elim (position is_newline text) as (λ o. position is_newline text ≡ o → HasNoNewline text ⊎ ((line : List ℕ) × (rest : List ℕ) × BeginsWithLine text line rest)) [
-  | None ↦ λ none. inl (no_newline text none)
-  | Some at ↦ λ found. inr (_, _, cut_line text at found)
-] refl
+use Rattle.text.proofs.Lines.{cases_line, same_line, same_cut, line_has_newline}
 
 -- nothing of the text is kept: it is empty, or there is a reason
 abbrev pub EndsAt : Packed → List Recorded → List ℕ → Type 0

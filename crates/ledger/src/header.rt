@@ -1,11 +1,11 @@
 // The first line of a ledger's text.
-ghost use Rattle.std.specs.Prelude.{◌≡◌, ◌≢◌, ◌==◌, ◌<◌, ℕ, ◌++◌, ◌↔◌, List, length, position, IsTrue, IfSome, IfNone};
-ghost use Rattle.text.specs.Lines.{HasNoNewline, BeginsWithLine};
+ghost use Rattle.std.specs.Prelude.{◌↔◌, IsTrue};
 ghost use Rattle.ledger.specs.LedgerText.{BeginsAsHeader, PeekGives};
 ghost use Rattle.ledger.specs.Inside.HeaderRead.{HeaderGives, OrderGives};
 
 use crate::faults::LoadFault;
 use machine_text::Table;
+use text::first_line;
 use tnf::in_order;
 
 /// What a header begins with.
@@ -62,22 +62,4 @@ fn is_begun_header(text: &[u8]) -> bool
     ensures { IsTrue result ↔ BeginsAsHeader text.now }
 {
     HEADER_WORDS.starts_with(text) || text.starts_with(HEADER_WORDS)
-}
-
-/// The first line of a text, and what follows its newline; none where there is no newline.
-pub fn first_line(text: &[u8]) -> Option<(&[u8], &[u8])>
-    ensures some { IfSome result (λ cut. BeginsWithLine text.now cut.0.now cut.1.now) }
-    ensures none { IfNone result (HasNoNewline text.now) }
-    ensures shorter { IfSome result (λ cut. length cut.1.now < length text.now) }
-{
-    let at = first_newline(text)?;
-    Some((&text[..at], &text[at + 1..]))
-}
-
-// The place of the first newline.
-fn first_newline(text: &[u8]) -> Option<usize>
-    ensures place { result ≡ position (λ byte. byte == 10) text.now }
-    ensures within { IfSome result (λ at. at < length text.now) }
-{
-    text.iter().position(|byte| *byte == b'\n')
 }

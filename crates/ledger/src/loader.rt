@@ -6,13 +6,14 @@ ghost use Rattle.ledger.specs.LedgerText.{Keeps, LineGives, IsTornLeft, LoadGive
 
 use crate::board::Board;
 use crate::faults::{LoadFault, OfferFault};
-use crate::header::{first_line, read_header};
+use crate::header::read_header;
 use crate::left::{Left, Unkept};
 use crate::taken::Taken;
 use cert::Record;
 use evidence::NoMemory;
 use machine_text::Table;
 use std::alloc::{AllocError, Global};
+use text::first_line;
 
 impl Board {
     /// The board of a ledger's text, and what of the text wasn't kept: the records are those of its lines

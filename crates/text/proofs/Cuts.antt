@@ -10,7 +10,7 @@ use Rattle.text.specs.Cut.{cut_at}
 abbrev pub Cut : Type 0
 Cut = Option (List ℕ × List ℕ)
 
-abbrev longer : ℕ → Cut → Cut
+abbrev pub longer : ℕ → Cut → Cut
 longer b cut = option_map (λ cut. (b ∷ cut.0, cut.1)) cut
 
 -- all of what stands behind a place

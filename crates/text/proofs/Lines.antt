@@ -1,22 +1,16 @@
 -- A text that is cut at its first newline.
-use Rattle.std.proofs.Common.{◌≡◌, ◌≢◌, ℕ, ◌+◌, ◌-◌, ◌<◌, ◌≤◌, Bool, true, false, eqb, List, [], ◌∷◌, ◌++◌, length, take, drop, get_or, Option, Some, None, refl, sym, ap, ◌∙◌, subst, arith, length-drop, length-append, suc}
-use Rattle.std.specs.List.{position, position_or_len}
-use Rattle.std.proofs.lemmas.Bool.Decides.{nat_tests}
-use Rattle.std.proofs.lemmas.Grind.{common_steps}
-use Rattle.std.proofs.lemmas.List.{take-append-drop, drop_more, take_all, get_or-take, length-take, get_or_at}
-use Rattle.std.proofs.lemmas.List.Quantifiers.{position-Some}
-use Rattle.std.proofs.lemmas.List.Sums.{fails_before_first}
+use Rattle.std.proofs.Common.{◌≡◌, ◌≢◌, ◌⊎◌, inl, inr, ℕ, Bool, true, false, cond, eqb, List, [], ◌∷◌, ◌++◌, length, Option, Some, None, refl, sym, ap, ◌∙◌, subst, arith, length-append, suc}
 use Rattle.std.specs.Prelude.{option_map, IfSome, IfNone}
 use Rattle.std.specs.Borrow.{Bor}
+use Rattle.std.proofs.lemmas.Bool.Decides.{nat_tests}
+use Rattle.std.proofs.lemmas.List.{get_or_at}
+use Rattle.std.proofs.lemmas.List.Elements.{All-cons, All-nil}
 use Rattle.text.specs.Cut.{cut_at}
 use Rattle.text.specs.Lines.{HasNoNewline, BeginsWithLine}
-use Rattle.text.proofs.Cuts.{Cut, cut_found, cut_missing}
+use Rattle.text.proofs.Cuts.{Cut, longer}
 
 abbrev pub is_newline : ℕ → Bool
 is_newline byte = eqb byte 10
-
-none_passes : (text : List ℕ) → position is_newline text ≡ None → length text ≤ position_or_len is_newline text
-none_passes text none = grind (arith, common_steps)
 
 is_other : (byte : ℕ) → is_newline byte ≡ false → byte ≢ 10
 is_other byte e = grind (arith, nat_tests)
@@ -24,56 +18,42 @@ is_other byte e = grind (arith, nat_tests)
 is_10 : (byte : ℕ) → is_newline byte ≡ true → byte ≡ 10
 is_10 byte e = grind (arith, nat_tests)
 
-pub no_newline : (text : List ℕ) → position is_newline text ≡ None → HasNoNewline text
-no_newline text none k d below =
-    is_other (get_or text k d) (fails_before_first is_newline text k d (omega (arith, none_passes text none)))
+-- a text cut at the byte 10: it has no newline, or begins with a line
+abbrev IsCutAs : List ℕ → Cut → Type 0
+IsCutAs text None = HasNoNewline text
+IsCutAs text (Some cut) = BeginsWithLine text cut.0 cut.1
 
-pub cut_line : (text : List ℕ) (at : ℕ) → position is_newline text ≡ Some at → BeginsWithLine text (take at text) (take (length text - (at + 1)) (drop (at + 1) text))
-cut_line text at found =
-    let here = position-Some is_newline text at 0 found in
-    let rest : take (length text - (at + 1)) (drop (at + 1) text) ≡ drop (at + 1) text = take_all _ _ (omega (arith, length-drop (at + 1) text)) in
-    record {
-      is = sym (take-append-drop at text) ∙ ap (λ l. take at text ++ l) (drop_more text at 0 here.0 ∙ ap (λ b. b ∷ drop (at + 1) text) (is_10 (get_or text at 0) here.1) ∙ ap (λ l. 10 ∷ l) (sym rest));
-      one_line = λ k d below.
-          let within : k < at = omega (arith, length-take at text) in
-          let before = position-Some is_newline text at d found in
-          subst (λ (b : ℕ). b ≢ 10) (sym (get_or-take at text k d within)) (is_other (get_or text k d) (before.2 k within));
-    }
+one_more : (b : ℕ) (text : List ℕ) (cut : Cut) → b ≢ 10 → IsCutAs text cut → IsCutAs (b ∷ text) (longer b cut)
+one_more b text None other none = All-cons (λ byte. byte ≢ 10) b text other none
+one_more b text (Some cut) other begins = record {
+  is = ap (λ l. b ∷ l) begins.is;
+  one_line = All-cons (λ byte. byte ≢ 10) b cut.0 other begins.one_line;
+}
 
--- the same by what stands before the first newline, and what stands behind it
-abbrev before : Cut → List ℕ
-before None = []
-before (Some cut) = cut.0
+cut_as : (text : List ℕ) → IsCutAs text (cut_at 10 text)
+cut_as [] = All-nil (λ byte. byte ≢ 10)
+cut_as (b ∷ text) =
+    elim (is_newline b) as (λ v. is_newline b ≡ v → IsCutAs (b ∷ text) (cond v (Some ([], text)) (longer b (cut_at 10 text)))) [
+      | true ↦ λ is. record { is = ap (λ byte. byte ∷ text) (is_10 b is); one_line = All-nil (λ byte. byte ≢ 10) }
+      | false ↦ λ is. one_more b text (cut_at 10 text) (is_other b is) (cut_as text)
+    ] refl
 
-abbrev behind : Cut → List ℕ
-behind None = []
-behind (Some cut) = cut.1
+either : (text : List ℕ) (cut : Cut) → IsCutAs text cut → HasNoNewline text ⊎ ((line : List ℕ) × (rest : List ℕ) × BeginsWithLine text line rest)
+either text None none = inl none
+either text (Some cut) begins = inr (cut.0, cut.1, begins)
 
-pub begins_by_cut : (text line rest : List ℕ) → Some (line, rest) ≡ cut_at 10 text → BeginsWithLine text line rest
-begins_by_cut text line rest cut = elim (position is_newline text) as (λ o. position is_newline text ≡ o → BeginsWithLine text line rest) [
-  | Some at ↦ λ found.
-      let same = cut_found 10 text at found ∙ sym cut in
-      let first : take at text ≡ line = ap before same in
-      let second : take (length text - (at + 1)) (drop (at + 1) text) ≡ rest = ap behind same in
-      subst (λ (l : List ℕ). BeginsWithLine text l rest) first (subst (λ (r : List ℕ). BeginsWithLine text (take at text) r) second (cut_line text at found))
-  | None ↦ λ missing. let none = cut_missing 10 text missing in absurd (cc)
-] refl
+pub cases_line : (text : List ℕ) → HasNoNewline text ⊎ ((line : List ℕ) × (rest : List ℕ) × BeginsWithLine text line rest)
+cases_line text = either text (cut_at 10 text) (cut_as text)
 
-pub none_by_cut : (text : List ℕ) → None ≡ cut_at 10 text → HasNoNewline text
-none_by_cut text cut = elim (position is_newline text) as (λ o. position is_newline text ≡ o → HasNoNewline text) [
-  | Some at ↦ λ found. let some = cut_found 10 text at found in absurd (cc)
-  | None ↦ λ missing. no_newline text missing
-] refl
-
--- so is a text's first line, as the cut is handed out
+-- and it is cut where the code cuts it
 pub line_of_cut : (text : List ℕ) (o : Option (Bor (List ℕ) × Bor (List ℕ))) → option_map (λ cut. (cut.0.now, cut.1.now)) o ≡ cut_at 10 text
     → IfSome o (λ cut. BeginsWithLine text cut.0.now cut.1.now)
 line_of_cut text None is = tt
-line_of_cut text (Some cut) is = begins_by_cut text cut.0.now cut.1.now is
+line_of_cut text (Some cut) is = subst (IsCutAs text) (sym is) (cut_as text)
 
 pub none_of_cut : (text : List ℕ) (o : Option (Bor (List ℕ) × Bor (List ℕ))) → option_map (λ cut. (cut.0.now, cut.1.now)) o ≡ cut_at 10 text
     → IfNone o (HasNoNewline text)
-none_of_cut text None is = none_by_cut text is
+none_of_cut text None is = subst (IsCutAs text) (sym is) (cut_as text)
 none_of_cut text (Some cut) is = tt
 
 -- a whole line holds a newline, and a text begins with only one line

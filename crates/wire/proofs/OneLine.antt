@@ -1,8 +1,8 @@
 -- The text of a message has no newline, so messages that follow one another come through a stream one by one.
-use Rattle.std.proofs.Common.{◌≡◌, ◌≢◌, ℕ, ◌+◌, ◌%◌, ◌^◌, ◌<◌, true, false, List, [], ◌∷◌, ◌++◌, length, get_or, Some, None, refl, ap, ◌∙◌, append_assoc, arith}
+use Rattle.std.proofs.Common.{◌≡◌, ◌≢◌, ℕ, ◌^◌, ◌<◌, true, false, List, [], ◌∷◌, ◌++◌, length, get_or, Some, None, refl, ap, ◌∙◌, append_assoc, arith}
 use Rattle.std.specs.Prelude.{codes, decimal, All, map, nat_le}
 use Rattle.std.proofs.lemmas.Bool.Decides.{nat_tests}
-use Rattle.std.proofs.lemmas.List.Elements.{All-append, All-cons, All-nil, All-head, All-tail, All-get_or, All-from_get_or}
+use Rattle.std.proofs.lemmas.List.Elements.{All-append, All-head, All-tail, All-get_or, All-from_get_or}
 use Rattle.std.proofs.lemmas.List.Splits.{slice_split_at, slice_split_none}
 use Rattle.machine_text.specs.Text.{text_of}
 use Rattle.cert.specs.Grammar.{record_text}

@@ -101,8 +101,11 @@ def frame(rng, model, records):
         table = rng.choice(open_tables) if open_tables and rng.random() < 0.7 else None
         known = records.get(table) if table else None
         made = b"REC " + (known or rng.choice(list(records.values())))
-        if rng.random() < 0.1:
-            made = made.split(b" ")[0] + b" " + made.split(b" ")[1] + b" U"
+        table, way = made.split(b" ")[1], rng.random()
+        if way < 0.1:
+            made = b"REC " + table + b" U"
+        elif way < 0.2:
+            made = b"REC " + table + b" " + rng.choice(list(records.values())).split(b" ", 1)[1]
     else:
         made = rng.choice([b"ACK ------", b"GRANT 1 1 ------", b"LATER", b"STOP", b"LATER ------", b"", b"ask 1", b"REC"])
     return damaged(rng, made, list(records.values())) if rng.random() < 0.1 else made

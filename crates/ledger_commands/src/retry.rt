@@ -39,7 +39,7 @@ pub fn cmd_retry<F: Read + Drop, L: LedgerOut, D: Decider, W: Write, E: Write>(
     }
 }
 
-fn retried<F: Read + Drop, L: LedgerOut, D: Decider, W: Write>(
+fn retry_ledger<F: Read + Drop, L: LedgerOut, D: Decider, W: Write>(
     alloc: Global,
     held: io::Result<Opened<F>>,
     ledger: &mut L,
@@ -56,7 +56,7 @@ fn retried<F: Read + Drop, L: LedgerOut, D: Decider, W: Write>(
 }
 
 // The same from the board of the ledger, and what of it wasn't kept.
-fn settled_further<L: LedgerOut, D: Decider, W: Write>(
+fn settle_further<L: LedgerOut, D: Decider, W: Write>(
     alloc: Global,
     board: &mut Board,
     left: &Left,

@@ -76,7 +76,7 @@ pub fn make(alloc: Global, board: &mut Board, made: &OwnedRecord) -> Result<Out,
     };
     let append = line_of(alloc, &r)?;
     let frames = frame_of(alloc, made)?;
-    match board.offer(&r) {
+    match board.offer_certified(&r) {
         Ok(Taken::New) => Ok(Out {
             cut: None,
             append,

@@ -1,7 +1,7 @@
 //! The commands of `bb` that serve a tree, over readers, writers and links: `coord`, a coordinator alone, and `run`, a
 //! coordinator and workers in one process.
 //!
-//! `specs/Losses` says which frames of a link are lost on purpose.
+//! `specs/Losses` says which frames of a link are lost on purpose, `specs/Rounds` what happens to a worker in a round.
 #![tactic(auto)]
 
 mod coord;
@@ -13,6 +13,7 @@ mod rounds;
 mod run_command;
 mod station;
 mod streams;
+mod working;
 
 pub use coord::cmd_coord;
 pub use losses::{Losses, carry};
@@ -20,3 +21,4 @@ pub use no_ledger::NoLedger;
 pub use progress::Progress;
 pub use run_command::{Run, cmd_run};
 pub use streams::Streams;
+pub use working::work;

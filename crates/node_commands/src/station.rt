@@ -2,14 +2,11 @@
 use crate::faults::in_memory;
 use crate::losses::{Losses, carry};
 use crate::no_ledger::NoLedger;
+use crate::working::work;
 use coordinator::Coordinator;
-use evidence::NoMemory;
 use options::Ended;
-use std::alloc::{AllocError, Global};
-use wire::{Event, LedgerOut, Lines, Link, MemLink, Node, TurnFault, begin, turn};
-
-// How many work turns a worker gets in a round.
-const WORK_TURNS: u32 = 8;
+use std::alloc::Global;
+use wire::{LedgerOut, Lines, MemLink, Node, TurnFault, turn};
 
 // A worker, whose ledger nobody reads, and both ends of its link with the coordinator, which are in memory. The worker
 // is any node: what is proved of a type that keeps boxed finders would depend on the bodies of its calls.
@@ -74,7 +71,16 @@ impl<N: Node> Station<N> {
         coordinator: &mut Coordinator,
         ledger: &mut L,
     ) -> Result<(), Ended> {
-        self.work(round)?;
+        let worked = work(
+            &mut self.worker,
+            round,
+            &mut self.near.link,
+            &mut self.ledger,
+        );
+        // All that is its own is in memory.
+        if worked.is_err() {
+            return Err(Ended::NoMemory);
+        }
         carry(
             &mut self.near.link,
             &mut self.far.link,
@@ -87,32 +93,7 @@ impl<N: Node> Station<N> {
         carry(&mut self.far.link, &mut self.near.link, &mut self.to_worker)?;
         match self.near.serve(&mut self.worker, &mut self.ledger) {
             Ok(()) => Ok(()),
-            // All that is its own is in memory.
             Err(_) => Err(Ended::NoMemory),
-        }
-    }
-
-    // Its work turns, and then the tick.
-    fn work(&mut self, round: u64) -> Result<(), NoMemory> {
-        for _ in 0..WORK_TURNS {
-            self.handle(Event::Work)?;
-        }
-        self.handle(Event::Tick(round))
-    }
-
-    // Hands it an event, and carries out what it answers: its ledger's part first. A failure of what stands in
-    // memory is refused memory.
-    fn handle(&mut self, event: Event<'_>) -> Result<(), NoMemory> {
-        let Ok(out) = self.worker.on(event) else {
-            return Err(AllocError);
-        };
-        if begin(&out, &mut self.ledger).is_err() {
-            self.worker.stop();
-            return Err(AllocError);
-        }
-        match self.near.link.send(&out.frames) {
-            Ok(_) => Ok(()),
-            Err(_) => Err(AllocError),
         }
     }
 }

@@ -1,7 +1,7 @@
 // Commands as the program begins them, over files in memory.
 ghost use Rattle.options.specs.Ranges.{AreWithinRanges};
 
-use crate::papers::Desk;
+use crate::desk::Desk;
 use crate::streams::{ALWAYS, Sink};
 use crate::texts::assert_bytes;
 use dispatch::carry_out;
@@ -285,7 +285,7 @@ fn each_worker_has_an_id_of_its_own(rt: HostRuntime) {
             "{workers}"
         );
         assert!(rt;
-            !is_settled_in(&rt, rt.alloc(), workers, rounds - 1),
+            !is_settled_in(&rt, rt.alloc(), workers, rounds.saturating_sub(1)),
             "{workers}"
         );
     }
@@ -299,7 +299,7 @@ fn an_old_ledger_is_gone_on_with(rt: HostRuntime) -> Result<(), Fail> {
     let beginning = Beginning { states: 1, era: 2 };
     for kept in [0, 18, 19, 29, 30, 44, 45, 59, 60] {
         for at_once in [1, 7, 100] {
-            let a = RefCell::new(COMPLETE.as_bytes()[..kept].to_vec(alloc)?);
+            let a = RefCell::new(COMPLETE.as_bytes()[..kept.min(COMPLETE.len())].to_vec(alloc)?);
             let b = RefCell::new(Vec::new(alloc));
             let desk = Desk::of(&a, &b, at_once);
             let asked = Options::Coord {

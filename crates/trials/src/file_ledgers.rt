@@ -1,9 +1,9 @@
 // Ledgers in files, over files of the tests' own.
-use crate::papers::{Desk, Paper};
+use crate::desk::{Desk, Paper};
 use crate::texts::assert_bytes;
-use ledger_commands::{FileLedger, LedgerAt};
+use ledger_commands::{FileLedger, Host, LedgerAt};
 use std::alloc::Global;
-use std::cell::RefCell;
+use std::cell::{Cell, RefCell};
 use std::process::Abort;
 use std::test::Fail;
 use wire::{LedgerOut, Note, Out, begin};
@@ -62,8 +62,20 @@ fn a_path_is_opened_by_what_is_first_written(rt: HostRuntime) -> Result<(), Fail
     let a = RefCell::new(b"bb-ledger 1 ------\n------ H 1\n0RA".to_vec(alloc)?);
     let b = RefCell::new(Vec::new(alloc));
     let desk = Desk::of(&a, &b, 4);
-    let mut ledger = LedgerAt::new(&desk, "a");
-    for (cut, append, opened) in [
+    opens_once(&rt, alloc, &desk, &desk.opened)?;
+    let whole = b"bb-ledger 1 ------\n------ H 1\n0RA--- T 0 1 R\n1RA--- T 0 1 R\n";
+    assert_bytes(&rt, &a.into_inner(), whole);
+    Ok(())
+}
+
+fn opens_once<H: Host>(
+    rt: &impl Abort,
+    alloc: Global,
+    host: &H,
+    opened: &Cell<u64>,
+) -> Result<(), Fail> {
+    let mut ledger = LedgerAt::new(host, "a");
+    for (cut, append, times) in [
         (None, "", 0),
         (Some(30), "", 1),
         (None, "0RA--- T 0 1 R\n", 1),
@@ -75,10 +87,9 @@ fn a_path_is_opened_by_what_is_first_written(rt: HostRuntime) -> Result<(), Fail
             frames: Vec::new(alloc),
             note: Note::Quiet,
         };
-        assert!(rt; begin(&out, &mut ledger).is_ok() && desk.opened.get() == opened);
+        assert!(rt; begin(&out, &mut ledger).is_ok());
+        assert!(rt; opened.get() == times, "{append}");
     }
-    let whole = b"bb-ledger 1 ------\n------ H 1\n0RA--- T 0 1 R\n1RA--- T 0 1 R\n";
-    assert_bytes(&rt, &a.into_inner(), whole);
     Ok(())
 }
 
@@ -87,7 +98,11 @@ fn a_path_is_opened_by_what_is_first_written(rt: HostRuntime) -> Result<(), Fail
 fn a_path_that_is_not_opened_fails(rt: HostRuntime) {
     let a = RefCell::new(Vec::new(rt.alloc()));
     let b = RefCell::new(Vec::new(rt.alloc()));
-    let desk = Desk::of(&a, &b, 4);
-    let mut ledger = LedgerAt::new(&desk, "absent");
-    assert!(rt; ledger.cut(0).is_err() && ledger.append(b"abc").is_err());
+    fails_each_time(&rt, &Desk::of(&a, &b, 4));
+}
+
+fn fails_each_time<H: Host>(rt: &impl Abort, host: &H) {
+    let mut ledger = LedgerAt::new(host, "absent");
+    assert!(rt; ledger.cut(0).is_err());
+    assert!(rt; ledger.append(b"abc").is_err());
 }

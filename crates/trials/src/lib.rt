@@ -24,6 +24,8 @@ mod cycles;
 #[cfg(test)]
 mod deciding;
 #[cfg(test)]
+mod desk;
+#[cfg(test)]
 mod dispatched;
 #[cfg(test)]
 mod file_ledgers;
@@ -41,8 +43,6 @@ mod merge_command;
 mod messages;
 #[cfg(test)]
 mod nodes;
-#[cfg(test)]
-mod papers;
 #[cfg(test)]
 mod plain_tapes;
 #[cfg(test)]

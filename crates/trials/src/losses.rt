@@ -23,7 +23,7 @@ fn loses(rt: &impl Abort, alloc: Global, every: Option<u64>, count: u64) -> Resu
             carry(&mut near, &mut far, &mut losses)?;
         }
         let is_lost = match every {
-            Some(every) => number <= 1_000 && number % every.max(1) == 0,
+            Some(every) => number <= 1_000 && number.checked_rem(every) == Some(0),
             None => false,
         };
         if !is_lost {
@@ -72,8 +72,8 @@ fn a_run_loses_frames_in_both_directions(rt: HostRuntime) -> Result<(), Fail> {
     for round in 1..=1_600_u64 {
         let (is_answered, number) = match round {
             1..=1_000 => (round % 4 == 1, round.div_ceil(2)),
-            1_001..=1_500 => (round % 2 == 1, round - 500),
-            _ => (true, round - 500),
+            1_001..=1_500 => (round % 2 == 1, round.saturating_sub(500)),
+            _ => (true, round.saturating_sub(500)),
         };
         let ticks = format!(in alloc; "a ticks {round}\n")?;
         expected.extend_from_slice(ticks.as_bytes())?;

@@ -3,7 +3,7 @@ use crate::probes::Probe;
 use crate::streams::{ALWAYS, Sink, file_of};
 use crate::texts::assert_bytes;
 use json_report::Form;
-use node_commands::{NoLedger, cmd_run};
+use node_commands::{NoLedger, Run, cmd_run};
 use options::{Outcome, Search, Settling};
 use std::alloc::Global;
 use std::cell::RefCell;
@@ -50,14 +50,18 @@ pub fn run_rounds(
     };
     let mut answers = Sink::new(alloc, usize::MAX, ALWAYS);
     let mut faults = Sink::new(alloc, usize::MAX, ALWAYS);
+    let form = Form::of(false);
+    let run = Run {
+        settling: &settling,
+        form: &form,
+        workers,
+        clock: &Stopped,
+    };
     let outcome = cmd_run(
         alloc,
-        &settling,
-        &Form::of(false),
+        run,
         file_of(b"", 9, ALWAYS),
         &mut NoLedger,
-        workers,
-        &Stopped,
         &mut answers,
         &mut faults,
     );

@@ -63,8 +63,8 @@ pub fn keep<W: LedgerOut>(out: &Out, ledger: &mut W) -> Result<(), Fault>
     append_all(ledger, &out.append)
 }
 
-// Carries out an answer: its ledger's part first, whole, and only then its frames. Where the ledger fails,
-// the node is stopped.
+/// Carries out an answer: its ledger's part first, whole, and only then its frames. Where the ledger fails,
+/// the node is stopped.
 pub fn carry_out<N: Node, L: Link, W: LedgerOut>(
     node: &mut N,
     link: &mut L,

@@ -5,7 +5,7 @@
 //! messages as nodes' rules speak of them, `specs/Grammar` the text of each.
 //!
 //! A [`Node`] answers events, and does nothing else: each answer says what is to be cut from its ledger,
-//! what to be appended, and which frames to be sent. `begin` and `turn` carry answers out, the ledger's
+//! what to be appended, and which frames to be sent. `begin`, `carry_out` and `turn` carry answers out, the ledger's
 //! part first; `specs/Carried` and `specs/Turned` say what that means.
 #![tactic(auto)]
 
@@ -29,7 +29,7 @@ mod node;
 mod trouble;
 mod turned;
 
-pub use carrying::append_all;
+pub use carrying::{append_all, carry_out};
 pub use decoder::decode;
 pub use encoder::encode;
 pub use engine::{begin, turn};

@@ -1,4 +1,5 @@
 // The commands of `bb` that write ledgers, and what has to come of them.
+use crate::killed::Share;
 use crate::restarts::{Command, LEDGER, OTHER, restarted};
 use options::{Beginning, Merging, Options, Search, Settling};
 use std::io;
@@ -11,6 +12,8 @@ const SEARCH: Search = Search {
     far: 2,
 };
 
+const SHARES: [Share; 3] = [Share::Nothing, Share::Half, Share::Whole];
+
 const ONE_STATE: &str =
     "root ------\nstatus complete\nnodes 3\nhalting 1\nnever 2\nholdouts 0\nopen 0\nbest 1\nchampion ------\n";
 
@@ -21,6 +24,7 @@ const COORD: Command = Command {
         ledger: Some(LEDGER),
     },
     input: "ASK 7\nREC ------ H 1\nREC 0RA--- T 0 1 R\nREC 1RA--- T 0 1 R\nASK 7\n",
+    shares: &SHARES,
     before: None,
     other: None,
     report: ONE_STATE,
@@ -43,6 +47,7 @@ const RUN_ONE: Command = Command {
         ledger: Some(LEDGER),
     },
     input: "",
+    shares: &SHARES,
     before: None,
     other: None,
     report: ONE_STATE,
@@ -65,6 +70,8 @@ const RUN_TWO: Command = Command {
         ledger: Some(LEDGER),
     },
     input: "",
+    // once in each call, since it makes many
+    shares: &[Share::Half],
     before: None,
     other: None,
     report: "root ------_------\nstatus complete\nnodes 61\nhalting 19\nnever 42\nholdouts 0\nopen 0\nbest 6\nchampion 0RB---_1LA1RB\nchampion 1RB---_0LB1LA\nchampion 1RB---_1LB1LA\nchampion 1RB0LB_1LA---\nchampion 1RB1LB_1LA---\n",
@@ -79,6 +86,7 @@ const RETRY: Command = Command {
         search: SEARCH,
     },
     input: "",
+    shares: &SHARES,
     before: Some("bb-ledger 1 ------\n------ H 1\n0RA--- T 0 1 R\n1RA--- U\n1RA--- T 0 1"),
     other: None,
     report: ONE_STATE,
@@ -93,6 +101,7 @@ const RETRY_OPENING: Command = Command {
         search: SEARCH,
     },
     input: "",
+    shares: &SHARES,
     before: Some("bb-ledger 1 ------_------\n------_------ H 1\n1RB---_------ U\nhello\n"),
     other: None,
     report: "root ------_------\nstatus working\nnodes 13\nhalting 2\nnever 0\nholdouts 0\nopen 11\nbest 2\nchampion 1RB---_------\n",
@@ -110,6 +119,7 @@ const MERGE: Command = Command {
         out: LEDGER,
     }),
     input: "",
+    shares: &SHARES,
     before: Some("bb-ledger 1 ------_------\n------_------ H 1\n0RB---_------ H 2\n"),
     other: Some(
         "bb-ledger 1 ------_------\n------_------ H 1\n1RB---_------ H 2\n1RA---_------ T 0 1 R\n",

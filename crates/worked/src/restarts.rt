@@ -28,6 +28,8 @@ pub struct Command {
     pub asked: Options<'static>,
     /// What it reads.
     pub input: &'static str,
+    /// How much is done of the call in which it is killed: it is killed once for each of these.
+    pub shares: &'static [Share],
     /// What the ledger holds before; none where it isn't there.
     pub before: Option<&'static str>,
     /// What the other ledger holds, where there is one.
@@ -78,8 +80,8 @@ pub fn restarted(rt: &HostRuntime, command: &Command) -> io::Result<()>
 fn killed_in(rt: &HostRuntime, command: &Command, call: u64) -> io::Result<Ending>
     requires { AreWithinRanges command.now.asked }
 {
-    for share in [Share::Nothing, Share::Half, Share::Whole] {
-        let ending = ended(rt, command, &Life::to(call, share))?;
+    for share in command.shares.iter() {
+        let ending = ended(rt, command, &Life::to(call, *share))?;
         if ending != Ending::WentOn {
             return Ok(ending);
         }

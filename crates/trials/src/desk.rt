@@ -64,10 +64,11 @@ impl Read for Page<'_> {
     fn read(&mut self, buf: &mut [u8]) -> io::Result<usize> {
         match self.text.try_borrow() {
             Ok(text) => {
-                let from = self.at.min(text.len());
-                let count = buf.len().min(text.len() - from);
-                buf[..count].copy_from_slice(&text[from..from + count]);
-                self.at = from + count;
+                let written = text.as_slice();
+                let left = &written[self.at.min(written.len())..];
+                let count = left.len().min(buf.len());
+                buf[..count].copy_from_slice(&left[..count]);
+                self.at = self.at.saturating_add(count);
                 Ok(count)
             }
             Err(_) => Err(io::Error::from(ErrorKind::Other)),

@@ -9,7 +9,7 @@ use Rattle.turing.specs.Levels.{level}
 use Rattle.turing.proofs.RunLaws.{before, not_past}
 use Rattle.turing.proofs.TableLaws.{table_machine}
 use Rattle.turing.proofs.LevelLaws.{level_wider, longer_level, backward_level, level_backward, empty_below}
-use Rattle.run.specs.Standing.{Standing}
+use Rattle.run.specs.RunState.{RunState}
 use Rattle.run.specs.Steps.{RunsTo}
 use Rattle.run.specs.declared.runner.Step.{Step}
 use Rattle.run.specs.declared.runner.Step.TheVariants.{Went, Halts}
@@ -20,9 +20,9 @@ use Rattle.backward.specs.Paths.{IsTooWide}
 use Rattle.backward.specs.declared.too_wide.TooWide.{TooWide}
 
 -- a run that came to a time does the steps up to it
-pub does : (p : Packed) (d : ℕ) (old new : Standing) (step : Step) → old ≡ begun p → RunsTo d old step new → step ≡ Went → Does p d
+pub does : (p : Packed) (d : ℕ) (old new : RunState) (step : Step) → old ≡ begun p → RunsTo d old step new → step ≡ Went → Does p d
 does p d old new step began runs went =
-    let to : RunsTo d (begun p) Went new = subst (λ (s : Step). RunsTo d (begun p) s new) went (subst (λ (r : Standing). RunsTo d r step new) began runs) in
+    let to : RunsTo d (begun p) Went new = subst (λ (s : Step). RunsTo d (begun p) s new) went (subst (λ (r : RunState). RunsTo d r step new) began runs) in
     let stands = to.0.stands in
     record {
       is_table = subst IsTable to.0.table stands.is_table;
@@ -31,15 +31,15 @@ does p d old new step began runs went =
     }
 
 -- it doesn't
-pub does_not : (p : Packed) (d : ℕ) (old new : Standing) (step : Step) → old ≡ begun p → RunsTo d old step new → (step ≡ Went → ⊥) → (at : Config) → after (entry_of p) d ≡ Some at → ⊥
-does_not p d old new step began runs other at is = go step (subst (λ (r : Standing). RunsTo d r step new) began runs) other
+pub does_not : (p : Packed) (d : ℕ) (old new : RunState) (step : Step) → old ≡ begun p → RunsTo d old step new → (step ≡ Went → ⊥) → (at : Config) → after (entry_of p) d ≡ Some at → ⊥
+does_not p d old new step began runs other at is = go step (subst (λ (r : RunState). RunsTo d r step new) began runs) other
   where
     go : (s : Step) → RunsTo d (begun p) s new → (s ≡ Went → ⊥) → ⊥
     go Went to other = other refl
     go (Halts count) to other = omega (arith, not_past (entry_of p) d count at is to.1.halts, to.2)
 
 -- what the last step that was carried out says of it
-pub says_done : (p : Packed) (d : ℕ) (old new : Standing) (step : Step) (done : Bool) → old ≡ begun p → RunsTo d old step new → (done ≡ true → step ≡ Went) → (done ≡ false → step ≡ Went → ⊥) → SaysDone p d done
+pub says_done : (p : Packed) (d : ℕ) (old new : RunState) (step : Step) (done : Bool) → old ≡ begun p → RunsTo d old step new → (done ≡ true → step ≡ Went) → (done ≡ false → step ≡ Went → ⊥) → SaysDone p d done
 says_done p d old new step true began runs went other = does p d old new step began runs (went refl)
 says_done p d old new step false began runs went other = does_not p d old new step began runs (other refl)
 

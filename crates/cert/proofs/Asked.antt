@@ -7,16 +7,16 @@ use Rattle.machine_text.specs.Packed.{Packed}
 use Rattle.cert.specs.Claim.{Claim, NoClaim}
 use Rattle.cert.specs.Kinds.{owned_claim}
 use Rattle.cert.specs.declared.record.OwnedRecord.{OwnedRecord}
-use Rattle.cert.specs.Asking.{IsTaken, Answered}
+use Rattle.cert.specs.Asking.{ShowsVerdict, Answered}
 
 -- what comes of one finder
 abbrev OfOne : Packed → Option Claim → Option OwnedRecord → Type 0
-OfOne p given o = MatchOption o (IsTaken p given → ⊥) (λ r. (r.table ≡ p) × IsTaken p given × (given ≡ Some (owned_claim r.certificate)))
+OfOne p given o = MatchOption o (ShowsVerdict p given → ⊥) (λ r. (r.table ≡ p) × ShowsVerdict p given × (given ≡ Some (owned_claim r.certificate)))
 
-pub one_taken : (p : Packed) (given : Option Claim) (o : Option OwnedRecord) (r : OwnedRecord) → o ≡ Some r → OfOne p given o → IsTaken p given × (given ≡ Some (owned_claim r.certificate))
+pub one_taken : (p : Packed) (given : Option Claim) (o : Option OwnedRecord) (r : OwnedRecord) → o ≡ Some r → OfOne p given o → ShowsVerdict p given × (given ≡ Some (owned_claim r.certificate))
 one_taken p given o r is one = let made = subst (OfOne p given) is one in (made.1, made.2)
 
-pub one_left : (p : Packed) (given : Option Claim) (o : Option OwnedRecord) → o ≡ None → OfOne p given o → IsTaken p given → ⊥
+pub one_left : (p : Packed) (given : Option Claim) (o : Option OwnedRecord) → o ≡ None → OfOne p given o → ShowsVerdict p given → ⊥
 one_left p given o is one = subst (OfOne p given) is one
 
 module _ {F : Type 0} (gives : F → Option Claim → Type 0) (p : Packed) where
@@ -27,13 +27,13 @@ module _ {F : Type 0} (gives : F → Option Claim → Type 0) (p : Packed) where
   pub asked_none : (all : List F) → IsAskedTo 0 all all
   asked_none all = record { each = λ c a. a }
 
-  pub asked_more : (k : ℕ) (now all : List F) (d v : F) (o : Option Claim) → IsAskedTo k now all → k < length now → gives (get_or now k d) o → (IsTaken p o → ⊥) → IsAskedTo (k + 1) (set now k v) all
+  pub asked_more : (k : ℕ) (now all : List F) (d v : F) (o : Option Claim) → IsAskedTo k now all → k < length now → gives (get_or now k d) o → (ShowsVerdict p o → ⊥) → IsAskedTo (k + 1) (set now k v) all
   unfolding Answered
   asked_more k now all d v o asked less given none = record {
     each = λ c rest. asked.each c (subst (λ fs. Answered gives p fs c) (sym (drop-cons now k d less)) (o, given, inr (none, subst (λ fs. Answered gives p fs c) (drop-set-lt (k + 1) now k v (omega arith) ∙ ap (λ i. drop i now) (let e : k + 1 ≡ suc k = omega arith in e)) rest)));
   }
 
-  pub asked_found : (k : ℕ) (now all : List F) (d : F) (o : Option Claim) (c : Claim) → IsAskedTo k now all → k < length now → gives (get_or now k d) o → IsTaken p o → o ≡ Some c → Answered gives p all c
+  pub asked_found : (k : ℕ) (now all : List F) (d : F) (o : Option Claim) (c : Claim) → IsAskedTo k now all → k < length now → gives (get_or now k d) o → ShowsVerdict p o → o ≡ Some c → Answered gives p all c
   unfolding Answered
   asked_found k now all d o c asked less given taken is = asked.each c (subst (λ fs. Answered gives p fs c) (sym (drop-cons now k d less)) (o, given, inl (taken, is)))
 

@@ -14,7 +14,7 @@ use Rattle.text.specs.Parts.{parts_of}
 use Rattle.text.specs.Decimal.{decimal_value}
 use Rattle.text.proofs.Numbers.{decimal_value-decimal, decimal_without, length_of_number}
 use Rattle.far.specs.Limits.{size_limit}
-use Rattle.far.specs.Automata.{Automata, AreAutomata, AreWithin as AreSized}
+use Rattle.far.specs.Automata.{Automata, AreAutomata, AreSized}
 use Rattle.far.specs.Texts.{delta_text, rows_text, hex_text, fields_text}
 use Rattle.far.specs.Tests.{are_texts}
 use Rattle.far.proofs.RoundTrip.{texts_back, same_back, bytes_from_comma}

@@ -5,12 +5,12 @@ use Rattle.cert.specs.Claim.{Claim, NoClaim, shown_by}
 use Rattle.cert.specs.Certified.{IsCertified}
 
 -- what a finder gives for a table is taken: a claim that says something and is certified
-abbrev pub IsTaken : Packed → Option Claim → Type 0
-IsTaken p None = ⊥
-IsTaken p (Some c) = IsSome (shown_by c) × IsCertified (record { table = p; claim = c })
+abbrev pub ShowsVerdict : Packed → Option Claim → Type 0
+ShowsVerdict p None = ⊥
+ShowsVerdict p (Some c) = IsSome (shown_by c) × IsCertified (record { table = p; claim = c })
 
 -- finders are asked in turn, each gives a claim or none, and the first that is taken is the answer; where none
 -- is, nothing is claimed
 unfoldable pub Answered : {F : Type 0} → (F → Option Claim → Type 0) → Packed → List F → Claim → Type 0
 Answered gives p [] c = c ≡ NoClaim
-Answered gives p (f ∷ fs) c = (o : Option Claim) × gives f o × ((IsTaken p o × (o ≡ Some c)) ⊎ ((IsTaken p o → ⊥) × Answered gives p fs c))
+Answered gives p (f ∷ fs) c = (o : Option Claim) × gives f o × ((ShowsVerdict p o × (o ≡ Some c)) ⊎ ((ShowsVerdict p o → ⊥) × Answered gives p fs c))

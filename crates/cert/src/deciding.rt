@@ -1,6 +1,6 @@
 // From finders to a record that is certified.
 ghost use Rattle.std.specs.Prelude.{◌≡◌, ◌↔◌, IsTrue, Option, Some, IfOk, MatchOption};
-ghost use Rattle.cert.specs.Asking.{Answered, IsTaken};
+ghost use Rattle.cert.specs.Asking.{Answered, ShowsVerdict};
 ghost use Rattle.cert.specs.Certified.{IsCertified};
 ghost use Rattle.cert.specs.Claim.{Claim};
 ghost use Rattle.cert.specs.Kinds.{owned_claim, owned_recorded};
@@ -11,7 +11,7 @@ use crate::judgement::judge;
 use crate::record::{OwnedRecord, Record};
 use evidence::{NoMemory, Refused};
 use machine_text::Table;
-use std::alloc::{AllocError, Global};
+use std::alloc::Global;
 
 /// A record of the table with the first certificate that stands of those that the finders give, asked in
 /// their order; undecided where none does. Each certificate is judged, whatever finder gave it, and none
@@ -46,7 +46,7 @@ fn taken<F: Finder>(
     budget: u64,
 ) -> Result<Option<OwnedRecord>, NoMemory>
     ensures { IfOk result (λ o. (given : Option Claim) × F.gives finder.old t.now budget given
-        × MatchOption o (IsTaken t.now given → ⊥) (λ r. (r.table ≡ t.now) × IsTaken t.now given × (given ≡ Some (owned_claim r.certificate)))) }
+        × MatchOption o (ShowsVerdict t.now given → ⊥) (λ r. (r.table ≡ t.now) × ShowsVerdict t.now given × (given ≡ Some (owned_claim r.certificate)))) }
 {
     match finder.find(t, budget)? {
         Some(certificate) => {
@@ -66,7 +66,7 @@ fn taken<F: Finder>(
 
 // Whether a record claims something, and that stands.
 fn is_decided(alloc: Global, r: &OwnedRecord) -> Result<bool, NoMemory>
-    ensures { IfOk result (λ decided. IsTrue decided ↔ IsTaken r.now.table (Some (owned_claim r.now.certificate))) }
+    ensures { IfOk result (λ decided. IsTrue decided ↔ ShowsVerdict r.now.table (Some (owned_claim r.now.certificate))) }
 {
     // The parts by their names: the borrow checker's proof has to know of what the record is made.
     let record = Record {
@@ -75,7 +75,7 @@ fn is_decided(alloc: Global, r: &OwnedRecord) -> Result<bool, NoMemory>
     };
     match judge(alloc, &record) {
         Ok(verdict) => Ok(verdict.is_some()),
-        Err(Refused::NoMemory) => Err(AllocError),
+        Err(Refused::NoMemory) => Err(NoMemory),
         Err(_) => Ok(false),
     }
 }

@@ -28,7 +28,7 @@ use Rattle.leases.specs.Leases.{Leased}
 use Rattle.roles.specs.Says.{Says, lines_of}
 use Rattle.roles.specs.Kept.{cut_of, kept_bytes}
 use Rattle.coordinator.specs.Starts.{Begins, HeldInStep, InStep, header_line, header_due}
-use Rattle.coordinator.specs.Inside.Begun.{BeginsSo, HoldsBoard}
+use Rattle.coordinator.specs.inside.Begun.{BeginsSo, HoldsBoard}
 use Rattle.coordinator.specs.CoordinatorRules.{Coordinating, HeldGives, On, OfferRow, DoneRow, MessageRow, FrameRow, Row}
 
 abbrev Stands : Contents → List ℕ → Type 0

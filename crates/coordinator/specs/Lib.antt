@@ -1,4 +1,4 @@
-pub mod Inside
+pub mod inside
 pub mod CoordinatorRules
 pub mod Starts
 pub mod CoordinatorLaws

@@ -5,7 +5,7 @@ ghost use Rattle.wire.specs.Grammar.{message_of};
 ghost use Rattle.wire.specs.Happening.{seen};
 ghost use Rattle.wire.specs.Message.{Ask};
 ghost use Rattle.coordinator.specs.CoordinatorRules.{Gives};
-ghost use Rattle.coordinator.specs.Inside.Answering.{GivesFrame, GivesMessage, GivesOffer, GivesDone};
+ghost use Rattle.coordinator.specs.inside.Answering.{GivesFrame, GivesMessage, GivesOffer, GivesDone};
 
 use crate::frames::{GRANT_BYTES, ack_frame, later_frame, put_reply};
 use crate::known::is_known;

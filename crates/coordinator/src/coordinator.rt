@@ -6,7 +6,7 @@ ghost use Rattle.wire.specs.Carried.{text_after};
 ghost use Rattle.leases.specs.Leases.{AreLeases, Leased};
 ghost use Rattle.coordinator.specs.CoordinatorRules.{On};
 ghost use Rattle.coordinator.specs.Starts.{Starts, InStep};
-ghost use Rattle.coordinator.specs.Inside.Begun.{HoldsBoard};
+ghost use Rattle.coordinator.specs.inside.Begun.{HoldsBoard};
 
 use crate::answering::answer;
 use crate::starting::begun;

@@ -5,7 +5,7 @@ ghost use Rattle.machine_text.specs.Packed.{Packed, empty_table};
 ghost use Rattle.ledger.specs.LedgerText.{LoadGives};
 ghost use Rattle.coordinator.specs.Starts.{Begins, header_due};
 ghost use Rattle.roles.specs.Kept.{kept_bytes};
-ghost use Rattle.coordinator.specs.Inside.Begun.{BeginsSo};
+ghost use Rattle.coordinator.specs.inside.Begun.{BeginsSo};
 
 use evidence::NoMemory;
 use leases::LeasedBoard;

@@ -10,7 +10,7 @@ use ledger_commands::{Host, LedgerAt, Opened, cmd_merge, cmd_report, cmd_retry, 
 use line_commands::{cmd_check, cmd_decide};
 use node_commands::{NoLedger, Run, cmd_coord, cmd_run};
 use options::{Beginning, Ended, Options, Outcome, Search, Settling};
-use std::alloc::{AllocError, Global};
+use std::alloc::Global;
 use std::io::{self, Empty, Read, Write};
 use std::time::Clock;
 use wire::Node;
@@ -91,7 +91,7 @@ fn settle<H: Host + Clock, W: Write, E: Write>(
         let (worker, started) = Worker::over(alloc, id, b"", finders);
         // An empty ledger is refused for want of memory alone.
         if started.is_err() {
-            return Err(AllocError);
+            return Err(NoMemory);
         }
         workers.push(worker)?;
     }

@@ -7,7 +7,7 @@ use Rattle.std.proofs.lemmas.Int.Digits.{length-digits_of-le}
 use Rattle.std.proofs.lemmas.List.{length-map, length-append}
 use Rattle.std.proofs.Math.Nat.{mul-le-mul}
 use Rattle.std.proofs.Math.Pow.{pow_mono}
-use Rattle.far.specs.Automata.{Automata, AreAutomata, AreWithin}
+use Rattle.far.specs.Automata.{Automata, AreAutomata, AreSized}
 use Rattle.far.specs.Texts.{hex_glyph, hex_text, delta_text, rows_text, fields_text}
 use Rattle.far.proofs.RoundTrip.{text_of_some, text_of_none}
 
@@ -35,7 +35,7 @@ digits_of_set last n few small =
     let most : 2 ^ (last + 1) ≤ 2 ^ 49 = pow_mono {i = last + 1} {j = 49} (omega arith) in
     omega (arith, most, small)
 
-pub fields_are_short : (a : Automata) → AreWithin a → AreAutomata a → length (fields_text a) ≤ 1400
+pub fields_are_short : (a : Automata) → AreSized a → AreAutomata a → length (fields_text a) ≤ 1400
 unfolding fields_text
 fields_are_short a within numbers =
     let few : a.size * a.states ≤ 8 * 6 = mul-le-mul within.small within.few in

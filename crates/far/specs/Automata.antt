@@ -5,7 +5,7 @@ use Rattle.machine_text.specs.declared.transition.Sym.{Sym}
 use Rattle.machine_text.specs.declared.transition.Dir.{Dir}
 use Rattle.machine_text.specs.Packed.{Packed, symbol_number, entry_of}
 use Rattle.machine_text.specs.Limits.{state_limit}
-use Rattle.turing.specs.Automata.{Node, At, Halt, Automata as Tests, Fits}
+use Rattle.turing.specs.Automata.{Node, At, Halt, TwoAutomata as Tests, Fits}
 use Rattle.far.specs.Limits.{size_limit}
 
 -- what they were made for, which way is ahead, the size of the first automaton, where it goes from state q on
@@ -63,7 +63,7 @@ pub record AreAutomata (a : Automata) : Type 0 where
   pub kept : a.keep < 2 ^ (a.size * a.states + 1)
 
 -- the first automaton has no more states than may be, and so have the tables for which they are made
-pub record AreWithin (a : Automata) : Type 0 where
+pub record AreSized (a : Automata) : Type 0 where
   pub some : 1 ≤ a.size
   pub small : a.size ≤ size_limit
   pub made : 1 ≤ a.states

@@ -2,7 +2,7 @@
 ghost use Rattle.std.specs.Prelude.{◌≡◌, ◌+◌, ◌*◌, ◌≤◌, take};
 ghost use Rattle.machine_text.specs.Limits.{state_limit};
 ghost use Rattle.far.specs.Limits.{size_limit};
-ghost use Rattle.far.specs.Automata.{automata, AreAutomata, AreWithin};
+ghost use Rattle.far.specs.Automata.{automata, AreAutomata, AreSized};
 
 use crate::hexadecimal::hex_number;
 use crate::limits::{MAX_MOVES, MAX_ROWS, MAX_SIZE, Set};
@@ -112,7 +112,7 @@ impl Far {
         ensures states { result ≡ (automata_of self.now).states }
         ensures within { (1 ≤ result) × (result ≤ state_limit) }
         ensures numbers { AreAutomata (automata_of self.now) }
-        ensures limits { AreWithin (automata_of self.now) }
+        ensures limits { AreSized (automata_of self.now) }
     {
         self.states
     }

@@ -1,6 +1,6 @@
 // Laws of the texts of automata.
 ghost use Rattle.std.specs.Prelude.{◌≡◌, ◌≤◌, ℕ, List, All, Decides, length};
-ghost use Rattle.far.specs.Automata.{Automata, AreAutomata, AreWithin};
+ghost use Rattle.far.specs.Automata.{Automata, AreAutomata, AreSized};
 ghost use Rattle.far.specs.Tests.{are_texts};
 ghost use Rattle.far.specs.Texts.{AreTexts, automata_by, delta_text, rows_text, hex_text, fields_text};
 
@@ -11,7 +11,7 @@ pub fn texts_read_back()
         AreTexts a.states a.size (delta_text a.delta) (rows_text a.rows) (hex_text a.keep) }
     ensures same { (a : Automata) → 1 ≤ a.size → 1 ≤ a.states → AreAutomata a →
         automata_by a.states a.side a.size (delta_text a.delta) (rows_text a.rows) (hex_text a.keep) ≡ a }
-    ensures short { (a : Automata) → AreWithin a → AreAutomata a → length (fields_text a) ≤ 1400 }
+    ensures short { (a : Automata) → AreSized a → AreAutomata a → length (fields_text a) ≤ 1400 }
     ensures bytes { (a : Automata) →
         All (λ b. 44 ≤ b) (delta_text a.delta) × All (λ b. 44 ≤ b) (rows_text a.rows) × All (λ b. 44 ≤ b) (hex_text a.keep) }
 {}

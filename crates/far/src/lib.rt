@@ -7,10 +7,11 @@
 //! `specs/inside` is for the crate's own code.
 #![tactic(auto)]
 
+mod append_fields;
 mod copies;
 mod far;
 mod far_finder;
-mod fitting;
+mod fits;
 mod growing;
 mod hexadecimal;
 mod laws;
@@ -18,7 +19,6 @@ mod limits;
 mod numbers;
 mod owned_far;
 mod sets;
-mod writing;
 
 pub use far::Far;
 pub use far_finder::FarFinder;

@@ -12,7 +12,7 @@ use Rattle.machine_text.specs.declared.transition.Dir.TheVariants.{L, R}
 use Rattle.machine_text.specs.declared.transition.Entry.{Entry}
 use Rattle.machine_text.specs.Packed.{Packed, IsTable, symbol_of, entry_of}
 use Rattle.machine_text.specs.Text.{symbol_byte, direction_byte, text_of}
-use Rattle.machine_text.specs.Inside.{entry_byte, byte_at}
+use Rattle.machine_text.specs.inside.{entry_byte, byte_at}
 use Rattle.machine_text.proofs.Rows.{length-text_of, get_or-text_of}
 use Rattle.machine_text.proofs.RoundTrip.{next_within}
 

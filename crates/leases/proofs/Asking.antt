@@ -6,7 +6,7 @@ use Rattle.machine_text.specs.Packed.{Packed}
 use Rattle.ledger.specs.Contents.{Contents}
 use Rattle.leases.specs.Asks.{IsFree}
 use Rattle.leases.specs.Leases.{AreLeases, is_live, came_under, while_live}
-use Rattle.leases.specs.Inside.Keeping.{KeptLease, held, seen, is_numbered, without, AreAmongFree, IsKept, IsOwn}
+use Rattle.leases.specs.inside.Keeping.{KeptLease, held, seen, is_numbered, without, AreAmongFree, IsKept, IsOwn}
 use Rattle.leases.proofs.Ending.{ended_holds}
 use Rattle.leases.proofs.Granting.{given_all}
 use Rattle.leases.proofs.LiveLaws.{live_without, of_others}

@@ -9,10 +9,10 @@ use Rattle.std.proofs.lemmas.List.Sorted.{Contains-permutation, sum_by_pushed, s
 use Rattle.std.proofs.lemmas.Option.{same_Some}
 use Rattle.ledger.proofs.Apart.{first_or_later, later_member, first_member}
 use Rattle.leases.specs.Leases.{Lease, SomeEnds}
-use Rattle.leases.specs.Inside.Keeping.{KeptLease, kept, held, has_ended, without, is_numbered, AreDue}
-use Rattle.leases.specs.Inside.Deadlines.{entry, is_past, TakesPast, Awaits, AreAwaited, AreAwaitedBut, HaveEnded, SomePast, AreNotAhead}
+use Rattle.leases.specs.inside.Keeping.{KeptLease, kept, held, has_ended, without, is_numbered, AreDue}
+use Rattle.leases.specs.inside.Deadlines.{entry, is_past, TakesPast, Awaits, AreAwaited, AreAwaitedBut, HaveEnded, SomePast, AreNotAhead}
 use Rattle.leases.specs.declared.held_leases.HeldLease.{HeldLease}
-use Rattle.leases.specs.Inside.Children.{shown}
+use Rattle.leases.specs.inside.Children.{shown}
 use Rattle.machine_text.specs.Packed.{Packed}
 use Rattle.std.proofs.Math.ListN.{set}
 use Rattle.std.proofs.Math.Nat.{le-max_left}

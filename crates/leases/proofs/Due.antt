@@ -9,7 +9,7 @@ use Rattle.std.proofs.lemmas.Bool.{eqb-true, eq-eqb, leb-true}
 use Rattle.ledger.proofs.Apart.{first_member, later_member, first_or_later}
 use Rattle.machine_text.specs.Packed.{Packed}
 use Rattle.leases.specs.Leases.{Lease, SomeEnds, is_live}
-use Rattle.leases.specs.Inside.Keeping.{KeptLease, kept, held, has_ended, without, are_numbered, without_each, AreDue, AreAmongFree}
+use Rattle.leases.specs.inside.Keeping.{KeptLease, kept, held, has_ended, without, are_numbered, without_each, AreDue, AreAmongFree}
 use Rattle.leases.specs.declared.held_leases.HeldLease.{HeldLease}
 use Rattle.leases.proofs.FreeLaws.{mapped, unmapped}
 use Rattle.leases.proofs.LiveLaws.{member_at}

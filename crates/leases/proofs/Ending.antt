@@ -6,7 +6,7 @@ use Rattle.machine_text.specs.Packed.{Packed}
 use Rattle.ledger.specs.Contents.{Contents}
 use Rattle.leases.specs.Asks.{IsReply, Asks}
 use Rattle.leases.specs.Leases.{Lease, Leases, Leased, AreLeases, is_live, came_under, while_live, ended}
-use Rattle.leases.specs.Inside.Keeping.{KeptLease, held, seen, AreAmongFree, IsKept}
+use Rattle.leases.specs.inside.Keeping.{KeptLease, held, seen, AreAmongFree, IsKept}
 use Rattle.leases.specs.declared.reply.Reply.{Reply}
 use Rattle.leases.proofs.Members.{filter_member, in_filter, found_live, member_lives}
 use Rattle.leases.proofs.OfferLaws.{KeepsAll}

@@ -7,7 +7,7 @@ use Rattle.std.specs.declared.cmp.Reverse.{Reverse}
 use Rattle.std.proofs.lemmas.List.Elements.{All-from_recursion, All-contains}
 use Rattle.std.proofs.lemmas.List.Sorted.{Contains-permutation}
 use Rattle.machine_text.specs.Packed.{Packed}
-use Rattle.ledger.specs.Inside.Open.{table_cmp}
+use Rattle.ledger.specs.inside.Open.{table_cmp}
 use Rattle.ledger.proofs.Apart.{first_or_later, later_member, first_member}
 use Rattle.ledger.specs.Records.{same_table}
 use Rattle.ledger.proofs.Same.{same_is, same_at, not_same}
@@ -15,7 +15,7 @@ use Rattle.indexmap.specs.IndexSet.{insert_key}
 use Rattle.indexmap.proofs.CallerLemmas.{Contains-insert_key, Contains-list_any}
 use Rattle.std.specs.List.{list_any}
 use Rattle.std.proofs.lemmas.List.Elements.{Contains-append_left}
-use Rattle.leases.specs.Inside.Free.{ComesIn, IsOnTop, LosesOnly, reverse_cmp}
+use Rattle.leases.specs.inside.Free.{ComesIn, IsOnTop, LosesOnly, reverse_cmp}
 
 -- the members of a list under a map
 pub mapped : {X Y : Type 0} (f : X → Y) (xs : List X) (x : X) → Contains xs x → Contains (map f xs) (f x)

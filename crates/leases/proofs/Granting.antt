@@ -13,8 +13,8 @@ use Rattle.ledger.proofs.Apart.{first_member}
 use Rattle.ledger.proofs.Same.{same_is, same_at, not_same, apart}
 use Rattle.leases.specs.Leases.{Lease, AreLeases, is_live, came_under, while_live}
 use Rattle.leases.specs.Asks.{IsFree, Grants}
-use Rattle.leases.specs.Inside.Children.{ComesUnder}
-use Rattle.leases.specs.Inside.Keeping.{KeptLease, held, seen, IsKept}
+use Rattle.leases.specs.inside.Children.{ComesUnder}
+use Rattle.leases.specs.inside.Keeping.{KeptLease, held, seen, IsKept}
 use Rattle.leases.proofs.Members.{or_later}
 
 -- which leases live, with one more

@@ -18,11 +18,11 @@ use Rattle.std.proofs.lemmas.Map.Views.{All-found, Contains-from_lookup}
 use Rattle.std.proofs.lemmas.Option.{same_Some}
 use Rattle.ledger.proofs.Apart.{first_member, later_member}
 use Rattle.leases.specs.Leases.{is_live}
-use Rattle.leases.specs.Inside.Keeping.{KeptLease, kept, held, is_numbered, without, AreOfWorkers, IsOwn, AreAmongFree}
+use Rattle.leases.specs.inside.Keeping.{KeptLease, kept, held, is_numbered, without, AreOfWorkers, IsOwn, AreAmongFree}
 use Rattle.machine_text.specs.Packed.{Packed}
 use Rattle.std.proofs.lemmas.List.{length-map}
 use Rattle.leases.specs.declared.held_leases.HeldLease.{HeldLease}
-use Rattle.leases.specs.Inside.Children.{HasRoomForChildren}
+use Rattle.leases.specs.inside.Children.{HasRoomForChildren}
 use Rattle.leases.proofs.Members.{found_live}
 use Rattle.leases.proofs.FreeLaws.{mapped, unmapped}
 

@@ -7,7 +7,7 @@ use Rattle.std.proofs.lemmas.List.{get_or-set_same, get_or-set_other, get_or-map
 use Rattle.std.proofs.Math.ListN.{set, length-set}
 use Rattle.std.proofs.lemmas.List.Elements.{All-head, All-tail, All-map, Contains-get_or}
 use Rattle.leases.specs.Limits.{lease_time}
-use Rattle.leases.specs.Inside.Children.{shown, Renews}
+use Rattle.leases.specs.inside.Children.{shown, Renews}
 use Rattle.leases.proofs.FreeLaws.{mapped, unmapped}
 use Rattle.leases.proofs.Members.{member_lives}
 use Rattle.std.proofs.lemmas.Option.{same_Some}
@@ -25,7 +25,7 @@ use Rattle.ledger.specs.declared.faults.OfferFault.TheVariants.{WrongSize, NotOp
 use Rattle.ledger.proofs.Same.{not_same, apart}
 use Rattle.leases.specs.Leases.{Lease, AreLeases, is_live, came_under, while_live}
 use Rattle.leases.specs.Offers.{renewed, TakesNew, TakesSettled}
-use Rattle.leases.specs.Inside.Keeping.{KeptLease, held, seen, IsKept}
+use Rattle.leases.specs.inside.Keeping.{KeptLease, held, seen, IsKept}
 use Rattle.leases.proofs.ChildLaws.{Opens}
 use Rattle.leases.proofs.OfferLaws.{KeepsAll}
 

@@ -2,4 +2,4 @@ pub mod Limits
 pub mod Leases
 pub mod Asks
 pub mod Offers
-pub mod Inside
+pub mod inside

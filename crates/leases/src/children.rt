@@ -9,8 +9,8 @@ ghost use Rattle.indexmap.specs.IndexSet.{spare as spare_of};
 ghost use Rattle.ledger.specs.Contents.{IsOpenOn};
 ghost use Rattle.leases.specs.Leases.{came_under};
 ghost use Rattle.leases.specs.Limits.{child_limit};
-ghost use Rattle.leases.specs.Inside.Children.{CameOnly, ComesUnder};
-ghost use Rattle.leases.specs.Inside.Free.{ComesIn};
+ghost use Rattle.leases.specs.inside.Children.{CameOnly, ComesUnder};
+ghost use Rattle.leases.specs.inside.Free.{ComesIn};
 
 use crate::free_tables::FreeTables;
 use indexmap::{IndexMap, IndexSet};

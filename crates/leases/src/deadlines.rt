@@ -2,7 +2,7 @@
 ghost use Rattle.std.specs.Prelude.{◌≡◌, ℕ, ◌+◌, ◌<◌, ◌≤◌, ◌∷◌, [], Contains, OnOk, IfSome, IfNone, false};
 ghost use Rattle.std.specs.List.Sorted.{IsPermutation};
 ghost use Rattle.std.specs.declared.cmp.Reverse.{Reverse};
-ghost use Rattle.leases.specs.Inside.Deadlines.{entry, is_past, TakesPast};
+ghost use Rattle.leases.specs.inside.Deadlines.{entry, is_past, TakesPast};
 
 use crate::held_leases::is_due;
 use evidence::NoMemory;
@@ -20,7 +20,7 @@ pub struct Deadlines {
 impl Model for Deadlines {
     ghost use Rattle.std.specs.Prelude.{◌-◌};
     ghost use Rattle.std.specs.BinaryHeap.{heap_items, heap_len, heap_capacity, IsHeap};
-    ghost use Rattle.leases.specs.Inside.Deadlines.{Waiting, later_cmp};
+    ghost use Rattle.leases.specs.inside.Deadlines.{Waiting, later_cmp};
 
     ghost Value = { Waiting };
 

@@ -4,7 +4,7 @@ ghost use Rattle.std.specs.Ordering.{nat_cmp};
 ghost use Rattle.std.specs.List.Sorted.{IsPermutation};
 ghost use Rattle.std.specs.BTreeMap.{get as lease_at};
 ghost use Rattle.std.specs.declared.cmp.Reverse.{Reverse};
-ghost use Rattle.leases.specs.Inside.Deadlines.{AreAwaited, AreAwaitedBut, HaveEnded, SomePast, entry, is_past};
+ghost use Rattle.leases.specs.inside.Deadlines.{AreAwaited, AreAwaitedBut, HaveEnded, SomePast, entry, is_past};
 ghost use Rattle.leases.specs.declared.held_leases.HeldLease.{HeldLease};
 
 use crate::deadlines::Deadlines;

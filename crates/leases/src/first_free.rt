@@ -4,7 +4,7 @@ ghost use Rattle.machine_text.specs.Packed.{Packed};
 ghost use Rattle.ledger.specs.Contents.{IsOpenOn};
 ghost use Rattle.leases.specs.Leases.{came_under, while_live};
 ghost use Rattle.leases.specs.Asks.{IsFree, IsFirstFree};
-ghost use Rattle.leases.specs.Inside.Keeping.{held, seen, without};
+ghost use Rattle.leases.specs.inside.Keeping.{held, seen, without};
 
 use crate::free_tables::FreeTables;
 use crate::held_leases::is_numbered;

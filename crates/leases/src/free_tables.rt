@@ -2,8 +2,8 @@
 ghost use Rattle.std.specs.Prelude.{◌≡◌, ℕ, ◌+◌, ◌<◌, ◌≤◌, [], Contains, OnOk, OnErr, IsOk, IfSome, IfNone, false, length};
 ghost use Rattle.std.specs.Ordering.{is_lt};
 ghost use Rattle.machine_text.specs.Packed.{Packed};
-ghost use Rattle.ledger.specs.Inside.Open.{table_cmp};
-ghost use Rattle.leases.specs.Inside.Free.{ComesIn, IsOnTop, LosesOnly};
+ghost use Rattle.ledger.specs.inside.Open.{table_cmp};
+ghost use Rattle.leases.specs.inside.Free.{ComesIn, IsOnTop, LosesOnly};
 
 use evidence::NoMemory;
 use machine_text::Table;
@@ -21,7 +21,7 @@ pub struct FreeTables {
 impl Model for FreeTables {
     ghost use Rattle.std.specs.Prelude.{◌-◌, map};
     ghost use Rattle.std.specs.BinaryHeap.{heap_items, heap_len, heap_capacity, IsHeap};
-    ghost use Rattle.leases.specs.Inside.Free.{Free, reverse_cmp};
+    ghost use Rattle.leases.specs.inside.Free.{Free, reverse_cmp};
 
     ghost Value = { Free };
 

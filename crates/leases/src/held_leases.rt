@@ -2,7 +2,7 @@
 ghost use Rattle.std.specs.Prelude.{◌≡◌, ◌+◌, ◌∷◌, [], nat_le, Contains, IfOk, OnOk};
 ghost use Rattle.machine_text.specs.Packed.{Packed};
 ghost use Rattle.leases.specs.Limits.{lease_time};
-ghost use Rattle.leases.specs.Inside.Keeping.{is_numbered};
+ghost use Rattle.leases.specs.inside.Keeping.{is_numbered};
 
 use crate::free_tables::FreeTables;
 use crate::limits::LEASE_TIME;

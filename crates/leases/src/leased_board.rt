@@ -35,8 +35,8 @@ pub struct LeasedBoard {
 
 impl Model for LeasedBoard {
     ghost use Rattle.leases.specs.Leases.{Leased, AreLeases};
-    ghost use Rattle.leases.specs.Inside.Keeping.{seen, IsKept};
-    ghost use Rattle.leases.specs.Inside.Deadlines.{AreNotAhead};
+    ghost use Rattle.leases.specs.inside.Keeping.{seen, IsKept};
+    ghost use Rattle.leases.specs.inside.Deadlines.{AreNotAhead};
 
     ghost Value = { Leased };
 

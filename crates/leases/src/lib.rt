@@ -3,7 +3,7 @@
 //! renewed. A lease ends at its deadline, when its worker asks again or is done.
 //!
 //! `specs/Leases` says what leases are and how they end, `specs/Asks` what a worker that asks is answered,
-//! `specs/Offers` what becomes of the leases when a record is offered. `specs/Inside` and `proofs` are for the
+//! `specs/Offers` what becomes of the leases when a record is offered. `specs/inside` and `proofs` are for the
 //! code alone.
 #![tactic(auto)]
 

@@ -7,9 +7,9 @@ ghost use Rattle.machine_text.specs.Packed.{Packed};
 ghost use Rattle.indexmap.specs.IndexMap.{spare};
 ghost use Rattle.leases.specs.Leases.{SomeEnds, is_live};
 ghost use Rattle.leases.specs.Limits.{child_limit};
-ghost use Rattle.leases.specs.Inside.Keeping.{KeptLease, kept, held, is_numbered, without, are_numbered, without_each, AreDue, AreAmongFree, IsOwn};
-ghost use Rattle.leases.specs.Inside.Children.{Renews, RenewsOne, HasRoomForChildren, shown};
-ghost use Rattle.leases.specs.Inside.Deadlines.{AreNotAhead};
+ghost use Rattle.leases.specs.inside.Keeping.{KeptLease, kept, held, is_numbered, without, are_numbered, without_each, AreDue, AreAmongFree, IsOwn};
+ghost use Rattle.leases.specs.inside.Children.{Renews, RenewsOne, HasRoomForChildren, shown};
+ghost use Rattle.leases.specs.inside.Deadlines.{AreNotAhead};
 
 use crate::children::lease_children;
 use crate::deadlines::Deadlines;
@@ -40,8 +40,8 @@ impl Model for LiveLeases {
     ghost use Rattle.std.specs.Ordering.{nat_cmp};
     ghost use Rattle.std.specs.BTreeMap.{get as lease_at, IsOrdered};
     ghost use Rattle.indexmap.specs.IndexMap.{get as number_of};
-    ghost use Rattle.leases.specs.Inside.Keeping.{KeptLease, kept, AreOfWorkers};
-    ghost use Rattle.leases.specs.Inside.Deadlines.{AreAwaited};
+    ghost use Rattle.leases.specs.inside.Keeping.{KeptLease, kept, AreOfWorkers};
+    ghost use Rattle.leases.specs.inside.Deadlines.{AreAwaited};
 
     ghost Value = { List KeptLease };
 

@@ -6,7 +6,7 @@ use Rattle.std.proofs.lemmas.List.Sums.{fold-append}
 use Rattle.machine_text.specs.Packed.{Packed, IsTable}
 use Rattle.evidence.specs.declared.verdicts.Verdict.{Verdict}
 use Rattle.evidence.specs.declared.verdicts.Verdict.TheVariants.{Halts, Never}
-use Rattle.tree.specs.Closed.{Mark, Halting, NonHalting, Holdout, IsVerdict, IsOpen}
+use Rattle.tree.specs.Closed.{Mark, Halting, NeverHalting, Holdout, IsVerdict, IsOpen}
 use Rattle.tree.proofs.TableLaws.{tree_alike, tree_table_child}
 use Rattle.cert.specs.Claim.{Claim, Recorded, shown_by}
 use Rattle.cert.specs.Certified.{IsCertified}
@@ -235,7 +235,7 @@ verdict_marked (Some m) v e = cc
 verdict_holdout : (o : Option Mark) → IsVerdict o → o ≡ Some Holdout → ⊥
 verdict_holdout None v e = v
 verdict_holdout (Some (Halting k)) v e = cc
-verdict_holdout (Some NonHalting) v e = cc
+verdict_holdout (Some NeverHalting) v e = cc
 verdict_holdout (Some Holdout) v e = v
 
 pub fit_or_known : (root : Packed) (rs : List Recorded) (r : Recorded) → IsFit root rs r ⊎ Settles rs r → IsKnown rs r → ⊥

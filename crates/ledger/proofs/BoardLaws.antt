@@ -13,11 +13,11 @@ use Rattle.tree.specs.Tables.{InTableTree}
 use Rattle.cert.specs.Claim.{Recorded, shown_by}
 use Rattle.ledger.specs.Records.{claim_in, mark_in, mark_of}
 use Rattle.ledger.specs.Held.{IsHoldout}
-use Rattle.ledger.specs.Inside.Open.{table_cmp, IsOpenMap}
+use Rattle.ledger.specs.inside.Open.{table_cmp, IsOpenMap}
 use Rattle.ledger.specs.Contents.{Contents, IsBoard}
 use Rattle.ledger.specs.Tally.{AreAll, AreSoMany, IsGreatestCount, IsChampion}
-use Rattle.ledger.specs.Inside.Counting.{is_undecided, undecided_table, is_champion, champion_table, steps_of, tables_with}
-use Rattle.ledger.specs.Inside.Keeping.{entry_recorded, records_of}
+use Rattle.ledger.specs.inside.Counting.{is_undecided, undecided_table, is_champion, champion_table, steps_of, tables_with}
+use Rattle.ledger.specs.inside.Keeping.{entry_recorded, records_of}
 use Rattle.ledger.specs.declared.kept.Kept.{Kept}
 use Rattle.ledger.proofs.Apart.{AreApart, held_apart, chosen_once}
 use Rattle.ledger.proofs.Numbers.{holdouts_listed, halts_listed}

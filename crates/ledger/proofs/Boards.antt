@@ -14,9 +14,9 @@ use Rattle.cert.specs.Kinds.{owned_claim}
 use Rattle.ledger.specs.Records.{same_table, claim_in, mark_in}
 use Rattle.ledger.specs.Held.{IsHoldout, Settles, settled}
 use Rattle.ledger.specs.Contents.{IsBoard}
-use Rattle.ledger.specs.Inside.Keeping.{entry_recorded, records_of, KnowsPair}
-use Rattle.ledger.specs.Inside.Counting.{IsCounted, with_shown, without_holdout, is_halting, is_never, is_undecided}
-use Rattle.ledger.specs.Inside.Open.{table_cmp, others, IsOpenMap, IsNewChild}
+use Rattle.ledger.specs.inside.Keeping.{entry_recorded, records_of, KnowsPair}
+use Rattle.ledger.specs.inside.Counting.{IsCounted, with_shown, without_holdout, is_halting, is_never, is_undecided}
+use Rattle.ledger.specs.inside.Open.{table_cmp, others, IsOpenMap, IsNewChild}
 use Rattle.ledger.specs.declared.kept.Kept.{Kept}
 use Rattle.ledger.specs.declared.counts.Counts.{Counts}
 use Rattle.ledger.proofs.Entries.{no_entry, an_entry, entry_last, entry_settled, inserted_pairs, holdout_shows}

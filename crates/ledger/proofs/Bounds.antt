@@ -8,7 +8,7 @@ use Rattle.turing.specs.Halting.{HaltsAt, Never}
 use Rattle.turing.proofs.TableLaws.{table_machine}
 use Rattle.evidence.specs.declared.verdicts.Verdict.{Verdict}
 use Rattle.evidence.specs.declared.verdicts.Verdict.TheVariants.{Halts, Never as NeverHalts}
-use Rattle.tree.specs.Closed.{Mark, Halting, NonHalting, Holdout, IsTrueMark, AreTrueMarks, IsVerdict, IsOpen, IsClosed, IsGreatestRecorded}
+use Rattle.tree.specs.Closed.{Mark, Halting, NeverHalting, Holdout, IsTrueMark, AreTrueMarks, IsVerdict, IsOpen, IsClosed, IsGreatestRecorded}
 use Rattle.tree.specs.Tables.{IsChildTable, InTableTree, Itself, OfChild, IsBestOfTable}
 use Rattle.tree.proofs.TableLaws.{child_alike, child_map}
 use Rattle.tree.proofs.TreeLaws.{child_holes}
@@ -65,17 +65,17 @@ pub record IsGreatestBefore (root : Packed) (marks : Packed → Option Mark) (p 
 
 -- the marks are true
 module _ (root : Packed) (marks : Packed → Option Mark) (true_marks : AreTrueMarks marks) where
-  never_halts : (p : Packed) → marks p ≡ Some NonHalting → Never (entry_of p)
+  never_halts : (p : Packed) → marks p ≡ Some NeverHalting → Never (entry_of p)
   never_halts p is = subst (IsTrueMark p) is (true_marks p)
 
-  pub never_is_closed : (p : Packed) → marks p ≡ Some NonHalting → IsClosed root marks p
+  pub never_is_closed : (p : Packed) → marks p ≡ Some NeverHalting → IsClosed root marks p
   never_is_closed p is = record {
     verdict = subst IsVerdict (sym is) tt;
     none_open = λ t inside is_open. let same = ap marks (alone_in_tree p t (never_halts p is) inside) in let none = is_open.unmarked in cc (same, none, is);
     no_holdout = λ t inside holdout. let same = ap marks (alone_in_tree p t (never_halts p is) inside) in cc (same, holdout, is);
   }
 
-  pub never_has_none : (p : Packed) → marks p ≡ Some NonHalting → IsGreatestRecorded (λ (t : Packed) (k : ℕ). k) marks p None
+  pub never_has_none : (p : Packed) → marks p ≡ Some NeverHalting → IsGreatestRecorded (λ (t : Packed) (k : ℕ). k) marks p None
   never_has_none p is = λ t k inside halting. let same = ap marks (alone_in_tree p t (never_halts p is) inside) in cc (same, halting, is)
 
   pub all_left : (p : Packed) (left : List Packed) (k : ℕ) → marks p ≡ Some (Halting k) → ((c : Packed) → Contains left c ↔ IsChildTable p c) → IsGreatestBefore root marks p left k

@@ -17,8 +17,8 @@ use Rattle.cert.specs.Claim.{Claim, Recorded, shown_by}
 use Rattle.cert.specs.Kinds.{owned_claim}
 use Rattle.ledger.specs.Records.{same_table, claim_in, mark_of, mark_by}
 use Rattle.ledger.specs.Held.{IsHoldout, settled}
-use Rattle.ledger.specs.Inside.Keeping.{entry_recorded, records_of, KnowsPair}
-use Rattle.ledger.specs.Inside.Counting.{is_halting}
+use Rattle.ledger.specs.inside.Keeping.{entry_recorded, records_of, KnowsPair}
+use Rattle.ledger.specs.inside.Counting.{is_halting}
 use Rattle.ledger.specs.declared.kept.Kept.{Kept}
 use Rattle.ledger.proofs.Same.{same_is, same_flips}
 use Rattle.ledger.proofs.Claims.{claim_here, claim_past, claim_none, settled_here, settled_past}

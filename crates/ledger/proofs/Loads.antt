@@ -6,7 +6,7 @@ use Rattle.cert.specs.Claim.{Recorded}
 use Rattle.ledger.specs.Records.{same_table}
 use Rattle.ledger.specs.Contents.{Contents}
 use Rattle.ledger.specs.LedgerText.{HasHeader, Keeps, ReadsAs}
-use Rattle.ledger.specs.Inside.HeaderRead.{HeaderGives}
+use Rattle.ledger.specs.inside.HeaderRead.{HeaderGives}
 use Rattle.ledger.specs.declared.left.Left.{Left}
 use Rattle.ledger.proofs.Same.{differ, same_is}
 

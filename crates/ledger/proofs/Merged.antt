@@ -4,7 +4,7 @@ use Rattle.machine_text.specs.Packed.{Packed, entry_of}
 use Rattle.turing.specs.Halting.{Never as NeverHalts}
 use Rattle.evidence.specs.declared.verdicts.Verdict.{Verdict}
 use Rattle.evidence.specs.declared.verdicts.Verdict.TheVariants.{Halts, Never}
-use Rattle.tree.specs.Closed.{Mark, Halting, NonHalting, Holdout, IsTrueMark, AreTrueMarks, IsVerdict, IsOpen, IsComplete}
+use Rattle.tree.specs.Closed.{Mark, Halting, NeverHalting, Holdout, IsTrueMark, AreTrueMarks, IsVerdict, IsOpen, IsComplete}
 use Rattle.cert.specs.Claim.{Claim, Recorded, shown_by}
 use Rattle.cert.proofs.Refusals.{refused_or_certified}
 use Rattle.ledger.specs.Records.{same_table, claim_in, mark_in, mark_of, mark_by, verdict_in, shown_where}
@@ -29,7 +29,7 @@ use Rattle.ledger.proofs.BoardLaws.{OfTables}
 abbrev pub joined : Option Mark → Option Mark → Option Mark
 joined None b = b
 joined (Some (Halting k)) b = Some (Halting k)
-joined (Some NonHalting) b = Some NonHalting
+joined (Some NeverHalting) b = Some NeverHalting
 joined (Some Holdout) None = Some Holdout
 joined (Some Holdout) (Some m) = Some m
 
@@ -39,13 +39,13 @@ AreJoined a b new = (t : Packed) → mark_in new t ≡ joined (mark_in a t) (mar
 joined_none : (o : Option Mark) → joined o None ≡ o
 joined_none None = refl
 joined_none (Some (Halting k)) = refl
-joined_none (Some NonHalting) = refl
+joined_none (Some NeverHalting) = refl
 joined_none (Some Holdout) = refl
 
 joined_verdict : (o b : Option Mark) → IsVerdict o → joined o b ≡ o
 joined_verdict None b v = absurd v
 joined_verdict (Some (Halting k)) b v = refl
-joined_verdict (Some NonHalting) b v = refl
+joined_verdict (Some NeverHalting) b v = refl
 joined_verdict (Some Holdout) b v = absurd v
 
 pub joined_start : (a : List Recorded) → AreJoined a [] a
@@ -130,7 +130,7 @@ one_more root other old left rest cur new r taken board before next gives =
 halting_joined : (o : Option Mark) (p : Packed) (k : ℕ) → IsTrueMark p o → (NeverHalts (entry_of p) → ⊥) → (j : ℕ) × (joined o (Some (Halting k)) ≡ Some (Halting j))
 halting_joined None p k is halts = (k, refl)
 halting_joined (Some (Halting j)) p k is halts = (j, refl)
-halting_joined (Some NonHalting) p k is halts = absurd (halts is)
+halting_joined (Some NeverHalting) p k is halts = absurd (halts is)
 halting_joined (Some Holdout) p k is halts = (k, refl)
 
 open_joined : (root : Packed) (a start cur : List Recorded) (t : Packed) → AreTrueMarks (mark_in a) → AreJoined a start cur → IsOpen root (mark_in start) t → mark_in cur t ≡ None → IsOpen root (mark_in cur) t
@@ -170,7 +170,7 @@ never_refused other old left rest cur new r f below tables true_marks board befo
 abbrev pub shown_mark : Option Mark → Option Verdict
 shown_mark None = None
 shown_mark (Some (Halting k)) = Some (Halts k)
-shown_mark (Some NonHalting) = Some Never
+shown_mark (Some NeverHalting) = Some Never
 shown_mark (Some Holdout) = None
 
 shown_again : (o : Option Verdict) → o ≡ shown_mark (Some (mark_by o))
@@ -187,7 +187,7 @@ verdict_is rs t = elim (claim_in rs t) as (λ o. shown_where o ≡ shown_mark (o
 shows : (o : Option Mark) (v : Verdict) → shown_mark o ≡ Some v → IsVerdict o
 shows None v e = absurd (cc)
 shows (Some (Halting k)) v e = tt
-shows (Some NonHalting) v e = tt
+shows (Some NeverHalting) v e = tt
 shows (Some Holdout) v e = absurd (cc)
 
 -- the law of trees that the code calls
@@ -200,19 +200,19 @@ same_verdict t a b v one is_a is_b verdict is = ap shown_mark (one t a b is_a is
 verdicts_joined : (t : Packed) (a b : Option Mark) (v : Verdict) → OneVerdict → IsTrueMark t a → IsTrueMark t b → (shown_mark (joined a b) ≡ Some v) ↔ ((shown_mark a ≡ Some v) ⊎ (shown_mark b ≡ Some v))
 verdicts_joined t None b v one is_a is_b = (λ e. inr e, λ h. elim h [ inl e ↦ absurd (cc) | inr e ↦ e ])
 verdicts_joined t (Some (Halting k)) b v one is_a is_b = (λ e. inl e, λ h. elim h [ inl e ↦ e | inr e ↦ same_verdict t (Some (Halting k)) b v one is_a is_b tt e ])
-verdicts_joined t (Some NonHalting) b v one is_a is_b = (λ e. inl e, λ h. elim h [ inl e ↦ e | inr e ↦ same_verdict t (Some NonHalting) b v one is_a is_b tt e ])
+verdicts_joined t (Some NeverHalting) b v one is_a is_b = (λ e. inl e, λ h. elim h [ inl e ↦ e | inr e ↦ same_verdict t (Some NeverHalting) b v one is_a is_b tt e ])
 verdicts_joined t (Some Holdout) None v one is_a is_b = (λ e. inl e, λ h. elim h [ inl e ↦ e | inr e ↦ e ])
 verdicts_joined t (Some Holdout) (Some m) v one is_a is_b = (λ e. inr e, λ h. elim h [ inl e ↦ absurd (cc) | inr e ↦ e ])
 
 shows_none : (m : Mark) → shown_mark (Some m) ≡ None → Some m ≡ Some Holdout
 shows_none (Halting k) e = absurd (cc)
-shows_none NonHalting e = absurd (cc)
+shows_none NeverHalting e = absurd (cc)
 shows_none Holdout e = refl
 
 holdouts_joined : (a b : Option Mark) → (joined a b ≡ Some Holdout) ↔ (((a ≡ Some Holdout) ⊎ (b ≡ Some Holdout)) × (shown_mark a ≡ None) × (shown_mark b ≡ None))
 holdouts_joined None b = (λ e. (inr e, refl, ap shown_mark e), λ h. elim h.0 [ inl e ↦ absurd (cc) | inr e ↦ e ])
 holdouts_joined (Some (Halting k)) b = (λ e. absurd (cc), λ h. let shown = h.1 in absurd (cc))
-holdouts_joined (Some NonHalting) b = (λ e. absurd (cc), λ h. let shown = h.1 in absurd (cc))
+holdouts_joined (Some NeverHalting) b = (λ e. absurd (cc), λ h. let shown = h.1 in absurd (cc))
 holdouts_joined (Some Holdout) None = (λ e. (inl refl, refl, refl), λ h. refl)
 holdouts_joined (Some Holdout) (Some m) = (λ e. (inl refl, refl, ap shown_mark e), λ h. shows_none m h.2)
 
@@ -289,16 +289,16 @@ unchanged_for_memory root old new r f is gives = (subst (λ (x : OfferFault). Of
 mark_shown : (o : Option Mark) (v : Verdict) → shown_mark o ≡ Some v → o ≡ Some (mark_by (Some v))
 mark_shown None v e = absurd (cc)
 mark_shown (Some (Halting k)) v e = ap (λ (o : Option Verdict). Some (mark_by o)) e
-mark_shown (Some NonHalting) v e = ap (λ (o : Option Verdict). Some (mark_by o)) e
+mark_shown (Some NeverHalting) v e = ap (λ (o : Option Verdict). Some (mark_by o)) e
 mark_shown (Some Holdout) v e = absurd (cc)
 
 one_mark : (a b : Option Mark) → ((v : Verdict) → (shown_mark a ≡ Some v) ↔ (shown_mark b ≡ Some v)) → (a ≡ Some Holdout) ↔ (b ≡ Some Holdout) → a ≡ b
 one_mark (Some (Halting k)) b shown held = sym (mark_shown b (Halts k) ((shown (Halts k)).0 refl))
-one_mark (Some NonHalting) b shown held = sym (mark_shown b Never ((shown Never).0 refl))
+one_mark (Some NeverHalting) b shown held = sym (mark_shown b Never ((shown Never).0 refl))
 one_mark (Some Holdout) b shown held = sym (held.0 refl)
 one_mark None None shown held = refl
 one_mark None (Some (Halting k)) shown held = mark_shown None (Halts k) ((shown (Halts k)).1 refl)
-one_mark None (Some NonHalting) shown held = mark_shown None Never ((shown Never).1 refl)
+one_mark None (Some NeverHalting) shown held = mark_shown None Never ((shown Never).1 refl)
 one_mark None (Some Holdout) shown held = held.1 refl
 
 either : {P Q : Type 0} → P ⊎ Q → Q ⊎ P

@@ -8,12 +8,12 @@ use Rattle.std.proofs.lemmas.List.{length-map}
 use Rattle.machine_text.specs.Packed.{Packed}
 use Rattle.evidence.specs.declared.verdicts.Verdict.{Verdict}
 use Rattle.evidence.specs.declared.verdicts.Verdict.TheVariants.{Halts, Never}
-use Rattle.tree.specs.Closed.{Mark, Halting, NonHalting, Holdout}
+use Rattle.tree.specs.Closed.{Mark, Halting, NeverHalting, Holdout}
 use Rattle.cert.specs.Claim.{Claim, Recorded, shown_by}
 use Rattle.ledger.specs.Records.{same_table, claim_in, mark_in, mark_of, mark_by}
 use Rattle.ledger.specs.Held.{IsHoldout, settled}
-use Rattle.ledger.specs.Inside.Counting.{is_undecided, is_halting, is_never, says_halts, says_never, is_champion, is_steps, steps_of, greater, IsCounted, with_shown, without_holdout}
-use Rattle.ledger.specs.Tally.{AreSoMany, HaltsAfter, IsHalting, IsNonHalting, IsGreatestCount}
+use Rattle.ledger.specs.inside.Counting.{is_undecided, is_halting, is_never, says_halts, says_never, is_champion, is_steps, steps_of, greater, IsCounted, with_shown, without_holdout}
+use Rattle.ledger.specs.Tally.{AreSoMany, HaltsAfter, IsHalting, IsNeverHalting, IsGreatestCount}
 use Rattle.ledger.proofs.OpenLaws.{IsTaken, stopping_verdict}
 use Rattle.ledger.specs.declared.counts.Counts.{Counts}
 use Rattle.ledger.proofs.Same.{same_is, apart}
@@ -86,12 +86,12 @@ mark_halting None k e = cc
 mark_halting (Some (Halts j)) k e = refl
 mark_halting (Some Never) k e = cc
 
-never_mark : (o : Option Verdict) → says_never o ≡ true → mark_by o ≡ NonHalting
+never_mark : (o : Option Verdict) → says_never o ≡ true → mark_by o ≡ NeverHalting
 never_mark None e = cc
 never_mark (Some (Halts k)) e = cc
 never_mark (Some Never) e = refl
 
-mark_never : (o : Option Verdict) → mark_by o ≡ NonHalting → says_never o ≡ true
+mark_never : (o : Option Verdict) → mark_by o ≡ NeverHalting → says_never o ≡ true
 mark_never None e = cc
 mark_never (Some (Halts k)) e = cc
 mark_never (Some Never) e = refl
@@ -101,10 +101,10 @@ halting_number rs apart = number_of_kind (IsHalting rs) is_halting rs apart
     (λ r at pass. let w = halting_mark (shown_by r.claim) pass in (w.0, member_marked rs r apart at ∙ ap (λ (m : Mark). Some m) w.1))
     (λ t halting. let w = marked_member rs t (Halting halting.0) halting.1 in (w.0, w.1, mark_halting (shown_by w.0.claim) halting.0 w.2, w.3))
 
-pub never_number : (rs : List Recorded) → AreApart rs → AreSoMany (IsNonHalting rs) (length (filter is_never rs))
-never_number rs apart = number_of_kind (IsNonHalting rs) is_never rs apart
+pub never_number : (rs : List Recorded) → AreApart rs → AreSoMany (IsNeverHalting rs) (length (filter is_never rs))
+never_number rs apart = number_of_kind (IsNeverHalting rs) is_never rs apart
     (λ r at pass. member_marked rs r apart at ∙ ap (λ (m : Mark). Some m) (never_mark (shown_by r.claim) pass))
-    (λ t never. let w = marked_member rs t NonHalting never in (w.0, w.1, mark_never (shown_by w.0.claim) w.2, w.3))
+    (λ t never. let w = marked_member rs t NeverHalting never in (w.0, w.1, mark_never (shown_by w.0.claim) w.2, w.3))
 
 -- the greater of two
 greater_none : (a b : Option ℕ) → greater a b ≡ None → (a ≡ None) × (b ≡ None)

@@ -8,7 +8,7 @@ use Rattle.cert.specs.Claim.{Claim, Recorded, shown_by}
 use Rattle.ledger.specs.Records.{claim_in, mark_in, mark_of, mark_by}
 use Rattle.ledger.specs.Held.{IsFit, IsHoldout, Settles, settled}
 use Rattle.ledger.specs.Offers.{IsJudged, OfferGives}
-use Rattle.ledger.specs.Inside.Places.{IsRefusal, IsPlace, place_by}
+use Rattle.ledger.specs.inside.Places.{IsWhyRefused, IsPlace, place_by}
 use Rattle.ledger.specs.declared.place.Place.{Place}
 use Rattle.ledger.specs.declared.place.Place.TheVariants.{Open, Elsewhere}
 use Rattle.ledger.specs.declared.taken.Taken.{Taken}
@@ -34,7 +34,7 @@ pub stands_unrecorded : (root : Packed) (rs : List Recorded) (r : Recorded) (pla
 stands_unrecorded root rs r place none (inl h) = subst (IsPlace root rs r) (sym h.1) h.0
 stands_unrecorded root rs r place none (inr h) = subst (IsPlace root rs r) (sym h.1) (record { unrecorded = none; not_open = h.0 })
 
-refusal_gives : (root : Packed) (old new : List Recorded) (r : Recorded) (f : OfferFault) → IsRefusal f r → IsJudged root old r → new ≡ old → OfferGives root old r (Err f) new
+refusal_gives : (root : Packed) (old new : List Recorded) (r : Recorded) (f : OfferFault) → IsWhyRefused f r → IsJudged root old r → new ≡ old → OfferGives root old r (Err f) new
 refusal_gives root old new r WrongSize refusal judged same = absurd refusal
 refusal_gives root old new r NotOpen refusal judged same = absurd refusal
 refusal_gives root old new r (IsRefused f) refusal judged same = (judged, refusal, same)
@@ -42,12 +42,12 @@ refusal_gives root old new r NoMemory refusal judged same = (judged, same)
 
 pub take_gives : (root : Packed) (old new : List Recorded) (r : Recorded) (result : Result Taken OfferFault) → IsOpen root (mark_in old) r.table
     → IfOk result (λ (t : Taken). (t ≡ New) × IsFit root old r × (new ≡ old ++ (r ∷ [])))
-    → OnErr result (new ≡ old) → IfErr result (λ (f : OfferFault). IsRefusal f r) → OfferGives root old r result new
+    → OnErr result (new ≡ old) → IfErr result (λ (f : OfferFault). IsWhyRefused f r) → OfferGives root old r result new
 take_gives root old new r (Ok t) is_open ok same refusal = subst (λ (x : Taken). OfferGives root old r (Ok x) new) (sym ok.0) (ok.1, ok.2)
 take_gives root old new r (Err f) is_open ok same refusal = refusal_gives root old new r f refusal (record { is = inl is_open }) same
 
 pub settle_gives : (root : Packed) (old new : List Recorded) (r : Recorded) (result : Result Taken OfferFault) → IsHoldout old r.table × IsSome (shown_by r.claim)
     → IfOk result (λ (t : Taken). (t ≡ Settled) × Settles old r × (new ≡ settled old r))
-    → OnErr result (new ≡ old) → IfErr result (λ (f : OfferFault). IsRefusal f r) → OfferGives root old r result new
+    → OnErr result (new ≡ old) → IfErr result (λ (f : OfferFault). IsWhyRefused f r) → OfferGives root old r result new
 settle_gives root old new r (Ok t) holdout ok same refusal = subst (λ (x : Taken). OfferGives root old r (Ok x) new) (sym ok.0) (ok.1, ok.2)
 settle_gives root old new r (Err f) holdout ok same refusal = refusal_gives root old new r f refusal (record { is = inr holdout }) same

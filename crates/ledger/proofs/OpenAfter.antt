@@ -11,7 +11,7 @@ use Rattle.ledger.specs.Tally.{HaltsAfter, IsHalting}
 use Rattle.ledger.proofs.OpenLaws.{stopping_verdict}
 use Rattle.cert.specs.Certified.{HaltsOnPair, IsPairOf}
 use Rattle.machine_text.specs.declared.transition.Pair.{Pair}
-use Rattle.ledger.specs.Inside.Open.{HasUnrecorded, IsNewChild}
+use Rattle.ledger.specs.inside.Open.{HasUnrecorded, IsNewChild}
 
 -- the unrecorded among the children are the new children
 pub new_children : (rs : List Recorded) (r : Recorded) (k : ℕ) (found : List Packed) (q : Packed) (A C : Type 0) → shown_by r.claim ≡ Some (Halts k)

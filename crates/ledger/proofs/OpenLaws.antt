@@ -8,7 +8,7 @@ use Rattle.tree.specs.Tables.{IsChildTable, InTableTree, Itself}
 use Rattle.cert.specs.Claim.{Claim, Recorded, shown_by}
 use Rattle.ledger.specs.Records.{same_table, claim_in, mark_in, mark_of, mark_by}
 use Rattle.ledger.specs.Held.{AreFitAfter, IsHeld, settled}
-use Rattle.ledger.specs.Inside.Open.{IsNewChild}
+use Rattle.ledger.specs.inside.Open.{IsNewChild}
 use Rattle.ledger.proofs.Same.{same_is, same_itself, not_same, apart}
 use Rattle.ledger.proofs.Claims.{claim_here, claim_past, claim_none, claim_kept, claim_more, settled_here, settled_past, settled_claim}
 use Rattle.ledger.proofs.HeldLaws.{unmarked}

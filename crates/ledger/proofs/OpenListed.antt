@@ -6,7 +6,7 @@ use Rattle.machine_text.specs.Packed.{Packed}
 use Rattle.tree.specs.Closed.{IsOpen}
 use Rattle.ledger.specs.Records.{mark_in}
 use Rattle.ledger.specs.Contents.{Contents}
-use Rattle.ledger.specs.Inside.Open.{IsOpenMap}
+use Rattle.ledger.specs.inside.Open.{IsOpenMap}
 use Rattle.ledger.proofs.Sets.{listed_in_map}
 
 pub open_listed : (b : Contents) (tables : BTreeMap Packed ℕ) → IsOpenMap tables b → (t : Packed) → Contains (keys tables) t ↔ IsOpen b.root (mark_in b.records) t

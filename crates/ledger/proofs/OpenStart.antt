@@ -7,8 +7,8 @@ use Rattle.machine_text.specs.Packed.{Packed, IsTable, entry_of}
 use Rattle.tree.specs.Closed.{IsOpen}
 use Rattle.tree.specs.Used.{InOrder}
 use Rattle.ledger.specs.Records.{mark_in, mark_of}
-use Rattle.ledger.specs.Inside.Open.{IsOpener, IsOpenMap}
-use Rattle.ledger.specs.Inside.Counting.{IsCounted}
+use Rattle.ledger.specs.inside.Open.{IsOpener, IsOpenMap}
+use Rattle.ledger.specs.inside.Counting.{IsCounted}
 use Rattle.ledger.specs.Contents.{IsBoard}
 use Rattle.ledger.proofs.Claims.{claim_none}
 use Rattle.ledger.proofs.Sets.{only_one}

@@ -8,7 +8,7 @@ use Rattle.turing.proofs.Counting.{length-le_of_members}
 use Rattle.machine_text.specs.Packed.{Packed, entry_of}
 use Rattle.machine_text.specs.Text.{text_of}
 use Rattle.turing.specs.Halting.{HaltsAt, Never}
-use Rattle.tree.specs.Closed.{Mark, Halting, NonHalting, IsTrueMark, AreTrueMarks, IsVerdict, IsComplete}
+use Rattle.tree.specs.Closed.{Mark, Halting, NeverHalting, IsTrueMark, AreTrueMarks, IsVerdict, IsComplete}
 use Rattle.tree.specs.Tables.{InTableTree, IsGreatestInTables}
 use Rattle.tree.proofs.TableLaws.{tree_alike, tree_table_child}
 use Rattle.tree.proofs.ClosedLaws.{one_mark, closed_verdict, complete_closed}
@@ -17,7 +17,7 @@ use Rattle.cert.specs.Claim.{Claim, Recorded}
 use Rattle.ledger.specs.Records.{claim_in, mark_in, mark_of}
 use Rattle.ledger.specs.Held.{IsHoldout}
 use Rattle.ledger.specs.Contents.{Contents, IsBoard}
-use Rattle.ledger.specs.Tally.{HaltsAfter, IsHalting, IsNonHalting, IsGreatestCount, IsChampion, IsTally, AreAll, AreSoMany, AreInTextOrder}
+use Rattle.ledger.specs.Tally.{HaltsAfter, IsHalting, IsNeverHalting, IsGreatestCount, IsChampion, IsTally, AreAll, AreSoMany, AreInTextOrder}
 use Rattle.ledger.specs.WholeTree.{IsTreeTally, IsTreeChampion}
 use Rattle.ledger.specs.declared.tally.Tally.{Tally}
 use Rattle.ledger.proofs.Apart.{held_apart, first_or_later, later_member, first_member, all_members, claim_member, member_claim}
@@ -46,10 +46,10 @@ all_halting b t k board complete = (
   λ h. recorded_verdict b t (Halting k) board complete h.0 h.1 tt,
 )
 
-pub all_never : (b : Contents) (t : Packed) → IsBoard b → IsComplete b.root (mark_in b.records) → IsNonHalting b.records t ↔ (InTableTree b.root t × Never (entry_of t))
+pub all_never : (b : Contents) (t : Packed) → IsBoard b → IsComplete b.root (mark_in b.records) → IsNeverHalting b.records t ↔ (InTableTree b.root t × Never (entry_of t))
 all_never b t board complete = (
-  λ is. (marked_in_tree b t NonHalting tree_table_child board is, subst (IsTrueMark t) is (board_marks b board t)),
-  λ h. recorded_verdict b t NonHalting board complete h.0 h.1 tt,
+  λ is. (marked_in_tree b t NeverHalting tree_table_child board is, subst (IsTrueMark t) is (board_marks b board t)),
+  λ h. recorded_verdict b t NeverHalting board complete h.0 h.1 tt,
 )
 
 -- tables of one kind are as many as those of the other, where these are the same
@@ -172,7 +172,7 @@ whole_tally b tally board complete counted =
         λ h. let it = (all_halting b t h.0 board complete).0 h.1 in (it.0, (h.0, it.1)),
         λ h. (h.1.0, (all_halting b t h.1.0 board complete).1 (h.0, h.1.1)),
       )) counted.halting;
-      never = so_many_of (IsNonHalting b.records) _ tally.never (λ t. all_never b t board complete) counted.never;
+      never = so_many_of (IsNeverHalting b.records) _ tally.never (λ t. all_never b t board complete) counted.never;
       holdouts = none_of_kind (IsHoldout b.records) tally.holdouts counted.holdouts complete.no_holdout;
       open_count = none_open;
       best = greatest_in_tree b tally.best board complete counted.best;

@@ -11,4 +11,4 @@ pub mod Lists
 pub mod Merging
 pub mod LedgerLaws
 pub mod WholeTree
-pub mod Inside
+pub mod inside

@@ -4,7 +4,7 @@ use Rattle.std.specs.Cmp.Lexicographic.{pointwise}
 use Rattle.machine_text.specs.Packed.{Packed}
 use Rattle.evidence.specs.declared.verdicts.Verdict.{Verdict}
 use Rattle.evidence.specs.declared.verdicts.Verdict.TheVariants.{Halts, Never}
-use Rattle.tree.specs.Closed.{Mark, Halting, NonHalting, Holdout}
+use Rattle.tree.specs.Closed.{Mark, Halting, NeverHalting, Holdout}
 use Rattle.cert.specs.Claim.{Claim, Recorded, shown_by}
 
 -- whether two tables are one
@@ -20,7 +20,7 @@ claim_in (r ∷ rs) t = if same_table r.table t then Some r.claim else claim_in 
 abbrev pub mark_by : Option Verdict → Mark
 mark_by None = Holdout
 mark_by (Some (Halts k)) = Halting k
-mark_by (Some Never) = NonHalting
+mark_by (Some Never) = NeverHalting
 
 abbrev pub mark_of : Claim → Mark
 mark_of c = mark_by (shown_by c)

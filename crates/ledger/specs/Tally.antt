@@ -5,7 +5,7 @@ use Rattle.std.specs.declared.cmp.Ordering.TheVariants.{Less}
 use Rattle.std.specs.Cmp.Lexicographic.{slice_cmp}
 use Rattle.machine_text.specs.Packed.{Packed}
 use Rattle.machine_text.specs.Text.{text_of}
-use Rattle.tree.specs.Closed.{Halting, NonHalting, IsOpen, IsComplete}
+use Rattle.tree.specs.Closed.{Halting, NeverHalting, IsOpen, IsComplete}
 use Rattle.cert.specs.Claim.{Recorded}
 use Rattle.ledger.specs.Records.{mark_in}
 use Rattle.ledger.specs.Held.{IsHoldout}
@@ -36,8 +36,8 @@ HaltsAfter rs k t = mark_in rs t ≡ Some (Halting k)
 abbrev pub IsHalting : List Recorded → Packed → Type 0
 IsHalting rs t = (k : ℕ) × HaltsAfter rs k t
 
-abbrev pub IsNonHalting : List Recorded → Packed → Type 0
-IsNonHalting rs t = mark_in rs t ≡ Some NonHalting
+abbrev pub IsNeverHalting : List Recorded → Packed → Type 0
+IsNeverHalting rs t = mark_in rs t ≡ Some NeverHalting
 
 -- the greatest number of steps recorded of a table that halts; none where none is
 abbrev pub IsGreatestCount : List Recorded → Option ℕ → Type 0
@@ -54,7 +54,7 @@ pub record IsTally (root : Packed) (rs : List Recorded) (tally : Tally) : Type 0
   pub nodes : tally.nodes ≡ length rs + tally.open_count
   pub open_count : AreSoMany (IsOpen root (mark_in rs)) tally.open_count
   pub halting : AreSoMany (IsHalting rs) tally.halting
-  pub never : AreSoMany (IsNonHalting rs) tally.never
+  pub never : AreSoMany (IsNeverHalting rs) tally.never
   pub holdouts : AreSoMany (IsHoldout rs) tally.holdouts
   pub best : IsGreatestCount rs tally.best
 

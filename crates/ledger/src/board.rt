@@ -8,7 +8,7 @@ ghost use Rattle.turing.specs.Halting.{IsRado, HaltsAt};
 ghost use Rattle.std.specs.Vec.Iter.{into_iter_items};
 ghost use Rattle.tree.specs.Tables.{IsBestOfTable, IsChildTable};
 ghost use Rattle.ledger.specs.Contents.{IsBoard};
-ghost use Rattle.ledger.specs.Inside.Places.{IsPlace};
+ghost use Rattle.ledger.specs.inside.Places.{IsPlace};
 ghost use Rattle.ledger.specs.Tally.{AreAll, IsChampion, IsGreatestCount, IsHalting, IsStatus, IsTally};
 
 use crate::children::children_on;
@@ -59,9 +59,9 @@ pub struct Board {
 
 impl Model for Board {
     ghost use Rattle.std.specs.List.{All};
-    ghost use Rattle.ledger.specs.Inside.Keeping.{records_of, KnowsPair};
-    ghost use Rattle.ledger.specs.Inside.Open.{IsOpenMap};
-    ghost use Rattle.ledger.specs.Inside.Counting.{IsCounted};
+    ghost use Rattle.ledger.specs.inside.Keeping.{records_of, KnowsPair};
+    ghost use Rattle.ledger.specs.inside.Open.{IsOpenMap};
+    ghost use Rattle.ledger.specs.inside.Counting.{IsCounted};
     ghost use Rattle.ledger.specs.Contents.{Contents, IsBoard};
 
     ghost Value = { Contents };
@@ -83,7 +83,7 @@ impl Board {
     ghost use Rattle.ledger.specs.Records.{claim_in, mark_in, verdict_in};
     ghost use Rattle.ledger.specs.Held.{IsFit, IsHoldout, Settles, settled};
     ghost use Rattle.ledger.specs.Offers.{OfferGives};
-    ghost use Rattle.ledger.specs.Inside.Places.{IsRefusal};
+    ghost use Rattle.ledger.specs.inside.Places.{IsWhyRefused};
 
     /// A board of the tree of a root, without records. The root must name its states in order.
     pub fn new(alloc: Global, root: Table) -> Result<Board, BoardFault>
@@ -318,7 +318,7 @@ impl Board {
         ensures ok { IfOk result (λ taken. (taken ≡ Taken.New) × IsFit self.old.root self.old.records (recorded r.now) × (self.new.records ≡ self.old.records ++ (recorded r.now ∷ []))) }
         ensures err { OnErr result (self.new.records ≡ self.old.records) }
         ensures root { self.new.root ≡ self.old.root }
-        ensures refusal { IfErr result (λ f. IsRefusal f (recorded r.now)) }
+        ensures refusal { IfErr result (λ f. IsWhyRefused f (recorded r.now)) }
     {
         child_is_table();
         let kept = Kept::of(self.alloc, r, judging)?;
@@ -350,7 +350,7 @@ impl Board {
         ensures ok { IfOk result (λ taken. (taken ≡ Taken.Settled) × Settles self.old.records (recorded r.now) × (self.new.records ≡ settled self.old.records (recorded r.now))) }
         ensures err { OnErr result (self.new.records ≡ self.old.records) }
         ensures root { self.new.root ≡ self.old.root }
-        ensures refusal { IfErr result (λ f. IsRefusal f (recorded r.now)) }
+        ensures refusal { IfErr result (λ f. IsWhyRefused f (recorded r.now)) }
     {
         child_is_table();
         let kept = Kept::of(self.alloc, r, judging)?;

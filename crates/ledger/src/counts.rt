@@ -1,6 +1,6 @@
 // The numbers of a board's records of each kind, kept with them.
 ghost use Rattle.std.specs.Prelude.{◌≡◌, ℕ, ◌<◌, ◌^◌, None};
-ghost use Rattle.ledger.specs.Inside.Counting.{with_shown, without_holdout, greater};
+ghost use Rattle.ledger.specs.inside.Counting.{with_shown, without_holdout, greater};
 
 use evidence::Verdict;
 

@@ -1,7 +1,7 @@
 // The first line of a ledger's text.
 ghost use Rattle.std.specs.Prelude.{◌↔◌, IsTrue};
 ghost use Rattle.ledger.specs.LedgerText.{BeginsAsHeader, PeekGives};
-ghost use Rattle.ledger.specs.Inside.HeaderRead.{HeaderGives, OrderGives};
+ghost use Rattle.ledger.specs.inside.HeaderRead.{HeaderGives, OrderGives};
 
 use crate::faults::LoadFault;
 use machine_text::Table;

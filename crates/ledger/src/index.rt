@@ -3,8 +3,8 @@ ghost use Rattle.std.specs.Prelude.{◌≡◌, ◌<◌, ◌^◌, ℕ, false, All
 ghost use Rattle.cert.specs.Claim.{Recorded};
 ghost use Rattle.cert.specs.Certified.{HaltsOnPair};
 ghost use Rattle.cert.specs.Kinds.{claim_of};
-ghost use Rattle.ledger.specs.Inside.Counting.{is_halting};
-ghost use Rattle.ledger.specs.Inside.Keeping.{records_of, KnowsPair};
+ghost use Rattle.ledger.specs.inside.Counting.{is_halting};
+ghost use Rattle.ledger.specs.inside.Keeping.{records_of, KnowsPair};
 ghost use Rattle.ledger.specs.Held.{IsHoldout};
 ghost use Rattle.ledger.specs.Tally.{HaltsAfter, IsHalting};
 ghost use Rattle.ledger.specs.Records.{claim_in, verdict_in};

@@ -3,7 +3,7 @@ ghost use Rattle.std.specs.Prelude.{◌≡◌, IfOk, IfErr, OnOk};
 ghost use Rattle.cert.specs.Claim.{shown_by};
 ghost use Rattle.cert.specs.Certified.{IsCertified, IsPairOf};
 ghost use Rattle.cert.specs.Kinds.{claim_of, owned_claim, recorded};
-ghost use Rattle.ledger.specs.Inside.Places.{IsRefusal};
+ghost use Rattle.ledger.specs.inside.Places.{IsWhyRefused};
 
 use crate::faults::OfferFault;
 use cert::{OwnedCertificate, Record, judge_on};
@@ -35,7 +35,7 @@ impl Kept {
         ensures certified { OnOk result (IsCertified (recorded r.now)) }
         ensures claim { IfOk result (λ kept. owned_claim kept.certificate ≡ claim_of r.now.certificate) }
         ensures pair { IfOk result (λ kept. IsPairOf (shown_by (claim_of r.now.certificate)) r.now.table kept.halts_on) }
-        ensures refusal { IfErr result (λ f. IsRefusal f (recorded r.now)) }
+        ensures refusal { IfErr result (λ f. IsWhyRefused f (recorded r.now)) }
     {
         let halts_on = halting_pair(alloc, r, judging)?;
         let certificate = OwnedCertificate::of(alloc, &r.certificate)?;
@@ -51,7 +51,7 @@ fn halting_pair(alloc: Global, r: &Record, judging: Judging) -> Result<Option<Pa
     requires { judging ≡ Judging.Done → IsCertified (recorded r.now) }
     ensures certified { OnOk result (IsCertified (recorded r.now)) }
     ensures pair { IfOk result (λ pair. IsPairOf (shown_by (claim_of r.now.certificate)) r.now.table pair) }
-    ensures refusal { IfErr result (λ f. IsRefusal f (recorded r.now)) }
+    ensures refusal { IfErr result (λ f. IsWhyRefused f (recorded r.now)) }
 {
     match judging {
         Judging::Due => judged_pair(alloc, r),
@@ -63,7 +63,7 @@ fn halting_pair(alloc: Global, r: &Record, judging: Judging) -> Result<Option<Pa
 fn judged_pair(alloc: Global, r: &Record) -> Result<Option<Pair>, OfferFault>
     ensures certified { OnOk result (IsCertified (recorded r.now)) }
     ensures pair { IfOk result (λ pair. IsPairOf (shown_by (claim_of r.now.certificate)) r.now.table pair) }
-    ensures refusal { IfErr result (λ f. IsRefusal f (recorded r.now)) }
+    ensures refusal { IfErr result (λ f. IsWhyRefused f (recorded r.now)) }
 {
     match judge_on(alloc, r) {
         Ok(judged) => Ok(judged.halts_on),
@@ -75,7 +75,7 @@ fn judged_pair(alloc: Global, r: &Record) -> Result<Option<Pair>, OfferFault>
 // The same of a certificate that is known to stand: only a table that halts is run.
 fn certified_pair(alloc: Global, r: &Record) -> Result<Option<Pair>, OfferFault>
     ensures pair { IfOk result (λ pair. IsPairOf (shown_by (claim_of r.now.certificate)) r.now.table pair) }
-    ensures refusal { IfErr result (λ f. IsRefusal f (recorded r.now)) }
+    ensures refusal { IfErr result (λ f. IsWhyRefused f (recorded r.now)) }
 {
     match r.certificate.verdict() {
         Some(Verdict::Halts(_)) => judged_pair(alloc, r),

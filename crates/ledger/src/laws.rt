@@ -14,7 +14,7 @@ ghost use Rattle.ledger.specs.declared.faults.OfferFault.{OfferFault as Fault};
 ghost use Rattle.ledger.specs.Offers.{OfferGives};
 ghost use Rattle.ledger.specs.Records.{claim_in, mark_in};
 ghost use Rattle.ledger.specs.Merging.{IsMerged};
-ghost use Rattle.ledger.specs.Tally.{AreAll, HaltsAfter, IsChampion, IsNonHalting, IsTally};
+ghost use Rattle.ledger.specs.Tally.{AreAll, HaltsAfter, IsChampion, IsNeverHalting, IsTally};
 ghost use Rattle.ledger.specs.WholeTree.{IsTreeTally, IsTreeChampion};
 ghost use Rattle.ledger.specs.declared.tally.Tally.{Tally as Counted};
 ghost use Rattle.ledger.specs.Contents.{Contents, IsBoard};
@@ -94,7 +94,7 @@ pub fn complete_boards_hold_the_tree()
     ensures halting { (b : Contents) (t : Packed) (k : ℕ) → IsBoard b → IsComplete b.root (mark_in b.records) →
         HaltsAfter b.records k t ↔ (InTableTree b.root t × HaltsAt (entry_of t) k) }
     ensures never { (b : Contents) (t : Packed) → IsBoard b → IsComplete b.root (mark_in b.records) →
-        IsNonHalting b.records t ↔ (InTableTree b.root t × Never (entry_of t)) }
+        IsNeverHalting b.records t ↔ (InTableTree b.root t × Never (entry_of t)) }
     ensures tally { (b : Contents) (tally : Counted) → IsBoard b → IsComplete b.root (mark_in b.records) →
         IsTally b.root b.records tally → IsTreeTally b.root tally }
     ensures champions { (b : Contents) (best : Option ℕ) (tables : List Packed) → IsBoard b → IsComplete b.root (mark_in b.records) →

@@ -8,7 +8,7 @@
 //! as which records a text is read, also where it is cut or spoilt.
 //!
 //! `specs/Lists` says what is held of a list of records, and `laws` that this is what offers and ledgers come
-//! to. `specs/Inside` and `proofs` are for the code alone.
+//! to. `specs/inside` and `proofs` are for the code alone.
 #![tactic(auto)]
 
 mod board;
@@ -22,7 +22,7 @@ mod kept;
 mod laws;
 mod left;
 mod loader;
-mod merging;
+mod merge;
 mod open_tables;
 mod place;
 mod records;
@@ -30,7 +30,7 @@ mod selected;
 mod status;
 mod taken;
 mod tally;
-mod writer;
+mod write_ledger;
 
 pub use board::{Board, Champions, Holdouts, Open};
 pub use bound::Bound;
@@ -46,4 +46,4 @@ pub use records::Records;
 pub use status::Status;
 pub use taken::Taken;
 pub use tally::Tally;
-pub use writer::{append_header, append_record};
+pub use write_ledger::{append_header, append_record};

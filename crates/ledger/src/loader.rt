@@ -12,7 +12,7 @@ use crate::taken::Taken;
 use cert::Record;
 use evidence::NoMemory;
 use machine_text::Table;
-use std::alloc::{AllocError, Global};
+use std::alloc::Global;
 use text::first_line;
 
 impl Board {
@@ -53,7 +53,7 @@ fn empty_board(alloc: Global, root: Table) -> Result<Board, NoMemory>
     match Board::new(alloc, root) {
         Ok(board) => Ok(board),
         // the root is in order, so it was memory
-        Err(_) => Err(AllocError),
+        Err(_) => Err(NoMemory),
     }
 }
 
@@ -116,7 +116,7 @@ fn take_line(board: &mut Board, line: &[u8]) -> Result<Option<Unkept>, NoMemory>
     match board.offer(&record) {
         Ok(Taken::New) | Ok(Taken::Settled) => Ok(None),
         Ok(Taken::Known) => Ok(Some(Unkept::Repeated)),
-        Err(OfferFault::NoMemory) => Err(AllocError),
+        Err(OfferFault::NoMemory) => Err(NoMemory),
         Err(fault) => Ok(Some(Unkept::Unfit(fault))),
     }
 }

@@ -6,9 +6,9 @@ ghost use Rattle.tree.specs.Used.{InOrder};
 ghost use Rattle.cert.specs.Claim.{shown_by};
 ghost use Rattle.cert.specs.Kinds.{claim_of, recorded};
 ghost use Rattle.cert.specs.Certified.{IsPairOf};
-ghost use Rattle.ledger.specs.Inside.Keeping.{records_of};
+ghost use Rattle.ledger.specs.inside.Keeping.{records_of};
 ghost use Rattle.ledger.specs.Records.{claim_in};
-ghost use Rattle.ledger.specs.Inside.Open.{table_cmp, others, HasUnrecorded, IsNewChild};
+ghost use Rattle.ledger.specs.inside.Open.{table_cmp, others, HasUnrecorded, IsNewChild};
 
 use crate::children::children_on;
 use crate::index::certificate_for;
@@ -17,7 +17,7 @@ use cert::Record;
 use evidence::NoMemory;
 use indexmap::IndexMap;
 use machine_text::{Pair, Table};
-use std::alloc::{AllocError, Global};
+use std::alloc::Global;
 use std::collections::BTreeMap;
 use tnf::Children;
 
@@ -41,7 +41,7 @@ pub fn opener_place(place: usize) -> Result<u32, NoMemory>
 {
     match u32::try_from(place) {
         Ok(kept) if kept != NO_PLACE => Ok(kept),
-        _ => Err(AllocError),
+        _ => Err(NoMemory),
     }
 }
 

@@ -2,7 +2,7 @@
 ghost use Rattle.std.specs.Prelude.{◌≡◌};
 ghost use Rattle.cert.specs.Claim.{shown_by};
 ghost use Rattle.cert.specs.Kinds.{claim_of};
-ghost use Rattle.ledger.specs.Inside.Places.{place_by};
+ghost use Rattle.ledger.specs.inside.Places.{place_by};
 
 use cert::Certificate;
 

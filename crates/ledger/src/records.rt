@@ -18,7 +18,7 @@ pub struct Records<'a> {
 impl<'a> Model for Records<'a> {
     ghost use Rattle.std.specs.Prelude.{List};
     ghost use Rattle.cert.specs.Claim.{Recorded};
-    ghost use Rattle.ledger.specs.Inside.Keeping.{records_of};
+    ghost use Rattle.ledger.specs.inside.Keeping.{records_of};
 
     ghost Value = { List Recorded };
 
@@ -26,7 +26,7 @@ impl<'a> Model for Records<'a> {
 }
 
 impl<'a> Records<'a> {
-    ghost use Rattle.ledger.specs.Inside.Keeping.{records_of};
+    ghost use Rattle.ledger.specs.inside.Keeping.{records_of};
 
     // All of a board.
     pub(crate) fn of(records: &'a IndexMap<Table, Kept>) -> Records<'a>

@@ -4,8 +4,8 @@ ghost use Rattle.std.specs.List.Sorted.{IsPermutation, IsSorted};
 ghost use Rattle.std.specs.List.{cons_option};
 ghost use Rattle.std.specs.Vec.Iter.{into_iter_items};
 ghost use Rattle.cert.specs.Kinds.{recorded};
-ghost use Rattle.ledger.specs.Inside.Counting.{undecided_table, champion_table, tables_with};
-ghost use Rattle.ledger.specs.Inside.Open.{table_cmp};
+ghost use Rattle.ledger.specs.inside.Counting.{undecided_table, champion_table, tables_with};
+ghost use Rattle.ledger.specs.inside.Open.{table_cmp};
 
 use crate::records::Records;
 use cert::Record;

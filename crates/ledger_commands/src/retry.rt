@@ -6,7 +6,7 @@ ghost use Rattle.ledger.specs.Held.{IsHoldout};
 ghost use Rattle.ledger.specs.Contents.{Contents};
 ghost use Rattle.ledger.specs.LedgerText.{ReadsAs};
 ghost use Rattle.ledger.specs.Tally.{IsStatus};
-ghost use Rattle.ledger.specs.declared.status.Status.{Status as Standing};
+ghost use Rattle.ledger.specs.declared.status.Status.{Status as BoardStatus};
 ghost use Rattle.ledger_commands.specs.LedgerReport.{outcome_by};
 ghost use Rattle.ledger_commands.specs.Retry.{IsLedgerOf, SettlesOrStays, StaysInStep, AtSomeTime, ChangesBy, IsTried, AreRetried};
 
@@ -65,7 +65,7 @@ fn settle_further<L: LedgerOut, D: Decider, W: Write>(
     answers: &mut W,
 ) -> Result<Outcome, Ended>
     ensures step { IfOk result (λ o. IfSome (L.text ledger.old) (λ text. ReadsAs board.old.root text board.old.records left.now) → IfSome (L.text ledger.new) (IsLedgerOf board.new)) }
-    ensures outcome { IfOk result (λ o. (status : Standing) × IsStatus board.new.root board.new.records status × (o ≡ outcome_by status Left.Nothing)) }
+    ensures outcome { IfOk result (λ o. (status : BoardStatus) × IsStatus board.new.root board.new.records status × (o ≡ outcome_by status Left.Nothing)) }
 {
     cut_off(left, ledger)?;
     retry_holdouts(alloc, board, decider, ledger)?;

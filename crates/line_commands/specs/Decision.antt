@@ -26,9 +26,9 @@ table_read (Ok t) = Ok t
 table_read (Err f) = Err (BadTable f)
 
 -- what is read of a line, which is none where it was too long
-abbrev pub read_table : Option (List ℕ) → Result Packed RecordFault
-read_table None = Err TooLong
-read_table (Some line) = table_read (table_of line)
+abbrev pub read_line_table : Option (List ℕ) → Result Packed RecordFault
+read_line_table None = Err TooLong
+read_line_table (Some line) = table_read (table_of line)
 
 -- what is printed for what was read, by what the decider answers
 abbrev pub Decides : (Packed → Recorded → Type 0) → Result Packed RecordFault → Outcome → List ℕ → Type 0
@@ -37,4 +37,4 @@ Decides Answers (Err f) o answer = (o ≡ Refused) × (answer ≡ fault_text f)
 
 -- what `bb decide` says to a line, where so the decider answers as it stands then
 abbrev pub SaysOfTable : {D : Type 0} → (D → Packed → Recorded → Type 0) → Option (List ℕ) → Outcome → List ℕ → Type 0
-SaysOfTable {D} Answers line o answer = (decider : D) × Decides (Answers decider) (read_table line) o answer
+SaysOfTable {D} Answers line o answer = (decider : D) × Decides (Answers decider) (read_line_table line) o answer

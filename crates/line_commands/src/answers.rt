@@ -8,7 +8,7 @@ use cert::{Record, RecordFault, append_table, judge, standing_claims_are_true};
 use evidence::{NoMemory, Refused, Verdict};
 use machine_text::TextFault;
 use options::Outcome;
-use std::alloc::{AllocError, Global};
+use std::alloc::Global;
 use text::append_number;
 
 /// Appends the answer to a line, which is none where it was too long, with a newline.
@@ -49,7 +49,7 @@ fn answer_record(alloc: Global, r: &Record, out: &mut Vec<u8>) -> Result<Outcome
             append_verdict(verdict, out)?;
             Ok(Outcome::Accepted)
         }
-        Err(Refused::NoMemory) => Err(AllocError),
+        Err(Refused::NoMemory) => Err(NoMemory),
         Err(refused) => {
             append_named(b"refused ", u64::from(refused.number()), out)?;
             Ok(Outcome::Refused)

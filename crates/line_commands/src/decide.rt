@@ -1,7 +1,7 @@
 // `bb decide`: tables in, records out.
 ghost use Rattle.std.specs.Prelude.{◌≡◌, ◌⊎◌, ◌∷◌, [], ◌++◌, List, ℕ, IfOk};
 ghost use Rattle.line_commands.specs.Answer.{lent_line};
-ghost use Rattle.line_commands.specs.Decision.{Decides, DecidesTable, SaysOfTable, read_table, table_read};
+ghost use Rattle.line_commands.specs.Decision.{Decides, DecidesTable, SaysOfTable, read_line_table, table_read};
 ghost use Rattle.line_commands.specs.Stream.{AnswersStream};
 
 use crate::answers::append_fault;
@@ -54,9 +54,9 @@ pub fn decide_line<D: Decider>(
     line: Option<&[u8]>,
     out: &mut Vec<u8>,
 ) -> Result<Outcome, NoMemory>
-    ensures { IfOk result (λ o. (answer : List ℕ) × Decides (D.answers decider.old) (read_table (lent_line line.entry)) o answer × (out.new.items ≡ out.old.items ++ answer ++ 10 ∷ [])) }
+    ensures { IfOk result (λ o. (answer : List ℕ) × Decides (D.answers decider.old) (read_line_table (lent_line line.entry)) o answer × (out.new.items ≡ out.old.items ++ answer ++ 10 ∷ [])) }
 {
-    let outcome = match read_table(line) {
+    let outcome = match read_line_table(line) {
         Ok(table) => append_record(alloc, decider, &table, out)?,
         Err(fault) => {
             append_fault(fault, out)?;
@@ -68,8 +68,8 @@ pub fn decide_line<D: Decider>(
 }
 
 // The table of a line.
-fn read_table(line: Option<&[u8]>) -> Result<Table, RecordFault>
-    ensures { result ≡ read_table (lent_line line.entry) }
+fn read_line_table(line: Option<&[u8]>) -> Result<Table, RecordFault>
+    ensures { result ≡ read_line_table (lent_line line.entry) }
 {
     match line {
         Some(text) => match Table::parse(text) {

@@ -9,17 +9,17 @@ use Rattle.turing.specs.Run.{Config, start, after}
 use Rattle.turing.specs.Cycle.{Cycle}
 use Rattle.turing.proofs.RunLaws.{before}
 use Rattle.turing.proofs.Heads.{farthest_first}
-use Rattle.run.specs.Standing.{Standing, OnRun}
+use Rattle.run.specs.RunState.{RunState, OnRun}
 use Rattle.loops.specs.inside.Moment.{Moment, moment_of, IsMomentOf}
 use Rattle.loops.specs.inside.Arrival.{Arrives, ComesTo}
 use Rattle.loops.specs.inside.Trail.{Follows}
 use Rattle.loops.proofs.BoundLaws.{IsFarther, farthest_more}
 
 -- the two answers of a run up to a time
-pub arrived : (k : ℕ) (old new : Standing) (came : Bool) → ComesTo k old came new → came ≡ true → Arrives k old new
+pub arrived : (k : ℕ) (old new : RunState) (came : Bool) → ComesTo k old came new → came ≡ true → Arrives k old new
 arrived k old new came comes is = subst (λ (b : Bool). ComesTo k old b new) is comes
 
-pub not_arrived : (k : ℕ) (old new : Standing) (came : Bool) → ComesTo k old came new → came ≡ false → (c : Config) → after (entry_of old.table) k ≡ Some c → ⊥
+pub not_arrived : (k : ℕ) (old new : RunState) (came : Bool) → ComesTo k old came new → came ≡ false → (c : Config) → after (entry_of old.table) k ≡ Some c → ⊥
 not_arrived k old new came comes is = subst (λ (b : Bool). ComesTo k old b new) is comes
 
 -- a run without a time has none of the later ones
@@ -29,14 +29,14 @@ none_after m k j early none c is =
     none b at
 
 -- where a runner stands is a moment of its table's run
-pub stands_moment : (r : Standing) → OnRun r → IsMomentOf r.table (moment_of r)
+pub stands_moment : (r : RunState) → OnRun r → IsMomentOf r.table (moment_of r)
 stands_moment r stands = record { at = stands.at }
 
-pub kept_moment : (p : Packed) (r : Standing) (kept : Moment) → r.table ≡ p → OnRun r → kept ≡ moment_of r → IsMomentOf p kept
+pub kept_moment : (p : Packed) (r : RunState) (kept : Moment) → r.table ≡ p → OnRun r → kept ≡ moment_of r → IsMomentOf p kept
 kept_moment p r kept table stands is = subst (λ (q : Packed). IsMomentOf q kept) table (subst (IsMomentOf r.table) (sym is) (stands_moment r stands))
 
 -- one configuration at two times is a cycle
-pub same_cycle : (p : Packed) (kept : Moment) (r : Standing) → IsMomentOf p kept → r.table ≡ p → OnRun r → kept.time < r.steps → kept.config ≡ r.config → Cycle (entry_of p) kept.time r.steps
+pub same_cycle : (p : Packed) (kept : Moment) (r : RunState) → IsMomentOf p kept → r.table ≡ p → OnRun r → kept.time < r.steps → kept.config ≡ r.config → Cycle (entry_of p) kept.time r.steps
 same_cycle p kept r moment table stands order same = record {
   order = order;
   at = kept.config;
@@ -45,7 +45,7 @@ same_cycle p kept r moment table stands order same = record {
 }
 
 -- and a cycle is one configuration at two times
-pub cycle_same : (p : Packed) (kept : Moment) (r : Standing) → IsMomentOf p kept → r.table ≡ p → OnRun r → Cycle (entry_of p) kept.time r.steps → kept.config ≡ r.config
+pub cycle_same : (p : Packed) (kept : Moment) (r : RunState) → IsMomentOf p kept → r.table ≡ p → OnRun r → Cycle (entry_of p) kept.time r.steps → kept.config ≡ r.config
 cycle_same p kept r moment table stands cycle =
     same_Some kept.config r.config (sym moment.at ∙ cycle.begins ∙ sym cycle.ends ∙ subst (λ (q : Packed). after (entry_of q) r.steps ≡ Some r.config) table stands.at)
 
@@ -53,7 +53,7 @@ pub cycle_at : (m : Program) (i j i' j' : ℕ) → i ≡ i' → j ≡ j' → Cyc
 cycle_at m i j i' j' first second cycle = subst (λ (k : ℕ). Cycle m k j') first (subst (Cycle m i) second cycle)
 
 -- so whether the configurations are the same decides it
-pub decides_cycle : (p : Packed) (i j : ℕ) (kept : Moment) (r : Standing) (same : Bool) → IsMomentOf p kept → kept.time ≡ i → r.table ≡ p → OnRun r → r.steps ≡ j → i < j
+pub decides_cycle : (p : Packed) (i j : ℕ) (kept : Moment) (r : RunState) (same : Bool) → IsMomentOf p kept → kept.time ≡ i → r.table ≡ p → OnRun r → r.steps ≡ j → i < j
     → (IsTrue same ↔ (kept.config ≡ r.config)) → IsTrue same ↔ Cycle (entry_of p) i j
 decides_cycle p i j kept r same moment begin table stands end order is = (
   λ t. cycle_at _ _ _ i j begin end (same_cycle p kept r moment table stands (omega arith) (is.0 t)),
@@ -61,7 +61,7 @@ decides_cycle p i j kept r same moment begin table stands end order is = (
 )
 
 -- a trail begins at the moment that is kept
-pub follows_first : (side : Dir) (r : Standing) (kept : Moment) (head : ℤ) → OnRun r → kept ≡ moment_of r → head ≡ r.config.tape.head → Follows r.table (r.steps + 1) side kept head
+pub follows_first : (side : Dir) (r : RunState) (kept : Moment) (head : ℤ) → OnRun r → kept ≡ moment_of r → head ≡ r.config.tape.head → Follows r.table (r.steps + 1) side kept head
 follows_first side r kept head stands is here =
     let moment = stands_moment r stands in
     subst (λ (b : ℤ). Follows r.table (r.steps + 1) side kept b) (sym here)
@@ -69,7 +69,7 @@ follows_first side r kept head stands is here =
     (record { moment = moment; farthest = farthest_first (entry_of r.table) side r.steps r.config moment.at }))
 
 -- and follows the run to its next time
-pub follows_more : (side : Dir) (r : Standing) (kept : Moment) (bound farther : ℤ) → OnRun r → Follows r.table r.steps side kept bound → IsFarther side bound r.config.tape.head farther
+pub follows_more : (side : Dir) (r : RunState) (kept : Moment) (bound farther : ℤ) → OnRun r → Follows r.table r.steps side kept bound → IsFarther side bound r.config.tape.head farther
     → Follows r.table (r.steps + 1) side kept farther
 follows_more side r kept bound farther stands follows is = record {
   moment = follows.moment;

@@ -10,7 +10,7 @@ use Rattle.turing.specs.Run.{Config, after}
 use Rattle.turing.specs.Translated.{Beyond, Farthest, Translated}
 use Rattle.turing.proofs.Heads.{one_farthest}
 use Rattle.tape.specs.Places.{SameBeyond}
-use Rattle.run.specs.Standing.{Standing, OnRun}
+use Rattle.run.specs.RunState.{RunState, OnRun}
 use Rattle.loops.specs.inside.Moment.{Moment, IsMomentOf}
 
 -- two configurations of a run, and the farthest head in between
@@ -68,7 +68,7 @@ stands_passed m side i j begin end bound shift c t =
     }
 
 -- what was kept of a run, and where a runner stands later
-pub compared : (side : Dir) (kept : Moment) (r : Standing) (bound shift : ℤ) → OnRun r → IsMomentOf r.table kept → Farthest (entry_of r.table) side kept.time r.steps bound
+pub compared : (side : Dir) (kept : Moment) (r : RunState) (bound shift : ℤ) → OnRun r → IsMomentOf r.table kept → Farthest (entry_of r.table) side kept.time r.steps bound
     → shift ≡ r.config.tape.head -ℤ kept.config.tape.head → Compared (entry_of r.table) side kept.time r.steps kept.config r.config bound shift
 compared side kept r bound shift stands begins farthest shift_is = record {
   begins = begins.at;

@@ -11,7 +11,7 @@ use Rattle.turing.specs.Translated.{Farthest}
 use Rattle.turing.proofs.RunLaws.{not_past}
 use Rattle.turing.proofs.Heads.{head_reach}
 use Rattle.tape.specs.Places.{IsWithinLimit}
-use Rattle.run.specs.Standing.{Standing, OnRun}
+use Rattle.run.specs.RunState.{RunState, OnRun}
 use Rattle.run.specs.Steps.{RunsTo, StepsTo}
 use Rattle.run.specs.declared.runner.Step.{Step}
 use Rattle.run.specs.declared.runner.Step.TheVariants.{Halts}
@@ -19,7 +19,7 @@ use Rattle.loops.specs.inside.Moment.{Moment, IsMomentOf}
 use Rattle.loops.specs.Limits.{time_limit}
 
 -- a run that halts in at most k steps has no time k
-pub halts_before : (k : ℕ) (old new : Standing) (step : Step) (count : ℕ) → RunsTo k old step new → step ≡ Halts count → (c : Config) → after (entry_of old.table) k ≡ Some c → ⊥
+pub halts_before : (k : ℕ) (old new : RunState) (step : Step) (count : ℕ) → RunsTo k old step new → step ≡ Halts count → (c : Config) → after (entry_of old.table) k ≡ Some c → ⊥
 halts_before k old new step count runs is_halts c is =
     let halts = subst (λ (s : Step). RunsTo k old s new) is_halts runs in
     let late : k < count = not_past (entry_of old.table) k count c is halts.1.halts in
@@ -27,11 +27,11 @@ halts_before k old new step count runs is_halts c is =
     omega arith
 
 -- a run that halts with the next step has no time after this one
-pub halts_now : (old new : Standing) (step : Step) (count : ℕ) → StepsTo old step new → step ≡ Halts count → (c : Config) → after (entry_of old.table) (old.steps + 1) ≡ Some c → ⊥
+pub halts_now : (old new : RunState) (step : Step) (count : ℕ) → StepsTo old step new → step ≡ Halts count → (c : Config) → after (entry_of old.table) (old.steps + 1) ≡ Some c → ⊥
 halts_now old new step count steps is_halts c is =
     let halts = subst (λ (s : Step). StepsTo old s new) is_halts steps in
     let late : old.steps + 1 < count = not_past (entry_of old.table) (old.steps + 1) count c is halts.1.halts in
-    let same : new.steps ≡ old.steps = ap (λ (r : Standing). r.steps) halts.0 in
+    let same : new.steps ≡ old.steps = ap (λ (r : RunState). r.steps) halts.0 in
     let last : count ≡ new.steps + 1 = halts.1.last in
     omega arith
 
@@ -68,7 +68,7 @@ shift_within x y near other =
 pub near_moment : (p : Packed) (moment : Moment) → IsMomentOf p moment → moment.time ≤ time_limit → IsNear moment.config.tape.head
 near_moment p moment is early = near_at (entry_of p) moment.time moment.config is.at early
 
-pub near_standing : (r : Standing) → OnRun r → r.steps ≤ time_limit → IsNear r.config.tape.head
+pub near_standing : (r : RunState) → OnRun r → r.steps ≤ time_limit → IsNear r.config.tape.head
 near_standing r stands early = near_at (entry_of r.table) r.steps r.config stands.at early
 
 pub shift_fits : (x y : ℤ) → IsNear x → IsNear y → FitsSigned w64 (y -ℤ x)

@@ -1,6 +1,6 @@
 // What a search for cycles keeps of a run.
 ghost use Rattle.std.specs.Prelude.{◌≡◌, ◌≤◌, OnOk};
-ghost use Rattle.run.specs.Standing.{OnRun};
+ghost use Rattle.run.specs.RunState.{OnRun};
 ghost use Rattle.loops.specs.Limits.{time_limit};
 
 use crate::allowance::Allowance;

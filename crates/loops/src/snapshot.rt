@@ -2,7 +2,7 @@
 ghost use Rattle.std.specs.Prelude.{◌≡◌, ◌↔◌, ◌≤◌, IfOk, OnOk, IsTrue, ℤ, pos, ◌+ℤ◌, ◌-ℤ◌};
 ghost use Rattle.machine_text.specs.Packed.{entry_of};
 ghost use Rattle.turing.specs.Translated.{Beyond, Farthest, Translated};
-ghost use Rattle.run.specs.Standing.{OnRun};
+ghost use Rattle.run.specs.RunState.{OnRun};
 ghost use Rattle.tape.specs.Places.{IsWithinLimit};
 ghost use Rattle.loops.specs.Limits.{time_limit};
 

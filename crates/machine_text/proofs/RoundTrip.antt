@@ -10,7 +10,7 @@ use Rattle.machine_text.specs.declared.transition.Dir.TheVariants.{L, R}
 use Rattle.machine_text.specs.declared.transition.Entry.{Entry}
 use Rattle.machine_text.specs.Packed.{Packed, IsTable, symbol_number, symbol_of, coded_entry, pair_place, entry_of, tabulated}
 use Rattle.machine_text.specs.Text.{symbol_byte, direction_byte, text_of, states_in, is_table_length, is_state_letter, may_begin, may_direct, may_end, fault_at, faults_of, entry_named, table_named, table_of}
-use Rattle.machine_text.specs.Inside.{entry_byte, byte_at}
+use Rattle.machine_text.specs.inside.{entry_byte, byte_at}
 use Rattle.machine_text.proofs.Ranges.{found_nowhere}
 use Rattle.machine_text.proofs.Tables.{symbol_number-le, symbol_of-symbol_number, entry_with, same_entry, same_table, IsTable-tabulated, entry_of-tabulated}
 use Rattle.machine_text.proofs.Rows.{length-text_of, get_or-text_of, byte_in_row, byte_of_bar}

@@ -11,7 +11,7 @@ use Rattle.machine_text.specs.declared.transition.Entry.{Entry}
 use Rattle.machine_text.specs.Packed.{Packed, symbol_number, symbol_of, coded_entry, entry_of}
 use Rattle.machine_text.proofs.Tables.{symbol_number-symbol_of}
 use Rattle.machine_text.specs.Text.{entry_text, row_text, text_of}
-use Rattle.machine_text.specs.Inside.{entry_byte, byte_at}
+use Rattle.machine_text.specs.inside.{entry_byte, byte_at}
 
 pub length-entry_text : (o : Option Entry) → length (entry_text o) ≡ 3
 length-entry_text None = refl

@@ -2,4 +2,4 @@ pub mod Limits
 pub mod Fault
 pub mod Packed
 pub mod Text
-pub mod Inside
+pub mod inside

@@ -2,7 +2,7 @@
 ghost use Rattle.std.specs.Prelude.{◌≡◌, ◌+◌, ◌*◌, ◌<◌, ◌≤◌, true, false, [], ◌∷◌, List, length, IfSome, IfNone, OnOk, IfErr};
 ghost use Rattle.machine_text.specs.declared.faults.TextFault.{TextFault as Fault};
 ghost use Rattle.machine_text.specs.Text.{is_table_length, states_in, fault_at, faults_of, entry_named, table_named, may_begin, may_direct, may_end, is_state_letter, symbol_byte, direction_byte};
-ghost use Rattle.machine_text.specs.Inside.{entry_byte};
+ghost use Rattle.machine_text.specs.inside.{entry_byte};
 ghost use Rattle.std.specs.Option.{ForSome};
 ghost use Rattle.machine_text.specs.Limits.{state_limit};
 

@@ -37,7 +37,7 @@ impl Table {
     ghost use Rattle.machine_text.specs.Packed.{IsTable, entry_of, filled, with_entry, empty_table, holes};
     ghost use Rattle.machine_text.specs.declared.transition.Sym.{Sym as Symbol};
     ghost use Rattle.machine_text.specs.Text.{table_of, text_of};
-    ghost use Rattle.machine_text.specs.Inside.{byte_at};
+    ghost use Rattle.machine_text.specs.inside.{byte_at};
 
     /// The table of n states in which each pair is undefined.
     pub fn empty(n: u8) -> Table

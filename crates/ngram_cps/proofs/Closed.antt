@@ -11,11 +11,11 @@ use Rattle.machine_text.specs.declared.transition.Entry.{Entry}
 use Rattle.machine_text.specs.Packed.{Packed, entry_of, symbol_of}
 use Rattle.machine_text.specs.Text.{symbol_byte}
 use Rattle.turing.specs.Program.{Program}
-use Rattle.turing.specs.PositionSet.{Local, IsClosed}
+use Rattle.turing.specs.PositionSet.{Local, IsClosedSet}
 use Rattle.ngram_cps.specs.Listing.{item, IsListing, IsItem}
 use Rattle.ngram_cps.specs.Words.{word_text, local_text, AreLocals}
 use Rattle.ngram_cps.specs.Lists.{Lists, IsLocalItem, IsPositionSet}
-use Rattle.ngram_cps.specs.inside.Steps.{FollowsRight, FollowsLeft, StepsRight, StepsLeft, StepsTo, StepsBy, GoesOn, EachGoesOn, HoldBlank}
+use Rattle.ngram_cps.specs.inside.Steps.{FollowsRight, FollowsLeft, StepsRight, StepsLeft, FollowsSide, StepsBy, GoesOn, EachGoesOn, HoldBlank}
 use Rattle.ngram_cps.proofs.Sorted.{end_of, place_of, item_size}
 use Rattle.ngram_cps.proofs.Texts.{zero_text, state_byte, read_byte, symbol_again, text_r, left_is_r, right_is_r, local_is_r, text_l, left_is_l, right_is_l, local_is_l, spelled, spelled_left, spelled_right, spelled_text}
 
@@ -111,11 +111,11 @@ module _ (m : Program) (s : Lists) (count : ℕ) (width : 1 ≤ s.width) (size :
       let place : at.place < count = place_of (2 * s.width + 2) count at.place (length s.local) size at.within in
       step_of m s c i.left (subst (GoesOn m s) at.is (goes.each at.place place))
 
-  steps_at : EachGoesOn m s count → (c : Local) → IsLocalItem s c → (e : Entry) → m c.state c.read ≡ Some e → (d : Dir) → e.dir ≡ d → StepsTo d s (local_text c) e
+  steps_at : EachGoesOn m s count → (c : Local) → IsLocalItem s c → (e : Entry) → m c.state c.read ≡ Some e → (d : Dir) → e.dir ≡ d → FollowsSide d s (local_text c) e
   steps_at goes c i e is d dir =
-      subst (λ f. StepsTo f s (local_text c) e) dir (subst (λ o. StepsBy o s (local_text c)) is (goes_at goes c i))
+      subst (λ f. FollowsSide f s (local_text c) e) dir (subst (λ o. StepsBy o s (local_text c)) is (goes_at goes c i))
 
-  pub closed_from : HoldBlank s → EachGoesOn m s count → IsClosed s.width m (λ w. IsItem s.width s.left (word_text w)) (λ w. IsItem s.width s.right (word_text w)) (IsLocalItem s)
+  pub closed_from : HoldBlank s → EachGoesOn m s count → IsClosedSet s.width m (λ w. IsItem s.width s.left (word_text w)) (λ w. IsItem s.width s.right (word_text w)) (IsLocalItem s)
   unfolding text_r text_l GoesRight GoesLeft
   closed_from blank goes = record {
     width = width;
@@ -149,7 +149,7 @@ unsnoc (x ∷ []) some = ([], x, refl)
 unsnoc (x ∷ y ∷ ys) some = let (l, z, is) = unsnoc (y ∷ ys) (omega arith) in (x ∷ l, z, ap (λ w. x ∷ w) is)
 
 module _ (m : Program) (s : Lists) (count : ℕ) (size : length s.local + 1 ≡ count * ((2 * s.width + 2) + 1))
-    (closed : IsClosed s.width m (λ w. IsItem s.width s.left (word_text w)) (λ w. IsItem s.width s.right (word_text w)) (IsLocalItem s)) where
+    (closed : IsClosedSet s.width m (λ w. IsItem s.width s.left (word_text w)) (λ w. IsItem s.width s.right (word_text w)) (IsLocalItem s)) where
   rights_from : (e : Entry) (t : Sym) (q : ℕ) → m q t ≡ Some e → e.dir ≡ R → (ls rs : List Sym) → IsLocalItem s (record { left = ls; state = q; read = t; right = rs }) →
       StepsRight s (local_text (record { left = ls; state = q; read = t; right = rs })) e
   unfolding text_r GoesRight
@@ -184,7 +184,7 @@ module _ (m : Program) (s : Lists) (count : ℕ) (size : length s.local + 1 ≡ 
   steps_from : (c : Local) → IsLocalItem s c → StepsBy (m c.state c.read) s (local_text c)
   steps_from c i = by (m c.state c.read) refl
     where
-      to : (e : Entry) → m c.state c.read ≡ Some e → (d : Dir) → e.dir ≡ d → StepsTo d s (local_text c) e
+      to : (e : Entry) → m c.state c.read ≡ Some e → (d : Dir) → e.dir ≡ d → FollowsSide d s (local_text c) e
       to e is L dir = lefts_from e c.read c.state is dir c.left c.right i
       to e is R dir = rights_from e c.read c.state is dir c.left c.right i
 

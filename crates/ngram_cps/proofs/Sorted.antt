@@ -11,7 +11,7 @@ use Rattle.std.proofs.lemmas.Cmp.{nat_list_cmp_total, tied_itself}
 use Rattle.std.proofs.lemmas.List.{length-take, length-drop}
 use Rattle.std.proofs.Math.Nat.{mul-le-mul_left}
 use Rattle.ngram_cps.specs.Listing.{item, IsListing, IsItem}
-use Rattle.ngram_cps.specs.inside.Sorted.{RisesTo, IsBetween}
+use Rattle.ngram_cps.specs.inside.Sorted.{RisesTo, StandsBetween}
 
 -- a place is one of the items' where so many bytes are there
 pub end_of : (w count k size : ℕ) → size + 1 ≡ count * (w + 1) → k < count → k * (w + 1) + w ≤ size
@@ -87,7 +87,7 @@ turned_back : (a b : List ℕ) → slice_cmp nat_cmp b a ≡ Less → slice_cmp 
 turned_back a b less = nat_list_cmp_total.antisymm a b ∙ ap ordering_reverse less
 
 -- the search begins between the ends
-pub between_first : (w count : ℕ) (text word : List ℕ) → IsBetween w count text word 0 count
+pub between_first : (w count : ℕ) (text word : List ℕ) → StandsBetween w count text word 0 count
 between_first w count text word = record {
   order = omega arith;
   last = omega arith;
@@ -96,8 +96,8 @@ between_first w count text word = record {
 }
 
 -- and goes on above an item that is less, or below one that is greater
-pub go_up : (w count : ℕ) (text word bytes : List ℕ) (low high middle : ℕ) → IsListing w count text → IsBetween w count text word low high → low ≤ middle → middle < high
-    → bytes ≡ item w text middle → slice_cmp nat_cmp bytes word ≡ Less → IsBetween w count text word (middle + 1) high
+pub go_up : (w count : ℕ) (text word bytes : List ℕ) (low high middle : ℕ) → IsListing w count text → StandsBetween w count text word low high → low ≤ middle → middle < high
+    → bytes ≡ item w text middle → slice_cmp nat_cmp bytes word ≡ Less → StandsBetween w count text word (middle + 1) high
 go_up w count text word bytes low high middle l b from to is less =
     let here : slice_cmp nat_cmp (item w text middle) word ≡ Less = ap (λ x. slice_cmp nat_cmp x word) (sym is) ∙ less in
     let last = b.last in
@@ -111,8 +111,8 @@ go_up w count text word bytes low high middle l b from to is less =
       above = b.above;
     }
 
-pub go_down : (w count : ℕ) (text word bytes : List ℕ) (low high middle : ℕ) → IsListing w count text → IsBetween w count text word low high → low ≤ middle → middle < high
-    → bytes ≡ item w text middle → slice_cmp nat_cmp bytes word ≡ Greater → IsBetween w count text word low middle
+pub go_down : (w count : ℕ) (text word bytes : List ℕ) (low high middle : ℕ) → IsListing w count text → StandsBetween w count text word low high → low ≤ middle → middle < high
+    → bytes ≡ item w text middle → slice_cmp nat_cmp bytes word ≡ Greater → StandsBetween w count text word low middle
 go_down w count text word bytes low high middle l b from to is more =
     let here : slice_cmp nat_cmp word (item w text middle) ≡ Less = turned (item w text middle) word (ap (λ x. slice_cmp nat_cmp x word) (sym is) ∙ more) in
     let last = b.last in
@@ -135,7 +135,7 @@ found w count text word bytes middle l within is equal = record {
 }
 
 -- with nothing in between, it isn't there
-pub not_found : (w count : ℕ) (text word : List ℕ) (low high : ℕ) → IsListing w count text → IsBetween w count text word low high → high ≤ low → IsItem w text word → ⊥
+pub not_found : (w count : ℕ) (text word : List ℕ) (low high : ℕ) → IsListing w count text → StandsBetween w count text word low high → high ≤ low → IsItem w text word → ⊥
 not_found w count text word low high l b none i =
     let within = place_of w count i.place (length text) l.size i.within in
     let tied : slice_cmp nat_cmp (item w text i.place) word ≡ Equal = ap (λ x. slice_cmp nat_cmp x word) i.is ∙ tied_itself nat_list_cmp_total word in

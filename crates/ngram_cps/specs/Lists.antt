@@ -1,7 +1,7 @@
 -- Three lists in text, and when they are a closed position set of a table.
 use Rattle.std.specs.Prelude.{◌≡◌, ℕ, ◌+◌, ◌*◌, ◌≤◌, List, length}
 use Rattle.machine_text.specs.Packed.{Packed, entry_of}
-use Rattle.turing.specs.PositionSet.{Local, IsClosed}
+use Rattle.turing.specs.PositionSet.{Local, IsClosedSet}
 use Rattle.ngram_cps.specs.Limits.{width_limit, list_byte_limit}
 use Rattle.ngram_cps.specs.Listing.{IsItem}
 use Rattle.ngram_cps.specs.Words.{word_text, local_text, IsWordList, IsLocalList}
@@ -38,4 +38,4 @@ pub record IsLocalItem (s : Lists) (c : Local) : Type 0 where
 -- the table has as many states as they were made for, and no step of it leaves them
 pub record IsPositionSet (s : Lists) (p : Packed) : Type 0 where
   pub states : s.states ≡ p.states
-  pub closed : IsClosed s.width (entry_of p) (λ w. IsItem s.width s.left (word_text w)) (λ w. IsItem s.width s.right (word_text w)) (IsLocalItem s)
+  pub closed : IsClosedSet s.width (entry_of p) (λ w. IsItem s.width s.left (word_text w)) (λ w. IsItem s.width s.right (word_text w)) (IsLocalItem s)

@@ -2,7 +2,7 @@
 ghost use Rattle.std.specs.Prelude.{◌≡◌, ◌≤◌, None, IfSome};
 ghost use Rattle.machine_text.specs.Limits.{state_limit};
 ghost use Rattle.ledger.specs.Tally.{IsStatus};
-ghost use Rattle.ledger.specs.declared.status.Status.{Status as Standing};
+ghost use Rattle.ledger.specs.declared.status.Status.{Status as BoardStatus};
 ghost use Rattle.ledger_commands.specs.LedgerReport.{outcome_by};
 
 use crate::faults::{by_start, by_turn};
@@ -124,7 +124,7 @@ fn take_turns<N: Node, L: LedgerOut, R: Read, W: Write>(
 
 // Accepted where a coordinator's board is complete.
 pub fn outcome_of(node: &Coordinator) -> Outcome
-    ensures board { IfSome node.now.held (λ held. (status : Standing) × IsStatus held.board.root held.board.records status × (result ≡ outcome_by status Left.Nothing)) }
+    ensures board { IfSome node.now.held (λ held. (status : BoardStatus) × IsStatus held.board.root held.board.records status × (result ≡ outcome_by status Left.Nothing)) }
     ensures none { node.now.held ≡ None → result ≡ Outcome.Refused }
 {
     match node.board() {

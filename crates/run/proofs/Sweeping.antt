@@ -9,26 +9,26 @@ use Rattle.turing.proofs.Heads.{head_reach}
 use Rattle.tape.specs.Places.{IsWithinLimit}
 use Rattle.tape.specs.Sweeps.{swept, Sweeps}
 use Rattle.run.specs.Limits.{run_step_limit}
-use Rattle.run.specs.Standing.{Standing, OnRun}
+use Rattle.run.specs.RunState.{RunState, OnRun}
 use Rattle.run.proofs.Standings.{stands_next, step_is}
 
 -- as far as steps are left, the head stays within the limit
-pub room_left : (r : Standing) (k : ℕ) → OnRun r → r.steps ≤ k → k ≤ run_step_limit → IsWithinLimit (r.config.tape.head -ℤ pos (k - r.steps))
+pub room_left : (r : RunState) (k : ℕ) → OnRun r → r.steps ≤ k → k ≤ run_step_limit → IsWithinLimit (r.config.tape.head -ℤ pos (k - r.steps))
 room_left r k stands onward limit =
     let reach = head_reach (entry_of r.table) r.steps start r.config stands.at in
     record { low = omega (arith, ints, reach.0, onward, limit); high = omega (arith, ints, reach.1, onward, limit) }
 
-pub room_right : (r : Standing) (k : ℕ) → OnRun r → r.steps ≤ k → k ≤ run_step_limit → IsWithinLimit (r.config.tape.head +ℤ pos (k - r.steps))
+pub room_right : (r : RunState) (k : ℕ) → OnRun r → r.steps ≤ k → k ≤ run_step_limit → IsWithinLimit (r.config.tape.head +ℤ pos (k - r.steps))
 room_right r k stands onward limit =
     let reach = head_reach (entry_of r.table) r.steps start r.config stands.at in
     record { low = omega (arith, ints, reach.0, onward, limit); high = omega (arith, ints, reach.1, onward, limit) }
 
 -- so many steps later, in the same state, on this tape
-abbrev pub later : Standing → ℕ → Tape → Standing
+abbrev pub later : RunState → ℕ → Tape → RunState
 later r i t = record { table = r.table; steps = r.steps + i; config = record { state = r.config.state; tape = t } }
 
 -- each cell of a sweep is a step
-stands_on_way : (r : Standing) (e : Entry) (count : ℕ) (t : Tape) → OnRun r → entry_of r.table r.config.state (symbol_read r.config.tape) ≡ Some e → e.next.0 ≡ r.config.state
+stands_on_way : (r : RunState) (e : Entry) (count : ℕ) (t : Tape) → OnRun r → entry_of r.table r.config.state (symbol_read r.config.tape) ≡ Some e → e.next.0 ≡ r.config.state
     → Sweeps e.dir e.write r.config.tape count t → r.steps + count ≤ run_step_limit
     → (i : ℕ) → i ≤ count → OnRun (later r i (swept e.dir e.write r.config.tape i))
 unfolding swept
@@ -47,7 +47,7 @@ stands_on_way r e count t stands entry stays sweeps limit (suc i) within =
     subst (λ n. OnRun (record { table = r.table; steps = n; config = record { state = r.config.state; tape = moved (written way e.write) e.dir } })) count_on
     (subst (λ q. OnRun (record { table = r.table; steps = r.steps + i + 1; config = record { state = q; tape = moved (written way e.write) e.dir } })) stays stood)
 
-pub stands_swept : (r : Standing) (e : Entry) (count : ℕ) (t : Tape) → OnRun r → entry_of r.table r.config.state (symbol_read r.config.tape) ≡ Some e → e.next.0 ≡ r.config.state
+pub stands_swept : (r : RunState) (e : Entry) (count : ℕ) (t : Tape) → OnRun r → entry_of r.table r.config.state (symbol_read r.config.tape) ≡ Some e → e.next.0 ≡ r.config.state
     → Sweeps e.dir e.write r.config.tape count t → r.steps + count ≤ run_step_limit → OnRun (later r count t)
 stands_swept r e count t stands entry stays sweeps limit =
     subst (λ u. OnRun (later r count u)) (sym sweeps.after) (stands_on_way r e count t stands entry stays sweeps limit count (omega arith))

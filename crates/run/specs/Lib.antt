@@ -1,4 +1,4 @@
 pub mod Limits
-pub mod Standing
-pub mod Inside
+pub mod RunState
+pub mod inside
 pub mod Steps

@@ -1,7 +1,7 @@
 //! Runs of a table from the blank tape, and the evidence that one halts.
 //!
 //! A `Runner` stands at a time of the run; `HaltsIn` is the evidence of a run that halts. `specs/` says where a
-//! runner stands (`Standing`) and what its steps do (`Steps`). What evidence and verdicts are is said in the
+//! runner stands (`RunState`) and what its steps do (`Steps`). What evidence and verdicts are is said in the
 //! crate `evidence`, whose names are passed on.
 #![tactic(auto)]
 

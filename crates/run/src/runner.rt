@@ -28,25 +28,25 @@ pub struct Runner {
 }
 
 impl Model for Runner {
-    ghost use Rattle.run.specs.Standing.{Standing, standing_code, OnRun};
+    ghost use Rattle.run.specs.RunState.{RunState, run_state_code, OnRun};
 
-    ghost Value = { Standing };
+    ghost Value = { RunState };
 
-    ghost coded = { standing_code };
+    ghost coded = { run_state_code };
 
-    ghost use Rattle.run.specs.Inside.{standing_of};
+    ghost use Rattle.run.specs.inside.{run_state_of};
 
-    ghost view = { standing_of };
+    ghost view = { run_state_of };
 
-    ghost invariant = { λ a. OnRun (standing_of a) };
+    ghost invariant = { λ a. OnRun (run_state_of a) };
 }
 
 impl Runner {
     ghost use Rattle.turing.specs.Run.{start};
     ghost use Rattle.run.specs.Limits.{run_step_limit};
-    ghost use Rattle.run.specs.Standing.{OnRun};
+    ghost use Rattle.run.specs.RunState.{OnRun};
     ghost use Rattle.run.specs.Steps.{StepsTo, RunsTo, IsBetween};
-    ghost use Rattle.run.specs.Inside.{AdvancesTo};
+    ghost use Rattle.run.specs.inside.{AdvancesTo};
 
     /// The run at time 0.
     pub fn new(alloc: Global, t: Table) -> Result<Runner, NoMemory>

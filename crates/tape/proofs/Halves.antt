@@ -15,8 +15,8 @@ use Rattle.machine_text.specs.declared.transition.Dir.TheVariants.{L, R}
 use Rattle.turing.specs.Tape.{Tape, cell_of}
 use Rattle.turing.specs.Translated.{Beyond}
 use Rattle.tape.specs.Places.{SameBeyond}
-use Rattle.tape.specs.Word.{symbol_of, Holds}
-use Rattle.tape.specs.Inside.{place_of, HasOnesWithin, IsReached, OnesWithin, WordWithin}
+use Rattle.tape.specs.Word.{bit_symbol, Holds}
+use Rattle.tape.specs.inside.{place_numbered, HasOnesWithin, IsReached, OnesWithin, WordWithin}
 use Rattle.tape.proofs.Cells.{same_ones, same_tape}
 use Rattle.tape.proofs.WordBits.{bit_of-one, none_missing, missing_none}
 use Rattle.tape.proofs.Places.{Beyond-saturated}
@@ -24,50 +24,50 @@ use Rattle.tape.proofs.Places.{Beyond-saturated}
 -- a loop from the word `begin` on has come to the word `block`, and each one before it has its one in the other tape
 pub record IsLookedAt (side : Dir) (from shift : ℤ) (begin block : ℕ) (ones others : set.FinSet int_cmp) : Type 0 where
   pub ordered : begin ≤ block
-  pub ones_are_in : (x : ℤ) → place_of (64 * begin) ≤ℤ x → x <ℤ place_of (64 * block) → Beyond side from x → cell_of ones x ≡ One → cell_of others (x +ℤ shift) ≡ One
+  pub ones_are_in : (x : ℤ) → place_numbered (64 * begin) ≤ℤ x → x <ℤ place_numbered (64 * block) → Beyond side from x → cell_of ones x ≡ One → cell_of others (x +ℤ shift) ≡ One
 
 -- one word more
 pub IsLookedAt-more : (side : Dir) (from shift : ℤ) (begin block next : ℕ) (ones others : set.FinSet int_cmp) → next ≡ block + 1 → IsLookedAt side from shift begin block ones others → WordWithin side from shift block ones others → IsLookedAt side from shift begin next ones others
 IsLookedAt-more side from shift begin block next ones others more before here = record {
   ordered = let ordered = before.ordered in omega arith;
-  ones_are_in = λ x low lt beyond one. by_lt_z x (place_of (64 * block))
+  ones_are_in = λ x low lt beyond one. by_lt_z x (place_numbered (64 * block))
       (λ less. before.ones_are_in x low less beyond one)
-      (λ le. let i = unsigned_abs (x -ℤ place_of (64 * block)) in
-      let place : x ≡ place_of (64 * block + i) = omega (arith, ints) in
+      (λ le. let i = unsigned_abs (x -ℤ place_numbered (64 * block)) in
+      let place : x ≡ place_numbered (64 * block + i) = omega (arith, ints) in
       ap (λ z. cell_of others (z +ℤ shift)) place
       ∙ here i (omega (arith, ints)) (subst (Beyond side from) place beyond) (sym (ap (cell_of ones) place) ∙ one));
 }
 
 -- all the words that can hold ones were looked at
-pub OnesWithin-looked : (side : Dir) (from shift : ℤ) (begin end block : ℕ) (ones others : set.FinSet int_cmp) → HasOnesWithin ones (place_of (64 * begin)) (place_of (64 * end) -ℤ pos 1) → IsLookedAt side from shift begin block ones others → end ≤ block → OnesWithin side from shift ones others
+pub OnesWithin-looked : (side : Dir) (from shift : ℤ) (begin end block : ℕ) (ones others : set.FinSet int_cmp) → HasOnesWithin ones (place_numbered (64 * begin)) (place_numbered (64 * end) -ℤ pos 1) → IsLookedAt side from shift begin block ones others → end ≤ block → OnesWithin side from shift ones others
 OnesWithin-looked side from shift begin end block ones others within looked done x beyond one =
     looked.ones_are_in x (within.low x one) (omega (arith, ints, within.high x one)) beyond one
 
 -- what was found missing in a word is missing
 pub WordWithin-all : (side : Dir) (from shift : ℤ) (block : ℕ) (ones others : set.FinSet int_cmp) → OnesWithin side from shift ones others → WordWithin side from shift block ones others
-WordWithin-all side from shift block ones others all i inside beyond one = all (place_of (64 * block + i)) beyond one
+WordWithin-all side from shift block ones others all i inside beyond one = all (place_numbered (64 * block + i)) beyond one
 
 -- a test of one word with the mask of its places at or beyond another place
 pub WordWithin-bits : (side : Dir) (from shift : ℤ) (block a m b : ℕ) (ones others : set.FinSet int_cmp) (r : Bool) → a < 2 ^ 64 → m < 2 ^ 64 → b < 2 ^ 64
-    → Holds a ones (place_of (64 * block)) → ((i : ℕ) → i < 64 → (bit_at m i ≡ 1) ↔ Beyond side from (place_of (64 * block + i))) → Holds b others (place_of (64 * block) +ℤ shift)
+    → Holds a ones (place_numbered (64 * block)) → ((i : ℕ) → i < 64 → (bit_at m i ≡ 1) ↔ Beyond side from (place_numbered (64 * block + i))) → Holds b others (place_numbered (64 * block) +ℤ shift)
     → (IsTrue r ↔ (bit_and (bit_and a m) (bit_not w64 b) ≡ 0)) → IsTrue r ↔ WordWithin side from shift block ones others
 WordWithin-bits side from shift block a m b ones others r fits_a fits_m fits_b first mask second test = (there, back)
   where
-    here : (i : ℕ) → place_of (64 * block) +ℤ pos i ≡ place_of (64 * block + i)
+    here : (i : ℕ) → place_numbered (64 * block) +ℤ pos i ≡ place_numbered (64 * block + i)
     here i = omega (arith, ints)
 
-    away : (i : ℕ) → (place_of (64 * block) +ℤ shift) +ℤ pos i ≡ place_of (64 * block + i) +ℤ shift
+    away : (i : ℕ) → (place_numbered (64 * block) +ℤ shift) +ℤ pos i ≡ place_numbered (64 * block + i) +ℤ shift
     away i = omega (arith, ints)
 
     there : IsTrue r → WordWithin side from shift block ones others
     there t i inside beyond one =
         let set : bit_at a i ≡ 1 = bit_of-one (bit_at a i) (bit_at-lt a i) (first i inside ∙ ap (cell_of ones) (here i) ∙ one) in
         let found : bit_at b i ≡ 1 = none_missing a m b fits_b (test.0 t) i inside set ((mask i inside).1 beyond) in
-        sym (ap (cell_of others) (away i)) ∙ sym (second i inside) ∙ ap symbol_of found
+        sym (ap (cell_of others) (away i)) ∙ sym (second i inside) ∙ ap bit_symbol found
 
     back : WordWithin side from shift block ones others → IsTrue r
     back all = test.1 (missing_none a m b fits_a fits_b (omega (arith, and_le_l (bit_and a m) (bit_not w64 b), and_le_l a m)) (λ i inside set masked.
-        bit_of-one (bit_at b i) (bit_at-lt b i) (second i inside ∙ ap (cell_of others) (away i) ∙ all i inside ((mask i inside).0 masked) (sym (ap (cell_of ones) (here i)) ∙ sym (first i inside) ∙ ap symbol_of set))))
+        bit_of-one (bit_at b i) (bit_at-lt b i) (second i inside ∙ ap (cell_of others) (away i) ∙ all i inside ((mask i inside).0 masked) (sym (ap (cell_of ones) (here i)) ∙ sym (first i inside) ∙ ap bit_symbol set))))
 
 -- to begin at the last place of the program's range, in place of one beyond it, skips and adds no one
 pub OnesWithin-saturated : (side : Dir) (ones others : set.FinSet int_cmp) (from shift : ℤ) → IsReached ones → OnesWithin side (saturate_signed w64 from) shift ones others ↔ OnesWithin side from shift ones others

@@ -7,8 +7,8 @@ use Rattle.std.proofs.lemmas.Nat.{pow_pos, pow-add}
 use Rattle.machine_text.specs.declared.transition.Sym.TheVariants.{Zero, One}
 use Rattle.machine_text.specs.declared.transition.Dir.{Dir}
 use Rattle.machine_text.specs.declared.transition.Dir.TheVariants.{L, R}
-use Rattle.tape.specs.Word.{symbol_of}
-use Rattle.tape.specs.Inside.{bit_ahead, HasCells, IsLowest}
+use Rattle.tape.specs.Word.{bit_symbol}
+use Rattle.tape.specs.inside.{bit_ahead, HasCells, IsLowest}
 use Rattle.tape.proofs.WordBits.{shifted_down, bit_at_low}
 
 -- ones at the bits that differ from one
@@ -20,19 +20,19 @@ abbrev UpTo : ℕ → ℕ → Type 0
 UpTo mask k = (i : ℕ) → i < 64 → (bit_at mask i ≡ 1) ↔ (i < k + 1)
 
 -- the bits that differ, by the one that they differ from
-bit_of-zero : (x : ℕ) → x < 2 → Zero ≡ symbol_of x → x ≡ 0
+bit_of-zero : (x : ℕ) → x < 2 → Zero ≡ bit_symbol x → x ≡ 0
 bit_of-zero zero small is = refl
 bit_of-zero (suc x) small is = absurd cc
 
-bit_of-set : (x : ℕ) → x < 2 → One ≡ symbol_of x → x ≡ 1
+bit_of-set : (x : ℕ) → x < 2 → One ≡ bit_symbol x → x ≡ 1
 bit_of-set zero small is = absurd cc
 bit_of-set (suc zero) small is = refl
 bit_of-set (suc (suc x)) small is = absurd (omega (arith, small))
 
-pub differ_from-zero : (w k : ℕ) → Zero ≡ symbol_of (bit_at w k) → Differ w w k
+pub differ_from-zero : (w k : ℕ) → Zero ≡ bit_symbol (bit_at w k) → Differ w w k
 differ_from-zero w k is i inside = let none = bit_of-zero (bit_at w k) (bit_at-lt w k) is in (λ e. e ∙ sym none, λ e. e ∙ none)
 
-pub differ_from-one : (w k : ℕ) → w < 2 ^ 64 → One ≡ symbol_of (bit_at w k) → Differ (bit_not w64 w) w k
+pub differ_from-one : (w k : ℕ) → w < 2 ^ 64 → One ≡ bit_symbol (bit_at w k) → Differ (bit_not w64 w) w k
 differ_from-one w k fits is i inside =
     let one = bit_of-set (bit_at w k) (bit_at-lt w k) is in
     let turned = bit_at_not w64 w i fits inside in
@@ -171,25 +171,25 @@ set_off u n low j some up off inside =
         ]
 
 -- a word with those cells set, and cleared
-pub ones_here : (d : Dir) (w u k n low : ℕ) → 0 < n → HasCells d k n → IsLowest d k n low → UpTo u (n - 1) → (i : ℕ) → i < n → bit_ahead d k i < 64 → symbol_of (bit_at (bit_or w (u * 2 ^ low % 2 ^ 64)) (bit_ahead d k i)) ≡ One
+pub ones_here : (d : Dir) (w u k n low : ℕ) → 0 < n → HasCells d k n → IsLowest d k n low → UpTo u (n - 1) → (i : ℕ) → i < n → bit_ahead d k i < 64 → bit_symbol (bit_at (bit_or w (u * 2 ^ low % 2 ^ 64)) (bit_ahead d k i)) ≡ One
 ones_here d w u k n low some room is up i less inside =
     let at = on_way d k n low i room is less in
     let set = set_on u n low (bit_ahead d k i) some up at.0 at.1 inside in
     let one : bit_at (bit_or w (u * 2 ^ low % 2 ^ 64)) (bit_ahead d k i) ≡ 1 = omega (arith, bit_at_or w (u * 2 ^ low % 2 ^ 64) (bit_ahead d k i), set, bit_at-lt w (bit_ahead d k i)) in
-    ap symbol_of one
+    ap bit_symbol one
 
 pub ones_others : (d : Dir) (w u k n low : ℕ) → 0 < n → HasCells d k n → IsLowest d k n low → UpTo u (n - 1) → (j : ℕ) → j < 64 → ((i : ℕ) → i < n → j ≢ bit_ahead d k i) → bit_at (bit_or w (u * 2 ^ low % 2 ^ 64)) j ≡ bit_at w j
 ones_others d w u k n low some room is up j inside none =
     let clear = set_off u n low j some up (off_way d k n low j room is none) inside in
     omega (arith, bit_at_or w (u * 2 ^ low % 2 ^ 64) j, clear, bit_at-lt w j)
 
-pub zeros_here : (d : Dir) (w u k n low : ℕ) → 0 < n → HasCells d k n → IsLowest d k n low → UpTo u (n - 1) → u * 2 ^ low % 2 ^ 64 < 2 ^ 64 → (i : ℕ) → i < n → bit_ahead d k i < 64 → symbol_of (bit_at (bit_and w (bit_not w64 (u * 2 ^ low % 2 ^ 64))) (bit_ahead d k i)) ≡ Zero
+pub zeros_here : (d : Dir) (w u k n low : ℕ) → 0 < n → HasCells d k n → IsLowest d k n low → UpTo u (n - 1) → u * 2 ^ low % 2 ^ 64 < 2 ^ 64 → (i : ℕ) → i < n → bit_ahead d k i < 64 → bit_symbol (bit_at (bit_and w (bit_not w64 (u * 2 ^ low % 2 ^ 64))) (bit_ahead d k i)) ≡ Zero
 zeros_here d w u k n low some room is up fits i less inside =
     let at = on_way d k n low i room is less in
     let set = set_on u n low (bit_ahead d k i) some up at.0 at.1 inside in
     let turned = bit_at_not w64 (u * 2 ^ low % 2 ^ 64) (bit_ahead d k i) fits inside in
     let none : bit_at (bit_and w (bit_not w64 (u * 2 ^ low % 2 ^ 64))) (bit_ahead d k i) ≡ 0 = omega (arith, bit_at_and w (bit_not w64 (u * 2 ^ low % 2 ^ 64)) (bit_ahead d k i), set, turned) in
-    ap symbol_of none
+    ap bit_symbol none
 
 pub zeros_others : (d : Dir) (w u k n low : ℕ) → 0 < n → HasCells d k n → IsLowest d k n low → UpTo u (n - 1) → u * 2 ^ low % 2 ^ 64 < 2 ^ 64 → (j : ℕ) → j < 64 → ((i : ℕ) → i < n → j ≢ bit_ahead d k i) → bit_at (bit_and w (bit_not w64 (u * 2 ^ low % 2 ^ 64))) j ≡ bit_at w j
 zeros_others d w u k n low some room is up fits j inside none =

@@ -8,8 +8,8 @@ use Rattle.std.proofs.lemmas.List.{reverse-append, length_push}
 use Rattle.machine_text.specs.declared.transition.Sym.{Sym}
 use Rattle.machine_text.specs.declared.transition.Dir.TheVariants.{L, R}
 use Rattle.turing.specs.Tape.{blank, symbol_read, written, moved}
-use Rattle.tape.specs.Word.{ones_of, symbol_of, symbols_of}
-use Rattle.tape.specs.Inside.{stored, place_of, IsNearest}
+use Rattle.tape.specs.Word.{ones_of, bit_symbol, symbols_of}
+use Rattle.tape.specs.inside.{stored, place_numbered, IsNearest}
 use Rattle.tape.proofs.Cells.{same_tape}
 use Rattle.tape.proofs.Packed.{same_words, get_or-blank_after, blank_word_before, cell_of-between, with_cell-words}
 
@@ -19,12 +19,12 @@ same_at x y v w e f = cc
 -- nothing is visited yet
 pub stored-blank : stored (2 ^ 57) 0 [] 0 [] ≡ blank
 unfolding ones_of symbols_of
-stored-blank = same_tape _ _ refl (blank_word_before (place_of (64 * 2 ^ 57) -ℤ pos (64 * 0)) (pos 64) [] refl)
+stored-blank = same_tape _ _ refl (blank_word_before (place_numbered (64 * 2 ^ 57) -ℤ pos (64 * 0)) (pos 64) [] refl)
 
-pub symbol_read-stored : (b k : ℕ) (left : List ℕ) (w : ℕ) (right : List ℕ) → k < 64 → symbol_read (stored b k left w right) ≡ symbol_of (bit_at w k)
+pub symbol_read-stored : (b k : ℕ) (left : List ℕ) (w : ℕ) (right : List ℕ) → k < 64 → symbol_read (stored b k left w right) ≡ bit_symbol (bit_at w k)
 symbol_read-stored b k left w right within = cell_of-between _ left (reverse right) w k _ within (omega (arith, ints))
 
-pub written-stored : (b k : ℕ) (left : List ℕ) (w w' : ℕ) (right : List ℕ) (s : Sym) → k < 64 → symbol_of (bit_at w' k) ≡ s → ((i : ℕ) → i < 64 → i ≢ k → bit_at w' i ≡ bit_at w i) → written (stored b k left w right) s ≡ stored b k left w' right
+pub written-stored : (b k : ℕ) (left : List ℕ) (w w' : ℕ) (right : List ℕ) (s : Sym) → k < 64 → bit_symbol (bit_at w' k) ≡ s → ((i : ℕ) → i < 64 → i ≢ k → bit_at w' i ≡ bit_at w i) → written (stored b k left w right) s ≡ stored b k left w' right
 written-stored b k left w w' right s within here others = same_tape _ _ refl (with_cell-words _ left (reverse right) w w' k s _ within (omega (arith, ints)) here others)
 
 -- a step inside the word
@@ -44,13 +44,13 @@ left_edge b b' left [] right right' w w' None to popped none is pushed =
     let size : length left ≡ 0 = ap length popped in
     let words : w' ∷ reverse right' ≡ 0 ∷ (w ∷ reverse right) = ap (λ a. a ∷ reverse right') is ∙ ap (λ v. 0 ∷ v) (reverse-push right right' w pushed) in
     let after : w ∷ reverse right ≡ left ++ w ∷ reverse right = ap (λ v. v ++ w ∷ reverse right) (sym popped) in
-    let first : place_of (64 * b') -ℤ pos (64 * 0) ≡ place_of (64 * b) -ℤ pos 64 = omega (arith, ints) in
-    let second : place_of (64 * b) ≡ place_of (64 * b) -ℤ pos (64 * length left) = omega (arith, ints) in
-    same_tape _ _ (omega (arith, ints)) (same_at _ _ _ _ first words ∙ blank_word_before (place_of (64 * b) -ℤ pos 64) (place_of (64 * b)) (w ∷ reverse right) (omega (arith, ints)) ∙ same_at _ _ _ _ second after)
+    let first : place_numbered (64 * b') -ℤ pos (64 * 0) ≡ place_numbered (64 * b) -ℤ pos 64 = omega (arith, ints) in
+    let second : place_numbered (64 * b) ≡ place_numbered (64 * b) -ℤ pos (64 * length left) = omega (arith, ints) in
+    same_tape _ _ (omega (arith, ints)) (same_at _ _ _ _ first words ∙ blank_word_before (place_numbered (64 * b) -ℤ pos 64) (place_numbered (64 * b)) (w ∷ reverse right) (omega (arith, ints)) ∙ same_at _ _ _ _ second after)
 left_edge b b' left (x ∷ left') right right' w w' None to popped none is pushed = absurd (omega (arith, none))
 left_edge b b' left left' right right' w w' (Some r) to popped none is pushed =
     let size : length left ≡ length left' + 1 = ap length popped ∙ length_push left' r in
-    let first : place_of (64 * b') -ℤ pos (64 * length left') ≡ place_of (64 * b) -ℤ pos (64 * length left) = omega (arith, ints) in
+    let first : place_numbered (64 * b') -ℤ pos (64 * length left') ≡ place_numbered (64 * b) -ℤ pos (64 * length left) = omega (arith, ints) in
     let tail : w' ∷ reverse right' ≡ r ∷ (w ∷ reverse right) = ap (λ a. a ∷ reverse right') is ∙ ap (λ v. r ∷ v) (reverse-push right right' w pushed) in
     let words : left' ++ w' ∷ reverse right' ≡ left ++ w ∷ reverse right = ap (λ v. left' ++ v) tail ∙ sym (append_assoc left' (r ∷ []) (w ∷ reverse right)) ∙ ap (λ v. v ++ w ∷ reverse right) (sym popped) in
     same_tape _ _ (omega (arith, ints)) (same_at _ _ _ _ first words)
@@ -59,14 +59,14 @@ left_edge b b' left left' right right' w w' (Some r) to popped none is pushed =
 right_edge : (b b' : ℕ) (left left' right right' : List ℕ) (w w' : ℕ) (o : Option ℕ) → b' ≡ b + 1 → right ≡ right' ++ option_to_list o → MatchOption o (length right' ≡ 0) (λ _. ⊤) → w' ≡ unwrap_or o 0 → left' ≡ left ++ w ∷ [] → stored b' 0 left' w' right' ≡ moved (stored b 63 left w right) R
 right_edge b b' left left' right [] w w' None to popped none is pushed =
     let size : length left' ≡ length left + 1 = ap length pushed ∙ length_push left w in
-    let first : place_of (64 * b') -ℤ pos (64 * length left') ≡ place_of (64 * b) -ℤ pos (64 * length left) = omega (arith, ints) in
+    let first : place_numbered (64 * b') -ℤ pos (64 * length left') ≡ place_numbered (64 * b) -ℤ pos (64 * length left) = omega (arith, ints) in
     let words : left' ++ w' ∷ [] ≡ (left ++ w ∷ []) ++ 0 ∷ [] = ap (λ v. v ++ w' ∷ []) pushed ∙ ap (λ a. (left ++ w ∷ []) ++ a ∷ []) is in
     let after : left ++ w ∷ [] ≡ left ++ w ∷ reverse right = ap (λ v. left ++ w ∷ reverse v) (sym popped) in
     same_tape _ _ (omega (arith, ints)) (same_at _ _ _ _ first words ∙ same_words _ _ (left ++ w ∷ []) (get_or-blank_after (left ++ w ∷ [])) ∙ same_at _ _ _ _ refl after)
 right_edge b b' left left' right (x ∷ right') w w' None to popped none is pushed = absurd (omega (arith, none))
 right_edge b b' left left' right right' w w' (Some r) to popped none is pushed =
     let size : length left' ≡ length left + 1 = ap length pushed ∙ length_push left w in
-    let first : place_of (64 * b') -ℤ pos (64 * length left') ≡ place_of (64 * b) -ℤ pos (64 * length left) = omega (arith, ints) in
+    let first : place_numbered (64 * b') -ℤ pos (64 * length left') ≡ place_numbered (64 * b) -ℤ pos (64 * length left) = omega (arith, ints) in
     let tail : w' ∷ reverse right' ≡ reverse right = ap (λ a. a ∷ reverse right') is ∙ sym (reverse-push right' right r popped) in
     let words : left' ++ w' ∷ reverse right' ≡ left ++ w ∷ reverse right = ap (λ v. v ++ w' ∷ reverse right') pushed ∙ append_assoc left (w ∷ []) (w' ∷ reverse right') ∙ ap (λ v. left ++ w ∷ v) tail in
     same_tape _ _ (omega (arith, ints)) (same_at _ _ _ _ first words)

@@ -8,8 +8,8 @@ use Rattle.machine_text.specs.declared.transition.Sym.{Sym}
 use Rattle.machine_text.specs.declared.transition.Dir.{Dir}
 use Rattle.machine_text.specs.declared.transition.Dir.TheVariants.{L, R}
 use Rattle.turing.specs.Tape.{Tape, cell_of, symbol_read}
-use Rattle.tape.specs.Word.{ones_of, symbol_of, symbols_of}
-use Rattle.tape.specs.Inside.{stored, place_of, bit_ahead, HasCells, HasAllCells, IsNearest}
+use Rattle.tape.specs.Word.{ones_of, bit_symbol, symbols_of}
+use Rattle.tape.specs.inside.{stored, place_numbered, bit_ahead, HasCells, HasAllCells, IsNearest}
 use Rattle.tape.specs.Sweeps.{swept, IsPastEdge, EndsSweep}
 use Rattle.tape.proofs.Cells.{by_place, cell_same, cell_other, same_ones, same_tape}
 use Rattle.tape.proofs.Symbols.{blank_before}
@@ -71,7 +71,7 @@ by_way {P} d x (suc n) q on off =
         ]
 
 -- the bit of a cell ahead in the word
-place_ahead : (d : Dir) (b k n i : ℕ) → HasCells d k n → i < n → ahead d (place_of (64 * b + k)) i ≡ place_of (64 * b + bit_ahead d k i)
+place_ahead : (d : Dir) (b k n i : ℕ) → HasCells d k n → i < n → ahead d (place_numbered (64 * b + k)) i ≡ place_numbered (64 * b + bit_ahead d k i)
 place_ahead L b k n i room less = omega (arith, ints, room, less)
 place_ahead R b k n i room less = omega (arith, ints, room, less)
 
@@ -79,44 +79,44 @@ place_ahead R b k n i room less = omega (arith, ints, room, less)
 pub alike_ahead : (d : Dir) (s : Sym) (b k : ℕ) (left : List ℕ) (w : ℕ) (right : List ℕ) (n : ℕ) → k < 64 → HasCells d k n → ((i : ℕ) → i < n → bit_at w (bit_ahead d k i) ≡ bit_at w k)
     → (i : ℕ) → i < n → symbol_read (swept d s (stored b k left w right) i) ≡ symbol_read (stored b k left w right)
 alike_ahead d s b k left w right n within room alike i less =
-    let first : place_of (64 * b) -ℤ pos (64 * length left) +ℤ pos (64 * length left + bit_ahead d k i) ≡ place_of (64 * b + bit_ahead d k i) = omega (arith, ints) in
+    let first : place_numbered (64 * b) -ℤ pos (64 * length left) +ℤ pos (64 * length left + bit_ahead d k i) ≡ place_numbered (64 * b + bit_ahead d k i) = omega (arith, ints) in
     read_ahead d s (stored b k left w right) i
     ∙ cell_of-between _ left (reverse right) w (bit_ahead d k i) _ (bit_inside d k n i within room less) (place_ahead d b k n i room less ∙ sym first)
-    ∙ ap symbol_of (alike i less)
+    ∙ ap bit_symbol (alike i less)
     ∙ sym (symbol_read-stored b k left w right within)
 
 -- the cells after a sweep within a word
-swept-stored : (d : Dir) (s : Sym) (b k : ℕ) (left : List ℕ) (w w' : ℕ) (right : List ℕ) (n : ℕ) → k < 64 → HasCells d k n → ((i : ℕ) → i < n → symbol_of (bit_at w' (bit_ahead d k i)) ≡ s)
+swept-stored : (d : Dir) (s : Sym) (b k : ℕ) (left : List ℕ) (w w' : ℕ) (right : List ℕ) (n : ℕ) → k < 64 → HasCells d k n → ((i : ℕ) → i < n → bit_symbol (bit_at w' (bit_ahead d k i)) ≡ s)
     → ((j : ℕ) → j < 64 → ((i : ℕ) → i < n → j ≡ bit_ahead d k i → ⊥) → bit_at w' j ≡ bit_at w j)
-    → (swept d s (stored b k left w right) n).ones ≡ ones_of (place_of (64 * b) -ℤ pos (64 * length left)) (symbols_of (left ++ w' ∷ reverse right))
-swept-stored d s b k left w w' right n within room here others = same_ones _ _ (λ q. by_way d (place_of (64 * b + k)) n q (on q) (off q))
+    → (swept d s (stored b k left w right) n).ones ≡ ones_of (place_numbered (64 * b) -ℤ pos (64 * length left)) (symbols_of (left ++ w' ∷ reverse right))
+swept-stored d s b k left w w' right n within room here others = same_ones _ _ (λ q. by_way d (place_numbered (64 * b + k)) n q (on q) (off q))
   where
     x : ℤ
-    x = place_of (64 * b) -ℤ pos (64 * length left)
+    x = place_numbered (64 * b) -ℤ pos (64 * length left)
 
-    on : (q : ℤ) (i : ℕ) → i < n → q ≡ ahead d (place_of (64 * b + k)) i → cell_of (swept d s (stored b k left w right) n).ones q ≡ cell_of (ones_of x (symbols_of (left ++ w' ∷ reverse right))) q
+    on : (q : ℤ) (i : ℕ) → i < n → q ≡ ahead d (place_numbered (64 * b + k)) i → cell_of (swept d s (stored b k left w right) n).ones q ≡ cell_of (ones_of x (symbols_of (left ++ w' ∷ reverse right))) q
     on q i less at =
-        let first : place_of (64 * b + bit_ahead d k i) ≡ x +ℤ pos (64 * length left + bit_ahead d k i) = omega (arith, ints) in
+        let first : place_numbered (64 * b + bit_ahead d k i) ≡ x +ℤ pos (64 * length left + bit_ahead d k i) = omega (arith, ints) in
         cell_swept d s (stored b k left w right) n i q less at
         ∙ sym (cell_of-between x left (reverse right) w' (bit_ahead d k i) q (bit_inside d k n i within room less) (at ∙ place_ahead d b k n i room less ∙ first) ∙ here i less)
 
-    off : (q : ℤ) → ((i : ℕ) → i < n → q ≡ ahead d (place_of (64 * b + k)) i → ⊥) → cell_of (swept d s (stored b k left w right) n).ones q ≡ cell_of (ones_of x (symbols_of (left ++ w' ∷ reverse right))) q
+    off : (q : ℤ) → ((i : ℕ) → i < n → q ≡ ahead d (place_numbered (64 * b + k)) i → ⊥) → cell_of (swept d s (stored b k left w right) n).ones q ≡ cell_of (ones_of x (symbols_of (left ++ w' ∷ reverse right))) q
     off q none =
         cell_kept d s (stored b k left w right) n q none
         ∙ by_word x q
         (λ before. blank_before x (symbols_of (left ++ w ∷ reverse right)) q before ∙ sym (blank_before x (symbols_of (left ++ w' ∷ reverse right)) q before))
         (λ m j inside e. cell_of-words x (left ++ w ∷ reverse right) m j q inside e
-        ∙ ap symbol_of (bit_around left (reverse right) w w' m j (λ same. sym (others j inside (λ i less bit. none i less (there m j i e same less bit)))))
+        ∙ ap bit_symbol (bit_around left (reverse right) w w' m j (λ same. sym (others j inside (λ i less bit. none i less (there m j i e same less bit)))))
         ∙ sym (cell_of-words x (left ++ w' ∷ reverse right) m j q inside e))
       where
-        there : (m j i : ℕ) → q ≡ x +ℤ pos (64 * m + j) → m ≡ length left → i < n → j ≡ bit_ahead d k i → q ≡ ahead d (place_of (64 * b + k)) i
+        there : (m j i : ℕ) → q ≡ x +ℤ pos (64 * m + j) → m ≡ length left → i < n → j ≡ bit_ahead d k i → q ≡ ahead d (place_numbered (64 * b + k)) i
         there m j i e same less bit =
-            let at : q ≡ place_of (64 * b + bit_ahead d k i) = omega (arith, ints, e, same, bit) in
+            let at : q ≡ place_numbered (64 * b + bit_ahead d k i) = omega (arith, ints, e, same, bit) in
             at ∙ sym (place_ahead d b k n i room less)
 
 -- what a word holds after a sweep: the symbol in each cell gone over, and what it held in each other
 abbrev pub IsSweptWord : Dir → Sym → ℕ → ℕ → ℕ → ℕ → Type 0
-IsSweptWord d s k n w w' = ((i : ℕ) → i < n → symbol_of (bit_at w' (bit_ahead d k i)) ≡ s) × ((j : ℕ) → j < 64 → ((i : ℕ) → i < n → j ≡ bit_ahead d k i → ⊥) → bit_at w' j ≡ bit_at w j)
+IsSweptWord d s k n w w' = ((i : ℕ) → i < n → bit_symbol (bit_at w' (bit_ahead d k i)) ≡ s) × ((j : ℕ) → j < 64 → ((i : ℕ) → i < n → j ≡ bit_ahead d k i → ⊥) → bit_at w' j ≡ bit_at w j)
 
 -- sweeps that end in the word
 pub left_swept : (s : Sym) (b k k' : ℕ) (left : List ℕ) (w w' : ℕ) (right : List ℕ) (n : ℕ) → k < 64 → k' + n ≡ k → IsSweptWord L s k n w w'
@@ -143,7 +143,7 @@ right_swept-edge s b b' k left left' right right' w w' next n within all word to
     ∙ same_tape _ _ (omega (arith, ints, all, swept_head R s (stored b k left w right) n)) (sym (swept-stored R s b k left w w' right n within (omega (arith, all)) word.0 word.1))
 
 -- bits that stand for one symbol are the same
-same_bit : (a b : ℕ) → a < 2 → b < 2 → symbol_of a ≡ symbol_of b → a ≡ b
+same_bit : (a b : ℕ) → a < 2 → b < 2 → bit_symbol a ≡ bit_symbol b → a ≡ b
 same_bit zero zero small small' same = refl
 same_bit (suc zero) (suc zero) small small' same = refl
 same_bit zero (suc b) small small' same = absurd cc
@@ -163,10 +163,10 @@ past_edge R s b k left w right n all = (b + 1, omega (arith, ints, all, swept_he
 
 -- what the head reads after a sweep within the word
 read_after : (d : Dir) (s : Sym) (b k : ℕ) (left : List ℕ) (w : ℕ) (right : List ℕ) (n : ℕ) → k < 64 → HasCells d k (n + 1)
-    → symbol_read (swept d s (stored b k left w right) n) ≡ symbol_of (bit_at w (bit_ahead d k n))
+    → symbol_read (swept d s (stored b k left w right) n) ≡ bit_symbol (bit_at w (bit_ahead d k n))
 read_after d s b k left w right n within room =
     let less : n < n + 1 = omega arith in
-    let first : place_of (64 * b) -ℤ pos (64 * length left) +ℤ pos (64 * length left + bit_ahead d k n) ≡ place_of (64 * b + bit_ahead d k n) = omega (arith, ints) in
+    let first : place_numbered (64 * b) -ℤ pos (64 * length left) +ℤ pos (64 * length left + bit_ahead d k n) ≡ place_numbered (64 * b + bit_ahead d k n) = omega (arith, ints) in
     read_ahead d s (stored b k left w right) n
     ∙ cell_of-between _ left (reverse right) w (bit_ahead d k n) _ (bit_inside d k (n + 1) n within room less) (place_ahead d b k (n + 1) n room less ∙ sym first)
 

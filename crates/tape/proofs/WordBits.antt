@@ -5,21 +5,21 @@ use Rattle.std.proofs.lemmas.Bool.{cases_lt}
 use Rattle.std.proofs.lemmas.Nat.{shr-shr, pow_pos}
 use Rattle.std.proofs.lemmas.Nat.Bits.{bit_at-lt, bit_at-zero, bit_at_above, bit_at_and, bit_at_or, bit_at_not, bit_at_cat_low, bit_at_cat_high, bit_at_mask_below, bit_at_mask_inside, bit_at_ones, bit_at_ones_above, ones_shl, ones_shr, same_from_bits_below, shr_and_one}
 use Rattle.machine_text.specs.declared.transition.Sym.TheVariants.{Zero, One}
-use Rattle.tape.specs.Word.{symbol_of}
+use Rattle.tape.specs.Word.{bit_symbol}
 
 -- the symbol by the test of its bit
-pub symbol_of-clear : (n k : ℕ) → bit_and (n / 2 ^ k) 1 ≡ 0 → Zero ≡ symbol_of (bit_at n k)
-symbol_of-clear n k clear = ap symbol_of (sym clear ∙ shr_and_one n k)
+pub bit_symbol-clear : (n k : ℕ) → bit_and (n / 2 ^ k) 1 ≡ 0 → Zero ≡ bit_symbol (bit_at n k)
+bit_symbol-clear n k clear = ap bit_symbol (sym clear ∙ shr_and_one n k)
 
-one_of : (x : ℕ) → (x ≡ 0 → ⊥) → One ≡ symbol_of x
+one_of : (x : ℕ) → (x ≡ 0 → ⊥) → One ≡ bit_symbol x
 one_of zero apart = absurd (apart refl)
 one_of (suc x) apart = refl
 
-pub symbol_of-set : (n k : ℕ) → (bit_and (n / 2 ^ k) 1 ≡ 0 → ⊥) → One ≡ symbol_of (bit_at n k)
-symbol_of-set n k set = one_of (bit_at n k) (λ e. set (shr_and_one n k ∙ e))
+pub bit_symbol-set : (n k : ℕ) → (bit_and (n / 2 ^ k) 1 ≡ 0 → ⊥) → One ≡ bit_symbol (bit_at n k)
+bit_symbol-set n k set = one_of (bit_at n k) (λ e. set (shr_and_one n k ∙ e))
 
 -- a bit that stands for a one
-pub bit_of-one : (x : ℕ) → x < 2 → symbol_of x ≡ One → x ≡ 1
+pub bit_of-one : (x : ℕ) → x < 2 → bit_symbol x ≡ One → x ≡ 1
 bit_of-one zero small one = absurd cc
 bit_of-one (suc zero) small one = refl
 bit_of-one (suc (suc x)) small one = absurd (omega (arith, small))

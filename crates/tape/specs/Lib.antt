@@ -2,4 +2,4 @@ pub mod Limits
 pub mod Places
 pub mod Sweeps
 pub mod Word
-pub mod Inside
+pub mod inside

@@ -13,14 +13,14 @@ ones_of x [] = set.empty
 ones_of x (s ∷ symbols) = with_cell (ones_of (x +ℤ pos 1) symbols) x s
 
 -- the symbol that a bit stands for
-abbrev pub symbol_of : ℕ → Sym
-symbol_of zero = Zero
-symbol_of (suc n) = One
+abbrev pub bit_symbol : ℕ → Sym
+bit_symbol zero = Zero
+bit_symbol (suc n) = One
 
 -- the symbols of a word's lowest k bits, the lowest one leftmost
 unfoldable pub symbols : ℕ → ℕ → List Sym
 symbols zero w = []
-symbols (suc k) w = symbol_of (w % 2) ∷ symbols k (w / 2)
+symbols (suc k) w = bit_symbol (w % 2) ∷ symbols k (w / 2)
 
 -- the symbols of words of 64 cells, side by side
 unfoldable pub symbols_of : List ℕ → List Sym
@@ -29,4 +29,4 @@ symbols_of (w ∷ words) = symbols 64 w ++ symbols_of words
 
 -- a word holds the 64 cells from a place on
 abbrev pub Holds : ℕ → set.FinSet int_cmp → ℤ → Type 0
-Holds w ones x = (i : ℕ) → i < 64 → symbol_of (bit_at w i) ≡ cell_of ones (x +ℤ pos i)
+Holds w ones x = (i : ℕ) → i < 64 → bit_symbol (bit_at w i) ≡ cell_of ones (x +ℤ pos i)

@@ -2,15 +2,15 @@
 ghost use Rattle.std.specs.Prelude.{◌≡◌, ◌≢◌, ◌⊎◌, ℕ, ◌+◌, ◌<◌, ◌↔◌};
 ghost use Rattle.std.specs.Int.{bit_at};
 ghost use Rattle.turing.specs.Translated.{Beyond};
-ghost use Rattle.tape.specs.Word.{symbol_of};
-ghost use Rattle.tape.specs.Inside.{place_of, bit_ahead, HasCells, HasAllCells, IsLowest};
+ghost use Rattle.tape.specs.Word.{bit_symbol};
+ghost use Rattle.tape.specs.inside.{place_numbered, bit_ahead, HasCells, HasAllCells, IsLowest};
 
 use machine_text::{Dir, Sym};
 
 // The number of a place: places are numbered from the least `i64` on.
 #[inline]
 pub(crate) fn number_of(x: i64) -> u64
-    ensures { place_of result ≡ x }
+    ensures { place_numbered result ≡ x }
 {
     x.abs_diff(i64::MIN)
 }
@@ -19,7 +19,7 @@ pub(crate) fn number_of(x: i64) -> u64
 #[inline]
 pub(crate) fn symbol_at(word: u64, bit: u32) -> Sym
     requires { bit < 64 }
-    ensures { result ≡ symbol_of (bit_at word bit) }
+    ensures { result ≡ bit_symbol (bit_at word bit) }
 {
     if (word >> bit) & 1 == 0 {
         Sym::Zero
@@ -32,7 +32,7 @@ pub(crate) fn symbol_at(word: u64, bit: u32) -> Sym
 #[inline]
 pub(crate) fn with_symbol(word: u64, bit: u32, s: Sym) -> u64
     requires { bit < 64 }
-    ensures here { symbol_of (bit_at result bit) ≡ s }
+    ensures here { bit_symbol (bit_at result bit) ≡ s }
     ensures others { (i : ℕ) → i < 64 → i ≢ bit → bit_at result i ≡ bit_at word i }
 {
     match s {
@@ -43,7 +43,7 @@ pub(crate) fn with_symbol(word: u64, bit: u32, s: Sym) -> u64
 
 // Ones at the bits that are at or beyond a place on a side, in a word whose first place is so numbered.
 pub(crate) fn beyond(side: Dir, from: i64, number: u64) -> u64
-    ensures { (i : ℕ) → i < 64 → (bit_at result i ≡ 1) ↔ Beyond side from (place_of (number + i)) }
+    ensures { (i : ℕ) → i < 64 → (bit_at result i ≡ 1) ↔ Beyond side from (place_numbered (number + i)) }
 {
     let from = number_of(from);
     match side {
@@ -109,7 +109,7 @@ pub(crate) fn with_symbols(word: u64, bit: u32, dir: Dir, count: u32, s: Sym) ->
     requires bit { bit < 64 }
     requires some { 0 < count }
     requires inside { HasCells dir bit count }
-    ensures here { (i : ℕ) → i < count → symbol_of (bit_at result (bit_ahead dir bit i)) ≡ s }
+    ensures here { (i : ℕ) → i < count → bit_symbol (bit_at result (bit_ahead dir bit i)) ≡ s }
     ensures others { (j : ℕ) → j < 64 → ((i : ℕ) → i < count → j ≢ bit_ahead dir bit i) → bit_at result j ≡ bit_at word j }
 {
     let cells = up_to(count - 1) << lowest(bit, dir, count);

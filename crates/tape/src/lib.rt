@@ -7,11 +7,11 @@
 #![tactic(auto)]
 
 mod bits;
-mod comparison;
+mod cell;
 mod limits;
+mod same_half;
 mod sweep;
 mod tape;
-mod words;
 
 pub use limits::MAX_PLACE;
 pub use tape::{NoMemory, Tape};

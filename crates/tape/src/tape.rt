@@ -1,7 +1,7 @@
 // The tape: its cells, its head and its moves.
 ghost use Rattle.std.specs.Prelude.{◌≡◌, IfOk, OnOk, OnErr, [], ◌∷◌, ◌++◌};
 ghost use Rattle.machine_text.specs.declared.transition.Dir.TheVariants.{L, R};
-ghost use Rattle.tape.specs.Inside.{IsNearest};
+ghost use Rattle.tape.specs.inside.{IsNearest};
 
 use crate::bits::{symbol_at, with_symbol};
 use crate::limits::MAX_PLACE;
@@ -37,7 +37,7 @@ pub struct Tape {
 impl Model for Tape {
     ghost use Rattle.std.specs.Prelude.{length};
     ghost use Rattle.turing.specs.Tape.{Tape, tape_code};
-    ghost use Rattle.tape.specs.Inside.{stored, IsPacked};
+    ghost use Rattle.tape.specs.inside.{stored, IsPacked};
 
     ghost Value = { Tape };
 

@@ -3,4 +3,4 @@ pub mod Cut
 pub mod Parts
 pub mod Lines
 pub mod Decimal
-pub mod Inside
+pub mod inside

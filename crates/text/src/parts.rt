@@ -16,7 +16,7 @@ impl<'a> Model for Parts<'a> {
 
     ghost Value = { List (List ℕ) };
 
-    ghost use Rattle.text.specs.Inside.{parts_left};
+    ghost use Rattle.text.specs.inside.{parts_left};
 
     ghost view = { λ a. parts_left a.byte a.rest };
 }

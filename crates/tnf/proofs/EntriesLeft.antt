@@ -9,7 +9,7 @@ use Rattle.machine_text.specs.declared.transition.Dir.TheVariants.{L, R}
 use Rattle.machine_text.specs.declared.transition.Entry.{Entry}
 use Rattle.tree.specs.Children.{entries_to}
 use Rattle.machine_text.specs.Packed.{Packed, with_entry}
-use Rattle.tnf.specs.Inside.{entries_after, entries_left, tables_left}
+use Rattle.tnf.specs.inside.{entries_after, entries_left, tables_left}
 
 -- the entry to a state
 abbrev pub to : Sym → Dir → ℕ → Entry

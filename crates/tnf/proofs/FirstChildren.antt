@@ -14,7 +14,7 @@ use Rattle.tree.specs.Children.{entries_to, child_entries}
 use Rattle.tree.specs.Tables.{children_at}
 use Rattle.tree.proofs.ChildEntries.{list_empty, list_filled}
 use Rattle.tree.proofs.ChildTables.{some_children, no_children}
-use Rattle.tnf.specs.Inside.{entries_left, tables_left}
+use Rattle.tnf.specs.inside.{entries_left, tables_left}
 use Rattle.tnf.proofs.EntriesLeft.{to, from_start, none_left}
 
 -- all entries of children are left

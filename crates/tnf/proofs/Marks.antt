@@ -10,7 +10,7 @@ use Rattle.machine_text.specs.declared.transition.Sym.TheVariants.{Zero, One}
 use Rattle.machine_text.specs.declared.transition.Entry.{Entry}
 use Rattle.turing.specs.Program.{Program}
 use Rattle.tree.specs.Used.{leads_to, has_entry, is_target, is_used}
-use Rattle.tnf.specs.Inside.{is_named}
+use Rattle.tnf.specs.inside.{is_named}
 
 -- a state is marked once the entries of the first states are
 abbrev pub marked : ℕ → Program → ℕ → Bool

@@ -1,3 +1,3 @@
 pub mod Naming
 pub mod Children
-pub mod Inside
+pub mod inside

@@ -10,7 +10,7 @@ ghost use Rattle.machine_text.specs.Text.{text_of};
 ghost use Rattle.tree.specs.Used.{InOrder};
 ghost use Rattle.tree.specs.Tables.{children_at};
 ghost use Rattle.tnf.specs.Children.{IsChildAt};
-ghost use Rattle.tnf.specs.Inside.{entries_left};
+ghost use Rattle.tnf.specs.inside.{entries_left};
 
 use crate::naming::used;
 use machine_text::{Dir, Entry, State, Sym, Table};
@@ -34,7 +34,7 @@ impl Model for Children {
     ghost use Rattle.std.specs.Prelude.{◌<◌, ◌≤◌, List};
     ghost use Rattle.std.specs.Option.{ForSome};
     ghost use Rattle.machine_text.specs.Packed.{Packed};
-    ghost use Rattle.tnf.specs.Inside.{tables_left};
+    ghost use Rattle.tnf.specs.inside.{tables_left};
 
     ghost Value = { List Packed };
 

@@ -5,7 +5,7 @@ ghost use Rattle.std.specs.Option.{ForSome};
 ghost use Rattle.machine_text.specs.Packed.{entry_of};
 ghost use Rattle.tree.specs.Used.{InOrder, is_used, used_count};
 ghost use Rattle.tnf.specs.Naming.{IsNumberOfUsed};
-ghost use Rattle.tnf.specs.Inside.{is_named};
+ghost use Rattle.tnf.specs.inside.{is_named};
 
 use machine_text::{Entry, MAX_STATES, State, Sym, Table};
 

@@ -8,22 +8,22 @@ use Rattle.tree.specs.Used.{InOrder}
 use Rattle.tree.specs.Tables.{IsChildTable, InTableTree, IsDecidedTable, IsBestOfTable, IsGreatestInTables}
 use Rattle.tree.specs.Tables.InTableTree.{Itself, OfChild}
 use Rattle.tree.specs.Closed.{Mark, IsTrueMark, IsVerdict, IsClosed, IsComplete, IsGreatestRecorded}
-use Rattle.tree.specs.Closed.Mark.{Halting, NonHalting, Holdout}
+use Rattle.tree.specs.Closed.Mark.{Halting, NeverHalting, Holdout}
 use Rattle.tree.proofs.Worth.{IsWorth}
 use Rattle.tree.proofs.TableLaws.{table_best}
 
 -- a mark that gives a verdict: the table halts in so many steps, or never does
-verdict_cases : (o : Option Mark) → IsVerdict o → ((k : ℕ) × (o ≡ Some (Halting k))) ⊎ (o ≡ Some NonHalting)
+verdict_cases : (o : Option Mark) → IsVerdict o → ((k : ℕ) × (o ≡ Some (Halting k))) ⊎ (o ≡ Some NeverHalting)
 verdict_cases None v = absurd v
 verdict_cases (Some (Halting k)) v = inl (k, refl)
-verdict_cases (Some NonHalting) v = inr refl
+verdict_cases (Some NeverHalting) v = inr refl
 verdict_cases (Some Holdout) v = absurd v
 
 -- nothing is recorded, or a holdout, or a verdict
 mark_cases : (o : Option Mark) → (o ≡ None) ⊎ ((o ≡ Some Holdout) ⊎ IsVerdict o)
 mark_cases None = inl refl
 mark_cases (Some (Halting k)) = inr (inr tt)
-mark_cases (Some NonHalting) = inr (inr tt)
+mark_cases (Some NeverHalting) = inr (inr tt)
 mark_cases (Some Holdout) = inr (inl refl)
 
 -- two true verdicts on a table are one
@@ -47,7 +47,7 @@ module _ (root : Packed) (marks : Packed → Option Mark) (true_marks : (t : Pac
   pub stops_marked : (t : Packed) (k : ℕ) → marks t ≡ Some (Halting k) → HaltsAt (entry_of t) k
   stops_marked t k is = subst (IsTrueMark t) is (true_marks t)
 
-  never_marked : (t : Packed) → marks t ≡ Some NonHalting → Never (entry_of t)
+  never_marked : (t : Packed) → marks t ≡ Some NeverHalting → Never (entry_of t)
   never_marked t is = subst (IsTrueMark t) is (true_marks t)
 
   -- a table with a verdict that halts is recorded as halting

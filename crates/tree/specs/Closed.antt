@@ -8,14 +8,14 @@ use Rattle.tree.specs.Tables.{IsChildTable, InTableTree}
 -- what is recorded of a table: it halts in so many steps, it never halts, or it wasn't decided (a holdout)
 pub data Mark : Type 0 where
   Halting : ℕ → Mark
-  NonHalting : Mark
+  NeverHalting : Mark
   Holdout : Mark
 
 -- the verdict that a mark gives is true
 abbrev pub IsTrueMark : Packed → Option Mark → Type 0
 IsTrueMark t None = Unit {0}
 IsTrueMark t (Some (Halting k)) = HaltsAt (entry_of t) k
-IsTrueMark t (Some NonHalting) = Never (entry_of t)
+IsTrueMark t (Some NeverHalting) = Never (entry_of t)
 IsTrueMark t (Some Holdout) = Unit {0}
 
 abbrev pub AreTrueMarks : (Packed → Option Mark) → Type 0
@@ -29,7 +29,7 @@ AreTrueScores marks scores = (t : Packed) (k : ℕ) → marks t ≡ Some (Haltin
 abbrev pub IsVerdict : Option Mark → Type 0
 IsVerdict None = ⊥
 IsVerdict (Some (Halting k)) = Unit {0}
-IsVerdict (Some NonHalting) = Unit {0}
+IsVerdict (Some NeverHalting) = Unit {0}
 IsVerdict (Some Holdout) = ⊥
 
 -- open: the root, or a child of a table recorded as halting, of which nothing is recorded

@@ -1,6 +1,6 @@
 // Nodes that write down what happens to them.
 use evidence::NoMemory;
-use std::alloc::{AllocError, Global};
+use std::alloc::Global;
 use std::cell::RefCell;
 use wire::{Event, Node, NodeFault, Note, Out};
 
@@ -38,7 +38,7 @@ impl Probe<'_> {
         };
         match self.log.try_borrow_mut() {
             Ok(mut log) => log.extend_from_slice(line.as_bytes())?,
-            Err(_) => return Err(AllocError),
+            Err(_) => return Err(NoMemory),
         }
         Ok(frames)
     }

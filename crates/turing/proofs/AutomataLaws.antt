@@ -14,7 +14,7 @@ use Rattle.turing.specs.Step.{Takes}
 use Rattle.turing.specs.Halting.{Never}
 use Rattle.turing.specs.Mirror.{opposite, mirrored}
 use Rattle.turing.specs.PositionSet.{word}
-use Rattle.turing.specs.Automata.{Node, At, Halt, Automata, Fits, Reaches}
+use Rattle.turing.specs.Automata.{Node, At, Halt, TwoAutomata, Fits, Reaches}
 use Rattle.turing.proofs.Steps.{takes, halts_at_pair}
 use Rattle.turing.proofs.Invariants.{backward_law}
 use Rattle.turing.proofs.Words.{word_first, word_last, word_same, word_blank}
@@ -22,39 +22,39 @@ use Rattle.turing.proofs.HalfTapes.{Reads, reads_same, reads_more, reads_less, r
 use Rattle.turing.proofs.Exchanges.{mirror_keeps, mirrored_machine, unmirrored, opposite_twice}
 
 -- the halt state stays
-longer : (a : Automata) → ((s : Sym) → IsTrue (a.edge Halt s Halt)) → (u : Node) (w : List Sym) (s : Sym) → Reaches a u w Halt → Reaches a u (w ++ s ∷ []) Halt
+longer : (a : TwoAutomata) → ((s : Sym) → IsTrue (a.edge Halt s Halt)) → (u : Node) (w : List Sym) (s : Sym) → Reaches a u w Halt → Reaches a u (w ++ s ∷ []) Halt
 longer a halted u [] s reaches = (Halt, subst (λ x. IsTrue (a.edge x s Halt)) (sym reaches) (halted s), refl)
 longer a halted u (r ∷ w) s reaches = (reaches.0, reaches.1, longer a halted reaches.0 w s reaches.2)
 
 -- what is kept stays kept over blank cells
-kept_blank : (a : Automata) → ((u v : Node) → IsTrue (a.keep u) → IsTrue (a.edge u Zero v) → IsTrue (a.keep v)) →
+kept_blank : (a : TwoAutomata) → ((u v : Node) → IsTrue (a.keep u) → IsTrue (a.edge u Zero v) → IsTrue (a.keep v)) →
     (k : ℕ) (u v : Node) → IsTrue (a.keep u) → Reaches a u (replicate k Zero) v → IsTrue (a.keep v)
 kept_blank a blank_kept zero u v kept reaches = subst (λ x. IsTrue (a.keep x)) reaches kept
 kept_blank a blank_kept (suc k) u v kept reaches = kept_blank a blank_kept k reaches.0 v (blank_kept u reaches.0 kept reaches.1) reaches.2
 
 -- from a configuration of one of n states the second automaton comes to its halt state, by some cells from the head on
-Leads : ℕ → Automata → Config → Type 0
+Leads : ℕ → TwoAutomata → Config → Type 0
 Leads n a c = c.state < n → (q : ℕ) → Reads a.delta c c.tape.head q → (k : ℕ) × Reaches a (At q c.state) (word c c.tape.head k) Halt
 
 not_left : (e : Entry) → e.dir ≡ L → e.dir ≢ R
 not_left e is_left is_right = absurd (let f : L ≡ R = sym is_left ∙ is_right in cc)
 
 -- no cells
-reaches_none : (a : Automata) (c : Config) (x : ℤ) (u : Node) → Reaches a u (word c x 0) u
+reaches_none : (a : TwoAutomata) (c : Config) (x : ℤ) (u : Node) → Reaches a u (word c x 0) u
 unfolding word
 reaches_none a c x u = refl
 
 -- an edge by one cell, and then by the next ones
-by_edge : (a : Automata) (c : Config) (x : ℤ) (k : ℕ) (u t v : Node) → IsTrue (a.edge u (cell c x) t) → Reaches a t (word c (x +ℤ pos 1) k) v → Reaches a u (word c x (suc k)) v
+by_edge : (a : TwoAutomata) (c : Config) (x : ℤ) (k : ℕ) (u t v : Node) → IsTrue (a.edge u (cell c x) t) → Reaches a t (word c (x +ℤ pos 1) k) v → Reaches a u (word c x (suc k)) v
 by_edge a c x k u t v edge reaches = subst (λ w. Reaches a u w v) (sym (word_first c x k)) (t, edge, reaches)
 
 -- and back: the first edge, and what follows
-first_edge : (a : Automata) (c : Config) (x : ℤ) (k : ℕ) (u v : Node) → Reaches a u (word c x (suc k)) v →
+first_edge : (a : TwoAutomata) (c : Config) (x : ℤ) (k : ℕ) (u v : Node) → Reaches a u (word c x (suc k)) v →
     (t : Node) × IsTrue (a.edge u (cell c x) t) × Reaches a t (word c (x +ℤ pos 1) k) v
 first_edge a c x k u v reaches = subst (λ w. Reaches a u w v) (word_first c x k) reaches
 
 -- one cell more
-longer_by : (a : Automata) → ((s : Sym) → IsTrue (a.edge Halt s Halt)) → (c : Config) (x : ℤ) (k : ℕ) (u : Node) → Reaches a u (word c x k) Halt → Reaches a u (word c x (suc k)) Halt
+longer_by : (a : TwoAutomata) → ((s : Sym) → IsTrue (a.edge Halt s Halt)) → (c : Config) (x : ℤ) (k : ℕ) (u : Node) → Reaches a u (word c x k) Halt → Reaches a u (word c x (suc k)) Halt
 longer_by a halted c x k u reaches =
     subst (λ w. Reaches a u w Halt) (sym (word_last c x k)) (longer a halted u (word c x k) (cell c (x +ℤ pos k)) reaches)
 
@@ -65,7 +65,7 @@ same_ahead m c d e k t = word_same d c (c.tape.head +ℤ pos 1) k (λ y low high
 same_behind : (m : Program) (c d : Config) (e : Entry) → Takes m c e d → (y : ℤ) → y <ℤ c.tape.head → cell c y ≡ cell d y
 same_behind m c d e t y below = sym (t.others y (λ same. omega (arith, ints)))
 
-module _ (n : ℕ) (m : Program) (machine : IsMachine n m) (a : Automata) (fits : Fits n m R a) where
+module _ (n : ℕ) (m : Program) (machine : IsMachine n m) (a : TwoAutomata) (fits : Fits n m R a) where
   below : (c : Config) (x : ℤ) (q : ℕ) → Reads a.delta c x q → q < a.size
   below = reads_below a.delta a.size fits.some fits.states
 
@@ -180,7 +180,7 @@ module _ (n : ℕ) (m : Program) (machine : IsMachine n m) (a : Automata) (fits 
       absurd (cc)
 
 -- automata that fit a machine fit its mirror image, with the other side ahead
-pub fits_mirrored : (n : ℕ) (m : Program) (side : Dir) (a : Automata) → Fits n m side a → Fits n (mirrored m) (opposite side) a
+pub fits_mirrored : (n : ℕ) (m : Program) (side : Dir) (a : TwoAutomata) → Fits n m side a → Fits n (mirrored m) (opposite side) a
 fits_mirrored n m side a fits = record {
   some = fits.some;
   states = fits.states;
@@ -199,7 +199,7 @@ fits_mirrored n m side a fits = record {
     turned e = record { write = e.write; dir = opposite e.dir; next = e.next }
 
 -- a machine that automata fit never halts, whichever side is ahead
-pub automata_never : (n : ℕ) (m : Program) (side : Dir) (a : Automata) → IsMachine n m → Fits n m side a → Never m
+pub automata_never : (n : ℕ) (m : Program) (side : Dir) (a : TwoAutomata) → IsMachine n m → Fits n m side a → Never m
 automata_never n m R a machine fits = far_right_never n m machine a fits
 automata_never n m L a machine fits =
     λ k s. far_right_never n (mirrored m) (mirrored_machine n m machine) a (fits_mirrored n m L a fits) k (mirror_keeps m k s)

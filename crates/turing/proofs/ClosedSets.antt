@@ -11,7 +11,7 @@ use Rattle.turing.specs.Tape.{symbol_read, moved_head}
 use Rattle.turing.specs.Run.{Config, start, cell, carried_out, next, from}
 use Rattle.turing.specs.Step.{Takes}
 use Rattle.turing.specs.Halting.{Never}
-use Rattle.turing.specs.PositionSet.{word, Local, local_of, IsClosed, IsInside}
+use Rattle.turing.specs.PositionSet.{word, Local, local_of, IsClosedSet, IsInside}
 use Rattle.turing.proofs.Steps.{taken_takes, next_taken}
 use Rattle.turing.proofs.OneState.{start_blank}
 use Rattle.turing.proofs.Invariants.{invariant_law, never_by_invariant}
@@ -31,7 +31,7 @@ moved_on h h' d f is same = is ∙ ap (moved_head h) same
 
 module _ (m : Program) (lefts rights : List Sym → Type 0) (members : Local → Type 0) where
   -- a step to the right
-  step_right : (n : ℕ) → IsClosed (suc n) m lefts rights members → (c d : Config) (e : Entry) → Takes m c e d → e.dir ≡ R →
+  step_right : (n : ℕ) → IsClosedSet (suc n) m lefts rights members → (c d : Config) (e : Entry) → Takes m c e d → e.dir ≡ R →
       IsInside (suc n) lefts rights members c → IsInside (suc n) lefts rights members d
   step_right n closed c d e t is_right inside =
       let h : ℤ = c.tape.head in
@@ -71,7 +71,7 @@ module _ (m : Program) (lefts rights : List Sym → Type 0) (members : Local →
       }
 
   -- a step to the left
-  step_left : (n : ℕ) → IsClosed (suc n) m lefts rights members → (c d : Config) (e : Entry) → Takes m c e d → e.dir ≡ L →
+  step_left : (n : ℕ) → IsClosedSet (suc n) m lefts rights members → (c d : Config) (e : Entry) → Takes m c e d → e.dir ≡ L →
       IsInside (suc n) lefts rights members c → IsInside (suc n) lefts rights members d
   step_left n closed c d e t is_left inside =
       let h : ℤ = c.tape.head in
@@ -110,7 +110,7 @@ module _ (m : Program) (lefts rights : List Sym → Type 0) (members : Local →
       }
 
   -- a step, wherever it goes
-  step_inside : (g : ℕ) → IsClosed g m lefts rights members → (c d : Config) (e : Entry) → Takes m c e d →
+  step_inside : (g : ℕ) → IsClosedSet g m lefts rights members → (c d : Config) (e : Entry) → Takes m c e d →
       IsInside g lefts rights members c → IsInside g lefts rights members d
   step_inside zero closed c d e t inside = let width = closed.width in absurd (omega arith)
   step_inside (suc n) closed c d e t inside = go e.dir refl
@@ -120,7 +120,7 @@ module _ (m : Program) (lefts rights : List Sym → Type 0) (members : Local →
       go R is = step_right n closed c d e t is inside
 
   -- each configuration within the sets has a next one, within the sets
-  pub goes_inside : (g : ℕ) → IsClosed g m lefts rights members → (c : Config) → IsInside g lefts rights members c →
+  pub goes_inside : (g : ℕ) → IsClosedSet g m lefts rights members → (c : Config) → IsInside g lefts rights members c →
       (d : Config) × (next m c ≡ Some d) × IsInside g lefts rights members d
   goes_inside g closed c inside = go (m c.state (symbol_read c.tape)) refl
     where
@@ -130,12 +130,12 @@ module _ (m : Program) (lefts rights : List Sym → Type 0) (members : Local →
           (carried_out c e, next_taken m c e some, step_inside g closed c (carried_out c e) e (taken_takes m c e some) inside)
 
   -- a run from a configuration within the sets goes on for ever, and stays within
-  pub stays_inside : (g : ℕ) → IsClosed g m lefts rights members → (c : Config) → IsInside g lefts rights members c →
+  pub stays_inside : (g : ℕ) → IsClosedSet g m lefts rights members → (c : Config) → IsInside g lefts rights members c →
       (k : ℕ) → (d : Config) × (from m k c ≡ Some d) × IsInside g lefts rights members d
   stays_inside g closed = invariant_law m (IsInside g lefts rights members) (goes_inside g closed)
 
   -- the blank tape is within
-  pub start_inside : (g : ℕ) → IsClosed g m lefts rights members → IsInside g lefts rights members start
+  pub start_inside : (g : ℕ) → IsClosedSet g m lefts rights members → IsInside g lefts rights members start
   start_inside g closed = record {
     here = subst members
         (sym (same_local (local_of g start) (record { left = replicate g Zero; state = 0; read = Zero; right = replicate g Zero })
@@ -146,5 +146,5 @@ module _ (m : Program) (lefts rights : List Sym → Type 0) (members : Local →
   }
 
   -- a machine that has a closed position set never halts
-  pub closed_never : (g : ℕ) → IsClosed g m lefts rights members → Never m
+  pub closed_never : (g : ℕ) → IsClosedSet g m lefts rights members → Never m
   closed_never g closed = never_by_invariant m (IsInside g lefts rights members) (goes_inside g closed) (start_inside g closed)

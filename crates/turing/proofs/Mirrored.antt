@@ -7,7 +7,7 @@ use Rattle.turing.specs.Program.{Program}
 use Rattle.turing.specs.Run.{Config, start, cell, after}
 use Rattle.turing.specs.Mirror.{opposite, mirrored}
 use Rattle.turing.specs.Translated.{Beyond, Farthest, Translated}
-use Rattle.turing.specs.Automata.{Automata, Fits}
+use Rattle.turing.specs.Automata.{TwoAutomata, Fits}
 use Rattle.turing.proofs.Simulation.{alike_at}
 use Rattle.turing.proofs.Renaming.{Carried, carried_step, carried_start}
 use Rattle.turing.proofs.Exchanges.{same_state, back, mirror_renames, mirrored_twice, opposite_twice}
@@ -79,7 +79,7 @@ translated_mirrored m i j side t =
     (subst (Translated (mirrored (mirrored m)) i j) (opposite_twice side) (mirrored_translated (mirrored m) i j (opposite side) t))
 
 -- automata that fit the mirror image fit the machine, with the other side ahead
-pub mirror_image_fits : (n : ℕ) (m : Program) (side : Dir) (a : Automata) → Fits n (mirrored m) (opposite side) a → Fits n m side a
+pub mirror_image_fits : (n : ℕ) (m : Program) (side : Dir) (a : TwoAutomata) → Fits n (mirrored m) (opposite side) a → Fits n m side a
 mirror_image_fits n m side a fits =
     subst (λ p. Fits n p side a) (mirrored_mirrored m)
     (subst (λ f. Fits n (mirrored (mirrored m)) f a) (opposite_twice side) (fits_mirrored n (mirrored m) (opposite side) a fits))

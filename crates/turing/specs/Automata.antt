@@ -20,7 +20,7 @@ pub data Node : Type 0 where
 
 -- the two automata: the first has states below size, and starts in 0. The tests say which edges the second
 -- has, and which of its states are kept
-pub record Automata : Type 0 where
+pub record TwoAutomata : Type 0 where
   pub size : ℕ
   pub delta : ℕ → Sym → ℕ
   pub edge : Node → Sym → Node → Bool
@@ -28,7 +28,7 @@ pub record Automata : Type 0 where
 
 -- the automata are those of a machine of n states: each entry, and each halting pair, has its edges, and no
 -- blank tape ahead leads from the start to the halt state
-pub record Fits (n : ℕ) (m : Program) (side : Dir) (a : Automata) : Type 0 where
+pub record Fits (n : ℕ) (m : Program) (side : Dir) (a : TwoAutomata) : Type 0 where
   pub some : 0 < a.size
   pub states : (q : ℕ) (s : Sym) → q < a.size → a.delta q s < a.size
   pub blank : a.delta 0 Zero ≡ 0
@@ -65,12 +65,12 @@ symbols_ahead side c x zero = []
 symbols_ahead side c x (suc k) = cell c x ∷ symbols_ahead side c (moved_head x side) k
 
 -- the second automaton comes from u to v by these symbols
-abbrev pub Reaches : Automata → Node → List Sym → Node → Type 0
+abbrev pub Reaches : TwoAutomata → Node → List Sym → Node → Type 0
 Reaches a u [] v = u ≡ v
 Reaches a u (s ∷ w) v = (t : Node) × IsTrue (a.edge u s t) × Reaches a t w v
 
 -- some cells ahead, from the head's own on, lead a configuration to the halt state: the first automaton reads what
 -- is behind the head, and from its state and the configuration's the second one comes there
-abbrev pub LeadsToHalt : Automata → Dir → Config → Type 0
+abbrev pub LeadsToHalt : TwoAutomata → Dir → Config → Type 0
 LeadsToHalt a side c =
     (q : ℕ) → ReadsBehind a.delta side c c.tape.head q → (k : ℕ) × Reaches a (At q c.state) (symbols_ahead side c c.tape.head k) Halt

@@ -11,7 +11,7 @@ ghost use Rattle.turing.specs.Exchange.{with_exchanged};
 ghost use Rattle.turing.specs.Mirror.{opposite, mirrored};
 ghost use Rattle.turing.specs.Shift.{IsShifted};
 ghost use Rattle.turing.specs.Translated.{Translated};
-ghost use Rattle.turing.specs.Automata.{Automata, Fits};
+ghost use Rattle.turing.specs.Automata.{TwoAutomata, Fits};
 
 /// An extension runs as its machine does, until that halts.
 pub fn extension_runs()
@@ -45,7 +45,7 @@ pub fn mirror_keeps()
 pub fn mirror_sides()
     ensures translated { (m : Program) (i j : ℕ) (side : Dir) →
         Translated m i j side ↔ Translated (mirrored m) i j (opposite side) }
-    ensures automata { (n : ℕ) (m : Program) (side : Dir) (a : Automata) →
+    ensures automata { (n : ℕ) (m : Program) (side : Dir) (a : TwoAutomata) →
         Fits n m side a ↔ Fits n (mirrored m) (opposite side) a }
 {}
 

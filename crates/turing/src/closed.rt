@@ -6,16 +6,16 @@ ghost use Rattle.machine_text.specs.declared.transition.Dir.{Dir};
 ghost use Rattle.turing.specs.Program.{Program, IsMachine};
 ghost use Rattle.turing.specs.Run.{Config, next, from};
 ghost use Rattle.turing.specs.Halting.{Never};
-ghost use Rattle.turing.specs.PositionSet.{Local, IsClosed, IsInside};
-ghost use Rattle.turing.specs.Automata.{Automata, Fits, LeadsToHalt};
+ghost use Rattle.turing.specs.PositionSet.{Local, IsClosedSet, IsInside};
+ghost use Rattle.turing.specs.Automata.{TwoAutomata, Fits, LeadsToHalt};
 
 /// A machine that has a closed position set never halts. Nor does its run from any other tape whose words
 /// are in the sets: it goes on for ever, within the sets.
 pub fn position_set_never()
     ensures never { (g : ℕ) (m : Program) (lefts rights : List (List Sym)) (members : List Local) →
-        IsClosed g m (Contains lefts) (Contains rights) (Contains members) → Never m }
+        IsClosedSet g m (Contains lefts) (Contains rights) (Contains members) → Never m }
     ensures inside { (g : ℕ) (m : Program) (lefts rights : List (List Sym)) (members : List Local) →
-        IsClosed g m (Contains lefts) (Contains rights) (Contains members) → (c : Config) →
+        IsClosedSet g m (Contains lefts) (Contains rights) (Contains members) → (c : Config) →
         IsInside g (Contains lefts) (Contains rights) (Contains members) c → (k : ℕ) →
         (d : Config) × (from m k c ≡ Some d) × IsInside g (Contains lefts) (Contains rights) (Contains members) d }
 {}
@@ -23,9 +23,9 @@ pub fn position_set_never()
 /// A machine of n states that finite automata fit never halts, whichever side is ahead. Of every other tape they
 /// say as much: a configuration of one of its states that comes to a halting pair leads to the halt state.
 pub fn automata_never()
-    ensures never { (n : ℕ) (m : Program) (side : Dir) (a : Automata) → IsMachine n m → Fits n m side a →
+    ensures never { (n : ℕ) (m : Program) (side : Dir) (a : TwoAutomata) → IsMachine n m → Fits n m side a →
         Never m }
-    ensures leads { (n : ℕ) (m : Program) (side : Dir) (a : Automata) → IsMachine n m → Fits n m side a →
+    ensures leads { (n : ℕ) (m : Program) (side : Dir) (a : TwoAutomata) → IsMachine n m → Fits n m side a →
         (c : Config) → c.state < n → (k : ℕ) (d : Config) → from m k c ≡ Some d → next m d ≡ None →
         LeadsToHalt a side c }
 {}

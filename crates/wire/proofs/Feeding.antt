@@ -1,7 +1,7 @@
 -- Lines that are collected, and what feeding them leaves.
 use Rattle.std.proofs.Common.{◌≡◌, ℕ, cond, List, [], ◌∷◌, ◌++◌, Some, Result, Ok, Err, refl, sym, ap, ◌∙◌, subst, append_assoc, append-nil}
 use Rattle.std.specs.Prelude.{map, is_ok, IsOk, OnOk}
-use Rattle.std.specs.declared.alloc.AllocError.{AllocError}
+use Rattle.std.specs.declared.alloc.AllocError.{AllocError as NoMemory}
 use Rattle.std.specs.List.{All}
 use Rattle.std.proofs.lemmas.List.{map-append}
 use Rattle.std.proofs.lemmas.List.Elements.{All-append, All-cons, All-nil}
@@ -29,7 +29,7 @@ pub short_added : (old new : List Line) (line : Line) → new ≡ old ++ (line �
 short_added old new line is before one = subst (All IsShortLine) (sym is) (All-append IsShortLine old (line ∷ []) before (All-cons IsShortLine line [] one (All-nil IsShortLine)))
 
 -- what there is room for is appended
-appended : (r : Result (Unit {0}) AllocError) (new old more : List Line) → IsOk r → new ≡ cond (is_ok r) (old ++ more) old → new ≡ old ++ more
+appended : (r : Result (Unit {0}) NoMemory) (new old more : List Line) → IsOk r → new ≡ cond (is_ok r) (old ++ more) old → new ≡ old ++ more
 appended (Ok u) new old more ok is = is
 appended (Err e) new old more ok is = cc
 
@@ -37,7 +37,7 @@ appended (Err e) new old more ok is = cc
 pub record Moved (old new more : List Line) (line : Line) : Type 0 where
   pub is : new ≡ (old ++ (line ∷ [])) ++ more
 
-pub moved : (r : Result (Unit {0}) AllocError) (old reserved pushed new more : List Line) (line : Line) → reserved ≡ old → pushed ≡ reserved ++ (line ∷ [])
+pub moved : (r : Result (Unit {0}) NoMemory) (old reserved pushed new more : List Line) (line : Line) → reserved ≡ old → pushed ≡ reserved ++ (line ∷ [])
     → IsOk r → new ≡ cond (is_ok r) (pushed ++ more) pushed → Moved old new more line
 moved r old reserved pushed new more line kept added ok is = record {
   is = appended r new pushed more ok is ∙ ap (λ ls. ls ++ more) (added ∙ ap (λ ls. ls ++ (line ∷ [])) kept);
@@ -70,12 +70,12 @@ lines_fed waiting new begun rest piece first behind is ends cut =
     ap (λ ls. record { waiting = ls; rest = rest }) is
     ∙ ap (λ k. record { waiting = waiting ++ lines_from begun piece; rest = k }) (ends ∙ sym (rest_at begun piece first behind cut))
 
-pub when_ok : (r : Result (Unit {0}) AllocError) (p q : Stream) → p ≡ q → OnOk r (p ≡ q)
+pub when_ok : (r : Result (Unit {0}) NoMemory) (p q : Stream) → p ≡ q → OnOk r (p ≡ q)
 when_ok (Ok u) p q h = h
 when_ok (Err e) p q h = tt
 
 -- where the begun line took the piece, the stream did
-pub line_fed : (r : Result (Unit {0}) AllocError) (waiting : List Kept) (begun new : Kept) (piece : List ℕ) → parts_of 10 piece ≡ piece ∷ []
+pub line_fed : (r : Result (Unit {0}) NoMemory) (waiting : List Kept) (begun new : Kept) (piece : List ℕ) → parts_of 10 piece ≡ piece ∷ []
     → OnOk r (new ≡ with_more begun piece) → OnOk r (record { waiting = waiting; rest = new } ≡ fed (record { waiting = waiting; rest = begun }) piece)
 line_fed (Ok u) waiting begun new piece cut is = no_line_fed waiting begun new piece cut is
 line_fed (Err e) waiting begun new piece cut is = tt

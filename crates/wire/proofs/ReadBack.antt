@@ -16,7 +16,7 @@ use Rattle.text.specs.Parts.{parts_of}
 use Rattle.text.proofs.Cuts.{cut-append}
 use Rattle.text.proofs.Numbers.{decimal_value-decimal, decimal_without, length_of_number}
 use Rattle.wire.specs.Message.{Message, Ask, Grant, Rec, Ack, Later, Done, Stop, IsSendable}
-use Rattle.wire.specs.Inside.{IsReadable}
+use Rattle.wire.specs.inside.{IsReadable}
 use Rattle.wire.specs.Grammar.{◌>>=◌, read_table, read_record, ask_in, grant_in, done_in, message_in, or_bad, message_of, message_text}
 
 -- two numbers, and a text behind them

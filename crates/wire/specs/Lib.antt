@@ -4,7 +4,7 @@ pub mod Message
 pub mod MessageFault
 pub mod Grammar
 pub mod Meaning
-pub mod Inside
+pub mod inside
 pub mod Happening
 pub mod Carried
 pub mod Device

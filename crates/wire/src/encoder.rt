@@ -6,7 +6,7 @@ ghost use Rattle.cert.specs.Claim.{IsMadeFor};
 ghost use Rattle.cert.specs.Grammar.{record_of, record_text};
 ghost use Rattle.cert.specs.Kinds.{claim_of, recorded};
 ghost use Rattle.wire.specs.Message.{IsMadeForItsTable};
-ghost use Rattle.wire.specs.Inside.{IsReadable};
+ghost use Rattle.wire.specs.inside.{IsReadable};
 ghost use Rattle.wire.specs.Grammar.{message_of, message_text};
 ghost use Rattle.wire.specs.Meaning.{said};
 

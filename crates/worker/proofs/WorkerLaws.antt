@@ -27,7 +27,7 @@ use Rattle.wire.specs.declared.node.NodeFault.{NodeFault}
 use Rattle.wire.specs.declared.node.Out.{Out}
 use Rattle.roles.specs.declared.start_fault.StartFault.{StartFault}
 use Rattle.worker.specs.declared.lease_name.LeaseName.{LeaseName}
-use Rattle.worker.specs.WorkerState.{WorkerState, empty_board, StandsFor, IsInStep, records_on, unacknowledged}
+use Rattle.worker.specs.WorkerState.{WorkerState, empty_board, IsOwnLedger, IsInStep, records_on, unacknowledged}
 use Rattle.roles.specs.Says.{lines_of}
 use Rattle.worker.specs.WorkerRules.{Notes, GrantRow, AckRow, FrameRow, Makes, WorkRow, TickBy, Row, Answers}
 use Rattle.roles.specs.Kept.{cut_of}
@@ -131,22 +131,22 @@ stays_in_step old out new steps text stands = elim steps [
   | inl same ↦
       let after : text_after out text ≡ text =
       ap (λ (c : Option ℕ). cut_by c text ++ out.append.items) same.1 ∙ (ap (λ (l : List ℕ). text ++ l) same.2 ∙ append-nil text) in
-      subst (λ (l : List ℕ). IsInStep new l) (sym after) (subst (λ (o : Option Contents). StandsFor o text) (sym same.0) stands)
+      subst (λ (l : List ℕ). IsInStep new l) (sym after) (subst (λ (o : Option Contents). IsOwnLedger o text) (sym same.0) stands)
   | inr others ↦ elim others [
     | inl begun ↦
         let after : text_after out text ≡ ledger_text begun.0 [] =
         ap (λ (c : Option ℕ). cut_by c text ++ out.append.items) begun.3 ∙ begun.4 in
         subst (λ (l : List ℕ). IsInStep new l) (sym after)
-        (subst (λ (o : Option Contents). StandsFor o (ledger_text begun.0 [])) (sym begun.2) (whole_ledger begun.0 [] begun.1))
+        (subst (λ (o : Option Contents). IsOwnLedger o (ledger_text begun.0 [])) (sym begun.2) (whole_ledger begun.0 [] begun.1))
     | inr made ↦
         let b = made.0 in
         let r = made.1 in
         let makes = made.3 in
-        let reads : ReadsAs b.root text b.records Nothing = subst (λ (o : Option Contents). StandsFor o text) made.2 stands in
+        let reads : ReadsAs b.root text b.records Nothing = subst (λ (o : Option Contents). IsOwnLedger o text) made.2 stands in
         let after : text_after out text ≡ text ++ lines_of (r ∷ []) =
         ap (λ (c : Option ℕ). cut_by c text ++ out.append.items) makes.says.cut_is ∙ ap (λ (l : List ℕ). text ++ l) makes.says.append_is in
         subst (λ (l : List ℕ). IsInStep new l) (sym after)
-        (subst (λ (o : Option Contents). StandsFor o (text ++ lines_of (r ∷ []))) (sym makes.taken) (one_more b r text makes.is_board makes.fit reads))
+        (subst (λ (o : Option Contents). IsOwnLedger o (text ++ lines_of (r ∷ []))) (sym makes.taken) (one_more b r text makes.is_board makes.fit reads))
   ]
 ]
 
@@ -180,7 +180,7 @@ torn_empty text Nothing reads = reads.ends
 torn_empty text (From line kept why) reads = ap (λ (n : ℕ). take n text) reads.ends.2
 
 -- what is kept of a ledger from which a worker starts is in step with it
-pub starts_in_step : (board : Option Contents) (text : List ℕ) (left : Left) → ReadsAsBoard text board left → StandsFor board (cut_by (cut_of left) text)
+pub starts_in_step : (board : Option Contents) (text : List ℕ) (left : Left) → ReadsAsBoard text board left → IsOwnLedger board (cut_by (cut_of left) text)
 starts_in_step None text left reads = torn_empty text left reads
 starts_in_step (Some b) text left reads = kept_reads b.root text b.records left reads.1
 
@@ -199,5 +199,5 @@ starts_step id decider text new (Ok out) starts =
     ap (λ (c : Option ℕ). cut_by c text ++ out.append.items) says.cut_is
     ∙ (ap (λ (l : List ℕ). cut_by (cut_of left) text ++ l) says.append_is ∙ append-nil (cut_by (cut_of left) text)) in
     subst (λ (l : List ℕ). IsInStep new l) (sym after)
-    (subst (λ (o : Option Contents). StandsFor o (cut_by (cut_of left) text)) (sym board) (starts_in_step starts.0 text left starts.2))
+    (subst (λ (o : Option Contents). IsOwnLedger o (cut_by (cut_of left) text)) (sym board) (starts_in_step starts.0 text left starts.2))
 starts_step id decider text new (Err f) starts = tt

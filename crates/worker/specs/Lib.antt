@@ -1,5 +1,5 @@
 pub mod Limits
-pub mod Inside
+pub mod inside
 pub mod WorkerState
 pub mod WorkerRules
 pub mod WorkerStart

@@ -60,9 +60,9 @@ abbrev pub unacknowledged : List Packed → List Recorded → List Recorded
 unacknowledged tables rs = filter (λ r. not (list_any (same_table r.table) tables)) rs
 
 -- the text of a ledger reads as the board, and every byte of it is kept; without a board it is empty
-abbrev pub StandsFor : Option Contents → List ℕ → Type 0
-StandsFor None text = text ≡ []
-StandsFor (Some b) text = ReadsAs b.root text b.records Nothing
+abbrev pub IsOwnLedger : Option Contents → List ℕ → Type 0
+IsOwnLedger None text = text ≡ []
+IsOwnLedger (Some b) text = ReadsAs b.root text b.records Nothing
 
 abbrev pub IsInStep : {D : Type 0} → WorkerState D → List ℕ → Type 0
-IsInStep w text = StandsFor w.board text
+IsInStep w text = IsOwnLedger w.board text

@@ -2,7 +2,7 @@
 ghost use Rattle.std.specs.Prelude.{Ok};
 ghost use Rattle.wire.specs.Grammar.{message_of};
 ghost use Rattle.wire.specs.Meaning.{said};
-ghost use Rattle.worker.specs.Inside.Telling.{IsTold};
+ghost use Rattle.worker.specs.inside.Telling.{IsTold};
 
 use crate::lease_name::LeaseName;
 use machine_text::Table;

@@ -12,7 +12,7 @@ use indexmap::IndexSet;
 use ledger::{Board, BoardFault};
 use machine_text::Table;
 use roles::{StartFault, cut_of, noted, sent};
-use std::alloc::{AllocError, Global};
+use std::alloc::Global;
 use std::marker::Model;
 use wire::{Event, Node, NodeFault, Note, Out};
 
@@ -189,7 +189,7 @@ impl<D: Decider + Drop> Worker<D> {
                     note: Note::Quiet,
                 })
             }
-            Err(BoardFault::NoMemory) => Err(AllocError),
+            Err(BoardFault::NoMemory) => Err(NoMemory),
             Err(fault) => Ok(noted(self.alloc, Note::Refused(fault.number()))),
         }
     }

@@ -13,7 +13,7 @@ use evidence::NoMemory;
 use indexmap::IndexSet;
 use ledger::{Board, Taken};
 use machine_text::Table;
-use std::alloc::{AllocError, Global};
+use std::alloc::Global;
 use wire::{Note, Out};
 
 // Whether a work turn may make one more record.
@@ -85,7 +85,7 @@ pub fn make(alloc: Global, board: &mut Board, made: &OwnedRecord) -> Result<Out,
         }),
         Ok(Taken::Known) | Ok(Taken::Settled) => unreachable!(),
         // its table is open and it is certified, so it was memory
-        Err(_) => Err(AllocError),
+        Err(_) => Err(NoMemory),
     }
 }
 
@@ -97,6 +97,6 @@ pub fn acknowledge(acknowledged: &mut IndexSet<Table>, t: Table) -> Result<(), N
 {
     match acknowledged.insert(t) {
         Ok(_) => Ok(()),
-        Err(_) => Err(AllocError),
+        Err(_) => Err(NoMemory),
     }
 }

@@ -1,15 +1,15 @@
 -- F side m delta rows keep: the automata fit the table.
 use Rattle.std.specs.Prelude.{◌≡◌, Some}
-use Rattle.far.specs.Automata.{Automata, AreAutomata, AreWithin, AreAutomataOf}
+use Rattle.far.specs.Automata.{Automata, AreAutomata, AreSized, AreAutomataOf}
 use Rattle.evidence.specs.declared.verdicts.Verdict.TheVariants.{Never}
 use Rattle.cert.specs.Meaning.{Meaning}
 
 abbrev pub far_meaning : Automata → Meaning
 far_meaning a = record {
-  writable = AreAutomata a × AreWithin a;
+  writable = AreAutomata a × AreSized a;
   made_for = λ n. a.states ≡ n;
   shows = Some Never;
-  within = AreWithin a;
+  within = AreSized a;
   wide = λ p. ⊥;
   stands = λ p. AreAutomata a × AreAutomataOf a p;
   takes_memory = ⊥;

@@ -4,7 +4,7 @@ use Rattle.machine_text.specs.Packed.{Packed, entry_of}
 use Rattle.machine_text.specs.declared.transition.Dir.{Dir}
 use Rattle.turing.specs.Run.{Config, after}
 use Rattle.turing.specs.Translated.{Farthest}
-use Rattle.run.specs.Standing.{Standing}
+use Rattle.run.specs.RunState.{RunState}
 use Rattle.loops.specs.inside.Moment.{Moment, IsMomentOf}
 use Rattle.loops.specs.inside.Arrival.{Arrives}
 
@@ -15,6 +15,6 @@ pub record Follows (p : Packed) (k : ℕ) (side : Dir) (kept : Moment) (bound : 
   pub farthest : Farthest (entry_of p) side kept.time k bound
 
 -- the runner came to time k, with the farthest head on its way; or else no such time is there
-abbrev pub GoesTo : ℕ → Dir → Standing → Option ℤ → Standing → Type 0
+abbrev pub GoesTo : ℕ → Dir → RunState → Option ℤ → RunState → Type 0
 GoesTo k side old (Some bound) new = Arrives k old new × Farthest (entry_of old.table) side old.steps k bound
 GoesTo k side old None new = (c : Config) → after (entry_of old.table) k ≡ Some c → ⊥

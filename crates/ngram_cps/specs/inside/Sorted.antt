@@ -11,7 +11,7 @@ pub record RisesTo (w reach : ℕ) (text : List ℕ) : Type 0 where
   pub rising : (k : ℕ) → k + 1 < reach → slice_cmp nat_cmp (item w text k) (item w text (k + 1)) ≡ Less
 
 -- if a word is there at all, it stands between two places
-pub record IsBetween (w count : ℕ) (text word : List ℕ) (low high : ℕ) : Type 0 where
+pub record StandsBetween (w count : ℕ) (text word : List ℕ) (low high : ℕ) : Type 0 where
   pub order : low ≤ high
   pub last : high ≤ count
   pub below : (k : ℕ) → k < low → slice_cmp nat_cmp (item w text k) word ≡ Less

@@ -49,13 +49,13 @@ pub record StepsLeft (s : Lists) (bytes : List ℕ) (e : Entry) : Type 0 where
   pub zero : FollowsLeft s bytes e 48
   pub one : FollowsLeft s bytes e 49
 
-abbrev pub StepsTo : Dir → Lists → List ℕ → Entry → Type 0
-StepsTo L s bytes e = StepsLeft s bytes e
-StepsTo R s bytes e = StepsRight s bytes e
+abbrev pub FollowsSide : Dir → Lists → List ℕ → Entry → Type 0
+FollowsSide L s bytes e = StepsLeft s bytes e
+FollowsSide R s bytes e = StepsRight s bytes e
 
 abbrev pub StepsBy : Option Entry → Lists → List ℕ → Type 0
 StepsBy None s bytes = ⊥
-StepsBy (Some e) s bytes = StepsTo e.dir s bytes e
+StepsBy (Some e) s bytes = FollowsSide e.dir s bytes e
 
 -- the local configuration has a step, which stays in the lists
 unfoldable pub GoesOn : Program → Lists → List ℕ → Type 0

@@ -5,7 +5,7 @@ use Rattle.ledger.proofs.Apart.{first_or_later, first_member, later_member}
 use Rattle.ledger.proofs.Same.{same_is, apart}
 use Rattle.ledger.specs.Contents.{IsOpenOn}
 use Rattle.leases.specs.Leases.{came_under}
-use Rattle.leases.specs.Inside.Children.{ComesUnder}
+use Rattle.leases.specs.inside.Children.{ComesUnder}
 use Rattle.leases.proofs.Granting.{came_here, came_other, came_cases}
 use Rattle.leases.proofs.children.lease_all.Goals as goal
 

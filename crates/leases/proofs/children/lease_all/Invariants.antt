@@ -4,7 +4,7 @@ use Rattle.indexmap.specs.IndexMap.{spare}
 use Rattle.indexmap.specs.IndexSet.{spare as spare_of}
 use Rattle.ledger.specs.Contents.{IsOpenOn}
 use Rattle.leases.specs.Leases.{came_under}
-use Rattle.leases.specs.Inside.Children.{CameOnly}
+use Rattle.leases.specs.inside.Children.{CameOnly}
 use Rattle.leases.proofs.OfferLaws.{KeepsAll}
 use Rattle.leases.proofs.children.lease_all.Given as goal
 

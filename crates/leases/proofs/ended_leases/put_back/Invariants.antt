@@ -1,6 +1,6 @@
 use Rattle.std.proofs.Common.{ℕ, ◌+◌, ◌<◌, ◌≤◌, length, get_or, Contains}
 use Rattle.std.specs.declared.cmp.Reverse.{Reverse}
-use Rattle.leases.specs.Inside.Deadlines.{entry}
+use Rattle.leases.specs.inside.Deadlines.{entry}
 use Rattle.leases.proofs.ended_leases.put_back.Given as goal
 
 abbrev pub invariant-loop-number : goal.invariant-loop-number

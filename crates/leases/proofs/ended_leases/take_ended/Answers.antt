@@ -3,7 +3,7 @@ use Rattle.std.specs.Option.{option_copied}
 use Rattle.std.proofs.lemmas.Result.{err_from_is_err_and}
 use Rattle.std.specs.Ordering.{nat_cmp}
 use Rattle.std.specs.BTreeMap.{get as lease_at}
-use Rattle.leases.specs.Inside.Deadlines.{Waiting, AreAwaitedBut, HaveEnded}
+use Rattle.leases.specs.inside.Deadlines.{Waiting, AreAwaitedBut, HaveEnded}
 use Rattle.leases.proofs.DeadlineLaws.{past_count, fewer_past, fewer_after, gone_entry, listed_entry, renewed_entry, one_more_ended, one_longer, all_listed}
 use Rattle.leases.proofs.ended_leases.take_ended.Goals as goal
 

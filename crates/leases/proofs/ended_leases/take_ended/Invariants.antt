@@ -1,7 +1,7 @@
 use Rattle.std.proofs.Common.{◌≤◌, length}
 use Rattle.std.specs.Ordering.{nat_cmp}
 use Rattle.std.specs.BTreeMap.{get as lease_at}
-use Rattle.leases.specs.Inside.Deadlines.{AreAwaitedBut, HaveEnded}
+use Rattle.leases.specs.inside.Deadlines.{AreAwaitedBut, HaveEnded}
 use Rattle.leases.proofs.DeadlineLaws.{past_count}
 use Rattle.leases.proofs.ended_leases.take_ended.Given as goal
 

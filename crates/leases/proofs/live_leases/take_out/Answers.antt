@@ -1,7 +1,7 @@
 use Rattle.std.proofs.Common.{sym, ◌∙◌, ap, cond, None, map}
 use Rattle.std.specs.BTreeMap.{get}
 use Rattle.std.specs.Ordering.{nat_cmp}
-use Rattle.leases.specs.Inside.Keeping.{kept, without, is_numbered}
+use Rattle.leases.specs.inside.Keeping.{kept, without, is_numbered}
 use Rattle.leases.proofs.LiveLaws.{at_number, without_none, removed_is}
 use Rattle.leases.proofs.live_leases.take_out.Goals as goal
 

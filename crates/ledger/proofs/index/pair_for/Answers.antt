@@ -2,7 +2,7 @@ use Rattle.std.proofs.Common.{sym, ◌∙◌, ap}
 use Rattle.std.specs.Option.{option_copied}
 use Rattle.cert.specs.Kinds.{owned_claim}
 use Rattle.ledger.specs.Records.{same_table}
-use Rattle.ledger.specs.Inside.Keeping.{records_of}
+use Rattle.ledger.specs.inside.Keeping.{records_of}
 use Rattle.ledger.proofs.Entries.{found_claim, no_claim, found_pair}
 use Rattle.ledger.proofs.OpenAfter.{pair_some, pair_none, unrecorded_pair}
 use Rattle.ledger.proofs.index.pair_for.Goals as goal

@@ -1,5 +1,5 @@
 use Rattle.std.proofs.Common.{◌∙◌, rules}
-use Rattle.ledger.specs.Inside.Keeping.{records_of}
+use Rattle.ledger.specs.inside.Keeping.{records_of}
 use Rattle.ledger.proofs.Sets.{brings}
 use Rattle.ledger.proofs.open_tables.open_all.Goals as goal
 

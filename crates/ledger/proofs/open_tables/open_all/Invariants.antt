@@ -1,8 +1,8 @@
 use Rattle.std.proofs.Common.{◌≡◌, ◌↔◌, ◌⊎◌}
 use Rattle.std.specs.BTreeMap.{ContainsKey}
 use Rattle.machine_text.specs.Packed.{Packed}
-use Rattle.ledger.specs.Inside.Keeping.{records_of}
-use Rattle.ledger.specs.Inside.Open.{table_cmp, others, HasUnrecorded}
+use Rattle.ledger.specs.inside.Keeping.{records_of}
+use Rattle.ledger.specs.inside.Open.{table_cmp, others, HasUnrecorded}
 use Rattle.ledger.proofs.open_tables.open_all.Given as goal
 
 -- what is open, and what the children that are left will open, is what will be open; and but for what was opened here, the

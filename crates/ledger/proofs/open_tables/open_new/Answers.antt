@@ -1,5 +1,5 @@
 use Rattle.std.proofs.Common.{◌∙◌, ap}
-use Rattle.ledger.specs.Inside.Open.{others}
+use Rattle.ledger.specs.inside.Open.{others}
 use Rattle.ledger.proofs.Sets.{inserted, others_inserted, no_key}
 use Rattle.ledger.proofs.open_tables.open_new.Goals as goal
 

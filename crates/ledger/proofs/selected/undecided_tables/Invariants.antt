@@ -1,6 +1,6 @@
 use Rattle.std.proofs.Common.{◌≡◌, ◌++◌}
 use Rattle.std.specs.Prelude.{filter_map}
-use Rattle.ledger.specs.Inside.Counting.{undecided_table}
+use Rattle.ledger.specs.inside.Counting.{undecided_table}
 use Rattle.ledger.proofs.selected.undecided_tables.Given as goal
 
 -- what is found, and what the records that are left give, is what will be found

@@ -1,6 +1,6 @@
 use Rattle.std.proofs.Common.{◌≡◌}
 use Rattle.machine_text.specs.Packed.{entry_of}
-use Rattle.run.specs.Standing.{OnRun}
+use Rattle.run.specs.RunState.{OnRun}
 use Rattle.loops.proofs.BoundLaws.{IsBoundSoFar}
 use Rattle.loops.proofs.farthest_head.farthest_head.Given as goal
 

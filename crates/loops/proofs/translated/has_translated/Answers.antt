@@ -4,7 +4,7 @@ use Rattle.std.specs.Int.RustNames.{FitsSigned}
 use Rattle.std.proofs.lemmas.Int.{to_z-of_z}
 use Rattle.machine_text.specs.Packed.{Packed, entry_of}
 use Rattle.turing.specs.Run.{Config, after}
-use Rattle.run.specs.Standing.{Standing}
+use Rattle.run.specs.RunState.{RunState}
 use Rattle.loops.specs.inside.Moment.{Moment}
 use Rattle.loops.specs.inside.Trail.{GoesTo}
 use Rattle.loops.proofs.MomentLaws.{arrived, not_arrived}
@@ -14,13 +14,13 @@ use Rattle.loops.proofs.translated.has_translated.Goals as goal
 pub returns-then-not-branch : goal.returns-then-not-branch
 returns-then-not-branch c =
     let none = not_arrived c.args.i c.in_ok-runner.runner c.comes_to.new.runner c.in_ok-comes_to.field-0 c.in_ok-comes_to.ensures (search rules) in
-    let began : c.in_ok-runner.runner.table ≡ c.args.t.now = ap (λ (r : Standing). r.table) c.in_ok-runner.ensures in
+    let began : c.in_ok-runner.runner.table ≡ c.args.t.now = ap (λ (r : RunState). r.table) c.in_ok-runner.ensures in
     not_begun _ _ _ _ (subst (λ (p : Packed). (d : Config) → after (entry_of p) c.args.i ≡ Some d → ⊥) began none)
 
 pub returns-in_default : goal.returns-in_default
 returns-in_default c =
     let first = arrived c.args.i c.in_ok-runner.runner c.comes_to.new.runner c.in_ok-comes_to.field-0 c.in_ok-comes_to.ensures (search rules) in
-    let table : c.comes_to.new.runner.table ≡ c.args.t.now = first.table ∙ ap (λ (r : Standing). r.table) c.in_ok-runner.ensures in
+    let table : c.comes_to.new.runner.table ≡ c.args.t.now = first.table ∙ ap (λ (r : RunState). r.table) c.in_ok-runner.ensures in
     let none = subst (λ (o : Option ℤ). GoesTo c.args.j c.args.side c.comes_to.new.runner o c.farthest_head.new.runner) c.in_default.is c.in_ok-bound.ensures in
     not_ended _ _ _ _ (subst (λ (p : Packed). (d : Config) → after (entry_of p) c.args.j ≡ Some d → ⊥) table none)
 
@@ -35,6 +35,6 @@ pub returns : goal.returns
 returns c =
     let first = arrived c.args.i c.in_ok-runner.runner c.comes_to.new.runner c.in_ok-comes_to.field-0 c.in_ok-comes_to.ensures (search rules) in
     let goes = subst (λ (o : Option ℤ). GoesTo c.args.j c.args.side c.comes_to.new.runner o c.farthest_head.new.runner) c.in-Some.is c.in_ok-bound.ensures in
-    let table : c.farthest_head.new.runner.table ≡ c.args.t.now = goes.0.table ∙ (first.table ∙ ap (λ (r : Standing). r.table) c.in_ok-runner.ensures) in
+    let table : c.farthest_head.new.runner.table ≡ c.args.t.now = goes.0.table ∙ (first.table ∙ ap (λ (r : RunState). r.table) c.in_ok-runner.ensures) in
     let time : c.in_ok-begin.begin.time ≡ c.args.i = ap (λ (m : Moment). m.time) c.in_ok-begin.ensures.kept ∙ first.steps in
     rw (← table, ← time, ← goes.0.steps) c.is_translated.ensures

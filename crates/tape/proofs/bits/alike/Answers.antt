@@ -1,7 +1,7 @@
 use Rattle.std.proofs.Common.{inr, ◌⊎◌, ◌≢◌, rules, ◌≡◌, ◌+◌, ◌<◌, ◌-◌, ℕ, sym, subst, arith}
 use Rattle.std.specs.Int.{bit_at}
 use Rattle.machine_text.specs.declared.transition.Dir.{Dir}
-use Rattle.tape.specs.Inside.{bit_ahead, HasCells, HasAllCells}
+use Rattle.tape.specs.inside.{bit_ahead, HasCells, HasAllCells}
 use Rattle.tape.proofs.LikeBits.{alike_left-all, nearest_left, unlike_left, alike_left, alike_right-all, nearest, nearest_right, positive}
 use Rattle.tape.proofs.bits.alike.Goals as goal
 

@@ -4,7 +4,7 @@ use Rattle.std.specs.Int.RustNames.{FitsSigned}
 use Rattle.std.proofs.lemmas.Int.{ints, to_z-of_z}
 use Rattle.machine_text.specs.declared.transition.Dir.{Dir}
 use Rattle.turing.specs.Translated.{Beyond}
-use Rattle.tape.specs.Inside.{place_of}
+use Rattle.tape.specs.inside.{place_numbered}
 use Rattle.tape.proofs.WordBits.{from_bits}
 use Rattle.tape.proofs.bits.beyond.Goals as goal
 
@@ -15,6 +15,6 @@ returns-then-skipped-lt64 c =
     let skipped = c.saturating_sub-skipped.ensures in
     λ i inside.
     let bits = from_bits c.saturating_sub-skipped.result i c.if-skipped-lt64.true inside in (
-      λ one. let from = bits.0 one in subst (λ (s : Dir). Beyond s c.args.from (place_of (c.args.number + i))) (sym c.in-R.is) (omega (arith, ints, number, skipped, from)),
-      λ beyond. let at = subst (λ (s : Dir). Beyond s c.args.from (place_of (c.args.number + i))) c.in-R.is beyond in bits.1 (omega (arith, ints, number, skipped, at)),
+      λ one. let from = bits.0 one in subst (λ (s : Dir). Beyond s c.args.from (place_numbered (c.args.number + i))) (sym c.in-R.is) (omega (arith, ints, number, skipped, from)),
+      λ beyond. let at = subst (λ (s : Dir). Beyond s c.args.from (place_numbered (c.args.number + i))) c.in-R.is beyond in bits.1 (omega (arith, ints, number, skipped, at)),
     )

@@ -1,5 +1,5 @@
-use Rattle.tape.proofs.WordBits.{symbol_of-set}
+use Rattle.tape.proofs.WordBits.{bit_symbol-set}
 use Rattle.tape.proofs.bits.symbol_at.Goals as goal
 
 pub returns-else-word-bit-eq0 : goal.returns-else-word-bit-eq0
-returns-else-word-bit-eq0 c = symbol_of-set c.args.word c.args.bit c.if-word-bit-eq0.false
+returns-else-word-bit-eq0 c = bit_symbol-set c.args.word c.args.bit c.if-word-bit-eq0.false

@@ -1,6 +1,6 @@
 use Rattle.std.proofs.Common.{◌≡◌, ◌||◌, false, get_or, ◌∙◌, ap, subst, arith}
 use Rattle.machine_text.specs.Packed.{entry_of}
-use Rattle.tnf.specs.Inside.{is_named}
+use Rattle.tnf.specs.inside.{is_named}
 use Rattle.tnf.proofs.Marks.{AreMarked, marked_none, marked_step, marked_all}
 use Rattle.tnf.proofs.naming.used_states.Goals as goal
 

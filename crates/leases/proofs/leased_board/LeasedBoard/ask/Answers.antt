@@ -4,8 +4,8 @@ use Rattle.machine_text.specs.Packed.{Packed}
 use Rattle.ledger.specs.Records.{same_table}
 use Rattle.leases.specs.Leases.{Lease, AreLeases}
 use Rattle.leases.specs.Asks.{IsFree, IsFirstFree, Grants}
-use Rattle.leases.specs.Inside.Children.{ComesUnder}
-use Rattle.leases.specs.Inside.Keeping.{KeptLease, kept, held, seen, without, IsKept}
+use Rattle.leases.specs.inside.Children.{ComesUnder}
+use Rattle.leases.specs.inside.Keeping.{KeptLease, kept, held, seen, without, IsKept}
 use Rattle.leases.specs.declared.reply.Reply.TheVariants.{Stop, Later, Grant}
 use Rattle.leases.proofs.Asking.{own_ends, own_ended, refused_holds, below_next}
 use Rattle.leases.proofs.Ending.{filter_held, asks_by}

@@ -1,6 +1,6 @@
 use Rattle.std.proofs.Common.{◌≡◌, sym, ◌∙◌, ap, subst, List, Some, None, map}
 use Rattle.leases.specs.Leases.{Leased, lease_of, came_under, while_live}
-use Rattle.leases.specs.Inside.Keeping.{KeptLease, held}
+use Rattle.leases.specs.inside.Keeping.{KeptLease, held}
 use Rattle.leases.proofs.LiveLaws.{without_none}
 use Rattle.leases.proofs.leased_board.LeasedBoard.offer.Goals as goal
 

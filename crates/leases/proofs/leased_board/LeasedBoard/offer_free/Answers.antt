@@ -6,7 +6,7 @@ use Rattle.ledger.specs.Records.{same_table}
 use Rattle.ledger.specs.declared.faults.OfferFault.TheVariants.{NoMemory}
 use Rattle.leases.specs.Leases.{Leased, AreLeases, lease_of}
 use Rattle.leases.specs.Offers.{TakesNew, TakesSettled}
-use Rattle.leases.specs.Inside.Keeping.{seen, IsKept}
+use Rattle.leases.specs.inside.Keeping.{seen, IsKept}
 use Rattle.leases.proofs.ChildLaws.{Opens, opens_new, opens_settled}
 use Rattle.leases.proofs.OfferLaws.{KeepsAll}
 use Rattle.leases.proofs.Offering.{err_is, GoesOut, same_board, refused_board, holdout_not_open, free_new_leases, free_new_kept, free_new_takes, settled_leases, settled_kept, settled_takes}

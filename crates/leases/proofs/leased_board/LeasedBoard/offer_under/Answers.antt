@@ -8,8 +8,8 @@ use Rattle.ledger.specs.declared.faults.OfferFault.{OfferFault}
 use Rattle.ledger.specs.declared.faults.OfferFault.TheVariants.{NoMemory}
 use Rattle.leases.specs.Leases.{Lease, Leases, Leased, AreLeases, came_under, is_live, lease_of}
 use Rattle.leases.specs.Offers.{TakesNew, LeasesAfter}
-use Rattle.leases.specs.Inside.Keeping.{KeptLease, held, seen, IsKept}
-use Rattle.leases.specs.Inside.Children.{RenewsOne, shown}
+use Rattle.leases.specs.inside.Keeping.{KeptLease, held, seen, IsKept}
+use Rattle.leases.specs.inside.Children.{RenewsOne, shown}
 use Rattle.leases.proofs.ChildLaws.{Opens, opens_new}
 use Rattle.leases.proofs.Offering.{GoesOut, err_is, same_board, refused_board, same_held, holds_shown, seen_shown, while_lives, under_new_leases, under_new_kept, under_new_takes}
 use Rattle.leases.proofs.DeadlineLaws.{shown_not_ahead, renewed_not_ahead}

@@ -1,8 +1,8 @@
 use Rattle.std.proofs.Common.{◌≡◌, ℕ, sym, not, refl, ◌∙◌, ap, subst, true, List, map, filter, Contains}
 use Rattle.std.proofs.lemmas.Result.{err_from_is_err_and}
 use Rattle.leases.specs.Leases.{Leased, AreLeases, SomeEnds, ended, is_live}
-use Rattle.leases.specs.Inside.Keeping.{KeptLease, held, seen, has_ended, are_numbered, without_each, AreDue, AreAmongFree, IsKept}
-use Rattle.leases.specs.Inside.Deadlines.{AreNotAhead}
+use Rattle.leases.specs.inside.Keeping.{KeptLease, held, seen, has_ended, are_numbered, without_each, AreDue, AreAmongFree, IsKept}
+use Rattle.leases.specs.inside.Deadlines.{AreNotAhead}
 use Rattle.leases.proofs.Asking.{at_moment}
 use Rattle.leases.proofs.Due.{ended_each, due_offered, number_ends}
 use Rattle.leases.proofs.Ending.{seen_ended, ended_holds}

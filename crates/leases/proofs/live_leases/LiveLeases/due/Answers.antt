@@ -1,6 +1,6 @@
 use Rattle.std.proofs.Common.{ℕ, sym, subst, List, map, Contains}
 use Rattle.std.proofs.lemmas.Result.{err_from_is_err_and}
-use Rattle.leases.specs.Inside.Keeping.{KeptLease, held, AreDue}
+use Rattle.leases.specs.inside.Keeping.{KeptLease, held, AreDue}
 use Rattle.leases.specs.Leases.{SomeEnds}
 use Rattle.leases.proofs.DeadlineLaws.{due_by, back_awaited, past_ends}
 use Rattle.leases.proofs.live_leases.LiveLeases.due.Goals as goal

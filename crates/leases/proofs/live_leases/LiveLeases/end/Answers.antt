@@ -1,5 +1,5 @@
 use Rattle.std.proofs.Common.{sym, ◌∙◌, ap, map}
-use Rattle.leases.specs.Inside.Keeping.{kept, without}
+use Rattle.leases.specs.inside.Keeping.{kept, without}
 use Rattle.leases.proofs.LiveLaws.{without_none, removed_is, workers_removed, workers_missing}
 use Rattle.leases.proofs.DeadlineLaws.{ended_awaited}
 use Rattle.leases.proofs.live_leases.LiveLeases.end.Goals as goal

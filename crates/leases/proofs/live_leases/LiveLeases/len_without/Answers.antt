@@ -1,6 +1,6 @@
 use Rattle.std.proofs.Common.{◌≡◌, sym, ◌∙◌, ap, subst, List, length, map, ◌-◌}
 use Rattle.std.proofs.lemmas.List.{length-map}
-use Rattle.leases.specs.Inside.Keeping.{KeptLease, kept, without}
+use Rattle.leases.specs.inside.Keeping.{KeptLease, kept, without}
 use Rattle.leases.proofs.LiveLaws.{without_none, length_found, length_missing, one_less}
 use Rattle.leases.proofs.live_leases.LiveLeases.len_without.Goals as goal
 

@@ -1,6 +1,6 @@
 use Rattle.std.proofs.Common.{◌∙◌, ap, List, map}
 use Rattle.leases.specs.Leases.{is_live}
-use Rattle.leases.specs.Inside.Keeping.{KeptLease, held}
+use Rattle.leases.specs.inside.Keeping.{KeptLease, held}
 use Rattle.leases.proofs.LiveLaws.{lives_is}
 use Rattle.leases.proofs.live_leases.LiveLeases.lives.Goals as goal
 

@@ -5,9 +5,9 @@ use Rattle.std.specs.BTreeMap.{BTreeMap, IsOrdered, get}
 use Rattle.std.proofs.Math.Seq.{map-set_same}
 use Rattle.indexmap.specs.IndexMap.{get as number_of}
 use Rattle.machine_text.specs.Packed.{Packed}
-use Rattle.leases.specs.Inside.Keeping.{kept, held, AreOfWorkers}
-use Rattle.leases.specs.Inside.Children.{HasRoomForChildren, shown}
-use Rattle.leases.specs.Inside.Deadlines.{AreAwaited}
+use Rattle.leases.specs.inside.Keeping.{kept, held, AreOfWorkers}
+use Rattle.leases.specs.inside.Children.{HasRoomForChildren, shown}
+use Rattle.leases.specs.inside.Deadlines.{AreAwaited}
 use Rattle.leases.specs.declared.held_leases.HeldLease.{HeldLease}
 use Rattle.leases.proofs.LiveLaws.{set_place, workers_same, room_one, room_none, if_ok}
 use Rattle.leases.proofs.DeadlineLaws.{written_awaited}

@@ -1,5 +1,5 @@
 use Rattle.std.proofs.Common.{◌∙◌, subst, List}
-use Rattle.leases.specs.Inside.Keeping.{KeptLease, IsOwn}
+use Rattle.leases.specs.inside.Keeping.{KeptLease, IsOwn}
 use Rattle.leases.proofs.LiveLaws.{is_own}
 use Rattle.leases.proofs.live_leases.LiveLeases.of_worker.Goals as goal
 

@@ -3,7 +3,7 @@ use Rattle.std.specs.Prelude.{is_some}
 use Rattle.machine_text.specs.Packed.{Packed}
 use Rattle.std.specs.Option.{option_copied}
 use Rattle.leases.specs.Leases.{is_live}
-use Rattle.leases.specs.Inside.Keeping.{KeptLease, held, AreAmongFree, is_numbered}
+use Rattle.leases.specs.inside.Keeping.{KeptLease, held, AreAmongFree, is_numbered}
 use Rattle.leases.proofs.LiveLaws.{lives_is, offered_one, offered_none, if_ok}
 use Rattle.leases.proofs.live_leases.LiveLeases.offer_tables.Goals as goal
 

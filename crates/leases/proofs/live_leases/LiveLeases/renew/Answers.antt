@@ -1,8 +1,8 @@
 use Rattle.std.proofs.Common.{◌≤◌, arith, refl, sym, ◌∙◌, ap, subst, List, Contains, IsSome, map}
 use Rattle.std.specs.Option.{option_copied_mut, is_some}
 use Rattle.leases.specs.Leases.{is_live}
-use Rattle.leases.specs.Inside.Keeping.{KeptLease, kept, held}
-use Rattle.leases.specs.Inside.Children.{Renews, RenewsOne}
+use Rattle.leases.specs.inside.Keeping.{KeptLease, kept, held}
+use Rattle.leases.specs.inside.Children.{Renews, RenewsOne}
 use Rattle.leases.proofs.LiveLaws.{lives_is, found_member, set_place, workers_same}
 use Rattle.leases.proofs.DeadlineLaws.{written_awaited}
 use Rattle.leases.proofs.live_leases.LiveLeases.renew.Goals as goal

@@ -5,9 +5,9 @@ use Rattle.std.specs.BTreeMap.{get, is_at}
 use Rattle.indexmap.specs.IndexMap.{get as number_of}
 use Rattle.leases.specs.declared.held_leases.HeldLease.{HeldLease}
 use Rattle.std.specs.Map.{lookup}
-use Rattle.leases.specs.Inside.Deadlines.{AreAwaited}
+use Rattle.leases.specs.inside.Deadlines.{AreAwaited}
 use Rattle.std.specs.declared.cmp.Reverse.{Reverse}
-use Rattle.leases.specs.Inside.Keeping.{KeptLease, kept, without, is_numbered, AreOfWorkers, IsOwn}
+use Rattle.leases.specs.inside.Keeping.{KeptLease, kept, without, is_numbered, AreOfWorkers, IsOwn}
 use Rattle.leases.proofs.LiveLaws.{at_number, added_last, without_last, fresh_at, not_own, owned, own_one, workers_replaced}
 use Rattle.leases.proofs.DeadlineLaws.{replaced_awaited}
 use Rattle.leases.proofs.live_leases.LiveLeases.replace.Goals as goal

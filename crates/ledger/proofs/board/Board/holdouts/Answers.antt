@@ -2,7 +2,7 @@ use Rattle.std.proofs.Common.{subst, ◌∙◌, ap}
 use Rattle.std.specs.Vec.Iter.{into_iter_items}
 use Rattle.ledger.specs.Contents.{IsBoard}
 use Rattle.std.specs.Prelude.{filter_map}
-use Rattle.ledger.specs.Inside.Counting.{undecided_table}
+use Rattle.ledger.specs.inside.Counting.{undecided_table}
 use Rattle.ledger.proofs.BoardLaws.{all_holdouts, if_both}
 use Rattle.ledger.proofs.board.Board.holdouts.Goals as goal
 

@@ -5,8 +5,8 @@ use Rattle.cert.specs.Kinds.{recorded}
 use Rattle.ledger.specs.Records.{same_table}
 use Rattle.ledger.specs.Held.{IsHoldout, settled}
 use Rattle.ledger.specs.Contents.{Contents, IsBoard}
-use Rattle.ledger.specs.Inside.Keeping.{records_of}
-use Rattle.ledger.specs.Inside.Counting.{is_halting}
+use Rattle.ledger.specs.inside.Keeping.{records_of}
+use Rattle.ledger.specs.inside.Counting.{is_halting}
 use Rattle.ledger.proofs.Boards.{holdouts_place, numbers_fit, kept_settled, records_settled, holdout_counted}
 use Rattle.ledger.proofs.Entries.{an_entry}
 use Rattle.ledger.proofs.Taking.{holdout_in_order, holdout_claim}

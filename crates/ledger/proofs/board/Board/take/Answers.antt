@@ -5,7 +5,7 @@ use Rattle.cert.specs.Claim.{Recorded}
 use Rattle.cert.specs.Kinds.{recorded}
 use Rattle.ledger.specs.Records.{same_table, mark_in}
 use Rattle.ledger.specs.Contents.{Contents, IsBoard}
-use Rattle.ledger.specs.Inside.Keeping.{records_of}
+use Rattle.ledger.specs.inside.Keeping.{records_of}
 use Rattle.ledger.specs.declared.kept.Kept.{Kept}
 use Rattle.ledger.proofs.Boards.{IsKept, next_place, numbers_fit, kept_more, records_more}
 use Rattle.ledger.proofs.HeldLaws.{unmarked}

@@ -1,9 +1,9 @@
 use Rattle.std.proofs.Common.{◌+◌, sym, ◌∙◌, ap, subst}
 use Rattle.ledger.specs.Held.{IsHoldout}
 use Rattle.ledger.specs.Contents.{Contents, IsBoard}
-use Rattle.ledger.specs.Inside.Counting.{is_undecided, is_halting, is_never, IsCounted}
-use Rattle.ledger.specs.Inside.Open.{IsOpenMap}
-use Rattle.ledger.specs.Tally.{IsHalting, IsNonHalting}
+use Rattle.ledger.specs.inside.Counting.{is_undecided, is_halting, is_never, IsCounted}
+use Rattle.ledger.specs.inside.Open.{IsOpenMap}
+use Rattle.ledger.specs.Tally.{IsHalting, IsNeverHalting}
 use Rattle.ledger.proofs.Numbers.{holdout_number, halting_number, never_number}
 use Rattle.ledger.proofs.BoardLaws.{open_number, nodes_counted, kind_counted}
 use Rattle.ledger.proofs.board.Board.tally.Goals as goal
@@ -20,7 +20,7 @@ returns c =
           (ap (λ n. c.len.result + n) (c.len-2.ensures.len ∙ sym c.len-3.ensures.len));
       open_count = open_number b c.self.inside.open_tables c.len-3.result tables c.len-3.ensures.len c.len-3.ensures.ordered;
       halting = kind_counted IsHalting is_halting halting_number b counts.halting board counted.halting;
-      never = kind_counted IsNonHalting is_never never_number b counts.never board counted.never;
+      never = kind_counted IsNeverHalting is_never never_number b counts.never board counted.never;
       holdouts = kind_counted IsHoldout is_undecided holdout_number b counts.undecided board counted.undecided;
       best = counted.best;
     }

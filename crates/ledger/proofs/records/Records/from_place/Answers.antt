@@ -1,6 +1,6 @@
 use Rattle.std.proofs.Common.{List, drop, length, min, ◌∙◌, ap}
 use Rattle.machine_text.specs.Packed.{Packed}
-use Rattle.ledger.specs.Inside.Keeping.{records_of}
+use Rattle.ledger.specs.inside.Keeping.{records_of}
 use Rattle.ledger.specs.declared.kept.Kept.{Kept}
 use Rattle.ledger.proofs.Entries.{recorded_from}
 use Rattle.ledger.proofs.records.Records.from_place.Goals as goal

@@ -1,7 +1,7 @@
 use Rattle.std.proofs.Common.{◌+◌, ◌*◌, ◌/◌, ◌%◌, rules, ap, ◌∙◌, sym, subst, ◌<◌, arith}
 use Rattle.std.proofs.lemmas.List.{get_or_default}
 use Rattle.machine_text.specs.Packed.{Packed, coded_entry}
-use Rattle.machine_text.specs.Inside.{byte_at, entry_byte}
+use Rattle.machine_text.specs.inside.{byte_at, entry_byte}
 use Rattle.machine_text.proofs.Rows.{byte_of_code}
 use Rattle.machine_text.proofs.table.Table.byte.Goals as goal
 

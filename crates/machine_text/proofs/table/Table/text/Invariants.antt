@@ -1,5 +1,5 @@
 use Rattle.std.proofs.Common.{◌≡◌, ℕ, ◌<◌, length, get_or}
-use Rattle.machine_text.specs.Inside.{byte_at}
+use Rattle.machine_text.specs.inside.{byte_at}
 use Rattle.machine_text.specs.Limits.{text_byte_limit}
 use Rattle.machine_text.proofs.table.Table.text.Given as goal
 

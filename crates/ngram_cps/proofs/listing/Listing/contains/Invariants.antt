@@ -1,5 +1,5 @@
 use Rattle.std.proofs.Common.{◌-◌}
-use Rattle.ngram_cps.specs.inside.Sorted.{IsBetween}
+use Rattle.ngram_cps.specs.inside.Sorted.{StandsBetween}
 use Rattle.ngram_cps.proofs.listing.Listing.contains.Given as goal
 
 abbrev pub decreases-search : goal.decreases-search
@@ -7,4 +7,4 @@ decreases-search l = l.high - l.low
 
 -- if the bytes are an item at all, it stands between the two places
 abbrev pub invariant-search : goal.invariant-search
-invariant-search l = IsBetween l.self.width l.self.count l.self.text.now l.bytes l.low l.high
+invariant-search l = StandsBetween l.self.width l.self.count l.self.text.now l.bytes l.low l.high

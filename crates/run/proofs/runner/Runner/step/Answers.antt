@@ -1,7 +1,7 @@
 use Rattle.std.proofs.Common.{◌<◌, sym, ◌∙◌, refl, subst}
 use Rattle.machine_text.specs.Packed.{entry_of}
 use Rattle.run.specs.Limits.{run_step_limit}
-use Rattle.run.specs.Standing.{Standing, OnRun}
+use Rattle.run.specs.RunState.{RunState, OnRun}
 use Rattle.run.proofs.Standings.{head_within, stands_next, halts_here, no_step, step_is}
 use Rattle.run.proofs.runner.Runner.step.Goals as goal
 
@@ -19,7 +19,7 @@ returns-in_default-clause-stands c = subst OnRun c.self.view_is c.self.invariant
 -- a step that was carried out leads to the next time
 pub invariant_of-self-2 : goal.invariant_of-self-2
 invariant_of-self-2 c =
-    let room = subst (λ (r : Standing). r.steps < run_step_limit) (sym c.self.view_is) c.requires in
+    let room = subst (λ (r : RunState). r.steps < run_step_limit) (sym c.self.view_is) c.requires in
     stands_next _ _ c.self.invariant room (step_is (entry_of c.self.inside.table) (record { state = c.self.inside.state.0; tape = c.self.inside.tape }) c.read.result c.in-Some.entry c.carry_out.new.tape c.read.ensures (sym c.get.ensures.entry ∙ c.in-Some.is) c.in_ok-carry_out.ensures.ok)
 
 pub returns-clause-stands : goal.returns-clause-stands

@@ -2,7 +2,7 @@ use Rattle.std.proofs.Common.{◌⊎◌, ◌≢◌, ◌≡◌, ℕ, ◌<◌, sub
 use Rattle.std.specs.Int.{bit_at}
 use Rattle.machine_text.specs.declared.transition.Dir.TheVariants.{L}
 use Rattle.turing.specs.Tape.{Tape, symbol_read}
-use Rattle.tape.specs.Inside.{bit_ahead, HasCells, HasAllCells}
+use Rattle.tape.specs.inside.{bit_ahead, HasCells, HasAllCells}
 use Rattle.tape.specs.Sweeps.{swept, EndsSweep}
 use Rattle.tape.proofs.Sweeps.{IsSweptWord, alike_ahead, sweep_ends, lesser, left_swept, left_swept-edge}
 use Rattle.tape.proofs.tape.Tape.sweep_left.Goals as goal

@@ -1,5 +1,5 @@
 use Rattle.std.proofs.Common.{ap, sym, ◌∙◌}
-use Rattle.text.specs.Inside.{parts_left}
+use Rattle.text.specs.inside.{parts_left}
 use Rattle.text.proofs.Cuts.{split_at_cut, split_nowhere}
 use Rattle.text.proofs.parts.Parts.next.Goals as goal
 

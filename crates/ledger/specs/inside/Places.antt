@@ -26,8 +26,8 @@ place_by None (Some v) = Holdout
 place_by None None = Known
 
 -- why a record that is judged isn't taken: its claim is refused, or memory
-abbrev pub IsRefusal : OfferFault → Recorded → Type 0
-IsRefusal WrongSize r = ⊥
-IsRefusal NotOpen r = ⊥
-IsRefusal (IsRefused f) r = IsRefusedBy f r
-IsRefusal NoMemory r = Unit {0}
+abbrev pub IsWhyRefused : OfferFault → Recorded → Type 0
+IsWhyRefused WrongSize r = ⊥
+IsWhyRefused NotOpen r = ⊥
+IsWhyRefused (IsRefused f) r = IsRefusedBy f r
+IsWhyRefused NoMemory r = Unit {0}

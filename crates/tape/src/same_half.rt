@@ -7,7 +7,7 @@ use machine_text::Dir;
 
 impl Tape {
     ghost use Rattle.tape.specs.Places.{IsWithinLimit, SameBeyond};
-    ghost use Rattle.tape.specs.Inside.{OnesWithin, WordWithin, IsReached};
+    ghost use Rattle.tape.specs.inside.{OnesWithin, WordWithin, IsReached};
 
     /// Whether head and cells are those of another tape.
     pub fn same(&self, other: &Tape) -> bool

@@ -2,7 +2,7 @@ use Rattle.std.proofs.Common.{◌∷◌, [], ◌∙◌, ap, ◌++◌}
 use Rattle.machine_text.specs.Text.{text_of}
 use Rattle.ledger.specs.LedgerText.{header_words}
 use Rattle.ledger.proofs.Appends.{third}
-use Rattle.ledger.proofs.writer.append_header.Goals as goal
+use Rattle.ledger.proofs.write_ledger.append_header.Goals as goal
 
 pub returns-clause-ok : goal.returns-clause-ok
 returns-clause-ok c =

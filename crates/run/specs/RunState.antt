@@ -6,7 +6,7 @@ use Rattle.turing.specs.Run.{Config, config_code, after}
 use Rattle.run.specs.Limits.{run_step_limit}
 
 -- a table, so many steps of its run, and the configuration to which they led
-pub record Standing : Type 0 where
+pub record RunState : Type 0 where
   pub table : Packed
   pub steps : ℕ
   pub config : Config
@@ -15,12 +15,12 @@ abbrev pub packed_code : Coded Packed
 packed_code =
     code_by (List ℕ × ℕ) (coded× (coded_list coded_ℕ) coded_ℕ) (λ p. (p.codes, p.states)) (λ c. record { codes = c.0; states = c.1 }) (λ _. refl)
 
-abbrev pub standing_code : Coded Standing
-standing_code =
+abbrev pub run_state_code : Coded RunState
+run_state_code =
     code_by (Packed × (ℕ × Config)) (coded× packed_code (coded× coded_ℕ config_code)) (λ r. (r.table, (r.steps, r.config))) (λ c. record { table = c.0; steps = c.1.0; config = c.1.1 }) (λ _. refl)
 
 -- the configuration is that of the run at this time
-pub record OnRun (r : Standing) : Type 0 where
+pub record OnRun (r : RunState) : Type 0 where
   pub is_table : IsTable r.table
   pub at : after (entry_of r.table) r.steps ≡ Some r.config
   pub within : r.config.state < r.table.states

@@ -1,7 +1,7 @@
 use Rattle.std.proofs.Common.{◌∷◌, ◌++◌, take, get_or, append_assoc, sym, ◌∙◌, ap, arith, rules}
 use Rattle.far.specs.Texts.{hex_text, rows_text}
 use Rattle.far.proofs.RoundTrip.{begun, rows_more}
-use Rattle.far.proofs.writing.append_rows.Goals as goal
+use Rattle.far.proofs.append_fields.append_rows.Goals as goal
 
 pub returns-in_err-append_row-clause-kept : goal.returns-in_err-append_row-clause-kept
 returns-in_err-append_row-clause-kept c = begun _ _ _ _ c.loop-k.invariant c.in_err-append_row.ensures.kept

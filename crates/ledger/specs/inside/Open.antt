@@ -11,7 +11,7 @@ use Rattle.tree.specs.Tables.{IsChildTable}
 use Rattle.cert.specs.Claim.{Recorded, shown_by}
 use Rattle.ledger.specs.Records.{claim_in, mark_in}
 use Rattle.ledger.specs.Contents.{Contents}
-use Rattle.ledger.specs.Inside.Counting.{is_halting}
+use Rattle.ledger.specs.inside.Counting.{is_halting}
 
 -- the order of tables: that of their texts
 abbrev pub table_cmp : Packed → Packed → Ordering

@@ -9,7 +9,7 @@ use std::cmp::Ordering;
 
 impl Tape {
     ghost use Rattle.tape.specs.Word.{Holds};
-    ghost use Rattle.tape.specs.Inside.{place_of, IsReached, HasOnesWithin};
+    ghost use Rattle.tape.specs.inside.{place_numbered, IsReached, HasOnesWithin};
 
     /// The symbol at a place.
     pub fn cell(&self, x: i64) -> Sym
@@ -21,7 +21,7 @@ impl Tape {
 
     // The word so numbered. It is blank beyond the words that the tape has.
     pub(crate) fn word_at(&self, block: u64) -> u64
-        ensures { Holds result self.now.ones (place_of (64 * block)) }
+        ensures { Holds result self.now.ones (place_numbered (64 * block)) }
     {
         match block.cmp(&self.block) {
             Ordering::Less => at_distance(&self.left, self.block - block),
@@ -32,7 +32,7 @@ impl Tape {
 
     // The 64 cells from the place so numbered on: the upper bits of one word and the lower ones of the next.
     fn word_from(&self, number: u64) -> u64
-        ensures { Holds result self.now.ones (place_of number) }
+        ensures { Holds result self.now.ones (place_numbered number) }
     {
         let bit = (number % 64) as u32;
         let low = self.word_at(number / 64) >> bit;
@@ -45,7 +45,7 @@ impl Tape {
 
     // The 64 cells from `shift` places to the right of the place so numbered on.
     pub(crate) fn word_shifted(&self, number: u64, shift: i64) -> u64
-        ensures { Holds result self.now.ones (place_of number +ℤ shift) }
+        ensures { Holds result self.now.ones (place_numbered number +ℤ shift) }
     {
         // Opens the invariant of the tape: its ones stand where heads can have come.
         let _ = &self.block;
@@ -59,7 +59,7 @@ impl Tape {
     pub(crate) fn blocks(&self) -> (u64, u64)
         ensures reached { IsReached self.now.ones }
         ensures bound { result.1 < 2 ^ 58 }
-        ensures all { HasOnesWithin self.now.ones (place_of (64 * result.0)) (place_of (64 * result.1) -ℤ pos 1) }
+        ensures all { HasOnesWithin self.now.ones (place_numbered (64 * result.0)) (place_numbered (64 * result.1) -ℤ pos 1) }
     {
         let first = self.block - self.left.len() as u64;
         let end = self.block + self.right.len() as u64 + 1;

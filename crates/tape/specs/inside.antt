@@ -12,15 +12,15 @@ use Rattle.tape.specs.Limits.{place_limit}
 use Rattle.tape.specs.Word.{ones_of, symbols_of}
 
 -- places are numbered from -2^63 on; the word numbered n holds those numbered from 64 * n on
-abbrev pub place_of : ℕ → ℤ
-place_of n = pos n -ℤ pos (2 ^ 63)
+abbrev pub place_numbered : ℕ → ℤ
+place_numbered n = pos n -ℤ pos (2 ^ 63)
 
 -- the tape whose head stands on a bit of the word numbered `block`, with the words on each side of that one, the
 -- nearest one last
 abbrev pub stored : ℕ → ℕ → List ℕ → ℕ → List ℕ → Tape
 stored block bit left word right = record {
-  head = place_of (64 * block + bit);
-  ones = ones_of (place_of (64 * block) -ℤ pos (64 * length left)) (symbols_of (left ++ word ∷ reverse right));
+  head = place_numbered (64 * block + bit);
+  ones = ones_of (place_numbered (64 * block) -ℤ pos (64 * length left)) (symbols_of (left ++ word ∷ reverse right));
 }
 
 -- a side gives its nearest word, or a blank one where it has none; which words it has then
@@ -49,7 +49,7 @@ OnesWithin side from shift ones others = (x : ℤ) → Beyond side from x → ce
 
 -- the same for the ones of the word so numbered alone
 abbrev pub WordWithin : Dir → ℤ → ℤ → ℕ → set.FinSet int_cmp → set.FinSet int_cmp → Type 0
-WordWithin side from shift block ones others = (i : ℕ) → i < 64 → Beyond side from (place_of (64 * block + i)) → cell_of ones (place_of (64 * block + i)) ≡ One → cell_of others (place_of (64 * block + i) +ℤ shift) ≡ One
+WordWithin side from shift block ones others = (i : ℕ) → i < 64 → Beyond side from (place_numbered (64 * block + i)) → cell_of ones (place_numbered (64 * block + i)) ≡ One → cell_of others (place_numbered (64 * block + i) +ℤ shift) ≡ One
 
 -- the bit so many cells ahead of a bit, on a side
 abbrev pub bit_ahead : Dir → ℕ → ℕ → ℕ

@@ -5,7 +5,7 @@ use Rattle.std.specs.List.Sorted.{IsPermutation}
 use Rattle.std.specs.declared.cmp.Ordering.{Ordering}
 use Rattle.std.specs.declared.cmp.Reverse.{Reverse}
 use Rattle.leases.specs.Limits.{lease_time}
-use Rattle.leases.specs.Inside.Keeping.{KeptLease}
+use Rattle.leases.specs.inside.Keeping.{KeptLease}
 use Rattle.leases.specs.declared.held_leases.HeldLease.{HeldLease}
 
 -- the entries, and for how many more there is room

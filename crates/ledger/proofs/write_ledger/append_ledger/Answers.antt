@@ -1,7 +1,7 @@
 use Rattle.ledger.specs.LedgerText.{ledger_text}
 use Rattle.std.proofs.lemmas.Grind.{common_steps}
 use Rattle.std.proofs.Common.{arith}
-use Rattle.ledger.proofs.writer.append_ledger.Goals as goal
+use Rattle.ledger.proofs.write_ledger.append_ledger.Goals as goal
 
 -- answered by name, so that nothing is offered where an edit makes it false
 pub returns-clause-ok : goal.returns-clause-ok

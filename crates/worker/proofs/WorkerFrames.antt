@@ -11,10 +11,10 @@ use Rattle.worker.specs.WorkerState.{unacknowledged}
 abbrev frames_for : ℕ → List Packed → List Recorded → List ℕ
 frames_for room tables rs = frames_of (map Rec (take room (unacknowledged tables rs)))
 
-comes : (tables : List Packed) (r : Recorded) (rs : List Recorded) → list_any (same_table r.table) tables ≡ false → unacknowledged tables (r ∷ rs) ≡ r ∷ unacknowledged tables rs
+pub comes : (tables : List Packed) (r : Recorded) (rs : List Recorded) → list_any (same_table r.table) tables ≡ false → unacknowledged tables (r ∷ rs) ≡ r ∷ unacknowledged tables rs
 comes tables r rs other = ap (λ (b : Bool). if not b then r ∷ unacknowledged tables rs else unacknowledged tables rs) other
 
-passes : (tables : List Packed) (r : Recorded) (rs : List Recorded) → list_any (same_table r.table) tables ≡ true → unacknowledged tables (r ∷ rs) ≡ unacknowledged tables rs
+pub passes : (tables : List Packed) (r : Recorded) (rs : List Recorded) → list_any (same_table r.table) tables ≡ true → unacknowledged tables (r ∷ rs) ≡ unacknowledged tables rs
 passes tables r rs there = ap (λ (b : Bool). if not b then r ∷ unacknowledged tables rs else unacknowledged tables rs) there
 
 one_more : (frames frames' : List ℕ) (r : Recorded) (rs : List Recorded) (room : ℕ) (total : List ℕ) → (room ≡ 0 → ⊥) → frames' ≡ frames ++ frames_of (Rec r ∷ [])

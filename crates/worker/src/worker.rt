@@ -3,7 +3,7 @@ ghost use Rattle.std.specs.Prelude.{◌≡◌, IfOk, OnErr, option_map};
 
 use crate::lease_name::LeaseName;
 use crate::told::{Telling, told};
-use crate::worker_answers::{asking, frames_due, ledger_of};
+use crate::worker_answers::{asking, first_due, frames_due, ledger_of};
 use crate::worker_start::loaded;
 use crate::worker_turns::{acknowledge, has_root, is_recorded, make, next_table};
 use cert::{Decider, Finder, Finders};
@@ -26,12 +26,15 @@ pub struct Worker<D> {
     board: Option<Board>,
     lease: Option<LeaseName>,
     acknowledged: IndexSet<Table>,
+    // the records before this place are acknowledged
+    first_due: usize,
     rests: bool,
     stopped: bool,
 }
 
 impl<D> Model for Worker<D> {
-    ghost use Rattle.worker.specs.WorkerState.{WorkerState};
+    ghost use Rattle.worker.specs.WorkerState.{WorkerState, records_on};
+    ghost use Rattle.worker.specs.inside.Due.{AreFirstAcknowledged};
 
     ghost Value = { WorkerState D };
 
@@ -44,6 +47,8 @@ impl<D> Model for Worker<D> {
       rests = a.rests;
       stopped = a.stopped;
     } };
+
+    ghost invariant = { λ a. AreFirstAcknowledged a.acknowledged.keys (records_on a.board) a.first_due };
 }
 
 impl Worker<Finders<Box<dyn Finder>>> {
@@ -77,7 +82,7 @@ impl<D: Drop> Worker<D> {
     ghost use Rattle.wire.specs.Carried.{text_after};
     ghost use Rattle.worker.specs.WorkerState.{IsInStep};
     ghost use Rattle.worker.specs.WorkerStart.{Starts, at_first};
-    ghost use Rattle.std.specs.Prelude.{None, false};
+    ghost use Rattle.std.specs.Prelude.{false};
 
     /// The same with any decider, which is asked for each record that it makes.
     pub fn over(
@@ -101,32 +106,32 @@ impl<D: Drop> Worker<D> {
     ) -> (Worker<D>, Result<Out, StartFault>)
         ensures { Starts id decider ledger.now result.0 result.1 }
     {
-        let mut worker = Worker::idle(alloc, id, decider);
         match loaded(alloc, ledger) {
             Ok((board, left)) => {
-                worker.board = board;
                 let mut out = noted(alloc, Note::Quiet);
                 out.cut = cut_of(&left);
-                (worker, Ok(out))
+                (Worker::idle(alloc, id, decider, board), Ok(out))
             }
             Err(fault) => {
+                let mut worker = Worker::idle(alloc, id, decider, None);
                 worker.stopped = true;
                 (worker, Err(fault))
             }
         }
     }
 
-    // A worker without a board.
-    fn idle(alloc: Global, id: u32, decider: D) -> Worker<D>
-        ensures { result ≡ at_first id decider None false }
+    // A worker without a lease.
+    fn idle(alloc: Global, id: u32, decider: D, board: Option<Board>) -> Worker<D>
+        ensures { result ≡ at_first id decider board false }
     {
         Worker {
             alloc,
             id,
             decider,
-            board: None,
+            board,
             lease: None,
             acknowledged: IndexSet::new(alloc),
+            first_due: 0,
             rests: false,
             stopped: false,
         }
@@ -180,6 +185,7 @@ impl<D: Decider + Drop> Worker<D> {
                     return Ok(noted(self.alloc, Note::Quiet));
                 }
                 let append = ledger_of(self.alloc, &board)?;
+                self.first_due = 0;
                 self.board = Some(board);
                 self.begin(name);
                 Ok(Out {
@@ -199,6 +205,7 @@ impl<D: Decider + Drop> Worker<D> {
         ensures { self.new ≡ granted self.old name self.old.board }
     {
         self.lease = Some(name);
+        self.first_due = 0;
         self.acknowledged.clear();
         self.rests = false;
     }
@@ -220,6 +227,15 @@ impl<D: Decider + Drop> Worker<D> {
         ensures ok { IfOk result (λ out. TickRow self.old out self.new) }
         ensures err { OnErr result (self.new ≡ self.old) }
     {
+        self.pass_acknowledged();
+        self.answer_tick()
+    }
+
+    // What it answers to a tick.
+    fn answer_tick(&mut self) -> Result<Out, NoMemory>
+        ensures ok { IfOk result (λ out. TickRow self.old out self.new) }
+        ensures err { OnErr result (self.new ≡ self.old) }
+    {
         if self.rests {
             return Ok(noted(self.alloc, Note::Quiet));
         }
@@ -235,12 +251,21 @@ impl<D: Decider + Drop> Worker<D> {
         Ok(sent(self.alloc, frames))
     }
 
+    // Passes over the first records, as far as they are acknowledged, so that no later tick looks at them.
+    fn pass_acknowledged(&mut self)
+        ensures { self.new ≡ self.old }
+    {
+        if let Some(board) = &self.board {
+            self.first_due = first_due(&self.acknowledged, board, self.first_due);
+        }
+    }
+
     // The frames of the first records that aren't acknowledged.
     fn due(&self) -> Result<Vec<u8>, NoMemory>
         ensures { IfOk result (λ frames. frames.items ≡ frames_of (map Rec (take tick_record_limit (unacknowledged self.now.acknowledged (records_on self.now.board))))) }
     {
         match &self.board {
-            Some(board) => frames_due(self.alloc, &self.acknowledged, board),
+            Some(board) => frames_due(self.alloc, &self.acknowledged, board, self.first_due),
             None => Ok(Vec::new(self.alloc)),
         }
     }

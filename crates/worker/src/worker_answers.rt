@@ -6,6 +6,7 @@ ghost use Rattle.wire.specs.Grammar.{frames_of};
 ghost use Rattle.wire.specs.Meaning.{said};
 ghost use Rattle.wire.specs.Message.{Ask as AskMessage, Done as DoneMessage, Rec as RecMessage};
 ghost use Rattle.worker.specs.Limits.{tick_record_limit};
+ghost use Rattle.worker.specs.inside.Due.{AreFirstAcknowledged};
 ghost use Rattle.worker.specs.WorkerRules.{done_with};
 ghost use Rattle.roles.specs.Says.{lines_of};
 ghost use Rattle.worker.specs.WorkerState.{unacknowledged};
@@ -60,17 +61,37 @@ pub fn frame_of(alloc: Global, r: &OwnedRecord) -> Result<Vec<u8>, NoMemory>
     Ok(frames)
 }
 
-// The frames of the first records whose tables aren't among those that were acknowledged.
+// The place of the first record from a place on whose table isn't among those that were acknowledged.
+pub fn first_due(acknowledged: &IndexSet<Table>, board: &Board, from: usize) -> usize
+    requires { AreFirstAcknowledged acknowledged.now.keys board.now.records from }
+    ensures { AreFirstAcknowledged acknowledged.now.keys board.now.records result }
+{
+    // The proof needs how many records there can be.
+    let _ = board.tally();
+    let mut place = from;
+    for r in board.records_from(from) {
+        if !acknowledged.contains(&r.table) {
+            return place;
+        }
+        place += 1;
+    }
+    place
+}
+
+// The frames of the first records whose tables aren't among those that were acknowledged, where those before a
+// place are.
 pub fn frames_due(
     alloc: Global,
     acknowledged: &IndexSet<Table>,
     board: &Board,
+    from: usize,
 ) -> Result<Vec<u8>, NoMemory>
+    requires { AreFirstAcknowledged acknowledged.now.keys board.now.records from }
     ensures { IfOk result (λ frames. frames.items ≡ frames_of (map RecMessage (take tick_record_limit (unacknowledged acknowledged.now.keys board.now.records)))) }
 {
     let mut frames = Vec::new(alloc);
     let mut room = MAX_TICK_RECORDS;
-    for r in board.records() {
+    for r in board.records_from(from) {
         if room == 0 {
             return Ok(frames);
         }

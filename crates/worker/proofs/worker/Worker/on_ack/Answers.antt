@@ -1,0 +1,11 @@
+use Rattle.std.proofs.Common.{List, sym, subst}
+use Rattle.machine_text.specs.Packed.{Packed}
+use Rattle.worker.specs.WorkerState.{records_on}
+use Rattle.worker.specs.inside.Due.{AreFirstAcknowledged}
+use Rattle.worker.proofs.WorkerDue.{acknowledged_more}
+use Rattle.worker.proofs.worker.Worker.on_ack.Goals as goal
+
+pub invariant_of-self-2 : goal.invariant_of-self-2
+invariant_of-self-2 g c =
+    subst (λ (tables : List Packed). AreFirstAcknowledged tables (records_on c.self.inside.board) c.self.inside.first_due) (sym c.in_ok-acknowledge.ensures.ok)
+    (acknowledged_more c.self.inside.acknowledged.keys c.args.t (records_on c.self.inside.board) c.self.inside.first_due c.self.invariant)

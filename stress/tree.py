@@ -48,6 +48,7 @@ class Board:
 
     def __init__(self, root):
         self.root = root
+        self.lines = []
         self.shown = {}
         self.open = {printed(root)}
 
@@ -75,6 +76,13 @@ class Board:
         if told.startswith("refused"):
             return told
         self.open.discard(table)
+        written = table.encode() + line[len(table):]
+        if is_holdout:
+            # it takes the holdout's place
+            place = next(i for i, held in enumerate(self.lines) if held.split(b" ")[0] == table.encode())
+            self.lines[place] = written
+        else:
+            self.lines.append(written)
         shown = told.split(" ", 1)[1]
         self.shown[table] = shown
         if shown.startswith("halts "):
@@ -100,30 +108,44 @@ class Board:
         return "".join(line + "\n" for line in lines)
 
 
+class Loaded:
+    """What a ledger's text is loaded as: a board and the number of the first line that isn't kept, or a fault."""
+
+    def __init__(self, text):
+        self.board, self.left, self.fault, self.is_too_long = None, None, "", False
+        end = text.find(b"\n")
+        if end < 0 or not text[:end].startswith(HEADER):
+            self.fault = "refused 404\n"
+            return
+        try:
+            root = read_table(text[len(HEADER):end])
+        except Refused:
+            self.fault = "refused 404\n"
+            return
+        if not is_in_order(root):
+            self.fault = "refused 405\n"
+            return
+        self.board = Board(root)
+        self.kept = text[:end + 1]
+        self.take_lines(text[end + 1:].split(b"\n"))
+
+    def take_lines(self, lines):
+        for number, line in enumerate(lines[:-1]):
+            why = self.board.take(line)
+            if why == "too long":
+                self.is_too_long = True
+                return
+            if why is not None:
+                self.left = number + 2
+                return
+            self.kept += line + b"\n"
+        if lines[-1]:
+            self.left = len(lines) + 1
+
+
 def reported(text):
-    """What is printed for a ledger's text: the report, or `refused N` as the fault; None where it takes too long."""
-    end = text.find(b"\n")
-    if end < 0 and (HEADER.startswith(text) or text.startswith(HEADER)):
-        return None, "refused 404\n"
-    first = text if end < 0 else text[:end]
-    if end < 0 or not first.startswith(HEADER):
-        return None, "refused 404\n"
-    try:
-        root = read_table(first[len(HEADER):])
-    except Refused:
-        return None, "refused 404\n"
-    if not is_in_order(root):
-        return None, "refused 405\n"
-    board = Board(root)
-    lines = text[end + 1:].split(b"\n")
-    left = None
-    for number, line in enumerate(lines[:-1]):
-        why = board.take(line)
-        if why == "too long":
-            return None, None
-        if why is not None:
-            left = number + 2
-            break
-    if left is None and lines[-1]:
-        left = len(lines) + 1
-    return board.report(left), ""
+    """What is printed for a ledger's text, and the fault; both None where it takes too long to say."""
+    ledger = Loaded(text)
+    if ledger.is_too_long:
+        return None, None
+    return (None, ledger.fault) if ledger.fault else (ledger.board.report(ledger.left), "")

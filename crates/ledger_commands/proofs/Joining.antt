@@ -1,9 +1,9 @@
--- Texts that are taken into a board, and ledgers that are rewritten.
-use Rattle.std.proofs.Common.{◌≡◌, ℕ, List, ◌++◌, Option, Some, None, Ok, Err, inl, inr, sym, ap, subst, ◌∙◌}
+-- Texts that are taken into a board.
+use Rattle.std.proofs.Common.{◌≡◌, ℕ, List, Ok, Err, inl, inr, sym, subst}
 use Rattle.machine_text.specs.Packed.{Packed, entry_of}
 use Rattle.tree.specs.Used.{InOrder}
 use Rattle.ledger.specs.Contents.{Contents}
-use Rattle.ledger.specs.LedgerText.{HasHeader, LoadGives, PeekGives, ReadsAs, ledger_text}
+use Rattle.ledger.specs.LedgerText.{HasHeader, LoadGives, PeekGives, ReadsAs}
 use Rattle.ledger.specs.declared.left.Left.{Left}
 use Rattle.text.proofs.Lines.{line_has_newline}
 use Rattle.ledger.specs.Merging.{MergeGives}
@@ -11,9 +11,7 @@ use Rattle.ledger.specs.declared.faults.LoadFault.{LoadFault}
 use Rattle.ledger.specs.declared.faults.LoadFault.TheVariants.{BadHeader, WrongRoot, NoMemory}
 use Rattle.ledger.specs.declared.faults.MergeFault.{MergeFault}
 use Rattle.ledger.specs.declared.faults.MergeFault.TheVariants.{WrongRoot as RootsDiffer, NoMemory as NoMergeMemory}
-use Rattle.wire.specs.Carried.{cut_to}
-use Rattle.wire.specs.Device.{grown}
-use Rattle.ledger_commands.specs.Merge.{EndsTakingIn, rewritten}
+use Rattle.ledger_commands.specs.Merge.{EndsTakingIn}
 use Rattle.ledger_commands.specs.Faults.{ended_by_load, ended_by_merge}
 
 -- a text whose root isn't read
@@ -43,10 +41,3 @@ load_taken text root loaded header h = elim h.1 [
 pub merge_ends_taking : (text : List ℕ) (old other new : Contents) (f : MergeFault) → other.root ≡ old.root → ((rest : List ℕ) × HasHeader text old.root rest) → MergeGives old other (Err f) new → EndsTakingIn old.root text (ended_by_merge f)
 merge_ends_taking text old other new RootsDiffer same header gives = absurd (gives.0 (sym same))
 merge_ends_taking text old other new NoMergeMemory same header gives = header
-
--- a ledger that is cut to nothing and gains a board's
-pub rewritten_by : (b : Contents) (text begun : List ℕ) (before cut after : Option (List ℕ)) → text ≡ begun ++ ledger_text b.root b.records → begun ≡ []
-    → cut ≡ cut_to (Some 0) before → after ≡ grown cut text → after ≡ rewritten b before
-rewritten_by b text begun None cut after is none of gains = gains ∙ ap (λ (o : Option (List ℕ)). grown o text) of
-rewritten_by b text begun (Some old) cut after is none of gains =
-    gains ∙ (ap (λ (o : Option (List ℕ)). grown o text) of ∙ ap (λ (l : List ℕ). Some l) (is ∙ ap (λ (l : List ℕ). l ++ ledger_text b.root b.records) none))

@@ -1,2 +1,2 @@
 pub mod Carrying
-pub mod Rounds
+pub mod WorkTurns

@@ -5,7 +5,7 @@ use Rattle.node_commands.specs.Rounds.{events_of_round}
 use Rattle.wire.specs.Carried.{BrokenOff, Faulted, Handed, scene}
 use Rattle.wire.specs.Happening.{Happening, Ticked, Worked}
 use Rattle.wire.proofs.Replies.{handed_more}
-use Rattle.node_commands.proofs.Rounds.{works_next}
+use Rattle.node_commands.proofs.WorkTurns.{works_next}
 use Rattle.node_commands.proofs.working.work.Goals as goal
 
 pub returns-in_err-handle-clause-err : goal.returns-in_err-handle-clause-err

@@ -1,7 +1,9 @@
 // The evidence of backward reasoning, and its check.
-ghost use Rattle.std.specs.Prelude.{◌≤◌, IfOk};
+ghost use Rattle.std.specs.Prelude.{◌≡◌, ◌<◌, ◌≤◌, ◌^◌, ◌++◌, length, take, OnOk, IfOk};
+ghost use Rattle.backward.specs.Fields.{backward_by, backward_fields};
 ghost use Rattle.backward.specs.Limits.{depth_limit};
 ghost use Rattle.backward.specs.inside.Counts.{SaysDone};
+ghost use Rattle.text.specs.Fields.{spaced};
 
 use crate::limits::MAX_DEPTH;
 use crate::path_counter::PathCounter;
@@ -10,6 +12,7 @@ use machine_text::Table;
 use run::{Runner, Step};
 use std::alloc::Global;
 use tape::NoMemory;
+use text::{FieldFault, Parts, append_number_field, end_of, next_field, number_in};
 
 /// The claim that a table never halts, since its run does `depth` steps and no configuration whatever of its
 /// states comes to a halting pair after exactly so many.
@@ -19,6 +22,28 @@ use tape::NoMemory;
 #[derive(Clone, Copy, Debug, PartialEq, Eq)]
 pub struct Backward {
     pub depth: u64,
+}
+
+impl Backward {
+    /// The claim that the field of a record makes: `d`.
+    pub fn read(mut fields: Parts<'_>) -> Result<Backward, FieldFault>
+        ensures { result ≡ backward_by fields.entry }
+    {
+        let depth = next_field(&mut fields)?;
+        end_of(fields)?;
+        Ok(Backward {
+            depth: number_in(depth)?,
+        })
+    }
+
+    /// Appends the field of a record behind a space. Where memory is refused, a beginning of it.
+    pub fn append_fields(&self, out: &mut Vec<u8>) -> Result<(), NoMemory>
+        ensures ok { OnOk result (out.new.items ≡ out.old.items ++ spaced (backward_fields self.now)) }
+        ensures writable { OnOk result (self.now.depth < 2 ^ 64) }
+        ensures kept { take (length out.old.items) out.new.items ≡ out.old.items }
+    {
+        append_number_field(self.depth, out)
+    }
 }
 
 impl Evidence for Backward {

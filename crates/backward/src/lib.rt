@@ -3,12 +3,13 @@
 //! A path of depth k is a list of k + 1 pairs through which some configuration runs, and whose last pair
 //! halts. Where the run from the blank tape does d steps and there is no path of depth d, the table never
 //! halts. turing's `Backward` says so; `specs/` adds when there are more paths than may be gone through
-//! (`Paths`) and the limits as numbers (`Limits`). `specs/inside` is for the crate's own code: what a stretch
+//! (`Paths`), how a record is written (`Fields`) and the limits as numbers (`Limits`). `specs/inside` is for the crate's own code: what a stretch
 //! of known cells tells of a configuration (`Known`), and how many paths go further back than one (`Counts`).
 #![tactic(auto)]
 
 mod backward;
 mod finder;
+mod laws;
 mod limits;
 mod path_counter;
 mod step_back;
@@ -16,4 +17,5 @@ mod too_wide;
 
 pub use backward::Backward;
 pub use finder::BackwardFinder;
+pub use laws::backward_reads_back;
 pub use limits::{MAX_DEPTH, MAX_PATHS};

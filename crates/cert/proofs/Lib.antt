@@ -1,7 +1,6 @@
+pub mod Written
 pub mod RoundTrip
 pub mod TrueClaims
 pub mod Lines
 pub mod Refusals
-pub mod ThreeLists
-pub mod ThreeTexts
 pub mod Asked

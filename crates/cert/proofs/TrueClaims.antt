@@ -15,10 +15,10 @@ use Rattle.evidence.specs.Verdict.{IsTrueOf}
 use Rattle.cert.specs.Claim.{Claim, HaltsClaim, CycleClaim, TranslatedClaim, BackwardClaim, NgramClaim, FarClaim, NoClaim, Stands, shown_by}
 
 pub standing_is_true : (c : Claim) (p : Packed) → IsTable p → Stands c p → IfSome (shown_by c) (λ v. IsTrueOf v (entry_of p))
-standing_is_true (HaltsClaim k) p table stands = stands
-standing_is_true (CycleClaim i j) p table stands = cycle_never (entry_of p) i j stands
-standing_is_true (TranslatedClaim i j side) p table stands = translated_never (entry_of p) i j side stands
-standing_is_true (BackwardClaim d) p table stands = backward_never p.states (entry_of p) d (table_machine p table) stands
+standing_is_true (HaltsClaim e) p table stands = stands
+standing_is_true (CycleClaim e) p table stands = cycle_never (entry_of p) e.i e.j stands
+standing_is_true (TranslatedClaim e) p table stands = translated_never (entry_of p) e.i e.j e.side stands
+standing_is_true (BackwardClaim e) p table stands = backward_never p.states (entry_of p) e.depth (table_machine p table) stands
 standing_is_true (NgramClaim s) p table stands =
     closed_never (entry_of p) (λ w. IsItem s.width s.left (word_text w)) (λ w. IsItem s.width s.right (word_text w)) (IsLocalItem s) s.width stands.1.closed
 standing_is_true (FarClaim a) p table stands = automata_never p.states (entry_of p) a.side (described a) (table_machine p table) stands.1.fits

@@ -1,7 +1,10 @@
 -- What a certificate claims of a table, apart from how it is kept; when that stands, and what it shows.
 use Rattle.std.specs.Prelude.{ℕ, Option}
 use Rattle.machine_text.specs.Packed.{Packed}
-use Rattle.machine_text.specs.declared.transition.Dir.{Dir}
+use Rattle.run.specs.declared.halts_in.HaltsIn.{HaltsIn}
+use Rattle.loops.specs.declared.cycle.Cycle.{Cycle}
+use Rattle.loops.specs.declared.translated.Translated.{Translated}
+use Rattle.backward.specs.declared.backward.Backward.{Backward}
 use Rattle.far.specs.Automata.{Automata}
 use Rattle.ngram_cps.specs.Lists.{Lists}
 use Rattle.evidence.specs.declared.verdicts.Verdict.{Verdict}
@@ -14,12 +17,12 @@ use Rattle.cert.specs.meanings.Ngram.{ngram_meaning}
 use Rattle.cert.specs.meanings.Far.{far_meaning}
 use Rattle.cert.specs.meanings.Undecided.{undecided_meaning}
 
--- a claim of each kind: its fields
+-- a claim of each kind: its numbers, lists or automata
 pub data Claim : Type 0 where
-  HaltsClaim : ℕ → Claim
-  CycleClaim : ℕ → ℕ → Claim
-  TranslatedClaim : ℕ → ℕ → Dir → Claim
-  BackwardClaim : ℕ → Claim
+  HaltsClaim : HaltsIn → Claim
+  CycleClaim : Cycle → Claim
+  TranslatedClaim : Translated → Claim
+  BackwardClaim : Backward → Claim
   NgramClaim : Lists → Claim
   FarClaim : Automata → Claim
   NoClaim : Claim
@@ -31,10 +34,10 @@ pub record Recorded : Type 0 where
 
 -- what it means, a row for each kind
 abbrev pub meaning : Claim → Meaning
-meaning (HaltsClaim k) = halts_meaning k
-meaning (CycleClaim i j) = cycle_meaning i j
-meaning (TranslatedClaim i j side) = translated_meaning i j side
-meaning (BackwardClaim d) = backward_meaning d
+meaning (HaltsClaim e) = halts_meaning e
+meaning (CycleClaim e) = cycle_meaning e
+meaning (TranslatedClaim e) = translated_meaning e
+meaning (BackwardClaim e) = backward_meaning e
 meaning (NgramClaim s) = ngram_meaning s
 meaning (FarClaim a) = far_meaning a
 meaning NoClaim = undecided_meaning

@@ -14,19 +14,19 @@ use Rattle.cert.specs.declared.record.OwnedRecord.{OwnedRecord}
 use Rattle.cert.specs.declared.record_fault.RecordFault.{RecordFault}
 
 abbrev pub claim_of : Certificate → Claim
-claim_of (Halts e) = HaltsClaim e.0
-claim_of (Cycle e) = CycleClaim e.i e.j
-claim_of (Translated e) = TranslatedClaim e.i e.j e.side
-claim_of (Backward e) = BackwardClaim e.depth
+claim_of (Halts e) = HaltsClaim e
+claim_of (Cycle e) = CycleClaim e
+claim_of (Translated e) = TranslatedClaim e
+claim_of (Backward e) = BackwardClaim e
 claim_of (Ngram e) = NgramClaim (lists_of e)
 claim_of (Far e) = FarClaim (automata_of e)
 claim_of Undecided = NoClaim
 
 abbrev pub owned_claim : OwnedCertificate → Claim
-owned_claim (OwnedHalts e) = HaltsClaim e.0
-owned_claim (OwnedCycle e) = CycleClaim e.i e.j
-owned_claim (OwnedTranslated e) = TranslatedClaim e.i e.j e.side
-owned_claim (OwnedBackward e) = BackwardClaim e.depth
+owned_claim (OwnedHalts e) = HaltsClaim e
+owned_claim (OwnedCycle e) = CycleClaim e
+owned_claim (OwnedTranslated e) = TranslatedClaim e
+owned_claim (OwnedBackward e) = BackwardClaim e
 owned_claim (OwnedNgram e) = NgramClaim (owned_lists e.value)
 owned_claim (OwnedFar e) = FarClaim (owned_automata e.value)
 owned_claim OwnedUndecided = NoClaim
@@ -41,8 +41,3 @@ owned_recorded r = record { table = r.table; claim = owned_claim r.certificate }
 abbrev pub read_as : Result Record RecordFault → Result Recorded RecordFault
 read_as (Ok r) = Ok (recorded r)
 read_as (Err f) = Err f
-
--- likewise certificates
-abbrev pub claimed_as : Result Certificate RecordFault → Result Claim RecordFault
-claimed_as (Ok c) = Ok (claim_of c)
-claimed_as (Err f) = Err f

@@ -1,5 +1,5 @@
 // Whether a record's certificate stands.
-ghost use Rattle.std.specs.Prelude.{◌≡◌, ◌≢◌, if◌then◌else◌, Ok, Err, None, Some, OnOk, IfOk, IfErr};
+ghost use Rattle.std.specs.Prelude.{◌≡◌, ◌≢◌, Ok, Err, None, Some, OnOk, IfOk, IfErr};
 ghost use Rattle.cert.specs.Claim.{NoClaim, TakesMemory, shown_by};
 ghost use Rattle.cert.specs.Certified.{IsCertified, IsRefusedBy, IsPairOf};
 ghost use Rattle.cert.specs.Kinds.{claim_of, recorded};
@@ -7,7 +7,7 @@ ghost use Rattle.cert.specs.Kinds.{claim_of, recorded};
 use crate::certificate::Certificate;
 use crate::record::Record;
 use evidence::{Evidence, Refused, Verdict};
-use machine_text::Pair;
+use machine_text::{Pair, Table};
 use std::alloc::Global;
 
 /// What a certificate that stands shows of its table.
@@ -43,7 +43,7 @@ pub fn judge_on(alloc: Global, r: &Record) -> Result<Judged, Refused>
     ensures memory { IfErr result (λ f. f ≡ Refused.NoMemory → TakesMemory (claim_of r.now.certificate)) }
     ensures undecided { claim_of r.now.certificate ≡ NoClaim → result ≡ Ok (record { verdict = None; halts_on = None }) }
 {
-    match r.certificate {
+    match &r.certificate {
         Certificate::Halts(evidence) => {
             let pair = evidence.halting_pair(alloc, &r.table)?;
             Ok(Judged {
@@ -51,28 +51,11 @@ pub fn judge_on(alloc: Global, r: &Record) -> Result<Judged, Refused>
                 halts_on: Some(pair),
             })
         }
-        Certificate::Cycle(evidence) => {
-            let verdict = evidence.check(alloc, &r.table)?;
-            Ok(shown(verdict))
-        }
-        Certificate::Translated(evidence) => {
-            let verdict = evidence.check(alloc, &r.table)?;
-            Ok(shown(verdict))
-        }
-        Certificate::Backward(evidence) => {
-            let verdict = evidence.check(alloc, &r.table)?;
-            Ok(shown(verdict))
-        }
-        Certificate::Ngram(evidence) => {
-            // The proof needs that the lists are lists, within their limits.
-            let _ = evidence.states();
-            never_where(evidence.holds(&r.table))
-        }
-        Certificate::Far(evidence) => {
-            // The proof needs that the numbers are those of automata, within their limits.
-            let _ = evidence.states();
-            never_where(evidence.holds(&r.table))
-        }
+        Certificate::Cycle(evidence) => checked(evidence, alloc, &r.table),
+        Certificate::Translated(evidence) => checked(evidence, alloc, &r.table),
+        Certificate::Backward(evidence) => checked(evidence, alloc, &r.table),
+        Certificate::Ngram(evidence) => checked(evidence, alloc, &r.table),
+        Certificate::Far(evidence) => checked(evidence, alloc, &r.table),
         Certificate::Undecided => Ok(Judged {
             verdict: None,
             halts_on: None,
@@ -80,23 +63,18 @@ pub fn judge_on(alloc: Global, r: &Record) -> Result<Judged, Refused>
     }
 }
 
-// A table never halts where this is so; else what is claimed doesn't stand.
-fn never_where(stands: bool) -> Result<Judged, Refused>
-    ensures { result ≡ if stands then Ok (record { verdict = Some Verdict.Never; halts_on = None }) else Err Refused.Fails }
+// What evidence of any kind shows of a table, with no pair.
+fn checked<E: Evidence>(evidence: &E, alloc: Global, t: &Table) -> Result<Judged, Refused>
+    ensures ok { IfOk result (λ judged. judged ≡ record { verdict = Some (E.shows evidence.now); halts_on = None }) }
+    ensures certified { OnOk result (E.within evidence.now × E.stands evidence.now t.now × (E.is_wide evidence.now t.now → ⊥)) }
+    ensures fails { result ≡ Err Refused.Fails → E.within evidence.now × (E.is_wide evidence.now t.now → ⊥) × (E.stands evidence.now t.now → ⊥) }
+    ensures long { result ≡ Err Refused.TooLong → E.within evidence.now → ⊥ }
+    ensures wide { result ≡ Err Refused.TooWide → E.within evidence.now × E.is_wide evidence.now t.now }
+    ensures memory { result ≡ Err Refused.NoMemory → E.takes_memory evidence.now }
 {
-    if stands {
-        Ok(shown(Verdict::Never))
-    } else {
-        Err(Refused::Fails)
-    }
-}
-
-// A verdict that comes with no pair.
-fn shown(verdict: Verdict) -> Judged
-    ensures { result ≡ record { verdict = Some verdict; halts_on = None } }
-{
-    Judged {
+    let verdict = evidence.check(alloc, t)?;
+    Ok(Judged {
         verdict: Some(verdict),
         halts_on: None,
-    }
+    })
 }

@@ -4,6 +4,7 @@ ghost use Rattle.std.specs.Prelude.{◌≡◌};
 use machine_text::TextFault;
 use std::error::Error;
 use std::fmt;
+use text::FieldFault;
 
 /// Why a text is no record. The length is judged first, then the table, the kind with the number of its
 /// fields, and each field from left to right.
@@ -56,3 +57,19 @@ impl fmt::Display for RecordFault {
 }
 
 impl Error for RecordFault {}
+
+impl From<FieldFault> for RecordFault {
+    ghost use Rattle.std.specs.Prelude.{◌≡◌};
+    ghost use Rattle.cert.specs.Fault.{fault_of_field};
+
+    ghost from_gives = { λ f e. e ≡ fault_of_field f };
+
+    fn from(fault: FieldFault) -> RecordFault {
+        match fault {
+            FieldFault::BadKind => RecordFault::BadKind,
+            FieldFault::BadNumber => RecordFault::BadNumber,
+            FieldFault::BadList => RecordFault::BadList,
+            FieldFault::TooLong => RecordFault::TooLong,
+        }
+    }
+}

@@ -1,10 +1,8 @@
 // Records as they are written.
-ghost use Rattle.std.specs.Prelude.{◌≡◌, ◌<◌, ◌^◌, ◌++◌, take, drop, length, decimal, codes, Ok, OnOk, OnErr};
+ghost use Rattle.std.specs.Prelude.{◌≡◌, ◌++◌, take, drop, length, Ok, OnOk, OnErr};
 ghost use Rattle.machine_text.specs.Packed.{IsTable};
 ghost use Rattle.cert.specs.Claim.{IsWritable, IsMadeFor};
-ghost use Rattle.cert.specs.Grammar.{record_of, record_text, claim_text, lists_text, automata_text, side_text};
-ghost use Rattle.far.specs.Far.{automata_of};
-ghost use Rattle.ngram_cps.specs.Ngram.{lists_of};
+ghost use Rattle.cert.specs.Grammar.{record_of, record_text, claim_text, kind_text};
 ghost use Rattle.cert.specs.Kinds.{recorded, claim_of};
 
 use crate::appending::append_table;
@@ -12,10 +10,6 @@ use crate::certificate::Certificate;
 use crate::laws::records_parse_back;
 use crate::record::Record;
 use evidence::NoMemory;
-use far::Far;
-use machine_text::Dir;
-use ngram_cps::Ngram;
-use text::append_number;
 
 impl Record<'_> {
     /// Appends the record's text, which reads back as the record where lists and automata are made for tables of as many
@@ -27,7 +21,6 @@ impl Record<'_> {
         ensures err { OnErr result (out.new.items ≡ out.old.items) }
     {
         records_parse_back();
-        self.has_text();
         let len = out.len();
         match self.append_text(out) {
             Ok(()) => Ok(()),
@@ -38,129 +31,52 @@ impl Record<'_> {
         }
     }
 
-    // The table is one, each number has 64 bits, lists are lists and automata are automata: so the record has a text that reads back.
-    fn has_text(&self)
-        ensures table { IsTable self.now.table }
-        ensures fields { IsWritable (claim_of self.now.certificate) }
-    {
-        // The proof needs that the table is one.
-        let _ = self.table.states();
-        match self.certificate {
-            Certificate::Halts(evidence) => has_64_bits(evidence.0),
-            Certificate::Cycle(evidence) => have_64_bits(evidence.i, evidence.j),
-            Certificate::Translated(evidence) => have_64_bits(evidence.i, evidence.j),
-            Certificate::Backward(evidence) => has_64_bits(evidence.depth),
-            Certificate::Ngram(evidence) => {
-                let _ = evidence.states();
-            }
-            Certificate::Far(evidence) => {
-                let _ = evidence.states();
-            }
-            Certificate::Undecided => {}
-        }
-    }
-
-    // Appends the text; where memory is refused, a beginning of it.
+    // Appends the text, which reads back since the table is one and the claim is writable; where memory is refused, a
+    // beginning of it.
     #[tactic(auto, unfolding(crate::specs::Grammar::record_text))]
     fn append_text(&self, out: &mut Vec<u8>) -> Result<(), NoMemory>
         ensures ok { OnOk result (out.new.items ≡ out.old.items ++ record_text (recorded self.now)) }
+        ensures table { OnOk result (IsTable self.now.table) }
+        ensures writable { OnOk result (IsWritable (claim_of self.now.certificate)) }
         ensures kept { take (length out.old.items) out.new.items ≡ out.old.items }
     {
+        // The proof needs that the table is one.
+        let _ = self.table.states();
         append_table(&self.table, out)?;
         out.extend_from_slice(b" ")?;
         append_claim(&self.certificate, out)
     }
 }
 
-// A number of the code has 64 bits.
-fn has_64_bits(number: u64)
-    ensures { number < 2 ^ 64 }
-{
-    // The proof needs the range of the type.
-    let _ = number;
-}
-
-// So have two.
-fn have_64_bits(first: u64, second: u64)
-    ensures { (first < 2 ^ 64) × (second < 2 ^ 64) }
-{
-    has_64_bits(first);
-    has_64_bits(second);
-}
-
 // Appends the text of a certificate, from its kind on; where memory is refused, a beginning of it.
 fn append_claim(c: &Certificate, out: &mut Vec<u8>) -> Result<(), NoMemory>
     ensures ok { OnOk result (out.new.items ≡ out.old.items ++ claim_text (claim_of c.now)) }
+    ensures writable { OnOk result (IsWritable (claim_of c.now)) }
     ensures kept { take (length out.old.items) out.new.items ≡ out.old.items }
 {
+    out.extend_from_slice(kind_text(c))?;
     match c {
-        Certificate::Halts(evidence) => {
-            out.extend_from_slice(b"H ")?;
-            append_number(evidence.0, out)
-        }
-        Certificate::Cycle(evidence) => {
-            out.extend_from_slice(b"C ")?;
-            append_times(evidence.i, evidence.j, out)
-        }
-        Certificate::Translated(evidence) => {
-            out.extend_from_slice(b"T ")?;
-            append_times(evidence.i, evidence.j, out)?;
-            out.extend_from_slice(b" ")?;
-            out.extend_from_slice(side_text(evidence.side))
-        }
-        Certificate::Backward(evidence) => {
-            out.extend_from_slice(b"B ")?;
-            append_number(evidence.depth, out)
-        }
-        Certificate::Ngram(evidence) => append_lists(evidence, out),
-        Certificate::Far(evidence) => append_automata(evidence, out),
-        Certificate::Undecided => out.extend_from_slice(b"U"),
+        Certificate::Halts(evidence) => evidence.append_fields(out),
+        Certificate::Cycle(evidence) => evidence.append_fields(out),
+        Certificate::Translated(evidence) => evidence.append_fields(out),
+        Certificate::Backward(evidence) => evidence.append_fields(out),
+        Certificate::Ngram(evidence) => evidence.append_fields(out),
+        Certificate::Far(evidence) => evidence.append_fields(out),
+        Certificate::Undecided => Ok(()),
     }
 }
 
-// Appends two times.
-fn append_times(i: u64, j: u64, out: &mut Vec<u8>) -> Result<(), NoMemory>
-    ensures ok { OnOk result (out.new.items ≡ out.old.items ++ decimal i ++ codes " " ++ decimal j) }
-    ensures kept { take (length out.old.items) out.new.items ≡ out.old.items }
+// The kind of a certificate, by its letter.
+fn kind_text(c: &Certificate) -> &'static [u8]
+    ensures { result.now ≡ kind_text (claim_of c.now) }
 {
-    append_number(i, out)?;
-    out.extend_from_slice(b" ")?;
-    append_number(j, out)
-}
-
-// Appends the kind, a width and three lists.
-fn append_lists(lists: &Ngram, out: &mut Vec<u8>) -> Result<(), NoMemory>
-    ensures ok { OnOk result (out.new.items ≡ out.old.items ++ codes "N " ++ lists_text (lists_of lists.now)) }
-    ensures kept { take (length out.old.items) out.new.items ≡ out.old.items }
-{
-    out.extend_from_slice(b"N ")?;
-    append_number(u64::from(lists.width()), out)?;
-    out.extend_from_slice(b" ")?;
-    out.extend_from_slice(lists.left())?;
-    out.extend_from_slice(b" ")?;
-    out.extend_from_slice(lists.right())?;
-    out.extend_from_slice(b" ")?;
-    out.extend_from_slice(lists.local())
-}
-
-// Appends the kind, a side, a size and the numbers of automata.
-fn append_automata(automata: &Far, out: &mut Vec<u8>) -> Result<(), NoMemory>
-    ensures ok { OnOk result (out.new.items ≡ out.old.items ++ codes "F " ++ automata_text (automata_of automata.now)) }
-    ensures kept { take (length out.old.items) out.new.items ≡ out.old.items }
-{
-    out.extend_from_slice(b"F ")?;
-    out.extend_from_slice(side_text(automata.side()))?;
-    out.extend_from_slice(b" ")?;
-    append_number(u64::from(automata.size()), out)?;
-    out.extend_from_slice(b" ")?;
-    automata.append_fields(out)
-}
-
-fn side_text(side: Dir) -> &'static [u8]
-    ensures { result.now ≡ side_text side }
-{
-    match side {
-        Dir::L => b"L",
-        Dir::R => b"R",
+    match c {
+        Certificate::Halts(_) => b"H",
+        Certificate::Cycle(_) => b"C",
+        Certificate::Translated(_) => b"T",
+        Certificate::Backward(_) => b"B",
+        Certificate::Ngram(_) => b"N",
+        Certificate::Far(_) => b"F",
+        Certificate::Undecided => b"U",
     }
 }

@@ -6,3 +6,4 @@ pub mod WellFormed
 pub mod RoundTrip
 pub mod Short
 pub mod Tested
+pub mod FieldLaws

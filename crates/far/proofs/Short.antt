@@ -1,6 +1,5 @@
 -- The texts of automata are short.
-use Rattle.std.proofs.Common.{◌≡◌, ℕ, suc, ◌+◌, ◌*◌, ◌^◌, ◌<◌, ◌≤◌, List, [], ◌∷◌, ◌++◌, length, get_or, inl, inr, ◌∙◌, ap, arith}
-use Rattle.std.specs.Prelude.{codes}
+use Rattle.std.proofs.Common.{◌≡◌, ℕ, suc, ◌+◌, ◌*◌, ◌^◌, ◌<◌, ◌≤◌, List, [], ◌∷◌, length, get_or, inl, inr, ◌∙◌, ap, arith}
 use Rattle.std.specs.Int.Digits.{digits_of}
 use Rattle.std.proofs.lemmas.Bool.{cases_eq}
 use Rattle.std.proofs.lemmas.Int.Digits.{length-digits_of-le}
@@ -8,7 +7,10 @@ use Rattle.std.proofs.lemmas.List.{length-map, length-append}
 use Rattle.std.proofs.Math.Nat.{mul-le-mul}
 use Rattle.std.proofs.Math.Pow.{pow_mono}
 use Rattle.far.specs.Automata.{Automata, AreAutomata, AreSized}
-use Rattle.far.specs.Texts.{hex_glyph, hex_text, delta_text, rows_text, fields_text}
+use Rattle.far.specs.Texts.{hex_glyph, hex_text, delta_text, rows_text}
+use Rattle.far.specs.Fields.{number_fields}
+use Rattle.text.specs.Fields.{spaced}
+use Rattle.text.proofs.Spaced.{length-spaced}
 use Rattle.far.proofs.RoundTrip.{text_of_some, text_of_none}
 
 length_of_hex : (n k : ℕ) → 1 ≤ k → n < 16 ^ k → length (hex_text n) ≤ k
@@ -35,8 +37,7 @@ digits_of_set last n few small =
     let most : 2 ^ (last + 1) ≤ 2 ^ 49 = pow_mono {i = last + 1} {j = 49} (omega arith) in
     omega (arith, most, small)
 
-pub fields_are_short : (a : Automata) → AreSized a → AreAutomata a → length (fields_text a) ≤ 1400
-unfolding fields_text
+pub fields_are_short : (a : Automata) → AreSized a → AreAutomata a → length (spaced (number_fields a)) ≤ 1401
 fields_are_short a within numbers =
     let few : a.size * a.states ≤ 8 * 6 = mul-le-mul within.small within.few in
     let rows = length_of_rows a.rows 13 (omega arith) (λ i. digits_of_set (a.size * a.states) (get_or a.rows i 0) few (numbers.sets i)) in
@@ -54,8 +55,7 @@ fields_are_short a within numbers =
       small,
       count,
       edges,
-      length-append (delta_text a.delta ++ codes " " ++ rows_text a.rows ++ codes " ") (hex_text a.keep),
-      length-append (delta_text a.delta ++ codes " " ++ rows_text a.rows) (codes " "),
-      length-append (delta_text a.delta ++ codes " ") (rows_text a.rows),
-      length-append (delta_text a.delta) (codes " "),
+      length-spaced (delta_text a.delta) (rows_text a.rows ∷ (hex_text a.keep ∷ [])),
+      length-spaced (rows_text a.rows) (hex_text a.keep ∷ []),
+      length-spaced (hex_text a.keep) [],
     )

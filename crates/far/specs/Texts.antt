@@ -1,5 +1,5 @@
 -- The texts of automata's numbers. Bytes are their ASCII codes: 44 is the comma, 48 `0`, 97 `a`.
-use Rattle.std.specs.Prelude.{◌≡◌, ℕ, ◌+◌, ◌-◌, ◌*◌, ◌^◌, ◌<◌, ◌≤◌, ◌==◌, nat_lt, if◌then◌else◌, List, [], ◌∷◌, ◌++◌, codes, length, get_or, map, slice_index}
+use Rattle.std.specs.Prelude.{◌≡◌, ℕ, ◌+◌, ◌-◌, ◌*◌, ◌^◌, ◌<◌, ◌≤◌, ◌==◌, nat_lt, if◌then◌else◌, List, [], ◌∷◌, length, get_or, map, slice_index}
 use Rattle.std.specs.List.{join_with_byte}
 use Rattle.std.specs.Int.Digits.{digits_of, number_from_digits}
 use Rattle.machine_text.specs.declared.transition.Dir.{Dir}
@@ -59,7 +59,3 @@ pub record AreTexts (states size : ℕ) (delta rows keep : List ℕ) : Type 0 wh
 -- the automata that they give
 abbrev pub automata_by : ℕ → Dir → ℕ → List ℕ → List ℕ → List ℕ → Automata
 automata_by states side size delta rows keep = automata states side size (delta_of delta) (rows_of rows) (hex_worth keep)
-
--- the fields of a record from delta on, with a space between each two
-unfoldable pub fields_text : Automata → List ℕ
-fields_text a = delta_text a.delta ++ codes " " ++ rows_text a.rows ++ codes " " ++ hex_text a.keep

@@ -172,7 +172,6 @@ impl Far {
 }
 
 impl Evidence for Far {
-    ghost use Rattle.std.specs.Prelude.{⊤};
     ghost use Rattle.machine_text.specs.Packed.{entry_of};
     ghost use Rattle.evidence.specs.declared.verdicts.Verdict.TheVariants.{Never};
     ghost use Rattle.far.specs.Automata.{AreAutomataOf, described};
@@ -180,9 +179,9 @@ impl Evidence for Far {
     ghost use Rattle.turing.proofs.AutomataLaws.{automata_never};
     ghost use Rattle.turing.proofs.TableLaws.{table_machine};
 
-    ghost within = { λ e. ⊤ };
+    ghost within = { λ e. AreSized (automata_of e) };
 
-    ghost stands = { λ e p. AreAutomataOf (automata_of e) p };
+    ghost stands = { λ e p. AreAutomata (automata_of e) × AreAutomataOf (automata_of e) p };
 
     ghost is_wide = { λ e p. ⊥ };
 
@@ -191,6 +190,8 @@ impl Evidence for Far {
     ghost shows = { λ e. Never };
 
     fn check(&self, alloc: Global, t: &Table) -> Result<Verdict, Refused> {
+        // The proof needs that the numbers are those of automata, within their limits.
+        let _ = self.states();
         if self.holds(t) {
             Ok(Verdict::Never)
         } else {
@@ -199,5 +200,5 @@ impl Evidence for Far {
     }
 
     ghost law = { λ e p is_table stands.
-        automata_never p.states (entry_of p) e.side (described (automata_of e)) (table_machine p is_table) stands.fits };
+        automata_never p.states (entry_of p) e.side (described (automata_of e)) (table_machine p is_table) stands.1.fits };
 }

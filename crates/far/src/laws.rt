@@ -1,17 +1,19 @@
 // Laws of the texts of automata.
-ghost use Rattle.std.specs.Prelude.{◌≡◌, ◌≤◌, ℕ, List, All, Decides, length};
+ghost use Rattle.std.specs.Prelude.{◌≡◌, ◌≤◌, ℕ, List, Ok, All, Decides, length};
+ghost use Rattle.text.specs.Fields.{AreFields, spaced};
 ghost use Rattle.far.specs.Automata.{Automata, AreAutomata, AreSized};
+ghost use Rattle.far.specs.Fields.{number_fields, far_by, far_fields};
 ghost use Rattle.far.specs.Tests.{are_texts};
-ghost use Rattle.far.specs.Texts.{AreTexts, automata_by, delta_text, rows_text, hex_text, fields_text};
+ghost use Rattle.far.specs.Texts.{AreTexts, automata_by, delta_text, rows_text, hex_text};
 
 /// The texts of automata's numbers give those numbers again. They hold neither a space nor a newline, and with
-/// the spaces between them they have at most 1,400 bytes.
+/// a space before each they have at most 1,401 bytes.
 pub fn texts_read_back()
     ensures texts { (a : Automata) → 1 ≤ a.size → 1 ≤ a.states → AreAutomata a →
         AreTexts a.states a.size (delta_text a.delta) (rows_text a.rows) (hex_text a.keep) }
     ensures same { (a : Automata) → 1 ≤ a.size → 1 ≤ a.states → AreAutomata a →
         automata_by a.states a.side a.size (delta_text a.delta) (rows_text a.rows) (hex_text a.keep) ≡ a }
-    ensures short { (a : Automata) → AreSized a → AreAutomata a → length (fields_text a) ≤ 1400 }
+    ensures short { (a : Automata) → AreSized a → AreAutomata a → length (spaced (number_fields a)) ≤ 1401 }
     ensures bytes { (a : Automata) →
         All (λ b. 44 ≤ b) (delta_text a.delta) × All (λ b. 44 ≤ b) (rows_text a.rows) × All (λ b. 44 ≤ b) (hex_text a.keep) }
 {}
@@ -20,4 +22,10 @@ pub fn texts_read_back()
 pub fn texts_are_tested()
     ensures { (states size : ℕ) (delta rows keep : List ℕ) →
         Decides (are_texts states size delta rows keep) (AreTexts states size delta rows keep) }
+{}
+
+/// The fields of automata that are within their limits are fields that read back.
+pub fn far_reads_back()
+    ensures back { (a : Automata) → AreAutomata a → AreSized a → far_by a.states (far_fields a) ≡ Ok a }
+    ensures fields { (a : Automata) → AreAutomata a → AreSized a → AreFields (far_fields a) }
 {}

@@ -2,3 +2,4 @@ pub mod TimeLaws
 pub mod BoundLaws
 pub mod TestLaws
 pub mod MomentLaws
+pub mod FieldLaws

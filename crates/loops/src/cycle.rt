@@ -1,8 +1,10 @@
 // The evidence of a run that comes to one configuration twice.
-ghost use Rattle.std.specs.Prelude.{◌≡◌, ◌↔◌, ◌<◌, ◌≤◌, IfOk, IsTrue};
+ghost use Rattle.std.specs.Prelude.{◌≡◌, ◌↔◌, ◌<◌, ◌≤◌, ◌^◌, ◌++◌, length, take, OnOk, IfOk, IsTrue};
 ghost use Rattle.machine_text.specs.Packed.{entry_of};
 ghost use Rattle.turing.specs.Cycle.{Cycle as IsCycle};
+ghost use Rattle.loops.specs.Fields.{cycle_by, cycle_fields};
 ghost use Rattle.loops.specs.Limits.{time_limit};
+ghost use Rattle.text.specs.Fields.{spaced};
 
 use crate::arrival::comes_to;
 use crate::limits::MAX_TIME;
@@ -11,6 +13,7 @@ use evidence::{Evidence, NoMemory, Refused, Verdict};
 use machine_text::Table;
 use run::Runner;
 use std::alloc::Global;
+use text::{FieldFault, Parts, append_number_field, end_of, next_field, number_in};
 
 /// The claim that a table's run has the same configuration at the times `i` and `j`, of which `i` is the
 /// earlier one: state, head and tape are equal. Times are numbers of steps from the blank tape; the limit
@@ -19,6 +22,31 @@ use std::alloc::Global;
 pub struct Cycle {
     pub i: u64,
     pub j: u64,
+}
+
+impl Cycle {
+    /// The claim that the fields of a record make: `i j`.
+    pub fn read(mut fields: Parts<'_>) -> Result<Cycle, FieldFault>
+        ensures { result ≡ cycle_by fields.entry }
+    {
+        let i = next_field(&mut fields)?;
+        let j = next_field(&mut fields)?;
+        end_of(fields)?;
+        Ok(Cycle {
+            i: number_in(i)?,
+            j: number_in(j)?,
+        })
+    }
+
+    /// Appends the fields of a record, each behind a space. Where memory is refused, a beginning of them.
+    pub fn append_fields(&self, out: &mut Vec<u8>) -> Result<(), NoMemory>
+        ensures ok { OnOk result (out.new.items ≡ out.old.items ++ spaced (cycle_fields self.now)) }
+        ensures writable { OnOk result ((self.now.i < 2 ^ 64) × (self.now.j < 2 ^ 64)) }
+        ensures kept { take (length out.old.items) out.new.items ≡ out.old.items }
+    {
+        append_number_field(self.i, out)?;
+        append_number_field(self.j, out)
+    }
 }
 
 impl Evidence for Cycle {

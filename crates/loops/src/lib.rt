@@ -2,7 +2,7 @@
 //!
 //! A run that comes to one configuration twice never halts; nor does one that comes to it again moved, and
 //! the same but for cells that the head has left behind. turing's `Cycle` and `Translated` say which claims
-//! stand, `specs/Limits` how late their times may be. `specs/inside` is for the crate's own code: what a
+//! stand, `specs/Fields` how they are written in a record, `specs/Limits` how late their times may be. `specs/inside` is for the crate's own code: what a
 //! snapshot of a run is (`Moment`), what it means that a run comes to a time (`Arrival`), and from where a
 //! trail of a run follows it (`Trail`).
 #![tactic(auto)]
@@ -13,6 +13,7 @@ mod cycle;
 mod cycle_finder;
 mod cycle_watch;
 mod farthest_head;
+mod laws;
 mod limits;
 mod search;
 mod snapshot;
@@ -23,6 +24,7 @@ mod translated_watch;
 
 pub use cycle::Cycle;
 pub use cycle_finder::CycleFinder;
+pub use laws::{cycle_reads_back, translated_reads_back};
 pub use limits::MAX_TIME;
 pub use translated::Translated;
 pub use translated_finder::TranslatedFinder;

@@ -1,17 +1,20 @@
 // The evidence of a run that comes to the same configuration moved, but for what it has left behind.
-ghost use Rattle.std.specs.Prelude.{◌≡◌, ◌↔◌, ◌<◌, ◌≤◌, IfOk, IsTrue};
+ghost use Rattle.std.specs.Prelude.{◌≡◌, ◌↔◌, ◌<◌, ◌≤◌, ◌^◌, ◌++◌, length, take, OnOk, IfOk, IsTrue};
 ghost use Rattle.machine_text.specs.Packed.{entry_of};
 ghost use Rattle.turing.specs.Translated.{Translated as IsTranslated};
+ghost use Rattle.loops.specs.Fields.{translated_by, translated_fields};
 ghost use Rattle.loops.specs.Limits.{time_limit};
+ghost use Rattle.text.specs.Fields.{spaced};
 
 use crate::arrival::comes_to;
 use crate::farthest_head::farthest_head;
 use crate::limits::MAX_TIME;
 use crate::snapshot::Snapshot;
-use evidence::{Evidence, NoMemory, Refused, Verdict};
+use evidence::{Evidence, NoMemory, Refused, Verdict, side_of, side_text};
 use machine_text::{Dir, Table};
 use run::Runner;
 use std::alloc::Global;
+use text::{FieldFault, Parts, append_field, append_number_field, end_of, next_field, number_in};
 
 /// The claim that a table's run has, at the times `i` and `j`, of which `i` is the earlier one, the same
 /// state and the same tape on a side, but for a shift.
@@ -25,6 +28,34 @@ pub struct Translated {
     pub i: u64,
     pub j: u64,
     pub side: Dir,
+}
+
+impl Translated {
+    /// The claim that the fields of a record make: `i j side`.
+    pub fn read(mut fields: Parts<'_>) -> Result<Translated, FieldFault>
+        ensures { result ≡ translated_by fields.entry }
+    {
+        let i = next_field(&mut fields)?;
+        let j = next_field(&mut fields)?;
+        let side = next_field(&mut fields)?;
+        end_of(fields)?;
+        Ok(Translated {
+            i: number_in(i)?,
+            j: number_in(j)?,
+            side: side_of(side).ok_or(FieldFault::BadNumber)?,
+        })
+    }
+
+    /// Appends the fields of a record, each behind a space. Where memory is refused, a beginning of them.
+    pub fn append_fields(&self, out: &mut Vec<u8>) -> Result<(), NoMemory>
+        ensures ok { OnOk result (out.new.items ≡ out.old.items ++ spaced (translated_fields self.now)) }
+        ensures writable { OnOk result ((self.now.i < 2 ^ 64) × (self.now.j < 2 ^ 64)) }
+        ensures kept { take (length out.old.items) out.new.items ≡ out.old.items }
+    {
+        append_number_field(self.i, out)?;
+        append_number_field(self.j, out)?;
+        append_field(side_text(self.side), out)
+    }
 }
 
 impl Evidence for Translated {

@@ -1,5 +1,5 @@
 -- No byte of a list is below the comma: so there is neither a space nor a newline in it.
-use Rattle.std.proofs.Common.{◌≡◌, ℕ, ◌+◌, ◌-◌, ◌*◌, ◌/◌, ◌%◌, ◌<◌, ◌≤◌, ◌==◌, ◌||◌, Bool, true, List, length, take, drop, get_or, inl, inr, refl, sym, ◌∙◌, ap, arith}
+use Rattle.std.proofs.Common.{◌≡◌, ℕ, ◌+◌, ◌-◌, ◌*◌, ◌/◌, ◌%◌, ◌<◌, ◌≤◌, List, length, take, drop, get_or, inl, inr, ◌∙◌, ap, arith}
 use Rattle.std.specs.Prelude.{IsTrue, All}
 use Rattle.std.proofs.lemmas.Bool.{cases_lt}
 use Rattle.std.proofs.lemmas.Bool.Decides.{nat_tests}
@@ -8,7 +8,7 @@ use Rattle.std.proofs.lemmas.List.Elements.{All-from_get_or}
 use Rattle.std.proofs.Math.Nat.{mul-le-mul_left, mod-lt}
 use Rattle.std.proofs.lemmas.Nat.{div-add-mod'}
 use Rattle.ngram_cps.specs.Listing.{item, IsListing}
-use Rattle.ngram_cps.specs.Words.{is_digit, IsWordText, IsLocalText, IsWordList, IsLocalList}
+use Rattle.ngram_cps.specs.Words.{is_digit, IsLocalText, IsWordList, IsLocalList}
 use Rattle.ngram_cps.specs.Lists.{Lists, AreLists}
 use Rattle.ngram_cps.proofs.Sorted.{end_of, item_size}
 

@@ -1,14 +1,14 @@
 -- The tests of lists answer as the lists are.
 use Rattle.std.specs.declared.cmp.Ordering.{Ordering}
 use Rattle.std.specs.declared.cmp.Ordering.TheVariants.{Less, Equal, Greater}
-use Rattle.std.proofs.Common.{◌≡◌, ℕ, zero, suc, ◌+◌, ◌-◌, ◌*◌, ◌/◌, ◌<◌, ◌≤◌, ◌==◌, Bool, true, false, ◌&&◌, not, ltb, List, length, take, drop, get_or, refl, sym, ◌∙◌, ap, subst, arith}
+use Rattle.std.proofs.Common.{◌≡◌, ℕ, ◌+◌, ◌-◌, ◌*◌, ◌/◌, ◌<◌, ◌≤◌, Bool, not, ltb, List, length, take, drop, get_or, refl, sym, ◌∙◌, ap, subst, arith}
 use Rattle.std.specs.Prelude.{IsTrue, Decides}
 use Rattle.std.specs.Ordering.{nat_cmp, is_lt}
 use Rattle.std.specs.Cmp.Lexicographic.{slice_cmp}
 use Rattle.std.proofs.lemmas.Bool.Decides.{nat_tests, Decides-and, Decides-eqb, Decides-ltb, Decides-below_and}
 use Rattle.std.proofs.lemmas.Nat.{div-mul-add}
 use Rattle.ngram_cps.specs.Listing.{item, IsListing}
-use Rattle.ngram_cps.specs.Words.{is_digit, IsWordText, IsLocalText, AreWords, AreLocals, IsWordList, IsLocalList}
+use Rattle.ngram_cps.specs.Words.{is_digit, IsWordText, IsLocalText, IsWordList, IsLocalList}
 use Rattle.ngram_cps.specs.Lists.{Lists, AreLists}
 use Rattle.ngram_cps.specs.Tests.{each_below, count_of, goes_up, is_listing, is_word_text, is_local_text, is_word_list, is_local_list, are_lists}
 

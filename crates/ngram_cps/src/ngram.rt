@@ -127,18 +127,17 @@ impl<'a> Ngram<'a> {
 }
 
 impl Evidence for Ngram<'_> {
-    ghost use Rattle.std.specs.Prelude.{⊤};
     ghost use Rattle.machine_text.specs.Packed.{entry_of};
     ghost use Rattle.evidence.specs.declared.verdicts.Verdict.TheVariants.{Never};
-    ghost use Rattle.ngram_cps.specs.Lists.{IsLocalItem, IsPositionSet};
+    ghost use Rattle.ngram_cps.specs.Lists.{AreLists, AreWithin, IsLocalItem, IsPositionSet};
     ghost use Rattle.ngram_cps.specs.Ngram.{lists_of};
     ghost use Rattle.turing.proofs.ClosedSets.{closed_never};
     ghost use Rattle.ngram_cps.specs.Listing.{IsItem};
     ghost use Rattle.ngram_cps.specs.Words.{word_text};
 
-    ghost within = { λ e. ⊤ };
+    ghost within = { λ e. AreWithin (lists_of e) };
 
-    ghost stands = { λ e p. IsPositionSet (lists_of e) p };
+    ghost stands = { λ e p. AreLists (lists_of e) × IsPositionSet (lists_of e) p };
 
     ghost is_wide = { λ e p. ⊥ };
 
@@ -147,6 +146,8 @@ impl Evidence for Ngram<'_> {
     ghost shows = { λ e. Never };
 
     fn check(&self, alloc: Global, t: &Table) -> Result<Verdict, Refused> {
+        // The proof needs that the lists are lists, within their limits.
+        let _ = self.states();
         if self.holds(t) {
             Ok(Verdict::Never)
         } else {
@@ -155,5 +156,5 @@ impl Evidence for Ngram<'_> {
     }
 
     ghost law = { λ e p is_table stands.
-        closed_never (entry_of p) (λ w. IsItem e.width e.left.text.now (word_text w)) (λ w. IsItem e.width e.right.text.now (word_text w)) (IsLocalItem (lists_of e)) e.width stands.closed };
+        closed_never (entry_of p) (λ w. IsItem e.width e.left.text.now (word_text w)) (λ w. IsItem e.width e.right.text.now (word_text w)) (IsLocalItem (lists_of e)) e.width stands.1.closed };
 }

@@ -1,4 +1,5 @@
 pub mod Limits
+pub mod Fields
 pub mod RunState
 pub mod inside
 pub mod Steps

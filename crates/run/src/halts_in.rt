@@ -1,20 +1,41 @@
 // The evidence that a table halts: the number of its steps, which are carried out.
-ghost use Rattle.std.specs.Prelude.{◌≡◌, ◌<◌, ◌≤◌, Err, IfOk};
+ghost use Rattle.std.specs.Prelude.{◌≡◌, ◌<◌, ◌≤◌, ◌^◌, ◌++◌, length, take, Err, OnOk, IfOk};
 ghost use Rattle.machine_text.specs.Packed.{entry_of};
 ghost use Rattle.turing.specs.Halting.{HaltsAt, HaltsOn};
+ghost use Rattle.run.specs.Fields.{halts_by, halts_fields};
 ghost use Rattle.run.specs.Limits.{halt_step_limit};
+ghost use Rattle.text.specs.Fields.{spaced};
 
 use crate::limits::MAX_HALT_STEPS;
 use crate::runner::{Runner, Step};
-use evidence::{Evidence, Refused, Verdict};
+use evidence::{Evidence, NoMemory, Refused, Verdict};
 use machine_text::{Pair, Table};
 use std::alloc::Global;
+use text::{FieldFault, Parts, append_number_field, end_of, next_field, number_in};
 
 /// The claim that a table halts in so many steps. The limit is `MAX_HALT_STEPS`.
 #[derive(Clone, Copy, Debug, PartialEq, Eq)]
 pub struct HaltsIn(pub u64);
 
 impl HaltsIn {
+    /// The claim that the field of a record makes: `k`.
+    pub fn read(mut fields: Parts<'_>) -> Result<HaltsIn, FieldFault>
+        ensures { result ≡ halts_by fields.entry }
+    {
+        let steps = next_field(&mut fields)?;
+        end_of(fields)?;
+        Ok(HaltsIn(number_in(steps)?))
+    }
+
+    /// Appends the field of a record behind a space. Where memory is refused, a beginning of it.
+    pub fn append_fields(&self, out: &mut Vec<u8>) -> Result<(), NoMemory>
+        ensures ok { OnOk result (out.new.items ≡ out.old.items ++ spaced (halts_fields self.now)) }
+        ensures writable { OnOk result (self.now.0 < 2 ^ 64) }
+        ensures kept { take (length out.old.items) out.new.items ≡ out.old.items }
+    {
+        append_number_field(self.0, out)
+    }
+
     /// Checks the claim in one run, and gives the pair on which the table halts: the state of the run's last
     /// configuration, and the symbol that it reads there. It is refused as `check` refuses it.
     pub fn halting_pair(&self, alloc: Global, t: &Table) -> Result<Pair, Refused>

@@ -1,17 +1,19 @@
 //! Runs of a table from the blank tape, and the evidence that one halts.
 //!
 //! A `Runner` stands at a time of the run; `HaltsIn` is the evidence of a run that halts. `specs/` says where a
-//! runner stands (`RunState`) and what its steps do (`Steps`). What evidence and verdicts are is said in the
+//! runner stands (`RunState`), what its steps do (`Steps`), and how the evidence is written in a record (`Fields`). What evidence and verdicts are is said in the
 //! crate `evidence`, whose names are passed on.
 #![tactic(auto)]
 
 mod halt_finder;
 mod halts_in;
+mod laws;
 mod limits;
 mod runner;
 
 pub use evidence::{Evidence, NoMemory, Refused, Verdict};
 pub use halt_finder::HaltFinder;
 pub use halts_in::HaltsIn;
+pub use laws::halts_reads_back;
 pub use limits::{MAX_HALT_STEPS, MAX_RUN_STEPS};
 pub use runner::{Runner, Step};

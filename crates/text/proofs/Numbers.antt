@@ -10,14 +10,14 @@ use Rattle.std.proofs.lemmas.Slice.Eq.{bytes_eq-Decides}
 use Rattle.text.specs.Decimal.{worth_of, decimal_value}
 use Rattle.text.proofs.Worth.{with_digit}
 
-record IsForm (n : ℕ) (text : List ℕ) : Type 0 where
-  worth : worth_of text ≡ n
-  digits : All (λ b. 48 ≤ b) text
+pub record IsForm (n : ℕ) (text : List ℕ) : Type 0 where
+  pub worth : worth_of text ≡ n
+  pub digits : All (λ b. 48 ≤ b) text
 
 one_digit : (n : ℕ) → All (λ b. 48 ≤ b) ((48 + n) ∷ [])
 one_digit n = All-cons (λ b. 48 ≤ b) (48 + n) [] (omega arith) (All-nil (λ b. 48 ≤ b))
 
-decimal_is_form : (n : ℕ) → n < 2 ^ 64 → IsForm n (decimal n)
+pub decimal_is_form : (n : ℕ) → n < 2 ^ 64 → IsForm n (decimal n)
 decimal_is_form = decimal_by_steps IsForm
     (λ n small. record { worth = omega arith; digits = one_digit n })
     (λ n digits large form. record {

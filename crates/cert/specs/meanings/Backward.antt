@@ -1,19 +1,20 @@
 -- B d: no configuration comes to a halting pair after exactly d steps. To check it may take more paths than are kept.
-use Rattle.std.specs.Prelude.{ℕ, ◌<◌, ◌≤◌, ◌^◌, Some}
+use Rattle.std.specs.Prelude.{◌<◌, ◌≤◌, ◌^◌, Some}
 use Rattle.machine_text.specs.Packed.{entry_of}
 use Rattle.turing.specs.Backward.{Backward}
 use Rattle.backward.specs.Limits.{depth_limit}
+use Rattle.backward.specs.declared.backward.Backward.{Backward as Depth}
 use Rattle.backward.specs.Paths.{IsTooWide}
 use Rattle.evidence.specs.declared.verdicts.Verdict.TheVariants.{Never}
 use Rattle.cert.specs.Meaning.{Meaning}
 
-abbrev pub backward_meaning : ℕ → Meaning
-backward_meaning d = record {
-  writable = d < 2 ^ 64;
+abbrev pub backward_meaning : Depth → Meaning
+backward_meaning e = record {
+  writable = e.depth < 2 ^ 64;
   made_for = λ n. Unit {0};
   shows = Some Never;
-  within = d ≤ depth_limit;
-  wide = λ p. IsTooWide p d;
-  stands = λ p. Backward p.states (entry_of p) d;
-  takes_memory = d ≤ depth_limit;
+  within = e.depth ≤ depth_limit;
+  wide = λ p. IsTooWide p e.depth;
+  stands = λ p. Backward p.states (entry_of p) e.depth;
+  takes_memory = e.depth ≤ depth_limit;
 }

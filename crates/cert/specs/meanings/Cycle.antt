@@ -1,18 +1,19 @@
 -- C i j: the same configuration at the times i and j.
-use Rattle.std.specs.Prelude.{ℕ, ◌<◌, ◌≤◌, ◌^◌, Some}
+use Rattle.std.specs.Prelude.{◌<◌, ◌≤◌, ◌^◌, Some}
 use Rattle.machine_text.specs.Packed.{entry_of}
 use Rattle.turing.specs.Cycle.{Cycle}
 use Rattle.loops.specs.Limits.{time_limit}
+use Rattle.loops.specs.declared.cycle.Cycle.{Cycle as Times}
 use Rattle.evidence.specs.declared.verdicts.Verdict.TheVariants.{Never}
 use Rattle.cert.specs.Meaning.{Meaning}
 
-abbrev pub cycle_meaning : ℕ → ℕ → Meaning
-cycle_meaning i j = record {
-  writable = (i < 2 ^ 64) × (j < 2 ^ 64);
+abbrev pub cycle_meaning : Times → Meaning
+cycle_meaning e = record {
+  writable = (e.i < 2 ^ 64) × (e.j < 2 ^ 64);
   made_for = λ n. Unit {0};
   shows = Some Never;
-  within = j ≤ time_limit;
+  within = e.j ≤ time_limit;
   wide = λ p. ⊥;
-  stands = λ p. Cycle (entry_of p) i j;
-  takes_memory = (i < j) × (j ≤ time_limit);
+  stands = λ p. Cycle (entry_of p) e.i e.j;
+  takes_memory = (e.i < e.j) × (e.j ≤ time_limit);
 }

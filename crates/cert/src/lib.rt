@@ -2,9 +2,10 @@
 //!
 //! A record says of a table that it halts in so many steps, that it never halts, or that nothing is
 //! claimed. `specs/Claim` says what each certificate claims and when that stands, `specs/Certified` when a
-//! record is certified and why it is refused; `specs/Grammar` is the grammar of a record's text.
+//! record is certified and why it is refused; `specs/Grammar` is the grammar of a record's text. How a claim is
+//! checked, and how its fields are read and written, is said in the crate of its kind.
 //!
-//! Each kind of certificate is known in this crate alone: crates above cite what is so of all claims.
+//! A kind of certificate is known in its crate and in this one alone: crates above cite what is so of all claims.
 #![tactic(auto)]
 
 mod appending;

@@ -4,8 +4,7 @@
 //! where the second comes to its halt state on no blank tape, and has the edges that the table asks for, the
 //! table never halts. turing's `Automata` says so; `specs/` adds the automata as numbers and what edges those
 //! describe (`Automata`), their texts (`Texts`), the same as tests (`Tests`), how a record has them (`Fields`)
-//! and the limits (`Limits`).
-//! `specs/inside` is for the crate's own code.
+//! and the limits (`Limits`). `specs/inside` is for the crate's own code.
 #![tactic(auto)]
 
 mod copies;

@@ -1,8 +1,8 @@
 //! Runs of a table from the blank tape, and the evidence that one halts.
 //!
 //! A `Runner` stands at a time of the run; `HaltsIn` is the evidence of a run that halts. `specs/` says where a
-//! runner stands (`RunState`), what its steps do (`Steps`), and how the evidence is written in a record (`Fields`). What evidence and verdicts are is said in the
-//! crate `evidence`, whose names are passed on.
+//! runner stands (`RunState`), what its steps do (`Steps`), and how the evidence is written in a record (`Fields`).
+//! What evidence and verdicts are is said in the crate `evidence`, whose names are passed on.
 #![tactic(auto)]
 
 mod halt_finder;

@@ -16,7 +16,7 @@ use Rattle.ledger.specs.Held.{IsHoldout, Settles, settled}
 use Rattle.ledger.specs.Contents.{IsBoard}
 use Rattle.ledger.specs.inside.Keeping.{entry_recorded, records_of, KnowsPair}
 use Rattle.ledger.specs.inside.Counting.{IsCounted, with_shown, without_holdout, is_halting, is_never, is_undecided}
-use Rattle.ledger.specs.inside.Open.{table_cmp, others, IsOpenMap, IsNewChild}
+use Rattle.ledger.specs.inside.Open.{table_cmp, others, AreChildrenAt, IsOpenMap, IsNewChild}
 use Rattle.ledger.specs.declared.kept.Kept.{Kept}
 use Rattle.ledger.specs.declared.counts.Counts.{Counts}
 use Rattle.ledger.proofs.Entries.{no_entry, an_entry, entry_last, entry_settled, inserted_pairs, holdout_shows}
@@ -43,12 +43,12 @@ numbers_fit es counts counted small =
 pub next_place : (root : Packed) (es : List (Packed × Kept)) (tables : BTreeMap Packed ℕ) (place : ℕ) → IsOpenMap tables (record { root = root; records = records_of es }) → place ≡ length es → place + 1 < 2 ^ 32
     → others place tables.entries ≡ tables.entries
 next_place root es tables place before is small =
-    none_opened (records_of es) place tables.entries (next_opens_none (records_of es) place (is ∙ sym (length-map es entry_recorded)) small) before.openers
+    none_opened root (records_of es) place tables.entries (λ t. next_opens_none root (records_of es) t place (is ∙ sym (length-map es entry_recorded)) small) before.openers
 
 -- nor did a holdout's place
 pub holdouts_place : (root : Packed) (es : List (Packed × Kept)) (tables : BTreeMap Packed ℕ) (place : ℕ) (t : Packed) → IsOpenMap tables (record { root = root; records = records_of es })
     → (r : Recorded) × (slice_get (records_of es) place ≡ Some r) × (r.table ≡ t) × (is_halting r ≡ false) → place + 1 < 2 ^ 32 → others place tables.entries ≡ tables.entries
-holdouts_place root es tables place t before at small = none_opened (records_of es) place tables.entries (holdout_opens_none (records_of es) place at.0 at.1 at.3 small) before.openers
+holdouts_place root es tables place t before at small = none_opened root (records_of es) place tables.entries (λ q. holdout_opens_none root (records_of es) q place at.0 at.1 at.3 small) before.openers
 
 -- the record as it is kept
 kept_is : (r : Recorded) (k : Kept) → owned_claim k.certificate ≡ r.claim → entry_recorded (r.table, k) ≡ r
@@ -75,16 +75,16 @@ pub kept_more : (root : Packed) (es new : List (Packed × Kept)) (r : Recorded) 
     → IsKept root es tables counts → IsOpen root (mark_in (records_of es)) r.table → IsCertified r
     → owned_claim k.certificate ≡ r.claim → IsPairOf (shown_by r.claim) r.table k.halts_on → new ≡ insert_entry same_table es r.table k → place ≡ length es
     → ((q : Packed) → ContainsKey table_cmp mid q ↔ (ContainsKey table_cmp tables q ⊎ IsNewChild (records_of es) r q))
-    → others place mid.entries ≡ tables.entries → (k.halts_on ≡ None → mid.entries ≡ tables.entries)
+    → others place mid.entries ≡ tables.entries → AreChildrenAt place r.table mid.entries → (k.halts_on ≡ None → mid.entries ≡ tables.entries)
     → ((q : Packed) → ContainsKey table_cmp after q ↔ (ContainsKey table_cmp mid q × (q ≢ r.table))) → after.entries ≡ remove_entry (is_at (table_cmp r.table)) mid.entries
     → IsKept root new after (with_shown counts (shown_by r.claim))
-kept_more root es new r k place tables mid after counts kept is_open certified claim pair is last opened others none closed removal =
+kept_more root es new r k place tables mid after counts kept is_open certified claim pair is last opened others children none closed removal =
     let rs = records_of es in
     let gone = unmarked (claim_in rs r.table) is_open.unmarked in
     let list = records_more es new r k claim gone is in (
       subst (λ (l : List Recorded). IsBoard (record { root = root; records = l })) (sym list) (board_more root rs r kept.0 is_open certified),
       subst (λ (l : List Recorded). IsOpenMap after (record { root = root; records = l })) (sym list)
-          (opened_more root rs r place k.halts_on tables mid after kept.1 is_open (last ∙ sym (length-map es entry_recorded)) pair others none removal
+          (opened_more root rs r place k.halts_on tables mid after kept.1 is_open (last ∙ sym (length-map es entry_recorded)) pair others children none removal
           (λ q. opened_then_closed rs r _ _ _ q (opened q) (closed q))),
       known es new r k kept.2 claim pair is,
       subst (λ (l : List Recorded). IsCounted l (with_shown counts (shown_by r.claim))) (sym list) (counted_more rs r counts kept.3 (taken_last rs r root is_open)),
@@ -96,16 +96,16 @@ pub kept_settled : (root : Packed) (es new : List (Packed × Kept)) (r : Recorde
     → owned_claim k.certificate ≡ r.claim → IsPairOf (shown_by r.claim) r.table k.halts_on → new ≡ insert_entry same_table es r.table k
     → (x : Recorded) × (slice_get (records_of es) place ≡ Some x) × (x.table ≡ r.table) × (is_halting x ≡ false)
     → ((q : Packed) → ContainsKey table_cmp after q ↔ (ContainsKey table_cmp tables q ⊎ IsNewChild (records_of es) r q))
-    → others place after.entries ≡ tables.entries → (k.halts_on ≡ None → after.entries ≡ tables.entries)
+    → others place after.entries ≡ tables.entries → AreChildrenAt place r.table after.entries → (k.halts_on ≡ None → after.entries ≡ tables.entries)
     → IsKept root new after (with_shown (without_holdout counts) (shown_by r.claim))
-kept_settled root es new r k place tables after counts kept settles claim pair is at opened others none =
+kept_settled root es new r k place tables after counts kept settles claim pair is at opened others children none =
     let rs = records_of es in
     let holdout = settles.is_holdout in
     let list = records_settled es new r k claim holdout is in
     let c = holdout_claim rs r.table holdout in (
       subst (λ (l : List Recorded). IsBoard (record { root = root; records = l })) (sym list) (board_settled root rs r kept.0 settles),
       subst (λ (l : List Recorded). IsOpenMap after (record { root = root; records = l })) (sym list)
-          (opened_settled root rs r at.0 place k.halts_on tables after kept.0 kept.1 holdout at.1 at.2 pair others none opened),
+          (opened_settled root rs r at.0 place k.halts_on tables after kept.0 kept.1 holdout at.1 at.2 pair others children none opened),
       known es new r k kept.2 claim pair is,
       subst (λ (l : List Recorded). IsCounted l (with_shown (without_holdout counts) (shown_by r.claim))) (sym list)
           (counted_settled rs r c.0 counts kept.3 c.1 (holdout_shows rs r.table c.0 holdout c.1) (taken_settling rs r holdout)),

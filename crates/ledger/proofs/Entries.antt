@@ -1,5 +1,5 @@
 -- The code's map of records, and the records that it holds.
-use Rattle.std.proofs.Common.{◌≡◌, ℕ, suc, ◌<◌, ◌^◌, true, false, cond, List, [], ◌∷◌, ◌++◌, length, map, drop, min, inl, inr, Option, Some, None, option_map, refl, sym, ◌∙◌, ap, subst, arith}
+use Rattle.std.proofs.Common.{◌≡◌, ℕ, suc, ◌<◌, ◌^◌, true, false, cond, List, [], ◌∷◌, ◌++◌, length, drop, min, inl, inr, Option, Some, None, option_map, refl, sym, ◌∙◌, ap, subst, arith}
 use Rattle.std.specs.Prelude.{slice_get}
 use Rattle.std.specs.List.{All}
 use Rattle.std.specs.Map.{lookup, lookup_key}
@@ -23,7 +23,7 @@ use Rattle.ledger.specs.declared.kept.Kept.{Kept}
 use Rattle.ledger.proofs.Same.{same_is, same_flips}
 use Rattle.ledger.proofs.Claims.{claim_here, claim_past, claim_none, settled_here, settled_past}
 
-abbrev kept_claim : Kept → Claim
+abbrev pub kept_claim : Kept → Claim
 kept_claim k = owned_claim k.certificate
 
 -- what the map has at a table is what the records claim of it

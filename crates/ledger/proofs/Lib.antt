@@ -11,6 +11,13 @@ pub mod Taking
 pub mod Offering
 pub mod OpenListed
 pub mod Numbers
+pub mod Amounts
+pub mod Ancestors
+pub mod Walked
+pub mod TreeCounts
+pub mod Indexed
+pub mod Ready
+pub mod Carried
 pub mod TextOrder
 pub mod BoardLaws
 pub mod Completeness

@@ -107,12 +107,12 @@ never_number rs apart = number_of_kind (IsNeverHalting rs) is_never rs apart
     (λ t never. let w = marked_member rs t NeverHalting never in (w.0, w.1, mark_never (shown_by w.0.claim) w.2, w.3))
 
 -- the greater of two
-greater_none : (a b : Option ℕ) → greater a b ≡ None → (a ≡ None) × (b ≡ None)
+pub greater_none : (a b : Option ℕ) → greater a b ≡ None → (a ≡ None) × (b ≡ None)
 greater_none None b e = (refl, e)
 greater_none (Some a) None e = cc
 greater_none (Some a) (Some b) e = elim (nat_lt a b) as (λ v. nat_lt a b ≡ v → (Some a ≡ None) × (Some b ≡ None)) [ true ↦ λ pass. absurd (cc) | false ↦ λ fails. absurd (cc) ] refl
 
-greater_some : (a b : Option ℕ) (s : ℕ) → greater a b ≡ Some s → ((a ≡ Some s) ⊎ (b ≡ Some s)) × ((k : ℕ) → a ≡ Some k → k ≤ s) × ((k : ℕ) → b ≡ Some k → k ≤ s)
+pub greater_some : (a b : Option ℕ) (s : ℕ) → greater a b ≡ Some s → ((a ≡ Some s) ⊎ (b ≡ Some s)) × ((k : ℕ) → a ≡ Some k → k ≤ s) × ((k : ℕ) → b ≡ Some k → k ≤ s)
 greater_some None b s e = (inr e, λ k is. absurd (cc), λ k is. let same : k ≡ s = cc in omega arith)
 greater_some (Some a) None s e = (inl e, λ k is. let same : k ≡ s = cc in omega arith, λ k is. absurd (cc))
 greater_some (Some a) (Some b) s e =
@@ -121,16 +121,16 @@ greater_some (Some a) (Some b) s e =
       | false ↦ λ fails. let same : a ≡ s = cc in (inl (ap (λ (n : ℕ). Some n) same), λ k is. let one : a ≡ k = cc in omega arith, λ k is. let one : b ≡ k = cc in let low : b ≤ a = ltb-false a b fails in omega arith)
     ] refl
 
-steps_halting : (o : Option Verdict) (k : ℕ) → mark_by o ≡ Halting k → steps_of o ≡ Some k
+pub steps_halting : (o : Option Verdict) (k : ℕ) → mark_by o ≡ Halting k → steps_of o ≡ Some k
 steps_halting o k is = ap steps_of (stopping_verdict o k is)
 
-halting_steps : (o : Option Verdict) (k : ℕ) → steps_of o ≡ Some k → mark_by o ≡ Halting k
+pub halting_steps : (o : Option Verdict) (k : ℕ) → steps_of o ≡ Some k → mark_by o ≡ Halting k
 halting_steps None k e = cc
 halting_steps (Some (Halts j)) k e = let same : j ≡ k = cc in ap (λ (n : ℕ). Halting n) same
 halting_steps (Some Never) k e = cc
 
 -- the greatest count once a record is taken
-halts_after : (old new : List Recorded) (r : Recorded) (k : ℕ) (t : Packed) → IsTaken old new r → HaltsAfter new k t → HaltsAfter old k t ⊎ (steps_of (shown_by r.claim) ≡ Some k)
+pub halts_after : (old new : List Recorded) (r : Recorded) (k : ℕ) (t : Packed) → IsTaken old new r → HaltsAfter new k t → HaltsAfter old k t ⊎ (steps_of (shown_by r.claim) ≡ Some k)
 halts_after old new r k t taken halts =
     elim (same_table t r.table) as (λ v. same_table t r.table ≡ v → HaltsAfter old k t ⊎ (steps_of (shown_by r.claim) ≡ Some k)) [
       | true ↦ λ same.

@@ -1,5 +1,5 @@
--- The open tables of a board without records.
-use Rattle.std.proofs.Common.{◌≡◌, ℕ, [], ◌∷◌, None, option_map, inl, inr, ◌↔◌, refl, sym, ap, subst, arith}
+-- What is kept of a board without records.
+use Rattle.std.proofs.Common.{◌≡◌, ℕ, [], ◌∷◌, None, option_map, inl, inr, ◌↔◌, refl, sym, ap, subst}
 use Rattle.std.specs.List.{All}
 use Rattle.std.specs.BTreeMap.{BTreeMap}
 use Rattle.std.proofs.lemmas.List.Elements.{All-cons, All-nil}
@@ -9,6 +9,7 @@ use Rattle.tree.specs.Used.{InOrder}
 use Rattle.ledger.specs.Records.{mark_in, mark_of}
 use Rattle.ledger.specs.inside.Open.{IsOpener, IsOpenMap}
 use Rattle.ledger.specs.inside.Counting.{IsCounted}
+use Rattle.ledger.specs.inside.Trees.{IsIndexed}
 use Rattle.ledger.specs.Contents.{IsBoard}
 use Rattle.ledger.proofs.Claims.{claim_none}
 use Rattle.ledger.proofs.Sets.{only_one}
@@ -22,7 +23,7 @@ open_at_start root t = (
 pub starts : (root : Packed) (tables : BTreeMap Packed ℕ) → tables.entries ≡ (root, 4294967295) ∷ [] → IsOpenMap tables (record { root = root; records = [] })
 starts root tables is = record {
   exact = λ t. let only = only_one tables root 4294967295 is t in (λ h. (open_at_start root t).0 (only.0 h), λ h. only.1 ((open_at_start root t).1 h));
-  openers = subst (All (λ (e : Packed × ℕ). IsOpener [] e.1)) (sym is) (All-cons (λ (e : Packed × ℕ). IsOpener [] e.1) (root, 4294967295) [] (inl (omega arith)) (All-nil (λ (e : Packed × ℕ). IsOpener [] e.1)));
+  openers = subst (All (λ (e : Packed × ℕ). IsOpener root [] e.0 e.1)) (sym is) (All-cons (λ (e : Packed × ℕ). IsOpener root [] e.0 e.1) (root, 4294967295) [] (inl (refl, refl)) (All-nil (λ (e : Packed × ℕ). IsOpener root [] e.0 e.1)));
 }
 
 pub counted_none : IsCounted [] (record { halting = 0; never = 0; undecided = 0; best = None })
@@ -30,3 +31,6 @@ counted_none = record { halting = refl; never = refl; undecided = refl; best = �
 
 pub board_starts : (root : Packed) → IsTable root → (u : ℕ) × InOrder u (entry_of root) → IsBoard (record { root = root; records = [] })
 board_starts root is_table in_order = record { is_table = is_table; in_order = in_order; held = record { fit = tt } }
+
+pub indexed_none : (root : Packed) → IsIndexed root []
+indexed_none root = record { parents = λ i e at. absurd (cc); counts = λ i e at. absurd (cc) }

@@ -18,7 +18,7 @@ use Rattle.ledger.specs.Records.{claim_in, mark_in, mark_of, mark_by}
 use Rattle.ledger.specs.Held.{IsHoldout, Settles, settled}
 use Rattle.ledger.specs.Contents.{Contents, IsBoard}
 use Rattle.ledger.specs.inside.Counting.{is_halting, says_halts}
-use Rattle.ledger.specs.inside.Open.{table_cmp, others, IsOpener, IsOpenMap, IsNewChild}
+use Rattle.ledger.specs.inside.Open.{table_cmp, others, AreChildrenAt, IsOpener, IsOpenMap, IsNewChild}
 use Rattle.ledger.proofs.Apart.{held_apart}
 use Rattle.ledger.proofs.HeldLaws.{unmarked, held_more, held_settled}
 use Rattle.ledger.proofs.OpenAfter.{pair_halts}
@@ -61,7 +61,7 @@ open_taken_exact root old new r tables after before taken is q = let law = open_
 pub same_map : (tables after : BTreeMap Packed ℕ) (b : Contents) → after.entries ≡ tables.entries → IsOpenMap tables b → IsOpenMap after b
 same_map tables after b same before = record {
   exact = λ t. subst (λ (es : List (Packed × ℕ)). (is_some (lookup (is_at (table_cmp t)) es) ≡ true) ↔ IsOpen b.root (mark_in b.records) t) (sym same) (before.exact t);
-  openers = subst (All (λ (e : Packed × ℕ). IsOpener b.records e.1)) (sym same) before.openers;
+  openers = subst (All (λ (e : Packed × ℕ). IsOpener b.root b.records e.0 e.1)) (sym same) before.openers;
 }
 
 -- the children come into the map, and then the record's table goes out of it
@@ -72,13 +72,13 @@ opened_then_closed rs r A B C q more less = (
 )
 
 -- the pair tells whether there are children at all
-opens_or_not : (rs new : List Recorded) (place : ℕ) (es old : List (Packed × ℕ)) (v : Option Verdict) (t : Packed) (pair : Option Pair) → ((i : ℕ) → IsOpener rs i → IsOpener new i)
-    → All (λ (e : Packed × ℕ). IsOpener rs e.1) old → others place es ≡ old → (pair ≡ None → es ≡ old) → IsPairOf v t pair
-    → ((k : ℕ) → v ≡ Some (Halts k) → IsOpener new place) → All (λ (e : Packed × ℕ). IsOpener new e.1) es
-opens_or_not rs new place es old v t None grows all is none pair here = subst (All (λ (e : Packed × ℕ). IsOpener new e.1)) (sym (none refl)) (openers_same rs new old grows all)
-opens_or_not rs new place es old v t (Some p) grows all is none pair here = let w = pair_halts v t p pair in openers_after rs new place es old grows all is (here w.0 w.1)
+opens_or_not : (root : Packed) (rs new : List Recorded) (place : ℕ) (es old : List (Packed × ℕ)) (v : Option Verdict) (t : Packed) (pair : Option Pair) → ((q : Packed) (i : ℕ) → IsOpener root rs q i → IsOpener root new q i)
+    → All (λ (e : Packed × ℕ). IsOpener root rs e.0 e.1) old → others place es ≡ old → AreChildrenAt place t es → (pair ≡ None → es ≡ old) → IsPairOf v t pair
+    → ((k : ℕ) (q : Packed) → v ≡ Some (Halts k) → IsChildTable t q → IsOpener root new q place) → All (λ (e : Packed × ℕ). IsOpener root new e.0 e.1) es
+opens_or_not root rs new place es old v t None grows all is children none pair here = subst (All (λ (e : Packed × ℕ). IsOpener root new e.0 e.1)) (sym (none refl)) (openers_same root rs new old grows all)
+opens_or_not root rs new place es old v t (Some p) grows all is children none pair here = let w = pair_halts v t p pair in openers_after root rs new t place es old grows all is children (λ q child. here w.0 q w.1 child)
 
-halts_says : (r : Recorded) (k : ℕ) → shown_by r.claim ≡ Some (Halts k) → is_halting r ≡ true
+pub halts_says : (r : Recorded) (k : ℕ) → shown_by r.claim ≡ Some (Halts k) → is_halting r ≡ true
 halts_says r k is = rw is
 
 -- a fit record is taken
@@ -92,15 +92,15 @@ taken_last old r root is_open = taken_new old r (unmarked (claim_in old r.table)
 
 pub opened_more : (root : Packed) (old : List Recorded) (r : Recorded) (place : ℕ) (pair : Option Pair) (tables mid after : BTreeMap Packed ℕ)
     → IsOpenMap tables (record { root = root; records = old }) → IsOpen root (mark_in old) r.table → place ≡ length old
-    → IsPairOf (shown_by r.claim) r.table pair → others place mid.entries ≡ tables.entries → (pair ≡ None → mid.entries ≡ tables.entries)
+    → IsPairOf (shown_by r.claim) r.table pair → others place mid.entries ≡ tables.entries → AreChildrenAt place r.table mid.entries → (pair ≡ None → mid.entries ≡ tables.entries)
     → after.entries ≡ remove_entry (is_at (table_cmp r.table)) mid.entries → Opens tables after old r
     → IsOpenMap after (record { root = root; records = old ++ (r ∷ []) })
-opened_more root old r place pair tables mid after before is_open last known others none removal is = record {
+opened_more root old r place pair tables mid after before is_open last known others children none removal is = record {
   exact = open_taken_exact root old (old ++ (r ∷ [])) r tables after before (taken_last old r root is_open) is;
-  openers = subst (All (λ (e : Packed × ℕ). IsOpener (old ++ (r ∷ [])) e.1)) (sym removal)
-      (all_removed (λ (e : Packed × ℕ). IsOpener (old ++ (r ∷ [])) e.1) (is_at (table_cmp r.table)) mid.entries
-      (opens_or_not old (old ++ (r ∷ [])) place mid.entries tables.entries (shown_by r.claim) r.table pair (grows_last old r) before.openers others none known
-      (λ k shown. inr (r, subst (λ (n : ℕ). slice_get (old ++ (r ∷ [])) n ≡ Some r) (sym last) (got_last old r), halts_says r k shown))));
+  openers = subst (All (λ (e : Packed × ℕ). IsOpener root (old ++ (r ∷ [])) e.0 e.1)) (sym removal)
+      (all_removed (λ (e : Packed × ℕ). IsOpener root (old ++ (r ∷ [])) e.0 e.1) (is_at (table_cmp r.table)) mid.entries
+      (opens_or_not root old (old ++ (r ∷ [])) place mid.entries tables.entries (shown_by r.claim) r.table pair (grows_last root old r) before.openers others children none known
+      (λ k q shown child. inr (r, subst (λ (n : ℕ). slice_get (old ++ (r ∷ [])) n ≡ Some r) (sym last) (got_last old r), halts_says r k shown, child))));
 }
 
 -- a holdout is settled
@@ -110,7 +110,7 @@ board_settled root old r board settles = record { is_table = board.is_table; in_
 pub taken_settling : (old : List Recorded) (r : Recorded) → IsHoldout old r.table → IsTaken old (settled old r) r
 taken_settling old r holdout = let c = holdout_claim old r.table holdout in taken_settled old r c.0 c.1 c.2
 
-silent_claim : (o : Option Verdict) → mark_by o ≡ Holdout → says_halts o ≡ false
+pub silent_claim : (o : Option Verdict) → mark_by o ≡ Holdout → says_halts o ≡ false
 silent_claim None e = refl
 silent_claim (Some (Halts k)) e = cc
 silent_claim (Some Never) e = refl
@@ -123,10 +123,10 @@ still_other root old r tables q before holdout there = λ (e : q ≡ r.table).
 pub opened_settled : (root : Packed) (old : List Recorded) (r x : Recorded) (place : ℕ) (pair : Option Pair) (tables after : BTreeMap Packed ℕ)
     → IsBoard (record { root = root; records = old }) → IsOpenMap tables (record { root = root; records = old }) → IsHoldout old r.table
     → slice_get old place ≡ Some x → x.table ≡ r.table
-    → IsPairOf (shown_by r.claim) r.table pair → others place after.entries ≡ tables.entries → (pair ≡ None → after.entries ≡ tables.entries)
+    → IsPairOf (shown_by r.claim) r.table pair → others place after.entries ≡ tables.entries → AreChildrenAt place r.table after.entries → (pair ≡ None → after.entries ≡ tables.entries)
     → ((q : Packed) → ContainsKey table_cmp after q ↔ (ContainsKey table_cmp tables q ⊎ IsNewChild old r q))
     → IsOpenMap after (record { root = root; records = settled old r })
-opened_settled root old r x place pair tables after board before holdout at table known others none is =
+opened_settled root old r x place pair tables after board before holdout at table known others children none is =
     let c = holdout_claim old r.table holdout in
     let opens : Opens tables after old r = λ q. (
       λ h. elim ((is q).0 h) [ inl a ↦ inl (a, still_other root old r tables q before holdout a) | inr u ↦ inr u ],
@@ -134,6 +134,6 @@ opened_settled root old r x place pair tables after board before holdout at tabl
     ) in
     record {
       exact = open_taken_exact root old (settled old r) r tables after before (taken_settling old r holdout) opens;
-      openers = opens_or_not old (settled old r) place after.entries tables.entries (shown_by r.claim) r.table pair (grows_settled old r c.0 c.1 (silent_claim (shown_by c.0) c.2)) before.openers others none known
-          (λ k shown. inr (r, settled_slot old r x place (held_apart root old board.held) at table, halts_says r k shown));
+      openers = opens_or_not root old (settled old r) place after.entries tables.entries (shown_by r.claim) r.table pair (grows_settled root old r c.0 c.1 (silent_claim (shown_by c.0) c.2)) before.openers others children none known
+          (λ k q shown child. inr (r, settled_slot old r x place (held_apart root old board.held) at table, halts_says r k shown, child));
     }

@@ -38,6 +38,16 @@ less_apart a b less = λ (e : a ≡ b). let itself : table_cmp a a ≡ Less = su
 pub rising_once : (tables : List Packed) → AllPairs (λ (a b : Packed). table_cmp a b ≡ Less) tables → AllPairs (λ (a b : Packed). a ≢ b) tables
 rising_once tables rising = λ i j d less below. less_apart (get_or tables i d) (get_or tables j d) (rising i j d less below)
 
+-- no text comes before itself, so texts that rise are of different tables
+pub never_before_itself : (a : Packed) → slice_cmp nat_cmp (text_of a) (text_of a) ≡ Less → ⊥
+never_before_itself a less = let back = nat_list_cmp_total.antisymm (text_of a) (text_of a) in cc
+
+pub rising_apart : (tables : List Packed) → AllPairs (λ (a b : Packed). slice_cmp nat_cmp (text_of a) (text_of b) ≡ Less) tables → AllPairs (λ (a b : Packed). a ≢ b) tables
+rising_apart tables rising = λ i j d less below. apart_texts (get_or tables i d) (get_or tables j d) (rising i j d less below)
+  where
+    apart_texts : (a b : Packed) → slice_cmp nat_cmp (text_of a) (text_of b) ≡ Less → a ≢ b
+    apart_texts a b less = λ (e : a ≡ b). never_before_itself a (subst (λ (p : Packed). slice_cmp nat_cmp (text_of a) (text_of p) ≡ Less) (sym e) less)
+
 -- different tables that are sorted rise
 greater_back : (r : Ordering) → ordering_reverse r ≡ Greater → is_lt r ≡ false → ⊥
 greater_back Less e low = cc

@@ -4,7 +4,6 @@ use Rattle.std.specs.List.{Contains}
 use Rattle.std.specs.Ordering.{nat_cmp}
 use Rattle.std.specs.declared.cmp.Ordering.TheVariants.{Less}
 use Rattle.std.specs.Cmp.Lexicographic.{slice_cmp, nat_list_cmp_total}
-use Rattle.turing.proofs.Counting.{length-le_of_members}
 use Rattle.machine_text.specs.Packed.{Packed, entry_of}
 use Rattle.machine_text.specs.Text.{text_of}
 use Rattle.turing.specs.Halting.{HaltsAt, Never}
@@ -20,10 +19,13 @@ use Rattle.ledger.specs.Contents.{Contents, IsBoard}
 use Rattle.ledger.specs.Tally.{HaltsAfter, IsHalting, IsNeverHalting, IsGreatestCount, IsChampion, IsTally, AreAll, AreSoMany, AreInTextOrder}
 use Rattle.ledger.specs.WholeTree.{IsTreeTally, IsTreeChampion}
 use Rattle.ledger.specs.declared.tally.Tally.{Tally}
-use Rattle.ledger.proofs.Apart.{held_apart, first_or_later, later_member, first_member, all_members, claim_member, member_claim}
+pub use Rattle.ledger.proofs.Amounts.{as_many}
+use Rattle.ledger.proofs.Amounts.{many_same, none_of_kind}
+use Rattle.ledger.proofs.Apart.{held_apart, first_or_later, later_member, first_member, claim_member, member_claim}
 use Rattle.ledger.proofs.Numbers.{number_of_kind}
 use Rattle.ledger.proofs.OpenLaws.{recorded_in_tree}
 use Rattle.ledger.proofs.Sets.{nobody}
+use Rattle.ledger.proofs.TextOrder.{never_before_itself}
 use Rattle.ledger.proofs.BoardLaws.{OfTables, marked_in_tree}
 use Rattle.ledger.proofs.Completeness.{true_marks}
 
@@ -52,24 +54,9 @@ all_never b t board complete = (
   λ h. recorded_verdict b t NeverHalting board complete h.0 h.1 tt,
 )
 
--- tables of one kind are as many as those of the other, where these are the same
-no_more : (K L : Packed → Type 0) (a b : ℕ) → ((t : Packed) → K t → L t) → AreSoMany K a → AreSoMany L b → a ≤ b
-no_more K L a b to x y =
-    let most = length-le_of_members y.tables x.tables (all_members (Contains y.tables) x.tables (λ t at. (y.exact t).1 (to t ((x.exact t).0 at)))) x.once in
-    omega (arith, most, x.is, y.is)
-
-pub as_many : (K L : Packed → Type 0) (a b : ℕ) → ((t : Packed) → K t ↔ L t) → AreSoMany K a → AreSoMany L b → a ≡ b
-as_many K L a b same x y =
-    let low = no_more K L a b (λ t. (same t).0) x y in
-    let high = no_more L K b a (λ t. (same t).1) y x in
-    omega (arith, low, high)
-
 -- the order of texts is strict
 abbrev Precedes : Packed → Packed → Type 0
 Precedes a b = slice_cmp nat_cmp (text_of a) (text_of b) ≡ Less
-
-never_before_itself : (a : Packed) → Precedes a a → ⊥
-never_before_itself a less = let back = nat_list_cmp_total.antisymm (text_of a) (text_of a) in cc
 
 before_all : (x : Packed) (xs : List Packed) (y : Packed) → AreInTextOrder (x ∷ xs) → Contains xs y → Precedes x y
 before_all x xs y rising at =
@@ -117,21 +104,6 @@ one_list K L xs ys same x y = one_order xs ys x.rising y.rising
     (λ t at. (y.exact t).1 ((same t).0 ((x.exact t).0 at)))
     (λ t at. (x.exact t).1 ((same t).1 ((y.exact t).0 at)))
 
--- told of the other kind
-so_many_of : (K L : Packed → Type 0) (n : ℕ) → ((t : Packed) → K t ↔ L t) → AreSoMany K n → AreSoMany L n
-so_many_of K L n same x = record {
-  tables = x.tables;
-  exact = λ t. (λ at. (same t).0 ((x.exact t).0 at), λ l. (x.exact t).1 ((same t).1 l));
-  once = x.once;
-  is = x.is;
-}
-
-none_of_kind : (K : Packed → Type 0) (n : ℕ) → AreSoMany K n → ((t : Packed) → K t → ⊥) → n ≡ 0
-none_of_kind K n x none =
-    let most = no_more K (λ (t : Packed). ⊥) n 0 none x
-    (record { tables = []; exact = λ t. (λ at. nobody at, λ f. absurd f); once = λ i j d less below. absurd (omega arith); is = refl }) in
-    omega (arith, most)
-
 -- the records of a complete board are of the tables of the tree
 all_pass : (rs : List Recorded) → filter (λ (r : Recorded). true) rs ≡ rs
 all_pass [] = refl
@@ -168,11 +140,11 @@ whole_tally b tally board complete counted =
     let none_open = none_of_kind _ tally.open_count counted.open_count complete.none_open in
     let all : length b.records ≡ tally.nodes = omega (arith, counted.nodes, none_open) in record {
       nodes = subst (AreSoMany (InTableTree b.root)) all (tree_number b board complete);
-      halting = so_many_of (IsHalting b.records) _ tally.halting (λ t. (
+      halting = many_same (IsHalting b.records) _ tally.halting (λ t. (
         λ h. let it = (all_halting b t h.0 board complete).0 h.1 in (it.0, (h.0, it.1)),
         λ h. (h.1.0, (all_halting b t h.1.0 board complete).1 (h.0, h.1.1)),
       )) counted.halting;
-      never = so_many_of (IsNeverHalting b.records) _ tally.never (λ t. all_never b t board complete) counted.never;
+      never = many_same (IsNeverHalting b.records) _ tally.never (λ t. all_never b t board complete) counted.never;
       holdouts = none_of_kind (IsHoldout b.records) tally.holdouts counted.holdouts complete.no_holdout;
       open_count = none_open;
       best = greatest_in_tree b tally.best board complete counted.best;

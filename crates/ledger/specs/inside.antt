@@ -2,5 +2,7 @@
 pub mod Counting
 pub mod Keeping
 pub mod Open
+pub mod Carrying
+pub mod Trees
 pub mod Places
 pub mod HeaderRead

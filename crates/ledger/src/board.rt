@@ -11,18 +11,22 @@ ghost use Rattle.ledger.specs.Contents.{IsBoard};
 ghost use Rattle.ledger.specs.inside.Places.{IsPlace};
 ghost use Rattle.ledger.specs.Tally.{AreAll, IsChampion, IsGreatestCount, IsHalting, IsStatus, IsTally};
 
-use crate::children::children_on;
+use crate::chain::carry_up;
+use crate::children::{child_count, children_on};
 use crate::counts::Counts;
 use crate::faults::{BoardFault, OfferFault};
-use crate::index::{certificate_for, pair_for, place_of, verdict_in};
+use crate::index::{
+    certificate_for, kept_of_holdout, pair_for, place_of, tree_count_of, verdict_in,
+};
 use crate::kept::{Judging, Kept};
-use crate::open_tables::{only, open_children, opener_place};
+use crate::open_tables::{only, open_children, opener_of, opener_place};
 use crate::place::{Place, recorded_place};
 use crate::records::Records;
 use crate::selected::{sorted_tables, tables_with, undecided_tables};
 use crate::status::Status;
 use crate::taken::Taken;
 use crate::tally::Tally;
+use crate::tree_count::{TreeChange, TreeCount};
 use cert::{Record, standing_claims_are_true};
 use evidence::{NoMemory, Verdict};
 use indexmap::IndexMap;
@@ -49,7 +53,7 @@ pub type Champions = IntoIter<Table>;
 pub struct Board {
     alloc: Global,
     root: Table,
-    // under their tables, which aren't kept again
+    // under their tables, which aren't kept again; with each what is left in its tree
     records: IndexMap<Table, Kept>,
     // exactly the open tables, each with the place of the record that opened it
     open_tables: BTreeMap<Table, u32>,
@@ -62,6 +66,7 @@ impl Model for Board {
     ghost use Rattle.ledger.specs.inside.Keeping.{records_of, KnowsPair};
     ghost use Rattle.ledger.specs.inside.Open.{IsOpenMap};
     ghost use Rattle.ledger.specs.inside.Counting.{IsCounted};
+    ghost use Rattle.ledger.specs.inside.Trees.{IsIndexed};
     ghost use Rattle.ledger.specs.Contents.{Contents, IsBoard};
 
     ghost Value = { Contents };
@@ -71,7 +76,8 @@ impl Model for Board {
     ghost invariant = { λ a. IsBoard (record { root = a.root; records = records_of a.records.entries })
         × IsOpenMap a.open_tables (record { root = a.root; records = records_of a.records.entries })
         × All KnowsPair a.records.entries
-        × IsCounted (records_of a.records.entries) a.counts };
+        × IsCounted (records_of a.records.entries) a.counts
+        × IsIndexed a.root a.records.entries };
 }
 
 impl Board {
@@ -84,6 +90,7 @@ impl Board {
     ghost use Rattle.ledger.specs.Held.{IsFit, IsHoldout, Settles, settled};
     ghost use Rattle.ledger.specs.Offers.{OfferGives};
     ghost use Rattle.ledger.specs.inside.Places.{IsWhyRefused};
+    ghost use Rattle.ledger.specs.inside.Trees.{IsTreeCount};
 
     /// A board of the tree of a root, without records. The root must name its states in order.
     pub fn new(alloc: Global, root: Table) -> Result<Board, BoardFault>
@@ -247,6 +254,16 @@ impl Board {
         verdict_in(&self.records, t)
     }
 
+    // The numbers of a recorded table's tree.
+    pub(crate) fn tree_count(&self, t: &Table) -> Option<TreeCount>
+        ensures some { IfSome result (IsTreeCount self.now.root self.now.records t.now) }
+        ensures none { IsSome result ↔ IsSome (claim_in self.now.records t.now) }
+    {
+        // The proof needs the invariant of the board.
+        let _ = &self.root;
+        tree_count_of(&self.records, t)
+    }
+
     /// Offers a record. It is judged in this order: its table has another number of states than the
     /// root, `WrongSize`; its table has a verdict, or is a holdout and no verdict is offered, `Known`,
     /// whatever its certificate; its table is neither open nor a holdout, `NotOpen`; its certificate
@@ -321,9 +338,13 @@ impl Board {
         ensures refusal { IfErr result (λ f. IsWhyRefused f (recorded r.now)) }
     {
         child_is_table();
-        let kept = Kept::of(self.alloc, r, judging)?;
+        let parent = opener_of(&self.open_tables, &r.table);
+        let kept = Kept::of(self.alloc, r, judging, parent, TreeCount::first())?;
+        let opened = child_count(r, kept.halts_on);
         let count = self.records.len();
         let place = opener_place(count)?;
+        // The proof needs how many open tables there can be.
+        let _ = self.open_tables.len();
         self.records.reserve(1)?;
         open_children(
             &mut self.open_tables,
@@ -337,8 +358,14 @@ impl Board {
             Ok(_) => {}
             Err(_) => unreachable!(),
         }
+        let shown = r.certificate.verdict();
+        carry_up(
+            &mut self.records,
+            place,
+            TreeChange::of_taking(opened, shown),
+        );
         self.open_tables.remove(&r.table);
-        self.counts = self.counts.with(r.certificate.verdict());
+        self.counts = self.counts.with(shown);
         Ok(Taken::New)
     }
 
@@ -353,9 +380,13 @@ impl Board {
         ensures refusal { IfErr result (λ f. IsWhyRefused f (recorded r.now)) }
     {
         child_is_table();
-        let kept = Kept::of(self.alloc, r, judging)?;
+        let (parent, tree) = kept_of_holdout(&self.records, &r.table);
+        let kept = Kept::of(self.alloc, r, judging, parent, tree)?;
+        let opened = child_count(r, kept.halts_on);
         let found = place_of(&self.records, &r.table);
         let place = opener_place(found)?;
+        // The proof needs how many open tables there can be.
+        let _ = self.open_tables.len();
         open_children(
             &mut self.open_tables,
             &self.records,
@@ -368,7 +399,13 @@ impl Board {
             Ok(_) => {}
             Err(_) => unreachable!(),
         }
-        self.counts = self.counts.without_holdout().with(r.certificate.verdict());
+        let shown = r.certificate.verdict();
+        carry_up(
+            &mut self.records,
+            place,
+            TreeChange::of_settling(opened, shown),
+        );
+        self.counts = self.counts.without_holdout().with(shown);
         Ok(Taken::Settled)
     }
 }

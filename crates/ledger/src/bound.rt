@@ -3,11 +3,10 @@ ghost use Rattle.std.specs.Prelude.{◌≡◌, ℕ, Option, None};
 ghost use Rattle.turing.specs.Halting.{HaltsAt};
 ghost use Rattle.tree.specs.Tables.{IsBestOfTable};
 ghost use Rattle.ledger.specs.Bounds.{IsBound};
-ghost use Rattle.ledger.specs.Records.{verdict_in};
+ghost use Rattle.ledger.specs.Records.{claim_in};
 
 use crate::board::Board;
 use cert::standing_claims_are_true;
-use evidence::Verdict;
 use machine_text::Table;
 use tree::{best_of_closed, child_is_table};
 
@@ -25,8 +24,8 @@ pub enum Bound {
 }
 
 impl Board {
-    /// What is known of the best of a table. It takes no memory, and time that grows with the part of the
-    /// table's tree that is recorded.
+    /// What is known of the best of a table. It takes no memory, and as long for each table: one look-up among
+    /// the records, and one among the open tables where there is no record. No tree is walked.
     pub fn bound(&self, t: &Table) -> Bound
         ensures stands { IsBound self.now.root self.now.records t.now result }
         ensures best { (best : Option ℕ) → result ≡ Bound.Closed best → IsBestOfTable HaltsAt t.now best }
@@ -37,42 +36,29 @@ impl Board {
         // The proof needs that the records are held from the root, and that it is a table.
         let _ = self.root();
         let _ = t.states();
-        self.bound_of_tree(t)
+        self.bound_by_count(t)
     }
 
-    // The bound of a table, by those of its children. Each of them has an undefined pair less.
-    fn bound_of_tree(&self, t: &Table) -> Bound
+    // The bound of a table, by what is left in its tree.
+    fn bound_by_count(&self, t: &Table) -> Bound
         ensures { IsBound self.now.root self.now.records t.now result }
     {
-        child_is_table();
-        standing_claims_are_true();
-        // The proof needs that the records are held from the root, and that it is a table.
-        let _ = self.root();
-        let _ = t.states();
-        let mut best = match self.verdict(t) {
-            Some(Verdict::Halts(steps)) => steps,
-            Some(Verdict::Never) => return Bound::Closed { best: None },
-            None => return self.bound_without_verdict(t),
+        let Some(tree) = self.tree_count(t) else {
+            return self.bound_unrecorded(t);
         };
-        let Some(children) = self.children(t) else {
-            unreachable!()
-        };
-        for child in children {
-            match self.bound_of_tree(&child) {
-                Bound::Closed { best: Some(below) } => best = best.max(below),
-                Bound::Closed { best: None } => {}
-                Bound::Open | Bound::Unknown => return Bound::Open,
-            }
+        if tree.is_settled() {
+            Bound::Closed { best: tree.best }
+        } else {
+            Bound::Open
         }
-        Bound::Closed { best: Some(best) }
     }
 
-    // The bound of a table without a verdict.
-    fn bound_without_verdict(&self, t: &Table) -> Bound
-        requires { verdict_in self.now.records t.now ≡ None }
+    // The bound of a table without a record.
+    fn bound_unrecorded(&self, t: &Table) -> Bound
+        requires { claim_in self.now.records t.now ≡ None }
         ensures { IsBound self.now.root self.now.records t.now result }
     {
-        if self.is_open(t) || self.is_recorded(t) {
+        if self.is_open(t) {
             Bound::Open
         } else {
             Bound::Unknown

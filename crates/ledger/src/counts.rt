@@ -64,7 +64,7 @@ impl Counts {
 }
 
 // The greater of two numbers of which either may be missing.
-fn greater(a: Option<u64>, b: Option<u64>) -> Option<u64>
+pub fn greater(a: Option<u64>, b: Option<u64>) -> Option<u64>
     ensures { result ≡ greater a b }
 {
     a.max(b)

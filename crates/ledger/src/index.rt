@@ -7,9 +7,12 @@ ghost use Rattle.ledger.specs.inside.Counting.{is_halting};
 ghost use Rattle.ledger.specs.inside.Keeping.{records_of, KnowsPair};
 ghost use Rattle.ledger.specs.Held.{IsHoldout};
 ghost use Rattle.ledger.specs.Tally.{HaltsAfter, IsHalting};
-ghost use Rattle.ledger.specs.Records.{claim_in, verdict_in};
+ghost use Rattle.ledger.specs.Records.{claim_in, same_table, verdict_in};
+ghost use Rattle.ledger.specs.declared.kept.Kept.{Kept as KeptRecord};
+ghost use Rattle.std.specs.Map.{lookup};
 
 use crate::kept::Kept;
+use crate::tree_count::TreeCount;
 use cert::Certificate;
 use evidence::Verdict;
 use indexmap::IndexMap;
@@ -59,5 +62,26 @@ pub fn place_of(records: &IndexMap<Table, Kept>, t: &Table) -> usize
     match records.get_full(t) {
         Some((place, _, _)) => place,
         None => unreachable!(),
+    }
+}
+
+// What is kept of a holdout's place in the tree: where its parent's record stands, and the numbers of its tree.
+pub fn kept_of_holdout(records: &IndexMap<Table, Kept>, t: &Table) -> (u32, TreeCount)
+    requires { IsHoldout (records_of records.now.entries) t.now }
+    ensures { (k : KeptRecord) × (lookup (same_table t.now) records.now.entries ≡ Some k) × (result ≡ (k.parent, k.tree)) }
+{
+    match records.get(t) {
+        Some(kept) => (kept.parent, kept.tree),
+        None => unreachable!(),
+    }
+}
+
+// The numbers of a recorded table's tree.
+pub fn tree_count_of(records: &IndexMap<Table, Kept>, t: &Table) -> Option<TreeCount>
+    ensures { result ≡ option_map (λ k. k.tree) (lookup (same_table t.now) records.now.entries) }
+{
+    match records.get(t) {
+        Some(kept) => Some(kept.tree),
+        None => None,
     }
 }

@@ -6,17 +6,22 @@ ghost use Rattle.cert.specs.Kinds.{claim_of, owned_claim, recorded};
 ghost use Rattle.ledger.specs.inside.Places.{IsWhyRefused};
 
 use crate::faults::OfferFault;
+use crate::tree_count::TreeCount;
 use cert::{OwnedCertificate, Record, judge_on};
 use evidence::{Refused, Verdict};
 use machine_text::Pair;
 use std::alloc::Global;
 
 // A certificate, and the pair on which its table halts, where it says that it does: so the children of the
-// table are known without another run.
+// table are known without another run. The place of the parent's record and the numbers of the tree are kept
+// with it, so that what is left of the tree is known without a walk.
 #[derive(Drop)]
 pub struct Kept {
     pub certificate: OwnedCertificate,
     pub halts_on: Option<Pair>,
+    // where the record of the table's parent stands; of the root nowhere
+    pub parent: u32,
+    pub tree: TreeCount,
 }
 
 // Whether a record is yet to be judged.
@@ -29,12 +34,20 @@ pub enum Judging {
 }
 
 impl Kept {
-    // The certificate of a record, once it is judged.
-    pub fn of(alloc: Global, r: &Record, judging: Judging) -> Result<Kept, OfferFault>
+    // The certificate of a record, once it is judged, with what is kept of its table.
+    pub fn of(
+        alloc: Global,
+        r: &Record,
+        judging: Judging,
+        parent: u32,
+        tree: TreeCount,
+    ) -> Result<Kept, OfferFault>
         requires { judging ≡ Judging.Done → IsCertified (recorded r.now) }
         ensures certified { OnOk result (IsCertified (recorded r.now)) }
         ensures claim { IfOk result (λ kept. owned_claim kept.certificate ≡ claim_of r.now.certificate) }
         ensures pair { IfOk result (λ kept. IsPairOf (shown_by (claim_of r.now.certificate)) r.now.table kept.halts_on) }
+        ensures parent { IfOk result (λ kept. kept.parent ≡ parent) }
+        ensures tree { IfOk result (λ kept. kept.tree ≡ tree) }
         ensures refusal { IfErr result (λ f. IsWhyRefused f (recorded r.now)) }
     {
         let halts_on = halting_pair(alloc, r, judging)?;
@@ -42,6 +55,8 @@ impl Kept {
         Ok(Kept {
             certificate,
             halts_on,
+            parent,
+            tree,
         })
     }
 }

@@ -13,6 +13,7 @@
 
 mod board;
 mod bound;
+mod chain;
 mod children;
 mod counts;
 mod faults;
@@ -30,6 +31,7 @@ mod selected;
 mod status;
 mod taken;
 mod tally;
+mod tree_count;
 mod write_ledger;
 
 pub use board::{Board, Champions, Holdouts, Open};

@@ -1,14 +1,16 @@
 // The open tables of a board, each with the place of the record that opened it.
-ghost use Rattle.std.specs.Prelude.{◌≡◌, ◌≢◌, ℕ, ◌+◌, ◌^◌, ◌<◌, ◌↔◌, ◌⊎◌, IfOk, IsTrue, OnOk, OnErr, None, [], ◌∷◌, filter};
-ghost use Rattle.std.specs.BTreeMap.{ContainsKey};
+ghost use Rattle.std.specs.Prelude.{◌≡◌, ◌≢◌, ℕ, ◌+◌, ◌^◌, ◌<◌, ◌↔◌, ◌⊎◌, IfOk, IsTrue, OnOk, OnErr, None, Some, [], ◌∷◌, Contains, filter};
+ghost use Rattle.std.specs.Map.{lookup};
+ghost use Rattle.std.specs.BTreeMap.{ContainsKey, is_at, insert_entry};
 ghost use Rattle.machine_text.specs.Packed.{Packed, entry_of};
 ghost use Rattle.tree.specs.Used.{InOrder};
+ghost use Rattle.tree.specs.Tables.{IsChildTable};
 ghost use Rattle.cert.specs.Claim.{shown_by};
 ghost use Rattle.cert.specs.Kinds.{claim_of, recorded};
 ghost use Rattle.cert.specs.Certified.{IsPairOf};
 ghost use Rattle.ledger.specs.inside.Keeping.{records_of};
 ghost use Rattle.ledger.specs.Records.{claim_in};
-ghost use Rattle.ledger.specs.inside.Open.{table_cmp, others, HasUnrecorded, IsNewChild};
+ghost use Rattle.ledger.specs.inside.Open.{table_cmp, others, AreChildrenAt, HasUnrecorded, IsNewChild};
 
 use crate::children::children_on;
 use crate::index::certificate_for;
@@ -22,7 +24,7 @@ use std::collections::BTreeMap;
 use tnf::Children;
 
 // The place of what opened the root, which no record has.
-const NO_PLACE: u32 = u32::MAX;
+pub const NO_PLACE: u32 = u32::MAX;
 
 // The root alone.
 pub fn only(alloc: Global, root: Table) -> Result<BTreeMap<Table, u32>, NoMemory>
@@ -45,6 +47,17 @@ pub fn opener_place(place: usize) -> Result<u32, NoMemory>
     }
 }
 
+// The place of the record that opened a table, which is open.
+pub fn opener_of(tables: &BTreeMap<Table, u32>, t: &Table) -> u32
+    requires { ContainsKey table_cmp tables.now t.now }
+    ensures { lookup (is_at (table_cmp t.now)) tables.now.entries ≡ Some result }
+{
+    match tables.get(t) {
+        Some(place) => *place,
+        None => unreachable!(),
+    }
+}
+
 // Opens the children of a record's table, which halts on this pair if it is known to: those that have no
 // record and aren't open already. The record stands at this place, or will. Where memory is refused, the
 // tables are as they were.
@@ -61,6 +74,7 @@ pub fn open_children(
     ensures ok { OnOk result ((q : Packed) → ContainsKey table_cmp tables.new q
         ↔ (ContainsKey table_cmp tables.old q ⊎ IsNewChild (records_of records.now.entries) (recorded r.now) q)) }
     ensures others { others place tables.new.entries ≡ tables.old.entries }
+    ensures children { OnOk result (AreChildrenAt place r.now.table tables.new.entries) }
     ensures none { halts_on ≡ None → tables.new.entries ≡ tables.old.entries }
     ensures err { OnErr result (tables.new.entries ≡ tables.old.entries) }
 {
@@ -84,10 +98,12 @@ fn open_all(
     place: u32,
     found: Children,
 ) -> Result<(), NoMemory>
-    requires { others place tables.old.entries ≡ tables.old.entries }
+    requires none { others place tables.old.entries ≡ tables.old.entries }
+    requires children { (t : Packed) → Contains found t → IsChildTable parent.now t }
     ensures ok { OnOk result ((q : Packed) → ContainsKey table_cmp tables.new q
         ↔ (ContainsKey table_cmp tables.old q ⊎ HasUnrecorded found (records_of records.now.entries) parent.now q)) }
     ensures others { others place tables.new.entries ≡ tables.old.entries }
+    ensures children { OnOk result (AreChildrenAt place parent.now tables.new.entries) }
     ensures err { OnErr result (tables.new.entries ≡ tables.old.entries) }
 {
     for child in found {
@@ -110,6 +126,8 @@ fn open_child(
     ensures ok { OnOk result ((q : Packed) → ContainsKey table_cmp tables.new q
         ↔ (ContainsKey table_cmp tables.old q ⊎ HasUnrecorded (child ∷ []) (records_of records.now.entries) parent.now q)) }
     ensures others { others place tables.new.entries ≡ others place tables.old.entries }
+    ensures entries { OnOk result ((tables.new.entries ≡ tables.old.entries)
+        ⊎ (tables.new.entries ≡ insert_entry table_cmp tables.old.entries child place)) }
 {
     if is_unrecorded(records, parent, &child) {
         open_new(tables, child, place)?;
@@ -121,6 +139,8 @@ fn open_child(
 fn open_new(tables: &mut BTreeMap<Table, u32>, t: Table, place: u32) -> Result<(), NoMemory>
     ensures ok { OnOk result ((q : Packed) → ContainsKey table_cmp tables.new q ↔ (ContainsKey table_cmp tables.old q ⊎ (q ≡ t))) }
     ensures others { others place tables.new.entries ≡ others place tables.old.entries }
+    ensures entries { OnOk result ((tables.new.entries ≡ tables.old.entries)
+        ⊎ (tables.new.entries ≡ insert_entry table_cmp tables.old.entries t place)) }
 {
     if !tables.contains_key(&t) {
         tables.insert(t, place)?;

@@ -1,5 +1,5 @@
 -- For the code: maps of tables, and which a board's open ones are.
-use Rattle.std.specs.Prelude.{◌≡◌, ◌≢◌, ◌↔◌, ◌⊎◌, ◌≤◌, ◌^◌, ℕ, ◌+◌, true, not, nat_eq, List, All, Contains, None, Some, filter, slice_get}
+use Rattle.std.specs.Prelude.{◌≡◌, ◌≢◌, ◌↔◌, ◌⊎◌, ℕ, true, not, nat_eq, List, All, Contains, None, Some, filter, slice_get}
 use Rattle.std.specs.BTreeMap.{BTreeMap, ContainsKey}
 use Rattle.std.specs.Ordering.{nat_cmp, ordering_then}
 use Rattle.std.specs.declared.cmp.Ordering.{Ordering}
@@ -27,14 +27,18 @@ pub record HasUnrecorded (found : List Packed) (rs : List Recorded) (parent t : 
 abbrev pub others : ℕ → List (Packed × ℕ) → List (Packed × ℕ)
 others place es = filter (λ e. not (nat_eq e.1 place)) es
 
--- the place of a record that says that its table halts, or none at all
-abbrev pub IsOpener : List Recorded → ℕ → Type 0
-IsOpener rs place = (2 ^ 32 ≤ place + 1) ⊎ ((r : Recorded) × (slice_get rs place ≡ Some r) × (is_halting r ≡ true))
+-- the place that no record has, in four bytes
+abbrev pub no_place : ℕ
+no_place = 4294967295
+
+-- the place of the record that opened a table: that of its parent's, which halts; what opened the root has none
+abbrev pub IsOpener : Packed → List Recorded → Packed → ℕ → Type 0
+IsOpener root rs t place = ((t ≡ root) × (place ≡ no_place)) ⊎ ((r : Recorded) × (slice_get rs place ≡ Some r) × (is_halting r ≡ true) × IsChildTable r.table t)
 
 -- a map of tables is that of the open ones, each with the place of what opened it
 pub record IsOpenMap (tables : BTreeMap Packed ℕ) (b : Contents) : Type 0 where
   pub exact : (t : Packed) → ContainsKey table_cmp tables t ↔ IsOpen b.root (mark_in b.records) t
-  pub openers : All (λ e. IsOpener b.records e.1) tables.entries
+  pub openers : All (λ e. IsOpener b.root b.records e.0 e.1) tables.entries
 
 -- a child of the record's table, by its halting, that has no record itself
 pub record IsNewChild (rs : List Recorded) (r : Recorded) (t : Packed) : Type 0 where
@@ -43,3 +47,7 @@ pub record IsNewChild (rs : List Recorded) (r : Recorded) (t : Packed) : Type 0 
   pub child : IsChildTable r.table t
   pub unrecorded : claim_in rs t ≡ None
   pub other : t ≢ r.table
+
+-- what the record at a place opened are children of this table
+abbrev pub AreChildrenAt : ℕ → Packed → List (Packed × ℕ) → Type 0
+AreChildrenAt place parent es = All (λ e. e.1 ≡ place → IsChildTable parent e.0) es

@@ -8,4 +8,4 @@ pub returns-clause-best : goal.returns-clause-best
 returns-clause-best c = λ best is.
     closed_bound c.args.self.now c.args.t.now best c.child_is_table.ensures.below c.child_is_table.ensures.order c.best_of_closed.ensures.steps c.root.ensures.board c.states.ensures.table
     (true_marks c.args.self.now c.child_is_table.ensures.below c.child_is_table.ensures.tree c.standing_claims_are_true.ensures c.root.ensures.board)
-    (subst (IsBound c.args.self.now.root c.args.self.now.records c.args.t.now) is c.bound_of_tree.ensures)
+    (subst (IsBound c.args.self.now.root c.args.self.now.records c.args.t.now) is c.bound_by_count.ensures)

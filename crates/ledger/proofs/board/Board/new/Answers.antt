@@ -1,5 +1,5 @@
 use Rattle.std.proofs.Common.{arith}
-use Rattle.ledger.proofs.OpenStart.{starts, board_starts, counted_none}
+use Rattle.ledger.proofs.OpenStart.{starts, board_starts, counted_none, indexed_none}
 use Rattle.ledger.proofs.board.Board.new.Goals as goal
 
 pub invariant_of-result : goal.invariant_of-result
@@ -9,4 +9,5 @@ invariant_of-result c =
       starts c.args.root c.in_ok-open_tables.open_tables c.in_ok-open_tables.ensures,
       λ k d below. absurd (omega arith),
       counted_none,
+      indexed_none c.args.root,
     )

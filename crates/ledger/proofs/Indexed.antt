@@ -1,0 +1,198 @@
+-- What is kept with the records of their trees, once a record is taken and its change is carried up.
+use Rattle.std.proofs.Common.{◌≡◌, ◌≢◌, ℕ, suc, ◌+◌, ◌<◌, ◌^◌, true, false, cond, List, [], ◌∷◌, length, Option, Some, None, IsSome, option_map, get_or, inl, inr, refl, sym, ◌∙◌, ap, subst, arith}
+use Rattle.std.specs.Prelude.{slice_get}
+use Rattle.std.specs.List.{All, Contains}
+use Rattle.std.specs.Map.{lookup}
+use Rattle.std.proofs.lemmas.Bool.{cases_lt}
+use Rattle.std.proofs.lemmas.Option.{same_Some, slice_get-map, slice_get_within, slice_get-get_or, get_or_from_slice_get}
+use Rattle.machine_text.specs.Packed.{Packed}
+use Rattle.evidence.specs.declared.verdicts.Verdict.{Verdict}
+use Rattle.evidence.specs.declared.verdicts.Verdict.TheVariants.{Halts, Never}
+use Rattle.tree.specs.Closed.{Halting}
+use Rattle.tree.specs.Tables.{IsChildTable, InTableTree, Itself}
+use Rattle.tree.proofs.TableLaws.{tree_table_child, one_table_parent}
+use Rattle.cert.specs.Claim.{Claim, Recorded, shown_by}
+use Rattle.ledger.specs.Records.{same_table, claim_in, mark_in, mark_by}
+use Rattle.ledger.specs.Contents.{IsBoard}
+use Rattle.ledger.specs.inside.Counting.{says_halts}
+use Rattle.ledger.specs.inside.Keeping.{entry_recorded, records_of, KnowsPair}
+use Rattle.ledger.specs.inside.Carrying.{changed_count, MayChange, OnChain, HasChain, AreEarlier, ChainMayChange, IsCarried, AreCarried}
+use Rattle.ledger.specs.inside.Trees.{IsTreeCount, IsParentPlace, AreParented, AreTreeCounts, IsIndexed}
+use Rattle.ledger.specs.declared.kept.Kept.{Kept}
+use Rattle.ledger.specs.declared.tree_count.TreeCount.{TreeCount}
+use Rattle.ledger.specs.declared.tree_count.TreeChange.{TreeChange}
+use Rattle.ledger.proofs.Ancestors.{AreOnce, AreBelow, no_way_up, entry_of_record, chain_above, above_chain}
+use Rattle.ledger.proofs.Apart.{AreApart, held_apart, member_claim}
+use Rattle.ledger.proofs.BoardLaws.{marked_in_tree}
+use Rattle.ledger.proofs.Entries.{an_entry}
+use Rattle.ledger.proofs.Numbers.{member_marked}
+use Rattle.ledger.proofs.OpenLaws.{IsTaken, recorded_in_tree}
+use Rattle.ledger.proofs.Same.{same_is}
+use Rattle.ledger.proofs.TreeCounts.{HaveParents, count_kept}
+
+-- a record at a place is a member, and stands for its table
+member_at : (rs : List Recorded) (i : ℕ) (r : Recorded) → slice_get rs i ≡ Some r → Contains rs r
+member_at rs i r at = (i, slice_get_within rs i r at, get_or_from_slice_get rs i r r at)
+
+record_at : (es : List (Packed × Kept)) (i : ℕ) (e : Packed × Kept) → slice_get es i ≡ Some e → slice_get (records_of es) i ≡ Some (entry_recorded e)
+record_at es i e at = slice_get-map entry_recorded es i ∙ ap (option_map entry_recorded) at
+
+entry_claim : (es : List (Packed × Kept)) (i : ℕ) (e : Packed × Kept) → AreApart (records_of es) → slice_get es i ≡ Some e → claim_in (records_of es) e.0 ≡ Some (entry_recorded e).claim
+entry_claim es i e apart at = member_claim (records_of es) (entry_recorded e) apart (member_at (records_of es) i (entry_recorded e) (record_at es i e at))
+
+pub lookup_at : (es : List (Packed × Kept)) (t : Packed) (k : Kept) → lookup (same_table t) es ≡ Some k → (i : ℕ) × (e : Packed × Kept) × (slice_get es i ≡ Some e) × (e.0 ≡ t) × (e.1 ≡ k)
+lookup_at [] t k is = absurd (cc)
+lookup_at (x ∷ es) t k is =
+    elim (same_table t x.0) as (λ v. same_table t x.0 ≡ v → cond v (Some x.1) (lookup (same_table t) es) ≡ Some k → (i : ℕ) × (e : Packed × Kept) × (slice_get (x ∷ es) i ≡ Some e) × (e.0 ≡ t) × (e.1 ≡ k)) [
+      | true ↦ λ same found. (0, x, refl, sym (same_is t x.0 same), same_Some x.1 k found)
+      | false ↦ λ other rest. let w = lookup_at es t k rest in (suc w.0, w.1, w.2, w.3, w.4)
+    ] refl is
+
+-- each table stands once
+pub once_entries : (es : List (Packed × Kept)) → AreApart (records_of es) → AreOnce es
+once_entries es apart = λ i j e f at there same. elim (cases_lt i j) [
+  | inl less ↦ absurd (differ i j e f less at there same)
+  | inr more ↦ elim (cases_lt j i) [ inl less ↦ absurd (differ j i f e less there at (sym same)) | inr least ↦ omega (arith, more, least) ]
+]
+  where
+    differ : (i j : ℕ) (e f : Packed × Kept) → i < j → slice_get es i ≡ Some e → slice_get es j ≡ Some f → e.0 ≡ f.0 → ⊥
+    differ i j e f less at there same =
+        let first = record_at es i e at in
+        let second = record_at es j f there in
+        apart i j (entry_recorded e) less (slice_get_within (records_of es) j (entry_recorded f) second)
+        (ap (λ (r : Recorded). r.table) (get_or_from_slice_get (records_of es) i (entry_recorded e) (entry_recorded e) first) ∙ same
+        ∙ sym (ap (λ (r : Recorded). r.table) (get_or_from_slice_get (records_of es) j (entry_recorded f) (entry_recorded e) second)))
+
+pub below_entries : (root : Packed) (es : List (Packed × Kept)) → IsBoard (record { root = root; records = records_of es }) → AreBelow root es
+below_entries root es board = λ i e at.
+    recorded_in_tree root (records_of es) e.0 (entry_recorded e).claim tree_table_child board.held (entry_claim es i e (held_apart root (records_of es) board.held) at)
+
+pub earlier_entries : (root : Packed) (es : List (Packed × Kept)) → AreParented root es → AreEarlier es
+earlier_entries root es parents = λ i e at. elim (parents i e at) [ inl top ↦ inl top.1 | inr w ↦ inr w.0 ]
+
+-- a record that says that its table halts
+halting_mark : (o : Option Verdict) → says_halts o ≡ true → (k : ℕ) × (o ≡ Some (Halts k))
+halting_mark None is = cc
+halting_mark (Some (Halts k)) is = (k, refl)
+halting_mark (Some Never) is = cc
+
+-- the parent of what is open or recorded is recorded as halting
+pub have_parents : (root : Packed) (es : List (Packed × Kept)) → IsBoard (record { root = root; records = records_of es }) → AreParented root es → HaveParents root (records_of es)
+have_parents root es board parents p t there child (inl is_open) = elim is_open.place [
+  | inl e ↦ absurd (no_way_up root p board.is_table there (subst (IsChildTable p) e child))
+  | inr w ↦
+      let above = marked_in_tree (record { root = root; records = records_of es }) w.0 (Halting w.1) tree_table_child board w.2 in
+      let same : w.0 ≡ p = one_table_parent root w.0 p t board.is_table above there w.3 child in
+      (w.1, subst (λ (x : Packed). mark_in (records_of es) x ≡ Some (Halting w.1)) same w.2)
+]
+have_parents root es board parents p t there child (inr recorded) =
+    let c = some_claim (claim_in (records_of es) t) recorded in
+    let k = an_entry es t c.0 c.1 in
+    let w = lookup_at es t k.0 k.1 in
+    elim (parents w.0 w.1 w.2) [
+      | inl top ↦ absurd (no_way_up root p board.is_table there (subst (IsChildTable p) (sym w.3 ∙ top.0) child))
+      | inr v ↦
+          let g = entry_of_record es w.1.1.parent v.1.0 v.1.1 in
+          let table : g.0.0 ≡ v.1.0.table = ap (λ (r : Recorded). r.table) g.2 in
+          let above = subst (InTableTree root) table (below_entries root es board w.1.1.parent g.0 g.1) in
+          let same : v.1.0.table ≡ p = one_table_parent root v.1.0.table p t board.is_table above there (subst (IsChildTable v.1.0.table) w.3 v.1.3) child in
+          let shown = halting_mark (shown_by v.1.0.claim) v.1.2 in
+          let marked = member_marked (records_of es) v.1.0 (held_apart root (records_of es) board.held) (member_at (records_of es) w.1.1.parent v.1.0 v.1.1) in
+          (shown.0, subst (λ (x : Packed). mark_in (records_of es) x ≡ Some (Halting shown.0)) same (marked ∙ ap (λ (o : Option Verdict). Some (mark_by o)) shown.1))
+    ]
+  where
+    some_claim : (o : Option Claim) → IsSome o → (c : Claim) × (o ≡ Some c)
+    some_claim None some = cc
+    some_claim (Some c) some = (c, refl)
+
+same_list : (xs ys : List (Packed × Kept)) → length xs ≡ length ys
+    → ((i : ℕ) (now : Packed × Kept) → slice_get xs i ≡ Some now → (e : Packed × Kept) × (slice_get ys i ≡ Some e) × (entry_recorded now ≡ entry_recorded e)) → records_of xs ≡ records_of ys
+same_list [] [] long same = refl
+same_list [] (y ∷ ys) long same = absurd (omega (arith, long))
+same_list (x ∷ xs) [] long same = absurd (omega (arith, long))
+same_list (x ∷ xs) (y ∷ ys) long same =
+    let w = same 0 x refl in
+    let first : entry_recorded x ≡ entry_recorded y = w.2 ∙ ap entry_recorded (sym (same_Some y w.0 w.1)) in
+    ap (λ (r : Recorded). r ∷ records_of xs) first ∙ ap (λ (l : List Recorded). entry_recorded y ∷ l) (same_list xs ys (omega (arith, long)) (λ i now at. same (suc i) now at))
+
+-- a record is put, and its change isn't carried up yet: the numbers are those before
+pub record IsReady (root : Packed) (old : List Recorded) (es : List (Packed × Kept)) (r : Recorded) (from : ℕ) : Type 0 where
+  pub board : IsBoard (record { root = root; records = records_of es })
+  pub had : HaveParents root old
+  pub taken : IsTaken old (records_of es) r
+  pub parents : AreParented root es
+  pub counts : AreTreeCounts root old es
+  pub kept : Kept
+  pub at : slice_get es from ≡ Some (r.table, kept)
+  pub small : from + 1 < 2 ^ 32
+
+module _ (root : Packed) (old : List Recorded) (es : List (Packed × Kept)) (r : Recorded) (from : ℕ) (ready : IsReady root old es r from) where
+  pub ready_there : HasChain es from
+  ready_there = λ small. slice_get_within es from (r.table, ready.kept) ready.at
+
+  pub ready_earlier : AreEarlier es
+  ready_earlier = earlier_entries root es ready.parents
+
+  ready_once : AreOnce es
+  ready_once = once_entries es (held_apart root (records_of es) ready.board.held)
+
+  pub ready_table : InTableTree root r.table
+  ready_table = below_entries root es ready.board from (r.table, ready.kept) ready.at
+
+  pub ready_room : (c : TreeChange) → ((p : Packed) (n : TreeCount) → InTableTree p r.table → IsTreeCount root old p n → MayChange n c) → ChainMayChange es from c
+  ready_room c room = λ i e on at.
+      room e.0 e.1.tree (chain_above root es ready.board.is_table ready.parents (below_entries root es ready.board) ready_once from i (r.table, ready.kept) e on ready.at at) (ready.counts i e at)
+
+  module _ (c : TreeChange) (new : List (Packed × Kept)) (carried : AreCarried c es from new) (as_long : length new ≡ length es) where
+    -- but for the numbers each entry is as it was
+    still_entry : (i : ℕ) (now : Packed × Kept) → slice_get new i ≡ Some now
+        → (e : Packed × Kept) × (slice_get es i ≡ Some e) × ((now.0 ≡ e.0) × (now.1.parent ≡ e.1.parent) × (entry_recorded now ≡ entry_recorded e) × (KnowsPair e → KnowsPair now))
+    still_entry i now at = let w = carried i now at in (
+      w.0,
+      w.1,
+      elim w.2 [
+        | inl on ↦ (ap (λ (x : Packed × Kept). x.0) on.1, ap (λ (x : Packed × Kept). x.1.parent) on.1, ap entry_recorded on.1, λ known. subst KnowsPair (sym on.1) known)
+        | inr off ↦ (ap (λ (x : Packed × Kept). x.0) off.1, ap (λ (x : Packed × Kept). x.1.parent) off.1, ap entry_recorded off.1, λ known. subst KnowsPair (sym off.1) known)
+      ],
+    )
+
+    pub ready_records : records_of new ≡ records_of es
+    ready_records = same_list new es as_long (λ i now at. let w = still_entry i now at in (w.0, w.1, w.2.2))
+
+    pub ready_pairs : All KnowsPair es → All KnowsPair new
+    ready_pairs all = λ i d below.
+        let w = still_entry i (get_or new i d) (slice_get-get_or new i d below) in
+        w.2.3 (subst KnowsPair (get_or_from_slice_get es i w.0 d w.1) (all i d (slice_get_within es i w.0 w.1)))
+
+    ready_parents : AreParented root new
+    ready_parents = λ i now at.
+        let w = still_entry i now at in
+        subst (λ (l : List Recorded). IsParentPlace root l i now.0 now.1.parent) (sym ready_records)
+        (subst (λ (n : ℕ). IsParentPlace root (records_of es) i now.0 n) (sym w.2.1) (subst (λ (p : Packed). IsParentPlace root (records_of es) i p w.0.1.parent) (sym w.2.0) (ready.parents i w.0 w.1)))
+
+    pub ready_indexed : ((p : Packed) (n : TreeCount) → InTableTree p r.table → IsTreeCount root old p n → IsTreeCount root (records_of es) p (changed_count c n)) → IsIndexed root new
+    ready_indexed moves = record { parents = ready_parents; counts = counts }
+      where
+        below : AreBelow root es
+        below = below_entries root es ready.board
+
+        some_there : (o : Option Claim) (d : Claim) → o ≡ Some d → IsSome o
+        some_there o d is = subst IsSome (sym is) refl
+
+        recorded_before : (e : Packed × Kept) (i : ℕ) → slice_get es i ≡ Some e → (InTableTree e.0 r.table → ⊥) → IsSome (claim_in old e.0)
+        recorded_before e i at outside =
+            let other : e.0 ≢ r.table = λ (same : e.0 ≡ r.table). outside (subst (λ (p : Packed). InTableTree p r.table) (sym same) Itself) in
+            subst IsSome (ready.taken.others e.0 other) (some_there (claim_in (records_of es) e.0) (entry_recorded e).claim (entry_claim es i e (held_apart root (records_of es) ready.board.held) at))
+
+        count_at : (i : ℕ) (now e : Packed × Kept) → slice_get es i ≡ Some e → IsCarried c e now (OnChain es from i) → IsTreeCount root (records_of es) now.0 now.1.tree
+        count_at i now e at (inl on) =
+            let inside = chain_above root es ready.board.is_table ready.parents below ready_once from i (r.table, ready.kept) e on.0 ready.at at in
+            subst (λ (x : Packed × Kept). IsTreeCount root (records_of es) x.0 x.1.tree) (sym on.1) (moves e.0 e.1.tree inside (ready.counts i e at))
+        count_at i now e at (inr off) =
+            let outside : InTableTree e.0 r.table → ⊥ = λ inside.
+            off.0 (above_chain root es ready.board.is_table ready.parents below ready_once (suc from) from i (r.table, ready.kept) e (omega arith) ready.small ready.at at inside) in
+            subst (λ (x : Packed × Kept). IsTreeCount root (records_of es) x.0 x.1.tree) (sym off.1)
+            (count_kept root ready.board.is_table old ready.had (records_of es) r ready.taken ready_table e.0 e.1.tree (below i e at) (recorded_before e i at outside) outside (ready.counts i e at))
+
+        counts : AreTreeCounts root (records_of new) new
+        counts = λ i now at. let w = carried i now at in subst (λ (l : List Recorded). IsTreeCount root l now.0 now.1.tree) (sym ready_records) (count_at i now w.0 w.1 w.2)

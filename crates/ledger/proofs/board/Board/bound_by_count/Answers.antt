@@ -1,0 +1,13 @@
+use Rattle.std.proofs.Common.{refl}
+use Rattle.ledger.proofs.Bounds.{bound_settled, bound_unsettled}
+use Rattle.ledger.proofs.board.Board.bound_by_count.Goals as goal
+
+pub returns-then-is_settled : goal.returns-then-is_settled
+returns-then-is_settled c =
+    let none = c.is_settled.ensures.0 c.if-is_settled.true in
+    bound_settled c.args.self.now.root c.args.self.now.records c.args.t.now c.in-Some.tree c.in-Some.ensures.some (c.in-Some.ensures.none.0 refl) none.0 none.1
+
+pub returns-else-is_settled : goal.returns-else-is_settled
+returns-else-is_settled c =
+    bound_unsettled c.args.self.now.root c.args.self.now.records c.args.t.now c.in-Some.tree c.in-Some.ensures.some (c.in-Some.ensures.none.0 refl)
+    (λ none. let settled = c.is_settled.ensures.1 none in let fails = c.if-is_settled.false in absurd (cc))

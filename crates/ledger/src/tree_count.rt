@@ -1,0 +1,106 @@
+// What is kept of the tree of each recorded table, so that it needn't be walked to know what is left in it.
+ghost use Rattle.std.specs.Prelude.{◌≡◌, ◌↔◌, IsTrue};
+ghost use Rattle.ledger.specs.inside.Counting.{steps_of};
+ghost use Rattle.ledger.specs.inside.Carrying.{changed_count, first_count, settling_change, taking_change, MayChange};
+
+use crate::counts::greater;
+use evidence::Verdict;
+
+// How many tables of a table's tree are open, how many are holdouts, and the greatest number of steps recorded
+// in it. The table itself is one of its tree.
+#[derive(Clone, Copy)]
+pub struct TreeCount {
+    pub open_count: u64,
+    pub holdouts: u64,
+    pub best: Option<u64>,
+}
+
+// What a record changes in these numbers, for each table in whose tree its own stands.
+#[derive(Clone, Copy)]
+pub struct TreeChange {
+    // the children that are open now
+    pub opened: u64,
+    // 1 where its table was open
+    pub closed: u64,
+    // 1 where its table is a holdout now
+    pub undecided: u64,
+    // 1 where its table was a holdout
+    pub settled: u64,
+    // the steps after which its table halts
+    pub steps: Option<u64>,
+}
+
+impl TreeCount {
+    // Those of an open table: there is nothing else in its tree.
+    pub fn first() -> TreeCount
+        ensures { result ≡ first_count }
+    {
+        TreeCount {
+            open_count: 1,
+            holdouts: 0,
+            best: None,
+        }
+    }
+
+    // Those after a change.
+    pub fn with(self, change: TreeChange) -> TreeCount
+        requires { MayChange self change }
+        ensures { result ≡ changed_count change self }
+    {
+        TreeCount {
+            open_count: self.open_count + change.opened - change.closed,
+            holdouts: self.holdouts + change.undecided - change.settled,
+            best: greater(self.best, change.steps),
+        }
+    }
+
+    // Whether no table of the tree is open or a holdout.
+    pub fn is_settled(&self) -> bool
+        ensures { IsTrue result ↔ ((self.now.open_count ≡ 0) × (self.now.holdouts ≡ 0)) }
+    {
+        self.open_count == 0 && self.holdouts == 0
+    }
+}
+
+impl TreeChange {
+    // By the first record of an open table, which shows this and opens so many children.
+    pub fn of_taking(opened: u64, shown: Option<Verdict>) -> TreeChange
+        ensures { result ≡ taking_change opened shown }
+    {
+        let undecided = match shown {
+            None => 1,
+            Some(_) => 0,
+        };
+        TreeChange {
+            opened,
+            closed: 1,
+            undecided,
+            settled: 0,
+            steps: steps_of(shown),
+        }
+    }
+
+    // By the record that settles a holdout, which shows this and opens so many children.
+    pub fn of_settling(opened: u64, shown: Option<Verdict>) -> TreeChange
+        ensures { result ≡ settling_change opened shown }
+    {
+        TreeChange {
+            opened,
+            closed: 0,
+            undecided: 0,
+            settled: 1,
+            steps: steps_of(shown),
+        }
+    }
+}
+
+// The number of steps of a verdict that a table halts.
+fn steps_of(shown: Option<Verdict>) -> Option<u64>
+    ensures { result ≡ steps_of shown }
+{
+    match shown {
+        Some(Verdict::Halts(steps)) => Some(steps),
+        Some(Verdict::Never) => None,
+        None => None,
+    }
+}

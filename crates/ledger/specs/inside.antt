@@ -4,3 +4,4 @@ pub mod Keeping
 pub mod Open
 pub mod Places
 pub mod HeaderRead
+pub mod Taking

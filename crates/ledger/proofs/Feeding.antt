@@ -59,19 +59,6 @@ start_within line within = elim (start_cases line) [ inl t ↦ sym t.1 | inr t �
 pub start_past : (line : List ℕ) → record_byte_limit < length line → None ≡ record_start line
 start_past line past = elim (start_cases line) [ inl t ↦ absurd (omega (arith, t.0)) | inr t ↦ sym t.1 ]
 
-pub still_over : (line more : List ℕ) → None ≡ record_start line → None ≡ record_start (line ++ more)
-still_over line more kept = start_past (line ++ more) (omega (arith, start_over line kept, length-append line more))
-
-pub more_within : (line more bytes : List ℕ) → Some bytes ≡ record_start line → length bytes + length more ≤ record_byte_limit
-    → Some (bytes ++ more) ≡ record_start (line ++ more)
-more_within line more bytes kept within =
-    let same = start_is line bytes kept in
-    ap (λ (l : List ℕ). Some (l ++ more)) same ∙ start_within (line ++ more) (omega (arith, within, ap length same, length-append line more))
-
-pub more_over : (line more bytes : List ℕ) → Some bytes ≡ record_start line → record_byte_limit < length bytes + length more → None ≡ record_start (line ++ more)
-more_over line more bytes kept past =
-    start_past (line ++ more) (omega (arith, past, ap length (start_is line bytes kept), length-append line more))
-
 pub too_long : (line : List ℕ) → record_byte_limit < length line → record_of line ≡ Err TooLong
 unfolding record_of
 too_long line past = elim (leb_tells (length line) record_byte_limit) [
@@ -96,15 +83,6 @@ module _ (root : Packed) (text : List ℕ) (body : Body) where
 
   pub is_left_so : (left : Left) → body.left ≡ Some left → body.board.root ≡ root → IsLeftSo root text body left → IsBodyOf root text body
   is_left_so left some same is = (same, subst (λ (left : Option Left). MatchOption left (IsAllTaken root text body) (IsLeftSo root text body)) (sym some) is)
-
--- where a line wasn't kept, more of the text changes nothing
-pub left_grows : (root : Packed) (text more : List ℕ) (body : Body) (left : Left) → body.left ≡ Some left → IsBodyOf root text body → IsBodyOf root (text ++ more) body
-left_grows root text more body left some is =
-    let before = left_so root text body left some is in
-    is_left_so root (text ++ more) body left some is.0 (record {
-      reads = λ tail. subst (λ (l : List ℕ). ReadsAs root l body.board.records left) (sym (append_assoc text more tail)) (before.reads (more ++ tail));
-      kept = before.kept;
-    })
 
 -- more bytes of a line
 pub line_grows : (root : Packed) (text part : List ℕ) (old new : Body) → HasNoNewline part → old.left ≡ None → new.left ≡ None → new.board ≡ old.board

@@ -94,9 +94,6 @@ pub refused_ends : (root : Packed) (text : List ℕ) (fault : LoadFault) → IsS
 refused_ends root text fault is = subst (λ (l : List ℕ). LoadGives root l (Err fault)) (append-nil text) (is.1 [])
 
 -- pieces one after another
-pub fed_none : (l : Loading) → IsFed l [] l
-fed_none l = record { root = refl; bytes = omega arith; stands = λ text stands. subst (λ (t : List ℕ). StandsAfter l t) (sym (append-nil text)) stands }
-
 pub fed_more : (old mid new : Loading) (done part : List ℕ) → IsFed old done mid → IsFed mid part new → IsFed old (done ++ part) new
 fed_more old mid new done part first then = record {
   root = then.root ∙ first.root;

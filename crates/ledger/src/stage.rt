@@ -35,7 +35,6 @@ pub fn add(root: &Table, stage: &mut Stage, part: &[u8]) -> Result<(), NoMemory>
     ensures ok { OnOk result (StageGrows root.now stage.old part.now stage.new) }
     ensures err { OnErr result ((stage.new ≡ stage.old) × ((text : List ℕ) → IsStageOf root.now text stage.old → IsHeaded root.now text)) }
 {
-    let _ = root.states();
     match stage {
         Stage::Header(line) => {
             line.add(part);

@@ -1,5 +1,5 @@
 -- Texts that begin with a header, or with a beginning of one.
-use Rattle.std.proofs.Common.{◌≡◌, ◌≢◌, ℕ, Bool, true, false, eqb, List, ◌++◌, length, take, drop, Ok, Err, inl, inr, ◌↔◌, IsTrue, refl, sym, ap, ◌∙◌, subst}
+use Rattle.std.proofs.Common.{◌≡◌, ◌≢◌, ℕ, Bool, true, false, eqb, List, ◌++◌, length, take, drop, Err, inl, inr, ◌↔◌, IsTrue, refl, sym, ap, ◌∙◌, subst}
 use Rattle.std.specs.Cmp.Lexicographic.{pointwise}
 use Rattle.std.proofs.lemmas.Bool.Decides.{Decides-eqb}
 use Rattle.std.proofs.lemmas.Slice.Eq.{starts_is, slice_eq-Decides}
@@ -9,6 +9,7 @@ use Rattle.machine_text.specs.Packed.{Packed}
 use Rattle.machine_text.specs.Text.{table_of}
 use Rattle.text.specs.Lines.{HasNoNewline, BeginsWithLine}
 use Rattle.ledger.specs.LedgerText.{header_words, BeginsAsHeader, HasHeader, HasNoHeader}
+use Rattle.ledger.specs.Loading.{NamesRoot}
 use Rattle.text.proofs.Lines.{line_has_newline, same_line}
 
 module _ (text : List ℕ) where
@@ -37,24 +38,25 @@ module _ (text : List ℕ) where
 
   module _ (line rest : List ℕ) (begins : BeginsWithLine text line rest) where
     -- the first line is no header
-    pub none_worded : ((name : List ℕ) → line ≢ header_words ++ name) → HasNoHeader text
-    none_worded apart = record {
+    pub none_named : ((root : Packed) → NamesRoot line root → ⊥) → HasNoHeader text
+    none_named apart = record {
       whole = λ torn. line_has_newline begins torn.no_newline;
-      none = λ root rest' header. apart header.name (same_line begins header.line).0;
+      none = λ root rest' header. apart root (record { name = header.name; words = (same_line begins header.line).0; reads = header.reads });
     }
 
-    module _ (name : List ℕ) (worded : line ≡ header_words ++ name) where
-      pub none_read : (f : TextFault) → table_of name ≡ Err f → HasNoHeader text
-      none_read f fails = record {
-        whole = λ torn. line_has_newline begins torn.no_newline;
-        none = λ root rest' header.
-            let same : name ≡ header.name = append_cancel_left header_words name header.name (sym worded ∙ (same_line begins header.line).0) in
-            let reads = header.reads in
-            absurd (cc);
-      }
+    -- it is one
+    pub is_named : (root : Packed) → NamesRoot line root → HasHeader text root rest
+    is_named root named = record { name = named.name; line = subst (λ (l : List ℕ). BeginsWithLine text l rest) named.words begins; reads = named.reads }
 
-      pub is_header : (root : Packed) → table_of name ≡ Ok root → HasHeader text root rest
-      is_header root reads = record { name = name; line = subst (λ (l : List ℕ). BeginsWithLine text l rest) worded begins; reads = reads }
+-- a line is the header of no root, as its words aren't those of one, or no table stands behind them
+pub unnamed : (line : List ℕ) → ((name : List ℕ) → line ≢ header_words ++ name) → (root : Packed) → NamesRoot line root → ⊥
+unnamed line apart root named = apart named.name named.words
+
+pub misnamed : (line name : List ℕ) (f : TextFault) → line ≡ header_words ++ name → table_of name ≡ Err f → (root : Packed) → NamesRoot line root → ⊥
+misnamed line name f worded fails root named =
+    let same : name ≡ named.name = append_cancel_left header_words name named.name (sym worded ∙ named.words) in
+    let reads = named.reads in
+    absurd (cc)
 
 -- what is behind the words
 pub stripped : (line name : List ℕ) → pointwise eqb (take (length header_words) line) header_words ≡ true → name ≡ drop (length header_words) line → line ≡ header_words ++ name

@@ -24,6 +24,9 @@ pub mod Completeness
 pub mod Sets
 pub mod HeaderLaws
 pub mod LinesTaken
+pub mod FirstLines
+pub mod Feeding
+pub mod StageLaws
 pub mod Loads
 pub mod Appends
 pub mod Written

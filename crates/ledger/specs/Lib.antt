@@ -7,6 +7,8 @@ pub mod Tally
 pub mod Bounds
 pub mod Faults
 pub mod LedgerText
+pub mod Limits
+pub mod Loading
 pub mod Lists
 pub mod Merging
 pub mod LedgerLaws

@@ -6,3 +6,4 @@ pub mod Carrying
 pub mod Trees
 pub mod Places
 pub mod HeaderRead
+pub mod Taking

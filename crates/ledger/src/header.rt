@@ -1,6 +1,8 @@
 // The first line of a ledger's text.
-ghost use Rattle.std.specs.Prelude.{◌↔◌, IsTrue};
+ghost use Rattle.std.specs.Prelude.{◌↔◌, IsTrue, MatchOption};
+ghost use Rattle.machine_text.specs.Packed.{Packed};
 ghost use Rattle.ledger.specs.LedgerText.{BeginsAsHeader, PeekGives};
+ghost use Rattle.ledger.specs.Loading.{NamesRoot};
 ghost use Rattle.ledger.specs.inside.HeaderRead.{HeaderGives, OrderGives};
 
 use crate::faults::LoadFault;
@@ -48,17 +50,27 @@ pub fn read_header(text: &[u8]) -> Result<Option<(Table, &[u8])>, LoadFault>
             Err(LoadFault::BadHeader)
         };
     };
-    let Some(name) = line.strip_prefix(HEADER_WORDS) else {
-        return Err(LoadFault::BadHeader);
-    };
-    match Table::parse(name) {
-        Ok(root) => Ok(Some((root, rest))),
-        Err(_) => Err(LoadFault::BadHeader),
+    match root_in(line) {
+        Some(root) => Ok(Some((root, rest))),
+        None => Err(LoadFault::BadHeader),
     }
 }
 
-// Whether a text is a beginning of the header's words, or begins with them.
-fn is_begun_header(text: &[u8]) -> bool
+/// The root of which a line is the header; none where it is no header.
+pub fn root_in(line: &[u8]) -> Option<Table>
+    ensures { MatchOption result ((root : Packed) → NamesRoot line.now root → ⊥) (NamesRoot line.now) }
+{
+    let Some(name) = line.strip_prefix(HEADER_WORDS) else {
+        return None;
+    };
+    match Table::parse(name) {
+        Ok(root) => Some(root),
+        Err(_) => None,
+    }
+}
+
+/// Whether a text is a beginning of the header's words, or begins with them.
+pub fn is_begun_header(text: &[u8]) -> bool
     ensures { IsTrue result ↔ BeginsAsHeader text.now }
 {
     HEADER_WORDS.starts_with(text) || text.starts_with(HEADER_WORDS)

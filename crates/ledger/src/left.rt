@@ -1,4 +1,6 @@
 // What loading leaves of a ledger's text.
+ghost use Rattle.ledger.specs.LedgerText.{IsTornLeft};
+
 use crate::faults::OfferFault;
 use cert::RecordFault;
 use std::fmt;
@@ -30,6 +32,21 @@ pub enum Unkept {
     Unfit(OfferFault),
     /// The table of the record has a verdict, or is a holdout and no verdict is offered.
     Repeated,
+}
+
+/// What is left of a text that is torn off within its header.
+pub fn left_of_torn(text: &[u8]) -> Left
+    ensures { IsTornLeft text.now result }
+{
+    if text.is_empty() {
+        Left::Nothing
+    } else {
+        Left::From {
+            line: 1,
+            kept: 0,
+            why: Unkept::Torn,
+        }
+    }
 }
 
 impl fmt::Display for Unkept {

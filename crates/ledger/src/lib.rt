@@ -12,22 +12,27 @@
 #![tactic(auto)]
 
 mod board;
+mod body;
 mod bound;
 mod chain;
 mod children;
 mod counts;
 mod faults;
+mod feed_stop;
 mod header;
+mod header_line;
 mod index;
 mod kept;
 mod laws;
 mod left;
+mod line_start;
 mod loader;
 mod merge;
 mod open_tables;
 mod place;
 mod records;
 mod selected;
+mod stage;
 mod status;
 mod taken;
 mod tally;
@@ -37,6 +42,7 @@ mod write_ledger;
 pub use board::{Board, Champions, Holdouts, Open};
 pub use bound::Bound;
 pub use faults::{BoardFault, LoadFault, MergeFault, OfferFault};
+pub use feed_stop::FeedStop;
 pub use header::peek_root;
 pub use laws::{
     answered_records_are_held, beginnings_load, complete_boards_hold_the_tree, complete_is_final,
@@ -44,6 +50,7 @@ pub use laws::{
     merges_agree, offers_are_held, trees_are_told_once,
 };
 pub use left::{Left, Unkept};
+pub use loader::Loader;
 pub use records::Records;
 pub use status::Status;
 pub use taken::Taken;

@@ -1,0 +1,177 @@
+-- The stages of a text that is loaded in pieces.
+use Rattle.std.proofs.Common.{◌≡◌, ◌≢◌, ℕ, ◌+◌, List, [], ◌∷◌, ◌++◌, length, take, Some, None, Ok, Err, inl, refl, sym, ap, ◌∙◌, subst, arith, append_assoc, append-nil, length-append, length-take-le, Result, IfErr}
+use Rattle.std.proofs.Math.Seq.{take-append-add}
+use Rattle.std.proofs.lemmas.List.{take-append-le}
+use Rattle.machine_text.specs.Packed.{Packed}
+use Rattle.text.specs.Lines.{HasNoNewline}
+use Rattle.ledger.specs.LedgerText.{BeginsAsHeader, IsTornHeader, IsTornLeft, HasNoHeader, LoadGives}
+use Rattle.ledger.specs.Loading.{NamesRoot, header_start, IsBodyOf, IsStageOf, Loading, StandsAfter, IsFed, IsStopped}
+use Rattle.ledger.specs.Contents.{Contents}
+use Rattle.ledger.specs.declared.left.Left.{Left}
+use Rattle.ledger.specs.declared.faults.LoadFault.{LoadFault}
+use Rattle.ledger.specs.declared.faults.LoadFault.TheVariants.{BadHeader, WrongRoot}
+use Rattle.ledger.specs.declared.body.Body.{Body}
+use Rattle.ledger.specs.declared.stage.Stage.{Stage}
+use Rattle.ledger.specs.declared.stage.Stage.TheVariants.{Header, Records, Refused}
+use Rattle.ledger.specs.declared.feed_stop.FeedStop.{FeedStop}
+use Rattle.ledger.specs.inside.Taking.{IsHeaded, BodyStops, StageStops}
+use Rattle.ledger.proofs.HeaderLaws.{none_begun, none_named, is_named}
+use Rattle.ledger.proofs.FirstLines.{start_more, named_whole, named_start, begun_whole, begun_start, torn_left}
+use Rattle.ledger.proofs.Feeding.{headed_more, no_newline_more, line_ends, is_all_taken, start_within}
+
+-- more bytes of the first line
+pub header_grows : (root : Packed) (text part start new : List ℕ) → HasNoNewline part → new ≡ take 64 (start ++ part) → IsStageOf root text (Header start)
+    → IsStageOf root (text ++ part) (Header new)
+header_grows root text part start new one_line added is = (
+  no_newline_more text part is.0 one_line,
+  added ∙ (ap (λ (l : List ℕ). take 64 (l ++ part)) is.1 ∙ start_more 64 text part),
+)
+
+-- what is no ledger of the root stays so
+pub refused_grows : (root : Packed) (text more : List ℕ) (fault : LoadFault) → IsStageOf root text (Refused fault) → IsStageOf root (text ++ more) (Refused fault)
+refused_grows root text more fault is =
+    (is.0, λ tail. subst (λ (l : List ℕ). LoadGives root l (Err fault)) (sym (append_assoc text more tail)) (is.1 (more ++ tail)))
+
+-- the first line has ended: it is no header, or that of another root, or that of the root
+module _ (root : Packed) (text line : List ℕ) (one_line : HasNoNewline text) (kept : line ≡ header_start text) where
+  of_whole : (other : Packed) → NamesRoot line other → NamesRoot text other
+  of_whole other named = named_whole text other (subst (λ (l : List ℕ). NamesRoot l other) kept named)
+
+  pub has_no_header : ((other : Packed) → NamesRoot line other → ⊥) → IsStageOf root (text ++ (10 ∷ [])) (Refused BadHeader)
+  has_no_header apart = (
+    λ e. cc,
+    λ more. none_named ((text ++ (10 ∷ [])) ++ more) text more (line_ends text more one_line)
+        (λ other named. apart other (subst (λ (l : List ℕ). NamesRoot l other) (sym kept) (named_start text other named))),
+  )
+
+  pub has_other_root : (other : Packed) → NamesRoot line other → other ≢ root → IsStageOf root (text ++ (10 ∷ [])) (Refused WrongRoot)
+  has_other_root other named apart = (
+    λ e. cc,
+    λ more. (other, more, is_named ((text ++ (10 ∷ [])) ++ more) text more (line_ends text more one_line) other (of_whole other named), apart),
+  )
+
+  pub headed : NamesRoot line root → IsHeaded root (text ++ (10 ∷ []))
+  headed named =
+      ([], is_named (text ++ (10 ∷ [])) text [] (record { is = refl; one_line = one_line }) root (of_whole root named))
+
+  pub begins_body : (after : ℕ) (body : Body) → length text + 1 ≡ after → NamesRoot line root → body.board ≡ record { root = root; records = [] } → body.number ≡ 2
+      → body.before ≡ after → body.line ≡ Some [] → body.left ≡ None → IsStageOf root (text ++ (10 ∷ [])) (Records body)
+  unfolding headed
+  begins_body after body size named board number before empty none =
+      is_all_taken root (text ++ (10 ∷ [])) body none (cc board) (record {
+        behind = [];
+        header = (headed named).1;
+        lines = [];
+        line = [];
+        is = refl;
+        taken = cc board;
+        number = number;
+        before = omega (arith, before, size, length-append text (10 ∷ []));
+        unfinished = λ k d below. absurd (omega arith);
+        kept = empty ∙ start_within [] (omega arith);
+      })
+
+  -- the text ends within it
+  pub is_torn : BeginsAsHeader line → IsTornHeader text
+  is_torn begun = record { no_newline = one_line; begun = begun_whole text (subst BeginsAsHeader kept begun) }
+
+  pub torn_loaded : (board : Contents) (left : Left) → board ≡ record { root = root; records = [] } → BeginsAsHeader line → IsTornLeft line left
+      → LoadGives root text (Ok (board, left))
+  torn_loaded board left empty begun ends = (
+    ap (λ (b : Contents). b.root) empty,
+    inl (record {
+      torn = is_torn begun;
+      none = ap (λ (b : Contents). b.records) empty;
+      ends = torn_left text left (subst (λ (l : List ℕ). IsTornLeft l left) kept ends);
+    }),
+  )
+
+  pub is_bad : (BeginsAsHeader line → ⊥) → HasNoHeader text
+  is_bad apart = none_begun text one_line (λ begun. apart (subst BeginsAsHeader (sym kept) (begun_start text begun)))
+
+-- what was refused, where the text ends
+pub refused_ends : (root : Packed) (text : List ℕ) (fault : LoadFault) → IsStageOf root text (Refused fault) → LoadGives root text (Err fault)
+refused_ends root text fault is = subst (λ (l : List ℕ). LoadGives root l (Err fault)) (append-nil text) (is.1 [])
+
+-- pieces one after another
+pub fed_more : (old mid new : Loading) (done part : List ℕ) → IsFed old done mid → IsFed mid part new → IsFed old (done ++ part) new
+fed_more old mid new done part first then = record {
+  root = then.root ∙ first.root;
+  bytes = omega (arith, first.bytes, then.bytes, length-append done part);
+  stands = λ text stands. subst (λ (t : List ℕ). StandsAfter new t) (append_assoc text done part) (then.stands (text ++ done) (first.stands text stands));
+}
+
+stop_later : (old mid new : Loading) (done part tail : List ℕ) (stop : FeedStop) (taken : ℕ) → IsFed old done mid → IsStopped mid part stop new
+    → taken ≡ length done + stop.taken → IsStopped old (done ++ (part ++ tail)) (record { taken = taken }) new
+stop_later old mid new done part tail stop taken first stopped is =
+    let same : take taken (done ++ (part ++ tail)) ≡ done ++ take stop.taken part =
+    ap (λ (k : ℕ). take k (done ++ (part ++ tail))) is
+    ∙ (take-append-add done (part ++ tail) stop.taken ∙ ap (λ (l : List ℕ). done ++ l) (take-append-le stop.taken part tail stopped.within)) in
+    record {
+      within = omega (arith, is, stopped.within, length-append done (part ++ tail), length-append part tail);
+      fed = subst (λ (l : List ℕ). IsFed old l new) (sym same) (fed_more old mid new done (take stop.taken part) first stopped.fed);
+      header = λ text stands.
+          let found = headed_more mid.root ((text ++ done) ++ part) tail (stopped.header (text ++ done) (first.stands text stands)) in
+          let all : ((text ++ done) ++ part) ++ tail ≡ text ++ (done ++ (part ++ tail)) =
+          append_assoc (text ++ done) part tail ∙ append_assoc text done (part ++ tail) in
+          subst (λ (p : Packed). IsHeaded p (text ++ (done ++ (part ++ tail)))) first.root (subst (λ (l : List ℕ). IsHeaded mid.root l) all found);
+    }
+
+-- it stopped in a later part of a piece
+pub stop_at : (old mid new : Loading) (piece done rest part tail : List ℕ) (stop : FeedStop) (taken : ℕ) → piece ≡ done ++ rest → rest ≡ part ++ tail
+    → IsFed old done mid → IsStopped mid part stop new → taken ≡ length done + stop.taken → IsStopped old piece (record { taken = taken }) new
+stop_at old mid new piece done rest part tail stop taken whole cut first stopped is =
+    subst (λ (l : List ℕ). IsStopped old l (record { taken = taken }) new) (sym (whole ∙ ap (λ (l : List ℕ). done ++ l) cut))
+    (stop_later old mid new done part tail stop taken first stopped is)
+
+-- it took nothing
+pub stop_none : (old new : Loading) (part : List ℕ) → new.root ≡ old.root → new.bytes ≡ old.bytes → new.stage ≡ old.stage
+    → ((text : List ℕ) → IsStageOf old.root text old.stage → IsHeaded old.root text) → IsStopped old part (record { taken = 0 }) new
+stop_none old new part root bytes stage headed = record {
+  within = omega arith;
+  fed = record {
+    root = root;
+    bytes = omega (arith, bytes);
+    stands = λ text stands. subst (λ (t : List ℕ). StandsAfter new t) (sym (append-nil text)) (record {
+      bytes = bytes ∙ stands.bytes;
+      stage = subst (λ (p : Packed). IsStageOf p text new.stage) (sym root) (subst (λ (s : Stage). IsStageOf old.root text s) (sym stage) stands.stage);
+    });
+  };
+  header = λ text stands. headed_more old.root text part (headed text stands.stage);
+}
+
+-- a stage that goes on, in a loader
+pub loader_grows : (old new : Loading) (part : List ℕ) → new.root ≡ old.root → new.bytes ≡ old.bytes + length part
+    → ((text : List ℕ) → old.bytes ≡ length text → IsStageOf old.root text old.stage → IsStageOf old.root (text ++ part) new.stage) → IsFed old part new
+loader_grows old new part root bytes grows = record {
+  root = root;
+  bytes = bytes;
+  stands = λ text stands. record {
+    bytes = omega (arith, bytes, stands.bytes, length-append text part);
+    stage = subst (λ (p : Packed). IsStageOf p (text ++ part) new.stage) (sym root) (grows text stands.bytes stands.stage);
+  };
+}
+
+pub loader_stops : (old new : Loading) (part : List ℕ) (stop : FeedStop) → new.root ≡ old.root → new.bytes ≡ old.bytes + stop.taken
+    → StageStops old.root old.stage part stop.taken new.stage → IsStopped old (part ++ (10 ∷ [])) stop new
+loader_stops old new part stop root bytes stops = record {
+  within = omega (arith, stops.within, length-append part (10 ∷ []));
+  fed = subst (λ (l : List ℕ). IsFed old l new) (sym (take-append-le stop.taken part (10 ∷ []) stops.within))
+      (loader_grows old new (take stop.taken part) root (omega (arith, bytes, length-take-le stop.taken part stops.within)) (λ text size is. stops.grows text is));
+  header = λ text stands. stops.headed text stands.stage;
+}
+
+-- a body that stops, in its stage
+pub records_stop : (root : Packed) (stage : Stage) (old new : Body) (part : List ℕ) (taken : ℕ) → stage ≡ Records old → BodyStops old part taken new
+    → StageStops root stage part taken (Records new)
+records_stop root stage old new part taken same stops =
+    let was : (text : List ℕ) → IsStageOf root text stage → IsBodyOf root text old = λ text is. subst (λ (s : Stage). IsStageOf root text s) same is in
+    record {
+      within = stops.within;
+      grows = λ text is. stops.grows root text (was text is);
+      headed = λ text is. headed_more root text (part ++ (10 ∷ [])) (stops.headed root text (was text is));
+    }
+
+pub if_err : {A E : Type 0} {P Q : E → Type 0} (r : Result A E) → ((e : E) → P e → Q e) → IfErr r P → IfErr r Q
+if_err (Ok x) weaker is = tt
+if_err (Err e) weaker is = weaker e is

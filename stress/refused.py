@@ -1,0 +1,153 @@
+#!/usr/bin/env python3
+"""Every request for memory refused: each command of `bb` on a small input, with its Nth request refused, N counting up
+until a run meets no refusal; once that request alone, and once all from it on.
+
+stress/refused.py: such a run ends as the one with ample memory does, or with 3, `refused memory` on standard error and
+a beginning of the ample run's output. Where it has a ledger, what it leaves is a beginning of the ample run's ledger, or
+what stood there; and the same command, again and with ample memory, then comes to the ample run's end. Prints how many
+requests each command met, and ends with 1 at the first that ends otherwise. Needs a C compiler (`cc`), for refused.c.
+"""
+import os
+import shutil
+import subprocess
+import sys
+import tempfile
+
+TOP = os.path.dirname(os.path.dirname(os.path.abspath(__file__)))
+sys.path.insert(0, os.path.join(TOP, "bench"))
+from program import PROGRAM  # noqa: E402
+
+RECORDS = b"""------ H 1
+1RB1LB_1LA--- H 6
+1RB1LB_1LA--- H 7
+0RB---_0LA--- C 0 2
+1RA--- T 0 1 R
+1RB---_0RB1RB B 1
+0RB---_0RA1RA B 20
+1RA--- N 1 0,1 0 0A00,1A00
+0RB---_0LA--- F R 2 0111 2,10,0,10,8,10,10,10 3
+1RB1LB_1LA--- U
+1RC---_------ U
+"""
+TABLES = b"1RB1LB_1LA---\n0RB---_0LA---\n1RA---\n1RB---_0RB1RB\n0RB0LA_0LB---\n1RB---_1LA0RB\n1RB0RB_1LA---\nx\n"
+FRAMES = b"ASK 7\nREC ------ H 1\nREC 0RA--- T 0 1 R\nREC 1RA--- U\nDONE 1 1\nASK 8\nREC 1RA--- T 0 1 R\nASK 7\n"
+ONE = b"bb-ledger 1 ------\n------ H 1\n0RA--- T 0 1 R\n1RA--- U\n"
+FIRST = b"bb-ledger 1 ------_------\n------_------ H 1\n0RB---_------ H 2\n1RB---_------ U\n"
+SECOND = b"bb-ledger 1 ------_------\n------_------ H 1\n1RB---_------ H 2\n1RA---_------ T 0 1 R\n"
+
+# Each command: its words, its input, the files that lie there, and the ledger that it writes, if it writes one.
+COMMANDS = [
+    (["check"], RECORDS, {}, None),
+    (["decide", "--far", "3"], TABLES, {}, None),
+    (["report", "one"], b"", {"one": ONE}, None),
+    (["report", "--json", "one"], b"", {"one": ONE}, None),
+    (["report", "--why", "torn"], b"", {"torn": ONE + b"1RA---"}, None),
+    (["run", "1"], b"", {}, None),
+    (["run", "2", "--workers", "2"], b"", {}, None),
+    (["run", "1", "--ledger", "new"], b"", {}, "new"),
+    (["run", "1", "--ledger", "one"], b"", {"one": ONE}, "one"),
+    (["coord", "1", "--ledger", "new"], FRAMES, {}, "new"),
+    (["coord", "1"], FRAMES, {}, None),
+    (["retry", "one"], b"", {"one": ONE + b"torn"}, "one"),
+    (["retry", "--far", "2", "first"], b"", {"first": FIRST}, "first"),
+    (["merge", "first", "second", "out"], b"", {"first": FIRST, "second": SECOND}, "out"),
+    (["merge", "first", "second", "first"], b"", {"first": FIRST, "second": SECOND}, "first"),
+]
+
+
+def laid(folder, files):
+    """Makes the folder anew, with these files."""
+    shutil.rmtree(folder, ignore_errors=True)
+    os.mkdir(folder)
+    for name, held in files.items():
+        with open(os.path.join(folder, name), "wb") as file:
+            file.write(held)
+
+
+def read(folder, name):
+    """What a file holds; none where it isn't there."""
+    try:
+        with open(os.path.join(folder, name), "rb") as file:
+            return file.read()
+    except FileNotFoundError:
+        return None
+
+
+def run(words, given, folder, refusing=None):
+    """Runs a command; answers how it ended and how many requests were refused."""
+    if refusing is None:
+        return subprocess.run([PROGRAM, *words], input=given, capture_output=True, cwd=folder, check=False), 0
+    reader, writer = os.pipe()
+    env = {**os.environ, **refusing, "BB_REFUSED": str(writer)}
+    ran = subprocess.run([PROGRAM, *words], input=given, capture_output=True, cwd=folder, env=env, pass_fds=[writer], check=False)
+    os.close(writer)
+    with os.fdopen(reader, "rb") as told:
+        return ran, len(told.read())
+
+
+def same(one, other):
+    return (one.returncode, one.stdout, one.stderr) == (other.returncode, other.stdout, other.stderr)
+
+
+def wrong(command, folder, refusing, ample, ample_ledger):
+    """What is wrong with a run; how many requests were refused in it; and whether it ended as with ample memory."""
+    words, given, files, ledger = command
+    laid(folder, files)
+    ran, refused = run(words, given, folder, refusing)
+    if not same(ran, ample):
+        if ran.returncode != 3 or ran.stderr != b"refused memory\n":
+            return f"status {ran.returncode}, {ran.stderr[:200]!r}", refused, False
+        if not ample.stdout.startswith(ran.stdout):
+            return f"printed {ran.stdout[:200]!r}", refused, False
+    if ledger is not None:
+        left, before = read(folder, ledger), files.get(ledger)
+        if left != before and (left is None or not ample_ledger.startswith(left)):
+            return f"left the ledger {left!r}", refused, False
+        again, _ = run(words, given, folder)
+        is_end = again.returncode == ample.returncode and read(folder, ledger) == ample_ledger
+        if not is_end or (words[0] != "coord" and again.stdout != ample.stdout):
+            return f"the same again: status {again.returncode}, {again.stdout[:300]!r}", refused, False
+    return None, refused, same(ran, ample)
+
+
+def tried(command, folder, shim, is_all):
+    """Refuses each request in turn; answers how many there were and without how many it did, or what was wrong."""
+    words, given, files, ledger = command
+    laid(folder, files)
+    ample, _ = run(words, given, folder)
+    ample_ledger = read(folder, ledger) if ledger else None
+    number = spared = 0
+    while True:
+        number += 1
+        refusing = {"LD_PRELOAD": shim, "BB_REFUSE": str(number)}
+        if is_all:
+            refusing["BB_REFUSE_ALL"] = "1"
+        found, refused, is_same = wrong(command, folder, refusing, ample, ample_ledger)
+        if found:
+            return None, None, f"request {number} refused{', and all after it' if is_all else ''}: {found}"
+        if refused == 0:
+            return number - 1, spared, None
+        spared += is_same
+
+
+def main():
+    with tempfile.TemporaryDirectory() as top:
+        shim = os.path.join(top, "refused.so")
+        subprocess.run(["cc", "-O1", "-shared", "-fPIC", "-o", shim, os.path.join(TOP, "stress", "refused.c"), "-ldl"], check=True)
+        total = 0
+        for command in COMMANDS:
+            said = []
+            for is_all in (False, True):
+                count, spared, found = tried(command, os.path.join(top, "folder"), shim, is_all)
+                if found:
+                    print(f"refused: bb {' '.join(command[0])}: {found}")
+                    return 1
+                total += count
+                said.append(f"{count} requests refused {'with all after them' if is_all else 'alone'}, {spared} of them spared")
+            print(f"refused: bb {' '.join(command[0])}: {'; '.join(said)}", flush=True)
+        print(f"refused: {total} runs, each refused or as with ample memory")
+    return 0
+
+
+if __name__ == "__main__":
+    sys.exit(main())

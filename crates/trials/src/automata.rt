@@ -209,15 +209,13 @@ fn automata_are_written_and_owned(rt: HostRuntime) {
     );
 }
 
-// What is written are the fields of the row from delta on.
+// What is written are the fields of the row, each behind a space.
 fn is_written_and_owned(rt: &impl Abort, alloc: Global, row: &str) {
     let automata = made(rt, row);
-    let (_, rest) = parted(rt, row);
-    let (_, rest) = parted(rt, rest);
-    let (_, fields) = parted(rt, rest);
+    let (_, fields) = parted(rt, row);
     let mut text = Vec::new(alloc);
     assert!(rt; automata.append_fields(&mut text).is_ok());
-    assert!(rt; text.as_slice() == fields.as_bytes(), "{row}");
+    assert!(rt; text.strip_prefix(b" ") == Some(fields.as_bytes()), "{row}");
     match OwnedFar::of(alloc, &automata) {
         Ok(owned) => assert!(rt; owned.lent() == automata, "{row}"),
         Err(fault) => panic!(rt; "{fault:?}"),

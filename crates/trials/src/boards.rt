@@ -87,9 +87,10 @@ fn a_root_is_in_order(rt: HostRuntime) {
         (OfferFault::WrongSize, 403),
         (OfferFault::Refused(Refused::Fails), 201),
     ] {
-        assert_eq!(rt; fault.number(), number);
+        assert_eq!(rt; fault.number(), Some(number));
     }
-    assert_eq!(rt; BoardFault::NotInOrder.number(), 401);
+    assert_eq!(rt; BoardFault::NotInOrder.number(), Some(401));
+    assert_eq!(rt; OfferFault::NoMemory.number(), None);
 }
 
 // Offers a record, which must be taken. Memory may be refused once.

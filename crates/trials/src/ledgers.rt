@@ -199,9 +199,9 @@ fn a_root_is_peeked_at(rt: HostRuntime) {
 
 #[test]
 fn load_faults_have_their_numbers(rt: HostRuntime) {
-    assert!(rt; LoadFault::BadHeader.number() == 404);
-    assert!(rt; LoadFault::WrongRoot.number() == 405);
-    assert!(rt; LoadFault::NoMemory.number() == 0);
+    assert!(rt; LoadFault::BadHeader.number() == Some(404));
+    assert!(rt; LoadFault::WrongRoot.number() == Some(405));
+    assert!(rt; LoadFault::NoMemory.number().is_none());
 }
 
 // A holdout and its settling are two lines and one record, and a halting entry is written as an undefined

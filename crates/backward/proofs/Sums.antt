@@ -5,7 +5,7 @@ use Rattle.std.proofs.lemmas.List.Elements.{filter_map-append}
 use Rattle.std.proofs.lemmas.List.Sums.{sum_by-append, sum_by-cons}
 use Rattle.machine_text.specs.Packed.{symbol_of}
 use Rattle.machine_text.specs.declared.transition.Sym.TheVariants.{Zero, One}
-use Rattle.turing.specs.Program.{Program}
+use Rattle.turing.specs.Machine.{Machine}
 use Rattle.turing.specs.Backward.{Pair, Partial}
 use Rattle.turing.specs.Levels.{all_pairs, known_before, level}
 use Rattle.backward.specs.inside.Known.{pair_at}
@@ -85,7 +85,7 @@ sum_ones : (X : Type 0) (xs : List X) → sum_by (λ (x : X). 1) xs ≡ length x
 sum_ones X [] = refl
 sum_ones X (x ∷ xs) = let e = sum_ones X xs in let c = sum_by-cons (λ (y : X). 1) x xs in omega arith
 
-pub paths_of_level : (n : ℕ) (m : Program) (j k : ℕ) → sum_by (paths_beyond n m k) (level n m j) ≡ length (level n m (j + k))
+pub paths_of_level : (n : ℕ) (m : Machine) (j k : ℕ) → sum_by (paths_beyond n m k) (level n m j) ≡ length (level n m (j + k))
 unfolding level paths_beyond
 paths_of_level n m j zero = sum_ones Partial (level n m j) ∙ ap (λ i. length (level n m i)) (let e : j ≡ j + 0 = omega arith in e)
 paths_of_level n m j (suc k) =

@@ -18,7 +18,7 @@ const FIRST_DEPTHS: [u64; 4] = [16, 64, 256, 512];
 
 /// Counts the paths of a table, depth by depth. Its memory is kept for the next table.
 #[derive(Drop)]
-pub struct PathCounter {
+pub(crate) struct PathCounter {
     // What is known of the cells about the head, for the one path that is being followed.
     cells: Vec<Option<Sym>>,
     /// The number of paths of each depth, from depth 0 on.

@@ -2,4 +2,4 @@
 
 /// Some depth has more than `MAX_PATHS` paths.
 #[derive(Clone, Copy, Debug, PartialEq, Eq)]
-pub struct TooWide;
+pub(crate) struct TooWide;

@@ -1,5 +1,9 @@
 // Certificates, borrowed and owned.
-ghost use Rattle.std.specs.Prelude.{◌≡◌, IfOk};
+ghost use Rattle.std.specs.Prelude.{◌≡◌, ◌≤◌, ◌++◌, take, length, IfOk, OnOk};
+ghost use Rattle.cert.specs.Grammar.{undecided_by};
+ghost use Rattle.machine_text.specs.Limits.{state_limit};
+ghost use Rattle.text.specs.Fields.{made_of};
+ghost use Rattle.cert.specs.Kinds.{claim_of};
 
 use backward::Backward;
 use evidence::{NoMemory, Verdict};
@@ -8,6 +12,7 @@ use loops::{Cycle, Translated};
 use ngram_cps::{Ngram, OwnedNgram};
 use run::HaltsIn;
 use std::alloc::Global;
+use text::{FieldFault, Parts, end_of, next_field};
 
 /// What is put forward for a table.
 #[derive(Clone, Copy, Debug, PartialEq, Eq)]
@@ -41,8 +46,39 @@ pub enum OwnedCertificate {
     Undecided,
 }
 
+impl<'a> Certificate<'a> {
+    ghost use Rattle.cert.specs.Kinds.{claim_of};
+    ghost use Rattle.cert.specs.Grammar.{claim_from};
+
+    // The certificate of the parts behind a table of so many states.
+    pub(crate) fn read(states: u8, mut parts: Parts<'a>) -> Result<Certificate<'a>, FieldFault>
+        requires { (1 ≤ states) × (states ≤ state_limit) }
+        ensures { made_of claim_of result ≡ claim_from states parts.entry }
+    {
+        let kind = next_field(&mut parts)?;
+        if kind == b"H".as_slice() {
+            Ok(Certificate::Halts(HaltsIn::read(parts)?))
+        } else if kind == b"C".as_slice() {
+            Ok(Certificate::Cycle(Cycle::read(parts)?))
+        } else if kind == b"T".as_slice() {
+            Ok(Certificate::Translated(Translated::read(parts)?))
+        } else if kind == b"B".as_slice() {
+            Ok(Certificate::Backward(Backward::read(parts)?))
+        } else if kind == b"N".as_slice() {
+            Ok(Certificate::Ngram(Ngram::read(states, parts)?))
+        } else if kind == b"F".as_slice() {
+            Ok(Certificate::Far(Far::read(states, parts)?))
+        } else if kind == b"U".as_slice() {
+            undecided(parts)
+        } else {
+            Err(FieldFault::BadKind)
+        }
+    }
+}
+
 impl Certificate<'_> {
-    ghost use Rattle.cert.specs.Claim.{shown_by};
+    ghost use Rattle.cert.specs.Claim.{IsWritable, shown_by};
+    ghost use Rattle.cert.specs.Grammar.{claim_text, kind_text};
     ghost use Rattle.cert.specs.Kinds.{claim_of};
 
     /// The verdict for which it is put forward; none where nothing is claimed. Whether it stands isn't looked at.
@@ -59,9 +95,43 @@ impl Certificate<'_> {
             Certificate::Undecided => None,
         }
     }
+
+    // Appends its text, from its kind on; where memory is refused, a beginning of it.
+    pub(crate) fn append_text(&self, out: &mut Vec<u8>) -> Result<(), NoMemory>
+        ensures ok { OnOk result (out.new.items ≡ out.old.items ++ claim_text (claim_of self.now)) }
+        ensures writable { OnOk result (IsWritable (claim_of self.now)) }
+        ensures kept { take (length out.old.items) out.new.items ≡ out.old.items }
+    {
+        out.extend_from_slice(self.kind())?;
+        match self {
+            Certificate::Halts(evidence) => evidence.append_fields(out),
+            Certificate::Cycle(evidence) => evidence.append_fields(out),
+            Certificate::Translated(evidence) => evidence.append_fields(out),
+            Certificate::Backward(evidence) => evidence.append_fields(out),
+            Certificate::Ngram(evidence) => evidence.append_fields(out),
+            Certificate::Far(evidence) => evidence.append_fields(out),
+            Certificate::Undecided => Ok(()),
+        }
+    }
+
+    // Its kind, by the letter.
+    fn kind(&self) -> &'static [u8]
+        ensures { result.now ≡ kind_text (claim_of self.now) }
+    {
+        match self {
+            Certificate::Halts(_) => b"H",
+            Certificate::Cycle(_) => b"C",
+            Certificate::Translated(_) => b"T",
+            Certificate::Backward(_) => b"B",
+            Certificate::Ngram(_) => b"N",
+            Certificate::Far(_) => b"F",
+            Certificate::Undecided => b"U",
+        }
+    }
 }
 
 impl OwnedCertificate {
+    ghost use Rattle.cert.specs.Claim.{shown_by};
     ghost use Rattle.cert.specs.Kinds.{claim_of, owned_claim};
 
     /// A copy of a certificate.
@@ -83,6 +153,21 @@ impl OwnedCertificate {
         })
     }
 
+    /// The verdict for which it is put forward; none where nothing is claimed. Lists and automata aren't unpacked.
+    pub fn verdict(&self) -> Option<Verdict>
+        ensures { result ≡ shown_by (owned_claim self.now) }
+    {
+        match self {
+            OwnedCertificate::Halts(evidence) => Some(Verdict::Halts(evidence.0)),
+            OwnedCertificate::Cycle(_)
+            | OwnedCertificate::Translated(_)
+            | OwnedCertificate::Backward(_)
+            | OwnedCertificate::Ngram(_)
+            | OwnedCertificate::Far(_) => Some(Verdict::Never),
+            OwnedCertificate::Undecided => None,
+        }
+    }
+
     /// The certificate, lent.
     pub fn lent(&self) -> Certificate<'_>
         ensures { claim_of result ≡ owned_claim self.now }
@@ -97,4 +182,12 @@ impl OwnedCertificate {
             OwnedCertificate::Undecided => Certificate::Undecided,
         }
     }
+}
+
+// Where nothing is claimed there are no fields.
+fn undecided(fields: Parts<'_>) -> Result<Certificate<'static>, FieldFault>
+    ensures { made_of claim_of result ≡ undecided_by fields.entry }
+{
+    end_of(fields)?;
+    Ok(Certificate::Undecided)
 }

@@ -15,10 +15,8 @@ mod finder;
 mod judgement;
 mod laws;
 mod limits;
-mod parser;
 mod record;
 mod record_fault;
-mod writer;
 
 pub use appending::append_table;
 pub use certificate::{Certificate, OwnedCertificate};

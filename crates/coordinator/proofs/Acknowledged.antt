@@ -17,6 +17,8 @@ use Rattle.wire.specs.declared.node.Out.{Out}
 use Rattle.leases.specs.Leases.{Leased}
 use Rattle.leases.specs.declared.reply.Reply.{Reply}
 use Rattle.leases.specs.declared.reply.Reply.TheVariants.{Stop as ToStop, Later as ToWait, Grant as ToGrant}
+use Rattle.evidence.specs.Verdict.{refused_number}
+use Rattle.roles.proofs.Refusals.{refusal_says}
 use Rattle.coordinator.specs.CoordinatorRules as coordinating
 use Rattle.coordinator.specs.CoordinatorRules.{Coordinating, DoneRow, HeldGives, MessageRow, OfferRow, On, reply_of}
 use Rattle.coordinator.specs.CoordinatorLaws.{AcknowledgesRecorded, HasRecordOn}
@@ -46,7 +48,7 @@ offer_sends old new r out (Ok Settled, gives, root, leases, row) = acknowledged 
 offer_sends old new r out (Ok Known, gives, root, leases, row) = acknowledged new r out row.frames_are (answered old.board.root old.board.records new.board.records r Known gives)
 offer_sends old new r out (Err NotOpen, gives, root, leases, row) = one_sent out (Some new.board) (Later (Some r.table)) row.frames_are (λ t other. cc)
 offer_sends old new r out (Err WrongSize, gives, root, leases, row) = none_sent out (Some new.board) row.frames_are
-offer_sends old new r out (Err (NotStanding f), gives, root, leases, row) = none_sent out (Some new.board) row.frames_are
+offer_sends old new r out (Err (NotStanding f), gives, root, leases, row) = none_sent out (Some new.board) (refusal_says (refused_number f) out row).1.frames_are
 offer_sends old new r out (Err OfferNoMemory, gives, root, leases, row) = absurd row
 
 reply_sends : (era : ℕ) (reply : Reply) (out : Out) (board : Option Contents) → out.frames.items ≡ frames_of (reply_of era reply ∷ []) → AcknowledgesRecorded out board

@@ -7,7 +7,8 @@ use Rattle.tree.proofs.EmptyTable.{empty_table_in_order, empty_is_table}
 use Rattle.cert.specs.Claim.{Recorded}
 use Rattle.cert.specs.Grammar.{record_text}
 use Rattle.ledger.specs.Contents.{Contents, IsBoard}
-use Rattle.ledger.specs.LedgerText.{header_words, joined, ledger_text, ReadsAs, ReadsAsNone}
+use Rattle.text.specs.Lines.{joined}
+use Rattle.ledger.specs.LedgerText.{header_words, ledger_text, ReadsAs, ReadsAsNone}
 use Rattle.ledger.specs.declared.left.Left.{Left}
 use Rattle.ledger.specs.declared.left.Left.TheVariants.{Nothing, From}
 use Rattle.ledger.specs.declared.taken.Taken.TheVariants.{New, Known, Settled}
@@ -27,6 +28,8 @@ use Rattle.wire.specs.declared.node.Out.{Out}
 use Rattle.leases.specs.Leases.{Leased}
 use Rattle.roles.specs.Says.{Says, lines_of}
 use Rattle.roles.specs.Kept.{cut_of, kept_bytes}
+use Rattle.roles.proofs.Refusals.{refusal_says}
+use Rattle.evidence.specs.Verdict.{refused_number}
 use Rattle.coordinator.specs.Starts.{Begins, HeldInStep, InStep, header_line, header_due}
 use Rattle.coordinator.specs.inside.Begun.{BeginsSo, HoldsBoard}
 use Rattle.coordinator.specs.CoordinatorRules.{Coordinating, HeldGives, On, OfferRow, DoneRow, MessageRow, FrameRow, Row}
@@ -60,7 +63,8 @@ module _ (old new : Leased) (board : IsBoard old.board) (out : Out) (text : List
   offer_step r (Ok Known, gives, root, leases, row) = same_text old.board new.board out _ _ text row (same_board old.board new.board root gives.1) stands
   offer_step r (Err NotOpen, gives, root, leases, row) = same_text old.board new.board out _ _ text row (same_board old.board new.board root gives.2) stands
   offer_step r (Err WrongSize, gives, root, leases, row) = same_text old.board new.board out _ _ text row (same_board old.board new.board root gives.1) stands
-  offer_step r (Err (NotStanding f), gives, root, leases, row) = same_text old.board new.board out _ _ text row (same_board old.board new.board root gives.2) stands
+  offer_step r (Err (NotStanding f), gives, root, leases, row) =
+      same_text old.board new.board out _ _ text (refusal_says (refused_number f) out row).1 (same_board old.board new.board root gives.2) stands
   offer_step r (Err OfferNoMemory, gives, root, leases, row) = absurd row
 
   noted_step : (note : Note) → Says out None [] [] note × (new ≡ old) → Stands new.board (text_after out text)

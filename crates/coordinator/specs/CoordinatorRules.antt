@@ -12,14 +12,14 @@ use Rattle.wire.specs.Grammar.{message_of}
 use Rattle.wire.specs.Message.{Message, Ask, Grant, Rec, Ack, Later, Done, Stop}
 use Rattle.wire.specs.declared.message_fault.MsgFault.{MsgFault}
 use Rattle.wire.specs.declared.node.Note.{Note}
-use Rattle.wire.specs.declared.node.Note.TheVariants.{Quiet, Strange, Stale, Refused}
+use Rattle.wire.specs.declared.node.Note.TheVariants.{Quiet, Strange, Stale}
 use Rattle.wire.specs.declared.node.NodeFault.{NodeFault}
 use Rattle.wire.specs.declared.node.NodeFault.TheVariants.{Stopped, NoMemory}
 use Rattle.wire.specs.declared.node.Out.{Out}
 use Rattle.leases.specs.Leases.{Leased, SomeEnds, is_live, ticked, IsDone}
 use Rattle.leases.specs.Asks.{Asks}
 use Rattle.leases.specs.Offers.{LeasesAfter}
-use Rattle.roles.specs.Says.{Says, lines_of}
+use Rattle.roles.specs.Says.{Says, NotesRefusal, lines_of}
 use Rattle.leases.specs.declared.reply.Reply.{Reply}
 use Rattle.leases.specs.declared.reply.Reply.TheVariants.{Stop as ToStop, Later as ToWait, Grant as ToGrant}
 
@@ -41,8 +41,8 @@ RecRow r (Ok New) out = Says out None (lines_of (r ∷ [])) (Ack r.table ∷ [])
 RecRow r (Ok Settled) out = Says out None (lines_of (r ∷ [])) (Ack r.table ∷ []) Quiet
 RecRow r (Ok Known) out = Says out None [] (Ack r.table ∷ []) Quiet
 RecRow r (Err NotOpen) out = Says out None [] (Later (Some r.table) ∷ []) Quiet
-RecRow r (Err WrongSize) out = Says out None [] [] (Refused (offer_fault_number WrongSize))
-RecRow r (Err (NotStanding f)) out = Says out None [] [] (Refused (offer_fault_number (NotStanding f)))
+RecRow r (Err WrongSize) out = NotesRefusal (offer_fault_number WrongSize) out
+RecRow r (Err (NotStanding f)) out = NotesRefusal (offer_fault_number (NotStanding f)) out
 RecRow r (Err OfferNoMemory) out = ⊥
 
 abbrev pub OfferRow : Leased → Recorded → Out → Leased → Type 0

@@ -3,9 +3,8 @@ use Rattle.std.specs.Prelude.{◌≡◌, ◌≢◌, ◌⊎◌, ℕ, ◌==◌, if
 use Rattle.machine_text.specs.Packed.{Packed, empty_table}
 use Rattle.machine_text.specs.Text.{text_of}
 use Rattle.ledger.specs.Contents.{Contents}
-use Rattle.ledger.specs.LedgerText.{header_words, HasHeader, HasNoHeader, IsTornHeader, LoadGives, ReadsAs}
+use Rattle.ledger.specs.LedgerText.{header_words, HasHeader, HasNoHeader, IsLedgerOf, IsTornHeader, LoadGives}
 use Rattle.ledger.specs.declared.left.Left.{Left}
-use Rattle.ledger.specs.declared.left.Left.TheVariants.{Nothing}
 use Rattle.wire.specs.declared.node.Note.TheVariants.{Quiet}
 use Rattle.wire.specs.declared.node.Out.{Out}
 use Rattle.leases.specs.Leases.{Leased, no_leases}
@@ -47,11 +46,11 @@ Starts n era text new (Ok out) =
     (board : Contents) × (left : Left) × LoadGives (empty_table n) text (Ok (board, left)) × (new ≡ started era board) × Begins (empty_table n) text left out
 Starts n era text new (Err fault) = CantStart (empty_table n) text fault × (new ≡ not_started era)
 
--- a ledger's text is in step with a coordinator: its header is whole, and it stands, all its bytes kept, for the
--- board; none is in step with a coordinator that wasn't started
+-- a ledger's text is in step with a coordinator: it is the ledger of its board; none is in step with a coordinator that
+-- wasn't started
 abbrev pub HeldInStep : Option Leased → List ℕ → Type 0
 HeldInStep None text = ⊥
-HeldInStep (Some held) text = ReadsAs held.board.root text held.board.records Nothing
+HeldInStep (Some held) text = IsLedgerOf held.board text
 
 abbrev pub InStep : Coordinating → List ℕ → Type 0
 InStep s text = HeldInStep s.held text

@@ -12,12 +12,12 @@ use crate::known::is_known;
 use cert::Record;
 use leases::LeasedBoard;
 use ledger::{OfferFault, Taken, append_record};
-use roles::{noted, sent};
+use roles::{noted, refused, sent};
 use std::alloc::Global;
 use wire::{Event, Msg, NodeFault, Note, Out, decode};
 
 // Where memory is refused, nothing has changed.
-pub fn answer(
+pub(crate) fn answer(
     alloc: Global,
     era: u64,
     held: &mut LeasedBoard,
@@ -72,7 +72,8 @@ fn answer_record(alloc: Global, held: &mut LeasedBoard, r: &Record<'_>) -> Resul
     ensures { GivesOffer held.old (recorded r.now) result held.new }
 {
     if r.table.states() != held.board().root().states() {
-        return Ok(noted(alloc, Note::Refused(OfferFault::WrongSize.number())));
+        let out = refused(alloc, OfferFault::WrongSize.number())?;
+        return Ok(out);
     }
     if is_known(held.board(), r) {
         let frames = ack_frame(alloc, &r.table)?;
@@ -101,8 +102,7 @@ fn offer_record(alloc: Global, held: &mut LeasedBoard, r: &Record<'_>) -> Result
             let frames = later_frame(alloc, &r.table)?;
             Ok(sent(alloc, frames))
         }
-        Err(OfferFault::NoMemory) => Err(NodeFault::NoMemory),
-        Err(fault) => Ok(noted(alloc, Note::Refused(fault.number()))),
+        Err(fault) => Ok(refused(alloc, fault.number())?),
     }
 }
 

@@ -12,11 +12,11 @@ use machine_text::{TEXT_BYTES, Table};
 use std::alloc::Global;
 
 /// The most bytes of the frame that answers a worker that asks, with its newline.
-pub const GRANT_BYTES: usize = 96;
+pub(crate) const GRANT_BYTES: usize = 96;
 
 // The frame that says that a table's record is held.
 #[tactic(auto, unfolding(wire::specs::Grammar::message_text))]
-pub fn ack_frame(alloc: Global, table: &Table) -> Result<Vec<u8>, NoMemory>
+pub(crate) fn ack_frame(alloc: Global, table: &Table) -> Result<Vec<u8>, NoMemory>
     ensures { IfOk result (λ frame. frame.items ≡ frames_of (Ack table.now ∷ [])) }
 {
     let mut frame = Vec::with_capacity(alloc, GRANT_BYTES)?;
@@ -28,7 +28,7 @@ pub fn ack_frame(alloc: Global, table: &Table) -> Result<Vec<u8>, NoMemory>
 
 // The frame that says that a worker is to keep a table's record.
 #[tactic(auto, unfolding(wire::specs::Grammar::message_text))]
-pub fn later_frame(alloc: Global, table: &Table) -> Result<Vec<u8>, NoMemory>
+pub(crate) fn later_frame(alloc: Global, table: &Table) -> Result<Vec<u8>, NoMemory>
     ensures { IfOk result (λ frame. frame.items ≡ frames_of (Later (Some table.now) ∷ [])) }
 {
     let mut frame = Vec::with_capacity(alloc, GRANT_BYTES)?;
@@ -40,7 +40,7 @@ pub fn later_frame(alloc: Global, table: &Table) -> Result<Vec<u8>, NoMemory>
 
 // Puts the answer's frame where there is room for it.
 #[tactic(auto, unfolding(wire::specs::Grammar::message_text))]
-pub fn put_reply(era: u64, reply: &Reply, frames: &mut Vec<u8>)
+pub(crate) fn put_reply(era: u64, reply: &Reply, frames: &mut Vec<u8>)
     requires none { frames.old.items ≡ [] }
     requires room { 96 ≤ frames.old.cap }
     ensures { frames.new.items ≡ frames_of (reply_of era reply.now ∷ []) }

@@ -7,7 +7,7 @@ use cert::Record;
 use ledger::Board;
 
 // Whether the table has a verdict, or is a holdout and no verdict is offered.
-pub fn is_known(board: &Board, r: &Record<'_>) -> bool
+pub(crate) fn is_known(board: &Board, r: &Record<'_>) -> bool
     ensures { IsTrue result ↔ IsKnown board.now.records (recorded r.now) }
 {
     match r.certificate.verdict() {

@@ -18,7 +18,7 @@ use tree::rado_of_tables;
 use wire::{Note, Out};
 
 // The board of a ledger's bytes, without leases, and the answer of the start.
-pub fn begun(alloc: Global, n: u8, ledger: &[u8]) -> Result<(LeasedBoard, Out), StartFault>
+pub(crate) fn begun(alloc: Global, n: u8, ledger: &[u8]) -> Result<(LeasedBoard, Out), StartFault>
     requires { (1 ≤ n) × (n ≤ state_limit) }
     ensures { BeginsSo n ledger.now result }
 {

@@ -29,15 +29,15 @@ impl Refused {
     ghost use Rattle.std.specs.Prelude.{◌≡◌};
     ghost use Rattle.evidence.specs.Verdict.{refused_number};
 
-    /// The refusal number: 201 to 203; 0 where memory was refused, which has none.
-    pub fn number(&self) -> u16
+    /// The refusal number: 201 to 203; none where memory was refused.
+    pub fn number(&self) -> Option<u16>
         ensures { result ≡ refused_number self.now }
     {
         match self {
-            Refused::Fails => 201,
-            Refused::TooLong => 202,
-            Refused::TooWide => 203,
-            Refused::NoMemory => 0,
+            Refused::Fails => Some(201),
+            Refused::TooLong => Some(202),
+            Refused::TooWide => Some(203),
+            Refused::NoMemory => None,
         }
     }
 }

@@ -1,15 +1,12 @@
 -- The tests of texts answer as the texts are.
 use Rattle.std.proofs.Common.{ℕ, ◌+◌, ◌*◌, ◌^◌, ◌<◌, ◌≤◌, Bool, not, ltb, List, [], length, get_or, refl, arith}
 use Rattle.std.specs.Prelude.{Decides}
-use Rattle.std.proofs.lemmas.Bool.Decides.{nat_tests, Decides-and, Decides-eqb, Decides-ltb, Decides-below_and}
+use Rattle.std.proofs.lemmas.Bool.Decides.{nat_tests, Decides-and, Decides-eqb, Decides-ltb}
 use Rattle.std.proofs.lemmas.Slice.Eq.{bytes_eq-Decides}
 use Rattle.text.specs.Parts.{parts_of}
 use Rattle.far.specs.Texts.{hex_text, hex_worth, IsHex, IsDelta, IsRows, AreTexts}
-use Rattle.far.specs.Tests.{each_below, is_hex, is_delta, is_rows, are_texts}
-
-below_decides : (p : ℕ → Bool) (P : ℕ → Type 0) → ((k : ℕ) → Decides (p k) (P k)) → (n : ℕ) → Decides (each_below p n) ((k : ℕ) → k < n → P k)
-unfolding each_below
-below_decides p P each n = Decides-below_and p P (each_below p) each refl (λ _. refl) n
+use Rattle.evidence.proofs.Tested.{below_decides}
+use Rattle.far.specs.Tests.{is_hex, is_delta, is_rows, are_texts}
 
 at_least : (a b : ℕ) → Decides (not (ltb b a)) (a ≤ b)
 at_least a b = (λ t. grind (arith, nat_tests, t), λ le. grind (arith, nat_tests, le))

@@ -1,6 +1,6 @@
 -- The automata that an owned claim holds.
 use Rattle.far.specs.Automata.{Automata, automata}
-use Rattle.far.specs.inside.Owned.{owned_delta, owned_rows, owned_keep}
+use Rattle.far.specs.NumberList.{owned_delta, owned_rows, owned_keep}
 use Rattle.far.specs.declared.owned_far.OwnedFar.{OwnedFar}
 
 abbrev pub owned_automata : OwnedFar → Automata

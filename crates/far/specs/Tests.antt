@@ -1,13 +1,9 @@
 -- Whether texts are those of automata, as tests: a grammar needs an answer, and not the fact alone.
-use Rattle.std.specs.Prelude.{ℕ, zero, suc, ◌+◌, ◌*◌, ◌^◌, ◌==◌, ◌&&◌, nat_lt, Bool, true, not, List, [], length, get_or, slice_index}
+use Rattle.std.specs.Prelude.{ℕ, ◌+◌, ◌*◌, ◌^◌, ◌==◌, ◌&&◌, nat_lt, Bool, not, List, [], length, get_or, slice_index}
 use Rattle.std.specs.Str.{bytes_eq}
+use Rattle.evidence.specs.Tests.{each_below}
 use Rattle.text.specs.Parts.{parts_of}
 use Rattle.far.specs.Texts.{hex_text, hex_worth}
-
--- each number below one passes
-unfoldable pub each_below : (ℕ → Bool) → ℕ → Bool
-each_below test zero = true
-each_below test (suc n) = test n && each_below test n
 
 abbrev pub is_hex : ℕ → List ℕ → Bool
 is_hex limit text = bytes_eq (hex_text (hex_worth text)) text && nat_lt (hex_worth text) limit

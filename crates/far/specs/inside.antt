@@ -1,6 +1,5 @@
 -- What the crate's own code needs to say of its steps; no public contract speaks of it.
 pub mod Sets
 pub mod Reading
-pub mod Owned
 pub mod Steps
 pub mod Growing

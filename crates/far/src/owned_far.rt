@@ -3,7 +3,7 @@ ghost use Rattle.std.specs.Prelude.{◌≡◌, ◌+◌, ◌*◌, ◌≤◌, leng
 ghost use Rattle.machine_text.specs.Limits.{state_limit};
 ghost use Rattle.far.specs.Limits.{size_limit};
 ghost use Rattle.far.specs.Automata.{automata, AreAutomata};
-ghost use Rattle.far.specs.inside.Owned.{owned_delta, owned_rows, owned_keep};
+ghost use Rattle.far.specs.NumberList.{owned_delta, owned_rows, owned_keep};
 
 use crate::copies::{append_moves, moves_from, rows_from};
 use crate::far::Far;

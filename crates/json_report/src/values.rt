@@ -13,7 +13,7 @@ use std::alloc::Global;
 use std::vec::IntoIter;
 
 // The object that is reported.
-pub fn report_value(
+pub(crate) fn report_value(
     alloc: Global,
     root: &Table,
     status: Status,

@@ -13,7 +13,7 @@ use Rattle.tree.specs.Used.{InOrder}
 use Rattle.tree.proofs.Parents.{tree_machine, tree_holes}
 use Rattle.tree.proofs.TableLaws.{child_map, tree_alike, tree_map, one_table_parent}
 use Rattle.tree.proofs.TreeLaws.{child_holes}
-use Rattle.leases.proofs.ChildCount.{children_bound}
+use Rattle.tree.proofs.ChildCount.{children_bound}
 use Rattle.cert.specs.Claim.{Recorded}
 use Rattle.ledger.specs.Contents.{Contents, IsBoard, IsOpenOn}
 use Rattle.ledger.specs.Records.{mark_in, mark_of, mark_by}

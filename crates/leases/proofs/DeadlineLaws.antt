@@ -9,7 +9,7 @@ use Rattle.std.proofs.lemmas.List.Sorted.{Contains-permutation, sum_by_pushed, s
 use Rattle.std.proofs.lemmas.Option.{same_Some}
 use Rattle.ledger.proofs.Apart.{first_or_later, later_member, first_member}
 use Rattle.leases.specs.Leases.{Lease, SomeEnds}
-use Rattle.leases.specs.inside.Keeping.{KeptLease, kept, held, has_ended, without, is_numbered, AreDue}
+use Rattle.leases.specs.inside.Keeping.{KeptLease, kept_lease, as_lease, has_ended, without, is_numbered, AreDue}
 use Rattle.leases.specs.inside.Deadlines.{entry, is_past, TakesPast, Awaits, AreAwaited, AreAwaitedBut, HaveEnded, SomePast, AreNotAhead}
 use Rattle.leases.specs.declared.held_leases.HeldLease.{HeldLease}
 use Rattle.leases.specs.inside.Children.{shown}
@@ -192,18 +192,18 @@ all_listed moment entries numbers at none awaited n l found late = elim (awaited
 
 -- the numbers that are listed are those of the leases that have ended
 pub due_by : (moment : ℕ) (m : BTreeMap ℕ HeldLease) (numbers : List ℕ) → IsOrdered nat_cmp m → HaveEnded moment numbers (get nat_cmp m)
-    → ((n : ℕ) (l : HeldLease) → get nat_cmp m n ≡ Some l → is_past moment l.renewed ≡ true → Contains numbers n) → AreDue moment (map held (map kept m.entries)) numbers
+    → ((n : ℕ) (l : HeldLease) → get nat_cmp m n ≡ Some l → is_past moment l.renewed ≡ true → Contains numbers n) → AreDue moment (map as_lease (map kept_lease m.entries)) numbers
 due_by moment m numbers ordered ended listed = record {
   all = λ x member late.
-      let l = unmapped held (map kept m.entries) x member in
+      let l = unmapped as_lease (map kept_lease m.entries) x member in
       let there = member_at m ordered l.0 l.1 in
       subst (Contains numbers) (ap (λ (x : Lease). x.number) l.2)
-      (listed l.0.number there.0 there.1 (ap (λ (k : KeptLease). has_ended moment (held k)) there.2 ∙ (ap (has_ended moment) l.2 ∙ late)));
+      (listed l.0.number there.0 there.1 (ap (λ (k : KeptLease). has_ended moment (as_lease k)) there.2 ∙ (ap (has_ended moment) l.2 ∙ late)));
   only = λ x member h.
-      let l = unmapped held (map kept m.entries) x member in
+      let l = unmapped as_lease (map kept_lease m.entries) x member in
       let there = member_at m ordered l.0 l.1 in
       let have = ended l.0.number (subst (Contains numbers) (sym (ap (λ (x : Lease). x.number) l.2)) h) in
-      ap (has_ended moment) (sym l.2) ∙ (ap (λ (k : KeptLease). has_ended moment (held k)) (sym there.2)
+      ap (has_ended moment) (sym l.2) ∙ (ap (λ (k : KeptLease). has_ended moment (as_lease k)) (sym there.2)
       ∙ (ap (λ (v : HeldLease). is_past moment v.renewed) (same_Some there.0 have.0 (sym there.1 ∙ have.1)) ∙ have.2));
 }
 
@@ -247,6 +247,6 @@ replaced_awaited old new own n v at after put is awaited q l found =
     ]
 
 -- a lease that is past ends
-pub past_ends : (moment : ℕ) (m : BTreeMap ℕ HeldLease) → SomePast moment (get nat_cmp m) → SomeEnds moment (map held (map kept m.entries))
+pub past_ends : (moment : ℕ) (m : BTreeMap ℕ HeldLease) → SomePast moment (get nat_cmp m) → SomeEnds moment (map as_lease (map kept_lease m.entries))
 past_ends moment m (n, l, found, late) =
-    (held (kept (n, l)), mapped held (map kept m.entries) (kept (n, l)) (found_member n l m.entries found), leb-true (l.renewed + 60) moment late)
+    (as_lease (kept_lease (n, l)), mapped as_lease (map kept_lease m.entries) (kept_lease (n, l)) (found_member n l m.entries found), leb-true (l.renewed + 60) moment late)

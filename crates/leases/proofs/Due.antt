@@ -9,7 +9,7 @@ use Rattle.std.proofs.lemmas.Bool.{eqb-true, eq-eqb, leb-true}
 use Rattle.ledger.proofs.Apart.{first_member, later_member, first_or_later}
 use Rattle.machine_text.specs.Packed.{Packed}
 use Rattle.leases.specs.Leases.{Lease, SomeEnds, is_live}
-use Rattle.leases.specs.inside.Keeping.{KeptLease, kept, held, has_ended, without, are_numbered, without_each, AreDue, AreAmongFree}
+use Rattle.leases.specs.inside.Keeping.{KeptLease, kept_lease, as_lease, has_ended, without, are_numbered, without_each, AreDue, AreAmongFree}
 use Rattle.leases.specs.declared.held_leases.HeldLease.{HeldLease}
 use Rattle.leases.proofs.FreeLaws.{mapped, unmapped}
 use Rattle.leases.proofs.LiveLaws.{member_at}
@@ -17,35 +17,35 @@ use Rattle.leases.proofs.Members.{filter_member, found_live, in_filter, or_later
 
 -- the numbers of the leases that have ended
 abbrev pub due_of : ℕ → List KeptLease → List ℕ
-due_of moment ls = map (λ l. l.number) (filter (λ l. has_ended moment (held l)) ls)
+due_of moment ls = map (λ l. l.number) (filter (λ l. has_ended moment (as_lease l)) ls)
 
-pub due_first : (moment : ℕ) (l : KeptLease) (ls : List KeptLease) → has_ended moment (held l) ≡ true → due_of moment (l ∷ ls) ≡ l.number ∷ due_of moment ls
-due_first moment l ls ends = ap (λ b. map (λ (l : KeptLease). l.number) (cond b (l ∷ filter (λ (l : KeptLease). has_ended moment (held l)) ls) (filter (λ (l : KeptLease). has_ended moment (held l)) ls))) ends
+pub due_first : (moment : ℕ) (l : KeptLease) (ls : List KeptLease) → has_ended moment (as_lease l) ≡ true → due_of moment (l ∷ ls) ≡ l.number ∷ due_of moment ls
+due_first moment l ls ends = ap (λ b. map (λ (l : KeptLease). l.number) (cond b (l ∷ filter (λ (l : KeptLease). has_ended moment (as_lease l)) ls) (filter (λ (l : KeptLease). has_ended moment (as_lease l)) ls))) ends
 
-pub due_passed : (moment : ℕ) (l : KeptLease) (ls : List KeptLease) → has_ended moment (held l) ≡ false → due_of moment (l ∷ ls) ≡ due_of moment ls
-due_passed moment l ls stays = ap (λ b. map (λ (l : KeptLease). l.number) (cond b (l ∷ filter (λ (l : KeptLease). has_ended moment (held l)) ls) (filter (λ (l : KeptLease). has_ended moment (held l)) ls))) stays
+pub due_passed : (moment : ℕ) (l : KeptLease) (ls : List KeptLease) → has_ended moment (as_lease l) ≡ false → due_of moment (l ∷ ls) ≡ due_of moment ls
+due_passed moment l ls stays = ap (λ b. map (λ (l : KeptLease). l.number) (cond b (l ∷ filter (λ (l : KeptLease). has_ended moment (as_lease l)) ls) (filter (λ (l : KeptLease). has_ended moment (as_lease l)) ls))) stays
 
 passes : {X : Type 0} (p : X → Bool) (xs : List X) (x : X) → Contains (filter p xs) x → p x ≡ true
 passes p xs x h = All-contains (λ x. p x ≡ true) (filter p xs) x (filter_passes p xs) h
 
-pub are_due : (moment : ℕ) (m : BTreeMap ℕ HeldLease) → IsOrdered nat_cmp m → AreDue moment (map held (map kept m.entries)) (due_of moment (map kept m.entries))
+pub are_due : (moment : ℕ) (m : BTreeMap ℕ HeldLease) → IsOrdered nat_cmp m → AreDue moment (map as_lease (map kept_lease m.entries)) (due_of moment (map kept_lease m.entries))
 are_due moment m ordered =
-    let ls = map kept m.entries in
-    let ends : KeptLease → Bool = λ l. has_ended moment (held l) in
+    let ls = map kept_lease m.entries in
+    let ends : KeptLease → Bool = λ l. has_ended moment (as_lease l) in
     record {
       all = λ x member late.
-          let l = unmapped held ls x member in
+          let l = unmapped as_lease ls x member in
           subst (Contains (due_of moment ls)) (ap (λ (x : Lease). x.number) l.2)
           (mapped (λ (l : KeptLease). l.number) (filter ends ls) l.0 (in_filter ends ls l.0 l.1 (ap (has_ended moment) l.2 ∙ late)));
       only = λ x member there.
-          let l = unmapped held ls x member in
+          let l = unmapped as_lease ls x member in
           let k = unmapped (λ (l : KeptLease). l.number) (filter ends ls) x.number there in
           let late = passes ends ls k.0 k.1 in
           let first = member_at m ordered l.0 l.1 in
           let second = member_at m ordered k.0 (filter_member ends ls k.0 k.1) in
           let number : k.0.number ≡ l.0.number = k.2 ∙ sym (ap (λ (x : Lease). x.number) l.2) in
           let value : second.0 ≡ first.0 = same_Some second.0 first.0 (sym second.1 ∙ (ap (get nat_cmp m) number ∙ first.1)) in
-          let same : k.0 ≡ l.0 = sym second.2 ∙ (ap (λ n. kept (n, second.0)) number ∙ (ap (λ v. kept (l.0.number, v)) value ∙ first.2)) in
+          let same : k.0 ≡ l.0 = sym second.2 ∙ (ap (λ n. kept_lease (n, second.0)) number ∙ (ap (λ v. kept_lease (l.0.number, v)) value ∙ first.2)) in
           ap (has_ended moment) (sym l.2) ∙ (ap ends (sym same) ∙ late);
     }
 
@@ -79,22 +79,22 @@ are_one n (m ∷ ms) h = elim (first_or_later m ms n h) [
 ]
 
 -- the leases of numbers that are due are those that have ended
-pub ended_each : (moment : ℕ) (numbers : List ℕ) (ls : List KeptLease) → AreDue moment (map held ls) numbers → without_each numbers ls ≡ filter (λ l. not (has_ended moment (held l))) ls
+pub ended_each : (moment : ℕ) (numbers : List ℕ) (ls : List KeptLease) → AreDue moment (map as_lease ls) numbers → without_each numbers ls ≡ filter (λ l. not (has_ended moment (as_lease l))) ls
 ended_each moment numbers [] due = refl
 ended_each moment numbers (l ∷ ls) due =
     let rest = ended_each moment numbers ls (record {
-      all = λ x h. due.all x (later_member (held l) (map held ls) x h);
-      only = λ x h. due.only x (later_member (held l) (map held ls) x h);
+      all = λ x h. due.all x (later_member (as_lease l) (map as_lease ls) x h);
+      only = λ x h. due.only x (later_member (as_lease l) (map as_lease ls) x h);
     }) in
-    let first = first_member (held l) (held l) (map held ls) refl in
-    let same : are_numbered numbers l.number ≡ has_ended moment (held l) = elim (are_numbered numbers l.number) as (λ b. are_numbered numbers l.number ≡ b → b ≡ has_ended moment (held l)) [
-      | true ↦ λ e. sym (due.only (held l) first (one_of l.number numbers e))
-      | false ↦ λ e. elim (has_ended moment (held l)) as (λ b. has_ended moment (held l) ≡ b → false ≡ b) [
-        | true ↦ λ late. sym e ∙ are_one l.number numbers (due.all (held l) first late)
+    let first = first_member (as_lease l) (as_lease l) (map as_lease ls) refl in
+    let same : are_numbered numbers l.number ≡ has_ended moment (as_lease l) = elim (are_numbered numbers l.number) as (λ b. are_numbered numbers l.number ≡ b → b ≡ has_ended moment (as_lease l)) [
+      | true ↦ λ e. sym (due.only (as_lease l) first (one_of l.number numbers e))
+      | false ↦ λ e. elim (has_ended moment (as_lease l)) as (λ b. has_ended moment (as_lease l) ≡ b → false ≡ b) [
+        | true ↦ λ late. sym e ∙ are_one l.number numbers (due.all (as_lease l) first late)
         | false ↦ λ late. refl
       ] refl
     ] refl in
-    ap (λ b. cond (not b) (l ∷ without_each numbers ls) (without_each numbers ls)) same ∙ ap (λ xs. cond (not (has_ended moment (held l))) (l ∷ xs) xs) rest
+    ap (λ b. cond (not b) (l ∷ without_each numbers ls) (without_each numbers ls)) same ∙ ap (λ xs. cond (not (has_ended moment (as_lease l))) (l ∷ xs) xs) rest
 
 -- the tables of the leases of the first numbers are among the free ones
 abbrev pub AreFirstOffered : List ℕ → ℕ → List KeptLease → List Packed → Type 0
@@ -111,8 +111,8 @@ all_offered numbers i ls free all first l t member ends h =
     let there = one_of l.number numbers ends in
     first there.0 l.number (omega (arith, there.1)) l t member (eq-eqb l.number (get_or numbers there.0 l.number) (sym there.2)) h
 
-pub due_offered : (moment : ℕ) (numbers : List ℕ) (ls : List KeptLease) (free : List Packed) → AreDue moment (map held ls) numbers → AreAmongFree (λ l. are_numbered numbers l.number) ls free → AreAmongFree (has_ended moment) ls free
-due_offered moment numbers ls free due offered l t member late h = offered l t member (are_one l.number numbers (due.all (held l) (mapped held ls l member) late)) h
+pub due_offered : (moment : ℕ) (numbers : List ℕ) (ls : List KeptLease) (free : List Packed) → AreDue moment (map as_lease ls) numbers → AreAmongFree (λ l. are_numbered numbers l.number) ls free → AreAmongFree (has_ended moment) ls free
+due_offered moment numbers ls free due offered l t member late h = offered l t member (are_one l.number numbers (due.all (as_lease l) (mapped as_lease ls l member) late)) h
 
 pub drop_past : (xs : List ℕ) (i : ℕ) → length xs ≤ i → drop i xs ≡ []
 drop_past [] zero all = refl
@@ -135,8 +135,8 @@ next_ended numbers i d ls new below is =
     ∙ (without_next (get_or numbers i d) (drop (i + 1) numbers) ls ∙ ap (without_each (drop (i + 1) numbers)) (sym is))
 
 -- a number that is due is that of a lease that ends
-pub number_ends : (moment : ℕ) (ls : List KeptLease) (numbers : List ℕ) (n : ℕ) → AreDue moment (map held ls) numbers → Contains numbers n → is_live (map held ls) n ≡ true → SomeEnds moment (map held ls)
+pub number_ends : (moment : ℕ) (ls : List KeptLease) (numbers : List ℕ) (n : ℕ) → AreDue moment (map as_lease ls) numbers → Contains numbers n → is_live (map as_lease ls) n ≡ true → SomeEnds moment (map as_lease ls)
 number_ends moment ls numbers n due listed lives =
     let l = found_live ls n lives in
-    let member = mapped held ls l.0 l.1 in
-    (held l.0, member, leb-true (held l.0).deadline moment (due.only (held l.0) member (subst (Contains numbers) (sym l.2) listed)))
+    let member = mapped as_lease ls l.0 l.1 in
+    (as_lease l.0, member, leb-true (as_lease l.0).deadline moment (due.only (as_lease l.0) member (subst (Contains numbers) (sym l.2) listed)))

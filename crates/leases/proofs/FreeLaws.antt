@@ -7,7 +7,7 @@ use Rattle.std.specs.declared.cmp.Reverse.{Reverse}
 use Rattle.std.proofs.lemmas.List.Elements.{All-from_recursion, All-contains}
 use Rattle.std.proofs.lemmas.List.Sorted.{Contains-permutation}
 use Rattle.machine_text.specs.Packed.{Packed}
-use Rattle.ledger.specs.inside.Open.{table_cmp}
+use Rattle.machine_text.specs.Order.{table_cmp}
 use Rattle.ledger.proofs.Apart.{first_or_later, later_member, first_member}
 use Rattle.ledger.specs.Records.{same_table}
 use Rattle.ledger.proofs.Same.{same_is, same_at, not_same}

@@ -6,7 +6,6 @@ pub mod Due
 pub mod Ending
 pub mod Granting
 pub mod Asking
-pub mod ChildCount
 pub mod ChildLaws
 pub mod Offering
 pub mod DeadlineLaws

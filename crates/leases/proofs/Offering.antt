@@ -25,7 +25,7 @@ use Rattle.ledger.specs.declared.faults.OfferFault.TheVariants.{WrongSize, NotOp
 use Rattle.ledger.proofs.Same.{not_same, apart}
 use Rattle.leases.specs.Leases.{Lease, AreLeases, is_live, came_under, while_live}
 use Rattle.leases.specs.Offers.{renewed, TakesNew, TakesSettled}
-use Rattle.leases.specs.inside.Keeping.{KeptLease, held, seen, IsKept}
+use Rattle.leases.specs.inside.Keeping.{KeptLease, as_lease, as_leases, IsKept}
 use Rattle.leases.proofs.ChildLaws.{Opens}
 use Rattle.leases.proofs.OfferLaws.{KeepsAll}
 
@@ -63,9 +63,9 @@ holdout_not_open b t holdout is_open = let none = is_open.unmarked in let marked
 
 -- where the table was under none
 module _ (old new : Contents) (ls : List KeptLease) (came next : List (Packed × ℕ)) (free more : List Packed) (moment given : ℕ) (t : Packed)
-    (opens : Opens old new t) (are : AreLeases old (seen ls came moment given)) (kept : IsKept old ls came free) (more_free : KeepsAll free more)
+    (opens : Opens old new t) (are : AreLeases old (as_leases ls came moment given)) (kept : IsKept old ls came free) (more_free : KeepsAll free more)
     (all : (q : Packed) → IsChildTable t q → IsHalting new.records t → Contains more q) where
-  pub free_new_leases : GoesOut came t next → AreLeases new (seen ls next moment given)
+  pub free_new_leases : GoesOut came t next → AreLeases new (as_leases ls next moment given)
   free_new_leases out = record {
     most = are.most;
     numbers = are.numbers;
@@ -79,22 +79,22 @@ module _ (old new : Contents) (ls : List KeptLease) (came next : List (Packed ×
   free_new_kept out = record {
     listed = λ l q member h. kept.listed l q member (out_cases came next t q l.number out h).1;
     offered = λ q is_open none. elim (opens.cases q is_open) [
-      | inl was ↦ more_free q (kept.offered q was.0 (ap (while_live (map held ls)) (sym (out_other came next t q out was.1)) ∙ none))
+      | inl was ↦ more_free q (kept.offered q was.0 (ap (while_live (map as_lease ls)) (sym (out_other came next t q out was.1)) ∙ none))
       | inr child ↦ all q child.0 child.1
     ];
   }
 
-  pub free_new_takes : GoesOut came t next → while_live (map held ls) (came_under came t) ≡ None
-      → TakesNew t (record { board = old; leases = seen ls came moment given }) (record { board = new; leases = seen ls next moment given })
+  pub free_new_takes : GoesOut came t next → while_live (map as_lease ls) (came_under came t) ≡ None
+      → TakesNew t (record { board = old; leases = as_leases ls came moment given }) (record { board = new; leases = as_leases ls next moment given })
   free_new_takes out none = record {
-    live = ap (λ o. renewed o moment (map held ls)) (sym none);
-    children = λ q became. none_came (map held ls) (came_under next q) (λ n h. became.1 (are.is_open q n (out_cases came next t q n out h).1)) ∙ sym none;
-    others = λ q is_open other. ap (while_live (map held ls)) (out_other came next t q out other);
+    live = ap (λ o. renewed o moment (map as_lease ls)) (sym none);
+    children = λ q became. none_came (map as_lease ls) (came_under next q) (λ n h. became.1 (are.is_open q n (out_cases came next t q n out h).1)) ∙ sym none;
+    others = λ q is_open other. ap (while_live (map as_lease ls)) (out_other came next t q out other);
     moment = refl;
     given = refl;
   }
 
-  pub settled_leases : (IsOpenOn old t → ⊥) → AreLeases new (seen ls came moment given)
+  pub settled_leases : (IsOpenOn old t → ⊥) → AreLeases new (as_leases ls came moment given)
   settled_leases closed = record {
     most = are.most;
     numbers = are.numbers;
@@ -110,10 +110,10 @@ module _ (old new : Contents) (ls : List KeptLease) (came next : List (Packed ×
     offered = λ q is_open none. elim (opens.cases q is_open) [ inl was ↦ more_free q (kept.offered q was.0 none) | inr child ↦ all q child.0 child.1 ];
   }
 
-  pub settled_takes : TakesSettled (record { board = old; leases = seen ls came moment given }) (record { board = new; leases = seen ls came moment given })
+  pub settled_takes : TakesSettled (record { board = old; leases = as_leases ls came moment given }) (record { board = new; leases = as_leases ls came moment given })
   settled_takes = record {
     leases = refl;
-    children = λ q became. none_came (map held ls) (came_under came q) (λ n h. became.1 (are.is_open q n h));
+    children = λ q became. none_came (map as_lease ls) (came_under came q) (λ n h. became.1 (are.is_open q n h));
   }
 
 pub err_is : {T E : Type 0} (r : Result T E) (e : E) → IsErrAnd r (λ x. x ≡ e) → r ≡ Err e
@@ -121,17 +121,17 @@ err_is (Ok x) e h = absurd h
 err_is (Err x) e h = ap Err h
 
 -- a lease that is kept otherwise, and seen as before
-held_shown : (ls : List KeptLease) → map (λ (p : Lease × List Packed). p.0) (map shown ls) ≡ map held ls
+held_shown : (ls : List KeptLease) → map (λ (p : Lease × List Packed). p.0) (map shown ls) ≡ map as_lease ls
 held_shown [] = refl
-held_shown (l ∷ ls) = ap (λ xs. held l ∷ xs) (held_shown ls)
+held_shown (l ∷ ls) = ap (λ xs. as_lease l ∷ xs) (held_shown ls)
 
-pub same_held : (first ls : List KeptLease) → map shown ls ≡ map shown first → map held ls ≡ map held first
+pub same_held : (first ls : List KeptLease) → map shown ls ≡ map shown first → map as_lease ls ≡ map as_lease first
 same_held first ls same = sym (held_shown ls) ∙ (ap (map (λ (p : Lease × List Packed). p.0)) same ∙ held_shown first)
 
 pub holds_shown : (b : Contents) (first ls : List KeptLease) (before came : List (Packed × ℕ)) (free : List Packed) (moment given : ℕ) → map shown ls ≡ map shown first → came ≡ before
-    → AreLeases b (seen first before moment given) × IsKept b first before free → AreLeases b (seen ls came moment given) × IsKept b ls came free
+    → AreLeases b (as_leases first before moment given) × IsKept b first before free → AreLeases b (as_leases ls came moment given) × IsKept b ls came free
 holds_shown b first ls before came free moment given same same_came holds =
-    subst (λ (came : List (Packed × ℕ)). AreLeases b (seen ls came moment given) × IsKept b ls came free) (sym same_came) (
+    subst (λ (came : List (Packed × ℕ)). AreLeases b (as_leases ls came moment given) × IsKept b ls came free) (sym same_came) (
       subst (λ (live : List Lease). AreLeases b (record { live = live; came = before; moment = moment; given = given })) (sym (same_held first ls same)) holds.0,
       record {
         listed = λ l t member h.
@@ -179,11 +179,11 @@ none_renewed n moment (x ∷ xs) above =
     ap (λ b. (if b then record { number = x.number; id = x.id; deadline = moment + lease_time } else x) ∷ map (renew_one n moment) xs) other
     ∙ ap (λ ys. x ∷ ys) (none_renewed n moment xs (All-tail (λ (x : Lease). n < x.number) x xs above))
 
-first_renewed : (x l : KeptLease) (n moment : ℕ) → n ≡ x.number → l.number ≡ x.number → l.id ≡ x.id → l.renewed ≡ moment → held l ≡ renew_one n moment (held x)
+first_renewed : (x l : KeptLease) (n moment : ℕ) → n ≡ x.number → l.number ≡ x.number → l.id ≡ x.id → l.renewed ≡ moment → as_lease l ≡ renew_one n moment (as_lease x)
 unfolding renew_one
 first_renewed x l n moment is number id renewed =
-    let same : held l ≡ record { number = x.number; id = x.id; deadline = moment + lease_time } = λ i. record { number = number i; id = id i; deadline = renewed i + lease_time } in
-    same ∙ sym (ap (λ b. if b then record { number = x.number; id = x.id; deadline = moment + lease_time } else held x) (eq-eqb x.number n (sym is)))
+    let same : as_lease l ≡ record { number = x.number; id = x.id; deadline = moment + lease_time } = λ i. record { number = number i; id = id i; deadline = renewed i + lease_time } in
+    same ∙ sym (ap (λ b. if b then record { number = x.number; id = x.id; deadline = moment + lease_time } else as_lease x) (eq-eqb x.number n (sym is)))
 
 other_renewed : (x : Lease) (n moment : ℕ) → x.number < n → renew_one n moment x ≡ x
 unfolding renew_one
@@ -191,19 +191,19 @@ other_renewed x n moment less =
     let other : nat_eq x.number n ≡ false = elim (eqb_tells x.number n) [ inl same ↦ let e = same.1 in absurd (omega arith) | inr differ ↦ differ.0 ] in
     ap (λ b. if b then record { number = x.number; id = x.id; deadline = moment + lease_time } else x) other
 
-set_renewed : (ls : List KeptLease) (at n moment : ℕ) (l : KeptLease) → at < length ls → AllPairs (λ (a b : Lease). a.number < b.number) (map held ls)
-    → n ≡ (get_or ls at l).number → l.number ≡ (get_or ls at l).number → l.id ≡ (get_or ls at l).id → l.renewed ≡ moment → map held (set ls at l) ≡ map (renew_one n moment) (map held ls)
+set_renewed : (ls : List KeptLease) (at n moment : ℕ) (l : KeptLease) → at < length ls → AllPairs (λ (a b : Lease). a.number < b.number) (map as_lease ls)
+    → n ≡ (get_or ls at l).number → l.number ≡ (get_or ls at l).number → l.id ≡ (get_or ls at l).id → l.renewed ≡ moment → map as_lease (set ls at l) ≡ map (renew_one n moment) (map as_lease ls)
 set_renewed [] at n moment l below rising is number id renewed = absurd (omega arith)
 set_renewed (x ∷ xs) zero n moment l below rising is number id renewed =
-    let above : All (λ (y : Lease). n < y.number) (map held xs) = λ k d lt. subst (λ m. m < (get_or (map held xs) k d).number) (sym is) (rising 0 (suc k) d (omega arith) (omega arith)) in
-    ap (λ y. y ∷ map held xs) (first_renewed x l n moment is number id renewed) ∙ ap (λ ys. renew_one n moment (held x) ∷ ys) (sym (none_renewed n moment (map held xs) above))
+    let above : All (λ (y : Lease). n < y.number) (map as_lease xs) = λ k d lt. subst (λ m. m < (get_or (map as_lease xs) k d).number) (sym is) (rising 0 (suc k) d (omega arith) (omega arith)) in
+    ap (λ y. y ∷ map as_lease xs) (first_renewed x l n moment is number id renewed) ∙ ap (λ ys. renew_one n moment (as_lease x) ∷ ys) (sym (none_renewed n moment (map as_lease xs) above))
 set_renewed (x ∷ xs) (suc k) n moment l below rising is number id renewed =
     let lt : k < length xs = omega arith in
-    let less = rising 0 (suc k) (held l) (omega arith) (omega (arith, length-map xs held)) in
-    let there : (get_or (map held xs) k (held l)).number ≡ (get_or xs k l).number = ap (λ (y : Lease). y.number) (get_or-map held xs k l (held l) lt) in
+    let less = rising 0 (suc k) (as_lease l) (omega arith) (omega (arith, length-map xs as_lease)) in
+    let there : (get_or (map as_lease xs) k (as_lease l)).number ≡ (get_or xs k l).number = ap (λ (y : Lease). y.number) (get_or-map as_lease xs k l (as_lease l) lt) in
     let under : x.number < n = omega (arith, less, there, is) in
-    ap (λ ys. held x ∷ ys) (set_renewed xs k n moment l lt (λ i j d less below. rising (suc i) (suc j) d (omega arith) (omega arith)) is number id renewed)
-    ∙ ap (λ y. y ∷ map (renew_one n moment) (map held xs)) (sym (other_renewed (held x) n moment under))
+    ap (λ ys. as_lease x ∷ ys) (set_renewed xs k n moment l lt (λ i j d less below. rising (suc i) (suc j) d (omega arith) (omega arith)) is number id renewed)
+    ∙ ap (λ y. y ∷ map (renew_one n moment) (map as_lease xs)) (sym (other_renewed (as_lease x) n moment under))
 
 all_pairs_map : (R : Lease → Lease → Type 0) (f : Lease → Lease) (xs : List Lease) → ((a b : Lease) → R a b → R (f a) (f b)) → AllPairs R xs → AllPairs R (map f xs)
 all_pairs_map R f xs keeps all i j d less below =
@@ -217,32 +217,32 @@ less_or_more j k differ = elim (cases_lt j k) [ inl less ↦ inl less | inr most
 
 -- where the table is under a live lease: the lease at a place is renewed, and the children come under it
 module _ (old new : Contents) (ls : List KeptLease) (at : ℕ) (l : KeptLease) (came mid next : List (Packed × ℕ)) (free : List Packed) (moment given number : ℕ) (t : Packed)
-    (opens : Opens old new t) (are : AreLeases old (seen ls came moment given)) (kept : IsKept old ls came free) (within : at < length ls) (out : GoesOut came t mid)
+    (opens : Opens old new t) (are : AreLeases old (as_leases ls came moment given)) (kept : IsKept old ls came free) (within : at < length ls) (out : GoesOut came t mid)
     (is : number ≡ (get_or ls at l).number) (renews : Renews new t moment (get_or ls at l) l mid next) where
-  after : map held (set ls at l) ≡ map (renew_one number moment) (map held ls)
+  after : map as_lease (set ls at l) ≡ map (renew_one number moment) (map as_lease ls)
   after = set_renewed ls at number moment l within are.numbers is renews.number renews.id renews.renewed
 
-  while_after : (o : Option ℕ) → while_live (map held (set ls at l)) o ≡ while_live (map held ls) o
-  while_after o = ap (λ live. while_live live o) after ∙ while_renewed number moment (map held ls) o
+  while_after : (o : Option ℕ) → while_live (map as_lease (set ls at l)) o ≡ while_live (map as_lease ls) o
+  while_after o = ap (λ live. while_live live o) after ∙ while_renewed number moment (map as_lease ls) o
 
-  lease_lives : is_live (map held ls) number ≡ true
-  lease_lives = subst (λ n. is_live (map held ls) n ≡ true) (sym is) (member_lives ls (get_or ls at l) (Contains-get_or ls at l within))
+  lease_lives : is_live (map as_lease ls) number ≡ true
+  lease_lives = subst (λ n. is_live (map as_lease ls) n ≡ true) (sym is) (member_lives ls (get_or ls at l) (Contains-get_or ls at l within))
 
-  reads : while_live (map held ls) (Some number) ≡ Some number
+  reads : while_live (map as_lease ls) (Some number) ≡ Some number
   reads = ap (λ b. if b then Some number else None) lease_lives
 
   -- an open table that isn't a child stays where it was
   stays_there : (q : Packed) → IsOpenOn old q → (q ≡ t → ⊥) → came_under next q ≡ came_under came q
   stays_there q is_open other = renews.other q (λ child. opens.not_before q child is_open) ∙ out_other came mid t q out other
 
-  pub under_new_leases : AreLeases new (seen (set ls at l) next moment given)
+  pub under_new_leases : AreLeases new (as_leases (set ls at l) next moment given)
   under_new_leases =
-      let given_number : (get_or ls at l).number ≤ given = subst (λ (x : Lease). x.number ≤ given) (get_or-map held ls at l (held l) within) (are.given at (held l) (omega (arith, length-map ls held))) in
+      let given_number : (get_or ls at l).number ≤ given = subst (λ (x : Lease). x.number ≤ given) (get_or-map as_lease ls at l (as_lease l) within) (are.given at (as_lease l) (omega (arith, length-map ls as_lease))) in
       subst (λ (live : List Lease). AreLeases new (record { live = live; came = next; moment = moment; given = given })) (sym after) (record {
-        most = let most = are.most in omega (arith, length-map (map held ls) (renew_one number moment));
-        numbers = all_pairs_map (λ (a b : Lease). a.number < b.number) (renew_one number moment) (map held ls) (λ a b less. omega (arith, one_number number moment a, one_number number moment b)) are.numbers;
-        ids = all_pairs_map (λ (a b : Lease). a.id ≢ b.id) (renew_one number moment) (map held ls) (λ a b differ same. differ (sym (one_id number moment a) ∙ (same ∙ one_id number moment b))) are.ids;
-        given = All-map (λ (x : Lease). x.number ≤ given) (renew_one number moment) (map held ls) (λ k d lt. subst (λ m. m ≤ given) (sym (one_number number moment (get_or (map held ls) k d))) (are.given k d lt));
+        most = let most = are.most in omega (arith, length-map (map as_lease ls) (renew_one number moment));
+        numbers = all_pairs_map (λ (a b : Lease). a.number < b.number) (renew_one number moment) (map as_lease ls) (λ a b less. omega (arith, one_number number moment a, one_number number moment b)) are.numbers;
+        ids = all_pairs_map (λ (a b : Lease). a.id ≢ b.id) (renew_one number moment) (map as_lease ls) (λ a b differ same. differ (sym (one_id number moment a) ∙ (same ∙ one_id number moment b))) are.ids;
+        given = All-map (λ (x : Lease). x.number ≤ given) (renew_one number moment) (map as_lease ls) (λ k d lt. subst (λ m. m ≤ given) (sym (one_number number moment (get_or (map as_lease ls) k d))) (are.given k d lt));
         came_given = λ q n h. elim (renews.only q n h) [
           | inl before ↦ are.came_given q n (out_cases came mid t q n out before).1
           | inr now ↦ let e = now.0 in omega arith
@@ -256,11 +256,11 @@ module _ (old new : Contents) (ls : List KeptLease) (at : ℕ) (l : KeptLease) (
   -- the leases at other places have other numbers
   apart_from : (j : ℕ) (x : KeptLease) → (j ≢ at) → j < length ls → get_or ls j x ≡ x → x.number ≡ (get_or ls at l).number → ⊥
   apart_from j x differ below e same =
-      let first : (get_or (map held ls) j (held x)).number ≡ x.number = ap (λ (y : Lease). y.number) (get_or-map held ls j x (held x) below) ∙ ap (λ (y : KeptLease). y.number) e in
-      let second : (get_or (map held ls) at (held x)).number ≡ (get_or ls at l).number = ap (λ (y : Lease). y.number) (get_or-map held ls at l (held x) within) in
+      let first : (get_or (map as_lease ls) j (as_lease x)).number ≡ x.number = ap (λ (y : Lease). y.number) (get_or-map as_lease ls j x (as_lease x) below) ∙ ap (λ (y : KeptLease). y.number) e in
+      let second : (get_or (map as_lease ls) at (as_lease x)).number ≡ (get_or ls at l).number = ap (λ (y : Lease). y.number) (get_or-map as_lease ls at l (as_lease x) within) in
       elim (less_or_more j at differ) [
-        | inl less ↦ let rising = are.numbers j at (held x) less (omega (arith, length-map ls held)) in omega (arith, rising, first, second, same)
-        | inr more ↦ let rising = are.numbers at j (held x) more (omega (arith, length-map ls held)) in omega (arith, rising, first, second, same)
+        | inl less ↦ let rising = are.numbers j at (as_lease x) less (omega (arith, length-map ls as_lease)) in omega (arith, rising, first, second, same)
+        | inr more ↦ let rising = are.numbers at j (as_lease x) more (omega (arith, length-map ls as_lease)) in omega (arith, rising, first, second, same)
       ]
 
   pub under_new_kept : IsKept new (set ls at l) next free
@@ -276,29 +276,29 @@ module _ (old new : Contents) (ls : List KeptLease) (at : ℕ) (l : KeptLease) (
       ]
     ];
     offered = λ q is_open none. elim (opens.cases q is_open) [
-      | inl was ↦ kept.offered q was.0 (ap (while_live (map held ls)) (sym (stays_there q was.0 was.1)) ∙ (sym (while_after (came_under next q)) ∙ none))
+      | inl was ↦ kept.offered q was.0 (ap (while_live (map as_lease ls)) (sym (stays_there q was.0 was.1)) ∙ (sym (while_after (came_under next q)) ∙ none))
       | inr child ↦
           let here : came_under next q ≡ Some number = renews.here q child.0 child.1 is_open ∙ ap Some (sym is) in
-          let some : while_live (map held (set ls at l)) (came_under next q) ≡ Some number = while_after (came_under next q) ∙ (ap (while_live (map held ls)) here ∙ reads) in
+          let some : while_live (map as_lease (set ls at l)) (came_under next q) ≡ Some number = while_after (came_under next q) ∙ (ap (while_live (map as_lease ls)) here ∙ reads) in
           absurd (cc)
     ];
   }
 
-  pub under_new_takes : while_live (map held ls) (came_under came t) ≡ Some number
-      → TakesNew t (record { board = old; leases = seen ls came moment given }) (record { board = new; leases = seen (set ls at l) next moment given })
+  pub under_new_takes : while_live (map as_lease ls) (came_under came t) ≡ Some number
+      → TakesNew t (record { board = old; leases = as_leases ls came moment given }) (record { board = new; leases = as_leases (set ls at l) next moment given })
   unfolding renew_one
   under_new_takes under = record {
-    live = after ∙ ap (λ o. renewed o moment (map held ls)) (sym under);
+    live = after ∙ ap (λ o. renewed o moment (map as_lease ls)) (sym under);
     children = λ q became. elim (opens.cases q became.0) [
       | inl was ↦ absurd (became.1 was.0)
-      | inr child ↦ while_after (came_under next q) ∙ (ap (while_live (map held ls)) (renews.here q child.0 child.1 became.0 ∙ ap Some (sym is)) ∙ (reads ∙ sym under))
+      | inr child ↦ while_after (came_under next q) ∙ (ap (while_live (map as_lease ls)) (renews.here q child.0 child.1 became.0 ∙ ap Some (sym is)) ∙ (reads ∙ sym under))
     ];
-    others = λ q is_open other. while_after (came_under next q) ∙ ap (while_live (map held ls)) (stays_there q is_open other);
+    others = λ q is_open other. while_after (came_under next q) ∙ ap (while_live (map as_lease ls)) (stays_there q is_open other);
     moment = refl;
     given = refl;
   }
 
-pub seen_shown : (first ls : List KeptLease) (before came : List (Packed × ℕ)) (moment given : ℕ) → map shown ls ≡ map shown first → came ≡ before → seen ls came moment given ≡ seen first before moment given
+pub seen_shown : (first ls : List KeptLease) (before came : List (Packed × ℕ)) (moment given : ℕ) → map shown ls ≡ map shown first → came ≡ before → as_leases ls came moment given ≡ as_leases first before moment given
 seen_shown first ls before came moment given same same_came =
     let live = same_held first ls same in
     λ i. record { live = live i; came = same_came i; moment = moment; given = given }

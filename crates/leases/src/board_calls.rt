@@ -10,7 +10,7 @@ use machine_text::Table;
 use std::alloc::Global;
 
 // The open tables of a board.
-pub fn open_tables(alloc: Global, board: &Board) -> Result<FreeTables, NoMemory>
+pub(crate) fn open_tables(alloc: Global, board: &Board) -> Result<FreeTables, NoMemory>
     ensures { IfOk result (λ free. (t : Packed) → IsOpenOn board.now t → Contains free.tables t) }
 {
     let mut free = FreeTables::new(alloc);
@@ -21,7 +21,7 @@ pub fn open_tables(alloc: Global, board: &Board) -> Result<FreeTables, NoMemory>
 }
 
 // Whether any table is open.
-pub fn has_open(board: &Board) -> bool
+pub(crate) fn has_open(board: &Board) -> bool
     ensures some { IsTrue result → ((t : Packed) × IsOpenOn board.now t) }
     ensures none { result ≡ false → (t : Packed) → IsOpenOn board.now t → ⊥ }
 {

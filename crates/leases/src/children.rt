@@ -32,7 +32,7 @@ fn children_of(board: &Board, t: &Table) -> Option<Children>
 }
 
 // Puts the children of a table, if it is recorded as halting, among the free ones. There is room for them.
-pub fn free_children(free: &mut FreeTables, board: &Board, t: &Table)
+pub(crate) fn free_children(free: &mut FreeTables, board: &Board, t: &Table)
     requires { child_limit ≤ free.old.room }
     ensures more { (q : Packed) → Contains free.old.tables q → Contains free.new.tables q }
     ensures all { (q : Packed) → IsChildTable t.now q → IsHalting board.now.records t.now → Contains free.new.tables q }
@@ -59,7 +59,7 @@ fn free_all(free: &mut FreeTables, found: Children)
 
 // Puts the open children of a table, if it is recorded as halting, under a lease, whose tables these are.
 // There is room for them.
-pub fn lease_children(
+pub(crate) fn lease_children(
     came: &mut IndexMap<Table, u64>,
     tables: &mut IndexSet<Table>,
     board: &Board,

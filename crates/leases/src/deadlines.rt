@@ -13,7 +13,7 @@ use std::marker::Model;
 
 // Entries, each of a moment and the number of a lease, of which the earliest comes first.
 #[derive(Drop)]
-pub struct Deadlines {
+pub(crate) struct Deadlines {
     heap: BinaryHeap<Reverse<(u64, u64)>>,
 }
 

@@ -15,7 +15,7 @@ use std::collections::BTreeMap;
 // Takes out the entries of the leases that have ended by a moment, and lists their numbers. What it meets
 // meanwhile of leases that live no more goes too, and where a lease was renewed, its entry is put at that moment.
 // Memory is refused only where a lease has ended.
-pub fn take_ended(
+pub(crate) fn take_ended(
     deadlines: &mut Deadlines,
     leases: &BTreeMap<u64, HeldLease>,
     numbers: &mut Vec<u64>,
@@ -68,7 +68,7 @@ fn list_ended(
 }
 
 // Puts an entry of the moment 0 in for each of the numbers. There is room for them.
-pub fn put_back(deadlines: &mut Deadlines, numbers: &[u64])
+pub(crate) fn put_back(deadlines: &mut Deadlines, numbers: &[u64])
     requires { length numbers.now ≤ deadlines.old.room }
     ensures more { (r : Reverse (ℕ × ℕ)) → Contains deadlines.old.entries r → Contains deadlines.new.entries r }
     ensures all { (n : ℕ) → Contains numbers.now n → Contains deadlines.new.entries (entry 0 n) }

@@ -4,7 +4,7 @@ ghost use Rattle.machine_text.specs.Packed.{Packed};
 ghost use Rattle.ledger.specs.Contents.{IsOpenOn};
 ghost use Rattle.leases.specs.Leases.{came_under, while_live};
 ghost use Rattle.leases.specs.Asks.{IsFree, IsFirstFree};
-ghost use Rattle.leases.specs.inside.Keeping.{held, seen, without};
+ghost use Rattle.leases.specs.inside.Keeping.{as_lease, as_leases, without};
 
 use crate::free_tables::FreeTables;
 use crate::held_leases::is_numbered;
@@ -15,13 +15,13 @@ use machine_text::Table;
 use tree::child_is_table;
 
 // The number of the live lease under which a table stands, or none. One lease may be left out.
-pub fn lease_of(
+pub(crate) fn lease_of(
     came: &IndexMap<Table, u64>,
     live: &LiveLeases,
     but: Option<u64>,
     t: &Table,
 ) -> Option<u64>
-    ensures { result ≡ while_live (map held (without but live.now)) (came_under came.now.entries t.now) }
+    ensures { result ≡ while_live (map as_lease (without but live.now)) (came_under came.now.entries t.now) }
 {
     match came.get(t) {
         Some(number) => while_lives(live, but, *number),
@@ -31,7 +31,7 @@ pub fn lease_of(
 
 // A number, if its lease lives and isn't left out.
 fn while_lives(live: &LiveLeases, but: Option<u64>, number: u64) -> Option<u64>
-    ensures { result ≡ while_live (map held (without but live.now)) (Some number) }
+    ensures { result ≡ while_live (map as_lease (without but live.now)) (Some number) }
 {
     if live.lives(number) && !is_numbered(but, number) {
         Some(number)
@@ -48,7 +48,7 @@ fn is_free(
     but: Option<u64>,
     t: &Table,
 ) -> bool
-    ensures { IsTrue result ↔ IsFree board.now (seen (without but live.now) came.now.entries 0 0) t.now }
+    ensures { IsTrue result ↔ IsFree board.now (as_leases (without but live.now) came.now.entries 0 0) t.now }
 {
     match lease_of(came, live, but, t) {
         Some(_) => false,
@@ -58,17 +58,17 @@ fn is_free(
 
 // The first open table that is under none. Those before it among the tables that may be free aren't, and are
 // taken out. It stays there itself, until it comes under a lease.
-pub fn first_free(
+pub(crate) fn first_free(
     free: &mut FreeTables,
     board: &Board,
     came: &IndexMap<Table, u64>,
     live: &LiveLeases,
     but: Option<u64>,
 ) -> Option<Table>
-    requires { (q : Packed) → IsFree board.now (seen (without but live.now) came.now.entries 0 0) q → Contains free.old.tables q }
-    ensures kept { (q : Packed) → IsFree board.now (seen (without but live.now) came.now.entries 0 0) q → Contains free.new.tables q }
-    ensures first { IfSome result (λ t. IsFirstFree board.now (seen (without but live.now) came.now.entries 0 0) t) }
-    ensures none { IfNone result ((q : Packed) → IsFree board.now (seen (without but live.now) came.now.entries 0 0) q → ⊥) }
+    requires { (q : Packed) → IsFree board.now (as_leases (without but live.now) came.now.entries 0 0) q → Contains free.old.tables q }
+    ensures kept { (q : Packed) → IsFree board.now (as_leases (without but live.now) came.now.entries 0 0) q → Contains free.new.tables q }
+    ensures first { IfSome result (λ t. IsFirstFree board.now (as_leases (without but live.now) came.now.entries 0 0) t) }
+    ensures none { IfNone result ((q : Packed) → IsFree board.now (as_leases (without but live.now) came.now.entries 0 0) q → ⊥) }
 {
     child_is_table();
     // The proof needs that the open tables are tables.

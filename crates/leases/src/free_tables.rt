@@ -2,7 +2,7 @@
 ghost use Rattle.std.specs.Prelude.{◌≡◌, ℕ, ◌+◌, ◌<◌, ◌≤◌, [], Contains, OnOk, OnErr, IsOk, IfSome, IfNone, false, length};
 ghost use Rattle.std.specs.Ordering.{is_lt};
 ghost use Rattle.machine_text.specs.Packed.{Packed};
-ghost use Rattle.ledger.specs.inside.Open.{table_cmp};
+ghost use Rattle.machine_text.specs.Order.{table_cmp};
 ghost use Rattle.leases.specs.inside.Free.{ComesIn, IsOnTop, LosesOnly};
 
 use evidence::NoMemory;
@@ -14,7 +14,7 @@ use std::marker::Model;
 
 // Tables, of which the first in the order of texts comes first. A table may be in it more than once.
 #[derive(Drop)]
-pub struct FreeTables {
+pub(crate) struct FreeTables {
     heap: BinaryHeap<Reverse<Table>>,
 }
 

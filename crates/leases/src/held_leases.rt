@@ -14,21 +14,21 @@ use std::alloc::Global;
 // A live lease, which stands under its number: its worker, when it was given or renewed, and the open tables that
 // are under it.
 #[derive(Drop)]
-pub struct HeldLease {
+pub(crate) struct HeldLease {
     pub id: u32,
     pub renewed: u64,
     pub tables: IndexSet<Table>,
 }
 
 // Whether a lease that was given or renewed then has ended by a moment.
-pub fn is_due(renewed: u64, moment: u64) -> bool
+pub(crate) fn is_due(renewed: u64, moment: u64) -> bool
     ensures { result ≡ nat_le (renewed + lease_time) moment }
 {
     moment >= LEASE_TIME && renewed <= moment - LEASE_TIME
 }
 
 // Whether this is the number.
-pub fn is_numbered(which: Option<u64>, number: u64) -> bool
+pub(crate) fn is_numbered(which: Option<u64>, number: u64) -> bool
     ensures { result ≡ is_numbered which number }
 {
     match which {
@@ -38,7 +38,7 @@ pub fn is_numbered(which: Option<u64>, number: u64) -> bool
 }
 
 // A table alone.
-pub fn only(alloc: Global, t: Table) -> Result<IndexSet<Table>, NoMemory>
+pub(crate) fn only(alloc: Global, t: Table) -> Result<IndexSet<Table>, NoMemory>
     ensures { IfOk result (λ tables. tables.keys ≡ t ∷ []) }
 {
     let mut tables = IndexSet::new(alloc);
@@ -47,7 +47,7 @@ pub fn only(alloc: Global, t: Table) -> Result<IndexSet<Table>, NoMemory>
 }
 
 // Puts tables among the free ones.
-pub fn offer_all(free: &mut FreeTables, tables: &[Table]) -> Result<(), NoMemory>
+pub(crate) fn offer_all(free: &mut FreeTables, tables: &[Table]) -> Result<(), NoMemory>
     ensures more { (q : Packed) → Contains free.old.tables q → Contains free.new.tables q }
     ensures ok { OnOk result ((q : Packed) → Contains tables.now q → Contains free.new.tables q) }
 {

@@ -35,14 +35,14 @@ pub struct LeasedBoard {
 
 impl Model for LeasedBoard {
     ghost use Rattle.leases.specs.Leases.{Leased, AreLeases};
-    ghost use Rattle.leases.specs.inside.Keeping.{seen, IsKept};
+    ghost use Rattle.leases.specs.inside.Keeping.{as_leases, IsKept};
     ghost use Rattle.leases.specs.inside.Deadlines.{AreNotAhead};
 
     ghost Value = { Leased };
 
-    ghost view = { λ a. record { board = a.board; leases = seen a.live a.came_under.entries a.moment a.given } };
+    ghost view = { λ a. record { board = a.board; leases = as_leases a.live a.came_under.entries a.moment a.given } };
 
-    ghost invariant = { λ a. (AreLeases a.board (seen a.live a.came_under.entries a.moment a.given)
+    ghost invariant = { λ a. (AreLeases a.board (as_leases a.live a.came_under.entries a.moment a.given)
         × IsKept a.board a.live a.came_under.entries a.free.tables) × AreNotAhead a.moment a.live };
 }
 

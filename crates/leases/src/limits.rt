@@ -9,10 +9,10 @@ pub const MAX_LEASES: usize = 4096;
 pub const LEASE_TIME: u64 = 60;
 
 /// A table has so many children at most.
-pub const MAX_CHILDREN: usize = 24;
+pub(crate) const MAX_CHILDREN: usize = 24;
 
 // Whether one more lease may live, and a number is left for it.
-pub fn may_grant(live: usize, given: u64) -> bool
+pub(crate) fn may_grant(live: usize, given: u64) -> bool
     ensures { IsTrue result ↔ ((live < lease_limit) × (given < last_number)) }
 {
     live < MAX_LEASES && given < u64::MAX

@@ -7,7 +7,7 @@ ghost use Rattle.machine_text.specs.Packed.{Packed};
 ghost use Rattle.indexmap.specs.IndexMap.{spare};
 ghost use Rattle.leases.specs.Leases.{SomeEnds, is_live};
 ghost use Rattle.leases.specs.Limits.{child_limit};
-ghost use Rattle.leases.specs.inside.Keeping.{KeptLease, kept, held, is_numbered, without, are_numbered, without_each, AreDue, AreAmongFree, IsOwn};
+ghost use Rattle.leases.specs.inside.Keeping.{KeptLease, kept_lease, as_lease, is_numbered, without, are_numbered, without_each, AreDue, AreAmongFree, IsOwn};
 ghost use Rattle.leases.specs.inside.Children.{Renews, RenewsOne, HasRoomForChildren, shown};
 ghost use Rattle.leases.specs.inside.Deadlines.{AreNotAhead};
 
@@ -27,7 +27,7 @@ use std::marker::Model;
 
 // The live leases in the order of their numbers, which is that in which they were given.
 #[derive(Drop)]
-pub struct LiveLeases {
+pub(crate) struct LiveLeases {
     leases: BTreeMap<u64, HeldLease>,
     // the number of each worker's lease
     of_worker: IndexMap<u32, u64>,
@@ -40,12 +40,12 @@ impl Model for LiveLeases {
     ghost use Rattle.std.specs.Ordering.{nat_cmp};
     ghost use Rattle.std.specs.BTreeMap.{get as lease_at, IsOrdered};
     ghost use Rattle.indexmap.specs.IndexMap.{get as number_of};
-    ghost use Rattle.leases.specs.inside.Keeping.{KeptLease, kept, AreOfWorkers};
+    ghost use Rattle.leases.specs.inside.Keeping.{KeptLease, kept_lease, AreOfWorkers};
     ghost use Rattle.leases.specs.inside.Deadlines.{AreAwaited};
 
     ghost Value = { List KeptLease };
 
-    ghost view = { λ a. map kept a.leases.entries };
+    ghost view = { λ a. map kept_lease a.leases.entries };
 
     ghost invariant = { λ a. IsOrdered nat_cmp a.leases × AreOfWorkers (number_of nat_eq a.of_worker) (lease_at nat_cmp a.leases)
         × AreAwaited a.deadlines.entries (lease_at nat_cmp a.leases) };
@@ -65,7 +65,7 @@ impl LiveLeases {
 
     // Whether a lease of this number lives.
     pub fn lives(&self, number: u64) -> bool
-        ensures { result ≡ is_live (map held self.now) number }
+        ensures { result ≡ is_live (map as_lease self.now) number }
     {
         self.leases.contains_key(&number)
     }
@@ -95,8 +95,8 @@ impl LiveLeases {
     // The numbers of the leases that have ended by a moment. Memory is refused only where there is one.
     pub fn due(&mut self, alloc: Global, moment: u64) -> Result<Vec<u64>, NoMemory>
         ensures same { self.new ≡ self.old }
-        ensures ok { IfOk result (λ numbers. AreDue moment (map held self.old) numbers.items) }
-        ensures err { OnErr result (SomeEnds moment (map held self.old)) }
+        ensures ok { IfOk result (λ numbers. AreDue moment (map as_lease self.old) numbers.items) }
+        ensures err { OnErr result (SomeEnds moment (map as_lease self.old)) }
     {
         let mut numbers = Vec::new(alloc);
         let all = take_ended(&mut self.deadlines, &self.leases, &mut numbers, moment);
@@ -110,7 +110,7 @@ impl LiveLeases {
     pub fn offer_tables(&self, which: Option<u64>, free: &mut FreeTables) -> Result<(), NoMemory>
         ensures more { (q : Packed) → Contains free.old.tables q → Contains free.new.tables q }
         ensures ok { OnOk result (AreAmongFree (λ l. is_numbered which l.number) self.now free.new.tables) }
-        ensures err { OnErr result (IfSome which (λ n. is_live (map held self.now) n ≡ true)) }
+        ensures err { OnErr result (IfSome which (λ n. is_live (map as_lease self.now) n ≡ true)) }
     {
         let Some(number) = which else {
             return Ok(());
@@ -137,7 +137,7 @@ impl LiveLeases {
     pub fn offer_each(&self, numbers: &[u64], free: &mut FreeTables) -> Result<(), NoMemory>
         ensures more { (q : Packed) → Contains free.old.tables q → Contains free.new.tables q }
         ensures ok { OnOk result (AreAmongFree (λ l. are_numbered numbers.now l.number) self.now free.new.tables) }
-        ensures err { OnErr result ((n : ℕ) × Contains numbers.now n × (is_live (map held self.now) n ≡ true)) }
+        ensures err { OnErr result ((n : ℕ) × Contains numbers.now n × (is_live (map as_lease self.now) n ≡ true)) }
     {
         for number in numbers {
             self.offer_tables(Some(*number), free)?;
@@ -163,7 +163,7 @@ impl LiveLeases {
     ) -> Result<(), NoMemory>
         requires last { All (λ l. l.number < number) self.old }
         requires own { IsOwn lease.id own self.old }
-        ensures ok { OnOk result (self.new ≡ without own self.old ++ (kept (number, lease) ∷ [])) }
+        ensures ok { OnOk result (self.new ≡ without own self.old ++ (kept_lease (number, lease) ∷ [])) }
         ensures err { OnErr result (self.new ≡ self.old) }
     {
         let id = lease.id;
@@ -201,7 +201,7 @@ impl LiveLeases {
         moment: u64,
         t: &Table,
     )
-        requires lives { is_live (map held self.old) number ≡ true }
+        requires lives { is_live (map as_lease self.old) number ≡ true }
         requires room { HasRoomForChildren number self.old }
         requires came { child_limit ≤ spare came.old }
         requires ahead { AreNotAhead moment self.old }
@@ -217,7 +217,7 @@ impl LiveLeases {
 // Takes a lease out, if it is there.
 fn take_out(leases: &mut BTreeMap<u64, HeldLease>, which: Option<u64>)
     requires { IsOrdered nat_cmp leases.old }
-    ensures kept { map kept leases.new.entries ≡ without which (map kept leases.old.entries) }
+    ensures kept { map kept_lease leases.new.entries ≡ without which (map kept_lease leases.old.entries) }
     ensures at { (q : ℕ) → lease_at nat_cmp leases.new q ≡ cond (is_numbered which q) None (lease_at nat_cmp leases.old q) }
     ensures ordered { IsOrdered nat_cmp leases.new }
 {
@@ -235,9 +235,9 @@ fn renew_lease(
     moment: u64,
     t: &Table,
 )
-    requires room { child_limit ≤ (kept (number, lease.old)).room }
+    requires room { child_limit ≤ (kept_lease (number, lease.old)).room }
     requires came { child_limit ≤ spare came.old }
-    ensures { Renews board.now t.now moment (kept (number, lease.old)) (kept (number, lease.new)) came.old.entries came.new.entries }
+    ensures { Renews board.now t.now moment (kept_lease (number, lease.old)) (kept_lease (number, lease.new)) came.old.entries came.new.entries }
 {
     lease.renewed = moment;
     lease.tables.swap_remove(t);

@@ -2,8 +2,8 @@
 use Rattle.std.proofs.Common.{◌≡◌, ℕ, ◌+◌, ◌-◌, ◌≤◌, List, [], ◌∷◌, ◌++◌, length, inl, inr, ◌⊎◌, refl, sym, ap, ◌∙◌, subst, arith, append_assoc, length-append}
 use Rattle.machine_text.specs.Packed.{Packed}
 use Rattle.cert.specs.Claim.{Recorded}
-use Rattle.text.specs.Lines.{HasNoNewline, BeginsWithLine}
-use Rattle.ledger.specs.LedgerText.{header_words, HasHeader, AreTaken, joined, IsUnkept, IsUnkeptLine, IsLeft, ReadsAs}
+use Rattle.text.specs.Lines.{joined, HasNoNewline, BeginsWithLine}
+use Rattle.ledger.specs.LedgerText.{header_words, HasHeader, AreTaken, IsUnkept, IsUnkeptLine, IsLeft, ReadsAs}
 use Rattle.ledger.specs.LedgerLaws.{ReadsAsFirst}
 use Rattle.ledger.specs.declared.left.Left.{Left}
 use Rattle.ledger.specs.declared.left.Left.TheVariants.{Nothing, From}

@@ -13,7 +13,8 @@ use Rattle.tree.specs.Tables.{InTableTree}
 use Rattle.cert.specs.Claim.{Recorded, shown_by}
 use Rattle.ledger.specs.Records.{claim_in, mark_in, mark_of}
 use Rattle.ledger.specs.Held.{IsHoldout}
-use Rattle.ledger.specs.inside.Open.{table_cmp, IsOpenMap}
+use Rattle.machine_text.specs.Order.{table_cmp}
+use Rattle.ledger.specs.inside.Open.{IsOpenMap}
 use Rattle.ledger.specs.Contents.{Contents, IsBoard}
 use Rattle.ledger.specs.Tally.{AreAll, AreSoMany, IsGreatestCount, IsChampion}
 use Rattle.ledger.specs.inside.Counting.{is_undecided, undecided_table, is_champion, champion_table, steps_of, tables_with}

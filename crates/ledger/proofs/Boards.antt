@@ -16,7 +16,8 @@ use Rattle.ledger.specs.Held.{IsHoldout, Settles, settled}
 use Rattle.ledger.specs.Contents.{IsBoard}
 use Rattle.ledger.specs.inside.Keeping.{entry_recorded, records_of, KnowsPair}
 use Rattle.ledger.specs.inside.Counting.{IsCounted, with_shown, without_holdout, is_halting, is_never, is_undecided}
-use Rattle.ledger.specs.inside.Open.{table_cmp, others, AreChildrenAt, IsOpenMap, IsNewChild}
+use Rattle.machine_text.specs.Order.{table_cmp}
+use Rattle.ledger.specs.inside.Open.{others, AreChildrenAt, IsOpenMap, IsNewChild}
 use Rattle.ledger.specs.declared.kept.Kept.{Kept}
 use Rattle.ledger.specs.declared.counts.Counts.{Counts}
 use Rattle.ledger.proofs.Entries.{no_entry, an_entry, entry_last, entry_settled, inserted_pairs, holdout_shows}

@@ -15,7 +15,8 @@ use Rattle.ledger.specs.Contents.{IsBoard}
 use Rattle.ledger.specs.Tally.{AreSoMany}
 use Rattle.ledger.specs.inside.Counting.{is_undecided, IsCounted}
 use Rattle.ledger.specs.inside.Keeping.{entry_recorded, records_of, KnowsPair}
-use Rattle.ledger.specs.inside.Open.{table_cmp, IsNewChild, IsOpenMap}
+use Rattle.machine_text.specs.Order.{table_cmp}
+use Rattle.ledger.specs.inside.Open.{IsNewChild, IsOpenMap}
 use Rattle.ledger.specs.inside.Carrying.{taking_change, settling_change, ChainMayChange, AreCarried}
 use Rattle.ledger.specs.inside.Trees.{IsIndexed}
 use Rattle.ledger.specs.declared.counts.Counts.{Counts}

@@ -8,9 +8,9 @@ use Rattle.cert.specs.Claim.{Recorded}
 use Rattle.cert.specs.Grammar.{record_of}
 use Rattle.cert.specs.Limits.{record_byte_limit}
 use Rattle.cert.specs.declared.record_fault.RecordFault.TheVariants.{TooLong}
-use Rattle.text.specs.Lines.{HasNoNewline, BeginsWithLine}
+use Rattle.text.specs.Lines.{joined, HasNoNewline, BeginsWithLine}
 use Rattle.ledger.specs.Contents.{Contents}
-use Rattle.ledger.specs.LedgerText.{HasHeader, IsTaken, AreTaken, joined, LineGives, IsUnkeptLine, ReadsAs, LoadGives}
+use Rattle.ledger.specs.LedgerText.{HasHeader, IsTaken, AreTaken, LineGives, IsUnkeptLine, ReadsAs, LoadGives}
 use Rattle.ledger.specs.Loading.{record_start, IsAllTaken, IsLeftSo, IsBodyOf}
 use Rattle.ledger.specs.declared.body.Body.{Body}
 use Rattle.ledger.specs.declared.left.Left.{Left}

@@ -10,7 +10,8 @@ use Rattle.cert.specs.Grammar.{record_text}
 use Rattle.cert.proofs.Lines.{record_line, certified_writable, certified_made}
 use Rattle.cert.proofs.RoundTrip.{record_of-record_text}
 use Rattle.ledger.specs.Contents.{Contents, IsBoard}
-use Rattle.ledger.specs.LedgerText.{header_words, IsTaken, joined, ReadsAs}
+use Rattle.text.specs.Lines.{joined}
+use Rattle.ledger.specs.LedgerText.{header_words, IsTaken, ReadsAs}
 use Rattle.ledger.specs.declared.left.Left.TheVariants.{Nothing, From}
 use Rattle.ledger.specs.declared.left.Unkept.{Unkept}
 use Rattle.ledger.proofs.BoardLaws.{marked_in_tree}

@@ -3,8 +3,8 @@ use Rattle.std.proofs.Common.{◌≡◌, ℕ, ◌+◌, ◌≤◌, List, [], ◌�
 use Rattle.machine_text.specs.Packed.{Packed}
 use Rattle.cert.specs.Claim.{Recorded}
 use Rattle.cert.specs.Grammar.{record_of}
-use Rattle.text.specs.Lines.{HasNoNewline, BeginsWithLine}
-use Rattle.ledger.specs.LedgerText.{IsTaken, AreTaken, joined, IsUnkeptLine, IsUnkept, HasHeader, header_words}
+use Rattle.text.specs.Lines.{joined, HasNoNewline, BeginsWithLine}
+use Rattle.ledger.specs.LedgerText.{IsTaken, AreTaken, IsUnkeptLine, IsUnkept, HasHeader, header_words}
 use Rattle.ledger.specs.declared.left.Unkept.{Unkept}
 use Rattle.ledger.specs.declared.left.Unkept.TheVariants.{Torn, Unread, Unfit, Repeated}
 

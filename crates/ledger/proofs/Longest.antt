@@ -7,8 +7,8 @@ use Rattle.cert.specs.Claim.{Recorded}
 use Rattle.cert.specs.Grammar.{record_of}
 use Rattle.ledger.specs.Held.{IsFit, Settles}
 use Rattle.ledger.specs.Offers.{OfferGives}
-use Rattle.text.specs.Lines.{BeginsWithLine}
-use Rattle.ledger.specs.LedgerText.{header_words, HasHeader, AreTaken, joined, IsUnkept, ReadsAs}
+use Rattle.text.specs.Lines.{joined, BeginsWithLine}
+use Rattle.ledger.specs.LedgerText.{header_words, HasHeader, AreTaken, IsUnkept, ReadsAs}
 use Rattle.ledger.specs.LedgerLaws.{IsLongest}
 use Rattle.ledger.specs.Lists.{IsFitAfter, AreKept, held, Offer, AreOffered, answered, answered_with, AreFitLines}
 use Rattle.ledger.specs.declared.taken.Taken.{Taken}

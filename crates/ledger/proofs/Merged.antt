@@ -5,6 +5,7 @@ use Rattle.turing.specs.Halting.{Never as NeverHalts}
 use Rattle.evidence.specs.declared.verdicts.Verdict.{Verdict}
 use Rattle.evidence.specs.declared.verdicts.Verdict.TheVariants.{Halts, Never}
 use Rattle.tree.specs.Closed.{Mark, Halting, NeverHalting, Holdout, IsTrueMark, AreTrueMarks, IsVerdict, IsOpen, IsComplete}
+use Rattle.cert.specs.Certified.{IsCertified}
 use Rattle.cert.specs.Claim.{Claim, Recorded, shown_by}
 use Rattle.cert.proofs.Refusals.{refused_or_certified}
 use Rattle.ledger.specs.Records.{same_table, claim_in, mark_in, mark_of, mark_by, verdict_in, shown_where}
@@ -114,6 +115,11 @@ fit_at root earlier (x ∷ xs) r rest fit = subst (λ (l : List Recorded). IsFit
 
 fit_next : (other : Contents) (start rest : List Recorded) (r : Recorded) → IsBoard other → other.records ≡ start ++ (r ∷ rest) → IsFit other.root start r
 fit_next other start rest r board split = fit_at other.root [] start r rest (subst (AreFitAfter other.root []) split board.held.fit)
+
+-- the next record of the other board is certified
+pub next_certified : (root : Packed) (other : Contents) (old left rest cur : List Recorded) (r : Recorded) → IsBoard other → MergedSoFar root old other.records left cur → left ≡ r ∷ rest → IsCertified r
+next_certified root other old left rest cur r board before next =
+    (fit_next other before.start rest r board (before.split ∙ ap (λ (l : List Recorded). before.start ++ l) next)).certified
 
 pub one_more : (root : Packed) (other : Contents) (old left rest cur new : List Recorded) (r : Recorded) (taken : Taken) → IsBoard other → MergedSoFar root old other.records left cur → left ≡ r ∷ rest
     → OfferGives root cur r (Ok taken) new → MergedSoFar root old other.records rest new

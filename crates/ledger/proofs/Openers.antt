@@ -16,7 +16,8 @@ use Rattle.cert.specs.Claim.{Claim, Recorded, shown_by}
 use Rattle.ledger.specs.Records.{same_table, claim_in}
 use Rattle.ledger.specs.Held.{settled}
 use Rattle.ledger.specs.inside.Counting.{is_halting, says_halts}
-use Rattle.ledger.specs.inside.Open.{table_cmp, others, AreChildrenAt, IsOpener}
+use Rattle.machine_text.specs.Order.{table_cmp}
+use Rattle.ledger.specs.inside.Open.{others, AreChildrenAt, IsOpener}
 use Rattle.ledger.proofs.Same.{same_is, same_at}
 use Rattle.ledger.proofs.Claims.{claim_here, claim_past, settled_here, settled_past}
 use Rattle.ledger.proofs.Entries.{all_first, all_rest}

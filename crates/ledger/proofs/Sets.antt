@@ -15,7 +15,8 @@ use Rattle.std.specs.Map.{lookup}
 use Rattle.std.specs.Option.{is_some}
 use Rattle.std.proofs.lemmas.Map.Lookups.{exact_bytes, exact_unsigned}
 use Rattle.machine_text.specs.Packed.{Packed}
-use Rattle.ledger.specs.inside.Open.{table_cmp, others, HasUnrecorded}
+use Rattle.machine_text.specs.Order.{table_cmp}
+use Rattle.ledger.specs.inside.Open.{others, HasUnrecorded}
 
 -- the order of tables tells them apart
 then_equal : (a b : Ordering) → ordering_then a b ≡ Equal → (a ≡ Equal) × (b ≡ Equal)

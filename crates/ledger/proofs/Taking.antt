@@ -18,7 +18,8 @@ use Rattle.ledger.specs.Records.{claim_in, mark_in, mark_of, mark_by}
 use Rattle.ledger.specs.Held.{IsHoldout, Settles, settled}
 use Rattle.ledger.specs.Contents.{Contents, IsBoard}
 use Rattle.ledger.specs.inside.Counting.{is_halting, says_halts}
-use Rattle.ledger.specs.inside.Open.{table_cmp, others, AreChildrenAt, IsOpener, IsOpenMap, IsNewChild}
+use Rattle.machine_text.specs.Order.{table_cmp}
+use Rattle.ledger.specs.inside.Open.{others, AreChildrenAt, IsOpener, IsOpenMap, IsNewChild}
 use Rattle.ledger.proofs.Apart.{held_apart}
 use Rattle.ledger.proofs.HeldLaws.{unmarked, held_more, held_settled}
 use Rattle.ledger.proofs.OpenAfter.{pair_halts}

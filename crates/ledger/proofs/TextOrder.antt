@@ -16,7 +16,7 @@ use Rattle.machine_text.specs.Packed.{Packed, IsTable}
 use Rattle.machine_text.specs.Text.{text_of}
 use Rattle.machine_text.proofs.Order.{order_of_texts}
 use Rattle.ledger.specs.Records.{same_table}
-use Rattle.ledger.specs.inside.Open.{table_cmp}
+use Rattle.machine_text.specs.Order.{table_cmp}
 use Rattle.ledger.specs.Tally.{AreInTextOrder, AreAll}
 use Rattle.ledger.proofs.Same.{same_is, same_at, same_flips}
 use Rattle.ledger.proofs.Sets.{exact_tables, tables_total}

@@ -11,7 +11,8 @@ use Rattle.cert.proofs.Lines.{by_test, text_line, record_line, certified_writabl
 use Rattle.cert.proofs.RoundTrip.{record_of-record_text}
 use Rattle.ledger.specs.Contents.{IsBoard}
 use Rattle.ledger.specs.Held.{AreFitAfter, IsHeld}
-use Rattle.ledger.specs.LedgerText.{header_words, AreTaken, joined, ReadsAs, ledger_text}
+use Rattle.text.specs.Lines.{joined}
+use Rattle.ledger.specs.LedgerText.{header_words, AreTaken, ReadsAs, ledger_text}
 use Rattle.ledger.specs.declared.left.Left.TheVariants.{Nothing as NothingLeft}
 use Rattle.ledger.proofs.HeldLaws.{held_more}
 use Rattle.ledger.proofs.OpenLaws.{open_in_tree}

@@ -1,5 +1,5 @@
--- The refusal number of each fault, and the sentence that says it.
-use Rattle.std.specs.Prelude.{ℕ, List, codes}
+-- The refusal number of each fault, which refused memory doesn't have, and the sentence that says it.
+use Rattle.std.specs.Prelude.{ℕ, List, Option, Some, None, codes}
 use Rattle.evidence.specs.declared.verdicts.Refused.TheVariants.{Fails, TooLong, TooWide, NoMemory as WantsMemory}
 use Rattle.evidence.specs.Verdict.{refused_number}
 use Rattle.cert.specs.Fault.{record_fault_text}
@@ -14,24 +14,24 @@ use Rattle.ledger.specs.declared.faults.MergeFault.TheVariants.{WrongRoot as Oth
 use Rattle.ledger.specs.declared.left.Unkept.{Unkept}
 use Rattle.ledger.specs.declared.left.Unkept.TheVariants.{Torn, Unread, Unfit, Repeated}
 
-abbrev pub board_fault_number : BoardFault → ℕ
-board_fault_number NotInOrder = 401
-board_fault_number NoBoardMemory = 0
+abbrev pub board_fault_number : BoardFault → Option ℕ
+board_fault_number NotInOrder = Some 401
+board_fault_number NoBoardMemory = None
 
-abbrev pub offer_fault_number : OfferFault → ℕ
-offer_fault_number NotOpen = 402
-offer_fault_number WrongSize = 403
+abbrev pub offer_fault_number : OfferFault → Option ℕ
+offer_fault_number NotOpen = Some 402
+offer_fault_number WrongSize = Some 403
 offer_fault_number (IsRefused f) = refused_number f
-offer_fault_number NoOfferMemory = 0
+offer_fault_number NoOfferMemory = None
 
-abbrev pub load_fault_number : LoadFault → ℕ
-load_fault_number BadHeader = 404
-load_fault_number WrongRoot = 405
-load_fault_number NoLoadMemory = 0
+abbrev pub load_fault_number : LoadFault → Option ℕ
+load_fault_number BadHeader = Some 404
+load_fault_number WrongRoot = Some 405
+load_fault_number NoLoadMemory = None
 
-abbrev pub merge_fault_number : MergeFault → ℕ
-merge_fault_number OtherRoot = 405
-merge_fault_number NoMergeMemory = 0
+abbrev pub merge_fault_number : MergeFault → Option ℕ
+merge_fault_number OtherRoot = Some 405
+merge_fault_number NoMergeMemory = None
 
 abbrev pub board_fault_text : BoardFault → List ℕ
 board_fault_text NotInOrder = codes "the root does not name its states in order"

@@ -2,7 +2,8 @@
 use Rattle.std.specs.Prelude.{◌≡◌, ℕ, List, [], ◌++◌}
 use Rattle.machine_text.specs.Packed.{Packed}
 use Rattle.cert.specs.Claim.{Recorded}
-use Rattle.ledger.specs.LedgerText.{joined, ReadsAs}
+use Rattle.text.specs.Lines.{joined}
+use Rattle.ledger.specs.LedgerText.{ReadsAs}
 use Rattle.ledger.specs.Lists.{held, AreFitLines}
 use Rattle.ledger.specs.declared.left.Left.{Left}
 

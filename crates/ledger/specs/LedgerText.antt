@@ -7,7 +7,7 @@ use Rattle.tree.specs.Used.{InOrder}
 use Rattle.cert.specs.Claim.{Recorded}
 use Rattle.cert.specs.Grammar.{record_of, record_text}
 use Rattle.ledger.specs.Contents.{Contents}
-use Rattle.text.specs.Lines.{HasNoNewline, BeginsWithLine}
+use Rattle.text.specs.Lines.{joined, HasNoNewline, BeginsWithLine}
 use Rattle.ledger.specs.Held.{IsFit, Settles, settled}
 use Rattle.ledger.specs.Offers.{OfferGives}
 use Rattle.ledger.specs.declared.taken.Taken.TheVariants.{Known}
@@ -54,11 +54,6 @@ AreTaken root old [] new = new ≡ old
 AreTaken root old (line ∷ lines) new =
     (r : Recorded) × (mid : List Recorded) × HasNoNewline line × (record_of line ≡ Ok r) × IsTaken root old r mid × AreTaken root mid lines new
 
--- lines, each with its newline
-abbrev pub joined : List (List ℕ) → List ℕ
-joined [] = []
-joined (line ∷ lines) = line ++ (10 ∷ joined lines)
-
 -- why a line isn't kept behind the records rs
 abbrev pub IsUnkeptLine : Packed → List Recorded → List ℕ → Unkept → Type 0
 IsUnkeptLine root rs line Torn = ⊥
@@ -100,6 +95,10 @@ pub record ReadsAs (root : Packed) (text : List ℕ) (rs : List Recorded) (left 
   pub body : List ℕ
   pub header : HasHeader text root body
   pub keeps : Keeps root (length text) body [] rs left
+
+-- the text is the ledger of a board, which is in step with it: it reads as the board, and all of it is kept
+abbrev pub IsLedgerOf : Contents → List ℕ → Type 0
+IsLedgerOf b text = ReadsAs b.root text b.records Nothing
 
 -- what is left of a text that is torn off within its header
 abbrev pub IsTornLeft : List ℕ → Left → Type 0

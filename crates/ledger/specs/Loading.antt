@@ -3,9 +3,9 @@ use Rattle.std.specs.Prelude.{◌≡◌, ◌≢◌, ℕ, ◌+◌, ◌≤◌, nat
 use Rattle.machine_text.specs.Packed.{Packed}
 use Rattle.machine_text.specs.Text.{table_of}
 use Rattle.cert.specs.Limits.{record_byte_limit}
-use Rattle.text.specs.Lines.{HasNoNewline}
+use Rattle.text.specs.Lines.{joined, HasNoNewline}
 use Rattle.ledger.specs.Limits.{header_byte_limit}
-use Rattle.ledger.specs.LedgerText.{header_words, HasHeader, AreTaken, joined, ReadsAs, LoadGives}
+use Rattle.ledger.specs.LedgerText.{header_words, HasHeader, AreTaken, ReadsAs, LoadGives}
 use Rattle.ledger.specs.declared.left.Left.{Left}
 use Rattle.ledger.specs.declared.faults.LoadFault.TheVariants.{NoMemory}
 use Rattle.ledger.specs.declared.body.Body.{Body}

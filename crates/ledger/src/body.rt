@@ -18,7 +18,7 @@ use std::alloc::Global;
 
 /// The lines behind a header, up to one that isn't kept.
 #[derive(Drop)]
-pub struct Body {
+pub(crate) struct Body {
     board: Board,
     // of the line that isn't finished; that of the header is 1
     number: u64,

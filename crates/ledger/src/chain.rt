@@ -10,7 +10,7 @@ use machine_text::Table;
 
 // Carries a change up from the record at a place: each record of its chain counts it. As a child has fewer
 // undefined pairs than its parent, there are no more of them than a table has pairs.
-pub fn carry_up(records: &mut IndexMap<Table, Kept>, from: u32, change: TreeChange)
+pub(crate) fn carry_up(records: &mut IndexMap<Table, Kept>, from: u32, change: TreeChange)
     requires there { HasChain records.old.entries from }
     requires earlier { AreEarlier records.old.entries }
     requires room { ChainMayChange records.old.entries from change }

@@ -19,7 +19,7 @@ use tnf::{Children, children};
 use tree::children_listed;
 
 // The children of a table in order that halts on a pair, in the order of their texts.
-pub fn children_on(parent: &Table, pair: Pair) -> Children
+pub(crate) fn children_on(parent: &Table, pair: Pair) -> Children
     requires in_order { (u : ℕ) × InOrder u (entry_of parent.now) }
     requires halts { (k : ℕ) × HaltsOnPair parent.now k pair }
     ensures members { (t : Packed) → Contains result t ↔ IsChildTable parent.now t }
@@ -33,7 +33,7 @@ pub fn children_on(parent: &Table, pair: Pair) -> Children
 }
 
 // How many children a record's table has, which halts on this pair if it is known to.
-pub fn child_count(r: &Record, halts_on: Option<Pair>) -> u64
+pub(crate) fn child_count(r: &Record, halts_on: Option<Pair>) -> u64
     requires in_order { (u : ℕ) × InOrder u (entry_of r.now.table) }
     requires pair { IsPairOf (shown_by (claim_of r.now.certificate)) r.now.table halts_on }
     ensures number { AreSoMany (λ t. ((k : ℕ) × (shown_by (claim_of r.now.certificate) ≡ Some (Halts k))) × IsChildTable r.now.table t) result }

@@ -7,7 +7,7 @@ use evidence::Verdict;
 // How many records there are of each kind, and the greatest number of steps of those that say that their
 // table halts.
 #[derive(Clone, Copy)]
-pub struct Counts {
+pub(crate) struct Counts {
     pub halting: u64,
     pub never: u64,
     pub undecided: u64,
@@ -64,7 +64,7 @@ impl Counts {
 }
 
 // The greater of two numbers of which either may be missing.
-pub fn greater(a: Option<u64>, b: Option<u64>) -> Option<u64>
+pub(crate) fn greater(a: Option<u64>, b: Option<u64>) -> Option<u64>
     ensures { result ≡ greater a b }
 {
     a.max(b)

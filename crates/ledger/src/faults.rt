@@ -52,13 +52,13 @@ pub enum MergeFault {
 impl BoardFault {
     ghost use Rattle.ledger.specs.Faults.{board_fault_number};
 
-    /// The refusal number: 401; 0 where memory was refused, which has none.
-    pub fn number(&self) -> u16
+    /// The refusal number: 401; none where memory was refused.
+    pub fn number(&self) -> Option<u16>
         ensures { result ≡ board_fault_number self.now }
     {
         match self {
-            BoardFault::NotInOrder => 401,
-            BoardFault::NoMemory => 0,
+            BoardFault::NotInOrder => Some(401),
+            BoardFault::NoMemory => None,
         }
     }
 }
@@ -66,15 +66,15 @@ impl BoardFault {
 impl OfferFault {
     ghost use Rattle.ledger.specs.Faults.{offer_fault_number};
 
-    /// The refusal number: 402, 403, or that of the certificate; 0 where memory was refused, which has none.
-    pub fn number(&self) -> u16
+    /// The refusal number: 402, 403, or that of the certificate; none where memory was refused.
+    pub fn number(&self) -> Option<u16>
         ensures { result ≡ offer_fault_number self.now }
     {
         match self {
-            OfferFault::NotOpen => 402,
-            OfferFault::WrongSize => 403,
+            OfferFault::NotOpen => Some(402),
+            OfferFault::WrongSize => Some(403),
             OfferFault::Refused(refused) => refused.number(),
-            OfferFault::NoMemory => 0,
+            OfferFault::NoMemory => None,
         }
     }
 }
@@ -82,14 +82,14 @@ impl OfferFault {
 impl LoadFault {
     ghost use Rattle.ledger.specs.Faults.{load_fault_number};
 
-    /// The refusal number: 404, 405; 0 where memory was refused, which has none.
-    pub fn number(&self) -> u16
+    /// The refusal number: 404, 405; none where memory was refused.
+    pub fn number(&self) -> Option<u16>
         ensures { result ≡ load_fault_number self.now }
     {
         match self {
-            LoadFault::BadHeader => 404,
-            LoadFault::WrongRoot => 405,
-            LoadFault::NoMemory => 0,
+            LoadFault::BadHeader => Some(404),
+            LoadFault::WrongRoot => Some(405),
+            LoadFault::NoMemory => None,
         }
     }
 }
@@ -97,13 +97,13 @@ impl LoadFault {
 impl MergeFault {
     ghost use Rattle.ledger.specs.Faults.{merge_fault_number};
 
-    /// The refusal number: 405; 0 where memory was refused, which has none.
-    pub fn number(&self) -> u16
+    /// The refusal number: 405; none where memory was refused.
+    pub fn number(&self) -> Option<u16>
         ensures { result ≡ merge_fault_number self.now }
     {
         match self {
-            MergeFault::WrongRoot => 405,
-            MergeFault::NoMemory => 0,
+            MergeFault::WrongRoot => Some(405),
+            MergeFault::NoMemory => None,
         }
     }
 }

@@ -11,7 +11,7 @@ use text::first_line;
 use tnf::in_order;
 
 /// What a header begins with.
-pub const HEADER_WORDS: &[u8] = b"bb-ledger 1 ";
+pub(crate) const HEADER_WORDS: &[u8] = b"bb-ledger 1 ";
 
 /// The root that a ledger's text names in its header; none where the text is torn off within the header.
 /// `BadHeader` where the first line is no header with a table that reads, or where the text has no newline
@@ -40,7 +40,7 @@ fn ordered(root: Table) -> Result<Option<Table>, LoadFault>
 
 /// The root that a header at the beginning of a text names, and what stands behind that line; none where
 /// the text is torn off within the header, and `BadHeader` where neither is so.
-pub fn read_header(text: &[u8]) -> Result<Option<(Table, &[u8])>, LoadFault>
+pub(crate) fn read_header(text: &[u8]) -> Result<Option<(Table, &[u8])>, LoadFault>
     ensures { HeaderGives text.now result }
 {
     let Some((line, rest)) = first_line(text) else {
@@ -57,7 +57,7 @@ pub fn read_header(text: &[u8]) -> Result<Option<(Table, &[u8])>, LoadFault>
 }
 
 /// The root of which a line is the header; none where it is no header.
-pub fn root_in(line: &[u8]) -> Option<Table>
+pub(crate) fn root_in(line: &[u8]) -> Option<Table>
     ensures { MatchOption result ((root : Packed) → NamesRoot line.now root → ⊥) (NamesRoot line.now) }
 {
     let Some(name) = line.strip_prefix(HEADER_WORDS) else {
@@ -70,7 +70,7 @@ pub fn root_in(line: &[u8]) -> Option<Table>
 }
 
 /// Whether a text is a beginning of the header's words, or begins with them.
-pub fn is_begun_header(text: &[u8]) -> bool
+pub(crate) fn is_begun_header(text: &[u8]) -> bool
     ensures { IsTrue result ↔ BeginsAsHeader text.now }
 {
     HEADER_WORDS.starts_with(text) || text.starts_with(HEADER_WORDS)

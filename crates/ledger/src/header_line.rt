@@ -9,7 +9,7 @@ const MAX_HEADER_BYTES: usize = 64;
 
 /// A first line, as far as it has come: no more of its bytes than show whether it is a header. It takes no memory.
 #[derive(Drop)]
-pub struct HeaderLine {
+pub(crate) struct HeaderLine {
     buffer: [u8; MAX_HEADER_BYTES],
     len: usize,
 }

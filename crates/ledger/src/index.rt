@@ -19,7 +19,10 @@ use indexmap::IndexMap;
 use machine_text::{Pair, Table};
 
 // What the record for a table claims of it.
-pub fn certificate_for<'a>(records: &'a IndexMap<Table, Kept>, t: &Table) -> Option<Certificate<'a>>
+pub(crate) fn certificate_for<'a>(
+    records: &'a IndexMap<Table, Kept>,
+    t: &Table,
+) -> Option<Certificate<'a>>
     ensures { option_map claim_of result ≡ claim_in (records_of records.now.entries) t.now }
 {
     match records.get(t) {
@@ -29,7 +32,7 @@ pub fn certificate_for<'a>(records: &'a IndexMap<Table, Kept>, t: &Table) -> Opt
 }
 
 // The pair on which a table halts, where it is recorded as halting.
-pub fn pair_for(records: &IndexMap<Table, Kept>, t: &Table) -> Option<Pair>
+pub(crate) fn pair_for(records: &IndexMap<Table, Kept>, t: &Table) -> Option<Pair>
     requires { All KnowsPair records.now.entries }
     ensures some { IfSome result (λ pair. (k : ℕ) × HaltsAfter (records_of records.now.entries) k t.now × HaltsOnPair t.now k pair) }
     ensures none { IfNone result (IsHalting (records_of records.now.entries) t.now → ⊥) }
@@ -41,17 +44,17 @@ pub fn pair_for(records: &IndexMap<Table, Kept>, t: &Table) -> Option<Pair>
 }
 
 // The recorded verdict on a table.
-pub fn verdict_in(records: &IndexMap<Table, Kept>, t: &Table) -> Option<Verdict>
+pub(crate) fn verdict_in(records: &IndexMap<Table, Kept>, t: &Table) -> Option<Verdict>
     ensures { result ≡ verdict_in (records_of records.now.entries) t.now }
 {
-    match certificate_for(records, t) {
-        Some(certificate) => certificate.verdict(),
+    match records.get(t) {
+        Some(kept) => kept.certificate.verdict(),
         None => None,
     }
 }
 
 // The place of a holdout's record.
-pub fn place_of(records: &IndexMap<Table, Kept>, t: &Table) -> usize
+pub(crate) fn place_of(records: &IndexMap<Table, Kept>, t: &Table) -> usize
     requires { IsHoldout (records_of records.now.entries) t.now }
     ensures place { (r : Recorded) × (slice_get (records_of records.now.entries) result ≡ Some r) × (r.table ≡ t.now) × (is_halting r ≡ false) }
     ensures small { result < 2 ^ 63 }
@@ -66,7 +69,7 @@ pub fn place_of(records: &IndexMap<Table, Kept>, t: &Table) -> usize
 }
 
 // What is kept of a holdout's place in the tree: where its parent's record stands, and the numbers of its tree.
-pub fn kept_of_holdout(records: &IndexMap<Table, Kept>, t: &Table) -> (u32, TreeCount)
+pub(crate) fn kept_of_holdout(records: &IndexMap<Table, Kept>, t: &Table) -> (u32, TreeCount)
     requires { IsHoldout (records_of records.now.entries) t.now }
     ensures { (k : KeptRecord) × (lookup (same_table t.now) records.now.entries ≡ Some k) × (result ≡ (k.parent, k.tree)) }
 {
@@ -77,7 +80,7 @@ pub fn kept_of_holdout(records: &IndexMap<Table, Kept>, t: &Table) -> (u32, Tree
 }
 
 // The numbers of a recorded table's tree.
-pub fn tree_count_of(records: &IndexMap<Table, Kept>, t: &Table) -> Option<TreeCount>
+pub(crate) fn tree_count_of(records: &IndexMap<Table, Kept>, t: &Table) -> Option<TreeCount>
     ensures { result ≡ option_map (λ k. k.tree) (lookup (same_table t.now) records.now.entries) }
 {
     match records.get(t) {

@@ -16,7 +16,7 @@ use std::alloc::Global;
 // table are known without another run. The place of the parent's record and the numbers of the tree are kept
 // with it, so that what is left of the tree is known without a walk.
 #[derive(Drop)]
-pub struct Kept {
+pub(crate) struct Kept {
     pub certificate: OwnedCertificate,
     pub halts_on: Option<Pair>,
     // where the record of the table's parent stands; of the root nowhere
@@ -26,7 +26,7 @@ pub struct Kept {
 
 // Whether a record is yet to be judged.
 #[derive(Clone, Copy)]
-pub enum Judging {
+pub(crate) enum Judging {
     // nothing is known of its certificate
     Due,
     // it is certified

@@ -1,6 +1,4 @@
 // What loading leaves of a ledger's text.
-ghost use Rattle.ledger.specs.LedgerText.{IsTornLeft};
-
 use crate::faults::OfferFault;
 use cert::RecordFault;
 use std::fmt;
@@ -34,17 +32,21 @@ pub enum Unkept {
     Repeated,
 }
 
-/// What is left of a text that is torn off within its header.
-pub fn left_of_torn(text: &[u8]) -> Left
-    ensures { IsTornLeft text.now result }
-{
-    if text.is_empty() {
-        Left::Nothing
-    } else {
-        Left::From {
-            line: 1,
-            kept: 0,
-            why: Unkept::Torn,
+impl Left {
+    ghost use Rattle.ledger.specs.LedgerText.{IsTornLeft};
+
+    /// What is left of a text that is torn off within its header: all of it.
+    pub fn of_torn(text: &[u8]) -> Left
+        ensures { IsTornLeft text.now result }
+    {
+        if text.is_empty() {
+            Left::Nothing
+        } else {
+            Left::From {
+                line: 1,
+                kept: 0,
+                why: Unkept::Torn,
+            }
         }
     }
 }

@@ -9,7 +9,7 @@ use std::marker::Model;
 
 /// A line of records, as far as it has come: its bytes, or only that there are more than a record has.
 #[derive(Drop)]
-pub struct LineStart {
+pub(crate) struct LineStart {
     bytes: Vec<u8>,
     overlong: bool,
 }

@@ -29,7 +29,8 @@ impl Board {
             return Err(MergeFault::WrongRoot);
         }
         for r in other.records() {
-            if let Err(fault) = self.offer(&r) {
+            // the other board holds it, so it is certified
+            if let Err(fault) = self.offer_certified(&r) {
                 match fault {
                     OfferFault::NoMemory => return Err(MergeFault::NoMemory),
                     // its certificate stood there, and its parent is recorded here by now

@@ -10,7 +10,8 @@ ghost use Rattle.cert.specs.Kinds.{claim_of, recorded};
 ghost use Rattle.cert.specs.Certified.{IsPairOf};
 ghost use Rattle.ledger.specs.inside.Keeping.{records_of};
 ghost use Rattle.ledger.specs.Records.{claim_in};
-ghost use Rattle.ledger.specs.inside.Open.{table_cmp, others, AreChildrenAt, HasUnrecorded, IsNewChild};
+ghost use Rattle.machine_text.specs.Order.{table_cmp};
+ghost use Rattle.ledger.specs.inside.Open.{others, AreChildrenAt, HasUnrecorded, IsNewChild};
 
 use crate::children::children_on;
 use crate::index::certificate_for;
@@ -24,10 +25,10 @@ use std::collections::BTreeMap;
 use tnf::Children;
 
 // The place of what opened the root, which no record has.
-pub const NO_PLACE: u32 = u32::MAX;
+pub(crate) const NO_PLACE: u32 = u32::MAX;
 
 // The root alone.
-pub fn only(alloc: Global, root: Table) -> Result<BTreeMap<Table, u32>, NoMemory>
+pub(crate) fn only(alloc: Global, root: Table) -> Result<BTreeMap<Table, u32>, NoMemory>
     ensures { IfOk result (λ tables. tables.entries ≡ (root, 4294967295) ∷ []) }
 {
     let mut tables = BTreeMap::new(alloc);
@@ -37,7 +38,7 @@ pub fn only(alloc: Global, root: Table) -> Result<BTreeMap<Table, u32>, NoMemory
 
 // A record's place as it is kept with the tables that it opens, in four bytes. Where it has none, there is no
 // memory for that many records.
-pub fn opener_place(place: usize) -> Result<u32, NoMemory>
+pub(crate) fn opener_place(place: usize) -> Result<u32, NoMemory>
     ensures is { IfOk result (λ kept. kept ≡ place) }
     ensures small { IfOk result (λ kept. kept + 1 < 2 ^ 32) }
 {
@@ -48,7 +49,7 @@ pub fn opener_place(place: usize) -> Result<u32, NoMemory>
 }
 
 // The place of the record that opened a table, which is open.
-pub fn opener_of(tables: &BTreeMap<Table, u32>, t: &Table) -> u32
+pub(crate) fn opener_of(tables: &BTreeMap<Table, u32>, t: &Table) -> u32
     requires { ContainsKey table_cmp tables.now t.now }
     ensures { lookup (is_at (table_cmp t.now)) tables.now.entries ≡ Some result }
 {
@@ -61,7 +62,7 @@ pub fn opener_of(tables: &BTreeMap<Table, u32>, t: &Table) -> u32
 // Opens the children of a record's table, which halts on this pair if it is known to: those that have no
 // record and aren't open already. The record stands at this place, or will. Where memory is refused, the
 // tables are as they were.
-pub fn open_children(
+pub(crate) fn open_children(
     tables: &mut BTreeMap<Table, u32>,
     records: &IndexMap<Table, Kept>,
     r: &Record,

@@ -7,7 +7,7 @@ ghost use Rattle.ledger.specs.inside.Places.{place_by};
 use cert::Certificate;
 
 #[derive(Clone, Copy)]
-pub enum Place {
+pub(crate) enum Place {
     // its table has a verdict, or is a holdout and no verdict is offered
     Known,
     // its table is open
@@ -19,7 +19,7 @@ pub enum Place {
 }
 
 // Where a record stands whose table has one.
-pub fn recorded_place(held: &Certificate, offered: &Certificate) -> Place
+pub(crate) fn recorded_place(held: &Certificate, offered: &Certificate) -> Place
     ensures { result ≡ place_by (shown_by (claim_of held.now)) (shown_by (claim_of offered.now)) }
 {
     match (held.verdict(), offered.verdict()) {

@@ -5,7 +5,7 @@ ghost use Rattle.std.specs.List.{cons_option};
 ghost use Rattle.std.specs.Vec.Iter.{into_iter_items};
 ghost use Rattle.cert.specs.Kinds.{recorded};
 ghost use Rattle.ledger.specs.inside.Counting.{undecided_table, champion_table, tables_with};
-ghost use Rattle.ledger.specs.inside.Open.{table_cmp};
+ghost use Rattle.machine_text.specs.Order.{table_cmp};
 
 use crate::records::Records;
 use cert::Record;
@@ -16,7 +16,7 @@ use std::alloc::Global;
 use std::vec::IntoIter;
 
 // The tables of the records without a verdict.
-pub fn undecided_tables(alloc: Global, records: Records<'_>) -> Result<Vec<Table>, NoMemory>
+pub(crate) fn undecided_tables(alloc: Global, records: Records<'_>) -> Result<Vec<Table>, NoMemory>
     ensures { IfOk result (λ found. found.items ≡ filter_map undecided_table records.entry) }
 {
     let mut found = Vec::new(alloc);
@@ -38,7 +38,7 @@ fn undecided_table(r: &Record) -> Option<Table>
 }
 
 // The tables of the records with the greatest number of steps, which is given.
-pub fn tables_with(
+pub(crate) fn tables_with(
     alloc: Global,
     records: Records<'_>,
     best: Option<u64>,
@@ -83,7 +83,7 @@ fn push_some(found: &mut Vec<Table>, table: Option<Table>) -> Result<(), NoMemor
 }
 
 // The same tables in the order of their texts.
-pub fn sorted_tables(alloc: Global, tables: Vec<Table>) -> Result<IntoIter<Table>, NoMemory>
+pub(crate) fn sorted_tables(alloc: Global, tables: Vec<Table>) -> Result<IntoIter<Table>, NoMemory>
     ensures same { IfOk result (λ found. IsPermutation tables.items (into_iter_items found)) }
     ensures sorted { IfOk result (λ found. IsSorted table_cmp (into_iter_items found)) }
 {

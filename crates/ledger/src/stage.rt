@@ -13,14 +13,14 @@ use crate::faults::LoadFault;
 use crate::feed_stop::FeedStop;
 use crate::header::{is_begun_header, root_in};
 use crate::header_line::HeaderLine;
-use crate::left::{Left, left_of_torn};
+use crate::left::Left;
 use evidence::NoMemory;
 use machine_text::Table;
 use std::alloc::Global;
 
 /// What a text has come to.
 #[derive(Drop)]
-pub enum Stage {
+pub(crate) enum Stage {
     /// Its first line isn't finished.
     Header(HeaderLine),
     /// It has the header of the root.
@@ -30,7 +30,7 @@ pub enum Stage {
 }
 
 /// Takes more bytes of a line.
-pub fn add(root: &Table, stage: &mut Stage, part: &[u8]) -> Result<(), NoMemory>
+pub(crate) fn add(root: &Table, stage: &mut Stage, part: &[u8]) -> Result<(), NoMemory>
     requires { HasNoNewline part.now }
     ensures ok { OnOk result (StageGrows root.now stage.old part.now stage.new) }
     ensures err { OnErr result ((stage.new ≡ stage.old) × ((text : List ℕ) → IsStageOf root.now text stage.old → IsHeaded root.now text)) }
@@ -46,7 +46,7 @@ pub fn add(root: &Table, stage: &mut Stage, part: &[u8]) -> Result<(), NoMemory>
 }
 
 /// Takes the last part of a line, and the line; with its newline the text has so many bytes.
-pub fn end_line(
+pub(crate) fn end_line(
     alloc: Global,
     root: &Table,
     stage: &mut Stage,
@@ -75,7 +75,7 @@ pub fn end_line(
 }
 
 /// The board of a text that ends here, and what of it wasn't kept.
-pub fn finish(alloc: Global, root: Table, stage: Stage) -> Result<(Board, Left), LoadFault>
+pub(crate) fn finish(alloc: Global, root: Table, stage: Stage) -> Result<(Board, Left), LoadFault>
     requires root { (u : ℕ) × InOrder u (entry_of root) }
     ensures { (text : List ℕ) → IsStageOf root text stage → LoadGives root text result }
 {
@@ -110,7 +110,7 @@ fn torn(alloc: Global, root: Table, line: &[u8]) -> Result<(Board, Left), LoadFa
 {
     if is_begun_header(line) {
         let board = empty_board(alloc, root)?;
-        return Ok((board, left_of_torn(line)));
+        return Ok((board, Left::of_torn(line)));
     }
     Err(LoadFault::BadHeader)
 }

@@ -9,7 +9,7 @@ use evidence::Verdict;
 // How many tables of a table's tree are open, how many are holdouts, and the greatest number of steps recorded
 // in it. The table itself is one of its tree.
 #[derive(Clone, Copy)]
-pub struct TreeCount {
+pub(crate) struct TreeCount {
     pub open_count: u64,
     pub holdouts: u64,
     pub best: Option<u64>,
@@ -17,7 +17,7 @@ pub struct TreeCount {
 
 // What a record changes in these numbers, for each table in whose tree its own stands.
 #[derive(Clone, Copy)]
-pub struct TreeChange {
+pub(crate) struct TreeChange {
     // the children that are open now
     pub opened: u64,
     // 1 where its table was open

@@ -3,7 +3,8 @@ ghost use Rattle.std.specs.Prelude.{◌≡◌, ◌++◌, ◌∷◌, [], map, tak
 ghost use Rattle.machine_text.specs.Text.{text_of};
 ghost use Rattle.cert.specs.Grammar.{record_text};
 ghost use Rattle.cert.specs.Kinds.{recorded};
-ghost use Rattle.ledger.specs.LedgerText.{header_words, joined, ReadsAs, ledger_text};
+ghost use Rattle.text.specs.Lines.{joined};
+ghost use Rattle.ledger.specs.LedgerText.{header_words, ReadsAs, ledger_text};
 ghost use Rattle.ledger.specs.declared.left.Left.TheVariants.{Nothing};
 
 use crate::board::Board;

@@ -15,7 +15,7 @@ use Rattle.ledger.specs.Records.{mark_of}
 use Rattle.ledger.specs.Tally.{AreAll}
 use Rattle.ledger.specs.declared.left.Left.TheVariants.{Nothing}
 use Rattle.ledger.specs.declared.taken.Taken.{Taken}
-use Rattle.ledger.specs.declared.taken.Taken.TheVariants.{New, Known}
+use Rattle.ledger.specs.declared.taken.Taken.TheVariants.{New, Known, Settled}
 use Rattle.ledger.specs.declared.faults.OfferFault.{OfferFault}
 use Rattle.ledger.proofs.Growing.{grows}
 use Rattle.ledger.proofs.OpenLaws.{settled_other}
@@ -46,6 +46,10 @@ new_holdout root old new r result holdout is gives =
     let fit : OfferGives root old r (Ok New) new = subst (λ (x : Result Taken OfferFault). OfferGives root old r x new) is gives in
     let unmarked = fit.0.is_open.unmarked in
     absurd (cc)
+
+pub settled_holdout : (root : Packed) (old new : List Recorded) (r : Recorded) (result : Result Taken OfferFault) → result ≡ Ok Settled
+    → OfferGives root old r result new → SettlesOrStays old r true new
+settled_holdout root old new r result is gives = subst (λ (x : Result Taken OfferFault). OfferGives root old r x new) is gives
 
 pub known_holdout : (root : Packed) (old new : List Recorded) (r : Recorded) (result : Result Taken OfferFault) → IsHoldout old r.table → result ≡ Ok Known
     → OfferGives root old r result new → SettlesOrStays old r false new

@@ -3,7 +3,7 @@ use Rattle.std.proofs.Common.{◌≡◌, ℕ, ◌<◌, ◌≤◌, ◌++◌, List
 use Rattle.machine_text.specs.Limits.{state_limit}
 use Rattle.machine_text.specs.Packed.{Packed, entry_of, empty_table}
 use Rattle.machine_text.specs.Text.{text_of}
-use Rattle.turing.specs.Program.{Program}
+use Rattle.turing.specs.Machine.{Machine}
 use Rattle.turing.specs.Run.{start, from}
 use Rattle.turing.specs.Halting.{HaltsAt, IsRado}
 use Rattle.tree.specs.Closed.{IsComplete}
@@ -73,7 +73,7 @@ empty_halts = record { last = 0; at = start; is = refl; over = refl; count = ref
 
 greatest_tells : (n : ℕ) (best : Option ℕ) → 1 ≤ n → n ≤ state_limit → IsDecidedTable (empty_table n) → IsGreatestInTables HaltsAt (empty_table n) best → (s : ℕ) × (best ≡ Some s) × IsRado n s
 greatest_tells n None some limit decided none =
-    absurd (none (empty_table n) 1 Itself (subst (λ (m : Program). HaltsAt m 1) (sym (empty_map n some limit)) empty_halts))
+    absurd (none (empty_table n) 1 Itself (subst (λ (m : Machine). HaltsAt m 1) (sym (empty_map n some limit)) empty_halts))
 greatest_tells n (Some s) some limit decided greatest =
     (s, refl, (rado_is_greatest n s).0 ((greatest_of_all_tables HaltsAt steps_worth n s some limit decided).0 greatest))
 

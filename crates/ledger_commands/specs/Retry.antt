@@ -6,14 +6,9 @@ use Rattle.cert.specs.Claim.{Recorded, shown_by}
 use Rattle.cert.specs.Grammar.{record_text}
 use Rattle.ledger.specs.Contents.{Contents}
 use Rattle.ledger.specs.Held.{IsHoldout, Settles, settled}
-use Rattle.ledger.specs.LedgerText.{ReadsAs}
+use Rattle.ledger.specs.LedgerText.{IsLedgerOf}
 use Rattle.ledger.specs.Tally.{AreAll}
-use Rattle.ledger.specs.declared.left.Left.TheVariants.{Nothing}
 use Rattle.wire.specs.Device.{grown}
-
--- the text of a ledger reads as a board's records, and all of it is kept
-abbrev pub IsLedgerOf : Contents → List ℕ → Type 0
-IsLedgerOf b text = ReadsAs b.root text b.records Nothing
 
 -- where a ledger's text was known and in step with the old board, it is in step with the new one
 abbrev pub StaysInStep : Contents → Option (List ℕ) → Contents → Option (List ℕ) → Type 0

@@ -54,7 +54,7 @@ fn append_report(board: &Board, out: &mut Vec<u8>) -> Result<(), NoMemory>
 
 /// Appends the lines of a report that stand before those of the tables; where memory is refused, a
 /// beginning of them.
-pub fn append_head(board: &Board, out: &mut Vec<u8>) -> Result<(), NoMemory>
+pub(crate) fn append_head(board: &Board, out: &mut Vec<u8>) -> Result<(), NoMemory>
     ensures ok { OnOk result ((head : List ℕ) × IsHead board.now.root board.now.records head × (out.new.items ≡ out.old.items ++ head)) }
     ensures kept { take (length out.old.items) out.new.items ≡ out.old.items }
 {
@@ -118,7 +118,7 @@ fn append_tables(name: &[u8], tables: IntoIter<Table>, out: &mut Vec<u8>) -> Res
 }
 
 /// Appends a line of a table; where memory is refused, a beginning of it.
-pub fn append_table_line(name: &[u8], t: &Table, out: &mut Vec<u8>) -> Result<(), NoMemory>
+pub(crate) fn append_table_line(name: &[u8], t: &Table, out: &mut Vec<u8>) -> Result<(), NoMemory>
     ensures ok { OnOk result (out.new.items ≡ out.old.items ++ line_of name.now (text_of t.now)) }
     ensures kept { take (length out.old.items) out.new.items ≡ out.old.items }
 {

@@ -1,6 +1,6 @@
 // What a command does to a ledger; one that fails ends the command.
 ghost use Rattle.std.specs.Prelude.{◌≡◌, OnOk, IfErr, Some};
-ghost use Rattle.wire.specs.Carried.{kept, cut_to};
+ghost use Rattle.wire.specs.Carried.{kept_text, cut_to};
 ghost use Rattle.wire.specs.Device.{grown};
 
 use options::Ended;
@@ -9,7 +9,7 @@ use wire::{LedgerOut, Out, append_all, begin};
 /// Carries out the ledger's part of an answer: its cut, and then what is to be appended, whole. A ledger that fails
 /// ends the command.
 pub fn keep_answer<L: LedgerOut>(out: &Out, ledger: &mut L) -> Result<(), Ended>
-    ensures ok { OnOk result (L.text ledger.new ≡ kept out.now (L.text ledger.old)) }
+    ensures ok { OnOk result (L.text ledger.new ≡ kept_text out.now (L.text ledger.old)) }
     ensures err { IfErr result (λ e. e ≡ Ended.Ledger) }
 {
     match begin(out, ledger) {

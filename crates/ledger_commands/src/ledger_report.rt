@@ -78,7 +78,7 @@ fn left_told<E: Write>(alloc: Global, left: &Left, faults: &mut E) -> Outcome {
 fn refusal_number(why: &Unkept) -> Option<u16> {
     match why {
         Unkept::Unread(fault) => Some(fault.number()),
-        Unkept::Unfit(fault) => Some(fault.number()),
+        Unkept::Unfit(fault) => fault.number(),
         Unkept::Torn | Unkept::Repeated => None,
     }
 }
@@ -117,7 +117,7 @@ pub fn write_ledger_report<P: ReportForm, W: Write>(
 }
 
 // The board of a ledger's text with the root that it names, and what of the text wasn't kept.
-pub fn loaded(alloc: Global, bytes: &[u8]) -> Result<(Board, Left), Ended>
+pub(crate) fn loaded(alloc: Global, bytes: &[u8]) -> Result<(Board, Left), Ended>
     ensures ok { IfOk result (λ l. ReadsAs l.0.root bytes.now l.0.records l.1) }
     ensures err { IfErr result (λ e. EndsLedger bytes.now e) }
     ensures header { OnOk result (EndsLedger bytes.now Ended.NoMemory) }

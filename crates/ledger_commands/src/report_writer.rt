@@ -31,7 +31,7 @@ pub struct LineReport {
 }
 
 // Makes the report of a board, and `left LINE` where not all of its ledger was kept.
-pub fn line_report(alloc: Global, board: &Board, left: &Left) -> Result<LineReport, NoMemory>
+pub(crate) fn line_report(alloc: Global, board: &Board, left: &Left) -> Result<LineReport, NoMemory>
     ensures { IfOk result (λ made. IsLines board.now.root board.now.records left.now (bytes_of_lines made)) }
 {
     let champions = board.champions()?;
@@ -49,7 +49,7 @@ pub fn line_report(alloc: Global, board: &Board, left: &Left) -> Result<LineRepo
 }
 
 // Writes a report that is made. The whole text never stands in memory.
-pub fn write_lines<W: Write>(made: LineReport, answers: &mut W) -> io::Result<()>
+pub(crate) fn write_lines<W: Write>(made: LineReport, answers: &mut W) -> io::Result<()>
     ensures { OnOk result (Appends (W.contents answers.old) (W.contents answers.new) (bytes_of_lines made)) }
 {
     let LineReport {
@@ -113,7 +113,7 @@ fn pass<W: Write>(bytes: &[u8], piece: &mut Vec<u8>, answers: &mut W) -> io::Res
 }
 
 /// Appends which line wasn't kept, where there is one.
-pub fn append_left(left: &Left, out: &mut Vec<u8>) -> Result<(), NoMemory>
+pub(crate) fn append_left(left: &Left, out: &mut Vec<u8>) -> Result<(), NoMemory>
     ensures { OnOk result (out.new.items ≡ out.old.items ++ left_text left.now) }
 {
     match left {

@@ -1,14 +1,15 @@
 // `bb retry`: the holdouts of a ledger are tried again.
 ghost use Rattle.std.specs.Prelude.{◌≡◌, IfOk, IfSome, OnOk};
+ghost use Rattle.cert.specs.Certified.{IsCertified};
 ghost use Rattle.cert.specs.Claim.{shown_by};
 ghost use Rattle.cert.specs.Kinds.{recorded};
 ghost use Rattle.ledger.specs.Held.{IsHoldout};
 ghost use Rattle.ledger.specs.Contents.{Contents};
-ghost use Rattle.ledger.specs.LedgerText.{ReadsAs};
+ghost use Rattle.ledger.specs.LedgerText.{IsLedgerOf, ReadsAs};
 ghost use Rattle.ledger.specs.Tally.{IsStatus};
 ghost use Rattle.ledger.specs.declared.status.Status.{Status as BoardStatus};
 ghost use Rattle.ledger_commands.specs.LedgerReport.{outcome_by};
-ghost use Rattle.ledger_commands.specs.Retry.{IsLedgerOf, SettlesOrStays, StaysInStep, AtSomeTime, ChangesBy, IsTried, AreRetried};
+ghost use Rattle.ledger_commands.specs.Retry.{SettlesOrStays, StaysInStep, AtSomeTime, ChangesBy, IsTried, AreRetried};
 
 use crate::ledger_changes::{append_to, cut_to};
 use crate::ledger_report::{Opened, bytes_of, loaded, outcome_by};
@@ -124,14 +125,15 @@ fn retry<L: LedgerOut, D: Decider>(
     take(alloc, board, &record, ledger)
 }
 
-// Offers a record of a holdout, and appends its line where it is taken.
+// Offers a certified record of a holdout, and appends its line where it is taken.
 fn take<L: LedgerOut>(
     alloc: Global,
     board: &mut Board,
     r: &Record,
     ledger: &mut L,
 ) -> Result<(), Ended>
-    requires { IsHoldout board.old.records (recorded r.now).table }
+    requires holdout { IsHoldout board.old.records (recorded r.now).table }
+    requires certified { IsCertified (recorded r.now) }
     ensures root { board.new.root ≡ board.old.root }
     ensures step { OnOk result (StaysInStep board.old (L.text ledger.old) board.new (L.text ledger.new)) }
     ensures changes { OnOk result (ChangesBy (shown_by (recorded r.now).claim) (recorded r.now) board.old.records (L.text ledger.old) board.new.records (L.text ledger.new)) }
@@ -147,13 +149,14 @@ fn take<L: LedgerOut>(
     Ok(())
 }
 
-// Offers a record of a holdout, and answers whether it is taken.
+// Offers a certified record of a holdout, and answers whether it is taken.
 fn gains(board: &mut Board, r: &Record) -> Result<bool, Ended>
-    requires { IsHoldout board.old.records (recorded r.now).table }
+    requires holdout { IsHoldout board.old.records (recorded r.now).table }
+    requires certified { IsCertified (recorded r.now) }
     ensures root { board.new.root ≡ board.old.root }
     ensures ok { IfOk result (λ gained. SettlesOrStays board.old.records (recorded r.now) gained board.new.records) }
 {
-    match board.offer(r) {
+    match board.offer_certified(r) {
         Ok(Taken::Settled) => Ok(true),
         // for an open table alone
         Ok(Taken::New) => Ok(true),

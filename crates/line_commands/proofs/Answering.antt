@@ -3,11 +3,11 @@ use Rattle.std.proofs.Common.{◌≡◌, ◌≢◌, ◌⊎◌, inl, inr, ℕ, �
 use Rattle.std.specs.Io.KnownBytes.{Consumes, Appends, IsAtEnd}
 use Rattle.std.proofs.lemmas.Bool.Decides.{nat_tests}
 use Rattle.std.proofs.lemmas.List.Elements.{All-append, All-nil}
-use Rattle.text.specs.Lines.{HasNoNewline, BeginsWithLine, Kept, kept_of, with_more}
+use Rattle.text.specs.Lines.{joined, HasNoNewline, BeginsWithLine, Kept, kept_of, with_more}
 use Rattle.options.specs.declared.outcome.Outcome.{Outcome}
 use Rattle.options.specs.declared.outcome.Outcome.TheVariants.{Accepted, Refused, BadLine, NoMemory, Failed}
 use Rattle.line_commands.specs.Stream.{AreLines, AreAnswered, AnswersStream, first_fault}
-use Rattle.line_commands.specs.inside.Loop.{joined, AreWhole, IsAnswered, IsGoingOn}
+use Rattle.line_commands.specs.inside.Loop.{AreWhole, IsAnswered, IsGoingOn}
 
 fault_assoc : (a b c : Outcome) → first_fault a (first_fault b c) ≡ first_fault (first_fault a b) c
 fault_assoc Accepted b c = refl

@@ -51,7 +51,7 @@ fault_text f = refusal_text (record_fault.record_fault_number f) ++ inner_text f
 abbrev pub AnswersRecord : Recorded → Outcome → List ℕ → Type 0
 AnswersRecord r Accepted answer =
     IsCertified r × IfSome (shown_by r.claim) (λ v. IsTrueOf v (entry_of r.table)) × (answer ≡ text_of r.table ++ verdict_text (shown_by r.claim))
-AnswersRecord r Refused answer = (why : Refusal) × IsRefusedBy why r × (answer ≡ refusal_text (verdict.refused_number why))
+AnswersRecord r Refused answer = (why : Refusal) × (number : ℕ) × IsRefusedBy why r × (verdict.refused_number why ≡ Some number) × (answer ≡ refusal_text number)
 AnswersRecord r BadLine answer = ⊥
 AnswersRecord r NoMemory answer = ⊥
 AnswersRecord r Failed answer = ⊥

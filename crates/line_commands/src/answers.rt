@@ -49,11 +49,13 @@ fn answer_record(alloc: Global, r: &Record, out: &mut Vec<u8>) -> Result<Outcome
             append_verdict(verdict, out)?;
             Ok(Outcome::Accepted)
         }
-        Err(Refused::NoMemory) => Err(NoMemory),
-        Err(refused) => {
-            append_named(b"refused ", u64::from(refused.number()), out)?;
-            Ok(Outcome::Refused)
-        }
+        Err(refused) => match refused.number() {
+            Some(number) => {
+                append_named(b"refused ", u64::from(number), out)?;
+                Ok(Outcome::Refused)
+            }
+            None => Err(NoMemory),
+        },
     }
 }
 
@@ -69,7 +71,7 @@ fn append_verdict(verdict: Option<Verdict>, out: &mut Vec<u8>) -> Result<(), NoM
 }
 
 /// Appends a fault of a record's text; of a table's text also its own fault, and where that is.
-pub fn append_fault(fault: RecordFault, out: &mut Vec<u8>) -> Result<(), NoMemory>
+pub(crate) fn append_fault(fault: RecordFault, out: &mut Vec<u8>) -> Result<(), NoMemory>
     ensures { OnOk result (out.new.items ≡ out.old.items ++ fault_text fault) }
 {
     append_named(b"refused ", u64::from(fault.number()), out)?;

@@ -14,7 +14,7 @@ use text::{Cutter, cut};
 const PIECE_BYTES: usize = 16_384;
 
 /// Answers one line after another.
-pub trait Answerer {
+pub(crate) trait Answerer {
     ghost use Rattle.std.specs.Prelude.{◌≡◌, ◌∷◌, ◌++◌, [], List, ℕ, Option, IfOk};
     ghost use Rattle.line_commands.specs.Answer.{lent_line};
     ghost use Rattle.options.specs.declared.outcome.Outcome.{Outcome as How};
@@ -29,7 +29,7 @@ pub trait Answerer {
 
 /// Reads lines and writes the answer to each as soon as its piece of the stream was read. A last line
 /// without newline is read too. What a failed stream or refused memory ends is said on `faults`.
-pub fn answer_lines<A: Answerer, R: Read, W: Write, E: Write>(
+pub(crate) fn answer_lines<A: Answerer, R: Read, W: Write, E: Write>(
     alloc: Global,
     answerer: &mut A,
     input: &mut R,

@@ -3,7 +3,7 @@ use Rattle.std.proofs.Common.{◌≡◌, ℕ, ◌+◌, ℤ, Some, ◌⊎◌, inl
 use Rattle.std.proofs.lemmas.Int.{ints, by_lt_z}
 use Rattle.machine_text.specs.declared.transition.Dir.{Dir}
 use Rattle.machine_text.specs.declared.transition.Dir.TheVariants.{L, R}
-use Rattle.turing.specs.Program.{Program}
+use Rattle.turing.specs.Machine.{Machine}
 use Rattle.turing.specs.Run.{Config, after}
 use Rattle.turing.specs.Translated.{Beyond, Farthest}
 use Rattle.turing.proofs.Heads.{beyond_itself, farthest_first, farthest_same, farthest_new}
@@ -19,7 +19,7 @@ pub record IsFarther (side : Dir) (a b r : ℤ) : Type 0 where
   pub second : Beyond side b a → r ≡ b
 
 -- one time more, whose head may be farther
-pub farthest_more : (m : Program) (side : Dir) (i k : ℕ) (b r : ℤ) (c : Config) → Farthest m side i k b → after m k ≡ Some c → IsFarther side b c.tape.head r
+pub farthest_more : (m : Machine) (side : Dir) (i k : ℕ) (b r : ℤ) (c : Config) → Farthest m side i k b → after m k ≡ Some c → IsFarther side b c.tape.head r
     → Farthest m side i (k + 1) r
 farthest_more m side i k b r c f is farther =
     elim (beyond_or side b c.tape.head) [
@@ -28,10 +28,10 @@ farthest_more m side i k b r c f is farther =
     ]
 
 -- the bound of a loop over the times from i on: before the first of them it is the head
-abbrev pub IsBoundSoFar : Program → Dir → ℕ → ℕ → ℤ → ℤ → Type 0
+abbrev pub IsBoundSoFar : Machine → Dir → ℕ → ℕ → ℤ → ℤ → Type 0
 IsBoundSoFar m side i k head b = ((k ≡ i) × (b ≡ head)) ⊎ Farthest m side i k b
 
-pub bound_more : (m : Program) (side : Dir) (i k : ℕ) (b r : ℤ) (c : Config) → IsBoundSoFar m side i k c.tape.head b → after m k ≡ Some c → IsFarther side b c.tape.head r
+pub bound_more : (m : Machine) (side : Dir) (i k : ℕ) (b r : ℤ) (c : Config) → IsBoundSoFar m side i k c.tape.head b → after m k ≡ Some c → IsFarther side b c.tape.head r
     → Farthest m side i (k + 1) r
 bound_more m side i k b r c (inl now) is farther =
     let beyond : Beyond side c.tape.head b = subst (Beyond side c.tape.head) (sym now.1) (beyond_itself side c.tape.head) in

@@ -4,7 +4,7 @@ use Rattle.std.proofs.lemmas.Option.{same_Some}
 use Rattle.std.proofs.Common.{◌≡◌, ℕ, ◌+◌, ◌<◌, ◌≤◌, Bool, true, false, ℤ, Some, sym, ◌∙◌, ap, subst, arith}
 use Rattle.machine_text.specs.Packed.{Packed, entry_of}
 use Rattle.machine_text.specs.declared.transition.Dir.{Dir}
-use Rattle.turing.specs.Program.{Program}
+use Rattle.turing.specs.Machine.{Machine}
 use Rattle.turing.specs.Run.{Config, start, after}
 use Rattle.turing.specs.Cycle.{Cycle}
 use Rattle.turing.proofs.RunLaws.{before}
@@ -23,7 +23,7 @@ pub not_arrived : (k : ℕ) (old new : RunState) (came : Bool) → ComesTo k old
 not_arrived k old new came comes is = subst (λ (b : Bool). ComesTo k old b new) is comes
 
 -- a run without a time has none of the later ones
-pub none_after : (m : Program) (k j : ℕ) → k ≤ j → ((c : Config) → after m k ≡ Some c → ⊥) → (c : Config) → after m j ≡ Some c → ⊥
+pub none_after : (m : Machine) (k j : ℕ) → k ≤ j → ((c : Config) → after m k ≡ Some c → ⊥) → (c : Config) → after m j ≡ Some c → ⊥
 none_after m k j early none c is =
     let (b, at) = before m k j start c early is in
     none b at
@@ -49,7 +49,7 @@ pub cycle_same : (p : Packed) (kept : Moment) (r : RunState) → IsMomentOf p ke
 cycle_same p kept r moment table stands cycle =
     same_Some kept.config r.config (sym moment.at ∙ cycle.begins ∙ sym cycle.ends ∙ subst (λ (q : Packed). after (entry_of q) r.steps ≡ Some r.config) table stands.at)
 
-pub cycle_at : (m : Program) (i j i' j' : ℕ) → i ≡ i' → j ≡ j' → Cycle m i j → Cycle m i' j'
+pub cycle_at : (m : Machine) (i j i' j' : ℕ) → i ≡ i' → j ≡ j' → Cycle m i j → Cycle m i' j'
 cycle_at m i j i' j' first second cycle = subst (λ (k : ℕ). Cycle m k j') first (subst (Cycle m i) second cycle)
 
 -- so whether the configurations are the same decides it

@@ -5,7 +5,7 @@ use Rattle.std.proofs.lemmas.Int.{ints}
 use Rattle.std.proofs.lemmas.Option.{same_Some}
 use Rattle.machine_text.specs.Packed.{entry_of}
 use Rattle.machine_text.specs.declared.transition.Dir.{Dir}
-use Rattle.turing.specs.Program.{Program}
+use Rattle.turing.specs.Machine.{Machine}
 use Rattle.turing.specs.Run.{Config, after}
 use Rattle.turing.specs.Translated.{Beyond, Farthest, Translated}
 use Rattle.turing.proofs.Heads.{one_farthest}
@@ -14,7 +14,7 @@ use Rattle.run.specs.RunState.{RunState, OnRun}
 use Rattle.loops.specs.inside.Moment.{Moment, IsMomentOf}
 
 -- two configurations of a run, and the farthest head in between
-pub record Compared (m : Program) (side : Dir) (i j : ℕ) (begin end : Config) (bound shift : ℤ) : Type 0 where
+pub record Compared (m : Machine) (side : Dir) (i j : ℕ) (begin end : Config) (bound shift : ℤ) : Type 0 where
   pub begins : after m i ≡ Some begin
   pub ends : after m j ≡ Some end
   pub farthest : Farthest m side i j bound
@@ -26,7 +26,7 @@ pub record Passes (side : Dir) (begin end : Config) (bound shift : ℤ) : Type 0
   pub onward : Beyond side (pos 0) shift
   pub cells : SameBeyond side bound shift begin.tape.ones end.tape.ones
 
-pub passed_stands : (m : Program) (side : Dir) (i j : ℕ) (begin end : Config) (bound shift : ℤ) → Compared m side i j begin end bound shift → Passes side begin end bound shift → Translated m i j side
+pub passed_stands : (m : Machine) (side : Dir) (i j : ℕ) (begin end : Config) (bound shift : ℤ) → Compared m side i j begin end bound shift → Passes side begin end bound shift → Translated m i j side
 passed_stands m side i j begin end bound shift c p =
     let f = c.farthest in
     let low = f.low in
@@ -48,7 +48,7 @@ passed_stands m side i j begin end bound shift c p =
     }
 
 -- the bound of a translated cycle is the farthest head, and its shift is how far the head moved
-pub stands_passed : (m : Program) (side : Dir) (i j : ℕ) (begin end : Config) (bound shift : ℤ) → Compared m side i j begin end bound shift → Translated m i j side → Passes side begin end bound shift
+pub stands_passed : (m : Machine) (side : Dir) (i j : ℕ) (begin end : Config) (bound shift : ℤ) → Compared m side i j begin end bound shift → Translated m i j side → Passes side begin end bound shift
 stands_passed m side i j begin end bound shift c t =
     let same_begin : t.begin ≡ begin = same_Some t.begin begin (sym t.begins ∙ c.begins) in
     let same_end : t.end ≡ end = same_Some t.end end (sym t.ends ∙ c.ends) in
@@ -78,7 +78,7 @@ compared side kept r bound shift stands begins farthest shift_is = record {
 }
 
 -- the last test decides, where the others are passed
-pub test_passed : (m : Program) (side : Dir) (i j : ℕ) (begin end : Config) (bound shift : ℤ) (r : Bool) → Compared m side i j begin end bound shift → begin.state ≡ end.state → Beyond side (pos 0) shift
+pub test_passed : (m : Machine) (side : Dir) (i j : ℕ) (begin end : Config) (bound shift : ℤ) (r : Bool) → Compared m side i j begin end bound shift → begin.state ≡ end.state → Beyond side (pos 0) shift
     → (IsTrue r ↔ SameBeyond side bound shift begin.tape.ones end.tape.ones) → IsTrue r ↔ Translated m i j side
 test_passed m side i j begin end bound shift r c state onward same = (
   λ t. passed_stands m side i j begin end bound shift c (record { state = state; onward = onward; cells = same.0 t }),
@@ -86,7 +86,7 @@ test_passed m side i j begin end bound shift r c state onward same = (
 )
 
 -- and where one isn't, there is no translated cycle
-pub test_failed : (m : Program) (side : Dir) (i j : ℕ) (begin end : Config) (bound shift : ℤ) (r : Bool) → Compared m side i j begin end bound shift → r ≡ false
+pub test_failed : (m : Machine) (side : Dir) (i j : ℕ) (begin end : Config) (bound shift : ℤ) (r : Bool) → Compared m side i j begin end bound shift → r ≡ false
     → (Passes side begin end bound shift → ⊥) → IsTrue r ↔ Translated m i j side
 test_failed m side i j begin end bound shift r c fails none = (
   λ t. absurd (let one : r ≡ true = t in cc),
@@ -94,8 +94,8 @@ test_failed m side i j begin end bound shift r c fails none = (
 )
 
 -- a run without one of the two times has no translated cycle from the one to the other
-pub not_begun : (m : Program) (side : Dir) (i j : ℕ) → ((c : Config) → after m i ≡ Some c → ⊥) → IsTrue false ↔ Translated m i j side
+pub not_begun : (m : Machine) (side : Dir) (i j : ℕ) → ((c : Config) → after m i ≡ Some c → ⊥) → IsTrue false ↔ Translated m i j side
 not_begun m side i j none = (λ t. absurd (let one : false ≡ true = t in cc), λ s. absurd (none s.begin s.begins))
 
-pub not_ended : (m : Program) (side : Dir) (i j : ℕ) → ((c : Config) → after m j ≡ Some c → ⊥) → IsTrue false ↔ Translated m i j side
+pub not_ended : (m : Machine) (side : Dir) (i j : ℕ) → ((c : Config) → after m j ≡ Some c → ⊥) → IsTrue false ↔ Translated m i j side
 not_ended m side i j none = (λ t. absurd (let one : false ≡ true = t in cc), λ s. absurd (none s.end s.ends))

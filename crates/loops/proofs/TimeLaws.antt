@@ -5,7 +5,7 @@ use Rattle.std.specs.Int.{w64}
 use Rattle.std.specs.Int.RustNames.{FitsSigned}
 use Rattle.machine_text.specs.Packed.{Packed, entry_of}
 use Rattle.machine_text.specs.declared.transition.Dir.{Dir}
-use Rattle.turing.specs.Program.{Program}
+use Rattle.turing.specs.Machine.{Machine}
 use Rattle.turing.specs.Run.{Config, start, after}
 use Rattle.turing.specs.Translated.{Farthest}
 use Rattle.turing.proofs.RunLaws.{not_past}
@@ -40,12 +40,12 @@ pub record IsNear (x : ℤ) : Type 0 where
   pub low : neg_ℤ (pos time_limit) ≤ℤ x
   pub high : x ≤ℤ pos time_limit
 
-pub near_at : (m : Program) (k : ℕ) (c : Config) → after m k ≡ Some c → k ≤ time_limit → IsNear c.tape.head
+pub near_at : (m : Machine) (k : ℕ) (c : Config) → after m k ≡ Some c → k ≤ time_limit → IsNear c.tape.head
 near_at m k c is early =
     let reach = head_reach m k start c is in
     record { low = omega (arith, ints, reach.0); high = omega (arith, ints, reach.1) }
 
-pub near_bound : (m : Program) (side : Dir) (i j : ℕ) (b : ℤ) → Farthest m side i j b → j ≤ time_limit → IsNear b
+pub near_bound : (m : Machine) (side : Dir) (i j : ℕ) (b : ℤ) → Farthest m side i j b → j ≤ time_limit → IsNear b
 near_bound m side i j b f early =
     let high = f.high in
     subst IsNear f.reached (near_at m f.time f.there f.is (omega arith))

@@ -6,3 +6,4 @@ pub mod Named
 pub mod Holes
 pub mod RoundTrip
 pub mod Order
+pub mod Ascii

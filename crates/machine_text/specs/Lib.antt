@@ -1,5 +1,6 @@
 pub mod Limits
 pub mod Fault
 pub mod Packed
+pub mod Order
 pub mod Text
 pub mod inside

@@ -8,7 +8,7 @@ use std::marker::Model;
 
 /// An entry or none as one byte, which rises as the text of the entry does; 0 is for none.
 #[derive(Clone, Copy, Debug, PartialEq, Eq, PartialOrd, Ord, Hash)]
-pub struct Code {
+pub(crate) struct Code {
     byte: u8,
 }
 

@@ -12,7 +12,7 @@ use crate::limits::{MAX_ENTRIES, MAX_STATES};
 use crate::transition::{Dir, Entry, State, Sym};
 
 /// How many states a text of this length has; none where that is no table's length.
-pub fn states_in(text: &[u8]) -> Option<u8>
+pub(crate) fn states_in(text: &[u8]) -> Option<u8>
     ensures some { IfSome result (λ n. n ≡ states_in (length text.now)) }
     ensures length { IfSome result (λ n. is_table_length (length text.now) ≡ true) }
     ensures none { IfNone result (is_table_length (length text.now) ≡ false) }
@@ -26,7 +26,7 @@ pub fn states_in(text: &[u8]) -> Option<u8>
 }
 
 /// Ok where no place of a text of so many states is faulty, otherwise the leftmost fault.
-pub fn check_places(states: u8, text: &[u8]) -> Result<(), TextFault>
+pub(crate) fn check_places(states: u8, text: &[u8]) -> Result<(), TextFault>
     requires { states ≤ state_limit }
     ensures clean { OnOk result (faults_of states text.now ≡ []) }
     ensures leftmost { IfErr result (λ f. (others : List Fault) × (faults_of states text.now ≡ f ∷ others)) }
@@ -40,7 +40,7 @@ pub fn check_places(states: u8, text: &[u8]) -> Result<(), TextFault>
 }
 
 /// The codes of the table that a text of so many states without a fault names.
-pub fn codes_named(states: u8, text: &[u8]) -> [Code; MAX_ENTRIES]
+pub(crate) fn codes_named(states: u8, text: &[u8]) -> [Code; MAX_ENTRIES]
     requires length { 7 * states ≡ length text.now + 1 }
     requires limit { states ≤ state_limit }
     ensures { result ≡ (table_named states text.now).codes }
@@ -141,7 +141,7 @@ fn entry_named(states: u8, text: &[u8], place: usize) -> Option<Entry>
 }
 
 /// One of the three bytes of an entry's text.
-pub fn entry_byte(entry: Option<Entry>, column: usize) -> u8
+pub(crate) fn entry_byte(entry: Option<Entry>, column: usize) -> u8
     requires { ForSome entry (λ e. e.next.0 < 26) }
     ensures { result ≡ entry_byte entry column }
 {

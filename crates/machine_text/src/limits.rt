@@ -7,4 +7,4 @@ pub const MAX_STATES: u8 = 6;
 pub const TEXT_BYTES: usize = 41;
 
 // The pairs of a state and a symbol of the largest table.
-pub const MAX_ENTRIES: usize = 2 * MAX_STATES as usize;
+pub(crate) const MAX_ENTRIES: usize = 2 * MAX_STATES as usize;

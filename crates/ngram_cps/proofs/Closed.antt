@@ -10,7 +10,7 @@ use Rattle.machine_text.specs.declared.transition.Dir.TheVariants.{L, R}
 use Rattle.machine_text.specs.declared.transition.Entry.{Entry}
 use Rattle.machine_text.specs.Packed.{Packed, entry_of, symbol_of}
 use Rattle.machine_text.specs.Text.{symbol_byte}
-use Rattle.turing.specs.Program.{Program}
+use Rattle.turing.specs.Machine.{Machine}
 use Rattle.turing.specs.PositionSet.{Local, IsClosedSet}
 use Rattle.ngram_cps.specs.Listing.{item, IsListing, IsItem}
 use Rattle.ngram_cps.specs.Words.{word_text, local_text, AreLocals}
@@ -27,14 +27,14 @@ word_size : (w : ℕ) (text : List ℕ) (v : List Sym) → IsItem w text (word_t
 word_size w text v i = sym (length-map v symbol_byte) ∙ ap length (sym i.is) ∙ item_size w text i.place i.within
 
 -- what a local configuration that is listed has for a step
-step_of : (m : Program) (s : Lists) (c : Local) → length c.left ≡ s.width → GoesOn m s (local_text c) → StepsBy (m c.state c.read) s (local_text c)
+step_of : (m : Machine) (s : Lists) (c : Local) → length c.left ≡ s.width → GoesOn m s (local_text c) → StepsBy (m c.state c.read) s (local_text c)
 unfolding GoesOn
 step_of m s c size goes =
     let state : get_or (local_text c) s.width 0 - 65 ≡ c.state = (let b = state_byte s.width c size in omega arith) in
     let read : symbol_of (get_or (local_text c) (s.width + 1) 0 - 48) ≡ c.read = ap (λ b. symbol_of (b - 48)) (read_byte s.width c size) ∙ symbol_again c.read in
     subst (λ x. StepsBy (m c.state x) s (local_text c)) read (subst (λ q. StepsBy (m q (symbol_of (get_or (local_text c) (s.width + 1) 0 - 48))) s (local_text c)) state goes)
 
-goes_by : (m : Program) (s : Lists) (c : Local) → length c.left ≡ s.width → StepsBy (m c.state c.read) s (local_text c) → GoesOn m s (local_text c)
+goes_by : (m : Machine) (s : Lists) (c : Local) → length c.left ≡ s.width → StepsBy (m c.state c.read) s (local_text c) → GoesOn m s (local_text c)
 unfolding GoesOn
 goes_by m s c size steps =
     let state : get_or (local_text c) s.width 0 - 65 ≡ c.state = (let b = state_byte s.width c size in omega arith) in
@@ -103,7 +103,7 @@ module _ (s : Lists) (l0 r0 t : Sym) (l r : List Sym) (q : ℕ) (e : Entry) (lef
     one = λ view. renamed _ _ _ _ (sym (local_is_l s.width q l0 t r0 l r left right e.write One e.next.0)) (goes.1 One (renamed _ _ _ _ (left_is_l s.width q l0 t r0 l r left right One) view)).listed;
   }
 
-module _ (m : Program) (s : Lists) (count : ℕ) (width : 1 ≤ s.width) (size : length s.local + 1 ≡ count * ((2 * s.width + 2) + 1)) where
+module _ (m : Machine) (s : Lists) (count : ℕ) (width : 1 ≤ s.width) (size : length s.local + 1 ≡ count * ((2 * s.width + 2) + 1)) where
   -- the step of each local configuration that is listed
   goes_at : EachGoesOn m s count → (c : Local) → IsLocalItem s c → StepsBy (m c.state c.read) s (local_text c)
   goes_at goes c i =
@@ -148,7 +148,7 @@ unsnoc [] some = absurd (omega arith)
 unsnoc (x ∷ []) some = ([], x, refl)
 unsnoc (x ∷ y ∷ ys) some = let (l, z, is) = unsnoc (y ∷ ys) (omega arith) in (x ∷ l, z, ap (λ w. x ∷ w) is)
 
-module _ (m : Program) (s : Lists) (count : ℕ) (size : length s.local + 1 ≡ count * ((2 * s.width + 2) + 1))
+module _ (m : Machine) (s : Lists) (count : ℕ) (size : length s.local + 1 ≡ count * ((2 * s.width + 2) + 1))
     (closed : IsClosedSet s.width m (λ w. IsItem s.width s.left (word_text w)) (λ w. IsItem s.width s.right (word_text w)) (IsLocalItem s)) where
   rights_from : (e : Entry) (t : Sym) (q : ℕ) → m q t ≡ Some e → e.dir ≡ R → (ls rs : List Sym) → IsLocalItem s (record { left = ls; state = q; read = t; right = rs }) →
       StepsRight s (local_text (record { left = ls; state = q; read = t; right = rs })) e

@@ -5,16 +5,13 @@ use Rattle.std.proofs.Common.{◌≡◌, ℕ, ◌+◌, ◌-◌, ◌*◌, ◌/◌
 use Rattle.std.specs.Prelude.{IsTrue, Decides}
 use Rattle.std.specs.Ordering.{nat_cmp, is_lt}
 use Rattle.std.specs.Cmp.Lexicographic.{slice_cmp}
-use Rattle.std.proofs.lemmas.Bool.Decides.{nat_tests, Decides-and, Decides-eqb, Decides-ltb, Decides-below_and}
+use Rattle.std.proofs.lemmas.Bool.Decides.{nat_tests, Decides-and, Decides-eqb, Decides-ltb}
 use Rattle.std.proofs.lemmas.Nat.{div-mul-add}
 use Rattle.ngram_cps.specs.Listing.{item, IsListing}
 use Rattle.ngram_cps.specs.Words.{is_digit, IsWordText, IsLocalText, IsWordList, IsLocalList}
 use Rattle.ngram_cps.specs.Lists.{Lists, AreLists}
-use Rattle.ngram_cps.specs.Tests.{each_below, count_of, goes_up, is_listing, is_word_text, is_local_text, is_word_list, is_local_list, are_lists}
-
-below_decides : (p : ℕ → Bool) (P : ℕ → Type 0) → ((k : ℕ) → Decides (p k) (P k)) → (n : ℕ) → Decides (each_below p n) ((k : ℕ) → k < n → P k)
-unfolding each_below
-below_decides p P each n = Decides-below_and p P (each_below p) each refl (λ _. refl) n
+use Rattle.evidence.proofs.Tested.{below_decides}
+use Rattle.ngram_cps.specs.Tests.{count_of, goes_up, is_listing, is_word_text, is_local_text, is_word_list, is_local_list, are_lists}
 
 itself : (b : Bool) → Decides b (IsTrue b)
 itself b = (λ x. x, λ x. x)

@@ -1,15 +1,11 @@
 -- Whether texts are such lists, as tests: a grammar needs an answer, and not the fact alone.
-use Rattle.std.specs.Prelude.{ℕ, zero, suc, ◌+◌, ◌-◌, ◌*◌, ◌/◌, ◌==◌, ◌&&◌, nat_lt, Bool, true, not, List, length, take, drop, slice_index}
+use Rattle.std.specs.Prelude.{ℕ, ◌+◌, ◌-◌, ◌*◌, ◌/◌, ◌==◌, ◌&&◌, nat_lt, Bool, not, List, length, take, drop, slice_index}
 use Rattle.std.specs.Ordering.{nat_cmp, is_lt}
 use Rattle.std.specs.Cmp.Lexicographic.{slice_cmp}
+use Rattle.evidence.specs.Tests.{each_below}
 use Rattle.ngram_cps.specs.Listing.{item}
 use Rattle.ngram_cps.specs.Words.{is_digit}
 use Rattle.ngram_cps.specs.Lists.{Lists}
-
--- each number below one passes
-unfoldable pub each_below : (ℕ → Bool) → ℕ → Bool
-each_below test zero = true
-each_below test (suc n) = test n && each_below test n
 
 -- how many items of a width a text has, where it is a list
 abbrev pub count_of : ℕ → List ℕ → ℕ

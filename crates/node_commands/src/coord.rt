@@ -52,7 +52,7 @@ fn coordinate<F: Read + Drop, L: LedgerOut, R: Read, W: Write>(
 }
 
 // A coordinator whose ledger is in step with it.
-pub fn start_coordinator<F: Read + Drop, L: LedgerOut>(
+pub(crate) fn start_coordinator<F: Read + Drop, L: LedgerOut>(
     alloc: Global,
     beginning: Beginning,
     held: io::Result<Opened<F>>,
@@ -123,7 +123,7 @@ fn take_turns<N: Node, L: LedgerOut, R: Read, W: Write>(
 }
 
 // Accepted where a coordinator's board is complete.
-pub fn outcome_of(node: &Coordinator) -> Outcome
+pub(crate) fn outcome_of(node: &Coordinator) -> Outcome
     ensures board { IfSome node.now.held (λ held. (status : BoardStatus) × IsStatus held.board.root held.board.records status × (result ≡ outcome_by status Left.Nothing)) }
     ensures none { node.now.held ≡ None → result ≡ Outcome.Refused }
 {

@@ -12,7 +12,7 @@ use wire::{Event, LedgerOut, Node, TurnFault};
 
 // Runs rounds, numbered from 1, until no table is open or so many were run. A round is a tick of the
 // coordinator, and then each worker's part.
-pub fn run_rounds<N: Node, L: LedgerOut, C: Clock, E: Write>(
+pub(crate) fn run_rounds<N: Node, L: LedgerOut, C: Clock, E: Write>(
     coordinator: &mut Coordinator,
     ledger: &mut L,
     stations: &mut Vec<Station<N>>,

@@ -11,7 +11,7 @@ use wire::{LedgerOut, Lines, MemLink, Node, TurnFault, turn};
 // A worker, whose ledger nobody reads, and both ends of its link with the coordinator, which are in memory. The worker
 // is any node: what is proved of a type that keeps boxed finders would depend on the bodies of its calls.
 #[derive(Drop)]
-pub struct Station<N> {
+pub(crate) struct Station<N> {
     worker: N,
     ledger: NoLedger,
     near: LinkEnd,

@@ -1,1 +1,2 @@
 pub mod Finals
+pub mod Refusals

@@ -1,14 +1,14 @@
 -- The refusal number of each fault of a start, the sentence that says it, and the fault that a ledger brings.
-use Rattle.std.specs.Prelude.{ℕ, List, codes}
+use Rattle.std.specs.Prelude.{ℕ, List, Option, Some, None, codes}
 use Rattle.ledger.specs.declared.faults.LoadFault.{LoadFault}
 use Rattle.ledger.specs.declared.faults.LoadFault.TheVariants.{BadHeader as BadLedgerHeader, WrongRoot as OtherRoot, NoMemory as NoLedgerMemory}
 use Rattle.roles.specs.declared.start_fault.StartFault.{StartFault}
 use Rattle.roles.specs.declared.start_fault.StartFault.TheVariants.{BadHeader, WrongRoot, NoMemory}
 
-abbrev pub start_fault_number : StartFault → ℕ
-start_fault_number BadHeader = 404
-start_fault_number WrongRoot = 405
-start_fault_number NoMemory = 0
+abbrev pub start_fault_number : StartFault → Option ℕ
+start_fault_number BadHeader = Some 404
+start_fault_number WrongRoot = Some 405
+start_fault_number NoMemory = None
 
 abbrev pub start_fault_text : StartFault → List ℕ
 start_fault_text BadHeader = codes "the ledger has no header with a table"

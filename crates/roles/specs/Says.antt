@@ -1,11 +1,12 @@
 -- What a node's answer says.
-use Rattle.std.specs.Prelude.{◌≡◌, ℕ, List, Option, map}
+use Rattle.std.specs.Prelude.{◌≡◌, ℕ, List, [], Option, Some, None, map}
 use Rattle.cert.specs.Claim.{Recorded}
 use Rattle.cert.specs.Grammar.{record_text}
-use Rattle.ledger.specs.LedgerText.{joined}
+use Rattle.text.specs.Lines.{joined}
 use Rattle.wire.specs.Grammar.{frames_of}
 use Rattle.wire.specs.Message.{Message}
 use Rattle.wire.specs.declared.node.Note.{Note}
+use Rattle.wire.specs.declared.node.Note.TheVariants.{Refused}
 use Rattle.wire.specs.declared.node.Out.{Out}
 
 -- the lines of records, each with its newline
@@ -18,3 +19,8 @@ pub record Says (out : Out) (cut : Option ℕ) (appended : List ℕ) (sent : Lis
   pub append_is : out.append.items ≡ appended
   pub frames_are : out.frames.items ≡ frames_of sent
   pub note_is : out.note ≡ note
+
+-- a refusal is noted by its number, and nothing else is said; one that has no number isn't noted
+abbrev pub NotesRefusal : Option ℕ → Out → Type 0
+NotesRefusal None out = ⊥
+NotesRefusal (Some number) out = Says out None [] [] (Refused number)

@@ -9,5 +9,5 @@ mod plain_answers;
 mod start_fault;
 
 pub use kept::cut_of;
-pub use plain_answers::{noted, sent};
+pub use plain_answers::{noted, refused, sent};
 pub use start_fault::StartFault;

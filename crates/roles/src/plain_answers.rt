@@ -1,8 +1,9 @@
 // Answers of either role that only note something, or only send.
-ghost use Rattle.std.specs.Prelude.{◌≡◌, [], None};
+ghost use Rattle.std.specs.Prelude.{◌≡◌, [], None, IfOk, OnErr};
 ghost use Rattle.wire.specs.declared.node.Note.TheVariants.{Quiet};
-ghost use Rattle.roles.specs.Says.{Says};
+ghost use Rattle.roles.specs.Says.{Says, NotesRefusal};
 
+use evidence::NoMemory;
 use std::alloc::Global;
 use wire::{Note, Out};
 
@@ -15,6 +16,17 @@ pub fn noted(alloc: Global, note: Note) -> Out
         append: Vec::new(alloc),
         frames: Vec::new(alloc),
         note,
+    }
+}
+
+// A refusal is noted by its number. What has none is refused memory.
+pub fn refused(alloc: Global, number: Option<u16>) -> Result<Out, NoMemory>
+    ensures ok { IfOk result (λ out. NotesRefusal number out) }
+    ensures err { OnErr result (number ≡ None) }
+{
+    match number {
+        Some(number) => Ok(noted(alloc, Note::Refused(number))),
+        None => Err(NoMemory),
     }
 }
 

@@ -20,14 +20,14 @@ pub enum StartFault {
 impl StartFault {
     ghost use Rattle.roles.specs.Faults.{start_fault_number};
 
-    /// The refusal number: 404, 405; 0 where memory was refused, which has none.
-    pub fn number(&self) -> u16
+    /// The refusal number: 404, 405; none where memory was refused.
+    pub fn number(&self) -> Option<u16>
         ensures { result ≡ start_fault_number self.now }
     {
         match self {
-            StartFault::BadHeader => 404,
-            StartFault::WrongRoot => 405,
-            StartFault::NoMemory => 0,
+            StartFault::BadHeader => Some(404),
+            StartFault::WrongRoot => Some(405),
+            StartFault::NoMemory => None,
         }
     }
 }

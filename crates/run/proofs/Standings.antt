@@ -4,7 +4,7 @@ use Rattle.std.proofs.lemmas.Int.{ints}
 use Rattle.machine_text.specs.Packed.{Packed, IsTable, entry_of}
 use Rattle.machine_text.specs.declared.transition.Sym.{Sym}
 use Rattle.machine_text.specs.declared.transition.Entry.{Entry}
-use Rattle.turing.specs.Program.{Program}
+use Rattle.turing.specs.Machine.{Machine}
 use Rattle.turing.specs.Tape.{Tape, symbol_read, written, moved}
 use Rattle.turing.specs.Run.{Config, start, after, next, done_by}
 use Rattle.turing.specs.Halting.{HaltsAt, HaltsOn}
@@ -63,11 +63,11 @@ pub is_between : (k : ℕ) (r : RunState) → OnRun r → r.steps ≤ k → IsBe
 is_between k r stands early = record { table = refl; low = omega arith; high = early; stands = stands }
 
 -- there is no step on a symbol without an entry
-pub no_step : (m : Program) (c : Config) (s : Sym) → s ≡ symbol_read c.tape → m c.state s ≡ None → next m c ≡ None
+pub no_step : (m : Machine) (c : Config) (s : Sym) → s ≡ symbol_read c.tape → m c.state s ≡ None → next m c ≡ None
 no_step m c s read none = ap (done_by c) (ap (m c.state) (sym read) ∙ none)
 
 -- the step by the entry of the symbol that was read
-pub step_is : (m : Program) (c : Config) (s : Sym) (e : Entry) (t : Tape) → s ≡ symbol_read c.tape → m c.state s ≡ Some e → t ≡ moved (written c.tape e.write) e.dir
+pub step_is : (m : Machine) (c : Config) (s : Sym) (e : Entry) (t : Tape) → s ≡ symbol_read c.tape → m c.state s ≡ Some e → t ≡ moved (written c.tape e.write) e.dir
     → next m c ≡ Some (record { state = e.next.0; tape = t })
 step_is m c s e t read entry tape = next_taken m c e (ap (m c.state) (sym read) ∙ entry) ∙ ap (λ u. Some (record { state = e.next.0; tape = u })) (sym tape)
 
@@ -111,7 +111,7 @@ found_not k p old new step began runs other halts =
     runs_not k (begun p) new step (subst (λ (r : RunState). RunsTo k r step new) began runs) other halts
 
 -- a configuration at the last time of a run is that on which it halts
-stands_last : (m : Program) (k steps : ℕ) (c : Config) → after m steps ≡ Some c → k ≡ steps + 1 → HaltsAt m k → HaltsOn m k c.state (symbol_read c.tape)
+stands_last : (m : Machine) (k steps : ℕ) (c : Config) → after m steps ≡ Some c → k ≡ steps + 1 → HaltsAt m k → HaltsOn m k c.state (symbol_read c.tape)
 stands_last m k steps c at count halts =
     let last : halts.last ≡ steps = omega (arith, halts.count) in
     let same : Some halts.at ≡ Some c = sym halts.is ∙ (ap (after m) last ∙ at) in

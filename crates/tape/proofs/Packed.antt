@@ -10,7 +10,8 @@ use Rattle.machine_text.specs.declared.transition.Sym.{Sym}
 use Rattle.machine_text.specs.declared.transition.Sym.TheVariants.{Zero}
 use Rattle.turing.specs.Tape.{cell_of, with_cell}
 use Rattle.tape.specs.Word.{ones_of, bit_symbol, symbols, symbols_of}
-use Rattle.tape.proofs.Cells.{by_place, cell_same, cell_other, same_ones}
+use Rattle.turing.proofs.Cells.{by_place, cell_other}
+use Rattle.tape.proofs.Cells.{cell_same, same_ones}
 use Rattle.tape.proofs.Symbols.{blank_before, cell_in}
 
 length-symbols : (k w : ℕ) → length (symbols k w) ≡ k

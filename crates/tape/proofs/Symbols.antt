@@ -5,7 +5,8 @@ use Rattle.machine_text.specs.declared.transition.Sym.{Sym}
 use Rattle.machine_text.specs.declared.transition.Sym.TheVariants.{Zero}
 use Rattle.turing.specs.Tape.{cell_of}
 use Rattle.tape.specs.Word.{ones_of}
-use Rattle.tape.proofs.Cells.{cell_same, cell_other, cell_blank}
+use Rattle.turing.proofs.Cells.{cell_other}
+use Rattle.tape.proofs.Cells.{cell_same, cell_blank}
 
 -- left of them all is blank
 pub blank_before : (x : ℤ) (word : List Sym) (q : ℤ) → q <ℤ x → cell_of (ones_of x word) q ≡ Zero

@@ -1,6 +1,6 @@
 -- The lines of a stream that comes in pieces: what stands before each newline, the byte 10. Of a line that is
 -- longer than the limit only that is kept.
-use Rattle.std.specs.Prelude.{◌≡◌, ◌≢◌, ℕ, ◌≤◌, nat_le, if◌then◌else◌, List, ◌∷◌, ◌++◌, length, All, Option, Some, None, IfSome}
+use Rattle.std.specs.Prelude.{◌≡◌, ◌≢◌, ℕ, ◌≤◌, nat_le, if◌then◌else◌, List, [], ◌∷◌, ◌++◌, length, All, Option, Some, None, IfSome}
 use Rattle.std.specs.Borrow.{Bor}
 use Rattle.text.specs.Limits.{line_byte_limit}
 
@@ -11,6 +11,11 @@ HasNoNewline text = All (λ byte. byte ≢ 10) text
 pub record BeginsWithLine (text line rest : List ℕ) : Type 0 where
   pub is : text ≡ line ++ (10 ∷ rest)
   pub one_line : HasNoNewline line
+
+-- lines, each with its newline
+abbrev pub joined : List (List ℕ) → List ℕ
+joined [] = []
+joined (line ∷ lines) = line ++ (10 ∷ joined lines)
 
 -- what is kept of a line, as far as it has come: its bytes, or that there are too many
 abbrev pub Kept : Type 0

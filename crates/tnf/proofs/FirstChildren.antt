@@ -8,7 +8,7 @@ use Rattle.machine_text.specs.declared.transition.Dir.{Dir}
 use Rattle.machine_text.specs.declared.transition.Dir.TheVariants.{L, R}
 use Rattle.machine_text.specs.declared.transition.Entry.{Entry}
 use Rattle.machine_text.specs.Packed.{Packed, entry_of, with_entry, holes}
-use Rattle.turing.specs.Program.{Program}
+use Rattle.turing.specs.Machine.{Machine}
 use Rattle.tree.specs.Used.{used_count}
 use Rattle.tree.specs.Children.{entries_to, child_entries}
 use Rattle.tree.specs.Tables.{children_at}
@@ -18,12 +18,12 @@ use Rattle.tnf.specs.inside.{entries_left, tables_left}
 use Rattle.tnf.proofs.EntriesLeft.{to, from_start, none_left}
 
 -- all entries of children are left
-right_left : (n u : ℕ) (m : Program) → holes n m ≡ 2 * n → entries_left (min n (u + 1)) R (Some (to Zero R 0)) ≡ child_entries n u m
+right_left : (n u : ℕ) (m : Machine) → holes n m ≡ 2 * n → entries_left (min n (u + 1)) R (Some (to Zero R 0)) ≡ child_entries n u m
 right_left n u m all =
     let t = min n (u + 1) in
     from_start t R Zero R ∙ ap (λ es. entries_to t Zero R ++ es) (append-nil (entries_to t One R)) ∙ sym (list_empty n u m all)
 
-both_left : (n u : ℕ) (m : Program) → (holes n m ≡ 2 * n → ⊥) → entries_left (min n (u + 1)) L (Some (to Zero L 0)) ≡ child_entries n u m
+both_left : (n u : ℕ) (m : Machine) → (holes n m ≡ 2 * n → ⊥) → entries_left (min n (u + 1)) L (Some (to Zero L 0)) ≡ child_entries n u m
 both_left n u m some =
     let t = min n (u + 1) in
     from_start t L Zero L ∙ sym (append_assoc (entries_to t Zero L) (entries_to t Zero R) (entries_to t One L ++ entries_to t One R)) ∙ sym (list_filled n u m some)

@@ -8,12 +8,12 @@ use Rattle.std.proofs.lemmas.List.FromFn.{fill_by_all}
 use Rattle.machine_text.specs.Limits.{state_limit}
 use Rattle.machine_text.specs.declared.transition.Sym.TheVariants.{Zero, One}
 use Rattle.machine_text.specs.declared.transition.Entry.{Entry}
-use Rattle.turing.specs.Program.{Program}
+use Rattle.turing.specs.Machine.{Machine}
 use Rattle.tree.specs.Used.{leads_to, has_entry, is_target, is_used}
 use Rattle.tnf.specs.inside.{is_named}
 
 -- a state is marked once the entries of the first states are
-abbrev pub marked : ℕ → Program → ℕ → Bool
+abbrev pub marked : ℕ → Machine → ℕ → Bool
 marked i m q = (q == 0) || ((ltb q i && has_entry m q) || is_target i m q)
 
 -- the marks in another order
@@ -60,7 +60,7 @@ there x y false e f g p n = ap (λ b. b && e) p ∙ nothing (y && e)
     nothing false = refl
 
 -- one state more has its entries
-entries_more : (i : ℕ) (m : Program) (q : ℕ) → (ltb q (i + 1) && has_entry m q) ≡ ((ltb q i && has_entry m q) || (((q == i) && is_some (m i Zero)) || ((q == i) && is_some (m i One))))
+entries_more : (i : ℕ) (m : Machine) (q : ℕ) → (ltb q (i + 1) && has_entry m q) ≡ ((ltb q i && has_entry m q) || (((q == i) && is_some (m i Zero)) || ((q == i) && is_some (m i One))))
 entries_more i m q = elim (cases_eq q i) [
   | inl same ↦ here (ltb q (i + 1)) (ltb q i) (q == i) (has_entry m q) (is_some (m i Zero)) (is_some (m i One)) (lt-ltb q (i + 1) (omega arith)) (le-ltb q i (omega arith)) (eq-eqb q i same) (ap (has_entry m) same)
   | inr other ↦ there (ltb q (i + 1)) (ltb q i) (q == i) (has_entry m q) (is_some (m i Zero)) (is_some (m i One)) (below other) (ne_eqb q i other)
@@ -72,18 +72,18 @@ entries_more i m q = elim (cases_eq q i) [
       | inr ge ↦ le-ltb q (i + 1) (omega arith) ∙ sym (le-ltb q i ge)
     ]
 
-target_more : (i : ℕ) (m : Program) (q : ℕ) → is_target (i + 1) m q ≡ ((leads_to (m i Zero) q || leads_to (m i One) q) || is_target i m q)
+target_more : (i : ℕ) (m : Machine) (q : ℕ) → is_target (i + 1) m q ≡ ((leads_to (m i Zero) q || leads_to (m i One) q) || is_target i m q)
 unfolding is_target
 target_more i m q = let more : i + 1 ≡ suc i = omega arith in ap (λ k. is_target k m q) more
 
 -- the marks of one state more
-pub marked_more : (i : ℕ) (m : Program) (q : ℕ) → ((marked i m q || is_named i (m i Zero) q) || is_named i (m i One) q) ≡ marked (i + 1) m q
+pub marked_more : (i : ℕ) (m : Machine) (q : ℕ) → ((marked i m q || is_named i (m i Zero) q) || is_named i (m i One) q) ≡ marked (i + 1) m q
 marked_more i m q =
     rw (named_parts i (m i Zero) q, named_parts i (m i One) q, entries_more i m q, target_more i m q)
     (reordered (q == 0) (ltb q i && has_entry m q) (is_target i m q) ((q == i) && is_some (m i Zero)) ((q == i) && is_some (m i One)) (leads_to (m i Zero) q) (leads_to (m i One) q))
 
 -- the marks once the entries of the first states are marked
-pub record AreMarked (used : List Bool) (i : ℕ) (m : Program) : Type 0 where
+pub record AreMarked (used : List Bool) (i : ℕ) (m : Machine) : Type 0 where
   pub size : length used ≡ state_limit
   pub each : (q : ℕ) → q < state_limit → get_or used q false ≡ marked i m q
 
@@ -91,7 +91,7 @@ pub record AreMarked (used : List Bool) (i : ℕ) (m : Program) : Type 0 where
 no_others : (q : ℕ) → suc q < state_limit → get_or (set (replicate state_limit false) 0 true) (suc q) false ≡ false
 no_others q lt = get_or-replicate (state_limit - 1) q false false (omega arith)
 
-pub marked_none : (m : Program) → AreMarked (set (replicate state_limit false) 0 true) 0 m
+pub marked_none : (m : Machine) → AreMarked (set (replicate state_limit false) 0 true) 0 m
 unfolding is_target
 marked_none m = record { size = refl; each = each }
   where
@@ -105,7 +105,7 @@ marked_none m = record { size = refl; each = each }
     each (suc q) lt = no_others q lt ∙ sym (none q)
 
 -- then the entries of one state after the other
-pub marked_step : (u v w : List Bool) (i : ℕ) (m : Program) → AreMarked u i m → length v ≡ length u → length w ≡ length v →
+pub marked_step : (u v w : List Bool) (i : ℕ) (m : Machine) → AreMarked u i m → length v ≡ length u → length w ≡ length v →
     ((q : ℕ) → get_or v q false ≡ (get_or u q false || is_named i (m i Zero) q)) →
     ((q : ℕ) → get_or w q false ≡ (get_or v q false || is_named i (m i One) q)) → AreMarked w (i + 1) m
 marked_step u v w i m a lv lw zeros ones = record {
@@ -114,7 +114,7 @@ marked_step u v w i m a lv lw zeros ones = record {
 }
 
 -- and once all are, the used states are marked
-pub marked_all : (used : List Bool) (n : ℕ) (m : Program) → n ≤ state_limit → AreMarked used n m → take n used ≡ map (is_used n m) (range_with_len 0 n)
+pub marked_all : (used : List Bool) (n : ℕ) (m : Machine) → n ≤ state_limit → AreMarked used n m → take n used ≡ map (is_used n m) (range_with_len 0 n)
 unfolding is_used
 marked_all used n m le a = fill_by_all (is_used n m) (take n used) n false (length-take-le n used (omega (arith, a.size))) each
   where

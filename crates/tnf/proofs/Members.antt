@@ -1,22 +1,18 @@
 -- The list of a table's children at a pair has exactly the children there.
 use Rattle.std.proofs.Common.{◌≡◌, ◌↔◌, ℕ, ◌+◌, ◌*◌, ◌<◌, ◌≤◌, ◌++◌, List, [], ◌∷◌, length, get_or, map, sym, ◌∙◌, ap, subst, inl, inr, arith}
 use Rattle.std.specs.List.{Contains}
-use Prim.Native.Nat.{min}
-use Rattle.std.proofs.lemmas.Bool.{cases_lt, cases_eq}
-use Rattle.std.proofs.lemmas.List.{get_or-map, length-map, length-append}
+use Rattle.std.proofs.lemmas.Bool.{cases_lt}
+use Rattle.std.proofs.lemmas.List.{get_or-map, length-map}
 use Rattle.std.proofs.lemmas.List.Elements.{Contains-get_or}
 use Rattle.machine_text.specs.declared.transition.Sym.{Sym}
-use Rattle.machine_text.specs.declared.transition.Sym.TheVariants.{Zero, One}
-use Rattle.machine_text.specs.declared.transition.Dir.TheVariants.{L, R}
 use Rattle.machine_text.specs.declared.transition.Entry.{Entry}
 use Rattle.machine_text.specs.Packed.{Packed, IsTable, entry_of, with_entry, holes}
-use Rattle.turing.specs.Program.{Program}
 use Rattle.turing.proofs.TableLaws.{table_machine}
 use Rattle.tree.specs.Used.{InOrder, used_count}
-use Rattle.tree.specs.Children.{IsChildEntry, child_entries, entries_to}
+use Rattle.tree.specs.Children.{IsChildEntry}
 use Rattle.tree.specs.Tables.{children_at}
 use Rattle.tree.proofs.UsedCount.{used_number}
-use Rattle.tree.proofs.ChildEntries.{listed_is_entry, entry_is_listed, list_empty, list_filled, length_to}
+use Rattle.tree.proofs.ChildEntries.{listed_is_entry, entry_is_listed}
 use Rattle.tree.proofs.ChildTables.{entries_of, some_children, no_children}
 use Rattle.tnf.specs.Children.{IsChildAt}
 
@@ -57,35 +53,3 @@ module _ (p : Packed) (u q : ℕ) (s : Sym) (i : IsTable p) (o : InOrder u (entr
 
   pub children_members : (t : Packed) → Contains (children_at p q s) t ↔ IsChildAt p u q s t
   children_members t = (from_list t, into_list t)
-
--- there are at most four for each state
-length_entries : (n u : ℕ) (m : Program) → length (child_entries n u m) ≤ 4 * n
-length_entries n u m = elim (cases_eq (holes n m) (2 * n)) [
-  | inl all ↦ omega (arith, ap length (list_empty n u m all), length-append (entries_to t Zero R) (entries_to t One R), length_to t Zero R, length_to t One R)
-  | inr some ↦ omega (
-    arith,
-    ap length (list_filled n u m some),
-    length-append zeros ones,
-    length-append (entries_to t Zero L) (entries_to t Zero R),
-    length-append (entries_to t One L) (entries_to t One R),
-    length_to t Zero L,
-    length_to t Zero R,
-    length_to t One L,
-    length_to t One R,
-  )
-]
-  where
-    t : ℕ
-    t = min n (u + 1)
-
-    zeros : List Entry
-    zeros = entries_to t Zero L ++ entries_to t Zero R
-
-    ones : List Entry
-    ones = entries_to t One L ++ entries_to t One R
-
-pub children_bound : (p : Packed) (q : ℕ) (s : Sym) → length (children_at p q s) ≤ 4 * p.states
-children_bound p q s = elim (cases_lt (holes p.states (entry_of p)) 2) [
-  | inl few ↦ omega (arith, ap length (no_children p q s few))
-  | inr two ↦ omega (arith, ap length (some_children p q s two), length-map (entries_of p) (with_entry p q s), length_entries p.states (used_count p.states (entry_of p)) (entry_of p))
-]

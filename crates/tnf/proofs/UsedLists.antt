@@ -7,7 +7,7 @@ use Rattle.std.proofs.lemmas.List.{length-take-le, get_or-take, length-drop, get
 use Rattle.std.proofs.lemmas.List.Elements.{All-contains, filter_passes}
 use Rattle.std.proofs.lemmas.List.Kept.{AllPairs-filter}
 use Rattle.std.proofs.lemmas.List.Sums.{sum_by-cons, length-filter}
-use Rattle.turing.specs.Program.{Program, IsMachine}
+use Rattle.turing.specs.Machine.{Machine, IsMachine}
 use Rattle.tree.specs.Used.{IsUsed, InOrder, is_used, used_count}
 use Rattle.tree.proofs.Used.{used_within}
 use Rattle.tree.proofs.UsedCount.{used_from_test, test_from_used, order_test, order_from_test}
@@ -31,7 +31,7 @@ rising n i j d less within =
     omega arith
 
 -- the states that pass the test are the used ones
-pub number_of_used : (n k : ℕ) (m : Program) → IsMachine n m → k ≡ used_count n m → IsNumberOfUsed k m
+pub number_of_used : (n k : ℕ) (m : Machine) → IsMachine n m → k ≡ used_count n m → IsNumberOfUsed k m
 unfolding used_count
 number_of_used n k m i is = record {
   states = filter (is_used n m) (range_with_len 0 n);
@@ -56,12 +56,12 @@ counted f (x ∷ xs) =
     let right = sum_by-cons (λ (y : ℕ). cond (f y) 1 0) x xs in
     left ∙ ap (λ k. cond (f x) 1 0 + k) (counted f xs) ∙ sym right
 
-pub count_of_marks : (n k : ℕ) (m : Program) (marks : List Bool) → marks ≡ map (is_used n m) (range_with_len 0 n) → k ≡ count_by (λ b. b) marks → k ≡ used_count n m
+pub count_of_marks : (n k : ℕ) (m : Machine) (marks : List Bool) → marks ≡ map (is_used n m) (range_with_len 0 n) → k ≡ count_by (λ b. b) marks → k ≡ used_count n m
 unfolding used_count
 count_of_marks n k m marks are is = is ∙ ap (count_by (λ b. b)) are ∙ counted (is_used n m) (range_with_len 0 n)
 
 -- in order: from the first unused state on, none is used
-module _ (n u : ℕ) (m : Program) (marks : List Bool) (i : IsMachine n m) (are : marks ≡ map (is_used n m) (range_with_len 0 n))
+module _ (n u : ℕ) (m : Machine) (marks : List Bool) (i : IsMachine n m) (are : marks ≡ map (is_used n m) (range_with_len 0 n))
     (le : u ≤ length marks) (before : (q : ℕ) → q < u → get_or marks q false ≡ true) (at : u < length marks → get_or marks u false ≡ false) where
   abbrev pub others : List Bool
   others = take (length marks - u) (drop u marks)

@@ -1,10 +1,10 @@
 -- How many states a machine uses.
 use Rattle.std.specs.Prelude.{◌≡◌, ◌↔◌, ℕ, ◌<◌, List, length, AllPairs, Contains}
-use Rattle.turing.specs.Program.{Program}
+use Rattle.turing.specs.Machine.{Machine}
 use Rattle.tree.specs.Used.{IsUsed}
 
 -- k is the number of used states: they can be listed without repetition, and the list has k of them
-pub record IsNumberOfUsed (k : ℕ) (m : Program) : Type 0 where
+pub record IsNumberOfUsed (k : ℕ) (m : Machine) : Type 0 where
   pub states : List ℕ
   pub rising : AllPairs (λ a b. a < b) states
   pub members : (q : ℕ) → Contains states q ↔ IsUsed m q

@@ -4,7 +4,7 @@ use Rattle.std.proofs.lemmas.Option.{same_Some}
 use Rattle.machine_text.specs.declared.transition.Sym.{Sym}
 use Rattle.machine_text.specs.declared.transition.Entry.{Entry}
 use Rattle.machine_text.specs.Packed.{holes}
-use Rattle.turing.specs.Program.{Program, IsMachine}
+use Rattle.turing.specs.Machine.{Machine, IsMachine}
 use Rattle.turing.specs.Halting.{Never}
 use Rattle.tree.specs.Filling.{filled}
 use Rattle.tree.specs.Used.{InOrder}
@@ -14,30 +14,30 @@ use Rattle.tree.proofs.Halts.{pair_undefined, full_never}
 use Rattle.tree.proofs.Worth.{IsWorth}
 use Rattle.tree.proofs.Extensions.{attains_itself, attains_child, never_attains, only_attains, covered}
 
-module _ (V : Program → ℕ → Type 0) (w : IsWorth V) where
+module _ (V : Machine → ℕ → Type 0) (w : IsWorth V) where
   -- what a best says of what is attained
-  pub best_attained : (n : ℕ) (m : Program) (b : Option ℕ) (s : ℕ) → IsBest V n m b → b ≡ Some s → Attains V n m s
+  pub best_attained : (n : ℕ) (m : Machine) (b : Option ℕ) (s : ℕ) → IsBest V n m b → b ≡ Some s → Attains V n m s
   best_attained n m None s best is = absurd (cc)
   best_attained n m (Some x) s best is = subst (Attains V n m) (same_Some x s is) best.0
 
-  pub best_bounds : (n : ℕ) (m : Program) (b : Option ℕ) (t : ℕ) → IsBest V n m b → Attains V n m t → (s : ℕ) × (b ≡ Some s) × (t ≤ s)
+  pub best_bounds : (n : ℕ) (m : Machine) (b : Option ℕ) (t : ℕ) → IsBest V n m b → Attains V n m t → (s : ℕ) × (b ≡ Some s) × (t ≤ s)
   best_bounds n m None t best a = absurd (best t a)
   best_bounds n m (Some x) t best a = (x, refl, best.1 t a)
 
   -- a machine that never halts, and a full one, have none
-  pub never_best : (n : ℕ) (m : Program) → Never m → IsBest V n m None
+  pub never_best : (n : ℕ) (m : Machine) → Never m → IsBest V n m None
   never_best n m never t a = never_attains V w n m t never a
 
-  pub full_best : (n : ℕ) (m : Program) → IsMachine n m → holes n m ≡ 0 → IsBest V n m None
+  pub full_best : (n : ℕ) (m : Machine) → IsMachine n m → holes n m ≡ 0 → IsBest V n m None
   full_best n m i full = never_best n m (full_never n m i full)
 
   -- a machine that halts on its only undefined pair is its own best
-  pub only_best : (n : ℕ) (m : Program) (k q : ℕ) (r : Sym) (s : ℕ) → IsMachine n m → holes n m ≤ 1 → HaltsOn m k q r → V m s → IsBest V n m (Some s)
+  pub only_best : (n : ℕ) (m : Machine) (k q : ℕ) (r : Sym) (s : ℕ) → IsMachine n m → holes n m ≤ 1 → HaltsOn m k q r → V m s → IsBest V n m (Some s)
   only_best n m k q r s i one h v =
       (attains_itself V w n m s i v, λ t a. let same = w.one m t s (only_attains V w n m k q r t i one h a) v in omega arith)
 
   -- m halts on a pair, in order, with the worth x, and b has the bests of its children
-  module _ (n u : ℕ) (m : Program) (k q : ℕ) (r : Sym) (x : ℕ) (b : Entry → Option ℕ) (i : IsMachine n m) (o : InOrder u m) (h : HaltsOn m k q r) (v : V m x)
+  module _ (n u : ℕ) (m : Machine) (k q : ℕ) (r : Sym) (x : ℕ) (b : Entry → Option ℕ) (i : IsMachine n m) (o : InOrder u m) (h : HaltsOn m k q r) (v : V m x)
       (bests : (e : Entry) → IsChildEntry n u m e → IsBest V n (filled m q r e) (b e)) where
     greatest_from_best : (s : ℕ) → IsBest V n m (Some s) → IsGreatestOf n u m x b s
     greatest_from_best s best = record {

@@ -11,7 +11,7 @@ use Rattle.machine_text.specs.declared.transition.Dir.{Dir}
 use Rattle.machine_text.specs.declared.transition.Dir.TheVariants.{L, R}
 use Rattle.machine_text.specs.declared.transition.Entry.{Entry}
 use Rattle.machine_text.specs.Packed.{holes}
-use Rattle.turing.specs.Program.{Program, IsMachine}
+use Rattle.turing.specs.Machine.{Machine, IsMachine}
 use Rattle.tree.specs.Children.{IsChildEntry, entries_to, child_entries}
 use Rattle.tree.proofs.Holes.{cases_empty}
 
@@ -95,16 +95,16 @@ both_stand t e lt = go e.write refl
     go One is = Contains-append_right (entries_to t Zero L ++ entries_to t Zero R) (entries_to t One L ++ entries_to t One R) e (two_stand t One e lt is)
 
 -- the list by whether the machine is empty
-pub list_empty : (n u : ℕ) (m : Program) → holes n m ≡ 2 * n → child_entries n u m ≡ right_entries (min n (u + 1))
+pub list_empty : (n u : ℕ) (m : Machine) → holes n m ≡ 2 * n → child_entries n u m ≡ right_entries (min n (u + 1))
 unfolding child_entries
 list_empty n u m all = rw (eq-eqb (holes n m) (2 * n) all)
 
-pub list_filled : (n u : ℕ) (m : Program) → (holes n m ≡ 2 * n → ⊥) → child_entries n u m ≡ both_entries (min n (u + 1))
+pub list_filled : (n u : ℕ) (m : Machine) → (holes n m ≡ 2 * n → ⊥) → child_entries n u m ≡ both_entries (min n (u + 1))
 unfolding child_entries
 list_filled n u m some = rw (ne_eqb (holes n m) (2 * n) some)
 
 -- what stands in the list is an entry of a child
-pub listed_is_entry : (n u : ℕ) (m : Program) (e : Entry) → IsMachine n m → Contains (child_entries n u m) e → IsChildEntry n u m e
+pub listed_is_entry : (n u : ℕ) (m : Machine) (e : Entry) → IsMachine n m → Contains (child_entries n u m) e → IsChildEntry n u m e
 listed_is_entry n u m e i c = elim (cases_empty n m i) [
   | inl empty ↦ (
       let here : Contains (right_entries (min n (u + 1))) e = subst (λ (es : List Entry). Contains es e) (list_empty n u m empty.1) c in
@@ -117,7 +117,7 @@ listed_is_entry n u m e i c = elim (cases_empty n m i) [
 ]
 
 -- and each such entry stands in it
-pub entry_is_listed : (n u : ℕ) (m : Program) (e : Entry) → IsMachine n m → IsChildEntry n u m e → Contains (child_entries n u m) e
+pub entry_is_listed : (n u : ℕ) (m : Machine) (e : Entry) → IsMachine n m → IsChildEntry n u m e → Contains (child_entries n u m) e
 entry_is_listed n u m e i x = elim (cases_empty n m i) [
   | inl empty ↦ subst (λ (es : List Entry). Contains es e) (sym (list_empty n u m empty.1)) (right_stands (min n (u + 1)) e (omega (arith, x.within, x.target)) (x.right empty.0))
   | inr some ↦ subst (λ (es : List Entry). Contains es e) (sym (list_filled n u m some.1)) (both_stand (min n (u + 1)) e (omega (arith, x.within, x.target)))

@@ -10,7 +10,7 @@ use Rattle.machine_text.specs.declared.transition.Sym.TheVariants.{Zero}
 use Rattle.machine_text.specs.declared.transition.Dir.TheVariants.{L}
 use Rattle.machine_text.specs.declared.transition.Entry.{Entry}
 use Rattle.machine_text.specs.Packed.{Packed, IsTable, entry_of, with_entry, holes}
-use Rattle.turing.specs.Program.{Program}
+use Rattle.turing.specs.Machine.{Machine}
 use Rattle.tree.specs.Used.{InOrder, used_count}
 use Rattle.tree.specs.Children.{HaltsOn, IsChildEntry, child_entries}
 use Rattle.tree.specs.Tables.{IsChildTable, children_at}
@@ -79,7 +79,7 @@ module _ (p : Packed) (u k q : ℕ) (s : Sym) (i : IsTable p) (o : InOrder u (en
   same_entries : (a b : Entry) → a.next.0 < p.states → b.next.0 < p.states → with_entry p q s a ≡ with_entry p q s b → a ≡ b
   same_entries a b la lb same =
       let within = pair_within p.states (entry_of p) k q s (table_machine p i) h in
-      let at : (e : Entry) → e.next.0 < p.states → entry_of (with_entry p q s e) q s ≡ Some e = λ e lt. ap (λ (m : Program). m q s) (with_entry_fills p q s e i within lt) ∙ filled_at (entry_of p) q s e in
+      let at : (e : Entry) → e.next.0 < p.states → entry_of (with_entry p q s e) q s ≡ Some e = λ e lt. ap (λ (m : Machine). m q s) (with_entry_fills p q s e i within lt) ∙ filled_at (entry_of p) q s e in
       same_Some a b (sym (at a la) ∙ ap (λ t. entry_of t q s) same ∙ at b lb)
 
   -- so each child stands in the list once

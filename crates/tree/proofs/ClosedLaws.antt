@@ -1,7 +1,7 @@
 -- A closed table has its whole tree recorded, so the greatest that is recorded there is its best.
 use Rattle.std.proofs.Common.{◌≡◌, ℕ, ◌≤◌, Option, Some, None, refl, sym, ◌∙◌, ap, subst, ◌⊎◌, inl, inr, ◌↔◌}
 use Rattle.machine_text.specs.Packed.{Packed, IsTable, entry_of}
-use Rattle.turing.specs.Program.{Program}
+use Rattle.turing.specs.Machine.{Machine}
 use Rattle.turing.specs.Halting.{HaltsAt, Never}
 use Rattle.turing.proofs.RunLaws.{one_count}
 use Rattle.tree.specs.Used.{InOrder}
@@ -91,7 +91,7 @@ module _ (root : Packed) (marks : Packed → Option Mark) (true_marks : (t : Pac
   ]
 
   -- the recorded value of a table that halts is its worth
-  module _ (V : Program → ℕ → Type 0) (w : IsWorth V) (value : Packed → ℕ → ℕ) (worth : (t : Packed) (k : ℕ) → marks t ≡ Some (Halting k) → V (entry_of t) (value t k)) where
+  module _ (V : Machine → ℕ → Type 0) (w : IsWorth V) (value : Packed → ℕ → ℕ) (worth : (t : Packed) (k : ℕ) → marks t ≡ Some (Halting k) → V (entry_of t) (value t k)) where
     recorded_is_greatest : (p : Packed) → IsClosed root marks p → (b : Option ℕ) → IsGreatestInTables V p b ↔ IsGreatestRecorded value marks p b
     recorded_is_greatest p closed b = (there b, back b)
       where

@@ -2,7 +2,7 @@
 use Rattle.std.proofs.Common.{◌≡◌, ℕ, ◌≤◌, Some, sym, subst, ◌↔◌}
 use Rattle.machine_text.specs.Limits.{state_limit}
 use Rattle.machine_text.specs.Packed.{IsTable, entry_of, empty_table}
-use Rattle.turing.specs.Program.{Program}
+use Rattle.turing.specs.Machine.{Machine}
 use Rattle.tree.specs.Filling.{empty_machine}
 use Rattle.tree.specs.Used.{InOrder}
 use Rattle.tree.specs.Best.{IsBest, IsGreatestOfAll}
@@ -25,7 +25,7 @@ empty_is_table n some limit = tabulated_table n empty_machine (empty_is_machine 
 pub empty_table_in_order : (n : ℕ) → 1 ≤ n → n ≤ state_limit → InOrder 1 (entry_of (empty_table n))
 empty_table_in_order n some limit = subst (InOrder 1) (sym (empty_map n some limit)) empty_in_order
 
-module _ (V : Program → ℕ → Type 0) where
+module _ (V : Machine → ℕ → Type 0) where
   pub best_of_empty_table : (n s : ℕ) → 1 ≤ n → n ≤ state_limit → IsBestOfTable V (empty_table n) (Some s) ↔ IsGreatestOfAll V n s
   best_of_empty_table n s some limit =
       let p = empty_table n in
@@ -33,8 +33,8 @@ module _ (V : Program → ℕ → Type 0) where
       let all = best_of_empty V n s in
       let map = empty_map n some limit in
       let states = tabulated_states n empty_machine in (
-        λ x. all.0 (subst (λ k. IsBest V k empty_machine (Some s)) states (subst (λ (m : Program). IsBest V p.states m (Some s)) map (best.0 x))),
-        λ x. best.1 (subst (λ (m : Program). IsBest V p.states m (Some s)) (sym map) (subst (λ k. IsBest V k empty_machine (Some s)) (sym states) (all.1 x))),
+        λ x. all.0 (subst (λ k. IsBest V k empty_machine (Some s)) states (subst (λ (m : Machine). IsBest V p.states m (Some s)) map (best.0 x))),
+        λ x. best.1 (subst (λ (m : Machine). IsBest V p.states m (Some s)) (sym map) (subst (λ k. IsBest V k empty_machine (Some s)) (sym states) (all.1 x))),
       )
 
   pub greatest_of_all_tables : (w : IsWorth V) (n s : ℕ) → 1 ≤ n → n ≤ state_limit → IsDecidedTable (empty_table n) → IsGreatestInTables V (empty_table n) (Some s) ↔ IsGreatestOfAll V n s

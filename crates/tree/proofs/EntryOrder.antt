@@ -10,7 +10,7 @@ use Rattle.machine_text.specs.declared.transition.Dir.{Dir}
 use Rattle.machine_text.specs.declared.transition.Dir.TheVariants.{L, R}
 use Rattle.machine_text.specs.declared.transition.Entry.{Entry}
 use Rattle.machine_text.specs.Packed.{holes, symbol_number, direction_number}
-use Rattle.turing.specs.Program.{Program}
+use Rattle.turing.specs.Machine.{Machine}
 use Rattle.tree.specs.Children.{entries_to, child_entries, move_number, Precedes}
 use Rattle.tree.proofs.ChildEntries.{length_to, to_at, right_entries, both_entries, list_empty, list_filled}
 
@@ -71,7 +71,7 @@ rising_both t = pairs_append Precedes (entries_to t Zero L ++ entries_to t Zero 
     (moves_append (λ k. 2 ≤ k) (entries_to t One L) (entries_to t One R) (moves_to (λ k. 2 ≤ k) t One L (omega arith)) (moves_to (λ k. 2 ≤ k) t One R (omega arith))))
 
 -- the children's entries rise
-pub entries_rise : (n u : ℕ) (m : Program) → AllPairs Precedes (child_entries n u m)
+pub entries_rise : (n u : ℕ) (m : Machine) → AllPairs Precedes (child_entries n u m)
 entries_rise n u m = elim (cases_eq (holes n m) (2 * n)) [
   | inl all ↦ subst (λ (es : List Entry). AllPairs Precedes es) (sym (list_empty n u m all)) (rising_right (min n (u + 1)))
   | inr some ↦ subst (λ (es : List Entry). AllPairs Precedes es) (sym (list_filled n u m some)) (rising_both (min n (u + 1)))
@@ -84,5 +84,5 @@ precedes_other a b p same =
     let targets = ap (λ (x : Entry). x.next.0) same in
     elim p [ inl less ↦ omega arith | inr later ↦ omega arith ]
 
-pub entries_differ : (n u : ℕ) (m : Program) → AllPairs (λ a b. a ≡ b → ⊥) (child_entries n u m)
+pub entries_differ : (n u : ℕ) (m : Machine) → AllPairs (λ a b. a ≡ b → ⊥) (child_entries n u m)
 entries_differ n u m i j d less within = precedes_other _ _ (entries_rise n u m i j d less within)

@@ -4,7 +4,7 @@ use Rattle.std.proofs.lemmas.Option.{same_Some}
 use Rattle.machine_text.specs.declared.transition.Sym.{Sym}
 use Rattle.machine_text.specs.declared.transition.Entry.{Entry}
 pub use Rattle.machine_text.proofs.Filling.{cases_symbol, Filled, Kept, filled_cases}
-use Rattle.turing.specs.Program.{Program, IsMachine}
+use Rattle.turing.specs.Machine.{Machine, IsMachine}
 use Rattle.tree.specs.Filling.{filled, empty_machine}
 use Rattle.turing.specs.Extension.{Extends}
 
@@ -14,14 +14,14 @@ cases_option None = inl refl
 cases_option (Some x) = inr (x, refl)
 
 -- the pair has the entry
-pub filled_at : (m : Program) (p : ℕ) (r : Sym) (e : Entry) → filled m p r e p r ≡ Some e
+pub filled_at : (m : Machine) (p : ℕ) (r : Sym) (e : Entry) → filled m p r e p r ≡ Some e
 filled_at m p r e = elim (filled_cases m p r e p r) [
   | inl f ↦ f.is
   | inr k ↦ absurd (k.other refl refl)
 ]
 
 -- where the pair was undefined, the filled machine extends the one before
-pub filled_extends : (m : Program) (p : ℕ) (r : Sym) (e : Entry) → m p r ≡ None → Extends (filled m p r e) m
+pub filled_extends : (m : Machine) (p : ℕ) (r : Sym) (e : Entry) → m p r ≡ None → Extends (filled m p r e) m
 filled_extends m p r e undefined = record { is = go }
   where
     go : (q : ℕ) (s : Sym) (d : Entry) → m q s ≡ Some d → filled m p r e q s ≡ Some d
@@ -31,7 +31,7 @@ filled_extends m p r e undefined = record { is = go }
     ]
 
 -- an extension that has the entry at the pair extends the filled machine
-pub extends_filled : (big m : Program) (p : ℕ) (r : Sym) (e : Entry) → Extends big m → big p r ≡ Some e → Extends big (filled m p r e)
+pub extends_filled : (big m : Machine) (p : ℕ) (r : Sym) (e : Entry) → Extends big m → big p r ≡ Some e → Extends big (filled m p r e)
 extends_filled big m p r e ext there = record { is = go }
   where
     go : (q : ℕ) (s : Sym) (d : Entry) → filled m p r e q s ≡ Some d → big q s ≡ Some d
@@ -41,18 +41,18 @@ extends_filled big m p r e ext there = record { is = go }
     ]
 
 -- an extension of an extension is one
-pub extends_twice : (a b c : Program) → Extends a b → Extends b c → Extends a c
+pub extends_twice : (a b c : Machine) → Extends a b → Extends b c → Extends a c
 extends_twice a b c f g = record { is = λ q s e h. f.is q s e (g.is q s e h) }
 
 -- each machine extends itself, and the empty one
-pub extends_itself : (m : Program) → Extends m m
+pub extends_itself : (m : Machine) → Extends m m
 extends_itself m = record { is = λ q s e h. h }
 
-pub extends_empty : (m : Program) → Extends m empty_machine
+pub extends_empty : (m : Machine) → Extends m empty_machine
 extends_empty m = record { is = λ q s e h. cc }
 
 -- an entry within the states makes a machine of them
-pub filled_machine : (n : ℕ) (m : Program) (p : ℕ) (r : Sym) (e : Entry) → IsMachine n m → p < n → e.next.0 < n → IsMachine n (filled m p r e)
+pub filled_machine : (n : ℕ) (m : Machine) (p : ℕ) (r : Sym) (e : Entry) → IsMachine n m → p < n → e.next.0 < n → IsMachine n (filled m p r e)
 filled_machine n m p r e is_machine state target = record { some = is_machine.some; beyond = beyond; inside = inside }
   where
     beyond : (q : ℕ) (s : Sym) → n ≤ q → filled m p r e q s ≡ None
@@ -72,11 +72,11 @@ pub empty_is_machine : (n : ℕ) → 1 ≤ n → IsMachine n empty_machine
 empty_is_machine n some = record { some = some; beyond = λ q s h. refl; inside = λ q s e h. cc }
 
 -- equal entries are equal machines
-pub same_program : (m t : Program) → ((q : ℕ) (s : Sym) → m q s ≡ t q s) → m ≡ t
+pub same_program : (m t : Machine) → ((q : ℕ) (s : Sym) → m q s ≡ t q s) → m ≡ t
 same_program m t each = λ i q s. each q s i
 
 -- a machine that extends another and has no more entries is that machine
-pub extends_back : (a b : Program) → Extends a b → Extends b a → a ≡ b
+pub extends_back : (a b : Machine) → Extends a b → Extends b a → a ≡ b
 extends_back a b f g = same_program a b each
   where
     each : (q : ℕ) (s : Sym) → a q s ≡ b q s

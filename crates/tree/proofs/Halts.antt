@@ -5,7 +5,7 @@ use Rattle.std.proofs.lemmas.Option.{same_Some}
 use Rattle.machine_text.specs.declared.transition.Sym.{Sym}
 use Rattle.machine_text.specs.declared.transition.Entry.{Entry}
 use Rattle.machine_text.specs.Packed.{holes}
-use Rattle.turing.specs.Program.{Program, IsMachine}
+use Rattle.turing.specs.Machine.{Machine, IsMachine}
 use Rattle.turing.specs.Tape.{symbol_read}
 use Rattle.turing.specs.Run.{Config, start, done_by, next, after}
 use Rattle.turing.specs.Halting.{HaltsAt, Never}
@@ -20,7 +20,7 @@ use Rattle.tree.proofs.Used.{some_used}
 use Rattle.tree.proofs.Holes.{none_open}
 
 -- what holds of A and of each target holds of each state of the run
-pub state_within : (P : ℕ → Type 0) (m : Program) → P 0 → ((q : ℕ) (s : Sym) (e : Entry) → m q s ≡ Some e → P e.next.0) →
+pub state_within : (P : ℕ → Type 0) (m : Machine) → P 0 → ((q : ℕ) (s : Sym) (e : Entry) → m q s ≡ Some e → P e.next.0) →
     (k : ℕ) (c : Config) → after m k ≡ Some c → P c.state
 state_within P m first targets zero c is =
     let same : start ≡ c = same_Some start c (sym (from_zero m start) ∙ is) in
@@ -31,32 +31,32 @@ state_within P m first targets (suc k) c is =
     subst P (sym t.1.state) (targets b.0.state (symbol_read b.0.tape) t.0 t.1.is)
 
 -- the pair on which a run halts is undefined
-pub stops_at_pair : (m : Program) (k : ℕ) (h : HaltsAt m k) → m h.at.state (symbol_read h.at.tape) ≡ None
+pub stops_at_pair : (m : Machine) (k : ℕ) (h : HaltsAt m k) → m h.at.state (symbol_read h.at.tape) ≡ None
 stops_at_pair m k h = halts_at_pair m h.at h.over
 
-pub pair_undefined : (m : Program) (k q : ℕ) (s : Sym) → HaltsOn m k q s → m q s ≡ None
+pub pair_undefined : (m : Machine) (k q : ℕ) (s : Sym) → HaltsOn m k q s → m q s ≡ None
 pair_undefined m k q s h = rw (← h.state, ← h.symbol) (stops_at_pair m k h.halts)
 
 -- a run that halts does so on a pair
-pub stops_on : (m : Program) (k : ℕ) (h : HaltsAt m k) → HaltsOn m k h.at.state (symbol_read h.at.tape)
+pub stops_on : (m : Machine) (k : ℕ) (h : HaltsAt m k) → HaltsOn m k h.at.state (symbol_read h.at.tape)
 stops_on m k h = record { halts = h; state = refl; symbol = refl }
 
 -- its state is one of the n states, and a used one
-pub pair_within : (n : ℕ) (m : Program) (k q : ℕ) (s : Sym) → IsMachine n m → HaltsOn m k q s → q < n
+pub pair_within : (n : ℕ) (m : Machine) (k q : ℕ) (s : Sym) → IsMachine n m → HaltsOn m k q s → q < n
 pair_within n m k q s i h = rw (← h.state) (state_within (λ x. x < n) m (let some = i.some in omega arith) i.inside h.halts.last h.halts.at h.halts.is)
 
-pub pair_used : (u : ℕ) (m : Program) (k q : ℕ) (s : Sym) → InOrder u m → HaltsOn m k q s → q < u
+pub pair_used : (u : ℕ) (m : Machine) (k q : ℕ) (s : Sym) → InOrder u m → HaltsOn m k q s → q < u
 pair_used u m k q s o h =
     rw (← h.state) (state_within (λ x. x < u) m (some_used u m o) (λ p r e is. o.only e.next.0 (Target p r e is refl)) h.halts.last h.halts.at h.halts.is)
 
 -- a machine in which each pair has an entry never halts
-pub full_never : (n : ℕ) (m : Program) → IsMachine n m → holes n m ≡ 0 → Never m
+pub full_never : (n : ℕ) (m : Machine) → IsMachine n m → holes n m ≡ 0 → Never m
 full_never n m i full k h =
     let on = stops_on m k h in
     none_open n m full h.at.state (symbol_read h.at.tape) (pair_within n m k h.at.state (symbol_read h.at.tape) i on) (stops_at_pair m k h)
 
 -- where an extension leaves the pair undefined, it halts there too
-pub stops_too : (big m : Program) (k q : ℕ) (s : Sym) → Extends big m → (h : HaltsOn m k q s) → big q s ≡ None → (b : HaltsAt big k) × (b.at ≡ h.halts.at)
+pub stops_too : (big m : Machine) (k q : ℕ) (s : Sym) → Extends big m → (h : HaltsOn m k q s) → big q s ≡ None → (b : HaltsAt big k) × (b.at ≡ h.halts.at)
 stops_too big m k q s x h none =
     let gone : big h.halts.at.state (symbol_read h.halts.at.tape) ≡ None = rw (h.state, h.symbol) none in
     let over : next big h.halts.at ≡ None = ap (done_by h.halts.at) gone in

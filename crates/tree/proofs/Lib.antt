@@ -16,6 +16,7 @@ pub mod Packing
 pub mod TableLaws
 pub mod EmptyTable
 pub mod ChildTables
+pub mod ChildCount
 pub mod ClosedLaws
 pub mod OneStateTree
 pub mod ChildOrder

@@ -4,7 +4,7 @@ use Prim.Native.Nat.{max}
 use Rattle.std.specs.List.{Contains, fold}
 use Rattle.std.proofs.lemmas.Bool.{cases_lt}
 use Rattle.machine_text.specs.declared.transition.Entry.{Entry}
-use Rattle.turing.specs.Program.{Program, IsMachine}
+use Rattle.turing.specs.Machine.{Machine, IsMachine}
 use Rattle.tree.specs.Children.{child_entries}
 use Rattle.tree.specs.Best.{IsGreatestOf, greatest_of}
 use Rattle.tree.proofs.Filling.{cases_option}
@@ -58,7 +58,7 @@ greatest_in b [] k = record { own = omega arith; each = λ e t c is. absurd (ome
 greatest_in b (x ∷ es) k = greatest_more b x es k (fold (step b) (step b k x) es) (greatest_in b es (step b k x))
 
 -- along the children's entries it is the greatest of the children's
-pub greatest_listed : (n u : ℕ) (m : Program) (k : ℕ) (b : Entry → Option ℕ) → IsMachine n m → IsGreatestOf n u m k b (greatest_of k b (child_entries n u m))
+pub greatest_listed : (n u : ℕ) (m : Machine) (k : ℕ) (b : Entry → Option ℕ) → IsMachine n m → IsGreatestOf n u m k b (greatest_of k b (child_entries n u m))
 unfolding greatest_of
 greatest_listed n u m k b i =
     let g = greatest_in b (child_entries n u m) k in

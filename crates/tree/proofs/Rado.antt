@@ -1,6 +1,6 @@
 -- Every machine extends the empty one, so its best is the greatest of all machines.
 use Rattle.std.proofs.Common.{ℕ, ◌≤◌, Some, ◌↔◌}
-use Rattle.turing.specs.Program.{Program}
+use Rattle.turing.specs.Machine.{Machine}
 use Rattle.turing.specs.Halting.{HaltsAt, IsRado}
 use Rattle.tree.specs.Filling.{empty_machine}
 use Rattle.tree.specs.Tree.{IsDecided, IsGreatestInTree}
@@ -10,7 +10,7 @@ use Rattle.tree.proofs.Used.{empty_in_order}
 use Rattle.tree.proofs.Worth.{IsWorth}
 use Rattle.tree.proofs.TreeLaws.{best_is_greatest}
 
-module _ (V : Program → ℕ → Type 0) where
+module _ (V : Machine → ℕ → Type 0) where
   pub best_of_empty : (n s : ℕ) → IsBest V n empty_machine (Some s) ↔ IsGreatestOfAll V n s
   best_of_empty n s = (
     λ best. record {

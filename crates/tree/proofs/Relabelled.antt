@@ -7,7 +7,7 @@ use Rattle.machine_text.specs.declared.transition.Sym.{Sym}
 use Rattle.machine_text.specs.declared.transition.Dir.{Dir}
 use Rattle.machine_text.specs.declared.transition.Dir.TheVariants.{L, R}
 use Rattle.machine_text.specs.declared.transition.Entry.{Entry}
-use Rattle.turing.specs.Program.{Program, IsMachine}
+use Rattle.turing.specs.Machine.{Machine, IsMachine}
 use Rattle.turing.specs.Extension.{Extends}
 use Rattle.turing.specs.Exchange.{exchanged, exchanged_entry, with_exchanged}
 use Rattle.turing.specs.Mirror.{mirrored_entry, mirrored}
@@ -35,7 +35,7 @@ entry_back a b None e h = absurd (cc)
 entry_back a b (Some d) e h = (d, refl, sym (ap (λ (x : Entry). x.next.0) (same_Some _ e h)))
 
 -- the exchange makes a machine of n states into one
-pub exchanged_machine : (n a b : ℕ) (m : Program) → IsMachine n m → a < n → b < n → IsMachine n (with_exchanged a b m)
+pub exchanged_machine : (n a b : ℕ) (m : Machine) → IsMachine n m → a < n → b < n → IsMachine n (with_exchanged a b m)
 exchanged_machine n a b m i la lb = record { some = i.some; beyond = beyond; inside = inside }
   where
     beyond : (q : ℕ) (s : Sym) → n ≤ q → with_exchanged a b m q s ≡ None
@@ -47,7 +47,7 @@ exchanged_machine n a b m i la lb = record { some = i.some; beyond = beyond; ins
         rw back.2 (exchanged_below a b back.0.next.0 n la lb (i.inside (exchanged a b q) s back.0 back.1))
 
 -- what goes from a used state to a used one isn't changed, where both exchanged ones are unused
-pub exchanged_extends : (u v : ℕ) (big m : Program) → InOrder u m → u < v → Extends big m → Extends (with_exchanged u v big) m
+pub exchanged_extends : (u v : ℕ) (big m : Machine) → InOrder u m → u < v → Extends big m → Extends (with_exchanged u v big) m
 exchanged_extends u v big m o lt x = record { is = go }
   where
     go : (q : ℕ) (s : Sym) (e : Entry) → m q s ≡ Some e → with_exchanged u v big q s ≡ Some e
@@ -57,7 +57,7 @@ exchanged_extends u v big m o lt x = record { is = go }
         ap (λ p. exchanged_entry u v (big p s)) source ∙ ap (exchanged_entry u v) (x.is q s e h) ∙ ap Some (same_entry _ e refl refl target)
 
 -- the entry at a used pair, with its target exchanged
-pub exchanged_at : (u v q : ℕ) (s : Sym) (big : Program) (e : Entry) → q < u → u < v → big q s ≡ Some e → e.next.0 ≡ v →
+pub exchanged_at : (u v q : ℕ) (s : Sym) (big : Machine) (e : Entry) → q < u → u < v → big q s ≡ Some e → e.next.0 ≡ v →
     with_exchanged u v big q s ≡ Some (record { write = e.write; dir = e.dir; next = record { 0 = u } })
 exchanged_at u v q s big e lq lt is to =
     ap (λ p. exchanged_entry u v (big p s)) (exchanged_kept u v q lq lt) ∙ ap (exchanged_entry u v) is
@@ -68,7 +68,7 @@ mirror_back : (o : Option Entry) (e : Entry) → mirrored_entry o ≡ Some e →
 mirror_back None e h = absurd (cc)
 mirror_back (Some d) e h = (d, refl, sym (ap (λ (x : Entry). x.next.0) (same_Some _ e h)))
 
-pub mirrored_machine : (n : ℕ) (m : Program) → IsMachine n m → IsMachine n (mirrored m)
+pub mirrored_machine : (n : ℕ) (m : Machine) → IsMachine n m → IsMachine n (mirrored m)
 mirrored_machine n m i = record { some = i.some; beyond = λ q s le. ap mirrored_entry (i.beyond q s le); inside = inside }
   where
     inside : (q : ℕ) (s : Sym) (e : Entry) → mirrored m q s ≡ Some e → e.next.0 < n
@@ -77,11 +77,11 @@ mirrored_machine n m i = record { some = i.some; beyond = λ q s le. ap mirrored
         rw back.2 (i.inside q s back.0 back.1)
 
 -- every machine extends an empty one
-pub extends_any_empty : (big m : Program) → IsEmpty m → Extends big m
+pub extends_any_empty : (big m : Machine) → IsEmpty m → Extends big m
 extends_any_empty big m empty = record { is = λ q s e h. let none = empty.is q s in absurd (cc) }
 
 -- an entry to the left is turned to the right
-pub turned_right : (q : ℕ) (s : Sym) (big : Program) (e : Entry) → big q s ≡ Some e → e.dir ≡ L →
+pub turned_right : (q : ℕ) (s : Sym) (big : Machine) (e : Entry) → big q s ≡ Some e → e.dir ≡ L →
     mirrored big q s ≡ Some (record { write = e.write; dir = R; next = e.next })
 turned_right q s big e is left = ap mirrored_entry is ∙ ap (λ d. mirrored_entry (Some (record { write = e.write; dir = d; next = e.next }))) left
 

@@ -2,7 +2,7 @@
 use Rattle.std.proofs.Common.{◌≡◌, ℕ, ◌+◌, Option, Some, None, refl, sym, ◌∙◌, ap, subst, ◌⊎◌, ◌↔◌}
 use Prim.Native.Nat.{max}
 use Rattle.machine_text.specs.Packed.{Packed, IsTable, entry_of, with_entry, tabulated}
-use Rattle.turing.specs.Program.{Program, IsMachine}
+use Rattle.turing.specs.Machine.{Machine, IsMachine}
 use Rattle.turing.specs.Halting.{HaltsAt, Never}
 use Rattle.turing.specs.Extension.{Extends}
 use Rattle.tree.specs.Used.{InOrder}
@@ -51,7 +51,7 @@ child_map p t i x =
     }
 
 -- each child of the map is the map of a child
-pub child_table : (p : Packed) (c : Program) → IsTable p → IsChild p.states (entry_of p) c → (t : Packed) × IsChildTable p t × (entry_of t ≡ c)
+pub child_table : (p : Packed) (c : Machine) → IsTable p → IsChild p.states (entry_of p) c → (t : Packed) × IsChildTable p t × (entry_of t ≡ c)
 child_table p c i x =
     let within = pair_within p.states (entry_of p) x.count x.state x.symbol (table_machine p i) x.halts in (
       with_entry p x.state x.symbol x.entry,
@@ -97,10 +97,10 @@ tree_in_order p t u i o (OfChild {c} x below) =
     tree_in_order c t (max child.used (child.entry.next.0 + 1)) (child_alike p c i x).is_table (child_in_order p.states (entry_of p) (entry_of c) child) below
 
 -- each machine of the tree of the map is the map of a table of the tree
-pub tree_table : (n : ℕ) (m x : Program) (p : Packed) → IsTable p → p.states ≡ n → entry_of p ≡ m → InTree n m x → (t : Packed) × InTableTree p t × (entry_of t ≡ x)
+pub tree_table : (n : ℕ) (m x : Machine) (p : Packed) → IsTable p → p.states ≡ n → entry_of p ≡ m → InTree n m x → (t : Packed) × InTableTree p t × (entry_of t ≡ x)
 tree_table n m x p i states maps Root = (p, Itself, maps)
 tree_table n m x p i states maps (Below {c} child below) =
-    let here : IsChild p.states (entry_of p) c = subst (λ (y : Program). IsChild p.states y c) (sym maps) (subst (λ k. IsChild k m c) (sym states) child) in
+    let here : IsChild p.states (entry_of p) c = subst (λ (y : Machine). IsChild p.states y c) (sym maps) (subst (λ k. IsChild k m c) (sym states) child) in
     let (t, found, same) = child_table p c i here in
     let alike = child_alike p t i found in
     let (u, under, is) = tree_table n c x t alike.is_table (alike.states ∙ states) same below in
@@ -110,7 +110,7 @@ tree_table n m x p i states maps (Below {c} child below) =
 pub decided_map : (p : Packed) → IsTable p → IsDecidedTable p → IsDecided p.states (entry_of p)
 decided_map p i decided m x =
     let (t, below, same) = tree_table p.states (entry_of p) m p i refl refl x in
-    subst (λ (y : Program). ((k : ℕ) × HaltsAt y k) ⊎ Never y) same (decided t below)
+    subst (λ (y : Machine). ((k : ℕ) × HaltsAt y k) ⊎ Never y) same (decided t below)
 
 -- tables are one where their maps are
 pub one_table_parent : (p a b t : Packed) → IsTable p → InTableTree p a → InTableTree p b → IsChildTable a t → IsChildTable b t → a ≡ b
@@ -122,7 +122,7 @@ one_table_parent p a b t i x y f g =
     same_table a b first.is_table second.is_table (first.states ∙ sym second.states)
     (one_parent p.states (entry_of p) (entry_of a) (entry_of b) (entry_of t) (table_machine p i) (tree_map p a i x) (tree_map p b i y) below under)
 
-module _ (V : Program → ℕ → Type 0) where
+module _ (V : Machine → ℕ → Type 0) where
   -- extensions of a table and of its map attain the same
   attains_map : (p : Packed) (k : ℕ) → IsTable p → TableAttains V p k → Attains V p.states (entry_of p) k
   attains_map p k i a = record { big = entry_of a.big; is_machine = subst (λ n. IsMachine n (entry_of a.big)) a.states (table_machine a.big a.is_table); extends = a.extends; worth = a.worth }
@@ -134,8 +134,8 @@ module _ (V : Program → ℕ → Type 0) where
         big = tabulated p.states a.big;
         is_table = tabulated_table p.states a.big a.is_machine i.limit;
         states = tabulated_states p.states a.big;
-        extends = subst (λ (m : Program). Extends m (entry_of p)) (sym same) a.extends;
-        worth = subst (λ (m : Program). V m k) (sym same) a.worth;
+        extends = subst (λ (m : Machine). Extends m (entry_of p)) (sym same) a.extends;
+        worth = subst (λ (m : Machine). V m k) (sym same) a.worth;
       }
 
   pub best_of_map : (p : Packed) (b : Option ℕ) → IsTable p → IsBestOfTable V p b ↔ IsBest V p.states (entry_of p) b
@@ -149,10 +149,10 @@ module _ (V : Program → ℕ → Type 0) where
   pub greatest_of_maps : (p : Packed) (b : Option ℕ) → IsTable p → IsGreatestInTables V p b ↔ IsGreatestInTree V p.states (entry_of p) b
   greatest_of_maps p b i = (there b, back b)
     where
-      table_of : (m : Program) (k : ℕ) → InTree p.states (entry_of p) m → V m k → (t : Packed) × InTableTree p t × V (entry_of t) k
+      table_of : (m : Machine) (k : ℕ) → InTree p.states (entry_of p) m → V m k → (t : Packed) × InTableTree p t × V (entry_of t) k
       table_of m k x v =
           let (t, below, same) = tree_table p.states (entry_of p) m p i refl refl x in
-          (t, below, subst (λ (y : Program). V y k) (sym same) v)
+          (t, below, subst (λ (y : Machine). V y k) (sym same) v)
 
       there : (b : Option ℕ) → IsGreatestInTables V p b → IsGreatestInTree V p.states (entry_of p) b
       there None none = λ m k x v. let (t, below, w) = table_of m k x v in none t k below w

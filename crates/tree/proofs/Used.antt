@@ -5,7 +5,7 @@ use Rattle.std.proofs.lemmas.Bool.{cases_lt, cases_order}
 use Rattle.std.proofs.lemmas.Option.{same_Some}
 use Rattle.machine_text.specs.declared.transition.Sym.{Sym}
 use Rattle.machine_text.specs.declared.transition.Entry.{Entry}
-use Rattle.turing.specs.Program.{Program, IsMachine}
+use Rattle.turing.specs.Machine.{Machine, IsMachine}
 use Rattle.turing.specs.Extension.{Extends}
 use Rattle.tree.specs.Filling.{filled, empty_machine}
 use Rattle.tree.specs.Used.{IsUsed, InOrder}
@@ -13,11 +13,11 @@ use Rattle.tree.specs.Used.IsUsed.{Start, Source, Target}
 use Rattle.tree.proofs.Filling.{filled_cases, filled_at, filled_extends}
 
 -- A is used, so there is a used state
-pub some_used : (u : ℕ) (m : Program) → InOrder u m → 0 < u
+pub some_used : (u : ℕ) (m : Machine) → InOrder u m → 0 < u
 some_used u m o = o.only 0 (Start refl)
 
 -- the number of used states is one number
-pub one_used : (u v : ℕ) (m : Program) → InOrder u m → InOrder v m → u ≡ v
+pub one_used : (u v : ℕ) (m : Machine) → InOrder u m → InOrder v m → u ≡ v
 one_used u v m o p = elim (cases_order u v) [
   | inl same ↦ same
   | inr (inl less) ↦ let over = o.only u (p.each u less) in absurd (omega arith)
@@ -25,13 +25,13 @@ one_used u v m o p = elim (cases_order u v) [
 ]
 
 -- what m uses, an extension uses
-pub used_extends : (big m : Program) (q : ℕ) → Extends big m → IsUsed m q → IsUsed big q
+pub used_extends : (big m : Machine) (q : ℕ) → Extends big m → IsUsed m q → IsUsed big q
 used_extends big m q x (Start e) = Start e
 used_extends big m q x (Source s e is) = Source s e (x.is q s e is)
 used_extends big m q x (Target p s e is to) = Target p s e (x.is p s e is) to
 
 -- a used state of a machine of n states is one of them
-pub used_within : (n : ℕ) (m : Program) (q : ℕ) → IsMachine n m → IsUsed m q → q < n
+pub used_within : (n : ℕ) (m : Machine) (q : ℕ) → IsMachine n m → IsUsed m q → q < n
 used_within n m q i (Start e) = omega (arith, i.some)
 used_within n m q i (Source s e is) = elim (cases_lt q n) [
   | inl lt ↦ lt
@@ -40,7 +40,7 @@ used_within n m q i (Source s e is) = elim (cases_lt q n) [
 used_within n m q i (Target p s e is to) = rw (← to) (i.inside p s e is)
 
 -- so there are at most n used states
-pub used_bound : (n u : ℕ) (m : Program) → IsMachine n m → InOrder u m → u ≤ n
+pub used_bound : (n u : ℕ) (m : Machine) → IsMachine n m → InOrder u m → u ≤ n
 used_bound n u m i o = elim (cases_lt n u) [
   | inl lt ↦ let within = used_within n m n i (o.each n lt) in absurd (omega arith)
   | inr ge ↦ ge
@@ -56,7 +56,7 @@ empty_in_order = record { only = only; each = λ q lt. Start (omega arith) }
     only q (Target p s e is to) = absurd (cc)
 
 -- a filled pair at a used state, to a used state or the first unused one, keeps the order
-pub filled_in_order : (u : ℕ) (m : Program) (p : ℕ) (r : Sym) (e : Entry) → InOrder u m → p < u → m p r ≡ None → e.next.0 ≤ u → InOrder (max u (e.next.0 + 1)) (filled m p r e)
+pub filled_in_order : (u : ℕ) (m : Machine) (p : ℕ) (r : Sym) (e : Entry) → InOrder u m → p < u → m p r ≡ None → e.next.0 ≤ u → InOrder (max u (e.next.0 + 1)) (filled m p r e)
 filled_in_order u m p r e o state none target = record { only = only; each = each }
   where
     only : (q : ℕ) → IsUsed (filled m p r e) q → q < max u (e.next.0 + 1)

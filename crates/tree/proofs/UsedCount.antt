@@ -7,7 +7,7 @@ use Rattle.std.proofs.lemmas.List.Sums.{sum_by-cons}
 use Rattle.machine_text.specs.declared.transition.Sym.{Sym}
 use Rattle.machine_text.specs.declared.transition.Sym.TheVariants.{Zero, One}
 use Rattle.machine_text.specs.declared.transition.Entry.{Entry}
-use Rattle.turing.specs.Program.{Program, IsMachine}
+use Rattle.turing.specs.Machine.{Machine, IsMachine}
 use Rattle.tree.specs.Used.{IsUsed, InOrder, leads_to, has_entry, is_target, is_used, used_count}
 use Rattle.tree.specs.Used.IsUsed.{Start, Source, Target}
 use Rattle.tree.proofs.Used.{used_within, used_bound}
@@ -21,7 +21,7 @@ leads_by : (o : Option Entry) (q : ℕ) (e : Entry) → o ≡ Some e → e.next.
 leads_by o q e is to = rw is (eq-eqb e.next.0 q to)
 
 -- a state passes where it is the target of an entry of the first n states
-target_found : (n : ℕ) (m : Program) (q : ℕ) → is_target n m q ≡ true → (p : ℕ) × (s : Sym) × (e : Entry) × (m p s ≡ Some e) × (e.next.0 ≡ q)
+target_found : (n : ℕ) (m : Machine) (q : ℕ) → is_target n m q ≡ true → (p : ℕ) × (s : Sym) × (e : Entry) × (m p s ≡ Some e) × (e.next.0 ≡ q)
 unfolding is_target
 target_found zero m q h = absurd (false≢true h)
 target_found (suc n) m q h = elim (or_cases (leads_to (m n Zero) q || leads_to (m n One) q) (is_target n m q) h) [
@@ -32,7 +32,7 @@ target_found (suc n) m q h = elim (or_cases (leads_to (m n Zero) q || leads_to (
   | inr below ↦ target_found n m q below
 ]
 
-found_target : (n : ℕ) (m : Program) (p : ℕ) (s : Sym) (e : Entry) → p < n → m p s ≡ Some e → is_target n m e.next.0 ≡ true
+found_target : (n : ℕ) (m : Machine) (p : ℕ) (s : Sym) (e : Entry) → p < n → m p s ≡ Some e → is_target n m e.next.0 ≡ true
 unfolding is_target
 found_target zero m p s e lt is = absurd (omega arith)
 found_target (suc n) m p s e lt is = elim (cases_eq p n) [
@@ -49,12 +49,12 @@ entry_found : (o : Option Entry) → is_some o ≡ true → (e : Entry) × (o �
 entry_found None h = absurd (false≢true h)
 entry_found (Some e) h = (e, refl)
 
-found_entry : (m : Program) (q : ℕ) (s : Sym) (e : Entry) → m q s ≡ Some e → has_entry m q ≡ true
+found_entry : (m : Machine) (q : ℕ) (s : Sym) (e : Entry) → m q s ≡ Some e → has_entry m q ≡ true
 found_entry m q Zero e is = or_left (is_some (m q Zero)) (is_some (m q One)) (ap is_some is)
 found_entry m q One e is = or_right (is_some (m q Zero)) (is_some (m q One)) (ap is_some is)
 
 -- what passes the test is used
-pub used_from_test : (n : ℕ) (m : Program) (q : ℕ) → is_used n m q ≡ true → IsUsed m q
+pub used_from_test : (n : ℕ) (m : Machine) (q : ℕ) → is_used n m q ≡ true → IsUsed m q
 unfolding is_used
 used_from_test n m q h = elim (or_cases (q == 0) (has_entry m q || is_target n m q) h) [
   | inl start ↦ Start (eqb-true q 0 start)
@@ -68,7 +68,7 @@ used_from_test n m q h = elim (or_cases (q == 0) (has_entry m q || is_target n m
 ]
 
 -- and what is used passes it
-pub test_from_used : (n : ℕ) (m : Program) (q : ℕ) → IsMachine n m → IsUsed m q → is_used n m q ≡ true
+pub test_from_used : (n : ℕ) (m : Machine) (q : ℕ) → IsMachine n m → IsUsed m q → is_used n m q ≡ true
 unfolding is_used
 test_from_used n m q i (Start h) = or_left (q == 0) (has_entry m q || is_target n m q) (eq-eqb q 0 h)
 test_from_used n m q i (Source s e is) =
@@ -79,13 +79,13 @@ test_from_used n m q i (Target p s e is to) =
     or_right (q == 0) (has_entry m q || is_target n m q) (or_right (has_entry m q) (is_target n m q) found)
 
 -- in order: the test is that of the first u numbers
-pub order_test : (n u : ℕ) (m : Program) → IsMachine n m → InOrder u m → (q : ℕ) → is_used n m q ≡ ltb q u
+pub order_test : (n u : ℕ) (m : Machine) → IsMachine n m → InOrder u m → (q : ℕ) → is_used n m q ≡ ltb q u
 order_test n u m i o q = elim (cases_lt q u) [
   | inl less ↦ test_from_used n m q i (o.each q less) ∙ sym (lt-ltb q u less)
   | inr ge ↦ false_from_ne_true (is_used n m q) (λ t. let over = o.only q (used_from_test n m q t) in absurd (omega arith)) ∙ sym (le-ltb q u ge)
 ]
 
-pub order_from_test : (n u : ℕ) (m : Program) → IsMachine n m → u ≤ n → ((q : ℕ) → q < n → is_used n m q ≡ ltb q u) → InOrder u m
+pub order_from_test : (n u : ℕ) (m : Machine) → IsMachine n m → u ≤ n → ((q : ℕ) → q < n → is_used n m q ≡ ltb q u) → InOrder u m
 order_from_test n u m i le same = record {
   only = λ q used. ltb-true q u (sym (same q (used_within n m q i used)) ∙ test_from_used n m q i used);
   each = λ q lt. used_from_test n m q (same q (omega arith) ∙ lt-ltb q u lt);
@@ -105,7 +105,7 @@ count_below p u a (suc n) same =
     ]
 
 -- in a machine in order, u states are used
-pub used_number : (n u : ℕ) (m : Program) → IsMachine n m → InOrder u m → used_count n m ≡ u
+pub used_number : (n u : ℕ) (m : Machine) → IsMachine n m → InOrder u m → used_count n m ≡ u
 unfolding used_count
 used_number n u m i o =
     let count = count_below (is_used n m) u 0 n (λ q _. order_test n u m i o q) in

@@ -1,7 +1,7 @@
 -- What a halting run is worth: its number of steps, or its score. All that the theorem of the tree asks of it.
 use Rattle.std.proofs.Common.{◌≡◌, ℕ, ◌<◌, None, sym, ◌∙◌, ap, subst}
 use Rattle.machine_text.specs.declared.transition.Sym.{Sym}
-use Rattle.turing.specs.Program.{Program}
+use Rattle.turing.specs.Machine.{Machine}
 use Rattle.turing.specs.Halting.{HaltsAt}
 use Rattle.turing.specs.Score.{HaltsWith, score_of}
 use Rattle.turing.specs.Extension.{Extends}
@@ -13,15 +13,15 @@ use Rattle.tree.specs.Children.{HaltsOn}
 use Rattle.tree.specs.Best.{Scores}
 use Rattle.tree.proofs.Halts.{stops_too}
 
-pub record IsWorth (V : Program → ℕ → Type 0) : Type 0 where
+pub record IsWorth (V : Machine → ℕ → Type 0) : Type 0 where
   -- a machine has one worth at most, and only where it halts
-  pub one : (m : Program) (j k : ℕ) → V m j → V m k → j ≡ k
-  pub halts : (m : Program) (t : ℕ) → V m t → (k : ℕ) × HaltsAt m k
+  pub one : (m : Machine) (j k : ℕ) → V m j → V m k → j ≡ k
+  pub halts : (m : Machine) (t : ℕ) → V m t → (k : ℕ) × HaltsAt m k
   -- an extension that halts on the pair on which m does has m's worth
-  pub down : (big m : Program) (k q : ℕ) (s : Sym) (t : ℕ) → Extends big m → HaltsOn m k q s → big q s ≡ None → V big t → V m t
+  pub down : (big m : Machine) (k q : ℕ) (s : Sym) (t : ℕ) → Extends big m → HaltsOn m k q s → big q s ≡ None → V big t → V m t
   -- states other than A may be exchanged, and the moves turned round
-  pub exchanged : (a b : ℕ) (m : Program) (t : ℕ) → 0 < a → 0 < b → V m t → V (with_exchanged a b m) t
-  pub mirrored : (m : Program) (t : ℕ) → V m t → V (mirrored m) t
+  pub exchanged : (a b : ℕ) (m : Machine) (t : ℕ) → 0 < a → 0 < b → V m t → V (with_exchanged a b m) t
+  pub mirrored : (m : Machine) (t : ℕ) → V m t → V (mirrored m) t
 
 -- the number of steps
 pub steps_worth : IsWorth HaltsAt
@@ -46,5 +46,5 @@ score_worth = record {
 }
 
 -- a machine that halts in k and has a score halts in k with it
-pub score_count : (m : Program) (k s : ℕ) → HaltsAt m k → Scores m s → HaltsWith m k s
+pub score_count : (m : Machine) (k s : ℕ) → HaltsAt m k → Scores m s → HaltsWith m k s
 score_count m k s h v = record { halts = h; score = v.1.score ∙ ap score_of (one_end m v.0 k v.1.halts h) }

@@ -7,20 +7,20 @@ use Rattle.machine_text.specs.declared.transition.Dir.{Dir}
 use Rattle.machine_text.specs.declared.transition.Dir.TheVariants.{L, R}
 use Rattle.machine_text.specs.declared.transition.Entry.{Entry}
 use Rattle.machine_text.specs.Packed.{holes, symbol_number, direction_number}
-use Rattle.turing.specs.Program.{Program}
+use Rattle.turing.specs.Machine.{Machine}
 pub use Rattle.turing.specs.Halting.{HaltsOn}
 use Rattle.tree.specs.Filling.{filled, IsEmpty}
 use Rattle.tree.specs.Used.{InOrder}
 
 -- an entry that a child gets, where the used states are the first u: its target is one of the n states, and a
 -- used one or the first unused one; the first move of all is to the right
-pub record IsChildEntry (n u : ℕ) (m : Program) (e : Entry) : Type 0 where
+pub record IsChildEntry (n u : ℕ) (m : Machine) (e : Entry) : Type 0 where
   pub within : e.next.0 < n
   pub target : e.next.0 ≤ u
   pub right : IsEmpty m → e.dir ≡ R
 
 -- t is a child of m: m halts on a pair, at least two pairs are undefined, and that pair gets such an entry
-pub record IsChild (n : ℕ) (m t : Program) : Type 0 where
+pub record IsChild (n : ℕ) (m t : Machine) : Type 0 where
   pub used : ℕ
   pub in_order : InOrder used m
   pub count : ℕ
@@ -44,7 +44,7 @@ abbrev pub entries_to : ℕ → Sym → Dir → List Entry
 entries_to targets w d = map (λ q. record { write = w; dir = d; next = record { 0 = q } }) (range_with_len 0 targets)
 
 -- the entries of the children in the order of their texts; where every pair is undefined, to the right alone
-unfoldable pub child_entries : ℕ → ℕ → Program → List Entry
+unfoldable pub child_entries : ℕ → ℕ → Machine → List Entry
 child_entries n u m =
     let targets = min n (u + 1) in
     if holes n m == 2 * n then entries_to targets Zero R ++ entries_to targets One R

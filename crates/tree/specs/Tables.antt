@@ -4,7 +4,7 @@ use Rattle.std.specs.Prelude.{◌≡◌, ℕ, ◌≤◌, ◌⊎◌, nat_le, if�
 use Rattle.machine_text.specs.declared.transition.Sym.{Sym}
 use Rattle.machine_text.specs.declared.transition.Entry.{Entry}
 use Rattle.machine_text.specs.Packed.{Packed, IsTable, entry_of, with_entry, holes}
-use Rattle.turing.specs.Program.{Program}
+use Rattle.turing.specs.Machine.{Machine}
 use Rattle.turing.specs.Halting.{HaltsAt, Never}
 use Rattle.turing.specs.Extension.{Extends}
 use Rattle.tree.specs.Used.{InOrder, used_count}
@@ -41,7 +41,7 @@ abbrev pub IsDecidedTable : Packed → Type 0
 IsDecidedTable p = (t : Packed) → InTableTree p t → ((k : ℕ) × HaltsAt (entry_of t) k) ⊎ Never (entry_of t)
 
 -- some extension of p, a table of as many states, has this worth: with `HaltsAt`, it halts in so many steps
-pub record TableAttains (V : Program → ℕ → Type 0) (p : Packed) (k : ℕ) : Type 0 where
+pub record TableAttains (V : Machine → ℕ → Type 0) (p : Packed) (k : ℕ) : Type 0 where
   pub big : Packed
   pub is_table : IsTable big
   pub states : big.states ≡ p.states
@@ -49,12 +49,12 @@ pub record TableAttains (V : Program → ℕ → Type 0) (p : Packed) (k : ℕ) 
   pub worth : V (entry_of big) k
 
 -- the greatest worth of an extension of p; none where no extension has one
-abbrev pub IsBestOfTable : (Program → ℕ → Type 0) → Packed → Option ℕ → Type 0
+abbrev pub IsBestOfTable : (Machine → ℕ → Type 0) → Packed → Option ℕ → Type 0
 IsBestOfTable V p None = (k : ℕ) → TableAttains V p k → ⊥
 IsBestOfTable V p (Some s) = TableAttains V p s × ((k : ℕ) → TableAttains V p k → k ≤ s)
 
 -- the greatest worth in the tree of p; none where no table of it has one
-abbrev pub IsGreatestInTables : (Program → ℕ → Type 0) → Packed → Option ℕ → Type 0
+abbrev pub IsGreatestInTables : (Machine → ℕ → Type 0) → Packed → Option ℕ → Type 0
 IsGreatestInTables V p None = (t : Packed) (k : ℕ) → InTableTree p t → V (entry_of t) k → ⊥
 IsGreatestInTables V p (Some s) =
     ((t : Packed) × InTableTree p t × V (entry_of t) s) × ((t : Packed) (k : ℕ) → InTableTree p t → V (entry_of t) k → k ≤ s)

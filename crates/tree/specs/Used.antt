@@ -5,15 +5,15 @@ use Rattle.std.specs.List.{range_with_len}
 use Rattle.machine_text.specs.declared.transition.Sym.{Sym}
 use Rattle.machine_text.specs.declared.transition.Sym.TheVariants.{Zero, One}
 use Rattle.machine_text.specs.declared.transition.Entry.{Entry}
-use Rattle.turing.specs.Program.{Program}
+use Rattle.turing.specs.Machine.{Machine}
 
-pub data IsUsed (m : Program) (q : ℕ) : Type 0 where
+pub data IsUsed (m : Machine) (q : ℕ) : Type 0 where
   Start : q ≡ 0 → IsUsed m q
   Source : (s : Sym) (e : Entry) → m q s ≡ Some e → IsUsed m q
   Target : (p : ℕ) (s : Sym) (e : Entry) → m p s ≡ Some e → e.next.0 ≡ q → IsUsed m q
 
 -- in order: the used states are the first u, so u is the first unused one
-pub record InOrder (u : ℕ) (m : Program) : Type 0 where
+pub record InOrder (u : ℕ) (m : Machine) : Type 0 where
   pub only : (q : ℕ) → IsUsed m q → q < u
   pub each : (q : ℕ) → q < u → IsUsed m q
 
@@ -22,16 +22,16 @@ abbrev pub leads_to : Option Entry → ℕ → Bool
 leads_to None q = false
 leads_to (Some e) q = e.next.0 == q
 
-abbrev pub has_entry : Program → ℕ → Bool
+abbrev pub has_entry : Machine → ℕ → Bool
 has_entry m q = is_some (m q Zero) || is_some (m q One)
 
-unfoldable pub is_target : ℕ → Program → ℕ → Bool
+unfoldable pub is_target : ℕ → Machine → ℕ → Bool
 is_target zero m q = false
 is_target (suc n) m q = (leads_to (m n Zero) q || leads_to (m n One) q) || is_target n m q
 
-unfoldable pub is_used : ℕ → Program → ℕ → Bool
+unfoldable pub is_used : ℕ → Machine → ℕ → Bool
 is_used n m q = (q == 0) || (has_entry m q || is_target n m q)
 
 -- how many of the first n states are used
-unfoldable pub used_count : ℕ → Program → ℕ
+unfoldable pub used_count : ℕ → Machine → ℕ
 used_count n m = count_by (is_used n m) (range_with_len 0 n)

@@ -8,7 +8,7 @@ ghost use Rattle.machine_text.specs.declared.transition.Entry.{Entry};
 ghost use Rattle.machine_text.specs.Limits.{state_limit};
 ghost use Rattle.machine_text.specs.Packed.{Packed, IsTable, entry_of, with_entry, tabulated, empty_table};
 ghost use Rattle.machine_text.specs.Text.{text_of};
-ghost use Rattle.turing.specs.Program.{Program, IsMachine};
+ghost use Rattle.turing.specs.Machine.{Machine, IsMachine};
 ghost use Rattle.turing.specs.Halting.{HaltsAt, IsRado};
 ghost use Rattle.tree.specs.Filling.{filled};
 ghost use Rattle.tree.specs.Used.{InOrder};
@@ -23,8 +23,8 @@ pub fn one_table()
 
 /// Every machine within the limit is the map of a table.
 pub fn machine_has_table()
-    ensures table { (n : ℕ) (m : Program) → IsMachine n m → n ≤ state_limit → IsTable (tabulated n m) }
-    ensures map { (n : ℕ) (m : Program) → IsMachine n m → n ≤ state_limit → entry_of (tabulated n m) ≡ m }
+    ensures table { (n : ℕ) (m : Machine) → IsMachine n m → n ≤ state_limit → IsTable (tabulated n m) }
+    ensures map { (n : ℕ) (m : Machine) → IsMachine n m → n ≤ state_limit → entry_of (tabulated n m) ≡ m }
 {}
 
 /// One entry more in a table gives a table, whose map has that pair filled.

@@ -1,6 +1,6 @@
 // The tree of a machine.
 ghost use Rattle.std.specs.Prelude.{◌≡◌, ◌↔◌, ℕ, ◌≤◌, Option, Some};
-ghost use Rattle.turing.specs.Program.{Program, IsMachine};
+ghost use Rattle.turing.specs.Machine.{Machine, IsMachine};
 ghost use Rattle.turing.specs.Halting.{HaltsAt, IsRado};
 ghost use Rattle.tree.specs.Filling.{empty_machine};
 ghost use Rattle.tree.specs.Used.{InOrder};
@@ -11,9 +11,9 @@ ghost use Rattle.tree.specs.Best.{Scores, IsBest, IsGreatestOfAll};
 /// Where each machine of the tree halts or never does, the best of all extensions is the greatest in the
 /// tree, and there is none where no machine of the tree halts.
 pub fn best_of_tree()
-    ensures steps { (n u : ℕ) (m : Program) (b : Option ℕ) → IsMachine n m → InOrder u m → IsDecided n m →
+    ensures steps { (n u : ℕ) (m : Machine) (b : Option ℕ) → IsMachine n m → InOrder u m → IsDecided n m →
         IsBest HaltsAt n m b ↔ IsGreatestInTree HaltsAt n m b }
-    ensures score { (n u : ℕ) (m : Program) (b : Option ℕ) → IsMachine n m → InOrder u m → IsDecided n m →
+    ensures score { (n u : ℕ) (m : Machine) (b : Option ℕ) → IsMachine n m → InOrder u m → IsDecided n m →
         IsBest Scores n m b ↔ IsGreatestInTree Scores n m b }
 {}
 
@@ -28,12 +28,12 @@ pub fn rado_of_tree()
 
 /// A child of a machine of a tree stands in the tree.
 pub fn child_in_tree()
-    ensures { (n : ℕ) (m p t : Program) → InTree n m p → IsChild n p t → InTree n m t }
+    ensures { (n : ℕ) (m p t : Machine) → InTree n m p → IsChild n p t → InTree n m t }
 {}
 
 /// Each machine of a tree is the child of one machine of the tree at most.
 pub fn one_parent()
-    ensures { (n : ℕ) (m a b t : Program) → IsMachine n m → InTree n m a → InTree n m b →
+    ensures { (n : ℕ) (m a b t : Machine) → IsMachine n m → InTree n m a → InTree n m b →
         IsChild n a t → IsChild n b t → a ≡ b }
 {}
 

@@ -7,7 +7,7 @@ use Rattle.machine_text.specs.declared.transition.Sym.TheVariants.{Zero}
 use Rattle.machine_text.specs.declared.transition.Dir.{Dir}
 use Rattle.machine_text.specs.declared.transition.Dir.TheVariants.{L, R}
 use Rattle.machine_text.specs.declared.transition.Entry.{Entry}
-use Rattle.turing.specs.Program.{Program, IsMachine}
+use Rattle.turing.specs.Machine.{Machine, IsMachine}
 use Rattle.turing.specs.Tape.{symbol_read, moved_head}
 use Rattle.turing.specs.Run.{Config, start, cell, next, from}
 use Rattle.turing.specs.Step.{Takes}
@@ -59,13 +59,13 @@ longer_by a halted c x k u reaches =
     subst (λ w. Reaches a u w Halt) (sym (word_last c x k)) (longer a halted u (word c x k) (cell c (x +ℤ pos k)) reaches)
 
 -- a step leaves the cells ahead of it, and those behind
-same_ahead : (m : Program) (c d : Config) (e : Entry) (k : ℕ) → Takes m c e d → word d (c.tape.head +ℤ pos 1) k ≡ word c (c.tape.head +ℤ pos 1) k
+same_ahead : (m : Machine) (c d : Config) (e : Entry) (k : ℕ) → Takes m c e d → word d (c.tape.head +ℤ pos 1) k ≡ word c (c.tape.head +ℤ pos 1) k
 same_ahead m c d e k t = word_same d c (c.tape.head +ℤ pos 1) k (λ y low high. t.others y (λ same. omega (arith, ints)))
 
-same_behind : (m : Program) (c d : Config) (e : Entry) → Takes m c e d → (y : ℤ) → y <ℤ c.tape.head → cell c y ≡ cell d y
+same_behind : (m : Machine) (c d : Config) (e : Entry) → Takes m c e d → (y : ℤ) → y <ℤ c.tape.head → cell c y ≡ cell d y
 same_behind m c d e t y below = sym (t.others y (λ same. omega (arith, ints)))
 
-module _ (n : ℕ) (m : Program) (machine : IsMachine n m) (a : TwoAutomata) (fits : Fits n m R a) where
+module _ (n : ℕ) (m : Machine) (machine : IsMachine n m) (a : TwoAutomata) (fits : Fits n m R a) where
   below : (c : Config) (x : ℤ) (q : ℕ) → Reads a.delta c x q → q < a.size
   below = reads_below a.delta a.size fits.some fits.states
 
@@ -180,7 +180,7 @@ module _ (n : ℕ) (m : Program) (machine : IsMachine n m) (a : TwoAutomata) (fi
       absurd (cc)
 
 -- automata that fit a machine fit its mirror image, with the other side ahead
-pub fits_mirrored : (n : ℕ) (m : Program) (side : Dir) (a : TwoAutomata) → Fits n m side a → Fits n (mirrored m) (opposite side) a
+pub fits_mirrored : (n : ℕ) (m : Machine) (side : Dir) (a : TwoAutomata) → Fits n m side a → Fits n (mirrored m) (opposite side) a
 fits_mirrored n m side a fits = record {
   some = fits.some;
   states = fits.states;
@@ -199,7 +199,7 @@ fits_mirrored n m side a fits = record {
     turned e = record { write = e.write; dir = opposite e.dir; next = e.next }
 
 -- a machine that automata fit never halts, whichever side is ahead
-pub automata_never : (n : ℕ) (m : Program) (side : Dir) (a : TwoAutomata) → IsMachine n m → Fits n m side a → Never m
+pub automata_never : (n : ℕ) (m : Machine) (side : Dir) (a : TwoAutomata) → IsMachine n m → Fits n m side a → Never m
 automata_never n m R a machine fits = far_right_never n m machine a fits
 automata_never n m L a machine fits =
     λ k s. far_right_never n (mirrored m) (mirrored_machine n m machine) a (fits_mirrored n m L a fits) k (mirror_keeps m k s)

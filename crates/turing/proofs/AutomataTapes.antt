@@ -5,7 +5,7 @@ use Rattle.std.proofs.lemmas.Int.{ints}
 use Rattle.machine_text.specs.declared.transition.Sym.{Sym}
 use Rattle.machine_text.specs.declared.transition.Dir.{Dir}
 use Rattle.machine_text.specs.declared.transition.Dir.TheVariants.{L, R}
-use Rattle.turing.specs.Program.{Program, IsMachine}
+use Rattle.turing.specs.Machine.{Machine, IsMachine}
 use Rattle.turing.specs.Run.{Config, cell, next, from}
 use Rattle.turing.specs.Mirror.{mirrored}
 use Rattle.turing.specs.PositionSet.{word}
@@ -27,7 +27,7 @@ word_ahead c x (suc k) = ap (λ w. cell c x ∷ w) (word_ahead c (x +ℤ pos 1) 
 reads_left : (delta : ℕ → Sym → ℕ) (c : Config) (x : ℤ) (q : ℕ) → ReadsBehind delta R c x q → Reads delta c x q
 reads_left delta c x q r = record { far = r.far; zeros = λ y below. r.zeros y (omega (arith, ints)); is = r.is }
 
-right_leads : (n : ℕ) (m : Program) (a : TwoAutomata) → IsMachine n m → Fits n m R a →
+right_leads : (n : ℕ) (m : Machine) (a : TwoAutomata) → IsMachine n m → Fits n m R a →
     (c : Config) → c.state < n → (k : ℕ) (d : Config) → from m k c ≡ Some d → next m d ≡ None → LeadsToHalt a R c
 right_leads n m a machine fits c within k d is over q reads =
     let (j, reaches) = leads_from n m machine a fits k c d is over within q (reads_left a.delta c c.tape.head q reads) in
@@ -57,7 +57,7 @@ module _ (c d : Config) (like : Carried same_state back c d) where
       let next_at : y +ℤ pos 1 ≡ back (x -ℤ pos 1) = omega (arith, ints) in
       ap (λ s. s ∷ symbols_ahead R d (y +ℤ pos 1) k) (ap (cell d) at ∙ like.cells x) ∙ ap (λ w. cell c x ∷ w) (symbols_turned (x -ℤ pos 1) (y +ℤ pos 1) k next_at)
 
-left_leads : (n : ℕ) (m : Program) (a : TwoAutomata) → IsMachine n m → Fits n m L a →
+left_leads : (n : ℕ) (m : Machine) (a : TwoAutomata) → IsMachine n m → Fits n m L a →
     (c : Config) → c.state < n → (k : ℕ) (d : Config) → from m k c ≡ Some d → next m d ≡ None → LeadsToHalt a L c
 left_leads n m a machine fits c within k d is over q reads =
     let like = turned_carried c in
@@ -72,7 +72,7 @@ left_leads n m a machine fits c within k d is over q reads =
     )
 
 -- whichever side is ahead: a configuration of one of n states that comes to a halting pair leads to the halt state
-pub automata_lead : (n : ℕ) (m : Program) (side : Dir) (a : TwoAutomata) → IsMachine n m → Fits n m side a →
+pub automata_lead : (n : ℕ) (m : Machine) (side : Dir) (a : TwoAutomata) → IsMachine n m → Fits n m side a →
     (c : Config) → c.state < n → (k : ℕ) (d : Config) → from m k c ≡ Some d → next m d ≡ None → LeadsToHalt a side c
 automata_lead n m R a machine fits = right_leads n m a machine fits
 automata_lead n m L a machine fits = left_leads n m a machine fits

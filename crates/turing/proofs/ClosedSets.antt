@@ -6,7 +6,7 @@ use Rattle.machine_text.specs.declared.transition.Sym.TheVariants.{Zero}
 use Rattle.machine_text.specs.declared.transition.Dir.{Dir}
 use Rattle.machine_text.specs.declared.transition.Dir.TheVariants.{L, R}
 use Rattle.machine_text.specs.declared.transition.Entry.{Entry}
-use Rattle.turing.specs.Program.{Program}
+use Rattle.turing.specs.Machine.{Machine}
 use Rattle.turing.specs.Tape.{symbol_read, moved_head}
 use Rattle.turing.specs.Run.{Config, start, cell, carried_out, next, from}
 use Rattle.turing.specs.Step.{Takes}
@@ -29,7 +29,7 @@ same_local a b left state read right =
 moved_on : (h h' : ℤ) (d f : Dir) → h' ≡ moved_head h d → d ≡ f → h' ≡ moved_head h f
 moved_on h h' d f is same = is ∙ ap (moved_head h) same
 
-module _ (m : Program) (lefts rights : List Sym → Type 0) (members : Local → Type 0) where
+module _ (m : Machine) (lefts rights : List Sym → Type 0) (members : Local → Type 0) where
   -- a step to the right
   step_right : (n : ℕ) → IsClosedSet (suc n) m lefts rights members → (c d : Config) (e : Entry) → Takes m c e d → e.dir ≡ R →
       IsInside (suc n) lefts rights members c → IsInside (suc n) lefts rights members d

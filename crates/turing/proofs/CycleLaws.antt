@@ -1,14 +1,14 @@
 -- A machine whose run comes to one configuration twice never halts.
 use Rattle.std.proofs.Common.{◌≡◌, ℕ, ◌+◌, ◌-◌, ◌<◌, Some, sym, ◌∙◌, ap, arith}
 use Rattle.std.proofs.lemmas.Option.{none-some}
-use Rattle.turing.specs.Program.{Program}
+use Rattle.turing.specs.Machine.{Machine}
 use Rattle.turing.specs.Run.{start, from, after}
 use Rattle.turing.specs.Halting.{Never}
 use Rattle.turing.specs.Cycle.{Cycle}
 use Rattle.turing.proofs.RunLaws.{from_add, ended, not_past}
 
 -- if it halted after j, the part from i on would take as long as the part from j on
-pub cycle_never : (m : Program) (i j : ℕ) → Cycle m i j → Never m
+pub cycle_never : (m : Machine) (i j : ℕ) → Cycle m i j → Never m
 cycle_never m i j cycle k s =
     let order = cycle.order in
     let later : j < k = not_past m j k cycle.at cycle.ends s in

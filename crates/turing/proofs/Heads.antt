@@ -5,7 +5,7 @@ use Rattle.std.proofs.lemmas.Int.{ints}
 use Rattle.std.proofs.lemmas.Option.{same_Some}
 use Rattle.machine_text.specs.declared.transition.Dir.{Dir}
 use Rattle.machine_text.specs.declared.transition.Dir.TheVariants.{L, R}
-use Rattle.turing.specs.Program.{Program, IsMachine}
+use Rattle.turing.specs.Machine.{Machine, IsMachine}
 use Rattle.turing.specs.Tape.{moved_head}
 use Rattle.turing.specs.Run.{Config, from, after}
 use Rattle.turing.specs.Translated.{Beyond, Farthest}
@@ -18,7 +18,7 @@ moved_little x y L e = (omega (arith, ints), omega (arith, ints))
 moved_little x y R e = (omega (arith, ints), omega (arith, ints))
 
 -- after k steps the head is at most k places off
-pub head_reach : (m : Program) (k : ℕ) (c d : Config) → from m k c ≡ Some d →
+pub head_reach : (m : Machine) (k : ℕ) (c d : Config) → from m k c ≡ Some d →
     ((c.tape.head -ℤ pos k) ≤ℤ d.tape.head) × (d.tape.head ≤ℤ (c.tape.head +ℤ pos k))
 head_reach m zero c d is =
     let same : c.tape.head ≡ d.tape.head = ap (λ (x : Config). x.tape.head) (same_Some c d (sym (from_zero m c) ∙ is)) in
@@ -31,7 +31,7 @@ head_reach m (suc k) c d is =
     (omega (arith, ints), omega (arith, ints))
 
 -- a machine's run from one of its states stays among them
-pub states_within : (n : ℕ) (m : Program) → IsMachine n m → (k : ℕ) (c d : Config) → c.state < n → from m k c ≡ Some d → d.state < n
+pub states_within : (n : ℕ) (m : Machine) → IsMachine n m → (k : ℕ) (c d : Config) → c.state < n → from m k c ≡ Some d → d.state < n
 states_within n m machine zero c d within is = subst (λ (x : Config). x.state < n) (same_Some c d (sym (from_zero m c) ∙ is)) within
 states_within n m machine (suc k) c d within is =
     let (b, at) = before m k (suc k) c d (omega arith) is in
@@ -48,7 +48,7 @@ beyond_beyond L a b x low high = omega (arith, ints)
 beyond_beyond R a b x low high = omega (arith, ints)
 
 -- of one time the farthest head is the head
-pub farthest_first : (m : Program) (side : Dir) (i : ℕ) (c : Config) → after m i ≡ Some c → Farthest m side i (i + 1) c.tape.head
+pub farthest_first : (m : Machine) (side : Dir) (i : ℕ) (c : Config) → after m i ≡ Some c → Farthest m side i (i + 1) c.tape.head
 farthest_first m side i c is = record {
   bound = λ k d low high at.
       let now : i ≡ k = omega arith in
@@ -62,7 +62,7 @@ farthest_first m side i c is = record {
 }
 
 -- one time more, whose head is beyond the bound
-pub farthest_same : (m : Program) (side : Dir) (i j : ℕ) (b : ℤ) (c : Config) → Farthest m side i j b → after m j ≡ Some c →
+pub farthest_same : (m : Machine) (side : Dir) (i j : ℕ) (b : ℤ) (c : Config) → Farthest m side i j b → after m j ≡ Some c →
     Beyond side b c.tape.head → Farthest m side i (j + 1) b
 farthest_same m side i j b c f is beyond =
     let high = f.high in
@@ -82,7 +82,7 @@ farthest_same m side i j b c f is beyond =
     }
 
 -- one time more, whose head is farther than the bound
-pub farthest_new : (m : Program) (side : Dir) (i j : ℕ) (b : ℤ) (c : Config) → Farthest m side i j b → after m j ≡ Some c →
+pub farthest_new : (m : Machine) (side : Dir) (i j : ℕ) (b : ℤ) (c : Config) → Farthest m side i j b → after m j ≡ Some c →
     Beyond side c.tape.head b → Farthest m side i (j + 1) c.tape.head
 farthest_new m side i j b c f is farther =
     let low = f.low in
@@ -107,7 +107,7 @@ between L a b low high = omega (arith, ints)
 between R a b low high = omega (arith, ints)
 
 -- there is one farthest head
-pub one_farthest : (m : Program) (side : Dir) (i j : ℕ) (a b : ℤ) → Farthest m side i j a → Farthest m side i j b → a ≡ b
+pub one_farthest : (m : Machine) (side : Dir) (i j : ℕ) (a b : ℤ) → Farthest m side i j a → Farthest m side i j b → a ≡ b
 one_farthest m side i j a b f g =
     between side a b (subst (Beyond side a) g.reached (f.bound g.time g.there g.low g.high g.is))
     (subst (Beyond side b) f.reached (g.bound f.time f.there f.low f.high f.is))

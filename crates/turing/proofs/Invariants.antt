@@ -1,13 +1,13 @@
 -- What each step keeps holds of a whole run; and what each step back keeps, of its start.
 use Rattle.std.proofs.Common.{◌≡◌, ℕ, zero, suc, Some, None, sym, ◌∙◌, subst, arith}
 use Rattle.std.proofs.lemmas.Option.{same_Some}
-use Rattle.turing.specs.Program.{Program}
+use Rattle.turing.specs.Machine.{Machine}
 use Rattle.turing.specs.Run.{Config, start, next, from}
 use Rattle.turing.specs.Halting.{Never}
 use Rattle.turing.proofs.RunLaws.{from_zero, next_is, before, never_where_always}
 
 -- where each configuration with P has a next one, with P, a run from one with P goes on for ever and keeps P
-pub invariant_law : (m : Program) (P : Config → Type 0) → ((c : Config) → P c → (d : Config) × (next m c ≡ Some d) × P d) →
+pub invariant_law : (m : Machine) (P : Config → Type 0) → ((c : Config) → P c → (d : Config) × (next m c ≡ Some d) × P d) →
     (c : Config) → P c → (k : ℕ) → (d : Config) × (from m k c ≡ Some d) × P d
 invariant_law m P step c holds zero = (c, from_zero m c, holds)
 invariant_law m P step c holds (suc k) =
@@ -15,12 +15,12 @@ invariant_law m P step c holds (suc k) =
     let (e, goes, kept) = step d so in
     (e, next_is m k c d is ∙ goes, kept)
 
-pub never_by_invariant : (m : Program) (P : Config → Type 0) → ((c : Config) → P c → (d : Config) × (next m c ≡ Some d) × P d) → P start → Never m
+pub never_by_invariant : (m : Machine) (P : Config → Type 0) → ((c : Config) → P c → (d : Config) × (next m c ≡ Some d) × P d) → P start → Never m
 never_by_invariant m P step holds =
     never_where_always m (λ k. let (d, is, so) = invariant_law m P step start holds k in (d, is))
 
 -- where halting pairs have P, and a configuration has P if the next one has, the start of a run that ends has P
-pub backward_law : (m : Program) (P : Config → Type 0) → ((c : Config) → next m c ≡ None → P c) → ((c d : Config) → next m c ≡ Some d → P d → P c) →
+pub backward_law : (m : Machine) (P : Config → Type 0) → ((c : Config) → next m c ≡ None → P c) → ((c d : Config) → next m c ≡ Some d → P d → P c) →
     (k : ℕ) (c d : Config) → from m k c ≡ Some d → next m d ≡ None → P c
 backward_law m P ends back k c d is over = go k d is (ends d over)
   where

@@ -10,7 +10,7 @@ use Rattle.std.proofs.lemmas.Option.{none-some, same_Some, cond_some}
 use Rattle.machine_text.specs.declared.transition.Sym.{Sym}
 use Rattle.machine_text.specs.declared.transition.Sym.TheVariants.{Zero, One}
 use Rattle.machine_text.specs.declared.transition.Entry.{Entry}
-use Rattle.turing.specs.Program.{Program, IsMachine}
+use Rattle.turing.specs.Machine.{Machine, IsMachine}
 use Rattle.turing.specs.Run.{Config, after}
 use Rattle.turing.specs.Backward.{Ends, Backward, Pair, Partial, RunsThrough, IsPath, IsNeeded, IsWider, AllPaths, LeadsTo, standing_on, left_behind, before_step}
 use Rattle.turing.specs.Levels.{all_pairs, may_hold, can_lead_to, known_at_end, known_before, level}
@@ -107,7 +107,7 @@ found_before : Found → Pair → Option Entry → Option Found
 found_before f p None = None
 found_before f p (Some e) = cond (can_lead_to e f.known) (Some (record { known = before_step p e f.known; pairs = p ∷ f.pairs })) None
 
-found : ℕ → Program → ℕ → List Found
+found : ℕ → Machine → ℕ → List Found
 found n m zero = filter_map (λ p. found_at_end p (m p.state p.symbol)) (all_pairs n)
 found n m (suc k) = flat_map (λ later. filter_map (λ p. found_before later p (m p.state p.symbol)) (all_pairs n)) (found n m k)
 
@@ -143,7 +143,7 @@ known_before_is f p (Some e) = go (can_lead_to e f.known)
     go true = refl
     go false = refl
 
-level_is : (n : ℕ) (m : Program) (k : ℕ) → level n m k ≡ map (λ (f : Found). f.known) (found n m k)
+level_is : (n : ℕ) (m : Machine) (k : ℕ) → level n m k ≡ map (λ (f : Found). f.known) (found n m k)
 unfolding level found
 level_is n m zero =
     known_of_filter_map (λ p. found_at_end p (m p.state p.symbol)) (λ p. known_at_end p (m p.state p.symbol)) (λ p. known_at_end_is p (m p.state p.symbol)) (all_pairs n)
@@ -154,7 +154,7 @@ level_is n m (suc k) =
     (found n m k)
 
 -- what is found is a path and what it needs
-record IsFound (n : ℕ) (m : Program) (k : ℕ) (f : Found) : Type 0 where
+record IsFound (n : ℕ) (m : Machine) (k : ℕ) (f : Found) : Type 0 where
   needed : IsNeeded m f.known f.pairs
   within : f.known.state < n
   size : length f.pairs ≡ suc k
@@ -173,7 +173,7 @@ before_is later p (Some e) f is =
     let (leads, same) = cond_some (can_lead_to e later.known) (record { known = before_step p e later.known; pairs = p ∷ later.pairs }) f is in
     (e, refl, leads_is e later.known leads, ap (λ (x : Found). x.known) (sym same), ap (λ (x : Found). x.pairs) (sym same))
 
-found_is : (n : ℕ) (m : Program) (k : ℕ) (f : Found) → Member f (found n m k) → IsFound n m k f
+found_is : (n : ℕ) (m : Machine) (k : ℕ) (f : Found) → Member f (found n m k) → IsFound n m k f
 unfolding found
 found_is n m zero f i =
     let (p, j, is) = member_of_filter_map (λ p. found_at_end p (m p.state p.symbol)) f (all_pairs n) i in
@@ -205,7 +205,7 @@ unfolding found_before
 before_found later p o e some leads =
     ap (found_before later p) some ∙ ap (λ b. cond b (Some (record { known = before_step p e later.known; pairs = p ∷ later.pairs })) None) (leads_if e later.known leads)
 
-path_found : (n : ℕ) (m : Program) → IsMachine n m → (k : ℕ) (ps : List Pair) → IsPath n m k ps → (f : Found) × Member f (found n m k) × (f.pairs ≡ ps)
+path_found : (n : ℕ) (m : Machine) → IsMachine n m → (k : ℕ) (ps : List Pair) → IsPath n m k ps → (f : Found) × Member f (found n m k) × (f.pairs ≡ ps)
 unfolding found
 path_found n m machine zero ps path =
     let (p, is, within, halts) = path_zero n m ps path in (
@@ -229,7 +229,7 @@ same_first : (p q : Pair) (ps qs : List Pair) → ◌≡◌ {A = List Pair} (p �
 same_first p q ps qs e = (cc, cc)
 
 -- and once
-found_different : (n : ℕ) (m : Program) (k : ℕ) → Different (λ (f : Found). f.pairs) (found n m k)
+found_different : (n : ℕ) (m : Machine) (k : ℕ) → Different (λ (f : Found). f.pairs) (found n m k)
 unfolding found
 found_different n m zero =
     different_filter_map (λ p. found_at_end p (m p.state p.symbol)) (λ (p : Pair). p) (λ (f : Found). f.pairs)
@@ -255,7 +255,7 @@ found_different n m (suc k) =
     (found n m k) (found_different n m k)
 
 -- so the paths that are found are all paths, each once
-found_all : (n : ℕ) (m : Program) → IsMachine n m → (k : ℕ) → AllPaths n m k (map (λ (f : Found). f.pairs) (found n m k))
+found_all : (n : ℕ) (m : Machine) → IsMachine n m → (k : ℕ) → AllPaths n m k (map (λ (f : Found). f.pairs) (found n m k))
 found_all n m machine k = record {
   each = all_members (IsPath n m k) (λ (f : Found). f.pairs) (found n m k)
       (λ f i. let is = found_is n m k f i in needed_path n m k f.known f.pairs is.needed is.within is.size);
@@ -265,16 +265,16 @@ found_all n m machine k = record {
       subst (Contains (map (λ (f : Found). f.pairs) (found n m k))) same (contains_member (λ (f : Found). f.pairs) f (found n m k) i);
 }
 
-same_length : (n : ℕ) (m : Program) (k : ℕ) → length (map (λ (f : Found). f.pairs) (found n m k)) ≡ length (level n m k)
+same_length : (n : ℕ) (m : Machine) (k : ℕ) → length (map (λ (f : Found). f.pairs) (found n m k)) ≡ length (level n m k)
 same_length n m k =
     length-map (found n m k) (λ (f : Found). f.pairs) ∙ sym (length-map (found n m k) (λ (f : Found). f.known)) ∙ ap length (sym (level_is n m k))
 
 -- there are more than so many paths of a depth exactly where the level is longer
-pub level_wider : (n : ℕ) (m : Program) → IsMachine n m → (k limit : ℕ) → IsWider n m k limit → limit < length (level n m k)
+pub level_wider : (n : ℕ) (m : Machine) → IsMachine n m → (k limit : ℕ) → IsWider n m k limit → limit < length (level n m k)
 level_wider n m machine k limit wider =
     subst (λ l. limit < l) (same_length n m k) (wider_law n m k limit _ (found_all n m machine k) wider)
 
-pub longer_level : (n : ℕ) (m : Program) → IsMachine n m → (k limit : ℕ) → limit < length (level n m k) → IsWider n m k limit
+pub longer_level : (n : ℕ) (m : Machine) → IsMachine n m → (k limit : ℕ) → limit < length (level n m k) → IsWider n m k limit
 longer_level n m machine k limit longer =
     longer_wider n m k limit _ (found_all n m machine k) (subst (λ l. limit < l) (sym (same_length n m k)) longer)
 
@@ -283,7 +283,7 @@ first_member [] some = absurd (omega arith)
 first_member (f ∷ fs) some = (f, inl refl)
 
 -- a level with an item has a configuration that ends
-pub level_ends : (n : ℕ) (m : Program) (k : ℕ) → 0 < length (level n m k) → (c : Config) × (c.state < n) × Ends m c k
+pub level_ends : (n : ℕ) (m : Machine) (k : ℕ) → 0 < length (level n m k) → (c : Config) × (c.state < n) × Ends m c k
 level_ends n m k some =
     let size : length (level n m k) ≡ length (found n m k) = ap length (level_is n m k) ∙ length-map (found n m k) (λ (f : Found). f.known) in
     let (f, i) = first_member (found n m k) (omega arith) in
@@ -296,7 +296,7 @@ member_some f [] i = absurd i
 member_some f (g ∷ fs) i = omega arith
 
 -- and where a configuration ends, the level has an item
-pub ends_level : (n : ℕ) (m : Program) → IsMachine n m → (k : ℕ) (c : Config) → c.state < n → Ends m c k → 0 < length (level n m k)
+pub ends_level : (n : ℕ) (m : Machine) → IsMachine n m → (k : ℕ) (c : Config) → c.state < n → Ends m c k → 0 < length (level n m k)
 ends_level n m machine k c within ends =
     let (ps, size, runs) = ends_path m k c ends in
     let (f, i, same) = path_found n m machine k ps (record { size = size; start = c; within = within; runs = runs }) in
@@ -309,11 +309,11 @@ nothing [] none = refl
 nothing (x ∷ xs) none = absurd (none (omega arith))
 
 -- backward reasoning stands at d exactly where the run does d steps and the level of d is empty
-pub backward_level : (n : ℕ) (m : Program) (d : ℕ) → Backward n m d → ((at : Config) × (after m d ≡ Some at)) × (level n m d ≡ [])
+pub backward_level : (n : ℕ) (m : Machine) (d : ℕ) → Backward n m d → ((at : Config) × (after m d ≡ Some at)) × (level n m d ≡ [])
 backward_level n m d b =
     ((b.at, b.runs), nothing (level n m d) (λ some. let (c, within, ends) = level_ends n m d some in b.none c within ends))
 
-pub level_backward : (n : ℕ) (m : Program) → IsMachine n m → (d : ℕ) → (at : Config) → after m d ≡ Some at → level n m d ≡ [] → Backward n m d
+pub level_backward : (n : ℕ) (m : Machine) → IsMachine n m → (d : ℕ) → (at : Config) → after m d ≡ Some at → level n m d ≡ [] → Backward n m d
 level_backward n m machine d at is empty = record {
   at = at;
   runs = is;
@@ -324,10 +324,10 @@ level_backward n m machine d at is empty = record {
 }
 
 -- below an empty level all are empty
-empty_next : (n : ℕ) (m : Program) (k : ℕ) → level n m k ≡ [] → level n m (suc k) ≡ []
+empty_next : (n : ℕ) (m : Machine) (k : ℕ) → level n m k ≡ [] → level n m (suc k) ≡ []
 unfolding level
 empty_next n m k empty = ap (flat_map (λ later. filter_map (λ p. known_before later p (m p.state p.symbol)) (all_pairs n))) empty
 
-pub empty_below : (n : ℕ) (m : Program) (k r : ℕ) → level n m k ≡ [] → level n m (k + r) ≡ []
+pub empty_below : (n : ℕ) (m : Machine) (k r : ℕ) → level n m k ≡ [] → level n m (k + r) ≡ []
 empty_below n m k zero empty = ap (level n m) (let e : k + 0 ≡ k = omega arith in e) ∙ empty
 empty_below n m k (suc r) empty = ap (level n m) (let e : k + suc r ≡ suc (k + r) = omega arith in e) ∙ empty_next n m (k + r) (empty_below n m k r empty)

@@ -8,7 +8,7 @@ use Rattle.machine_text.specs.declared.transition.Sym.TheVariants.{Zero, One}
 use Rattle.machine_text.specs.declared.transition.Dir.{Dir}
 use Rattle.machine_text.specs.declared.transition.Dir.TheVariants.{L, R}
 use Rattle.machine_text.specs.declared.transition.Entry.{Entry}
-use Rattle.turing.specs.Program.{Program, IsMachine}
+use Rattle.turing.specs.Machine.{Machine, IsMachine}
 use Rattle.turing.specs.Tape.{symbol_read, moved_head}
 use Rattle.turing.specs.Run.{Config, start, cell, carried_out, done_by, after}
 use Rattle.turing.specs.Step.{Takes}
@@ -24,7 +24,7 @@ pub start_blank : (x : ℤ) → cell start x ≡ Zero
 start_blank x = ap (λ b. cond b One Zero) (set.contains-empty int_cmp x)
 
 -- a machine without an entry at its first pair halts at once
-abbrev stops_at_once : (m : Program) → m 0 Zero ≡ None → HaltsAt m 1
+abbrev stops_at_once : (m : Machine) → m 0 Zero ≡ None → HaltsAt m 1
 stops_at_once m none = record {
   last = 0;
   at = start;
@@ -47,7 +47,7 @@ from_nothing : (x : ℤ) → x ≡ pos 0 +ℤ x
 from_nothing x = omega (arith, ints)
 
 -- with an entry to the start's own state the run is a translated cycle from the first step on
-onward_for_ever : (m : Program) (e : Entry) → m 0 Zero ≡ Some e → e.next.0 ≡ 0 → Translated m 0 1 e.dir
+onward_for_ever : (m : Machine) (e : Entry) → m 0 Zero ≡ Some e → e.next.0 ≡ 0 → Translated m 0 1 e.dir
 onward_for_ever m e is home =
     let entry : m start.state (symbol_read start.tape) ≡ Some e = ap (m 0) (start_blank (pos 0)) ∙ is in
     let t : Takes m start e (carried_out start e) = taken_takes m start e entry in
@@ -78,7 +78,7 @@ onward_for_ever m e is home =
     }
 
 -- a one-state machine halts in 1, if at all
-one_step : (m : Program) (k : ℕ) → IsMachine 1 m → HaltsAt m k → k ≤ 1
+one_step : (m : Machine) (k : ℕ) → IsMachine 1 m → HaltsAt m k → k ≤ 1
 one_step m k machine s = go (m 0 Zero) refl
   where
     go : (o : Option Entry) → m 0 Zero ≡ o → k ≤ 1

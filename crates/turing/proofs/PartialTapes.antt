@@ -8,7 +8,7 @@ use Rattle.machine_text.specs.declared.transition.Sym.{Sym}
 use Rattle.machine_text.specs.declared.transition.Dir.{Dir}
 use Rattle.machine_text.specs.declared.transition.Dir.TheVariants.{L, R}
 use Rattle.machine_text.specs.declared.transition.Entry.{Entry}
-use Rattle.turing.specs.Program.{Program}
+use Rattle.turing.specs.Machine.{Machine}
 use Rattle.turing.specs.Tape.{symbol_read, with_cell, moved_head}
 use Rattle.turing.specs.Run.{Config, cell, carried_out, done_by, next}
 use Rattle.turing.specs.Step.{Takes}
@@ -38,11 +38,11 @@ state_on p c on = ap (λ (q : Pair). q.state) on
 symbol_on : (p : Pair) (c : Config) → pair_of c ≡ p → symbol_read c.tape ≡ p.symbol
 symbol_on p c on = ap (λ (q : Pair). q.symbol) on
 
-pub entry_on : (m : Program) (p : Pair) (c : Config) → pair_of c ≡ p → m c.state (symbol_read c.tape) ≡ m p.state p.symbol
+pub entry_on : (m : Machine) (p : Pair) (c : Config) → pair_of c ≡ p → m c.state (symbol_read c.tape) ≡ m p.state p.symbol
 entry_on m p c on = ap (λ (q : Pair). m q.state q.symbol) on
 
 -- the first pair of those that a run goes through is its own
-pub runs_first : (m : Program) (c : Config) (p : Pair) (ps : List Pair) → RunsThrough m (Some c) (p ∷ ps) → (pair_of c ≡ p) × RunsThrough m (next m c) ps
+pub runs_first : (m : Machine) (c : Config) (p : Pair) (ps : List Pair) → RunsThrough m (Some c) (p ∷ ps) → (pair_of c ≡ p) × RunsThrough m (next m c) ps
 runs_first m c p ps runs =
     let same = same_Some c runs.0 runs.1 in
     (ap pair_of same ∙ runs.2, subst (λ d. RunsThrough m (next m d) ps) (sym same) runs.3)
@@ -62,7 +62,7 @@ blank_on_agrees p = record {
 }
 
 -- a halting pair needs its state and the cell at the head
-pub base_law : (m : Program) (p : Pair) → m p.state p.symbol ≡ None → IsNeeded m (standing_on p) (p ∷ [])
+pub base_law : (m : Machine) (p : Pair) → m p.state p.symbol ≡ None → IsNeeded m (standing_on p) (p ∷ [])
 base_law m p halts = record {
   only = λ c runs.
       let (on, over) = runs_first m c p [] runs in
@@ -97,7 +97,7 @@ off_place : (h x : ℤ) → (x ≡ pos 0 → ⊥) → h +ℤ x ≡ h → ⊥
 off_place h x other same = other (omega (arith, ints))
 
 -- what is known of a configuration is known of the one before a step, but in the cell that the step wrote
-agrees_before : (m : Program) (p : Pair) (e : Entry) (k : Partial) (c d : Config) → pair_of c ≡ p → Takes m c e d → Agrees k d → Agrees (before_step p e k) c
+agrees_before : (m : Machine) (p : Pair) (e : Entry) (k : Partial) (c d : Config) → pair_of c ≡ p → Takes m c e d → Agrees k d → Agrees (before_step p e k) c
 agrees_before m p e k c d on t agrees = record {
   state = state_on p c on;
   cells = λ x s known. by_place x (pos 0)
@@ -111,7 +111,7 @@ agrees_before m p e k c d on t agrees = record {
 }
 
 -- where a step's entry leads to what is known, the configuration after it agrees with that
-agrees_after : (m : Program) (p : Pair) (e : Entry) (k : Partial) (c d : Config) → LeadsTo e k → Takes m c e d → Agrees (before_step p e k) c → Agrees k d
+agrees_after : (m : Machine) (p : Pair) (e : Entry) (k : Partial) (c d : Config) → LeadsTo e k → Takes m c e d → Agrees (before_step p e k) c → Agrees k d
 agrees_after m p e k c d leads t agrees = record {
   state = t.state ∙ sym leads.state;
   cells = λ y s known. by_place (moved_head y e.dir) (pos 0)
@@ -161,7 +161,7 @@ stepped_back_agrees p e k d agrees = record {
     h = moved_head d.tape.head (opposite e.dir)
 
 -- a pair before a path, where its entry leads to what the path needs
-pub join_law : (m : Program) (p : Pair) (e : Entry) (k : Partial) (ps : List Pair) → m p.state p.symbol ≡ Some e → LeadsTo e k → IsNeeded m k ps →
+pub join_law : (m : Machine) (p : Pair) (e : Entry) (k : Partial) (ps : List Pair) → m p.state p.symbol ≡ Some e → LeadsTo e k → IsNeeded m k ps →
     IsNeeded m (before_step p e k) (p ∷ ps)
 join_law m p e k ps entry leads needed = record {
   only = λ c runs.
@@ -182,7 +182,7 @@ join_law m p e k ps entry leads needed = record {
 }
 
 -- a pair stands before a path only where its entry leads to what the path needs
-pub clash_law : (m : Program) (p : Pair) (e : Entry) (k : Partial) (ps : List Pair) → m p.state p.symbol ≡ Some e → IsNeeded m k ps →
+pub clash_law : (m : Machine) (p : Pair) (e : Entry) (k : Partial) (ps : List Pair) → m p.state p.symbol ≡ Some e → IsNeeded m k ps →
     (c : Config) → RunsThrough m (Some c) (p ∷ ps) → LeadsTo e k
 clash_law m p e k ps entry needed c runs = record { state = sym agrees.state; written = go (k.cells (left_behind e.dir)) refl }
   where

@@ -9,7 +9,7 @@ use Rattle.machine_text.specs.declared.transition.Sym.{Sym}
 use Rattle.machine_text.specs.declared.transition.Sym.TheVariants.{Zero, One}
 use Rattle.machine_text.specs.declared.transition.Dir.{Dir}
 use Rattle.machine_text.specs.declared.transition.Entry.{Entry}
-use Rattle.turing.specs.Program.{Program}
+use Rattle.turing.specs.Machine.{Machine}
 use Rattle.turing.specs.Tape.{Tape, symbol_read, with_cell, moved_head}
 use Rattle.turing.specs.Run.{Config, start, cell, carried_out, done_by, next}
 use Rattle.turing.specs.Step.{Takes}
@@ -36,7 +36,7 @@ renamed_entry g turn None = None
 renamed_entry g turn (Some e) = Some (record { write = e.write; dir = turn e.dir; next = record { 0 = g e.next.0 } })
 
 -- what a renaming has to be: places stay apart, and moves are carried along
-pub record Renames (g : ℕ → ℕ) (f : ℤ → ℤ) (turn : Dir → Dir) (m n : Program) : Type 0 where
+pub record Renames (g : ℕ → ℕ) (f : ℤ → ℤ) (turn : Dir → Dir) (m n : Machine) : Type 0 where
   pub apart : (x y : ℤ) → f x ≡ f y → x ≡ y
   pub moves : (x : ℤ) (d : Dir) → moved_head (f x) (turn d) ≡ f (moved_head x d)
   pub entries : (q : ℕ) (s : Sym) → n (g q) s ≡ renamed_entry g turn (m q s)
@@ -62,7 +62,7 @@ same_size s t Zero read size =
     let mark : set.contains s.ones s.head ≡ set.contains t.ones t.head = same_mark (set.contains s.ones s.head) (set.contains t.ones t.head) read in
     cc (set.len-remove int_cmp_total s.ones s.head, set.len-remove int_cmp_total t.ones t.head)
 
-module _ (g : ℕ → ℕ) (f : ℤ → ℤ) (turn : Dir → Dir) (m n : Program) (r : Renames g f turn m n) where
+module _ (g : ℕ → ℕ) (f : ℤ → ℤ) (turn : Dir → Dir) (m n : Machine) (r : Renames g f turn m n) where
   -- carrying out an entry on the one, and its renamed entry on the other
   carried_on : (c d c' d' : Config) (e e' : Entry) → Carried g f c d → Takes m c e c' → Takes n d e' d' →
       e'.write ≡ e.write → e'.dir ≡ turn e.dir → e'.next.0 ≡ g e.next.0 → Carried g f c' d'
@@ -123,12 +123,12 @@ carried_start g f state head = record {
 }
 
 -- a renamed machine halts in as many steps, with the same score
-pub renamed_stops : (g : ℕ → ℕ) (f : ℤ → ℤ) (turn : Dir → Dir) (m n : Program) → Renames g f turn m n → g 0 ≡ 0 → f (pos 0) ≡ pos 0 →
+pub renamed_stops : (g : ℕ → ℕ) (f : ℤ → ℤ) (turn : Dir → Dir) (m n : Machine) → Renames g f turn m n → g 0 ≡ 0 → f (pos 0) ≡ pos 0 →
     (k : ℕ) (s : HaltsAt m k) → (t : HaltsAt n k) × CarriedAll g f s.at t.at
 renamed_stops g f turn m n r state head =
     simulation_law (CarriedAll g f) m n (carried_all_step g f turn m n r) (carried_start g f state head)
 
-pub renamed_stops_with : (g : ℕ → ℕ) (f : ℤ → ℤ) (turn : Dir → Dir) (m n : Program) → Renames g f turn m n → g 0 ≡ 0 → f (pos 0) ≡ pos 0 →
+pub renamed_stops_with : (g : ℕ → ℕ) (f : ℤ → ℤ) (turn : Dir → Dir) (m n : Machine) → Renames g f turn m n → g 0 ≡ 0 → f (pos 0) ≡ pos 0 →
     (k s : ℕ) → HaltsWith m k s → HaltsWith n k s
 renamed_stops_with g f turn m n r state head k s w =
     let (t, like) = renamed_stops g f turn m n r state head k w.halts in

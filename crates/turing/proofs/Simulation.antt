@@ -1,6 +1,6 @@
 -- One law on two machines whose steps go together: their runs go together, and end together.
 use Rattle.std.proofs.Common.{◌≡◌, ℕ, zero, suc, Option, Some, None, sym, subst, refl}
-use Rattle.turing.specs.Program.{Program}
+use Rattle.turing.specs.Machine.{Machine}
 use Rattle.turing.specs.Run.{Config, start, next, next_from, from}
 use Rattle.turing.specs.Halting.{HaltsAt}
 use Rattle.turing.proofs.RunLaws.{from_zero, from_suc}
@@ -23,7 +23,7 @@ alike_none Like (Some d) a = absurd a
 
 -- machines m and n, and configurations of each that are alike; a step from two that are alike leads to two
 -- that are alike, or both halt
-module _ (Like : Config → Config → Type 0) (m n : Program) (step : (c d : Config) → Like c d → Alike Like (next m c) (next n d)) where
+module _ (Like : Config → Config → Type 0) (m n : Machine) (step : (c d : Config) → Like c d → Alike Like (next m c) (next n d)) where
   alike_next : (o p : Option Config) → Alike Like o p → Alike Like (next_from m o) (next_from n p)
   alike_next None None a = tt
   alike_next None (Some d) a = absurd a

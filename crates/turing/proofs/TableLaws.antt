@@ -3,7 +3,7 @@ use Rattle.std.proofs.Common.{◌<◌, Option, IfSome, subst}
 use Rattle.machine_text.specs.declared.transition.Entry.{Entry}
 use Rattle.machine_text.specs.Packed.{Packed, IsTable, entry_of}
 use Rattle.machine_text.proofs.Filling.{IsMapOf-table}
-use Rattle.turing.specs.Program.{IsMachine}
+use Rattle.turing.specs.Machine.{IsMachine}
 
 pub table_machine : (p : Packed) → IsTable p → IsMachine p.states (entry_of p)
 table_machine p table =

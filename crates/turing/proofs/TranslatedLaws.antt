@@ -5,7 +5,7 @@ use Rattle.std.proofs.lemmas.Int.{ints}
 use Rattle.std.proofs.lemmas.Option.{same_Some}
 use Rattle.machine_text.specs.declared.transition.Dir.{Dir}
 use Rattle.machine_text.specs.declared.transition.Dir.TheVariants.{L, R}
-use Rattle.turing.specs.Program.{Program}
+use Rattle.turing.specs.Machine.{Machine}
 use Rattle.turing.specs.Tape.{symbol_read, moved_head}
 use Rattle.turing.specs.Run.{Config, start, cell, carried_out, next, after}
 use Rattle.turing.specs.Step.{Takes}
@@ -28,7 +28,7 @@ record Shadow (side : Dir) (b t : ℤ) (c d : Config) : Type 0 where
   cells : (x : ℤ) → Beyond side b x → cell d (x +ℤ t) ≡ cell c x
 
 -- steps from the two, with the head of the first beyond the bound, are by one entry and keep this
-shadow_steps : (m : Program) (side : Dir) (b t : ℤ) (c d c' : Config) → Shadow side b t c d → Beyond side b c.tape.head → next m c ≡ Some c' →
+shadow_steps : (m : Machine) (side : Dir) (b t : ℤ) (c d c' : Config) → Shadow side b t c d → Beyond side b c.tape.head → next m c ≡ Some c' →
     (d' : Config) × (next m d ≡ Some d') × Shadow side b t c' d'
 shadow_steps m side b t c d c' shadow beyond is =
     let (e, s) = takes m c c' is in
@@ -49,7 +49,7 @@ shadow_steps m side b t c d c' shadow beyond is =
 
 -- what holds at each time n from i on: a period p later the run is there too, moved by t; and up to then the
 -- head was never before the bound
-record Held (m : Program) (side : Dir) (b t : ℤ) (i p n : ℕ) : Type 0 where
+record Held (m : Machine) (side : Dir) (b t : ℤ) (i p n : ℕ) : Type 0 where
   here : Config
   there : Config
   at_here : after m n ≡ Some here
@@ -58,7 +58,7 @@ record Held (m : Program) (side : Dir) (b t : ℤ) (i p n : ℕ) : Type 0 where
   bound : (k : ℕ) (c : Config) → i ≤ k → k < n + p → after m k ≡ Some c → Beyond side b c.tape.head
 
 -- a time more
-held_next : (m : Program) (side : Dir) (b t : ℤ) (i p n : ℕ) → 0 < p → i ≤ n → Beyond side (pos 0) t → Held m side b t i p n → Held m side b t i p (suc n)
+held_next : (m : Machine) (side : Dir) (b t : ℤ) (i p n : ℕ) → 0 < p → i ≤ n → Beyond side (pos 0) t → Held m side b t i p n → Held m side b t i p (suc n)
 held_next m side b t i p n some from_i onward held =
     let beyond : Beyond side b held.here.tape.head = held.bound n held.here from_i (omega arith) held.at_here in
     let (here', at') = before m (suc n) (n + p) start held.there (omega arith) held.at_there in
@@ -81,13 +81,13 @@ held_next m side b t i p n some from_i onward held =
     }
 
 -- so many times more
-held_on : (m : Program) (side : Dir) (b t : ℤ) (i p : ℕ) → 0 < p → Beyond side (pos 0) t → Held m side b t i p i → (r : ℕ) → Held m side b t i p (i + r)
+held_on : (m : Machine) (side : Dir) (b t : ℤ) (i p : ℕ) → 0 < p → Beyond side (pos 0) t → Held m side b t i p i → (r : ℕ) → Held m side b t i p (i + r)
 held_on m side b t i p some onward held zero = subst (Held m side b t i p) (let e : i ≡ i + 0 = omega arith in e) held
 held_on m side b t i p some onward held (suc r) =
     subst (Held m side b t i p) (let e : suc (i + r) ≡ i + suc r = omega arith in e) (held_next m side b t i p (i + r) some (omega arith) onward (held_on m side b t i p some onward held r))
 
 -- a machine with a translated cycle never halts
-pub translated_never : (m : Program) (i j : ℕ) (side : Dir) → Translated m i j side → Never m
+pub translated_never : (m : Machine) (i j : ℕ) (side : Dir) → Translated m i j side → Never m
 translated_never m i j side cycle = never_where_always m there
   where
     order : i < j

@@ -7,7 +7,7 @@ use Rattle.machine_text.specs.declared.transition.Sym.TheVariants.{Zero}
 use Rattle.machine_text.specs.declared.transition.Dir.{Dir}
 use Rattle.machine_text.specs.declared.transition.Dir.TheVariants.{L, R}
 use Rattle.machine_text.specs.declared.transition.Entry.{Entry}
-use Rattle.turing.specs.Program.{Program}
+use Rattle.turing.specs.Machine.{Machine}
 use Rattle.turing.specs.Tape.{moved_head}
 use Rattle.turing.specs.Run.{Config, cell}
 use Rattle.turing.specs.Mirror.{opposite}
@@ -28,7 +28,7 @@ pub record TwoAutomata : Type 0 where
 
 -- the automata are those of a machine of n states: each entry, and each halting pair, has its edges, and no
 -- blank tape ahead leads from the start to the halt state
-pub record Fits (n : ℕ) (m : Program) (side : Dir) (a : TwoAutomata) : Type 0 where
+pub record Fits (n : ℕ) (m : Machine) (side : Dir) (a : TwoAutomata) : Type 0 where
   pub some : 0 < a.size
   pub states : (q : ℕ) (s : Sym) → q < a.size → a.delta q s < a.size
   pub blank : a.delta 0 Zero ≡ 0

@@ -5,19 +5,19 @@ use Rattle.std.specs.Ordering.{int_eq}
 use Rattle.machine_text.specs.declared.transition.Sym.{Sym}
 use Rattle.machine_text.specs.declared.transition.Dir.{Dir}
 use Rattle.machine_text.specs.declared.transition.Entry.{Entry}
-use Rattle.turing.specs.Program.{Program}
+use Rattle.turing.specs.Machine.{Machine}
 use Rattle.turing.specs.Tape.{symbol_read, moved_head}
 use Rattle.turing.specs.Run.{Config, cell, next, from, after}
 use Rattle.turing.specs.Mirror.{opposite}
 
 -- after exactly d steps from c there is a halting pair
-pub record Ends (m : Program) (c : Config) (d : ℕ) : Type 0 where
+pub record Ends (m : Machine) (c : Config) (d : ℕ) : Type 0 where
   pub at : Config
   pub is : from m d c ≡ Some at
   pub over : next m at ≡ None
 
 -- the run from the blank tape does d steps, and no configuration of a state below n ends after exactly d
-pub record Backward (n : ℕ) (m : Program) (d : ℕ) : Type 0 where
+pub record Backward (n : ℕ) (m : Machine) (d : ℕ) : Type 0 where
   pub at : Config
   pub runs : after m d ≡ Some at
   pub none : (c : Config) → c.state < n → Ends m c d → ⊥
@@ -32,26 +32,26 @@ pair_of c = record { state = c.state; symbol = symbol_read c.tape }
 
 -- a run that stands somewhere goes through these pairs, step by step, and then no further; of no pairs, it has
 -- ended. So the last one is a halting pair
-abbrev pub RunsThrough : Program → Option Config → List Pair → Type 0
+abbrev pub RunsThrough : Machine → Option Config → List Pair → Type 0
 RunsThrough m o [] = o ≡ None
 RunsThrough m o (p ∷ ps) = (c : Config) × (o ≡ Some c) × (pair_of c ≡ p) × RunsThrough m (next m c) ps
 
 -- a path of depth k: the k + 1 pairs through which some configuration runs to its end
-pub record IsPath (n : ℕ) (m : Program) (k : ℕ) (pairs : List Pair) : Type 0 where
+pub record IsPath (n : ℕ) (m : Machine) (k : ℕ) (pairs : List Pair) : Type 0 where
   pub size : length pairs ≡ suc k
   pub start : Config
   pub within : start.state < n
   pub runs : RunsThrough m (Some start) pairs
 
 -- there are more than so many paths of depth k
-pub record IsWider (n : ℕ) (m : Program) (k limit : ℕ) : Type 0 where
+pub record IsWider (n : ℕ) (m : Machine) (k limit : ℕ) : Type 0 where
   pub paths : List (List Pair)
   pub each : All (IsPath n m k) paths
   pub different : AllPairs (λ a b. a ≢ b) paths
   pub more : limit < length paths
 
 -- these are the paths of depth k, each once
-pub record AllPaths (n : ℕ) (m : Program) (k : ℕ) (paths : List (List Pair)) : Type 0 where
+pub record AllPaths (n : ℕ) (m : Machine) (k : ℕ) (paths : List (List Pair)) : Type 0 where
   pub each : All (IsPath n m k) paths
   pub different : AllPairs (λ a b. a ≢ b) paths
   pub every : (pairs : List Pair) → IsPath n m k pairs → Contains paths pairs
@@ -67,7 +67,7 @@ pub record Agrees (k : Partial) (c : Config) : Type 0 where
   pub cells : (x : ℤ) (s : Sym) → k.cells x ≡ Some s → cell c (c.tape.head +ℤ x) ≡ s
 
 -- exactly the configurations that agree with this run through these pairs; and there is one
-pub record IsNeeded (m : Program) (k : Partial) (pairs : List Pair) : Type 0 where
+pub record IsNeeded (m : Machine) (k : Partial) (pairs : List Pair) : Type 0 where
   pub only : (c : Config) → RunsThrough m (Some c) pairs → Agrees k c
   pub enough : (c : Config) → Agrees k c → RunsThrough m (Some c) pairs
   pub some : (c : Config) × Agrees k c

@@ -1,10 +1,10 @@
 -- A cycle: the run from the blank tape comes to the same configuration twice.
 use Rattle.std.specs.Prelude.{◌≡◌, ℕ, ◌<◌, Some}
-use Rattle.turing.specs.Program.{Program}
+use Rattle.turing.specs.Machine.{Machine}
 use Rattle.turing.specs.Run.{Config, after}
 
 -- the configurations at the times i and j are one
-pub record Cycle (m : Program) (i j : ℕ) : Type 0 where
+pub record Cycle (m : Machine) (i j : ℕ) : Type 0 where
   pub order : i < j
   pub at : Config
   pub begins : after m i ≡ Some at

@@ -2,12 +2,12 @@
 -- comes to a halting pair after k steps halts in k + 1.
 use Rattle.std.specs.Prelude.{◌≡◌, ℕ, suc, ◌≤◌, Some, None}
 use Rattle.machine_text.specs.declared.transition.Sym.{Sym}
-use Rattle.turing.specs.Program.{Program, IsMachine}
+use Rattle.turing.specs.Machine.{Machine, IsMachine}
 use Rattle.turing.specs.Tape.{symbol_read}
 use Rattle.turing.specs.Run.{Config, next, after}
 
 -- the run from the blank tape halts in k steps
-pub record HaltsAt (m : Program) (k : ℕ) : Type 0 where
+pub record HaltsAt (m : Machine) (k : ℕ) : Type 0 where
   pub last : ℕ
   pub at : Config
   pub is : after m last ≡ Some at
@@ -15,18 +15,18 @@ pub record HaltsAt (m : Program) (k : ℕ) : Type 0 where
   pub count : k ≡ suc last
 
 -- the run from the blank tape halts in k steps, on the pair of state number q and the symbol s
-pub record HaltsOn (m : Program) (k q : ℕ) (s : Sym) : Type 0 where
+pub record HaltsOn (m : Machine) (k q : ℕ) (s : Sym) : Type 0 where
   pub halts : HaltsAt m k
   pub state : halts.at.state ≡ q
   pub symbol : symbol_read halts.at.tape ≡ s
 
 -- the run from the blank tape never halts
-abbrev pub Never : Program → Type 0
+abbrev pub Never : Machine → Type 0
 Never m = (k : ℕ) → HaltsAt m k → ⊥
 
 -- s is the greatest number of steps in which a machine of n states halts: S(n) (Radó 1962)
 pub record IsRado (n s : ℕ) : Type 0 where
-  pub champion : Program
+  pub champion : Machine
   pub is_machine : IsMachine n champion
   pub halts : HaltsAt champion s
-  pub greatest : (m : Program) (k : ℕ) → IsMachine n m → HaltsAt m k → k ≤ s
+  pub greatest : (m : Machine) (k : ℕ) → IsMachine n m → HaltsAt m k → k ≤ s

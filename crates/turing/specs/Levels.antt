@@ -5,7 +5,7 @@ use Rattle.std.specs.List.{filter_map, flat_map}
 use Rattle.machine_text.specs.declared.transition.Sym.{Sym}
 use Rattle.machine_text.specs.declared.transition.Sym.TheVariants.{Zero, One}
 use Rattle.machine_text.specs.declared.transition.Entry.{Entry}
-use Rattle.turing.specs.Program.{Program}
+use Rattle.turing.specs.Machine.{Machine}
 use Rattle.turing.specs.Backward.{Pair, Partial, standing_on, left_behind, before_step}
 
 -- the pairs of n states: A0, A1, B0, and so on
@@ -36,6 +36,6 @@ known_before k p None = None
 known_before k p (Some e) = if can_lead_to e k then Some (before_step p e k) else None
 
 -- what the paths of depth k need, one path after another
-unfoldable pub level : ℕ → Program → ℕ → List Partial
+unfoldable pub level : ℕ → Machine → ℕ → List Partial
 level n m zero = filter_map (λ p. known_at_end p (m p.state p.symbol)) (all_pairs n)
 level n m (suc k) = flat_map (λ later. filter_map (λ p. known_before later p (m p.state p.symbol)) (all_pairs n)) (level n m k)

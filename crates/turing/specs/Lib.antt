@@ -1,4 +1,4 @@
-pub mod Program
+pub mod Machine
 pub mod Tape
 pub mod Run
 pub mod Step

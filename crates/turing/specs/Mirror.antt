@@ -3,7 +3,7 @@ use Rattle.std.specs.Prelude.{Option, Some, None}
 use Rattle.machine_text.specs.declared.transition.Dir.{Dir}
 use Rattle.machine_text.specs.declared.transition.Dir.TheVariants.{L, R}
 use Rattle.machine_text.specs.declared.transition.Entry.{Entry}
-use Rattle.turing.specs.Program.{Program}
+use Rattle.turing.specs.Machine.{Machine}
 
 abbrev pub opposite : Dir → Dir
 opposite L = R
@@ -14,5 +14,5 @@ mirrored_entry None = None
 mirrored_entry (Some e) = Some (record { write = e.write; dir = opposite e.dir; next = e.next })
 
 -- the machine with every L and R exchanged
-abbrev pub mirrored : Program → Program
+abbrev pub mirrored : Machine → Machine
 mirrored m = λ q s. mirrored_entry (m q s)

@@ -3,7 +3,7 @@ use Rattle.std.specs.Prelude.{ℕ, zero, suc, Option, Some, None, refl, ℤ}
 use Rattle.std.specs.Coded.{Coded, code_by, coded×, coded_ℕ}
 use Rattle.machine_text.specs.declared.transition.Sym.{Sym}
 use Rattle.machine_text.specs.declared.transition.Entry.{Entry}
-use Rattle.turing.specs.Program.{Program}
+use Rattle.turing.specs.Machine.{Machine}
 use Rattle.turing.specs.Tape.{Tape, tape_code, blank, cell_of, symbol_read, written, moved}
 
 -- a state, by its number, and a tape with its head
@@ -32,18 +32,18 @@ done_by c None = None
 done_by c (Some e) = Some (carried_out c e)
 
 -- the configuration after one step; none where there is no entry, which is a halting pair
-abbrev pub next : Program → Config → Option Config
+abbrev pub next : Machine → Config → Option Config
 next m c = done_by c (m c.state (symbol_read c.tape))
 
-abbrev pub next_from : Program → Option Config → Option Config
+abbrev pub next_from : Machine → Option Config → Option Config
 next_from m None = None
 next_from m (Some c) = next m c
 
 -- the configuration after k steps from c, where that many can be carried out
-unfoldable pub from : Program → ℕ → Config → Option Config
+unfoldable pub from : Machine → ℕ → Config → Option Config
 from m zero c = Some c
 from m (suc k) c = next_from m (from m k c)
 
 -- the configuration after k steps of the run from the blank tape: time k
-abbrev pub after : Program → ℕ → Option Config
+abbrev pub after : Machine → ℕ → Option Config
 after m k = from m k start

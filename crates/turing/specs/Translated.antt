@@ -4,7 +4,7 @@
 use Rattle.std.specs.Prelude.{◌≡◌, ℕ, ◌<◌, ◌≤◌, ℤ, pos, ◌+ℤ◌, ◌≤ℤ◌, Some}
 use Rattle.machine_text.specs.declared.transition.Dir.{Dir}
 use Rattle.machine_text.specs.declared.transition.Dir.TheVariants.{L, R}
-use Rattle.turing.specs.Program.{Program}
+use Rattle.turing.specs.Machine.{Machine}
 use Rattle.turing.specs.Run.{Config, cell, after}
 
 -- x is at b, or on this side of it
@@ -13,7 +13,7 @@ Beyond R b x = b ≤ℤ x
 Beyond L b x = x ≤ℤ b
 
 -- at the times i to j - 1 the head is always at or beyond b, and once at b: on the side R, b is the least head
-pub record Farthest (m : Program) (side : Dir) (i j : ℕ) (b : ℤ) : Type 0 where
+pub record Farthest (m : Machine) (side : Dir) (i j : ℕ) (b : ℤ) : Type 0 where
   pub bound : (k : ℕ) (c : Config) → i ≤ k → k < j → after m k ≡ Some c → Beyond side b c.tape.head
   pub time : ℕ
   pub low : i ≤ time
@@ -24,7 +24,7 @@ pub record Farthest (m : Program) (side : Dir) (i j : ℕ) (b : ℤ) : Type 0 wh
 
 -- at the times i and j the state is the same, and the tape from the bound on, but for a shift that doesn't lead
 -- back. It may be 0
-pub record Translated (m : Program) (i j : ℕ) (side : Dir) : Type 0 where
+pub record Translated (m : Machine) (i j : ℕ) (side : Dir) : Type 0 where
   pub order : i < j
   pub begin : Config
   pub end : Config

@@ -3,7 +3,7 @@
 ghost use Rattle.std.specs.Prelude.{◌≡◌, ℕ, ◌<◌, List, Contains, Some, None};
 ghost use Rattle.machine_text.specs.declared.transition.Sym.{Sym};
 ghost use Rattle.machine_text.specs.declared.transition.Dir.{Dir};
-ghost use Rattle.turing.specs.Program.{Program, IsMachine};
+ghost use Rattle.turing.specs.Machine.{Machine, IsMachine};
 ghost use Rattle.turing.specs.Run.{Config, next, from};
 ghost use Rattle.turing.specs.Halting.{Never};
 ghost use Rattle.turing.specs.PositionSet.{Local, IsClosedSet, IsInside};
@@ -12,9 +12,9 @@ ghost use Rattle.turing.specs.Automata.{TwoAutomata, Fits, LeadsToHalt};
 /// A machine that has a closed position set never halts. Nor does its run from any other tape whose words
 /// are in the sets: it goes on for ever, within the sets.
 pub fn position_set_never()
-    ensures never { (g : ℕ) (m : Program) (lefts rights : List (List Sym)) (members : List Local) →
+    ensures never { (g : ℕ) (m : Machine) (lefts rights : List (List Sym)) (members : List Local) →
         IsClosedSet g m (Contains lefts) (Contains rights) (Contains members) → Never m }
-    ensures inside { (g : ℕ) (m : Program) (lefts rights : List (List Sym)) (members : List Local) →
+    ensures inside { (g : ℕ) (m : Machine) (lefts rights : List (List Sym)) (members : List Local) →
         IsClosedSet g m (Contains lefts) (Contains rights) (Contains members) → (c : Config) →
         IsInside g (Contains lefts) (Contains rights) (Contains members) c → (k : ℕ) →
         (d : Config) × (from m k c ≡ Some d) × IsInside g (Contains lefts) (Contains rights) (Contains members) d }
@@ -23,9 +23,9 @@ pub fn position_set_never()
 /// A machine of n states that finite automata fit never halts, whichever side is ahead. Of every other tape they
 /// say as much: a configuration of one of its states that comes to a halting pair leads to the halt state.
 pub fn automata_never()
-    ensures never { (n : ℕ) (m : Program) (side : Dir) (a : TwoAutomata) → IsMachine n m → Fits n m side a →
+    ensures never { (n : ℕ) (m : Machine) (side : Dir) (a : TwoAutomata) → IsMachine n m → Fits n m side a →
         Never m }
-    ensures leads { (n : ℕ) (m : Program) (side : Dir) (a : TwoAutomata) → IsMachine n m → Fits n m side a →
+    ensures leads { (n : ℕ) (m : Machine) (side : Dir) (a : TwoAutomata) → IsMachine n m → Fits n m side a →
         (c : Config) → c.state < n → (k : ℕ) (d : Config) → from m k c ≡ Some d → next m d ≡ None →
         LeadsToHalt a side c }
 {}

@@ -6,14 +6,14 @@ use Rattle.wire.specs.declared.turned.TurnFault.{TurnFault}
 use Rattle.wire.specs.declared.turned.TurnFault.TheVariants.{LinkFault, LedgerFault}
 use Rattle.wire.specs.Happening.{Happening}
 use Rattle.wire.specs.Device.{IsBegun}
-use Rattle.wire.specs.Carried.{Answering, Scene, Faulted, kept, IsPartlyKept}
+use Rattle.wire.specs.Carried.{Answering, Scene, Faulted, kept_text, IsPartlyKept}
 
 -- an answer that wasn't carried out whole, for either of the two reasons
 pub faulted_by : {N : Type 0} (answers : Answering N) (is_stopped : N → Type 0)
     (old new : Scene N) (event : Happening) (out : Out) (node : N) (r : Result (Unit {0}) TurnFault)
     → answers old.node event (Ok out) node
     → IfErr r (λ fault. (fault ≡ LinkFault) ⊎ (fault ≡ LedgerFault))
-    → (r ≡ Err LinkFault → (new.node ≡ node) × (new.text ≡ kept out old.text) × IsBegun old.sent out.frames.items new.sent)
+    → (r ≡ Err LinkFault → (new.node ≡ node) × (new.text ≡ kept_text out old.text) × IsBegun old.sent out.frames.items new.sent)
     → (r ≡ Err LedgerFault → is_stopped new.node × IsPartlyKept out old.text new.text × (new.sent ≡ old.sent))
     → IfErr r (λ fault. Faulted answers is_stopped old event fault new)
 faulted_by answers is_stopped old new event out node (Ok _) given why link ledger = why

@@ -4,7 +4,7 @@ use Rattle.std.specs.Prelude.{Option, Ok}
 use Rattle.wire.specs.declared.node.Out.{Out}
 use Rattle.wire.specs.Happening.{Happening}
 use Rattle.wire.specs.Device.{grown}
-use Rattle.wire.specs.Carried.{Answering, Scene, scene, Reply, Carried, Handed, carried, kept}
+use Rattle.wire.specs.Carried.{Answering, Scene, scene, Reply, Carried, Handed, carried, kept_text}
 
 -- nothing is handed over yet
 pub handed_none : {N : Type 0} (answers : Answering N) (old : Scene N) (events : List Happening)
@@ -30,7 +30,7 @@ order_more (first ∷ replies) reply left = ap (λ (events : List Happening). fi
 pub handed_more : {N : Type 0} (answers : Answering N) (old at new : Scene N)
     (events left : List Happening) (event : Happening) (out : Out)
     → Handed answers old events (event ∷ left) at → answers at.node event (Ok out) new.node
-    → new.text ≡ kept out at.text → new.sent ≡ grown at.sent out.frames.items → Handed answers old events left new
+    → new.text ≡ kept_text out at.text → new.sent ≡ grown at.sent out.frames.items → Handed answers old events left new
 handed_more answers old at new events left event out before given text sent =
     let e : carried out new.node at ≡ new =
     ap (λ (t : Option (List ℕ)). scene new.node t (grown at.sent out.frames.items)) (sym text)

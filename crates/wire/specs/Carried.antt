@@ -21,9 +21,9 @@ abbrev pub cut_to : Option ℕ → Option (List ℕ) → Option (List ℕ)
 cut_to cut (Some text) = Some (cut_by cut text)
 cut_to cut None = None
 
-abbrev pub kept : Out → Option (List ℕ) → Option (List ℕ)
-kept out (Some text) = Some (text_after out text)
-kept out None = None
+abbrev pub kept_text : Out → Option (List ℕ) → Option (List ℕ)
+kept_text out (Some text) = Some (text_after out text)
+kept_text out None = None
 
 -- at most the cut was made, and a beginning of what was to be appended
 abbrev pub IsPartlyKept : Out → Option (List ℕ) → Option (List ℕ) → Type 0
@@ -40,7 +40,7 @@ scene node text sent = record { node = node; text = text; sent = sent }
 
 -- an answer of a node that became so is carried out whole: its ledger's part, and its frames are sent
 abbrev pub carried : {N : Type 0} → Out → N → Scene N → Scene N
-carried out node old = scene node (kept out old.text) (grown old.sent out.frames.items)
+carried out node old = scene node (kept_text out old.text) (grown old.sent out.frames.items)
 
 -- something that happens, and the answer to it
 pub record Reply : Type 0 where
@@ -67,7 +67,7 @@ pub record Handed {N : Type 0} (answers : Answering N) (old : Scene N) (events :
 -- before any frame of it was sent, and the node was stopped; of the node, which gave no answer
 abbrev pub Faulted : {N : Type 0} → Answering N → (N → Type 0) → Scene N → Happening → TurnFault → Scene N → Type 0
 Faulted answers is_stopped old event LinkFault new =
-    (out : Out) × answers old.node event (Ok out) new.node × (new.text ≡ kept out old.text) × IsBegun old.sent out.frames.items new.sent
+    (out : Out) × answers old.node event (Ok out) new.node × (new.text ≡ kept_text out old.text) × IsBegun old.sent out.frames.items new.sent
 Faulted {N} answers is_stopped old event LedgerFault new =
     (out : Out) × (node : N) × answers old.node event (Ok out) node × is_stopped new.node × IsPartlyKept out old.text new.text × (new.sent ≡ old.sent)
 Faulted answers is_stopped old event (Node fault) new =

@@ -1,5 +1,5 @@
--- The refusal number of each note and fault, and the sentence that says it.
-use Rattle.std.specs.Prelude.{ℕ, List, codes}
+-- The refusal number of each note and fault, where it has one, and the sentence that says a fault.
+use Rattle.std.specs.Prelude.{ℕ, List, Option, Some, None, codes}
 use Rattle.wire.specs.declared.node.Note.{Note}
 use Rattle.wire.specs.declared.node.Note.TheVariants.{Quiet, Strange, Stale, Refused}
 use Rattle.wire.specs.declared.node.NodeFault.{NodeFault}
@@ -7,21 +7,21 @@ use Rattle.wire.specs.declared.node.NodeFault.TheVariants.{Stopped, NoMemory as 
 use Rattle.wire.specs.declared.turned.TurnFault.{TurnFault}
 use Rattle.wire.specs.declared.turned.TurnFault.TheVariants.{LinkFault, LedgerFault, Node, NoMemory as NoTurnMemory}
 
-abbrev pub note_number : Note → ℕ
-note_number Quiet = 0
-note_number Strange = 501
-note_number Stale = 0
-note_number (Refused number) = number
+abbrev pub note_number : Note → Option ℕ
+note_number Quiet = None
+note_number Strange = Some 501
+note_number Stale = None
+note_number (Refused number) = Some number
 
-abbrev pub node_fault_number : NodeFault → ℕ
-node_fault_number Stopped = 502
-node_fault_number NoNodeMemory = 0
+abbrev pub node_fault_number : NodeFault → Option ℕ
+node_fault_number Stopped = Some 502
+node_fault_number NoNodeMemory = None
 
-abbrev pub turn_fault_number : TurnFault → ℕ
-turn_fault_number LinkFault = 603
-turn_fault_number LedgerFault = 604
+abbrev pub turn_fault_number : TurnFault → Option ℕ
+turn_fault_number LinkFault = Some 603
+turn_fault_number LedgerFault = Some 604
 turn_fault_number (Node fault) = node_fault_number fault
-turn_fault_number NoTurnMemory = 0
+turn_fault_number NoTurnMemory = None
 
 abbrev pub node_fault_text : NodeFault → List ℕ
 node_fault_text Stopped = codes "the node is stopped"

@@ -1,7 +1,7 @@
 // Carrying out one answer of a node.
 ghost use Rattle.std.specs.Prelude.{◌≡◌, ◌≢◌, ◌⊎◌, ◌<◌, ◌≤◌, List, ℕ, OnOk, OnErr, IfErr, Some, IfSome};
 ghost use Rattle.wire.specs.Device.{grown, IsBegun};
-ghost use Rattle.wire.specs.Carried.{cut_to, kept, IsPartlyKept};
+ghost use Rattle.wire.specs.Carried.{cut_to, kept_text, IsPartlyKept};
 
 use crate::fault::Fault;
 use crate::ledger_out::LedgerOut;
@@ -26,7 +26,7 @@ pub fn append_all<W: LedgerOut>(ledger: &mut W, bytes: &[u8]) -> Result<(), Faul
 }
 
 // Sends all of the bytes, in as many calls as that takes.
-pub fn send_all<L: Link>(link: &mut L, bytes: &[u8]) -> Result<(), Fault>
+pub(crate) fn send_all<L: Link>(link: &mut L, bytes: &[u8]) -> Result<(), Fault>
     ensures ok { OnOk result ((L.sent link.new ≡ grown (L.sent link.old) bytes.now) × (L.failures link.new ≡ L.failures link.old)) }
     ensures err { OnErr result ((L.failures link.old ≢ L.failures link.new) × IsBegun (L.sent link.old) bytes.now (L.sent link.new)) }
     ensures waiting { L.waiting link.new ≡ L.waiting link.old }
@@ -55,8 +55,8 @@ fn cut<W: LedgerOut>(ledger: &mut W, at: Option<u64>) -> Result<(), Fault>
 }
 
 // Carries out an answer's cut, and then appends.
-pub fn keep<W: LedgerOut>(out: &Out, ledger: &mut W) -> Result<(), Fault>
-    ensures ok { OnOk result ((W.text ledger.new ≡ kept out.now (W.text ledger.old)) × (W.failures ledger.new ≡ W.failures ledger.old)) }
+pub(crate) fn keep<W: LedgerOut>(out: &Out, ledger: &mut W) -> Result<(), Fault>
+    ensures ok { OnOk result ((W.text ledger.new ≡ kept_text out.now (W.text ledger.old)) × (W.failures ledger.new ≡ W.failures ledger.old)) }
     ensures err { OnErr result ((W.failures ledger.old ≢ W.failures ledger.new) × IsPartlyKept out.now (W.text ledger.old) (W.text ledger.new)) }
 {
     cut(ledger, out.cut)?;
@@ -71,9 +71,9 @@ pub fn carry_out<N: Node, L: Link, W: LedgerOut>(
     ledger: &mut W,
     out: &Out,
 ) -> Result<(), TurnFault>
-    ensures ok { OnOk result ((node.new ≡ node.old) × (W.text ledger.new ≡ kept out.now (W.text ledger.old)) × (L.sent link.new ≡ grown (L.sent link.old) out.now.frames.items)
+    ensures ok { OnOk result ((node.new ≡ node.old) × (W.text ledger.new ≡ kept_text out.now (W.text ledger.old)) × (L.sent link.new ≡ grown (L.sent link.old) out.now.frames.items)
         × (W.failures ledger.new ≡ W.failures ledger.old) × (L.failures link.new ≡ L.failures link.old)) }
-    ensures link { result ≡ Err TurnFault.LinkFault → (node.new ≡ node.old) × (W.text ledger.new ≡ kept out.now (W.text ledger.old)) × IsBegun (L.sent link.old) out.now.frames.items (L.sent link.new)
+    ensures link { result ≡ Err TurnFault.LinkFault → (node.new ≡ node.old) × (W.text ledger.new ≡ kept_text out.now (W.text ledger.old)) × IsBegun (L.sent link.old) out.now.frames.items (L.sent link.new)
         × (W.failures ledger.new ≡ W.failures ledger.old) × (L.failures link.old ≢ L.failures link.new) }
     ensures ledger { result ≡ Err TurnFault.LedgerFault → N.is_stopped node.new × IsPartlyKept out.now (W.text ledger.old) (W.text ledger.new) × (L.sent link.new ≡ L.sent link.old)
         × (W.failures ledger.old ≢ W.failures ledger.new) × (L.failures link.new ≡ L.failures link.old) }

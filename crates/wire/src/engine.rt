@@ -1,6 +1,6 @@
 // The engine: what runs a node over its link and its ledger.
 ghost use Rattle.std.specs.Prelude.{◌≡◌, ◌≢◌, ◌≤◌, ℕ, List, [], length, Ok, Err, OnOk, OnErr, IfErr, IfSome};
-ghost use Rattle.wire.specs.Carried.{kept, IsPartlyKept, scene};
+ghost use Rattle.wire.specs.Carried.{kept_text, IsPartlyKept, scene};
 ghost use Rattle.wire.specs.Device.{preceded};
 ghost use Rattle.wire.specs.Limits.{piece_byte_limit};
 ghost use Rattle.wire.specs.Turned.{Turned};
@@ -18,7 +18,7 @@ use crate::turned::{Turn, TurnFault};
 /// whole. After `LedgerFault` at most the cut was made and a beginning of the rest, and the caller stops
 /// the node.
 pub fn begin<W: LedgerOut>(first: &Out, ledger: &mut W) -> Result<(), TurnFault>
-    ensures ok { OnOk result (W.text ledger.new ≡ kept first.now (W.text ledger.old)) }
+    ensures ok { OnOk result (W.text ledger.new ≡ kept_text first.now (W.text ledger.old)) }
     ensures err { IfErr result (λ e. e ≡ TurnFault.LedgerFault) }
     ensures partly { OnErr result (IsPartlyKept first.now (W.text ledger.old) (W.text ledger.new)) }
     ensures count { OnErr result (W.failures ledger.old ≢ W.failures ledger.new) }

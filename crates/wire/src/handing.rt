@@ -1,6 +1,6 @@
 // Handing lines to a node, and carrying out what it answers.
 ghost use Rattle.std.specs.Prelude.{◌≡◌, ◌≢◌, ◌∷◌, [], length, Ok, Err, IfErr, IfSome, OnOk};
-ghost use Rattle.wire.specs.Carried.{Faulted, Handed, kept, scene};
+ghost use Rattle.wire.specs.Carried.{Faulted, Handed, kept_text, scene};
 ghost use Rattle.wire.specs.Device.{grown};
 ghost use Rattle.wire.specs.Lines.{known};
 ghost use Rattle.wire.specs.Turned.{IsBroken, event_of, events_of, frame_of};
@@ -25,14 +25,14 @@ fn frame_of(line: &Line) -> &[u8]
 }
 
 // Hands one line to the node, and carries out its answer.
-pub fn hand<N: Node, L: Link, W: LedgerOut>(
+pub(crate) fn hand<N: Node, L: Link, W: LedgerOut>(
     node: &mut N,
     line: Line,
     link: &mut L,
     ledger: &mut W,
 ) -> Result<(), TurnFault>
     ensures ok { OnOk result ((out : Answer) × N.answers node.old (event_of (known line)) (Ok out) node.new
-        × (W.text ledger.new ≡ kept out (W.text ledger.old)) × (L.sent link.new ≡ grown (L.sent link.old) out.frames.items)
+        × (W.text ledger.new ≡ kept_text out (W.text ledger.old)) × (L.sent link.new ≡ grown (L.sent link.old) out.frames.items)
         × (W.failures ledger.new ≡ W.failures ledger.old) × (L.failures link.new ≡ L.failures link.old)) }
     ensures err { IfErr result (λ fault. Faulted N.answers N.is_stopped (scene node.old (W.text ledger.old) (L.sent link.old)) (event_of (known line)) fault (scene node.new (W.text ledger.new) (L.sent link.new))) }
     ensures step { result ≢ Err TurnFault.LedgerFault → IfSome (W.text ledger.old) (N.in_step node.old) → IfSome (W.text ledger.new) (N.in_step node.new) }
@@ -45,7 +45,7 @@ pub fn hand<N: Node, L: Link, W: LedgerOut>(
 }
 
 // Hands each line that waits to the node, and carries out its answers, as far as one that can't be.
-pub fn hand_all<N: Node, L: Link, W: LedgerOut>(
+pub(crate) fn hand_all<N: Node, L: Link, W: LedgerOut>(
     node: &mut N,
     lines: &mut Lines,
     link: &mut L,

@@ -90,14 +90,14 @@ pub trait Node {
 impl Note {
     ghost use Rattle.wire.specs.Faults.{note_number};
 
-    /// The refusal number: 501, or that of the refusal; 0 where nothing was refused.
-    pub fn number(&self) -> u16
+    /// The refusal number: 501, or that of the refusal; none where nothing was refused.
+    pub fn number(&self) -> Option<u16>
         ensures { result ≡ note_number self.now }
     {
         match self {
-            Note::Strange => 501,
-            Note::Refused(number) => *number,
-            Note::Quiet | Note::Stale => 0,
+            Note::Strange => Some(501),
+            Note::Refused(number) => Some(*number),
+            Note::Quiet | Note::Stale => None,
         }
     }
 }
@@ -105,13 +105,13 @@ impl Note {
 impl NodeFault {
     ghost use Rattle.wire.specs.Faults.{node_fault_number};
 
-    /// The refusal number: 502; 0 where memory was refused, which has none.
-    pub fn number(&self) -> u16
+    /// The refusal number: 502; none where memory was refused.
+    pub fn number(&self) -> Option<u16>
         ensures { result ≡ node_fault_number self.now }
     {
         match self {
-            NodeFault::Stopped => 502,
-            NodeFault::NoMemory => 0,
+            NodeFault::Stopped => Some(502),
+            NodeFault::NoMemory => None,
         }
     }
 }

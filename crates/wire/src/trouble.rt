@@ -6,7 +6,7 @@ use crate::fault::Fault;
 
 // What a device in memory was set to, and the count of its failures.
 #[derive(Clone, Copy, Debug)]
-pub struct Trouble {
+pub(crate) struct Trouble {
     // Which call from now fails; 0 where none does.
     pub failing: u64,
     // It moves one byte at a time.

@@ -31,15 +31,15 @@ pub enum TurnFault {
 impl TurnFault {
     ghost use Rattle.wire.specs.Faults.{turn_fault_number};
 
-    /// The refusal number: 603, 604, or the node's; 0 where memory was refused, which has none.
-    pub fn number(&self) -> u16
+    /// The refusal number: 603, 604, or the node's; none where memory was refused.
+    pub fn number(&self) -> Option<u16>
         ensures { result ≡ turn_fault_number self.now }
     {
         match self {
-            TurnFault::LinkFault => 603,
-            TurnFault::LedgerFault => 604,
+            TurnFault::LinkFault => Some(603),
+            TurnFault::LedgerFault => Some(604),
             TurnFault::Node(fault) => fault.number(),
-            TurnFault::NoMemory => 0,
+            TurnFault::NoMemory => None,
         }
     }
 }

@@ -10,7 +10,8 @@ use Rattle.cert.proofs.Lines.{record_line, certified_writable, certified_made}
 use Rattle.cert.proofs.RoundTrip.{record_of-record_text}
 use Rattle.ledger.specs.Contents.{Contents, IsBoard}
 use Rattle.ledger.specs.Held.{IsFit}
-use Rattle.ledger.specs.LedgerText.{header_words, joined, ledger_text, ReadsAs}
+use Rattle.text.specs.Lines.{joined}
+use Rattle.ledger.specs.LedgerText.{header_words, ledger_text, ReadsAs}
 use Rattle.ledger.specs.declared.left.Left.{Left}
 use Rattle.ledger.specs.declared.left.Left.TheVariants.{Nothing, From}
 use Rattle.ledger.proofs.LinesTaken.{taken_more, joined-append}

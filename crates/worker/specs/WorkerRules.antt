@@ -10,7 +10,8 @@ use Rattle.cert.specs.Claim.{Recorded}
 use Rattle.cert.specs.Grammar.{record_text}
 use Rattle.ledger.specs.Contents.{Contents, IsBoard, IsOpenOn}
 use Rattle.ledger.specs.Held.{IsFit}
-use Rattle.ledger.specs.LedgerText.{joined, ledger_text}
+use Rattle.text.specs.Lines.{joined}
+use Rattle.ledger.specs.LedgerText.{ledger_text}
 use Rattle.wire.specs.declared.node.Out.{Out}
 use Rattle.wire.specs.declared.node.Note.{Note}
 use Rattle.wire.specs.declared.node.Note.TheVariants.{Quiet, Strange, Stale, Refused}

@@ -5,8 +5,7 @@ use Rattle.machine_text.specs.Packed.{Packed}
 use Rattle.cert.specs.Claim.{Recorded}
 use Rattle.ledger.specs.Contents.{Contents, IsOpenOn}
 use Rattle.ledger.specs.Records.{same_table, claim_in}
-use Rattle.ledger.specs.LedgerText.{ReadsAs}
-use Rattle.ledger.specs.declared.left.Left.TheVariants.{Nothing}
+use Rattle.ledger.specs.LedgerText.{IsLedgerOf}
 use Rattle.worker.specs.Limits.{work_record_limit}
 use Rattle.worker.specs.declared.lease_name.LeaseName.{LeaseName}
 
@@ -59,10 +58,10 @@ with_table tables t = if list_any (same_table t) tables then tables else tables 
 abbrev pub unacknowledged : List Packed → List Recorded → List Recorded
 unacknowledged tables rs = filter (λ r. not (list_any (same_table r.table) tables)) rs
 
--- the text of a ledger reads as the board, and every byte of it is kept; without a board it is empty
+-- the text is the board's ledger; without a board it is empty
 abbrev pub IsOwnLedger : Option Contents → List ℕ → Type 0
 IsOwnLedger None text = text ≡ []
-IsOwnLedger (Some b) text = ReadsAs b.root text b.records Nothing
+IsOwnLedger (Some b) text = IsLedgerOf b text
 
 abbrev pub IsInStep : {D : Type 0} → WorkerState D → List ℕ → Type 0
 IsInStep w text = IsOwnLedger w.board text

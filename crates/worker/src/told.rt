@@ -10,7 +10,7 @@ use wire::{Msg, decode};
 
 // What a frame tells a worker, without the frame.
 #[derive(Clone, Copy)]
-pub enum Telling {
+pub(crate) enum Telling {
     Granted(LeaseName, Table),
     Acknowledged(Table),
     Later,
@@ -19,7 +19,7 @@ pub enum Telling {
     Strange,
 }
 
-pub fn told(frame: &[u8]) -> Telling
+pub(crate) fn told(frame: &[u8]) -> Telling
     ensures { IsTold (message_of frame.now) result }
 {
     let message = decode(frame);

@@ -9,9 +9,9 @@ use crate::worker_turns::{acknowledge, has_root, is_recorded, make, next_table};
 use cert::{Decider, Finder, Finders};
 use evidence::NoMemory;
 use indexmap::IndexSet;
-use ledger::{Board, BoardFault};
+use ledger::Board;
 use machine_text::Table;
-use roles::{StartFault, cut_of, noted, sent};
+use roles::{StartFault, cut_of, noted, refused, sent};
 use std::alloc::Global;
 use std::marker::Model;
 use wire::{Event, Node, NodeFault, Note, Out};
@@ -195,8 +195,7 @@ impl<D: Decider + Drop> Worker<D> {
                     note: Note::Quiet,
                 })
             }
-            Err(BoardFault::NoMemory) => Err(NoMemory),
-            Err(fault) => Ok(noted(self.alloc, Note::Refused(fault.number()))),
+            Err(fault) => refused(self.alloc, fault.number()),
         }
     }
 

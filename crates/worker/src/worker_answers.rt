@@ -23,7 +23,7 @@ use text::append_number;
 use wire::{Msg, encode};
 
 // The line of a record.
-pub fn line_of(alloc: Global, r: &Record) -> Result<Vec<u8>, NoMemory>
+pub(crate) fn line_of(alloc: Global, r: &Record) -> Result<Vec<u8>, NoMemory>
     ensures { IfOk result (λ line. line.items ≡ lines_of (recorded r.now ∷ [])) }
 {
     let mut line = Vec::new(alloc);
@@ -33,7 +33,7 @@ pub fn line_of(alloc: Global, r: &Record) -> Result<Vec<u8>, NoMemory>
 }
 
 // The ledger of a board.
-pub fn ledger_of(alloc: Global, board: &Board) -> Result<Vec<u8>, NoMemory>
+pub(crate) fn ledger_of(alloc: Global, board: &Board) -> Result<Vec<u8>, NoMemory>
     ensures { IfOk result (λ text. text.items ≡ ledger_text board.now.root board.now.records) }
 {
     let mut text = Vec::new(alloc);
@@ -42,14 +42,14 @@ pub fn ledger_of(alloc: Global, board: &Board) -> Result<Vec<u8>, NoMemory>
 }
 
 // Sends one more message.
-pub fn send(m: &Msg<'_>, frames: &mut Vec<u8>) -> Result<(), NoMemory>
+pub(crate) fn send(m: &Msg<'_>, frames: &mut Vec<u8>) -> Result<(), NoMemory>
     ensures { OnOk result (frames.new.items ≡ frames.old.items ++ frames_of (said m.now ∷ [])) }
 {
     encode(m, frames)
 }
 
 // The frame of a record.
-pub fn frame_of(alloc: Global, r: &OwnedRecord) -> Result<Vec<u8>, NoMemory>
+pub(crate) fn frame_of(alloc: Global, r: &OwnedRecord) -> Result<Vec<u8>, NoMemory>
     ensures { IfOk result (λ frames. frames.items ≡ frames_of (RecMessage (owned_recorded r.now) ∷ [])) }
 {
     let mut frames = Vec::new(alloc);
@@ -62,7 +62,7 @@ pub fn frame_of(alloc: Global, r: &OwnedRecord) -> Result<Vec<u8>, NoMemory>
 }
 
 // The place of the first record from a place on whose table isn't among those that were acknowledged.
-pub fn first_due(acknowledged: &IndexSet<Table>, board: &Board, from: usize) -> usize
+pub(crate) fn first_due(acknowledged: &IndexSet<Table>, board: &Board, from: usize) -> usize
     requires { AreFirstAcknowledged acknowledged.now.keys board.now.records from }
     ensures { AreFirstAcknowledged acknowledged.now.keys board.now.records result }
 {
@@ -80,7 +80,7 @@ pub fn first_due(acknowledged: &IndexSet<Table>, board: &Board, from: usize) -> 
 
 // The frames of the first records whose tables aren't among those that were acknowledged, where those before a
 // place are.
-pub fn frames_due(
+pub(crate) fn frames_due(
     alloc: Global,
     acknowledged: &IndexSet<Table>,
     board: &Board,
@@ -104,7 +104,7 @@ pub fn frames_due(
 }
 
 // The frames of a worker that is done with its lease, if it has one, and asks for another.
-pub fn asking(alloc: Global, lease: Option<LeaseName>, id: u32) -> Result<Vec<u8>, NoMemory>
+pub(crate) fn asking(alloc: Global, lease: Option<LeaseName>, id: u32) -> Result<Vec<u8>, NoMemory>
     ensures { IfOk result (λ frames. frames.items ≡ frames_of (done_with lease ++ (AskMessage id ∷ []))) }
 {
     let mut frames = Vec::new(alloc);

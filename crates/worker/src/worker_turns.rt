@@ -25,7 +25,7 @@ fn has_few(board: &Board) -> bool
 }
 
 // The table of which a work turn makes a record, if there is one.
-pub fn next_table(board: &Board) -> Option<Table>
+pub(crate) fn next_table(board: &Board) -> Option<Table>
     ensures first { IfSome result (IsFirstOpen board.now) }
     ensures few { IfSome result (λ t. length board.now.records < work_record_limit) }
     ensures none { IfNone result (MayWork (Some board.now) → ⊥) }
@@ -40,7 +40,7 @@ pub fn next_table(board: &Board) -> Option<Table>
 }
 
 // Whether a board is of this root.
-pub fn has_root(board: &Option<Board>, t: &Table) -> bool
+pub(crate) fn has_root(board: &Option<Board>, t: &Table) -> bool
     ensures { IsTrue result ↔ HasRoot board.now t.now }
 {
     match board {
@@ -50,7 +50,7 @@ pub fn has_root(board: &Option<Board>, t: &Table) -> bool
 }
 
 // Whether a table has a record on a board.
-pub fn is_recorded(board: &Option<Board>, t: &Table) -> bool
+pub(crate) fn is_recorded(board: &Option<Board>, t: &Table) -> bool
     ensures { IsTrue result ↔ IsRecordedOn board.now t.now }
 {
     match board {
@@ -60,7 +60,7 @@ pub fn is_recorded(board: &Option<Board>, t: &Table) -> bool
 }
 
 // Puts a record of its first open table on a board, and answers so.
-pub fn make(alloc: Global, board: &mut Board, made: &OwnedRecord) -> Result<Out, NoMemory>
+pub(crate) fn make(alloc: Global, board: &mut Board, made: &OwnedRecord) -> Result<Out, NoMemory>
     requires first { IsFirstOpen board.old made.now.table }
     requires few { length board.old.records < work_record_limit }
     requires certified { IsCertified (owned_recorded made.now) }
@@ -91,7 +91,7 @@ pub fn make(alloc: Global, board: &mut Board, made: &OwnedRecord) -> Result<Out,
 
 // Puts a table among those whose records were acknowledged.
 #[tactic(auto, unfolding(ledger::specs::Records::same_table))]
-pub fn acknowledge(acknowledged: &mut IndexSet<Table>, t: Table) -> Result<(), NoMemory>
+pub(crate) fn acknowledge(acknowledged: &mut IndexSet<Table>, t: Table) -> Result<(), NoMemory>
     ensures ok { OnOk result (acknowledged.new.keys ≡ with_table acknowledged.old.keys t) }
     ensures err { OnErr result (acknowledged.new.keys ≡ acknowledged.old.keys) }
 {

@@ -2,7 +2,7 @@
 use Rattle.std.specs.Prelude.{◌≡◌, ℕ, zero, suc, ◌+◌, ◌<◌, ◌≤◌, List, length, slice_index, Some, Result, Ok, Err, Bool, true, false}
 use Rattle.std.specs.List.{filter_map, sum_by}
 use Rattle.machine_text.specs.Packed.{Packed, IsTable, entry_of}
-use Rattle.turing.specs.Program.{Program}
+use Rattle.turing.specs.Machine.{Machine}
 use Rattle.turing.specs.Run.{Config, after}
 use Rattle.turing.specs.Backward.{Partial}
 use Rattle.turing.specs.Levels.{all_pairs, known_before, level}
@@ -10,7 +10,7 @@ use Rattle.backward.specs.Limits.{path_limit}
 use Rattle.backward.specs.declared.too_wide.TooWide.{TooWide}
 
 -- how many paths go so many pairs further back than a path that needs this
-unfoldable pub paths_beyond : ℕ → Program → ℕ → Partial → ℕ
+unfoldable pub paths_beyond : ℕ → Machine → ℕ → Partial → ℕ
 paths_beyond n m zero needs = 1
 paths_beyond n m (suc k) needs =
     sum_by (paths_beyond n m k) (filter_map (λ p. known_before needs p (m p.state p.symbol)) (all_pairs n))

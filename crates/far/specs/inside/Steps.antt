@@ -3,7 +3,7 @@ use Rattle.std.specs.Prelude.{◌≡◌, ℕ, ◌+◌, ◌*◌, ◌/◌, ◌%◌
 use Rattle.machine_text.specs.declared.transition.Sym.{Sym}
 use Rattle.machine_text.specs.declared.transition.Sym.TheVariants.{Zero, One}
 use Rattle.machine_text.specs.declared.transition.Entry.{Entry}
-use Rattle.turing.specs.Program.{Program}
+use Rattle.turing.specs.Machine.{Machine}
 use Rattle.far.specs.Automata.{Automata, has, row_at, target}
 
 -- the number of the halt state
@@ -26,11 +26,11 @@ abbrev pub FitsBy : Option Entry → Automata → ℕ → ℕ → Sym → Type 0
 FitsBy None a q f r = IsTrue (has (row_at a (q * a.states + f) r) (last a))
 FitsBy (Some e) a q f r = FitsEntry a q f r e
 
-unfoldable pub FitsPair : Program → Automata → ℕ → ℕ → Sym → Type 0
+unfoldable pub FitsPair : Machine → Automata → ℕ → ℕ → Sym → Type 0
 FitsPair m a q f r = FitsBy (m f r) a q f r
 
 -- the pairs of so many states of the second automaton
-pub record EachFits (m : Program) (a : Automata) (reach : ℕ) : Type 0 where
+pub record EachFits (m : Machine) (a : Automata) (reach : ℕ) : Type 0 where
   pub zero : (j : ℕ) → j < reach → FitsPair m a (j / a.states) (j % a.states) Zero
   pub one : (j : ℕ) → j < reach → FitsPair m a (j / a.states) (j % a.states) One
 

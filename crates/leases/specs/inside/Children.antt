@@ -7,7 +7,7 @@ use Rattle.tree.specs.Tables.{IsChildTable}
 use Rattle.ledger.specs.Tally.{IsHalting}
 use Rattle.leases.specs.Limits.{child_limit}
 use Rattle.leases.specs.Leases.{Lease, came_under}
-use Rattle.leases.specs.inside.Keeping.{KeptLease, held}
+use Rattle.leases.specs.inside.Keeping.{KeptLease, as_lease}
 
 -- what came under a lease had come before, or came under this one now: then it is open, and listed
 abbrev pub CameOnly : Contents → ℕ → List (Packed × ℕ) → List (Packed × ℕ) → List Packed → Type 0
@@ -39,4 +39,4 @@ HasRoomForChildren number leases = (l : KeptLease) → Contains leases l → l.n
 
 -- what of a lease is seen, and its tables
 abbrev pub shown : KeptLease → Lease × List Packed
-shown l = (held l, l.tables)
+shown l = (as_lease l, l.tables)

@@ -3,7 +3,7 @@ use Rattle.std.specs.Prelude.{◌≡◌, ℕ, ◌<◌, List, Contains, length, s
 use Rattle.std.specs.declared.cmp.Ordering.{Ordering}
 use Rattle.std.specs.declared.cmp.Reverse.{Reverse}
 use Rattle.machine_text.specs.Packed.{Packed}
-use Rattle.ledger.specs.inside.Open.{table_cmp}
+use Rattle.machine_text.specs.Order.{table_cmp}
 
 -- the tables, some of them perhaps more than once, and for how many more there is room
 pub record Free : Type 0 where

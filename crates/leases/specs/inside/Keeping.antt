@@ -17,29 +17,29 @@ pub record KeptLease : Type 0 where
   pub tables : List Packed
   pub room : ℕ
 
-abbrev pub kept : ℕ × HeldLease → KeptLease
-kept e = record { number = e.0; id = e.1.id; renewed = e.1.renewed; tables = e.1.tables.keys; room = spare e.1.tables }
+abbrev pub kept_lease : ℕ × HeldLease → KeptLease
+kept_lease e = record { number = e.0; id = e.1.id; renewed = e.1.renewed; tables = e.1.tables.keys; room = spare e.1.tables }
 
 -- a lease as it is seen: the code keeps when it was given or renewed, since a deadline may be greater than its numbers
-abbrev pub held : KeptLease → Lease
-held l = record { number = l.number; id = l.id; deadline = l.renewed + lease_time }
+abbrev pub as_lease : KeptLease → Lease
+as_lease l = record { number = l.number; id = l.id; deadline = l.renewed + lease_time }
 
 -- whether a lease has ended by a moment
 abbrev pub has_ended : ℕ → Lease → Bool
 has_ended moment l = nat_le l.deadline moment
 
 -- the leases that are kept so, as they are seen
-abbrev pub seen : List KeptLease → List (Packed × ℕ) → ℕ → ℕ → Leases
-seen leases came moment given = record { live = map held leases; came = came; moment = moment; given = given }
+abbrev pub as_leases : List KeptLease → List (Packed × ℕ) → ℕ → ℕ → Leases
+as_leases leases came moment given = record { live = map as_lease leases; came = came; moment = moment; given = given }
 
 -- each live lease lists the tables that came under it, and each open table that is under none is among the free ones
 pub record IsKept (b : Contents) (leases : List KeptLease) (came : List (Packed × ℕ)) (free : List Packed) : Type 0 where
   pub listed : (l : KeptLease) (t : Packed) → Contains leases l → came_under came t ≡ Some l.number → Contains l.tables t
-  pub offered : (t : Packed) → IsOpenOn b t → while_live (map held leases) (came_under came t) ≡ None → Contains free t
+  pub offered : (t : Packed) → IsOpenOn b t → while_live (map as_lease leases) (came_under came t) ≡ None → Contains free t
 
 -- the tables of the leases that pass a test are among the free ones
 abbrev pub AreAmongFree : (Lease → Bool) → List KeptLease → List Packed → Type 0
-AreAmongFree ends leases free = (l : KeptLease) (t : Packed) → Contains leases l → ends (held l) ≡ true → Contains l.tables t → Contains free t
+AreAmongFree ends leases free = (l : KeptLease) (t : Packed) → Contains leases l → ends (as_lease l) ≡ true → Contains l.tables t → Contains free t
 
 abbrev pub is_numbered : Option ℕ → ℕ → Bool
 is_numbered None n = false
@@ -67,6 +67,6 @@ pub record AreDue (moment : ℕ) (leases : List Lease) (numbers : List ℕ) : Ty
 
 -- this is the number of a worker's lease, or none where it has none
 pub record IsOwn (id : ℕ) (own : Option ℕ) (leases : List KeptLease) : Type 0 where
-  pub lives : IfSome own (λ n. is_live (map held leases) n ≡ true)
+  pub lives : IfSome own (λ n. is_live (map as_lease leases) n ≡ true)
   pub only : (l : KeptLease) → Contains leases l → l.id ≡ id → own ≡ Some l.number
   pub exact : (l : KeptLease) → Contains leases l → own ≡ Some l.number → l.id ≡ id

@@ -1,10 +1,8 @@
 -- For the code: maps of tables, and which a board's open ones are.
 use Rattle.std.specs.Prelude.{◌≡◌, ◌≢◌, ◌↔◌, ◌⊎◌, ℕ, true, not, nat_eq, List, All, Contains, None, Some, filter, slice_get}
 use Rattle.std.specs.BTreeMap.{BTreeMap, ContainsKey}
-use Rattle.std.specs.Ordering.{nat_cmp, ordering_then}
-use Rattle.std.specs.declared.cmp.Ordering.{Ordering}
-use Rattle.std.specs.Cmp.Lexicographic.{slice_cmp}
 use Rattle.machine_text.specs.Packed.{Packed}
+use Rattle.machine_text.specs.Order.{table_cmp}
 use Rattle.evidence.specs.declared.verdicts.Verdict.TheVariants.{Halts}
 use Rattle.tree.specs.Closed.{IsOpen}
 use Rattle.tree.specs.Tables.{IsChildTable}
@@ -12,10 +10,6 @@ use Rattle.cert.specs.Claim.{Recorded, shown_by}
 use Rattle.ledger.specs.Records.{claim_in, mark_in}
 use Rattle.ledger.specs.Contents.{Contents}
 use Rattle.ledger.specs.inside.Counting.{is_halting}
-
--- the order of tables: that of their texts
-abbrev pub table_cmp : Packed → Packed → Ordering
-table_cmp a b = ordering_then (slice_cmp nat_cmp a.codes b.codes) (nat_cmp a.states b.states)
 
 -- a table of the list that has no record and isn't the parent
 pub record HasUnrecorded (found : List Packed) (rs : List Recorded) (parent t : Packed) : Type 0 where

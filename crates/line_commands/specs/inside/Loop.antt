@@ -1,14 +1,9 @@
 -- For the code: how far a stream has been answered.
 use Rattle.std.specs.Prelude.{◌≡◌, ℕ, List, [], ◌∷◌, ◌++◌, Option, ⊤}
 use Rattle.std.specs.Io.KnownBytes.{Consumes, Appends}
-use Rattle.text.specs.Lines.{HasNoNewline, Kept, kept_of}
+use Rattle.text.specs.Lines.{HasNoNewline, joined, Kept, kept_of}
 use Rattle.line_commands.specs.Stream.{AreAnswered}
 use Rattle.options.specs.declared.outcome.Outcome.{Outcome}
-
--- lines, each with its newline
-abbrev pub joined : List (List ℕ) → List ℕ
-joined [] = []
-joined (line ∷ lines) = line ++ (10 ∷ joined lines)
 
 abbrev pub AreWhole : List (List ℕ) → Type 0
 AreWhole [] = ⊤

@@ -5,7 +5,7 @@ use Rattle.machine_text.specs.declared.transition.Dir.TheVariants.{L, R}
 use Rattle.machine_text.specs.declared.transition.Entry.{Entry}
 use Rattle.machine_text.specs.Packed.{symbol_of}
 use Rattle.machine_text.specs.Text.{symbol_byte}
-use Rattle.turing.specs.Program.{Program}
+use Rattle.turing.specs.Machine.{Machine}
 use Rattle.ngram_cps.specs.Listing.{item, IsItem}
 use Rattle.ngram_cps.specs.Lists.{Lists}
 
@@ -58,11 +58,11 @@ StepsBy None s bytes = ⊥
 StepsBy (Some e) s bytes = FollowsSide e.dir s bytes e
 
 -- the local configuration has a step, which stays in the lists
-unfoldable pub GoesOn : Program → Lists → List ℕ → Type 0
+unfoldable pub GoesOn : Machine → Lists → List ℕ → Type 0
 GoesOn m s bytes = StepsBy (m (slice_index bytes s.width - 65) (symbol_of (slice_index bytes (s.width + 1) - 48))) s bytes
 
 -- so many of the local configurations do
-pub record EachGoesOn (m : Program) (s : Lists) (reach : ℕ) : Type 0 where
+pub record EachGoesOn (m : Machine) (s : Lists) (reach : ℕ) : Type 0 where
   pub each : (k : ℕ) → k < reach → GoesOn m s (item (2 * s.width + 2) s.local k)
 
 -- the blank tape is in the lists

@@ -1,7 +1,7 @@
-use Rattle.std.proofs.Common.{refl, ◌∙◌, ap, Ok, Err, arith}
+use Rattle.std.proofs.Common.{ℕ, Option, refl, ◌∙◌, ap, subst, Ok, Err, arith}
 use Rattle.ledger.specs.declared.taken.Taken.TheVariants.{Known}
 use Rattle.ledger.specs.declared.faults.OfferFault.TheVariants.{WrongSize}
-use Rattle.wire.specs.declared.node.Note.TheVariants.{Refused}
+use Rattle.roles.specs.Says.{NotesRefusal}
 use Rattle.coordinator.proofs.answering.answer_record.Goals as goal
 
 pub returns-then-states : goal.returns-then-states
@@ -10,7 +10,7 @@ returns-then-states c = (
   (λ same. let differ = c.if-states.true in omega (arith, differ, c.states.ensures.states, c.states-2.ensures.states, ap (λ p. p.states) c.root.ensures.root, ap (λ b. b.root.states) c.board.ensures.board, same), refl),
   refl,
   refl,
-  record { cut_is = c.noted.ensures.cut_is; append_is = c.noted.ensures.append_is; frames_are = c.noted.ensures.frames_are; note_is = c.noted.ensures.note_is ∙ ap Refused c.number.ensures },
+  subst (λ (n : Option ℕ). NotesRefusal n c.in_ok-out.out) c.number.ensures c.in_ok-out.ensures.ok,
 )
 
 pub returns-then-is_known : goal.returns-then-is_known

@@ -4,7 +4,7 @@ use Rattle.std.specs.declared.cmp.Ordering.{Ordering}
 use Rattle.machine_text.proofs.Order.{order_of_texts}
 use Rattle.ledger.proofs.BoardLaws.{open_table}
 use Rattle.leases.specs.Asks.{IsFree}
-use Rattle.leases.specs.inside.Keeping.{seen, without}
+use Rattle.leases.specs.inside.Keeping.{as_leases, without}
 use Rattle.leases.proofs.FreeLaws.{dropped}
 use Rattle.leases.proofs.first_free.first_free.Goals as goal
 
@@ -22,6 +22,6 @@ returns-then-is_free-clause-first c =
 pub loop-t-preserved : goal.loop-t-preserved
 loop-t-preserved c = λ q free. dropped _ _ c.in-Some.t c.pop.result c.in-Some.ensures.top c.pop.ensures.top c.pop.ensures.others c.pop.ensures.none q (c.loop-t.invariant q free)
     (λ (e : q ≡ c.in-Some.t).
-    let is_true = c.is_free.ensures.1 (subst (IsFree c.args.board.now (seen (without c.args.but c.args.live.now) c.args.came.now.entries 0 0)) e free) in
+    let is_true = c.is_free.ensures.1 (subst (IsFree c.args.board.now (as_leases (without c.args.but c.args.live.now) c.args.came.now.entries 0 0)) e free) in
     let is_false = c.if-is_free.false in
     absurd (cc))

@@ -4,7 +4,8 @@ use Rattle.std.specs.BTreeMap.{ContainsKey}
 use Rattle.machine_text.specs.Packed.{Packed}
 use Rattle.tree.specs.Tables.{IsChildTable}
 use Rattle.ledger.specs.inside.Keeping.{records_of}
-use Rattle.ledger.specs.inside.Open.{table_cmp, others, AreChildrenAt, HasUnrecorded}
+use Rattle.machine_text.specs.Order.{table_cmp}
+use Rattle.ledger.specs.inside.Open.{others, AreChildrenAt, HasUnrecorded}
 use Rattle.ledger.proofs.open_tables.open_all.Given as goal
 
 -- what is open, and what the children that are left will open, is what will be open; and but for what was opened here, which

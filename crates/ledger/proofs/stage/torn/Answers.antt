@@ -10,8 +10,8 @@ returns-in_err-board c text one_line kept =
 
 pub returns-then-is_begun_header : goal.returns-then-is_begun_header
 returns-then-is_begun_header c text one_line kept =
-    torn_loaded c.args.root text c.args.line.now one_line kept c.in_ok-board.board c.left_of_torn.result c.in_ok-board.ensures
-    (c.is_begun_header.ensures.0 c.if-is_begun_header.true) c.left_of_torn.ensures
+    torn_loaded c.args.root text c.args.line.now one_line kept c.in_ok-board.board c.of_torn.result c.in_ok-board.ensures
+    (c.is_begun_header.ensures.0 c.if-is_begun_header.true) c.of_torn.ensures
 
 pub returns : goal.returns
 returns c text one_line kept =

@@ -1,6 +1,6 @@
 use Rattle.std.proofs.Common.{◌≡◌, ◌++◌, map, take, length}
 use Rattle.cert.specs.Grammar.{record_text}
-use Rattle.ledger.specs.LedgerText.{joined}
+use Rattle.text.specs.Lines.{joined}
 use Rattle.ledger.proofs.write_ledger.append_records.Given as goal
 
 -- what is written, and the lines that are left, are what will be written

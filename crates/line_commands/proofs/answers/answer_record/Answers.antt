@@ -5,6 +5,3 @@ use Rattle.line_commands.proofs.answers.answer_record.Goals as goal
 -- answered by name, so that nothing is offered where an edit makes it false
 pub returns-in_ok-append_verdict-in-Ok : goal.returns-in_ok-append_verdict-in-Ok
 returns-in_ok-append_verdict-in-Ok c = grind (arith, common_steps) steps 200000
-
-pub returns-in_ok-append_named-in-Err : goal.returns-in_ok-append_named-in-Err
-returns-in_ok-append_named-in-Err c = grind (arith, common_steps) steps 200000

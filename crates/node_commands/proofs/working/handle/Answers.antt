@@ -1,6 +1,6 @@
 use Rattle.std.proofs.Common.{◌∙◌, sym, subst, ap, List, ℕ, Option, Ok}
 use Rattle.std.proofs.lemmas.Result.{on_ok_weaker}
-use Rattle.wire.specs.Carried.{kept, scene}
+use Rattle.wire.specs.Carried.{kept_text, scene}
 use Rattle.wire.specs.Happening.{seen}
 use Rattle.wire.proofs.Outcomes.{faulted_by}
 use Rattle.node_commands.proofs.working.handle.Goals as goal
@@ -12,7 +12,7 @@ returns-clause-ok g c =
       c.in_ok-out.out,
       subst (λ n. g.N.Node.answers c.args.node.now (seen c.args.event) (Ok c.in_ok-out.out) n) (sym p.0) c.in_ok-out.ensures.answer,
       ap (λ (t : Option (List ℕ)). scene c.carry_out.new.node t (g.L.Link.sent c.carry_out.new.link)) p.1
-          ∙ ap (λ (s : Option (List ℕ)). scene c.carry_out.new.node (kept c.in_ok-out.out (g.W.LedgerOut.text c.args.ledger.now)) s) p.2,
+          ∙ ap (λ (s : Option (List ℕ)). scene c.carry_out.new.node (kept_text c.in_ok-out.out (g.W.LedgerOut.text c.args.ledger.now)) s) p.2,
     ))
     c.carry_out.ensures.ok
 

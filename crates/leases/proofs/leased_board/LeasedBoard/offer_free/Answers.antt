@@ -6,7 +6,7 @@ use Rattle.ledger.specs.Records.{same_table}
 use Rattle.ledger.specs.declared.faults.OfferFault.TheVariants.{NoMemory}
 use Rattle.leases.specs.Leases.{Leased, AreLeases, lease_of}
 use Rattle.leases.specs.Offers.{TakesNew, TakesSettled}
-use Rattle.leases.specs.inside.Keeping.{seen, IsKept}
+use Rattle.leases.specs.inside.Keeping.{as_leases, IsKept}
 use Rattle.leases.proofs.ChildLaws.{Opens, opens_new, opens_settled}
 use Rattle.leases.proofs.OfferLaws.{KeepsAll}
 use Rattle.leases.proofs.Offering.{err_is, GoesOut, same_board, refused_board, holdout_not_open, free_new_leases, free_new_kept, free_new_takes, settled_leases, settled_kept, settled_takes}
@@ -18,8 +18,8 @@ returns-in_err-reserve-clause-gives c = inr (err_is c.from_residual.result NoMem
 pub invariant_of-self-in-Err : goal.invariant_of-self-in-Err
 invariant_of-self-in-Err c =
     let same = same_board c.offer.new.self c.self.inside.board c.in-Err.ensures.root (refused_board c.self.inside.board.root c.self.inside.board.records c.offer.new.self.records (recorded c.args.r.now) c.in-Err.fault c.in-Err.ensures.gives) in (
-      subst (λ (b : Contents). AreLeases b (seen c.self.inside.live c.self.inside.came_under.entries c.self.inside.moment c.self.inside.given) × IsKept b c.self.inside.live c.self.inside.came_under.entries c.reserve.new.self.tables) (sym same)
-          (subst (λ (free : List Packed). AreLeases c.self.inside.board (seen c.self.inside.live c.self.inside.came_under.entries c.self.inside.moment c.self.inside.given) × IsKept c.self.inside.board c.self.inside.live c.self.inside.came_under.entries free) (sym c.in_ok-reserve.ensures.tables) c.self.invariant.0),
+      subst (λ (b : Contents). AreLeases b (as_leases c.self.inside.live c.self.inside.came_under.entries c.self.inside.moment c.self.inside.given) × IsKept b c.self.inside.live c.self.inside.came_under.entries c.reserve.new.self.tables) (sym same)
+          (subst (λ (free : List Packed). AreLeases c.self.inside.board (as_leases c.self.inside.live c.self.inside.came_under.entries c.self.inside.moment c.self.inside.given) × IsKept c.self.inside.board c.self.inside.live c.self.inside.came_under.entries free) (sym c.in_ok-reserve.ensures.tables) c.self.invariant.0),
       c.self.invariant.1,
     )
 
@@ -61,7 +61,7 @@ returns-in-Ok-New-clause-leases c =
     let keeps : KeepsAll free more = λ q h. c.free_children.ensures.more q (subst (λ (l : List Packed). Contains l q) (sym c.in_ok-reserve.ensures.tables) h) in
     let out : GoesOut came t next = λ q. c.swap_remove.ensures.updates.0 q in
     let none = subst (λ (s : Leased). lease_of s.leases t ≡ None) (sym c.self.view_is) c.requires in
-    subst (λ (s : Leased). TakesNew t s (record { board = new; leases = seen ls next c.self.inside.moment c.self.inside.given })) c.self.view_is
+    subst (λ (s : Leased). TakesNew t s (record { board = new; leases = as_leases ls next c.self.inside.moment c.self.inside.given })) c.self.view_is
     (free_new_takes old new ls came next free more c.self.inside.moment c.self.inside.given t opens c.self.invariant.0.0 c.self.invariant.0.1 keeps c.free_children.ensures.all out none)
 
 pub invariant_of-self-in-Ok-Settled : goal.invariant_of-self-in-Ok-Settled
@@ -95,5 +95,5 @@ returns-in-Ok-Settled-clause-leases c =
     let gives = rw c.in-Ok-Settled.field-0-is at c.in-Ok-Settled.ensures.gives in
     let opens : Opens old new t = opens_settled old new (recorded c.args.r.now) c.child_is_table.ensures.below c.root.ensures.board c.in-Ok-Settled.ensures.root gives.0 gives.1 in
     let keeps : KeepsAll free more = λ q h. c.free_children-in-Ok-Settled.ensures.more q (subst (λ (l : List Packed). Contains l q) (sym c.in_ok-reserve.ensures.tables) h) in
-    subst (λ (s : Leased). TakesSettled s (record { board = new; leases = seen ls came c.self.inside.moment c.self.inside.given })) c.self.view_is
+    subst (λ (s : Leased). TakesSettled s (record { board = new; leases = as_leases ls came c.self.inside.moment c.self.inside.given })) c.self.view_is
     (settled_takes old new ls came came free more c.self.inside.moment c.self.inside.given t opens c.self.invariant.0.0 c.self.invariant.0.1 keeps c.free_children-in-Ok-Settled.ensures.all)

@@ -3,7 +3,7 @@ use Rattle.std.specs.Prelude.{is_some}
 use Rattle.machine_text.specs.Packed.{Packed}
 use Rattle.std.specs.Option.{option_copied}
 use Rattle.leases.specs.Leases.{is_live}
-use Rattle.leases.specs.inside.Keeping.{KeptLease, held, AreAmongFree, is_numbered}
+use Rattle.leases.specs.inside.Keeping.{KeptLease, as_lease, AreAmongFree, is_numbered}
 use Rattle.leases.proofs.LiveLaws.{lives_is, offered_one, offered_none, if_ok}
 use Rattle.leases.proofs.live_leases.LiveLeases.offer_tables.Goals as goal
 
@@ -22,7 +22,7 @@ returns-in-None-clause-ok c =
 pub returns-in-Some-get-clause-err : goal.returns-in-Some-get-clause-err
 returns-in-Some-get-clause-err c =
     let lives = sym (lives_is c.in-Some.number c.self.inside.leases.entries) ∙ ap is_some (sym c.get.ensures.value ∙ ap option_copied c.in-Some-get.is) in
-    elim c.offer_all.result as (λ r. OnErr r (IfSome c.args.which (λ n. is_live (map held c.args.self.now) n ≡ true))) [
+    elim c.offer_all.result as (λ r. OnErr r (IfSome c.args.which (λ n. is_live (map as_lease c.args.self.now) n ≡ true))) [
       | Ok x ↦ tt
-      | Err e ↦ rw c.in-Some.is (subst (λ (ls : List KeptLease). is_live (map held ls) c.in-Some.number ≡ true) c.self.view_is lives)
+      | Err e ↦ rw c.in-Some.is (subst (λ (ls : List KeptLease). is_live (map as_lease ls) c.in-Some.number ≡ true) c.self.view_is lives)
     ]

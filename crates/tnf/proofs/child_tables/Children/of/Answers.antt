@@ -13,7 +13,8 @@ use Rattle.tree.specs.Tables.{children_at}
 use Rattle.tnf.specs.Children.{IsChildAt}
 use Rattle.tnf.proofs.EntriesLeft.{to}
 use Rattle.tree.proofs.ChildOrder.{children_rise}
-use Rattle.tnf.proofs.Members.{children_members, children_bound}
+use Rattle.tree.proofs.ChildCount.{children_bound}
+use Rattle.tnf.proofs.Members.{children_members}
 use Rattle.tnf.proofs.FirstChildren.{by_parts, empty_children, filled_children, without_children}
 use Rattle.tnf.proofs.child_tables.Children.of.Goals as goal
 use Rattle.tnf.proofs.child_tables.Children.of.Goals.{then-undefined-states, else-undefined-states, then-undefined-lt2, else-undefined-lt2}

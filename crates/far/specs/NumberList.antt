@@ -1,4 +1,4 @@
--- The numbers of automata one after another: delta, then rows, then keep.
+-- The numbers of automata in one list: delta, then rows, then keep.
 use Rattle.std.specs.Prelude.{ℕ, ◌+◌, ◌*◌, List, take, drop, slice_index}
 
 abbrev pub owned_delta : ℕ → List ℕ → List ℕ

@@ -8,7 +8,7 @@ use Rattle.machine_text.specs.declared.transition.Sym.TheVariants.{Zero, One}
 use Rattle.machine_text.specs.declared.transition.Dir.TheVariants.{L, R}
 use Rattle.machine_text.specs.declared.transition.Entry.{Entry}
 use Rattle.machine_text.specs.Packed.{Packed, entry_of, with_entry, holes}
-use Rattle.turing.specs.Program.{Program}
+use Rattle.turing.specs.Machine.{Machine}
 use Rattle.tree.specs.Used.{used_count}
 use Rattle.tree.specs.Children.{child_entries, entries_to}
 use Rattle.tree.specs.Tables.{children_at}
@@ -16,7 +16,7 @@ use Rattle.tree.proofs.ChildEntries.{list_empty, list_filled, length_to}
 use Rattle.tree.proofs.ChildTables.{entries_of, some_children, no_children}
 
 -- there are at most four for each state
-length_entries : (n u : ℕ) (m : Program) → length (child_entries n u m) ≤ 4 * n
+length_entries : (n u : ℕ) (m : Machine) → length (child_entries n u m) ≤ 4 * n
 length_entries n u m = elim (cases_eq (holes n m) (2 * n)) [
   | inl all ↦ omega (arith, ap length (list_empty n u m all), length-append (entries_to t Zero R) (entries_to t One R), length_to t Zero R, length_to t One R)
   | inr some ↦ omega (

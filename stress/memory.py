@@ -1,13 +1,15 @@
 #!/usr/bin/env python3
 """A run of three states with too little memory: `bb run 3 --far 3 --ledger FILE` under forty limits of its address space.
 
-stress/memory.py: each run ends with 3 and says `refused memory`, or prints the report; either way a run with enough
-memory goes on from the ledger that is left, to the same report. Prints how each ended, and ends with 1 where one
+stress/memory.py: each run ends with 3 and says `refused memory`, or prints the report, or says nothing and is ended by
+the system (SIGSEGV), which can't give it the pages of its stack: no program can answer that. In any case a run with
+enough memory goes on from the ledger that is left, to the same report. Prints how each ended, and ends with 1 where one
 didn't end so.
 """
 import collections
 import os
 import resource
+import signal
 import subprocess
 import sys
 import tempfile
@@ -36,6 +38,10 @@ def is_report(run_):
 
 def is_refused(run_):
     return run_.returncode == 3 and run_.stderr == b"refused memory\n" and run_.stdout == b""
+
+
+def has_no_stack(run_):
+    return run_.returncode == -signal.SIGSEGV and run_.stderr == b"" and run_.stdout == b""
 
 
 def enough():
@@ -73,6 +79,8 @@ def main():
                 counts["refused memory"] += 1
             elif is_report(ended):
                 counts["report"] += 1
+            elif has_no_stack(ended):
+                counts["no stack"] += 1
             else:
                 print(f"memory: limit {limit}: status {ended.returncode}, {ended.stderr[:200]!r}, {ended.stdout[:200]!r}")
                 return 1

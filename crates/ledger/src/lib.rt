@@ -56,12 +56,3 @@ pub use status::Status;
 pub use taken::Taken;
 pub use tally::Tally;
 pub use write_ledger::{append_header, append_record};
-
-#[cfg(test)]
-mod boards;
-#[cfg(test)]
-mod sizes;
-#[cfg(test)]
-mod t_bounds;
-#[cfg(test)]
-mod texts;

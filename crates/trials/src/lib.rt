@@ -30,15 +30,11 @@ mod dispatched;
 #[cfg(test)]
 mod file_ledgers;
 #[cfg(test)]
-mod hostile;
-#[cfg(test)]
 mod json_reports;
 #[cfg(test)]
 mod ledgers;
 #[cfg(test)]
 mod lines;
-#[cfg(test)]
-mod loaders;
 #[cfg(test)]
 mod losses;
 #[cfg(test)]

@@ -21,7 +21,7 @@ fn started(
 }
 
 // The same, without a board.
-pub fn idle(rt: &impl Abort, alloc: Global) -> Result<Worker<Finders<Box<dyn Finder>>>, Fail> {
+fn idle(rt: &impl Abort, alloc: Global) -> Result<Worker<Finders<Box<dyn Finder>>>, Fail> {
     let (worker, first) = started(alloc, b"")?;
     match first {
         Ok(out) => assert!(rt;

@@ -7,7 +7,7 @@ use evidence::NoMemory;
 use std::alloc::Global;
 use wire::{Note, Out};
 
-// Nothing is sent, and this is noted.
+/// Nothing is sent, and this is noted.
 pub fn noted(alloc: Global, note: Note) -> Out
     ensures { Says result None [] [] note }
 {
@@ -19,7 +19,7 @@ pub fn noted(alloc: Global, note: Note) -> Out
     }
 }
 
-// A refusal is noted by its number. What has none is refused memory.
+/// A refusal is noted by its number. What has none is refused memory: `NoMemory`.
 pub fn refused(alloc: Global, number: Option<u16>) -> Result<Out, NoMemory>
     ensures ok { IfOk result (λ out. NotesRefusal number out) }
     ensures err { OnErr result (number ≡ None) }
@@ -30,7 +30,7 @@ pub fn refused(alloc: Global, number: Option<u16>) -> Result<Out, NoMemory>
     }
 }
 
-// Frames are sent, and no more.
+/// Frames are sent, and no more.
 pub fn sent(alloc: Global, frames: Vec<u8>) -> Out
     ensures cut { result.cut ≡ None }
     ensures append { result.append.items ≡ [] }

@@ -19,8 +19,11 @@ from tree import Board
 MOST_LEASES = 4_096
 
 
+LEASE_TIME = 60
+
+
 class Coordinator:
-    """The rules of docs/FORMATS.md, without a clock."""
+    """The rules of docs/FORMATS.md. What is noted stands in `note`."""
 
     def __init__(self, states, era, records):
         self.board = Board([[None, None] for _ in range(states)])
@@ -30,8 +33,16 @@ class Coordinator:
             self.lines.append(line)
         self.era = era
         self.leases = {}
+        self.deadlines = {}
         self.under = {}
         self.given = 0
+        self.moment = 0
+        self.note = b""
+
+    def tick(self, moment):
+        self.moment = max(self.moment, moment)
+        for lease in [lease for lease in self.leases if self.deadlines[lease] <= self.moment]:
+            self.end(lease)
 
     def end(self, lease):
         del self.leases[lease]
@@ -40,6 +51,7 @@ class Coordinator:
     def answer(self, frame):
         """The frame that answers one, or none; and the kind of what came."""
         words = frame.split(b" ")
+        self.note = b""
         try:
             if words[0] == b"ASK" and len(words) == 2 and number(words[1]) < 2 ** 32:
                 return self.ask(number(words[1])), "ASK"
@@ -47,11 +59,17 @@ class Coordinator:
                 era, lease = number(words[1]), number(words[2])
                 if era == self.era and lease in self.leases:
                     self.end(lease)
+                else:
+                    self.note = b"stale"
                 return None, "DONE"
         except Refused:
-            return None, "strange"
+            return self.strange()
         if words[0] == b"REC" and len(words) > 1:
             return self.record(frame[4:])
+        return self.strange()
+
+    def strange(self):
+        self.note = b"strange"
         return None, "strange"
 
     def ask(self, worker):
@@ -64,6 +82,7 @@ class Coordinator:
             return b"LATER"
         self.given += 1
         self.leases[self.given] = worker
+        self.deadlines[self.given] = self.moment + LEASE_TIME
         self.under[free[0]] = self.given
         return f"GRANT {self.era} {self.given} {free[0]}".encode()
 
@@ -71,7 +90,7 @@ class Coordinator:
         try:
             table = printed(read_table(line.split(b" ")[0]))
         except Refused:
-            return None, "strange"
+            return self.strange()
         before = set(self.board.open)
         why = self.board.take(line)
         if why == "too long":
@@ -80,13 +99,17 @@ class Coordinator:
             lease = self.under.pop(table, None)
             if lease is not None:
                 self.under.update((child, lease) for child in self.board.open - before)
+                self.deadlines[lease] = self.moment + LEASE_TIME
             self.lines.append(line if line.endswith(b" U") else table.encode() + line[len(table):])
             return f"ACK {table}".encode(), "REC, new or settled"
         if why == "repeated":
             return f"ACK {table}".encode(), "REC, known"
         if why == "refused 402":
             return f"LATER {table}".encode(), "REC, not open"
-        return None, "REC, refused" if why.startswith(("refused 20", "refused 403")) else "strange"
+        if not why.startswith(("refused 20", "refused 403")):
+            return self.strange()
+        self.note = why.split(" ")[1].encode()
+        return None, "REC, refused"
 
 
 def frame(rng, model, records):

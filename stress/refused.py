@@ -1,12 +1,20 @@
 #!/usr/bin/env python3
-"""Every request for memory refused: each command of `bb` on a small input, with its Nth request refused, N counting up
-until a run meets no refusal; once that request alone, and once all from it on.
+"""Every request for memory refused, N counting up until a run meets no refusal.
 
-stress/refused.py: such a run ends as the one with ample memory does, or with 3, `refused memory` on standard error and
+stress/refused.py: each command of `bb` on a small input, with its Nth request refused; once that request alone, and once
+all from it on. Such a run ends as the one with ample memory does, or with 3, `refused memory` on standard error and
 a beginning of the ample run's output. Where it has a ledger, what it leaves is a beginning of the ample run's ledger, or
-what stood there; and the same command, again and with ample memory, then comes to the ample run's end. Prints how many
-requests each command met, and ends with 1 at the first that ends otherwise. Needs a C compiler (`cc`), for refused.c.
+what stood there; and the same command, again and with ample memory, then comes to the ample run's end.
+
+stress/refused.py --calls: the calls of the crates below, by the program of `crates/driver`, which makes each again where
+it is refused: it prints what it prints with ample memory. Of its calls that take no memory not one request comes.
+
+Both are a part of `./ci`.
+
+Prints how many requests each met, and ends with 1 at the first that ends otherwise. Needs a C compiler (`cc`), for
+refused.c.
 """
+import collections
 import os
 import shutil
 import subprocess
@@ -16,6 +24,8 @@ import tempfile
 TOP = os.path.dirname(os.path.dirname(os.path.abspath(__file__)))
 sys.path.insert(0, os.path.join(TOP, "bench"))
 from program import PROGRAM  # noqa: E402
+
+CALLS = os.path.join(TOP, "crates", "driver", "out", "driver")
 
 RECORDS = b"""------ H 1
 1RB1LB_1LA--- H 6
@@ -73,13 +83,13 @@ def read(folder, name):
         return None
 
 
-def run(words, given, folder, refusing=None):
+def run(words, given, folder, refusing=None, program=PROGRAM):
     """Runs a command; answers how it ended and how many requests were refused."""
     if refusing is None:
-        return subprocess.run([PROGRAM, *words], input=given, capture_output=True, cwd=folder, check=False), 0
+        return subprocess.run([program, *words], input=given, capture_output=True, cwd=folder, check=False), 0
     reader, writer = os.pipe()
     env = {**os.environ, **refusing, "BB_REFUSED": str(writer)}
-    ran = subprocess.run([PROGRAM, *words], input=given, capture_output=True, cwd=folder, env=env, pass_fds=[writer], check=False)
+    ran = subprocess.run([program, *words], input=given, capture_output=True, cwd=folder, env=env, pass_fds=[writer], check=False)
     os.close(writer)
     with os.fdopen(reader, "rb") as told:
         return ran, len(told.read())
@@ -130,10 +140,78 @@ def tried(command, folder, shim, is_all):
         spared += is_same
 
 
+def calls_wrong(folder, shim):
+    """Refuses each request of the program of calls; answers what was wrong, or how many there were of each call."""
+    ample, _ = run([], b"", folder, program=CALLS)
+    if ample.returncode != 0 or b"refused memory" in ample.stdout:
+        return f"with ample memory: status {ample.returncode}", {}
+    counts = collections.Counter()
+    number = 0
+    while True:
+        number += 1
+        refusing = {"LD_PRELOAD": shim, "BB_REFUSE": str(number)}
+        ran, refused = run([], b"", folder, refusing, CALLS)
+        if not same(ran, ample):
+            return f"request {number} refused: {first_other(ample.stdout, ran.stdout)}", counts
+        if refused == 0:
+            return None, counts
+        # With all later requests refused too, the call that met it is the first that isn't answered.
+        ran, _ = run([], b"", folder, {**refusing, "BB_REFUSE_ALL": "1"}, CALLS)
+        counts[first_refused(ran.stdout)] += 1
+
+
+def first_refused(printed):
+    """The name of the first call that was refused memory."""
+    for line in printed.decode().split("\n"):
+        name, _, answer = line.rpartition(": ")
+        if answer == "refused memory":
+            return name
+    return "before the first call"
+
+
+def first_other(expected, found):
+    """The first line that is printed otherwise."""
+    for one, other in zip(expected.split(b"\n"), found.split(b"\n")):
+        if one != other:
+            return f"{other!r} and not {one!r}"
+    return f"{len(found)} bytes and not {len(expected)}"
+
+
+def free_wrong(folder, shim):
+    """Refuses all requests from one on, until there is a board: what then takes no memory makes no request at all."""
+    ample, _ = run([], b"free", folder, program=CALLS)
+    number = 0
+    while True:
+        number += 1
+        refusing = {"LD_PRELOAD": shim, "BB_REFUSE": str(number), "BB_REFUSE_ALL": "1"}
+        ran, refused = run([], b"free", folder, refusing, CALLS)
+        if same(ran, ample):
+            return (f"{refused} requests of calls that take no memory" if refused else None), number - 1
+        if refused == 0:
+            return f"printed {ran.stdout[-300:]!r}", number
+
+
+def try_calls(folder, shim):
+    laid(folder, {})
+    found, counts = calls_wrong(folder, shim)
+    if not found:
+        for name, count in counts.items():
+            print(f"refused: {count} requests of {name}")
+        print(f"refused: {sum(counts.values())} requests of calls, one by one: each call made again, with the same answer")
+        found, count = free_wrong(folder, shim)
+    if found:
+        print(f"refused: the calls: {found}")
+        return 1
+    print(f"refused: {count} requests until there is a board, and none from the calls that take no memory")
+    return 0
+
+
 def main():
     with tempfile.TemporaryDirectory() as top:
         shim = os.path.join(top, "refused.so")
         subprocess.run(["cc", "-O1", "-shared", "-fPIC", "-o", shim, os.path.join(TOP, "stress", "refused.c"), "-ldl"], check=True)
+        if sys.argv[1:] == ["--calls"]:
+            return try_calls(os.path.join(top, "folder"), shim)
         total = 0
         for command in COMMANDS:
             said = []

@@ -1,5 +1,5 @@
 //! `bb`, a verified tool for the busy beaver problem: `main` hands the words of the command line, the streams and
-//! the system's files to `obey` (`program`). The words are read in the crate `command_line`, the command that they
+//! the system's files and sockets to `obey` (`program`). The words are read in the crate `command_line`, the command that they
 //! ask for is begun in `dispatch`, and what the commands do stands in `line_commands`, `ledger_commands` and
 //! `node_commands`.
 #![tactic(auto)]
@@ -9,7 +9,7 @@ use dispatch::System;
 pub use json_report::report_json;
 pub use ledger_commands::{cmd_merge, cmd_report, cmd_retry, report};
 pub use line_commands::{cmd_check, cmd_decide};
-pub use node_commands::{Run, cmd_coord, cmd_run};
+pub use node_commands::{Run, cmd_coord, cmd_loop, cmd_run};
 pub use options::Options;
 use program::obey;
 use std::env;

@@ -1,6 +1,7 @@
 // Command lines, and what is said in place of a command, also to streams that fail.
 use command_line::{LineFault, options};
 use ledger_commands::Host;
+use loopback::Sockets;
 use options::{Beginning, Merging, Options, Outcome, Search, Settling};
 use program::obey;
 use std::alloc::Global;
@@ -58,6 +59,25 @@ impl Clock for Shelf {
     }
 
     fn since_1970(&self) -> io::Result<Duration> {
+        Err(io::Error::from(io::ErrorKind::Unsupported))
+    }
+}
+
+// There are no sockets.
+impl Sockets for Shelf {
+    type Listener = ();
+
+    type Stream = io::Empty;
+
+    fn listen(&self) -> io::Result<()> {
+        Err(io::Error::from(io::ErrorKind::Unsupported))
+    }
+
+    fn connect(&self, _listener: &()) -> io::Result<io::Empty> {
+        Err(io::Error::from(io::ErrorKind::Unsupported))
+    }
+
+    fn accept(&self, _listener: &()) -> io::Result<io::Empty> {
         Err(io::Error::from(io::ErrorKind::Unsupported))
     }
 }
@@ -331,6 +351,12 @@ fn options_of_a_run_are_read_from_the_words(rt: HostRuntime) -> Result<(), Fail>
         rt.alloc(),
         "bb run 3",
         Options::Run { settling, ledger },
+    )?;
+    is_asked(
+        &rt,
+        rt.alloc(),
+        "bb loop 3",
+        Options::Loop { settling, ledger },
     )?;
     let mut settling = RUN;
     settling.workers = 64;

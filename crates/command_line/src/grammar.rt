@@ -1,5 +1,5 @@
 // The commands with their arguments and options, by clap's builder.
-use crate::help::{COORD, DECIDE, MERGE, RECORDS, REPORT, RETRY, RUN, STATUSES, VERSION};
+use crate::help::{COORD, DECIDE, LOOP, MERGE, RECORDS, REPORT, RETRY, RUN, STATUSES, VERSION};
 use crate::words::{
     DEPTH, ERA, FAR, FILE, FIRST, GRAM, JSON, LEDGER, LOSE, OUT, PROGRESS, ROUNDS, SECOND, STATES,
     STEPS, WHY, WORKERS,
@@ -13,6 +13,7 @@ pub(crate) fn program<'a>(alloc: Global) -> Result<Command<'a>, NoMemory> {
     let program = with(empty_program(alloc), Ok(check_command(alloc)))?;
     let program = with(program, decide_command(alloc))?;
     let program = with(program, run_command(alloc))?;
+    let program = with(program, loop_command(alloc))?;
     let program = with(program, coord_command(alloc))?;
     let program = with(program, retry_command(alloc))?;
     let program = with(program, merge_command(alloc))?;
@@ -63,26 +64,41 @@ fn with_search<'a>(alloc: Global, command: Command<'a>) -> Result<Command<'a>, N
 }
 
 fn run_command<'a>(alloc: Global) -> Result<Command<'a>, NoMemory> {
-    let workers = "How many workers there are";
     let lose = "Lose every K-th of the first 1,000 frames, in each direction of each link";
-    let rounds = "Stop after so many rounds";
     let run = Command::new(alloc, "run")
         .about(
             "Settles the tree of all machines of N states in this process, and prints the report.",
         )
-        .after_help(RUN)
+        .after_help(RUN);
+    let run = with_workers(alloc, run)?.arg(number_arg(alloc, LOSE, "K", 2, 1_000, lose))?;
+    with_rounds(alloc, run)
+}
+
+fn loop_command<'a>(alloc: Global) -> Result<Command<'a>, NoMemory> {
+    let over_sockets = Command::new(alloc, "loop")
+        .about("Does what `bb run` does, with sockets between the coordinator and its workers.")
+        .after_help(LOOP);
+    with_rounds(alloc, with_workers(alloc, over_sockets)?)
+}
+
+// The command with what it settles, by whom, and where that is kept.
+fn with_workers<'a>(alloc: Global, command: Command<'a>) -> Result<Command<'a>, NoMemory> {
+    let workers = "How many workers there are";
+    command
         .arg(states_arg(alloc))?
         .arg(number_arg(alloc, WORKERS, "W", 1, 64, workers).default_value("2"))?
-        .arg(ledger_arg(alloc))?
-        .arg(number_arg(alloc, LOSE, "K", 2, 1_000, lose))?
+        .arg(ledger_arg(alloc))
+}
+
+// The command with the options of rounds, of what is said of them, and of a search for certificates.
+fn with_rounds<'a>(alloc: Global, command: Command<'a>) -> Result<Command<'a>, NoMemory> {
+    let rounds = "Stop after so many rounds";
+    let progress = "Say on standard error, once a second, how far it is";
+    let command = command
         .arg(number_arg(alloc, ROUNDS, "R", 1, 1_000_000_000, rounds).default_value("1000000"))?
         .arg(json_arg(alloc))?
-        .arg(flag_arg(
-            alloc,
-            PROGRESS,
-            "Say on standard error, once a second, how far it is",
-        ))?;
-    with_search(alloc, run)
+        .arg(flag_arg(alloc, PROGRESS, progress))?;
+    with_search(alloc, command)
 }
 
 fn coord_command<'a>(alloc: Global) -> Result<Command<'a>, NoMemory> {
@@ -126,9 +142,9 @@ fn merge_command<'a>(alloc: Global) -> Result<Command<'a>, NoMemory> {
 
 fn report_command<'a>(alloc: Global) -> Result<Command<'a>, NoMemory> {
     Command::new(alloc, "report")
-        .about("Prints the report of a ledger file.")
+        .about("Prints the report of a ledger.")
         .after_help(REPORT)
-        .arg(file_arg(alloc, FILE, "The ledger file"))?
+        .arg(file_arg(alloc, FILE, "The ledger file, or `-` for standard input"))?
         .arg(json_arg(alloc))?
         .arg(flag_arg(
             alloc,

@@ -1,7 +1,7 @@
 // What help says of the program and of each command.
 
 // The program's version, and the kit by which it is proved.
-pub(crate) const VERSION: &str = "0.1.0, proved with rattle-kit-13b logic dac8208d650f15bf";
+pub(crate) const VERSION: &str = "0.1.0, proved with rattle-kit-13f logic dac8208d650f15bf";
 
 pub(crate) const STATUSES: &str =
     "Exit status: 0 all accepted; 1 something was refused; 2 a wrong command line; \
@@ -10,6 +10,8 @@ pub(crate) const STATUSES: &str =
 pub(crate) const REPORT: &str =
     "A ledger is the line `bb-ledger 1 TABLE`, which names the root of a tree, and then records, one a
 line. Each record is judged again; what stands behind the first line that can't be taken isn't kept.
+A file is read as far as it went when it was opened, standard input (`-`) to its end; a file that is named
+so is `./-`.
 
 The report has these lines
   root TABLE
@@ -51,6 +53,13 @@ there are and whatever frames are lost. With --ledger a run that was stopped goe
 Exit status: 0 the report says complete; 1 it doesn't, or the ledger was refused (`refused 404` no header
 with a readable table, `refused 405` another root); 2 a wrong command line; 3 out of memory
 (`refused memory`); 4 the ledger failed (`refused 604`), or a stream did (`refused 603`).";
+
+pub(crate) const LOOP: &str =
+    "As `bb run`, but that the frames of each worker go over a connection of its own on 127.0.0.1, at most 4,096
+bytes at a time, and that none is lost. The report is the same.
+
+Exit status: as of `bb run`; 4 where a socket failed too (`refused 603`). A ledger is good to go on with then, by
+`bb run --ledger` too.";
 
 pub(crate) const RETRY: &str =
     "Holdouts are tables that are recorded without a verdict. Each is looked at again, as by `bb decide`, and a

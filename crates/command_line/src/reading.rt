@@ -1,6 +1,6 @@
 // From what clap made of the words to the options.
-ghost use Rattle.std.specs.Prelude.{◌≤◌, IfOk, IfSome};
-ghost use Rattle.options.specs.Ranges.{AreWithinRanges, IsWithinRange};
+ghost use Rattle.std.specs.Prelude.{◌≡◌, ◌≤◌, IfOk, IfSome};
+ghost use Rattle.options.specs.Ranges.{AreWithinRanges, IsSettling, IsWithinRange};
 
 use crate::grammar::program;
 use crate::line_fault::LineFault;
@@ -23,6 +23,7 @@ pub fn options<'a>(alloc: Global, words: &'a [&'a str]) -> Result<Options<'a>, L
         Some(("decide", decide)) => Ok(Options::Decide(search_of(decide)?)),
         Some(("coord", coord)) => coord_options(coord),
         Some(("run", run)) => run_options(run),
+        Some(("loop", over_sockets)) => loop_options(over_sockets),
         Some(("retry", retry)) => retry_options(retry),
         Some(("merge", merge)) => Ok(merge_options(merge)),
         Some(("report", report)) => Ok(report_options(report)),
@@ -83,18 +84,35 @@ fn coord_options<'a>(coord: &ArgMatches<'a>) -> Result<Options<'a>, LineFault>
 fn run_options<'a>(run: &ArgMatches<'a>) -> Result<Options<'a>, LineFault>
     ensures { IfOk result AreWithinRanges }
 {
-    let settling = Settling {
-        states: number_of(run, STATES, 1, 6)? as u8,
-        workers: number_of(run, WORKERS, 1, 64)? as u8,
-        lose: number_if_given(run, LOSE, 2, 1_000)?,
-        rounds: number_of(run, ROUNDS, 1, 1_000_000_000)?,
-        search: search_of(run)?,
-        json: run.get_flag(JSON),
-        progress: run.get_flag(PROGRESS),
-    };
+    let lose = number_if_given(run, LOSE, 2, 1_000)?;
     Ok(Options::Run {
-        settling,
+        settling: settling_of(run, lose)?,
         ledger: run.get_str(LEDGER),
+    })
+}
+
+fn loop_options<'a>(over_sockets: &ArgMatches<'a>) -> Result<Options<'a>, LineFault>
+    ensures { IfOk result AreWithinRanges }
+{
+    Ok(Options::Loop {
+        settling: settling_of(over_sockets, None)?,
+        ledger: over_sockets.get_str(LEDGER),
+    })
+}
+
+// How a tree is settled, where so many frames are lost.
+fn settling_of(matches: &ArgMatches<'_>, lose: Option<u64>) -> Result<Settling, LineFault>
+    requires { IfSome lose (λ every. (2 ≤ every) × (every ≤ 1000)) }
+    ensures { IfOk result (λ settling. IsSettling settling × (settling.lose ≡ lose)) }
+{
+    Ok(Settling {
+        states: number_of(matches, STATES, 1, 6)? as u8,
+        workers: number_of(matches, WORKERS, 1, 64)? as u8,
+        lose,
+        rounds: number_of(matches, ROUNDS, 1, 1_000_000_000)?,
+        search: search_of(matches)?,
+        json: matches.get_flag(JSON),
+        progress: matches.get_flag(PROGRESS),
     })
 }
 

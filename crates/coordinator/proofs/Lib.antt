@@ -1,4 +1,5 @@
 pub mod InStep
+pub mod Begun
 pub mod Acknowledged
 pub mod KnownRecords
 pub mod Finals

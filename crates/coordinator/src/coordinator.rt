@@ -5,15 +5,16 @@ ghost use Rattle.wire.specs.Happening.{seen};
 ghost use Rattle.wire.specs.Carried.{text_after};
 ghost use Rattle.leases.specs.Leases.{AreLeases, Leased};
 ghost use Rattle.coordinator.specs.CoordinatorRules.{On};
-ghost use Rattle.coordinator.specs.Starts.{Starts, InStep};
-ghost use Rattle.coordinator.specs.inside.Begun.{HoldsBoard};
+ghost use Rattle.coordinator.specs.Starts.{Starts, StartsFrom, InStep};
+ghost use Rattle.coordinator.specs.inside.Begun.{HoldsBoard, coordinator_of, answer_of};
 
 use crate::answering::answer;
-use crate::starting::begun;
+use crate::starting::{begun, begun_from};
 use leases::LeasedBoard;
 use ledger::Board;
 use roles::StartFault;
 use std::alloc::Global;
+use std::io::Read;
 use std::marker::Model;
 use wire::{Event, Node, NodeFault, Out};
 
@@ -54,7 +55,35 @@ impl Coordinator {
         ensures starts { Starts n era ledger.now result.0 result.1 }
         ensures step { IfOk result.1 (λ out. InStep result.0 (text_after out ledger.now)) }
     {
-        match begun(alloc, n, ledger) {
+        Coordinator::of(alloc, era, begun(alloc, n, ledger))
+    }
+
+    /// The same from a reader of its ledger: of that are read as many bytes as the limit says, or all where there are
+    /// fewer, a piece at a time, and it starts as from those bytes. `LedgerFault` where a read fails before; of it and
+    /// `NoMemory` the one that is met first.
+    pub fn start_from<R: Read>(
+        alloc: Global,
+        n: u8,
+        era: u64,
+        from: &mut R,
+        limit: u64,
+    ) -> (Coordinator, Result<Out, StartFault>)
+        requires { (1 ≤ n) × (n ≤ state_limit) }
+        ensures { StartsFrom n era (R.remaining from.old) limit (R.remaining from.new) result.0 result.1 }
+    {
+        Coordinator::of(alloc, era, begun_from(alloc, n, from, limit))
+    }
+
+    // A coordinator of a board, or a stopped one where a start is refused.
+    fn of(
+        alloc: Global,
+        era: u64,
+        begun: Result<(LeasedBoard, Out), StartFault>,
+    ) -> (Coordinator, Result<Out, StartFault>)
+        ensures coordinator { result.0 ≡ coordinator_of era begun }
+        ensures answer { result.1 ≡ answer_of begun }
+    {
+        match begun {
             Ok((held, out)) => {
                 let coordinator = Coordinator {
                     alloc,

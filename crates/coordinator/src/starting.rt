@@ -1,18 +1,20 @@
-// From a ledger's bytes to a board with leases.
-ghost use Rattle.std.specs.Prelude.{◌≡◌, ◌≤◌, ℕ, IfOk, Ok, Err, OnErr};
+// From a ledger to a board with leases.
+ghost use Rattle.std.specs.Prelude.{◌≡◌, ◌≤◌, ℕ, List, [], length, IfOk, Ok, Err, OnErr};
 ghost use Rattle.machine_text.specs.Limits.{state_limit};
 ghost use Rattle.machine_text.specs.Packed.{Packed, empty_table};
 ghost use Rattle.ledger.specs.LedgerText.{LoadGives};
+ghost use Rattle.ledger.specs.Loading.{StandsAfter};
 ghost use Rattle.coordinator.specs.Starts.{Begins, header_due};
 ghost use Rattle.roles.specs.Kept.{kept_bytes};
-ghost use Rattle.coordinator.specs.inside.Begun.{BeginsSo};
+ghost use Rattle.coordinator.specs.inside.Begun.{BeginsSo, BeginsFrom};
 
 use evidence::NoMemory;
 use leases::LeasedBoard;
-use ledger::{Board, Left, append_header};
+use ledger::{Left, Loader, append_header};
 use machine_text::Table;
 use roles::{StartFault, cut_of};
 use std::alloc::Global;
+use std::io::Read;
 use tnf::root;
 use tree::rado_of_tables;
 use wire::{Note, Out};
@@ -22,11 +24,48 @@ pub(crate) fn begun(alloc: Global, n: u8, ledger: &[u8]) -> Result<(LeasedBoard,
     requires { (1 ≤ n) × (n ≤ state_limit) }
     ensures { BeginsSo n ledger.now result }
 {
+    let mut loader = empty_loader(alloc, n);
+    match loader.feed(ledger) {
+        Ok(()) => begun_by(alloc, loader),
+        Err(_) => Err(StartFault::NoMemory),
+    }
+}
+
+// The same of what a reader gives of a ledger, no more than so many bytes.
+pub(crate) fn begun_from<R: Read>(
+    alloc: Global,
+    n: u8,
+    from: &mut R,
+    limit: u64,
+) -> Result<(LeasedBoard, Out), StartFault>
+    requires { (1 ≤ n) × (n ≤ state_limit) }
+    ensures { BeginsFrom n (R.remaining from.old) limit (R.remaining from.new) result }
+{
+    let mut loader = empty_loader(alloc, n);
+    match loader.feed_from(from, limit) {
+        Ok(()) => begun_by(alloc, loader),
+        Err(stop) => Err(StartFault::from(stop)),
+    }
+}
+
+// A loader of the tree of n states, before the first byte.
+fn empty_loader(alloc: Global, n: u8) -> Loader
+    requires { (1 ≤ n) × (n ≤ state_limit) }
+    ensures root { result.root ≡ empty_table n }
+    ensures stands { StandsAfter result [] }
+{
     rado_of_tables();
-    let root = root(n);
-    match Board::load(alloc, root, ledger) {
+    Loader::new(alloc, root(n))
+}
+
+// The same of what a loader was fed.
+fn begun_by(alloc: Global, loader: Loader) -> Result<(LeasedBoard, Out), StartFault>
+    ensures { (n : ℕ) (text : List ℕ) → loader.root ≡ empty_table n → StandsAfter loader text → BeginsSo n text result }
+{
+    let bytes = loader.bytes();
+    match loader.finish() {
         Ok((board, left)) => {
-            let out = first_answer(alloc, &root, ledger, &left)?;
+            let out = first_answer(alloc, board.root(), bytes, &left)?;
             let held = LeasedBoard::new(alloc, board)?;
             Ok((held, out))
         }
@@ -34,13 +73,13 @@ pub(crate) fn begun(alloc: Global, n: u8, ledger: &[u8]) -> Result<(LeasedBoard,
     }
 }
 
-// The answer of a start: a cut where not all bytes were kept, a header where none were.
-fn first_answer(alloc: Global, root: &Table, ledger: &[u8], left: &Left) -> Result<Out, NoMemory>
-    ensures { IfOk result (λ out. Begins root.now ledger.now left.now out) }
+// The answer of a start from so many bytes: a cut where not all were kept, a header where none were.
+fn first_answer(alloc: Global, root: &Table, bytes: u64, left: &Left) -> Result<Out, NoMemory>
+    ensures { IfOk result (λ out. (text : List ℕ) → bytes ≡ length text → Begins root.now text left.now out) }
 {
     let cut = cut_of(left);
     let mut append = Vec::new(alloc);
-    if cut.unwrap_or(ledger.len() as u64) == 0 {
+    if cut.unwrap_or(bytes) == 0 {
         append_header(root, &mut append)?;
     }
     Ok(Out {

@@ -1,24 +1,30 @@
 // From what a command line asks for to the command, and how it ended.
 ghost use Rattle.options.specs.Ranges.{IsBeginning, IsSettling, AreWithinRanges};
 
-use crate::any_finder::all_finders;
+use crate::any_finder::{AnyFinder, all_finders};
 use cert::{Decider, Finders};
 use evidence::NoMemory;
 use json_report::Form;
 use lease_core::Worker;
-use ledger_commands::{Host, LedgerAt, Opened, cmd_merge, cmd_report, cmd_retry, held_at, opened};
+use ledger_commands::{
+    Host, LedgerAt, Opened, cmd_merge, cmd_report, cmd_report_stream, cmd_retry, held_at, opened,
+};
 use line_commands::{cmd_check, cmd_decide};
-use node_commands::{NoLedger, Run, cmd_coord, cmd_run};
+use loopback::Sockets;
+use node_commands::{NoLedger, Run, cmd_coord, cmd_loop, cmd_run};
 use options::{Beginning, Ended, Options, Outcome, Search, Settling};
 use std::alloc::Global;
 use std::io::{self, Empty, Read, Write};
 use std::time::Clock;
 use wire::Node;
 
-/// Does what is asked for: `bb check` and `bb decide` read `input`, and so does `bb coord`. The answer goes to
+// In place of a ledger's path: it is read from `input`.
+const STANDARD_INPUT: &str = "-";
+
+/// Does what is asked for: `bb check`, `bb decide` and `bb coord` read `input`, and so does `bb report -`. The answer goes to
 /// `answers`, and what ends the command early to `faults`. Each end is an `Outcome`: want of memory and a
 /// stream or a file that fails too.
-pub fn carry_out<H: Host + Clock, R: Read, W: Write, E: Write>(
+pub fn carry_out<H: Host + Clock + Sockets, R: Read, W: Write, E: Write>(
     alloc: Global,
     asked: Options<'_>,
     host: &H,
@@ -41,6 +47,10 @@ pub fn carry_out<H: Host + Clock, R: Read, W: Write, E: Write>(
             let ended = settle(alloc, &settling, ledger, host, answers, faults);
             or_told(ended, faults)
         }
+        Options::Loop { settling, ledger } => {
+            let ended = settle_over_sockets(alloc, &settling, ledger, host, answers, faults);
+            or_told(ended, faults)
+        }
         Options::Retry { file, search } => {
             let ended = retry(alloc, file, &search, host, answers, faults);
             or_told(ended, faults)
@@ -48,7 +58,11 @@ pub fn carry_out<H: Host + Clock, R: Read, W: Write, E: Write>(
         Options::Merge(merging) => cmd_merge(alloc, merging, host, answers, faults),
         Options::Report { file, json, why } => {
             let form = Form::of(json);
-            cmd_report(alloc, &form, why, opened(host, file), answers, faults)
+            if file == STANDARD_INPUT {
+                cmd_report_stream(alloc, &form, why, input, answers, faults)
+            } else {
+                cmd_report(alloc, &form, why, opened(host, file), answers, faults)
+            }
         }
     }
 }
@@ -84,6 +98,30 @@ fn settle<H: Host + Clock, W: Write, E: Write>(
 ) -> Result<Outcome, NoMemory>
     requires { IsSettling settling.now }
 {
+    let workers = workers_of(alloc, settling)?;
+    Ok(run(alloc, settling, path, workers, host, answers, faults))
+}
+
+// `bb loop`, with as many workers as are asked for.
+fn settle_over_sockets<H: Host + Clock + Sockets, W: Write, E: Write>(
+    alloc: Global,
+    settling: &Settling,
+    path: Option<&str>,
+    host: &H,
+    answers: &mut W,
+    faults: &mut E,
+) -> Result<Outcome, NoMemory>
+    requires { IsSettling settling.now }
+{
+    let workers = workers_of(alloc, settling)?;
+    Ok(run_over_sockets(alloc, settling, path, workers, host, answers, faults))
+}
+
+// So many workers, with the ids from 1 on, each started from an empty ledger.
+fn workers_of(
+    alloc: Global,
+    settling: &Settling,
+) -> Result<Vec<Worker<Finders<AnyFinder>>>, NoMemory> {
     let steps = settling.search.steps;
     let mut workers = Vec::new(alloc);
     for id in 1..=u32::from(settling.workers) {
@@ -95,7 +133,7 @@ fn settle<H: Host + Clock, W: Write, E: Write>(
         }
         workers.push(worker)?;
     }
-    Ok(run(alloc, settling, path, workers, host, answers, faults))
+    Ok(workers)
 }
 
 // The same with these workers, and with its ledger in a file, which is read before it is opened for writing, or none.
@@ -124,6 +162,38 @@ fn run<N: Node + Drop, H: Host + Clock, W: Write, E: Write>(
             cmd_run(alloc, run, held, &mut ledger, answers, faults)
         }
         None => cmd_run(alloc, run, Ok(nothing()), &mut NoLedger, answers, faults),
+    }
+}
+
+// The same over sockets.
+fn run_over_sockets<N: Node + Drop, H: Host + Clock + Sockets, W: Write, E: Write>(
+    alloc: Global,
+    settling: &Settling,
+    path: Option<&str>,
+    workers: Vec<N>,
+    host: &H,
+    answers: &mut W,
+    faults: &mut E,
+) -> Outcome
+    requires { IsSettling settling.now }
+{
+    let form = Form::of(settling.json);
+    let run = Run {
+        settling,
+        form: &form,
+        workers,
+        clock: host,
+    };
+    match path {
+        Some(path) => {
+            let held = held_at(host, path);
+            let mut ledger = LedgerAt::new(host, path);
+            cmd_loop(alloc, run, host, held, &mut ledger, answers, faults)
+        }
+        None => {
+            let held = Ok(nothing());
+            cmd_loop(alloc, run, host, held, &mut NoLedger, answers, faults)
+        }
     }
 }
 

@@ -1,10 +1,12 @@
-// The files and the clock of the system.
+// The files, the clock and the sockets of the system.
 use ledger_commands::{FileLedger, Host};
+use loopback::Sockets;
 use std::fs::{self, OpenFile, OpenOptions};
 use std::io::{self, ErrorKind};
+use std::net::{TcpListener, TcpStream};
 use std::time::{Clock, Duration};
 
-/// The files and the clock of the system.
+/// The files, the clock and the sockets of the system.
 #[derive(Drop)]
 pub struct System<'a> {
     rt: &'a HostRuntime,
@@ -57,5 +59,28 @@ impl<'a> Clock for System<'a> {
 
     fn since_1970(&self) -> io::Result<Duration> {
         self.rt.since_1970()
+    }
+}
+
+impl<'a> Sockets for System<'a> {
+    type Listener = TcpListener;
+
+    type Stream = TcpStream;
+
+    fn listen(&self) -> io::Result<TcpListener> {
+        TcpListener::bind(self.rt, "127.0.0.1:0")
+    }
+
+    // What is written goes out at once: the pieces of a link aren't held back until the last is acknowledged.
+    fn connect(&self, listener: &TcpListener) -> io::Result<TcpStream> {
+        let stream = TcpStream::connect(self.rt, listener.local_addr()?)?;
+        stream.set_nodelay(true)?;
+        Ok(stream)
+    }
+
+    fn accept(&self, listener: &TcpListener) -> io::Result<TcpStream> {
+        let (stream, _) = listener.accept()?;
+        stream.set_nodelay(true)?;
+        Ok(stream)
     }
 }

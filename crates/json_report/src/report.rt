@@ -36,8 +36,7 @@ pub fn report_json(alloc: Global, board: &Board, out: &mut Vec<u8>) -> Result<()
 fn report_text(alloc: Global, board: &Board) -> Result<Vec<u8>, NoMemory>
     ensures { IfOk result (λ text. IsJsonReport board.now.root board.now.records text.items) }
 {
-    let champions = board.champions()?;
-    let holdouts = board.holdouts()?;
+    let (champions, holdouts) = board.champions_and_holdouts()?;
     let tally = board.tally();
     let report = report_value(
         alloc,

@@ -6,49 +6,49 @@ use Rattle.machine_text.specs.Packed.{Packed}
 use Rattle.ledger.specs.Contents.{Contents}
 use Rattle.leases.specs.Asks.{IsFree}
 use Rattle.leases.specs.Leases.{AreLeases, is_live, came_under, while_live}
-use Rattle.leases.specs.inside.Keeping.{KeptLease, as_lease, as_leases, is_numbered, without, AreAmongFree, IsKept, IsOwn}
+use Rattle.leases.specs.inside.Stored.{StoredLease, as_lease, as_leases, is_numbered, without, AreAmongFree, AreStored, IsOwn}
 use Rattle.leases.proofs.Ending.{ended_holds}
 use Rattle.leases.proofs.Granting.{given_all}
 use Rattle.leases.proofs.LiveLaws.{live_without, of_others}
 use Rattle.leases.proofs.OfferLaws.{KeepsAll}
 
-pub own_ends : (id : ℕ) (own : Option ℕ) (ls kept : List KeptLease) → IsOwn id own ls → kept ≡ without own ls → kept ≡ filter (λ l. not (nat_eq l.id id)) ls
+pub own_ends : (id : ℕ) (own : Option ℕ) (ls kept : List StoredLease) → IsOwn id own ls → kept ≡ without own ls → kept ≡ filter (λ l. not (nat_eq l.id id)) ls
 own_ends id own ls kept is e = e ∙ of_others id own ls is.only is.exact
 
-own_offered : (id : ℕ) (own : Option ℕ) (ls : List KeptLease) (free : List Packed) → IsOwn id own ls → AreAmongFree (λ l. is_numbered own l.number) ls free → AreAmongFree (λ l. nat_eq l.id id) ls free
-own_offered id own ls free is offered l t member ends h =
-    offered l t member (ap (λ o. is_numbered o l.number) (is.only l member (eqb-true l.id id ends)) ∙ eq-eqb l.number l.number refl) h
+own_freed : (id : ℕ) (own : Option ℕ) (ls : List StoredLease) (free : List Packed) → IsOwn id own ls → AreAmongFree (λ l. is_numbered own l.number) ls free → AreAmongFree (λ l. nat_eq l.id id) ls free
+own_freed id own ls free is freed l t member ends h =
+    freed l t member (ap (λ o. is_numbered o l.number) (is.only l member (eqb-true l.id id ends)) ∙ eq-eqb l.number l.number refl) h
 
 -- what holds once a worker's own lease has ended
-pub own_ended : (b : Contents) (id : ℕ) (own : Option ℕ) (ls kept : List KeptLease) (before came : List (Packed × ℕ)) (free more : List Packed) (moment given : ℕ) → IsOwn id own ls → kept ≡ without own ls → came ≡ before
-    → KeepsAll free more → AreAmongFree (λ l. is_numbered own l.number) ls more → AreLeases b (as_leases ls before moment given) × IsKept b ls before free
-    → AreLeases b (as_leases kept came moment given) × IsKept b kept came more
-own_ended b id own ls kept before came free more moment given is e same_came more_free offered holds =
-    ended_holds b (λ l. nat_eq l.id id) ls ls kept before came free more moment given refl same_came (own_ends id own ls kept is e) more_free (own_offered id own ls more is offered) holds
+pub own_ended : (b : Contents) (id : ℕ) (own : Option ℕ) (ls kept : List StoredLease) (before came : List (Packed × ℕ)) (free more : List Packed) (moment given : ℕ) → IsOwn id own ls → kept ≡ without own ls → came ≡ before
+    → KeepsAll free more → AreAmongFree (λ l. is_numbered own l.number) ls more → AreLeases b (as_leases ls before moment given) × AreStored b ls before free
+    → AreLeases b (as_leases kept came moment given) × AreStored b kept came more
+own_ended b id own ls kept before came free more moment given is e same_came more_free freed holds =
+    ended_holds b (λ l. nat_eq l.id id) ls ls kept before came free more moment given refl same_came (own_ends id own ls kept is e) more_free (own_freed id own ls more is freed) holds
 
 none_if : (a : Bool) (n : ℕ) → (if a then Some n else None) ≡ None → a ≡ false
 none_if true n e = absurd (cc)
 none_if false n e = refl
 
-still_none : (which : Option ℕ) (ls : List KeptLease) (o : Option ℕ) → while_live (map as_lease ls) o ≡ None → while_live (map as_lease (without which ls)) o ≡ None
+still_none : (which : Option ℕ) (ls : List StoredLease) (o : Option ℕ) → while_live (map as_lease ls) o ≡ None → while_live (map as_lease (without which ls)) o ≡ None
 still_none which ls None e = refl
 still_none which ls (Some n) e =
     ap (λ b. if b then Some n else None) (live_without which ls n ∙ ap (λ b. b && not (is_numbered which n)) (none_if (is_live (map as_lease ls) n) n e))
 
 -- where memory is refused, the free tables that are left are enough
-pub refused_holds : (b : Contents) (own : Option ℕ) (first ls : List KeptLease) (before came : List (Packed × ℕ)) (free rest : List Packed) (moment given : ℕ) → ls ≡ first → came ≡ before
-    → ((q : Packed) → IsFree b (as_leases (without own first) before 0 0) q → Contains rest q) → AreLeases b (as_leases first before moment given) × IsKept b first before free
-    → AreLeases b (as_leases ls came moment given) × IsKept b ls came rest
+pub refused_holds : (b : Contents) (own : Option ℕ) (first ls : List StoredLease) (before came : List (Packed × ℕ)) (free rest : List Packed) (moment given : ℕ) → ls ≡ first → came ≡ before
+    → ((q : Packed) → IsFree b (as_leases (without own first) before 0 0) q → Contains rest q) → AreLeases b (as_leases first before moment given) × AreStored b first before free
+    → AreLeases b (as_leases ls came moment given) × AreStored b ls came rest
 refused_holds b own first ls before came free rest moment given same same_came left holds =
-    subst (λ (ls : List KeptLease). AreLeases b (as_leases ls came moment given) × IsKept b ls came rest) (sym same)
-    (subst (λ (came : List (Packed × ℕ)). AreLeases b (as_leases first came moment given) × IsKept b first came rest) (sym same_came) (
+    subst (λ (ls : List StoredLease). AreLeases b (as_leases ls came moment given) × AreStored b ls came rest) (sym same)
+    (subst (λ (came : List (Packed × ℕ)). AreLeases b (as_leases first came moment given) × AreStored b first came rest) (sym same_came) (
       holds.0,
-      record { listed = holds.1.listed; offered = λ t is_open none. left t (is_open, still_none own first (came_under before t) none) },
+      record { listed = holds.1.listed; freed = λ t is_open none. left t (is_open, still_none own first (came_under before t) none) },
     ))
 
-pub below_next : (b : Contents) (ls : List KeptLease) (came : List (Packed × ℕ)) (moment given : ℕ) → AreLeases b (as_leases ls came moment given) → All (λ (l : KeptLease). l.number < given + 1) ls
-below_next b ls came moment given are = All-weaker (λ (l : KeptLease). l.number ≤ given) (λ (l : KeptLease). l.number < given + 1) (λ l most. omega arith) ls (given_all given ls are.given)
+pub below_next : (b : Contents) (ls : List StoredLease) (came : List (Packed × ℕ)) (moment given : ℕ) → AreLeases b (as_leases ls came moment given) → All (λ (l : StoredLease). l.number < given + 1) ls
+below_next b ls came moment given are = All-weaker (λ (l : StoredLease). l.number ≤ given) (λ (l : StoredLease). l.number < given + 1) (λ l most. omega arith) ls (given_all given ls are.given)
 
 -- the same leases at another moment
-pub at_moment : (b : Contents) (ls : List KeptLease) (came : List (Packed × ℕ)) (moment other given : ℕ) → AreLeases b (as_leases ls came moment given) → AreLeases b (as_leases ls came other given)
+pub at_moment : (b : Contents) (ls : List StoredLease) (came : List (Packed × ℕ)) (moment other given : ℕ) → AreLeases b (as_leases ls came moment given) → AreLeases b (as_leases ls came other given)
 at_moment b ls came moment other given are = record { most = are.most; numbers = are.numbers; ids = are.ids; given = are.given; came_given = are.came_given; is_open = are.is_open }

@@ -9,7 +9,7 @@ use Rattle.std.proofs.lemmas.List.Sorted.{Contains-permutation, sum_by_pushed, s
 use Rattle.std.proofs.lemmas.Option.{same_Some}
 use Rattle.ledger.proofs.Apart.{first_or_later, later_member, first_member}
 use Rattle.leases.specs.Leases.{Lease, SomeEnds}
-use Rattle.leases.specs.inside.Keeping.{KeptLease, kept_lease, as_lease, has_ended, without, is_numbered, AreDue}
+use Rattle.leases.specs.inside.Stored.{StoredLease, stored_lease, as_lease, has_ended, without, is_numbered, AreDue}
 use Rattle.leases.specs.inside.Deadlines.{entry, is_past, TakesPast, Awaits, AreAwaited, AreAwaitedBut, HaveEnded, SomePast, AreNotAhead}
 use Rattle.leases.specs.declared.held_leases.HeldLease.{HeldLease}
 use Rattle.leases.specs.inside.Children.{shown}
@@ -62,7 +62,7 @@ after_taking moment n k renewed old new took there =
       | inr later ↦ inr (there.0, later, there.2)
     ]
 
-member_append : (xs : List KeptLease) (l x : KeptLease) → Contains (xs ++ (l ∷ [])) x → Contains xs x ⊎ (x ≡ l)
+member_append : (xs : List StoredLease) (l x : StoredLease) → Contains (xs ++ (l ∷ [])) x → Contains xs x ⊎ (x ≡ l)
 member_append [] l x h = elim (first_or_later l [] x h) [ inl same ↦ inr (sym same) | inr later ↦ absurd (omega (arith, later.1)) ]
 member_append (y ∷ ys) l x h = elim (first_or_later y (ys ++ (l ∷ [])) x h) [
   | inl same ↦ inl (first_member y x ys same)
@@ -70,36 +70,36 @@ member_append (y ∷ ys) l x h = elim (first_or_later y (ys ++ (l ∷ [])) x h) 
 ]
 
 -- no lease was given or renewed after the moment, and so it stays
-pub same_not_ahead : (moment : ℕ) (ls new : List KeptLease) → new ≡ ls → AreNotAhead moment ls → AreNotAhead moment new
+pub same_not_ahead : (moment : ℕ) (ls new : List StoredLease) → new ≡ ls → AreNotAhead moment ls → AreNotAhead moment new
 same_not_ahead moment ls new same past = subst (AreNotAhead moment) (sym same) past
 
-pub fewer_not_ahead : (p : KeptLease → Bool) (moment : ℕ) (ls new : List KeptLease) → new ≡ filter p ls → AreNotAhead moment ls → AreNotAhead moment new
-fewer_not_ahead p moment ls new is past l h = past l (filter_member p ls l (subst (λ (xs : List KeptLease). Contains xs l) is h))
+pub fewer_not_ahead : (p : StoredLease → Bool) (moment : ℕ) (ls new : List StoredLease) → new ≡ filter p ls → AreNotAhead moment ls → AreNotAhead moment new
+fewer_not_ahead p moment ls new is past l h = past l (filter_member p ls l (subst (λ (xs : List StoredLease). Contains xs l) is h))
 
-pub without_not_ahead : (which : Option ℕ) (moment : ℕ) (ls new : List KeptLease) → new ≡ without which ls → AreNotAhead moment ls → AreNotAhead moment new
+pub without_not_ahead : (which : Option ℕ) (moment : ℕ) (ls new : List StoredLease) → new ≡ without which ls → AreNotAhead moment ls → AreNotAhead moment new
 without_not_ahead which moment ls new is past = fewer_not_ahead (λ l. not (is_numbered which l.number)) moment ls new is past
 
-pub later_not_ahead : (moment t now : ℕ) (ls : List KeptLease) → now ≡ max moment t → AreNotAhead moment ls → AreNotAhead now ls
+pub later_not_ahead : (moment t now : ℕ) (ls : List StoredLease) → now ≡ max moment t → AreNotAhead moment ls → AreNotAhead now ls
 later_not_ahead moment t now ls is past l h = let before = past l h in let later = le-max_left moment t in omega (arith, before, later, is)
 
-pub granted_not_ahead : (own : Option ℕ) (moment : ℕ) (ls new : List KeptLease) (l : KeptLease) → new ≡ without own ls ++ (l ∷ []) → l.renewed ≡ moment → AreNotAhead moment ls → AreNotAhead moment new
+pub granted_not_ahead : (own : Option ℕ) (moment : ℕ) (ls new : List StoredLease) (l : StoredLease) → new ≡ without own ls ++ (l ∷ []) → l.renewed ≡ moment → AreNotAhead moment ls → AreNotAhead moment new
 granted_not_ahead own moment ls new l is now past x h =
-    elim (member_append (without own ls) l x (subst (λ (xs : List KeptLease). Contains xs x) is h)) [
+    elim (member_append (without own ls) l x (subst (λ (xs : List StoredLease). Contains xs x) is h)) [
       | inl before ↦ without_not_ahead own moment ls (without own ls) refl past x before
-      | inr last ↦ let same = ap (λ (l : KeptLease). l.renewed) last in omega (arith, same, now)
+      | inr last ↦ let same = ap (λ (l : StoredLease). l.renewed) last in omega (arith, same, now)
     ]
 
-pub shown_not_ahead : (moment : ℕ) (first ls : List KeptLease) → map shown ls ≡ map shown first → AreNotAhead moment first → AreNotAhead moment ls
+pub shown_not_ahead : (moment : ℕ) (first ls : List StoredLease) → map shown ls ≡ map shown first → AreNotAhead moment first → AreNotAhead moment ls
 shown_not_ahead moment first ls same past l h =
     let there = unmapped shown first (shown l) (subst (λ (xs : List (Lease × List Packed)). Contains xs (shown l)) same (mapped shown ls l h)) in
     let renewed = ap (λ (p : Lease × List Packed). p.0.deadline) there.2 in
     let before = past there.0 there.1 in
     omega (arith, renewed, before)
 
-pub renewed_not_ahead : (moment : ℕ) (ls new : List KeptLease) (at : ℕ) (l : KeptLease) → at < length ls → new ≡ set ls at l → l.renewed ≡ moment → AreNotAhead moment ls → AreNotAhead moment new
+pub renewed_not_ahead : (moment : ℕ) (ls new : List StoredLease) (at : ℕ) (l : StoredLease) → at < length ls → new ≡ set ls at l → l.renewed ≡ moment → AreNotAhead moment ls → AreNotAhead moment new
 renewed_not_ahead moment ls new at l within is now past x h =
-    elim (set_member ls at l x within (subst (λ (xs : List KeptLease). Contains xs x) is h)) [
-      | inl same ↦ let renewed = ap (λ (l : KeptLease). l.renewed) same in omega (arith, renewed, now)
+    elim (set_member ls at l x within (subst (λ (xs : List StoredLease). Contains xs x) is h)) [
+      | inl same ↦ let renewed = ap (λ (l : StoredLease). l.renewed) same in omega (arith, renewed, now)
       | inr other ↦ past x (other.0, other.2, other.3)
     ]
 
@@ -192,18 +192,18 @@ all_listed moment entries numbers at none awaited n l found late = elim (awaited
 
 -- the numbers that are listed are those of the leases that have ended
 pub due_by : (moment : ℕ) (m : BTreeMap ℕ HeldLease) (numbers : List ℕ) → IsOrdered nat_cmp m → HaveEnded moment numbers (get nat_cmp m)
-    → ((n : ℕ) (l : HeldLease) → get nat_cmp m n ≡ Some l → is_past moment l.renewed ≡ true → Contains numbers n) → AreDue moment (map as_lease (map kept_lease m.entries)) numbers
+    → ((n : ℕ) (l : HeldLease) → get nat_cmp m n ≡ Some l → is_past moment l.renewed ≡ true → Contains numbers n) → AreDue moment (map as_lease (map stored_lease m.entries)) numbers
 due_by moment m numbers ordered ended listed = record {
   all = λ x member late.
-      let l = unmapped as_lease (map kept_lease m.entries) x member in
+      let l = unmapped as_lease (map stored_lease m.entries) x member in
       let there = member_at m ordered l.0 l.1 in
       subst (Contains numbers) (ap (λ (x : Lease). x.number) l.2)
-      (listed l.0.number there.0 there.1 (ap (λ (k : KeptLease). has_ended moment (as_lease k)) there.2 ∙ (ap (has_ended moment) l.2 ∙ late)));
+      (listed l.0.number there.0 there.1 (ap (λ (k : StoredLease). has_ended moment (as_lease k)) there.2 ∙ (ap (has_ended moment) l.2 ∙ late)));
   only = λ x member h.
-      let l = unmapped as_lease (map kept_lease m.entries) x member in
+      let l = unmapped as_lease (map stored_lease m.entries) x member in
       let there = member_at m ordered l.0 l.1 in
       let have = ended l.0.number (subst (Contains numbers) (sym (ap (λ (x : Lease). x.number) l.2)) h) in
-      ap (has_ended moment) (sym l.2) ∙ (ap (λ (k : KeptLease). has_ended moment (as_lease k)) (sym there.2)
+      ap (has_ended moment) (sym l.2) ∙ (ap (λ (k : StoredLease). has_ended moment (as_lease k)) (sym there.2)
       ∙ (ap (λ (v : HeldLease). is_past moment v.renewed) (same_Some there.0 have.0 (sym there.1 ∙ have.1)) ∙ have.2));
 }
 
@@ -247,6 +247,6 @@ replaced_awaited old new own n v at after put is awaited q l found =
     ]
 
 -- a lease that is past ends
-pub past_ends : (moment : ℕ) (m : BTreeMap ℕ HeldLease) → SomePast moment (get nat_cmp m) → SomeEnds moment (map as_lease (map kept_lease m.entries))
+pub past_ends : (moment : ℕ) (m : BTreeMap ℕ HeldLease) → SomePast moment (get nat_cmp m) → SomeEnds moment (map as_lease (map stored_lease m.entries))
 past_ends moment m (n, l, found, late) =
-    (as_lease (kept_lease (n, l)), mapped as_lease (map kept_lease m.entries) (kept_lease (n, l)) (found_member n l m.entries found), leb-true (l.renewed + 60) moment late)
+    (as_lease (stored_lease (n, l)), mapped as_lease (map stored_lease m.entries) (stored_lease (n, l)) (found_member n l m.entries found), leb-true (l.renewed + 60) moment late)

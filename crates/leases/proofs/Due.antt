@@ -9,48 +9,48 @@ use Rattle.std.proofs.lemmas.Bool.{eqb-true, eq-eqb, leb-true}
 use Rattle.ledger.proofs.Apart.{first_member, later_member, first_or_later}
 use Rattle.machine_text.specs.Packed.{Packed}
 use Rattle.leases.specs.Leases.{Lease, SomeEnds, is_live}
-use Rattle.leases.specs.inside.Keeping.{KeptLease, kept_lease, as_lease, has_ended, without, are_numbered, without_each, AreDue, AreAmongFree}
+use Rattle.leases.specs.inside.Stored.{StoredLease, stored_lease, as_lease, has_ended, without, are_numbered, without_each, AreDue, AreAmongFree}
 use Rattle.leases.specs.declared.held_leases.HeldLease.{HeldLease}
 use Rattle.leases.proofs.FreeLaws.{mapped, unmapped}
 use Rattle.leases.proofs.LiveLaws.{member_at}
 use Rattle.leases.proofs.Members.{filter_member, found_live, in_filter, or_later}
 
 -- the numbers of the leases that have ended
-abbrev pub due_of : ℕ → List KeptLease → List ℕ
+abbrev pub due_of : ℕ → List StoredLease → List ℕ
 due_of moment ls = map (λ l. l.number) (filter (λ l. has_ended moment (as_lease l)) ls)
 
-pub due_first : (moment : ℕ) (l : KeptLease) (ls : List KeptLease) → has_ended moment (as_lease l) ≡ true → due_of moment (l ∷ ls) ≡ l.number ∷ due_of moment ls
-due_first moment l ls ends = ap (λ b. map (λ (l : KeptLease). l.number) (cond b (l ∷ filter (λ (l : KeptLease). has_ended moment (as_lease l)) ls) (filter (λ (l : KeptLease). has_ended moment (as_lease l)) ls))) ends
+pub due_first : (moment : ℕ) (l : StoredLease) (ls : List StoredLease) → has_ended moment (as_lease l) ≡ true → due_of moment (l ∷ ls) ≡ l.number ∷ due_of moment ls
+due_first moment l ls ends = ap (λ b. map (λ (l : StoredLease). l.number) (cond b (l ∷ filter (λ (l : StoredLease). has_ended moment (as_lease l)) ls) (filter (λ (l : StoredLease). has_ended moment (as_lease l)) ls))) ends
 
-pub due_passed : (moment : ℕ) (l : KeptLease) (ls : List KeptLease) → has_ended moment (as_lease l) ≡ false → due_of moment (l ∷ ls) ≡ due_of moment ls
-due_passed moment l ls stays = ap (λ b. map (λ (l : KeptLease). l.number) (cond b (l ∷ filter (λ (l : KeptLease). has_ended moment (as_lease l)) ls) (filter (λ (l : KeptLease). has_ended moment (as_lease l)) ls))) stays
+pub due_passed : (moment : ℕ) (l : StoredLease) (ls : List StoredLease) → has_ended moment (as_lease l) ≡ false → due_of moment (l ∷ ls) ≡ due_of moment ls
+due_passed moment l ls stays = ap (λ b. map (λ (l : StoredLease). l.number) (cond b (l ∷ filter (λ (l : StoredLease). has_ended moment (as_lease l)) ls) (filter (λ (l : StoredLease). has_ended moment (as_lease l)) ls))) stays
 
 passes : {X : Type 0} (p : X → Bool) (xs : List X) (x : X) → Contains (filter p xs) x → p x ≡ true
 passes p xs x h = All-contains (λ x. p x ≡ true) (filter p xs) x (filter_passes p xs) h
 
-pub are_due : (moment : ℕ) (m : BTreeMap ℕ HeldLease) → IsOrdered nat_cmp m → AreDue moment (map as_lease (map kept_lease m.entries)) (due_of moment (map kept_lease m.entries))
+pub are_due : (moment : ℕ) (m : BTreeMap ℕ HeldLease) → IsOrdered nat_cmp m → AreDue moment (map as_lease (map stored_lease m.entries)) (due_of moment (map stored_lease m.entries))
 are_due moment m ordered =
-    let ls = map kept_lease m.entries in
-    let ends : KeptLease → Bool = λ l. has_ended moment (as_lease l) in
+    let ls = map stored_lease m.entries in
+    let ends : StoredLease → Bool = λ l. has_ended moment (as_lease l) in
     record {
       all = λ x member late.
           let l = unmapped as_lease ls x member in
           subst (Contains (due_of moment ls)) (ap (λ (x : Lease). x.number) l.2)
-          (mapped (λ (l : KeptLease). l.number) (filter ends ls) l.0 (in_filter ends ls l.0 l.1 (ap (has_ended moment) l.2 ∙ late)));
+          (mapped (λ (l : StoredLease). l.number) (filter ends ls) l.0 (in_filter ends ls l.0 l.1 (ap (has_ended moment) l.2 ∙ late)));
       only = λ x member there.
           let l = unmapped as_lease ls x member in
-          let k = unmapped (λ (l : KeptLease). l.number) (filter ends ls) x.number there in
+          let k = unmapped (λ (l : StoredLease). l.number) (filter ends ls) x.number there in
           let late = passes ends ls k.0 k.1 in
           let first = member_at m ordered l.0 l.1 in
           let second = member_at m ordered k.0 (filter_member ends ls k.0 k.1) in
           let number : k.0.number ≡ l.0.number = k.2 ∙ sym (ap (λ (x : Lease). x.number) l.2) in
           let value : second.0 ≡ first.0 = same_Some second.0 first.0 (sym second.1 ∙ (ap (get nat_cmp m) number ∙ first.1)) in
-          let same : k.0 ≡ l.0 = sym second.2 ∙ (ap (λ n. kept_lease (n, second.0)) number ∙ (ap (λ v. kept_lease (l.0.number, v)) value ∙ first.2)) in
+          let same : k.0 ≡ l.0 = sym second.2 ∙ (ap (λ n. stored_lease (n, second.0)) number ∙ (ap (λ v. stored_lease (l.0.number, v)) value ∙ first.2)) in
           ap (has_ended moment) (sym l.2) ∙ (ap ends (sym same) ∙ late);
     }
 
 -- leases that end one after the other
-pub without_next : (n : ℕ) (rest : List ℕ) (ls : List KeptLease) → without_each (n ∷ rest) ls ≡ without_each rest (without (Some n) ls)
+pub without_next : (n : ℕ) (rest : List ℕ) (ls : List StoredLease) → without_each (n ∷ rest) ls ≡ without_each rest (without (Some n) ls)
 without_next n rest [] = refl
 without_next n rest (l ∷ ls) =
     elim (nat_eq l.number n) as (λ b. cond (not (b || are_numbered rest l.number)) (l ∷ without_each (n ∷ rest) ls) (without_each (n ∷ rest) ls) ≡ without_each rest (cond (not b) (l ∷ without (Some n) ls) (without (Some n) ls))) [
@@ -58,7 +58,7 @@ without_next n rest (l ∷ ls) =
       | false ↦ ap (λ xs. cond (not (are_numbered rest l.number)) (l ∷ xs) xs) (without_next n rest ls)
     ]
 
-pub without_no_more : (ls : List KeptLease) → without_each [] ls ≡ ls
+pub without_no_more : (ls : List StoredLease) → without_each [] ls ≡ ls
 without_no_more [] = refl
 without_no_more (l ∷ ls) = ap (λ xs. l ∷ xs) (without_no_more ls)
 
@@ -79,7 +79,7 @@ are_one n (m ∷ ms) h = elim (first_or_later m ms n h) [
 ]
 
 -- the leases of numbers that are due are those that have ended
-pub ended_each : (moment : ℕ) (numbers : List ℕ) (ls : List KeptLease) → AreDue moment (map as_lease ls) numbers → without_each numbers ls ≡ filter (λ l. not (has_ended moment (as_lease l))) ls
+pub ended_each : (moment : ℕ) (numbers : List ℕ) (ls : List StoredLease) → AreDue moment (map as_lease ls) numbers → without_each numbers ls ≡ filter (λ l. not (has_ended moment (as_lease l))) ls
 ended_each moment numbers [] due = refl
 ended_each moment numbers (l ∷ ls) due =
     let rest = ended_each moment numbers ls (record {
@@ -97,22 +97,22 @@ ended_each moment numbers (l ∷ ls) due =
     ap (λ b. cond (not b) (l ∷ without_each numbers ls) (without_each numbers ls)) same ∙ ap (λ xs. cond (not (has_ended moment (as_lease l))) (l ∷ xs) xs) rest
 
 -- the tables of the leases of the first numbers are among the free ones
-abbrev pub AreFirstOffered : List ℕ → ℕ → List KeptLease → List Packed → Type 0
-AreFirstOffered numbers i ls free = (k : ℕ) (d : ℕ) → k < i → AreAmongFree (λ l. nat_eq l.number (get_or numbers k d)) ls free
+abbrev pub AreFirstFreed : List ℕ → ℕ → List StoredLease → List Packed → Type 0
+AreFirstFreed numbers i ls free = (k : ℕ) (d : ℕ) → k < i → AreAmongFree (λ l. nat_eq l.number (get_or numbers k d)) ls free
 
-pub one_offered : (numbers : List ℕ) (i n : ℕ) (ls : List KeptLease) (old new : List Packed) → i < length numbers → n ≡ get_or numbers i n → ((q : Packed) → Contains old q → Contains new q)
-    → AreAmongFree (λ l. nat_eq l.number n) ls new → AreFirstOffered numbers i ls old → AreFirstOffered numbers (i + 1) ls new
-one_offered numbers i n ls old new below is more here before = λ k d less.
+pub one_freed : (numbers : List ℕ) (i n : ℕ) (ls : List StoredLease) (old new : List Packed) → i < length numbers → n ≡ get_or numbers i n → ((q : Packed) → Contains old q → Contains new q)
+    → AreAmongFree (λ l. nat_eq l.number n) ls new → AreFirstFreed numbers i ls old → AreFirstFreed numbers (i + 1) ls new
+one_freed numbers i n ls old new below is more here before = λ k d less.
     below_more (λ (k : ℕ). (d : ℕ) → AreAmongFree (λ l. nat_eq l.number (get_or numbers k d)) ls new) i (λ k less d l t member e h. more t (before k d less l t member e h))
     (at_read numbers (λ (n : ℕ). AreAmongFree (λ l. nat_eq l.number n) ls new) i n below is here) k less d
 
-pub all_offered : (numbers : List ℕ) (i : ℕ) (ls : List KeptLease) (free : List Packed) → length numbers ≤ i → AreFirstOffered numbers i ls free → AreAmongFree (λ l. are_numbered numbers l.number) ls free
-all_offered numbers i ls free all first l t member ends h =
+pub all_freed : (numbers : List ℕ) (i : ℕ) (ls : List StoredLease) (free : List Packed) → length numbers ≤ i → AreFirstFreed numbers i ls free → AreAmongFree (λ l. are_numbered numbers l.number) ls free
+all_freed numbers i ls free all first l t member ends h =
     let there = one_of l.number numbers ends in
     first there.0 l.number (omega (arith, there.1)) l t member (eq-eqb l.number (get_or numbers there.0 l.number) (sym there.2)) h
 
-pub due_offered : (moment : ℕ) (numbers : List ℕ) (ls : List KeptLease) (free : List Packed) → AreDue moment (map as_lease ls) numbers → AreAmongFree (λ l. are_numbered numbers l.number) ls free → AreAmongFree (has_ended moment) ls free
-due_offered moment numbers ls free due offered l t member late h = offered l t member (are_one l.number numbers (due.all (as_lease l) (mapped as_lease ls l member) late)) h
+pub due_freed : (moment : ℕ) (numbers : List ℕ) (ls : List StoredLease) (free : List Packed) → AreDue moment (map as_lease ls) numbers → AreAmongFree (λ l. are_numbered numbers l.number) ls free → AreAmongFree (has_ended moment) ls free
+due_freed moment numbers ls free due freed l t member late h = freed l t member (are_one l.number numbers (due.all (as_lease l) (mapped as_lease ls l member) late)) h
 
 pub drop_past : (xs : List ℕ) (i : ℕ) → length xs ≤ i → drop i xs ≡ []
 drop_past [] zero all = refl
@@ -125,17 +125,17 @@ same_place [] i d e below = absurd (omega arith)
 same_place (x ∷ xs) zero d e below = refl
 same_place (x ∷ xs) (suc i) d e below = same_place xs i d e (omega arith)
 
-pub next_offered : (numbers : List ℕ) (i d : ℕ) (ls : List KeptLease) (old new : List Packed) → i < length numbers → ((q : Packed) → Contains old q → Contains new q)
-    → AreAmongFree (λ l. nat_eq l.number (get_or numbers i d)) ls new → AreFirstOffered numbers i ls old → AreFirstOffered numbers (i + 1) ls new
-next_offered numbers i d ls old new below more here before = one_offered numbers i (get_or numbers i d) ls old new below (same_place numbers i d (get_or numbers i d) below) more here before
+pub next_freed : (numbers : List ℕ) (i d : ℕ) (ls : List StoredLease) (old new : List Packed) → i < length numbers → ((q : Packed) → Contains old q → Contains new q)
+    → AreAmongFree (λ l. nat_eq l.number (get_or numbers i d)) ls new → AreFirstFreed numbers i ls old → AreFirstFreed numbers (i + 1) ls new
+next_freed numbers i d ls old new below more here before = one_freed numbers i (get_or numbers i d) ls old new below (same_place numbers i d (get_or numbers i d) below) more here before
 
-pub next_ended : (numbers : List ℕ) (i d : ℕ) (ls new : List KeptLease) → i < length numbers → new ≡ without (Some (get_or numbers i d)) ls → without_each (drop i numbers) ls ≡ without_each (drop (i + 1) numbers) new
+pub next_ended : (numbers : List ℕ) (i d : ℕ) (ls new : List StoredLease) → i < length numbers → new ≡ without (Some (get_or numbers i d)) ls → without_each (drop i numbers) ls ≡ without_each (drop (i + 1) numbers) new
 next_ended numbers i d ls new below is =
     ap (λ (ns : List ℕ). without_each ns ls) (drop_more numbers i d below)
     ∙ (without_next (get_or numbers i d) (drop (i + 1) numbers) ls ∙ ap (without_each (drop (i + 1) numbers)) (sym is))
 
 -- a number that is due is that of a lease that ends
-pub number_ends : (moment : ℕ) (ls : List KeptLease) (numbers : List ℕ) (n : ℕ) → AreDue moment (map as_lease ls) numbers → Contains numbers n → is_live (map as_lease ls) n ≡ true → SomeEnds moment (map as_lease ls)
+pub number_ends : (moment : ℕ) (ls : List StoredLease) (numbers : List ℕ) (n : ℕ) → AreDue moment (map as_lease ls) numbers → Contains numbers n → is_live (map as_lease ls) n ≡ true → SomeEnds moment (map as_lease ls)
 number_ends moment ls numbers n due listed lives =
     let l = found_live ls n lives in
     let member = mapped as_lease ls l.0 l.1 in

@@ -6,22 +6,22 @@ use Rattle.machine_text.specs.Packed.{Packed}
 use Rattle.ledger.specs.Contents.{Contents}
 use Rattle.leases.specs.Asks.{IsReply, Asks}
 use Rattle.leases.specs.Leases.{Lease, Leases, Leased, AreLeases, is_live, came_under, while_live, ended}
-use Rattle.leases.specs.inside.Keeping.{KeptLease, as_lease, as_leases, AreAmongFree, IsKept}
+use Rattle.leases.specs.inside.Stored.{StoredLease, as_lease, as_leases, AreAmongFree, AreStored}
 use Rattle.leases.specs.declared.reply.Reply.{Reply}
 use Rattle.leases.proofs.Members.{filter_member, in_filter, found_live, member_lives}
 use Rattle.leases.proofs.OfferLaws.{KeepsAll}
 
 -- leases that are kept and filtered are seen so
-pub filter_held : (p : Lease → Bool) (ls : List KeptLease) → map as_lease (filter (λ l. not (p (as_lease l))) ls) ≡ filter (λ l. not (p l)) (map as_lease ls)
+pub filter_held : (p : Lease → Bool) (ls : List StoredLease) → map as_lease (filter (λ l. not (p (as_lease l))) ls) ≡ filter (λ l. not (p l)) (map as_lease ls)
 filter_held p [] = refl
 filter_held p (l ∷ ls) =
-    elim (not (p (as_lease l))) as (λ b. map as_lease (cond b (l ∷ filter (λ (l : KeptLease). not (p (as_lease l))) ls) (filter (λ (l : KeptLease). not (p (as_lease l))) ls))
+    elim (not (p (as_lease l))) as (λ b. map as_lease (cond b (l ∷ filter (λ (l : StoredLease). not (p (as_lease l))) ls) (filter (λ (l : StoredLease). not (p (as_lease l))) ls))
     ≡ cond b (as_lease l ∷ filter (λ (l : Lease). not (p l)) (map as_lease ls)) (filter (λ (l : Lease). not (p l)) (map as_lease ls))) [
       | true ↦ ap (λ xs. as_lease l ∷ xs) (filter_held p ls)
       | false ↦ filter_held p ls
     ]
 
-pub seen_ended : (p : Lease → Bool) (ls kept : List KeptLease) (came : List (Packed × ℕ)) (moment given : ℕ) → kept ≡ filter (λ l. not (p (as_lease l))) ls
+pub seen_ended : (p : Lease → Bool) (ls kept : List StoredLease) (came : List (Packed × ℕ)) (moment given : ℕ) → kept ≡ filter (λ l. not (p (as_lease l))) ls
     → as_leases kept came moment given ≡ ended p (as_leases ls came moment given)
 seen_ended p ls kept came moment given is = ap (λ live. record { live = live; came = came; moment = moment; given = given }) (ap (map as_lease) is ∙ filter_held p ls)
 
@@ -45,18 +45,18 @@ none_then : (b : Bool) (n : ℕ) → b ≡ true → (if b then Some n else None)
 none_then true n e none = cc
 none_then false n e none = cc
 
-pub still_kept : (b : Contents) (p : Lease → Bool) (ls kept : List KeptLease) (es : List (Packed × ℕ)) (free more : List Packed) → kept ≡ filter (λ l. not (p (as_lease l))) ls
-    → KeepsAll free more → AreAmongFree p ls more → IsKept b ls es free → IsKept b kept es more
-still_kept b p ls kept es free more is more_free offered was = record {
+pub still_stored : (b : Contents) (p : Lease → Bool) (ls kept : List StoredLease) (es : List (Packed × ℕ)) (free more : List Packed) → kept ≡ filter (λ l. not (p (as_lease l))) ls
+    → KeepsAll free more → AreAmongFree p ls more → AreStored b ls es free → AreStored b kept es more
+still_stored b p ls kept es free more is more_free freed was = record {
   listed = λ l t h. was.listed l t (filter_member (λ l. not (p (as_lease l))) ls l (subst (λ ls. Contains ls l) is h));
-  offered = λ t is_open none. elim (came_under es t) as (λ o. came_under es t ≡ o → while_live (map as_lease kept) o ≡ None → Contains more t) [
-    | None ↦ λ e none. more_free t (was.offered t is_open (ap (while_live (map as_lease ls)) e))
+  freed = λ t is_open none. elim (came_under es t) as (λ o. came_under es t ≡ o → while_live (map as_lease kept) o ≡ None → Contains more t) [
+    | None ↦ λ e none. more_free t (was.freed t is_open (ap (while_live (map as_lease ls)) e))
     | Some n ↦ λ e none. elim (is_live (map as_lease ls) n) as (λ v. is_live (map as_lease ls) n ≡ v → Contains more t) [
-      | false ↦ λ dead. more_free t (was.offered t is_open (ap (while_live (map as_lease ls)) e ∙ ap (λ v. if v then Some n else None) dead))
+      | false ↦ λ dead. more_free t (was.freed t is_open (ap (while_live (map as_lease ls)) e ∙ ap (λ v. if v then Some n else None) dead))
       | true ↦ λ lived.
           let l = found_live ls n lived in
           elim (p (as_lease l.0)) as (λ v. p (as_lease l.0) ≡ v → Contains more t) [
-            | true ↦ λ ends. offered l.0 t l.1 ends (was.listed l.0 t l.1 (e ∙ ap Some (sym l.2)))
+            | true ↦ λ ends. freed l.0 t l.1 ends (was.listed l.0 t l.1 (e ∙ ap Some (sym l.2)))
             | false ↦ λ stays.
                 let member : Contains kept l.0 = subst (λ ls. Contains ls l.0) (sym is) (in_filter (λ l. not (p (as_lease l))) ls l.0 l.1 (ap not stays)) in
                 absurd (none_then (is_live (map as_lease kept) n) n (subst (λ k. is_live (map as_lease kept) k ≡ true) l.2 (member_lives kept l.0 member)) none)
@@ -66,18 +66,18 @@ still_kept b p ls kept es free more is more_free offered was = record {
 }
 
 -- what holds when leases end, where their tables are among the free ones
-pub ended_holds : (b : Contents) (p : Lease → Bool) (first ls kept : List KeptLease) (before came : List (Packed × ℕ)) (free more : List Packed) (moment given : ℕ) → ls ≡ first → came ≡ before
-    → kept ≡ filter (λ l. not (p (as_lease l))) ls → KeepsAll free more → AreAmongFree p ls more → AreLeases b (as_leases first before moment given) × IsKept b first before free
-    → AreLeases b (as_leases kept came moment given) × IsKept b kept came more
-ended_holds b p first ls kept before came free more moment given same_list same_came is more_free offered holds =
-    let those = subst (λ (ls : List KeptLease). AreLeases b (as_leases ls came moment given) × IsKept b ls came free) (sym same_list)
-    (subst (λ (came : List (Packed × ℕ)). AreLeases b (as_leases first came moment given) × IsKept b first came free) (sym same_came) holds) in (
+pub ended_holds : (b : Contents) (p : Lease → Bool) (first ls kept : List StoredLease) (before came : List (Packed × ℕ)) (free more : List Packed) (moment given : ℕ) → ls ≡ first → came ≡ before
+    → kept ≡ filter (λ l. not (p (as_lease l))) ls → KeepsAll free more → AreAmongFree p ls more → AreLeases b (as_leases first before moment given) × AreStored b first before free
+    → AreLeases b (as_leases kept came moment given) × AreStored b kept came more
+ended_holds b p first ls kept before came free more moment given same_list same_came is more_free freed holds =
+    let those = subst (λ (ls : List StoredLease). AreLeases b (as_leases ls came moment given) × AreStored b ls came free) (sym same_list)
+    (subst (λ (came : List (Packed × ℕ)). AreLeases b (as_leases first came moment given) × AreStored b first came free) (sym same_came) holds) in (
       subst (AreLeases b) (sym (seen_ended p ls kept came moment given is)) (still_leases b p (as_leases ls came moment given) those.0),
-      still_kept b p ls kept came free more is more_free offered those.1,
+      still_stored b p ls kept came free more is more_free freed those.1,
     )
 
 -- what is answered once the worker's lease has ended is what is answered
-pub asks_by : (old : Leased) (b : Contents) (id : ℕ) (first ls kept : List KeptLease) (before came : List (Packed × ℕ)) (moment given : ℕ) → ls ≡ first → came ≡ before
+pub asks_by : (old : Leased) (b : Contents) (id : ℕ) (first ls kept : List StoredLease) (before came : List (Packed × ℕ)) (moment given : ℕ) → ls ≡ first → came ≡ before
     → kept ≡ filter (λ l. not (nat_eq l.id id)) ls → (record { board = b; leases = as_leases first before moment given }) ≡ old
     → (reply : Reply) (new : Leases) → IsReply b id (as_leases kept came moment given) reply new → Asks old.board id old.leases reply new
 asks_by old b id first ls kept before came moment given same_list same_came is view reply new answers =

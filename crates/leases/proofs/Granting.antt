@@ -14,7 +14,7 @@ use Rattle.ledger.proofs.Same.{same_is, same_at, not_same, apart}
 use Rattle.leases.specs.Leases.{Lease, AreLeases, is_live, came_under, while_live}
 use Rattle.leases.specs.Asks.{IsFree, Grants}
 use Rattle.leases.specs.inside.Children.{ComesUnder}
-use Rattle.leases.specs.inside.Keeping.{KeptLease, as_lease, as_leases, IsKept}
+use Rattle.leases.specs.inside.Stored.{StoredLease, as_lease, as_leases, AreStored}
 use Rattle.leases.proofs.Members.{or_later}
 
 -- which leases live, with one more
@@ -54,7 +54,7 @@ same_while xs y g (Some n) number most =
 pub new_while : (xs : List Lease) (y : Lease) (n : ℕ) → y.number ≡ n → while_live (xs ++ (y ∷ [])) (Some n) ≡ Some n
 new_while xs y n number = ap (λ v. if v then Some n else None) (live_more xs y n ∙ or_later (is_live xs n) (nat_eq y.number n) (eq-eqb y.number n number))
 
-pub grants : (b : Contents) (ls : List KeptLease) (came next : List (Packed × ℕ)) (moment g : ℕ) (l : KeptLease) (t : Packed) → AreLeases b (as_leases ls came moment g)
+pub grants : (b : Contents) (ls : List StoredLease) (came next : List (Packed × ℕ)) (moment g : ℕ) (l : StoredLease) (t : Packed) → AreLeases b (as_leases ls came moment g)
     → l.number ≡ g + 1 → l.renewed ≡ moment → ComesUnder came t (g + 1) next → Grants l.id t (as_leases ls came moment g) (as_leases (ls ++ (l ∷ [])) next moment (g + 1))
 grants b ls came next moment g l t are number renewed update = record {
   live = map-append as_lease ls (l ∷ []) ∙ ap (λ (x : Lease). map as_lease ls ++ (x ∷ [])) (ap (λ n. record { number = n; id = l.id; deadline = l.renewed + 60 }) number ∙ ap (λ n. record { number = g + 1; id = l.id; deadline = n + 60 }) renewed);
@@ -70,7 +70,7 @@ no_other : (id : ℕ) (xs : List Lease) → All (λ (x : Lease). x.id ≢ id) (f
 no_other id xs = All-weaker (λ (x : Lease). not (nat_eq x.id id) ≡ true) (λ (x : Lease). x.id ≢ id) (λ x passes same. let e = eq-eqb x.id id same in let not_it : not (nat_eq x.id id) ≡ false = ap not e in absurd (cc))
     (filter (λ x. not (nat_eq x.id id)) xs) (filter_passes (λ x. not (nat_eq x.id id)) xs)
 
-pub granted_leases : (b : Contents) (ls : List KeptLease) (came next : List (Packed × ℕ)) (moment g : ℕ) (l : KeptLease) (t : Packed) (xs : List Lease) → AreLeases b (as_leases ls came moment g)
+pub granted_leases : (b : Contents) (ls : List StoredLease) (came next : List (Packed × ℕ)) (moment g : ℕ) (l : StoredLease) (t : Packed) (xs : List Lease) → AreLeases b (as_leases ls came moment g)
     → map as_lease ls ≡ filter (λ x. not (nat_eq x.id l.id)) xs → length (map as_lease ls) < 4096 → l.number ≡ g + 1 → IsOpenOn b t → ComesUnder came t (g + 1) next
     → AreLeases b (as_leases (ls ++ (l ∷ [])) next moment (g + 1))
 granted_leases b ls came next moment g l t xs are ended room number is_open update =
@@ -91,32 +91,32 @@ granted_leases b ls came next moment g l t xs are ended room number is_open upda
       ];
     })
 
-pub given_all : (g : ℕ) (ls : List KeptLease) → All (λ (x : Lease). x.number ≤ g) (map as_lease ls) → All (λ (x : KeptLease). x.number ≤ g) ls
-given_all g [] all = All-nil (λ (x : KeptLease). x.number ≤ g)
-given_all g (l ∷ ls) all = All-cons (λ (x : KeptLease). x.number ≤ g) l ls (All-head (λ (x : Lease). x.number ≤ g) (as_lease l) (map as_lease ls) all) (given_all g ls (All-tail (λ (x : Lease). x.number ≤ g) (as_lease l) (map as_lease ls) all))
+pub given_all : (g : ℕ) (ls : List StoredLease) → All (λ (x : Lease). x.number ≤ g) (map as_lease ls) → All (λ (x : StoredLease). x.number ≤ g) ls
+given_all g [] all = All-nil (λ (x : StoredLease). x.number ≤ g)
+given_all g (l ∷ ls) all = All-cons (λ (x : StoredLease). x.number ≤ g) l ls (All-head (λ (x : Lease). x.number ≤ g) (as_lease l) (map as_lease ls) all) (given_all g ls (All-tail (λ (x : Lease). x.number ≤ g) (as_lease l) (map as_lease ls) all))
 
-pub granted_kept : (b : Contents) (ls : List KeptLease) (came next : List (Packed × ℕ)) (moment g : ℕ) (l : KeptLease) (t : Packed) (free rest : List Packed) → AreLeases b (as_leases ls came moment g)
-    → IsKept b ls came free → l.number ≡ g + 1 → l.tables ≡ t ∷ [] → ComesUnder came t (g + 1) next → ((q : Packed) → IsFree b (as_leases ls came 0 0) q → (q ≡ t → ⊥) → Contains rest q)
-    → IsKept b (ls ++ (l ∷ [])) next rest
-granted_kept b ls came next moment g l t free rest are kept number tables update others =
+pub granted_stored : (b : Contents) (ls : List StoredLease) (came next : List (Packed × ℕ)) (moment g : ℕ) (l : StoredLease) (t : Packed) (free rest : List Packed) → AreLeases b (as_leases ls came moment g)
+    → AreStored b ls came free → l.number ≡ g + 1 → l.tables ≡ t ∷ [] → ComesUnder came t (g + 1) next → ((q : Packed) → IsFree b (as_leases ls came 0 0) q → (q ≡ t → ⊥) → Contains rest q)
+    → AreStored b (ls ++ (l ∷ [])) next rest
+granted_stored b ls came next moment g l t free rest are kept number tables update others =
     let live : map as_lease (ls ++ (l ∷ [])) ≡ map as_lease ls ++ (as_lease l ∷ []) = map-append as_lease ls (l ∷ []) in record {
       listed = λ x q member h. elim (came_cases came next t (g + 1) x.number q update h) [
         | inl this ↦ elim (Contains-push_cases ls l x member) [
           | inl earlier ↦
-              let most : x.number ≤ g = All-contains (λ (x : KeptLease). x.number ≤ g) ls x (given_all g ls are.given) earlier in
+              let most : x.number ≤ g = All-contains (λ (x : StoredLease). x.number ≤ g) ls x (given_all g ls are.given) earlier in
               let number_is = this.1 in
               absurd (omega arith)
-          | inr same ↦ subst (λ (x : KeptLease). Contains x.tables q) same (rw tables (first_member t q [] this.0))
+          | inr same ↦ subst (λ (x : StoredLease). Contains x.tables q) same (rw tables (first_member t q [] this.0))
         ]
         | inr before ↦ elim (Contains-push_cases ls l x member) [
           | inl earlier ↦ kept.listed x q earlier before.1
           | inr same ↦
               let most = are.came_given q x.number before.1 in
-              let number_is : l.number ≡ x.number = ap (λ (x : KeptLease). x.number) same in
+              let number_is : l.number ≡ x.number = ap (λ (x : StoredLease). x.number) same in
               absurd (omega arith)
         ]
       ];
-      offered = λ q is_open none.
+      freed = λ q is_open none.
           let other : q ≡ t → ⊥ = λ same.
           let here = ap (λ live. while_live live (came_under next t)) live ∙ ap (while_live (map as_lease ls ++ (as_lease l ∷ []))) (came_here came next t (g + 1) update) ∙ new_while (map as_lease ls) (as_lease l) (g + 1) number in
           let gone = subst (λ (q : Packed). while_live (map as_lease (ls ++ (l ∷ []))) (came_under next q) ≡ None) same none in

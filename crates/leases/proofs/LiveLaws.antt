@@ -18,7 +18,7 @@ use Rattle.std.proofs.lemmas.Map.Views.{All-found, Contains-from_lookup}
 use Rattle.std.proofs.lemmas.Option.{same_Some}
 use Rattle.ledger.proofs.Apart.{first_member, later_member}
 use Rattle.leases.specs.Leases.{is_live}
-use Rattle.leases.specs.inside.Keeping.{KeptLease, kept_lease, as_lease, is_numbered, without, AreOfWorkers, IsOwn, AreAmongFree}
+use Rattle.leases.specs.inside.Stored.{StoredLease, stored_lease, as_lease, is_numbered, without, AreOfWorkers, IsOwn, AreAmongFree}
 use Rattle.machine_text.specs.Packed.{Packed}
 use Rattle.std.proofs.lemmas.List.{length-map}
 use Rattle.leases.specs.declared.held_leases.HeldLease.{HeldLease}
@@ -37,40 +37,40 @@ at_number n k =
       ]
     ]
 
-pub lives_is : (n : ℕ) (es : List (ℕ × HeldLease)) → is_some (lookup (is_at (nat_cmp n)) es) ≡ is_live (map as_lease (map kept_lease es)) n
+pub lives_is : (n : ℕ) (es : List (ℕ × HeldLease)) → is_some (lookup (is_at (nat_cmp n)) es) ≡ is_live (map as_lease (map stored_lease es)) n
 lives_is n [] = refl
 lives_is n (e ∷ es) =
-    elim (nat_eq e.0 n) as (λ v. is_eq (nat_cmp n e.0) ≡ v → is_some (cond (is_eq (nat_cmp n e.0)) (Some e.1) (lookup (is_at (nat_cmp n)) es)) ≡ (v || is_live (map as_lease (map kept_lease es)) n)) [
+    elim (nat_eq e.0 n) as (λ v. is_eq (nat_cmp n e.0) ≡ v → is_some (cond (is_eq (nat_cmp n e.0)) (Some e.1) (lookup (is_at (nat_cmp n)) es)) ≡ (v || is_live (map as_lease (map stored_lease es)) n)) [
       | true ↦ λ test. ap (λ v. is_some (cond v (Some e.1) (lookup (is_at (nat_cmp n)) es))) test
       | false ↦ λ test. ap (λ v. is_some (cond v (Some e.1) (lookup (is_at (nat_cmp n)) es))) test ∙ lives_is n es
     ] (at_number n e.0)
 
 -- a lease that is kept is found under its number
-pub member_at : (m : BTreeMap ℕ HeldLease) → IsOrdered nat_cmp m → (l : KeptLease) → Contains (map kept_lease m.entries) l → (v : HeldLease) × (get nat_cmp m l.number ≡ Some v) × (kept_lease (l.number, v) ≡ l)
+pub member_at : (m : BTreeMap ℕ HeldLease) → IsOrdered nat_cmp m → (l : StoredLease) → Contains (map stored_lease m.entries) l → (v : HeldLease) × (get nat_cmp m l.number ≡ Some v) × (stored_lease (l.number, v) ≡ l)
 member_at m ordered l member =
-    let e = unmapped kept_lease m.entries l member in
-    let number : e.0.0 ≡ l.number = ap (λ (l : KeptLease). l.number) e.2 in
+    let e = unmapped stored_lease m.entries l member in
+    let number : e.0.0 ≡ l.number = ap (λ (l : StoredLease). l.number) e.2 in
     let found : get nat_cmp m e.0.0 ≡ Some e.0.1 = All-contains (λ (e : ℕ × HeldLease). get nat_cmp m e.0 ≡ Some e.1) m.entries e.0 (All-found nat_cmp_total m ordered) e.1 in
-    (e.0.1, subst (λ n. get nat_cmp m n ≡ Some e.0.1) number found, ap (λ n. kept_lease (n, e.0.1)) (sym number) ∙ e.2)
+    (e.0.1, subst (λ n. get nat_cmp m n ≡ Some e.0.1) number found, ap (λ n. stored_lease (n, e.0.1)) (sym number) ∙ e.2)
 
-pub without_none : (ls : List KeptLease) → without None ls ≡ ls
+pub without_none : (ls : List StoredLease) → without None ls ≡ ls
 without_none [] = refl
 without_none (l ∷ ls) = ap (λ xs. l ∷ xs) (without_none ls)
 
-none_left : (n : ℕ) (es : List (ℕ × HeldLease)) → AllByRecursion (λ y. nat_cmp n y ≡ Less) (keys_of es) → without (Some n) (map kept_lease es) ≡ map kept_lease es
+none_left : (n : ℕ) (es : List (ℕ × HeldLease)) → AllByRecursion (λ y. nat_cmp n y ≡ Less) (keys_of es) → without (Some n) (map stored_lease es) ≡ map stored_lease es
 none_left n [] above = refl
 none_left n (e ∷ es) above =
     let other : nat_eq e.0 n ≡ false = sym (at_number n e.0) ∙ ap is_eq above.0 in
-    ap (λ v. cond (not v) (kept_lease e ∷ without (Some n) (map kept_lease es)) (without (Some n) (map kept_lease es))) other ∙ ap (λ xs. kept_lease e ∷ xs) (none_left n es above.1)
+    ap (λ v. cond (not v) (stored_lease e ∷ without (Some n) (map stored_lease es)) (without (Some n) (map stored_lease es))) other ∙ ap (λ xs. stored_lease e ∷ xs) (none_left n es above.1)
 
-pub removed_is : (n : ℕ) (es : List (ℕ × HeldLease)) → IsStrictlySortedBy nat_cmp (keys_of es) → map kept_lease (remove_entry (is_at (nat_cmp n)) es) ≡ without (Some n) (map kept_lease es)
+pub removed_is : (n : ℕ) (es : List (ℕ × HeldLease)) → IsStrictlySortedBy nat_cmp (keys_of es) → map stored_lease (remove_entry (is_at (nat_cmp n)) es) ≡ without (Some n) (map stored_lease es)
 removed_is n [] sorted = refl
 removed_is n (e ∷ es) sorted =
-    let rest = without (Some n) (map kept_lease es) in
-    ap (λ v. map kept_lease (cond v es (e ∷ remove_entry (is_at (nat_cmp n)) es))) (at_number n e.0)
-    ∙ elim (nat_eq e.0 n) as (λ v. nat_eq e.0 n ≡ v → map kept_lease (cond v es (e ∷ remove_entry (is_at (nat_cmp n)) es)) ≡ cond (not v) (kept_lease e ∷ rest) rest) [
+    let rest = without (Some n) (map stored_lease es) in
+    ap (λ v. map stored_lease (cond v es (e ∷ remove_entry (is_at (nat_cmp n)) es))) (at_number n e.0)
+    ∙ elim (nat_eq e.0 n) as (λ v. nat_eq e.0 n ≡ v → map stored_lease (cond v es (e ∷ remove_entry (is_at (nat_cmp n)) es)) ≡ cond (not v) (stored_lease e ∷ rest) rest) [
       | true ↦ λ same. sym (none_left n es (subst (λ k. AllByRecursion (λ y. nat_cmp k y ≡ Less) (keys_of es)) (eqb-true e.0 n same) (sorted_head nat_cmp e.0 (keys_of es) sorted)))
-      | false ↦ λ other. ap (λ xs. kept_lease e ∷ xs) (removed_is n es (sorted_tail nat_cmp e.0 (keys_of es) sorted))
+      | false ↦ λ other. ap (λ xs. stored_lease e ∷ xs) (removed_is n es (sorted_tail nat_cmp e.0 (keys_of es) sorted))
     ] refl
 
 pub and_false : (a : Bool) → (a && false) ≡ false
@@ -78,7 +78,7 @@ and_false true = refl
 and_false false = refl
 
 -- which leases live, without one
-pub live_without : (which : Option ℕ) (ls : List KeptLease) (n : ℕ) → is_live (map as_lease (without which ls)) n ≡ (is_live (map as_lease ls) n && not (is_numbered which n))
+pub live_without : (which : Option ℕ) (ls : List StoredLease) (n : ℕ) → is_live (map as_lease (without which ls)) n ≡ (is_live (map as_lease ls) n && not (is_numbered which n))
 live_without which [] n = refl
 live_without which (l ∷ ls) n =
     let live = is_live (map as_lease ls) n in
@@ -97,14 +97,14 @@ live_without which (l ∷ ls) n =
     ] refl
 
 -- a lease with the greatest number comes last
-pub added_last : (n : ℕ) (v : HeldLease) (es : List (ℕ × HeldLease)) → All (λ (l : KeptLease). l.number < n) (map kept_lease es) → insert_entry nat_cmp es n v ≡ es ++ ((n, v) ∷ [])
+pub added_last : (n : ℕ) (v : HeldLease) (es : List (ℕ × HeldLease)) → All (λ (l : StoredLease). l.number < n) (map stored_lease es) → insert_entry nat_cmp es n v ≡ es ++ ((n, v) ∷ [])
 added_last n v [] below = refl
 added_last n v (e ∷ es) below =
-    let less : e.0 < n = All-head (λ (l : KeptLease). l.number < n) (kept_lease e) (map kept_lease es) below in
+    let less : e.0 < n = All-head (λ (l : StoredLease). l.number < n) (stored_lease e) (map stored_lease es) below in
     ap (λ o. match_ordering o ((n, v) ∷ e ∷ es) ((e.0, v) ∷ es) (e ∷ insert_entry nat_cmp es n v)) (sym (nat_cmp_is n e.0 Greater less))
-    ∙ ap (λ xs. e ∷ xs) (added_last n v es (All-tail (λ (l : KeptLease). l.number < n) (kept_lease e) (map kept_lease es) below))
+    ∙ ap (λ xs. e ∷ xs) (added_last n v es (All-tail (λ (l : StoredLease). l.number < n) (stored_lease e) (map stored_lease es) below))
 
-pub without_last : (which : Option ℕ) (ls : List KeptLease) (l : KeptLease) → is_numbered which l.number ≡ false → without which (ls ++ (l ∷ [])) ≡ without which ls ++ (l ∷ [])
+pub without_last : (which : Option ℕ) (ls : List StoredLease) (l : StoredLease) → is_numbered which l.number ≡ false → without which (ls ++ (l ∷ [])) ≡ without which ls ++ (l ∷ [])
 without_last which [] l other = ap (λ v. cond (not v) (l ∷ []) []) other
 without_last which (x ∷ xs) l other =
     elim (is_numbered which x.number) as (λ v. cond (not v) (x ∷ without which (xs ++ (l ∷ []))) (without which (xs ++ (l ∷ []))) ≡ cond (not v) (x ∷ without which xs) (without which xs) ++ (l ∷ [])) [
@@ -114,24 +114,24 @@ without_last which (x ∷ xs) l other =
 
 -- a lease that is written to, by its place
 pub set_place : (n : ℕ) (v w : HeldLease) (es : List (ℕ × HeldLease)) → lookup (is_at (nat_cmp n)) es ≡ Some v
-    → (at : ℕ) × (at < length (map kept_lease es)) × (get_or (map kept_lease es) at (kept_lease (n, w)) ≡ kept_lease (n, v)) × (map kept_lease (set_value (is_at (nat_cmp n)) es w) ≡ set (map kept_lease es) at (kept_lease (n, w)))
+    → (at : ℕ) × (at < length (map stored_lease es)) × (get_or (map stored_lease es) at (stored_lease (n, w)) ≡ stored_lease (n, v)) × (map stored_lease (set_value (is_at (nat_cmp n)) es w) ≡ set (map stored_lease es) at (stored_lease (n, w)))
 set_place n v w [] found = absurd (cc)
 set_place n v w (e ∷ es) found =
     elim (nat_eq e.0 n) as (λ b. nat_eq e.0 n ≡ b → cond b (Some e.1) (lookup (is_at (nat_cmp n)) es) ≡ Some v
-    → (at : ℕ) × (at < length (map kept_lease (e ∷ es))) × (get_or (map kept_lease (e ∷ es)) at (kept_lease (n, w)) ≡ kept_lease (n, v)) × (map kept_lease (cond (is_eq (nat_cmp n e.0)) ((e.0, w) ∷ es) (e ∷ set_value (is_at (nat_cmp n)) es w)) ≡ set (map kept_lease (e ∷ es)) at (kept_lease (n, w)))) [
+    → (at : ℕ) × (at < length (map stored_lease (e ∷ es))) × (get_or (map stored_lease (e ∷ es)) at (stored_lease (n, w)) ≡ stored_lease (n, v)) × (map stored_lease (cond (is_eq (nat_cmp n e.0)) ((e.0, w) ∷ es) (e ∷ set_value (is_at (nat_cmp n)) es w)) ≡ set (map stored_lease (e ∷ es)) at (stored_lease (n, w)))) [
       | true ↦ λ same here.
           let number = eqb-true e.0 n same in (
             0,
             omega arith,
-            ap (λ k. kept_lease (k, e.1)) number ∙ ap (λ x. kept_lease (n, x)) (same_Some e.1 v here),
-            ap (λ b. map kept_lease (cond b ((e.0, w) ∷ es) (e ∷ set_value (is_at (nat_cmp n)) es w))) (at_number n e.0 ∙ same) ∙ ap (λ k. kept_lease (k, w) ∷ map kept_lease es) number,
+            ap (λ k. stored_lease (k, e.1)) number ∙ ap (λ x. stored_lease (n, x)) (same_Some e.1 v here),
+            ap (λ b. map stored_lease (cond b ((e.0, w) ∷ es) (e ∷ set_value (is_at (nat_cmp n)) es w))) (at_number n e.0 ∙ same) ∙ ap (λ k. stored_lease (k, w) ∷ map stored_lease es) number,
           )
       | false ↦ λ other there.
           let later = set_place n v w es there in (
             suc later.0,
             omega (arith, later.1),
             later.2,
-            ap (λ b. map kept_lease (cond b ((e.0, w) ∷ es) (e ∷ set_value (is_at (nat_cmp n)) es w))) (at_number n e.0 ∙ other) ∙ ap (λ xs. kept_lease e ∷ xs) later.3,
+            ap (λ b. map stored_lease (cond b ((e.0, w) ∷ es) (e ∷ set_value (is_at (nat_cmp n)) es w))) (at_number n e.0 ∙ other) ∙ ap (λ xs. stored_lease e ∷ xs) later.3,
           )
     ] refl (sym (ap (λ b. cond b (Some e.1) (lookup (is_at (nat_cmp n)) es)) (at_number n e.0)) ∙ found)
 
@@ -222,7 +222,7 @@ workers_replaced numbers next at after own n v were fresh only exact other_own p
 )
 
 -- the leases without a worker's own one are those of the others
-pub of_others : (id : ℕ) (own : Option ℕ) (ls : List KeptLease) → ((l : KeptLease) → Contains ls l → l.id ≡ id → own ≡ Some l.number) → ((l : KeptLease) → Contains ls l → own ≡ Some l.number → l.id ≡ id)
+pub of_others : (id : ℕ) (own : Option ℕ) (ls : List StoredLease) → ((l : StoredLease) → Contains ls l → l.id ≡ id → own ≡ Some l.number) → ((l : StoredLease) → Contains ls l → own ≡ Some l.number → l.id ≡ id)
     → without own ls ≡ filter (λ l. not (nat_eq l.id id)) ls
 of_others id own [] only exact = refl
 of_others id own (l ∷ ls) only exact =
@@ -243,30 +243,30 @@ workers_missing numbers at after n were none gone id k =
     ] in
     (λ h. let found = (were id k).0 h in (found.0, same ∙ found.1, found.2), λ found. (were id k).1 (found.0, sym same ∙ found.1, found.2))
 
-length_left : (n : ℕ) (es : List (ℕ × HeldLease)) → length (without (Some n) (map kept_lease es)) + (if is_some (lookup (is_at (nat_cmp n)) es) then 1 else 0) ≡ length es → (b : Bool) → is_some (lookup (is_at (nat_cmp n)) es) ≡ b
-    → length (without (Some n) (map kept_lease es)) + (if b then 1 else 0) ≡ length es
-length_left n es all b is = ap (λ b. length (without (Some n) (map kept_lease es)) + (if b then 1 else 0)) (sym is) ∙ all
+length_left : (n : ℕ) (es : List (ℕ × HeldLease)) → length (without (Some n) (map stored_lease es)) + (if is_some (lookup (is_at (nat_cmp n)) es) then 1 else 0) ≡ length es → (b : Bool) → is_some (lookup (is_at (nat_cmp n)) es) ≡ b
+    → length (without (Some n) (map stored_lease es)) + (if b then 1 else 0) ≡ length es
+length_left n es all b is = ap (λ b. length (without (Some n) (map stored_lease es)) + (if b then 1 else 0)) (sym is) ∙ all
 
-pub length_removed : (n : ℕ) (es : List (ℕ × HeldLease)) → length (map kept_lease (remove_entry (is_at (nat_cmp n)) es)) + (if is_some (lookup (is_at (nat_cmp n)) es) then 1 else 0) ≡ length es
+pub length_removed : (n : ℕ) (es : List (ℕ × HeldLease)) → length (map stored_lease (remove_entry (is_at (nat_cmp n)) es)) + (if is_some (lookup (is_at (nat_cmp n)) es) then 1 else 0) ≡ length es
 length_removed n [] = refl
 length_removed n (e ∷ es) =
-    elim (is_eq (nat_cmp n e.0)) as (λ b. length (map kept_lease (cond b es (e ∷ remove_entry (is_at (nat_cmp n)) es))) + (if is_some (cond b (Some e.1) (lookup (is_at (nat_cmp n)) es)) then 1 else 0) ≡ length (e ∷ es)) [
-      | true ↦ let same = length-map es kept_lease in omega arith
+    elim (is_eq (nat_cmp n e.0)) as (λ b. length (map stored_lease (cond b es (e ∷ remove_entry (is_at (nat_cmp n)) es))) + (if is_some (cond b (Some e.1) (lookup (is_at (nat_cmp n)) es)) then 1 else 0) ≡ length (e ∷ es)) [
+      | true ↦ let same = length-map es stored_lease in omega arith
       | false ↦ let fewer = length_removed n es in omega arith
     ]
 
-pub length_found : (n : ℕ) (es : List (ℕ × HeldLease)) → IsStrictlySortedBy nat_cmp (keys_of es) → is_some (lookup (is_at (nat_cmp n)) es) ≡ true → length (without (Some n) (map kept_lease es)) + 1 ≡ length es
+pub length_found : (n : ℕ) (es : List (ℕ × HeldLease)) → IsStrictlySortedBy nat_cmp (keys_of es) → is_some (lookup (is_at (nat_cmp n)) es) ≡ true → length (without (Some n) (map stored_lease es)) + 1 ≡ length es
 length_found n es sorted found =
-    length_left n es (ap (λ (ls : List KeptLease). length ls + (if is_some (lookup (is_at (nat_cmp n)) es) then 1 else 0)) (sym (removed_is n es sorted)) ∙ length_removed n es) true found
+    length_left n es (ap (λ (ls : List StoredLease). length ls + (if is_some (lookup (is_at (nat_cmp n)) es) then 1 else 0)) (sym (removed_is n es sorted)) ∙ length_removed n es) true found
 
-pub length_missing : (n : ℕ) (es : List (ℕ × HeldLease)) → IsStrictlySortedBy nat_cmp (keys_of es) → is_some (lookup (is_at (nat_cmp n)) es) ≡ false → length (without (Some n) (map kept_lease es)) ≡ length es
+pub length_missing : (n : ℕ) (es : List (ℕ × HeldLease)) → IsStrictlySortedBy nat_cmp (keys_of es) → is_some (lookup (is_at (nat_cmp n)) es) ≡ false → length (without (Some n) (map stored_lease es)) ≡ length es
 length_missing n es sorted none =
-    let same = length_left n es (ap (λ (ls : List KeptLease). length ls + (if is_some (lookup (is_at (nat_cmp n)) es) then 1 else 0)) (sym (removed_is n es sorted)) ∙ length_removed n es) false none in
+    let same = length_left n es (ap (λ (ls : List StoredLease). length ls + (if is_some (lookup (is_at (nat_cmp n)) es) then 1 else 0)) (sym (removed_is n es sorted)) ∙ length_removed n es) false none in
     omega arith
 
-pub is_own : (id : ℕ) (own : Option ℕ) (m : BTreeMap ℕ HeldLease) (numbers : ℕ → Option ℕ) → IsOrdered nat_cmp m → AreOfWorkers numbers (get nat_cmp m) → own ≡ numbers id → IsOwn id own (map kept_lease m.entries)
+pub is_own : (id : ℕ) (own : Option ℕ) (m : BTreeMap ℕ HeldLease) (numbers : ℕ → Option ℕ) → IsOrdered nat_cmp m → AreOfWorkers numbers (get nat_cmp m) → own ≡ numbers id → IsOwn id own (map stored_lease m.entries)
 is_own id own m numbers ordered were is = record {
-  lives = elim own as (λ o. own ≡ o → IfSome o (λ n. is_live (map as_lease (map kept_lease m.entries)) n ≡ true)) [
+  lives = elim own as (λ o. own ≡ o → IfSome o (λ n. is_live (map as_lease (map stored_lease m.entries)) n ≡ true)) [
     | None ↦ λ e. tt
     | Some n ↦ λ e.
         let found = (were id n).0 (sym is ∙ e) in
@@ -274,24 +274,24 @@ is_own id own m numbers ordered were is = record {
   ] refl;
   only = λ l member same.
       let there = member_at m ordered l member in
-      is ∙ (were id l.number).1 (there.0, there.1, ap (λ (l : KeptLease). l.id) there.2 ∙ same);
+      is ∙ (were id l.number).1 (there.0, there.1, ap (λ (l : StoredLease). l.id) there.2 ∙ same);
   exact = λ l member e.
       let there = member_at m ordered l member in
       let found = (were id l.number).0 (sym is ∙ e) in
-      sym (ap (λ (l : KeptLease). l.id) there.2) ∙ (ap (λ (v : HeldLease). v.id) (same_Some there.0 found.0 (sym there.1 ∙ found.1)) ∙ found.2);
+      sym (ap (λ (l : StoredLease). l.id) there.2) ∙ (ap (λ (v : HeldLease). v.id) (same_Some there.0 found.0 (sym there.1 ∙ found.1)) ∙ found.2);
 }
 
-pub offered_one : (which : Option ℕ) (n : ℕ) (v : HeldLease) (m : BTreeMap ℕ HeldLease) (free : List Packed) → IsOrdered nat_cmp m → which ≡ Some n → get nat_cmp m n ≡ Some v → ((q : Packed) → Contains v.tables.keys q → Contains free q)
-    → AreAmongFree (λ l. is_numbered which l.number) (map kept_lease m.entries) free
-offered_one which n v m free ordered is found all l t member ends h =
+pub freed_one : (which : Option ℕ) (n : ℕ) (v : HeldLease) (m : BTreeMap ℕ HeldLease) (free : List Packed) → IsOrdered nat_cmp m → which ≡ Some n → get nat_cmp m n ≡ Some v → ((q : Packed) → Contains v.tables.keys q → Contains free q)
+    → AreAmongFree (λ l. is_numbered which l.number) (map stored_lease m.entries) free
+freed_one which n v m free ordered is found all l t member ends h =
     let there = member_at m ordered l member in
     let number : l.number ≡ n = eqb-true l.number n (ap (λ o. is_numbered o l.number) (sym is) ∙ ends) in
     let one : there.0 ≡ v = same_Some there.0 v (sym there.1 ∙ (ap (get nat_cmp m) number ∙ found)) in
-    all t (subst (λ (v : HeldLease). Contains v.tables.keys t) one (subst (λ (l : KeptLease). Contains l.tables t) (sym there.2) h))
+    all t (subst (λ (v : HeldLease). Contains v.tables.keys t) one (subst (λ (l : StoredLease). Contains l.tables t) (sym there.2) h))
 
-pub offered_none : (which : Option ℕ) (n : ℕ) (m : BTreeMap ℕ HeldLease) (free : List Packed) → IsOrdered nat_cmp m → which ≡ Some n → get nat_cmp m n ≡ None
-    → AreAmongFree (λ l. is_numbered which l.number) (map kept_lease m.entries) free
-offered_none which n m free ordered is none l t member ends h =
+pub freed_none : (which : Option ℕ) (n : ℕ) (m : BTreeMap ℕ HeldLease) (free : List Packed) → IsOrdered nat_cmp m → which ≡ Some n → get nat_cmp m n ≡ None
+    → AreAmongFree (λ l. is_numbered which l.number) (map stored_lease m.entries) free
+freed_none which n m free ordered is none l t member ends h =
     let there = member_at m ordered l member in
     let number : l.number ≡ n = eqb-true l.number n (ap (λ o. is_numbered o l.number) (sym is) ∙ ends) in
     let gone = sym there.1 ∙ (ap (get nat_cmp m) number ∙ none) in
@@ -301,39 +301,39 @@ pub if_ok : {T E : Type 0} {P Q : Type 0} (r : Result T E) → (P → Q) → OnO
 if_ok (Ok x) f p = f p
 if_ok (Err e) f p = tt
 
-pub found_member : (n : ℕ) (v : HeldLease) (es : List (ℕ × HeldLease)) → lookup (is_at (nat_cmp n)) es ≡ Some v → Contains (map kept_lease es) (kept_lease (n, v))
-found_member n v es found = mapped kept_lease es (n, v) (Contains-from_lookup {eq = λ x y. is_at (nat_cmp x) y} (λ x y e. sym (eqb-true y x (sym (at_number x y) ∙ e))) n v es found)
+pub found_member : (n : ℕ) (v : HeldLease) (es : List (ℕ × HeldLease)) → lookup (is_at (nat_cmp n)) es ≡ Some v → Contains (map stored_lease es) (stored_lease (n, v))
+found_member n v es found = mapped stored_lease es (n, v) (Contains-from_lookup {eq = λ x y. is_at (nat_cmp x) y} (λ x y e. sym (eqb-true y x (sym (at_number x y) ∙ e))) n v es found)
 
-pub fresh_at : (n : ℕ) (es : List (ℕ × HeldLease)) → All (λ (l : KeptLease). l.number < n) (map kept_lease es) → lookup (is_at (nat_cmp n)) es ≡ None
+pub fresh_at : (n : ℕ) (es : List (ℕ × HeldLease)) → All (λ (l : StoredLease). l.number < n) (map stored_lease es) → lookup (is_at (nat_cmp n)) es ≡ None
 fresh_at n es last =
     elim (lookup (is_at (nat_cmp n)) es) as (λ o. lookup (is_at (nat_cmp n)) es ≡ o → o ≡ None) [
       | None ↦ λ e. refl
-      | Some v ↦ λ e. let less = All-contains (λ (l : KeptLease). l.number < n) (map kept_lease es) (kept_lease (n, v)) last (found_member n v es e) in absurd (omega arith)
+      | Some v ↦ λ e. let less = All-contains (λ (l : StoredLease). l.number < n) (map stored_lease es) (stored_lease (n, v)) last (found_member n v es e) in absurd (omega arith)
     ] refl
 
-pub own_one : (id : ℕ) (own : Option ℕ) (m : BTreeMap ℕ HeldLease) → IsOwn id own (map kept_lease m.entries) → (k : ℕ) (l : HeldLease) → get nat_cmp m k ≡ Some l → l.id ≡ id → is_numbered own k ≡ true
-own_one id own m is k l found same = ap (λ o. is_numbered o k) (is.only (kept_lease (k, l)) (found_member k l m.entries found) same) ∙ eq-eqb k k refl
+pub own_one : (id : ℕ) (own : Option ℕ) (m : BTreeMap ℕ HeldLease) → IsOwn id own (map stored_lease m.entries) → (k : ℕ) (l : HeldLease) → get nat_cmp m k ≡ Some l → l.id ≡ id → is_numbered own k ≡ true
+own_one id own m is k l found same = ap (λ o. is_numbered o k) (is.only (stored_lease (k, l)) (found_member k l m.entries found) same) ∙ eq-eqb k k refl
 
-pub owned : (id : ℕ) (own : Option ℕ) (m : BTreeMap ℕ HeldLease) → IsOwn id own (map kept_lease m.entries) → (k : ℕ) (l : HeldLease) → get nat_cmp m k ≡ Some l → is_numbered own k ≡ true → l.id ≡ id
-owned id own m is k l found e = is.exact (kept_lease (k, l)) (found_member k l m.entries found) (own_number own k e)
+pub owned : (id : ℕ) (own : Option ℕ) (m : BTreeMap ℕ HeldLease) → IsOwn id own (map stored_lease m.entries) → (k : ℕ) (l : HeldLease) → get nat_cmp m k ≡ Some l → is_numbered own k ≡ true → l.id ≡ id
+owned id own m is k l found e = is.exact (stored_lease (k, l)) (found_member k l m.entries found) (own_number own k e)
 
 -- a number that is greater than all isn't a worker's
-pub not_own : (id : ℕ) (own : Option ℕ) (n : ℕ) (ls : List KeptLease) → IsOwn id own ls → All (λ (l : KeptLease). l.number < n) ls → is_numbered own n ≡ false
+pub not_own : (id : ℕ) (own : Option ℕ) (n : ℕ) (ls : List StoredLease) → IsOwn id own ls → All (λ (l : StoredLease). l.number < n) ls → is_numbered own n ≡ false
 not_own id None n ls is last = refl
 not_own id (Some m) n ls is last =
     let l = found_live ls m is.lives in
-    let less = All-contains (λ (l : KeptLease). l.number < n) ls l.0 last l.1 in
+    let less = All-contains (λ (l : StoredLease). l.number < n) ls l.0 last l.1 in
     let number = l.2 in
     elim (eqb_tells n m) [ inl same ↦ let e = same.1 in absurd (omega arith) | inr differ ↦ differ.0 ]
 
 -- room under a number
-pub room_one : (n : ℕ) (w : HeldLease) (m : BTreeMap ℕ HeldLease) → IsOrdered nat_cmp m → get nat_cmp m n ≡ Some w → 24 ≤ (kept_lease (n, w)).room → HasRoomForChildren n (map kept_lease m.entries)
+pub room_one : (n : ℕ) (w : HeldLease) (m : BTreeMap ℕ HeldLease) → IsOrdered nat_cmp m → get nat_cmp m n ≡ Some w → 24 ≤ (stored_lease (n, w)).room → HasRoomForChildren n (map stored_lease m.entries)
 room_one n w m ordered found room l member number =
     let there = member_at m ordered l member in
     let one : there.0 ≡ w = same_Some there.0 w (sym there.1 ∙ (ap (get nat_cmp m) number ∙ found)) in
-    subst (λ (l : KeptLease). 24 ≤ l.room) there.2 (subst (λ (v : HeldLease). 24 ≤ (kept_lease (l.number, v)).room) (sym one) room)
+    subst (λ (l : StoredLease). 24 ≤ l.room) there.2 (subst (λ (v : HeldLease). 24 ≤ (stored_lease (l.number, v)).room) (sym one) room)
 
-pub room_none : (n : ℕ) (m : BTreeMap ℕ HeldLease) → IsOrdered nat_cmp m → get nat_cmp m n ≡ None → HasRoomForChildren n (map kept_lease m.entries)
+pub room_none : (n : ℕ) (m : BTreeMap ℕ HeldLease) → IsOrdered nat_cmp m → get nat_cmp m n ≡ None → HasRoomForChildren n (map stored_lease m.entries)
 room_none n m ordered none l member number =
     let there = member_at m ordered l member in
     let gone = sym there.1 ∙ (ap (get nat_cmp m) number ∙ none) in

@@ -25,7 +25,7 @@ use Rattle.ledger.specs.declared.faults.OfferFault.TheVariants.{WrongSize, NotOp
 use Rattle.ledger.proofs.Same.{not_same, apart}
 use Rattle.leases.specs.Leases.{Lease, AreLeases, is_live, came_under, while_live}
 use Rattle.leases.specs.Offers.{renewed, TakesNew, TakesSettled}
-use Rattle.leases.specs.inside.Keeping.{KeptLease, as_lease, as_leases, IsKept}
+use Rattle.leases.specs.inside.Stored.{StoredLease, as_lease, as_leases, AreStored}
 use Rattle.leases.proofs.ChildLaws.{Opens}
 use Rattle.leases.proofs.OfferLaws.{KeepsAll}
 
@@ -62,8 +62,8 @@ pub holdout_not_open : (b : Contents) (t : Packed) → IsHoldout b.records t →
 holdout_not_open b t holdout is_open = let none = is_open.unmarked in let marked : mark_in b.records t ≡ Some Holdout = holdout in absurd (cc)
 
 -- where the table was under none
-module _ (old new : Contents) (ls : List KeptLease) (came next : List (Packed × ℕ)) (free more : List Packed) (moment given : ℕ) (t : Packed)
-    (opens : Opens old new t) (are : AreLeases old (as_leases ls came moment given)) (kept : IsKept old ls came free) (more_free : KeepsAll free more)
+module _ (old new : Contents) (ls : List StoredLease) (came next : List (Packed × ℕ)) (free more : List Packed) (moment given : ℕ) (t : Packed)
+    (opens : Opens old new t) (are : AreLeases old (as_leases ls came moment given)) (kept : AreStored old ls came free) (more_free : KeepsAll free more)
     (all : (q : Packed) → IsChildTable t q → IsHalting new.records t → Contains more q) where
   pub free_new_leases : GoesOut came t next → AreLeases new (as_leases ls next moment given)
   free_new_leases out = record {
@@ -75,11 +75,11 @@ module _ (old new : Contents) (ls : List KeptLease) (came next : List (Packed ×
     is_open = λ q n h. let was = out_cases came next t q n out h in opens.stays q (are.is_open q n was.1) was.0;
   }
 
-  pub free_new_kept : GoesOut came t next → IsKept new ls next more
+  pub free_new_kept : GoesOut came t next → AreStored new ls next more
   free_new_kept out = record {
     listed = λ l q member h. kept.listed l q member (out_cases came next t q l.number out h).1;
-    offered = λ q is_open none. elim (opens.cases q is_open) [
-      | inl was ↦ more_free q (kept.offered q was.0 (ap (while_live (map as_lease ls)) (sym (out_other came next t q out was.1)) ∙ none))
+    freed = λ q is_open none. elim (opens.cases q is_open) [
+      | inl was ↦ more_free q (kept.freed q was.0 (ap (while_live (map as_lease ls)) (sym (out_other came next t q out was.1)) ∙ none))
       | inr child ↦ all q child.0 child.1
     ];
   }
@@ -104,10 +104,10 @@ module _ (old new : Contents) (ls : List KeptLease) (came next : List (Packed ×
     is_open = λ q n h. opens.stays q (are.is_open q n h) (λ e. closed (subst (IsOpenOn old) e (are.is_open q n h)));
   }
 
-  pub settled_kept : IsKept new ls came more
+  pub settled_kept : AreStored new ls came more
   settled_kept = record {
     listed = kept.listed;
-    offered = λ q is_open none. elim (opens.cases q is_open) [ inl was ↦ more_free q (kept.offered q was.0 none) | inr child ↦ all q child.0 child.1 ];
+    freed = λ q is_open none. elim (opens.cases q is_open) [ inl was ↦ more_free q (kept.freed q was.0 none) | inr child ↦ all q child.0 child.1 ];
   }
 
   pub settled_takes : TakesSettled (record { board = old; leases = as_leases ls came moment given }) (record { board = new; leases = as_leases ls came moment given })
@@ -121,28 +121,28 @@ err_is (Ok x) e h = absurd h
 err_is (Err x) e h = ap Err h
 
 -- a lease that is kept otherwise, and seen as before
-held_shown : (ls : List KeptLease) → map (λ (p : Lease × List Packed). p.0) (map shown ls) ≡ map as_lease ls
+held_shown : (ls : List StoredLease) → map (λ (p : Lease × List Packed). p.0) (map shown ls) ≡ map as_lease ls
 held_shown [] = refl
 held_shown (l ∷ ls) = ap (λ xs. as_lease l ∷ xs) (held_shown ls)
 
-pub same_held : (first ls : List KeptLease) → map shown ls ≡ map shown first → map as_lease ls ≡ map as_lease first
+pub same_held : (first ls : List StoredLease) → map shown ls ≡ map shown first → map as_lease ls ≡ map as_lease first
 same_held first ls same = sym (held_shown ls) ∙ (ap (map (λ (p : Lease × List Packed). p.0)) same ∙ held_shown first)
 
-pub holds_shown : (b : Contents) (first ls : List KeptLease) (before came : List (Packed × ℕ)) (free : List Packed) (moment given : ℕ) → map shown ls ≡ map shown first → came ≡ before
-    → AreLeases b (as_leases first before moment given) × IsKept b first before free → AreLeases b (as_leases ls came moment given) × IsKept b ls came free
+pub holds_shown : (b : Contents) (first ls : List StoredLease) (before came : List (Packed × ℕ)) (free : List Packed) (moment given : ℕ) → map shown ls ≡ map shown first → came ≡ before
+    → AreLeases b (as_leases first before moment given) × AreStored b first before free → AreLeases b (as_leases ls came moment given) × AreStored b ls came free
 holds_shown b first ls before came free moment given same same_came holds =
-    subst (λ (came : List (Packed × ℕ)). AreLeases b (as_leases ls came moment given) × IsKept b ls came free) (sym same_came) (
+    subst (λ (came : List (Packed × ℕ)). AreLeases b (as_leases ls came moment given) × AreStored b ls came free) (sym same_came) (
       subst (λ (live : List Lease). AreLeases b (record { live = live; came = before; moment = moment; given = given })) (sym (same_held first ls same)) holds.0,
       record {
         listed = λ l t member h.
             let other = unmapped shown first (shown l) (subst (λ (xs : List (Lease × List Packed)). Contains xs (shown l)) same (mapped shown ls l member)) in
             subst (λ (p : Lease × List Packed). Contains p.1 t) other.2 (holds.1.listed other.0 t other.1 (h ∙ ap (λ (p : Lease × List Packed). Some p.0.number) (sym other.2)));
-        offered = λ t is_open none. holds.1.offered t is_open (ap (λ live. while_live live (came_under before t)) (sym (same_held first ls same)) ∙ none);
+        freed = λ t is_open none. holds.1.freed t is_open (ap (λ live. while_live live (came_under before t)) (sym (same_held first ls same)) ∙ none);
       },
     )
 
 -- a write to a list puts its item in, and leaves those at other places
-pub set_member : (xs : List KeptLease) (i : ℕ) (y x : KeptLease) → i < length xs → Contains (set xs i y) x → (x ≡ y) ⊎ ((j : ℕ) × (j ≢ i) × (j < length xs) × (get_or xs j x ≡ x))
+pub set_member : (xs : List StoredLease) (i : ℕ) (y x : StoredLease) → i < length xs → Contains (set xs i y) x → (x ≡ y) ⊎ ((j : ℕ) × (j ≢ i) × (j < length xs) × (get_or xs j x ≡ x))
 set_member xs i y x within h =
     elim (eqb_tells h.0 i) [
       | inl same ↦ inl (sym h.2 ∙ (ap (λ k. get_or (set xs i y) k x) same.1 ∙ get_or-set_same xs i y x within))
@@ -179,7 +179,7 @@ none_renewed n moment (x ∷ xs) above =
     ap (λ b. (if b then record { number = x.number; id = x.id; deadline = moment + lease_time } else x) ∷ map (renew_one n moment) xs) other
     ∙ ap (λ ys. x ∷ ys) (none_renewed n moment xs (All-tail (λ (x : Lease). n < x.number) x xs above))
 
-first_renewed : (x l : KeptLease) (n moment : ℕ) → n ≡ x.number → l.number ≡ x.number → l.id ≡ x.id → l.renewed ≡ moment → as_lease l ≡ renew_one n moment (as_lease x)
+first_renewed : (x l : StoredLease) (n moment : ℕ) → n ≡ x.number → l.number ≡ x.number → l.id ≡ x.id → l.renewed ≡ moment → as_lease l ≡ renew_one n moment (as_lease x)
 unfolding renew_one
 first_renewed x l n moment is number id renewed =
     let same : as_lease l ≡ record { number = x.number; id = x.id; deadline = moment + lease_time } = λ i. record { number = number i; id = id i; deadline = renewed i + lease_time } in
@@ -191,7 +191,7 @@ other_renewed x n moment less =
     let other : nat_eq x.number n ≡ false = elim (eqb_tells x.number n) [ inl same ↦ let e = same.1 in absurd (omega arith) | inr differ ↦ differ.0 ] in
     ap (λ b. if b then record { number = x.number; id = x.id; deadline = moment + lease_time } else x) other
 
-set_renewed : (ls : List KeptLease) (at n moment : ℕ) (l : KeptLease) → at < length ls → AllPairs (λ (a b : Lease). a.number < b.number) (map as_lease ls)
+set_renewed : (ls : List StoredLease) (at n moment : ℕ) (l : StoredLease) → at < length ls → AllPairs (λ (a b : Lease). a.number < b.number) (map as_lease ls)
     → n ≡ (get_or ls at l).number → l.number ≡ (get_or ls at l).number → l.id ≡ (get_or ls at l).id → l.renewed ≡ moment → map as_lease (set ls at l) ≡ map (renew_one n moment) (map as_lease ls)
 set_renewed [] at n moment l below rising is number id renewed = absurd (omega arith)
 set_renewed (x ∷ xs) zero n moment l below rising is number id renewed =
@@ -216,8 +216,8 @@ less_or_more : (j k : ℕ) → j ≢ k → (j < k) ⊎ (k < j)
 less_or_more j k differ = elim (cases_lt j k) [ inl less ↦ inl less | inr most ↦ inr (omega arith) ]
 
 -- where the table is under a live lease: the lease at a place is renewed, and the children come under it
-module _ (old new : Contents) (ls : List KeptLease) (at : ℕ) (l : KeptLease) (came mid next : List (Packed × ℕ)) (free : List Packed) (moment given number : ℕ) (t : Packed)
-    (opens : Opens old new t) (are : AreLeases old (as_leases ls came moment given)) (kept : IsKept old ls came free) (within : at < length ls) (out : GoesOut came t mid)
+module _ (old new : Contents) (ls : List StoredLease) (at : ℕ) (l : StoredLease) (came mid next : List (Packed × ℕ)) (free : List Packed) (moment given number : ℕ) (t : Packed)
+    (opens : Opens old new t) (are : AreLeases old (as_leases ls came moment given)) (kept : AreStored old ls came free) (within : at < length ls) (out : GoesOut came t mid)
     (is : number ≡ (get_or ls at l).number) (renews : Renews new t moment (get_or ls at l) l mid next) where
   after : map as_lease (set ls at l) ≡ map (renew_one number moment) (map as_lease ls)
   after = set_renewed ls at number moment l within are.numbers is renews.number renews.id renews.renewed
@@ -254,20 +254,20 @@ module _ (old new : Contents) (ls : List KeptLease) (at : ℕ) (l : KeptLease) (
       })
 
   -- the leases at other places have other numbers
-  apart_from : (j : ℕ) (x : KeptLease) → (j ≢ at) → j < length ls → get_or ls j x ≡ x → x.number ≡ (get_or ls at l).number → ⊥
+  apart_from : (j : ℕ) (x : StoredLease) → (j ≢ at) → j < length ls → get_or ls j x ≡ x → x.number ≡ (get_or ls at l).number → ⊥
   apart_from j x differ below e same =
-      let first : (get_or (map as_lease ls) j (as_lease x)).number ≡ x.number = ap (λ (y : Lease). y.number) (get_or-map as_lease ls j x (as_lease x) below) ∙ ap (λ (y : KeptLease). y.number) e in
+      let first : (get_or (map as_lease ls) j (as_lease x)).number ≡ x.number = ap (λ (y : Lease). y.number) (get_or-map as_lease ls j x (as_lease x) below) ∙ ap (λ (y : StoredLease). y.number) e in
       let second : (get_or (map as_lease ls) at (as_lease x)).number ≡ (get_or ls at l).number = ap (λ (y : Lease). y.number) (get_or-map as_lease ls at l (as_lease x) within) in
       elim (less_or_more j at differ) [
         | inl less ↦ let rising = are.numbers j at (as_lease x) less (omega (arith, length-map ls as_lease)) in omega (arith, rising, first, second, same)
         | inr more ↦ let rising = are.numbers at j (as_lease x) more (omega (arith, length-map ls as_lease)) in omega (arith, rising, first, second, same)
       ]
 
-  pub under_new_kept : IsKept new (set ls at l) next free
+  pub under_new_kept : AreStored new (set ls at l) next free
   under_new_kept = record {
     listed = λ x q member h. elim (set_member ls at l x within member) [
-      | inl same ↦ subst (λ (x : KeptLease). Contains x.tables q) (sym same) (elim (renews.only q x.number h) [
-        | inl before ↦ renews.more q (kept.listed (get_or ls at l) q (Contains-get_or ls at l within) ((out_cases came mid t q x.number out before).1 ∙ ap Some (ap (λ (x : KeptLease). x.number) same ∙ renews.number))) (out_cases came mid t q x.number out before).0
+      | inl same ↦ subst (λ (x : StoredLease). Contains x.tables q) (sym same) (elim (renews.only q x.number h) [
+        | inl before ↦ renews.more q (kept.listed (get_or ls at l) q (Contains-get_or ls at l within) ((out_cases came mid t q x.number out before).1 ∙ ap Some (ap (λ (x : StoredLease). x.number) same ∙ renews.number))) (out_cases came mid t q x.number out before).0
         | inr now ↦ now.2
       ])
       | inr other ↦ elim (renews.only q x.number h) [
@@ -275,8 +275,8 @@ module _ (old new : Contents) (ls : List KeptLease) (at : ℕ) (l : KeptLease) (
         | inr now ↦ absurd (apart_from other.0 x other.1 other.2 other.3 now.0)
       ]
     ];
-    offered = λ q is_open none. elim (opens.cases q is_open) [
-      | inl was ↦ kept.offered q was.0 (ap (while_live (map as_lease ls)) (sym (stays_there q was.0 was.1)) ∙ (sym (while_after (came_under next q)) ∙ none))
+    freed = λ q is_open none. elim (opens.cases q is_open) [
+      | inl was ↦ kept.freed q was.0 (ap (while_live (map as_lease ls)) (sym (stays_there q was.0 was.1)) ∙ (sym (while_after (came_under next q)) ∙ none))
       | inr child ↦
           let here : came_under next q ≡ Some number = renews.here q child.0 child.1 is_open ∙ ap Some (sym is) in
           let some : while_live (map as_lease (set ls at l)) (came_under next q) ≡ Some number = while_after (came_under next q) ∙ (ap (while_live (map as_lease ls)) here ∙ reads) in
@@ -298,7 +298,7 @@ module _ (old new : Contents) (ls : List KeptLease) (at : ℕ) (l : KeptLease) (
     given = refl;
   }
 
-pub seen_shown : (first ls : List KeptLease) (before came : List (Packed × ℕ)) (moment given : ℕ) → map shown ls ≡ map shown first → came ≡ before → as_leases ls came moment given ≡ as_leases first before moment given
+pub seen_shown : (first ls : List StoredLease) (before came : List (Packed × ℕ)) (moment given : ℕ) → map shown ls ≡ map shown first → came ≡ before → as_leases ls came moment given ≡ as_leases first before moment given
 seen_shown first ls before came moment given same same_came =
     let live = same_held first ls same in
     λ i. record { live = live i; came = same_came i; moment = moment; given = given }

@@ -1,5 +1,5 @@
 -- What only the code of this crate needs.
 pub mod Free
-pub mod Keeping
+pub mod Stored
 pub mod Children
 pub mod Deadlines

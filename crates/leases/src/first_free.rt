@@ -4,7 +4,7 @@ ghost use Rattle.machine_text.specs.Packed.{Packed};
 ghost use Rattle.ledger.specs.Contents.{IsOpenOn};
 ghost use Rattle.leases.specs.Leases.{came_under, while_live};
 ghost use Rattle.leases.specs.Asks.{IsFree, IsFirstFree};
-ghost use Rattle.leases.specs.inside.Keeping.{as_lease, as_leases, without};
+ghost use Rattle.leases.specs.inside.Stored.{as_lease, as_leases, without};
 
 use crate::free_tables::FreeTables;
 use crate::held_leases::is_numbered;

@@ -1,8 +1,8 @@
-// Live leases as they are kept.
+// Live leases as they are stored.
 ghost use Rattle.std.specs.Prelude.{◌≡◌, ◌+◌, ◌∷◌, [], nat_le, Contains, IfOk, OnOk};
 ghost use Rattle.machine_text.specs.Packed.{Packed};
 ghost use Rattle.leases.specs.Limits.{lease_time};
-ghost use Rattle.leases.specs.inside.Keeping.{is_numbered};
+ghost use Rattle.leases.specs.inside.Stored.{is_numbered};
 
 use crate::free_tables::FreeTables;
 use crate::limits::LEASE_TIME;
@@ -47,7 +47,7 @@ pub(crate) fn only(alloc: Global, t: Table) -> Result<IndexSet<Table>, NoMemory>
 }
 
 // Puts tables among the free ones.
-pub(crate) fn offer_all(free: &mut FreeTables, tables: &[Table]) -> Result<(), NoMemory>
+pub(crate) fn free_all(free: &mut FreeTables, tables: &[Table]) -> Result<(), NoMemory>
     ensures more { (q : Packed) → Contains free.old.tables q → Contains free.new.tables q }
     ensures ok { OnOk result ((q : Packed) → Contains tables.now q → Contains free.new.tables q) }
 {

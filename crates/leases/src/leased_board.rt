@@ -35,7 +35,7 @@ pub struct LeasedBoard {
 
 impl Model for LeasedBoard {
     ghost use Rattle.leases.specs.Leases.{Leased, AreLeases};
-    ghost use Rattle.leases.specs.inside.Keeping.{as_leases, IsKept};
+    ghost use Rattle.leases.specs.inside.Stored.{as_leases, AreStored};
     ghost use Rattle.leases.specs.inside.Deadlines.{AreNotAhead};
 
     ghost Value = { Leased };
@@ -43,7 +43,7 @@ impl Model for LeasedBoard {
     ghost view = { λ a. record { board = a.board; leases = as_leases a.live a.came_under.entries a.moment a.given } };
 
     ghost invariant = { λ a. (AreLeases a.board (as_leases a.live a.came_under.entries a.moment a.given)
-        × IsKept a.board a.live a.came_under.entries a.free.tables) × AreNotAhead a.moment a.live };
+        × AreStored a.board a.live a.came_under.entries a.free.tables) × AreNotAhead a.moment a.live };
 }
 
 impl LeasedBoard {
@@ -86,7 +86,7 @@ impl LeasedBoard {
     {
         let moment = self.moment.max(t);
         let numbers = self.live.due(self.alloc, moment)?;
-        self.live.offer_each(&numbers, &mut self.free)?;
+        self.live.free_each(&numbers, &mut self.free)?;
         self.live.end_each(&numbers);
         self.moment = moment;
         Ok(())
@@ -110,7 +110,7 @@ impl LeasedBoard {
         ensures ok { OnOk result (self.new.leases ≡ ended (λ l. l.number == number) self.old.leases) }
         ensures err { OnErr result ((is_live self.old.leases.live number ≡ true) × (self.new.leases ≡ self.old.leases)) }
     {
-        self.live.offer_tables(Some(number), &mut self.free)?;
+        self.live.free_tables_of(Some(number), &mut self.free)?;
         self.live.end(Some(number));
         Ok(())
     }
@@ -125,7 +125,7 @@ impl LeasedBoard {
     {
         // Its own lease goes when nothing more can be refused: it makes way for the new one.
         let own = self.live.of_worker(id);
-        self.live.offer_tables(own, &mut self.free)?;
+        self.live.free_tables_of(own, &mut self.free)?;
         if !has_open(&self.board) {
             self.live.end(own);
             return Ok(Reply::Stop);

@@ -7,7 +7,7 @@ ghost use Rattle.machine_text.specs.Packed.{Packed};
 ghost use Rattle.indexmap.specs.IndexMap.{spare};
 ghost use Rattle.leases.specs.Leases.{SomeEnds, is_live};
 ghost use Rattle.leases.specs.Limits.{child_limit};
-ghost use Rattle.leases.specs.inside.Keeping.{KeptLease, kept_lease, as_lease, is_numbered, without, are_numbered, without_each, AreDue, AreAmongFree, IsOwn};
+ghost use Rattle.leases.specs.inside.Stored.{StoredLease, stored_lease, as_lease, is_numbered, without, are_numbered, without_each, AreDue, AreAmongFree, IsOwn};
 ghost use Rattle.leases.specs.inside.Children.{Renews, RenewsOne, HasRoomForChildren, shown};
 ghost use Rattle.leases.specs.inside.Deadlines.{AreNotAhead};
 
@@ -15,7 +15,7 @@ use crate::children::lease_children;
 use crate::deadlines::Deadlines;
 use crate::ended_leases::{put_back, take_ended};
 use crate::free_tables::FreeTables;
-use crate::held_leases::{HeldLease, offer_all};
+use crate::held_leases::{HeldLease, free_all};
 use crate::limits::MAX_CHILDREN;
 use evidence::NoMemory;
 use indexmap::IndexMap;
@@ -40,12 +40,12 @@ impl Model for LiveLeases {
     ghost use Rattle.std.specs.Ordering.{nat_cmp};
     ghost use Rattle.std.specs.BTreeMap.{get as lease_at, IsOrdered};
     ghost use Rattle.indexmap.specs.IndexMap.{get as number_of};
-    ghost use Rattle.leases.specs.inside.Keeping.{KeptLease, kept_lease, AreOfWorkers};
+    ghost use Rattle.leases.specs.inside.Stored.{StoredLease, stored_lease, AreOfWorkers};
     ghost use Rattle.leases.specs.inside.Deadlines.{AreAwaited};
 
-    ghost Value = { List KeptLease };
+    ghost Value = { List StoredLease };
 
-    ghost view = { λ a. map kept_lease a.leases.entries };
+    ghost view = { λ a. map stored_lease a.leases.entries };
 
     ghost invariant = { λ a. IsOrdered nat_cmp a.leases × AreOfWorkers (number_of nat_eq a.of_worker) (lease_at nat_cmp a.leases)
         × AreAwaited a.deadlines.entries (lease_at nat_cmp a.leases) };
@@ -107,7 +107,7 @@ impl LiveLeases {
     }
 
     // Puts the tables of a lease among the free ones. Memory is refused only where it lives.
-    pub fn offer_tables(&self, which: Option<u64>, free: &mut FreeTables) -> Result<(), NoMemory>
+    pub fn free_tables_of(&self, which: Option<u64>, free: &mut FreeTables) -> Result<(), NoMemory>
         ensures more { (q : Packed) → Contains free.old.tables q → Contains free.new.tables q }
         ensures ok { OnOk result (AreAmongFree (λ l. is_numbered which l.number) self.now free.new.tables) }
         ensures err { OnErr result (IfSome which (λ n. is_live (map as_lease self.now) n ≡ true)) }
@@ -116,7 +116,7 @@ impl LiveLeases {
             return Ok(());
         };
         match self.leases.get(&number) {
-            Some(lease) => offer_all(free, lease.tables.as_slice()),
+            Some(lease) => free_all(free, lease.tables.as_slice()),
             None => Ok(()),
         }
     }
@@ -134,13 +134,13 @@ impl LiveLeases {
     }
 
     // Puts the tables of leases among the free ones. Memory is refused only where one of them lives.
-    pub fn offer_each(&self, numbers: &[u64], free: &mut FreeTables) -> Result<(), NoMemory>
+    pub fn free_each(&self, numbers: &[u64], free: &mut FreeTables) -> Result<(), NoMemory>
         ensures more { (q : Packed) → Contains free.old.tables q → Contains free.new.tables q }
         ensures ok { OnOk result (AreAmongFree (λ l. are_numbered numbers.now l.number) self.now free.new.tables) }
         ensures err { OnErr result ((n : ℕ) × Contains numbers.now n × (is_live (map as_lease self.now) n ≡ true)) }
     {
         for number in numbers {
-            self.offer_tables(Some(*number), free)?;
+            self.free_tables_of(Some(*number), free)?;
         }
         Ok(())
     }
@@ -163,7 +163,7 @@ impl LiveLeases {
     ) -> Result<(), NoMemory>
         requires last { All (λ l. l.number < number) self.old }
         requires own { IsOwn lease.id own self.old }
-        ensures ok { OnOk result (self.new ≡ without own self.old ++ (kept_lease (number, lease) ∷ [])) }
+        ensures ok { OnOk result (self.new ≡ without own self.old ++ (stored_lease (number, lease) ∷ [])) }
         ensures err { OnErr result (self.new ≡ self.old) }
     {
         let id = lease.id;
@@ -217,7 +217,7 @@ impl LiveLeases {
 // Takes a lease out, if it is there.
 fn take_out(leases: &mut BTreeMap<u64, HeldLease>, which: Option<u64>)
     requires { IsOrdered nat_cmp leases.old }
-    ensures kept { map kept_lease leases.new.entries ≡ without which (map kept_lease leases.old.entries) }
+    ensures kept { map stored_lease leases.new.entries ≡ without which (map stored_lease leases.old.entries) }
     ensures at { (q : ℕ) → lease_at nat_cmp leases.new q ≡ cond (is_numbered which q) None (lease_at nat_cmp leases.old q) }
     ensures ordered { IsOrdered nat_cmp leases.new }
 {
@@ -235,9 +235,9 @@ fn renew_lease(
     moment: u64,
     t: &Table,
 )
-    requires room { child_limit ≤ (kept_lease (number, lease.old)).room }
+    requires room { child_limit ≤ (stored_lease (number, lease.old)).room }
     requires came { child_limit ≤ spare came.old }
-    ensures { Renews board.now t.now moment (kept_lease (number, lease.old)) (kept_lease (number, lease.new)) came.old.entries came.new.entries }
+    ensures { Renews board.now t.now moment (stored_lease (number, lease.old)) (stored_lease (number, lease.new)) came.old.entries came.new.entries }
 {
     lease.renewed = moment;
     lease.tables.swap_remove(t);

@@ -8,11 +8,11 @@ use Rattle.tree.specs.Tables.{IsChildTable, InTableTree, Itself, OfChild}
 use Rattle.tree.proofs.TableLaws.{child_alike, child_map, tree_alike, tree_table_child, one_table_parent}
 use Rattle.tree.proofs.TreeLaws.{child_holes}
 use Rattle.cert.specs.Claim.{Recorded}
-use Rattle.ledger.specs.inside.Keeping.{entry_recorded, records_of}
+use Rattle.ledger.specs.inside.Stored.{entry_recorded, records_of}
 use Rattle.ledger.specs.inside.Open.{no_place}
 use Rattle.ledger.specs.inside.Carrying.{OnChain, Here, Above}
 use Rattle.ledger.specs.inside.Trees.{AreParented}
-use Rattle.ledger.specs.declared.kept.Kept.{Kept}
+use Rattle.ledger.specs.declared.stored_record.StoredRecord.{StoredRecord}
 
 -- a child has one undefined pair less than its parent, so a table of a tree has no more than the root
 pub fewer_holes : (p t : Packed) → IsTable p → IsChildTable p t → holes t.states (entry_of t) < holes p.states (entry_of p)
@@ -48,27 +48,27 @@ tree_twice p q t Itself below = below
 tree_twice p q t (OfChild {c} child inside) below = OfChild child (tree_twice c q t inside below)
 
 -- the entry of a record
-some_entry : (o : Option (Packed × Kept)) (r : Recorded) → option_map entry_recorded o ≡ Some r → (e : Packed × Kept) × (o ≡ Some e) × (entry_recorded e ≡ r)
+some_entry : (o : Option (Packed × StoredRecord)) (r : Recorded) → option_map entry_recorded o ≡ Some r → (e : Packed × StoredRecord) × (o ≡ Some e) × (entry_recorded e ≡ r)
 some_entry None r is = cc
 some_entry (Some e) r is = (e, refl, same_Some (entry_recorded e) r is)
 
-pub entry_of_record : (es : List (Packed × Kept)) (i : ℕ) (r : Recorded) → slice_get (records_of es) i ≡ Some r → (e : Packed × Kept) × (slice_get es i ≡ Some e) × (entry_recorded e ≡ r)
+pub entry_of_record : (es : List (Packed × StoredRecord)) (i : ℕ) (r : Recorded) → slice_get (records_of es) i ≡ Some r → (e : Packed × StoredRecord) × (slice_get es i ≡ Some e) × (entry_recorded e ≡ r)
 entry_of_record es i r at = some_entry (slice_get es i) r (sym (slice_get-map entry_recorded es i) ∙ at)
 
-no_chain : (es : List (Packed × Kept)) (i : ℕ) → OnChain es no_place i → ⊥
+no_chain : (es : List (Packed × StoredRecord)) (i : ℕ) → OnChain es no_place i → ⊥
 no_chain es i (Here small) = omega (arith, small)
 no_chain es i (Above small at on) = omega (arith, small)
 
 -- each table once, all of them in the tree of the root
-abbrev pub AreOnce : List (Packed × Kept) → Type 0
-AreOnce es = (i j : ℕ) (e f : Packed × Kept) → slice_get es i ≡ Some e → slice_get es j ≡ Some f → e.0 ≡ f.0 → i ≡ j
+abbrev pub AreOnce : List (Packed × StoredRecord) → Type 0
+AreOnce es = (i j : ℕ) (e f : Packed × StoredRecord) → slice_get es i ≡ Some e → slice_get es j ≡ Some f → e.0 ≡ f.0 → i ≡ j
 
-abbrev pub AreBelow : Packed → List (Packed × Kept) → Type 0
-AreBelow root es = (i : ℕ) (e : Packed × Kept) → slice_get es i ≡ Some e → InTableTree root e.0
+abbrev pub AreBelow : Packed → List (Packed × StoredRecord) → Type 0
+AreBelow root es = (i : ℕ) (e : Packed × StoredRecord) → slice_get es i ≡ Some e → InTableTree root e.0
 
-module _ (root : Packed) (es : List (Packed × Kept)) (is_table : IsTable root) (parents : AreParented root es) (below : AreBelow root es) (once : AreOnce es) where
-  pub chain_above : (place i : ℕ) (e f : Packed × Kept) → OnChain es place i → slice_get es place ≡ Some e → slice_get es i ≡ Some f → InTableTree f.0 e.0
-  chain_above place i e f (Here small) at there = let same : e ≡ f = same_Some e f (sym at ∙ there) in subst (λ (x : Packed × Kept). InTableTree f.0 x.0) (sym same) Itself
+module _ (root : Packed) (es : List (Packed × StoredRecord)) (is_table : IsTable root) (parents : AreParented root es) (below : AreBelow root es) (once : AreOnce es) where
+  pub chain_above : (place i : ℕ) (e f : Packed × StoredRecord) → OnChain es place i → slice_get es place ≡ Some e → slice_get es i ≡ Some f → InTableTree f.0 e.0
+  chain_above place i e f (Here small) at there = let same : e ≡ f = same_Some e f (sym at ∙ there) in subst (λ (x : Packed × StoredRecord). InTableTree f.0 x.0) (sym same) Itself
   chain_above place i e f (Above {e = x} small above on) at there =
       let same : x ≡ e = same_Some x e (sym above ∙ at) in
       elim (parents place x above) [
@@ -77,11 +77,11 @@ module _ (root : Packed) (es : List (Packed × Kept)) (is_table : IsTable root) 
             let g = entry_of_record es x.1.parent w.1.0 w.1.1 in
             let table : g.0.0 ≡ w.1.0.table = ap (λ (r : Recorded). r.table) g.2 in
             let under = chain_above x.1.parent i g.0 f on g.1 there in
-            let child : IsChildTable g.0.0 e.0 = subst (λ (p : Packed). IsChildTable p e.0) (sym table) (subst (λ (y : Packed × Kept). IsChildTable w.1.0.table y.0) same w.1.3) in
+            let child : IsChildTable g.0.0 e.0 = subst (λ (p : Packed). IsChildTable p e.0) (sym table) (subst (λ (y : Packed × StoredRecord). IsChildTable w.1.0.table y.0) same w.1.3) in
             tree_table_child f.0 g.0.0 e.0 under child
       ]
 
-  pub above_chain : (n place i : ℕ) (e f : Packed × Kept) → place < n → place + 1 < 2 ^ 32 → slice_get es place ≡ Some e → slice_get es i ≡ Some f → InTableTree f.0 e.0 → OnChain es place i
+  pub above_chain : (n place i : ℕ) (e f : Packed × StoredRecord) → place < n → place + 1 < 2 ^ 32 → slice_get es place ≡ Some e → slice_get es i ≡ Some f → InTableTree f.0 e.0 → OnChain es place i
   above_chain zero place i e f bound small at there inside = absurd (omega (arith, bound))
   above_chain (suc n) place i e f bound small at there inside = elim (last_step f.0 e.0 inside) [
     | inl same ↦ subst (OnChain es place) (once place i e f at there (sym same)) (Here small)

@@ -18,8 +18,8 @@ use Rattle.ledger.specs.inside.Open.{IsOpenMap}
 use Rattle.ledger.specs.Contents.{Contents, IsBoard}
 use Rattle.ledger.specs.Tally.{AreAll, AreSoMany, IsGreatestCount, IsChampion}
 use Rattle.ledger.specs.inside.Counting.{is_undecided, undecided_table, is_champion, champion_table, steps_of, tables_with}
-use Rattle.ledger.specs.inside.Keeping.{entry_recorded, records_of}
-use Rattle.ledger.specs.declared.kept.Kept.{Kept}
+use Rattle.ledger.specs.inside.Stored.{entry_recorded, records_of}
+use Rattle.ledger.specs.declared.stored_record.StoredRecord.{StoredRecord}
 use Rattle.ledger.proofs.Apart.{AreApart, held_apart, chosen_once}
 use Rattle.ledger.proofs.Numbers.{holdouts_listed, halts_listed}
 use Rattle.ledger.proofs.OpenLaws.{open_in_tree, recorded_in_tree}
@@ -95,7 +95,7 @@ AreCountedBy IsOfKind p = (rs : List Recorded) → AreApart rs → AreSoMany (Is
 pub kind_counted : (IsOfKind : List Recorded → Packed → Type 0) (p : Recorded → Bool) → AreCountedBy IsOfKind p → (b : Contents) (n : ℕ) → IsBoard b → n ≡ length (filter p b.records) → AreSoMany (IsOfKind b.records) n
 kind_counted IsOfKind p law b n board is = subst (λ (k : ℕ). AreSoMany (IsOfKind b.records) k) (sym is) (law b.records (held_apart b.root b.records board.held))
 
-pub nodes_counted : (b : Contents) (root : Packed) (es : List (Packed × Kept)) (n m k : ℕ) → (record { root = root; records = records_of es }) ≡ b → m ≡ length es → n ≡ m + k → n ≡ length b.records + k
+pub nodes_counted : (b : Contents) (root : Packed) (es : List (Packed × StoredRecord)) (n m k : ℕ) → (record { root = root; records = records_of es }) ≡ b → m ≡ length es → n ≡ m + k → n ≡ length b.records + k
 nodes_counted b root es n m k view is all =
     let count : length b.records ≡ length es = ap (λ (c : Contents). length c.records) (sym view) ∙ length-map es entry_recorded in
     omega (arith, count, is, all)

@@ -14,11 +14,11 @@ use Rattle.cert.specs.Kinds.{owned_claim}
 use Rattle.ledger.specs.Records.{same_table, claim_in, mark_in}
 use Rattle.ledger.specs.Held.{IsHoldout, Settles, settled}
 use Rattle.ledger.specs.Contents.{IsBoard}
-use Rattle.ledger.specs.inside.Keeping.{entry_recorded, records_of, KnowsPair}
+use Rattle.ledger.specs.inside.Stored.{entry_recorded, records_of, KnowsPair}
 use Rattle.ledger.specs.inside.Counting.{IsCounted, with_shown, without_holdout, is_halting, is_never, is_undecided}
 use Rattle.machine_text.specs.Order.{table_cmp}
 use Rattle.ledger.specs.inside.Open.{others, AreChildrenAt, IsOpenMap, IsNewChild}
-use Rattle.ledger.specs.declared.kept.Kept.{Kept}
+use Rattle.ledger.specs.declared.stored_record.StoredRecord.{StoredRecord}
 use Rattle.ledger.specs.declared.counts.Counts.{Counts}
 use Rattle.ledger.proofs.Entries.{no_entry, an_entry, entry_last, entry_settled, inserted_pairs, holdout_shows}
 use Rattle.ledger.proofs.HeldLaws.{unmarked}
@@ -26,13 +26,13 @@ use Rattle.ledger.proofs.Numbers.{number_within, counted_more, counted_settled, 
 use Rattle.ledger.proofs.Openers.{none_opened, next_opens_none, holdout_opens_none}
 use Rattle.ledger.proofs.Taking.{holdout_claim, opened_then_closed, board_more, taken_last, opened_more, board_settled, taken_settling, opened_settled}
 
--- what each board of the code keeps
-abbrev pub IsKept : Packed → List (Packed × Kept) → BTreeMap Packed ℕ → Counts → Type 0
-IsKept root es tables counts =
+-- a board as the code has it, but for the numbers of its trees
+abbrev pub IsStoredUnindexed : Packed → List (Packed × StoredRecord) → BTreeMap Packed ℕ → Counts → Type 0
+IsStoredUnindexed root es tables counts =
     IsBoard (record { root = root; records = records_of es }) × IsOpenMap tables (record { root = root; records = records_of es }) × All KnowsPair es × IsCounted (records_of es) counts
 
 -- its numbers have room
-pub numbers_fit : (es : List (Packed × Kept)) (counts : Counts) → IsCounted (records_of es) counts → length es < 2 ^ 63 → (counts.halting < 2 ^ 63) × (counts.never < 2 ^ 63) × (counts.undecided < 2 ^ 63)
+pub numbers_fit : (es : List (Packed × StoredRecord)) (counts : Counts) → IsCounted (records_of es) counts → length es < 2 ^ 63 → (counts.halting < 2 ^ 63) × (counts.never < 2 ^ 63) × (counts.undecided < 2 ^ 63)
 numbers_fit es counts counted small =
     let len : length (records_of es) ≡ length es = length-map es entry_recorded in (
       omega (arith, counted.halting, number_within is_halting (records_of es), len, small),
@@ -41,45 +41,45 @@ numbers_fit es counts counted small =
     )
 
 -- the next place opened nothing yet
-pub next_place : (root : Packed) (es : List (Packed × Kept)) (tables : BTreeMap Packed ℕ) (place : ℕ) → IsOpenMap tables (record { root = root; records = records_of es }) → place ≡ length es → place + 1 < 2 ^ 32
+pub next_place : (root : Packed) (es : List (Packed × StoredRecord)) (tables : BTreeMap Packed ℕ) (place : ℕ) → IsOpenMap tables (record { root = root; records = records_of es }) → place ≡ length es → place + 1 < 2 ^ 32
     → others place tables.entries ≡ tables.entries
 next_place root es tables place before is small =
     none_opened root (records_of es) place tables.entries (λ t. next_opens_none root (records_of es) t place (is ∙ sym (length-map es entry_recorded)) small) before.openers
 
 -- nor did a holdout's place
-pub holdouts_place : (root : Packed) (es : List (Packed × Kept)) (tables : BTreeMap Packed ℕ) (place : ℕ) (t : Packed) → IsOpenMap tables (record { root = root; records = records_of es })
+pub holdouts_place : (root : Packed) (es : List (Packed × StoredRecord)) (tables : BTreeMap Packed ℕ) (place : ℕ) (t : Packed) → IsOpenMap tables (record { root = root; records = records_of es })
     → (r : Recorded) × (slice_get (records_of es) place ≡ Some r) × (r.table ≡ t) × (is_halting r ≡ false) → place + 1 < 2 ^ 32 → others place tables.entries ≡ tables.entries
 holdouts_place root es tables place t before at small = none_opened root (records_of es) place tables.entries (λ q. holdout_opens_none root (records_of es) q place at.0 at.1 at.3 small) before.openers
 
--- the record as it is kept
-kept_is : (r : Recorded) (k : Kept) → owned_claim k.certificate ≡ r.claim → entry_recorded (r.table, k) ≡ r
-kept_is r k claim = ap (λ (c : Claim). record { table = r.table; claim = c }) claim
+-- the record as it is stored
+stored_is : (r : Recorded) (k : StoredRecord) → owned_claim k.certificate ≡ r.claim → entry_recorded (r.table, k) ≡ r
+stored_is r k claim = ap (λ (c : Claim). record { table = r.table; claim = c }) claim
 
-pub records_more : (es new : List (Packed × Kept)) (r : Recorded) (k : Kept) → owned_claim k.certificate ≡ r.claim → claim_in (records_of es) r.table ≡ None → new ≡ insert_entry same_table es r.table k
+pub records_more : (es new : List (Packed × StoredRecord)) (r : Recorded) (k : StoredRecord) → owned_claim k.certificate ≡ r.claim → claim_in (records_of es) r.table ≡ None → new ≡ insert_entry same_table es r.table k
     → records_of new ≡ records_of es ++ (r ∷ [])
 records_more es new r k claim none is =
-    ap records_of (is ∙ entry_last es r.table k (no_entry es r.table none)) ∙ (map-append entry_recorded es ((r.table, k) ∷ []) ∙ ap (λ (x : Recorded). records_of es ++ (x ∷ [])) (kept_is r k claim))
+    ap records_of (is ∙ entry_last es r.table k (no_entry es r.table none)) ∙ (map-append entry_recorded es ((r.table, k) ∷ []) ∙ ap (λ (x : Recorded). records_of es ++ (x ∷ [])) (stored_is r k claim))
 
-pub records_settled : (es new : List (Packed × Kept)) (r : Recorded) (k : Kept) → owned_claim k.certificate ≡ r.claim → IsHoldout (records_of es) r.table → new ≡ insert_entry same_table es r.table k
+pub records_settled : (es new : List (Packed × StoredRecord)) (r : Recorded) (k : StoredRecord) → owned_claim k.certificate ≡ r.claim → IsHoldout (records_of es) r.table → new ≡ insert_entry same_table es r.table k
     → records_of new ≡ settled (records_of es) r
 records_settled es new r k claim holdout is =
     let c = holdout_claim (records_of es) r.table holdout in
     let found = an_entry es r.table c.0 c.1 in
-    ap records_of is ∙ (entry_settled es r.table k found.0 found.1 ∙ ap (settled (records_of es)) (kept_is r k claim))
+    ap records_of is ∙ (entry_settled es r.table k found.0 found.1 ∙ ap (settled (records_of es)) (stored_is r k claim))
 
-known : (es new : List (Packed × Kept)) (r : Recorded) (k : Kept) → All KnowsPair es → owned_claim k.certificate ≡ r.claim → IsPairOf (shown_by r.claim) r.table k.halts_on → new ≡ insert_entry same_table es r.table k → All KnowsPair new
+known : (es new : List (Packed × StoredRecord)) (r : Recorded) (k : StoredRecord) → All KnowsPair es → owned_claim k.certificate ≡ r.claim → IsPairOf (shown_by r.claim) r.table k.halts_on → new ≡ insert_entry same_table es r.table k → All KnowsPair new
 known es new r k all claim pair is =
     subst (All KnowsPair) (sym is) (inserted_pairs es r.table k all (subst (λ (c : Claim). IsPairOf (shown_by c) r.table k.halts_on) (sym claim) pair))
 
 -- a record of an open table is taken
-pub kept_more : (root : Packed) (es new : List (Packed × Kept)) (r : Recorded) (k : Kept) (place : ℕ) (tables mid after : BTreeMap Packed ℕ) (counts : Counts)
-    → IsKept root es tables counts → IsOpen root (mark_in (records_of es)) r.table → IsCertified r
+pub stored_more : (root : Packed) (es new : List (Packed × StoredRecord)) (r : Recorded) (k : StoredRecord) (place : ℕ) (tables mid after : BTreeMap Packed ℕ) (counts : Counts)
+    → IsStoredUnindexed root es tables counts → IsOpen root (mark_in (records_of es)) r.table → IsCertified r
     → owned_claim k.certificate ≡ r.claim → IsPairOf (shown_by r.claim) r.table k.halts_on → new ≡ insert_entry same_table es r.table k → place ≡ length es
     → ((q : Packed) → ContainsKey table_cmp mid q ↔ (ContainsKey table_cmp tables q ⊎ IsNewChild (records_of es) r q))
     → others place mid.entries ≡ tables.entries → AreChildrenAt place r.table mid.entries → (k.halts_on ≡ None → mid.entries ≡ tables.entries)
     → ((q : Packed) → ContainsKey table_cmp after q ↔ (ContainsKey table_cmp mid q × (q ≢ r.table))) → after.entries ≡ remove_entry (is_at (table_cmp r.table)) mid.entries
-    → IsKept root new after (with_shown counts (shown_by r.claim))
-kept_more root es new r k place tables mid after counts kept is_open certified claim pair is last opened others children none closed removal =
+    → IsStoredUnindexed root new after (with_shown counts (shown_by r.claim))
+stored_more root es new r k place tables mid after counts kept is_open certified claim pair is last opened others children none closed removal =
     let rs = records_of es in
     let gone = unmarked (claim_in rs r.table) is_open.unmarked in
     let list = records_more es new r k claim gone is in (
@@ -92,14 +92,14 @@ kept_more root es new r k place tables mid after counts kept is_open certified c
     )
 
 -- a holdout is settled
-pub kept_settled : (root : Packed) (es new : List (Packed × Kept)) (r : Recorded) (k : Kept) (place : ℕ) (tables after : BTreeMap Packed ℕ) (counts : Counts)
-    → IsKept root es tables counts → Settles (records_of es) r
+pub stored_settled : (root : Packed) (es new : List (Packed × StoredRecord)) (r : Recorded) (k : StoredRecord) (place : ℕ) (tables after : BTreeMap Packed ℕ) (counts : Counts)
+    → IsStoredUnindexed root es tables counts → Settles (records_of es) r
     → owned_claim k.certificate ≡ r.claim → IsPairOf (shown_by r.claim) r.table k.halts_on → new ≡ insert_entry same_table es r.table k
     → (x : Recorded) × (slice_get (records_of es) place ≡ Some x) × (x.table ≡ r.table) × (is_halting x ≡ false)
     → ((q : Packed) → ContainsKey table_cmp after q ↔ (ContainsKey table_cmp tables q ⊎ IsNewChild (records_of es) r q))
     → others place after.entries ≡ tables.entries → AreChildrenAt place r.table after.entries → (k.halts_on ≡ None → after.entries ≡ tables.entries)
-    → IsKept root new after (with_shown (without_holdout counts) (shown_by r.claim))
-kept_settled root es new r k place tables after counts kept settles claim pair is at opened others children none =
+    → IsStoredUnindexed root new after (with_shown (without_holdout counts) (shown_by r.claim))
+stored_settled root es new r k place tables after counts kept settles claim pair is at opened others children none =
     let rs = records_of es in
     let holdout = settles.is_holdout in
     let list = records_settled es new r k claim holdout is in
@@ -113,7 +113,7 @@ kept_settled root es new r k place tables after counts kept settles claim pair i
     )
 
 -- there is a holdout to be counted off
-pub holdout_counted : (es : List (Packed × Kept)) (counts : Counts) (r : Recorded) → IsCounted (records_of es) counts → IsHoldout (records_of es) r.table → 0 < counts.undecided
+pub holdout_counted : (es : List (Packed × StoredRecord)) (counts : Counts) (r : Recorded) → IsCounted (records_of es) counts → IsHoldout (records_of es) r.table → 0 < counts.undecided
 holdout_counted es counts r counted holdout =
     let c = holdout_claim (records_of es) r.table holdout in
     omega (arith, counted.undecided, some_holdout (records_of es) r c.0 c.1 (holdout_shows (records_of es) r.table c.0 holdout c.1))

@@ -14,24 +14,24 @@ use Rattle.ledger.specs.Held.{IsHoldout}
 use Rattle.ledger.specs.Contents.{IsBoard}
 use Rattle.ledger.specs.Tally.{AreSoMany}
 use Rattle.ledger.specs.inside.Counting.{is_undecided, IsCounted}
-use Rattle.ledger.specs.inside.Keeping.{entry_recorded, records_of, KnowsPair}
+use Rattle.ledger.specs.inside.Stored.{entry_recorded, records_of, KnowsPair}
 use Rattle.machine_text.specs.Order.{table_cmp}
 use Rattle.ledger.specs.inside.Open.{IsNewChild, IsOpenMap}
 use Rattle.ledger.specs.inside.Carrying.{taking_change, settling_change, ChainMayChange, AreCarried}
 use Rattle.ledger.specs.inside.Trees.{IsIndexed}
 use Rattle.ledger.specs.declared.counts.Counts.{Counts}
-use Rattle.ledger.specs.declared.kept.Kept.{Kept}
+use Rattle.ledger.specs.declared.stored_record.StoredRecord.{StoredRecord}
 use Rattle.ledger.proofs.Amounts.{many_same}
 use Rattle.ledger.proofs.Apart.{held_apart}
 use Rattle.ledger.proofs.BoardLaws.{open_number}
-use Rattle.ledger.proofs.Boards.{IsKept}
+use Rattle.ledger.proofs.Boards.{IsStoredUnindexed}
 use Rattle.ledger.proofs.Indexed.{IsReady, ready_indexed, ready_pairs, ready_records, ready_room, ready_table}
 use Rattle.ledger.proofs.Numbers.{holdout_number, number_within}
-use Rattle.ledger.proofs.Ready.{kept_carried}
+use Rattle.ledger.proofs.Ready.{stored_carried}
 use Rattle.ledger.proofs.TreeCounts.{new_child_is, count_settled, count_taken, settled_room, taken_room}
 
 -- what each board of the code keeps, with what is kept of trees
-abbrev pub IsStored : Packed → List (Packed × Kept) → BTreeMap Packed ℕ → Counts → Type 0
+abbrev pub IsStored : Packed → List (Packed × StoredRecord) → BTreeMap Packed ℕ → Counts → Type 0
 IsStored root es tables counts =
     IsBoard (record { root = root; records = records_of es }) × IsOpenMap tables (record { root = root; records = records_of es }) × All KnowsPair es × IsCounted (records_of es) counts × IsIndexed root es
 
@@ -39,7 +39,7 @@ IsStored root es tables counts =
 abbrev pub AreCounted : Recorded → ℕ → Type 0
 AreCounted r n = AreSoMany (λ t. ((k : ℕ) × (shown_by r.claim ≡ Some (Halts k))) × IsChildTable r.table t) n
 
-module _ (root : Packed) (es new : List (Packed × Kept)) (r : Recorded) (from : ℕ) (board : IsBoard (record { root = root; records = records_of es })) (ready : IsReady root (records_of es) new r from)
+module _ (root : Packed) (es new : List (Packed × StoredRecord)) (r : Recorded) (from : ℕ) (board : IsBoard (record { root = root; records = records_of es })) (ready : IsReady root (records_of es) new r from)
     (opened : ℕ) (number : AreCounted r opened) where
   new_ones : AreSoMany (IsNewChild (records_of es) r) opened
   new_ones = many_same (λ t. ((k : ℕ) × (shown_by r.claim ≡ Some (Halts k))) × IsChildTable r.table t) (IsNewChild (records_of es) r) opened
@@ -67,11 +67,11 @@ module _ (root : Packed) (es new : List (Packed × Kept)) (r : Recorded) (from :
         n opened opens (length (filter is_undecided (records_of es))) holdout verdict few open_ones small held_ones under count)
 
   -- then all that is kept is so of the new records
-  pub taking_carried : (last : List (Packed × Kept)) (after : BTreeMap Packed ℕ) (counts : Counts) → IsOpen root (mark_in (records_of es)) r.table → AreCarried (taking_change opened (shown_by r.claim)) new from last
-      → length last ≡ length new → IsKept root new after counts → IsStored root last after counts
+  pub taking_carried : (last : List (Packed × StoredRecord)) (after : BTreeMap Packed ℕ) (counts : Counts) → IsOpen root (mark_in (records_of es)) r.table → AreCarried (taking_change opened (shown_by r.claim)) new from last
+      → length last ≡ length new → IsStoredUnindexed root new after counts → IsStored root last after counts
   taking_carried last after counts is_open carried long kept =
       let c = taking_change opened (shown_by r.claim) in
-      let all = kept_carried root new last after counts kept (ready_records root (records_of es) new r from ready c last carried long) (ready_pairs root (records_of es) new r from ready c last carried long kept.2) in (
+      let all = stored_carried root new last after counts kept (ready_records root (records_of es) new r from ready c last carried long) (ready_pairs root (records_of es) new r from ready c last carried long kept.2) in (
         all.0,
         all.1,
         all.2,
@@ -80,11 +80,11 @@ module _ (root : Packed) (es new : List (Packed × Kept)) (r : Recorded) (from :
             (λ p n inside count. count_taken root board.is_table (records_of es) ready.had (records_of new) r ready.taken (ready_table root (records_of es) new r from ready) p inside n opened is_open new_ones count),
       )
 
-  pub settling_carried : (last : List (Packed × Kept)) (after : BTreeMap Packed ℕ) (counts : Counts) → IsHoldout (records_of es) r.table → IsSome (shown_by r.claim)
-      → AreCarried (settling_change opened (shown_by r.claim)) new from last → length last ≡ length new → IsKept root new after counts → IsStored root last after counts
+  pub settling_carried : (last : List (Packed × StoredRecord)) (after : BTreeMap Packed ℕ) (counts : Counts) → IsHoldout (records_of es) r.table → IsSome (shown_by r.claim)
+      → AreCarried (settling_change opened (shown_by r.claim)) new from last → length last ≡ length new → IsStoredUnindexed root new after counts → IsStored root last after counts
   settling_carried last after counts holdout verdict carried long kept =
       let c = settling_change opened (shown_by r.claim) in
-      let all = kept_carried root new last after counts kept (ready_records root (records_of es) new r from ready c last carried long) (ready_pairs root (records_of es) new r from ready c last carried long kept.2) in (
+      let all = stored_carried root new last after counts kept (ready_records root (records_of es) new r from ready c last carried long) (ready_pairs root (records_of es) new r from ready c last carried long kept.2) in (
         all.0,
         all.1,
         all.2,

@@ -15,10 +15,10 @@ use Rattle.cert.specs.Claim.{Claim, Recorded, shown_by}
 use Rattle.ledger.specs.Records.{same_table, claim_in, mark_in, mark_by}
 use Rattle.ledger.specs.Contents.{IsBoard}
 use Rattle.ledger.specs.inside.Counting.{says_halts}
-use Rattle.ledger.specs.inside.Keeping.{entry_recorded, records_of, KnowsPair}
+use Rattle.ledger.specs.inside.Stored.{entry_recorded, records_of, KnowsPair}
 use Rattle.ledger.specs.inside.Carrying.{changed_count, MayChange, OnChain, HasChain, AreEarlier, ChainMayChange, IsCarried, AreCarried}
 use Rattle.ledger.specs.inside.Trees.{IsTreeCount, IsParentPlace, AreParented, AreTreeCounts, IsIndexed}
-use Rattle.ledger.specs.declared.kept.Kept.{Kept}
+use Rattle.ledger.specs.declared.stored_record.StoredRecord.{StoredRecord}
 use Rattle.ledger.specs.declared.tree_count.TreeCount.{TreeCount}
 use Rattle.ledger.specs.declared.tree_count.TreeChange.{TreeChange}
 use Rattle.ledger.proofs.Ancestors.{AreOnce, AreBelow, no_way_up, entry_of_record, chain_above, above_chain}
@@ -34,28 +34,28 @@ use Rattle.ledger.proofs.TreeCounts.{HaveParents, count_kept}
 member_at : (rs : List Recorded) (i : ℕ) (r : Recorded) → slice_get rs i ≡ Some r → Contains rs r
 member_at rs i r at = (i, slice_get_within rs i r at, get_or_from_slice_get rs i r r at)
 
-record_at : (es : List (Packed × Kept)) (i : ℕ) (e : Packed × Kept) → slice_get es i ≡ Some e → slice_get (records_of es) i ≡ Some (entry_recorded e)
+record_at : (es : List (Packed × StoredRecord)) (i : ℕ) (e : Packed × StoredRecord) → slice_get es i ≡ Some e → slice_get (records_of es) i ≡ Some (entry_recorded e)
 record_at es i e at = slice_get-map entry_recorded es i ∙ ap (option_map entry_recorded) at
 
-entry_claim : (es : List (Packed × Kept)) (i : ℕ) (e : Packed × Kept) → AreApart (records_of es) → slice_get es i ≡ Some e → claim_in (records_of es) e.0 ≡ Some (entry_recorded e).claim
+entry_claim : (es : List (Packed × StoredRecord)) (i : ℕ) (e : Packed × StoredRecord) → AreApart (records_of es) → slice_get es i ≡ Some e → claim_in (records_of es) e.0 ≡ Some (entry_recorded e).claim
 entry_claim es i e apart at = member_claim (records_of es) (entry_recorded e) apart (member_at (records_of es) i (entry_recorded e) (record_at es i e at))
 
-pub lookup_at : (es : List (Packed × Kept)) (t : Packed) (k : Kept) → lookup (same_table t) es ≡ Some k → (i : ℕ) × (e : Packed × Kept) × (slice_get es i ≡ Some e) × (e.0 ≡ t) × (e.1 ≡ k)
+pub lookup_at : (es : List (Packed × StoredRecord)) (t : Packed) (k : StoredRecord) → lookup (same_table t) es ≡ Some k → (i : ℕ) × (e : Packed × StoredRecord) × (slice_get es i ≡ Some e) × (e.0 ≡ t) × (e.1 ≡ k)
 lookup_at [] t k is = absurd (cc)
 lookup_at (x ∷ es) t k is =
-    elim (same_table t x.0) as (λ v. same_table t x.0 ≡ v → cond v (Some x.1) (lookup (same_table t) es) ≡ Some k → (i : ℕ) × (e : Packed × Kept) × (slice_get (x ∷ es) i ≡ Some e) × (e.0 ≡ t) × (e.1 ≡ k)) [
+    elim (same_table t x.0) as (λ v. same_table t x.0 ≡ v → cond v (Some x.1) (lookup (same_table t) es) ≡ Some k → (i : ℕ) × (e : Packed × StoredRecord) × (slice_get (x ∷ es) i ≡ Some e) × (e.0 ≡ t) × (e.1 ≡ k)) [
       | true ↦ λ same found. (0, x, refl, sym (same_is t x.0 same), same_Some x.1 k found)
       | false ↦ λ other rest. let w = lookup_at es t k rest in (suc w.0, w.1, w.2, w.3, w.4)
     ] refl is
 
 -- each table stands once
-pub once_entries : (es : List (Packed × Kept)) → AreApart (records_of es) → AreOnce es
+pub once_entries : (es : List (Packed × StoredRecord)) → AreApart (records_of es) → AreOnce es
 once_entries es apart = λ i j e f at there same. elim (cases_lt i j) [
   | inl less ↦ absurd (differ i j e f less at there same)
   | inr more ↦ elim (cases_lt j i) [ inl less ↦ absurd (differ j i f e less there at (sym same)) | inr least ↦ omega (arith, more, least) ]
 ]
   where
-    differ : (i j : ℕ) (e f : Packed × Kept) → i < j → slice_get es i ≡ Some e → slice_get es j ≡ Some f → e.0 ≡ f.0 → ⊥
+    differ : (i j : ℕ) (e f : Packed × StoredRecord) → i < j → slice_get es i ≡ Some e → slice_get es j ≡ Some f → e.0 ≡ f.0 → ⊥
     differ i j e f less at there same =
         let first = record_at es i e at in
         let second = record_at es j f there in
@@ -63,11 +63,11 @@ once_entries es apart = λ i j e f at there same. elim (cases_lt i j) [
         (ap (λ (r : Recorded). r.table) (get_or_from_slice_get (records_of es) i (entry_recorded e) (entry_recorded e) first) ∙ same
         ∙ sym (ap (λ (r : Recorded). r.table) (get_or_from_slice_get (records_of es) j (entry_recorded f) (entry_recorded e) second)))
 
-pub below_entries : (root : Packed) (es : List (Packed × Kept)) → IsBoard (record { root = root; records = records_of es }) → AreBelow root es
+pub below_entries : (root : Packed) (es : List (Packed × StoredRecord)) → IsBoard (record { root = root; records = records_of es }) → AreBelow root es
 below_entries root es board = λ i e at.
     recorded_in_tree root (records_of es) e.0 (entry_recorded e).claim tree_table_child board.held (entry_claim es i e (held_apart root (records_of es) board.held) at)
 
-pub earlier_entries : (root : Packed) (es : List (Packed × Kept)) → AreParented root es → AreEarlier es
+pub earlier_entries : (root : Packed) (es : List (Packed × StoredRecord)) → AreParented root es → AreEarlier es
 earlier_entries root es parents = λ i e at. elim (parents i e at) [ inl top ↦ inl top.1 | inr w ↦ inr w.0 ]
 
 -- a record that says that its table halts
@@ -77,7 +77,7 @@ halting_mark (Some (Halts k)) is = (k, refl)
 halting_mark (Some Never) is = cc
 
 -- the parent of what is open or recorded is recorded as halting
-pub have_parents : (root : Packed) (es : List (Packed × Kept)) → IsBoard (record { root = root; records = records_of es }) → AreParented root es → HaveParents root (records_of es)
+pub have_parents : (root : Packed) (es : List (Packed × StoredRecord)) → IsBoard (record { root = root; records = records_of es }) → AreParented root es → HaveParents root (records_of es)
 have_parents root es board parents p t there child (inl is_open) = elim is_open.place [
   | inl e ↦ absurd (no_way_up root p board.is_table there (subst (IsChildTable p) e child))
   | inr w ↦
@@ -105,8 +105,8 @@ have_parents root es board parents p t there child (inr recorded) =
     some_claim None some = cc
     some_claim (Some c) some = (c, refl)
 
-same_list : (xs ys : List (Packed × Kept)) → length xs ≡ length ys
-    → ((i : ℕ) (now : Packed × Kept) → slice_get xs i ≡ Some now → (e : Packed × Kept) × (slice_get ys i ≡ Some e) × (entry_recorded now ≡ entry_recorded e)) → records_of xs ≡ records_of ys
+same_list : (xs ys : List (Packed × StoredRecord)) → length xs ≡ length ys
+    → ((i : ℕ) (now : Packed × StoredRecord) → slice_get xs i ≡ Some now → (e : Packed × StoredRecord) × (slice_get ys i ≡ Some e) × (entry_recorded now ≡ entry_recorded e)) → records_of xs ≡ records_of ys
 same_list [] [] long same = refl
 same_list [] (y ∷ ys) long same = absurd (omega (arith, long))
 same_list (x ∷ xs) [] long same = absurd (omega (arith, long))
@@ -116,17 +116,17 @@ same_list (x ∷ xs) (y ∷ ys) long same =
     ap (λ (r : Recorded). r ∷ records_of xs) first ∙ ap (λ (l : List Recorded). entry_recorded y ∷ l) (same_list xs ys (omega (arith, long)) (λ i now at. same (suc i) now at))
 
 -- a record is put, and its change isn't carried up yet: the numbers are those before
-pub record IsReady (root : Packed) (old : List Recorded) (es : List (Packed × Kept)) (r : Recorded) (from : ℕ) : Type 0 where
+pub record IsReady (root : Packed) (old : List Recorded) (es : List (Packed × StoredRecord)) (r : Recorded) (from : ℕ) : Type 0 where
   pub board : IsBoard (record { root = root; records = records_of es })
   pub had : HaveParents root old
   pub taken : IsTaken old (records_of es) r
   pub parents : AreParented root es
   pub counts : AreTreeCounts root old es
-  pub kept : Kept
+  pub kept : StoredRecord
   pub at : slice_get es from ≡ Some (r.table, kept)
   pub small : from + 1 < 2 ^ 32
 
-module _ (root : Packed) (old : List Recorded) (es : List (Packed × Kept)) (r : Recorded) (from : ℕ) (ready : IsReady root old es r from) where
+module _ (root : Packed) (old : List Recorded) (es : List (Packed × StoredRecord)) (r : Recorded) (from : ℕ) (ready : IsReady root old es r from) where
   pub ready_there : HasChain es from
   ready_there = λ small. slice_get_within es from (r.table, ready.kept) ready.at
 
@@ -143,16 +143,16 @@ module _ (root : Packed) (old : List Recorded) (es : List (Packed × Kept)) (r :
   ready_room c room = λ i e on at.
       room e.0 e.1.tree (chain_above root es ready.board.is_table ready.parents (below_entries root es ready.board) ready_once from i (r.table, ready.kept) e on ready.at at) (ready.counts i e at)
 
-  module _ (c : TreeChange) (new : List (Packed × Kept)) (carried : AreCarried c es from new) (as_long : length new ≡ length es) where
+  module _ (c : TreeChange) (new : List (Packed × StoredRecord)) (carried : AreCarried c es from new) (as_long : length new ≡ length es) where
     -- but for the numbers each entry is as it was
-    still_entry : (i : ℕ) (now : Packed × Kept) → slice_get new i ≡ Some now
-        → (e : Packed × Kept) × (slice_get es i ≡ Some e) × ((now.0 ≡ e.0) × (now.1.parent ≡ e.1.parent) × (entry_recorded now ≡ entry_recorded e) × (KnowsPair e → KnowsPair now))
+    still_entry : (i : ℕ) (now : Packed × StoredRecord) → slice_get new i ≡ Some now
+        → (e : Packed × StoredRecord) × (slice_get es i ≡ Some e) × ((now.0 ≡ e.0) × (now.1.parent ≡ e.1.parent) × (entry_recorded now ≡ entry_recorded e) × (KnowsPair e → KnowsPair now))
     still_entry i now at = let w = carried i now at in (
       w.0,
       w.1,
       elim w.2 [
-        | inl on ↦ (ap (λ (x : Packed × Kept). x.0) on.1, ap (λ (x : Packed × Kept). x.1.parent) on.1, ap entry_recorded on.1, λ known. subst KnowsPair (sym on.1) known)
-        | inr off ↦ (ap (λ (x : Packed × Kept). x.0) off.1, ap (λ (x : Packed × Kept). x.1.parent) off.1, ap entry_recorded off.1, λ known. subst KnowsPair (sym off.1) known)
+        | inl on ↦ (ap (λ (x : Packed × StoredRecord). x.0) on.1, ap (λ (x : Packed × StoredRecord). x.1.parent) on.1, ap entry_recorded on.1, λ known. subst KnowsPair (sym on.1) known)
+        | inr off ↦ (ap (λ (x : Packed × StoredRecord). x.0) off.1, ap (λ (x : Packed × StoredRecord). x.1.parent) off.1, ap entry_recorded off.1, λ known. subst KnowsPair (sym off.1) known)
       ],
     )
 
@@ -179,19 +179,19 @@ module _ (root : Packed) (old : List Recorded) (es : List (Packed × Kept)) (r :
         some_there : (o : Option Claim) (d : Claim) → o ≡ Some d → IsSome o
         some_there o d is = subst IsSome (sym is) refl
 
-        recorded_before : (e : Packed × Kept) (i : ℕ) → slice_get es i ≡ Some e → (InTableTree e.0 r.table → ⊥) → IsSome (claim_in old e.0)
+        recorded_before : (e : Packed × StoredRecord) (i : ℕ) → slice_get es i ≡ Some e → (InTableTree e.0 r.table → ⊥) → IsSome (claim_in old e.0)
         recorded_before e i at outside =
             let other : e.0 ≢ r.table = λ (same : e.0 ≡ r.table). outside (subst (λ (p : Packed). InTableTree p r.table) (sym same) Itself) in
             subst IsSome (ready.taken.others e.0 other) (some_there (claim_in (records_of es) e.0) (entry_recorded e).claim (entry_claim es i e (held_apart root (records_of es) ready.board.held) at))
 
-        count_at : (i : ℕ) (now e : Packed × Kept) → slice_get es i ≡ Some e → IsCarried c e now (OnChain es from i) → IsTreeCount root (records_of es) now.0 now.1.tree
+        count_at : (i : ℕ) (now e : Packed × StoredRecord) → slice_get es i ≡ Some e → IsCarried c e now (OnChain es from i) → IsTreeCount root (records_of es) now.0 now.1.tree
         count_at i now e at (inl on) =
             let inside = chain_above root es ready.board.is_table ready.parents below ready_once from i (r.table, ready.kept) e on.0 ready.at at in
-            subst (λ (x : Packed × Kept). IsTreeCount root (records_of es) x.0 x.1.tree) (sym on.1) (moves e.0 e.1.tree inside (ready.counts i e at))
+            subst (λ (x : Packed × StoredRecord). IsTreeCount root (records_of es) x.0 x.1.tree) (sym on.1) (moves e.0 e.1.tree inside (ready.counts i e at))
         count_at i now e at (inr off) =
             let outside : InTableTree e.0 r.table → ⊥ = λ inside.
             off.0 (above_chain root es ready.board.is_table ready.parents below ready_once (suc from) from i (r.table, ready.kept) e (omega arith) ready.small ready.at at inside) in
-            subst (λ (x : Packed × Kept). IsTreeCount root (records_of es) x.0 x.1.tree) (sym off.1)
+            subst (λ (x : Packed × StoredRecord). IsTreeCount root (records_of es) x.0 x.1.tree) (sym off.1)
             (count_kept root ready.board.is_table old ready.had (records_of es) r ready.taken ready_table e.0 e.1.tree (below i e at) (recorded_before e i at outside) outside (ready.counts i e at))
 
         counts : AreTreeCounts root (records_of new) new

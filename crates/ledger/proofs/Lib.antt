@@ -27,6 +27,7 @@ pub mod LinesTaken
 pub mod FirstLines
 pub mod Feeding
 pub mod StageLaws
+pub mod ReadingLaws
 pub mod Loads
 pub mod Appends
 pub mod Written

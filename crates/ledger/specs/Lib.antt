@@ -9,6 +9,7 @@ pub mod Faults
 pub mod LedgerText
 pub mod Limits
 pub mod Loading
+pub mod Reading
 pub mod Lists
 pub mod Merging
 pub mod LedgerLaws

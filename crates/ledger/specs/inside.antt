@@ -1,6 +1,6 @@
 -- What only the code of this crate needs.
 pub mod Counting
-pub mod Keeping
+pub mod Stored
 pub mod Open
 pub mod Carrying
 pub mod Trees

@@ -16,14 +16,15 @@ use crate::children::{child_count, children_on};
 use crate::counts::Counts;
 use crate::faults::{BoardFault, OfferFault};
 use crate::index::{
-    certificate_for, kept_of_holdout, pair_for, place_of, tree_count_of, verdict_in,
+    certificate_for, pair_for, place_and_count_of, place_of, tree_count_of, verdict_in,
 };
-use crate::kept::{Judging, Kept};
+use crate::open::Open;
 use crate::open_tables::{only, open_children, opener_of, opener_place};
 use crate::place::{Place, recorded_place};
 use crate::records::Records;
-use crate::selected::{sorted_tables, tables_with, undecided_tables};
+use crate::selected::{listed_tables, sorted_tables, tables_with, undecided_tables};
 use crate::status::Status;
+use crate::stored_record::{Judging, StoredRecord};
 use crate::taken::Taken;
 use crate::tally::Tally;
 use crate::tree_count::{TreeChange, TreeCount};
@@ -33,14 +34,10 @@ use indexmap::IndexMap;
 use machine_text::Table;
 use std::alloc::Global;
 use std::collections::BTreeMap;
-use std::collections::btree_map::Keys;
 use std::marker::Model;
 use std::vec::IntoIter;
 use tnf::{Children, in_order};
 use tree::{best_of_closed, child_is_table, closed_tree, rado_of_complete};
-
-/// An iterator over the open tables of a board.
-pub type Open<'a> = Keys<'a, Table, u32>;
 
 /// An iterator over the holdouts of a board.
 pub type Holdouts = IntoIter<Table>;
@@ -54,7 +51,7 @@ pub struct Board {
     alloc: Global,
     root: Table,
     // under their tables, which aren't kept again; with each what is left in its tree
-    records: IndexMap<Table, Kept>,
+    records: IndexMap<Table, StoredRecord>,
     // exactly the open tables, each with the place of the record that opened it
     open_tables: BTreeMap<Table, u32>,
     // the numbers of the records
@@ -63,7 +60,7 @@ pub struct Board {
 
 impl Model for Board {
     ghost use Rattle.std.specs.List.{All};
-    ghost use Rattle.ledger.specs.inside.Keeping.{records_of, KnowsPair};
+    ghost use Rattle.ledger.specs.inside.Stored.{records_of, KnowsPair};
     ghost use Rattle.ledger.specs.inside.Open.{IsOpenMap};
     ghost use Rattle.ledger.specs.inside.Counting.{IsCounted};
     ghost use Rattle.ledger.specs.inside.Trees.{IsIndexed};
@@ -143,7 +140,7 @@ impl Board {
         ensures { AreAll (IsOpen self.now.root (mark_in self.now.records)) result }
     {
         child_is_table();
-        self.open_tables.keys()
+        Open::of(&self.open_tables)
     }
 
     /// Whether a table is open. It takes time that grows with the logarithm of the board.
@@ -165,7 +162,7 @@ impl Board {
         ensures { IfOk result (λ found. AreAll (IsHoldout self.now.records) (into_iter_items found)) }
     {
         child_is_table();
-        let tables = undecided_tables(self.alloc, self.records())?;
+        let tables = undecided_tables(self.alloc, &self.records)?;
         sorted_tables(self.alloc, tables)
     }
 
@@ -202,8 +199,21 @@ impl Board {
             AreAll (IsChampion self.now.records best) (into_iter_items found)) }
     {
         child_is_table();
-        let tables = tables_with(self.alloc, self.records(), self.counts.best)?;
+        let tables = tables_with(self.alloc, &self.records, self.counts.best)?;
         sorted_tables(self.alloc, tables)
+    }
+
+    /// The champions and the holdouts, as `champions` and `holdouts` give them, by one pass over the records.
+    pub fn champions_and_holdouts(&self) -> Result<(Champions, Holdouts), NoMemory>
+        ensures champions { IfOk result (λ found. (best : Option ℕ) → IsGreatestCount self.now.records best →
+            AreAll (IsChampion self.now.records best) (into_iter_items found.0)) }
+        ensures holdouts { IfOk result (λ found. AreAll (IsHoldout self.now.records) (into_iter_items found.1)) }
+    {
+        child_is_table();
+        let (champions, holdouts) = listed_tables(self.alloc, &self.records, self.counts.best)?;
+        let champions = sorted_tables(self.alloc, champions)?;
+        let holdouts = sorted_tables(self.alloc, holdouts)?;
+        Ok((champions, holdouts))
     }
 
     /// How the board stands. Where it is complete, its best is the greatest number of steps of all
@@ -339,8 +349,8 @@ impl Board {
     {
         child_is_table();
         let parent = opener_of(&self.open_tables, &r.table);
-        let kept = Kept::of(self.alloc, r, judging, parent, TreeCount::first())?;
-        let opened = child_count(r, kept.halts_on);
+        let stored = StoredRecord::of(self.alloc, r, judging, parent, TreeCount::first())?;
+        let opened = child_count(r, stored.halts_on);
         let count = self.records.len();
         let place = opener_place(count)?;
         // The proof needs how many open tables there can be.
@@ -351,10 +361,10 @@ impl Board {
             &self.records,
             r,
             place,
-            kept.halts_on,
+            stored.halts_on,
         )?;
         // From here on nothing is refused: there is room for the record.
-        match self.records.insert(r.table, kept) {
+        match self.records.insert(r.table, stored) {
             Ok(_) => {}
             Err(_) => unreachable!(),
         }
@@ -380,9 +390,9 @@ impl Board {
         ensures refusal { IfErr result (λ f. IsWhyRefused f (recorded r.now)) }
     {
         child_is_table();
-        let (parent, tree) = kept_of_holdout(&self.records, &r.table);
-        let kept = Kept::of(self.alloc, r, judging, parent, tree)?;
-        let opened = child_count(r, kept.halts_on);
+        let (parent, tree) = place_and_count_of(&self.records, &r.table);
+        let stored = StoredRecord::of(self.alloc, r, judging, parent, tree)?;
+        let opened = child_count(r, stored.halts_on);
         let found = place_of(&self.records, &r.table);
         let place = opener_place(found)?;
         // The proof needs how many open tables there can be.
@@ -392,10 +402,10 @@ impl Board {
             &self.records,
             r,
             place,
-            kept.halts_on,
+            stored.halts_on,
         )?;
         // From here on nothing is refused: the table has its place.
-        match self.records.insert(r.table, kept) {
+        match self.records.insert(r.table, stored) {
             Ok(_) => {}
             Err(_) => unreachable!(),
         }

@@ -2,15 +2,15 @@
 ghost use Rattle.std.specs.Prelude.{◌≡◌, length};
 ghost use Rattle.ledger.specs.inside.Carrying.{AreCarried, AreEarlier, ChainMayChange, HasChain};
 
-use crate::kept::Kept;
 use crate::open_tables::NO_PLACE;
+use crate::stored_record::StoredRecord;
 use crate::tree_count::TreeChange;
 use indexmap::IndexMap;
 use machine_text::Table;
 
 // Carries a change up from the record at a place: each record of its chain counts it. As a child has fewer
 // undefined pairs than its parent, there are no more of them than a table has pairs.
-pub(crate) fn carry_up(records: &mut IndexMap<Table, Kept>, from: u32, change: TreeChange)
+pub(crate) fn carry_up(records: &mut IndexMap<Table, StoredRecord>, from: u32, change: TreeChange)
     requires there { HasChain records.old.entries from }
     requires earlier { AreEarlier records.old.entries }
     requires room { ChainMayChange records.old.entries from change }
@@ -20,9 +20,9 @@ pub(crate) fn carry_up(records: &mut IndexMap<Table, Kept>, from: u32, change: T
     let mut place = from;
     while place != NO_PLACE {
         match records.get_index_mut(place as usize) {
-            Some(kept) => {
-                kept.tree = kept.tree.with(change);
-                place = kept.parent;
+            Some(stored) => {
+                stored.tree = stored.tree.with(change);
+                place = stored.parent;
             }
             None => unreachable!(),
         }

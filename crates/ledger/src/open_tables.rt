@@ -8,14 +8,14 @@ ghost use Rattle.tree.specs.Tables.{IsChildTable};
 ghost use Rattle.cert.specs.Claim.{shown_by};
 ghost use Rattle.cert.specs.Kinds.{claim_of, recorded};
 ghost use Rattle.cert.specs.Certified.{IsPairOf};
-ghost use Rattle.ledger.specs.inside.Keeping.{records_of};
+ghost use Rattle.ledger.specs.inside.Stored.{records_of};
 ghost use Rattle.ledger.specs.Records.{claim_in};
 ghost use Rattle.machine_text.specs.Order.{table_cmp};
 ghost use Rattle.ledger.specs.inside.Open.{others, AreChildrenAt, HasUnrecorded, IsNewChild};
 
 use crate::children::children_on;
 use crate::index::certificate_for;
-use crate::kept::Kept;
+use crate::stored_record::StoredRecord;
 use cert::Record;
 use evidence::NoMemory;
 use indexmap::IndexMap;
@@ -64,7 +64,7 @@ pub(crate) fn opener_of(tables: &BTreeMap<Table, u32>, t: &Table) -> u32
 // tables are as they were.
 pub(crate) fn open_children(
     tables: &mut BTreeMap<Table, u32>,
-    records: &IndexMap<Table, Kept>,
+    records: &IndexMap<Table, StoredRecord>,
     r: &Record,
     place: u32,
     halts_on: Option<Pair>,
@@ -94,7 +94,7 @@ pub(crate) fn open_children(
 // Opens those of the children that have no record and aren't the parent.
 fn open_all(
     tables: &mut BTreeMap<Table, u32>,
-    records: &IndexMap<Table, Kept>,
+    records: &IndexMap<Table, StoredRecord>,
     parent: &Table,
     place: u32,
     found: Children,
@@ -119,7 +119,7 @@ fn open_all(
 // Opens a child, unless it has a record, is the parent or is open.
 fn open_child(
     tables: &mut BTreeMap<Table, u32>,
-    records: &IndexMap<Table, Kept>,
+    records: &IndexMap<Table, StoredRecord>,
     parent: &Table,
     place: u32,
     child: Table,
@@ -157,7 +157,7 @@ fn close_at(tables: &mut BTreeMap<Table, u32>, place: u32)
 }
 
 // Whether a table has no record and isn't the parent.
-fn is_unrecorded(records: &IndexMap<Table, Kept>, parent: &Table, t: &Table) -> bool
+fn is_unrecorded(records: &IndexMap<Table, StoredRecord>, parent: &Table, t: &Table) -> bool
     ensures { IsTrue result ↔ ((claim_in (records_of records.now.entries) t.now ≡ None) × (t.now ≢ parent.now)) }
 {
     match certificate_for(records, t) {

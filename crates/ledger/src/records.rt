@@ -1,7 +1,7 @@
 // The records of a board, one by one.
 ghost use Rattle.std.specs.Prelude.{◌≡◌, drop};
 
-use crate::kept::Kept;
+use crate::stored_record::StoredRecord;
 use cert::Record;
 use indexmap::IndexMap;
 use indexmap::map::Iter;
@@ -12,13 +12,13 @@ use std::marker::Model;
 /// is seen as the list of those that are left.
 #[derive(Drop)]
 pub struct Records<'a> {
-    left: Iter<'a, Table, Kept>,
+    left: Iter<'a, Table, StoredRecord>,
 }
 
 impl<'a> Model for Records<'a> {
     ghost use Rattle.std.specs.Prelude.{List};
     ghost use Rattle.cert.specs.Claim.{Recorded};
-    ghost use Rattle.ledger.specs.inside.Keeping.{records_of};
+    ghost use Rattle.ledger.specs.inside.Stored.{records_of};
 
     ghost Value = { List Recorded };
 
@@ -26,10 +26,10 @@ impl<'a> Model for Records<'a> {
 }
 
 impl<'a> Records<'a> {
-    ghost use Rattle.ledger.specs.inside.Keeping.{records_of};
+    ghost use Rattle.ledger.specs.inside.Stored.{records_of};
 
     // All of a board.
-    pub(crate) fn of(records: &'a IndexMap<Table, Kept>) -> Records<'a>
+    pub(crate) fn of(records: &'a IndexMap<Table, StoredRecord>) -> Records<'a>
         ensures { result ≡ records_of records.now.entries }
     {
         Records {
@@ -38,7 +38,10 @@ impl<'a> Records<'a> {
     }
 
     // Those of a board from a place on.
-    pub(crate) fn from_place(records: &'a IndexMap<Table, Kept>, place: usize) -> Records<'a>
+    pub(crate) fn from_place(
+        records: &'a IndexMap<Table, StoredRecord>,
+        place: usize,
+    ) -> Records<'a>
         ensures { result ≡ drop place (records_of records.now.entries) }
     {
         let parts = records.as_slice().split_at(place.min(records.len()));
@@ -59,10 +62,10 @@ impl<'a> Iterator for Records<'a> {
     ghost remaining = { item_count (λ left. left) };
 
     fn next(&mut self) -> Option<Record<'a>> {
-        let (table, kept) = self.left.next()?;
+        let (table, stored) = self.left.next()?;
         Some(Record {
             table: *table,
-            certificate: kept.certificate.lent(),
+            certificate: stored.certificate.lent(),
         })
     }
 }

@@ -3,35 +3,72 @@ ghost use Rattle.std.specs.Prelude.{◌≡◌, ◌++◌, [], IfOk, OnOk, filter_
 ghost use Rattle.std.specs.List.Sorted.{IsPermutation, IsSorted};
 ghost use Rattle.std.specs.List.{cons_option};
 ghost use Rattle.std.specs.Vec.Iter.{into_iter_items};
-ghost use Rattle.cert.specs.Kinds.{recorded};
+ghost use Rattle.ledger.specs.inside.Stored.{entry_recorded, records_of};
 ghost use Rattle.ledger.specs.inside.Counting.{undecided_table, champion_table, tables_with};
 ghost use Rattle.machine_text.specs.Order.{table_cmp};
 
-use crate::records::Records;
-use cert::Record;
+use crate::stored_record::StoredRecord;
 use evidence::{NoMemory, Verdict};
+use indexmap::IndexMap;
 use itertools::Itertools;
 use machine_text::Table;
 use std::alloc::Global;
 use std::vec::IntoIter;
 
+// The tables of the records with the greatest number of steps, which is given, and those of the records without a
+// verdict, by one pass over the records.
+pub(crate) fn listed_tables(
+    alloc: Global,
+    records: &IndexMap<Table, StoredRecord>,
+    best: Option<u64>,
+) -> Result<(Vec<Table>, Vec<Table>), NoMemory>
+    ensures champions { IfOk result (λ found. found.0.items ≡ tables_with best (records_of records.now.entries)) }
+    ensures holdouts { IfOk result (λ found. found.1.items ≡ filter_map undecided_table (records_of records.now.entries)) }
+{
+    match best {
+        Some(best) => champion_and_undecided_tables(alloc, records, best),
+        None => Ok((Vec::new(alloc), undecided_tables(alloc, records)?)),
+    }
+}
+
+// The same where there is a number of steps.
+fn champion_and_undecided_tables(
+    alloc: Global,
+    records: &IndexMap<Table, StoredRecord>,
+    best: u64,
+) -> Result<(Vec<Table>, Vec<Table>), NoMemory>
+    ensures champions { IfOk result (λ found. found.0.items ≡ filter_map (champion_table best) (records_of records.now.entries)) }
+    ensures holdouts { IfOk result (λ found. found.1.items ≡ filter_map undecided_table (records_of records.now.entries)) }
+{
+    let mut champions = Vec::new(alloc);
+    let mut holdouts = Vec::new(alloc);
+    for (table, stored) in records.iter() {
+        push_some(&mut champions, champion_table(best, table, stored))?;
+        push_some(&mut holdouts, undecided_table(table, stored))?;
+    }
+    Ok((champions, holdouts))
+}
+
 // The tables of the records without a verdict.
-pub(crate) fn undecided_tables(alloc: Global, records: Records<'_>) -> Result<Vec<Table>, NoMemory>
-    ensures { IfOk result (λ found. found.items ≡ filter_map undecided_table records.entry) }
+pub(crate) fn undecided_tables(
+    alloc: Global,
+    records: &IndexMap<Table, StoredRecord>,
+) -> Result<Vec<Table>, NoMemory>
+    ensures { IfOk result (λ found. found.items ≡ filter_map undecided_table (records_of records.now.entries)) }
 {
     let mut found = Vec::new(alloc);
-    for r in records {
-        push_some(&mut found, undecided_table(&r))?;
+    for (table, stored) in records.iter() {
+        push_some(&mut found, undecided_table(table, stored))?;
     }
     Ok(found)
 }
 
 // The table of a record without a verdict.
-fn undecided_table(r: &Record) -> Option<Table>
-    ensures { result ≡ undecided_table (recorded r.now) }
+fn undecided_table(table: &Table, stored: &StoredRecord) -> Option<Table>
+    ensures { result ≡ undecided_table (entry_recorded (table.now, stored.now)) }
 {
-    if r.certificate.verdict().is_none() {
-        Some(r.table)
+    if stored.certificate.verdict().is_none() {
+        Some(*table)
     } else {
         None
     }
@@ -40,10 +77,10 @@ fn undecided_table(r: &Record) -> Option<Table>
 // The tables of the records with the greatest number of steps, which is given.
 pub(crate) fn tables_with(
     alloc: Global,
-    records: Records<'_>,
+    records: &IndexMap<Table, StoredRecord>,
     best: Option<u64>,
 ) -> Result<Vec<Table>, NoMemory>
-    ensures { IfOk result (λ found. found.items ≡ tables_with best records.entry) }
+    ensures { IfOk result (λ found. found.items ≡ tables_with best (records_of records.now.entries)) }
 {
     match best {
         Some(best) => champion_tables(alloc, records, best),
@@ -52,22 +89,26 @@ pub(crate) fn tables_with(
 }
 
 // The tables of the records of so many steps.
-fn champion_tables(alloc: Global, records: Records<'_>, best: u64) -> Result<Vec<Table>, NoMemory>
-    ensures { IfOk result (λ found. found.items ≡ filter_map (champion_table best) records.entry) }
+fn champion_tables(
+    alloc: Global,
+    records: &IndexMap<Table, StoredRecord>,
+    best: u64,
+) -> Result<Vec<Table>, NoMemory>
+    ensures { IfOk result (λ found. found.items ≡ filter_map (champion_table best) (records_of records.now.entries)) }
 {
     let mut found = Vec::new(alloc);
-    for r in records {
-        push_some(&mut found, champion_table(best, &r))?;
+    for (table, stored) in records.iter() {
+        push_some(&mut found, champion_table(best, table, stored))?;
     }
     Ok(found)
 }
 
 // The table of a record, where it says that the table halts in so many steps.
-fn champion_table(best: u64, r: &Record) -> Option<Table>
-    ensures { result ≡ champion_table best (recorded r.now) }
+fn champion_table(best: u64, table: &Table, stored: &StoredRecord) -> Option<Table>
+    ensures { result ≡ champion_table best (entry_recorded (table.now, stored.now)) }
 {
-    match r.certificate.verdict() {
-        Some(Verdict::Halts(count)) if count == best => Some(r.table),
+    match stored.certificate.verdict() {
+        Some(Verdict::Halts(count)) if count == best => Some(*table),
         _ => None,
     }
 }

@@ -17,7 +17,7 @@ same_name : (xs ys zs : List ℕ) → xs ++ ys ≡ xs ++ zs → ys ≡ zs
 same_name xs ys zs e = append_cancel_left xs ys zs e
 
 -- a text has one header
-one_header : (text : List ℕ) (a b : Packed) (rest more : List ℕ) → HasHeader text a rest → HasHeader text b more → a ≡ b
+pub one_header : (text : List ℕ) (a b : Packed) (rest more : List ℕ) → HasHeader text a rest → HasHeader text b more → a ≡ b
 one_header text a b rest more x y =
     let name : x.name ≡ y.name = same_name header_words x.name y.name (same_line x.line y.line).0 in
     let read : Ok a ≡ Ok b = sym x.reads ∙ (ap table_of name ∙ y.reads) in

@@ -1,5 +1,5 @@
 -- A ledger stays in step with a board when a record is taken and its line is appended; and the holdouts that are left stay holdouts.
-use Rattle.std.proofs.Common.{◌≡◌, ◌≢◌, ◌⊎◌, inl, inr, ℕ, suc, true, false, List, [], ◌∷◌, ◌++◌, All, AllPairs, get_or, Option, Some, None, Result, Ok, IsSome, refl, sym, ap, ◌∙◌, subst, arith}
+use Rattle.std.proofs.Common.{◌≡◌, ◌≢◌, ◌⊎◌, inl, inr, ℕ, suc, true, false, List, [], ◌∷◌, ◌++◌, All, AllPairs, get_or, Option, Some, None, Result, Ok, IsSome, sym, ap, ◌∙◌, subst, arith}
 use Rattle.std.specs.Option.{option_map}
 use Rattle.std.proofs.lemmas.List.Elements.{All-contains_itself}
 use Rattle.machine_text.specs.Packed.{Packed}

@@ -1,14 +1,14 @@
 -- A complete board's report is that of its tree, and a tree has one.
 use Rattle.std.proofs.Common.{◌≡◌, ℕ, ◌<◌, ◌≤◌, ◌++◌, List, [], ◌∷◌, Option, Some, None, codes, refl, sym, ap, ◌∙◌, subst, arith}
 use Rattle.machine_text.specs.Limits.{state_limit}
-use Rattle.machine_text.specs.Packed.{Packed, entry_of, empty_table}
+use Rattle.machine_text.specs.Packed.{Packed, empty_table}
 use Rattle.machine_text.specs.Text.{text_of}
 use Rattle.turing.specs.Machine.{Machine}
 use Rattle.turing.specs.Run.{start, from}
 use Rattle.turing.specs.Halting.{HaltsAt, IsRado}
 use Rattle.tree.specs.Closed.{IsComplete}
 use Rattle.tree.specs.Filling.{empty_machine}
-use Rattle.tree.specs.Tables.{InTableTree, IsDecidedTable, IsGreatestInTables}
+use Rattle.tree.specs.Tables.{IsDecidedTable, IsGreatestInTables}
 use Rattle.tree.specs.Tables.InTableTree.{Itself}
 use Rattle.tree.proofs.ClosedLaws.{closed_decided, complete_closed}
 use Rattle.tree.proofs.EmptyTable.{empty_map, greatest_of_all_tables}

@@ -5,3 +5,5 @@ pub mod LedgerReport
 pub mod Merge
 pub mod Passing
 pub mod Retry
+pub mod Reading
+pub mod inside

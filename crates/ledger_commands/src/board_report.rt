@@ -45,8 +45,7 @@ fn append_report(board: &Board, out: &mut Vec<u8>) -> Result<(), NoMemory>
     ensures ok { OnOk result ((text : List ℕ) × IsReport board.now.root board.now.records text × (out.new.items ≡ out.old.items ++ text)) }
     ensures kept { take (length out.old.items) out.new.items ≡ out.old.items }
 {
-    let champions = board.champions()?;
-    let holdouts = board.holdouts()?;
+    let (champions, holdouts) = board.champions_and_holdouts()?;
     append_head(board, out)?;
     append_tables(b"champion", champions, out)?;
     append_tables(b"holdout", holdouts, out)

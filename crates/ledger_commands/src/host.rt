@@ -1,5 +1,5 @@
 // Where the files stand that a command line names.
-use crate::ledger_report::Opened;
+use crate::reading::Opened;
 use std::io::{self, ErrorKind, Read};
 use wire::LedgerOut;
 

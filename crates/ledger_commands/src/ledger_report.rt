@@ -1,27 +1,21 @@
-// `bb report`: a ledger file in, its report out.
-ghost use Rattle.std.specs.Prelude.{◌≡◌, ◌⊎◌, IfOk, IfErr, OnOk};
-ghost use Rattle.ledger.specs.LedgerText.{ReadsAs};
-ghost use Rattle.ledger_commands.specs.LedgerReport.{ReportsLedger, WritesLedger, EndsLedger, outcome_by};
+// `bb report`: a ledger in, its report out.
+ghost use Rattle.std.specs.Prelude.{◌≡◌, ◌⊎◌, ◌++◌, ℕ, List, IfOk, IfErr, OnOk};
+ghost use Rattle.ledger_commands.specs.LedgerReport.{ReportsLedger, WritesLedger, left_text, outcome_by};
+ghost use Rattle.ledger_commands.specs.Reading.{AreFirstBytes, EndsReading};
+ghost use Rattle.ledger_commands.specs.Report.{IsReport};
 
 use crate::board_report::report;
-use crate::faults::by_load;
+use crate::reading::{Opened, Stopped, load_from};
 use crate::report_form::{ReportForm, write_report};
 use crate::report_writer::append_left;
-use ledger::{Board, Left, Status, Unkept, peek_root};
+use ledger::{Board, Left, Status, Unkept};
 use options::{Ended, Outcome};
 use std::alloc::Global;
 use std::io::{self, Read, Write};
 
-/// A file that was opened, and how many bytes it then had.
-#[derive(Drop)]
-pub struct Opened<R> {
-    pub reader: R,
-    pub length: u64,
-}
-
-/// Prints the report of a ledger file in a form. With `why`, where not all of it could be kept, says
-/// on `faults` why the first line that isn't kept isn't. What ends the command early is said on `faults`: a failed file or
-/// stream, a ledger that can't be loaded, or refused memory.
+/// Prints the report of a ledger file in a form, as far as the file went when it was opened. With `why`, where not all
+/// of it could be kept, says on `faults` why the first line that isn't kept isn't. What ends the command early is said
+/// on `faults`: a failed file or stream, a ledger that can't be loaded, or refused memory.
 pub fn cmd_report<P: ReportForm, R: Read + Drop, W: Write, E: Write>(
     alloc: Global,
     form: &P,
@@ -30,11 +24,27 @@ pub fn cmd_report<P: ReportForm, R: Read + Drop, W: Write, E: Write>(
     answers: &mut W,
     faults: &mut E,
 ) -> Outcome {
-    match report_file(alloc, form, file, answers) {
-        Ok((outcome, left)) if why => outcome.max(left_told(alloc, &left, faults)),
-        Ok((outcome, _)) => outcome,
-        Err(ended) => ended.told(faults),
-    }
+    let ended = match report_file(alloc, form, file, answers) {
+        Ok(reported) => Ok(reported),
+        Err(stopped) => Err(stopped.by_file()),
+    };
+    outcome_told(alloc, why, ended, faults)
+}
+
+/// Prints the report of the ledger that a stream has up to its end, as `cmd_report` does that of a file.
+pub fn cmd_report_stream<P: ReportForm, R: Read, W: Write, E: Write>(
+    alloc: Global,
+    form: &P,
+    why: bool,
+    input: &mut R,
+    answers: &mut W,
+    faults: &mut E,
+) -> Outcome {
+    let ended = match write_ledger_report(alloc, form, input, u64::MAX, answers) {
+        Ok(reported) => Ok(reported),
+        Err(stopped) => Err(stopped.by_stream()),
+    };
+    outcome_told(alloc, why, ended, faults)
 }
 
 fn report_file<P: ReportForm, R: Read + Drop, W: Write>(
@@ -42,19 +52,25 @@ fn report_file<P: ReportForm, R: Read + Drop, W: Write>(
     form: &P,
     file: io::Result<Opened<R>>,
     answers: &mut W,
-) -> Result<(Outcome, Left), Ended> {
-    match bytes_of(alloc, file) {
-        Ok(bytes) => write_ledger_report(alloc, form, bytes, answers),
-        Err(fault) => Err(Ended::by_file(&fault)),
+) -> Result<(Outcome, Left), Stopped> {
+    match file {
+        Ok(mut file) => { write_ledger_report(alloc, form, &mut file.reader, file.length, answers) }
+        Err(fault) => Err(Stopped::Failed(fault)),
     }
 }
 
-/// The bytes of a file, as far as it went when it was opened. A fault is that of opening or reading it.
-pub fn bytes_of<R: Read + Drop>(alloc: Global, file: io::Result<Opened<R>>) -> io::Result<Vec<u8>> {
-    let opened = file?;
-    let mut bytes = Vec::new(alloc);
-    opened.reader.take(opened.length).read_to_end(&mut bytes)?;
-    Ok(bytes)
+// How the command ends, once that is said.
+fn outcome_told<E: Write>(
+    alloc: Global,
+    why: bool,
+    ended: Result<(Outcome, Left), Ended>,
+    faults: &mut E,
+) -> Outcome {
+    match ended {
+        Ok((outcome, left)) if why => outcome.max(left_told(alloc, &left, faults)),
+        Ok((outcome, _)) => outcome,
+        Err(ended) => ended.told(faults),
+    }
 }
 
 // Says why a line wasn't kept, where there is one: the refusal number, if there is one, and words.
@@ -83,53 +99,48 @@ fn refusal_number(why: &Unkept) -> Option<u16> {
     }
 }
 
-/// Appends the report of a ledger's text, and `left LINE` where not all of it is kept: accepted where the
-/// board is complete and all was kept. Answers what is left as well.
-pub fn report_ledger(
+/// Appends the report of the ledger that a reader has in its first bytes, up to a limit, and `left LINE` where not
+/// all of it is kept: accepted where the board is complete and all was kept. Answers what is left as well.
+pub fn report_ledger<R: Read>(
     alloc: Global,
-    bytes: &[u8],
+    from: &mut R,
+    limit: u64,
     out: &mut Vec<u8>,
-) -> Result<(Outcome, Left), Ended>
-    ensures ok { IfOk result (λ r. ReportsLedger bytes.now out.old.items r.0 r.1 out.new.items) }
-    ensures err { IfErr result (λ e. EndsLedger bytes.now e) }
+) -> Result<(Outcome, Left), Stopped>
+    ensures ok { IfOk result (λ r. (text : List ℕ) × AreFirstBytes (R.remaining from.old) limit text × ReportsLedger text out.old.items r.0 r.1 out.new.items) }
+    ensures err { IfErr result (EndsReading (R.remaining from.old) limit) }
 {
-    let (board, left) = loaded(alloc, bytes)?;
-    report(&board, out)?;
-    append_left(&left, out)?;
+    let (board, left) = load_from(alloc, from, limit)?;
+    append_ledger_report(&board, &left, out)?;
     Ok((outcome_by(board.status(), &left), left))
 }
 
-/// Writes the report of a ledger's text in a form, once the text is let go: accepted where the board is
-/// complete and all was kept. Answers what is left as well.
-pub fn write_ledger_report<P: ReportForm, W: Write>(
+// Appends the report of a board, and what wasn't kept of its ledger.
+fn append_ledger_report(board: &Board, left: &Left, out: &mut Vec<u8>) -> Result<(), Stopped>
+    ensures ok { OnOk result ((text : List ℕ) × IsReport board.now.root board.now.records text × (out.new.items ≡ out.old.items ++ text ++ left_text left.now)) }
+    ensures err { IfErr result (λ e. e ≡ Stopped.Ended Ended.NoMemory) }
+{
+    report(board, out)?;
+    append_left(left, out)?;
+    Ok(())
+}
+
+/// Writes the report of the ledger that a reader has in its first bytes, up to a limit, in a form: accepted where the
+/// board is complete and all was kept. Answers what is left as well.
+pub fn write_ledger_report<P: ReportForm, R: Read, W: Write>(
     alloc: Global,
     form: &P,
-    bytes: Vec<u8>,
+    from: &mut R,
+    limit: u64,
     answers: &mut W,
-) -> Result<(Outcome, Left), Ended>
-    ensures ok { IfOk result (λ r. WritesLedger (P.is_text form.now) bytes.items r.0 r.1 (W.contents answers.old) (W.contents answers.new)) }
-    ensures err { IfErr result (λ e. (e ≡ Ended.Stream) ⊎ (EndsLedger bytes.items e × (answers.new ≡ answers.old))) }
+) -> Result<(Outcome, Left), Stopped>
+    ensures ok { IfOk result (λ r. (text : List ℕ) × AreFirstBytes (R.remaining from.old) limit text
+        × WritesLedger (P.is_text form.now) text r.0 r.1 (W.contents answers.old) (W.contents answers.new)) }
+    ensures err { IfErr result (λ e. (e ≡ Stopped.Ended Ended.Stream) ⊎ (EndsReading (R.remaining from.old) limit e × (answers.new ≡ answers.old))) }
 {
-    let (board, left) = loaded(alloc, &bytes)?;
-    drop(bytes);
+    let (board, left) = load_from(alloc, from, limit)?;
     write_report(alloc, form, &board, &left, answers)?;
     Ok((outcome_by(board.status(), &left), left))
-}
-
-// The board of a ledger's text with the root that it names, and what of the text wasn't kept.
-pub(crate) fn loaded(alloc: Global, bytes: &[u8]) -> Result<(Board, Left), Ended>
-    ensures ok { IfOk result (λ l. ReadsAs l.0.root bytes.now l.0.records l.1) }
-    ensures err { IfErr result (λ e. EndsLedger bytes.now e) }
-    ensures header { OnOk result (EndsLedger bytes.now Ended.NoMemory) }
-{
-    match peek_root(bytes) {
-        Ok(Some(root)) => match Board::load(alloc, root, bytes) {
-            Ok(loaded) => Ok(loaded),
-            Err(fault) => Err(by_load(fault)),
-        },
-        Ok(None) => Err(Ended::BadHeader),
-        Err(fault) => Err(by_load(fault)),
-    }
 }
 
 // Accepted where a board is complete and all of its ledger was kept.

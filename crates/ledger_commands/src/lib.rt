@@ -1,8 +1,8 @@
 //! The commands of `bb` that read ledgers, over readers, writers and files: `report`, `retry` and `merge`.
 //!
 //! `specs/Report` is the report of a board, `specs/TreeReport` that of a complete one, `specs/LedgerReport` what is
-//! printed for a ledger's text, `specs/Retry` what becomes of holdouts that are tried again, `specs/Merge` of two
-//! ledgers that are joined.
+//! printed for a ledger's text, `specs/Reading` how that is read, `specs/Retry` what becomes of holdouts that are tried
+//! again, `specs/Merge` of two ledgers that are joined.
 #![tactic(auto)]
 
 mod board_report;
@@ -13,6 +13,7 @@ mod ledger_at;
 mod ledger_changes;
 mod ledger_report;
 mod merge;
+mod reading;
 mod report_form;
 mod report_writer;
 mod retry;
@@ -24,9 +25,10 @@ pub use host::{Held, Host, held_at, opened};
 pub use ledger_at::LedgerAt;
 pub use ledger_changes::keep_answer;
 pub use ledger_report::{
-    Opened, bytes_of, cmd_report, outcome_by, report_ledger, write_ledger_report,
+    cmd_report, cmd_report_stream, outcome_by, report_ledger, write_ledger_report,
 };
 pub use merge::{LedgerSource, cmd_merge, join, join_into};
+pub use reading::{Opened, Stopped};
 pub use report_form::{AsLines, ReportForm, write_report};
 pub use report_writer::LineReport;
 pub use retry::{cmd_retry, retry_holdouts};

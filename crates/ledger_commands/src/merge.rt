@@ -1,22 +1,19 @@
 // `bb merge`: two ledgers in, one that holds what either does out.
 ghost use Rattle.std.specs.Prelude.{◌≡◌, ◌⊎◌, List, ℕ, Ok, Err, IfOk, IfErr, OnOk};
-ghost use Rattle.machine_text.specs.Packed.{Packed, entry_of};
-ghost use Rattle.tree.specs.Used.{InOrder};
-ghost use Rattle.ledger.specs.LedgerText.{HasHeader, ReadsAs};
 ghost use Rattle.ledger_commands.specs.Merge.{AreJoined, EndsJoiningInto, EndsTakingIn, IsLoaded, JoinsInto, TakesIn, first_left, rewritten};
+ghost use Rattle.ledger_commands.specs.Reading.{AreFirstBytes, EndsReadingOf};
 
-use crate::faults::{by_load, by_merge};
+use crate::faults::by_merge;
 use crate::host::{Host, opened};
 use crate::ledger_at::LedgerAt;
 use crate::ledger_changes::{append_to, cut_to};
-use crate::ledger_report::{bytes_of, loaded};
+use crate::reading::{Opened, Stopped, load_from, load_of};
 use crate::report_writer::append_left;
 use evidence::NoMemory;
-use ledger::{Board, Left, Tally, peek_root};
-use machine_text::Table;
+use ledger::{Board, Left, Tally};
 use options::{Ended, Merging, Outcome};
 use std::alloc::Global;
-use std::io::Write;
+use std::io::{self, Read, Write};
 use text::append_number;
 use wire::LedgerOut;
 
@@ -112,17 +109,26 @@ fn tell<W: Write>(alloc: Global, tally: &Tally, left: &Left, answers: &mut W) ->
     Ok(())
 }
 
-/// Where the bytes of a ledger are read from.
+/// Where a ledger is read from.
 pub trait LedgerSource {
     ghost use Rattle.std.specs.Prelude.{List, ℕ, Result, Ok, Err, IfOk, IfErr};
     ghost use Rattle.options.specs.declared.ended.Ended.{Ended};
+    ghost use Rattle.ledger_commands.specs.Reading.{AreFirstBytes};
+
+    /// What it is read by.
+    type Reader: Read + Drop;
 
     /// What may come of reading it.
     ghost reads: { Self → Result (List ℕ) Ended → Type 0 };
 
-    fn bytes(&self, alloc: Global) -> Result<Vec<u8>, Ended>
-        ensures ok { IfOk result (λ bytes. reads self.now (Ok bytes.items)) }
+    /// Opens it, to be read as far as it goes then.
+    fn open(&self) -> Result<Opened<Self::Reader>, Ended>
+        ensures ok { IfOk result (λ opened. (text : List ℕ) → AreFirstBytes (Self.Reader.remaining opened.reader) opened.length text → reads self.now (Ok text)) }
         ensures err { IfErr result (λ e. reads self.now (Err e)) };
+
+    /// What ends a command of which a read of it fails.
+    fn failed(&self, fault: &io::Error) -> Ended
+        ensures { reads self.now (Err result) };
 }
 
 // A ledger file by its path.
@@ -133,13 +139,19 @@ struct AtPath<'a, H> {
 }
 
 impl<H: Host> LedgerSource for AtPath<'_, H> {
+    type Reader = H::File;
+
     ghost reads = { λ s r. Unit {0} };
 
-    fn bytes(&self, alloc: Global) -> Result<Vec<u8>, Ended> {
-        match bytes_of(alloc, opened(self.host, self.path)) {
-            Ok(bytes) => Ok(bytes),
-            Err(fault) => Err(Ended::by_file(&fault)),
+    fn open(&self) -> Result<Opened<H::File>, Ended> {
+        match opened(self.host, self.path) {
+            Ok(file) => Ok(file),
+            Err(fault) => Err(self.failed(&fault)),
         }
+    }
+
+    fn failed(&self, fault: &io::Error) -> Ended {
+        Ended::by_file(fault)
     }
 }
 
@@ -172,9 +184,8 @@ pub fn join<A: LedgerSource, B: LedgerSource>(
     ensures ok { IfOk result (λ j. AreJoined (A.reads first.now) (B.reads second.now) (Ok j)) }
     ensures err { IfErr result (λ e. AreJoined (A.reads first.now) (B.reads second.now) (Err e)) }
 {
-    let (mut board, first_left) = load_from(alloc, first)?;
-    let bytes = second.bytes(alloc)?;
-    let second_left = take_in(alloc, &mut board, bytes)?;
+    let (mut board, first_left) = load_source(alloc, first)?;
+    let second_left = take_source(alloc, &mut board, second)?;
     Ok((board, earlier(first_left, second_left)))
 }
 
@@ -189,52 +200,46 @@ fn earlier(first: Left, second: Left) -> Left
 }
 
 // The board of a ledger, and what of it wasn't kept.
-fn load_from<S: LedgerSource>(alloc: Global, source: &S) -> Result<(Board, Left), Ended>
+fn load_source<S: LedgerSource>(alloc: Global, source: &S) -> Result<(Board, Left), Ended>
     ensures ok { IfOk result (λ l. IsLoaded (S.reads source.now) (Ok l)) }
     ensures err { IfErr result (λ e. IsLoaded (S.reads source.now) (Err e)) }
 {
-    loaded(alloc, &source.bytes(alloc)?)
+    let mut opened = source.open()?;
+    match load_from(alloc, &mut opened.reader, opened.length) {
+        Ok(loaded) => Ok(loaded),
+        Err(Stopped::Failed(fault)) => Err(source.failed(&fault)),
+        Err(Stopped::Ended(ended)) => Err(ended),
+    }
 }
 
-// Takes the records of a ledger's text into a board of its root, and answers what wasn't kept of the text.
-fn take_in(alloc: Global, board: &mut Board, bytes: Vec<u8>) -> Result<Left, Ended>
-    ensures ok { IfOk result (λ left. TakesIn board.old bytes.items left board.new) }
-    ensures err { IfErr result (λ e. EndsTakingIn board.old.root bytes.items e) }
+// Takes the records of a ledger into a board of its root, and answers what wasn't kept of it.
+fn take_source<S: LedgerSource>(alloc: Global, board: &mut Board, source: &S) -> Result<Left, Ended>
+    ensures ok { IfOk result (λ left. (text : List ℕ) × S.reads source.now (Ok text) × TakesIn board.old text left board.new) }
+    ensures err { IfErr result (λ e. S.reads source.now (Err e) ⊎ ((text : List ℕ) × S.reads source.now (Ok text) × EndsTakingIn board.old.root text e)) }
+{
+    let mut opened = source.open()?;
+    match take_from(alloc, board, &mut opened.reader, opened.length) {
+        Ok(left) => Ok(left),
+        Err(Stopped::Failed(fault)) => Err(source.failed(&fault)),
+        Err(Stopped::Ended(ended)) => Err(ended),
+    }
+}
+
+// The same of the ledger that a reader has in its first bytes.
+fn take_from<R: Read>(
+    alloc: Global,
+    board: &mut Board,
+    from: &mut R,
+    limit: u64,
+) -> Result<Left, Stopped>
+    ensures ok { IfOk result (λ left. (text : List ℕ) × AreFirstBytes (R.remaining from.old) limit text × TakesIn board.old text left board.new) }
+    ensures err { IfErr result (EndsReadingOf board.old.root (R.remaining from.old) limit) }
 {
     let root = *board.root();
-    let (other, left) = load_with_root(alloc, root, &bytes)?;
-    drop(bytes);
+    let (other, left) = load_of(alloc, root, from, limit)?;
     match board.merge(&other) {
         Ok(()) => Ok(left),
-        Err(fault) => Err(by_merge(fault)),
-    }
-}
-
-// The board of a ledger's text that names this root, and what of it wasn't kept.
-fn load_with_root(alloc: Global, root: Table, bytes: &[u8]) -> Result<(Board, Left), Ended>
-    requires { (u : ℕ) × InOrder u (entry_of root) }
-    ensures ok { IfOk result (λ l. (l.0.root ≡ root) × ReadsAs l.0.root bytes.now l.0.records l.1) }
-    ensures err { IfErr result (λ e. EndsTakingIn root bytes.now e) }
-    ensures header { OnOk result (EndsTakingIn root bytes.now Ended.NoMemory) }
-{
-    match peek_root(bytes) {
-        Ok(Some(_)) => load_behind_header(alloc, root, bytes),
-        Ok(None) => Err(Ended::BadHeader),
-        Err(fault) => Err(by_load(fault)),
-    }
-}
-
-// The same of a text that has a header.
-fn load_behind_header(alloc: Global, root: Table, bytes: &[u8]) -> Result<(Board, Left), Ended>
-    requires order { (u : ℕ) × InOrder u (entry_of root) }
-    requires header { (other : Packed) × (rest : List ℕ) × HasHeader bytes.now other rest }
-    ensures ok { IfOk result (λ l. (l.0.root ≡ root) × ReadsAs l.0.root bytes.now l.0.records l.1) }
-    ensures err { IfErr result (λ e. EndsTakingIn root bytes.now e) }
-    ensures header { OnOk result (EndsTakingIn root bytes.now Ended.NoMemory) }
-{
-    match Board::load(alloc, root, bytes) {
-        Ok(loaded) => Ok(loaded),
-        Err(fault) => Err(by_load(fault)),
+        Err(fault) => Err(Stopped::Ended(by_merge(fault))),
     }
 }
 

@@ -34,8 +34,7 @@ pub struct LineReport {
 pub(crate) fn line_report(alloc: Global, board: &Board, left: &Left) -> Result<LineReport, NoMemory>
     ensures { IfOk result (λ made. IsLines board.now.root board.now.records left.now (bytes_of_lines made)) }
 {
-    let champions = board.champions()?;
-    let holdouts = board.holdouts()?;
+    let (champions, holdouts) = board.champions_and_holdouts()?;
     let mut head = Vec::with_capacity(alloc, PIECE_BYTES)?;
     append_head(board, &mut head)?;
     let mut tail = Vec::new(alloc);

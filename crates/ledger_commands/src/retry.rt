@@ -12,7 +12,8 @@ ghost use Rattle.ledger_commands.specs.LedgerReport.{outcome_by};
 ghost use Rattle.ledger_commands.specs.Retry.{SettlesOrStays, StaysInStep, AtSomeTime, ChangesBy, IsTried, AreRetried};
 
 use crate::ledger_changes::{append_to, cut_to};
-use crate::ledger_report::{Opened, bytes_of, loaded, outcome_by};
+use crate::ledger_report::outcome_by;
+use crate::reading::{Opened, Stopped, load_from};
 use crate::report_form::{AsLines, write_report};
 use cert::{Decider, Record};
 use ledger::{Board, Left, Taken, append_record, kept_bytes_load};
@@ -47,13 +48,23 @@ fn retry_ledger<F: Read + Drop, L: LedgerOut, D: Decider, W: Write>(
     decider: &mut D,
     answers: &mut W,
 ) -> Result<Outcome, Ended> {
-    let bytes = match bytes_of(alloc, held) {
-        Ok(bytes) => bytes,
-        Err(fault) => return Err(Ended::by_ledger(&fault)),
-    };
-    let (mut board, left) = loaded(alloc, &bytes)?;
-    drop(bytes);
-    settle_further(alloc, &mut board, &left, ledger, decider, answers)
+    match load_held(alloc, held) {
+        Ok((mut board, left)) => {
+            settle_further(alloc, &mut board, &left, ledger, decider, answers)
+        }
+        Err(stopped) => Err(stopped.by_ledger()),
+    }
+}
+
+// The board of what the ledger holds, and what of it wasn't kept.
+fn load_held<F: Read + Drop>(
+    alloc: Global,
+    held: io::Result<Opened<F>>,
+) -> Result<(Board, Left), Stopped> {
+    match held {
+        Ok(mut held) => load_from(alloc, &mut held.reader, held.length),
+        Err(fault) => Err(Stopped::Failed(fault)),
+    }
 }
 
 // The same from the board of the ledger, and what of it wasn't kept.

@@ -3,7 +3,7 @@ use Rattle.std.proofs.Common.{◌≡◌, ◌≢◌, ◌⊎◌, inl, inr, ℕ, �
 use Rattle.std.specs.Io.KnownBytes.{Consumes, Appends, IsAtEnd}
 use Rattle.std.proofs.lemmas.Bool.Decides.{nat_tests}
 use Rattle.std.proofs.lemmas.List.Elements.{All-append, All-nil}
-use Rattle.text.specs.Lines.{joined, HasNoNewline, BeginsWithLine, Kept, kept_of, with_more}
+use Rattle.text.specs.Lines.{joined, HasNoNewline, BeginsWithLine, BoundedLine, bounded_line, with_more}
 use Rattle.options.specs.declared.outcome.Outcome.{Outcome}
 use Rattle.options.specs.declared.outcome.Outcome.TheVariants.{Accepted, Refused, BadLine, NoMemory, Failed}
 use Rattle.line_commands.specs.Stream.{AreLines, AreAnswered, AnswersStream, first_fault}
@@ -44,7 +44,7 @@ lines_last (l ∷ lines) last all some one =
 
 -- one more line is answered
 answered_push : (Says : Option (List ℕ) → Outcome → List ℕ → Type 0) (lines : List (List ℕ)) (line : List ℕ) (o first : Outcome) (answers answer : List ℕ) →
-    AreAnswered Says lines o answers → Says (kept_of line) first answer → AreAnswered Says (lines ++ line ∷ []) (first_fault o first) (answers ++ (answer ++ (10 ∷ [])))
+    AreAnswered Says lines o answers → Says (bounded_line line) first answer → AreAnswered Says (lines ++ line ∷ []) (first_fault o first) (answers ++ (answer ++ (10 ∷ [])))
 answered_push Says [] line o first answers answer so says =
     (first, answer, Accepted, [], says, (refl, refl), ap (λ p. first_fault p first) so.0 ∙ fault_none first, ap (λ t. t ++ (answer ++ (10 ∷ []))) so.1)
 answered_push Says (l ∷ lines) line o first answers answer (f, a, later, others, said, so, outcome, text) says = (
@@ -61,65 +61,65 @@ answered_push Says (l ∷ lines) line o first answers answer (f, a, later, other
 none_of_both : (xs ys : List ℕ) → HasNoNewline xs → HasNoNewline ys → HasNoNewline (xs ++ ys)
 none_of_both xs ys first second = All-append (λ byte. byte ≢ 10) xs ys first second
 
-kept_more : (xs ys : List ℕ) → with_more (kept_of xs) ys ≡ kept_of (xs ++ ys)
-kept_more xs ys = grind (arith, nat_tests, length-append)
+bounded_more : (xs ys : List ℕ) → with_more (bounded_line xs) ys ≡ bounded_line (xs ++ ys)
+bounded_more xs ys = grind (arith, nat_tests, length-append)
 
-kept_nothing : (xs : List ℕ) → kept_of xs ≡ Some [] → xs ≡ []
-kept_nothing [] e = refl
-kept_nothing (x ∷ xs) e = grind (arith, nat_tests)
+bounded_nothing : (xs : List ℕ) → bounded_line xs ≡ Some [] → xs ≡ []
+bounded_nothing [] e = refl
+bounded_nothing (x ∷ xs) e = grind (arith, nat_tests)
 
 module _ (Says : Option (List ℕ) → Outcome → List ℕ → Type 0) where
   -- more bytes of the same line
-  pub line_taken : (text : List ℕ) (kept : Kept) (o : Outcome) (answers more : List ℕ) → IsAnswered Says text kept o answers → HasNoNewline more →
-      IsAnswered Says (text ++ more) (with_more kept more) o answers
-  line_taken text kept o answers more so one = record {
+  pub line_taken : (text : List ℕ) (bounded : BoundedLine) (o : Outcome) (answers more : List ℕ) → IsAnswered Says text bounded o answers → HasNoNewline more →
+      IsAnswered Says (text ++ more) (with_more bounded more) o answers
+  line_taken text bounded o answers more so one = record {
     lines = so.lines;
     begun = so.begun ++ more;
     are_whole = so.are_whole;
     one_line = none_of_both so.begun more so.one_line one;
     is = ap (λ t. t ++ more) so.is ∙ append_assoc (joined so.lines) so.begun more;
-    kept_is = ap (λ k. with_more k more) so.kept_is ∙ kept_more so.begun more;
+    bounded_is = ap (λ k. with_more k more) so.bounded_is ∙ bounded_more so.begun more;
     answered = so.answered;
   }
 
   -- the newline comes, and the line is answered
-  pub line_answered : (text : List ℕ) (kept : Kept) (o first : Outcome) (answers answer : List ℕ) → IsAnswered Says text kept o answers → Says kept first answer →
+  pub line_answered : (text : List ℕ) (bounded : BoundedLine) (o first : Outcome) (answers answer : List ℕ) → IsAnswered Says text bounded o answers → Says bounded first answer →
       IsAnswered Says (text ++ (10 ∷ [])) (Some []) (first_fault o first) (answers ++ (answer ++ (10 ∷ [])))
-  line_answered text kept o first answers answer so says = record {
+  line_answered text bounded o first answers answer so says = record {
     lines = so.lines ++ so.begun ∷ [];
     begun = [];
     are_whole = whole_push so.lines so.begun so.are_whole so.one_line;
     one_line = All-nil (λ byte. byte ≢ 10);
     is = ap (λ t. t ++ (10 ∷ [])) so.is ∙ append_assoc (joined so.lines) so.begun (10 ∷ []) ∙ sym (joined_push so.lines so.begun) ∙ sym (append-nil (joined (so.lines ++ so.begun ∷ [])));
-    kept_is = refl;
-    answered = answered_push Says so.lines so.begun o first answers answer so.answered (subst (λ k. Says k first answer) so.kept_is says);
+    bounded_is = refl;
+    answered = answered_push Says so.lines so.begun o first answers answer so.answered (subst (λ k. Says k first answer) so.bounded_is says);
   }
 
   -- a whole line comes, and is answered
-  pub whole_line : (all done left line rest : List ℕ) (kept : Kept) (o first : Outcome) (answers answer : List ℕ) → all ≡ done ++ left → BeginsWithLine left line rest →
-      IsAnswered Says done kept o answers → Says (with_more kept line) first answer →
+  pub whole_line : (all done left line rest : List ℕ) (bounded : BoundedLine) (o first : Outcome) (answers answer : List ℕ) → all ≡ done ++ left → BeginsWithLine left line rest →
+      IsAnswered Says done bounded o answers → Says (with_more bounded line) first answer →
       (x : List ℕ) × (all ≡ x ++ rest) × IsAnswered Says x (Some []) (first_fault o first) (answers ++ (answer ++ (10 ∷ [])))
-  whole_line all done left line rest kept o first answers answer is begins so says = (
+  whole_line all done left line rest bounded o first answers answer is begins so says = (
     (done ++ line) ++ (10 ∷ []),
     is ∙ ap (λ t. done ++ t) begins.is ∙ sym (append_assoc done line (10 ∷ rest)) ∙ sym (append_assoc (done ++ line) (10 ∷ []) rest),
-    line_answered (done ++ line) (with_more kept line) o first answers answer (line_taken done kept o answers line so begins.one_line) says,
+    line_answered (done ++ line) (with_more bounded line) o first answers answer (line_taken done bounded o answers line so begins.one_line) says,
   )
 
   -- at the end of the text nothing stands behind the last newline
   pub nothing_left : (text : List ℕ) (o : Outcome) (answers : List ℕ) → IsAnswered Says text (Some []) o answers →
       (lines : List (List ℕ)) × AreLines text lines × AreAnswered Says lines o answers
   nothing_left text o answers so =
-      let none = kept_nothing so.begun (sym so.kept_is) in
+      let none = bounded_nothing so.begun (sym so.bounded_is) in
       let same : text ≡ joined so.lines = so.is ∙ ap (λ b. joined so.lines ++ b) none ∙ append-nil (joined so.lines) in
       (so.lines, subst (λ t. AreLines t so.lines) (sym same) (lines_end so.lines so.are_whole), so.answered)
 
   -- or a last line without newline, which is answered
-  pub last_answered : (text : List ℕ) (kept : Kept) (o first : Outcome) (answers answer : List ℕ) → IsAnswered Says text kept o answers → kept ≢ Some [] → Says kept first answer →
+  pub last_answered : (text : List ℕ) (bounded : BoundedLine) (o first : Outcome) (answers answer : List ℕ) → IsAnswered Says text bounded o answers → bounded ≢ Some [] → Says bounded first answer →
       (lines : List (List ℕ)) × AreLines text lines × AreAnswered Says lines (first_fault o first) (answers ++ (answer ++ (10 ∷ [])))
-  last_answered text kept o first answers answer so some says = (
+  last_answered text bounded o first answers answer so some says = (
     so.lines ++ so.begun ∷ [],
-    subst (λ t. AreLines t (so.lines ++ so.begun ∷ [])) (sym so.is) (lines_last so.lines so.begun so.are_whole (λ none. some (so.kept_is ∙ ap kept_of none)) so.one_line),
-    answered_push Says so.lines so.begun o first answers answer so.answered (subst (λ k. Says k first answer) so.kept_is says),
+    subst (λ t. AreLines t (so.lines ++ so.begun ∷ [])) (sym so.is) (lines_last so.lines so.begun so.are_whole (λ none. some (so.bounded_is ∙ ap bounded_line none)) so.one_line),
+    answered_push Says so.lines so.begun o first answers answer so.answered (subst (λ k. Says k first answer) so.bounded_is says),
   )
 
 pub appended : (held new newer : Option (List ℕ)) (xs ys : List ℕ) → Appends held new xs → Appends new newer ys → Appends held newer (xs ++ ys)

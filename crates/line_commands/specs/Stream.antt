@@ -1,7 +1,7 @@
 -- The lines of a stream, and the answers to them, one after another.
 use Rattle.std.specs.Prelude.{◌≡◌, ◌≢◌, ◌⊎◌, ℕ, List, [], ◌∷◌, ◌++◌, Option}
 use Rattle.std.specs.Io.KnownBytes.{Consumes, Appends, IsAtEnd}
-use Rattle.text.specs.Lines.{HasNoNewline, BeginsWithLine, kept_of}
+use Rattle.text.specs.Lines.{HasNoNewline, BeginsWithLine, bounded_line}
 use Rattle.options.specs.declared.outcome.Outcome.{Outcome}
 use Rattle.options.specs.declared.outcome.Outcome.TheVariants.{Accepted, Refused, BadLine, NoMemory, Failed}
 
@@ -25,7 +25,7 @@ abbrev pub AreAnswered : (Option (List ℕ) → Outcome → List ℕ → Type 0)
 AreAnswered Says [] o text = (o ≡ Accepted) × (text ≡ [])
 AreAnswered Says (line ∷ lines) o text =
     (first : Outcome) × (answer : List ℕ) × (later : Outcome) × (answers : List ℕ) ×
-    Says (kept_of line) first answer × AreAnswered Says lines later answers × (o ≡ first_fault first later) × (text ≡ answer ++ (10 ∷ answers))
+    Says (bounded_line line) first answer × AreAnswered Says lines later answers × (o ≡ first_fault first later) × (text ≡ answer ++ (10 ∷ answers))
 
 -- a reader is read to its end, and the answers to its lines are written behind what a writer held
 pub record AnswersStream (Says : Option (List ℕ) → Outcome → List ℕ → Type 0) (read new_read held new_held : Option (List ℕ)) (o : Outcome) : Type 0 where

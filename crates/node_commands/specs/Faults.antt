@@ -2,7 +2,7 @@
 use Rattle.options.specs.declared.ended.Ended.{Ended}
 use Rattle.options.specs.declared.ended.Ended.TheVariants.{BadHeader, WrongRoot, Stream, Ledger, NoMemory}
 use Rattle.roles.specs.declared.start_fault.StartFault.{StartFault}
-use Rattle.roles.specs.declared.start_fault.StartFault.TheVariants.{BadHeader as BadStartHeader, WrongRoot as OtherStartRoot, NoMemory as NoStartMemory}
+use Rattle.roles.specs.declared.start_fault.StartFault.TheVariants.{BadHeader as BadStartHeader, WrongRoot as OtherStartRoot, LedgerFault as StartLedgerFault, NoMemory as NoStartMemory}
 use Rattle.wire.specs.declared.node.NodeFault.TheVariants.{Stopped, NoMemory as NoNodeMemory}
 use Rattle.wire.specs.declared.turned.TurnFault.{TurnFault}
 use Rattle.wire.specs.declared.turned.TurnFault.TheVariants.{LinkFault, LedgerFault, Node, NoMemory as NoTurnMemory}
@@ -11,6 +11,7 @@ use Rattle.wire.specs.declared.turned.TurnFault.TheVariants.{LinkFault, LedgerFa
 abbrev pub ended_by_start : StartFault → Ended
 ended_by_start BadStartHeader = BadHeader
 ended_by_start OtherStartRoot = WrongRoot
+ended_by_start StartLedgerFault = Ledger
 ended_by_start NoStartMemory = NoMemory
 
 -- a turn isn't carried out; a node is stopped where its ledger has failed

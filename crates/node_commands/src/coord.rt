@@ -6,10 +6,11 @@ ghost use Rattle.ledger.specs.declared.status.Status.{Status as BoardStatus};
 ghost use Rattle.ledger_commands.specs.LedgerReport.{outcome_by};
 
 use crate::faults::{by_start, by_turn};
+use crate::held_ledger::HeldLedger;
 use crate::streams::Streams;
 use coordinator::{Coordinator, StartFault};
 use ledger::Left;
-use ledger_commands::{Opened, bytes_of, keep_answer, outcome_by};
+use ledger_commands::{Opened, keep_answer, outcome_by};
 use options::{Beginning, Ended, Outcome};
 use std::alloc::Global;
 use std::io::{self, BufWriter, Read, Write};
@@ -60,31 +61,44 @@ pub(crate) fn start_coordinator<F: Read + Drop, L: LedgerOut>(
 ) -> Result<Coordinator, Ended>
     requires { (1 ≤ beginning.states) × (beginning.states ≤ state_limit) }
 {
-    match bytes_of(alloc, held) {
-        Ok(bytes) => start(alloc, beginning, &bytes, ledger),
+    match held {
+        Ok(mut opened) => start(alloc, beginning, &mut opened, ledger),
         Err(fault) => Err(Ended::by_ledger(&fault)),
     }
 }
 
-fn start<L: LedgerOut>(
+// From a ledger as far as it went when it was opened.
+fn start<F: Read, L: LedgerOut>(
     alloc: Global,
     beginning: Beginning,
-    bytes: &[u8],
+    opened: &mut Opened<F>,
     ledger: &mut L,
 ) -> Result<Coordinator, Ended>
     requires { (1 ≤ beginning.states) × (beginning.states ≤ state_limit) }
 {
-    let (node, first) = Coordinator::start(alloc, beginning.states, beginning.era, bytes);
-    carry_out_first(first, ledger)?;
+    let limit = opened.length;
+    let mut held = HeldLedger::of(&mut opened.reader);
+    let (node, first) = Coordinator::start_from(
+        alloc,
+        beginning.states,
+        beginning.era,
+        &mut held,
+        limit,
+    );
+    carry_out_first(first, held.fault(), ledger)?;
     Ok(node)
 }
 
-// Does what a node asks for when it has started.
+// Does what a node asks for when it has started. What a read of its ledger came to, where one failed, is told apart.
 fn carry_out_first<L: LedgerOut>(
     first: Result<Out, StartFault>,
+    fault: Option<Ended>,
     ledger: &mut L,
 ) -> Result<(), Ended> {
-    keep_answer(&first.map_err(by_start)?, ledger)
+    match first {
+        Ok(out) => keep_answer(&out, ledger),
+        Err(refused) => Err(fault.unwrap_or(by_start(refused))),
+    }
 }
 
 // Answers what comes, to the end of the input.

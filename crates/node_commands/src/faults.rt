@@ -13,6 +13,7 @@ pub(crate) fn by_start(fault: StartFault) -> Ended
     match fault {
         StartFault::BadHeader => Ended::BadHeader,
         StartFault::WrongRoot => Ended::WrongRoot,
+        StartFault::LedgerFault => Ended::Ledger,
         StartFault::NoMemory => Ended::NoMemory,
     }
 }

@@ -1,11 +1,14 @@
-//! The commands of `bb` that serve a tree, over readers, writers and links: `coord`, a coordinator alone, and `run`, a
-//! coordinator and workers in one process.
+//! The commands of `bb` that serve a tree, over readers, writers and links: `coord`, a coordinator alone, and `run` and
+//! `loop`, a coordinator and workers in one process, whose frames stay in memory or go over sockets.
 //!
 //! `specs/Losses` says which frames of a link are lost on purpose, `specs/Rounds` what happens to a worker in a round.
 #![tactic(auto)]
 
+mod carriers;
 mod coord;
 mod faults;
+mod held_ledger;
+mod loop_command;
 mod losses;
 mod no_ledger;
 mod progress;
@@ -16,6 +19,7 @@ mod streams;
 mod working;
 
 pub use coord::cmd_coord;
+pub use loop_command::cmd_loop;
 pub use losses::{Losses, carry};
 pub use no_ledger::NoLedger;
 pub use progress::Progress;

@@ -1,4 +1,5 @@
 // Rounds of a coordinator and workers in one process.
+use crate::carriers::Carrier;
 use crate::faults::by_turn;
 use crate::progress::Progress;
 use crate::station::Station;
@@ -12,10 +13,10 @@ use wire::{Event, LedgerOut, Node, TurnFault};
 
 // Runs rounds, numbered from 1, until no table is open or so many were run. A round is a tick of the
 // coordinator, and then each worker's part.
-pub(crate) fn run_rounds<N: Node, L: LedgerOut, C: Clock, E: Write>(
+pub(crate) fn run_rounds<N: Node, Y: Carrier, L: LedgerOut, C: Clock, E: Write>(
     coordinator: &mut Coordinator,
     ledger: &mut L,
-    stations: &mut Vec<Station<N>>,
+    stations: &mut Vec<Station<N, Y>>,
     rounds: u64,
     progress: &mut Progress<'_, C, E>,
 ) -> Result<(), Ended> {
@@ -31,10 +32,10 @@ pub(crate) fn run_rounds<N: Node, L: LedgerOut, C: Clock, E: Write>(
     Ok(())
 }
 
-fn run_round<N: Node, L: LedgerOut>(
+fn run_round<N: Node, Y: Carrier, L: LedgerOut>(
     coordinator: &mut Coordinator,
     ledger: &mut L,
-    stations: &mut Vec<Station<N>>,
+    stations: &mut Vec<Station<N, Y>>,
     round: u64,
 ) -> Result<(), Ended> {
     match coordinator.on(Event::Tick(round)) {

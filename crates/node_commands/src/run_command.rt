@@ -2,6 +2,7 @@
 ghost use Rattle.std.specs.Prelude.{◌≤◌};
 ghost use Rattle.machine_text.specs.Limits.{state_limit};
 
+use crate::carriers::{Carriers, InMemory};
 use crate::coord::{outcome_of, start_coordinator};
 use crate::progress::Progress;
 use crate::rounds::run_rounds;
@@ -22,7 +23,7 @@ pub struct Run<'a, P, N, C> {
     pub settling: &'a Settling,
     /// The form of the report.
     pub form: &'a P,
-    /// The workers, which were started from empty ledgers, and whose links are in memory.
+    /// The workers, which were started from empty ledgers.
     pub workers: Vec<N>,
     /// The clock by which is told how far it is.
     pub clock: &'a C,
@@ -50,24 +51,29 @@ pub fn cmd_run<
 ) -> Outcome
     requires { (1 ≤ run.settling.now.states) × (run.settling.now.states ≤ state_limit) }
 {
-    match settle(alloc, run, held, ledger, answers, faults) {
+    let carriers = InMemory {
+        lose: run.settling.lose,
+    };
+    match settle(alloc, run, &carriers, held, ledger, answers, faults) {
         Ok(outcome) => outcome,
         Err(ended) => ended.told(faults),
     }
 }
 
 // A coordinator that is settled by its workers, and its report.
-fn settle<
+pub(crate) fn settle<
     P: ReportForm,
     F: Read + Drop,
     L: LedgerOut,
     N: Node + Drop,
     C: Clock,
+    Y: Carriers,
     W: Write,
     E: Write,
 >(
     alloc: Global,
     run: Run<'_, P, N, C>,
+    carriers: &Y,
     held: io::Result<Opened<F>>,
     ledger: &mut L,
     answers: &mut W,
@@ -81,37 +87,37 @@ fn settle<
     };
     let mut node = start_coordinator(alloc, beginning, held, ledger)?;
     let form = run.form;
-    run_workers(alloc, run, &mut node, ledger, faults)?;
+    run_workers(alloc, run, carriers, &mut node, ledger, faults)?;
     report_board(alloc, form, &node, answers)
 }
 
 // The rounds alone.
-fn run_workers<P, L: LedgerOut, N: Node + Drop, C: Clock, E: Write>(
+fn run_workers<P, L: LedgerOut, N: Node + Drop, C: Clock, Y: Carriers, E: Write>(
     alloc: Global,
     run: Run<'_, P, N, C>,
+    carriers: &Y,
     node: &mut Coordinator,
     ledger: &mut L,
     faults: &mut E,
 ) -> Result<(), Ended> {
     let settling = run.settling;
-    let mut stations = stations(alloc, settling, run.workers)?;
+    let mut stations = stations(alloc, run.workers, carriers)?;
     let records = recorded(node);
     let mut progress = Progress::new(alloc, settling.progress, records, run.clock, faults);
     run_rounds(node, ledger, &mut stations, settling.rounds, &mut progress)
 }
 
 // Each worker with a link of its own.
-fn stations<N: Node + Drop>(
+fn stations<N: Node + Drop, Y: Carriers>(
     alloc: Global,
-    settling: &Settling,
     workers: Vec<N>,
-) -> Result<Vec<Station<N>>, Ended> {
+    carriers: &Y,
+) -> Result<Vec<Station<N, Y::Carrier>>, Ended> {
+    let base = carriers.begin()?;
     let mut stations = Vec::new(alloc);
     for worker in workers {
-        if stations
-            .push(Station::new(alloc, worker, settling.lose))
-            .is_err()
-        {
+        let station = Station::new(alloc, worker, carriers.carrier(&base)?);
+        if stations.push(station).is_err() {
             return Err(Ended::NoMemory);
         }
     }

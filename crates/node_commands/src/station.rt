@@ -1,6 +1,6 @@
 // A worker in the same process as its coordinator.
+use crate::carriers::Carrier;
 use crate::faults::in_memory;
-use crate::losses::{Losses, carry};
 use crate::no_ledger::NoLedger;
 use crate::working::work;
 use coordinator::Coordinator;
@@ -8,16 +8,16 @@ use options::Ended;
 use std::alloc::Global;
 use wire::{LedgerOut, Lines, MemLink, Node, TurnFault, turn};
 
-// A worker, whose ledger nobody reads, and both ends of its link with the coordinator, which are in memory. The worker
-// is any node: what is proved of a type that keeps boxed finders would depend on the bodies of its calls.
+// A worker, whose ledger nobody reads, both ends of its link with the coordinator, which are in memory, and what carries
+// frames from one to the other. The worker is any node: what is proved of a type that keeps boxed finders would depend
+// on the bodies of its calls.
 #[derive(Drop)]
-pub(crate) struct Station<N> {
+pub(crate) struct Station<N, Y> {
     worker: N,
     ledger: NoLedger,
     near: LinkEnd,
     far: LinkEnd,
-    to_coordinator: Losses,
-    to_worker: Losses,
+    carrier: Y,
 }
 
 // One end of a link, and the lines that came to it.
@@ -51,16 +51,15 @@ impl LinkEnd {
     }
 }
 
-impl<N: Node> Station<N> {
+impl<N: Node, Y: Carrier> Station<N, Y> {
     // A worker that was started from an empty ledger.
-    pub fn new(alloc: Global, worker: N, lose: Option<u64>) -> Station<N> {
+    pub fn new(alloc: Global, worker: N, carrier: Y) -> Station<N, Y> {
         Station {
             worker,
             ledger: NoLedger,
             near: LinkEnd::new(alloc),
             far: LinkEnd::new(alloc),
-            to_coordinator: Losses::of(lose),
-            to_worker: Losses::of(lose),
+            carrier,
         }
     }
 
@@ -81,16 +80,14 @@ impl<N: Node> Station<N> {
         if worked.is_err() {
             return Err(Ended::NoMemory);
         }
-        carry(
-            &mut self.near.link,
-            &mut self.far.link,
-            &mut self.to_coordinator,
-        )?;
+        self.carrier
+            .to_coordinator(&mut self.near.link, &mut self.far.link)?;
         match self.far.serve(coordinator, ledger) {
             Ok(()) => {}
             Err(fault) => return Err(in_memory(fault)),
         }
-        carry(&mut self.far.link, &mut self.near.link, &mut self.to_worker)?;
+        self.carrier
+            .to_worker(&mut self.far.link, &mut self.near.link)?;
         match self.near.serve(&mut self.worker, &mut self.ledger) {
             Ok(()) => Ok(()),
             Err(_) => Err(Ended::NoMemory),

@@ -1,7 +1,7 @@
 -- The ranges of the options' numbers.
-use Rattle.std.specs.Prelude.{◌≤◌, IfSome}
+use Rattle.std.specs.Prelude.{◌≡◌, ◌≤◌, None, IfSome}
 use Rattle.options.specs.declared.options.Options.{Options}
-use Rattle.options.specs.declared.options.Options.TheVariants.{Check, Decide, Coord, Run, Retry, Merge, Report}
+use Rattle.options.specs.declared.options.Options.TheVariants.{Check, Decide, Coord, Run, Loop, Retry, Merge, Report}
 use Rattle.options.specs.declared.options.Search.{Search}
 use Rattle.options.specs.declared.options.Beginning.{Beginning}
 use Rattle.options.specs.declared.options.Settling.{Settling}
@@ -33,6 +33,7 @@ AreWithinRanges Check = Unit {0}
 AreWithinRanges (Decide search) = IsWithinRange search
 AreWithinRanges (Coord beginning ledger) = IsBeginning beginning
 AreWithinRanges (Run settling ledger) = IsSettling settling
+AreWithinRanges (Loop settling ledger) = IsSettling settling × (settling.lose ≡ None)
 AreWithinRanges (Retry file search) = IsWithinRange search
 AreWithinRanges (Merge merging) = Unit {0}
 AreWithinRanges (Report file json why) = Unit {0}

@@ -22,6 +22,13 @@ pub enum Options<'a> {
         /// The coordinator's ledger's path; none where it is kept in memory.
         ledger: Option<&'a str>,
     },
+    /// `bb loop N` and the options of `run` but `--lose`
+    Loop {
+        /// How the tree is settled; no frame is lost.
+        settling: Settling,
+        /// The coordinator's ledger's path; none where it is kept in memory.
+        ledger: Option<&'a str>,
+    },
     /// `bb retry FILE` and the options of `decide`
     Retry {
         /// The ledger's path.
@@ -33,7 +40,7 @@ pub enum Options<'a> {
     Merge(Merging<'a>),
     /// `bb report FILE [--json] [--why]`
     Report {
-        /// The ledger's path.
+        /// The ledger's path, or `-`: it is read from standard input.
         file: &'a str,
         /// Whether to print the report as JSON.
         json: bool,

@@ -2,7 +2,7 @@
 ghost use Rattle.std.specs.Prelude.{◌≡◌};
 
 use evidence::NoMemory;
-use ledger::LoadFault;
+use ledger::{LoadFault, ReadStop};
 use std::error::Error;
 use std::fmt;
 
@@ -13,6 +13,8 @@ pub enum StartFault {
     BadHeader,
     /// The ledger's header is of another root, or of a table that doesn't name its states in order.
     WrongRoot,
+    /// The ledger couldn't be read.
+    LedgerFault,
     /// Memory was refused.
     NoMemory,
 }
@@ -20,13 +22,14 @@ pub enum StartFault {
 impl StartFault {
     ghost use Rattle.roles.specs.Faults.{start_fault_number};
 
-    /// The refusal number: 404, 405; none where memory was refused.
+    /// The refusal number: 404, 405, 604; none where memory was refused.
     pub fn number(&self) -> Option<u16>
         ensures { result ≡ start_fault_number self.now }
     {
         match self {
             StartFault::BadHeader => Some(404),
             StartFault::WrongRoot => Some(405),
+            StartFault::LedgerFault => Some(604),
             StartFault::NoMemory => None,
         }
     }
@@ -42,6 +45,7 @@ impl fmt::Display for StartFault {
         match self {
             StartFault::BadHeader => f.write_str("the ledger has no header with a table"),
             StartFault::WrongRoot => f.write_str("the ledger is of another root"),
+            StartFault::LedgerFault => f.write_str("the ledger can't be read"),
             StartFault::NoMemory => f.write_str("out of memory"),
         }
     }
@@ -59,6 +63,19 @@ impl From<LoadFault> for StartFault {
             LoadFault::BadHeader => StartFault::BadHeader,
             LoadFault::WrongRoot => StartFault::WrongRoot,
             LoadFault::NoMemory => StartFault::NoMemory,
+        }
+    }
+}
+
+impl From<ReadStop> for StartFault {
+    ghost use Rattle.roles.specs.Faults.{start_fault_of_stop};
+
+    ghost from_gives = { λ stop e. e ≡ start_fault_of_stop stop };
+
+    fn from(stop: ReadStop) -> StartFault {
+        match stop {
+            ReadStop::Failed(_) => StartFault::LedgerFault,
+            ReadStop::NoMemory => StartFault::NoMemory,
         }
     }
 }

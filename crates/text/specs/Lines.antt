@@ -1,5 +1,5 @@
 -- The lines of a stream that comes in pieces: what stands before each newline, the byte 10. Of a line that is
--- longer than the limit only that is kept.
+-- longer than the limit only that is told.
 use Rattle.std.specs.Prelude.{◌≡◌, ◌≢◌, ℕ, ◌≤◌, nat_le, if◌then◌else◌, List, [], ◌∷◌, ◌++◌, length, All, Option, Some, None, IfSome}
 use Rattle.std.specs.Borrow.{Bor}
 use Rattle.text.specs.Limits.{line_byte_limit}
@@ -17,20 +17,20 @@ abbrev pub joined : List (List ℕ) → List ℕ
 joined [] = []
 joined (line ∷ lines) = line ++ (10 ∷ joined lines)
 
--- what is kept of a line, as far as it has come: its bytes, or that there are too many
-abbrev pub Kept : Type 0
-Kept = Option (List ℕ)
+-- a line as far as it has come: its bytes, or that there are too many
+abbrev pub BoundedLine : Type 0
+BoundedLine = Option (List ℕ)
 
-abbrev pub kept_of : List ℕ → Kept
-kept_of bytes = if nat_le (length bytes) line_byte_limit then Some bytes else None
+abbrev pub bounded_line : List ℕ → BoundedLine
+bounded_line bytes = if nat_le (length bytes) line_byte_limit then Some bytes else None
 
 -- with more bytes of the same line
-abbrev pub with_more : Kept → List ℕ → Kept
+abbrev pub with_more : BoundedLine → List ℕ → BoundedLine
 with_more None more = None
-with_more (Some bytes) more = kept_of (bytes ++ more)
+with_more (Some bytes) more = bounded_line (bytes ++ more)
 
--- what is kept are no more bytes than the limit
-abbrev pub IsShort : Kept → Type 0
+-- no more bytes than the limit
+abbrev pub IsShort : BoundedLine → Type 0
 IsShort line = IfSome line (λ bytes. length bytes ≤ line_byte_limit)
 
 -- a piece cut at its first newline, which stands in neither part; nothing follows where there is no newline

@@ -1,6 +1,6 @@
 // A line of a stream that comes in pieces.
 ghost use Rattle.std.specs.Prelude.{◌≡◌, ◌≤◌, [], length, Some, OnOk, OnErr, option_map};
-ghost use Rattle.text.specs.Lines.{IsShort, Kept, with_more};
+ghost use Rattle.text.specs.Lines.{IsShort, BoundedLine, with_more};
 
 use crate::limits::MAX_LINE_BYTES;
 use std::alloc::{AllocError as NoMemory, Global};
@@ -16,10 +16,10 @@ pub struct Cutter {
 
 impl Model for Cutter {
     ghost use Rattle.std.specs.Prelude.{◌≤◌, length, if◌then◌else◌, Some, None};
-    ghost use Rattle.text.specs.Lines.{Kept};
+    ghost use Rattle.text.specs.Lines.{BoundedLine};
     ghost use Rattle.text.specs.Limits.{line_byte_limit};
 
-    ghost Value = { Kept };
+    ghost Value = { BoundedLine };
 
     ghost view = { λ a. if a.overlong then None else Some a.bytes.items };
 

@@ -8,8 +8,8 @@ use std::process::Abort;
 use std::test::Fail;
 use wire::{Event, Node, NodeFault, Note, Out};
 
-// A coordinator for one state that begins with an empty ledger, and the header that it appends.
-fn begun(rt: &impl Abort, alloc: Global) -> Coordinator {
+/// A coordinator for one state that begins with an empty ledger, and the header that it appends.
+pub fn begun(rt: &impl Abort, alloc: Global) -> Coordinator {
     for _ in 0..9 {
         if let (coordinator, Ok(out)) = Coordinator::start(alloc, 1, 1, b"") {
             appends_the_header(rt, &out);

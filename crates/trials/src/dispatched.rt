@@ -2,7 +2,7 @@
 ghost use Rattle.options.specs.Ranges.{AreWithinRanges};
 
 use crate::desk::Desk;
-use crate::streams::{ALWAYS, Sink};
+use crate::streams::{ALWAYS, Sink, Source};
 use crate::texts::assert_bytes;
 use dispatch::carry_out;
 use options::{Beginning, Merging, Options, Outcome, Search, Settling};
@@ -75,6 +75,55 @@ const ONE_STATE_AS_JSON: &[u8] =
     b"{\"best\":1,\"champions\":[\"------\"],\"halting\":1,\"holdout_tables\":[],\"holdouts\":0,\"never\":2,\"nodes\":3,\"open\":0,\"root\":\"------\",\"status\":\"complete\"}\n";
 
 const COMPLETE: &str = "bb-ledger 1 ------\n------ H 1\n0RA--- T 0 1 R\n1RA--- T 0 1 R\n";
+
+// A report of `-` is that of standard input, up to its end.
+#[test]
+fn a_report_reads_standard_input(rt: HostRuntime) {
+    let alloc = rt.alloc();
+    let a = RefCell::new(Vec::new(alloc));
+    let b = RefCell::new(Vec::new(alloc));
+    let desk = Desk::of(&a, &b, 4);
+    for (json, report) in [(false, ONE_STATE), (true, ONE_STATE_AS_JSON)] {
+        let asked = Options::Report {
+            file: "-",
+            json,
+            why: false,
+        };
+        let end = carried(&rt, alloc, asked, COMPLETE, &desk);
+        assert_bytes(&rt, &end.answers, report);
+        assert!(rt; end.outcome == Outcome::Accepted);
+    }
+}
+
+// A stream that fails before its end is said, and `./-` is the path of a file.
+#[test]
+fn a_report_that_is_not_read_says_so(rt: HostRuntime) {
+    let alloc = rt.alloc();
+    let a = RefCell::new(Vec::new(alloc));
+    let b = RefCell::new(Vec::new(alloc));
+    let desk = Desk::of(&a, &b, 4);
+    for (file, calls_left, fault) in [
+        ("-", 0, b"refused 603\n".as_slice()),
+        ("-", 3, b"refused 603\n"),
+        ("./-", ALWAYS, b"refused 605\n"),
+    ] {
+        let mut input = Source {
+            left: COMPLETE.as_bytes(),
+            at_once: 20,
+            calls_left,
+        };
+        let asked = Options::Report {
+            file,
+            json: false,
+            why: false,
+        };
+        let mut answers = Sink::new(alloc, usize::MAX, ALWAYS);
+        let mut faults = Sink::new(alloc, usize::MAX, ALWAYS);
+        let outcome = carry_out(alloc, asked, &desk, &mut input, &mut answers, &mut faults);
+        assert_bytes(&rt, &faults.kept, fault);
+        assert!(rt; outcome == Outcome::Failed && answers.kept.is_empty());
+    }
+}
 
 // What a retry cuts off it doesn't speak of, and it ends as its report says.
 #[test]

@@ -28,13 +28,19 @@ mod desk;
 #[cfg(test)]
 mod dispatched;
 #[cfg(test)]
+mod failing_devices;
+#[cfg(test)]
 mod file_ledgers;
+#[cfg(test)]
+mod hostile;
 #[cfg(test)]
 mod json_reports;
 #[cfg(test)]
 mod ledgers;
 #[cfg(test)]
 mod lines;
+#[cfg(test)]
+mod loaders;
 #[cfg(test)]
 mod losses;
 #[cfg(test)]
@@ -63,6 +69,8 @@ mod rounds;
 mod run_command;
 #[cfg(test)]
 mod runs;
+#[cfg(test)]
+mod sockets;
 #[cfg(test)]
 mod streams;
 #[cfg(test)]

@@ -60,7 +60,8 @@ const OTHERS: &str =
 |ACK|ACK |ACK ------ |ACK -----|LATER |LATER ----- |LATER ------ |DONE 0 1 2|DONE 0|DONE 00 1|DONE 0 \
 |STOP |STOP 1|stop|| |ASK 1\r|REC ------ Q";
 
-fn fault_of(frame: &[u8]) -> Option<MsgFault> {
+/// Why a frame is no message; none where it is one.
+pub fn fault_of(frame: &[u8]) -> Option<MsgFault> {
     match decode(frame) {
         Ok(_) => None,
         Err(fault) => Some(fault),

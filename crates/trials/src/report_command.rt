@@ -151,9 +151,36 @@ fn ledgers_without_root_are_refused(rt: HostRuntime) {
         (b"hello", b"refused 404\n"),
         (b"bb-ledger 1 -----\n", b"refused 404\n"),
         (b"bb-ledger 1 1RC---_------_------\n", b"refused 405\n"),
+        // A first line that is longer than a header is refused, whether it begins as one or not.
+        (LONG, b"refused 404\n"),
+        (&LONG[1..], b"refused 404\n"),
     ] {
-        reported(&rt, rt.alloc(), ledger, 5, b"", fault, Outcome::Refused);
+        for at_once in [1, 5, 1000] {
+            reported(
+                &rt,
+                rt.alloc(),
+                ledger,
+                at_once,
+                b"",
+                fault,
+                Outcome::Refused,
+            );
+        }
     }
+}
+
+const LONG: &[u8] =
+    b"bb-ledger 1 ------_------_------_------_------_------_------_------_------\n------ H 1\n";
+
+// A ledger is read no further than its first line where that is refused.
+#[test]
+fn nothing_is_read_behind_a_refused_header(rt: HostRuntime) {
+    let mut said = Sink::new(rt.alloc(), usize::MAX, ALWAYS);
+    let mut told = Sink::new(rt.alloc(), usize::MAX, ALWAYS);
+    let file = file_of(b"hello\n------ H 1\n", 6, 1);
+    let ended = cmd_report(rt.alloc(), &AsLines, false, file, &mut said, &mut told);
+    assert_bytes(&rt, &told.kept, b"refused 404\n");
+    assert!(rt; ended == Outcome::Refused && said.kept.is_empty());
 }
 
 #[test]

@@ -20,8 +20,8 @@ fn started(
     Ok(Worker::start(alloc, 7, ledger, finders, 100))
 }
 
-// The same, without a board.
-fn idle(rt: &impl Abort, alloc: Global) -> Result<Worker<Finders<Box<dyn Finder>>>, Fail> {
+/// The same, without a board.
+pub fn idle(rt: &impl Abort, alloc: Global) -> Result<Worker<Finders<Box<dyn Finder>>>, Fail> {
     let (worker, first) = started(alloc, b"")?;
     match first {
         Ok(out) => assert!(rt;

@@ -8,7 +8,7 @@ use Rattle.machine_text.specs.Text.{text_of}
 use Rattle.cert.specs.Grammar.{record_text}
 use Rattle.cert.proofs.Lines.{by_test, text_line, record_line}
 use Rattle.text.specs.Limits.{line_byte_limit}
-use Rattle.text.specs.Lines.{HasNoNewline, kept_of}
+use Rattle.text.specs.Lines.{HasNoNewline, bounded_line}
 use Rattle.text.specs.Parts.{parts_of}
 use Rattle.text.proofs.Lines.{is_newline}
 use Rattle.text.proofs.Numbers.{decimal_line}
@@ -52,8 +52,8 @@ first_frame m ms fits =
     ap (parts_of 10) (append_assoc (message_text m) (10 ∷ []) (frames_of ms))
     ∙ slice_split_at is_newline (message_text m) 10 (frames_of ms) (no_newline (message_text m) (message_line m fits)) refl
 
-kept_whole : (m : Message) → IsSendable m → kept_of (message_text m) ≡ Some (message_text m)
-kept_whole m fits =
+bounded_whole : (m : Message) → IsSendable m → bounded_line (message_text m) ≡ Some (message_text m)
+bounded_whole m fits =
     let short : nat_le (length (message_text m)) line_byte_limit ≡ true = grind (arith, nat_tests, sent_is_short m fits) in
     rw short refl
 
@@ -70,7 +70,7 @@ frames_come_through [] fits = no_lines
 frames_come_through (m ∷ ms) fits =
     let here = All-head IsSendable m ms fits in
     lines_at (Some []) (frames_of (m ∷ ms)) (message_text m) (frames_of ms) (first_frame m ms here)
-    ∙ ap (λ k. k ∷ lines_from (Some []) (frames_of ms)) (kept_whole m here)
+    ∙ ap (λ k. k ∷ lines_from (Some []) (frames_of ms)) (bounded_whole m here)
     ∙ ap (λ ls. Some (message_text m) ∷ ls) (frames_come_through ms (All-tail IsSendable m ms fits))
 
 pub frames_end : (ms : List Message) → All IsSendable ms → rest_from (Some []) (frames_of ms) ≡ Some []
@@ -78,5 +78,5 @@ frames_end [] fits = no_rest
 frames_end (m ∷ ms) fits =
     rest_at (Some []) (frames_of (m ∷ ms)) (message_text m) (frames_of ms) (first_frame m ms (All-head IsSendable m ms fits)) ∙ frames_end ms (All-tail IsSendable m ms fits)
 
-pub begun_goes_on : (begun piece : List ℕ) → HasNoNewline begun → (lines_from (kept_of begun) piece ≡ lines_from (Some []) (begun ++ piece)) × (rest_from (kept_of begun) piece ≡ rest_from (Some []) (begun ++ piece))
+pub begun_goes_on : (begun piece : List ℕ) → HasNoNewline begun → (lines_from (bounded_line begun) piece ≡ lines_from (Some []) (begun ++ piece)) × (rest_from (bounded_line begun) piece ≡ rest_from (Some []) (begun ++ piece))
 begun_goes_on begun piece none = goes_on begun piece (slice_split_none is_newline begun (no_newline begun none))

@@ -5,19 +5,19 @@ use Rattle.wire.specs.declared.turned.Turn.TheVariants.{More, End}
 use Rattle.wire.specs.declared.turned.TurnFault.{TurnFault}
 use Rattle.wire.specs.declared.turned.TurnFault.TheVariants.{LinkFault, LedgerFault, Node, NoMemory}
 use Rattle.wire.specs.Happening.{Happening, Came}
-use Rattle.text.specs.Lines.{Kept}
+use Rattle.text.specs.Lines.{BoundedLine}
 use Rattle.wire.specs.Lines.{Stream, fed}
 use Rattle.wire.specs.Carried.{Answering, Scene, Handed, BrokenOff}
 
 -- a line as a frame: its bytes, and none of a line that was too long
-abbrev pub frame_of : Kept → List ℕ
+abbrev pub frame_of : BoundedLine → List ℕ
 frame_of (Some bytes) = bytes
 frame_of None = []
 
-abbrev pub event_of : Kept → Happening
+abbrev pub event_of : BoundedLine → Happening
 event_of line = Came (frame_of line)
 
-abbrev pub events_of : List Kept → List Happening
+abbrev pub events_of : List BoundedLine → List Happening
 events_of lines = map event_of lines
 
 -- the stream has ended where no byte came

@@ -1,7 +1,7 @@
 // What is true of all streams and messages: laws over the definitions, each the contract of a function without a
 // body.
 ghost use Rattle.std.specs.Prelude.{◌≡◌, ℕ, [], ◌++◌, List, All, Some, Ok, map};
-ghost use Rattle.text.specs.Lines.{HasNoNewline, kept_of};
+ghost use Rattle.text.specs.Lines.{HasNoNewline, bounded_line};
 ghost use Rattle.wire.specs.Lines.{Stream, fed, lines_from, rest_from};
 ghost use Rattle.wire.specs.Message.{Message, IsSendable};
 ghost use Rattle.wire.specs.Grammar.{message_of, message_text, frames_of};
@@ -14,9 +14,9 @@ pub fn pieces_join()
 /// What has begun goes on with the next piece, also where only that it is too long is kept of it.
 pub fn begun_lines_go_on()
     ensures lines { (begun piece : List ℕ) → HasNoNewline begun
-        → lines_from (kept_of begun) piece ≡ lines_from (Some []) (begun ++ piece) }
+        → lines_from (bounded_line begun) piece ≡ lines_from (Some []) (begun ++ piece) }
     ensures rest { (begun piece : List ℕ) → HasNoNewline begun
-        → rest_from (kept_of begun) piece ≡ rest_from (Some []) (begun ++ piece) }
+        → rest_from (bounded_line begun) piece ≡ rest_from (Some []) (begun ++ piece) }
 {}
 
 /// Reading the text of a message gives the message again.

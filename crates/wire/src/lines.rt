@@ -1,7 +1,7 @@
 // A stream of bytes that comes in pieces, and its lines.
 ghost use Rattle.std.specs.Prelude.{◌≡◌, ◌∷◌, [], map, Some, IfSome, IfOk, IfNone, OnOk, OnErr};
 ghost use Rattle.std.specs.List.{All};
-ghost use Rattle.text.specs.Lines.{IsShort, kept_of};
+ghost use Rattle.text.specs.Lines.{IsShort, bounded_line};
 ghost use Rattle.wire.specs.Lines.{IsShortLine, fed, known, lines_from, rest_from};
 
 use crate::line::Line;
@@ -91,7 +91,7 @@ fn cut_lines(alloc: Global, text: &[u8]) -> Result<(VecDeque<Line>, Cutter), NoM
 
 // A line that begins with these bytes.
 fn begun(alloc: Global, bytes: &[u8]) -> Result<Cutter, NoMemory>
-    ensures kept { IfOk result (λ line. line ≡ kept_of bytes.now) }
+    ensures kept { IfOk result (λ line. line ≡ bounded_line bytes.now) }
     ensures short { IfOk result IsShort }
 {
     let mut line = Cutter::new(alloc);

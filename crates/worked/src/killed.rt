@@ -3,9 +3,11 @@ ghost use Rattle.std.specs.Prelude.{◌≢◌, ◌≤◌};
 
 use dispatch::System;
 use ledger_commands::{FileLedger, Host};
+use loopback::Sockets;
 use std::cell::Cell;
 use std::fs;
 use std::io::{self, ErrorKind};
+use std::net::{TcpListener, TcpStream};
 use std::time::{Clock, Duration};
 use wire::{Fault, LedgerOut};
 
@@ -139,6 +141,24 @@ impl<'a> Clock for Killed<'a> {
 
     fn since_1970(&self) -> io::Result<Duration> {
         self.system.since_1970()
+    }
+}
+
+impl<'a> Sockets for Killed<'a> {
+    type Listener = TcpListener;
+
+    type Stream = TcpStream;
+
+    fn listen(&self) -> io::Result<TcpListener> {
+        self.system.listen()
+    }
+
+    fn connect(&self, listener: &TcpListener) -> io::Result<TcpStream> {
+        self.system.connect(listener)
+    }
+
+    fn accept(&self, listener: &TcpListener) -> io::Result<TcpStream> {
+        self.system.accept(listener)
     }
 }
 

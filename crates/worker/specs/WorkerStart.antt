@@ -9,7 +9,7 @@ use Rattle.ledger.specs.declared.left.Left.TheVariants.{Nothing, From}
 use Rattle.wire.specs.declared.node.Out.{Out}
 use Rattle.wire.specs.declared.node.Note.TheVariants.{Quiet}
 use Rattle.roles.specs.declared.start_fault.StartFault.{StartFault}
-use Rattle.roles.specs.declared.start_fault.StartFault.TheVariants.{BadHeader, WrongRoot, NoMemory}
+use Rattle.roles.specs.declared.start_fault.StartFault.TheVariants.{BadHeader, WrongRoot, LedgerFault, NoMemory}
 use Rattle.roles.specs.Kept.{cut_of}
 use Rattle.worker.specs.WorkerState.{WorkerState}
 use Rattle.roles.specs.Says.{Says}
@@ -22,10 +22,11 @@ abbrev pub ReadsAsBoard : List ℕ → Option Contents → Left → Type 0
 ReadsAsBoard text None left = ReadsAsNone text [] left
 ReadsAsBoard text (Some b) left = IsInOrder b.root × ReadsAs b.root text b.records left
 
--- why a worker doesn't start
+-- why a worker doesn't start; its ledger's bytes are there, so nothing is read that could fail
 abbrev pub IsNoStart : List ℕ → StartFault → Type 0
 IsNoStart text BadHeader = HasNoHeader text
 IsNoStart text WrongRoot = (root : Packed) × (rest : List ℕ) × HasHeader text root rest × (IsInOrder root → ⊥)
+IsNoStart text LedgerFault = ⊥
 IsNoStart text NoMemory = (root : Packed) × (rest : List ℕ) × HasHeader text root rest
 
 abbrev pub Loads : List ℕ → Result (Option Contents × Left) StartFault → Type 0

@@ -7,7 +7,7 @@ use Rattle.tree.specs.Tables.{IsChildTable}
 use Rattle.ledger.specs.Tally.{IsHalting}
 use Rattle.leases.specs.Limits.{child_limit}
 use Rattle.leases.specs.Leases.{Lease, came_under}
-use Rattle.leases.specs.inside.Keeping.{KeptLease, as_lease}
+use Rattle.leases.specs.inside.Stored.{StoredLease, as_lease}
 
 -- what came under a lease had come before, or came under this one now: then it is open, and listed
 abbrev pub CameOnly : Contents → ℕ → List (Packed × ℕ) → List (Packed × ℕ) → List Packed → Type 0
@@ -19,7 +19,7 @@ abbrev pub ComesUnder : List (Packed × ℕ) → Packed → ℕ → List (Packed
 ComesUnder came t n next = (q : Packed) → came_under next q ≡ (if same_table t q then Some n else came_under came q)
 
 -- a lease is renewed, a table leaves it, and the children of that come under it
-pub record Renews (b : Contents) (t : Packed) (moment : ℕ) (old new : KeptLease) (came next : List (Packed × ℕ)) : Type 0 where
+pub record Renews (b : Contents) (t : Packed) (moment : ℕ) (old new : StoredLease) (came next : List (Packed × ℕ)) : Type 0 where
   pub number : new.number ≡ old.number
   pub id : new.id ≡ old.id
   pub renewed : new.renewed ≡ moment
@@ -29,14 +29,14 @@ pub record Renews (b : Contents) (t : Packed) (moment : ℕ) (old new : KeptLeas
   pub more : (q : Packed) → Contains old.tables q → (q ≡ t → ⊥) → Contains new.tables q
 
 -- the lease of a number is renewed so, and the others stay
-abbrev pub RenewsOne : Contents → Packed → ℕ → ℕ → List KeptLease → List KeptLease → List (Packed × ℕ) → List (Packed × ℕ) → Type 0
+abbrev pub RenewsOne : Contents → Packed → ℕ → ℕ → List StoredLease → List StoredLease → List (Packed × ℕ) → List (Packed × ℕ) → Type 0
 RenewsOne b t number moment old new came next =
-    (at : ℕ) × (l : KeptLease) × (at < length old) × (number ≡ (slice_index_or old at l).number) × (new ≡ slice_set old at l) × Renews b t moment (slice_index_or old at l) l came next
+    (at : ℕ) × (l : StoredLease) × (at < length old) × (number ≡ (slice_index_or old at l).number) × (new ≡ slice_set old at l) × Renews b t moment (slice_index_or old at l) l came next
 
 -- there is room for the children of a table among those of a lease
-abbrev pub HasRoomForChildren : ℕ → List KeptLease → Type 0
-HasRoomForChildren number leases = (l : KeptLease) → Contains leases l → l.number ≡ number → child_limit ≤ l.room
+abbrev pub HasRoomForChildren : ℕ → List StoredLease → Type 0
+HasRoomForChildren number leases = (l : StoredLease) → Contains leases l → l.number ≡ number → child_limit ≤ l.room
 
 -- what of a lease is seen, and its tables
-abbrev pub shown : KeptLease → Lease × List Packed
+abbrev pub shown : StoredLease → Lease × List Packed
 shown l = (as_lease l, l.tables)

@@ -5,7 +5,7 @@ use Rattle.std.specs.List.Sorted.{IsPermutation}
 use Rattle.std.specs.declared.cmp.Ordering.{Ordering}
 use Rattle.std.specs.declared.cmp.Reverse.{Reverse}
 use Rattle.leases.specs.Limits.{lease_time}
-use Rattle.leases.specs.inside.Keeping.{KeptLease}
+use Rattle.leases.specs.inside.Stored.{StoredLease}
 use Rattle.leases.specs.declared.held_leases.HeldLease.{HeldLease}
 
 -- the entries, and for how many more there is room
@@ -50,5 +50,5 @@ abbrev pub SomePast : ℕ → (ℕ → Option HeldLease) → Type 0
 SomePast moment lease_at = (n : ℕ) × (l : HeldLease) × (lease_at n ≡ Some l) × (is_past moment l.renewed ≡ true)
 
 -- no lease was given or renewed after a moment
-abbrev pub AreNotAhead : ℕ → List KeptLease → Type 0
-AreNotAhead moment leases = (l : KeptLease) → Contains leases l → l.renewed ≤ moment
+abbrev pub AreNotAhead : ℕ → List StoredLease → Type 0
+AreNotAhead moment leases = (l : StoredLease) → Contains leases l → l.renewed ≤ moment

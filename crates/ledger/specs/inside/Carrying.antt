@@ -6,7 +6,7 @@ use Rattle.ledger.specs.inside.Counting.{greater, steps_of}
 use Rattle.ledger.specs.inside.Open.{no_place}
 use Rattle.ledger.specs.declared.tree_count.TreeCount.{TreeCount}
 use Rattle.ledger.specs.declared.tree_count.TreeChange.{TreeChange}
-use Rattle.ledger.specs.declared.kept.Kept.{Kept}
+use Rattle.ledger.specs.declared.stored_record.StoredRecord.{StoredRecord}
 
 -- the numbers of an open table's tree: itself alone
 abbrev pub first_count : TreeCount
@@ -35,27 +35,27 @@ pub record MayChange (n : TreeCount) (c : TreeChange) : Type 0 where
   pub holdouts_less : c.settled ≤ n.holdouts
 
 -- the chain of a place: itself, and that of the place of its record's parent
-pub data OnChain (es : List (Packed × Kept)) : ℕ → ℕ → Type 0 where
+pub data OnChain (es : List (Packed × StoredRecord)) : ℕ → ℕ → Type 0 where
   Here : {place : ℕ} → place + 1 < 2 ^ 32 → OnChain es place place
-  Above : {place above : ℕ} {e : Packed × Kept} → place + 1 < 2 ^ 32 → slice_get es place ≡ Some e → OnChain es e.1.parent above → OnChain es place above
+  Above : {place above : ℕ} {e : Packed × StoredRecord} → place + 1 < 2 ^ 32 → slice_get es place ≡ Some e → OnChain es e.1.parent above → OnChain es place above
 
 -- a chain starts at a record, and each parent's stands before that of its child
-abbrev pub HasChain : List (Packed × Kept) → ℕ → Type 0
+abbrev pub HasChain : List (Packed × StoredRecord) → ℕ → Type 0
 HasChain es place = place + 1 < 2 ^ 32 → place < length es
 
-abbrev pub AreEarlier : List (Packed × Kept) → Type 0
-AreEarlier es = (i : ℕ) (e : Packed × Kept) → slice_get es i ≡ Some e → (e.1.parent ≡ no_place) ⊎ (e.1.parent < i)
+abbrev pub AreEarlier : List (Packed × StoredRecord) → Type 0
+AreEarlier es = (i : ℕ) (e : Packed × StoredRecord) → slice_get es i ≡ Some e → (e.1.parent ≡ no_place) ⊎ (e.1.parent < i)
 
-abbrev pub ChainMayChange : List (Packed × Kept) → ℕ → TreeChange → Type 0
-ChainMayChange es from c = (i : ℕ) (e : Packed × Kept) → OnChain es from i → slice_get es i ≡ Some e → MayChange e.1.tree c
+abbrev pub ChainMayChange : List (Packed × StoredRecord) → ℕ → TreeChange → Type 0
+ChainMayChange es from c = (i : ℕ) (e : Packed × StoredRecord) → OnChain es from i → slice_get es i ≡ Some e → MayChange e.1.tree c
 
 -- an entry that counts a change, where its place is on the chain, or else is as it was
-abbrev pub counting : TreeChange → Packed × Kept → Packed × Kept
+abbrev pub counting : TreeChange → Packed × StoredRecord → Packed × StoredRecord
 counting c e = (e.0, record e.1 { tree = changed_count c e.1.tree })
 
-abbrev pub IsCarried : TreeChange → Packed × Kept → Packed × Kept → Type 0 → Type 0
+abbrev pub IsCarried : TreeChange → Packed × StoredRecord → Packed × StoredRecord → Type 0 → Type 0
 IsCarried c e now IsOn = (IsOn × (now ≡ counting c e)) ⊎ ((IsOn → ⊥) × (now ≡ e))
 
-abbrev pub AreCarried : TreeChange → List (Packed × Kept) → ℕ → List (Packed × Kept) → Type 0
+abbrev pub AreCarried : TreeChange → List (Packed × StoredRecord) → ℕ → List (Packed × StoredRecord) → Type 0
 AreCarried c es from new =
-    (i : ℕ) (now : Packed × Kept) → slice_get new i ≡ Some now → (e : Packed × Kept) × (slice_get es i ≡ Some e) × IsCarried c e now (OnChain es from i)
+    (i : ℕ) (now : Packed × StoredRecord) → slice_get new i ≡ Some now → (e : Packed × StoredRecord) × (slice_get es i ≡ Some e) × IsCarried c e now (OnChain es from i)

@@ -8,10 +8,10 @@ use Rattle.ledger.specs.Records.{mark_in}
 use Rattle.ledger.specs.Held.{IsHoldout}
 use Rattle.ledger.specs.Tally.{AreSoMany}
 use Rattle.ledger.specs.inside.Counting.{is_halting}
-use Rattle.ledger.specs.inside.Keeping.{records_of}
+use Rattle.ledger.specs.inside.Stored.{records_of}
 use Rattle.ledger.specs.inside.Open.{no_place}
 use Rattle.ledger.specs.declared.tree_count.TreeCount.{TreeCount}
-use Rattle.ledger.specs.declared.kept.Kept.{Kept}
+use Rattle.ledger.specs.declared.stored_record.StoredRecord.{StoredRecord}
 
 -- the numbers are those of the tree of a table
 pub record IsTreeCount (root : Packed) (rs : List Recorded) (p : Packed) (n : TreeCount) : Type 0 where
@@ -25,12 +25,12 @@ IsParentPlace root rs i t place =
     ((t ≡ root) × (place ≡ no_place)) ⊎ ((place < i) × ((r : Recorded) × (slice_get rs place ≡ Some r) × (is_halting r ≡ true) × IsChildTable r.table t))
 
 -- with each record are kept the place of its parent's, and the numbers of its tree by these records
-abbrev pub AreParented : Packed → List (Packed × Kept) → Type 0
-AreParented root es = (i : ℕ) (e : Packed × Kept) → slice_get es i ≡ Some e → IsParentPlace root (records_of es) i e.0 e.1.parent
+abbrev pub AreParented : Packed → List (Packed × StoredRecord) → Type 0
+AreParented root es = (i : ℕ) (e : Packed × StoredRecord) → slice_get es i ≡ Some e → IsParentPlace root (records_of es) i e.0 e.1.parent
 
-abbrev pub AreTreeCounts : Packed → List Recorded → List (Packed × Kept) → Type 0
-AreTreeCounts root rs es = (i : ℕ) (e : Packed × Kept) → slice_get es i ≡ Some e → IsTreeCount root rs e.0 e.1.tree
+abbrev pub AreTreeCounts : Packed → List Recorded → List (Packed × StoredRecord) → Type 0
+AreTreeCounts root rs es = (i : ℕ) (e : Packed × StoredRecord) → slice_get es i ≡ Some e → IsTreeCount root rs e.0 e.1.tree
 
-pub record IsIndexed (root : Packed) (es : List (Packed × Kept)) : Type 0 where
+pub record IsIndexed (root : Packed) (es : List (Packed × StoredRecord)) : Type 0 where
   pub parents : AreParented root es
   pub counts : AreTreeCounts root (records_of es) es

@@ -4,7 +4,7 @@ use Rattle.std.specs.declared.cmp.Ordering.{Ordering}
 use Rattle.machine_text.proofs.Order.{order_of_texts}
 use Rattle.ledger.proofs.BoardLaws.{open_table}
 use Rattle.leases.specs.Asks.{IsFree}
-use Rattle.leases.specs.inside.Keeping.{as_leases, without}
+use Rattle.leases.specs.inside.Stored.{as_leases, without}
 use Rattle.leases.proofs.FreeLaws.{dropped}
 use Rattle.leases.proofs.first_free.first_free.Goals as goal
 

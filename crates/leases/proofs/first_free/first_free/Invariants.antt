@@ -1,7 +1,7 @@
 use Rattle.std.proofs.Common.{length, Contains}
 use Rattle.machine_text.specs.Packed.{Packed}
 use Rattle.leases.specs.Asks.{IsFree}
-use Rattle.leases.specs.inside.Keeping.{as_leases, without}
+use Rattle.leases.specs.inside.Stored.{as_leases, without}
 use Rattle.leases.proofs.first_free.first_free.Given as goal
 
 abbrev pub invariant-loop-t : goal.invariant-loop-t

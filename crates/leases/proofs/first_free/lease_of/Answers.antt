@@ -2,7 +2,7 @@ use Rattle.std.proofs.Common.{sym, ◌∙◌, ap, map}
 use Rattle.std.specs.Option.{option_copied}
 use Rattle.ledger.specs.Records.{same_table}
 use Rattle.leases.specs.Leases.{while_live}
-use Rattle.leases.specs.inside.Keeping.{as_lease, without}
+use Rattle.leases.specs.inside.Stored.{as_lease, without}
 use Rattle.leases.proofs.first_free.lease_of.Goals as goal
 
 pub returns-in-Some : goal.returns-in-Some

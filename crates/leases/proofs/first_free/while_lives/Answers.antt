@@ -1,6 +1,6 @@
 use Rattle.std.proofs.Common.{◌&&◌, not, sym, ◌∙◌, ap, if◌then◌else◌, Some, None, map}
 use Rattle.leases.specs.Leases.{is_live}
-use Rattle.leases.specs.inside.Keeping.{as_lease, is_numbered}
+use Rattle.leases.specs.inside.Stored.{as_lease, is_numbered}
 use Rattle.leases.proofs.LiveLaws.{live_without, and_false}
 use Rattle.leases.proofs.first_free.while_lives.Goals as goal
 use Rattle.leases.proofs.first_free.while_lives.Goals.{else-lives-via-then-lives+else-not-is_numbered, else-lives-via-else-lives}

@@ -10,28 +10,28 @@ loop-place-init c = record {
   as_many = refl;
 }
 
-pub with-kept-requires : goal.with-kept-requires
-with-kept-requires c =
+pub with-stored-requires : goal.with-stored-requires
+with-stored-requires c =
     let es = c.args.records.now.entries in
-    let at = reached c.args.change es c.loop-place.records.entries c.args.from c.loop-place.place c.in-Some.kept.now c.loop-place.invariant.walked c.loop-place.invariant.there
+    let at = reached c.args.change es c.loop-place.records.entries c.args.from c.loop-place.place c.in-Some.stored.now c.loop-place.invariant.walked c.loop-place.invariant.there
     c.loop-place.auto.place-fits c.loop-place-test.true c.in-Some.ensures.value in
-    reached_room c.args.change es c.loop-place.records.entries c.args.from c.loop-place.place c.in-Some.kept.now at c.requires.room
+    reached_room c.args.change es c.loop-place.records.entries c.args.from c.loop-place.place c.in-Some.stored.now at c.requires.room
 
 pub loop-place-smaller : goal.loop-place-smaller
 loop-place-smaller c =
     let es = c.args.records.now.entries in
-    let at = reached c.args.change es c.loop-place.records.entries c.args.from c.loop-place.place c.in-Some.kept.now c.loop-place.invariant.walked c.loop-place.invariant.there
+    let at = reached c.args.change es c.loop-place.records.entries c.args.from c.loop-place.place c.in-Some.stored.now c.loop-place.invariant.walked c.loop-place.invariant.there
     c.loop-place.auto.place-fits c.loop-place-test.true c.in-Some.ensures.value in
-    falls c.in-Some.kept.now.parent c.loop-place.place at.small
-    (reached_lower c.args.change es c.loop-place.records.entries c.args.from c.loop-place.place c.in-Some.kept.now at c.requires.earlier)
+    falls c.in-Some.stored.now.parent c.loop-place.place at.small
+    (reached_lower c.args.change es c.loop-place.records.entries c.args.from c.loop-place.place c.in-Some.stored.now at c.requires.earlier)
 
 pub loop-place-preserved : goal.loop-place-preserved
 loop-place-preserved c =
     let es = c.args.records.now.entries in
-    let at = reached c.args.change es c.loop-place.records.entries c.args.from c.loop-place.place c.in-Some.kept.now c.loop-place.invariant.walked c.loop-place.invariant.there
+    let at = reached c.args.change es c.loop-place.records.entries c.args.from c.loop-place.place c.in-Some.stored.now c.loop-place.invariant.walked c.loop-place.invariant.there
     c.loop-place.auto.place-fits c.loop-place-test.true c.in-Some.ensures.value in record {
-      walked = reached_walked c.args.change es c.loop-place.records.entries c.args.from c.loop-place.place c.in-Some.kept.now c.with-kept.result at c.requires.earlier c.loop-place.invariant.walked c.with-kept.ensures;
-      there = reached_there c.args.change es c.loop-place.records.entries c.args.from c.loop-place.place c.in-Some.kept.now at c.requires.earlier;
+      walked = reached_walked c.args.change es c.loop-place.records.entries c.args.from c.loop-place.place c.in-Some.stored.now c.with-stored.result at c.requires.earlier c.loop-place.invariant.walked c.with-stored.ensures;
+      there = reached_there c.args.change es c.loop-place.records.entries c.args.from c.loop-place.place c.in-Some.stored.now at c.requires.earlier;
       as_many = as_long c.loop-place.records.entries c.loop-place.place _ ∙ c.loop-place.invariant.as_many;
     }
 

@@ -7,7 +7,7 @@ use Rattle.ledger.proofs.index.certificate_for.Goals as goal
 
 pub returns-in-Some : goal.returns-in-Some
 unfolding same_table
-returns-in-Some c = ap Some c.lent.ensures ∙ sym (found_claim c.args.records.now.entries c.args.t.now c.in-Some.kept.now (sym c.get.ensures.value ∙ ap option_copied c.in-Some.is))
+returns-in-Some c = ap Some c.lent.ensures ∙ sym (found_claim c.args.records.now.entries c.args.t.now c.in-Some.stored.now (sym c.get.ensures.value ∙ ap option_copied c.in-Some.is))
 
 pub returns-in-None : goal.returns-in-None
 unfolding same_table

@@ -2,7 +2,7 @@ use Rattle.std.proofs.Common.{sym, ◌∙◌, ap}
 use Rattle.std.specs.Option.{option_copied}
 use Rattle.cert.specs.Kinds.{owned_claim}
 use Rattle.ledger.specs.Records.{same_table}
-use Rattle.ledger.specs.inside.Keeping.{records_of}
+use Rattle.ledger.specs.inside.Stored.{records_of}
 use Rattle.ledger.proofs.Entries.{found_claim, no_claim, found_pair}
 use Rattle.ledger.proofs.OpenAfter.{pair_some, pair_none, unrecorded_pair}
 use Rattle.ledger.proofs.index.pair_for.Goals as goal
@@ -11,7 +11,7 @@ pub returns-in-Some-clause-some : goal.returns-in-Some-clause-some
 unfolding same_table
 returns-in-Some-clause-some c =
     let es = c.args.records.now.entries in
-    let kept = c.in-Some.kept.now in
+    let kept = c.in-Some.stored.now in
     let found = sym c.get.ensures.value ∙ ap option_copied c.in-Some.is in
     pair_some (records_of es) c.args.t.now (owned_claim kept.certificate) kept.halts_on (found_claim es c.args.t.now kept found) (found_pair es c.args.t.now kept c.requires found)
 
@@ -19,7 +19,7 @@ pub returns-in-Some-clause-none : goal.returns-in-Some-clause-none
 unfolding same_table
 returns-in-Some-clause-none c =
     let es = c.args.records.now.entries in
-    let kept = c.in-Some.kept.now in
+    let kept = c.in-Some.stored.now in
     let found = sym c.get.ensures.value ∙ ap option_copied c.in-Some.is in
     pair_none (records_of es) c.args.t.now (owned_claim kept.certificate) kept.halts_on (found_claim es c.args.t.now kept found) (found_pair es c.args.t.now kept c.requires found)
 

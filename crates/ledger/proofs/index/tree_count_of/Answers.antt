@@ -1,13 +1,13 @@
 use Rattle.std.proofs.Common.{option_map, sym, ◌∙◌, ap}
 use Rattle.std.specs.Option.{option_copied}
 use Rattle.ledger.specs.Records.{same_table}
-use Rattle.ledger.specs.declared.kept.Kept.{Kept}
+use Rattle.ledger.specs.declared.stored_record.StoredRecord.{StoredRecord}
 use Rattle.ledger.proofs.index.tree_count_of.Goals as goal
 
 pub returns-in-Some : goal.returns-in-Some
 unfolding same_table
-returns-in-Some c = ap (option_map (λ (k : Kept). k.tree)) (sym (sym c.get.ensures.value ∙ ap option_copied c.in-Some.is))
+returns-in-Some c = ap (option_map (λ (k : StoredRecord). k.tree)) (sym (sym c.get.ensures.value ∙ ap option_copied c.in-Some.is))
 
 pub returns-in-None : goal.returns-in-None
 unfolding same_table
-returns-in-None c = ap (option_map (λ (k : Kept). k.tree)) (sym (sym c.get.ensures.value ∙ ap option_copied c.in-None.is))
+returns-in-None c = ap (option_map (λ (k : StoredRecord). k.tree)) (sym (sym c.get.ensures.value ∙ ap option_copied c.in-None.is))

@@ -7,7 +7,7 @@ use Rattle.ledger.proofs.index.verdict_in.Goals as goal
 pub returns-in-Some : goal.returns-in-Some
 unfolding same_table
 returns-in-Some c =
-    c.verdict.ensures ∙ ap shown_where (sym (found_claim c.args.records.now.entries c.args.t.now c.in-Some.kept.now (sym c.get.ensures.value ∙ ap option_copied c.in-Some.is)))
+    c.verdict.ensures ∙ ap shown_where (sym (found_claim c.args.records.now.entries c.args.t.now c.in-Some.stored.now (sym c.get.ensures.value ∙ ap option_copied c.in-Some.is)))
 
 pub returns-in-None : goal.returns-in-None
 unfolding same_table

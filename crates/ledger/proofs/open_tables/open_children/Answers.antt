@@ -3,7 +3,7 @@ use Rattle.cert.specs.Claim.{shown_by}
 use Rattle.cert.specs.Certified.{IsPairOf}
 use Rattle.cert.specs.Kinds.{claim_of, recorded}
 use Rattle.machine_text.specs.declared.transition.Pair.{Pair}
-use Rattle.ledger.specs.inside.Keeping.{records_of}
+use Rattle.ledger.specs.inside.Stored.{records_of}
 use Rattle.ledger.proofs.OpenAfter.{pair_halts, new_children, on_ok}
 use Rattle.ledger.proofs.Openers.{none_at}
 use Rattle.ledger.proofs.open_tables.open_children.Goals as goal

@@ -10,7 +10,7 @@ returns-clause-ok c =
     let found = c.in_ok-append_head.ensures.ok in
     let head = found.1 in
     let champions = into_iter_items c.in_ok-champions.champions in
-    let holdouts = into_iter_items c.in_ok-holdouts.holdouts in
+    let holdouts = into_iter_items c.in_ok-champions.holdouts in
     on_ok c.append_tables-2.result (λ last. (
       report_text c.args.board.now.root head.status head.tally champions holdouts,
       record {
@@ -20,8 +20,8 @@ returns-clause-ok c =
         holdouts = holdouts;
         stands = head.stands;
         counted = head.counted;
-        are_champions = c.in_ok-champions.ensures head.tally.best head.counted.best;
-        are_holdouts = c.in_ok-holdouts.ensures;
+        are_champions = c.in_ok-champions.ensures.champions head.tally.best head.counted.best;
+        are_holdouts = c.in_ok-champions.ensures.holdouts;
         is = refl;
       },
       joined c.args.out.now.items c.append_head.new.out.items c.append_tables.new.out.items c.append_tables-2.new.out.items

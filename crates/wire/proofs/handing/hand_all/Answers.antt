@@ -1,7 +1,7 @@
 use Rattle.std.proofs.Common.{◌∙◌, sym, subst, ap, List}
 use Rattle.std.proofs.lemmas.Result.{err_from_is_err_and}
 use Rattle.wire.specs.Carried.{Handed, scene}
-use Rattle.text.specs.Lines.{Kept}
+use Rattle.text.specs.Lines.{BoundedLine}
 use Rattle.wire.specs.Lines.{Stream, known}
 use Rattle.wire.specs.Turned.{event_of, events_of}
 use Rattle.wire.proofs.Replies.{handed_more}
@@ -16,7 +16,7 @@ lines-preserved g c =
     let waits = ap (λ (s : Stream). s.waiting) took in
     let done = c.in_ok-hand.ensures.ok in
     let before =
-    subst (λ (w : List Kept). Handed g.N.Node.answers old (events_of c.args.lines.now.waiting) (events_of w) at)
+    subst (λ (w : List BoundedLine). Handed g.N.Node.answers old (events_of c.args.lines.now.waiting) (events_of w) at)
     waits c.lines.invariant.handed in
     record {
       handed =
@@ -37,7 +37,7 @@ returns-in_err-hand-clause-err g c =
     let took = c.in-Some.ensures.some in
     let waits = ap (λ (s : Stream). s.waiting) took in
     let before =
-    subst (λ (w : List Kept). Handed g.N.Node.answers old (events_of c.args.lines.now.waiting) (events_of w) at)
+    subst (λ (w : List BoundedLine). Handed g.N.Node.answers old (events_of c.args.lines.now.waiting) (events_of w) at)
     waits c.lines.invariant.handed in
     rw (p.1, p.2) (
       record { event = event_of (known c.in-Some.line); at = at; before = before; faulted = c.in_err-hand.ensures.err },

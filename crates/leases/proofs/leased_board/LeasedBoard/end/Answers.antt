@@ -7,7 +7,7 @@ use Rattle.leases.proofs.leased_board.LeasedBoard.end.Goals as goal
 pub invariant_of-self-2 : goal.invariant_of-self-2
 invariant_of-self-2 c = (
   ended_holds c.self.inside.board (λ l. nat_eq l.number c.args.number) c.self.inside.live c.self.inside.live c.end.new.self c.self.inside.came_under.entries c.self.inside.came_under.entries
-      c.self.inside.free.tables c.offer_tables.new.free.tables c.self.inside.moment c.self.inside.given refl refl c.end.ensures c.in_ok-offer_tables.ensures.more c.in_ok-offer_tables.ensures.ok c.self.invariant.0,
+      c.self.inside.free.tables c.free_tables_of.new.free.tables c.self.inside.moment c.self.inside.given refl refl c.end.ensures c.in_ok-free_tables_of.ensures.more c.in_ok-free_tables_of.ensures.ok c.self.invariant.0,
   without_not_ahead (Some c.args.number) c.self.inside.moment c.self.inside.live c.end.new.self c.end.ensures c.self.invariant.1,
 )
 

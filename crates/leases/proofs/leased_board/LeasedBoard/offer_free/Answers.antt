@@ -6,7 +6,7 @@ use Rattle.ledger.specs.Records.{same_table}
 use Rattle.ledger.specs.declared.faults.OfferFault.TheVariants.{NoMemory}
 use Rattle.leases.specs.Leases.{Leased, AreLeases, lease_of}
 use Rattle.leases.specs.Offers.{TakesNew, TakesSettled}
-use Rattle.leases.specs.inside.Keeping.{as_leases, IsKept}
+use Rattle.leases.specs.inside.Stored.{as_leases, AreStored}
 use Rattle.leases.proofs.ChildLaws.{Opens, opens_new, opens_settled}
 use Rattle.leases.proofs.OfferLaws.{KeepsAll}
 use Rattle.leases.proofs.Offering.{err_is, GoesOut, same_board, refused_board, holdout_not_open, free_new_leases, free_new_kept, free_new_takes, settled_leases, settled_kept, settled_takes}
@@ -18,8 +18,8 @@ returns-in_err-reserve-clause-gives c = inr (err_is c.from_residual.result NoMem
 pub invariant_of-self-in-Err : goal.invariant_of-self-in-Err
 invariant_of-self-in-Err c =
     let same = same_board c.offer.new.self c.self.inside.board c.in-Err.ensures.root (refused_board c.self.inside.board.root c.self.inside.board.records c.offer.new.self.records (recorded c.args.r.now) c.in-Err.fault c.in-Err.ensures.gives) in (
-      subst (λ (b : Contents). AreLeases b (as_leases c.self.inside.live c.self.inside.came_under.entries c.self.inside.moment c.self.inside.given) × IsKept b c.self.inside.live c.self.inside.came_under.entries c.reserve.new.self.tables) (sym same)
-          (subst (λ (free : List Packed). AreLeases c.self.inside.board (as_leases c.self.inside.live c.self.inside.came_under.entries c.self.inside.moment c.self.inside.given) × IsKept c.self.inside.board c.self.inside.live c.self.inside.came_under.entries free) (sym c.in_ok-reserve.ensures.tables) c.self.invariant.0),
+      subst (λ (b : Contents). AreLeases b (as_leases c.self.inside.live c.self.inside.came_under.entries c.self.inside.moment c.self.inside.given) × AreStored b c.self.inside.live c.self.inside.came_under.entries c.reserve.new.self.tables) (sym same)
+          (subst (λ (free : List Packed). AreLeases c.self.inside.board (as_leases c.self.inside.live c.self.inside.came_under.entries c.self.inside.moment c.self.inside.given) × AreStored c.self.inside.board c.self.inside.live c.self.inside.came_under.entries free) (sym c.in_ok-reserve.ensures.tables) c.self.invariant.0),
       c.self.invariant.1,
     )
 

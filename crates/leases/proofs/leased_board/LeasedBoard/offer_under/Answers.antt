@@ -8,7 +8,7 @@ use Rattle.ledger.specs.declared.faults.OfferFault.{OfferFault}
 use Rattle.ledger.specs.declared.faults.OfferFault.TheVariants.{NoMemory}
 use Rattle.leases.specs.Leases.{Lease, Leases, Leased, AreLeases, came_under, is_live, lease_of}
 use Rattle.leases.specs.Offers.{TakesNew, LeasesAfter}
-use Rattle.leases.specs.inside.Keeping.{KeptLease, as_lease, as_leases, IsKept}
+use Rattle.leases.specs.inside.Stored.{StoredLease, as_lease, as_leases, AreStored}
 use Rattle.leases.specs.inside.Children.{RenewsOne, shown}
 use Rattle.leases.proofs.ChildLaws.{Opens, opens_new}
 use Rattle.leases.proofs.Offering.{GoesOut, err_is, same_board, refused_board, same_held, holds_shown, seen_shown, while_lives, under_new_leases, under_new_kept, under_new_takes}
@@ -69,7 +69,7 @@ invariant_of-self-in-Ok-New c =
     let put : RenewsOne new t c.args.number moment ls c.renew.new.self mid next = c.renew.ensures in
     let at = put.0 in
     let l = put.1 in (
-      subst (λ (xs : List KeptLease). AreLeases new (as_leases xs next moment given) × IsKept new xs next free) (sym put.4) (
+      subst (λ (xs : List StoredLease). AreLeases new (as_leases xs next moment given) × AreStored new xs next free) (sym put.4) (
         under_new_leases old new ls at l came mid next free moment given c.args.number t opens holds.0 holds.1 put.2 out put.3 put.5,
         under_new_kept old new ls at l came mid next free moment given c.args.number t opens holds.0 holds.1 put.2 out put.3 put.5,
       ),
@@ -93,7 +93,7 @@ invariant_of-self-in-Err c =
     let same : map shown ls ≡ map shown first = c.make_room.ensures.shown in
     let same_came : came ≡ before = c.in_ok-reserve.ensures.entries in
     let same_now = same_board c.offer.new.self old c.in-Err.ensures.root (refused_board old.root old.records c.offer.new.self.records (recorded c.args.r.now) c.in-Err.fault c.in-Err.ensures.gives) in (
-      subst (λ (b : Contents). AreLeases b (as_leases ls came moment given) × IsKept b ls came free) (sym same_now) (holds_shown old first ls before came free moment given same same_came c.self.invariant.0),
+      subst (λ (b : Contents). AreLeases b (as_leases ls came moment given) × AreStored b ls came free) (sym same_now) (holds_shown old first ls before came free moment given same same_came c.self.invariant.0),
       shown_not_ahead moment first ls same c.self.invariant.1,
     )
 
@@ -125,7 +125,7 @@ returns-in-Ok-New-clause-leases c =
     let was : as_leases ls came moment given ≡ as_leases first before moment given = seen_shown first ls before came moment given same same_came in
     let takes = under_new_takes old new ls at l came mid next free moment given c.args.number t opens holds.0 holds.1 put.2 out put.3 put.5 (subst (λ (s : Leases). lease_of s t ≡ Some c.args.number) (sym was) under) in
     let from_first = subst (λ (s : Leases). TakesNew t (record { board = old; leases = s }) (record { board = new; leases = as_leases (set ls at l) next moment given })) was takes in
-    let to_last = subst (λ (xs : List KeptLease). TakesNew t (record { board = old; leases = as_leases first before moment given }) (record { board = new; leases = as_leases xs next moment given })) (sym put.4) from_first in
+    let to_last = subst (λ (xs : List StoredLease). TakesNew t (record { board = old; leases = as_leases first before moment given }) (record { board = new; leases = as_leases xs next moment given })) (sym put.4) from_first in
     subst (λ (s : Leased). TakesNew t s (record { board = new; leases = as_leases c.renew.new.self next moment given })) c.self.view_is to_last
 
 pub returns-in-Err-clause-leases : goal.returns-in-Err-clause-leases

@@ -1,5 +1,5 @@
 use Rattle.std.proofs.Common.{sym, ◌∙◌, ap, map}
-use Rattle.leases.specs.inside.Keeping.{kept_lease, without}
+use Rattle.leases.specs.inside.Stored.{stored_lease, without}
 use Rattle.leases.proofs.LiveLaws.{without_none, removed_is, workers_removed, workers_missing}
 use Rattle.leases.proofs.DeadlineLaws.{ended_awaited}
 use Rattle.leases.proofs.live_leases.LiveLeases.end.Goals as goal
@@ -23,10 +23,10 @@ invariant_of-self-in_default-remove c = (
 
 pub returns-in-Some-remove : goal.returns-in-Some-remove
 returns-in-Some-remove c =
-    ap (map kept_lease) c.remove.ensures.entries ∙ (removed_is c.in-Some.number c.self.inside.leases.entries c.self.invariant.0
-    ∙ (ap (λ which. without which (map kept_lease c.self.inside.leases.entries)) (sym c.in-Some.is) ∙ ap (without c.args.which) c.self.view_is))
+    ap (map stored_lease) c.remove.ensures.entries ∙ (removed_is c.in-Some.number c.self.inside.leases.entries c.self.invariant.0
+    ∙ (ap (λ which. without which (map stored_lease c.self.inside.leases.entries)) (sym c.in-Some.is) ∙ ap (without c.args.which) c.self.view_is))
 
 pub returns-in_default-remove : goal.returns-in_default-remove
 returns-in_default-remove c =
-    ap (map kept_lease) c.remove.ensures.entries ∙ (removed_is c.in-Some.number c.self.inside.leases.entries c.self.invariant.0
-    ∙ (ap (λ which. without which (map kept_lease c.self.inside.leases.entries)) (sym c.in-Some.is) ∙ ap (without c.args.which) c.self.view_is))
+    ap (map stored_lease) c.remove.ensures.entries ∙ (removed_is c.in-Some.number c.self.inside.leases.entries c.self.invariant.0
+    ∙ (ap (λ which. without which (map stored_lease c.self.inside.leases.entries)) (sym c.in-Some.is) ∙ ap (without c.args.which) c.self.view_is))

@@ -5,7 +5,7 @@ use Rattle.std.specs.BTreeMap.{BTreeMap, IsOrdered, get}
 use Rattle.std.proofs.Math.Seq.{map-set_same}
 use Rattle.indexmap.specs.IndexMap.{get as number_of}
 use Rattle.machine_text.specs.Packed.{Packed}
-use Rattle.leases.specs.inside.Keeping.{kept_lease, as_lease, AreOfWorkers}
+use Rattle.leases.specs.inside.Stored.{stored_lease, as_lease, AreOfWorkers}
 use Rattle.leases.specs.inside.Children.{HasRoomForChildren, shown}
 use Rattle.leases.specs.inside.Deadlines.{AreAwaited}
 use Rattle.leases.specs.declared.held_leases.HeldLease.{HeldLease}
@@ -19,7 +19,7 @@ invariant_of-self c =
 
 pub returns-in_default-clause-ok : goal.returns-in_default-clause-ok
 returns-in_default-clause-ok c =
-    subst (λ (m : BTreeMap ℕ HeldLease). HasRoomForChildren c.args.number (map kept_lease m.entries)) (sym c.get_mut.follows.holds-at-none)
+    subst (λ (m : BTreeMap ℕ HeldLease). HasRoomForChildren c.args.number (map stored_lease m.entries)) (sym c.get_mut.follows.holds-at-none)
     (room_none c.args.number c.self.inside.leases c.self.invariant.0 (sym c.get_mut.ensures.value ∙ ap option_copied_mut c.in_default.is))
 
 pub invariant_of-self-2 : goal.invariant_of-self-2
@@ -41,8 +41,8 @@ returns-clause-shown c =
     let es = c.self.inside.leases.entries in
     let place = set_place n v w es (sym c.get_mut.ensures.value ∙ ap option_copied_mut c.in-Some.is) in
     let writes = c.get_mut.follows.holds w in
-    ap (map shown) (ap (map kept_lease) writes.0 ∙ place.3)
-    ∙ (map-set_same shown (map kept_lease es) place.0 (kept_lease (n, w)) (kept_lease (n, w)) (ap (λ (ts : List Packed). (as_lease (kept_lease (n, v)), ts)) c.reserve.ensures.keys ∙ ap shown (sym place.2)) ∙ ap (map shown) c.self.view_is)
+    ap (map shown) (ap (map stored_lease) writes.0 ∙ place.3)
+    ∙ (map-set_same shown (map stored_lease es) place.0 (stored_lease (n, w)) (stored_lease (n, w)) (ap (λ (ts : List Packed). (as_lease (stored_lease (n, v)), ts)) c.reserve.ensures.keys ∙ ap shown (sym place.2)) ∙ ap (map shown) c.self.view_is)
 
 pub returns-clause-ok : goal.returns-clause-ok
 returns-clause-ok c =

@@ -7,7 +7,7 @@ use Rattle.leases.specs.declared.held_leases.HeldLease.{HeldLease}
 use Rattle.std.specs.Map.{lookup}
 use Rattle.leases.specs.inside.Deadlines.{AreAwaited}
 use Rattle.std.specs.declared.cmp.Reverse.{Reverse}
-use Rattle.leases.specs.inside.Keeping.{KeptLease, kept_lease, without, is_numbered, AreOfWorkers, IsOwn}
+use Rattle.leases.specs.inside.Stored.{StoredLease, stored_lease, without, is_numbered, AreOfWorkers, IsOwn}
 use Rattle.leases.proofs.LiveLaws.{at_number, added_last, without_last, fresh_at, not_own, owned, own_one, workers_replaced}
 use Rattle.leases.proofs.DeadlineLaws.{replaced_awaited}
 use Rattle.leases.proofs.live_leases.LiveLeases.replace.Goals as goal
@@ -37,11 +37,11 @@ invariant_of-self-2 c =
     let m = c.self.inside.leases in
     let n = c.args.number in
     let v = c.args.lease in
-    let last = subst (All (λ (l : KeptLease). l.number < n)) (sym c.self.view_is) c.requires.last in
+    let last = subst (All (λ (l : StoredLease). l.number < n)) (sym c.self.view_is) c.requires.last in
     let own = subst (IsOwn v.id c.args.own) (sym c.self.view_is) c.requires.own in (
       c.take_out.ensures.ordered,
       workers_replaced (number_of nat_eq c.self.inside.of_worker) _ (get nat_cmp m) _ c.args.own n v c.self.invariant.1 (fresh_at n m.entries last)
-          (own_one v.id c.args.own m own) (owned v.id c.args.own m own) (not_own v.id c.args.own n (map kept_lease m.entries) own last)
+          (own_one v.id c.args.own m own) (owned v.id c.args.own m own) (not_own v.id c.args.own n (map stored_lease m.entries) own last)
           (λ q. c.take_out.ensures.at q ∙ ap (cond (is_numbered c.args.own q) None) (c.in_ok-insert.ensures.updates.0 q ∙ ap (λ b. cond b (Some v) (get nat_cmp m q)) (at_number n q)))
           (λ q. c.in-Ok.ensures.updates.0 q ∙ ap (λ (es : List (ℕ × ℕ)). cond (nat_eq v.id q) (Some n) (lookup (nat_eq q) es)) c.reserve.ensures.entries),
       replaced_awaited c.reserve_one.new.self.entries c.push.new.self.entries c.args.own n v (get nat_cmp m) _ c.push.ensures.entries
@@ -54,8 +54,8 @@ returns-clause-ok c =
     let es = c.self.inside.leases.entries in
     let n = c.args.number in
     let v = c.args.lease in
-    let last = subst (All (λ (l : KeptLease). l.number < n)) (sym c.self.view_is) c.requires.last in
+    let last = subst (All (λ (l : StoredLease). l.number < n)) (sym c.self.view_is) c.requires.last in
     let own = subst (IsOwn v.id c.args.own) (sym c.self.view_is) c.requires.own in
-    c.take_out.ensures.kept ∙ (ap (λ es. without c.args.own (map kept_lease es)) (c.in_ok-insert.ensures.entries ∙ added_last n v es last)
-    ∙ (ap (without c.args.own) (map-append kept_lease es ((n, v) ∷ [])) ∙ (without_last c.args.own (map kept_lease es) (kept_lease (n, v)) (not_own v.id c.args.own n (map kept_lease es) own last)
-    ∙ ap (λ ls. without c.args.own ls ++ (kept_lease (n, v) ∷ [])) c.self.view_is)))
+    c.take_out.ensures.kept ∙ (ap (λ es. without c.args.own (map stored_lease es)) (c.in_ok-insert.ensures.entries ∙ added_last n v es last)
+    ∙ (ap (without c.args.own) (map-append stored_lease es ((n, v) ∷ [])) ∙ (without_last c.args.own (map stored_lease es) (stored_lease (n, v)) (not_own v.id c.args.own n (map stored_lease es) own last)
+    ∙ ap (λ ls. without c.args.own ls ++ (stored_lease (n, v) ∷ [])) c.self.view_is)))

@@ -5,12 +5,12 @@ use Rattle.cert.specs.Kinds.{recorded}
 use Rattle.ledger.specs.Records.{same_table}
 use Rattle.ledger.specs.Held.{IsHoldout, Settles, settled}
 use Rattle.ledger.specs.Contents.{Contents, IsBoard}
-use Rattle.ledger.specs.inside.Keeping.{records_of}
+use Rattle.ledger.specs.inside.Stored.{records_of}
 use Rattle.ledger.specs.inside.Counting.{is_halting, with_shown, without_holdout}
 use Rattle.ledger.specs.inside.Carrying.{settling_change, AreCarried, ChainMayChange}
 use Rattle.ledger.specs.declared.tree_count.TreeChange.{TreeChange}
 use Rattle.ledger.specs.declared.tree_count.TreeCount.{TreeCount}
-use Rattle.ledger.proofs.Boards.{holdouts_place, numbers_fit, kept_settled, records_settled, holdout_counted}
+use Rattle.ledger.proofs.Boards.{holdouts_place, numbers_fit, stored_settled, records_settled, holdout_counted}
 use Rattle.ledger.proofs.Carried.{settling_carried, settling_room}
 use Rattle.ledger.proofs.Entries.{an_entry}
 use Rattle.ledger.proofs.Indexed.{ready_earlier, ready_records, ready_there}
@@ -63,11 +63,11 @@ carry_up-requires-clause-there c =
     let es = c.self.inside.records.entries in
     let r = recorded c.args.r.now in
     let holdout = subst (λ (b : Contents). IsHoldout b.records c.args.r.now.table) (sym c.self.view_is) c.requires.holdout in
-    let settles : Settles (records_of es) r = record { is_holdout = holdout; verdict = c.requires.verdict; certified = c.in_ok-kept.ensures.certified } in
+    let settles : Settles (records_of es) r = record { is_holdout = holdout; verdict = c.requires.verdict; certified = c.in_ok-stored.ensures.certified } in
     let there = subst (λ i. (x : Recorded) × (slice_get (records_of es) i ≡ Some x) × (x.table ≡ c.args.r.now.table) × (is_halting x ≡ false)) (sym c.in_ok-place.ensures.is) c.place_of-found.ensures.place in
-    let old = c.kept_of_holdout-parent.ensures in
-    let ready = ready_settled root es c.insert.new.self.entries r there.0 c.in_ok-kept.kept old.0 c.in_ok-place.place c.self.invariant.0 c.self.invariant.4 settles c.in_ok-kept.ensures.claim old.1
-    (c.in_ok-kept.ensures.parent ∙ ap (λ (p : ℕ × TreeCount). p.0) old.2) (c.in_ok-kept.ensures.tree ∙ ap (λ (p : ℕ × TreeCount). p.1) old.2) c.in-Ok.ensures.entries there.1 there.2 c.in_ok-place.ensures.small in
+    let old = c.place_and_count_of-parent.ensures in
+    let ready = ready_settled root es c.insert.new.self.entries r there.0 c.in_ok-stored.stored old.0 c.in_ok-place.place c.self.invariant.0 c.self.invariant.4 settles c.in_ok-stored.ensures.claim old.1
+    (c.in_ok-stored.ensures.parent ∙ ap (λ (p : ℕ × TreeCount). p.0) old.2) (c.in_ok-stored.ensures.tree ∙ ap (λ (p : ℕ × TreeCount). p.1) old.2) c.in-Ok.ensures.entries there.1 there.2 c.in_ok-place.ensures.small in
     ready_there root (records_of es) c.insert.new.self.entries r c.in_ok-place.place ready
 
 pub carry_up-requires-clause-earlier : goal.carry_up-requires-clause-earlier
@@ -77,11 +77,11 @@ carry_up-requires-clause-earlier c =
     let es = c.self.inside.records.entries in
     let r = recorded c.args.r.now in
     let holdout = subst (λ (b : Contents). IsHoldout b.records c.args.r.now.table) (sym c.self.view_is) c.requires.holdout in
-    let settles : Settles (records_of es) r = record { is_holdout = holdout; verdict = c.requires.verdict; certified = c.in_ok-kept.ensures.certified } in
+    let settles : Settles (records_of es) r = record { is_holdout = holdout; verdict = c.requires.verdict; certified = c.in_ok-stored.ensures.certified } in
     let there = subst (λ i. (x : Recorded) × (slice_get (records_of es) i ≡ Some x) × (x.table ≡ c.args.r.now.table) × (is_halting x ≡ false)) (sym c.in_ok-place.ensures.is) c.place_of-found.ensures.place in
-    let old = c.kept_of_holdout-parent.ensures in
-    let ready = ready_settled root es c.insert.new.self.entries r there.0 c.in_ok-kept.kept old.0 c.in_ok-place.place c.self.invariant.0 c.self.invariant.4 settles c.in_ok-kept.ensures.claim old.1
-    (c.in_ok-kept.ensures.parent ∙ ap (λ (p : ℕ × TreeCount). p.0) old.2) (c.in_ok-kept.ensures.tree ∙ ap (λ (p : ℕ × TreeCount). p.1) old.2) c.in-Ok.ensures.entries there.1 there.2 c.in_ok-place.ensures.small in
+    let old = c.place_and_count_of-parent.ensures in
+    let ready = ready_settled root es c.insert.new.self.entries r there.0 c.in_ok-stored.stored old.0 c.in_ok-place.place c.self.invariant.0 c.self.invariant.4 settles c.in_ok-stored.ensures.claim old.1
+    (c.in_ok-stored.ensures.parent ∙ ap (λ (p : ℕ × TreeCount). p.0) old.2) (c.in_ok-stored.ensures.tree ∙ ap (λ (p : ℕ × TreeCount). p.1) old.2) c.in-Ok.ensures.entries there.1 there.2 c.in_ok-place.ensures.small in
     ready_earlier root (records_of es) c.insert.new.self.entries r c.in_ok-place.place ready
 
 pub carry_up-requires-clause-room : goal.carry_up-requires-clause-room
@@ -91,11 +91,11 @@ carry_up-requires-clause-room c =
     let es = c.self.inside.records.entries in
     let r = recorded c.args.r.now in
     let holdout = subst (λ (b : Contents). IsHoldout b.records c.args.r.now.table) (sym c.self.view_is) c.requires.holdout in
-    let settles : Settles (records_of es) r = record { is_holdout = holdout; verdict = c.requires.verdict; certified = c.in_ok-kept.ensures.certified } in
+    let settles : Settles (records_of es) r = record { is_holdout = holdout; verdict = c.requires.verdict; certified = c.in_ok-stored.ensures.certified } in
     let there = subst (λ i. (x : Recorded) × (slice_get (records_of es) i ≡ Some x) × (x.table ≡ c.args.r.now.table) × (is_halting x ≡ false)) (sym c.in_ok-place.ensures.is) c.place_of-found.ensures.place in
-    let old = c.kept_of_holdout-parent.ensures in
-    let ready = ready_settled root es c.insert.new.self.entries r there.0 c.in_ok-kept.kept old.0 c.in_ok-place.place c.self.invariant.0 c.self.invariant.4 settles c.in_ok-kept.ensures.claim old.1
-    (c.in_ok-kept.ensures.parent ∙ ap (λ (p : ℕ × TreeCount). p.0) old.2) (c.in_ok-kept.ensures.tree ∙ ap (λ (p : ℕ × TreeCount). p.1) old.2) c.in-Ok.ensures.entries there.1 there.2 c.in_ok-place.ensures.small in
+    let old = c.place_and_count_of-parent.ensures in
+    let ready = ready_settled root es c.insert.new.self.entries r there.0 c.in_ok-stored.stored old.0 c.in_ok-place.place c.self.invariant.0 c.self.invariant.4 settles c.in_ok-stored.ensures.claim old.1
+    (c.in_ok-stored.ensures.parent ∙ ap (λ (p : ℕ × TreeCount). p.0) old.2) (c.in_ok-stored.ensures.tree ∙ ap (λ (p : ℕ × TreeCount). p.1) old.2) c.in-Ok.ensures.entries there.1 there.2 c.in_ok-place.ensures.small in
     let change = c.of_settling.ensures ∙ ap (settling_change c.child_count-opened.result) c.verdict-shown.ensures in
     subst (ChainMayChange c.insert.new.self.entries c.in_ok-place.place) (sym change)
     (settling_room root es c.insert.new.self.entries r c.in_ok-place.place c.self.invariant.0 ready c.child_count-opened.result c.child_count-opened.ensures.number
@@ -109,19 +109,19 @@ invariant_of-self-2 c =
     let es = c.self.inside.records.entries in
     let r = recorded c.args.r.now in
     let holdout = subst (λ (b : Contents). IsHoldout b.records c.args.r.now.table) (sym c.self.view_is) c.requires.holdout in
-    let settles : Settles (records_of es) r = record { is_holdout = holdout; verdict = c.requires.verdict; certified = c.in_ok-kept.ensures.certified } in
+    let settles : Settles (records_of es) r = record { is_holdout = holdout; verdict = c.requires.verdict; certified = c.in_ok-stored.ensures.certified } in
     let there = subst (λ i. (x : Recorded) × (slice_get (records_of es) i ≡ Some x) × (x.table ≡ c.args.r.now.table) × (is_halting x ≡ false)) (sym c.in_ok-place.ensures.is) c.place_of-found.ensures.place in
-    let old = c.kept_of_holdout-parent.ensures in
-    let ready = ready_settled root es c.insert.new.self.entries r there.0 c.in_ok-kept.kept old.0 c.in_ok-place.place c.self.invariant.0 c.self.invariant.4 settles c.in_ok-kept.ensures.claim old.1
-    (c.in_ok-kept.ensures.parent ∙ ap (λ (p : ℕ × TreeCount). p.0) old.2) (c.in_ok-kept.ensures.tree ∙ ap (λ (p : ℕ × TreeCount). p.1) old.2) c.in-Ok.ensures.entries there.1 there.2 c.in_ok-place.ensures.small in
+    let old = c.place_and_count_of-parent.ensures in
+    let ready = ready_settled root es c.insert.new.self.entries r there.0 c.in_ok-stored.stored old.0 c.in_ok-place.place c.self.invariant.0 c.self.invariant.4 settles c.in_ok-stored.ensures.claim old.1
+    (c.in_ok-stored.ensures.parent ∙ ap (λ (p : ℕ × TreeCount). p.0) old.2) (c.in_ok-stored.ensures.tree ∙ ap (λ (p : ℕ × TreeCount). p.1) old.2) c.in-Ok.ensures.entries there.1 there.2 c.in_ok-place.ensures.small in
     let change = c.of_settling.ensures ∙ ap (settling_change c.child_count-opened.result) c.verdict-shown.ensures in
     rw (c.with-self-inside.ensures, c.without_holdout.ensures, c.verdict-shown.ensures)
     (settling_carried root es c.insert.new.self.entries r c.in_ok-place.place c.self.invariant.0 ready c.child_count-opened.result c.child_count-opened.ensures.number
     c.carry_up.new.records.entries c.open_children.new.tables (with_shown (without_holdout c.self.inside.counts) (shown_by r.claim)) holdout c.requires.verdict
     (subst (λ (h : TreeChange). AreCarried h c.insert.new.self.entries c.in_ok-place.place c.carry_up.new.records.entries) change c.carry_up.ensures.carried) c.carry_up.ensures.length
-    (kept_settled root es c.insert.new.self.entries r c.in_ok-kept.kept c.in_ok-place.place c.self.inside.open_tables c.open_children.new.tables c.self.inside.counts
+    (stored_settled root es c.insert.new.self.entries r c.in_ok-stored.stored c.in_ok-place.place c.self.inside.open_tables c.open_children.new.tables c.self.inside.counts
     (c.self.invariant.0, c.self.invariant.1, c.self.invariant.2, c.self.invariant.3) settles
-    c.in_ok-kept.ensures.claim c.in_ok-kept.ensures.pair c.in-Ok.ensures.entries there
+    c.in_ok-stored.ensures.claim c.in_ok-stored.ensures.pair c.in-Ok.ensures.entries there
     c.in_ok-open_children.ensures.ok c.in_ok-open_children.ensures.others c.in_ok-open_children.ensures.children c.in_ok-open_children.ensures.none))
 
 pub returns-clause-ok : goal.returns-clause-ok
@@ -131,14 +131,14 @@ returns-clause-ok c =
     let es = c.self.inside.records.entries in
     let r = recorded c.args.r.now in
     let holdout = subst (λ (b : Contents). IsHoldout b.records c.args.r.now.table) (sym c.self.view_is) c.requires.holdout in
-    let settles : Settles (records_of es) r = record { is_holdout = holdout; verdict = c.requires.verdict; certified = c.in_ok-kept.ensures.certified } in
+    let settles : Settles (records_of es) r = record { is_holdout = holdout; verdict = c.requires.verdict; certified = c.in_ok-stored.ensures.certified } in
     let there = subst (λ i. (x : Recorded) × (slice_get (records_of es) i ≡ Some x) × (x.table ≡ c.args.r.now.table) × (is_halting x ≡ false)) (sym c.in_ok-place.ensures.is) c.place_of-found.ensures.place in
-    let old = c.kept_of_holdout-parent.ensures in
-    let ready = ready_settled root es c.insert.new.self.entries r there.0 c.in_ok-kept.kept old.0 c.in_ok-place.place c.self.invariant.0 c.self.invariant.4 settles c.in_ok-kept.ensures.claim old.1
-    (c.in_ok-kept.ensures.parent ∙ ap (λ (p : ℕ × TreeCount). p.0) old.2) (c.in_ok-kept.ensures.tree ∙ ap (λ (p : ℕ × TreeCount). p.1) old.2) c.in-Ok.ensures.entries there.1 there.2 c.in_ok-place.ensures.small in (
+    let old = c.place_and_count_of-parent.ensures in
+    let ready = ready_settled root es c.insert.new.self.entries r there.0 c.in_ok-stored.stored old.0 c.in_ok-place.place c.self.invariant.0 c.self.invariant.4 settles c.in_ok-stored.ensures.claim old.1
+    (c.in_ok-stored.ensures.parent ∙ ap (λ (p : ℕ × TreeCount). p.0) old.2) (c.in_ok-stored.ensures.tree ∙ ap (λ (p : ℕ × TreeCount). p.1) old.2) c.in-Ok.ensures.entries there.1 there.2 c.in_ok-place.ensures.small in (
       refl,
-      record { is_holdout = c.requires.holdout; verdict = c.requires.verdict; certified = c.in_ok-kept.ensures.certified },
+      record { is_holdout = c.requires.holdout; verdict = c.requires.verdict; certified = c.in_ok-stored.ensures.certified },
       ready_records root (records_of es) c.insert.new.self.entries r c.in_ok-place.place ready c.of_settling.result c.carry_up.new.records.entries c.carry_up.ensures.carried c.carry_up.ensures.length
-          ∙ (records_settled es c.insert.new.self.entries r c.in_ok-kept.kept c.in_ok-kept.ensures.claim holdout c.in-Ok.ensures.entries
+          ∙ (records_settled es c.insert.new.self.entries r c.in_ok-stored.stored c.in_ok-stored.ensures.claim holdout c.in-Ok.ensures.entries
           ∙ ap (λ (b : Contents). settled b.records r) c.self.view_is),
     )

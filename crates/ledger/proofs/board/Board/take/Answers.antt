@@ -5,13 +5,13 @@ use Rattle.cert.specs.Claim.{Recorded, shown_by}
 use Rattle.cert.specs.Kinds.{recorded}
 use Rattle.ledger.specs.Records.{same_table, mark_in}
 use Rattle.ledger.specs.Contents.{Contents, IsBoard}
-use Rattle.ledger.specs.inside.Keeping.{records_of}
+use Rattle.ledger.specs.inside.Stored.{records_of}
 use Rattle.ledger.specs.inside.Counting.{with_shown}
 use Rattle.ledger.specs.inside.Open.{IsOpener}
 use Rattle.ledger.specs.inside.Carrying.{taking_change, AreCarried, ChainMayChange}
-use Rattle.ledger.specs.declared.kept.Kept.{Kept}
+use Rattle.ledger.specs.declared.stored_record.StoredRecord.{StoredRecord}
 use Rattle.ledger.specs.declared.tree_count.TreeChange.{TreeChange}
-use Rattle.ledger.proofs.Boards.{next_place, numbers_fit, kept_more, records_more}
+use Rattle.ledger.proofs.Boards.{next_place, numbers_fit, stored_more, records_more}
 use Rattle.ledger.proofs.Carried.{IsStored, taking_carried, taking_room}
 use Rattle.ledger.proofs.HeldLaws.{unmarked}
 use Rattle.ledger.proofs.Indexed.{ready_earlier, ready_records, ready_there}
@@ -32,12 +32,12 @@ open_children-requires-clause-in_order c = open_in_order c.args.self.now c.args.
 
 pub open_children-requires-clause-none : goal.open_children-requires-clause-none
 open_children-requires-clause-none c =
-    let now = subst (λ (l : List (Packed × Kept)). IsStored c.self.inside.root l c.self.inside.open_tables c.self.inside.counts) (sym c.in_ok-reserve.ensures.entries) c.self.invariant in
+    let now = subst (λ (l : List (Packed × StoredRecord)). IsStored c.self.inside.root l c.self.inside.open_tables c.self.inside.counts) (sym c.in_ok-reserve.ensures.entries) c.self.invariant in
     next_place c.self.inside.root c.reserve.new.self.entries c.self.inside.open_tables c.in_ok-place.place now.1 (c.in_ok-place.ensures.is ∙ (c.len-count.ensures.len ∙ ap length (sym c.in_ok-reserve.ensures.entries))) c.in_ok-place.ensures.small
 
 pub invariant_of-self-in_err-open_children : goal.invariant_of-self-in_err-open_children
 invariant_of-self-in_err-open_children c =
-    let now = subst (λ (l : List (Packed × Kept)). IsStored c.self.inside.root l c.self.inside.open_tables c.self.inside.counts) (sym c.in_ok-reserve.ensures.entries) c.self.invariant in
+    let now = subst (λ (l : List (Packed × StoredRecord)). IsStored c.self.inside.root l c.self.inside.open_tables c.self.inside.counts) (sym c.in_ok-reserve.ensures.entries) c.self.invariant in
     (now.0, same_map c.self.inside.open_tables c.open_children.new.tables _ c.in_err-open_children.ensures.err now.1, now.2, now.3, now.4)
 
 pub carry_up-requires-clause-there : goal.carry_up-requires-clause-there
@@ -46,14 +46,14 @@ carry_up-requires-clause-there c =
     let root = c.self.inside.root in
     let es = c.reserve.new.self.entries in
     let r = recorded c.args.r.now in
-    let now = subst (λ (l : List (Packed × Kept)). IsStored root l c.self.inside.open_tables c.self.inside.counts) (sym c.in_ok-reserve.ensures.entries) c.self.invariant in
+    let now = subst (λ (l : List (Packed × StoredRecord)). IsStored root l c.self.inside.open_tables c.self.inside.counts) (sym c.in_ok-reserve.ensures.entries) c.self.invariant in
     let many = c.len-count.ensures.len ∙ ap length (sym c.in_ok-reserve.ensures.entries) in
-    let open_now = subst (λ (l : List (Packed × Kept)). IsOpen root (mark_in (records_of l)) c.args.r.now.table) (sym c.in_ok-reserve.ensures.entries)
+    let open_now = subst (λ (l : List (Packed × StoredRecord)). IsOpen root (mark_in (records_of l)) c.args.r.now.table) (sym c.in_ok-reserve.ensures.entries)
     (subst (λ (b : Contents). IsOpen b.root (mark_in b.records) c.args.r.now.table) (sym c.self.view_is) c.requires.is_open) in
-    let opener = subst (IsOpener root (records_of es) c.args.r.now.table) (sym c.in_ok-kept.ensures.parent)
+    let opener = subst (IsOpener root (records_of es) c.args.r.now.table) (sym c.in_ok-stored.ensures.parent)
     (opener_at root (records_of es) c.args.r.now.table c.opener_of-parent.result c.self.inside.open_tables.entries now.1.openers c.opener_of-parent.ensures) in
-    let ready = ready_taken root es c.insert.new.self.entries r c.in_ok-kept.kept c.in_ok-place.place now.0 now.4 open_now c.in_ok-kept.ensures.certified c.in_ok-kept.ensures.claim opener
-    (c.in_ok-kept.ensures.tree ∙ c.first.ensures) c.in-Ok.ensures.entries (c.in_ok-place.ensures.is ∙ many) c.in_ok-place.ensures.small in
+    let ready = ready_taken root es c.insert.new.self.entries r c.in_ok-stored.stored c.in_ok-place.place now.0 now.4 open_now c.in_ok-stored.ensures.certified c.in_ok-stored.ensures.claim opener
+    (c.in_ok-stored.ensures.tree ∙ c.first.ensures) c.in-Ok.ensures.entries (c.in_ok-place.ensures.is ∙ many) c.in_ok-place.ensures.small in
     ready_there root (records_of es) c.insert.new.self.entries r c.in_ok-place.place ready
 
 pub carry_up-requires-clause-earlier : goal.carry_up-requires-clause-earlier
@@ -62,14 +62,14 @@ carry_up-requires-clause-earlier c =
     let root = c.self.inside.root in
     let es = c.reserve.new.self.entries in
     let r = recorded c.args.r.now in
-    let now = subst (λ (l : List (Packed × Kept)). IsStored root l c.self.inside.open_tables c.self.inside.counts) (sym c.in_ok-reserve.ensures.entries) c.self.invariant in
+    let now = subst (λ (l : List (Packed × StoredRecord)). IsStored root l c.self.inside.open_tables c.self.inside.counts) (sym c.in_ok-reserve.ensures.entries) c.self.invariant in
     let many = c.len-count.ensures.len ∙ ap length (sym c.in_ok-reserve.ensures.entries) in
-    let open_now = subst (λ (l : List (Packed × Kept)). IsOpen root (mark_in (records_of l)) c.args.r.now.table) (sym c.in_ok-reserve.ensures.entries)
+    let open_now = subst (λ (l : List (Packed × StoredRecord)). IsOpen root (mark_in (records_of l)) c.args.r.now.table) (sym c.in_ok-reserve.ensures.entries)
     (subst (λ (b : Contents). IsOpen b.root (mark_in b.records) c.args.r.now.table) (sym c.self.view_is) c.requires.is_open) in
-    let opener = subst (IsOpener root (records_of es) c.args.r.now.table) (sym c.in_ok-kept.ensures.parent)
+    let opener = subst (IsOpener root (records_of es) c.args.r.now.table) (sym c.in_ok-stored.ensures.parent)
     (opener_at root (records_of es) c.args.r.now.table c.opener_of-parent.result c.self.inside.open_tables.entries now.1.openers c.opener_of-parent.ensures) in
-    let ready = ready_taken root es c.insert.new.self.entries r c.in_ok-kept.kept c.in_ok-place.place now.0 now.4 open_now c.in_ok-kept.ensures.certified c.in_ok-kept.ensures.claim opener
-    (c.in_ok-kept.ensures.tree ∙ c.first.ensures) c.in-Ok.ensures.entries (c.in_ok-place.ensures.is ∙ many) c.in_ok-place.ensures.small in
+    let ready = ready_taken root es c.insert.new.self.entries r c.in_ok-stored.stored c.in_ok-place.place now.0 now.4 open_now c.in_ok-stored.ensures.certified c.in_ok-stored.ensures.claim opener
+    (c.in_ok-stored.ensures.tree ∙ c.first.ensures) c.in-Ok.ensures.entries (c.in_ok-place.ensures.is ∙ many) c.in_ok-place.ensures.small in
     ready_earlier root (records_of es) c.insert.new.self.entries r c.in_ok-place.place ready
 
 pub carry_up-requires-clause-room : goal.carry_up-requires-clause-room
@@ -78,14 +78,14 @@ carry_up-requires-clause-room c =
     let root = c.self.inside.root in
     let es = c.reserve.new.self.entries in
     let r = recorded c.args.r.now in
-    let now = subst (λ (l : List (Packed × Kept)). IsStored root l c.self.inside.open_tables c.self.inside.counts) (sym c.in_ok-reserve.ensures.entries) c.self.invariant in
+    let now = subst (λ (l : List (Packed × StoredRecord)). IsStored root l c.self.inside.open_tables c.self.inside.counts) (sym c.in_ok-reserve.ensures.entries) c.self.invariant in
     let many = c.len-count.ensures.len ∙ ap length (sym c.in_ok-reserve.ensures.entries) in
-    let open_now = subst (λ (l : List (Packed × Kept)). IsOpen root (mark_in (records_of l)) c.args.r.now.table) (sym c.in_ok-reserve.ensures.entries)
+    let open_now = subst (λ (l : List (Packed × StoredRecord)). IsOpen root (mark_in (records_of l)) c.args.r.now.table) (sym c.in_ok-reserve.ensures.entries)
     (subst (λ (b : Contents). IsOpen b.root (mark_in b.records) c.args.r.now.table) (sym c.self.view_is) c.requires.is_open) in
-    let opener = subst (IsOpener root (records_of es) c.args.r.now.table) (sym c.in_ok-kept.ensures.parent)
+    let opener = subst (IsOpener root (records_of es) c.args.r.now.table) (sym c.in_ok-stored.ensures.parent)
     (opener_at root (records_of es) c.args.r.now.table c.opener_of-parent.result c.self.inside.open_tables.entries now.1.openers c.opener_of-parent.ensures) in
-    let ready = ready_taken root es c.insert.new.self.entries r c.in_ok-kept.kept c.in_ok-place.place now.0 now.4 open_now c.in_ok-kept.ensures.certified c.in_ok-kept.ensures.claim opener
-    (c.in_ok-kept.ensures.tree ∙ c.first.ensures) c.in-Ok.ensures.entries (c.in_ok-place.ensures.is ∙ many) c.in_ok-place.ensures.small in
+    let ready = ready_taken root es c.insert.new.self.entries r c.in_ok-stored.stored c.in_ok-place.place now.0 now.4 open_now c.in_ok-stored.ensures.certified c.in_ok-stored.ensures.claim opener
+    (c.in_ok-stored.ensures.tree ∙ c.first.ensures) c.in-Ok.ensures.entries (c.in_ok-place.ensures.is ∙ many) c.in_ok-place.ensures.small in
     let change = c.of_taking.ensures ∙ ap (taking_change c.child_count-opened.result) c.verdict-shown.ensures in
     subst (ChainMayChange c.insert.new.self.entries c.in_ok-place.place) (sym change)
     (taking_room root es c.insert.new.self.entries r c.in_ok-place.place now.0 ready c.child_count-opened.result c.child_count-opened.ensures.number
@@ -107,21 +107,21 @@ invariant_of-self-2 c =
     let root = c.self.inside.root in
     let es = c.reserve.new.self.entries in
     let r = recorded c.args.r.now in
-    let now = subst (λ (l : List (Packed × Kept)). IsStored root l c.self.inside.open_tables c.self.inside.counts) (sym c.in_ok-reserve.ensures.entries) c.self.invariant in
+    let now = subst (λ (l : List (Packed × StoredRecord)). IsStored root l c.self.inside.open_tables c.self.inside.counts) (sym c.in_ok-reserve.ensures.entries) c.self.invariant in
     let many = c.len-count.ensures.len ∙ ap length (sym c.in_ok-reserve.ensures.entries) in
-    let open_now = subst (λ (l : List (Packed × Kept)). IsOpen root (mark_in (records_of l)) c.args.r.now.table) (sym c.in_ok-reserve.ensures.entries)
+    let open_now = subst (λ (l : List (Packed × StoredRecord)). IsOpen root (mark_in (records_of l)) c.args.r.now.table) (sym c.in_ok-reserve.ensures.entries)
     (subst (λ (b : Contents). IsOpen b.root (mark_in b.records) c.args.r.now.table) (sym c.self.view_is) c.requires.is_open) in
-    let opener = subst (IsOpener root (records_of es) c.args.r.now.table) (sym c.in_ok-kept.ensures.parent)
+    let opener = subst (IsOpener root (records_of es) c.args.r.now.table) (sym c.in_ok-stored.ensures.parent)
     (opener_at root (records_of es) c.args.r.now.table c.opener_of-parent.result c.self.inside.open_tables.entries now.1.openers c.opener_of-parent.ensures) in
-    let ready = ready_taken root es c.insert.new.self.entries r c.in_ok-kept.kept c.in_ok-place.place now.0 now.4 open_now c.in_ok-kept.ensures.certified c.in_ok-kept.ensures.claim opener
-    (c.in_ok-kept.ensures.tree ∙ c.first.ensures) c.in-Ok.ensures.entries (c.in_ok-place.ensures.is ∙ many) c.in_ok-place.ensures.small in
+    let ready = ready_taken root es c.insert.new.self.entries r c.in_ok-stored.stored c.in_ok-place.place now.0 now.4 open_now c.in_ok-stored.ensures.certified c.in_ok-stored.ensures.claim opener
+    (c.in_ok-stored.ensures.tree ∙ c.first.ensures) c.in-Ok.ensures.entries (c.in_ok-place.ensures.is ∙ many) c.in_ok-place.ensures.small in
     let change = c.of_taking.ensures ∙ ap (taking_change c.child_count-opened.result) c.verdict-shown.ensures in
     rw (c.with-self-inside.ensures, c.verdict-shown.ensures)
     (taking_carried root es c.insert.new.self.entries r c.in_ok-place.place now.0 ready c.child_count-opened.result c.child_count-opened.ensures.number
     c.carry_up.new.records.entries c.remove.new.self (with_shown c.self.inside.counts (shown_by r.claim)) open_now
     (subst (λ (h : TreeChange). AreCarried h c.insert.new.self.entries c.in_ok-place.place c.carry_up.new.records.entries) change c.carry_up.ensures.carried) c.carry_up.ensures.length
-    (kept_more root es c.insert.new.self.entries r c.in_ok-kept.kept c.in_ok-place.place c.self.inside.open_tables c.open_children.new.tables c.remove.new.self c.self.inside.counts
-    (now.0, now.1, now.2, now.3) open_now c.in_ok-kept.ensures.certified c.in_ok-kept.ensures.claim c.in_ok-kept.ensures.pair c.in-Ok.ensures.entries (c.in_ok-place.ensures.is ∙ many)
+    (stored_more root es c.insert.new.self.entries r c.in_ok-stored.stored c.in_ok-place.place c.self.inside.open_tables c.open_children.new.tables c.remove.new.self c.self.inside.counts
+    (now.0, now.1, now.2, now.3) open_now c.in_ok-stored.ensures.certified c.in_ok-stored.ensures.claim c.in_ok-stored.ensures.pair c.in-Ok.ensures.entries (c.in_ok-place.ensures.is ∙ many)
     c.in_ok-open_children.ensures.ok c.in_ok-open_children.ensures.others c.in_ok-open_children.ensures.children c.in_ok-open_children.ensures.none
     (λ q. removed c.open_children.new.tables c.remove.new.self c.args.r.now.table q (c.remove.ensures.updates.0 q)) c.remove.ensures.entries))
 
@@ -131,18 +131,18 @@ returns-clause-ok c =
     let root = c.self.inside.root in
     let es = c.reserve.new.self.entries in
     let r = recorded c.args.r.now in
-    let now = subst (λ (l : List (Packed × Kept)). IsStored root l c.self.inside.open_tables c.self.inside.counts) (sym c.in_ok-reserve.ensures.entries) c.self.invariant in
+    let now = subst (λ (l : List (Packed × StoredRecord)). IsStored root l c.self.inside.open_tables c.self.inside.counts) (sym c.in_ok-reserve.ensures.entries) c.self.invariant in
     let many = c.len-count.ensures.len ∙ ap length (sym c.in_ok-reserve.ensures.entries) in
-    let open_now = subst (λ (l : List (Packed × Kept)). IsOpen root (mark_in (records_of l)) c.args.r.now.table) (sym c.in_ok-reserve.ensures.entries)
+    let open_now = subst (λ (l : List (Packed × StoredRecord)). IsOpen root (mark_in (records_of l)) c.args.r.now.table) (sym c.in_ok-reserve.ensures.entries)
     (subst (λ (b : Contents). IsOpen b.root (mark_in b.records) c.args.r.now.table) (sym c.self.view_is) c.requires.is_open) in
-    let opener = subst (IsOpener root (records_of es) c.args.r.now.table) (sym c.in_ok-kept.ensures.parent)
+    let opener = subst (IsOpener root (records_of es) c.args.r.now.table) (sym c.in_ok-stored.ensures.parent)
     (opener_at root (records_of es) c.args.r.now.table c.opener_of-parent.result c.self.inside.open_tables.entries now.1.openers c.opener_of-parent.ensures) in
-    let ready = ready_taken root es c.insert.new.self.entries r c.in_ok-kept.kept c.in_ok-place.place now.0 now.4 open_now c.in_ok-kept.ensures.certified c.in_ok-kept.ensures.claim opener
-    (c.in_ok-kept.ensures.tree ∙ c.first.ensures) c.in-Ok.ensures.entries (c.in_ok-place.ensures.is ∙ many) c.in_ok-place.ensures.small in
+    let ready = ready_taken root es c.insert.new.self.entries r c.in_ok-stored.stored c.in_ok-place.place now.0 now.4 open_now c.in_ok-stored.ensures.certified c.in_ok-stored.ensures.claim opener
+    (c.in_ok-stored.ensures.tree ∙ c.first.ensures) c.in-Ok.ensures.entries (c.in_ok-place.ensures.is ∙ many) c.in_ok-place.ensures.small in
     let before = ap records_of c.in_ok-reserve.ensures.entries ∙ ap (λ (b : Contents). b.records) c.self.view_is in (
       refl,
-      record { is_open = c.requires.is_open; certified = c.in_ok-kept.ensures.certified },
+      record { is_open = c.requires.is_open; certified = c.in_ok-stored.ensures.certified },
       ready_records root (records_of es) c.insert.new.self.entries r c.in_ok-place.place ready c.of_taking.result c.carry_up.new.records.entries c.carry_up.ensures.carried c.carry_up.ensures.length
-          ∙ (records_more es c.insert.new.self.entries r c.in_ok-kept.kept c.in_ok-kept.ensures.claim (unmarked _ open_now.unmarked) c.in-Ok.ensures.entries
+          ∙ (records_more es c.insert.new.self.entries r c.in_ok-stored.stored c.in_ok-stored.ensures.claim (unmarked _ open_now.unmarked) c.in-Ok.ensures.entries
           ∙ ap (λ (l : List Recorded). l ++ (r ∷ [])) before),
     )

@@ -1,5 +1,0 @@
-use Rattle.leases.proofs.OfferLaws.{KeepsAll, AreFirstIn}
-use Rattle.leases.proofs.held_leases.offer_all.Given as goal
-
-abbrev pub invariant-loop-t : goal.invariant-loop-t
-invariant-loop-t l = record { more : KeepsAll l.fn.free.tables l.free.tables; offered : AreFirstIn l.tables l.t-index l.free.tables }

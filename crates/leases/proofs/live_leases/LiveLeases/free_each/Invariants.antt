@@ -1,0 +1,6 @@
+use Rattle.leases.proofs.OfferLaws.{KeepsAll}
+use Rattle.leases.proofs.Due.{AreFirstFreed}
+use Rattle.leases.proofs.live_leases.LiveLeases.free_each.Given as goal
+
+abbrev pub invariant-loop-number : goal.invariant-loop-number
+invariant-loop-number l = record { more : KeepsAll l.fn.free.tables l.free.tables; freed : AreFirstFreed l.numbers l.number-index l.self l.free.tables }

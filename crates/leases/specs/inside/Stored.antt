@@ -1,0 +1,72 @@
+-- For the code: how leases are stored, and as what they are seen.
+use Rattle.std.specs.Prelude.{◌≡◌, ℕ, ◌+◌, ◌==◌, ◌↔◌, Bool, true, false, not, nat_le, List, Contains, Option, Some, None, IfSome, map, filter}
+use Rattle.std.specs.List.{list_any}
+use Rattle.indexmap.specs.IndexSet.{spare}
+use Rattle.machine_text.specs.Packed.{Packed}
+use Rattle.ledger.specs.Contents.{Contents, IsOpenOn}
+use Rattle.leases.specs.Limits.{lease_time}
+use Rattle.leases.specs.Leases.{Lease, Leases, came_under, is_live, while_live}
+use Rattle.leases.specs.declared.held_leases.HeldLease.{HeldLease}
+
+-- a live lease as it is stored: its number, its worker, when it was given or renewed, the open tables that are under it, and for how
+-- many more there is room
+pub record StoredLease : Type 0 where
+  pub number : ℕ
+  pub id : ℕ
+  pub renewed : ℕ
+  pub tables : List Packed
+  pub room : ℕ
+
+abbrev pub stored_lease : ℕ × HeldLease → StoredLease
+stored_lease e = record { number = e.0; id = e.1.id; renewed = e.1.renewed; tables = e.1.tables.keys; room = spare e.1.tables }
+
+-- a lease as it is seen: the code keeps when it was given or renewed, since a deadline may be greater than its numbers
+abbrev pub as_lease : StoredLease → Lease
+as_lease l = record { number = l.number; id = l.id; deadline = l.renewed + lease_time }
+
+-- whether a lease has ended by a moment
+abbrev pub has_ended : ℕ → Lease → Bool
+has_ended moment l = nat_le l.deadline moment
+
+-- the leases that are stored so, as they are seen
+abbrev pub as_leases : List StoredLease → List (Packed × ℕ) → ℕ → ℕ → Leases
+as_leases leases came moment given = record { live = map as_lease leases; came = came; moment = moment; given = given }
+
+-- each live lease lists the tables that came under it, and each open table that is under none is among the free ones
+pub record AreStored (b : Contents) (leases : List StoredLease) (came : List (Packed × ℕ)) (free : List Packed) : Type 0 where
+  pub listed : (l : StoredLease) (t : Packed) → Contains leases l → came_under came t ≡ Some l.number → Contains l.tables t
+  pub freed : (t : Packed) → IsOpenOn b t → while_live (map as_lease leases) (came_under came t) ≡ None → Contains free t
+
+-- the tables of the leases that pass a test are among the free ones
+abbrev pub AreAmongFree : (Lease → Bool) → List StoredLease → List Packed → Type 0
+AreAmongFree ends leases free = (l : StoredLease) (t : Packed) → Contains leases l → ends (as_lease l) ≡ true → Contains l.tables t → Contains free t
+
+abbrev pub is_numbered : Option ℕ → ℕ → Bool
+is_numbered None n = false
+is_numbered (Some m) n = n == m
+
+-- the leases without the one of a number
+abbrev pub without : Option ℕ → List StoredLease → List StoredLease
+without which leases = filter (λ l. not (is_numbered which l.number)) leases
+
+-- the same of several numbers
+abbrev pub are_numbered : List ℕ → ℕ → Bool
+are_numbered numbers n = list_any (λ m. n == m) numbers
+
+abbrev pub without_each : List ℕ → List StoredLease → List StoredLease
+without_each numbers leases = filter (λ l. not (are_numbered numbers l.number)) leases
+
+-- the numbers of the workers' leases, against the leases under their numbers
+abbrev pub AreOfWorkers : (ℕ → Option ℕ) → (ℕ → Option HeldLease) → Type 0
+AreOfWorkers number_of lease_at = (id n : ℕ) → number_of id ≡ Some n ↔ ((l : HeldLease) × (lease_at n ≡ Some l) × (l.id ≡ id))
+
+-- these are the numbers of the leases that have ended by a moment
+pub record AreDue (moment : ℕ) (leases : List Lease) (numbers : List ℕ) : Type 0 where
+  pub all : (l : Lease) → Contains leases l → has_ended moment l ≡ true → Contains numbers l.number
+  pub only : (l : Lease) → Contains leases l → Contains numbers l.number → has_ended moment l ≡ true
+
+-- this is the number of a worker's lease, or none where it has none
+pub record IsOwn (id : ℕ) (own : Option ℕ) (leases : List StoredLease) : Type 0 where
+  pub lives : IfSome own (λ n. is_live (map as_lease leases) n ≡ true)
+  pub only : (l : StoredLease) → Contains leases l → l.id ≡ id → own ≡ Some l.number
+  pub exact : (l : StoredLease) → Contains leases l → own ≡ Some l.number → l.id ≡ id

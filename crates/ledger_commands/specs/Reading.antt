@@ -1,0 +1,33 @@
+-- A ledger that is read from its first byte, up to a limit.
+use Rattle.std.specs.Prelude.{◌≡◌, ℕ, ◌≤◌, List, Option, None, Some, length, take}
+use Rattle.machine_text.specs.Packed.{Packed, entry_of}
+use Rattle.tree.specs.Used.{InOrder}
+use Rattle.ledger.specs.Contents.{Contents}
+use Rattle.ledger.specs.LedgerText.{ReadsAs}
+use Rattle.ledger.specs.declared.left.Left.{Left}
+use Rattle.ledger_commands.specs.LedgerReport.{EndsLedger}
+use Rattle.ledger_commands.specs.Merge.{EndsTakingIn}
+use Rattle.ledger_commands.specs.declared.reading.Stopped.{Stopped}
+use Rattle.ledger_commands.specs.declared.reading.Stopped.TheVariants.{Failed, Ended as EndedBy}
+
+-- the first bytes of what a reader has, up to a limit; where that isn't known, no more than the limit
+abbrev pub AreFirstBytes : Option (List ℕ) → ℕ → List ℕ → Type 0
+AreFirstBytes None limit text = length text ≤ limit
+AreFirstBytes (Some all) limit text = text ≡ take limit all
+
+-- they are read as a board, whose root names its states in order, up to what is left
+pub record IsLoadedFrom (has : Option (List ℕ)) (limit : ℕ) (b : Contents) (left : Left) : Type 0 where
+  pub text : List ℕ
+  pub first : AreFirstBytes has limit text
+  pub reads : ReadsAs b.root text b.records left
+  pub order : (u : ℕ) × InOrder u (entry_of b.root)
+
+-- why they aren't loaded: a read failed, or there is a reason in their text
+abbrev pub EndsReading : Option (List ℕ) → ℕ → Stopped → Type 0
+EndsReading has limit (Failed fault) = Unit {0}
+EndsReading has limit (EndedBy e) = (text : List ℕ) × AreFirstBytes has limit text × EndsLedger text e
+
+-- why they aren't taken into a board of this root
+abbrev pub EndsReadingOf : Packed → Option (List ℕ) → ℕ → Stopped → Type 0
+EndsReadingOf root has limit (Failed fault) = Unit {0}
+EndsReadingOf root has limit (EndedBy e) = (text : List ℕ) × AreFirstBytes has limit text × EndsTakingIn root text e

@@ -1,7 +1,8 @@
 -- When a verdict is true of a machine, and the refusal numbers of evidence.
 use Rattle.std.specs.Prelude.{ℕ, Option, Some, None}
 use Rattle.turing.specs.Machine.{Machine}
-use Rattle.turing.specs.Halting.{HaltsAt, Never}
+use Rattle.turing.specs.Halting.{Never}
+use Rattle.turing.specs.Score.{HaltsWith}
 use Rattle.evidence.specs.declared.verdicts.Verdict.{Verdict}
 use Rattle.evidence.specs.declared.verdicts.Verdict.TheVariants.{Halts, Never as NeverHalts}
 use Rattle.evidence.specs.declared.verdicts.Refused.{Refused}
@@ -9,7 +10,7 @@ use Rattle.evidence.specs.declared.verdicts.Refused.TheVariants.{Fails, TooLong,
 
 -- the verdict says of the machine's run from the blank tape what is so
 abbrev pub IsTrueOf : Verdict → Machine → Type 0
-IsTrueOf (Halts k) m = HaltsAt m k
+IsTrueOf (Halts k s) m = HaltsWith m k s
 IsTrueOf NeverHalts m = Never m
 
 -- refused memory has no number

@@ -23,18 +23,18 @@ pub trait Evidence {
     /// The claim is one that has to be worked out, with memory: one that isn't, is judged as it is written.
     ghost takes_memory: { Self → Type 0 };
 
-    /// The verdict for which the claim is made.
-    ghost shows: { Self → Said };
+    /// The verdict on a table for which the claim is made.
+    ghost shows: { Self → Packed → Said };
 
     /// Checks the claim. The limit is judged first, then whether it is too wide, then whether it stands. Memory is
     /// refused only where the claim takes some.
     fn check(&self, alloc: Global, t: &Table) -> Result<Verdict, Refused>
-        ensures ok { IfOk result (λ v. (v ≡ shows self.now) × within self.now × stands self.now t.now × (is_wide self.now t.now → ⊥)) }
+        ensures ok { IfOk result (λ v. (v ≡ shows self.now t.now) × within self.now × stands self.now t.now × (is_wide self.now t.now → ⊥)) }
         ensures fails { result ≡ Err Refused.Fails → within self.now × (is_wide self.now t.now → ⊥) × (stands self.now t.now → ⊥) }
         ensures long { result ≡ Err Refused.TooLong → within self.now → ⊥ }
         ensures wide { result ≡ Err Refused.TooWide → within self.now × is_wide self.now t.now }
         ensures memory { result ≡ Err Refused.NoMemory → takes_memory self.now };
 
     /// A claim that stands makes its verdict true.
-    ghost law: { (e : Self) (p : Packed) → IsTable p → stands e p → IsTrueOf (shows e) (entry_of p) };
+    ghost law: { (e : Self) (p : Packed) → IsTable p → stands e p → IsTrueOf (shows e p) (entry_of p) };
 }

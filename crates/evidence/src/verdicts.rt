@@ -6,6 +6,16 @@ use std::fmt;
 /// What is said of a table's run from the blank tape.
 #[derive(Clone, Copy, Debug, PartialEq, Eq)]
 pub enum Verdict {
+    /// It halts in so many steps, with so many ones on its tape then; the halting step counts and writes a one
+    /// (Radó 1962).
+    Halts { steps: u64, ones: u64 },
+    /// It never halts.
+    Never,
+}
+
+/// How a table's run from the blank tape ends: a verdict without the ones, which aren't known before it is run.
+#[derive(Clone, Copy, Debug, PartialEq, Eq)]
+pub enum Ending {
     /// It halts in so many steps; the halting step counts (Radó 1962).
     Halts(u64),
     /// It never halts.

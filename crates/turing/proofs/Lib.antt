@@ -1,6 +1,7 @@
 pub mod Cells
 pub mod Steps
 pub mod RunLaws
+pub mod Scores
 pub mod Simulation
 pub mod Extensions
 pub mod Renaming

@@ -20,7 +20,7 @@ pub use closed::{automata_never, position_set_never};
 pub use cycles::{cycle_never, farthest_head, translated_never};
 pub use rado::rado_of_one;
 pub use runs::{
-    earlier_times, halting_ends, head_reach, never_is_always, one_count, one_verdict,
+    earlier_times, halting_ends, head_reach, never_is_always, one_count, one_score, one_verdict,
     run_continues, states_within, step_by_place,
 };
 pub use tables::table_is_machine;

@@ -6,6 +6,7 @@ ghost use Rattle.turing.specs.Run.{Config, from, after, next, carried_out};
 ghost use Rattle.turing.specs.Tape.{symbol_read};
 ghost use Rattle.turing.specs.Step.{Takes};
 ghost use Rattle.turing.specs.Halting.{HaltsAt, Never};
+ghost use Rattle.turing.specs.Score.{HaltsWith, score_at};
 
 /// A step takes an entry: it writes in one cell, leaves every other as it was, moves the head by one
 /// and changes the state. There is a step wherever there is an entry.
@@ -36,6 +37,12 @@ pub fn earlier_times()
 pub fn one_count()
     ensures count { (m : Machine) (j k : ℕ) → HaltsAt m j → HaltsAt m k → j ≡ k }
     ensures end { (m : Machine) (j k : ℕ) (s : HaltsAt m j) (t : HaltsAt m k) → s.at ≡ t.at }
+{}
+
+/// A run that halts has one score, that of its number of steps.
+pub fn one_score()
+    ensures some { (m : Machine) (k : ℕ) → HaltsAt m k → HaltsWith m k (score_at m k) }
+    ensures one { (m : Machine) (k s : ℕ) → HaltsWith m k s → s ≡ score_at m k }
 {}
 
 /// A machine never halts exactly where its run is there at each time.

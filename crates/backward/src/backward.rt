@@ -62,7 +62,7 @@ impl Evidence for Backward {
     // One over its limit isn't carried out.
     ghost takes_memory = { λ e. e.depth ≤ depth_limit };
 
-    ghost shows = { λ e. Never };
+    ghost shows = { λ e p. Never };
 
     // The run is looked at first: a table whose run does fewer steps is refused as false, however wide it is.
     fn check(&self, alloc: Global, t: &Table) -> Result<Verdict, Refused> {

@@ -187,7 +187,7 @@ impl Evidence for Far {
 
     ghost takes_memory = { λ e. ⊥ };
 
-    ghost shows = { λ e. Never };
+    ghost shows = { λ e p. Never };
 
     fn check(&self, alloc: Global, t: &Table) -> Result<Verdict, Refused> {
         // The proof needs that the numbers are those of automata, within their limits.

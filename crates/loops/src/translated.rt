@@ -71,7 +71,7 @@ impl Evidence for Translated {
     // One over its limit, or whose times aren't in order, isn't carried out.
     ghost takes_memory = { λ e. (e.i < e.j) × (e.j ≤ time_limit) };
 
-    ghost shows = { λ e. Never };
+    ghost shows = { λ e p. Never };
 
     fn check(&self, alloc: Global, t: &Table) -> Result<Verdict, Refused> {
         if self.j > MAX_TIME {

@@ -143,7 +143,7 @@ impl Evidence for Ngram<'_> {
 
     ghost takes_memory = { λ e. ⊥ };
 
-    ghost shows = { λ e. Never };
+    ghost shows = { λ e p. Never };
 
     fn check(&self, alloc: Global, t: &Table) -> Result<Verdict, Refused> {
         // The proof needs that the lists are lists, within their limits.

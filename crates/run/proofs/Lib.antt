@@ -1,3 +1,4 @@
+pub mod ScoreLaws
 pub mod Standings
 pub mod Sweeping
 pub mod FieldLaws

@@ -1,5 +1,6 @@
 pub mod Limits
 pub mod Fields
+pub mod Halts
 pub mod RunState
 pub mod inside
 pub mod Steps

@@ -1,7 +1,8 @@
-// The search for the number of steps in which a table halts.
-ghost use Rattle.std.specs.Prelude.{◌≡◌, ℕ, ◌≤◌, min, IfSome, IfNone, IfOk};
+// The search for the number of steps in which a table halts, and of the ones then.
+ghost use Rattle.std.specs.Prelude.{◌≡◌, ℕ, ◌≤◌, min, Some, IfSome, IfNone, IfOk};
 ghost use Rattle.machine_text.specs.Packed.{entry_of};
 ghost use Rattle.turing.specs.Halting.{HaltsAt};
+ghost use Rattle.turing.specs.Score.{score_at};
 ghost use Rattle.run.specs.Limits.{halt_step_limit};
 
 use crate::halts_in::HaltsIn;
@@ -26,11 +27,12 @@ impl HaltFinder {
         HaltFinder { alloc, steps }
     }
 
-    /// The number of steps in which the table halts; none where it doesn't halt within the finder's
-    /// steps, the budget and the limit.
+    /// The number of steps in which the table halts, and of the ones then; none where it doesn't halt within the
+    /// finder's steps, the budget and the limit.
     pub fn search(&mut self, t: &Table, budget: u64) -> Result<Option<HaltsIn>, NoMemory>
-        ensures found { IfOk result (λ o. IfSome o (λ e. HaltsAt (entry_of t.now) e.0)) }
-        ensures within { IfOk result (λ o. IfSome o (λ e. e.0 ≤ min (min self.old.steps budget) halt_step_limit)) }
+        ensures found { IfOk result (λ o. IfSome o (λ e. HaltsAt (entry_of t.now) e.steps)) }
+        ensures score { IfOk result (λ o. IfSome o (λ e. e.ones ≡ Some (score_at (entry_of t.now) e.steps))) }
+        ensures within { IfOk result (λ o. IfSome o (λ e. e.steps ≤ min (min self.old.steps budget) halt_step_limit)) }
         ensures none { IfOk result (λ o. IfNone o ((k : ℕ) → k ≤ min (min self.old.steps budget) halt_step_limit → HaltsAt (entry_of t.now) k → ⊥)) }
         ensures same { self.new.steps ≡ self.old.steps }
     {
@@ -38,7 +40,10 @@ impl HaltFinder {
         let mut runner = Runner::new(self.alloc, *t)?;
         let step = runner.run_to(limit)?;
         match step {
-            Step::Halts { count } => Ok(Some(HaltsIn(count))),
+            Step::Halts { count } => Ok(Some(HaltsIn {
+                steps: count,
+                ones: Some(runner.into_score()),
+            })),
             Step::Went => Ok(None),
         }
     }

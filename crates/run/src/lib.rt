@@ -11,9 +11,9 @@ mod laws;
 mod limits;
 mod runner;
 
-pub use evidence::{Evidence, NoMemory, Refused, Verdict};
+pub use evidence::{Ending, Evidence, NoMemory, Refused, Verdict};
 pub use halt_finder::HaltFinder;
-pub use halts_in::HaltsIn;
+pub use halts_in::{Halted, HaltsIn};
 pub use laws::halts_reads_back;
 pub use limits::{MAX_HALT_STEPS, MAX_RUN_STEPS};
 pub use runner::{Runner, Step};

@@ -4,7 +4,7 @@ ghost use Rattle.turing.specs.Tape.{written, moved};
 ghost use Rattle.tape.specs.Places.{IsWithinLimit};
 
 use crate::limits::MAX_RUN_STEPS;
-use machine_text::{Dir, Entry, State, Table};
+use machine_text::{Dir, Entry, State, Sym, Table};
 use std::alloc::Global;
 use std::marker::Model;
 use tape::{NoMemory, Tape};
@@ -43,6 +43,7 @@ impl Model for Runner {
 
 impl Runner {
     ghost use Rattle.turing.specs.Run.{start};
+    ghost use Rattle.turing.specs.Score.{score_of};
     ghost use Rattle.run.specs.Limits.{run_step_limit};
     ghost use Rattle.run.specs.RunState.{OnRun};
     ghost use Rattle.run.specs.Steps.{StepsTo, RunsTo, IsBetween};
@@ -150,6 +151,15 @@ impl Runner {
         ensures { result.0 ≡ self.now.config.state }
     {
         self.state
+    }
+
+    /// The score of a run that halts where the runner stands: the ones on its tape once the halting step has written
+    /// one. It takes no memory.
+    pub fn into_score(mut self) -> u64
+        ensures { result ≡ score_of self.config }
+    {
+        self.tape.write(Sym::One);
+        self.tape.ones()
     }
 
     /// The tape at that time.

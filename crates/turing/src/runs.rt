@@ -39,10 +39,11 @@ pub fn one_count()
     ensures end { (m : Machine) (j k : ℕ) (s : HaltsAt m j) (t : HaltsAt m k) → s.at ≡ t.at }
 {}
 
-/// A run that halts has one score, that of its number of steps.
+/// A run that halts has one score, that of its number of steps, of which it is no more.
 pub fn one_score()
     ensures some { (m : Machine) (k : ℕ) → HaltsAt m k → HaltsWith m k (score_at m k) }
     ensures one { (m : Machine) (k s : ℕ) → HaltsWith m k s → s ≡ score_at m k }
+    ensures within { (m : Machine) (k : ℕ) → HaltsAt m k → score_at m k ≤ k }
 {}
 
 /// A machine never halts exactly where its run is there at each time.

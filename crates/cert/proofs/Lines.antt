@@ -9,6 +9,7 @@ use Rattle.machine_text.specs.Text.{text_of}
 use Rattle.machine_text.proofs.RoundTrip.{text_of_from_45}
 use Rattle.text.specs.Fields.{spaced}
 use Rattle.text.proofs.Spaced.{field_line, spaced_line}
+use Rattle.run.proofs.ScoreLaws.{claimed_is_short}
 use Rattle.cert.specs.Claim.{Claim, HaltsClaim, CycleClaim, TranslatedClaim, BackwardClaim, NgramClaim, FarClaim, NoClaim, Recorded, IsWritable, IsMadeFor, IsWithin, Stands}
 use Rattle.cert.specs.Certified.{IsCertified}
 use Rattle.cert.specs.Grammar.{kind_text, claim_fields, claim_text, record_text}
@@ -54,7 +55,7 @@ record_line r table writable =
 
 -- the numbers of a claim that stands are within its limits
 writable_within : (c : Claim) (p : Packed) → IsWithin c → Stands c p → IsWritable c
-writable_within (HaltsClaim e) p within stands = omega arith
+writable_within (HaltsClaim e) p within stands = claimed_is_short e p within stands
 writable_within (CycleClaim e) p within stands = (omega (arith, stands.order), omega arith)
 writable_within (TranslatedClaim e) p within stands = (omega (arith, stands.order), omega arith)
 writable_within (BackwardClaim e) p within stands = omega arith

@@ -7,6 +7,7 @@ use Rattle.turing.proofs.BackwardLaws.{backward_never}
 use Rattle.turing.proofs.ClosedSets.{closed_never}
 use Rattle.turing.proofs.AutomataLaws.{automata_never}
 use Rattle.turing.proofs.TableLaws.{table_machine}
+use Rattle.run.proofs.ScoreLaws.{claimed_is_true}
 use Rattle.far.specs.Automata.{described}
 use Rattle.ngram_cps.specs.Listing.{IsItem}
 use Rattle.ngram_cps.specs.Words.{word_text}
@@ -14,8 +15,8 @@ use Rattle.ngram_cps.specs.Lists.{IsLocalItem}
 use Rattle.evidence.specs.Verdict.{IsTrueOf}
 use Rattle.cert.specs.Claim.{Claim, HaltsClaim, CycleClaim, TranslatedClaim, BackwardClaim, NgramClaim, FarClaim, NoClaim, Stands, shown_by}
 
-pub standing_is_true : (c : Claim) (p : Packed) → IsTable p → Stands c p → IfSome (shown_by c) (λ v. IsTrueOf v (entry_of p))
-standing_is_true (HaltsClaim e) p table stands = stands
+pub standing_is_true : (c : Claim) (p : Packed) → IsTable p → Stands c p → IfSome (shown_by c p) (λ v. IsTrueOf v (entry_of p))
+standing_is_true (HaltsClaim e) p table stands = claimed_is_true e p stands
 standing_is_true (CycleClaim e) p table stands = cycle_never (entry_of p) e.i e.j stands
 standing_is_true (TranslatedClaim e) p table stands = translated_never (entry_of p) e.i e.j e.side stands
 standing_is_true (BackwardClaim e) p table stands = backward_never p.states (entry_of p) e.depth (table_machine p table) stands

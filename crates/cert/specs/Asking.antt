@@ -1,13 +1,13 @@
 -- What comes of asking finders in their order.
 use Rattle.std.specs.Prelude.{◌≡◌, ◌⊎◌, List, [], ◌∷◌, Option, Some, None, IsSome}
 use Rattle.machine_text.specs.Packed.{Packed}
-use Rattle.cert.specs.Claim.{Claim, NoClaim, shown_by}
+use Rattle.cert.specs.Claim.{Claim, NoClaim, ending_by}
 use Rattle.cert.specs.Certified.{IsCertified}
 
 -- what a finder gives for a table is taken: a claim that says something and is certified
 abbrev pub ShowsVerdict : Packed → Option Claim → Type 0
 ShowsVerdict p None = ⊥
-ShowsVerdict p (Some c) = IsSome (shown_by c) × IsCertified (record { table = p; claim = c })
+ShowsVerdict p (Some c) = IsSome (ending_by c) × IsCertified (record { table = p; claim = c })
 
 -- finders are asked in turn, each gives a claim or none, and the first that is taken is the answer; where none
 -- is, nothing is claimed

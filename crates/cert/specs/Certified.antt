@@ -3,8 +3,8 @@ use Rattle.std.specs.Prelude.{◌≡◌, ℕ, ◌<◌, Option, Some, None}
 use Rattle.machine_text.specs.Packed.{Packed, entry_of}
 use Rattle.machine_text.specs.declared.transition.Pair.{Pair}
 use Rattle.turing.specs.Halting.{HaltsOn}
-use Rattle.evidence.specs.declared.verdicts.Verdict.{Verdict}
-use Rattle.evidence.specs.declared.verdicts.Verdict.TheVariants.{Halts, Never}
+use Rattle.evidence.specs.declared.verdicts.Ending.{Ending}
+use Rattle.evidence.specs.declared.verdicts.Ending.TheVariants.{Halts, Never}
 use Rattle.evidence.specs.declared.verdicts.Refused.{Refused}
 use Rattle.evidence.specs.declared.verdicts.Refused.TheVariants.{Fails, TooLong, TooWide, NoMemory}
 use Rattle.cert.specs.Claim.{Recorded, IsWithin, IsWide, Stands}
@@ -27,8 +27,8 @@ pub record HaltsOnPair (t : Packed) (k : ℕ) (pair : Pair) : Type 0 where
   pub inside : pair.state.0 < t.states
   pub halts : HaltsOn (entry_of t) k pair.state.0 pair.symbol
 
--- with the verdict that a table halts comes the pair on which it does, with another none
-abbrev pub IsPairOf : Option Verdict → Packed → Option Pair → Type 0
+-- with the claim that a table halts comes the pair on which it does, with another none
+abbrev pub IsPairOf : Option Ending → Packed → Option Pair → Type 0
 IsPairOf (Some (Halts k)) t (Some pair) = HaltsOnPair t k pair
 IsPairOf (Some (Halts k)) t None = ⊥
 IsPairOf (Some Never) t pair = pair ≡ None

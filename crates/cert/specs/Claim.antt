@@ -7,6 +7,7 @@ use Rattle.loops.specs.declared.translated.Translated.{Translated}
 use Rattle.backward.specs.declared.backward.Backward.{Backward}
 use Rattle.far.specs.Automata.{Automata}
 use Rattle.ngram_cps.specs.Lists.{Lists}
+use Rattle.evidence.specs.declared.verdicts.Ending.{Ending}
 use Rattle.evidence.specs.declared.verdicts.Verdict.{Verdict}
 use Rattle.cert.specs.Meaning.{Meaning}
 use Rattle.cert.specs.meanings.Halts.{halts_meaning}
@@ -48,8 +49,11 @@ IsWritable c = (meaning c).writable
 abbrev pub IsMadeFor : Claim → ℕ → Type 0
 IsMadeFor c n = (meaning c).made_for n
 
-abbrev pub shown_by : Claim → Option Verdict
-shown_by c = (meaning c).shows
+abbrev pub ending_by : Claim → Option Ending
+ending_by c = (meaning c).ends
+
+abbrev pub shown_by : Claim → Packed → Option Verdict
+shown_by c p = (meaning c).shows p
 
 abbrev pub IsWithin : Claim → Type 0
 IsWithin c = (meaning c).within

@@ -3,6 +3,7 @@ pub mod Meaning
 pub mod meanings
 pub mod Claim
 pub mod Certified
+pub mod Scored
 pub mod Grammar
 pub mod Asking
 pub mod Kinds

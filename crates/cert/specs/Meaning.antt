@@ -1,6 +1,7 @@
 -- What a claim of a kind means, whatever the kind.
 use Rattle.std.specs.Prelude.{ℕ, Option}
 use Rattle.machine_text.specs.Packed.{Packed}
+use Rattle.evidence.specs.declared.verdicts.Ending.{Ending}
 use Rattle.evidence.specs.declared.verdicts.Verdict.{Verdict}
 
 pub record Meaning : Type 1 where
@@ -8,8 +9,10 @@ pub record Meaning : Type 1 where
   pub writable : Type 0
   -- it is made for tables of so many states
   pub made_for : ℕ → Type 0
-  -- the verdict for which it is made; none where nothing is claimed
-  pub shows : Option Verdict
+  -- how the run ends by it; nothing where nothing is claimed
+  pub ends : Option Ending
+  -- the verdict on a table for which it is made; none where nothing is claimed
+  pub shows : Packed → Option Verdict
   -- it asks for no more than the limits of its kind
   pub within : Type 0
   -- to check it takes more paths than may be kept

@@ -6,7 +6,7 @@ ghost use Rattle.text.specs.Fields.{made_of};
 ghost use Rattle.cert.specs.Kinds.{claim_of};
 
 use backward::Backward;
-use evidence::{NoMemory, Verdict};
+use evidence::{Ending, NoMemory, Verdict};
 use far::{Far, OwnedFar};
 use loops::{Cycle, Translated};
 use ngram_cps::{Ngram, OwnedNgram};
@@ -17,7 +17,7 @@ use text::{FieldFault, Parts, end_of, next_field};
 /// What is put forward for a table.
 #[derive(Clone, Copy, Debug, PartialEq, Eq)]
 pub enum Certificate<'a> {
-    /// `H k`: it halts in k steps.
+    /// `H k s`: it halts in k steps, with s ones on its tape then; `H k` says nothing of the ones.
     Halts(HaltsIn),
     /// `C i j`: the same configuration at the times i and j.
     Cycle(Cycle),
@@ -77,21 +77,21 @@ impl<'a> Certificate<'a> {
 }
 
 impl Certificate<'_> {
-    ghost use Rattle.cert.specs.Claim.{IsWritable, shown_by};
+    ghost use Rattle.cert.specs.Claim.{IsWritable, ending_by};
     ghost use Rattle.cert.specs.Grammar.{claim_text, kind_text};
     ghost use Rattle.cert.specs.Kinds.{claim_of};
 
-    /// The verdict for which it is put forward; none where nothing is claimed. Whether it stands isn't looked at.
-    pub fn verdict(&self) -> Option<Verdict>
-        ensures { result ≡ shown_by (claim_of self.now) }
+    /// How its table's run ends by it; nothing where nothing is claimed. Whether it stands isn't looked at.
+    pub fn ending(&self) -> Option<Ending>
+        ensures { result ≡ ending_by (claim_of self.now) }
     {
         match self {
-            Certificate::Halts(evidence) => Some(Verdict::Halts(evidence.0)),
+            Certificate::Halts(evidence) => Some(Ending::Halts(evidence.steps)),
             Certificate::Cycle(_)
             | Certificate::Translated(_)
             | Certificate::Backward(_)
             | Certificate::Ngram(_)
-            | Certificate::Far(_) => Some(Verdict::Never),
+            | Certificate::Far(_) => Some(Ending::Never),
             Certificate::Undecided => None,
         }
     }
@@ -131,8 +131,10 @@ impl Certificate<'_> {
 }
 
 impl OwnedCertificate {
-    ghost use Rattle.cert.specs.Claim.{shown_by};
+    ghost use Rattle.machine_text.specs.Packed.{Packed};
+    ghost use Rattle.cert.specs.Claim.{ending_by, shown_by};
     ghost use Rattle.cert.specs.Kinds.{claim_of, owned_claim};
+    ghost use Rattle.cert.specs.Scored.{scored};
 
     /// A copy of a certificate.
     pub fn of(alloc: Global, certificate: &Certificate) -> Result<OwnedCertificate, NoMemory>
@@ -153,18 +155,34 @@ impl OwnedCertificate {
         })
     }
 
-    /// The verdict for which it is put forward; none where nothing is claimed. Lists and automata aren't unpacked.
-    pub fn verdict(&self) -> Option<Verdict>
-        ensures { result ≡ shown_by (owned_claim self.now) }
+    /// How its table's run ends by it; nothing where nothing is claimed. Lists and automata aren't unpacked.
+    pub fn ending(&self) -> Option<Ending>
+        ensures { result ≡ ending_by (owned_claim self.now) }
     {
         match self {
-            OwnedCertificate::Halts(evidence) => Some(Verdict::Halts(evidence.0)),
+            OwnedCertificate::Halts(evidence) => Some(Ending::Halts(evidence.steps)),
             OwnedCertificate::Cycle(_)
             | OwnedCertificate::Translated(_)
             | OwnedCertificate::Backward(_)
             | OwnedCertificate::Ngram(_)
-            | OwnedCertificate::Far(_) => Some(Verdict::Never),
+            | OwnedCertificate::Far(_) => Some(Ending::Never),
             OwnedCertificate::Undecided => None,
+        }
+    }
+
+    /// With the verdict that it was found to show, the certificate of a table that halts has that table's score; every
+    /// other stays as it is.
+    pub fn with_score(self, shown: Option<Verdict>) -> OwnedCertificate
+        ensures { (p : Packed) → shown ≡ shown_by (owned_claim self) p → owned_claim result ≡ scored p (owned_claim self) }
+    {
+        match (self, shown) {
+            (OwnedCertificate::Halts(evidence), Some(Verdict::Halts { ones, .. })) => {
+                OwnedCertificate::Halts(HaltsIn {
+                    steps: evidence.steps,
+                    ones: Some(ones),
+                })
+            }
+            (certificate, _) => certificate,
         }
     }
 

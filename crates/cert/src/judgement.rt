@@ -1,6 +1,6 @@
 // Whether a record's certificate stands.
 ghost use Rattle.std.specs.Prelude.{◌≡◌, ◌≢◌, Ok, Err, None, Some, OnOk, IfOk, IfErr};
-ghost use Rattle.cert.specs.Claim.{NoClaim, TakesMemory, shown_by};
+ghost use Rattle.cert.specs.Claim.{NoClaim, TakesMemory, ending_by, shown_by};
 ghost use Rattle.cert.specs.Certified.{IsCertified, IsRefusedBy, IsPairOf};
 ghost use Rattle.cert.specs.Kinds.{claim_of, recorded};
 
@@ -23,7 +23,7 @@ pub struct Judged {
 /// Neither that nor the check of lists or automata takes memory. `Fails` where it doesn't stand, `TooLong` and `TooWide` where it asks for more
 /// than the limits of its kind, `NoMemory` where memory is refused.
 pub fn judge(alloc: Global, r: &Record) -> Result<Option<Verdict>, Refused>
-    ensures ok { IfOk result (λ v. IsCertified (recorded r.now) × (v ≡ shown_by (claim_of r.now.certificate))) }
+    ensures ok { IfOk result (λ v. IsCertified (recorded r.now) × (v ≡ shown_by (claim_of r.now.certificate) r.now.table)) }
     ensures refused { IfErr result (λ f. f ≢ Refused.NoMemory → IsRefusedBy f (recorded r.now)) }
     ensures memory { IfErr result (λ f. f ≡ Refused.NoMemory → TakesMemory (claim_of r.now.certificate)) }
     ensures undecided { claim_of r.now.certificate ≡ NoClaim → result ≡ Ok None }
@@ -37,18 +37,21 @@ pub fn judge(alloc: Global, r: &Record) -> Result<Option<Verdict>, Refused>
 /// The same, with the pair on which the table halts: a table that is claimed to halt is run once.
 pub fn judge_on(alloc: Global, r: &Record) -> Result<Judged, Refused>
     ensures certified { OnOk result (IsCertified (recorded r.now)) }
-    ensures verdict { IfOk result (λ judged. judged.verdict ≡ shown_by (claim_of r.now.certificate)) }
-    ensures pair { IfOk result (λ judged. IsPairOf judged.verdict r.now.table judged.halts_on) }
+    ensures verdict { IfOk result (λ judged. judged.verdict ≡ shown_by (claim_of r.now.certificate) r.now.table) }
+    ensures pair { IfOk result (λ judged. IsPairOf (ending_by (claim_of r.now.certificate)) r.now.table judged.halts_on) }
     ensures refused { IfErr result (λ f. f ≢ Refused.NoMemory → IsRefusedBy f (recorded r.now)) }
     ensures memory { IfErr result (λ f. f ≡ Refused.NoMemory → TakesMemory (claim_of r.now.certificate)) }
     ensures undecided { claim_of r.now.certificate ≡ NoClaim → result ≡ Ok (record { verdict = None; halts_on = None }) }
 {
     match &r.certificate {
         Certificate::Halts(evidence) => {
-            let pair = evidence.halting_pair(alloc, &r.table)?;
+            let halted = evidence.halted(alloc, &r.table)?;
             Ok(Judged {
-                verdict: Some(Verdict::Halts(evidence.0)),
-                halts_on: Some(pair),
+                verdict: Some(Verdict::Halts {
+                    steps: evidence.steps,
+                    ones: halted.ones,
+                }),
+                halts_on: Some(halted.pair),
             })
         }
         Certificate::Cycle(evidence) => checked(evidence, alloc, &r.table),
@@ -65,7 +68,7 @@ pub fn judge_on(alloc: Global, r: &Record) -> Result<Judged, Refused>
 
 // What evidence of any kind shows of a table, with no pair.
 fn checked<E: Evidence>(evidence: &E, alloc: Global, t: &Table) -> Result<Judged, Refused>
-    ensures ok { IfOk result (λ judged. judged ≡ record { verdict = Some (E.shows evidence.now); halts_on = None }) }
+    ensures ok { IfOk result (λ judged. judged ≡ record { verdict = Some (E.shows evidence.now t.now); halts_on = None }) }
     ensures certified { OnOk result (E.within evidence.now × E.stands evidence.now t.now × (E.is_wide evidence.now t.now → ⊥)) }
     ensures fails { result ≡ Err Refused.Fails → E.within evidence.now × (E.is_wide evidence.now t.now → ⊥) × (E.stands evidence.now t.now → ⊥) }
     ensures long { result ≡ Err Refused.TooLong → E.within evidence.now → ⊥ }

@@ -8,7 +8,7 @@ ghost use Rattle.cert.specs.Grammar.{record_of, record_text};
 
 /// A claim that stands makes its verdict true of the table.
 pub fn standing_claims_are_true()
-    ensures { (c : Claim) (p : Packed) → IsTable p → Stands c p → IfSome (shown_by c) (λ v. IsTrueOf v (entry_of p)) }
+    ensures { (c : Claim) (p : Packed) → IsTable p → Stands c p → IfSome (shown_by c p) (λ v. IsTrueOf v (entry_of p)) }
 {}
 
 /// The numbers of a claim that is certified have at most 64 bits, and its lists and automata are made for the table's states.

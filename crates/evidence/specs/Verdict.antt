@@ -5,6 +5,8 @@ use Rattle.turing.specs.Halting.{Never}
 use Rattle.turing.specs.Score.{HaltsWith}
 use Rattle.evidence.specs.declared.verdicts.Verdict.{Verdict}
 use Rattle.evidence.specs.declared.verdicts.Verdict.TheVariants.{Halts, Never as NeverHalts}
+use Rattle.evidence.specs.declared.verdicts.Ending.{Ending}
+use Rattle.evidence.specs.declared.verdicts.Ending.TheVariants.{Halts as Halting, Never as NeverEnding}
 use Rattle.evidence.specs.declared.verdicts.Refused.{Refused}
 use Rattle.evidence.specs.declared.verdicts.Refused.TheVariants.{Fails, TooLong, TooWide, NoMemory}
 
@@ -12,6 +14,11 @@ use Rattle.evidence.specs.declared.verdicts.Refused.TheVariants.{Fails, TooLong,
 abbrev pub IsTrueOf : Verdict → Machine → Type 0
 IsTrueOf (Halts k s) m = HaltsWith m k s
 IsTrueOf NeverHalts m = Never m
+
+-- the verdict without the ones
+abbrev pub ending_of : Verdict → Ending
+ending_of (Halts k s) = Halting k
+ending_of NeverHalts = NeverEnding
 
 -- refused memory has no number
 abbrev pub refused_number : Refused → Option ℕ

@@ -5,6 +5,7 @@ use Rattle.turing.specs.Backward.{Backward}
 use Rattle.backward.specs.Limits.{depth_limit}
 use Rattle.backward.specs.declared.backward.Backward.{Backward as Depth}
 use Rattle.backward.specs.Paths.{IsTooWide}
+use Rattle.evidence.specs.declared.verdicts.Ending.TheVariants.{Never as NeverEnding}
 use Rattle.evidence.specs.declared.verdicts.Verdict.TheVariants.{Never}
 use Rattle.cert.specs.Meaning.{Meaning}
 
@@ -12,7 +13,8 @@ abbrev pub backward_meaning : Depth → Meaning
 backward_meaning e = record {
   writable = e.depth < 2 ^ 64;
   made_for = λ n. Unit {0};
-  shows = Some Never;
+  ends = Some NeverEnding;
+  shows = λ p. Some Never;
   within = e.depth ≤ depth_limit;
   wide = λ p. IsTooWide p e.depth;
   stands = λ p. Backward p.states (entry_of p) e.depth;

@@ -1,6 +1,7 @@
 -- F side m delta rows keep: the automata fit the table.
 use Rattle.std.specs.Prelude.{◌≡◌, Some}
 use Rattle.far.specs.Automata.{Automata, AreAutomata, AreSized, AreAutomataOf}
+use Rattle.evidence.specs.declared.verdicts.Ending.TheVariants.{Never as NeverEnding}
 use Rattle.evidence.specs.declared.verdicts.Verdict.TheVariants.{Never}
 use Rattle.cert.specs.Meaning.{Meaning}
 
@@ -8,7 +9,8 @@ abbrev pub far_meaning : Automata → Meaning
 far_meaning a = record {
   writable = AreAutomata a × AreSized a;
   made_for = λ n. a.states ≡ n;
-  shows = Some Never;
+  ends = Some NeverEnding;
+  shows = λ p. Some Never;
   within = AreSized a;
   wide = λ p. ⊥;
   stands = λ p. AreAutomata a × AreAutomataOf a p;

@@ -4,6 +4,7 @@ use Rattle.machine_text.specs.Packed.{entry_of}
 use Rattle.turing.specs.Translated.{Translated}
 use Rattle.loops.specs.Limits.{time_limit}
 use Rattle.loops.specs.declared.translated.Translated.{Translated as Times}
+use Rattle.evidence.specs.declared.verdicts.Ending.TheVariants.{Never as NeverEnding}
 use Rattle.evidence.specs.declared.verdicts.Verdict.TheVariants.{Never}
 use Rattle.cert.specs.Meaning.{Meaning}
 
@@ -11,7 +12,8 @@ abbrev pub translated_meaning : Times → Meaning
 translated_meaning e = record {
   writable = (e.i < 2 ^ 64) × (e.j < 2 ^ 64);
   made_for = λ n. Unit {0};
-  shows = Some Never;
+  ends = Some NeverEnding;
+  shows = λ p. Some Never;
   within = e.j ≤ time_limit;
   wide = λ p. ⊥;
   stands = λ p. Translated (entry_of p) e.i e.j e.side;

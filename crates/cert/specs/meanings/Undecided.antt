@@ -6,7 +6,8 @@ abbrev pub undecided_meaning : Meaning
 undecided_meaning = record {
   writable = Unit {0};
   made_for = λ n. Unit {0};
-  shows = None;
+  ends = None;
+  shows = λ p. None;
   within = Unit {0};
   wide = λ p. ⊥;
   stands = λ p. Unit {0};

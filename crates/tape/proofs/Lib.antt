@@ -7,3 +7,4 @@ pub mod LikeBits
 pub mod Sweeps
 pub mod Places
 pub mod Halves
+pub mod WordOnes

@@ -9,6 +9,7 @@
 mod bits;
 mod cell;
 mod limits;
+mod ones;
 mod same_half;
 mod sweep;
 mod tape;

@@ -7,7 +7,7 @@ use Rattle.text.proofs.Spaced.{number_is_field, and_field, no_fields, length-spa
 use Rattle.run.specs.declared.halts_in.HaltsIn.{HaltsIn}
 use Rattle.run.specs.Fields.{AreShort, halts_by, halts_fields}
 
-claim : ℕ → Option ℕ → HaltsIn
+abbrev claim : ℕ → Option ℕ → HaltsIn
 claim k o = record { steps = k; ones = o }
 
 read_back : (k : ℕ) (o : Option ℕ) → AreShort (claim k o) → halts_by (halts_fields (claim k o)) ≡ Ok (claim k o)

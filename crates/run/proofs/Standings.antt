@@ -1,5 +1,5 @@
 -- Where a runner stands, before and after a step.
-use Rattle.std.proofs.Common.{◌≡◌, ℕ, ◌+◌, ◌<◌, ◌≤◌, Some, None, refl, sym, ◌∙◌, ap, subst, arith, add-one}
+use Rattle.std.proofs.Common.{◌≡◌, ℕ, suc, ◌+◌, ◌<◌, ◌≤◌, Some, None, refl, sym, ◌∙◌, ap, subst, arith, add-one}
 use Rattle.std.proofs.lemmas.Int.{ints}
 use Rattle.machine_text.specs.Packed.{Packed, IsTable, entry_of}
 use Rattle.machine_text.specs.declared.transition.Sym.{Sym}
@@ -8,6 +8,7 @@ use Rattle.turing.specs.Machine.{Machine}
 use Rattle.turing.specs.Tape.{Tape, symbol_read, written, moved}
 use Rattle.turing.specs.Run.{Config, start, after, next, done_by}
 use Rattle.turing.specs.Halting.{HaltsAt, HaltsOn}
+use Rattle.turing.specs.Score.{score_of, score_at, score_where}
 use Rattle.turing.proofs.RunLaws.{from_zero, next_is, one_count, not_past}
 use Rattle.turing.proofs.Steps.{next_taken}
 use Rattle.turing.proofs.Heads.{head_reach, states_within}
@@ -121,6 +122,19 @@ stands_last m k steps c at count halts =
       state = ap (λ (d : Config). d.state) config;
       symbol = ap (λ (d : Config). symbol_read d.tape) config;
     }
+
+-- and gives its score
+score_last : (m : Machine) (k steps : ℕ) (c : Config) → after m steps ≡ Some c → k ≡ steps + 1 → score_of c ≡ score_at m k
+score_last m k steps c at count =
+    let next_time : k ≡ suc steps = omega arith in
+    sym (ap (score_at m) next_time ∙ ap score_where at)
+
+-- so where a run halts it stands where its score can be told
+pub score_on : (k count : ℕ) (p : Packed) (old new : RunState) (step : Step) → old ≡ begun p → RunsTo k old step new → step ≡ Halts count → score_of new.config ≡ score_at (entry_of p) count
+score_on k count p old new step began runs is =
+    let halts = subst (λ (s : Step). RunsTo k (begun p) s new) is (subst (λ (r : RunState). RunsTo k r step new) began runs) in
+    let at : after (entry_of p) new.steps ≡ Some new.config = subst (λ (t : Packed). after (entry_of t) new.steps ≡ Some new.config) halts.0.table halts.0.stands.at in
+    score_last (entry_of p) count new.steps new.config at halts.1.last
 
 -- so where a run halts in k steps it stands on its halting pair
 pub halts_on : (k : ℕ) (p : Packed) (old new : RunState) (step : Step) → old ≡ begun p → RunsTo k old step new → step ≡ Halts k → HaltsOn (entry_of p) k new.config.state (symbol_read new.config.tape)

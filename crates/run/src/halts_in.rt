@@ -118,7 +118,7 @@ impl Evidence for HaltsIn {
     ghost use Rattle.turing.specs.Score.{score_at};
     ghost use Rattle.run.specs.Halts.{HaltsAsClaimed};
     ghost use Rattle.run.specs.Limits.{halt_step_limit};
-    ghost use Rattle.run.proofs.ScoreLaws.{claimed_is_true};
+    ghost use Rattle.turing.proofs.Scores.{halts_with};
 
     ghost within = { λ e. e.steps ≤ halt_step_limit };
 
@@ -139,5 +139,5 @@ impl Evidence for HaltsIn {
         })
     }
 
-    ghost law = { λ e p is_table stands. claimed_is_true e p stands };
+    ghost law = { λ e p is_table stands. halts_with (entry_of p) e.steps stands.halts };
 }

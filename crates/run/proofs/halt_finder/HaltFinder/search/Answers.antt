@@ -1,9 +1,9 @@
-use Rattle.std.proofs.Common.{arith, rules}
-use Rattle.run.proofs.Standings.{found_none}
+use Rattle.std.proofs.Common.{Some, ap, arith, rules}
+use Rattle.run.proofs.Standings.{found_none, score_on}
 use Rattle.run.proofs.halt_finder.HaltFinder.search.Goals as goal
 
-pub returns-clause-none : goal.returns-clause-none
-returns-clause-none c k early halts =
+pub returns-in-Went-clause-none : goal.returns-in-Went-clause-none
+returns-in-Went-clause-none c k early halts =
     found_none c.min-limit.result c.args.t.now c.in_ok-runner.runner c.run_to.new.self c.in_ok-step.step c.in_ok-runner.ensures c.in_ok-step.ensures.ok c.in-Went.is k (omega (arith, c.min.ensures, c.min-limit.ensures)) halts
 
 -- answered by name, so that nothing is offered where an edit makes it false
@@ -12,3 +12,7 @@ returns-in-Halts-clause-within c = search rules steps 1000000
 
 pub returns-in-Halts-clause-none : goal.returns-in-Halts-clause-none
 returns-in-Halts-clause-none c = search rules steps 100000
+
+pub returns-in-Halts-clause-score : goal.returns-in-Halts-clause-score
+returns-in-Halts-clause-score c =
+    rw c.into_score.ensures (ap Some (score_on _ c.in-Halts.count c.args.t.now c.in_ok-runner.runner c.run_to.new.self c.in_ok-step.step c.in_ok-runner.ensures c.in_ok-step.ensures.ok c.in-Halts.is))

@@ -52,6 +52,9 @@ IsMadeFor c n = (meaning c).made_for n
 abbrev pub ending_by : Claim → Option Ending
 ending_by c = (meaning c).ends
 
+abbrev pub score_by : Claim → Option ℕ
+score_by c = (meaning c).score
+
 abbrev pub shown_by : Claim → Packed → Option Verdict
 shown_by c p = (meaning c).shows p
 

@@ -11,6 +11,8 @@ pub record Meaning : Type 1 where
   pub made_for : ℕ → Type 0
   -- how the run ends by it; nothing where nothing is claimed
   pub ends : Option Ending
+  -- the score that is claimed beside that, if one is
+  pub score : Option ℕ
   -- the verdict on a table for which it is made; none where nothing is claimed
   pub shows : Packed → Option Verdict
   -- it asks for no more than the limits of its kind

@@ -77,7 +77,7 @@ impl<'a> Certificate<'a> {
 }
 
 impl Certificate<'_> {
-    ghost use Rattle.cert.specs.Claim.{IsWritable, ending_by};
+    ghost use Rattle.cert.specs.Claim.{IsWritable, ending_by, score_by};
     ghost use Rattle.cert.specs.Grammar.{claim_text, kind_text};
     ghost use Rattle.cert.specs.Kinds.{claim_of};
 
@@ -93,6 +93,16 @@ impl Certificate<'_> {
             | Certificate::Ngram(_)
             | Certificate::Far(_) => Some(Ending::Never),
             Certificate::Undecided => None,
+        }
+    }
+
+    /// The score that it claims, if it claims one: a number of ones (Radó 1962).
+    pub fn ones(&self) -> Option<u64>
+        ensures { result ≡ score_by (claim_of self.now) }
+    {
+        match self {
+            Certificate::Halts(evidence) => evidence.ones,
+            _ => None,
         }
     }
 

@@ -26,7 +26,7 @@ pub use finder::Finder;
 pub use judgement::{Judged, judge, judge_on};
 pub use laws::{
     certified_claims_are_writable, record_texts_are_lines, records_parse_back,
-    standing_claims_are_true,
+    scores_leave_claims, standing_claims_are_true,
 };
 pub use limits::MAX_RECORD_BYTES;
 pub use record::{OwnedRecord, Record};

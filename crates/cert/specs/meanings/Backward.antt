@@ -1,5 +1,5 @@
 -- B d: no configuration comes to a halting pair after exactly d steps. To check it may take more paths than are kept.
-use Rattle.std.specs.Prelude.{◌<◌, ◌≤◌, ◌^◌, Some}
+use Rattle.std.specs.Prelude.{◌<◌, ◌≤◌, ◌^◌, Some, None}
 use Rattle.machine_text.specs.Packed.{entry_of}
 use Rattle.turing.specs.Backward.{Backward}
 use Rattle.backward.specs.Limits.{depth_limit}
@@ -14,6 +14,7 @@ backward_meaning e = record {
   writable = e.depth < 2 ^ 64;
   made_for = λ n. Unit {0};
   ends = Some NeverEnding;
+  score = None;
   shows = λ p. Some Never;
   within = e.depth ≤ depth_limit;
   wide = λ p. IsTooWide p e.depth;

@@ -1,5 +1,5 @@
 -- C i j: the same configuration at the times i and j.
-use Rattle.std.specs.Prelude.{◌<◌, ◌≤◌, ◌^◌, Some}
+use Rattle.std.specs.Prelude.{◌<◌, ◌≤◌, ◌^◌, Some, None}
 use Rattle.machine_text.specs.Packed.{entry_of}
 use Rattle.turing.specs.Cycle.{Cycle}
 use Rattle.loops.specs.Limits.{time_limit}
@@ -13,6 +13,7 @@ cycle_meaning e = record {
   writable = (e.i < 2 ^ 64) × (e.j < 2 ^ 64);
   made_for = λ n. Unit {0};
   ends = Some NeverEnding;
+  score = None;
   shows = λ p. Some Never;
   within = e.j ≤ time_limit;
   wide = λ p. ⊥;

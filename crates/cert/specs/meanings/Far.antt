@@ -1,5 +1,5 @@
 -- F side m delta rows keep: the automata fit the table.
-use Rattle.std.specs.Prelude.{◌≡◌, Some}
+use Rattle.std.specs.Prelude.{◌≡◌, Some, None}
 use Rattle.far.specs.Automata.{Automata, AreAutomata, AreSized, AreAutomataOf}
 use Rattle.evidence.specs.declared.verdicts.Ending.TheVariants.{Never as NeverEnding}
 use Rattle.evidence.specs.declared.verdicts.Verdict.TheVariants.{Never}
@@ -10,6 +10,7 @@ far_meaning a = record {
   writable = AreAutomata a × AreSized a;
   made_for = λ n. a.states ≡ n;
   ends = Some NeverEnding;
+  score = None;
   shows = λ p. Some Never;
   within = AreSized a;
   wide = λ p. ⊥;

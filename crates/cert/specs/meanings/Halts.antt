@@ -15,6 +15,7 @@ halts_meaning e = record {
   writable = AreShort e;
   made_for = λ n. Unit {0};
   ends = Some (Halting e.steps);
+  score = e.ones;
   shows = λ p. Some (Halts e.steps (score_at (entry_of p) e.steps));
   within = e.steps ≤ halt_step_limit;
   wide = λ p. ⊥;

@@ -1,5 +1,5 @@
 -- N g L R C: the lists are a closed position set.
-use Rattle.std.specs.Prelude.{◌≡◌, Some}
+use Rattle.std.specs.Prelude.{◌≡◌, Some, None}
 use Rattle.ngram_cps.specs.Lists.{Lists, AreLists, AreWithin, IsPositionSet}
 use Rattle.evidence.specs.declared.verdicts.Ending.TheVariants.{Never as NeverEnding}
 use Rattle.evidence.specs.declared.verdicts.Verdict.TheVariants.{Never}
@@ -10,6 +10,7 @@ ngram_meaning s = record {
   writable = AreLists s × AreWithin s;
   made_for = λ n. s.states ≡ n;
   ends = Some NeverEnding;
+  score = None;
   shows = λ p. Some Never;
   within = AreWithin s;
   wide = λ p. ⊥;

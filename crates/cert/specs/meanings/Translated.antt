@@ -1,5 +1,5 @@
 -- T i j side: the same configuration at the times i and j but for a shift, and for what lies behind.
-use Rattle.std.specs.Prelude.{◌<◌, ◌≤◌, ◌^◌, Some}
+use Rattle.std.specs.Prelude.{◌<◌, ◌≤◌, ◌^◌, Some, None}
 use Rattle.machine_text.specs.Packed.{entry_of}
 use Rattle.turing.specs.Translated.{Translated}
 use Rattle.loops.specs.Limits.{time_limit}
@@ -13,6 +13,7 @@ translated_meaning e = record {
   writable = (e.i < 2 ^ 64) × (e.j < 2 ^ 64);
   made_for = λ n. Unit {0};
   ends = Some NeverEnding;
+  score = None;
   shows = λ p. Some Never;
   within = e.j ≤ time_limit;
   wide = λ p. ⊥;

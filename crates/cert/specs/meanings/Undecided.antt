@@ -7,6 +7,7 @@ undecided_meaning = record {
   writable = Unit {0};
   made_for = λ n. Unit {0};
   ends = None;
+  score = None;
   shows = λ p. None;
   within = Unit {0};
   wide = λ p. ⊥;

@@ -1,5 +1,5 @@
 use Rattle.std.proofs.Common.{rules}
-use Rattle.cert.proofs.certificate.Certificate.verdict.Goals as goal
+use Rattle.cert.proofs.certificate.Certificate.ending.Goals as goal
 
 -- answered by name, so that nothing is offered where an edit makes it false
 pub returns-in-Halts : goal.returns-in-Halts

@@ -4,11 +4,11 @@ use Rattle.std.specs.List.{Contains}
 use Rattle.std.proofs.lemmas.List.Elements.{Contains-append_left, Contains-append_right, Contains-append_cases}
 use Rattle.std.proofs.lemmas.List.Sums.{fold-append}
 use Rattle.machine_text.specs.Packed.{Packed, IsTable}
-use Rattle.evidence.specs.declared.verdicts.Verdict.{Verdict}
-use Rattle.evidence.specs.declared.verdicts.Verdict.TheVariants.{Halts, Never}
+use Rattle.evidence.specs.declared.verdicts.Ending.{Ending}
+use Rattle.evidence.specs.declared.verdicts.Ending.TheVariants.{Halts, Never}
 use Rattle.tree.specs.Closed.{Mark, Halting, NeverHalting, Holdout, IsVerdict, IsOpen}
 use Rattle.tree.proofs.TableLaws.{tree_alike, tree_table_child}
-use Rattle.cert.specs.Claim.{Claim, Recorded, shown_by}
+use Rattle.cert.specs.Claim.{Claim, Recorded, ending_by}
 use Rattle.cert.specs.Certified.{IsCertified}
 use Rattle.cert.proofs.Refusals.{refused_or_certified}
 use Rattle.ledger.specs.Records.{same_table, claim_in, mark_in, mark_of, mark_by}
@@ -30,13 +30,13 @@ pub record Agree (root : Packed) (ks rs : List Recorded) : Type 0 where
   pub is : rs ≡ held ks
   pub none : (t : Packed) → claim_in rs t ≡ None → (e : Recorded) → Contains ks e → e.table ≢ t
   pub some : (t : Packed) (c : Claim) → claim_in rs t ≡ Some c → Contains ks (record { table = t; claim = c })
-  pub verdict : (e : Recorded) → Contains ks e → IsSome (shown_by e.claim) → claim_in rs e.table ≡ Some e.claim
+  pub verdict : (e : Recorded) → Contains ks e → IsSome (ending_by e.claim) → claim_in rs e.table ≡ Some e.claim
   pub places : (e : Recorded) → Contains ks e → HasPlace root ks e.table
 
 nobody : {X : Type 0} {x : X} → Contains [] x → ⊥
 nobody (k, below, is) = omega arith
 
-no_some : (o : Option Verdict) → IsSome o → o ≡ None → ⊥
+no_some : (o : Option Ending) → IsSome o → o ≡ None → ⊥
 no_some None some e = cc
 no_some (Some v) some e = cc
 
@@ -87,7 +87,7 @@ alone r e at = elim (first_or_later r [] e at) [ inl is ↦ is | inr later ↦ a
 
 -- one more fit record
 agree_more : (root : Packed) (ks rs new : List Recorded) (r : Recorded) → Agree root ks rs → IsTaken rs new r → IsHeld root new → new ≡ placed rs r
-    → ((c : Claim) → claim_in rs r.table ≡ Some c → shown_by c ≡ None) → HasPlace root ks r.table → Agree root (ks ++ (r ∷ [])) new
+    → ((c : Claim) → claim_in rs r.table ≡ Some c → ending_by c ≡ None) → HasPlace root ks r.table → Agree root (ks ++ (r ∷ [])) new
 agree_more root ks rs new r agree taken is_held is unsettled place =
     let last : Contains (ks ++ (r ∷ [])) r = Contains-append_right ks (r ∷ []) r (first_member r r [] refl) in record {
       is_held = is_held;
@@ -114,7 +114,7 @@ agree_more root ks rs new r agree taken is_held is unsettled place =
             let claimed = agree.verdict e before shown in
             let past : e.table ≢ r.table = λ (same : e.table ≡ r.table).
             let none = unsettled e.claim (subst (λ (p : Packed). claim_in rs p ≡ Some e.claim) same claimed) in
-            absurd (no_some (shown_by e.claim) shown none) in
+            absurd (no_some (ending_by e.claim) shown none) in
             taken.others e.table past ∙ claimed
         | inr now ↦ subst (λ (x : Recorded). claim_in new x.table ≡ Some x.claim) (alone r e now) taken.here
       ];
@@ -125,27 +125,27 @@ agree_more root ks rs new r agree taken is_held is unsettled place =
     }
 
 -- the mark of a table by a fit record, and back
-marked_halting : (root : Packed) (ks rs : List Recorded) (p : Recorded) (k : ℕ) → Agree root ks rs → Contains ks p → shown_by p.claim ≡ Some (Halts k) → mark_in rs p.table ≡ Some (Halting k)
+marked_halting : (root : Packed) (ks rs : List Recorded) (p : Recorded) (k : ℕ) → Agree root ks rs → Contains ks p → ending_by p.claim ≡ Some (Halts k) → mark_in rs p.table ≡ Some (Halting k)
 marked_halting root ks rs p k agree at shown =
-    ap (option_map mark_of) (agree.verdict p at (subst (λ (o : Option Verdict). IsSome o) (sym shown) refl)) ∙ ap (λ (o : Option Verdict). Some (mark_by o)) shown
+    ap (option_map mark_of) (agree.verdict p at (subst (λ (o : Option Ending). IsSome o) (sym shown) refl)) ∙ ap (λ (o : Option Ending). Some (mark_by o)) shown
 
-marked_by : (rs : List Recorded) (t : Packed) (k : ℕ) → mark_in rs t ≡ Some (Halting k) → (c : Claim) × (claim_in rs t ≡ Some c) × (shown_by c ≡ Some (Halts k))
+marked_by : (rs : List Recorded) (t : Packed) (k : ℕ) → mark_in rs t ≡ Some (Halting k) → (c : Claim) × (claim_in rs t ≡ Some c) × (ending_by c ≡ Some (Halts k))
 marked_by rs t k marked =
-    elim (claim_in rs t) as (λ o. claim_in rs t ≡ o → (c : Claim) × (claim_in rs t ≡ Some c) × (shown_by c ≡ Some (Halts k))) [
-      | Some c ↦ λ is. let same = ap (option_map mark_of) (sym is) ∙ marked in (c, is, stopping_verdict (shown_by c) k cc)
+    elim (claim_in rs t) as (λ o. claim_in rs t ≡ o → (c : Claim) × (claim_in rs t ≡ Some c) × (ending_by c ≡ Some (Halts k))) [
+      | Some c ↦ λ is. let same = ap (option_map mark_of) (sym is) ∙ marked in (c, is, stopping_verdict (ending_by c) k cc)
       | None ↦ λ none. let same = ap (option_map mark_of) (sym none) ∙ marked in absurd (cc)
     ] refl
 
-is_holdout : (o : Option Verdict) → o ≡ None → mark_by o ≡ Holdout
+is_holdout : (o : Option Ending) → o ≡ None → mark_by o ≡ Holdout
 is_holdout None e = refl
 is_holdout (Some v) e = cc
 
-no_verdict : (o : Option Verdict) → mark_by o ≡ Holdout → o ≡ None
+no_verdict : (o : Option Ending) → mark_by o ≡ Holdout → o ≡ None
 no_verdict None e = refl
 no_verdict (Some (Halts k)) e = cc
 no_verdict (Some Never) e = cc
 
-some_verdict : (o : Option Verdict) → (o ≡ None → ⊥) → IsSome o
+some_verdict : (o : Option Ending) → (o ≡ None → ⊥) → IsSome o
 some_verdict None never = absurd (never refl)
 some_verdict (Some v) never = refl
 
@@ -162,10 +162,10 @@ fit_now root ks rs r agree fit =
       })
       | Some c ↦ λ claimed.
           let at = agree.some r.table c claimed in
-          let none : shown_by c ≡ None = fit.no_verdict (record { table = r.table; claim = c }) at refl in
+          let none : ending_by c ≡ None = fit.no_verdict (record { table = r.table; claim = c }) at refl in
           inr (record {
-            is_holdout = ap (option_map mark_of) claimed ∙ ap (λ (m : Mark). Some m) (is_holdout (shown_by c) none);
-            verdict = some_verdict (shown_by r.claim) (λ bare. fit.not_again bare (record { table = r.table; claim = c }) at refl);
+            is_holdout = ap (option_map mark_of) claimed ∙ ap (λ (m : Mark). Some m) (is_holdout (ending_by c) none);
+            verdict = some_verdict (ending_by r.claim) (λ bare. fit.not_again bare (record { table = r.table; claim = c }) at refl);
             certified = fit.certified;
           })
     ] refl
@@ -189,18 +189,18 @@ new_fit root ks rs r agree fit =
 pub settling_fit : (root : Packed) (ks rs : List Recorded) (r : Recorded) → Agree root ks rs → Settles rs r → IsFitAfter root ks r
 settling_fit root ks rs r agree settles =
     let c = holdout_claim rs r.table settles.is_holdout in
-    let none : shown_by c.0 ≡ None = no_verdict (shown_by c.0) c.2 in
+    let none : ending_by c.0 ≡ None = no_verdict (ending_by c.0) c.2 in
     record {
       place = agree.places (record { table = r.table; claim = c.0 }) (agree.some r.table c.0 c.1);
       no_verdict = λ e at same.
-          elim (shown_by e.claim) as (λ o. shown_by e.claim ≡ o → o ≡ None) [
+          elim (ending_by e.claim) as (λ o. ending_by e.claim ≡ o → o ≡ None) [
             | None ↦ λ is. refl
             | Some v ↦ λ is.
-                let claimed = subst (λ (p : Packed). claim_in rs p ≡ Some e.claim) same (agree.verdict e at (subst (λ (o : Option Verdict). IsSome o) (sym is) refl)) in
+                let claimed = subst (λ (p : Packed). claim_in rs p ≡ Some e.claim) same (agree.verdict e at (subst (λ (o : Option Ending). IsSome o) (sym is) refl)) in
                 let claim : e.claim ≡ c.0 = cc (claimed, c.1) in
-                let shown = ap shown_by claim in absurd (cc)
+                let shown = ap ending_by claim in absurd (cc)
           ] refl;
-      not_again = λ bare. absurd (no_some (shown_by r.claim) settles.verdict bare);
+      not_again = λ bare. absurd (no_some (ending_by r.claim) settles.verdict bare);
       certified = settles.certified;
     }
 
@@ -213,9 +213,9 @@ agree_new root ks rs r agree fit =
 pub agree_settled : (root : Packed) (ks rs : List Recorded) (r : Recorded) → Agree root ks rs → Settles rs r → Agree root (ks ++ (r ∷ [])) (settled rs r)
 agree_settled root ks rs r agree settles =
     let c = holdout_claim rs r.table settles.is_holdout in
-    let none : shown_by c.0 ≡ None = no_verdict (shown_by c.0) c.2 in
+    let none : ending_by c.0 ≡ None = no_verdict (ending_by c.0) c.2 in
     agree_more root ks rs (settled rs r) r agree (taken_settled rs r c.0 c.1 c.2) (held_settled root rs r agree.is_held settles) (sym (placed_settles rs r c.0 c.1))
-    (λ d is. let same : c.0 ≡ d = cc (c.1, is) in subst (λ (x : Claim). shown_by x ≡ None) same none)
+    (λ d is. let same : c.0 ≡ d = cc (c.1, is) in subst (λ (x : Claim). ending_by x ≡ None) same none)
     (settling_fit root ks rs r agree settles).place
 
 -- what is fit now is taken, unless memory is refused
@@ -245,7 +245,7 @@ fit_or_known root rs r (inl fit) known = elim known.is [
 ]
 fit_or_known root rs r (inr settles) known = elim known.is [
   | inl v ↦ verdict_holdout (mark_in rs r.table) v settles.is_holdout
-  | inr h ↦ no_some (shown_by r.claim) settles.verdict h.1
+  | inr h ↦ no_some (ending_by r.claim) settles.verdict h.1
 ]
 
 pub fit_or_refused : (root : Packed) (rs : List Recorded) (r : Recorded) (f : OfferFault) (new : List Recorded) → IsTable root → IsHeld root rs → IsFit root rs r ⊎ Settles rs r

@@ -10,7 +10,7 @@ use Rattle.machine_text.specs.Packed.{Packed, IsTable, entry_of}
 use Rattle.tree.specs.Used.{InOrder}
 use Rattle.tree.specs.Closed.{Mark, Halting, Holdout, IsOpen}
 use Rattle.tree.specs.Tables.{InTableTree}
-use Rattle.cert.specs.Claim.{Recorded, shown_by}
+use Rattle.cert.specs.Claim.{Recorded, ending_by}
 use Rattle.ledger.specs.Records.{claim_in, mark_in, mark_of}
 use Rattle.ledger.specs.Held.{IsHoldout}
 use Rattle.machine_text.specs.Order.{table_cmp}
@@ -110,7 +110,7 @@ champions_listed : (best : ℕ) (rs : List Recorded) → filter_map (champion_ta
 champions_listed best [] = refl
 champions_listed best (x ∷ xs) =
     let later = champions_listed best xs in
-    elim (steps_of (shown_by x.claim)) as (λ o. steps_of (shown_by x.claim) ≡ o → filter_map (champion_table best) (x ∷ xs) ≡ map (λ (r : Recorded). r.table) (filter (is_champion best) (x ∷ xs))) [
+    elim (steps_of (ending_by x.claim)) as (λ o. steps_of (ending_by x.claim) ≡ o → filter_map (champion_table best) (x ∷ xs) ≡ map (λ (r : Recorded). r.table) (filter (is_champion best) (x ∷ xs))) [
       | None ↦ λ is. rw is later
       | Some k ↦ λ is. elim (nat_eq k best) as (λ v. nat_eq k best ≡ v → filter_map (champion_table best) (x ∷ xs) ≡ map (λ (r : Recorded). r.table) (filter (is_champion best) (x ∷ xs))) [
         | true ↦ λ same. rw (is, same) (ap (λ (l : List Packed). x.table ∷ l) later)

@@ -8,7 +8,7 @@ use Rattle.std.proofs.lemmas.List.{map-append, length-map}
 use Rattle.indexmap.specs.IndexMap.{insert_entry}
 use Rattle.machine_text.specs.Packed.{Packed}
 use Rattle.tree.specs.Closed.{IsOpen}
-use Rattle.cert.specs.Claim.{Claim, Recorded, shown_by}
+use Rattle.cert.specs.Claim.{Claim, Recorded, ending_by}
 use Rattle.cert.specs.Certified.{IsCertified, IsPairOf}
 use Rattle.cert.specs.Kinds.{owned_claim}
 use Rattle.ledger.specs.Records.{same_table, claim_in, mark_in}
@@ -67,18 +67,18 @@ records_settled es new r k claim holdout is =
     let found = an_entry es r.table c.0 c.1 in
     ap records_of is ∙ (entry_settled es r.table k found.0 found.1 ∙ ap (settled (records_of es)) (stored_is r k claim))
 
-known : (es new : List (Packed × StoredRecord)) (r : Recorded) (k : StoredRecord) → All KnowsPair es → owned_claim k.certificate ≡ r.claim → IsPairOf (shown_by r.claim) r.table k.halts_on → new ≡ insert_entry same_table es r.table k → All KnowsPair new
+known : (es new : List (Packed × StoredRecord)) (r : Recorded) (k : StoredRecord) → All KnowsPair es → owned_claim k.certificate ≡ r.claim → IsPairOf (ending_by r.claim) r.table k.halts_on → new ≡ insert_entry same_table es r.table k → All KnowsPair new
 known es new r k all claim pair is =
-    subst (All KnowsPair) (sym is) (inserted_pairs es r.table k all (subst (λ (c : Claim). IsPairOf (shown_by c) r.table k.halts_on) (sym claim) pair))
+    subst (All KnowsPair) (sym is) (inserted_pairs es r.table k all (subst (λ (c : Claim). IsPairOf (ending_by c) r.table k.halts_on) (sym claim) pair))
 
 -- a record of an open table is taken
 pub stored_more : (root : Packed) (es new : List (Packed × StoredRecord)) (r : Recorded) (k : StoredRecord) (place : ℕ) (tables mid after : BTreeMap Packed ℕ) (counts : Counts)
     → IsStoredUnindexed root es tables counts → IsOpen root (mark_in (records_of es)) r.table → IsCertified r
-    → owned_claim k.certificate ≡ r.claim → IsPairOf (shown_by r.claim) r.table k.halts_on → new ≡ insert_entry same_table es r.table k → place ≡ length es
+    → owned_claim k.certificate ≡ r.claim → IsPairOf (ending_by r.claim) r.table k.halts_on → new ≡ insert_entry same_table es r.table k → place ≡ length es
     → ((q : Packed) → ContainsKey table_cmp mid q ↔ (ContainsKey table_cmp tables q ⊎ IsNewChild (records_of es) r q))
     → others place mid.entries ≡ tables.entries → AreChildrenAt place r.table mid.entries → (k.halts_on ≡ None → mid.entries ≡ tables.entries)
     → ((q : Packed) → ContainsKey table_cmp after q ↔ (ContainsKey table_cmp mid q × (q ≢ r.table))) → after.entries ≡ remove_entry (is_at (table_cmp r.table)) mid.entries
-    → IsStoredUnindexed root new after (with_shown counts (shown_by r.claim))
+    → IsStoredUnindexed root new after (with_shown counts (ending_by r.claim))
 stored_more root es new r k place tables mid after counts kept is_open certified claim pair is last opened others children none closed removal =
     let rs = records_of es in
     let gone = unmarked (claim_in rs r.table) is_open.unmarked in
@@ -88,17 +88,17 @@ stored_more root es new r k place tables mid after counts kept is_open certified
           (opened_more root rs r place k.halts_on tables mid after kept.1 is_open (last ∙ sym (length-map es entry_recorded)) pair others children none removal
           (λ q. opened_then_closed rs r _ _ _ q (opened q) (closed q))),
       known es new r k kept.2 claim pair is,
-      subst (λ (l : List Recorded). IsCounted l (with_shown counts (shown_by r.claim))) (sym list) (counted_more rs r counts kept.3 (taken_last rs r root is_open)),
+      subst (λ (l : List Recorded). IsCounted l (with_shown counts (ending_by r.claim))) (sym list) (counted_more rs r counts kept.3 (taken_last rs r root is_open)),
     )
 
 -- a holdout is settled
 pub stored_settled : (root : Packed) (es new : List (Packed × StoredRecord)) (r : Recorded) (k : StoredRecord) (place : ℕ) (tables after : BTreeMap Packed ℕ) (counts : Counts)
     → IsStoredUnindexed root es tables counts → Settles (records_of es) r
-    → owned_claim k.certificate ≡ r.claim → IsPairOf (shown_by r.claim) r.table k.halts_on → new ≡ insert_entry same_table es r.table k
+    → owned_claim k.certificate ≡ r.claim → IsPairOf (ending_by r.claim) r.table k.halts_on → new ≡ insert_entry same_table es r.table k
     → (x : Recorded) × (slice_get (records_of es) place ≡ Some x) × (x.table ≡ r.table) × (is_halting x ≡ false)
     → ((q : Packed) → ContainsKey table_cmp after q ↔ (ContainsKey table_cmp tables q ⊎ IsNewChild (records_of es) r q))
     → others place after.entries ≡ tables.entries → AreChildrenAt place r.table after.entries → (k.halts_on ≡ None → after.entries ≡ tables.entries)
-    → IsStoredUnindexed root new after (with_shown (without_holdout counts) (shown_by r.claim))
+    → IsStoredUnindexed root new after (with_shown (without_holdout counts) (ending_by r.claim))
 stored_settled root es new r k place tables after counts kept settles claim pair is at opened others children none =
     let rs = records_of es in
     let holdout = settles.is_holdout in
@@ -108,7 +108,7 @@ stored_settled root es new r k place tables after counts kept settles claim pair
       subst (λ (l : List Recorded). IsOpenMap after (record { root = root; records = l })) (sym list)
           (opened_settled root rs r at.0 place k.halts_on tables after kept.0 kept.1 holdout at.1 at.2 pair others children none opened),
       known es new r k kept.2 claim pair is,
-      subst (λ (l : List Recorded). IsCounted l (with_shown (without_holdout counts) (shown_by r.claim))) (sym list)
+      subst (λ (l : List Recorded). IsCounted l (with_shown (without_holdout counts) (ending_by r.claim))) (sym list)
           (counted_settled rs r c.0 counts kept.3 c.1 (holdout_shows rs r.table c.0 holdout c.1) (taken_settling rs r holdout)),
     )
 

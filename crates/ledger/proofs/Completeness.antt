@@ -3,7 +3,8 @@ use Rattle.std.proofs.Common.{◌≡◌, ℕ, ◌≤◌, List, Option, Some, Non
 use Rattle.machine_text.specs.Packed.{Packed, IsTable, entry_of, empty_table}
 use Rattle.machine_text.specs.declared.limits.TheConstants.{MAX_STATES}
 use Rattle.turing.specs.Halting.{HaltsAt, IsRado}
-use Rattle.evidence.specs.Verdict.{IsTrueOf}
+use Rattle.evidence.specs.Verdict.{IsTrueOf, ending_of}
+use Rattle.evidence.specs.declared.verdicts.Ending.{Ending}
 use Rattle.evidence.specs.declared.verdicts.Verdict.{Verdict}
 use Rattle.evidence.specs.declared.verdicts.Verdict.TheVariants.{Halts, Never}
 use Rattle.tree.specs.Used.{InOrder}
@@ -15,6 +16,7 @@ use Rattle.ledger.specs.Contents.{Contents, IsBoard}
 use Rattle.ledger.specs.Tally.{IsGreatestCount, IsStatus}
 use Rattle.ledger.specs.declared.status.Status.{Status}
 use Rattle.ledger.specs.declared.status.Status.TheVariants.{Complete}
+use Rattle.cert.proofs.Scores.{ends_as_shown}
 use Rattle.ledger.proofs.HeldLaws.{held_stands}
 use Rattle.ledger.proofs.OpenLaws.{recorded_in_tree}
 use Rattle.ledger.proofs.Taking.{Below}
@@ -22,7 +24,7 @@ use Rattle.ledger.proofs.BoardLaws.{OfTables, marked_in_tree}
 
 -- the laws of claims and trees that the code calls
 abbrev pub Claims : Type 0
-Claims = (c : Claim) (p : Packed) → IsTable p → Stands c p → IfSome (shown_by c) (λ (v : Verdict). IsTrueOf v (entry_of p))
+Claims = (c : Claim) (p : Packed) → IsTable p → Stands c p → IfSome (shown_by c p) (λ (v : Verdict). IsTrueOf v (entry_of p))
 
 abbrev pub CompleteIsClosed : Type 0
 CompleteIsClosed = (root t : Packed) (marks : Packed → Option Mark) → AreTrueMarks marks → IsComplete root marks → InTableTree root t → IsClosed root marks t
@@ -35,9 +37,9 @@ abbrev pub CompleteIsRado : Type 0
 CompleteIsRado = (n s : ℕ) (marks : Packed → Option Mark) → 1 ≤ n → n ≤ MAX_STATES → AreTrueMarks marks → IsComplete (empty_table n) marks
     → IsGreatestRecorded (λ (t : Packed) (k : ℕ). k) marks (empty_table n) (Some s) ↔ IsRado n s
 
-true_mark : (o : Option Verdict) (t : Packed) → IfSome o (λ (v : Verdict). IsTrueOf v (entry_of t)) → IsTrueMark t (Some (mark_by o))
+true_mark : (o : Option Verdict) (t : Packed) → IfSome o (λ (v : Verdict). IsTrueOf v (entry_of t)) → IsTrueMark t (Some (mark_by (option_map ending_of o)))
 true_mark None t h = tt
-true_mark (Some (Halts k)) t h = h
+true_mark (Some (Halts k s)) t h = h.halts
 true_mark (Some Never) t h = h
 
 pub true_marks : (b : Contents) → Below → OfTables → Claims → IsBoard b → AreTrueMarks (mark_in b.records)
@@ -45,7 +47,7 @@ true_marks b below tables claims board = λ t. elim (claim_in b.records t) as (�
   | None ↦ λ none. tt
   | Some c ↦ λ is.
       let is_table = (tables b.root t board.is_table (recorded_in_tree b.root b.records t c below board.held is)).0 in
-      true_mark (shown_by c) t (claims c t is_table (held_stands b.root b.records t c board.held is))
+      subst (λ (o : Option Ending). IsTrueMark t (Some (mark_by o))) (ends_as_shown c t) (true_mark (shown_by c t) t (claims c t is_table (held_stands b.root b.records t c board.held is)))
 ] refl
 
 greatest_in_tree : (b : Contents) (best : Option ℕ) → Below → IsBoard b → IsGreatestCount b.records best → IsGreatestRecorded (λ (t : Packed) (k : ℕ). k) (mark_in b.records) b.root best

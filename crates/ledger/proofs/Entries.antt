@@ -10,10 +10,10 @@ use Rattle.std.proofs.lemmas.List.Elements.{All-cons, All-nil}
 use Rattle.std.proofs.lemmas.Option.{slice_get-map, slice_get_within}
 use Rattle.indexmap.specs.IndexMap.{insert_entry}
 use Rattle.machine_text.specs.Packed.{Packed}
-use Rattle.evidence.specs.declared.verdicts.Verdict.{Verdict}
-use Rattle.evidence.specs.declared.verdicts.Verdict.TheVariants.{Halts, Never}
+use Rattle.evidence.specs.declared.verdicts.Ending.{Ending}
+use Rattle.evidence.specs.declared.verdicts.Ending.TheVariants.{Halts, Never}
 use Rattle.tree.specs.Closed.{Holdout}
-use Rattle.cert.specs.Claim.{Claim, Recorded, shown_by}
+use Rattle.cert.specs.Claim.{Claim, Recorded, ending_by}
 use Rattle.cert.specs.Kinds.{owned_claim}
 use Rattle.ledger.specs.Records.{same_table, claim_in, mark_of, mark_by}
 use Rattle.ledger.specs.Held.{IsHoldout, settled}
@@ -111,15 +111,15 @@ key_is (e ∷ es) t k is =
       | false ↦ λ other rest. key_is es t k rest
     ] refl is
 
-not_halting : (o : Option Verdict) → mark_by o ≡ Holdout → o ≡ None
+not_halting : (o : Option Ending) → mark_by o ≡ Holdout → o ≡ None
 not_halting None e = refl
 not_halting (Some (Halts k)) e = cc
 not_halting (Some Never) e = cc
 
-pub holdout_shows : (rs : List Recorded) (t : Packed) (c : Claim) → IsHoldout rs t → claim_in rs t ≡ Some c → shown_by c ≡ None
-holdout_shows rs t c holdout is = let marked = ap (option_map mark_of) (sym is) ∙ holdout in not_halting (shown_by c) cc
+pub holdout_shows : (rs : List Recorded) (t : Packed) (c : Claim) → IsHoldout rs t → claim_in rs t ≡ Some c → ending_by c ≡ None
+holdout_shows rs t c holdout is = let marked = ap (option_map mark_of) (sym is) ∙ holdout in not_halting (ending_by c) cc
 
-silent : (r : Recorded) → shown_by r.claim ≡ None → is_halting r ≡ false
+silent : (r : Recorded) → ending_by r.claim ≡ None → is_halting r ≡ false
 silent r none = rw none
 
 pub holdout_place : (es : List (Packed × StoredRecord)) (t k : Packed) (v : StoredRecord) (place : ℕ) → IsHoldout (records_of es) t → slice_get es place ≡ Some (k, v)

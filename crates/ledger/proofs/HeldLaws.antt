@@ -36,10 +36,10 @@ held_stands root rs t c held is = (held_certified root rs t c held is).stands
 
 -- so a recorded verdict is true of its table, by the law that a standing claim makes its verdict true
 pub verdict_true : (root : Packed) (rs : List Recorded) (t : Packed) → IsHeld root rs → IsTable t
-    → ((c : Claim) (p : Packed) → IsTable p → Stands c p → IfSome (shown_by c) (λ (v : Verdict). IsTrueOf v (entry_of p)))
+    → ((c : Claim) (p : Packed) → IsTable p → Stands c p → IfSome (shown_by c p) (λ (v : Verdict). IsTrueOf v (entry_of p)))
     → IfSome (verdict_in rs t) (λ (v : Verdict). IsTrueOf v (entry_of t))
 verdict_true root rs t held is_table law =
-    elim (claim_in rs t) as (λ o. claim_in rs t ≡ o → IfSome (shown_where o) (λ (v : Verdict). IsTrueOf v (entry_of t))) [
+    elim (claim_in rs t) as (λ o. claim_in rs t ≡ o → IfSome (shown_where t o) (λ (v : Verdict). IsTrueOf v (entry_of t))) [
       | None ↦ λ none. tt
       | Some c ↦ λ is. law c t is_table (held_stands root rs t c held is)
     ] refl

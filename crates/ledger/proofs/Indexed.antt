@@ -6,12 +6,12 @@ use Rattle.std.specs.Map.{lookup}
 use Rattle.std.proofs.lemmas.Bool.{cases_lt}
 use Rattle.std.proofs.lemmas.Option.{same_Some, slice_get-map, slice_get_within, slice_get-get_or, get_or_from_slice_get}
 use Rattle.machine_text.specs.Packed.{Packed}
-use Rattle.evidence.specs.declared.verdicts.Verdict.{Verdict}
-use Rattle.evidence.specs.declared.verdicts.Verdict.TheVariants.{Halts, Never}
+use Rattle.evidence.specs.declared.verdicts.Ending.{Ending}
+use Rattle.evidence.specs.declared.verdicts.Ending.TheVariants.{Halts, Never}
 use Rattle.tree.specs.Closed.{Halting}
 use Rattle.tree.specs.Tables.{IsChildTable, InTableTree, Itself}
 use Rattle.tree.proofs.TableLaws.{tree_table_child, one_table_parent}
-use Rattle.cert.specs.Claim.{Claim, Recorded, shown_by}
+use Rattle.cert.specs.Claim.{Claim, Recorded, ending_by}
 use Rattle.ledger.specs.Records.{same_table, claim_in, mark_in, mark_by}
 use Rattle.ledger.specs.Contents.{IsBoard}
 use Rattle.ledger.specs.inside.Counting.{says_halts}
@@ -71,7 +71,7 @@ pub earlier_entries : (root : Packed) (es : List (Packed × StoredRecord)) → A
 earlier_entries root es parents = λ i e at. elim (parents i e at) [ inl top ↦ inl top.1 | inr w ↦ inr w.0 ]
 
 -- a record that says that its table halts
-halting_mark : (o : Option Verdict) → says_halts o ≡ true → (k : ℕ) × (o ≡ Some (Halts k))
+halting_mark : (o : Option Ending) → says_halts o ≡ true → (k : ℕ) × (o ≡ Some (Halts k))
 halting_mark None is = cc
 halting_mark (Some (Halts k)) is = (k, refl)
 halting_mark (Some Never) is = cc
@@ -96,9 +96,9 @@ have_parents root es board parents p t there child (inr recorded) =
           let table : g.0.0 ≡ v.1.0.table = ap (λ (r : Recorded). r.table) g.2 in
           let above = subst (InTableTree root) table (below_entries root es board w.1.1.parent g.0 g.1) in
           let same : v.1.0.table ≡ p = one_table_parent root v.1.0.table p t board.is_table above there (subst (IsChildTable v.1.0.table) w.3 v.1.3) child in
-          let shown = halting_mark (shown_by v.1.0.claim) v.1.2 in
+          let shown = halting_mark (ending_by v.1.0.claim) v.1.2 in
           let marked = member_marked (records_of es) v.1.0 (held_apart root (records_of es) board.held) (member_at (records_of es) w.1.1.parent v.1.0 v.1.1) in
-          (shown.0, subst (λ (x : Packed). mark_in (records_of es) x ≡ Some (Halting shown.0)) same (marked ∙ ap (λ (o : Option Verdict). Some (mark_by o)) shown.1))
+          (shown.0, subst (λ (x : Packed). mark_in (records_of es) x ≡ Some (Halting shown.0)) same (marked ∙ ap (λ (o : Option Ending). Some (mark_by o)) shown.1))
     ]
   where
     some_claim : (o : Option Claim) → IsSome o → (c : Claim) × (o ≡ Some c)

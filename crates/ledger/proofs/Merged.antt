@@ -2,13 +2,13 @@
 use Rattle.std.proofs.Common.{◌≡◌, ◌≢◌, ℕ, true, false, List, [], ◌∷◌, ◌++◌, Option, Some, None, option_map, ◌↔◌, ◌⊎◌, inl, inr, Result, Ok, Err, refl, sym, ◌∙◌, ap, subst, append_assoc, append-nil}
 use Rattle.machine_text.specs.Packed.{Packed, entry_of}
 use Rattle.turing.specs.Halting.{Never as NeverHalts}
-use Rattle.evidence.specs.declared.verdicts.Verdict.{Verdict}
-use Rattle.evidence.specs.declared.verdicts.Verdict.TheVariants.{Halts, Never}
+use Rattle.evidence.specs.declared.verdicts.Ending.{Ending}
+use Rattle.evidence.specs.declared.verdicts.Ending.TheVariants.{Halts, Never}
 use Rattle.tree.specs.Closed.{Mark, Halting, NeverHalting, Holdout, IsTrueMark, AreTrueMarks, IsVerdict, IsOpen, IsComplete}
 use Rattle.cert.specs.Certified.{IsCertified}
-use Rattle.cert.specs.Claim.{Claim, Recorded, shown_by}
+use Rattle.cert.specs.Claim.{Claim, Recorded, ending_by}
 use Rattle.cert.proofs.Refusals.{refused_or_certified}
-use Rattle.ledger.specs.Records.{same_table, claim_in, mark_in, mark_of, mark_by, verdict_in, shown_where}
+use Rattle.ledger.specs.Records.{same_table, claim_in, mark_in, mark_of, mark_by, ending_in, ending_where}
 use Rattle.ledger.specs.Held.{IsFit, AreFitAfter}
 use Rattle.ledger.specs.Offers.{IsKnown, OfferGives}
 use Rattle.ledger.specs.Contents.{Contents, IsBoard}
@@ -73,7 +73,7 @@ mark_own root old new r Settled gives =
     ∙ ap (λ (o : Option Mark). joined o (Some (mark_of r.claim))) (sym gives.0.is_holdout))
 mark_own root old new r Known gives = ap (λ (l : List Recorded). mark_in l r.table) gives.1 ∙ elim gives.0.is [
   | inl verdict ↦ sym (joined_verdict (mark_in old r.table) (Some (mark_of r.claim)) verdict)
-  | inr held ↦ held.0 ∙ (ap (λ (o : Option Verdict). Some (mark_by o)) (sym held.1) ∙ ap (λ (o : Option Mark). joined o (Some (mark_of r.claim))) (sym held.0))
+  | inr held ↦ held.0 ∙ (ap (λ (o : Option Ending). Some (mark_by o)) (sym held.1) ∙ ap (λ (o : Option Mark). joined o (Some (mark_of r.claim))) (sym held.0))
 ]
 
 -- one record more is taken
@@ -173,24 +173,24 @@ never_refused other old left rest cur new r f below tables true_marks board befo
     refused NoMemory no_memory gives = no_memory refl
 
 -- the verdict of a mark
-abbrev pub shown_mark : Option Mark → Option Verdict
+abbrev pub shown_mark : Option Mark → Option Ending
 shown_mark None = None
 shown_mark (Some (Halting k)) = Some (Halts k)
 shown_mark (Some NeverHalting) = Some Never
 shown_mark (Some Holdout) = None
 
-shown_again : (o : Option Verdict) → o ≡ shown_mark (Some (mark_by o))
+shown_again : (o : Option Ending) → o ≡ shown_mark (Some (mark_by o))
 shown_again None = refl
 shown_again (Some (Halts k)) = refl
 shown_again (Some Never) = refl
 
-pub verdict_is : (rs : List Recorded) (t : Packed) → verdict_in rs t ≡ shown_mark (mark_in rs t)
-verdict_is rs t = elim (claim_in rs t) as (λ o. shown_where o ≡ shown_mark (option_map mark_of o)) [
+pub verdict_is : (rs : List Recorded) (t : Packed) → ending_in rs t ≡ shown_mark (mark_in rs t)
+verdict_is rs t = elim (claim_in rs t) as (λ o. ending_where o ≡ shown_mark (option_map mark_of o)) [
   | None ↦ refl
-  | Some c ↦ shown_again (shown_by c)
+  | Some c ↦ shown_again (ending_by c)
 ]
 
-shows : (o : Option Mark) (v : Verdict) → shown_mark o ≡ Some v → IsVerdict o
+shows : (o : Option Mark) (v : Ending) → shown_mark o ≡ Some v → IsVerdict o
 shows None v e = absurd (cc)
 shows (Some (Halting k)) v e = tt
 shows (Some NeverHalting) v e = tt
@@ -200,10 +200,10 @@ shows (Some Holdout) v e = absurd (cc)
 abbrev pub OneVerdict : Type 0
 OneVerdict = (t : Packed) (a b : Option Mark) → IsTrueMark t a → IsTrueMark t b → IsVerdict a → IsVerdict b → a ≡ b
 
-same_verdict : (t : Packed) (a b : Option Mark) (v : Verdict) → OneVerdict → IsTrueMark t a → IsTrueMark t b → IsVerdict a → shown_mark b ≡ Some v → shown_mark a ≡ Some v
+same_verdict : (t : Packed) (a b : Option Mark) (v : Ending) → OneVerdict → IsTrueMark t a → IsTrueMark t b → IsVerdict a → shown_mark b ≡ Some v → shown_mark a ≡ Some v
 same_verdict t a b v one is_a is_b verdict is = ap shown_mark (one t a b is_a is_b verdict (shows b v is)) ∙ is
 
-verdicts_joined : (t : Packed) (a b : Option Mark) (v : Verdict) → OneVerdict → IsTrueMark t a → IsTrueMark t b → (shown_mark (joined a b) ≡ Some v) ↔ ((shown_mark a ≡ Some v) ⊎ (shown_mark b ≡ Some v))
+verdicts_joined : (t : Packed) (a b : Option Mark) (v : Ending) → OneVerdict → IsTrueMark t a → IsTrueMark t b → (shown_mark (joined a b) ≡ Some v) ↔ ((shown_mark a ≡ Some v) ⊎ (shown_mark b ≡ Some v))
 verdicts_joined t None b v one is_a is_b = (λ e. inr e, λ h. elim h [ inl e ↦ absurd (cc) | inr e ↦ e ])
 verdicts_joined t (Some (Halting k)) b v one is_a is_b = (λ e. inl e, λ h. elim h [ inl e ↦ e | inr e ↦ same_verdict t (Some (Halting k)) b v one is_a is_b tt e ])
 verdicts_joined t (Some NeverHalting) b v one is_a is_b = (λ e. inl e, λ h. elim h [ inl e ↦ e | inr e ↦ same_verdict t (Some NeverHalting) b v one is_a is_b tt e ])
@@ -292,13 +292,13 @@ pub unchanged_for_memory : (root : Packed) (old new : List Recorded) (r : Record
 unchanged_for_memory root old new r f is gives = (subst (λ (x : OfferFault). OfferGives root old r (Err x) new) is gives).1
 
 -- what is shown of a table, and whether it is a holdout, is its mark
-mark_shown : (o : Option Mark) (v : Verdict) → shown_mark o ≡ Some v → o ≡ Some (mark_by (Some v))
+mark_shown : (o : Option Mark) (v : Ending) → shown_mark o ≡ Some v → o ≡ Some (mark_by (Some v))
 mark_shown None v e = absurd (cc)
-mark_shown (Some (Halting k)) v e = ap (λ (o : Option Verdict). Some (mark_by o)) e
-mark_shown (Some NeverHalting) v e = ap (λ (o : Option Verdict). Some (mark_by o)) e
+mark_shown (Some (Halting k)) v e = ap (λ (o : Option Ending). Some (mark_by o)) e
+mark_shown (Some NeverHalting) v e = ap (λ (o : Option Ending). Some (mark_by o)) e
 mark_shown (Some Holdout) v e = absurd (cc)
 
-one_mark : (a b : Option Mark) → ((v : Verdict) → (shown_mark a ≡ Some v) ↔ (shown_mark b ≡ Some v)) → (a ≡ Some Holdout) ↔ (b ≡ Some Holdout) → a ≡ b
+one_mark : (a b : Option Mark) → ((v : Ending) → (shown_mark a ≡ Some v) ↔ (shown_mark b ≡ Some v)) → (a ≡ Some Holdout) ↔ (b ≡ Some Holdout) → a ≡ b
 one_mark (Some (Halting k)) b shown held = sym (mark_shown b (Halts k) ((shown (Halts k)).0 refl))
 one_mark (Some NeverHalting) b shown held = sym (mark_shown b Never ((shown Never).0 refl))
 one_mark (Some Holdout) b shown held = sym (held.0 refl)

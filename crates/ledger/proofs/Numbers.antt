@@ -6,10 +6,10 @@ use Rattle.std.proofs.lemmas.Bool.{ltb-true, ltb-false}
 use Rattle.std.proofs.lemmas.Bool.Decides.{Decides-eqb}
 use Rattle.std.proofs.lemmas.List.{length-map}
 use Rattle.machine_text.specs.Packed.{Packed}
-use Rattle.evidence.specs.declared.verdicts.Verdict.{Verdict}
-use Rattle.evidence.specs.declared.verdicts.Verdict.TheVariants.{Halts, Never}
+use Rattle.evidence.specs.declared.verdicts.Ending.{Ending}
+use Rattle.evidence.specs.declared.verdicts.Ending.TheVariants.{Halts, Never}
 use Rattle.tree.specs.Closed.{Mark, Halting, NeverHalting, Holdout}
-use Rattle.cert.specs.Claim.{Claim, Recorded, shown_by}
+use Rattle.cert.specs.Claim.{Claim, Recorded, ending_by}
 use Rattle.ledger.specs.Records.{same_table, claim_in, mark_in, mark_of, mark_by}
 use Rattle.ledger.specs.Held.{IsHoldout, settled}
 use Rattle.ledger.specs.inside.Counting.{is_undecided, is_halting, is_never, says_halts, says_never, is_champion, is_steps, steps_of, greater, IsCounted, with_shown, without_holdout}
@@ -54,20 +54,20 @@ pub member_marked : (rs : List Recorded) (r : Recorded) → AreApart rs → Cont
 member_marked rs r apart at = ap (option_map mark_of) (member_claim rs r apart at)
 
 -- holdouts are the records without a verdict
-undecided_mark : (o : Option Verdict) → is_none o ≡ true → mark_by o ≡ Holdout
+undecided_mark : (o : Option Ending) → is_none o ≡ true → mark_by o ≡ Holdout
 undecided_mark None e = refl
 undecided_mark (Some v) e = cc
 
-no_verdict : (o : Option Verdict) → mark_by o ≡ Holdout → is_none o ≡ true
+no_verdict : (o : Option Ending) → mark_by o ≡ Holdout → is_none o ≡ true
 no_verdict None e = refl
 no_verdict (Some (Halts k)) e = cc
 no_verdict (Some Never) e = cc
 
 pub holdout_passes : (rs : List Recorded) (r : Recorded) → AreApart rs → Contains rs r → is_undecided r ≡ true → IsHoldout rs r.table
-holdout_passes rs r apart at pass = member_marked rs r apart at ∙ ap (λ (m : Mark). Some m) (undecided_mark (shown_by r.claim) pass)
+holdout_passes rs r apart at pass = member_marked rs r apart at ∙ ap (λ (m : Mark). Some m) (undecided_mark (ending_by r.claim) pass)
 
 pub holdout_found : (rs : List Recorded) (t : Packed) → IsHoldout rs t → (r : Recorded) × Contains rs r × (is_undecided r ≡ true) × (r.table ≡ t)
-holdout_found rs t holdout = let w = marked_member rs t Holdout holdout in (w.0, w.1, no_verdict (shown_by w.0.claim) w.2, w.3)
+holdout_found rs t holdout = let w = marked_member rs t Holdout holdout in (w.0, w.1, no_verdict (ending_by w.0.claim) w.2, w.3)
 
 pub holdouts_listed : (rs : List Recorded) → AreApart rs → (t : Packed) → Contains (map (λ (r : Recorded). r.table) (filter is_undecided rs)) t ↔ IsHoldout rs t
 holdouts_listed rs apart t = kind_listed (IsHoldout rs) is_undecided rs (λ r at pass. holdout_passes rs r apart at pass) (λ q holdout. holdout_found rs q holdout) t
@@ -76,35 +76,35 @@ pub holdout_number : (rs : List Recorded) → AreApart rs → AreSoMany (IsHoldo
 holdout_number rs apart = number_of_kind (IsHoldout rs) is_undecided rs apart (λ r at pass. holdout_passes rs r apart at pass) (λ t holdout. holdout_found rs t holdout)
 
 -- the halting ones, and those that never halt
-halting_mark : (o : Option Verdict) → says_halts o ≡ true → (k : ℕ) × (mark_by o ≡ Halting k)
+halting_mark : (o : Option Ending) → says_halts o ≡ true → (k : ℕ) × (mark_by o ≡ Halting k)
 halting_mark None e = cc
 halting_mark (Some (Halts k)) e = (k, refl)
 halting_mark (Some Never) e = cc
 
-mark_halting : (o : Option Verdict) (k : ℕ) → mark_by o ≡ Halting k → says_halts o ≡ true
+mark_halting : (o : Option Ending) (k : ℕ) → mark_by o ≡ Halting k → says_halts o ≡ true
 mark_halting None k e = cc
 mark_halting (Some (Halts j)) k e = refl
 mark_halting (Some Never) k e = cc
 
-never_mark : (o : Option Verdict) → says_never o ≡ true → mark_by o ≡ NeverHalting
+never_mark : (o : Option Ending) → says_never o ≡ true → mark_by o ≡ NeverHalting
 never_mark None e = cc
 never_mark (Some (Halts k)) e = cc
 never_mark (Some Never) e = refl
 
-mark_never : (o : Option Verdict) → mark_by o ≡ NeverHalting → says_never o ≡ true
+mark_never : (o : Option Ending) → mark_by o ≡ NeverHalting → says_never o ≡ true
 mark_never None e = cc
 mark_never (Some (Halts k)) e = cc
 mark_never (Some Never) e = refl
 
 pub halting_number : (rs : List Recorded) → AreApart rs → AreSoMany (IsHalting rs) (length (filter is_halting rs))
 halting_number rs apart = number_of_kind (IsHalting rs) is_halting rs apart
-    (λ r at pass. let w = halting_mark (shown_by r.claim) pass in (w.0, member_marked rs r apart at ∙ ap (λ (m : Mark). Some m) w.1))
-    (λ t halting. let w = marked_member rs t (Halting halting.0) halting.1 in (w.0, w.1, mark_halting (shown_by w.0.claim) halting.0 w.2, w.3))
+    (λ r at pass. let w = halting_mark (ending_by r.claim) pass in (w.0, member_marked rs r apart at ∙ ap (λ (m : Mark). Some m) w.1))
+    (λ t halting. let w = marked_member rs t (Halting halting.0) halting.1 in (w.0, w.1, mark_halting (ending_by w.0.claim) halting.0 w.2, w.3))
 
 pub never_number : (rs : List Recorded) → AreApart rs → AreSoMany (IsNeverHalting rs) (length (filter is_never rs))
 never_number rs apart = number_of_kind (IsNeverHalting rs) is_never rs apart
-    (λ r at pass. member_marked rs r apart at ∙ ap (λ (m : Mark). Some m) (never_mark (shown_by r.claim) pass))
-    (λ t never. let w = marked_member rs t NeverHalting never in (w.0, w.1, mark_never (shown_by w.0.claim) w.2, w.3))
+    (λ r at pass. member_marked rs r apart at ∙ ap (λ (m : Mark). Some m) (never_mark (ending_by r.claim) pass))
+    (λ t never. let w = marked_member rs t NeverHalting never in (w.0, w.1, mark_never (ending_by w.0.claim) w.2, w.3))
 
 -- the greater of two
 pub greater_none : (a b : Option ℕ) → greater a b ≡ None → (a ≡ None) × (b ≡ None)
@@ -121,27 +121,27 @@ greater_some (Some a) (Some b) s e =
       | false ↦ λ fails. let same : a ≡ s = cc in (inl (ap (λ (n : ℕ). Some n) same), λ k is. let one : a ≡ k = cc in omega arith, λ k is. let one : b ≡ k = cc in let low : b ≤ a = ltb-false a b fails in omega arith)
     ] refl
 
-pub steps_halting : (o : Option Verdict) (k : ℕ) → mark_by o ≡ Halting k → steps_of o ≡ Some k
+pub steps_halting : (o : Option Ending) (k : ℕ) → mark_by o ≡ Halting k → steps_of o ≡ Some k
 steps_halting o k is = ap steps_of (stopping_verdict o k is)
 
-pub halting_steps : (o : Option Verdict) (k : ℕ) → steps_of o ≡ Some k → mark_by o ≡ Halting k
+pub halting_steps : (o : Option Ending) (k : ℕ) → steps_of o ≡ Some k → mark_by o ≡ Halting k
 halting_steps None k e = cc
 halting_steps (Some (Halts j)) k e = let same : j ≡ k = cc in ap (λ (n : ℕ). Halting n) same
 halting_steps (Some Never) k e = cc
 
 -- the greatest count once a record is taken
-pub halts_after : (old new : List Recorded) (r : Recorded) (k : ℕ) (t : Packed) → IsTaken old new r → HaltsAfter new k t → HaltsAfter old k t ⊎ (steps_of (shown_by r.claim) ≡ Some k)
+pub halts_after : (old new : List Recorded) (r : Recorded) (k : ℕ) (t : Packed) → IsTaken old new r → HaltsAfter new k t → HaltsAfter old k t ⊎ (steps_of (ending_by r.claim) ≡ Some k)
 halts_after old new r k t taken halts =
-    elim (same_table t r.table) as (λ v. same_table t r.table ≡ v → HaltsAfter old k t ⊎ (steps_of (shown_by r.claim) ≡ Some k)) [
+    elim (same_table t r.table) as (λ v. same_table t r.table ≡ v → HaltsAfter old k t ⊎ (steps_of (ending_by r.claim) ≡ Some k)) [
       | true ↦ λ same.
           let here = subst (λ (p : Packed). mark_in new p ≡ Some (Halting k)) (same_is t r.table same) halts in
           let marked = ap (option_map mark_of) taken.here in
-          let mark : mark_of r.claim ≡ Halting k = cc in inr (steps_halting (shown_by r.claim) k mark)
+          let mark : mark_of r.claim ≡ Halting k = cc in inr (steps_halting (ending_by r.claim) k mark)
       | false ↦ λ other. inl (ap (option_map mark_of) (sym (taken.others t (apart t r.table other))) ∙ halts)
     ] refl
 
-pub greatest_taken : (old new : List Recorded) (r : Recorded) (best : Option ℕ) → IsTaken old new r → IsGreatestCount old best → IsGreatestCount new (greater best (steps_of (shown_by r.claim)))
-greatest_taken old new r best taken greatest = by (greater best (steps_of (shown_by r.claim))) refl
+pub greatest_taken : (old new : List Recorded) (r : Recorded) (best : Option ℕ) → IsTaken old new r → IsGreatestCount old best → IsGreatestCount new (greater best (steps_of (ending_by r.claim)))
+greatest_taken old new r best taken greatest = by (greater best (steps_of (ending_by r.claim))) refl
   where
     still : (k : ℕ) (t : Packed) → HaltsAfter old k t → HaltsAfter new k t
     still k t halts = ap (option_map mark_of) (taken.others t (λ (e : t ≡ r.table). taken.before k (subst (λ (p : Packed). mark_in old p ≡ Some (Halting k)) e halts))) ∙ halts
@@ -153,18 +153,18 @@ greatest_taken old new r best taken greatest = by (greater best (steps_of (shown
     bound None k t g halts = absurd (g t k halts)
     bound (Some s) k t g halts = (s, refl, g.1 t k halts)
 
-    by : (o : Option ℕ) → greater best (steps_of (shown_by r.claim)) ≡ o → IsGreatestCount new o
+    by : (o : Option ℕ) → greater best (steps_of (ending_by r.claim)) ≡ o → IsGreatestCount new o
     by None is = λ t k halts.
-        let both = greater_none best (steps_of (shown_by r.claim)) is in
+        let both = greater_none best (steps_of (ending_by r.claim)) is in
         elim (halts_after old new r k t taken halts) [
           | inl before ↦ let w = bound best k t greatest before in let none = both.0 in let some = w.1 in absurd (cc)
           | inr now ↦ let none = both.1 in absurd (cc)
         ]
     by (Some s) is =
-        let parts = greater_some best (steps_of (shown_by r.claim)) s is in (
+        let parts = greater_some best (steps_of (ending_by r.claim)) s is in (
           elim parts.0 [
             | inl before ↦ let w = (some_before best s before greatest).0 in (w.0, still s w.0 w.1)
-            | inr now ↦ (r.table, ap (option_map mark_of) taken.here ∙ ap (λ (m : Mark). Some m) (halting_steps (shown_by r.claim) s now))
+            | inr now ↦ (r.table, ap (option_map mark_of) taken.here ∙ ap (λ (m : Mark). Some m) (halting_steps (ending_by r.claim) s now))
           ],
           λ t k halts. elim (halts_after old new r k t taken halts) [
             | inl before ↦ let w = bound best k t greatest before in let low : w.0 ≤ s = parts.1 w.0 w.1 in omega (arith, w.2, low)
@@ -184,18 +184,18 @@ number_more : (p : Recorded → Bool) (rs : List Recorded) (r : Recorded) → le
 number_more p [] r = filter_one p r [] ∙ omega arith
 number_more p (x ∷ rs) r = omega (arith, filter_one p x (rs ++ (r ∷ [])), number_more p rs r, filter_one p x rs)
 
-abbrev by_claim : (Option Verdict → Bool) → Recorded → Bool
-by_claim q r = q (shown_by r.claim)
+abbrev by_claim : (Option Ending → Bool) → Recorded → Bool
+by_claim q r = q (ending_by r.claim)
 
-number_settled : (q : Option Verdict → Bool) (rs : List Recorded) (r : Recorded) (c : Claim) → claim_in rs r.table ≡ Some c
-    → length (filter (by_claim q) (settled rs r)) + one (q (shown_by c)) ≡ length (filter (by_claim q) rs) + one (q (shown_by r.claim))
+number_settled : (q : Option Ending → Bool) (rs : List Recorded) (r : Recorded) (c : Claim) → claim_in rs r.table ≡ Some c
+    → length (filter (by_claim q) (settled rs r)) + one (q (ending_by c)) ≡ length (filter (by_claim q) rs) + one (q (ending_by r.claim))
 number_settled q [] r c is = let none = claim_none r.table in absurd (cc)
 number_settled q (x ∷ xs) r c is =
-    elim (same_table x.table r.table) as (λ v. same_table x.table r.table ≡ v → length (filter (by_claim q) (settled (x ∷ xs) r)) + one (q (shown_by c)) ≡ length (filter (by_claim q) (x ∷ xs)) + one (q (shown_by r.claim))) [
+    elim (same_table x.table r.table) as (λ v. same_table x.table r.table ≡ v → length (filter (by_claim q) (settled (x ∷ xs) r)) + one (q (ending_by c)) ≡ length (filter (by_claim q) (x ∷ xs)) + one (q (ending_by r.claim))) [
       | true ↦ λ here.
           let claimed = claim_here x xs r.table here in
           let claim : x.claim ≡ c = cc in
-          let same = ap (λ (d : Claim). one (q (shown_by d))) claim in
+          let same = ap (λ (d : Claim). one (q (ending_by d))) claim in
           let list = ap (λ (l : List Recorded). length (filter (by_claim q) l)) (settled_here x xs r here) in
           omega (arith, list, filter_one (by_claim q) r xs, filter_one (by_claim q) x xs, same)
       | false ↦ λ other.
@@ -212,54 +212,54 @@ no_more : (o : Option ℕ) → o ≡ greater o None
 no_more None = refl
 no_more (Some x) = refl
 
-counts_shown : (c : Counts) (o : Option Verdict) (h n u : ℕ) → c.halting + one (says_halts o) ≡ h → c.never + one (says_never o) ≡ n → c.undecided + one (is_none o) ≡ u
+counts_shown : (c : Counts) (o : Option Ending) (h n u : ℕ) → c.halting + one (says_halts o) ≡ h → c.never + one (says_never o) ≡ n → c.undecided + one (is_none o) ≡ u
     → ((with_shown c o).halting ≡ h) × ((with_shown c o).never ≡ n) × ((with_shown c o).undecided ≡ u) × ((with_shown c o).best ≡ greater c.best (steps_of o))
 counts_shown c None h n u a b d = (let e : c.halting ≡ h = omega (arith, a) in e, let e : c.never ≡ n = omega (arith, b) in e, let e : c.undecided + 1 ≡ u = omega (arith, d) in e, no_more c.best)
 counts_shown c (Some Never) h n u a b d = (let e : c.halting ≡ h = omega (arith, a) in e, let e : c.never + 1 ≡ n = omega (arith, b) in e, let e : c.undecided ≡ u = omega (arith, d) in e, no_more c.best)
 counts_shown c (Some (Halts k)) h n u a b d = (let e : c.halting + 1 ≡ h = omega (arith, a) in e, let e : c.never ≡ n = omega (arith, b) in e, let e : c.undecided ≡ u = omega (arith, d) in e, refl)
 
-pub counted_more : (rs : List Recorded) (r : Recorded) (c : Counts) → IsCounted rs c → IsTaken rs (rs ++ (r ∷ [])) r → IsCounted (rs ++ (r ∷ [])) (with_shown c (shown_by r.claim))
+pub counted_more : (rs : List Recorded) (r : Recorded) (c : Counts) → IsCounted rs c → IsTaken rs (rs ++ (r ∷ [])) r → IsCounted (rs ++ (r ∷ [])) (with_shown c (ending_by r.claim))
 counted_more rs r c counted taken =
-    let now = counts_shown c (shown_by r.claim) _ _ _ (omega (arith, counted.halting, number_more is_halting rs r)) (omega (arith, counted.never, number_more is_never rs r)) (omega (arith, counted.undecided, number_more is_undecided rs r)) in
+    let now = counts_shown c (ending_by r.claim) _ _ _ (omega (arith, counted.halting, number_more is_halting rs r)) (omega (arith, counted.never, number_more is_never rs r)) (omega (arith, counted.undecided, number_more is_undecided rs r)) in
     record { halting = now.0; never = now.1; undecided = now.2; best = subst (IsGreatestCount (rs ++ (r ∷ []))) (sym now.3) (greatest_taken rs (rs ++ (r ∷ [])) r c.best taken counted.best) }
 
-pub some_holdout : (rs : List Recorded) (r : Recorded) (x : Claim) → claim_in rs r.table ≡ Some x → shown_by x ≡ None → 0 < length (filter is_undecided rs)
+pub some_holdout : (rs : List Recorded) (r : Recorded) (x : Claim) → claim_in rs r.table ≡ Some x → ending_by x ≡ None → 0 < length (filter is_undecided rs)
 some_holdout [] r x is none = let gone = claim_none r.table in absurd (cc)
 some_holdout (y ∷ ys) r x is none =
     elim (same_table y.table r.table) as (λ v. same_table y.table r.table ≡ v → 0 < length (filter is_undecided (y ∷ ys))) [
       | true ↦ λ here.
           let claimed = claim_here y ys r.table here in
           let claim : y.claim ≡ x = cc in
-          let pass : one (is_undecided y) ≡ 1 = ap (λ (d : Claim). one (is_none (shown_by d))) claim ∙ ap (λ (o : Option Verdict). one (is_none o)) none in
+          let pass : one (is_undecided y) ≡ 1 = ap (λ (d : Claim). one (is_none (ending_by d))) claim ∙ ap (λ (o : Option Ending). one (is_none o)) none in
           omega (arith, filter_one is_undecided y ys, pass)
       | false ↦ λ other. omega (arith, filter_one is_undecided y ys, some_holdout ys r x (sym (claim_past y ys r.table other) ∙ is) none)
     ] refl
 
-pub counted_settled : (rs : List Recorded) (r : Recorded) (x : Claim) (c : Counts) → IsCounted rs c → claim_in rs r.table ≡ Some x → shown_by x ≡ None → IsTaken rs (settled rs r) r
-    → IsCounted (settled rs r) (with_shown (without_holdout c) (shown_by r.claim))
+pub counted_settled : (rs : List Recorded) (r : Recorded) (x : Claim) (c : Counts) → IsCounted rs c → claim_in rs r.table ≡ Some x → ending_by x ≡ None → IsTaken rs (settled rs r) r
+    → IsCounted (settled rs r) (with_shown (without_holdout c) (ending_by r.claim))
 counted_settled rs r x c counted is none taken =
     let halts = number_settled says_halts rs r x is in
     let nevers = number_settled says_never rs r x is in
-    let undecided = number_settled (λ (o : Option Verdict). is_none o) rs r x is in
-    let h : one (says_halts (shown_by x)) ≡ 0 = ap (λ (o : Option Verdict). one (says_halts o)) none in
-    let n : one (says_never (shown_by x)) ≡ 0 = ap (λ (o : Option Verdict). one (says_never o)) none in
-    let u : one (is_none (shown_by x)) ≡ 1 = ap (λ (o : Option Verdict). one (is_none o)) none in
+    let undecided = number_settled (λ (o : Option Ending). is_none o) rs r x is in
+    let h : one (says_halts (ending_by x)) ≡ 0 = ap (λ (o : Option Ending). one (says_halts o)) none in
+    let n : one (says_never (ending_by x)) ≡ 0 = ap (λ (o : Option Ending). one (says_never o)) none in
+    let u : one (is_none (ending_by x)) ≡ 1 = ap (λ (o : Option Ending). one (is_none o)) none in
     let some = some_holdout rs r x is none in
-    let now = counts_shown (without_holdout c) (shown_by r.claim) _ _ _ (omega (arith, counted.halting, halts, h)) (omega (arith, counted.never, nevers, n)) (omega (arith, counted.undecided, undecided, u, some)) in
+    let now = counts_shown (without_holdout c) (ending_by r.claim) _ _ _ (omega (arith, counted.halting, halts, h)) (omega (arith, counted.never, nevers, n)) (omega (arith, counted.undecided, undecided, u, some)) in
     record { halting = now.0; never = now.1; undecided = now.2; best = subst (IsGreatestCount (settled rs r)) (sym now.3) (greatest_taken rs (settled rs r) r c.best taken counted.best) }
 
 -- the tables of a number of steps
-champion_mark : (o : Option Verdict) (best : ℕ) → is_steps best (steps_of o) ≡ true → mark_by o ≡ Halting best
+champion_mark : (o : Option Ending) (best : ℕ) → is_steps best (steps_of o) ≡ true → mark_by o ≡ Halting best
 champion_mark None best e = cc
 champion_mark (Some (Halts k)) best e = ap (λ (n : ℕ). Halting n) ((Decides-eqb k best).0 e)
 champion_mark (Some Never) best e = cc
 
-mark_champion : (o : Option Verdict) (best : ℕ) → mark_by o ≡ Halting best → is_steps best (steps_of o) ≡ true
+mark_champion : (o : Option Ending) (best : ℕ) → mark_by o ≡ Halting best → is_steps best (steps_of o) ≡ true
 mark_champion None best e = cc
 mark_champion (Some (Halts k)) best e = let same : k ≡ best = cc in (Decides-eqb k best).1 same
 mark_champion (Some Never) best e = cc
 
 pub halts_listed : (best : ℕ) (rs : List Recorded) → AreApart rs → (t : Packed) → Contains (map (λ (r : Recorded). r.table) (filter (is_champion best) rs)) t ↔ HaltsAfter rs best t
 halts_listed best rs apart t = kind_listed (HaltsAfter rs best) (is_champion best) rs
-    (λ r at pass. member_marked rs r apart at ∙ ap (λ (m : Mark). Some m) (champion_mark (shown_by r.claim) best pass))
-    (λ q halts. let w = marked_member rs q (Halting best) halts in (w.0, w.1, mark_champion (shown_by w.0.claim) best w.2, w.3)) t
+    (λ r at pass. member_marked rs r apart at ∙ ap (λ (m : Mark). Some m) (champion_mark (ending_by r.claim) best pass))
+    (λ q halts. let w = marked_member rs q (Halting best) halts in (w.0, w.1, mark_champion (ending_by w.0.claim) best w.2, w.3)) t

@@ -1,10 +1,10 @@
 -- Where an offered record stands, and what becomes of it.
 use Rattle.std.proofs.Common.{◌≡◌, List, [], ◌∷◌, ◌++◌, Option, Some, None, option_map, IsSome, inl, inr, ◌⊎◌, Result, Ok, Err, IfOk, IfErr, OnErr, refl, sym, ap, subst}
 use Rattle.machine_text.specs.Packed.{Packed}
-use Rattle.evidence.specs.declared.verdicts.Verdict.{Verdict}
-use Rattle.evidence.specs.declared.verdicts.Verdict.TheVariants.{Halts, Never}
+use Rattle.evidence.specs.declared.verdicts.Ending.{Ending}
+use Rattle.evidence.specs.declared.verdicts.Ending.TheVariants.{Halts, Never}
 use Rattle.tree.specs.Closed.{IsVerdict, IsOpen}
-use Rattle.cert.specs.Claim.{Claim, Recorded, shown_by}
+use Rattle.cert.specs.Claim.{Claim, Recorded, ending_by}
 use Rattle.ledger.specs.Records.{claim_in, mark_in, mark_of, mark_by}
 use Rattle.ledger.specs.Held.{IsFit, IsHoldout, Settles, settled}
 use Rattle.ledger.specs.Offers.{IsJudged, OfferGives}
@@ -16,17 +16,17 @@ use Rattle.ledger.specs.declared.taken.Taken.TheVariants.{New, Settled}
 use Rattle.ledger.specs.declared.faults.OfferFault.{OfferFault}
 use Rattle.ledger.specs.declared.faults.OfferFault.TheVariants.{WrongSize, NotOpen, Refused as IsRefused, NoMemory}
 
-by_verdict : (v : Verdict) → IsVerdict (Some (mark_by (Some v)))
+by_verdict : (v : Ending) → IsVerdict (Some (mark_by (Some v)))
 by_verdict (Halts k) = tt
 by_verdict Never = tt
 
-by_shown : (root : Packed) (rs : List Recorded) (r : Recorded) (held offered : Option Verdict) → mark_in rs r.table ≡ Some (mark_by held) → shown_by r.claim ≡ offered → IsPlace root rs r (place_by held offered)
+by_shown : (root : Packed) (rs : List Recorded) (r : Recorded) (held offered : Option Ending) → mark_in rs r.table ≡ Some (mark_by held) → ending_by r.claim ≡ offered → IsPlace root rs r (place_by held offered)
 by_shown root rs r (Some v) offered marked shown = record { is = inl (subst IsVerdict (sym marked) (by_verdict v)) }
-by_shown root rs r None (Some v) marked shown = (marked, subst (λ (o : Option Verdict). IsSome o) (sym shown) refl)
+by_shown root rs r None (Some v) marked shown = (marked, subst (λ (o : Option Ending). IsSome o) (sym shown) refl)
 by_shown root rs r None None marked shown = record { is = inr (marked, shown) }
 
-pub stands_recorded : (root : Packed) (rs : List Recorded) (r : Recorded) (c : Claim) (place : Place) → claim_in rs r.table ≡ Some c → place ≡ place_by (shown_by c) (shown_by r.claim) → IsPlace root rs r place
-stands_recorded root rs r c place claimed is = subst (IsPlace root rs r) (sym is) (by_shown root rs r (shown_by c) (shown_by r.claim) (ap (option_map mark_of) claimed) refl)
+pub stands_recorded : (root : Packed) (rs : List Recorded) (r : Recorded) (c : Claim) (place : Place) → claim_in rs r.table ≡ Some c → place ≡ place_by (ending_by c) (ending_by r.claim) → IsPlace root rs r place
+stands_recorded root rs r c place claimed is = subst (IsPlace root rs r) (sym is) (by_shown root rs r (ending_by c) (ending_by r.claim) (ap (option_map mark_of) claimed) refl)
 
 pub stands_unrecorded : (root : Packed) (rs : List Recorded) (r : Recorded) (place : Place) → claim_in rs r.table ≡ None
     → (IsOpen root (mark_in rs) r.table × (place ≡ Open)) ⊎ ((IsOpen root (mark_in rs) r.table → ⊥) × (place ≡ Elsewhere))
@@ -46,7 +46,7 @@ pub take_gives : (root : Packed) (old new : List Recorded) (r : Recorded) (resul
 take_gives root old new r (Ok t) is_open ok same refusal = subst (λ (x : Taken). OfferGives root old r (Ok x) new) (sym ok.0) (ok.1, ok.2)
 take_gives root old new r (Err f) is_open ok same refusal = refusal_gives root old new r f refusal (record { is = inl is_open }) same
 
-pub settle_gives : (root : Packed) (old new : List Recorded) (r : Recorded) (result : Result Taken OfferFault) → IsHoldout old r.table × IsSome (shown_by r.claim)
+pub settle_gives : (root : Packed) (old new : List Recorded) (r : Recorded) (result : Result Taken OfferFault) → IsHoldout old r.table × IsSome (ending_by r.claim)
     → IfOk result (λ (t : Taken). (t ≡ Settled) × Settles old r × (new ≡ settled old r))
     → OnErr result (new ≡ old) → IfErr result (λ (f : OfferFault). IsWhyRefused f r) → OfferGives root old r result new
 settle_gives root old new r (Ok t) holdout ok same refusal = subst (λ (x : Taken). OfferGives root old r (Ok x) new) (sym ok.0) (ok.1, ok.2)

@@ -1,11 +1,11 @@
 -- Which tables are open once a record is taken.
 use Rattle.std.proofs.Common.{◌≡◌, ◌≢◌, ℕ, true, false, List, [], ◌∷◌, ◌++◌, Option, Some, None, option_map, inl, inr, ◌⊎◌, ◌↔◌, refl, sym, ◌∙◌, ap, subst, append_assoc, append-nil}
 use Rattle.machine_text.specs.Packed.{Packed}
-use Rattle.evidence.specs.declared.verdicts.Verdict.{Verdict}
-use Rattle.evidence.specs.declared.verdicts.Verdict.TheVariants.{Halts, Never}
+use Rattle.evidence.specs.declared.verdicts.Ending.{Ending}
+use Rattle.evidence.specs.declared.verdicts.Ending.TheVariants.{Halts, Never}
 use Rattle.tree.specs.Closed.{Halting, Holdout, IsOpen}
 use Rattle.tree.specs.Tables.{IsChildTable, InTableTree, Itself}
-use Rattle.cert.specs.Claim.{Claim, Recorded, shown_by}
+use Rattle.cert.specs.Claim.{Claim, Recorded, ending_by}
 use Rattle.ledger.specs.Records.{same_table, claim_in, mark_in, mark_of, mark_by}
 use Rattle.ledger.specs.Held.{AreFitAfter, IsHeld, settled}
 use Rattle.ledger.specs.inside.Open.{IsNewChild}
@@ -19,7 +19,7 @@ pub record IsTaken (old new : List Recorded) (r : Recorded) : Type 0 where
   pub others : (t : Packed) → t ≢ r.table → claim_in new t ≡ claim_in old t
   pub before : (k : ℕ) → mark_in old r.table ≡ Some (Halting k) → ⊥
 
-pub stopping_verdict : (o : Option Verdict) (k : ℕ) → mark_by o ≡ Halting k → o ≡ Some (Halts k)
+pub stopping_verdict : (o : Option Ending) (k : ℕ) → mark_by o ≡ Halting k → o ≡ Some (Halts k)
 stopping_verdict None k e = cc
 stopping_verdict (Some (Halts j)) k e = let same : j ≡ k = cc in ap (λ (n : ℕ). Some (Halts n)) same
 stopping_verdict (Some Never) k e = cc
@@ -76,7 +76,7 @@ open_taken root old new r t taken = (
               let claimed = ap (option_map mark_of) taken.here in
               let marked = subst (λ (p : Packed). mark_in new p ≡ Some (Halting w.1)) is w.2 in
               let stopping : mark_of r.claim ≡ Halting w.1 = cc in
-              inr (record { count = w.1; halts = stopping_verdict (shown_by r.claim) w.1 stopping; child = subst (λ (p : Packed). IsChildTable p t) is w.3; unrecorded = unrecorded; other = other })
+              inr (record { count = w.1; halts = stopping_verdict (ending_by r.claim) w.1 stopping; child = subst (λ (p : Packed). IsChildTable p t) is w.3; unrecorded = unrecorded; other = other })
           | false ↦ λ apart_from.
               let kept = ap (option_map mark_of) (taken.others w.0 (apart w.0 r.table apart_from)) in
               inl (record { unmarked = ap (option_map mark_of) unrecorded; place = inr (w.0, w.1, sym kept ∙ w.2, w.3) }, other)
@@ -92,7 +92,7 @@ open_taken root old new r t taken = (
     }
     | inr u ↦ record {
       unmarked = ap (option_map mark_of) (taken.others t u.other ∙ u.unrecorded);
-      place = inr (r.table, u.count, ap (option_map mark_of) taken.here ∙ ap (λ (o : Option Verdict). Some (mark_by o)) u.halts, u.child);
+      place = inr (r.table, u.count, ap (option_map mark_of) taken.here ∙ ap (λ (o : Option Ending). Some (mark_by o)) u.halts, u.child);
     }
   ],
 )

@@ -12,7 +12,7 @@ use Rattle.std.proofs.lemmas.List.Elements.{All-cons, All-nil, filter_passes}
 use Rattle.std.proofs.lemmas.Option.{slice_get_past, slice_get_within, get_or_from_slice_get}
 use Rattle.machine_text.specs.Packed.{Packed}
 use Rattle.tree.specs.Tables.{IsChildTable}
-use Rattle.cert.specs.Claim.{Claim, Recorded, shown_by}
+use Rattle.cert.specs.Claim.{Claim, Recorded, ending_by}
 use Rattle.ledger.specs.Records.{same_table, claim_in}
 use Rattle.ledger.specs.Held.{settled}
 use Rattle.ledger.specs.inside.Counting.{is_halting, says_halts}
@@ -124,7 +124,7 @@ grows_last root rs r t i (inl top) = inl top
 grows_last root rs r t i (inr w) = inr (w.0, got_more rs (r ∷ []) i w.0 w.1, w.2, w.3)
 
 -- and where a holdout is settled
-pub got_settled : (rs : List Recorded) (r : Recorded) (c : Claim) (i : ℕ) (x : Recorded) → claim_in rs r.table ≡ Some c → says_halts (shown_by c) ≡ false → slice_get rs i ≡ Some x → is_halting x ≡ true
+pub got_settled : (rs : List Recorded) (r : Recorded) (c : Claim) (i : ℕ) (x : Recorded) → claim_in rs r.table ≡ Some c → says_halts (ending_by c) ≡ false → slice_get rs i ≡ Some x → is_halting x ≡ true
     → slice_get (settled rs r) i ≡ Some x
 got_settled [] r c i x is silent at halts = absurd (cc)
 got_settled (y ∷ ys) r c zero x is silent at halts =
@@ -134,7 +134,7 @@ got_settled (y ∷ ys) r c zero x is silent at halts =
           let claim : y.claim ≡ c = cc in
           let same : y ≡ x = cc in
           let one = ap is_halting same in
-          let two = ap (λ (d : Claim). says_halts (shown_by d)) claim in absurd (cc)
+          let two = ap (λ (d : Claim). says_halts (ending_by d)) claim in absurd (cc)
       | false ↦ λ other. ap (λ (l : List Recorded). slice_get l 0) (settled_past y ys r other) ∙ at
     ] refl
 got_settled (y ∷ ys) r c (suc i) x is silent at halts =
@@ -143,7 +143,7 @@ got_settled (y ∷ ys) r c (suc i) x is silent at halts =
       | false ↦ λ other. ap (λ (l : List Recorded). slice_get l (suc i)) (settled_past y ys r other) ∙ got_settled ys r c i x (sym (claim_past y ys r.table other) ∙ is) silent at halts
     ] refl
 
-pub grows_settled : (root : Packed) (rs : List Recorded) (r : Recorded) (c : Claim) → claim_in rs r.table ≡ Some c → says_halts (shown_by c) ≡ false → (t : Packed) (i : ℕ) → IsOpener root rs t i → IsOpener root (settled rs r) t i
+pub grows_settled : (root : Packed) (rs : List Recorded) (r : Recorded) (c : Claim) → claim_in rs r.table ≡ Some c → says_halts (ending_by c) ≡ false → (t : Packed) (i : ℕ) → IsOpener root rs t i → IsOpener root (settled rs r) t i
 grows_settled root rs r c is silent t i (inl top) = inl top
 grows_settled root rs r c is silent t i (inr w) = inr (w.0, got_settled rs r c i w.0 is silent w.1 w.2, w.2, w.3)
 

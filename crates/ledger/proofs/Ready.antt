@@ -10,7 +10,7 @@ use Rattle.indexmap.specs.IndexMap.{insert_entry}
 use Rattle.machine_text.specs.Packed.{Packed}
 use Rattle.tree.specs.Closed.{IsOpen}
 use Rattle.tree.proofs.TableLaws.{tree_table_child}
-use Rattle.cert.specs.Claim.{Claim, Recorded, shown_by}
+use Rattle.cert.specs.Claim.{Claim, Recorded, ending_by}
 use Rattle.cert.specs.Certified.{IsCertified}
 use Rattle.cert.specs.Kinds.{owned_claim}
 use Rattle.ledger.specs.Records.{same_table, mark_in, claim_in}
@@ -131,7 +131,7 @@ ready_settled root es new r x k old place board indexed settles claim there pare
       parents = λ i e got.
           let w = got_inserted es r.table k old i e there parent tree (subst (λ (l : List (Packed × StoredRecord)). slice_get l i ≡ Some e) is got) in
           subst (λ (l : List Recorded). IsParentPlace root l i e.0 e.1.parent) (sym list)
-          (place_kept root rs (settled rs r) i e.0 e.1.parent (λ y it halts. got_settled rs r c.0 e.1.parent y c.1 (silent_claim (shown_by c.0) c.2) it halts)
+          (place_kept root rs (settled rs r) i e.0 e.1.parent (λ y it halts. got_settled rs r c.0 e.1.parent y c.1 (silent_claim (ending_by c.0) c.2) it halts)
           (subst (λ (n : ℕ). IsParentPlace root rs i e.0 n) (sym w.2.1) (subst (λ (p : Packed). IsParentPlace root rs i p w.0.1.parent) (sym w.2.0) (indexed.parents i w.0 w.1))));
       counts = λ i e got.
           let w = got_inserted es r.table k old i e there parent tree (subst (λ (l : List (Packed × StoredRecord)). slice_get l i ≡ Some e) is got) in

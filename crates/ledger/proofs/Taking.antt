@@ -7,12 +7,12 @@ use Rattle.std.specs.Option.{is_some}
 use Rattle.std.specs.BTreeMap.{BTreeMap, ContainsKey, is_at}
 use Rattle.machine_text.specs.Packed.{Packed, IsTable, entry_of}
 use Rattle.machine_text.specs.declared.transition.Pair.{Pair}
-use Rattle.evidence.specs.declared.verdicts.Verdict.{Verdict}
-use Rattle.evidence.specs.declared.verdicts.Verdict.TheVariants.{Halts, Never}
+use Rattle.evidence.specs.declared.verdicts.Ending.{Ending}
+use Rattle.evidence.specs.declared.verdicts.Ending.TheVariants.{Halts, Never}
 use Rattle.tree.specs.Used.{InOrder}
 use Rattle.tree.specs.Closed.{IsOpen, Holdout}
 use Rattle.tree.specs.Tables.{IsChildTable, InTableTree}
-use Rattle.cert.specs.Claim.{Claim, Recorded, shown_by}
+use Rattle.cert.specs.Claim.{Claim, Recorded, ending_by}
 use Rattle.cert.specs.Certified.{IsCertified, IsPairOf}
 use Rattle.ledger.specs.Records.{claim_in, mark_in, mark_of, mark_by}
 use Rattle.ledger.specs.Held.{IsHoldout, Settles, settled}
@@ -73,13 +73,13 @@ opened_then_closed rs r A B C q more less = (
 )
 
 -- the pair tells whether there are children at all
-opens_or_not : (root : Packed) (rs new : List Recorded) (place : ℕ) (es old : List (Packed × ℕ)) (v : Option Verdict) (t : Packed) (pair : Option Pair) → ((q : Packed) (i : ℕ) → IsOpener root rs q i → IsOpener root new q i)
+opens_or_not : (root : Packed) (rs new : List Recorded) (place : ℕ) (es old : List (Packed × ℕ)) (v : Option Ending) (t : Packed) (pair : Option Pair) → ((q : Packed) (i : ℕ) → IsOpener root rs q i → IsOpener root new q i)
     → All (λ (e : Packed × ℕ). IsOpener root rs e.0 e.1) old → others place es ≡ old → AreChildrenAt place t es → (pair ≡ None → es ≡ old) → IsPairOf v t pair
     → ((k : ℕ) (q : Packed) → v ≡ Some (Halts k) → IsChildTable t q → IsOpener root new q place) → All (λ (e : Packed × ℕ). IsOpener root new e.0 e.1) es
 opens_or_not root rs new place es old v t None grows all is children none pair here = subst (All (λ (e : Packed × ℕ). IsOpener root new e.0 e.1)) (sym (none refl)) (openers_same root rs new old grows all)
 opens_or_not root rs new place es old v t (Some p) grows all is children none pair here = let w = pair_halts v t p pair in openers_after root rs new t place es old grows all is children (λ q child. here w.0 q w.1 child)
 
-pub halts_says : (r : Recorded) (k : ℕ) → shown_by r.claim ≡ Some (Halts k) → is_halting r ≡ true
+pub halts_says : (r : Recorded) (k : ℕ) → ending_by r.claim ≡ Some (Halts k) → is_halting r ≡ true
 halts_says r k is = rw is
 
 -- a fit record is taken
@@ -93,14 +93,14 @@ taken_last old r root is_open = taken_new old r (unmarked (claim_in old r.table)
 
 pub opened_more : (root : Packed) (old : List Recorded) (r : Recorded) (place : ℕ) (pair : Option Pair) (tables mid after : BTreeMap Packed ℕ)
     → IsOpenMap tables (record { root = root; records = old }) → IsOpen root (mark_in old) r.table → place ≡ length old
-    → IsPairOf (shown_by r.claim) r.table pair → others place mid.entries ≡ tables.entries → AreChildrenAt place r.table mid.entries → (pair ≡ None → mid.entries ≡ tables.entries)
+    → IsPairOf (ending_by r.claim) r.table pair → others place mid.entries ≡ tables.entries → AreChildrenAt place r.table mid.entries → (pair ≡ None → mid.entries ≡ tables.entries)
     → after.entries ≡ remove_entry (is_at (table_cmp r.table)) mid.entries → Opens tables after old r
     → IsOpenMap after (record { root = root; records = old ++ (r ∷ []) })
 opened_more root old r place pair tables mid after before is_open last known others children none removal is = record {
   exact = open_taken_exact root old (old ++ (r ∷ [])) r tables after before (taken_last old r root is_open) is;
   openers = subst (All (λ (e : Packed × ℕ). IsOpener root (old ++ (r ∷ [])) e.0 e.1)) (sym removal)
       (all_removed (λ (e : Packed × ℕ). IsOpener root (old ++ (r ∷ [])) e.0 e.1) (is_at (table_cmp r.table)) mid.entries
-      (opens_or_not root old (old ++ (r ∷ [])) place mid.entries tables.entries (shown_by r.claim) r.table pair (grows_last root old r) before.openers others children none known
+      (opens_or_not root old (old ++ (r ∷ [])) place mid.entries tables.entries (ending_by r.claim) r.table pair (grows_last root old r) before.openers others children none known
       (λ k q shown child. inr (r, subst (λ (n : ℕ). slice_get (old ++ (r ∷ [])) n ≡ Some r) (sym last) (got_last old r), halts_says r k shown, child))));
 }
 
@@ -111,7 +111,7 @@ board_settled root old r board settles = record { is_table = board.is_table; in_
 pub taken_settling : (old : List Recorded) (r : Recorded) → IsHoldout old r.table → IsTaken old (settled old r) r
 taken_settling old r holdout = let c = holdout_claim old r.table holdout in taken_settled old r c.0 c.1 c.2
 
-pub silent_claim : (o : Option Verdict) → mark_by o ≡ Holdout → says_halts o ≡ false
+pub silent_claim : (o : Option Ending) → mark_by o ≡ Holdout → says_halts o ≡ false
 silent_claim None e = refl
 silent_claim (Some (Halts k)) e = cc
 silent_claim (Some Never) e = refl
@@ -124,7 +124,7 @@ still_other root old r tables q before holdout there = λ (e : q ≡ r.table).
 pub opened_settled : (root : Packed) (old : List Recorded) (r x : Recorded) (place : ℕ) (pair : Option Pair) (tables after : BTreeMap Packed ℕ)
     → IsBoard (record { root = root; records = old }) → IsOpenMap tables (record { root = root; records = old }) → IsHoldout old r.table
     → slice_get old place ≡ Some x → x.table ≡ r.table
-    → IsPairOf (shown_by r.claim) r.table pair → others place after.entries ≡ tables.entries → AreChildrenAt place r.table after.entries → (pair ≡ None → after.entries ≡ tables.entries)
+    → IsPairOf (ending_by r.claim) r.table pair → others place after.entries ≡ tables.entries → AreChildrenAt place r.table after.entries → (pair ≡ None → after.entries ≡ tables.entries)
     → ((q : Packed) → ContainsKey table_cmp after q ↔ (ContainsKey table_cmp tables q ⊎ IsNewChild old r q))
     → IsOpenMap after (record { root = root; records = settled old r })
 opened_settled root old r x place pair tables after board before holdout at table known others children none is =
@@ -135,6 +135,6 @@ opened_settled root old r x place pair tables after board before holdout at tabl
     ) in
     record {
       exact = open_taken_exact root old (settled old r) r tables after before (taken_settling old r holdout) opens;
-      openers = opens_or_not root old (settled old r) place after.entries tables.entries (shown_by r.claim) r.table pair (grows_settled root old r c.0 c.1 (silent_claim (shown_by c.0) c.2)) before.openers others children none known
+      openers = opens_or_not root old (settled old r) place after.entries tables.entries (ending_by r.claim) r.table pair (grows_settled root old r c.0 c.1 (silent_claim (ending_by c.0) c.2)) before.openers others children none known
           (λ k q shown child. inr (r, settled_slot old r x place (held_apart root old board.held) at table, halts_says r k shown, child));
     }

@@ -1,12 +1,12 @@
 -- The numbers of a table's tree once a record is taken.
 use Rattle.std.proofs.Common.{true, false, ◌≡◌, ◌≢◌, ℕ, ◌+◌, ◌-◌, ◌<◌, ◌≤◌, ◌^◌, Option, Some, None, IsSome, option_map, List, inl, inr, ◌⊎◌, ◌↔◌, refl, sym, ◌∙◌, ap, subst, arith}
 use Rattle.machine_text.specs.Packed.{Packed, IsTable}
-use Rattle.evidence.specs.declared.verdicts.Verdict.{Verdict}
-use Rattle.evidence.specs.declared.verdicts.Verdict.TheVariants.{Halts, Never}
+use Rattle.evidence.specs.declared.verdicts.Ending.{Ending}
+use Rattle.evidence.specs.declared.verdicts.Ending.TheVariants.{Halts, Never}
 use Rattle.tree.specs.Closed.{Mark, Halting, Holdout, IsOpen, IsGreatestRecorded}
 use Rattle.tree.specs.Tables.{IsChildTable, InTableTree, Itself, OfChild}
 use Rattle.tree.proofs.TableLaws.{tree_alike, tree_table_child, one_table_parent}
-use Rattle.cert.specs.Claim.{Claim, Recorded, shown_by}
+use Rattle.cert.specs.Claim.{Claim, Recorded, ending_by}
 use Rattle.ledger.specs.Records.{same_table, claim_in, mark_in, mark_of, mark_by}
 use Rattle.ledger.specs.Held.{IsHoldout}
 use Rattle.ledger.specs.Tally.{AreSoMany}
@@ -85,7 +85,7 @@ module _ (root : Packed) (is_table : IsTable root) (old : List Recorded) (parent
     fresh_child : (q : Packed) → IsChildTable r.table q → (IsOpen root (mark_in old) q ⊎ IsSome (claim_in old q)) → ⊥
     fresh_child q child is = let w = parents r.table q there child is in taken.before w.0 w.1
 
-    pub new_child_is : (q : Packed) → (((k : ℕ) × (shown_by r.claim ≡ Some (Halts k))) × IsChildTable r.table q) ↔ IsNewChild old r q
+    pub new_child_is : (q : Packed) → (((k : ℕ) × (ending_by r.claim ≡ Some (Halts k))) × IsChildTable r.table q) ↔ IsNewChild old r q
     new_child_is q = (
       λ h. record {
         count = h.0.0;
@@ -101,7 +101,7 @@ module _ (root : Packed) (is_table : IsTable root) (old : List Recorded) (parent
     mark_other : (q : Packed) → q ≢ r.table → mark_in new q ≡ mark_in old q
     mark_other q other = ap (option_map mark_of) (taken.others q other)
 
-    mark_here : mark_in new r.table ≡ Some (mark_by (shown_by r.claim))
+    mark_here : mark_in new r.table ≡ Some (mark_by (ending_by r.claim))
     mark_here = ap (option_map mark_of) taken.here
 
     same_or_other : (q : Packed) → (q ≡ r.table) ⊎ (q ≢ r.table)
@@ -110,7 +110,7 @@ module _ (root : Packed) (is_table : IsTable root) (old : List Recorded) (parent
       | false ↦ λ other. inr (apart q r.table other)
     ] refl
 
-    undecided_mark : (o : Option Verdict) → mark_by o ≡ Holdout → o ≡ None
+    undecided_mark : (o : Option Ending) → mark_by o ≡ Holdout → o ≡ None
     undecided_mark None is = refl
     undecided_mark (Some (Halts k)) is = cc
     undecided_mark (Some Never) is = cc
@@ -154,26 +154,26 @@ module _ (root : Packed) (is_table : IsTable root) (old : List Recorded) (parent
           )) all)
 
       -- holdouts
-      holdout_law : (q : Packed) → (InTableTree p q × IsHoldout new q) ↔ (((InTableTree p q × IsHoldout old q) × (q ≢ r.table)) ⊎ ((q ≡ r.table) × (shown_by r.claim ≡ None)))
+      holdout_law : (q : Packed) → (InTableTree p q × IsHoldout new q) ↔ (((InTableTree p q × IsHoldout old q) × (q ≢ r.table)) ⊎ ((q ≡ r.table) × (ending_by r.claim ≡ None)))
       holdout_law q = (
         λ h. elim (same_or_other q) [
-          | inl same ↦ let here = subst (IsHoldout new) same h.1 in let marked = mark_here in let is : mark_by (shown_by r.claim) ≡ Holdout = cc in inr (same, undecided_mark (shown_by r.claim) is)
+          | inl same ↦ let here = subst (IsHoldout new) same h.1 in let marked = mark_here in let is : mark_by (ending_by r.claim) ≡ Holdout = cc in inr (same, undecided_mark (ending_by r.claim) is)
           | inr other ↦ inl ((h.0, sym (mark_other q other) ∙ h.1), other)
         ],
         λ h. elim h [
           | inl a ↦ (a.0.0, mark_other q a.1 ∙ a.0.1)
-          | inr u ↦ subst (λ (x : Packed). InTableTree p x × IsHoldout new x) (sym u.0) (inside, mark_here ∙ ap (λ (o : Option Verdict). Some (mark_by o)) u.1)
+          | inr u ↦ subst (λ (x : Packed). InTableTree p x × IsHoldout new x) (sym u.0) (inside, mark_here ∙ ap (λ (o : Option Ending). Some (mark_by o)) u.1)
         ],
       )
 
       holdouts_taking : (n : ℕ) → (IsHoldout old r.table → ⊥) → AreSoMany (λ q. InTableTree p q × IsHoldout old q) n
-          → AreSoMany (λ q. InTableTree p q × IsHoldout new q) (n + one_undecided (shown_by r.claim) - 0)
-      holdouts_taking n other many = by (shown_by r.claim) refl
+          → AreSoMany (λ q. InTableTree p q × IsHoldout new q) (n + one_undecided (ending_by r.claim) - 0)
+      holdouts_taking n other many = by (ending_by r.claim) refl
         where
           still_there : (q : Packed) → InTableTree p q × IsHoldout old q → (InTableTree p q × IsHoldout old q) × (q ≢ r.table)
           still_there q h = (h, λ (e : q ≡ r.table). other (subst (IsHoldout old) e h.1))
 
-          by : (o : Option Verdict) → shown_by r.claim ≡ o → AreSoMany (λ q. InTableTree p q × IsHoldout new q) (n + one_undecided o - 0)
+          by : (o : Option Ending) → ending_by r.claim ≡ o → AreSoMany (λ q. InTableTree p q × IsHoldout new q) (n + one_undecided o - 0)
           by None is =
               let all = many_both (λ q. InTableTree p q × IsHoldout old q) (λ q. q ≡ r.table) n 1 many (one_many r.table) (λ q h e. (still_there q h).1 e) in
               let number : n + 1 ≡ n + 1 - 0 = omega arith in
@@ -192,7 +192,7 @@ module _ (root : Packed) (is_table : IsTable root) (old : List Recorded) (parent
                 λ h. elim ((holdout_law q).0 h) [ inl a ↦ a.0 | inr u ↦ let none = u.1 in absurd (cc) ],
               )) many)
 
-      holdouts_settling : (n : ℕ) → IsHoldout old r.table → IsSome (shown_by r.claim) → AreSoMany (λ q. InTableTree p q × IsHoldout old q) n
+      holdouts_settling : (n : ℕ) → IsHoldout old r.table → IsSome (ending_by r.claim) → AreSoMany (λ q. InTableTree p q × IsHoldout old q) n
           → AreSoMany (λ q. InTableTree p q × IsHoldout new q) (n + 0 - 1) × (1 ≤ n)
       holdouts_settling n holdout verdict many =
           let less = many_less (λ q. InTableTree p q × IsHoldout old q) r.table n many (inside, holdout) in
@@ -201,34 +201,34 @@ module _ (root : Packed) (is_table : IsTable root) (old : List Recorded) (parent
                 (many_same (λ q. (InTableTree p q × IsHoldout old q) × (q ≢ r.table)) (λ q. InTableTree p q × IsHoldout new q) (n - 1)
                 (λ q. (
                   λ h. (holdout_law q).1 (inl h),
-                  λ h. elim ((holdout_law q).0 h) [ inl a ↦ a | inr u ↦ absurd (shows (shown_by r.claim) verdict u.1) ],
+                  λ h. elim ((holdout_law q).0 h) [ inl a ↦ a | inr u ↦ absurd (shows (ending_by r.claim) verdict u.1) ],
                 )) less.0),
             less.1,
           )
         where
-          shows : (o : Option Verdict) → IsSome o → o ≡ None → ⊥
+          shows : (o : Option Ending) → IsSome o → o ≡ None → ⊥
           shows None some none = cc
           shows (Some v) some none = cc
 
       -- the greatest number
-      best_taking : (b : Option ℕ) → IsGreatestRecorded (λ t k. k) (mark_in old) p b → IsGreatestRecorded (λ t k. k) (mark_in new) p (greater b (steps_of (shown_by r.claim)))
-      best_taking b best = from_greatest (mark_in new) p (greater b (steps_of (shown_by r.claim)))
-          (greatest_more (HaltsBelow (mark_in old) p) (HaltsBelow (mark_in new) p) b (steps_of (shown_by r.claim))
+      best_taking : (b : Option ℕ) → IsGreatestRecorded (λ t k. k) (mark_in old) p b → IsGreatestRecorded (λ t k. k) (mark_in new) p (greater b (steps_of (ending_by r.claim)))
+      best_taking b best = from_greatest (mark_in new) p (greater b (steps_of (ending_by r.claim)))
+          (greatest_more (HaltsBelow (mark_in old) p) (HaltsBelow (mark_in new) p) b (steps_of (ending_by r.claim))
           (λ k q h. elim (halts_after old new r k q taken h.1) [ inl before ↦ inl (h.0, before) | inr steps ↦ inr steps ])
           (λ k q h. (h.0, still_halting k q h.1))
-          (λ k steps. (r.table, (inside, mark_here ∙ ap (λ (m : Mark). Some m) (halting_steps (shown_by r.claim) k steps))))
+          (λ k steps. (r.table, (inside, mark_here ∙ ap (λ (m : Mark). Some m) (halting_steps (ending_by r.claim) k steps))))
           (to_greatest (mark_in old) p b best))
 
       pub count_taken : (n : TreeCount) (opened : ℕ) → IsOpen root (mark_in old) r.table → AreSoMany (IsNewChild old r) opened → IsTreeCount root old p n
-          → IsTreeCount root new p (changed_count (taking_change opened (shown_by r.claim)) n)
+          → IsTreeCount root new p (changed_count (taking_change opened (ending_by r.claim)) n)
       count_taken n opened is_open children count = record {
         open_count = (open_taking n.open_count opened is_open children count.open_count).0;
         holdouts = holdouts_taking n.holdouts (λ h. let unmarked = is_open.unmarked in absurd (cc)) count.holdouts;
         best = best_taking n.best count.best;
       }
 
-      pub count_settled : (n : TreeCount) (opened : ℕ) → IsHoldout old r.table → IsSome (shown_by r.claim) → AreSoMany (IsNewChild old r) opened → IsTreeCount root old p n
-          → IsTreeCount root new p (changed_count (settling_change opened (shown_by r.claim)) n)
+      pub count_settled : (n : TreeCount) (opened : ℕ) → IsHoldout old r.table → IsSome (ending_by r.claim) → AreSoMany (IsNewChild old r) opened → IsTreeCount root old p n
+          → IsTreeCount root new p (changed_count (settling_change opened (ending_by r.claim)) n)
       count_settled n opened holdout verdict children count = record {
         open_count = open_settling n.open_count opened (λ is_open. let unmarked = is_open.unmarked in absurd (cc)) children count.open_count;
         holdouts = (holdouts_settling n.holdouts holdout verdict count.holdouts).0;
@@ -238,21 +238,21 @@ module _ (root : Packed) (is_table : IsTable root) (old : List Recorded) (parent
       -- there is room for the change
       pub taken_room : (n : TreeCount) (opened opens records : ℕ) → IsOpen root (mark_in old) r.table → AreSoMany (IsNewChild old r) opened → opened < 2 ^ 63
           → AreSoMany (IsOpen root (mark_in old)) opens → opens < 2 ^ 63 → AreSoMany (IsHoldout old) records → records < 2 ^ 63 → IsTreeCount root old p n
-          → MayChange n (taking_change opened (shown_by r.claim))
+          → MayChange n (taking_change opened (ending_by r.claim))
       taken_room n opened opens records is_open children few all small holdouts under count =
           let most = no_more (λ q. InTableTree p q × IsOpen root (mark_in old) q) (IsOpen root (mark_in old)) n.open_count opens (λ q h. h.1) count.open_count all in
           let also = no_more (λ q. InTableTree p q × IsHoldout old q) (IsHoldout old) n.holdouts records (λ q h. h.1) count.holdouts holdouts in
-          let one = at_most_one (shown_by r.claim) in
+          let one = at_most_one (ending_by r.claim) in
           let some = (open_taking n.open_count opened is_open children count.open_count).1 in
           record { open_room = omega (arith, most, few, small); open_less = some; holdouts_room = omega (arith, also, under, one); holdouts_less = omega arith }
         where
-          at_most_one : (o : Option Verdict) → one_undecided o ≤ 1
+          at_most_one : (o : Option Ending) → one_undecided o ≤ 1
           at_most_one None = omega arith
           at_most_one (Some v) = omega arith
 
-      pub settled_room : (n : TreeCount) (opened opens records : ℕ) → IsHoldout old r.table → IsSome (shown_by r.claim) → opened < 2 ^ 63
+      pub settled_room : (n : TreeCount) (opened opens records : ℕ) → IsHoldout old r.table → IsSome (ending_by r.claim) → opened < 2 ^ 63
           → AreSoMany (IsOpen root (mark_in old)) opens → opens < 2 ^ 63 → AreSoMany (IsHoldout old) records → records < 2 ^ 63 → IsTreeCount root old p n
-          → MayChange n (settling_change opened (shown_by r.claim))
+          → MayChange n (settling_change opened (ending_by r.claim))
       settled_room n opened opens records holdout verdict few all small holdouts under count =
           let most = no_more (λ q. InTableTree p q × IsOpen root (mark_in old) q) (IsOpen root (mark_in old)) n.open_count opens (λ q h. h.1) count.open_count all in
           let also = no_more (λ q. InTableTree p q × IsHoldout old q) (IsHoldout old) n.holdouts records (λ q h. h.1) count.holdouts holdouts in

@@ -1,9 +1,10 @@
 -- Which lists of records a board may hold from a root, and how a record changes them.
-use Rattle.std.specs.Prelude.{◌≡◌, if◌then◌else◌, List, [], ◌∷◌, ◌++◌, Some, IsSome}
+use Rattle.std.specs.Prelude.{◌≡◌, if◌then◌else◌, All, List, [], ◌∷◌, ◌++◌, Some, IsSome}
 use Rattle.machine_text.specs.Packed.{Packed}
 use Rattle.tree.specs.Closed.{Holdout, IsOpen}
-use Rattle.cert.specs.Claim.{Recorded, shown_by}
+use Rattle.cert.specs.Claim.{Recorded, ending_by}
 use Rattle.cert.specs.Certified.{IsCertified}
+use Rattle.cert.specs.Scored.{with_score}
 use Rattle.ledger.specs.Records.{same_table, mark_in}
 
 -- fit after earlier records: its table is open by them (the root, or a child of one recorded as halting, without a
@@ -17,9 +18,14 @@ abbrev pub AreFitAfter : Packed → List Recorded → List Recorded → Type 0
 AreFitAfter root earlier [] = Unit {0}
 AreFitAfter root earlier (r ∷ rs) = IsFit root earlier r × AreFitAfter root (earlier ++ (r ∷ [])) rs
 
--- held from a root: each record is fit after those before it
+-- a record is held with its score
+abbrev pub HasScore : Recorded → Type 0
+HasScore r = with_score r ≡ r
+
+-- held from a root: each record is fit after those before it, and has its score
 pub record IsHeld (root : Packed) (rs : List Recorded) : Type 0 where
   pub fit : AreFitAfter root [] rs
+  pub scored : All HasScore rs
 
 -- a holdout: recorded, without a verdict
 abbrev pub IsHoldout : List Recorded → Packed → Type 0
@@ -28,7 +34,7 @@ IsHoldout rs t = mark_in rs t ≡ Some Holdout
 -- the record settles a holdout: it has a verdict, and is certified
 pub record Settles (rs : List Recorded) (r : Recorded) : Type 0 where
   pub is_holdout : IsHoldout rs r.table
-  pub verdict : IsSome (shown_by r.claim)
+  pub verdict : IsSome (ending_by r.claim)
   pub certified : IsCertified r
 
 -- the records with this one in the place of the first for its table

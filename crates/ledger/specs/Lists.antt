@@ -1,9 +1,9 @@
 -- Lists of records, in order: which of them are fit in their turn, and what is held of them in the end.
 use Rattle.std.specs.Prelude.{◌≡◌, ◌≢◌, ℕ, ◌⊎◌, if◌then◌else◌, List, [], ◌∷◌, ◌++◌, Contains, Some, None, Result, Ok, Err, fold}
 use Rattle.machine_text.specs.Packed.{Packed}
-use Rattle.evidence.specs.declared.verdicts.Verdict.TheVariants.{Halts}
+use Rattle.evidence.specs.declared.verdicts.Ending.TheVariants.{Halts}
 use Rattle.tree.specs.Tables.{IsChildTable}
-use Rattle.cert.specs.Claim.{Recorded, shown_by}
+use Rattle.cert.specs.Claim.{Recorded, ending_by}
 use Rattle.cert.specs.Certified.{IsCertified}
 use Rattle.cert.specs.Grammar.{record_of}
 use Rattle.ledger.specs.Records.{same_table}
@@ -16,14 +16,14 @@ use Rattle.ledger.specs.declared.faults.OfferFault.TheVariants.{NoMemory}
 -- the root, or a child of the table of an earlier record that says that it halts
 abbrev pub HasPlace : Packed → List Recorded → Packed → Type 0
 HasPlace root earlier t =
-    (t ≡ root) ⊎ ((p : Recorded) × (k : ℕ) × Contains earlier p × (shown_by p.claim ≡ Some (Halts k)) × IsChildTable p.table t)
+    (t ≡ root) ⊎ ((p : Recorded) × (k : ℕ) × Contains earlier p × (ending_by p.claim ≡ Some (Halts k)) × IsChildTable p.table t)
 
 -- fit after earlier fit records: its table has a place; none of them gives it a verdict, and where the record itself has
 -- none, none of them is of its table; and it is certified
 pub record IsFitAfter (root : Packed) (earlier : List Recorded) (r : Recorded) : Type 0 where
   pub place : HasPlace root earlier r.table
-  pub no_verdict : (e : Recorded) → Contains earlier e → e.table ≡ r.table → shown_by e.claim ≡ None
-  pub not_again : shown_by r.claim ≡ None → (e : Recorded) → Contains earlier e → e.table ≢ r.table
+  pub no_verdict : (e : Recorded) → Contains earlier e → e.table ≡ r.table → ending_by e.claim ≡ None
+  pub not_again : ending_by r.claim ≡ None → (e : Recorded) → Contains earlier e → e.table ≢ r.table
   pub certified : IsCertified r
 
 -- with the fit records of a list, each of which is fit after those before it, the earlier ones are these

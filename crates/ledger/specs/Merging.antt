@@ -1,9 +1,9 @@
 -- What two boards of one root come to together.
 use Rattle.std.specs.Prelude.{◌≡◌, ◌≢◌, ◌↔◌, ◌⊎◌, List, [], ◌∷◌, ◌++◌, Some, None, Result, Ok, Err}
 use Rattle.machine_text.specs.Packed.{Packed}
-use Rattle.evidence.specs.declared.verdicts.Verdict.{Verdict}
+use Rattle.evidence.specs.declared.verdicts.Ending.{Ending}
 use Rattle.cert.specs.Claim.{Recorded}
-use Rattle.ledger.specs.Records.{verdict_in}
+use Rattle.ledger.specs.Records.{ending_in}
 use Rattle.ledger.specs.Held.{IsHoldout}
 use Rattle.ledger.specs.Offers.{OfferGives}
 use Rattle.ledger.specs.Contents.{Contents}
@@ -19,8 +19,8 @@ AreTakenIn root old (r ∷ rs) new = (taken : Taken) × (mid : List Recorded) ×
 -- the tables with a verdict are those of either list, with the same verdict; the holdouts are those of either list that
 -- have a verdict in neither
 pub record IsMerged (a b new : List Recorded) : Type 0 where
-  pub verdicts : (t : Packed) (v : Verdict) → (verdict_in new t ≡ Some v) ↔ ((verdict_in a t ≡ Some v) ⊎ (verdict_in b t ≡ Some v))
-  pub holdouts : (t : Packed) → IsHoldout new t ↔ ((IsHoldout a t ⊎ IsHoldout b t) × (verdict_in a t ≡ None) × (verdict_in b t ≡ None))
+  pub verdicts : (t : Packed) (v : Ending) → (ending_in new t ≡ Some v) ↔ ((ending_in a t ≡ Some v) ⊎ (ending_in b t ≡ Some v))
+  pub holdouts : (t : Packed) → IsHoldout new t ↔ ((IsHoldout a t ⊎ IsHoldout b t) × (ending_in a t ≡ None) × (ending_in b t ≡ None))
 
 -- what becomes of a board that another is merged into; where memory is refused, a beginning of the other's records was
 -- taken in

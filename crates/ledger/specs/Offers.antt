@@ -2,8 +2,9 @@
 use Rattle.std.specs.Prelude.{◌≡◌, ◌≢◌, ◌⊎◌, List, [], ◌∷◌, ◌++◌, None, Result, Ok, Err, IsSome}
 use Rattle.machine_text.specs.Packed.{Packed}
 use Rattle.tree.specs.Closed.{IsVerdict, IsOpen}
-use Rattle.cert.specs.Claim.{Recorded, shown_by}
+use Rattle.cert.specs.Claim.{Recorded, ending_by}
 use Rattle.cert.specs.Certified.{IsRefusedBy}
+use Rattle.cert.specs.Scored.{with_score}
 use Rattle.ledger.specs.Records.{claim_in, mark_in}
 use Rattle.ledger.specs.Held.{IsFit, IsHoldout, Settles, settled}
 use Rattle.ledger.specs.declared.taken.Taken.{Taken}
@@ -13,22 +14,22 @@ use Rattle.ledger.specs.declared.faults.OfferFault.TheVariants.{WrongSize, NotOp
 
 -- nothing new: the table has a verdict, or it is a holdout and no verdict is offered
 pub record IsKnown (rs : List Recorded) (r : Recorded) : Type 0 where
-  pub is : IsVerdict (mark_in rs r.table) ⊎ (IsHoldout rs r.table × (shown_by r.claim ≡ None))
+  pub is : IsVerdict (mark_in rs r.table) ⊎ (IsHoldout rs r.table × (ending_by r.claim ≡ None))
 
 -- the record is judged: its table is open, or a holdout for which a verdict is offered
 pub record IsJudged (root : Packed) (rs : List Recorded) (r : Recorded) : Type 0 where
-  pub is : IsOpen root (mark_in rs) r.table ⊎ (IsHoldout rs r.table × IsSome (shown_by r.claim))
+  pub is : IsOpen root (mark_in rs) r.table ⊎ (IsHoldout rs r.table × IsSome (ending_by r.claim))
 
 -- the table is neither open nor recorded
 pub record IsElsewhere (root : Packed) (rs : List Recorded) (t : Packed) : Type 0 where
   pub unrecorded : claim_in rs t ≡ None
   pub not_open : IsOpen root (mark_in rs) t → ⊥
 
--- what an offered record does
+-- what an offered record does; it is held with its score, whether it came with it or not
 abbrev pub OfferGives : Packed → List Recorded → Recorded → Result Taken OfferFault → List Recorded → Type 0
-OfferGives root old r (Ok New) new = IsFit root old r × (new ≡ old ++ (r ∷ []))
+OfferGives root old r (Ok New) new = IsFit root old r × (new ≡ old ++ (with_score r ∷ []))
 OfferGives root old r (Ok Known) new = IsKnown old r × (new ≡ old)
-OfferGives root old r (Ok Settled) new = Settles old r × (new ≡ settled old r)
+OfferGives root old r (Ok Settled) new = Settles old r × (new ≡ settled old (with_score r))
 OfferGives root old r (Err WrongSize) new = (r.table.states ≢ root.states) × (new ≡ old)
 OfferGives root old r (Err NotOpen) new = (r.table.states ≡ root.states) × IsElsewhere root old r.table × (new ≡ old)
 OfferGives root old r (Err (IsRefused f)) new = IsJudged root old r × IsRefusedBy f r × (new ≡ old)

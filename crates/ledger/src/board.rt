@@ -16,7 +16,7 @@ use crate::children::{child_count, children_on};
 use crate::counts::Counts;
 use crate::faults::{BoardFault, OfferFault};
 use crate::index::{
-    certificate_for, pair_for, place_and_count_of, place_of, tree_count_of, verdict_in,
+    certificate_for, pair_for, place_and_count_of, place_of, tree_count_of, ending_in,
 };
 use crate::open::Open;
 use crate::open_tables::{only, open_children, opener_of, opener_place};
@@ -29,7 +29,7 @@ use crate::taken::Taken;
 use crate::tally::Tally;
 use crate::tree_count::{TreeChange, TreeCount};
 use cert::{Record, standing_claims_are_true};
-use evidence::{NoMemory, Verdict};
+use evidence::{NoMemory, Ending};
 use indexmap::IndexMap;
 use machine_text::Table;
 use std::alloc::Global;
@@ -80,10 +80,10 @@ impl Model for Board {
 impl Board {
     ghost use Rattle.std.specs.Prelude.{[], ◌∷◌, ◌++◌, OnOk, OnErr, IfErr, ◌⊎◌, IsSome};
     ghost use Rattle.tree.specs.Closed.{IsComplete, IsOpen};
-    ghost use Rattle.cert.specs.Claim.{shown_by};
+    ghost use Rattle.cert.specs.Claim.{ending_by};
     ghost use Rattle.cert.specs.Certified.{IsCertified};
     ghost use Rattle.cert.specs.Kinds.{claim_of, recorded};
-    ghost use Rattle.ledger.specs.Records.{claim_in, mark_in, verdict_in};
+    ghost use Rattle.ledger.specs.Records.{claim_in, mark_in, ending_in};
     ghost use Rattle.ledger.specs.Held.{IsFit, IsHoldout, Settles, settled};
     ghost use Rattle.ledger.specs.Offers.{OfferGives};
     ghost use Rattle.ledger.specs.inside.Places.{IsWhyRefused};
@@ -254,14 +254,14 @@ impl Board {
     }
 
     /// The recorded verdict on a table, which is true of it; none where there is none, as for a holdout.
-    pub fn verdict(&self, t: &Table) -> Option<Verdict>
-        ensures recorded { result ≡ verdict_in self.now.records t.now }
+    pub fn verdict(&self, t: &Table) -> Option<Ending>
+        ensures recorded { result ≡ ending_in self.now.records t.now }
         ensures is_true { IfSome result (λ v. IsTrueOf v (entry_of t.now)) }
     {
         standing_claims_are_true();
         // The proof needs that it is a table.
         let _ = t.states();
-        verdict_in(&self.records, t)
+        ending_in(&self.records, t)
     }
 
     // The numbers of a recorded table's tree.
@@ -368,7 +368,7 @@ impl Board {
             Ok(_) => {}
             Err(_) => unreachable!(),
         }
-        let shown = r.certificate.verdict();
+        let shown = r.certificate.ending();
         carry_up(
             &mut self.records,
             place,
@@ -382,7 +382,7 @@ impl Board {
     // Takes a record with a verdict on a holdout.
     fn settle(&mut self, r: &Record, judging: Judging) -> Result<Taken, OfferFault>
         requires holdout { IsHoldout self.old.records r.now.table }
-        requires verdict { IsSome (shown_by (claim_of r.now.certificate)) }
+        requires verdict { IsSome (ending_by (claim_of r.now.certificate)) }
         requires judged { judging ≡ Judging.Done → IsCertified (recorded r.now) }
         ensures ok { IfOk result (λ taken. (taken ≡ Taken.Settled) × Settles self.old.records (recorded r.now) × (self.new.records ≡ settled self.old.records (recorded r.now))) }
         ensures err { OnErr result (self.new.records ≡ self.old.records) }
@@ -409,7 +409,7 @@ impl Board {
             Ok(_) => {}
             Err(_) => unreachable!(),
         }
-        let shown = r.certificate.verdict();
+        let shown = r.certificate.ending();
         carry_up(
             &mut self.records,
             place,

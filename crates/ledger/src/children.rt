@@ -7,8 +7,8 @@ ghost use Rattle.machine_text.specs.Packed.{Packed, entry_of};
 ghost use Rattle.machine_text.specs.Text.{text_of};
 ghost use Rattle.tree.specs.Used.{InOrder};
 ghost use Rattle.tree.specs.Tables.{IsChildTable};
-ghost use Rattle.evidence.specs.declared.verdicts.Verdict.TheVariants.{Halts};
-ghost use Rattle.cert.specs.Claim.{shown_by};
+ghost use Rattle.evidence.specs.declared.verdicts.Ending.TheVariants.{Halts};
+ghost use Rattle.cert.specs.Claim.{ending_by};
 ghost use Rattle.cert.specs.Kinds.{claim_of};
 ghost use Rattle.cert.specs.Certified.{HaltsOnPair, IsPairOf};
 ghost use Rattle.ledger.specs.Tally.{AreSoMany};
@@ -35,8 +35,8 @@ pub(crate) fn children_on(parent: &Table, pair: Pair) -> Children
 // How many children a record's table has, which halts on this pair if it is known to.
 pub(crate) fn child_count(r: &Record, halts_on: Option<Pair>) -> u64
     requires in_order { (u : ℕ) × InOrder u (entry_of r.now.table) }
-    requires pair { IsPairOf (shown_by (claim_of r.now.certificate)) r.now.table halts_on }
-    ensures number { AreSoMany (λ t. ((k : ℕ) × (shown_by (claim_of r.now.certificate) ≡ Some (Halts k))) × IsChildTable r.now.table t) result }
+    requires pair { IsPairOf (ending_by (claim_of r.now.certificate)) r.now.table halts_on }
+    ensures number { AreSoMany (λ t. ((k : ℕ) × (ending_by (claim_of r.now.certificate) ≡ Some (Halts k))) × IsChildTable r.now.table t) result }
     ensures small { result < 2 ^ 63 }
 {
     // The proof needs that a table has few states.

@@ -2,7 +2,7 @@
 ghost use Rattle.std.specs.Prelude.{◌≡◌, ℕ, ◌<◌, ◌^◌, None};
 ghost use Rattle.ledger.specs.inside.Counting.{with_shown, without_holdout, greater};
 
-use evidence::Verdict;
+use evidence::Ending;
 
 // How many records there are of each kind, and the greatest number of steps of those that say that their
 // table halts.
@@ -28,7 +28,7 @@ impl Counts {
     }
 
     // Those with one more record, which shows this.
-    pub fn with(self, shown: Option<Verdict>) -> Counts
+    pub fn with(self, shown: Option<Ending>) -> Counts
         requires halting { self.halting < 2 ^ 63 }
         requires never { self.never < 2 ^ 63 }
         requires undecided { self.undecided < 2 ^ 63 }
@@ -39,11 +39,11 @@ impl Counts {
                 undecided: self.undecided + 1,
                 ..self
             },
-            Some(Verdict::Never) => Counts {
+            Some(Ending::Never) => Counts {
                 never: self.never + 1,
                 ..self
             },
-            Some(Verdict::Halts(steps)) => Counts {
+            Some(Ending::Halts(steps)) => Counts {
                 halting: self.halting + 1,
                 best: greater(self.best, Some(steps)),
                 ..self

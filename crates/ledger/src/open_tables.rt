@@ -5,7 +5,7 @@ ghost use Rattle.std.specs.BTreeMap.{ContainsKey, is_at, insert_entry};
 ghost use Rattle.machine_text.specs.Packed.{Packed, entry_of};
 ghost use Rattle.tree.specs.Used.{InOrder};
 ghost use Rattle.tree.specs.Tables.{IsChildTable};
-ghost use Rattle.cert.specs.Claim.{shown_by};
+ghost use Rattle.cert.specs.Claim.{ending_by};
 ghost use Rattle.cert.specs.Kinds.{claim_of, recorded};
 ghost use Rattle.cert.specs.Certified.{IsPairOf};
 ghost use Rattle.ledger.specs.inside.Stored.{records_of};
@@ -70,7 +70,7 @@ pub(crate) fn open_children(
     halts_on: Option<Pair>,
 ) -> Result<(), NoMemory>
     requires in_order { (u : ℕ) × InOrder u (entry_of r.now.table) }
-    requires pair { IsPairOf (shown_by (claim_of r.now.certificate)) r.now.table halts_on }
+    requires pair { IsPairOf (ending_by (claim_of r.now.certificate)) r.now.table halts_on }
     requires none { others place tables.old.entries ≡ tables.old.entries }
     ensures ok { OnOk result ((q : Packed) → ContainsKey table_cmp tables.new q
         ↔ (ContainsKey table_cmp tables.old q ⊎ IsNewChild (records_of records.now.entries) (recorded r.now) q)) }

@@ -1,6 +1,6 @@
 // Where an offered record stands among those of a board.
 ghost use Rattle.std.specs.Prelude.{◌≡◌};
-ghost use Rattle.cert.specs.Claim.{shown_by};
+ghost use Rattle.cert.specs.Claim.{ending_by};
 ghost use Rattle.cert.specs.Kinds.{claim_of};
 ghost use Rattle.ledger.specs.inside.Places.{place_by};
 
@@ -20,9 +20,9 @@ pub(crate) enum Place {
 
 // Where a record stands whose table has one.
 pub(crate) fn recorded_place(held: &Certificate, offered: &Certificate) -> Place
-    ensures { result ≡ place_by (shown_by (claim_of held.now)) (shown_by (claim_of offered.now)) }
+    ensures { result ≡ place_by (ending_by (claim_of held.now)) (ending_by (claim_of offered.now)) }
 {
-    match (held.verdict(), offered.verdict()) {
+    match (held.ending(), offered.ending()) {
         (None, Some(_)) => Place::Holdout,
         _ => Place::Known,
     }

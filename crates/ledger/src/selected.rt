@@ -8,7 +8,7 @@ ghost use Rattle.ledger.specs.inside.Counting.{undecided_table, champion_table, 
 ghost use Rattle.machine_text.specs.Order.{table_cmp};
 
 use crate::stored_record::StoredRecord;
-use evidence::{NoMemory, Verdict};
+use evidence::{NoMemory, Ending};
 use indexmap::IndexMap;
 use itertools::Itertools;
 use machine_text::Table;
@@ -67,7 +67,7 @@ pub(crate) fn undecided_tables(
 fn undecided_table(table: &Table, stored: &StoredRecord) -> Option<Table>
     ensures { result ≡ undecided_table (entry_recorded (table.now, stored.now)) }
 {
-    if stored.certificate.verdict().is_none() {
+    if stored.certificate.ending().is_none() {
         Some(*table)
     } else {
         None
@@ -107,8 +107,8 @@ fn champion_tables(
 fn champion_table(best: u64, table: &Table, stored: &StoredRecord) -> Option<Table>
     ensures { result ≡ champion_table best (entry_recorded (table.now, stored.now)) }
 {
-    match stored.certificate.verdict() {
-        Some(Verdict::Halts(count)) if count == best => Some(*table),
+    match stored.certificate.ending() {
+        Some(Ending::Halts(count)) if count == best => Some(*table),
         _ => None,
     }
 }

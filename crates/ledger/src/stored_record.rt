@@ -1,6 +1,6 @@
 // A record as a board stores it, under its table.
 ghost use Rattle.std.specs.Prelude.{◌≡◌, IfOk, IfErr, OnOk};
-ghost use Rattle.cert.specs.Claim.{shown_by};
+ghost use Rattle.cert.specs.Claim.{ending_by};
 ghost use Rattle.cert.specs.Certified.{IsCertified, IsPairOf};
 ghost use Rattle.cert.specs.Kinds.{claim_of, owned_claim, recorded};
 ghost use Rattle.ledger.specs.inside.Places.{IsWhyRefused};
@@ -8,7 +8,7 @@ ghost use Rattle.ledger.specs.inside.Places.{IsWhyRefused};
 use crate::faults::OfferFault;
 use crate::tree_count::TreeCount;
 use cert::{OwnedCertificate, Record, judge_on};
-use evidence::{Refused, Verdict};
+use evidence::{Refused, Ending};
 use machine_text::Pair;
 use std::alloc::Global;
 
@@ -45,7 +45,7 @@ impl StoredRecord {
         requires { judging ≡ Judging.Done → IsCertified (recorded r.now) }
         ensures certified { OnOk result (IsCertified (recorded r.now)) }
         ensures claim { IfOk result (λ stored. owned_claim stored.certificate ≡ claim_of r.now.certificate) }
-        ensures pair { IfOk result (λ stored. IsPairOf (shown_by (claim_of r.now.certificate)) r.now.table stored.halts_on) }
+        ensures pair { IfOk result (λ stored. IsPairOf (ending_by (claim_of r.now.certificate)) r.now.table stored.halts_on) }
         ensures parent { IfOk result (λ stored. stored.parent ≡ parent) }
         ensures tree { IfOk result (λ stored. stored.tree ≡ tree) }
         ensures refusal { IfErr result (λ f. IsWhyRefused f (recorded r.now)) }
@@ -65,7 +65,7 @@ impl StoredRecord {
 fn halting_pair(alloc: Global, r: &Record, judging: Judging) -> Result<Option<Pair>, OfferFault>
     requires { judging ≡ Judging.Done → IsCertified (recorded r.now) }
     ensures certified { OnOk result (IsCertified (recorded r.now)) }
-    ensures pair { IfOk result (λ pair. IsPairOf (shown_by (claim_of r.now.certificate)) r.now.table pair) }
+    ensures pair { IfOk result (λ pair. IsPairOf (ending_by (claim_of r.now.certificate)) r.now.table pair) }
     ensures refusal { IfErr result (λ f. IsWhyRefused f (recorded r.now)) }
 {
     match judging {
@@ -77,7 +77,7 @@ fn halting_pair(alloc: Global, r: &Record, judging: Judging) -> Result<Option<Pa
 // The same; whether the certificate stands is judged.
 fn judged_pair(alloc: Global, r: &Record) -> Result<Option<Pair>, OfferFault>
     ensures certified { OnOk result (IsCertified (recorded r.now)) }
-    ensures pair { IfOk result (λ pair. IsPairOf (shown_by (claim_of r.now.certificate)) r.now.table pair) }
+    ensures pair { IfOk result (λ pair. IsPairOf (ending_by (claim_of r.now.certificate)) r.now.table pair) }
     ensures refusal { IfErr result (λ f. IsWhyRefused f (recorded r.now)) }
 {
     match judge_on(alloc, r) {
@@ -89,12 +89,12 @@ fn judged_pair(alloc: Global, r: &Record) -> Result<Option<Pair>, OfferFault>
 
 // The same of a certificate that is known to stand: only a table that halts is run.
 fn certified_pair(alloc: Global, r: &Record) -> Result<Option<Pair>, OfferFault>
-    ensures pair { IfOk result (λ pair. IsPairOf (shown_by (claim_of r.now.certificate)) r.now.table pair) }
+    ensures pair { IfOk result (λ pair. IsPairOf (ending_by (claim_of r.now.certificate)) r.now.table pair) }
     ensures refusal { IfErr result (λ f. IsWhyRefused f (recorded r.now)) }
 {
-    match r.certificate.verdict() {
-        Some(Verdict::Halts(_)) => judged_pair(alloc, r),
-        Some(Verdict::Never) => Ok(None),
+    match r.certificate.ending() {
+        Some(Ending::Halts(_)) => judged_pair(alloc, r),
+        Some(Ending::Never) => Ok(None),
         None => Ok(None),
     }
 }

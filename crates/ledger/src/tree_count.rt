@@ -4,7 +4,7 @@ ghost use Rattle.ledger.specs.inside.Counting.{steps_of};
 ghost use Rattle.ledger.specs.inside.Carrying.{changed_count, first_count, settling_change, taking_change, MayChange};
 
 use crate::counts::greater;
-use evidence::Verdict;
+use evidence::Ending;
 
 // How many tables of a table's tree are open, how many are holdouts, and the greatest number of steps recorded
 // in it. The table itself is one of its tree.
@@ -64,7 +64,7 @@ impl TreeCount {
 
 impl TreeChange {
     // By the first record of an open table, which shows this and opens so many children.
-    pub fn of_taking(opened: u64, shown: Option<Verdict>) -> TreeChange
+    pub fn of_taking(opened: u64, shown: Option<Ending>) -> TreeChange
         ensures { result ≡ taking_change opened shown }
     {
         let undecided = match shown {
@@ -81,7 +81,7 @@ impl TreeChange {
     }
 
     // By the record that settles a holdout, which shows this and opens so many children.
-    pub fn of_settling(opened: u64, shown: Option<Verdict>) -> TreeChange
+    pub fn of_settling(opened: u64, shown: Option<Ending>) -> TreeChange
         ensures { result ≡ settling_change opened shown }
     {
         TreeChange {
@@ -95,12 +95,12 @@ impl TreeChange {
 }
 
 // The number of steps of a verdict that a table halts.
-fn steps_of(shown: Option<Verdict>) -> Option<u64>
+fn steps_of(shown: Option<Ending>) -> Option<u64>
     ensures { result ≡ steps_of shown }
 {
     match shown {
-        Some(Verdict::Halts(steps)) => Some(steps),
-        Some(Verdict::Never) => None,
+        Some(Ending::Halts(steps)) => Some(steps),
+        Some(Ending::Never) => None,
         None => None,
     }
 }

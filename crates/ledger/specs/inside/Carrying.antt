@@ -1,7 +1,7 @@
 -- For the code: the numbers that are kept of trees, and a change of them that is carried up from parent to parent.
 use Rattle.std.specs.Prelude.{◌≡◌, ◌⊎◌, ℕ, ◌+◌, ◌-◌, ◌<◌, ◌≤◌, ◌^◌, List, Option, Some, None, slice_get, length}
 use Rattle.machine_text.specs.Packed.{Packed}
-use Rattle.evidence.specs.declared.verdicts.Verdict.{Verdict}
+use Rattle.evidence.specs.declared.verdicts.Ending.{Ending}
 use Rattle.ledger.specs.inside.Counting.{greater, steps_of}
 use Rattle.ledger.specs.inside.Open.{no_place}
 use Rattle.ledger.specs.declared.tree_count.TreeCount.{TreeCount}
@@ -13,15 +13,15 @@ abbrev pub first_count : TreeCount
 first_count = record { open_count = 1; holdouts = 0; best = None }
 
 -- 1 where there is no verdict
-abbrev pub one_undecided : Option Verdict → ℕ
+abbrev pub one_undecided : Option Ending → ℕ
 one_undecided None = 1
 one_undecided (Some v) = 0
 
 -- what the first record of an open table changes, and one that settles a holdout
-abbrev pub taking_change : ℕ → Option Verdict → TreeChange
+abbrev pub taking_change : ℕ → Option Ending → TreeChange
 taking_change n shown = record { opened = n; closed = 1; undecided = one_undecided shown; settled = 0; steps = steps_of shown }
 
-abbrev pub settling_change : ℕ → Option Verdict → TreeChange
+abbrev pub settling_change : ℕ → Option Ending → TreeChange
 settling_change n shown = record { opened = n; closed = 0; undecided = 0; settled = 1; steps = steps_of shown }
 
 -- the numbers after a change, which there is room for

@@ -2,38 +2,38 @@
 use Rattle.std.specs.Prelude.{◌≡◌, ℕ, ◌+◌, ◌-◌, Bool, true, false, nat_lt, nat_eq, if◌then◌else◌, List, [], Option, Some, None, filter, filter_map, length}
 use Rattle.std.specs.Option.{is_none}
 use Rattle.machine_text.specs.Packed.{Packed}
-use Rattle.evidence.specs.declared.verdicts.Verdict.{Verdict}
-use Rattle.evidence.specs.declared.verdicts.Verdict.TheVariants.{Halts, Never}
-use Rattle.cert.specs.Claim.{Recorded, shown_by}
+use Rattle.evidence.specs.declared.verdicts.Ending.{Ending}
+use Rattle.evidence.specs.declared.verdicts.Ending.TheVariants.{Halts, Never}
+use Rattle.cert.specs.Claim.{Recorded, ending_by}
 use Rattle.ledger.specs.Tally.{IsGreatestCount}
 use Rattle.ledger.specs.declared.counts.Counts.{Counts}
 
 -- a record without a verdict
 abbrev pub is_undecided : Recorded → Bool
-is_undecided r = is_none (shown_by r.claim)
+is_undecided r = is_none (ending_by r.claim)
 
 abbrev pub undecided_table : Recorded → Option Packed
 undecided_table r = if is_undecided r then Some r.table else None
 
 -- a verdict that a table halts, and one that it never does
-abbrev pub says_halts : Option Verdict → Bool
+abbrev pub says_halts : Option Ending → Bool
 says_halts None = false
 says_halts (Some (Halts k)) = true
 says_halts (Some Never) = false
 
-abbrev pub says_never : Option Verdict → Bool
+abbrev pub says_never : Option Ending → Bool
 says_never None = false
 says_never (Some (Halts k)) = false
 says_never (Some Never) = true
 
 abbrev pub is_halting : Recorded → Bool
-is_halting r = says_halts (shown_by r.claim)
+is_halting r = says_halts (ending_by r.claim)
 
 abbrev pub is_never : Recorded → Bool
-is_never r = says_never (shown_by r.claim)
+is_never r = says_never (ending_by r.claim)
 
 -- the number of steps of a verdict that a table halts
-abbrev pub steps_of : Option Verdict → Option ℕ
+abbrev pub steps_of : Option Ending → Option ℕ
 steps_of None = None
 steps_of (Some (Halts k)) = Some k
 steps_of (Some Never) = None
@@ -44,14 +44,14 @@ champion_by best None t = None
 champion_by best (Some k) t = if nat_eq k best then Some t else None
 
 abbrev pub champion_table : ℕ → Recorded → Option Packed
-champion_table best r = champion_by best (steps_of (shown_by r.claim)) r.table
+champion_table best r = champion_by best (steps_of (ending_by r.claim)) r.table
 
 abbrev pub is_steps : ℕ → Option ℕ → Bool
 is_steps best None = false
 is_steps best (Some k) = nat_eq k best
 
 abbrev pub is_champion : ℕ → Recorded → Bool
-is_champion best r = is_steps best (steps_of (shown_by r.claim))
+is_champion best r = is_steps best (steps_of (ending_by r.claim))
 
 -- the greater of two numbers of which either may be missing
 abbrev pub greater : Option ℕ → Option ℕ → Option ℕ
@@ -72,7 +72,7 @@ pub record IsCounted (rs : List Recorded) (c : Counts) : Type 0 where
   pub best : IsGreatestCount rs c.best
 
 -- the numbers with one more record, by what it shows
-abbrev pub with_shown : Counts → Option Verdict → Counts
+abbrev pub with_shown : Counts → Option Ending → Counts
 with_shown c None = record { halting = c.halting; never = c.never; undecided = c.undecided + 1; best = c.best }
 with_shown c (Some Never) = record { halting = c.halting; never = c.never + 1; undecided = c.undecided; best = c.best }
 with_shown c (Some (Halts k)) = record { halting = c.halting + 1; never = c.never; undecided = c.undecided; best = greater c.best (Some k) }

@@ -3,10 +3,10 @@ use Rattle.std.specs.Prelude.{◌≡◌, ◌≢◌, ◌↔◌, ◌⊎◌, ℕ, t
 use Rattle.std.specs.BTreeMap.{BTreeMap, ContainsKey}
 use Rattle.machine_text.specs.Packed.{Packed}
 use Rattle.machine_text.specs.Order.{table_cmp}
-use Rattle.evidence.specs.declared.verdicts.Verdict.TheVariants.{Halts}
+use Rattle.evidence.specs.declared.verdicts.Ending.TheVariants.{Halts}
 use Rattle.tree.specs.Closed.{IsOpen}
 use Rattle.tree.specs.Tables.{IsChildTable}
-use Rattle.cert.specs.Claim.{Recorded, shown_by}
+use Rattle.cert.specs.Claim.{Recorded, ending_by}
 use Rattle.ledger.specs.Records.{claim_in, mark_in}
 use Rattle.ledger.specs.Contents.{Contents}
 use Rattle.ledger.specs.inside.Counting.{is_halting}
@@ -37,7 +37,7 @@ pub record IsOpenMap (tables : BTreeMap Packed ℕ) (b : Contents) : Type 0 wher
 -- a child of the record's table, by its halting, that has no record itself
 pub record IsNewChild (rs : List Recorded) (r : Recorded) (t : Packed) : Type 0 where
   pub count : ℕ
-  pub halts : shown_by r.claim ≡ Some (Halts count)
+  pub halts : ending_by r.claim ≡ Some (Halts count)
   pub child : IsChildTable r.table t
   pub unrecorded : claim_in rs t ≡ None
   pub other : t ≢ r.table

@@ -1,9 +1,9 @@
 -- For the code: where an offered record stands, and why it isn't taken.
 use Rattle.std.specs.Prelude.{List, Option, Some, None, IsSome}
 use Rattle.machine_text.specs.Packed.{Packed}
-use Rattle.evidence.specs.declared.verdicts.Verdict.{Verdict}
+use Rattle.evidence.specs.declared.verdicts.Ending.{Ending}
 use Rattle.tree.specs.Closed.{IsOpen}
-use Rattle.cert.specs.Claim.{Recorded, shown_by}
+use Rattle.cert.specs.Claim.{Recorded, ending_by}
 use Rattle.ledger.specs.Records.{mark_in}
 use Rattle.ledger.specs.Held.{IsHoldout}
 use Rattle.ledger.specs.Offers.{IsKnown, IsElsewhere}
@@ -16,11 +16,11 @@ use Rattle.ledger.specs.declared.place.Place.TheVariants.{Known, Open, Holdout, 
 abbrev pub IsPlace : Packed → List Recorded → Recorded → Place → Type 0
 IsPlace root rs r Known = IsKnown rs r
 IsPlace root rs r Open = IsOpen root (mark_in rs) r.table
-IsPlace root rs r Holdout = IsHoldout rs r.table × IsSome (shown_by r.claim)
+IsPlace root rs r Holdout = IsHoldout rs r.table × IsSome (ending_by r.claim)
 IsPlace root rs r Elsewhere = IsElsewhere root rs r.table
 
 -- by the verdict that is held and the one that is offered
-abbrev pub place_by : Option Verdict → Option Verdict → Place
+abbrev pub place_by : Option Ending → Option Ending → Place
 place_by (Some v) offered = Known
 place_by None (Some v) = Holdout
 place_by None None = Known

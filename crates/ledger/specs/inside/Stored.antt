@@ -1,7 +1,7 @@
 -- For the code: how a record is stored, beside it the pair on which its table halts, where it says that it does.
 use Rattle.std.specs.Prelude.{List, map}
 use Rattle.machine_text.specs.Packed.{Packed}
-use Rattle.cert.specs.Claim.{Recorded, shown_by}
+use Rattle.cert.specs.Claim.{Recorded, ending_by}
 use Rattle.cert.specs.Certified.{IsPairOf}
 use Rattle.cert.specs.Kinds.{owned_claim}
 use Rattle.ledger.specs.declared.stored_record.StoredRecord.{StoredRecord}
@@ -13,4 +13,4 @@ abbrev pub records_of : List (Packed × StoredRecord) → List Recorded
 records_of es = map entry_recorded es
 
 abbrev pub KnowsPair : Packed × StoredRecord → Type 0
-KnowsPair e = IsPairOf (shown_by (owned_claim e.1.certificate)) e.0 e.1.halts_on
+KnowsPair e = IsPairOf (ending_by (owned_claim e.1.certificate)) e.0 e.1.halts_on

@@ -1,6 +1,6 @@
 use Rattle.std.proofs.Common.{Option, arith, subst}
 use Rattle.machine_text.specs.declared.transition.Pair.{Pair}
-use Rattle.cert.specs.Claim.{shown_by}
+use Rattle.cert.specs.Claim.{ending_by}
 use Rattle.cert.specs.Certified.{IsPairOf}
 use Rattle.cert.specs.Kinds.{claim_of}
 use Rattle.ledger.proofs.OpenAfter.{pair_halts}
@@ -12,8 +12,8 @@ counted-requires c = let few = c.states.type_inv in omega (arith, few, c.childre
 
 pub returns-in-Some-clause-number : goal.returns-in-Some-clause-number
 returns-in-Some-clause-number c =
-    let known = pair_halts (shown_by (claim_of c.args.r.now.certificate)) c.args.r.now.table c.in-Some.pair
-    (subst (λ (o : Option Pair). IsPairOf (shown_by (claim_of c.args.r.now.certificate)) c.args.r.now.table o) c.in-Some.is c.requires.pair) in record {
+    let known = pair_halts (ending_by (claim_of c.args.r.now.certificate)) c.args.r.now.table c.in-Some.pair
+    (subst (λ (o : Option Pair). IsPairOf (ending_by (claim_of c.args.r.now.certificate)) c.args.r.now.table o) c.in-Some.is c.requires.pair) in record {
       tables = c.children_on.result;
       exact = λ t. (λ at. ((known.0, known.1), (c.children_on.ensures.members t).0 at), λ h. (c.children_on.ensures.members t).1 h.1);
       once = rising_apart c.children_on.result c.children_on.ensures.rising;

@@ -1,5 +1,5 @@
 use Rattle.std.proofs.Common.{subst, Option}
-use Rattle.cert.specs.Claim.{shown_by}
+use Rattle.cert.specs.Claim.{ending_by}
 use Rattle.cert.specs.Certified.{IsPairOf}
 use Rattle.cert.specs.Kinds.{claim_of, recorded}
 use Rattle.machine_text.specs.declared.transition.Pair.{Pair}
@@ -10,8 +10,8 @@ use Rattle.ledger.proofs.open_tables.open_children.Goals as goal
 
 pub returns-in-Some-clause-ok : goal.returns-in-Some-clause-ok
 returns-in-Some-clause-ok c =
-    let known = pair_halts (shown_by (claim_of c.args.r.now.certificate)) c.args.r.now.table c.in-Some.pair
-    (subst (λ (o : Option Pair). IsPairOf (shown_by (claim_of c.args.r.now.certificate)) c.args.r.now.table o) c.in-Some.is c.requires.pair) in
+    let known = pair_halts (ending_by (claim_of c.args.r.now.certificate)) c.args.r.now.table c.in-Some.pair
+    (subst (λ (o : Option Pair). IsPairOf (ending_by (claim_of c.args.r.now.certificate)) c.args.r.now.table o) c.in-Some.is c.requires.pair) in
     on_ok c.open_all.result (λ more. λ q. new_children (records_of c.args.records.now.entries) (recorded c.args.r.now) known.0 c.children_on.result q _ _ known.1 c.children_on.ensures.members (more q)) c.open_all.ensures.ok
 
 pub returns-in-None-clause-children : goal.returns-in-None-clause-children

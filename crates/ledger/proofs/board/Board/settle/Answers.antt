@@ -1,6 +1,6 @@
 use Rattle.std.proofs.Common.{◌≡◌, ℕ, false, Some, refl, sym, ◌∙◌, ap, subst, arith}
 use Rattle.std.specs.Prelude.{slice_get}
-use Rattle.cert.specs.Claim.{Recorded, shown_by}
+use Rattle.cert.specs.Claim.{Recorded, ending_by}
 use Rattle.cert.specs.Kinds.{recorded}
 use Rattle.ledger.specs.Records.{same_table}
 use Rattle.ledger.specs.Held.{IsHoldout, Settles, settled}
@@ -117,7 +117,7 @@ invariant_of-self-2 c =
     let change = c.of_settling.ensures ∙ ap (settling_change c.child_count-opened.result) c.verdict-shown.ensures in
     rw (c.with-self-inside.ensures, c.without_holdout.ensures, c.verdict-shown.ensures)
     (settling_carried root es c.insert.new.self.entries r c.in_ok-place.place c.self.invariant.0 ready c.child_count-opened.result c.child_count-opened.ensures.number
-    c.carry_up.new.records.entries c.open_children.new.tables (with_shown (without_holdout c.self.inside.counts) (shown_by r.claim)) holdout c.requires.verdict
+    c.carry_up.new.records.entries c.open_children.new.tables (with_shown (without_holdout c.self.inside.counts) (ending_by r.claim)) holdout c.requires.verdict
     (subst (λ (h : TreeChange). AreCarried h c.insert.new.self.entries c.in_ok-place.place c.carry_up.new.records.entries) change c.carry_up.ensures.carried) c.carry_up.ensures.length
     (stored_settled root es c.insert.new.self.entries r c.in_ok-stored.stored c.in_ok-place.place c.self.inside.open_tables c.open_children.new.tables c.self.inside.counts
     (c.self.invariant.0, c.self.invariant.1, c.self.invariant.2, c.self.invariant.3) settles

@@ -1,7 +1,7 @@
 use Rattle.std.proofs.Common.{◌<◌, ◌^◌, ◌++◌, ◌∷◌, [], List, length, refl, sym, ◌∙◌, ap, subst}
 use Rattle.machine_text.specs.Packed.{Packed}
 use Rattle.tree.specs.Closed.{IsOpen}
-use Rattle.cert.specs.Claim.{Recorded, shown_by}
+use Rattle.cert.specs.Claim.{Recorded, ending_by}
 use Rattle.cert.specs.Kinds.{recorded}
 use Rattle.ledger.specs.Records.{same_table, mark_in}
 use Rattle.ledger.specs.Contents.{Contents, IsBoard}
@@ -118,7 +118,7 @@ invariant_of-self-2 c =
     let change = c.of_taking.ensures ∙ ap (taking_change c.child_count-opened.result) c.verdict-shown.ensures in
     rw (c.with-self-inside.ensures, c.verdict-shown.ensures)
     (taking_carried root es c.insert.new.self.entries r c.in_ok-place.place now.0 ready c.child_count-opened.result c.child_count-opened.ensures.number
-    c.carry_up.new.records.entries c.remove.new.self (with_shown c.self.inside.counts (shown_by r.claim)) open_now
+    c.carry_up.new.records.entries c.remove.new.self (with_shown c.self.inside.counts (ending_by r.claim)) open_now
     (subst (λ (h : TreeChange). AreCarried h c.insert.new.self.entries c.in_ok-place.place c.carry_up.new.records.entries) change c.carry_up.ensures.carried) c.carry_up.ensures.length
     (stored_more root es c.insert.new.self.entries r c.in_ok-stored.stored c.in_ok-place.place c.self.inside.open_tables c.open_children.new.tables c.remove.new.self c.self.inside.counts
     (now.0, now.1, now.2, now.3) open_now c.in_ok-stored.ensures.certified c.in_ok-stored.ensures.claim c.in_ok-stored.ensures.pair c.in-Ok.ensures.entries (c.in_ok-place.ensures.is ∙ many)

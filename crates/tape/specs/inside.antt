@@ -1,15 +1,16 @@
--- What only the code needs: how a tape is kept in words, where its ones can stand, and one half of what it means
--- that two half tapes are the same.
-use Rattle.std.specs.Prelude.{◌≡◌, ℕ, ◌+◌, ◌-◌, ◌*◌, ◌^◌, ◌<◌, ◌≤◌, ℤ, pos, ◌+ℤ◌, ◌-ℤ◌, neg_ℤ, ◌≤ℤ◌, ◌⊎◌, List, [], ◌∷◌, ◌++◌, length, reverse}
+-- What only the code needs: how a tape is kept in words, how many ones these have and where they can stand, and one
+-- half of what it means that two half tapes are the same.
+use Rattle.std.specs.Prelude.{◌≡◌, ℕ, ◌+◌, ◌-◌, ◌*◌, ◌^◌, ◌<◌, ◌≤◌, ℤ, pos, ◌+ℤ◌, ◌-ℤ◌, neg_ℤ, ◌≤ℤ◌, ◌⊎◌, List, [], ◌∷◌, ◌++◌, length, reverse, sum_by}
 use Rattle.std.specs.Ordering.{int_cmp}
 use Rattle.std.specs.FinSet as set
-use Rattle.machine_text.specs.declared.transition.Sym.TheVariants.{One}
+use Rattle.machine_text.specs.declared.transition.Sym.{Sym}
+use Rattle.machine_text.specs.declared.transition.Sym.TheVariants.{Zero, One}
 use Rattle.machine_text.specs.declared.transition.Dir.{Dir}
 use Rattle.machine_text.specs.declared.transition.Dir.TheVariants.{L, R}
 use Rattle.turing.specs.Tape.{Tape, cell_of}
 use Rattle.turing.specs.Translated.{Beyond}
 use Rattle.tape.specs.Limits.{place_limit}
-use Rattle.tape.specs.Word.{ones_of, symbols_of}
+use Rattle.tape.specs.Word.{ones_of, symbols, symbols_of}
 
 -- places are numbered from -2^63 on; the word numbered n holds those numbered from 64 * n on
 abbrev pub place_numbered : ℕ → ℤ
@@ -22,6 +23,15 @@ stored block bit left word right = record {
   head = place_numbered (64 * block + bit);
   ones = ones_of (place_numbered (64 * block) -ℤ pos (64 * length left)) (symbols_of (left ++ word ∷ reverse right));
 }
+
+-- how many ones a symbol is
+abbrev pub symbol_ones : Sym → ℕ
+symbol_ones Zero = 0
+symbol_ones One = 1
+
+-- how many cells of a word hold a one
+unfoldable pub word_ones : ℕ → ℕ
+word_ones w = sum_by symbol_ones (symbols 64 w)
 
 -- a side gives its nearest word, or a blank one where it has none; which words it has then
 abbrev pub IsNearest : List ℕ → ℕ → List ℕ → Type 0

@@ -1,5 +1,6 @@
 // How many ones a tape holds.
-ghost use Rattle.std.specs.Prelude.{◌≡◌, ◌≤◌, ◌<◌, ◌+◌, ◌*◌, ◌^◌, length, All, sum_by, count_ones};
+ghost use Rattle.std.specs.Prelude.{◌≡◌, ◌≤◌, ◌+◌, ◌*◌, ◌^◌, length, sum_by};
+ghost use Rattle.tape.specs.inside.{word_ones};
 
 use crate::tape::Tape;
 
@@ -10,20 +11,27 @@ impl Tape {
     pub fn ones(&self) -> u64
         ensures { result ≡ set.len self.now.ones }
     {
-        ones_in(&self.left) + self.word.count_ones() as u64 + ones_in(&self.right)
+        ones_on(&self.left) + ones_in(self.word) + ones_on(&self.right)
     }
 }
 
-// How many bits are set in these words. No side of a tape has more words.
-fn ones_in(words: &[u64]) -> u64
-    requires { length words.now ≤ 2 ^ 57 + 1 }
-    ensures ones { result ≡ sum_by count_ones words.now }
-    ensures fit { All (λ w. w < 2 ^ 64) words.now }
-    ensures few { result ≤ 64 * length words.now }
+// How many ones the words of a side hold. The bound, which each side of a tape keeps, is for the sum to fit.
+fn ones_on(side: &[u64]) -> u64
+    requires { length side.now ≤ 2 ^ 57 + 1 }
+    ensures ones { result ≡ sum_by word_ones side.now }
+    ensures few { result ≤ 64 * length side.now }
 {
     let mut ones = 0;
-    for word in words {
-        ones += word.count_ones() as u64;
+    for &word in side {
+        ones += ones_in(word);
     }
     ones
+}
+
+// How many ones a word holds.
+fn ones_in(word: u64) -> u64
+    ensures ones { result ≡ word_ones word }
+    ensures few { result ≤ 64 }
+{
+    word.count_ones() as u64
 }

@@ -7,7 +7,7 @@ use Rattle.machine_text.specs.declared.faults.TextFault.{TextFault}
 use Rattle.evidence.specs.declared.verdicts.Verdict.{Verdict}
 use Rattle.evidence.specs.declared.verdicts.Verdict.TheVariants.{Halts, Never}
 use Rattle.evidence.specs.declared.verdicts.Refused.{Refused as Refusal}
-use Rattle.cert.specs.Claim.{Recorded, shown_by}
+use Rattle.cert.specs.Claim.{Recorded, score_by, shown_by}
 use Rattle.cert.specs.Certified.{IsCertified, IsRefusedBy}
 use Rattle.evidence.specs.Verdict.{IsTrueOf}
 use Rattle.evidence.specs.Verdict as verdict
@@ -21,9 +21,14 @@ use Rattle.options.specs.declared.outcome.Outcome.TheVariants.{Accepted, Refused
 
 -- what is said of a table, behind it
 abbrev pub verdict_text : Option Verdict → List ℕ
-verdict_text (Some (Halts k)) = codes " halts " ++ decimal k
+verdict_text (Some (Halts k s)) = codes " halts " ++ decimal k
 verdict_text (Some Never) = codes " never"
 verdict_text None = codes " undecided"
+
+-- and behind that the ones, where the record has them
+abbrev pub ones_text : Option ℕ → List ℕ
+ones_text None = []
+ones_text (Some s) = codes " ones " ++ decimal s
 
 abbrev pub refusal_text : ℕ → List ℕ
 refusal_text n = codes "refused " ++ decimal n
@@ -50,7 +55,7 @@ fault_text f = refusal_text (record_fault.record_fault_number f) ++ inner_text f
 -- claim is certified; or why it is refused
 abbrev pub AnswersRecord : Recorded → Outcome → List ℕ → Type 0
 AnswersRecord r Accepted answer =
-    IsCertified r × IfSome (shown_by r.claim) (λ v. IsTrueOf v (entry_of r.table)) × (answer ≡ text_of r.table ++ verdict_text (shown_by r.claim))
+    IsCertified r × IfSome (shown_by r.claim r.table) (λ v. IsTrueOf v (entry_of r.table)) × (answer ≡ text_of r.table ++ verdict_text (shown_by r.claim r.table) ++ ones_text (score_by r.claim))
 AnswersRecord r Refused answer = (why : Refusal) × (number : ℕ) × IsRefusedBy why r × (verdict.refused_number why ≡ Some number) × (answer ≡ refusal_text number)
 AnswersRecord r BadLine answer = ⊥
 AnswersRecord r NoMemory answer = ⊥

@@ -2,7 +2,7 @@
 ghost use Rattle.std.specs.Prelude.{◌≡◌, ◌∷◌, [], ◌++◌, List, ℕ, decimal, OnOk, IfOk};
 ghost use Rattle.machine_text.specs.Text.{text_of};
 ghost use Rattle.cert.specs.Kinds.{recorded, read_as};
-ghost use Rattle.line_commands.specs.Answer.{Answers, AnswersRecord, lent_line, read_line, verdict_text, text_fault_text, fault_text};
+ghost use Rattle.line_commands.specs.Answer.{Answers, AnswersRecord, lent_line, ones_text, read_line, verdict_text, text_fault_text, fault_text};
 
 use cert::{Record, RecordFault, append_table, judge, standing_claims_are_true};
 use evidence::{NoMemory, Refused, Verdict};
@@ -47,6 +47,7 @@ fn answer_record(alloc: Global, r: &Record, out: &mut Vec<u8>) -> Result<Outcome
         Ok(verdict) => {
             append_table(&r.table, out)?;
             append_verdict(verdict, out)?;
+            append_ones(r.certificate.ones(), out)?;
             Ok(Outcome::Accepted)
         }
         Err(refused) => match refused.number() {
@@ -64,9 +65,19 @@ fn append_verdict(verdict: Option<Verdict>, out: &mut Vec<u8>) -> Result<(), NoM
     ensures { OnOk result (out.new.items ≡ out.old.items ++ verdict_text verdict) }
 {
     match verdict {
-        Some(Verdict::Halts(count)) => append_named(b" halts ", count, out),
+        Some(Verdict::Halts { steps, .. }) => append_named(b" halts ", steps, out),
         Some(Verdict::Never) => out.extend_from_slice(b" never"),
         None => out.extend_from_slice(b" undecided"),
+    }
+}
+
+// Appends a score, if there is one.
+fn append_ones(ones: Option<u64>, out: &mut Vec<u8>) -> Result<(), NoMemory>
+    ensures { OnOk result (out.new.items ≡ out.old.items ++ ones_text ones) }
+{
+    match ones {
+        Some(ones) => append_named(b" ones ", ones, out),
+        None => Ok(()),
     }
 }
 

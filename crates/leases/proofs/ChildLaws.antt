@@ -5,7 +5,7 @@ use Rattle.machine_text.specs.Packed.{Packed, IsTable, entry_of}
 use Rattle.turing.proofs.Counting.{length-le_of_members}
 use Rattle.turing.proofs.TableLaws.{table_machine}
 use Rattle.std.specs.Option.{option_map}
-use Rattle.evidence.specs.declared.verdicts.Verdict.{Verdict}
+use Rattle.evidence.specs.declared.verdicts.Ending.{Ending}
 use Rattle.tree.specs.Closed.{Halting, Holdout}
 use Rattle.tree.specs.Children.{HaltsOn, IsChild}
 use Rattle.tree.specs.Tables.{IsChildTable, InTableTree, children_at}
@@ -74,7 +74,7 @@ opens_by : (b : Contents) (new : List Recorded) (r : Recorded) → Below → IsB
 opens_by b new r below board in_tree unhalted taken = record {
   cases = λ q h. elim ((open_taken b.root b.records new r q taken).0 h) [
     | inl u ↦ inl u
-    | inr u ↦ inr (u.child, (u.count, ap (option_map mark_of) taken.here ∙ ap (λ (o : Option Verdict). Some (mark_by o)) u.halts))
+    | inr u ↦ inr (u.child, (u.count, ap (option_map mark_of) taken.here ∙ ap (λ (o : Option Ending). Some (mark_by o)) u.halts))
   ];
   stays = λ q h other. (open_taken b.root b.records new r q taken).1 (inl (h, other));
   not_before = λ q child is_open. not_open_before b r.table q below board in_tree unhalted child is_open;

@@ -3,9 +3,9 @@ use Rattle.std.proofs.Common.{◌≡◌, ◌≢◌, ◌⊎◌, inl, inr, ℕ, su
 use Rattle.std.specs.Option.{option_map}
 use Rattle.std.proofs.lemmas.List.Elements.{All-contains_itself}
 use Rattle.machine_text.specs.Packed.{Packed}
-use Rattle.evidence.specs.declared.verdicts.Verdict.{Verdict}
+use Rattle.evidence.specs.declared.verdicts.Ending.{Ending}
 use Rattle.tree.specs.Closed.{IsVerdict}
-use Rattle.cert.specs.Claim.{Recorded, shown_by}
+use Rattle.cert.specs.Claim.{Recorded, ending_by}
 use Rattle.cert.specs.Grammar.{record_text}
 use Rattle.ledger.specs.Contents.{Contents, IsBoard}
 use Rattle.ledger.specs.Held.{IsHoldout, Settles, settled}
@@ -63,15 +63,15 @@ known_holdout root old new r result holdout is gives =
     )
 
 -- what its offer changes
-pub changes_settled : (o : Option Verdict) (r : Recorded) (old new : List Recorded) (before after : Option (List ℕ)) → IsSome o
+pub changes_settled : (o : Option Ending) (r : Recorded) (old new : List Recorded) (before after : Option (List ℕ)) → IsSome o
     → Settles old r → new ≡ settled old r → after ≡ with_line r before → ChangesBy o r old before new after
 changes_settled (Some v) r old new before after some settles is line = (settles, is, line)
 changes_settled None r old new before after some settles is line = absurd (cc)
 
-pub changes_none : (o : Option Verdict) (r : Recorded) (old new : List Recorded) (before after : Option (List ℕ)) → o ≡ None → new ≡ old → after ≡ before → ChangesBy o r old before new after
-changes_none o r old new before after none is same = subst (λ (x : Option Verdict). ChangesBy x r old before new after) (sym none) (is, same)
+pub changes_none : (o : Option Ending) (r : Recorded) (old new : List Recorded) (before after : Option (List ℕ)) → o ≡ None → new ≡ old → after ≡ before → ChangesBy o r old before new after
+changes_none o r old new before after none is same = subst (λ (x : Option Ending). ChangesBy x r old before new after) (sym none) (is, same)
 
-changes : (o : Option Verdict) (r : Recorded) (old new : List Recorded) (before after : Option (List ℕ)) → ChangesBy o r old before new after → (new ≡ old) ⊎ (new ≡ settled old r)
+changes : (o : Option Ending) (r : Recorded) (old new : List Recorded) (before after : Option (List ℕ)) → ChangesBy o r old before new after → (new ≡ old) ⊎ (new ≡ settled old r)
 changes None r old new before after by = inl by.0
 changes (Some v) r old new before after by = inr by.1
 
@@ -94,12 +94,12 @@ stays_holdout rs new r t other (inl same) holdout = subst (λ (l : List Recorded
 stays_holdout rs new r t other (inr is) holdout = subst (λ (l : List Recorded). IsHoldout l t) (sym is) (ap (option_map mark_of) (settled_other rs r t other) ∙ holdout)
 
 -- once the first was tried the others wait as before
-pub others_wait : (rs new : List Recorded) (before after : Option (List ℕ)) (r : Recorded) (t : Packed) (ts : List Packed) → r.table ≡ t → ChangesBy (shown_by r.claim) r rs before new after
+pub others_wait : (rs new : List Recorded) (before after : Option (List ℕ)) (r : Recorded) (t : Packed) (ts : List Packed) → r.table ≡ t → ChangesBy (ending_by r.claim) r rs before new after
     → AreWaiting rs (t ∷ ts) → AreWaiting new ts
 others_wait rs new before after r t ts of by waiting = record {
   apart = λ i j d less below. waiting.apart (suc i) (suc j) d (omega arith) (omega arith);
   holdouts = λ i d below.
       let other : t ≢ get_or ts i d = waiting.apart 0 (suc i) d (omega arith) (omega arith) in
-      stays_holdout rs new r (get_or ts i d) (λ e. other (sym of ∙ sym e)) (changes (shown_by r.claim) r rs new before after by)
+      stays_holdout rs new r (get_or ts i d) (λ e. other (sym of ∙ sym e)) (changes (ending_by r.claim) r rs new before after by)
       (waiting.holdouts (suc i) d (omega arith));
 }

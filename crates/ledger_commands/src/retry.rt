@@ -1,7 +1,7 @@
 // `bb retry`: the holdouts of a ledger are tried again.
 ghost use Rattle.std.specs.Prelude.{◌≡◌, IfOk, IfSome, OnOk};
 ghost use Rattle.cert.specs.Certified.{IsCertified};
-ghost use Rattle.cert.specs.Claim.{shown_by};
+ghost use Rattle.cert.specs.Claim.{ending_by};
 ghost use Rattle.cert.specs.Kinds.{recorded};
 ghost use Rattle.ledger.specs.Held.{IsHoldout};
 ghost use Rattle.ledger.specs.Contents.{Contents};
@@ -147,7 +147,7 @@ fn take<L: LedgerOut>(
     requires certified { IsCertified (recorded r.now) }
     ensures root { board.new.root ≡ board.old.root }
     ensures step { OnOk result (StaysInStep board.old (L.text ledger.old) board.new (L.text ledger.new)) }
-    ensures changes { OnOk result (ChangesBy (shown_by (recorded r.now).claim) (recorded r.now) board.old.records (L.text ledger.old) board.new.records (L.text ledger.new)) }
+    ensures changes { OnOk result (ChangesBy (ending_by (recorded r.now).claim) (recorded r.now) board.old.records (L.text ledger.old) board.new.records (L.text ledger.new)) }
 {
     // The proof needs that it is a board.
     let _ = board.root();

@@ -1,8 +1,8 @@
 // The commands with their arguments and options, by clap's builder.
-use crate::help::{COORD, DECIDE, LOOP, MERGE, RECORDS, REPORT, RETRY, RUN, STATUSES, VERSION};
+use crate::help::{CARRY, COORD, DECIDE, LOOP, MERGE, RECORDS, REPORT, RETRY, RUN, STATUSES, VERSION};
 use crate::words::{
-    DEPTH, ERA, FAR, FILE, FIRST, GRAM, JSON, LEDGER, LOSE, OUT, PROGRESS, ROUNDS, SECOND, STATES,
-    STEPS, WHY, WORKERS,
+    DEPTH, ERA, FAR, FILE, FIRST, GRAM, IN, JSON, LEDGER, LOSE, OUT, PROGRESS, ROUNDS, SECOND,
+    STATES, STEPS, WHY, WORKERS,
 };
 use clap::{Arg, ArgAction, Command, value_parser};
 use options::NoMemory;
@@ -17,6 +17,7 @@ pub(crate) fn program<'a>(alloc: Global) -> Result<Command<'a>, NoMemory> {
     let program = with(program, coord_command(alloc))?;
     let program = with(program, retry_command(alloc))?;
     let program = with(program, merge_command(alloc))?;
+    let program = with(program, carry_command(alloc))?;
     with(program, report_command(alloc))
 }
 
@@ -137,6 +138,18 @@ fn merge_command<'a>(alloc: Global) -> Result<Command<'a>, NoMemory> {
             alloc,
             OUT,
             "The ledger file that is written; it may be one of the two",
+        ))
+}
+
+fn carry_command<'a>(alloc: Global) -> Result<Command<'a>, NoMemory> {
+    Command::new(alloc, "carry")
+        .about("Writes a ledger as one of version 2, with the scores of the tables that halt.")
+        .after_help(CARRY)
+        .arg(file_arg(alloc, IN, "The ledger file, of either version"))?
+        .arg(file_arg(
+            alloc,
+            OUT,
+            "The ledger file that is written; it may be the same",
         ))
 }
 

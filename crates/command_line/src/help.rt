@@ -81,6 +81,17 @@ table, `refused 405` the tables of the two headers differ, or one isn't in order
 3 out of memory (`refused memory`); 4 a file couldn't be read (`refused 605`) or written (`refused 604`),
 or a stream failed (`refused 603`).";
 
+pub(crate) const CARRY: &str =
+    "A ledger of version 1 has `H k` for a table that halts in k steps, one of version 2 `H k s`, with s ones on the
+tape then. Each record of IN is judged again, and OUT gets all that are kept, each halting one with its score. Then
+comes the line `carried R halting H`: how many records there are, and how many of them say that their table
+halts; and `left LINE`, as by `bb report`, where not all of IN could be kept.
+
+Exit status: 0 all was kept; 1 it wasn't, or the ledger was refused (`refused 404` no header with a readable
+table, `refused 405` its table doesn't name its states in order); 2 a wrong command line; 3 out of memory
+(`refused memory`); 4 a file couldn't be read (`refused 605`) or written (`refused 604`), or a stream failed
+(`refused 603`).";
+
 pub(crate) const DECIDE: &str =
     "A line is a table in the bbchallenge standard format. Its record has the first certificate that is
 found and stands, looked for in this order: that it halts, a cycle, a translated cycle, backward
@@ -94,6 +105,7 @@ Exit status: 0 each line was a table; 1 some wasn't; 2 a wrong command line; 3 o
 pub(crate) const RECORDS: &str =
     "A record is a table in the bbchallenge standard format, a space and a certificate:
   H k         it halts in k steps (the halting step counts); k up to 100,000,000
+  H k s       so it does, and with s ones on its tape then (the halting step writes one)
   C i j       the configurations at the times i and j are equal; j up to 10,000,000
   T i j side  they are, but for a shift to that side (L or R) and for what lies behind it
   B d         it does d steps, and no configuration at all halts after exactly d; d up to 1,000
@@ -107,6 +119,7 @@ pub(crate) const RECORDS: &str =
 
 An answer is one of
   TABLE halts K      the certificate stands: the table halts in K steps
+  TABLE halts K ones S   so it does, and with S ones on its tape then
   TABLE never        the certificate stands: the table never halts
   TABLE undecided    nothing was claimed
   refused 201        the certificate doesn't stand

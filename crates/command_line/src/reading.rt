@@ -5,11 +5,11 @@ ghost use Rattle.options.specs.Ranges.{AreWithinRanges, IsSettling, IsWithinRang
 use crate::grammar::program;
 use crate::line_fault::LineFault;
 use crate::words::{
-    DEPTH, ERA, FAR, FILE, FIRST, GRAM, JSON, LEDGER, LOSE, OUT, PROGRESS, ROUNDS, SECOND, STATES,
-    STEPS, WHY, WORKERS,
+    DEPTH, ERA, FAR, FILE, FIRST, GRAM, IN, JSON, LEDGER, LOSE, OUT, PROGRESS, ROUNDS, SECOND,
+    STATES, STEPS, WHY, WORKERS,
 };
 use clap::ArgMatches;
-use options::{Beginning, Merging, Options, Search, Settling};
+use options::{Beginning, Carrying, Merging, Options, Search, Settling};
 use std::alloc::Global;
 
 /// What the words of a command line ask for, the program's name first. Where there are options, each number
@@ -26,6 +26,7 @@ pub fn options<'a>(alloc: Global, words: &'a [&'a str]) -> Result<Options<'a>, L
         Some(("loop", over_sockets)) => loop_options(over_sockets),
         Some(("retry", retry)) => retry_options(retry),
         Some(("merge", merge)) => Ok(merge_options(merge)),
+        Some(("carry", carry)) => Ok(carry_options(carry)),
         Some(("report", report)) => Ok(report_options(report)),
         _ => Err(LineFault::NoSuchCommand),
     }
@@ -132,6 +133,15 @@ fn merge_options<'a>(merge: &ArgMatches<'a>) -> Options<'a>
         first: merge.get_str(FIRST).unwrap_or_default(),
         second: merge.get_str(SECOND).unwrap_or_default(),
         out: merge.get_str(OUT).unwrap_or_default(),
+    })
+}
+
+fn carry_options<'a>(carry: &ArgMatches<'a>) -> Options<'a>
+    ensures { AreWithinRanges result }
+{
+    Options::Carry(Carrying {
+        ledger: carry.get_str(IN).unwrap_or_default(),
+        out: carry.get_str(OUT).unwrap_or_default(),
     })
 }
 

@@ -31,4 +31,6 @@ pub(crate) const FIRST: &str = "A";
 
 pub(crate) const SECOND: &str = "B";
 
+pub(crate) const IN: &str = "IN";
+
 pub(crate) const OUT: &str = "OUT";

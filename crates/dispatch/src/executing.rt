@@ -7,7 +7,7 @@ use evidence::NoMemory;
 use json_report::Form;
 use lease_core::Worker;
 use ledger_commands::{
-    Host, LedgerAt, Opened, cmd_merge, cmd_report, cmd_report_stream, cmd_retry, held_at, opened,
+    Host, LedgerAt, Opened, cmd_carry, cmd_merge, cmd_report, cmd_report_stream, cmd_retry, held_at, opened,
 };
 use line_commands::{cmd_check, cmd_decide};
 use loopback::Sockets;
@@ -56,6 +56,7 @@ pub fn carry_out<H: Host + Clock + Sockets, R: Read, W: Write, E: Write>(
             or_told(ended, faults)
         }
         Options::Merge(merging) => cmd_merge(alloc, merging, host, answers, faults),
+        Options::Carry(carrying) => cmd_carry(alloc, carrying, host, answers, faults),
         Options::Report { file, json, why } => {
             let form = Form::of(json);
             if file == STANDARD_INPUT {

@@ -3,6 +3,7 @@ pub mod Report
 pub mod TreeReport
 pub mod LedgerReport
 pub mod Merge
+pub mod Carry
 pub mod Passing
 pub mod Retry
 pub mod Reading

@@ -1,11 +1,12 @@
-//! The commands of `bb` that read ledgers, over readers, writers and files: `report`, `retry` and `merge`.
+//! The commands of `bb` that read ledgers, over readers, writers and files: `report`, `retry`, `merge` and `carry`.
 //!
 //! `specs/Report` is the report of a board, `specs/TreeReport` that of a complete one, `specs/LedgerReport` what is
 //! printed for a ledger's text, `specs/Reading` how that is read, `specs/Retry` what becomes of holdouts that are tried
-//! again, `specs/Merge` of two ledgers that are joined.
+//! again, `specs/Merge` of two ledgers that are joined, `specs/Carry` of one that is written as version 2.
 #![tactic(auto)]
 
 mod board_report;
+mod carry;
 mod faults;
 mod file_ledger;
 mod host;
@@ -17,9 +18,12 @@ mod reading;
 mod report_form;
 mod report_writer;
 mod retry;
+mod rewriting;
+mod source;
 mod tree_reports;
 
 pub use board_report::{report, status_name};
+pub use carry::{carry_into, cmd_carry};
 pub use file_ledger::FileLedger;
 pub use host::{Held, Host, held_at, opened};
 pub use ledger_at::LedgerAt;
@@ -27,9 +31,10 @@ pub use ledger_changes::keep_answer;
 pub use ledger_report::{
     cmd_report, cmd_report_stream, outcome_by, report_ledger, write_ledger_report,
 };
-pub use merge::{LedgerSource, cmd_merge, join, join_into};
+pub use merge::{cmd_merge, join, join_into};
 pub use reading::{Opened, Stopped};
 pub use report_form::{AsLines, ReportForm, write_report};
 pub use report_writer::LineReport;
 pub use retry::{cmd_retry, retry_holdouts};
+pub use source::LedgerSource;
 pub use tree_reports::complete_boards_report_their_tree;

@@ -4,21 +4,19 @@ ghost use Rattle.ledger_commands.specs.Merge.{AreJoined, EndsJoiningInto, EndsTa
 ghost use Rattle.ledger_commands.specs.Reading.{AreFirstBytes, EndsReadingOf};
 
 use crate::faults::by_merge;
-use crate::host::{Host, opened};
+use crate::host::Host;
 use crate::ledger_at::LedgerAt;
-use crate::ledger_changes::{append_to, cut_to};
-use crate::reading::{Opened, Stopped, load_from, load_of};
+use crate::reading::{Stopped, load_of};
 use crate::report_writer::append_left;
+use crate::rewriting::{made_beside, outcome_of_left, put_back, write_whole};
+use crate::source::{AtPath, LedgerSource, load_source};
 use evidence::NoMemory;
 use ledger::{Board, Left, Tally};
 use options::{Ended, Merging, Outcome};
 use std::alloc::Global;
-use std::io::{self, Read, Write};
+use std::io::{Read, Write};
 use text::append_number;
 use wire::LedgerOut;
-
-// What is put behind the path of a ledger to name the file in which it is made.
-const NEW_SUFFIX: &str = ".new";
 
 /// Writes the ledger of what two ledgers hold together, and prints how many records, open tables and holdouts
 /// that has, and `left LINE` for the first of the two of which not all could be kept. Each of the two is read
@@ -45,33 +43,14 @@ fn merge_ledgers<H: Host, W: Write>(
     host: &H,
     answers: &mut W,
 ) -> Result<Outcome, Ended> {
-    let beside = path_beside(alloc, merging.out)?;
-    let (tally, left) = if is_made_beside(host, merging, &beside) {
-        let joined = join_at(alloc, merging, host, &beside)?;
-        put(host, &beside, merging.out)?;
-        joined
-    } else {
-        join_at(alloc, merging, host, merging.out)?
+    let beside = made_beside(alloc, host, merging.out, &[merging.first, merging.second])?;
+    let (tally, left) = match &beside {
+        Some(beside) => join_at(alloc, merging, host, beside)?,
+        None => join_at(alloc, merging, host, merging.out)?,
     };
+    put_back(host, &beside, merging.out)?;
     tell(alloc, &tally, &left, answers)?;
-    match left {
-        Left::Nothing => Ok(Outcome::Accepted),
-        Left::From { .. } => Ok(Outcome::Refused),
-    }
-}
-
-// The path of the file in which a ledger is made.
-fn path_beside(alloc: Global, path: &str) -> Result<String, NoMemory> {
-    let mut beside = String::new(alloc);
-    beside.push_str(path)?;
-    beside.push_str(NEW_SUFFIX)?;
-    Ok(beside)
-}
-
-// Whether a ledger is made in a file beside its place: nothing is lost at either path by that.
-fn is_made_beside<H: Host>(host: &H, merging: Merging<'_>, beside: &str) -> bool {
-    let is_read = beside == merging.first || beside == merging.second;
-    !is_read && host.is_replaceable(merging.out) && host.is_replaceable(beside)
+    Ok(outcome_of_left(&left))
 }
 
 // Joins the two ledgers into one at a path.
@@ -92,14 +71,6 @@ fn join_at<H: Host>(
     join_into(alloc, &first, &second, &mut LedgerAt::new(host, path))
 }
 
-// Puts a ledger that was made in its place.
-fn put<H: Host>(host: &H, from: &str, to: &str) -> Result<(), Ended> {
-    match host.rename(from, to) {
-        Ok(()) => Ok(()),
-        Err(fault) => Err(Ended::by_ledger(&fault)),
-    }
-}
-
 // Prints what the board holds, and what wasn't kept.
 fn tell<W: Write>(alloc: Global, tally: &Tally, left: &Left, answers: &mut W) -> Result<(), Ended> {
     let mut said = Vec::new(alloc);
@@ -107,52 +78,6 @@ fn tell<W: Write>(alloc: Global, tally: &Tally, left: &Left, answers: &mut W) ->
     append_left(left, &mut said)?;
     answers.write_all(&said)?;
     Ok(())
-}
-
-/// Where a ledger is read from.
-pub trait LedgerSource {
-    ghost use Rattle.std.specs.Prelude.{List, ℕ, Result, Ok, Err, IfOk, IfErr};
-    ghost use Rattle.options.specs.declared.ended.Ended.{Ended};
-    ghost use Rattle.ledger_commands.specs.Reading.{AreFirstBytes};
-
-    /// What it is read by.
-    type Reader: Read + Drop;
-
-    /// What may come of reading it.
-    ghost reads: { Self → Result (List ℕ) Ended → Type 0 };
-
-    /// Opens it, to be read as far as it goes then.
-    fn open(&self) -> Result<Opened<Self::Reader>, Ended>
-        ensures ok { IfOk result (λ opened. (text : List ℕ) → AreFirstBytes (Self.Reader.remaining opened.reader) opened.length text → reads self.now (Ok text)) }
-        ensures err { IfErr result (λ e. reads self.now (Err e)) };
-
-    /// What ends a command of which a read of it fails.
-    fn failed(&self, fault: &io::Error) -> Ended
-        ensures { reads self.now (Err result) };
-}
-
-// A ledger file by its path.
-#[derive(Drop)]
-struct AtPath<'a, H> {
-    host: &'a H,
-    path: &'a str,
-}
-
-impl<H: Host> LedgerSource for AtPath<'_, H> {
-    type Reader = H::File;
-
-    ghost reads = { λ s r. Unit {0} };
-
-    fn open(&self) -> Result<Opened<H::File>, Ended> {
-        match opened(self.host, self.path) {
-            Ok(file) => Ok(file),
-            Err(fault) => Err(self.failed(&fault)),
-        }
-    }
-
-    fn failed(&self, fault: &io::Error) -> Ended {
-        Ended::by_file(fault)
-    }
 }
 
 /// Joins two ledgers, and makes a third hold the ledger of what they hold together, whatever it held before. Answers
@@ -199,19 +124,6 @@ fn earlier(first: Left, second: Left) -> Left
     }
 }
 
-// The board of a ledger, and what of it wasn't kept.
-fn load_source<S: LedgerSource>(alloc: Global, source: &S) -> Result<(Board, Left), Ended>
-    ensures ok { IfOk result (λ l. IsLoaded (S.reads source.now) (Ok l)) }
-    ensures err { IfErr result (λ e. IsLoaded (S.reads source.now) (Err e)) }
-{
-    let mut opened = source.open()?;
-    match load_from(alloc, &mut opened.reader, opened.length) {
-        Ok(loaded) => Ok(loaded),
-        Err(Stopped::Failed(fault)) => Err(source.failed(&fault)),
-        Err(Stopped::Ended(ended)) => Err(ended),
-    }
-}
-
 // Takes the records of a ledger into a board of its root, and answers what wasn't kept of it.
 fn take_source<S: LedgerSource>(alloc: Global, board: &mut Board, source: &S) -> Result<Left, Ended>
     ensures ok { IfOk result (λ left. (text : List ℕ) × S.reads source.now (Ok text) × TakesIn board.old text left board.new) }
@@ -241,17 +153,6 @@ fn take_from<R: Read>(
         Ok(()) => Ok(left),
         Err(fault) => Err(Stopped::Ended(by_merge(fault))),
     }
-}
-
-// Makes a ledger hold a board's ledger, and nothing else.
-fn write_whole<L: LedgerOut>(alloc: Global, board: &Board, ledger: &mut L) -> Result<(), Ended>
-    ensures ok { OnOk result (L.text ledger.new ≡ rewritten board.now (L.text ledger.old)) }
-    ensures err { IfErr result (λ e. ((e ≡ Ended.NoMemory) × (ledger.new ≡ ledger.old)) ⊎ (e ≡ Ended.Ledger)) }
-{
-    let mut text = Vec::new(alloc);
-    board.write_ledger(&mut text)?;
-    cut_to(ledger, 0)?;
-    append_to(ledger, &text)
 }
 
 // Appends the line that says what the merged ledger holds.

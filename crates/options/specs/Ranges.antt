@@ -1,7 +1,7 @@
 -- The ranges of the options' numbers.
 use Rattle.std.specs.Prelude.{◌≡◌, ◌≤◌, None, IfSome}
 use Rattle.options.specs.declared.options.Options.{Options}
-use Rattle.options.specs.declared.options.Options.TheVariants.{Check, Decide, Coord, Run, Loop, Retry, Merge, Report}
+use Rattle.options.specs.declared.options.Options.TheVariants.{Check, Decide, Coord, Run, Loop, Retry, Merge, Carry, Report}
 use Rattle.options.specs.declared.options.Search.{Search}
 use Rattle.options.specs.declared.options.Beginning.{Beginning}
 use Rattle.options.specs.declared.options.Settling.{Settling}
@@ -36,4 +36,5 @@ AreWithinRanges (Run settling ledger) = IsSettling settling
 AreWithinRanges (Loop settling ledger) = IsSettling settling × (settling.lose ≡ None)
 AreWithinRanges (Retry file search) = IsWithinRange search
 AreWithinRanges (Merge merging) = Unit {0}
+AreWithinRanges (Carry carrying) = Unit {0}
 AreWithinRanges (Report file json why) = Unit {0}

@@ -38,6 +38,8 @@ pub enum Options<'a> {
     },
     /// `bb merge A B OUT`
     Merge(Merging<'a>),
+    /// `bb carry IN OUT`
+    Carry(Carrying<'a>),
     /// `bb report FILE [--json] [--why]`
     Report {
         /// The ledger's path, or `-`: it is read from standard input.
@@ -57,6 +59,15 @@ pub struct Merging<'a> {
     /// The ledger whose records are then offered.
     pub second: &'a str,
     /// The ledger that is written; it may be one of the two.
+    pub out: &'a str,
+}
+
+/// The paths of a ledger of either version and of the one that is written, of version 2.
+#[derive(Clone, Copy, Debug, PartialEq, Eq)]
+pub struct Carrying<'a> {
+    /// The ledger that is read.
+    pub ledger: &'a str,
+    /// The ledger that is written; it may be the same.
     pub out: &'a str,
 }
 

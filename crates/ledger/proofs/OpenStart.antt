@@ -6,6 +6,7 @@ use Rattle.std.proofs.lemmas.List.Elements.{All-cons, All-nil}
 use Rattle.machine_text.specs.Packed.{Packed, IsTable, entry_of}
 use Rattle.tree.specs.Closed.{IsOpen}
 use Rattle.tree.specs.Used.{InOrder}
+use Rattle.ledger.specs.Held.{HasScore}
 use Rattle.ledger.specs.Records.{mark_in, mark_of}
 use Rattle.ledger.specs.inside.Open.{IsOpener, IsOpenMap}
 use Rattle.ledger.specs.inside.Counting.{IsCounted}
@@ -30,7 +31,7 @@ pub counted_none : IsCounted [] (record { halting = 0; never = 0; undecided = 0;
 counted_none = record { halting = refl; never = refl; undecided = refl; best = λ t k halts. let none = ap (option_map mark_of) (claim_none t) in absurd (cc) }
 
 pub board_starts : (root : Packed) → IsTable root → (u : ℕ) × InOrder u (entry_of root) → IsBoard (record { root = root; records = [] })
-board_starts root is_table in_order = record { is_table = is_table; in_order = in_order; held = record { fit = tt } }
+board_starts root is_table in_order = record { is_table = is_table; in_order = in_order; held = record { fit = tt; scored = All-nil HasScore } }
 
 pub indexed_none : (root : Packed) → IsIndexed root []
 indexed_none root = record { parents = λ i e at. absurd (cc); counts = λ i e at. absurd (cc) }

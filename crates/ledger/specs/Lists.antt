@@ -1,10 +1,11 @@
 -- Lists of records, in order: which of them are fit in their turn, and what is held of them in the end.
-use Rattle.std.specs.Prelude.{◌≡◌, ◌≢◌, ℕ, ◌⊎◌, if◌then◌else◌, List, [], ◌∷◌, ◌++◌, Contains, Some, None, Result, Ok, Err, fold}
+use Rattle.std.specs.Prelude.{◌≡◌, ◌≢◌, ℕ, ◌⊎◌, if◌then◌else◌, List, [], ◌∷◌, ◌++◌, Contains, Some, None, Result, Ok, Err, fold, map}
 use Rattle.machine_text.specs.Packed.{Packed}
 use Rattle.evidence.specs.declared.verdicts.Ending.TheVariants.{Halts}
 use Rattle.tree.specs.Tables.{IsChildTable}
 use Rattle.cert.specs.Claim.{Recorded, ending_by}
 use Rattle.cert.specs.Certified.{IsCertified}
+use Rattle.cert.specs.Scored.{with_score}
 use Rattle.cert.specs.Grammar.{record_of}
 use Rattle.ledger.specs.Records.{same_table}
 use Rattle.ledger.specs.Offers.{OfferGives}
@@ -37,9 +38,9 @@ unfoldable pub placed : List Recorded → Recorded → List Recorded
 placed [] r = r ∷ []
 placed (x ∷ xs) r = if same_table x.table r.table then r ∷ xs else x ∷ placed xs r
 
--- the records of a list, each that a later one settles replaced by that one
+-- the records of a list, each with its score, and each that a later one settles replaced by that one
 abbrev pub held : List Recorded → List Recorded
-held kept = fold placed [] kept
+held kept = fold placed [] (map with_score kept)
 
 -- a record that is offered, and the answer
 pub record Offer : Type 0 where

@@ -1,12 +1,17 @@
 -- What scores leave of a claim: how the run ends by it, its verdict, and whether it is certified.
-use Rattle.std.proofs.Common.{◌≡◌, Option, Some, refl}
+use Rattle.std.proofs.Common.{◌≡◌, ◌≤◌, Option, Some, IsSome, refl, sym, ap, ◌∙◌, ℕ, None, inl, inr}
 use Rattle.std.specs.Prelude.{option_map}
 use Rattle.machine_text.specs.Packed.{Packed}
 use Rattle.run.specs.declared.halts_in.HaltsIn.{HaltsIn}
+use Rattle.run.specs.Halts.{HaltsAsClaimed}
+use Rattle.run.specs.Limits.{halt_step_limit}
 use Rattle.evidence.specs.Verdict.{ending_of}
 use Rattle.cert.specs.Claim.{Claim, HaltsClaim, CycleClaim, TranslatedClaim, BackwardClaim, NgramClaim, FarClaim, NoClaim, Recorded, ending_by, shown_by, IsWithin, IsWide, Stands}
 use Rattle.cert.specs.Certified.{IsCertified}
-use Rattle.cert.specs.Scored.{scored, unscored, with_score, without_score}
+use Rattle.cert.specs.Kinds.{recorded}
+use Rattle.cert.specs.declared.record.Record.{Record}
+use Rattle.cert.specs.declared.certificate.Certificate.TheVariants.{Halts}
+use Rattle.cert.specs.Scored.{scored, unscored, with_score, without_score, scored_count, GetsScore, GetsOnes}
 
 pub ends_as_shown : (c : Claim) (p : Packed) → option_map ending_of (shown_by c p) ≡ ending_by c
 ends_as_shown (HaltsClaim e) p = refl
@@ -87,3 +92,29 @@ certified_unscored p NoClaim certified = certified
 
 pub unscored_certified : (r : Recorded) → IsCertified r → IsCertified (without_score r)
 unscored_certified r = certified_unscored r.table r.claim
+
+-- a score that stands is the table's
+ones_stand : (p : Packed) (k : ℕ) (o : Option ℕ) → IsSome o → HaltsAsClaimed (record { steps = k; ones = o }) p → scored_count p (record { steps = k; ones = o }) ≡ record { steps = k; ones = o }
+ones_stand p k None some stands = absurd (cc)
+ones_stand p k (Some s) some stands = ap (λ n. record { steps = k; ones = Some n }) (sym stands.score)
+
+pub gets_none : (p : Packed) (e : HaltsIn) → IsSome e.ones → GetsOnes p e e
+gets_none p e some = inr (refl, λ within stands. ones_stand p e.steps e.ones some stands)
+
+pub gets_score : (p : Packed) (e f : HaltsIn) → GetsOnes p e f → GetsScore (record { table = p; claim = HaltsClaim e }) (record { table = p; claim = HaltsClaim f })
+gets_score p e f (inl found) = inl (
+  record { within = found.0; narrow = λ wide. wide; stands = found.1 },
+  ap (λ x. record { table = p; claim = HaltsClaim x }) found.2,
+)
+gets_score p e f (inr same) = inr (
+  ap (λ x. record { table = p; claim = HaltsClaim x }) same.0,
+  λ certified. ap (λ x. record { table = p; claim = HaltsClaim x }) (same.1 certified.within certified.stands),
+)
+
+pub gets_halting : (r : Record) (e f : HaltsIn) → r.certificate ≡ Halts e → GetsOnes r.table e f → GetsScore (recorded r) (record { table = r.table; claim = HaltsClaim f })
+gets_halting r e f is ones = rw is (gets_score r.table e f ones)
+
+-- what gets its score has it, where it is certified
+pub has_score : (r s : Recorded) → GetsScore r s → IsCertified r → s ≡ with_score r
+has_score r s (inl found) certified = found.1
+has_score r s (inr same) certified = same.0 ∙ sym (same.1 certified)

@@ -5,7 +5,7 @@ ghost use Rattle.evidence.specs.Verdict.{IsTrueOf, ending_of};
 ghost use Rattle.cert.specs.Claim.{Claim, Recorded, IsWritable, IsMadeFor, Stands, ending_by, shown_by};
 ghost use Rattle.cert.specs.Certified.{IsCertified};
 ghost use Rattle.cert.specs.Grammar.{record_of, record_text};
-ghost use Rattle.cert.specs.Scored.{scored, unscored, with_score, without_score};
+ghost use Rattle.cert.specs.Scored.{GetsScore, scored, unscored, with_score, without_score};
 
 /// A claim that stands makes its verdict true of the table.
 pub fn standing_claims_are_true()
@@ -37,4 +37,5 @@ pub fn scores_leave_claims()
     ensures unscored { (c : Claim) → ending_by (unscored c) ≡ ending_by c }
     ensures again { (p : Packed) (c : Claim) → (scored p (scored p c) ≡ scored p c) × (scored p (unscored c) ≡ scored p c) }
     ensures certified { (r : Recorded) → IsCertified r → IsCertified (with_score r) × IsCertified (without_score r) }
+    ensures found { (r s : Recorded) → GetsScore r s → IsCertified r → s ≡ with_score r }
 {}

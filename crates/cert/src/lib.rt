@@ -17,6 +17,7 @@ mod laws;
 mod limits;
 mod record;
 mod record_fault;
+mod scoring;
 
 pub use appending::append_table;
 pub use certificate::{Certificate, OwnedCertificate};

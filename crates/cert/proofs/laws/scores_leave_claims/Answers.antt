@@ -1,4 +1,4 @@
-use Rattle.cert.proofs.Scores.{ends_as_shown, scored_ends, scored_shows, unscored_ends, scored_twice, scored_again, score_certified, unscored_certified}
+use Rattle.cert.proofs.Scores.{ends_as_shown, scored_ends, scored_shows, unscored_ends, scored_twice, scored_again, score_certified, unscored_certified, has_score}
 use Rattle.cert.proofs.laws.scores_leave_claims.Goals as goal
 
 pub returns : goal.returns
@@ -8,4 +8,5 @@ returns c = record {
   unscored = unscored_ends;
   again = λ p c. (scored_twice p c, scored_again p c);
   certified = λ r certified. (score_certified r certified, unscored_certified r certified);
+  found = has_score;
 }

@@ -1,36 +1,42 @@
 -- The records held of a list agree with its fit records.
 use Rattle.std.proofs.Common.{◌≡◌, ◌≢◌, ℕ, true, false, List, [], ◌∷◌, ◌++◌, Option, Some, None, option_map, IsSome, inl, inr, ◌⊎◌, Err, refl, sym, ◌∙◌, ap, subst, arith}
+use Rattle.std.specs.Prelude.{fold, map}
 use Rattle.std.specs.List.{Contains}
-use Rattle.std.proofs.lemmas.List.Elements.{Contains-append_left, Contains-append_right, Contains-append_cases}
+use Rattle.std.proofs.lemmas.List.Elements.{All-nil, Contains-append_left, Contains-append_right, Contains-append_cases}
+use Rattle.std.proofs.lemmas.List.{map-append}
 use Rattle.std.proofs.lemmas.List.Sums.{fold-append}
+use Rattle.std.proofs.lemmas.Option.{same_Some}
 use Rattle.machine_text.specs.Packed.{Packed, IsTable}
 use Rattle.evidence.specs.declared.verdicts.Ending.{Ending}
 use Rattle.evidence.specs.declared.verdicts.Ending.TheVariants.{Halts, Never}
 use Rattle.tree.specs.Closed.{Mark, Halting, NeverHalting, Holdout, IsVerdict, IsOpen}
+use Rattle.tree.specs.Tables.{IsChildTable}
 use Rattle.tree.proofs.TableLaws.{tree_alike, tree_table_child}
 use Rattle.cert.specs.Claim.{Claim, Recorded, ending_by}
 use Rattle.cert.specs.Certified.{IsCertified}
+use Rattle.cert.specs.Scored.{scored, with_score}
+use Rattle.cert.proofs.Scores.{score_certified, scored_ends}
 use Rattle.cert.proofs.Refusals.{refused_or_certified}
 use Rattle.ledger.specs.Records.{same_table, claim_in, mark_in, mark_of, mark_by}
-use Rattle.ledger.specs.Held.{IsFit, IsHeld, Settles, settled}
+use Rattle.ledger.specs.Held.{HasScore, IsFit, IsHeld, Settles, settled}
 use Rattle.ledger.specs.Offers.{OfferGives, IsKnown}
 use Rattle.ledger.specs.Lists.{HasPlace, IsFitAfter, placed, held}
 use Rattle.ledger.specs.declared.faults.OfferFault.{OfferFault}
 use Rattle.ledger.specs.declared.faults.OfferFault.TheVariants.{WrongSize, NotOpen, Refused as IsRefused, NoMemory}
 use Rattle.ledger.proofs.Same.{same_is, apart}
 use Rattle.ledger.proofs.Claims.{claim_here, claim_past, claim_none, settled_here, settled_past}
-use Rattle.ledger.proofs.HeldLaws.{unmarked, held_more, held_settled}
+use Rattle.ledger.proofs.HeldLaws.{unmarked, held_more, held_settled, scored_has}
 use Rattle.ledger.proofs.OpenLaws.{IsTaken, taken_new, taken_settled, stopping_verdict, open_in_tree, recorded_in_tree}
 use Rattle.ledger.proofs.Taking.{holdout_claim}
 use Rattle.ledger.proofs.Apart.{first_member, first_or_later}
 
--- the records rs are those held of the fit records ks, and say of each table what these say
+-- the records rs are those held of the fit records ks, and say of each table what these say with its score
 pub record Agree (root : Packed) (ks rs : List Recorded) : Type 0 where
   pub is_held : IsHeld root rs
   pub is : rs ≡ held ks
   pub none : (t : Packed) → claim_in rs t ≡ None → (e : Recorded) → Contains ks e → e.table ≢ t
-  pub some : (t : Packed) (c : Claim) → claim_in rs t ≡ Some c → Contains ks (record { table = t; claim = c })
-  pub verdict : (e : Recorded) → Contains ks e → IsSome (ending_by e.claim) → claim_in rs e.table ≡ Some e.claim
+  pub some : (t : Packed) (c : Claim) → claim_in rs t ≡ Some c → (e : Recorded) × Contains ks e × (e.table ≡ t) × (c ≡ scored t e.claim)
+  pub verdict : (e : Recorded) → Contains ks e → IsSome (ending_by e.claim) → claim_in rs e.table ≡ Some (scored e.table e.claim)
   pub places : (e : Recorded) → Contains ks e → HasPlace root ks e.table
 
 nobody : {X : Type 0} {x : X} → Contains [] x → ⊥
@@ -42,7 +48,7 @@ no_some (Some v) some e = cc
 
 pub agree_none : (root : Packed) → Agree root [] []
 agree_none root = record {
-  is_held = record { fit = tt };
+  is_held = record { fit = tt; scored = All-nil HasScore };
   is = refl;
   none = λ t is e at. absurd (nobody at);
   some = λ t c is. let gone = claim_none t in absurd (cc);
@@ -86,37 +92,37 @@ alone : (r e : Recorded) → Contains (r ∷ []) e → r ≡ e
 alone r e at = elim (first_or_later r [] e at) [ inl is ↦ is | inr later ↦ absurd (nobody later) ]
 
 -- one more fit record
-agree_more : (root : Packed) (ks rs new : List Recorded) (r : Recorded) → Agree root ks rs → IsTaken rs new r → IsHeld root new → new ≡ placed rs r
+agree_more : (root : Packed) (ks rs new : List Recorded) (r : Recorded) → Agree root ks rs → IsTaken rs new (with_score r) → IsHeld root new → new ≡ placed rs (with_score r)
     → ((c : Claim) → claim_in rs r.table ≡ Some c → ending_by c ≡ None) → HasPlace root ks r.table → Agree root (ks ++ (r ∷ [])) new
 agree_more root ks rs new r agree taken is_held is unsettled place =
     let last : Contains (ks ++ (r ∷ [])) r = Contains-append_right ks (r ∷ []) r (first_member r r [] refl) in record {
       is_held = is_held;
-      is = is ∙ (ap (λ (l : List Recorded). placed l r) agree.is ∙ sym (fold-append placed [] ks (r ∷ [])));
+      is = is ∙ (ap (λ (l : List Recorded). placed l (with_score r)) agree.is
+          ∙ (sym (fold-append placed [] (map with_score ks) (with_score r ∷ [])) ∙ ap (fold placed []) (sym (map-append with_score ks (r ∷ [])))));
       none = λ t gone e at.
-          let other : r.table ≢ t = λ (same : r.table ≡ t). let here = subst (λ (p : Packed). claim_in new p ≡ Some r.claim) same taken.here in absurd (cc) in
+          let other : r.table ≢ t = λ (same : r.table ≡ t). let here = subst (λ (p : Packed). claim_in new p ≡ Some (scored p r.claim)) same taken.here in absurd (cc) in
           elim (Contains-append_cases ks (r ∷ []) e at) [
             | inl before ↦ agree.none t (sym (taken.others t (λ (same : t ≡ r.table). other (sym same))) ∙ gone) e before
             | inr now ↦ subst (λ (x : Recorded). x.table ≢ t) (alone r e now) other
           ];
-      some = λ t c claimed. elim (same_table r.table t) as (λ v. same_table r.table t ≡ v → Contains (ks ++ (r ∷ [])) (record { table = t; claim = c })) [
+      some = λ t c claimed. elim (same_table r.table t) as (λ v. same_table r.table t ≡ v → (e : Recorded) × Contains (ks ++ (r ∷ [])) e × (e.table ≡ t) × (c ≡ scored t e.claim)) [
         | true ↦ λ same.
             let table : r.table ≡ t = same_is r.table t same in
-            let here = subst (λ (p : Packed). claim_in new p ≡ Some r.claim) table taken.here in
-            let claim : r.claim ≡ c = cc in
-            let one : r ≡ record { table = t; claim = c } = ap (λ (p : Packed). record { table = p; claim = r.claim }) table ∙ ap (λ (d : Claim). record { table = t; claim = d }) claim in
-            subst (Contains (ks ++ (r ∷ []))) one last
+            let here = subst (λ (p : Packed). claim_in new p ≡ Some (scored p r.claim)) table taken.here in
+            (r, last, table, same_Some c (scored t r.claim) (sym claimed ∙ here))
         | false ↦ λ other.
             let past : t ≢ r.table = λ (same : t ≡ r.table). apart r.table t other (sym same) in
-            Contains-append_left ks (r ∷ []) _ (agree.some t c (sym (taken.others t past) ∙ claimed))
+            let w = agree.some t c (sym (taken.others t past) ∙ claimed) in
+            (w.0, Contains-append_left ks (r ∷ []) w.0 w.1, w.2, w.3)
       ] refl;
       verdict = λ e at shown. elim (Contains-append_cases ks (r ∷ []) e at) [
         | inl before ↦
             let claimed = agree.verdict e before shown in
             let past : e.table ≢ r.table = λ (same : e.table ≡ r.table).
-            let none = unsettled e.claim (subst (λ (p : Packed). claim_in rs p ≡ Some e.claim) same claimed) in
-            absurd (no_some (ending_by e.claim) shown none) in
+            let none = unsettled (scored e.table e.claim) (subst (λ (p : Packed). claim_in rs p ≡ Some (scored e.table e.claim)) same claimed) in
+            absurd (no_some (ending_by e.claim) shown (sym (scored_ends e.table e.claim) ∙ none)) in
             taken.others e.table past ∙ claimed
-        | inr now ↦ subst (λ (x : Recorded). claim_in new x.table ≡ Some x.claim) (alone r e now) taken.here
+        | inr now ↦ subst (λ (x : Recorded). claim_in new x.table ≡ Some (scored x.table x.claim)) (alone r e now) taken.here
       ];
       places = λ e at. elim (Contains-append_cases ks (r ∷ []) e at) [
         | inl before ↦ place_more root ks r e.table (agree.places e before)
@@ -127,7 +133,7 @@ agree_more root ks rs new r agree taken is_held is unsettled place =
 -- the mark of a table by a fit record, and back
 marked_halting : (root : Packed) (ks rs : List Recorded) (p : Recorded) (k : ℕ) → Agree root ks rs → Contains ks p → ending_by p.claim ≡ Some (Halts k) → mark_in rs p.table ≡ Some (Halting k)
 marked_halting root ks rs p k agree at shown =
-    ap (option_map mark_of) (agree.verdict p at (subst (λ (o : Option Ending). IsSome o) (sym shown) refl)) ∙ ap (λ (o : Option Ending). Some (mark_by o)) shown
+    ap (option_map mark_of) (agree.verdict p at (subst (λ (o : Option Ending). IsSome o) (sym shown) refl)) ∙ ap (λ (o : Option Ending). Some (mark_by o)) (scored_ends p.table p.claim ∙ shown)
 
 marked_by : (rs : List Recorded) (t : Packed) (k : ℕ) → mark_in rs t ≡ Some (Halting k) → (c : Claim) × (claim_in rs t ≡ Some c) × (ending_by c ≡ Some (Halts k))
 marked_by rs t k marked =
@@ -162,10 +168,10 @@ fit_now root ks rs r agree fit =
       })
       | Some c ↦ λ claimed.
           let at = agree.some r.table c claimed in
-          let none : ending_by c ≡ None = fit.no_verdict (record { table = r.table; claim = c }) at refl in
+          let none : ending_by c ≡ None = ap ending_by at.3 ∙ (scored_ends r.table at.0.claim ∙ fit.no_verdict at.0 at.1 at.2) in
           inr (record {
             is_holdout = ap (option_map mark_of) claimed ∙ ap (λ (m : Mark). Some m) (is_holdout (ending_by c) none);
-            verdict = some_verdict (ending_by r.claim) (λ bare. fit.not_again bare (record { table = r.table; claim = c }) at refl);
+            verdict = some_verdict (ending_by r.claim) (λ bare. fit.not_again bare at.0 at.1 at.2);
             certified = fit.certified;
           })
     ] refl
@@ -173,7 +179,10 @@ fit_now root ks rs r agree fit =
 open_place : (root : Packed) (ks rs : List Recorded) (t : Packed) → Agree root ks rs → IsOpen root (mark_in rs) t → HasPlace root ks t
 open_place root ks rs t agree is_open = elim is_open.place [
   | inl e ↦ inl e
-  | inr w ↦ let c = marked_by rs w.0 w.1 w.2 in inr (record { table = w.0; claim = c.0 }, w.1, agree.some w.0 c.0 c.1, c.2, w.3)
+  | inr w ↦
+      let c = marked_by rs w.0 w.1 w.2 in
+      let at = agree.some w.0 c.0 c.1 in
+      inr (at.0, w.1, at.1, sym (scored_ends w.0 at.0.claim) ∙ (ap ending_by (sym at.3) ∙ c.2), subst (λ (p : Packed). IsChildTable p t) (sym at.2) w.3)
 ]
 
 -- and back
@@ -190,31 +199,44 @@ pub settling_fit : (root : Packed) (ks rs : List Recorded) (r : Recorded) → Ag
 settling_fit root ks rs r agree settles =
     let c = holdout_claim rs r.table settles.is_holdout in
     let none : ending_by c.0 ≡ None = no_verdict (ending_by c.0) c.2 in
+    let there = agree.some r.table c.0 c.1 in
     record {
-      place = agree.places (record { table = r.table; claim = c.0 }) (agree.some r.table c.0 c.1);
+      place = subst (HasPlace root ks) there.2 (agree.places there.0 there.1);
       no_verdict = λ e at same.
           elim (ending_by e.claim) as (λ o. ending_by e.claim ≡ o → o ≡ None) [
             | None ↦ λ is. refl
             | Some v ↦ λ is.
-                let claimed = subst (λ (p : Packed). claim_in rs p ≡ Some e.claim) same (agree.verdict e at (subst (λ (o : Option Ending). IsSome o) (sym is) refl)) in
-                let claim : e.claim ≡ c.0 = cc (claimed, c.1) in
-                let shown = ap ending_by claim in absurd (cc)
+                let claimed = subst (λ (p : Packed). claim_in rs p ≡ Some (scored p e.claim)) same (agree.verdict e at (subst (λ (o : Option Ending). IsSome o) (sym is) refl)) in
+                let claim : scored r.table e.claim ≡ c.0 = same_Some (scored r.table e.claim) c.0 (sym claimed ∙ c.1) in
+                let shown = sym (scored_ends r.table e.claim) ∙ (ap ending_by claim ∙ none) in absurd (cc)
           ] refl;
       not_again = λ bare. absurd (no_some (ending_by r.claim) settles.verdict bare);
       certified = settles.certified;
     }
 
+-- what is fit or settles does so with its score
+pub fit_scored : (root : Packed) (rs : List Recorded) (r : Recorded) → IsFit root rs r → IsFit root rs (with_score r)
+fit_scored root rs r fit = record { is_open = fit.is_open; certified = score_certified r fit.certified }
+
+pub settles_scored : (rs : List Recorded) (r : Recorded) → Settles rs r → Settles rs (with_score r)
+settles_scored rs r settles = record {
+  is_holdout = settles.is_holdout;
+  verdict = subst (λ (o : Option Ending). IsSome o) (sym (scored_ends r.table r.claim)) settles.verdict;
+  certified = score_certified r settles.certified;
+}
+
 -- a fit record is taken, and the records agree with one more
-pub agree_new : (root : Packed) (ks rs : List Recorded) (r : Recorded) → Agree root ks rs → IsFit root rs r → Agree root (ks ++ (r ∷ [])) (rs ++ (r ∷ []))
+pub agree_new : (root : Packed) (ks rs : List Recorded) (r : Recorded) → Agree root ks rs → IsFit root rs r → Agree root (ks ++ (r ∷ [])) (rs ++ (with_score r ∷ []))
 agree_new root ks rs r agree fit =
     let gone = unmarked (claim_in rs r.table) fit.is_open.unmarked in
-    agree_more root ks rs (rs ++ (r ∷ [])) r agree (taken_new rs r gone) (held_more root rs r agree.is_held fit) (sym (placed_last rs r gone)) (λ c is. absurd (cc)) (open_place root ks rs r.table agree fit.is_open)
+    agree_more root ks rs (rs ++ (with_score r ∷ [])) r agree (taken_new rs (with_score r) gone) (held_more root rs (with_score r) agree.is_held (fit_scored root rs r fit) (scored_has r)) (sym (placed_last rs (with_score r) gone)) (λ c is. absurd (cc)) (open_place root ks rs r.table agree fit.is_open)
 
-pub agree_settled : (root : Packed) (ks rs : List Recorded) (r : Recorded) → Agree root ks rs → Settles rs r → Agree root (ks ++ (r ∷ [])) (settled rs r)
+pub agree_settled : (root : Packed) (ks rs : List Recorded) (r : Recorded) → Agree root ks rs → Settles rs r → Agree root (ks ++ (r ∷ [])) (settled rs (with_score r))
 agree_settled root ks rs r agree settles =
     let c = holdout_claim rs r.table settles.is_holdout in
     let none : ending_by c.0 ≡ None = no_verdict (ending_by c.0) c.2 in
-    agree_more root ks rs (settled rs r) r agree (taken_settled rs r c.0 c.1 c.2) (held_settled root rs r agree.is_held settles) (sym (placed_settles rs r c.0 c.1))
+    agree_more root ks rs (settled rs (with_score r)) r agree (taken_settled rs (with_score r) c.0 c.1 c.2) (held_settled root rs (with_score r) agree.is_held (settles_scored rs r settles) (scored_has r))
+    (sym (placed_settles rs (with_score r) c.0 c.1))
     (λ d is. let same : c.0 ≡ d = cc (c.1, is) in subst (λ (x : Claim). ending_by x ≡ None) same none)
     (settling_fit root ks rs r agree settles).place
 

@@ -3,6 +3,7 @@ use Rattle.std.proofs.Common.{◌≡◌, List, [], ◌∷◌, ◌++◌, Some, No
 use Rattle.machine_text.specs.Packed.{Packed}
 use Rattle.tree.specs.Closed.{Mark, Holdout, IsVerdict}
 use Rattle.cert.specs.Claim.{Claim, Recorded}
+use Rattle.cert.specs.Scored.{with_score}
 use Rattle.ledger.specs.Offers.{OfferGives, IsKnown}
 use Rattle.ledger.specs.Held.{settled}
 use Rattle.ledger.specs.Records.{claim_in, mark_in, mark_of}
@@ -42,7 +43,7 @@ put rs r there = elim (claim_in rs r.table) as (λ o. claim_in rs r.table ≡ o 
 ] refl there
 
 pub answered : (root : Packed) (old new : List Recorded) (r : Recorded) (taken : Taken) → OfferGives root old r (Ok taken) new → IsSome (claim_in new r.table)
-answered root old new r New gives = subst (λ (rs : List Recorded). IsIn rs r.table) (sym gives.1) (last old r)
+answered root old new r New gives = subst (λ (rs : List Recorded). IsIn rs r.table) (sym gives.1) (last old (with_score r))
 answered root old new r Known gives = subst (λ (rs : List Recorded). IsIn rs r.table) (sym gives.1) (known gives.0)
   where
     known : IsKnown old r → IsIn old r.table
@@ -51,4 +52,4 @@ answered root old new r Known gives = subst (λ (rs : List Recorded). IsIn rs r.
       | inr holdout ↦ marked old r.table Holdout holdout.0
     ]
 answered root old new r Settled gives =
-    subst (λ (rs : List Recorded). IsIn rs r.table) (sym gives.1) (put old r (marked old r.table Holdout gives.0.is_holdout))
+    subst (λ (rs : List Recorded). IsIn rs r.table) (sym gives.1) (put old (with_score r) (marked old r.table Holdout gives.0.is_holdout))

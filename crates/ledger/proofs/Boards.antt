@@ -12,7 +12,7 @@ use Rattle.cert.specs.Claim.{Claim, Recorded, ending_by}
 use Rattle.cert.specs.Certified.{IsCertified, IsPairOf}
 use Rattle.cert.specs.Kinds.{owned_claim}
 use Rattle.ledger.specs.Records.{same_table, claim_in, mark_in}
-use Rattle.ledger.specs.Held.{IsHoldout, Settles, settled}
+use Rattle.ledger.specs.Held.{HasScore, IsHoldout, Settles, settled}
 use Rattle.ledger.specs.Contents.{IsBoardOf}
 use Rattle.ledger.specs.inside.Stored.{entry_recorded, records_of, KnowsPair}
 use Rattle.ledger.specs.inside.Counting.{IsCounted, with_shown, without_holdout, is_halting, is_never, is_undecided}
@@ -73,17 +73,17 @@ known es new r k all claim pair is =
 
 -- a record of an open table is taken
 pub stored_more : (root : Packed) (es new : List (Packed × StoredRecord)) (r : Recorded) (k : StoredRecord) (place : ℕ) (tables mid after : BTreeMap Packed ℕ) (counts : Counts)
-    → IsStoredUnindexed root es tables counts → IsOpen root (mark_in (records_of es)) r.table → IsCertified r
+    → IsStoredUnindexed root es tables counts → IsOpen root (mark_in (records_of es)) r.table → IsCertified r → HasScore r
     → owned_claim k.certificate ≡ r.claim → IsPairOf (ending_by r.claim) r.table k.halts_on → new ≡ insert_entry same_table es r.table k → place ≡ length es
     → ((q : Packed) → ContainsKey table_cmp mid q ↔ (ContainsKey table_cmp tables q ⊎ IsNewChild (records_of es) r q))
     → others place mid.entries ≡ tables.entries → AreChildrenAt place r.table mid.entries → (k.halts_on ≡ None → mid.entries ≡ tables.entries)
     → ((q : Packed) → ContainsKey table_cmp after q ↔ (ContainsKey table_cmp mid q × (q ≢ r.table))) → after.entries ≡ remove_entry (is_at (table_cmp r.table)) mid.entries
     → IsStoredUnindexed root new after (with_shown counts (ending_by r.claim))
-stored_more root es new r k place tables mid after counts kept is_open certified claim pair is last opened others children none closed removal =
+stored_more root es new r k place tables mid after counts kept is_open certified scored claim pair is last opened others children none closed removal =
     let rs = records_of es in
     let gone = unmarked (claim_in rs r.table) is_open.unmarked in
     let list = records_more es new r k claim gone is in (
-      subst (λ (l : List Recorded). IsBoardOf root l) (sym list) (board_more root rs r kept.0 is_open certified),
+      subst (λ (l : List Recorded). IsBoardOf root l) (sym list) (board_more root rs r kept.0 is_open certified scored),
       subst (λ (l : List Recorded). IsOpenMapOf after root l) (sym list)
           (opened_more root rs r place k.halts_on tables mid after kept.1 is_open (last ∙ sym (length-map es entry_recorded)) pair others children none removal
           (λ q. opened_then_closed rs r _ _ _ q (opened q) (closed q))),
@@ -93,18 +93,18 @@ stored_more root es new r k place tables mid after counts kept is_open certified
 
 -- a holdout is settled
 pub stored_settled : (root : Packed) (es new : List (Packed × StoredRecord)) (r : Recorded) (k : StoredRecord) (place : ℕ) (tables after : BTreeMap Packed ℕ) (counts : Counts)
-    → IsStoredUnindexed root es tables counts → Settles (records_of es) r
+    → IsStoredUnindexed root es tables counts → Settles (records_of es) r → HasScore r
     → owned_claim k.certificate ≡ r.claim → IsPairOf (ending_by r.claim) r.table k.halts_on → new ≡ insert_entry same_table es r.table k
     → (x : Recorded) × (slice_get (records_of es) place ≡ Some x) × (x.table ≡ r.table) × (is_halting x ≡ false)
     → ((q : Packed) → ContainsKey table_cmp after q ↔ (ContainsKey table_cmp tables q ⊎ IsNewChild (records_of es) r q))
     → others place after.entries ≡ tables.entries → AreChildrenAt place r.table after.entries → (k.halts_on ≡ None → after.entries ≡ tables.entries)
     → IsStoredUnindexed root new after (with_shown (without_holdout counts) (ending_by r.claim))
-stored_settled root es new r k place tables after counts kept settles claim pair is at opened others children none =
+stored_settled root es new r k place tables after counts kept settles scored claim pair is at opened others children none =
     let rs = records_of es in
     let holdout = settles.is_holdout in
     let list = records_settled es new r k claim holdout is in
     let c = holdout_claim rs r.table holdout in (
-      subst (λ (l : List Recorded). IsBoardOf root l) (sym list) (board_settled root rs r kept.0 settles),
+      subst (λ (l : List Recorded). IsBoardOf root l) (sym list) (board_settled root rs r kept.0 settles scored),
       subst (λ (l : List Recorded). IsOpenMapOf after root l) (sym list)
           (opened_settled root rs r at.0 place k.halts_on tables after kept.0 kept.1 holdout at.1 at.2 pair others children none opened),
       known es new r k kept.2 claim pair is,

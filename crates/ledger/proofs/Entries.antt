@@ -7,7 +7,7 @@ use Rattle.std.proofs.Math.ListN.{drop_of_length-le}
 use Rattle.std.proofs.lemmas.Bool.{cases_lt}
 use Rattle.std.proofs.lemmas.List.{drop-map, length-map}
 use Rattle.std.proofs.lemmas.List.Elements.{All-cons, All-nil}
-use Rattle.std.proofs.lemmas.Option.{slice_get-map, slice_get_within}
+use Rattle.std.proofs.lemmas.Option.{same_Some, slice_get-map, slice_get_within}
 use Rattle.indexmap.specs.IndexMap.{insert_entry}
 use Rattle.machine_text.specs.Packed.{Packed}
 use Rattle.evidence.specs.declared.verdicts.Ending.{Ending}
@@ -16,7 +16,7 @@ use Rattle.tree.specs.Closed.{Holdout}
 use Rattle.cert.specs.Claim.{Claim, Recorded, ending_by}
 use Rattle.cert.specs.Kinds.{owned_claim}
 use Rattle.ledger.specs.Records.{same_table, claim_in, mark_of, mark_by}
-use Rattle.ledger.specs.Held.{IsHoldout, settled}
+use Rattle.ledger.specs.Held.{HasScore, IsHoldout, settled}
 use Rattle.ledger.specs.inside.Stored.{entry_recorded, records_of, KnowsPair}
 use Rattle.ledger.specs.inside.Counting.{is_halting}
 use Rattle.ledger.specs.declared.stored_record.StoredRecord.{StoredRecord}
@@ -92,6 +92,17 @@ found_pair (e ∷ es) t k all is =
           let here : e.1 ≡ k = cc in
           subst (λ (x : StoredRecord). KnowsPair (t, x)) here (subst (λ (p : Packed). KnowsPair (p, e.1)) (sym (same_is t e.0 same)) (all_first KnowsPair e es all))
       | false ↦ λ other rest. found_pair es t k (all_rest KnowsPair e es all) rest
+    ] refl is
+
+pub found_score : (es : List (Packed × StoredRecord)) (t : Packed) (k : StoredRecord) → All HasScore (records_of es) → lookup (same_table t) es ≡ Some k → HasScore (entry_recorded (t, k))
+found_score [] t k all is = absurd (cc)
+found_score (e ∷ es) t k all is =
+    elim (same_table t e.0) as (λ v. same_table t e.0 ≡ v → cond v (Some e.1) (lookup (same_table t) es) ≡ Some k → HasScore (entry_recorded (t, k))) [
+      | true ↦ λ same found.
+          let here : HasScore (entry_recorded e) = all_first HasScore (entry_recorded e) (records_of es) all in
+          let value : e.1 ≡ k = same_Some e.1 k found in
+          subst (λ (p : Packed). HasScore (entry_recorded (p, k))) (sym (same_is t e.0 same)) (subst (λ (v : StoredRecord). HasScore (entry_recorded (e.0, v))) value here)
+      | false ↦ λ other rest. found_score es t k (all_rest HasScore (entry_recorded e) (records_of es) all) rest
     ] refl is
 
 pub inserted_pairs : (es : List (Packed × StoredRecord)) (t : Packed) (k : StoredRecord) → All KnowsPair es → KnowsPair (t, k) → All KnowsPair (insert_entry same_table es t k)

@@ -18,7 +18,9 @@ use Rattle.ledger.specs.declared.left.Unkept.{Unkept}
 use Rattle.ledger.proofs.BoardLaws.{marked_in_tree}
 use Rattle.ledger.proofs.LinesTaken.{taken_more, joined-append}
 use Rattle.ledger.proofs.OpenLaws.{open_in_tree}
-use Rattle.ledger.proofs.VersionLaws.{fit_scored, settles_scored, score_held, one_line, reads_back, taken_written}
+use Rattle.ledger.proofs.HeldLaws.{scored_has}
+use Rattle.ledger.proofs.Agreement.{fit_scored, settles_scored}
+use Rattle.ledger.proofs.VersionLaws.{one_line, reads_back, taken_written}
 
 -- a record that is taken is of a table, and certified
 taken_table : (b : Contents) (r : Recorded) (new : List Recorded) → IsBoard b → IsTaken b.root b.records r new → IsTable r.table
@@ -32,8 +34,8 @@ taken_certified root old r new (inr settles) = settles.0.certified
 
 -- the same record with its score is taken as it is held
 taken_held : (format : Format) (root : Packed) (old : List Recorded) (r : Recorded) (new : List Recorded) → IsTaken root old r new → IsTaken root old (as_written format (with_score r)) new
-taken_held format root old r new (inl w) = taken_written format root old (with_score r) new (score_held r) (inl (fit_scored root old r w.0, w.1))
-taken_held format root old r new (inr w) = taken_written format root old (with_score r) new (score_held r) (inr (settles_scored old r w.0, w.1))
+taken_held format root old r new (inl w) = taken_written format root old (with_score r) new (scored_has r) (inl (fit_scored root old r w.0, w.1))
+taken_held format root old r new (inr w) = taken_written format root old (with_score r) new (scored_has r) (inr (settles_scored old r w.0, w.1))
 
 grows_in : (b : Contents) (text : List ℕ) (r : Recorded) (new : List Recorded) → IsBoard b → (reads : ReadsAs b.root text b.records Nothing) → IsTaken b.root b.records r new
     → ReadsIn reads.header.format b.root (text ++ (line_of reads.header.format (with_score r) ++ (10 ∷ []))) new Nothing
@@ -63,7 +65,7 @@ grows_in b text r new board reads taken =
         rest = [];
         is = ap (λ (l : List ℕ). l ++ more) whole ∙ sym (joined-append lines (line ∷ [])) ∙ sym (append-nil (joined (lines ++ (line ∷ []))));
         taken = taken_more format b.root [] b.records new lines line (as_written format held) reads.keeps.taken (one_line format held table certified)
-            (reads_back format held table certified (score_held r)) (taken_held format b.root b.records r new taken);
+            (reads_back format held table certified (scored_has r)) (taken_held format b.root b.records r new taken);
         ends = refl;
       };
      };

@@ -1,14 +1,19 @@
 -- What is true of every held list, and what keeps a list held.
-use Rattle.std.proofs.Common.{◌≡◌, ℕ, true, false, List, [], ◌∷◌, ◌++◌, Option, Some, None, option_map, inl, inr, refl, sym, ◌∙◌, ap, subst, append_assoc, append-nil, IfSome, ◌⊎◌}
+use Rattle.std.proofs.Common.{◌≡◌, ℕ, true, false, cond, List, [], ◌∷◌, ◌++◌, Option, Some, None, option_map, inl, inr, refl, sym, ◌∙◌, ap, subst, append_assoc, append-nil, IfSome, ◌⊎◌}
 use Rattle.evidence.specs.Verdict.{IsTrueOf}
 use Rattle.evidence.specs.declared.verdicts.Verdict.{Verdict}
 use Rattle.machine_text.specs.Packed.{Packed, IsTable, entry_of}
 use Rattle.tree.specs.Closed.{Mark, Halting, Holdout, IsOpen}
+use Rattle.std.specs.List.{All}
+use Rattle.std.proofs.lemmas.List.Elements.{All-append, All-cons, All-nil}
 use Rattle.cert.specs.Claim.{Claim, Recorded, Stands, shown_by}
 use Rattle.ledger.specs.Records.{same_table, claim_in, mark_in, mark_of, verdict_in, shown_where}
-use Rattle.ledger.specs.Held.{IsFit, AreFitAfter, IsHeld, Settles, settled}
+use Rattle.ledger.specs.Held.{IsFit, AreFitAfter, HasScore, IsHeld, Settles, settled}
 use Rattle.cert.specs.Certified.{IsCertified}
+use Rattle.cert.specs.Scored.{with_score}
+use Rattle.cert.proofs.Scores.{scored_twice}
 use Rattle.ledger.proofs.Same.{same_is, not_same, apart}
+use Rattle.ledger.proofs.Entries.{all_first, all_rest}
 use Rattle.ledger.proofs.Claims.{claim_here, claim_past, claim_none, claim_kept, claim_more, settled_here, settled_past}
 
 -- a certified record of a table
@@ -50,8 +55,9 @@ fit_more root earlier [] r fit last = (subst (λ (l : List Recorded). IsFit root
 fit_more root earlier (x ∷ rs) r fit last =
     (fit.0, fit_more root (earlier ++ (x ∷ [])) rs r fit.1 (subst (λ (l : List Recorded). IsFit root l r) (sym (append_assoc earlier (x ∷ []) rs)) last))
 
-pub held_more : (root : Packed) (rs : List Recorded) (r : Recorded) → IsHeld root rs → IsFit root rs r → IsHeld root (rs ++ (r ∷ []))
-held_more root rs r held fit = record { fit = fit_more root [] rs r held.fit fit }
+pub held_more : (root : Packed) (rs : List Recorded) (r : Recorded) → IsHeld root rs → IsFit root rs r → HasScore r → IsHeld root (rs ++ (r ∷ []))
+held_more root rs r held fit scored =
+    record { fit = fit_more root [] rs r held.fit fit; scored = All-append HasScore rs (r ∷ []) held.scored (All-cons HasScore r [] scored (All-nil HasScore)) }
 
 -- what is fit after some records is fit after others that say no less of halting, and nothing where those say nothing
 record IsRefined (old new : List Recorded) : Type 0 where
@@ -153,15 +159,28 @@ fit_settled root earlier (x ∷ rs) r c fit is holdout certified =
           subst (AreFitAfter root earlier) (sym (settled_past x rs r other)) (fit.0, later)
     ] refl
 
+-- with its score a record has it; and scores stay where a record is settled
+pub scored_has : (r : Recorded) → HasScore (with_score r)
+scored_has r = ap (λ (c : Claim). record { table = r.table; claim = c }) (scored_twice r.table r.claim)
+
+scores_settled : (rs : List Recorded) (r : Recorded) → All HasScore rs → HasScore r → All HasScore (settled rs r)
+unfolding settled
+scores_settled [] r all scored = All-nil HasScore
+scores_settled (x ∷ xs) r all scored =
+    elim (same_table x.table r.table) as (λ v. All HasScore (cond v (r ∷ xs) (x ∷ settled xs r))) [
+      | true ↦ All-cons HasScore r xs scored (all_rest HasScore x xs all)
+      | false ↦ All-cons HasScore x (settled xs r) (all_first HasScore x xs all) (scores_settled xs r (all_rest HasScore x xs all) scored)
+    ]
+
 none_marked : {o : Option Mark} {m : Mark} → o ≡ Some m → o ≡ None → ⊥
 none_marked some none = cc
 
-pub held_settled : (root : Packed) (rs : List Recorded) (r : Recorded) → IsHeld root rs → Settles rs r → IsHeld root (settled rs r)
-held_settled root rs r held settles =
+pub held_settled : (root : Packed) (rs : List Recorded) (r : Recorded) → IsHeld root rs → Settles rs r → HasScore r → IsHeld root (settled rs r)
+held_settled root rs r held settles scored =
     elim (claim_in rs r.table) as (λ o. claim_in rs r.table ≡ o → IsHeld root (settled rs r)) [
       | Some c ↦ λ is.
           let marked = ap (option_map mark_of) (sym is) ∙ settles.is_holdout in
           let holdout : mark_of c ≡ Holdout = cc in
-          record { fit = fit_settled root [] rs r c held.fit is holdout settles.certified }
+          record { fit = fit_settled root [] rs r c held.fit is holdout settles.certified; scored = scores_settled rs r held.scored scored }
       | None ↦ λ none. let marked = ap (option_map mark_of) none in absurd (none_marked settles.is_holdout marked)
     ] refl

@@ -8,6 +8,7 @@ pub mod OpenLaws
 pub mod OpenStart
 pub mod OpenAfter
 pub mod Taking
+pub mod LentRecord
 pub mod Offering
 pub mod OpenListed
 pub mod Numbers

@@ -4,7 +4,6 @@ use Rattle.std.proofs.lemmas.List.{append_cancel_left}
 use Rattle.machine_text.specs.Packed.{Packed, IsTable}
 use Rattle.machine_text.specs.Text.{table_of}
 use Rattle.cert.specs.Claim.{Recorded}
-use Rattle.cert.specs.Scored.{with_score}
 use Rattle.ledger.specs.Held.{IsFit, Settles}
 use Rattle.ledger.specs.Offers.{OfferGives}
 use Rattle.text.specs.Lines.{joined, BeginsWithLine}
@@ -22,7 +21,6 @@ use Rattle.ledger.specs.declared.left.Unkept.{Unkept}
 use Rattle.ledger.specs.declared.left.Unkept.TheVariants.{Torn, Unread, Unfit, Repeated}
 use Rattle.text.proofs.Lines.{same_cut, same_line, line_has_newline}
 use Rattle.ledger.proofs.HeaderLaws.{one_format}
-use Rattle.ledger.proofs.VersionLaws.{fit_scored, settles_scored}
 use Rattle.ledger.proofs.Beginnings.{EndsAt, ends_by}
 use Rattle.ledger.proofs.Agreement.{Agree, agree_none, agree_new, agree_settled, new_fit, settling_fit, fit_now, fit_or_known, fit_or_refused}
 
@@ -66,10 +64,10 @@ fit_lines : (format : Format) (root : Packed) (ks rs new : List Recorded) (lines
 fit_lines format root ks rs new [] agree taken = (ks, refl, taken ∙ agree.is)
 fit_lines format root ks rs new (line ∷ lines) agree taken = elim taken.4 [
   | inl w ↦
-      let later = fit_lines format root (ks ++ (with_score taken.0 ∷ [])) taken.1 new lines (subst (Agree root (ks ++ (with_score taken.0 ∷ []))) (sym w.1) (agree_new root ks rs (with_score taken.0) agree (fit_scored root rs taken.0 w.0))) taken.5 in
+      let later = fit_lines format root (ks ++ (taken.0 ∷ [])) taken.1 new lines (subst (Agree root (ks ++ (taken.0 ∷ []))) (sym w.1) (agree_new root ks rs taken.0 agree w.0)) taken.5 in
       (later.0, (taken.0, taken.2, taken.3, new_fit root ks rs taken.0 agree w.0, later.1), later.2)
   | inr w ↦
-      let later = fit_lines format root (ks ++ (with_score taken.0 ∷ [])) taken.1 new lines (subst (Agree root (ks ++ (with_score taken.0 ∷ []))) (sym w.1) (agree_settled root ks rs (with_score taken.0) agree (settles_scored rs taken.0 w.0))) taken.5 in
+      let later = fit_lines format root (ks ++ (taken.0 ∷ [])) taken.1 new lines (subst (Agree root (ks ++ (taken.0 ∷ []))) (sym w.1) (agree_settled root ks rs taken.0 agree w.0)) taken.5 in
       (later.0, (taken.0, taken.2, taken.3, settling_fit root ks rs taken.0 agree w.0, later.1), later.2)
 ]
 
@@ -110,12 +108,12 @@ begins_all format root ks rs new (line ∷ lines) rest (other ∷ others) rest' 
     sym (append_assoc line (10 ∷ joined lines) rest) ∙ (is ∙ append_assoc other (10 ∷ joined others) rest') in
     let same = same_cut line other (joined lines ++ rest) (joined others ++ rest') taken.2 fit.1 whole in
     let one : taken.0 ≡ fit.0 = one_read format line other taken.0 fit.0 same.0 taken.3 fit.2 in
-    let under : AreFitLines format root (ks ++ (with_score taken.0 ∷ [])) others kept = subst (λ (x : Recorded). AreFitLines format root (ks ++ (with_score x ∷ [])) others kept) (sym one) fit.4 in
-    let then : Agree root (ks ++ (with_score taken.0 ∷ [])) taken.1 = elim taken.4 [
-      | inl w ↦ subst (Agree root (ks ++ (with_score taken.0 ∷ []))) (sym w.1) (agree_new root ks rs (with_score taken.0) agree (fit_scored root rs taken.0 w.0))
-      | inr w ↦ subst (Agree root (ks ++ (with_score taken.0 ∷ []))) (sym w.1) (agree_settled root ks rs (with_score taken.0) agree (settles_scored rs taken.0 w.0))
+    let under : AreFitLines format root (ks ++ (taken.0 ∷ [])) others kept = subst (λ (x : Recorded). AreFitLines format root (ks ++ (x ∷ [])) others kept) (sym one) fit.4 in
+    let then : Agree root (ks ++ (taken.0 ∷ [])) taken.1 = elim taken.4 [
+      | inl w ↦ subst (Agree root (ks ++ (taken.0 ∷ []))) (sym w.1) (agree_new root ks rs taken.0 agree w.0)
+      | inr w ↦ subst (Agree root (ks ++ (taken.0 ∷ []))) (sym w.1) (agree_settled root ks rs taken.0 agree w.0)
     ] in
-    let later = begins_all format root (ks ++ (with_score taken.0 ∷ [])) taken.1 new lines rest others rest' kept table then taken.5 ends same.1 under in
+    let later = begins_all format root (ks ++ (taken.0 ∷ [])) taken.1 new lines rest others rest' kept table then taken.5 ends same.1 under in
     (later.0, ap (λ (l : List ℕ). l ∷ lines) same.0 ∙ ap (λ (l : List (List ℕ)). other ∷ l) later.1)
 
 pub longest : (root : Packed) (text : List ℕ) (rs : List Recorded) (left : Left) → IsTable root → (reads : ReadsAs root text rs left) → IsLongest reads.header.format root reads.body reads.keeps.lines rs
@@ -140,7 +138,7 @@ one_kept : (format : Format) (root : Packed) (ks : List Recorded) (lines : List 
 one_kept format root ks [] a b fit fit' = fit ∙ sym fit'
 one_kept format root ks (line ∷ lines) a b fit fit' =
     let same : fit'.0 ≡ fit.0 = one_read format line line fit'.0 fit.0 refl fit'.2 fit.2 in
-    one_kept format root (ks ++ (with_score fit.0 ∷ [])) lines a b fit.4 (subst (λ (x : Recorded). AreFitLines format root (ks ++ (with_score x ∷ [])) lines b) same fit'.4)
+    one_kept format root (ks ++ (fit.0 ∷ [])) lines a b fit.4 (subst (λ (x : Recorded). AreFitLines format root (ks ++ (x ∷ [])) lines b) same fit'.4)
 
 one_root : (text : List ℕ) (root other : Packed) (body body' : List ℕ) → (header : HasHeader text root body) → (header' : HasHeader text other body')
     → (root ≡ other) × (body ≡ body') × (header.format ≡ header'.format)

@@ -7,6 +7,8 @@ use Rattle.evidence.specs.declared.verdicts.Ending.TheVariants.{Halts, Never}
 use Rattle.tree.specs.Closed.{Mark, Halting, NeverHalting, Holdout, IsTrueMark, AreTrueMarks, IsVerdict, IsOpen, IsComplete}
 use Rattle.cert.specs.Certified.{IsCertified}
 use Rattle.cert.specs.Claim.{Claim, Recorded, ending_by}
+use Rattle.cert.specs.Scored.{scored, with_score}
+use Rattle.cert.proofs.Scores.{scored_ends}
 use Rattle.cert.proofs.Refusals.{refused_or_certified}
 use Rattle.ledger.specs.Records.{same_table, claim_in, mark_in, mark_of, mark_by, ending_in, ending_where}
 use Rattle.ledger.specs.Held.{IsFit, AreFitAfter}
@@ -53,9 +55,9 @@ pub joined_start : (a : List Recorded) → AreJoined a [] a
 joined_start a = λ t. sym (ap (joined (mark_in a t)) (ap (option_map mark_of) (claim_none t)) ∙ joined_none (mark_in a t))
 
 -- what an offer that is taken does to the marks: its own table's is joined with that of the record, the others stay
-taken_by : (root : Packed) (old new : List Recorded) (r : Recorded) (taken : Taken) → OfferGives root old r (Ok taken) new → IsTaken old new r ⊎ (IsKnown old r × (new ≡ old))
-taken_by root old new r New gives = inl (subst (λ (l : List Recorded). IsTaken old l r) (sym gives.1) (taken_last old r root gives.0.is_open))
-taken_by root old new r Settled gives = inl (subst (λ (l : List Recorded). IsTaken old l r) (sym gives.1) (taken_settling old r gives.0.is_holdout))
+taken_by : (root : Packed) (old new : List Recorded) (r : Recorded) (taken : Taken) → OfferGives root old r (Ok taken) new → IsTaken old new (with_score r) ⊎ (IsKnown old r × (new ≡ old))
+taken_by root old new r New gives = inl (subst (λ (l : List Recorded). IsTaken old l (with_score r)) (sym gives.1) (taken_last old (with_score r) root gives.0.is_open))
+taken_by root old new r Settled gives = inl (subst (λ (l : List Recorded). IsTaken old l (with_score r)) (sym gives.1) (taken_settling old (with_score r) gives.0.is_holdout))
 taken_by root old new r Known gives = inr gives
 
 mark_other : (root : Packed) (old new : List Recorded) (r : Recorded) (taken : Taken) (t : Packed) → OfferGives root old r (Ok taken) new → t ≢ r.table → mark_in new t ≡ mark_in old t
@@ -64,12 +66,15 @@ mark_other root old new r taken t gives other = elim (taken_by root old new r ta
   | inr known ↦ ap (λ (l : List Recorded). mark_in l t) known.1
 ]
 
+mark_scored : (r : Recorded) → option_map mark_of (Some (scored r.table r.claim)) ≡ Some (mark_of r.claim)
+mark_scored r = ap (λ (o : Option Ending). Some (mark_by o)) (scored_ends r.table r.claim)
+
 mark_own : (root : Packed) (old new : List Recorded) (r : Recorded) (taken : Taken) → OfferGives root old r (Ok taken) new → mark_in new r.table ≡ joined (mark_in old r.table) (Some (mark_of r.claim))
 mark_own root old new r New gives =
-    ap (λ (l : List Recorded). mark_in l r.table) gives.1 ∙ (ap (option_map mark_of) (taken_last old r root gives.0.is_open).here
+    ap (λ (l : List Recorded). mark_in l r.table) gives.1 ∙ (ap (option_map mark_of) (taken_last old (with_score r) root gives.0.is_open).here ∙ mark_scored r
     ∙ ap (λ (o : Option Mark). joined o (Some (mark_of r.claim))) (sym gives.0.is_open.unmarked))
 mark_own root old new r Settled gives =
-    ap (λ (l : List Recorded). mark_in l r.table) gives.1 ∙ (ap (option_map mark_of) (taken_settling old r gives.0.is_holdout).here
+    ap (λ (l : List Recorded). mark_in l r.table) gives.1 ∙ (ap (option_map mark_of) (taken_settling old (with_score r) gives.0.is_holdout).here ∙ mark_scored r
     ∙ ap (λ (o : Option Mark). joined o (Some (mark_of r.claim))) (sym gives.0.is_holdout))
 mark_own root old new r Known gives = ap (λ (l : List Recorded). mark_in l r.table) gives.1 ∙ elim gives.0.is [
   | inl verdict ↦ sym (joined_verdict (mark_in old r.table) (Some (mark_of r.claim)) verdict)

@@ -6,6 +6,7 @@ use Rattle.evidence.specs.declared.verdicts.Ending.TheVariants.{Halts, Never}
 use Rattle.tree.specs.Closed.{IsVerdict, IsOpen}
 use Rattle.cert.specs.Claim.{Claim, Recorded, ending_by}
 use Rattle.ledger.specs.Records.{claim_in, mark_in, mark_of, mark_by}
+use Rattle.cert.specs.Scored.{with_score}
 use Rattle.ledger.specs.Held.{IsFit, IsHoldout, Settles, settled}
 use Rattle.ledger.specs.Offers.{IsJudged, OfferGives}
 use Rattle.ledger.specs.inside.Places.{IsWhyRefused, IsPlace, place_by}
@@ -41,13 +42,13 @@ refusal_gives root old new r (IsRefused f) refusal judged same = (judged, refusa
 refusal_gives root old new r NoMemory refusal judged same = (judged, same)
 
 pub take_gives : (root : Packed) (old new : List Recorded) (r : Recorded) (result : Result Taken OfferFault) → IsOpen root (mark_in old) r.table
-    → IfOk result (λ (t : Taken). (t ≡ New) × IsFit root old r × (new ≡ old ++ (r ∷ [])))
+    → IfOk result (λ (t : Taken). (t ≡ New) × IsFit root old r × (new ≡ old ++ (with_score r ∷ [])))
     → OnErr result (new ≡ old) → IfErr result (λ (f : OfferFault). IsWhyRefused f r) → OfferGives root old r result new
 take_gives root old new r (Ok t) is_open ok same refusal = subst (λ (x : Taken). OfferGives root old r (Ok x) new) (sym ok.0) (ok.1, ok.2)
 take_gives root old new r (Err f) is_open ok same refusal = refusal_gives root old new r f refusal (record { is = inl is_open }) same
 
 pub settle_gives : (root : Packed) (old new : List Recorded) (r : Recorded) (result : Result Taken OfferFault) → IsHoldout old r.table × IsSome (ending_by r.claim)
-    → IfOk result (λ (t : Taken). (t ≡ Settled) × Settles old r × (new ≡ settled old r))
+    → IfOk result (λ (t : Taken). (t ≡ Settled) × Settles old r × (new ≡ settled old (with_score r)))
     → OnErr result (new ≡ old) → IfErr result (λ (f : OfferFault). IsWhyRefused f r) → OfferGives root old r result new
 settle_gives root old new r (Ok t) holdout ok same refusal = subst (λ (x : Taken). OfferGives root old r (Ok x) new) (sym ok.0) (ok.1, ok.2)
 settle_gives root old new r (Err f) holdout ok same refusal = refusal_gives root old new r f refusal (record { is = inr holdout }) same

@@ -6,12 +6,12 @@ use Rattle.std.proofs.lemmas.List.Elements.{All-cons, All-nil}
 use Rattle.machine_text.specs.Packed.{Packed, IsTable, entry_of}
 use Rattle.tree.specs.Closed.{IsOpen}
 use Rattle.tree.specs.Used.{InOrder}
+use Rattle.ledger.specs.Held.{HasScore}
 use Rattle.ledger.specs.Records.{mark_in, mark_of}
 use Rattle.ledger.specs.inside.Open.{IsOpener, IsOpenMapOf}
 use Rattle.ledger.specs.inside.Counting.{IsCounted}
 use Rattle.ledger.specs.inside.Trees.{IsIndexed}
 use Rattle.ledger.specs.Contents.{IsBoardOf}
-use Rattle.ledger.specs.Held.{HasScore}
 use Rattle.ledger.proofs.Claims.{claim_none}
 use Rattle.ledger.proofs.Sets.{only_one}
 

@@ -15,7 +15,7 @@ use Rattle.tree.specs.Tables.{IsChildTable, InTableTree}
 use Rattle.cert.specs.Claim.{Claim, Recorded, ending_by}
 use Rattle.cert.specs.Certified.{IsCertified, IsPairOf}
 use Rattle.ledger.specs.Records.{claim_in, mark_in, mark_of, mark_by}
-use Rattle.ledger.specs.Held.{IsHoldout, Settles, settled}
+use Rattle.ledger.specs.Held.{HasScore, IsHoldout, Settles, settled}
 use Rattle.ledger.specs.Contents.{Contents, IsBoard, IsBoardOf}
 use Rattle.ledger.specs.inside.Counting.{is_halting, says_halts}
 use Rattle.machine_text.specs.Order.{table_cmp}
@@ -83,10 +83,10 @@ pub halts_says : (r : Recorded) (k : ℕ) → ending_by r.claim ≡ Some (Halts 
 halts_says r k is = rw is
 
 -- a fit record is taken
-pub board_more : (root : Packed) (old : List Recorded) (r : Recorded) → IsBoardOf root old → IsOpen root (mark_in old) r.table → IsCertified r
+pub board_more : (root : Packed) (old : List Recorded) (r : Recorded) → IsBoardOf root old → IsOpen root (mark_in old) r.table → IsCertified r → HasScore r
     → IsBoardOf root (old ++ (r ∷ []))
-board_more root old r board is_open certified =
-    record { is_table = board.is_table; in_order = board.in_order; held = held_more root old r board.held (record { is_open = is_open; certified = certified }) }
+board_more root old r board is_open certified scored =
+    record { is_table = board.is_table; in_order = board.in_order; held = held_more root old r board.held (record { is_open = is_open; certified = certified }) scored }
 
 pub taken_last : (old : List Recorded) (r : Recorded) (root : Packed) → IsOpen root (mark_in old) r.table → IsTaken old (old ++ (r ∷ [])) r
 taken_last old r root is_open = taken_new old r (unmarked (claim_in old r.table) is_open.unmarked)
@@ -105,8 +105,8 @@ opened_more root old r place pair tables mid after before is_open last known oth
 }
 
 -- a holdout is settled
-pub board_settled : (root : Packed) (old : List Recorded) (r : Recorded) → IsBoardOf root old → Settles old r → IsBoardOf root (settled old r)
-board_settled root old r board settles = record { is_table = board.is_table; in_order = board.in_order; held = held_settled root old r board.held settles }
+pub board_settled : (root : Packed) (old : List Recorded) (r : Recorded) → IsBoardOf root old → Settles old r → HasScore r → IsBoardOf root (settled old r)
+board_settled root old r board settles scored = record { is_table = board.is_table; in_order = board.in_order; held = held_settled root old r board.held settles scored }
 
 pub taken_settling : (old : List Recorded) (r : Recorded) → IsHoldout old r.table → IsTaken old (settled old r) r
 taken_settling old r holdout = let c = holdout_claim old r.table holdout in taken_settled old r c.0 c.1 c.2

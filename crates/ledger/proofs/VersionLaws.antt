@@ -10,7 +10,7 @@ use Rattle.cert.specs.declared.record_fault.RecordFault.{RecordFault}
 use Rattle.cert.specs.declared.record_fault.RecordFault.TheVariants.{BadKind}
 use Rattle.cert.proofs.Lines.{record_line, certified_writable, certified_made}
 use Rattle.cert.proofs.RoundTrip.{record_of-record_text}
-use Rattle.cert.proofs.Scores.{scored_ends, scored_twice, scored_again, unscored_ends, score_certified, unscored_certified}
+use Rattle.cert.proofs.Scores.{scored_again, unscored_ends, unscored_certified}
 use Rattle.text.specs.Lines.{HasNoNewline}
 use Rattle.ledger.specs.Versions.{may_stand, standing_record, ledger_record, as_written, line_of}
 use Rattle.ledger.specs.Held.{HasScore, IsFit, Settles, settled}
@@ -49,13 +49,9 @@ pub written_certified : (format : Format) (r : Recorded) → IsCertified r → I
 written_certified One r certified = unscored_certified r certified
 written_certified Two r certified = certified
 
-claiming : Packed → Claim → Recorded
-claiming p c = record { table = p; claim = c }
-
 -- it is held as it was
 pub written_held : (format : Format) (r : Recorded) → HasScore r → with_score (as_written format r) ≡ r
-unfolding claiming
-written_held One r has = ap (claiming r.table) (scored_again r.table r.claim) ∙ has
+written_held One r has = ap (λ (c : Claim). record { table = r.table; claim = c }) (scored_again r.table r.claim) ∙ has
 written_held Two r has = has
 
 -- and reads back
@@ -73,7 +69,7 @@ one_line format r table certified =
     let w = as_written format r in
     record_line w (written_table format r table) (certified_writable w (written_certified format r certified))
 
--- what is fit, or settles, is so with its score and as it is written
+-- what is fit, or settles, is so as it is written
 fit_written : (format : Format) (root : Packed) (old : List Recorded) (r : Recorded) → IsFit root old r → IsFit root old (as_written format r)
 fit_written One root old r fit = record { is_open = fit.is_open; certified = unscored_certified r fit.certified }
 fit_written Two root old r fit = fit
@@ -85,20 +81,6 @@ settles_written One old r settles = record {
   certified = unscored_certified r settles.certified;
 }
 settles_written Two old r settles = settles
-
-pub fit_scored : (root : Packed) (old : List Recorded) (r : Recorded) → IsFit root old r → IsFit root old (with_score r)
-fit_scored root old r fit = record { is_open = fit.is_open; certified = score_certified r fit.certified }
-
-pub settles_scored : (old : List Recorded) (r : Recorded) → Settles old r → Settles old (with_score r)
-settles_scored old r settles = record {
-  is_holdout = settles.is_holdout;
-  verdict = subst IsSome (sym (scored_ends r.table r.claim)) settles.verdict;
-  certified = score_certified r settles.certified;
-}
-
-pub score_held : (r : Recorded) → HasScore (with_score r)
-unfolding claiming
-score_held r = ap (claiming r.table) (scored_twice r.table r.claim)
 
 -- a held record that is taken is taken from its line
 pub taken_written : (format : Format) (root : Packed) (old : List Recorded) (r : Recorded) (new : List Recorded) → HasScore r

@@ -1,5 +1,5 @@
 -- Lists of records, in order: which of them are fit in their turn, and what is held of them in the end.
-use Rattle.std.specs.Prelude.{◌≡◌, ◌≢◌, ℕ, ◌⊎◌, if◌then◌else◌, List, [], ◌∷◌, ◌++◌, Contains, Some, None, Result, Ok, Err, fold}
+use Rattle.std.specs.Prelude.{◌≡◌, ◌≢◌, ℕ, ◌⊎◌, if◌then◌else◌, List, [], ◌∷◌, ◌++◌, Contains, Some, None, Result, Ok, Err, fold, map}
 use Rattle.machine_text.specs.Packed.{Packed}
 use Rattle.evidence.specs.declared.verdicts.Ending.TheVariants.{Halts}
 use Rattle.tree.specs.Tables.{IsChildTable}
@@ -39,9 +39,9 @@ unfoldable pub placed : List Recorded → Recorded → List Recorded
 placed [] r = r ∷ []
 placed (x ∷ xs) r = if same_table x.table r.table then r ∷ xs else x ∷ placed xs r
 
--- the records of a list, each that a later one settles replaced by that one
+-- the records of a list, each with its score, and each that a later one settles replaced by that one
 abbrev pub held : List Recorded → List Recorded
-held kept = fold placed [] kept
+held kept = fold placed [] (map with_score kept)
 
 -- a record that is offered, and the answer
 pub record Offer : Type 0 where
@@ -63,10 +63,8 @@ abbrev pub answered : List Offer → List Recorded
 answered [] = []
 answered (o ∷ os) = answered_with o.offered o.answer (answered os)
 
--- lines of a version, each of which reads as a record that is fit in its turn; with these, each with its score, the
--- earlier fit records are the kept ones
+-- lines of a version, each of which reads as a record that is fit in its turn; with them the earlier fit records are these
 abbrev pub AreFitLines : Format → Packed → List Recorded → List (List ℕ) → List Recorded → Type 0
 AreFitLines format root earlier [] kept = kept ≡ earlier
 AreFitLines format root earlier (line ∷ lines) kept =
-    (r : Recorded) × HasNoNewline line × (ledger_record format line ≡ Ok r) × IsFitAfter root earlier r
-    × AreFitLines format root (earlier ++ (with_score r ∷ [])) lines kept
+    (r : Recorded) × HasNoNewline line × (ledger_record format line ≡ Ok r) × IsFitAfter root earlier r × AreFitLines format root (earlier ++ (r ∷ [])) lines kept

@@ -19,7 +19,7 @@ use crate::counts::Counts;
 use crate::faults::{BoardFault, OfferFault};
 use crate::format::Format;
 use crate::index::{
-    certificate_for, pair_for, place_and_count_of, place_of, tree_count_of, ending_in,
+    certificate_for, pair_for, place_and_count_of, place_of, tree_count_of, verdict_in,
 };
 use crate::open::Open;
 use crate::open_tables::{only, open_children, opener_of, opener_place};
@@ -32,7 +32,7 @@ use crate::taken::Taken;
 use crate::tally::Tally;
 use crate::tree_count::{TreeChange, TreeCount};
 use cert::{Record, standing_claims_are_true};
-use evidence::{NoMemory, Ending};
+use evidence::{NoMemory, Verdict};
 use indexmap::IndexMap;
 use machine_text::Table;
 use std::alloc::Global;
@@ -88,7 +88,8 @@ impl Board {
     ghost use Rattle.cert.specs.Claim.{ending_by};
     ghost use Rattle.cert.specs.Certified.{IsCertified};
     ghost use Rattle.cert.specs.Kinds.{claim_of, recorded};
-    ghost use Rattle.ledger.specs.Records.{claim_in, mark_in, ending_in};
+    ghost use Rattle.cert.specs.Scored.{with_score};
+    ghost use Rattle.ledger.specs.Records.{claim_in, mark_in, verdict_in};
     ghost use Rattle.ledger.specs.Held.{IsFit, IsHoldout, Settles, settled};
     ghost use Rattle.ledger.specs.Offers.{OfferGives};
     ghost use Rattle.ledger.specs.inside.Places.{IsWhyRefused};
@@ -281,15 +282,15 @@ impl Board {
         }
     }
 
-    /// The recorded verdict on a table, which is true of it; none where there is none, as for a holdout.
-    pub fn verdict(&self, t: &Table) -> Option<Ending>
-        ensures recorded { result ≡ ending_in self.now.records t.now }
+    /// The recorded verdict on a table, which is true of it, with its score where it halts; none where there is none, as for a holdout.
+    pub fn verdict(&self, t: &Table) -> Option<Verdict>
+        ensures recorded { result ≡ verdict_in self.now.records t.now }
         ensures is_true { IfSome result (λ v. IsTrueOf v (entry_of t.now)) }
     {
         standing_claims_are_true();
         // The proof needs that it is a table.
         let _ = t.states();
-        ending_in(&self.records, t)
+        verdict_in(&self.records, t)
     }
 
     // The numbers of a recorded table's tree.
@@ -373,7 +374,7 @@ impl Board {
     fn take(&mut self, r: &Record, judging: Judging) -> Result<Taken, OfferFault>
         requires is_open { IsOpen self.old.root (mark_in self.old.records) r.now.table }
         requires judged { judging ≡ Judging.Done → IsCertified (recorded r.now) }
-        ensures ok { IfOk result (λ taken. (taken ≡ Taken.New) × IsFit self.old.root self.old.records (recorded r.now) × (self.new.records ≡ self.old.records ++ (recorded r.now ∷ []))) }
+        ensures ok { IfOk result (λ taken. (taken ≡ Taken.New) × IsFit self.old.root self.old.records (recorded r.now) × (self.new.records ≡ self.old.records ++ (with_score (recorded r.now) ∷ []))) }
         ensures err { OnErr result (self.new.records ≡ self.old.records) }
         ensures root { self.new.root ≡ self.old.root }
         ensures format { self.new.format ≡ self.old.format }
@@ -382,7 +383,12 @@ impl Board {
         child_is_table();
         let parent = opener_of(&self.open_tables, &r.table);
         let stored = StoredRecord::of(self.alloc, r, judging, parent, TreeCount::first())?;
-        let opened = child_count(r, stored.halts_on);
+        let held = Record {
+            table: r.table,
+            certificate: stored.certificate.lent(),
+        };
+        let opened = child_count(&held, stored.halts_on);
+        let shown = held.certificate.ending();
         let count = self.records.len();
         let place = opener_place(count)?;
         // The proof needs how many open tables there can be.
@@ -391,7 +397,7 @@ impl Board {
         open_children(
             &mut self.open_tables,
             &self.records,
-            r,
+            &held,
             place,
             stored.halts_on,
         )?;
@@ -400,7 +406,6 @@ impl Board {
             Ok(_) => {}
             Err(_) => unreachable!(),
         }
-        let shown = r.certificate.ending();
         carry_up(
             &mut self.records,
             place,
@@ -416,7 +421,7 @@ impl Board {
         requires holdout { IsHoldout self.old.records r.now.table }
         requires verdict { IsSome (ending_by (claim_of r.now.certificate)) }
         requires judged { judging ≡ Judging.Done → IsCertified (recorded r.now) }
-        ensures ok { IfOk result (λ taken. (taken ≡ Taken.Settled) × Settles self.old.records (recorded r.now) × (self.new.records ≡ settled self.old.records (recorded r.now))) }
+        ensures ok { IfOk result (λ taken. (taken ≡ Taken.Settled) × Settles self.old.records (recorded r.now) × (self.new.records ≡ settled self.old.records (with_score (recorded r.now)))) }
         ensures err { OnErr result (self.new.records ≡ self.old.records) }
         ensures root { self.new.root ≡ self.old.root }
         ensures format { self.new.format ≡ self.old.format }
@@ -425,7 +430,12 @@ impl Board {
         child_is_table();
         let (parent, tree) = place_and_count_of(&self.records, &r.table);
         let stored = StoredRecord::of(self.alloc, r, judging, parent, tree)?;
-        let opened = child_count(r, stored.halts_on);
+        let held = Record {
+            table: r.table,
+            certificate: stored.certificate.lent(),
+        };
+        let opened = child_count(&held, stored.halts_on);
+        let shown = held.certificate.ending();
         let found = place_of(&self.records, &r.table);
         let place = opener_place(found)?;
         // The proof needs how many open tables there can be.
@@ -433,7 +443,7 @@ impl Board {
         open_children(
             &mut self.open_tables,
             &self.records,
-            r,
+            &held,
             place,
             stored.halts_on,
         )?;
@@ -442,7 +452,6 @@ impl Board {
             Ok(_) => {}
             Err(_) => unreachable!(),
         }
-        let shown = r.certificate.ending();
         carry_up(
             &mut self.records,
             place,

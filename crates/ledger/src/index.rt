@@ -5,16 +5,16 @@ ghost use Rattle.cert.specs.Certified.{HaltsOnPair};
 ghost use Rattle.cert.specs.Kinds.{claim_of};
 ghost use Rattle.ledger.specs.inside.Counting.{is_halting};
 ghost use Rattle.ledger.specs.inside.Stored.{records_of, KnowsPair};
-ghost use Rattle.ledger.specs.Held.{IsHoldout};
+ghost use Rattle.ledger.specs.Held.{HasScore, IsHoldout};
 ghost use Rattle.ledger.specs.Tally.{HaltsAfter, IsHalting};
-ghost use Rattle.ledger.specs.Records.{claim_in, same_table, ending_in};
+ghost use Rattle.ledger.specs.Records.{claim_in, same_table, verdict_in};
 ghost use Rattle.ledger.specs.declared.stored_record.StoredRecord.{StoredRecord};
 ghost use Rattle.std.specs.Map.{lookup};
 
 use crate::stored_record::StoredRecord;
 use crate::tree_count::TreeCount;
 use cert::Certificate;
-use evidence::Ending;
+use evidence::Verdict;
 use indexmap::IndexMap;
 use machine_text::{Pair, Table};
 
@@ -43,12 +43,13 @@ pub(crate) fn pair_for(records: &IndexMap<Table, StoredRecord>, t: &Table) -> Op
     }
 }
 
-// The recorded verdict on a table.
-pub(crate) fn ending_in(records: &IndexMap<Table, StoredRecord>, t: &Table) -> Option<Ending>
-    ensures { result ≡ ending_in (records_of records.now.entries) t.now }
+// The recorded verdict on a table, of records that have their scores.
+pub(crate) fn verdict_in(records: &IndexMap<Table, StoredRecord>, t: &Table) -> Option<Verdict>
+    requires { All HasScore (records_of records.now.entries) }
+    ensures { result ≡ verdict_in (records_of records.now.entries) t.now }
 {
     match records.get(t) {
-        Some(stored) => stored.certificate.ending(),
+        Some(stored) => stored.verdict(t),
         None => None,
     }
 }

@@ -1,19 +1,22 @@
 // A record as a board stores it, under its table.
 ghost use Rattle.std.specs.Prelude.{◌≡◌, IfOk, IfErr, OnOk};
-ghost use Rattle.cert.specs.Claim.{ending_by};
+ghost use Rattle.cert.specs.Claim.{ending_by, shown_by};
 ghost use Rattle.cert.specs.Certified.{IsCertified, IsPairOf};
 ghost use Rattle.cert.specs.Kinds.{claim_of, owned_claim, recorded};
+ghost use Rattle.cert.specs.Scored.{scored};
+ghost use Rattle.ledger.specs.Held.{HasScore};
 ghost use Rattle.ledger.specs.inside.Places.{IsWhyRefused};
+ghost use Rattle.ledger.specs.inside.Stored.{entry_recorded};
 
 use crate::faults::OfferFault;
 use crate::tree_count::TreeCount;
-use cert::{OwnedCertificate, Record, judge_on};
-use evidence::{Refused, Ending};
-use machine_text::Pair;
+use cert::{Judged, OwnedCertificate, Record, judge_on};
+use evidence::{Ending, Refused, Verdict};
+use machine_text::{Pair, Table};
 use std::alloc::Global;
 
-// A certificate, and the pair on which its table halts, where it says that it does: so the children of the
-// table are known without another run. The place of the parent's record and the numbers of the tree stand
+// A certificate, with its table's score where it says that this halts, and the pair on which it halts: so the score
+// and the children of the table are known without another run. The place of the parent's record and the numbers of the tree stand
 // with it, so that what is left of the tree is known without a walk.
 #[derive(Drop)]
 pub(crate) struct StoredRecord {
@@ -34,7 +37,8 @@ pub(crate) enum Judging {
 }
 
 impl StoredRecord {
-    // The certificate of a record, once it is judged, with what is stored of its table.
+    // The certificate of a record, once it is judged, with the score that was found of its table if it halts, and with
+    // what is stored of the table.
     pub fn of(
         alloc: Global,
         r: &Record,
@@ -44,57 +48,81 @@ impl StoredRecord {
     ) -> Result<StoredRecord, OfferFault>
         requires { judging ≡ Judging.Done → IsCertified (recorded r.now) }
         ensures certified { OnOk result (IsCertified (recorded r.now)) }
-        ensures claim { IfOk result (λ stored. owned_claim stored.certificate ≡ claim_of r.now.certificate) }
-        ensures pair { IfOk result (λ stored. IsPairOf (ending_by (claim_of r.now.certificate)) r.now.table stored.halts_on) }
+        ensures claim { IfOk result (λ stored. owned_claim stored.certificate ≡ scored r.now.table (claim_of r.now.certificate)) }
+        ensures pair { IfOk result (λ stored. IsPairOf (ending_by (owned_claim stored.certificate)) r.now.table stored.halts_on) }
         ensures parent { IfOk result (λ stored. stored.parent ≡ parent) }
         ensures tree { IfOk result (λ stored. stored.tree ≡ tree) }
         ensures refusal { IfErr result (λ f. IsWhyRefused f (recorded r.now)) }
     {
-        let halts_on = halting_pair(alloc, r, judging)?;
+        let judged = judged_as(alloc, r, judging)?;
         let certificate = OwnedCertificate::of(alloc, &r.certificate)?;
         Ok(StoredRecord {
-            certificate,
-            halts_on,
+            certificate: certificate.with_score(judged.verdict),
+            halts_on: judged.halts_on,
             parent,
             tree,
         })
     }
+
+    // The verdict that its certificate shows of its table, with whose score it is stored.
+    pub fn verdict(&self, t: &Table) -> Option<Verdict>
+        requires { HasScore (entry_recorded (t.now, self.now)) }
+        ensures { result ≡ shown_by (owned_claim self.now.certificate) t.now }
+    {
+        match self.certificate.ending() {
+            Some(Ending::Halts(steps)) => match self.certificate.lent().ones() {
+                Some(ones) => Some(Verdict::Halts { steps, ones }),
+                None => unreachable!(),
+            },
+            Some(Ending::Never) => Some(Verdict::Never),
+            None => None,
+        }
+    }
 }
 
-// The pair on which a record's table halts, where its certificate stands and shows that it does.
-fn halting_pair(alloc: Global, r: &Record, judging: Judging) -> Result<Option<Pair>, OfferFault>
+// What a record's certificate shows, where it stands.
+fn judged_as(alloc: Global, r: &Record, judging: Judging) -> Result<Judged, OfferFault>
     requires { judging ≡ Judging.Done → IsCertified (recorded r.now) }
     ensures certified { OnOk result (IsCertified (recorded r.now)) }
-    ensures pair { IfOk result (λ pair. IsPairOf (ending_by (claim_of r.now.certificate)) r.now.table pair) }
+    ensures verdict { IfOk result (λ judged. judged.verdict ≡ shown_by (claim_of r.now.certificate) r.now.table) }
+    ensures pair { IfOk result (λ judged. IsPairOf (ending_by (claim_of r.now.certificate)) r.now.table judged.halts_on) }
     ensures refusal { IfErr result (λ f. IsWhyRefused f (recorded r.now)) }
 {
     match judging {
-        Judging::Due => judged_pair(alloc, r),
-        Judging::Done => certified_pair(alloc, r),
+        Judging::Due => judged(alloc, r),
+        Judging::Done => certified(alloc, r),
     }
 }
 
 // The same; whether the certificate stands is judged.
-fn judged_pair(alloc: Global, r: &Record) -> Result<Option<Pair>, OfferFault>
+fn judged(alloc: Global, r: &Record) -> Result<Judged, OfferFault>
     ensures certified { OnOk result (IsCertified (recorded r.now)) }
-    ensures pair { IfOk result (λ pair. IsPairOf (ending_by (claim_of r.now.certificate)) r.now.table pair) }
+    ensures verdict { IfOk result (λ judged. judged.verdict ≡ shown_by (claim_of r.now.certificate) r.now.table) }
+    ensures pair { IfOk result (λ judged. IsPairOf (ending_by (claim_of r.now.certificate)) r.now.table judged.halts_on) }
     ensures refusal { IfErr result (λ f. IsWhyRefused f (recorded r.now)) }
 {
     match judge_on(alloc, r) {
-        Ok(judged) => Ok(judged.halts_on),
+        Ok(judged) => Ok(judged),
         Err(Refused::NoMemory) => Err(OfferFault::NoMemory),
         Err(refused) => Err(OfferFault::Refused(refused)),
     }
 }
 
-// The same of a certificate that is known to stand: only a table that halts is run.
-fn certified_pair(alloc: Global, r: &Record) -> Result<Option<Pair>, OfferFault>
-    ensures pair { IfOk result (λ pair. IsPairOf (ending_by (claim_of r.now.certificate)) r.now.table pair) }
+// The same of a certificate that is known to stand: only a table that halts is run, for its score and its children.
+fn certified(alloc: Global, r: &Record) -> Result<Judged, OfferFault>
+    ensures verdict { IfOk result (λ judged. judged.verdict ≡ shown_by (claim_of r.now.certificate) r.now.table) }
+    ensures pair { IfOk result (λ judged. IsPairOf (ending_by (claim_of r.now.certificate)) r.now.table judged.halts_on) }
     ensures refusal { IfErr result (λ f. IsWhyRefused f (recorded r.now)) }
 {
     match r.certificate.ending() {
-        Some(Ending::Halts(_)) => judged_pair(alloc, r),
-        Some(Ending::Never) => Ok(None),
-        None => Ok(None),
+        Some(Ending::Halts(_)) => judged(alloc, r),
+        Some(Ending::Never) => Ok(Judged {
+            verdict: Some(Verdict::Never),
+            halts_on: None,
+        }),
+        None => Ok(Judged {
+            verdict: None,
+            halts_on: None,
+        }),
     }
 }

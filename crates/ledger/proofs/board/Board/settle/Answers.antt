@@ -14,6 +14,7 @@ use Rattle.ledger.proofs.Boards.{holdouts_place, numbers_fit, stored_settled, re
 use Rattle.ledger.proofs.Carried.{settling_carried, settling_room}
 use Rattle.ledger.proofs.Entries.{an_entry}
 use Rattle.ledger.proofs.Indexed.{ready_earlier, ready_records, ready_there}
+use Rattle.ledger.proofs.LentRecord.{as_lent, lent_certified, lent_is, lent_pair, lent_verdict}
 use Rattle.ledger.proofs.Ready.{ready_settled}
 use Rattle.ledger.proofs.Taking.{holdout_in_order, holdout_claim, same_map}
 use Rattle.ledger.proofs.board.Board.settle.Goals as goal
@@ -61,12 +62,14 @@ unfolding same_table
 carry_up-requires-clause-there c =
     let root = c.self.inside.root in
     let es = c.self.inside.records.entries in
-    let r = recorded c.args.r.now in
+    let r = as_lent c.args.r.now.table c.lent.result in
+    let certified = lent_certified (recorded c.args.r.now) c.in_ok-stored.stored c.lent.result c.lent.ensures c.in_ok-stored.ensures.claim c.in_ok-stored.ensures.certified in
     let holdout = subst (λ (b : Contents). IsHoldout b.records c.args.r.now.table) (sym c.self.view_is) c.requires.holdout in
-    let settles : Settles (records_of es) r = record { is_holdout = holdout; verdict = c.requires.verdict; certified = c.in_ok-stored.ensures.certified } in
+    let verdict = lent_verdict (recorded c.args.r.now) c.in_ok-stored.stored c.lent.result c.lent.ensures c.in_ok-stored.ensures.claim c.requires.verdict in
+    let settles : Settles (records_of es) r = record { is_holdout = holdout; verdict = verdict; certified = certified.0 } in
     let there = subst (λ i. (x : Recorded) × (slice_get (records_of es) i ≡ Some x) × (x.table ≡ c.args.r.now.table) × (is_halting x ≡ false)) (sym c.in_ok-place.ensures.is) c.place_of-found.ensures.place in
     let old = c.place_and_count_of-parent.ensures in
-    let ready = ready_settled root es c.insert.new.self.entries r there.0 c.in_ok-stored.stored old.0 c.in_ok-place.place c.self.invariant.0 c.self.invariant.4 settles c.in_ok-stored.ensures.claim old.1
+    let ready = ready_settled root es c.insert.new.self.entries r there.0 c.in_ok-stored.stored old.0 c.in_ok-place.place c.self.invariant.0 c.self.invariant.4 settles certified.1 (sym c.lent.ensures) old.1
     (c.in_ok-stored.ensures.parent ∙ ap (λ (p : ℕ × TreeCount). p.0) old.2) (c.in_ok-stored.ensures.tree ∙ ap (λ (p : ℕ × TreeCount). p.1) old.2) c.in-Ok.ensures.entries there.1 there.2 c.in_ok-place.ensures.small in
     ready_there root (records_of es) c.insert.new.self.entries r c.in_ok-place.place ready
 
@@ -75,12 +78,14 @@ unfolding same_table
 carry_up-requires-clause-earlier c =
     let root = c.self.inside.root in
     let es = c.self.inside.records.entries in
-    let r = recorded c.args.r.now in
+    let r = as_lent c.args.r.now.table c.lent.result in
+    let certified = lent_certified (recorded c.args.r.now) c.in_ok-stored.stored c.lent.result c.lent.ensures c.in_ok-stored.ensures.claim c.in_ok-stored.ensures.certified in
     let holdout = subst (λ (b : Contents). IsHoldout b.records c.args.r.now.table) (sym c.self.view_is) c.requires.holdout in
-    let settles : Settles (records_of es) r = record { is_holdout = holdout; verdict = c.requires.verdict; certified = c.in_ok-stored.ensures.certified } in
+    let verdict = lent_verdict (recorded c.args.r.now) c.in_ok-stored.stored c.lent.result c.lent.ensures c.in_ok-stored.ensures.claim c.requires.verdict in
+    let settles : Settles (records_of es) r = record { is_holdout = holdout; verdict = verdict; certified = certified.0 } in
     let there = subst (λ i. (x : Recorded) × (slice_get (records_of es) i ≡ Some x) × (x.table ≡ c.args.r.now.table) × (is_halting x ≡ false)) (sym c.in_ok-place.ensures.is) c.place_of-found.ensures.place in
     let old = c.place_and_count_of-parent.ensures in
-    let ready = ready_settled root es c.insert.new.self.entries r there.0 c.in_ok-stored.stored old.0 c.in_ok-place.place c.self.invariant.0 c.self.invariant.4 settles c.in_ok-stored.ensures.claim old.1
+    let ready = ready_settled root es c.insert.new.self.entries r there.0 c.in_ok-stored.stored old.0 c.in_ok-place.place c.self.invariant.0 c.self.invariant.4 settles certified.1 (sym c.lent.ensures) old.1
     (c.in_ok-stored.ensures.parent ∙ ap (λ (p : ℕ × TreeCount). p.0) old.2) (c.in_ok-stored.ensures.tree ∙ ap (λ (p : ℕ × TreeCount). p.1) old.2) c.in-Ok.ensures.entries there.1 there.2 c.in_ok-place.ensures.small in
     ready_earlier root (records_of es) c.insert.new.self.entries r c.in_ok-place.place ready
 
@@ -89,39 +94,43 @@ unfolding same_table
 carry_up-requires-clause-room c =
     let root = c.self.inside.root in
     let es = c.self.inside.records.entries in
-    let r = recorded c.args.r.now in
+    let r = as_lent c.args.r.now.table c.lent.result in
+    let certified = lent_certified (recorded c.args.r.now) c.in_ok-stored.stored c.lent.result c.lent.ensures c.in_ok-stored.ensures.claim c.in_ok-stored.ensures.certified in
     let holdout = subst (λ (b : Contents). IsHoldout b.records c.args.r.now.table) (sym c.self.view_is) c.requires.holdout in
-    let settles : Settles (records_of es) r = record { is_holdout = holdout; verdict = c.requires.verdict; certified = c.in_ok-stored.ensures.certified } in
+    let verdict = lent_verdict (recorded c.args.r.now) c.in_ok-stored.stored c.lent.result c.lent.ensures c.in_ok-stored.ensures.claim c.requires.verdict in
+    let settles : Settles (records_of es) r = record { is_holdout = holdout; verdict = verdict; certified = certified.0 } in
     let there = subst (λ i. (x : Recorded) × (slice_get (records_of es) i ≡ Some x) × (x.table ≡ c.args.r.now.table) × (is_halting x ≡ false)) (sym c.in_ok-place.ensures.is) c.place_of-found.ensures.place in
     let old = c.place_and_count_of-parent.ensures in
-    let ready = ready_settled root es c.insert.new.self.entries r there.0 c.in_ok-stored.stored old.0 c.in_ok-place.place c.self.invariant.0 c.self.invariant.4 settles c.in_ok-stored.ensures.claim old.1
+    let ready = ready_settled root es c.insert.new.self.entries r there.0 c.in_ok-stored.stored old.0 c.in_ok-place.place c.self.invariant.0 c.self.invariant.4 settles certified.1 (sym c.lent.ensures) old.1
     (c.in_ok-stored.ensures.parent ∙ ap (λ (p : ℕ × TreeCount). p.0) old.2) (c.in_ok-stored.ensures.tree ∙ ap (λ (p : ℕ × TreeCount). p.1) old.2) c.in-Ok.ensures.entries there.1 there.2 c.in_ok-place.ensures.small in
-    let change = c.of_settling.ensures ∙ ap (settling_change c.child_count-opened.result) c.verdict-shown.ensures in
+    let change = c.of_settling.ensures ∙ ap (settling_change c.child_count-opened.result) c.ending-shown.ensures in
     subst (ChainMayChange c.insert.new.self.entries c.in_ok-place.place) (sym change)
     (settling_room root es c.insert.new.self.entries r c.in_ok-place.place c.self.invariant.0 ready c.child_count-opened.result c.child_count-opened.ensures.number
     c.self.inside.open_tables c.len.result c.self.invariant.1 c.len.ensures.len c.len.ensures.ordered c.child_count-opened.ensures.small c.len.ensures.small
-    c.place_of-found.ensures.room holdout c.requires.verdict)
+    c.place_of-found.ensures.room holdout verdict)
 
 pub invariant_of-self-2 : goal.invariant_of-self-2
 unfolding same_table
 invariant_of-self-2 c =
     let root = c.self.inside.root in
     let es = c.self.inside.records.entries in
-    let r = recorded c.args.r.now in
+    let r = as_lent c.args.r.now.table c.lent.result in
+    let certified = lent_certified (recorded c.args.r.now) c.in_ok-stored.stored c.lent.result c.lent.ensures c.in_ok-stored.ensures.claim c.in_ok-stored.ensures.certified in
     let holdout = subst (λ (b : Contents). IsHoldout b.records c.args.r.now.table) (sym c.self.view_is) c.requires.holdout in
-    let settles : Settles (records_of es) r = record { is_holdout = holdout; verdict = c.requires.verdict; certified = c.in_ok-stored.ensures.certified } in
+    let verdict = lent_verdict (recorded c.args.r.now) c.in_ok-stored.stored c.lent.result c.lent.ensures c.in_ok-stored.ensures.claim c.requires.verdict in
+    let settles : Settles (records_of es) r = record { is_holdout = holdout; verdict = verdict; certified = certified.0 } in
     let there = subst (λ i. (x : Recorded) × (slice_get (records_of es) i ≡ Some x) × (x.table ≡ c.args.r.now.table) × (is_halting x ≡ false)) (sym c.in_ok-place.ensures.is) c.place_of-found.ensures.place in
     let old = c.place_and_count_of-parent.ensures in
-    let ready = ready_settled root es c.insert.new.self.entries r there.0 c.in_ok-stored.stored old.0 c.in_ok-place.place c.self.invariant.0 c.self.invariant.4 settles c.in_ok-stored.ensures.claim old.1
+    let ready = ready_settled root es c.insert.new.self.entries r there.0 c.in_ok-stored.stored old.0 c.in_ok-place.place c.self.invariant.0 c.self.invariant.4 settles certified.1 (sym c.lent.ensures) old.1
     (c.in_ok-stored.ensures.parent ∙ ap (λ (p : ℕ × TreeCount). p.0) old.2) (c.in_ok-stored.ensures.tree ∙ ap (λ (p : ℕ × TreeCount). p.1) old.2) c.in-Ok.ensures.entries there.1 there.2 c.in_ok-place.ensures.small in
-    let change = c.of_settling.ensures ∙ ap (settling_change c.child_count-opened.result) c.verdict-shown.ensures in
-    rw (c.with-self-inside.ensures, c.without_holdout.ensures, c.verdict-shown.ensures)
+    let change = c.of_settling.ensures ∙ ap (settling_change c.child_count-opened.result) c.ending-shown.ensures in
+    rw (c.with-self-inside.ensures, c.without_holdout.ensures, c.ending-shown.ensures)
     (settling_carried root es c.insert.new.self.entries r c.in_ok-place.place c.self.invariant.0 ready c.child_count-opened.result c.child_count-opened.ensures.number
-    c.carry_up.new.records.entries c.open_children.new.tables (with_shown (without_holdout c.self.inside.counts) (ending_by r.claim)) holdout c.requires.verdict
+    c.carry_up.new.records.entries c.open_children.new.tables (with_shown (without_holdout c.self.inside.counts) (ending_by r.claim)) holdout verdict
     (subst (λ (h : TreeChange). AreCarried h c.insert.new.self.entries c.in_ok-place.place c.carry_up.new.records.entries) change c.carry_up.ensures.carried) c.carry_up.ensures.length
     (stored_settled root es c.insert.new.self.entries r c.in_ok-stored.stored c.in_ok-place.place c.self.inside.open_tables c.open_children.new.tables c.self.inside.counts
-    (c.self.invariant.0, c.self.invariant.1, c.self.invariant.2, c.self.invariant.3) settles
-    c.in_ok-stored.ensures.claim c.in_ok-stored.ensures.pair c.in-Ok.ensures.entries there
+    (c.self.invariant.0, c.self.invariant.1, c.self.invariant.2, c.self.invariant.3) settles certified.1
+    (sym c.lent.ensures) (lent_pair c.args.r.now.table c.in_ok-stored.stored c.lent.result c.lent.ensures c.in_ok-stored.ensures.pair) c.in-Ok.ensures.entries there
     c.in_ok-open_children.ensures.ok c.in_ok-open_children.ensures.others c.in_ok-open_children.ensures.children c.in_ok-open_children.ensures.none))
 
 pub returns-clause-ok : goal.returns-clause-ok
@@ -129,16 +138,25 @@ unfolding same_table
 returns-clause-ok c =
     let root = c.self.inside.root in
     let es = c.self.inside.records.entries in
-    let r = recorded c.args.r.now in
+    let r = as_lent c.args.r.now.table c.lent.result in
+    let certified = lent_certified (recorded c.args.r.now) c.in_ok-stored.stored c.lent.result c.lent.ensures c.in_ok-stored.ensures.claim c.in_ok-stored.ensures.certified in
     let holdout = subst (λ (b : Contents). IsHoldout b.records c.args.r.now.table) (sym c.self.view_is) c.requires.holdout in
-    let settles : Settles (records_of es) r = record { is_holdout = holdout; verdict = c.requires.verdict; certified = c.in_ok-stored.ensures.certified } in
+    let verdict = lent_verdict (recorded c.args.r.now) c.in_ok-stored.stored c.lent.result c.lent.ensures c.in_ok-stored.ensures.claim c.requires.verdict in
+    let settles : Settles (records_of es) r = record { is_holdout = holdout; verdict = verdict; certified = certified.0 } in
     let there = subst (λ i. (x : Recorded) × (slice_get (records_of es) i ≡ Some x) × (x.table ≡ c.args.r.now.table) × (is_halting x ≡ false)) (sym c.in_ok-place.ensures.is) c.place_of-found.ensures.place in
     let old = c.place_and_count_of-parent.ensures in
-    let ready = ready_settled root es c.insert.new.self.entries r there.0 c.in_ok-stored.stored old.0 c.in_ok-place.place c.self.invariant.0 c.self.invariant.4 settles c.in_ok-stored.ensures.claim old.1
+    let ready = ready_settled root es c.insert.new.self.entries r there.0 c.in_ok-stored.stored old.0 c.in_ok-place.place c.self.invariant.0 c.self.invariant.4 settles certified.1 (sym c.lent.ensures) old.1
     (c.in_ok-stored.ensures.parent ∙ ap (λ (p : ℕ × TreeCount). p.0) old.2) (c.in_ok-stored.ensures.tree ∙ ap (λ (p : ℕ × TreeCount). p.1) old.2) c.in-Ok.ensures.entries there.1 there.2 c.in_ok-place.ensures.small in (
       refl,
       record { is_holdout = c.requires.holdout; verdict = c.requires.verdict; certified = c.in_ok-stored.ensures.certified },
       ready_records root (records_of es) c.insert.new.self.entries r c.in_ok-place.place ready c.of_settling.result c.carry_up.new.records.entries c.carry_up.ensures.carried c.carry_up.ensures.length
-          ∙ (records_settled es c.insert.new.self.entries r c.in_ok-stored.stored c.in_ok-stored.ensures.claim holdout c.in-Ok.ensures.entries
-          ∙ ap (λ (b : Contents). settled b.records r) c.self.view_is),
+          ∙ (records_settled es c.insert.new.self.entries r c.in_ok-stored.stored (sym c.lent.ensures) holdout c.in-Ok.ensures.entries
+          ∙ (ap (λ (b : Contents). settled b.records r) c.self.view_is
+          ∙ ap (settled c.args.self.now.records) (lent_is (recorded c.args.r.now) c.in_ok-stored.stored c.lent.result c.lent.ensures c.in_ok-stored.ensures.claim))),
     )
+
+pub child_count-opened-requires-clause-pair : goal.child_count-opened-requires-clause-pair
+child_count-opened-requires-clause-pair c = lent_pair c.args.r.now.table c.in_ok-stored.stored c.lent.result c.lent.ensures c.in_ok-stored.ensures.pair
+
+pub open_children-requires-clause-pair : goal.open_children-requires-clause-pair
+open_children-requires-clause-pair c = lent_pair c.args.r.now.table c.in_ok-stored.stored c.lent.result c.lent.ensures c.in_ok-stored.ensures.pair

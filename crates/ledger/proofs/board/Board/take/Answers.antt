@@ -15,6 +15,7 @@ use Rattle.ledger.proofs.Boards.{next_place, numbers_fit, stored_more, records_m
 use Rattle.ledger.proofs.Carried.{IsStored, taking_carried, taking_room}
 use Rattle.ledger.proofs.HeldLaws.{unmarked}
 use Rattle.ledger.proofs.Indexed.{ready_earlier, ready_records, ready_there}
+use Rattle.ledger.proofs.LentRecord.{as_lent, lent_certified, lent_is, lent_pair}
 use Rattle.ledger.proofs.Openers.{opener_at}
 use Rattle.ledger.proofs.Ready.{ready_taken}
 use Rattle.ledger.proofs.Sets.{removed}
@@ -45,14 +46,15 @@ unfolding same_table
 carry_up-requires-clause-there c =
     let root = c.self.inside.root in
     let es = c.reserve.new.self.entries in
-    let r = recorded c.args.r.now in
+    let r = as_lent c.args.r.now.table c.lent.result in
+    let certified = lent_certified (recorded c.args.r.now) c.in_ok-stored.stored c.lent.result c.lent.ensures c.in_ok-stored.ensures.claim c.in_ok-stored.ensures.certified in
     let now = subst (λ (l : List (Packed × StoredRecord)). IsStored root l c.self.inside.open_tables c.self.inside.counts) (sym c.in_ok-reserve.ensures.entries) c.self.invariant in
     let many = c.len-count.ensures.len ∙ ap length (sym c.in_ok-reserve.ensures.entries) in
     let open_now = subst (λ (l : List (Packed × StoredRecord)). IsOpen root (mark_in (records_of l)) c.args.r.now.table) (sym c.in_ok-reserve.ensures.entries)
     (subst (λ (b : Contents). IsOpen b.root (mark_in b.records) c.args.r.now.table) (sym c.self.view_is) c.requires.is_open) in
     let opener = subst (IsOpener root (records_of es) c.args.r.now.table) (sym c.in_ok-stored.ensures.parent)
     (opener_at root (records_of es) c.args.r.now.table c.opener_of-parent.result c.self.inside.open_tables.entries now.1.openers c.opener_of-parent.ensures) in
-    let ready = ready_taken root es c.insert.new.self.entries r c.in_ok-stored.stored c.in_ok-place.place now.0 now.4 open_now c.in_ok-stored.ensures.certified c.in_ok-stored.ensures.claim opener
+    let ready = ready_taken root es c.insert.new.self.entries r c.in_ok-stored.stored c.in_ok-place.place now.0 now.4 open_now certified.0 certified.1 (sym c.lent.ensures) opener
     (c.in_ok-stored.ensures.tree ∙ c.first.ensures) c.in-Ok.ensures.entries (c.in_ok-place.ensures.is ∙ many) c.in_ok-place.ensures.small in
     ready_there root (records_of es) c.insert.new.self.entries r c.in_ok-place.place ready
 
@@ -61,14 +63,15 @@ unfolding same_table
 carry_up-requires-clause-earlier c =
     let root = c.self.inside.root in
     let es = c.reserve.new.self.entries in
-    let r = recorded c.args.r.now in
+    let r = as_lent c.args.r.now.table c.lent.result in
+    let certified = lent_certified (recorded c.args.r.now) c.in_ok-stored.stored c.lent.result c.lent.ensures c.in_ok-stored.ensures.claim c.in_ok-stored.ensures.certified in
     let now = subst (λ (l : List (Packed × StoredRecord)). IsStored root l c.self.inside.open_tables c.self.inside.counts) (sym c.in_ok-reserve.ensures.entries) c.self.invariant in
     let many = c.len-count.ensures.len ∙ ap length (sym c.in_ok-reserve.ensures.entries) in
     let open_now = subst (λ (l : List (Packed × StoredRecord)). IsOpen root (mark_in (records_of l)) c.args.r.now.table) (sym c.in_ok-reserve.ensures.entries)
     (subst (λ (b : Contents). IsOpen b.root (mark_in b.records) c.args.r.now.table) (sym c.self.view_is) c.requires.is_open) in
     let opener = subst (IsOpener root (records_of es) c.args.r.now.table) (sym c.in_ok-stored.ensures.parent)
     (opener_at root (records_of es) c.args.r.now.table c.opener_of-parent.result c.self.inside.open_tables.entries now.1.openers c.opener_of-parent.ensures) in
-    let ready = ready_taken root es c.insert.new.self.entries r c.in_ok-stored.stored c.in_ok-place.place now.0 now.4 open_now c.in_ok-stored.ensures.certified c.in_ok-stored.ensures.claim opener
+    let ready = ready_taken root es c.insert.new.self.entries r c.in_ok-stored.stored c.in_ok-place.place now.0 now.4 open_now certified.0 certified.1 (sym c.lent.ensures) opener
     (c.in_ok-stored.ensures.tree ∙ c.first.ensures) c.in-Ok.ensures.entries (c.in_ok-place.ensures.is ∙ many) c.in_ok-place.ensures.small in
     ready_earlier root (records_of es) c.insert.new.self.entries r c.in_ok-place.place ready
 
@@ -77,16 +80,17 @@ unfolding same_table
 carry_up-requires-clause-room c =
     let root = c.self.inside.root in
     let es = c.reserve.new.self.entries in
-    let r = recorded c.args.r.now in
+    let r = as_lent c.args.r.now.table c.lent.result in
+    let certified = lent_certified (recorded c.args.r.now) c.in_ok-stored.stored c.lent.result c.lent.ensures c.in_ok-stored.ensures.claim c.in_ok-stored.ensures.certified in
     let now = subst (λ (l : List (Packed × StoredRecord)). IsStored root l c.self.inside.open_tables c.self.inside.counts) (sym c.in_ok-reserve.ensures.entries) c.self.invariant in
     let many = c.len-count.ensures.len ∙ ap length (sym c.in_ok-reserve.ensures.entries) in
     let open_now = subst (λ (l : List (Packed × StoredRecord)). IsOpen root (mark_in (records_of l)) c.args.r.now.table) (sym c.in_ok-reserve.ensures.entries)
     (subst (λ (b : Contents). IsOpen b.root (mark_in b.records) c.args.r.now.table) (sym c.self.view_is) c.requires.is_open) in
     let opener = subst (IsOpener root (records_of es) c.args.r.now.table) (sym c.in_ok-stored.ensures.parent)
     (opener_at root (records_of es) c.args.r.now.table c.opener_of-parent.result c.self.inside.open_tables.entries now.1.openers c.opener_of-parent.ensures) in
-    let ready = ready_taken root es c.insert.new.self.entries r c.in_ok-stored.stored c.in_ok-place.place now.0 now.4 open_now c.in_ok-stored.ensures.certified c.in_ok-stored.ensures.claim opener
+    let ready = ready_taken root es c.insert.new.self.entries r c.in_ok-stored.stored c.in_ok-place.place now.0 now.4 open_now certified.0 certified.1 (sym c.lent.ensures) opener
     (c.in_ok-stored.ensures.tree ∙ c.first.ensures) c.in-Ok.ensures.entries (c.in_ok-place.ensures.is ∙ many) c.in_ok-place.ensures.small in
-    let change = c.of_taking.ensures ∙ ap (taking_change c.child_count-opened.result) c.verdict-shown.ensures in
+    let change = c.of_taking.ensures ∙ ap (taking_change c.child_count-opened.result) c.ending-shown.ensures in
     subst (ChainMayChange c.insert.new.self.entries c.in_ok-place.place) (sym change)
     (taking_room root es c.insert.new.self.entries r c.in_ok-place.place now.0 ready c.child_count-opened.result c.child_count-opened.ensures.number
     c.self.inside.open_tables c.len.result now.1 c.len.ensures.len c.len.ensures.ordered c.child_count-opened.ensures.small c.len.ensures.small
@@ -106,22 +110,23 @@ unfolding same_table
 invariant_of-self-2 c =
     let root = c.self.inside.root in
     let es = c.reserve.new.self.entries in
-    let r = recorded c.args.r.now in
+    let r = as_lent c.args.r.now.table c.lent.result in
+    let certified = lent_certified (recorded c.args.r.now) c.in_ok-stored.stored c.lent.result c.lent.ensures c.in_ok-stored.ensures.claim c.in_ok-stored.ensures.certified in
     let now = subst (λ (l : List (Packed × StoredRecord)). IsStored root l c.self.inside.open_tables c.self.inside.counts) (sym c.in_ok-reserve.ensures.entries) c.self.invariant in
     let many = c.len-count.ensures.len ∙ ap length (sym c.in_ok-reserve.ensures.entries) in
     let open_now = subst (λ (l : List (Packed × StoredRecord)). IsOpen root (mark_in (records_of l)) c.args.r.now.table) (sym c.in_ok-reserve.ensures.entries)
     (subst (λ (b : Contents). IsOpen b.root (mark_in b.records) c.args.r.now.table) (sym c.self.view_is) c.requires.is_open) in
     let opener = subst (IsOpener root (records_of es) c.args.r.now.table) (sym c.in_ok-stored.ensures.parent)
     (opener_at root (records_of es) c.args.r.now.table c.opener_of-parent.result c.self.inside.open_tables.entries now.1.openers c.opener_of-parent.ensures) in
-    let ready = ready_taken root es c.insert.new.self.entries r c.in_ok-stored.stored c.in_ok-place.place now.0 now.4 open_now c.in_ok-stored.ensures.certified c.in_ok-stored.ensures.claim opener
+    let ready = ready_taken root es c.insert.new.self.entries r c.in_ok-stored.stored c.in_ok-place.place now.0 now.4 open_now certified.0 certified.1 (sym c.lent.ensures) opener
     (c.in_ok-stored.ensures.tree ∙ c.first.ensures) c.in-Ok.ensures.entries (c.in_ok-place.ensures.is ∙ many) c.in_ok-place.ensures.small in
-    let change = c.of_taking.ensures ∙ ap (taking_change c.child_count-opened.result) c.verdict-shown.ensures in
-    rw (c.with-self-inside.ensures, c.verdict-shown.ensures)
+    let change = c.of_taking.ensures ∙ ap (taking_change c.child_count-opened.result) c.ending-shown.ensures in
+    rw (c.with-self-inside.ensures, c.ending-shown.ensures)
     (taking_carried root es c.insert.new.self.entries r c.in_ok-place.place now.0 ready c.child_count-opened.result c.child_count-opened.ensures.number
     c.carry_up.new.records.entries c.remove.new.self (with_shown c.self.inside.counts (ending_by r.claim)) open_now
     (subst (λ (h : TreeChange). AreCarried h c.insert.new.self.entries c.in_ok-place.place c.carry_up.new.records.entries) change c.carry_up.ensures.carried) c.carry_up.ensures.length
     (stored_more root es c.insert.new.self.entries r c.in_ok-stored.stored c.in_ok-place.place c.self.inside.open_tables c.open_children.new.tables c.remove.new.self c.self.inside.counts
-    (now.0, now.1, now.2, now.3) open_now c.in_ok-stored.ensures.certified c.in_ok-stored.ensures.claim c.in_ok-stored.ensures.pair c.in-Ok.ensures.entries (c.in_ok-place.ensures.is ∙ many)
+    (now.0, now.1, now.2, now.3) open_now certified.0 certified.1 (sym c.lent.ensures) (lent_pair c.args.r.now.table c.in_ok-stored.stored c.lent.result c.lent.ensures c.in_ok-stored.ensures.pair) c.in-Ok.ensures.entries (c.in_ok-place.ensures.is ∙ many)
     c.in_ok-open_children.ensures.ok c.in_ok-open_children.ensures.others c.in_ok-open_children.ensures.children c.in_ok-open_children.ensures.none
     (λ q. removed c.open_children.new.tables c.remove.new.self c.args.r.now.table q (c.remove.ensures.updates.0 q)) c.remove.ensures.entries))
 
@@ -130,19 +135,27 @@ unfolding same_table
 returns-clause-ok c =
     let root = c.self.inside.root in
     let es = c.reserve.new.self.entries in
-    let r = recorded c.args.r.now in
+    let r = as_lent c.args.r.now.table c.lent.result in
+    let certified = lent_certified (recorded c.args.r.now) c.in_ok-stored.stored c.lent.result c.lent.ensures c.in_ok-stored.ensures.claim c.in_ok-stored.ensures.certified in
     let now = subst (λ (l : List (Packed × StoredRecord)). IsStored root l c.self.inside.open_tables c.self.inside.counts) (sym c.in_ok-reserve.ensures.entries) c.self.invariant in
     let many = c.len-count.ensures.len ∙ ap length (sym c.in_ok-reserve.ensures.entries) in
     let open_now = subst (λ (l : List (Packed × StoredRecord)). IsOpen root (mark_in (records_of l)) c.args.r.now.table) (sym c.in_ok-reserve.ensures.entries)
     (subst (λ (b : Contents). IsOpen b.root (mark_in b.records) c.args.r.now.table) (sym c.self.view_is) c.requires.is_open) in
     let opener = subst (IsOpener root (records_of es) c.args.r.now.table) (sym c.in_ok-stored.ensures.parent)
     (opener_at root (records_of es) c.args.r.now.table c.opener_of-parent.result c.self.inside.open_tables.entries now.1.openers c.opener_of-parent.ensures) in
-    let ready = ready_taken root es c.insert.new.self.entries r c.in_ok-stored.stored c.in_ok-place.place now.0 now.4 open_now c.in_ok-stored.ensures.certified c.in_ok-stored.ensures.claim opener
+    let ready = ready_taken root es c.insert.new.self.entries r c.in_ok-stored.stored c.in_ok-place.place now.0 now.4 open_now certified.0 certified.1 (sym c.lent.ensures) opener
     (c.in_ok-stored.ensures.tree ∙ c.first.ensures) c.in-Ok.ensures.entries (c.in_ok-place.ensures.is ∙ many) c.in_ok-place.ensures.small in
     let before = ap records_of c.in_ok-reserve.ensures.entries ∙ ap (λ (b : Contents). b.records) c.self.view_is in (
       refl,
       record { is_open = c.requires.is_open; certified = c.in_ok-stored.ensures.certified },
       ready_records root (records_of es) c.insert.new.self.entries r c.in_ok-place.place ready c.of_taking.result c.carry_up.new.records.entries c.carry_up.ensures.carried c.carry_up.ensures.length
-          ∙ (records_more es c.insert.new.self.entries r c.in_ok-stored.stored c.in_ok-stored.ensures.claim (unmarked _ open_now.unmarked) c.in-Ok.ensures.entries
-          ∙ ap (λ (l : List Recorded). l ++ (r ∷ [])) before),
+          ∙ (records_more es c.insert.new.self.entries r c.in_ok-stored.stored (sym c.lent.ensures) (unmarked _ open_now.unmarked) c.in-Ok.ensures.entries
+          ∙ (ap (λ (l : List Recorded). l ++ (r ∷ [])) before
+          ∙ ap (λ (x : Recorded). c.args.self.now.records ++ (x ∷ [])) (lent_is (recorded c.args.r.now) c.in_ok-stored.stored c.lent.result c.lent.ensures c.in_ok-stored.ensures.claim))),
     )
+
+pub child_count-opened-requires-clause-pair : goal.child_count-opened-requires-clause-pair
+child_count-opened-requires-clause-pair c = lent_pair c.args.r.now.table c.in_ok-stored.stored c.lent.result c.lent.ensures c.in_ok-stored.ensures.pair
+
+pub open_children-requires-clause-pair : goal.open_children-requires-clause-pair
+open_children-requires-clause-pair c = lent_pair c.args.r.now.table c.in_ok-stored.stored c.lent.result c.lent.ensures c.in_ok-stored.ensures.pair

@@ -1,5 +1,5 @@
 -- A text that is loaded in pieces: what more of it does to the stage that it has come to.
-use Rattle.std.proofs.Common.{◌≡◌, ◌≢◌, ℕ, ◌+◌, ◌^◌, ◌<◌, ◌≤◌, Bool, false, cond, List, [], ◌∷◌, ◌++◌, length, Option, Some, None, is_some, ◌⊎◌, Ok, Err, inl, inr, refl, sym, ap, ◌∙◌, subst, arith, append_assoc, append-nil, length-append}
+use Rattle.std.proofs.Common.{◌≡◌, ◌≢◌, ℕ, ◌+◌, ◌^◌, ◌<◌, ◌≤◌, Bool, true, false, cond, List, [], ◌∷◌, ◌++◌, length, Option, Some, None, is_some, ◌⊎◌, Ok, Err, inl, inr, refl, sym, ap, ◌∙◌, subst, arith, append_assoc, append-nil, length-append}
 use Rattle.std.specs.Prelude.{MatchOption}
 use Rattle.std.proofs.lemmas.Bool.Decides.{leb_tells}
 use Rattle.std.proofs.lemmas.List.Elements.{All-append}
@@ -89,6 +89,21 @@ module _ (root : Packed) (text : List ℕ) (body : Body) where
 
   pub is_left_so : (left : Left) → body.left ≡ Some left → body.board.root ≡ root → IsLeftSo root text body left → IsBodyOf root text body
   is_left_so left some same is = (same, subst (λ (left : Option Left). MatchOption left (IsAllTaken root text body) (IsLeftSo root text body)) (sym some) is)
+
+some_left : (left : Option Left) (r : Bool) → r ≡ is_some left → r ≡ true → (l : Left) × (left ≡ Some l)
+some_left None r is holds = absurd (cc)
+some_left (Some left) r is holds = (left, refl)
+
+-- where a line wasn't kept, nothing more is
+pub stays_left : (body : Body) (r : Bool) → r ≡ is_some body.left → r ≡ true → (more : List ℕ) (root : Packed) (text : List ℕ) → IsBodyOf root text body
+    → IsBodyOf root (text ++ more) body
+stays_left body r is holds more root text stands =
+    let l = some_left body.left r is holds in
+    let was = left_so root text body l.0 l.1 stands in
+    is_left_so root (text ++ more) body l.0 l.1 stands.0 (record {
+      reads = λ tail. subst (λ (t : List ℕ). ReadsIn body.board.format root t body.board.records l.0) (sym (append_assoc text more tail)) (was.reads (more ++ tail));
+      kept = was.kept;
+    })
 
 -- more bytes of a line
 pub line_grows : (root : Packed) (text part : List ℕ) (old new : Body) → HasNoNewline part → old.left ≡ None → new.left ≡ None → new.board ≡ old.board

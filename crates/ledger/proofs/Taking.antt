@@ -59,10 +59,10 @@ open_taken_exact root old new r tables after before taken is q = let law = open_
   λ h. (is q).1 (elim (law.0 h) [ inl a ↦ inl ((before.exact q).1 a.0, a.1) | inr u ↦ inr u ]),
 )
 
-pub same_map : (tables after : BTreeMap Packed ℕ) (b : Contents) → after.entries ≡ tables.entries → IsOpenMap tables b → IsOpenMap after b
-same_map tables after b same before = record {
-  exact = λ t. subst (λ (es : List (Packed × ℕ)). (is_some (lookup (is_at (table_cmp t)) es) ≡ true) ↔ IsOpen b.root (mark_in b.records) t) (sym same) (before.exact t);
-  openers = subst (All (λ (e : Packed × ℕ). IsOpener b.root b.records e.0 e.1)) (sym same) before.openers;
+pub same_map : (tables after : BTreeMap Packed ℕ) (root : Packed) (rs : List Recorded) → after.entries ≡ tables.entries → IsOpenMapOf tables root rs → IsOpenMapOf after root rs
+same_map tables after root rs same before = record {
+  exact = λ t. subst (λ (es : List (Packed × ℕ)). (is_some (lookup (is_at (table_cmp t)) es) ≡ true) ↔ IsOpen root (mark_in rs) t) (sym same) (before.exact t);
+  openers = subst (All (λ (e : Packed × ℕ). IsOpener root rs e.0 e.1)) (sym same) before.openers;
 }
 
 -- the children come into the map, and then the record's table goes out of it

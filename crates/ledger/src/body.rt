@@ -193,10 +193,9 @@ fn take_line(board: &mut Board, line: &[u8]) -> Result<Option<Unkept>, NoMemory>
 fn parse_line(format: Format, line: &[u8]) -> Result<Record<'_>, RecordFault>
     ensures { read_as result ≡ ledger_record format line.now }
 {
-    let record = Record::parse(line)?;
-    if format.may_hold(&record.certificate) {
-        Ok(record)
-    } else {
-        Err(RecordFault::BadKind)
+    match Record::parse(line) {
+        Ok(record) if format.may_hold(&record.certificate) => Ok(record),
+        Ok(_) => Err(RecordFault::BadKind),
+        Err(fault) => Err(fault),
     }
 }

@@ -44,7 +44,7 @@ pub fn ledgers_load_whole()
 
 /// A text reads as one root and one list of records only, and in one version.
 pub fn ledgers_read_as_one()
-    ensures { (root other : Packed) (text : List ℕ) (rs others : List Recorded) (left more : LeftOver) → IsTable root →
+    ensures records { (root other : Packed) (text : List ℕ) (rs others : List Recorded) (left more : LeftOver) → IsTable root →
         ReadsAs root text rs left → ReadsAs other text others more → (root ≡ other) × (rs ≡ others) }
     ensures version { (root other : Packed) (text : List ℕ) (rs others : List Recorded) (left more : LeftOver) →
         (reads : ReadsAs root text rs left) → (same : ReadsAs other text others more) → reads.header.format ≡ same.header.format }

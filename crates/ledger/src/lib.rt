@@ -12,6 +12,7 @@
 //! to. `specs/inside` and `proofs` are for the code alone.
 #![tactic(auto)]
 
+mod as_written;
 mod board;
 mod body;
 mod bound;
@@ -41,7 +42,6 @@ mod stored_record;
 mod taken;
 mod tally;
 mod tree_count;
-mod unscored;
 mod write_ledger;
 
 pub use board::{Board, Champions, Holdouts};

@@ -8,11 +8,11 @@ ghost use Rattle.ledger.specs.LedgerText.{ReadsIn, ledger_text};
 ghost use Rattle.ledger.specs.declared.format.Format.TheVariants.{Two};
 ghost use Rattle.ledger.specs.declared.left.Left.TheVariants.{Nothing};
 
+use crate::as_written::as_written;
 use crate::board::Board;
 use crate::format::Format;
 use crate::laws::ledgers_load_whole;
 use crate::records::Records;
-use crate::unscored::without_score;
 use cert::Record;
 use evidence::NoMemory;
 use machine_text::{TEXT_BYTES, Table};
@@ -87,9 +87,6 @@ fn append_in(format: Format, r: &Record, out: &mut Vec<u8>) -> Result<(), NoMemo
     ensures ok { OnOk result (out.new.items ≡ out.old.items ++ (line_of format (recorded r.now) ++ (10 ∷ []))) }
     ensures kept { take (length out.old.items) out.new.items ≡ out.old.items }
 {
-    match format {
-        Format::One => without_score(r).write_text(out)?,
-        Format::Two => r.write_text(out)?,
-    }
+    as_written(format, r).write_text(out)?;
     out.extend_from_slice(b"\n")
 }

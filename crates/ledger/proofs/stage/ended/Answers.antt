@@ -17,7 +17,7 @@ returns-then-ne-clause-ok c text size one_line kept =
     has_other_root c.args.root.now text c.args.line.now one_line kept c.in-Some.header.format c.in-Some.header.root c.in-Some.ensures
     (is_other_root c.in-Some.header.root c.args.root.now c.ne.result c.ne.ensures c.if-ne.true)
 
-pub returns-in_err-board-clause-err : goal.returns-in_err-empty_board-clause-err
+pub returns-in_err-board-clause-err : goal.returns-in_err-board-clause-err
 unfolding same_table
 returns-in_err-board-clause-err c =
     let same = is_the_root c.in-Some.header.root c.args.root.now c.ne.result c.ne.ensures c.if-ne.false in

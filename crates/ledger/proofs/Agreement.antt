@@ -215,10 +215,10 @@ settling_fit root ks rs r agree settles =
     }
 
 -- what is fit or settles does so with its score
-fit_scored : (root : Packed) (rs : List Recorded) (r : Recorded) → IsFit root rs r → IsFit root rs (with_score r)
+pub fit_scored : (root : Packed) (rs : List Recorded) (r : Recorded) → IsFit root rs r → IsFit root rs (with_score r)
 fit_scored root rs r fit = record { is_open = fit.is_open; certified = score_certified r fit.certified }
 
-settles_scored : (rs : List Recorded) (r : Recorded) → Settles rs r → Settles rs (with_score r)
+pub settles_scored : (rs : List Recorded) (r : Recorded) → Settles rs r → Settles rs (with_score r)
 settles_scored rs r settles = record {
   is_holdout = settles.is_holdout;
   verdict = subst (λ (o : Option Ending). IsSome o) (sym (scored_ends r.table r.claim)) settles.verdict;

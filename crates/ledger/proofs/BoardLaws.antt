@@ -27,6 +27,7 @@ use Rattle.ledger.proofs.OpenListed.{open_listed}
 use Rattle.ledger.proofs.Sets.{nobody}
 use Rattle.ledger.proofs.Taking.{Below, KeepsOrder}
 use Rattle.ledger.proofs.TextOrder.{in_text_order, keys_rising, rising_once, all_sorted}
+use Rattle.ledger.specs.declared.format.Format.{Format}
 
 -- the laws of trees that the code calls
 abbrev pub OfTables : Type 0
@@ -95,8 +96,8 @@ AreCountedBy IsOfKind p = (rs : List Recorded) → AreApart rs → AreSoMany (Is
 pub kind_counted : (IsOfKind : List Recorded → Packed → Type 0) (p : Recorded → Bool) → AreCountedBy IsOfKind p → (b : Contents) (n : ℕ) → IsBoard b → n ≡ length (filter p b.records) → AreSoMany (IsOfKind b.records) n
 kind_counted IsOfKind p law b n board is = subst (λ (k : ℕ). AreSoMany (IsOfKind b.records) k) (sym is) (law b.records (held_apart b.root b.records board.held))
 
-pub nodes_counted : (b : Contents) (root : Packed) (es : List (Packed × StoredRecord)) (n m k : ℕ) → (record { root = root; records = records_of es }) ≡ b → m ≡ length es → n ≡ m + k → n ≡ length b.records + k
-nodes_counted b root es n m k view is all =
+pub nodes_counted : (b : Contents) (root : Packed) (es : List (Packed × StoredRecord)) (format : Format) (n m k : ℕ) → (record { root = root; records = records_of es; format = format }) ≡ b → m ≡ length es → n ≡ m + k → n ≡ length b.records + k
+nodes_counted b root es format n m k view is all =
     let count : length b.records ≡ length es = ap (λ (c : Contents). length c.records) (sym view) ∙ length-map es entry_recorded in
     omega (arith, count, is, all)
 

@@ -13,11 +13,11 @@ use Rattle.cert.specs.Certified.{IsCertified, IsPairOf}
 use Rattle.cert.specs.Kinds.{owned_claim}
 use Rattle.ledger.specs.Records.{same_table, claim_in, mark_in}
 use Rattle.ledger.specs.Held.{HasScore, IsHoldout, Settles, settled}
-use Rattle.ledger.specs.Contents.{IsBoard}
+use Rattle.ledger.specs.Contents.{IsBoardOf}
 use Rattle.ledger.specs.inside.Stored.{entry_recorded, records_of, KnowsPair}
 use Rattle.ledger.specs.inside.Counting.{IsCounted, with_shown, without_holdout, is_halting, is_never, is_undecided}
 use Rattle.machine_text.specs.Order.{table_cmp}
-use Rattle.ledger.specs.inside.Open.{others, AreChildrenAt, IsOpenMap, IsNewChild}
+use Rattle.ledger.specs.inside.Open.{others, AreChildrenAt, IsNewChild, IsOpenMapOf}
 use Rattle.ledger.specs.declared.stored_record.StoredRecord.{StoredRecord}
 use Rattle.ledger.specs.declared.counts.Counts.{Counts}
 use Rattle.ledger.proofs.Entries.{no_entry, an_entry, entry_last, entry_settled, inserted_pairs, holdout_shows}
@@ -29,7 +29,7 @@ use Rattle.ledger.proofs.Taking.{holdout_claim, opened_then_closed, board_more, 
 -- a board as the code has it, but for the numbers of its trees
 abbrev pub IsStoredUnindexed : Packed → List (Packed × StoredRecord) → BTreeMap Packed ℕ → Counts → Type 0
 IsStoredUnindexed root es tables counts =
-    IsBoard (record { root = root; records = records_of es }) × IsOpenMap tables (record { root = root; records = records_of es }) × All KnowsPair es × IsCounted (records_of es) counts
+    IsBoardOf root (records_of es) × IsOpenMapOf tables root (records_of es) × All KnowsPair es × IsCounted (records_of es) counts
 
 -- its numbers have room
 pub numbers_fit : (es : List (Packed × StoredRecord)) (counts : Counts) → IsCounted (records_of es) counts → length es < 2 ^ 63 → (counts.halting < 2 ^ 63) × (counts.never < 2 ^ 63) × (counts.undecided < 2 ^ 63)
@@ -41,13 +41,13 @@ numbers_fit es counts counted small =
     )
 
 -- the next place opened nothing yet
-pub next_place : (root : Packed) (es : List (Packed × StoredRecord)) (tables : BTreeMap Packed ℕ) (place : ℕ) → IsOpenMap tables (record { root = root; records = records_of es }) → place ≡ length es → place + 1 < 2 ^ 32
+pub next_place : (root : Packed) (es : List (Packed × StoredRecord)) (tables : BTreeMap Packed ℕ) (place : ℕ) → IsOpenMapOf tables root (records_of es) → place ≡ length es → place + 1 < 2 ^ 32
     → others place tables.entries ≡ tables.entries
 next_place root es tables place before is small =
     none_opened root (records_of es) place tables.entries (λ t. next_opens_none root (records_of es) t place (is ∙ sym (length-map es entry_recorded)) small) before.openers
 
 -- nor did a holdout's place
-pub holdouts_place : (root : Packed) (es : List (Packed × StoredRecord)) (tables : BTreeMap Packed ℕ) (place : ℕ) (t : Packed) → IsOpenMap tables (record { root = root; records = records_of es })
+pub holdouts_place : (root : Packed) (es : List (Packed × StoredRecord)) (tables : BTreeMap Packed ℕ) (place : ℕ) (t : Packed) → IsOpenMapOf tables root (records_of es)
     → (r : Recorded) × (slice_get (records_of es) place ≡ Some r) × (r.table ≡ t) × (is_halting r ≡ false) → place + 1 < 2 ^ 32 → others place tables.entries ≡ tables.entries
 holdouts_place root es tables place t before at small = none_opened root (records_of es) place tables.entries (λ q. holdout_opens_none root (records_of es) q place at.0 at.1 at.3 small) before.openers
 
@@ -83,8 +83,8 @@ stored_more root es new r k place tables mid after counts kept is_open certified
     let rs = records_of es in
     let gone = unmarked (claim_in rs r.table) is_open.unmarked in
     let list = records_more es new r k claim gone is in (
-      subst (λ (l : List Recorded). IsBoard (record { root = root; records = l })) (sym list) (board_more root rs r kept.0 is_open certified scored),
-      subst (λ (l : List Recorded). IsOpenMap after (record { root = root; records = l })) (sym list)
+      subst (λ (l : List Recorded). IsBoardOf root l) (sym list) (board_more root rs r kept.0 is_open certified scored),
+      subst (λ (l : List Recorded). IsOpenMapOf after root l) (sym list)
           (opened_more root rs r place k.halts_on tables mid after kept.1 is_open (last ∙ sym (length-map es entry_recorded)) pair others children none removal
           (λ q. opened_then_closed rs r _ _ _ q (opened q) (closed q))),
       known es new r k kept.2 claim pair is,
@@ -104,8 +104,8 @@ stored_settled root es new r k place tables after counts kept settles scored cla
     let holdout = settles.is_holdout in
     let list = records_settled es new r k claim holdout is in
     let c = holdout_claim rs r.table holdout in (
-      subst (λ (l : List Recorded). IsBoard (record { root = root; records = l })) (sym list) (board_settled root rs r kept.0 settles scored),
-      subst (λ (l : List Recorded). IsOpenMap after (record { root = root; records = l })) (sym list)
+      subst (λ (l : List Recorded). IsBoardOf root l) (sym list) (board_settled root rs r kept.0 settles scored),
+      subst (λ (l : List Recorded). IsOpenMapOf after root l) (sym list)
           (opened_settled root rs r at.0 place k.halts_on tables after kept.0 kept.1 holdout at.1 at.2 pair others children none opened),
       known es new r k kept.2 claim pair is,
       subst (λ (l : List Recorded). IsCounted l (with_shown (without_holdout counts) (ending_by r.claim))) (sym list)

@@ -11,12 +11,12 @@ use Rattle.tree.specs.Tables.{IsChildTable}
 use Rattle.cert.specs.Claim.{Recorded, ending_by}
 use Rattle.ledger.specs.Records.{mark_in}
 use Rattle.ledger.specs.Held.{IsHoldout}
-use Rattle.ledger.specs.Contents.{IsBoard}
+use Rattle.ledger.specs.Contents.{IsBoardOf}
 use Rattle.ledger.specs.Tally.{AreSoMany}
 use Rattle.ledger.specs.inside.Counting.{is_undecided, IsCounted}
 use Rattle.ledger.specs.inside.Stored.{entry_recorded, records_of, KnowsPair}
 use Rattle.machine_text.specs.Order.{table_cmp}
-use Rattle.ledger.specs.inside.Open.{IsNewChild, IsOpenMap}
+use Rattle.ledger.specs.inside.Open.{IsNewChild, IsOpenMapOf}
 use Rattle.ledger.specs.inside.Carrying.{taking_change, settling_change, ChainMayChange, AreCarried}
 use Rattle.ledger.specs.inside.Trees.{IsIndexed}
 use Rattle.ledger.specs.declared.counts.Counts.{Counts}
@@ -29,26 +29,27 @@ use Rattle.ledger.proofs.Indexed.{IsReady, ready_indexed, ready_pairs, ready_rec
 use Rattle.ledger.proofs.Numbers.{holdout_number, number_within}
 use Rattle.ledger.proofs.Ready.{stored_carried}
 use Rattle.ledger.proofs.TreeCounts.{new_child_is, count_settled, count_taken, settled_room, taken_room}
+use Rattle.ledger.specs.declared.format.Format.TheVariants.{Two}
 
 -- what each board of the code keeps, with what is kept of trees
 abbrev pub IsStored : Packed → List (Packed × StoredRecord) → BTreeMap Packed ℕ → Counts → Type 0
 IsStored root es tables counts =
-    IsBoard (record { root = root; records = records_of es }) × IsOpenMap tables (record { root = root; records = records_of es }) × All KnowsPair es × IsCounted (records_of es) counts × IsIndexed root es
+    IsBoardOf root (records_of es) × IsOpenMapOf tables root (records_of es) × All KnowsPair es × IsCounted (records_of es) counts × IsIndexed root es
 
 -- the tables that the code counted as children
 abbrev pub AreCounted : Recorded → ℕ → Type 0
 AreCounted r n = AreSoMany (λ t. ((k : ℕ) × (ending_by r.claim ≡ Some (Halts k))) × IsChildTable r.table t) n
 
-module _ (root : Packed) (es new : List (Packed × StoredRecord)) (r : Recorded) (from : ℕ) (board : IsBoard (record { root = root; records = records_of es })) (ready : IsReady root (records_of es) new r from)
+module _ (root : Packed) (es new : List (Packed × StoredRecord)) (r : Recorded) (from : ℕ) (board : IsBoardOf root (records_of es)) (ready : IsReady root (records_of es) new r from)
     (opened : ℕ) (number : AreCounted r opened) where
   new_ones : AreSoMany (IsNewChild (records_of es) r) opened
   new_ones = many_same (λ t. ((k : ℕ) × (ending_by r.claim ≡ Some (Halts k))) × IsChildTable r.table t) (IsNewChild (records_of es) r) opened
       (λ q. new_child_is root board.is_table (records_of es) ready.had (records_of new) r ready.taken (ready_table root (records_of es) new r from ready) q) number
 
-  module _ (tables : BTreeMap Packed ℕ) (opens : ℕ) (exact : IsOpenMap tables (record { root = root; records = records_of es })) (is : opens ≡ length tables.entries) (sorted : IsStrictlySortedBy table_cmp (keys tables))
+  module _ (tables : BTreeMap Packed ℕ) (opens : ℕ) (exact : IsOpenMapOf tables root (records_of es)) (is : opens ≡ length tables.entries) (sorted : IsStrictlySortedBy table_cmp (keys tables))
       (few : opened < 2 ^ 63) (small : opens < 2 ^ 63) (short : length es < 2 ^ 63) where
     open_ones : AreSoMany (IsOpen root (mark_in (records_of es))) opens
-    open_ones = open_number (record { root = root; records = records_of es }) tables opens exact is sorted
+    open_ones = open_number (record { root = root; records = records_of es; format = Two }) tables opens exact is sorted
 
     held_ones : AreSoMany (IsHoldout (records_of es)) (length (filter is_undecided (records_of es)))
     held_ones = holdout_number (records_of es) (held_apart root (records_of es) board.held)

@@ -1,16 +1,18 @@
 -- A text that is loaded in pieces: what more of it does to the stage that it has come to.
-use Rattle.std.proofs.Common.{◌≡◌, ◌≢◌, ℕ, ◌+◌, ◌^◌, ◌<◌, ◌≤◌, Bool, false, cond, List, [], ◌∷◌, ◌++◌, length, Option, Some, None, is_some, ◌⊎◌, Ok, Err, inl, inr, refl, sym, ap, ◌∙◌, subst, arith, append_assoc, append-nil, length-append}
+use Rattle.std.proofs.Common.{◌≡◌, ◌≢◌, ℕ, ◌+◌, ◌^◌, ◌<◌, ◌≤◌, Bool, true, false, cond, List, [], ◌∷◌, ◌++◌, length, Option, Some, None, is_some, ◌⊎◌, Ok, Err, inl, inr, refl, sym, ap, ◌∙◌, subst, arith, append_assoc, append-nil, length-append}
 use Rattle.std.specs.Prelude.{MatchOption}
 use Rattle.std.proofs.lemmas.Bool.Decides.{leb_tells}
 use Rattle.std.proofs.lemmas.List.Elements.{All-append}
 use Rattle.machine_text.specs.Packed.{Packed}
 use Rattle.cert.specs.Claim.{Recorded}
 use Rattle.cert.specs.Grammar.{record_of}
+use Rattle.ledger.specs.Versions.{ledger_record, standing_record}
+use Rattle.ledger.specs.declared.format.Format.{Format}
 use Rattle.cert.specs.Limits.{record_byte_limit}
 use Rattle.cert.specs.declared.record_fault.RecordFault.TheVariants.{TooLong}
 use Rattle.text.specs.Lines.{joined, HasNoNewline, BeginsWithLine}
 use Rattle.ledger.specs.Contents.{Contents}
-use Rattle.ledger.specs.LedgerText.{HasHeader, IsTaken, AreTaken, LineGives, IsUnkeptLine, ReadsAs, LoadGives}
+use Rattle.ledger.specs.LedgerText.{HasHeader, IsTaken, AreTaken, LineGives, IsUnkeptLine, ReadsIn, LoadGives}
 use Rattle.ledger.specs.Loading.{record_start, IsAllTaken, IsLeftSo, IsBodyOf}
 use Rattle.ledger.specs.declared.body.Body.{Body}
 use Rattle.ledger.specs.declared.left.Left.{Left}
@@ -27,8 +29,8 @@ longer_text {text} {line} {rest} more begins = record {
   one_line = begins.one_line;
 }
 
-pub header_more : (text more : List ℕ) (root : Packed) (rest : List ℕ) → HasHeader text root rest → HasHeader (text ++ more) root (rest ++ more)
-header_more text more root rest header = record { name = header.name; line = longer_text more header.line; reads = header.reads }
+abbrev pub header_more : (text more : List ℕ) (root : Packed) (rest : List ℕ) → HasHeader text root rest → HasHeader (text ++ more) root (rest ++ more)
+header_more text more root rest header = record { format = header.format; name = header.name; line = longer_text more header.line; reads = header.reads }
 
 pub headed_more : (root : Packed) (text more : List ℕ) → IsHeaded root text → IsHeaded root (text ++ more)
 headed_more root text more headed = (headed.0 ++ more, header_more text more root headed.0 headed.1)
@@ -59,12 +61,16 @@ start_within line within = elim (start_cases line) [ inl t ↦ sym t.1 | inr t �
 pub start_past : (line : List ℕ) → record_byte_limit < length line → None ≡ record_start line
 start_past line past = elim (start_cases line) [ inl t ↦ absurd (omega (arith, t.0)) | inr t ↦ sym t.1 ]
 
-pub too_long : (line : List ℕ) → record_byte_limit < length line → record_of line ≡ Err TooLong
+read_too_long : (line : List ℕ) → record_byte_limit < length line → record_of line ≡ Err TooLong
 unfolding record_of
-too_long line past = elim (leb_tells (length line) record_byte_limit) [
+read_too_long line past = elim (leb_tells (length line) record_byte_limit) [
   | inl t ↦ absurd (omega (arith, past, t.1))
   | inr t ↦ grind (arith, leb_tells)
 ]
+
+pub too_long : (format : Format) (line : List ℕ) → record_byte_limit < length line → ledger_record format line ≡ Err TooLong
+unfolding ledger_record
+too_long format line past = ap (standing_record format) (read_too_long line past)
 
 -- there are no more lines than bytes
 lines_fit : (lines : List (List ℕ)) → length lines ≤ length (joined lines)
@@ -84,6 +90,21 @@ module _ (root : Packed) (text : List ℕ) (body : Body) where
   pub is_left_so : (left : Left) → body.left ≡ Some left → body.board.root ≡ root → IsLeftSo root text body left → IsBodyOf root text body
   is_left_so left some same is = (same, subst (λ (left : Option Left). MatchOption left (IsAllTaken root text body) (IsLeftSo root text body)) (sym some) is)
 
+some_left : (left : Option Left) (r : Bool) → r ≡ is_some left → r ≡ true → (l : Left) × (left ≡ Some l)
+some_left None r is holds = absurd (cc)
+some_left (Some left) r is holds = (left, refl)
+
+-- where a line wasn't kept, nothing more is
+pub stays_left : (body : Body) (r : Bool) → r ≡ is_some body.left → r ≡ true → (more : List ℕ) (root : Packed) (text : List ℕ) → IsBodyOf root text body
+    → IsBodyOf root (text ++ more) body
+stays_left body r is holds more root text stands =
+    let l = some_left body.left r is holds in
+    let was = left_so root text body l.0 l.1 stands in
+    is_left_so root (text ++ more) body l.0 l.1 stands.0 (record {
+      reads = λ tail. subst (λ (t : List ℕ). ReadsIn body.board.format root t body.board.records l.0) (sym (append_assoc text more tail)) (was.reads (more ++ tail));
+      kept = was.kept;
+    })
+
 -- more bytes of a line
 pub line_grows : (root : Packed) (text part : List ℕ) (old new : Body) → HasNoNewline part → old.left ≡ None → new.left ≡ None → new.board ≡ old.board
     → new.number ≡ old.number → new.before ≡ old.before → ((line : List ℕ) → old.line ≡ record_start line → new.line ≡ record_start (line ++ part))
@@ -96,7 +117,8 @@ line_grows root text part old new one_line none none' board number before kept i
       lines = was.lines;
       line = was.line ++ part;
       is = ap (λ (l : List ℕ). l ++ part) was.is ∙ append_assoc (joined was.lines) was.line part;
-      taken = subst (λ (b : Contents). AreTaken root [] was.lines b.records) (sym board) was.taken;
+      version = was.version ∙ ap (λ (b : Contents). b.format) (sym board);
+      taken = subst (λ (b : Contents). AreTaken was.header.format root [] was.lines b.records) (sym board) was.taken;
       number = number ∙ was.number;
       before = omega (arith, before, was.before, length-append was.line part, length-append text part);
       unfinished = no_newline_more was.line part was.unfinished one_line;
@@ -105,9 +127,9 @@ line_grows root text part old new one_line none none' board number before kept i
 
 -- a line that is taken
 line_taken : (root : Packed) (text part : List ℕ) (after : ℕ) (old new : Body) (was : IsAllTaken root text old) → old.board.root ≡ root → HasNoNewline part
-    → length text + length part + 1 ≡ after → after < 2 ^ 64 → LineGives old.board.root old.board.records (was.line ++ part) None new.board.records
-    → GoesBehind old None after new → new.line ≡ Some [] → IsAllTaken root (text ++ (part ++ (10 ∷ []))) new
-line_taken root text part after old new was same one_line all small gives on empty =
+    → length text + length part + 1 ≡ after → after < 2 ^ 64 → LineGives old.board.format old.board.root old.board.records (was.line ++ part) None new.board.records
+    → new.board.format ≡ old.board.format → GoesBehind old None after new → new.line ≡ Some [] → IsAllTaken root (text ++ (part ++ (10 ∷ []))) new
+line_taken root text part after old new was same one_line all small gives format_same on empty =
     let tail = part ++ (10 ∷ []) in
     let line = was.line ++ part in
     let ends : was.line ++ tail ≡ line ++ (10 ∷ []) = sym (append_assoc was.line part (10 ∷ [])) in
@@ -120,7 +142,9 @@ line_taken root text part after old new was same one_line all small gives on emp
       line = [];
       is = ap (λ (l : List ℕ). l ++ tail) was.is ∙ (append_assoc (joined was.lines) was.line tail ∙ (ap (λ (l : List ℕ). joined was.lines ++ l) ends
           ∙ (sym (joined-append was.lines (line ∷ [])) ∙ sym (append-nil (joined (was.lines ++ (line ∷ [])))))));
-      taken = taken_more root [] old.board.records new.board.records was.lines line gives.0 was.taken (no_newline_more was.line part was.unfinished one_line) gives.1
+      version = was.version ∙ sym format_same;
+      taken = taken_more was.header.format root [] old.board.records new.board.records was.lines line gives.0 was.taken (no_newline_more was.line part was.unfinished one_line)
+          (subst (λ (f : Format). ledger_record f line ≡ Ok gives.0) (sym was.version) gives.1)
           (subst (λ (p : Packed). IsTaken p old.board.records gives.0 new.board.records) same gives.2);
       number = omega (arith, on.0, was.number, few, small, length-append was.lines (line ∷ []));
       before = omega (arith, on.1, all, length-append text tail, length-append part (10 ∷ []));
@@ -130,8 +154,8 @@ line_taken root text part after old new was same one_line all small gives on emp
 
 -- a line that isn't kept, whatever follows
 line_unkept : (root : Packed) (text part : List ℕ) (old : Body) (why : Unkept) (rs : List Recorded) (was : IsAllTaken root text old) → HasNoNewline part
-    → rs ≡ old.board.records → IsUnkeptLine root old.board.records (was.line ++ part) why
-    → (more : List ℕ) → ReadsAs root (text ++ ((part ++ (10 ∷ [])) ++ more)) rs (From old.number old.before why)
+    → rs ≡ old.board.records → IsUnkeptLine old.board.format root old.board.records (was.line ++ part) why
+    → (more : List ℕ) → ReadsIn old.board.format root (text ++ ((part ++ (10 ∷ [])) ++ more)) rs (From old.number old.before why)
 line_unkept root text part old why rs was one_line same unkept_line more =
     let tail = (part ++ (10 ∷ [])) ++ more in
     let rest = was.line ++ tail in
@@ -140,33 +164,41 @@ line_unkept root text part old why rs was one_line same unkept_line more =
       is = ap (λ (l : List ℕ). was.line ++ l) (append_assoc part (10 ∷ []) more) ∙ sym (append_assoc was.line part (10 ∷ more));
       one_line = no_newline_more was.line part was.unfinished one_line;
     } in
+    let format = was.header.format in
+    let unkept_here : IsUnkeptLine format root rs line why =
+    subst (λ (l : List Recorded). IsUnkeptLine format root l line why) (sym same) (subst (λ (f : Format). IsUnkeptLine f root old.board.records line why) (sym was.version) unkept_line) in
     record {
-      body = was.behind ++ tail;
-      header = header_more text tail root was.behind was.header;
-      keeps = record {
-        lines = was.lines;
-        rest = rest;
-        is = ap (λ (l : List ℕ). l ++ tail) was.is ∙ append_assoc (joined was.lines) was.line tail;
-        taken = subst (λ (l : List Recorded). AreTaken root [] was.lines l) (sym same) was.taken;
-        ends = (
-          was.number,
-          omega (arith, was.before, length-append was.line tail, length-append text tail),
-          unkept root rs rest line more why begins (subst (λ (l : List Recorded). IsUnkeptLine root l line why) (sym same) unkept_line),
-        );
+      reads = record {
+        body = was.behind ++ tail;
+        header = header_more text tail root was.behind was.header;
+        keeps = record {
+          lines = was.lines;
+          rest = rest;
+          is = ap (λ (l : List ℕ). l ++ tail) was.is ∙ append_assoc (joined was.lines) was.line tail;
+          taken = subst (λ (l : List Recorded). AreTaken format root [] was.lines l) (sym same) was.taken;
+          ends = (
+            was.number,
+            omega (arith, was.before, length-append was.line tail, length-append text tail),
+            unkept format root rs rest line more why begins unkept_here,
+          );
+        };
       };
+      version = was.version;
     }
 
 -- a line that ends
 line_stands : (root : Packed) (text part : List ℕ) (after : ℕ) (old new : Body) (why : Option Unkept) (was : IsAllTaken root text old) → old.board.root ≡ root
-    → HasNoNewline part → length text + length part + 1 ≡ after → after < 2 ^ 64 → LineGives old.board.root old.board.records (was.line ++ part) why new.board.records
-    → new.board.root ≡ old.board.root → GoesBehind old why after new → new.line ≡ Some [] → IsBodyOf root (text ++ (part ++ (10 ∷ []))) new
-line_stands root text part after old new None was same one_line all small gives root_same on empty =
-    is_all_taken root (text ++ (part ++ (10 ∷ []))) new on.2 (root_same ∙ same) (line_taken root text part after old new was same one_line all small gives on empty)
-line_stands root text part after old new (Some why) was same one_line all small gives root_same on empty =
-    let unkept_line = subst (λ (p : Packed). IsUnkeptLine p old.board.records (was.line ++ part) why) same gives.0 in
+    → HasNoNewline part → length text + length part + 1 ≡ after → after < 2 ^ 64 → LineGives old.board.format old.board.root old.board.records (was.line ++ part) why new.board.records
+    → new.board.root ≡ old.board.root → new.board.format ≡ old.board.format → GoesBehind old why after new → new.line ≡ Some [] → IsBodyOf root (text ++ (part ++ (10 ∷ []))) new
+line_stands root text part after old new None was same one_line all small gives root_same format_same on empty =
+    is_all_taken root (text ++ (part ++ (10 ∷ []))) new on.2 (root_same ∙ same) (line_taken root text part after old new was same one_line all small gives format_same on empty)
+line_stands root text part after old new (Some why) was same one_line all small gives root_same format_same on empty =
+    let unkept_line = subst (λ (p : Packed). IsUnkeptLine old.board.format p old.board.records (was.line ++ part) why) same gives.0 in
     is_left_so root (text ++ (part ++ (10 ∷ []))) new (From old.number old.before why) on (root_same ∙ same) (record {
-      reads = λ more. subst (λ (l : List ℕ). ReadsAs root l new.board.records (From old.number old.before why)) (sym (append_assoc text (part ++ (10 ∷ [])) more))
-          (line_unkept root text part old why new.board.records was one_line gives.1 unkept_line more);
+      reads = λ more.
+          subst (λ (f : Format). ReadsIn f root ((text ++ (part ++ (10 ∷ []))) ++ more) new.board.records (From old.number old.before why)) (sym format_same)
+          (subst (λ (l : List ℕ). ReadsIn old.board.format root l new.board.records (From old.number old.before why)) (sym (append_assoc text (part ++ (10 ∷ [])) more))
+          (line_unkept root text part old why new.board.records was one_line gives.1 unkept_line more));
       kept = empty;
     })
 
@@ -177,7 +209,8 @@ whole_ends part after old new one_line small none empty done root text all is =
     let was = all_taken root text old none is in
     let nothing : was.line ≡ [] = sym (start_is was.line [] (sym empty ∙ was.kept)) in
     line_stands root text part after old new done.why was is.0 one_line all small
-    (subst (λ (l : List ℕ). LineGives old.board.root old.board.records (l ++ part) done.why new.board.records) (sym nothing) done.gives) done.root done.goes_on done.empty
+    (subst (λ (l : List ℕ). LineGives old.board.format old.board.root old.board.records (l ++ part) done.why new.board.records) (sym nothing) done.gives) done.root done.format
+    done.goes_on done.empty
 
 -- its last part came behind what had come before
 pub begun_ends : (part : List ℕ) (after : ℕ) (old mid new : Body) → HasNoNewline part → after < 2 ^ 64 → old.left ≡ None → mid.left ≡ None → mid.board ≡ old.board
@@ -190,7 +223,8 @@ begun_ends part after old mid new one_line small none none' board number before 
     let nothing : List ℕ = [] in
     let size : length (text ++ part) + length nothing + 1 ≡ after = omega (arith, all, length-append text part) in
     let ended = line_stands root (text ++ part) nothing after mid new last.why was grown.0 (λ k d below. absurd (omega arith)) size small
-    (subst (λ (l : List ℕ). LineGives mid.board.root mid.board.records l last.why new.board.records) (sym (append-nil was.line)) last.gives) last.root last.goes_on last.empty in
+    (subst (λ (l : List ℕ). LineGives mid.board.format mid.board.root mid.board.records l last.why new.board.records) (sym (append-nil was.line)) last.gives) last.root last.format
+    last.goes_on last.empty in
     subst (λ (l : List ℕ). IsBodyOf root l new) (append_assoc text part (10 ∷ [])) ended
 
 -- the text ends here
@@ -198,7 +232,10 @@ pub ends_whole : (root : Packed) (text : List ℕ) (body : Body) → body.left �
 ends_whole root text body none empty is =
     let was = all_taken root text body none is in
     let nothing : was.line ≡ [] = sym (start_is was.line [] (sym empty ∙ was.kept)) in
-    (is.0, inr (record { body = was.behind; header = was.header; keeps = record { lines = was.lines; rest = was.line; is = was.is; taken = was.taken; ends = nothing } }))
+    (is.0, inr (record {
+      reads = record { body = was.behind; header = was.header; keeps = record { lines = was.lines; rest = was.line; is = was.is; taken = was.taken; ends = nothing } };
+      version = was.version;
+    }))
 
 pub ends_torn : (root : Packed) (text : List ℕ) (body : Body) → body.left ≡ None → body.line ≢ Some [] → IsBodyOf root text body
     → LoadGives root text (Ok (body.board, From body.number body.before Torn))
@@ -207,22 +244,25 @@ ends_torn root text body none some is =
     let not_empty : was.line ≢ [] = λ e. some (was.kept ∙ (ap record_start e ∙ sym (start_within [] (omega arith)))) in (
       is.0,
       inr (record {
-        body = was.behind;
-        header = was.header;
-        keeps = record {
-          lines = was.lines;
-          rest = was.line;
-          is = was.is;
-          taken = was.taken;
-          ends = (was.number, was.before, (was.unfinished, not_empty));
+        reads = record {
+          body = was.behind;
+          header = was.header;
+          keeps = record {
+            lines = was.lines;
+            rest = was.line;
+            is = was.is;
+            taken = was.taken;
+            ends = (was.number, was.before, (was.unfinished, not_empty));
+          };
         };
+        version = was.version;
       }),
     )
 
 pub ends_left : (root : Packed) (text : List ℕ) (body : Body) (left : Left) → body.left ≡ Some left → IsBodyOf root text body → LoadGives root text (Ok (body.board, left))
 ends_left root text body left some is =
     let was = left_so root text body left some is in
-    (is.0, inr (subst (λ (l : List ℕ). ReadsAs root l body.board.records left) (append-nil text) (was.reads [])))
+    (is.0, inr (subst (λ (l : List ℕ). ReadsIn body.board.format root l body.board.records left) (append-nil text) (was.reads [])))
 
 -- a body of which no line wasn't kept has the header
 pub body_headed : (root : Packed) (text : List ℕ) (body : Body) → body.left ≡ None → IsBodyOf root text body → IsHeaded root text

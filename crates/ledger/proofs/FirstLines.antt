@@ -6,7 +6,10 @@ use Rattle.std.proofs.lemmas.Bool.{cases_lt}
 use Rattle.machine_text.specs.Packed.{Packed}
 use Rattle.machine_text.specs.Text.{table_of, states_in, is_table_length}
 use Rattle.machine_text.proofs.Named.{table_of-length, length_of_states}
-use Rattle.ledger.specs.LedgerText.{header_words, BeginsAsHeader, IsTornLeft}
+use Rattle.ledger.specs.Versions.{header_words}
+use Rattle.ledger.specs.declared.format.Format.{Format}
+use Rattle.ledger.specs.LedgerText.{BeginsAsHeader, IsTornLeft}
+use Rattle.ledger.proofs.HeaderLaws.{words_length}
 use Rattle.ledger.specs.Loading.{NamesRoot, header_start}
 use Rattle.ledger.specs.declared.left.Left.{Left}
 use Rattle.ledger.specs.declared.left.Left.TheVariants.{Nothing, From}
@@ -37,37 +40,43 @@ table_text_short name root reads =
       | false ↦ λ is. let fails = table_of-length name is in absurd (cc)
     ] refl
 
-header_short : (line : List ℕ) (root : Packed) → NamesRoot line root → length line ≤ 53
-header_short line root named =
-    omega (arith, ap length named.words, length-append header_words named.name, table_text_short named.name root named.reads)
+header_short : (format : Format) (line : List ℕ) (root : Packed) → NamesRoot format line root → length line ≤ 53
+header_short format line root named =
+    omega (arith, ap length named.is, length-append (header_words format) named.name, words_length format, table_text_short named.name root named.reads)
 
 whole_start : (line : List ℕ) → length line ≤ 53 → header_start line ≡ line
 whole_start line short = take_all 64 line (omega arith)
 
 -- a line and what is kept of it are headers of the same roots
-pub named_whole : (line : List ℕ) (root : Packed) → NamesRoot (header_start line) root → NamesRoot line root
-named_whole line root named =
-    let short : length line ≤ 53 = omega (arith, header_short (header_start line) root named, length-take 64 line) in
-    subst (λ (l : List ℕ). NamesRoot l root) (whole_start line short) named
+pub named_whole : (format : Format) (line : List ℕ) (root : Packed) → NamesRoot format (header_start line) root → NamesRoot format line root
+named_whole format line root named =
+    let short : length line ≤ 53 = omega (arith, header_short format (header_start line) root named, length-take 64 line) in
+    subst (λ (l : List ℕ). NamesRoot format l root) (whole_start line short) named
 
-pub named_start : (line : List ℕ) (root : Packed) → NamesRoot line root → NamesRoot (header_start line) root
-named_start line root named = subst (λ (l : List ℕ). NamesRoot l root) (sym (whole_start line (header_short line root named))) named
+pub named_start : (format : Format) (line : List ℕ) (root : Packed) → NamesRoot format line root → NamesRoot format (header_start line) root
+named_start format line root named = subst (λ (l : List ℕ). NamesRoot format l root) (sym (whole_start line (header_short format line root named))) named
 
 -- and begin both as headers
 pub begun_whole : (text : List ℕ) → BeginsAsHeader (header_start text) → BeginsAsHeader text
-begun_whole text (inl w) =
-    let short : length text ≤ 53 = omega (arith, ap length w.1, length-append (header_start text) w.0, length-take 64 text) in
-    inl (w.0, w.1 ∙ ap (λ (l : List ℕ). l ++ w.0) (whole_start text short))
-begun_whole text (inr w) = inr (
-  w.0 ++ drop 64 text,
-  sym (take-append-drop 64 text) ∙ (ap (λ (l : List ℕ). l ++ drop 64 text) w.1 ∙ append_assoc header_words w.0 (drop 64 text)),
+begun_whole text (format, inl w) =
+    let short : length text ≤ 53 = omega (arith, ap length w.1, length-append (header_start text) w.0, length-take 64 text, words_length format) in
+    (format, inl (w.0, w.1 ∙ ap (λ (l : List ℕ). l ++ w.0) (whole_start text short)))
+begun_whole text (format, inr w) = (
+  format,
+  inr (
+    w.0 ++ drop 64 text,
+    sym (take-append-drop 64 text) ∙ (ap (λ (l : List ℕ). l ++ drop 64 text) w.1 ∙ append_assoc (header_words format) w.0 (drop 64 text)),
+  ),
 )
 
 pub begun_start : (text : List ℕ) → BeginsAsHeader text → BeginsAsHeader (header_start text)
-begun_start text (inl w) =
-    let short : length text ≤ 53 = omega (arith, ap length w.1, length-append text w.0) in
-    inl (w.0, w.1 ∙ ap (λ (l : List ℕ). l ++ w.0) (sym (whole_start text short)))
-begun_start text (inr w) = inr (take 52 w.0, ap (take 64) w.1 ∙ take-append-add header_words w.0 52)
+begun_start text (format, inl w) =
+    let short : length text ≤ 53 = omega (arith, ap length w.1, length-append text w.0, words_length format) in
+    (format, inl (w.0, w.1 ∙ ap (λ (l : List ℕ). l ++ w.0) (sym (whole_start text short))))
+begun_start text (format, inr w) =
+    let words = header_words format in
+    let size : 64 ≡ length words + 52 = omega (arith, words_length format) in
+    (format, inr (take 52 w.0, ap (take 64) w.1 ∙ (ap (λ (k : ℕ). take k (words ++ w.0)) size ∙ take-append-add words w.0 52)))
 
 empty_start : (text : List ℕ) → header_start text ≡ [] → text ≡ []
 empty_start [] e = refl

@@ -13,7 +13,7 @@ use Rattle.tree.specs.Tables.{IsChildTable, InTableTree, Itself}
 use Rattle.tree.proofs.TableLaws.{tree_table_child, one_table_parent}
 use Rattle.cert.specs.Claim.{Claim, Recorded, ending_by}
 use Rattle.ledger.specs.Records.{same_table, claim_in, mark_in, mark_by}
-use Rattle.ledger.specs.Contents.{IsBoard}
+use Rattle.ledger.specs.Contents.{IsBoardOf}
 use Rattle.ledger.specs.inside.Counting.{says_halts}
 use Rattle.ledger.specs.inside.Stored.{entry_recorded, records_of, KnowsPair}
 use Rattle.ledger.specs.inside.Carrying.{changed_count, MayChange, OnChain, HasChain, AreEarlier, ChainMayChange, IsCarried, AreCarried}
@@ -29,6 +29,7 @@ use Rattle.ledger.proofs.Numbers.{member_marked}
 use Rattle.ledger.proofs.OpenLaws.{IsTaken, recorded_in_tree}
 use Rattle.ledger.proofs.Same.{same_is}
 use Rattle.ledger.proofs.TreeCounts.{HaveParents, count_kept}
+use Rattle.ledger.specs.declared.format.Format.TheVariants.{Two}
 
 -- a record at a place is a member, and stands for its table
 member_at : (rs : List Recorded) (i : ℕ) (r : Recorded) → slice_get rs i ≡ Some r → Contains rs r
@@ -63,7 +64,7 @@ once_entries es apart = λ i j e f at there same. elim (cases_lt i j) [
         (ap (λ (r : Recorded). r.table) (get_or_from_slice_get (records_of es) i (entry_recorded e) (entry_recorded e) first) ∙ same
         ∙ sym (ap (λ (r : Recorded). r.table) (get_or_from_slice_get (records_of es) j (entry_recorded f) (entry_recorded e) second)))
 
-pub below_entries : (root : Packed) (es : List (Packed × StoredRecord)) → IsBoard (record { root = root; records = records_of es }) → AreBelow root es
+pub below_entries : (root : Packed) (es : List (Packed × StoredRecord)) → IsBoardOf root (records_of es) → AreBelow root es
 below_entries root es board = λ i e at.
     recorded_in_tree root (records_of es) e.0 (entry_recorded e).claim tree_table_child board.held (entry_claim es i e (held_apart root (records_of es) board.held) at)
 
@@ -77,11 +78,11 @@ halting_mark (Some (Halts k)) is = (k, refl)
 halting_mark (Some Never) is = cc
 
 -- the parent of what is open or recorded is recorded as halting
-pub have_parents : (root : Packed) (es : List (Packed × StoredRecord)) → IsBoard (record { root = root; records = records_of es }) → AreParented root es → HaveParents root (records_of es)
+pub have_parents : (root : Packed) (es : List (Packed × StoredRecord)) → IsBoardOf root (records_of es) → AreParented root es → HaveParents root (records_of es)
 have_parents root es board parents p t there child (inl is_open) = elim is_open.place [
   | inl e ↦ absurd (no_way_up root p board.is_table there (subst (IsChildTable p) e child))
   | inr w ↦
-      let above = marked_in_tree (record { root = root; records = records_of es }) w.0 (Halting w.1) tree_table_child board w.2 in
+      let above = marked_in_tree (record { root = root; records = records_of es; format = Two }) w.0 (Halting w.1) tree_table_child board w.2 in
       let same : w.0 ≡ p = one_table_parent root w.0 p t board.is_table above there w.3 child in
       (w.1, subst (λ (x : Packed). mark_in (records_of es) x ≡ Some (Halting w.1)) same w.2)
 ]
@@ -117,7 +118,7 @@ same_list (x ∷ xs) (y ∷ ys) long same =
 
 -- a record is put, and its change isn't carried up yet: the numbers are those before
 pub record IsReady (root : Packed) (old : List Recorded) (es : List (Packed × StoredRecord)) (r : Recorded) (from : ℕ) : Type 0 where
-  pub board : IsBoard (record { root = root; records = records_of es })
+  pub board : IsBoardOf root (records_of es)
   pub had : HaveParents root old
   pub taken : IsTaken old (records_of es) r
   pub parents : AreParented root es

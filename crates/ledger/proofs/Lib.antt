@@ -31,6 +31,7 @@ pub mod StageLaws
 pub mod ReadingLaws
 pub mod Loads
 pub mod Appends
+pub mod VersionLaws
 pub mod Written
 pub mod Beginnings
 pub mod Agreement

@@ -2,18 +2,20 @@
 use Rattle.std.proofs.Common.{◌≡◌, ℕ, ◌+◌, ◌≤◌, List, [], ◌∷◌, ◌++◌, length, Ok, refl, sym, ap, ◌∙◌, subst, arith, length-append, append_assoc}
 use Rattle.machine_text.specs.Packed.{Packed}
 use Rattle.cert.specs.Claim.{Recorded}
-use Rattle.cert.specs.Grammar.{record_of}
+use Rattle.ledger.specs.Versions.{header_words, ledger_record}
 use Rattle.text.specs.Lines.{joined, HasNoNewline, BeginsWithLine}
-use Rattle.ledger.specs.LedgerText.{IsTaken, AreTaken, IsUnkeptLine, IsUnkept, HasHeader, header_words}
+use Rattle.ledger.specs.LedgerText.{IsTaken, AreTaken, IsUnkeptLine, IsUnkept, HasHeader}
+use Rattle.ledger.specs.declared.format.Format.{Format}
 use Rattle.ledger.specs.declared.left.Unkept.{Unkept}
 use Rattle.ledger.specs.declared.left.Unkept.TheVariants.{Torn, Unread, Unfit, Repeated}
+use Rattle.ledger.proofs.HeaderLaws.{words_length}
 
 -- one more line
-pub taken_more : (root : Packed) (old mid new : List Recorded) (lines : List (List ℕ)) (line : List ℕ) (r : Recorded) → AreTaken root old lines mid
-    → HasNoNewline line → record_of line ≡ Ok r → IsTaken root mid r new → AreTaken root old (lines ++ (line ∷ [])) new
-taken_more root old mid new [] line r taken one reads last = (r, new, one, reads, subst (λ (l : List Recorded). IsTaken root l r new) taken last, refl)
-taken_more root old mid new (first ∷ lines) line r taken one reads last =
-    (taken.0, taken.1, taken.2, taken.3, taken.4, taken_more root taken.1 mid new lines line r taken.5 one reads last)
+pub taken_more : (format : Format) (root : Packed) (old mid new : List Recorded) (lines : List (List ℕ)) (line : List ℕ) (r : Recorded) → AreTaken format root old lines mid
+    → HasNoNewline line → ledger_record format line ≡ Ok r → IsTaken root mid r new → AreTaken format root old (lines ++ (line ∷ [])) new
+taken_more format root old mid new [] line r taken one reads last = (r, new, one, reads, subst (λ (l : List Recorded). IsTaken root l r new) taken last, refl)
+taken_more format root old mid new (first ∷ lines) line r taken one reads last =
+    (taken.0, taken.1, taken.2, taken.3, taken.4, taken_more format root taken.1 mid new lines line r taken.5 one reads last)
 
 pub joined-append : (lines more : List (List ℕ)) → joined (lines ++ more) ≡ joined lines ++ joined more
 joined-append [] more = refl
@@ -21,13 +23,14 @@ joined-append (line ∷ lines) more =
     ap (λ (l : List ℕ). line ++ (10 ∷ l)) (joined-append lines more) ∙ sym (append_assoc line (10 ∷ joined lines) (joined more))
 
 -- why a line isn't kept is why nothing is kept of the text that begins with it
-pub unkept : (root : Packed) (rs : List Recorded) (rest line after : List ℕ) (why : Unkept) → BeginsWithLine rest line after → IsUnkeptLine root rs line why → IsUnkept root rs rest why
-unkept root rs rest line after Torn begins is = absurd is
-unkept root rs rest line after (Unread f) begins is = (line, after, begins, is)
-unkept root rs rest line after (Unfit f) begins is = (line, after, begins, is)
-unkept root rs rest line after Repeated begins is = (line, after, begins, is)
+pub unkept : (format : Format) (root : Packed) (rs : List Recorded) (rest line after : List ℕ) (why : Unkept) → BeginsWithLine rest line after → IsUnkeptLine format root rs line why
+    → IsUnkept format root rs rest why
+unkept format root rs rest line after Torn begins is = absurd is
+unkept format root rs rest line after (Unread f) begins is = (line, after, begins, is)
+unkept format root rs rest line after (Unfit f) begins is = (line, after, begins, is)
+unkept format root rs rest line after Repeated begins is = (line, after, begins, is)
 
 -- a header is longer than two bytes
 pub behind_header : (text : List ℕ) (root : Packed) (body : List ℕ) → HasHeader text root body → length body + 2 ≤ length text
 behind_header text root body header =
-    omega (arith, ap length header.line.is, length-append (header_words ++ header.name) (10 ∷ body), length-append header_words header.name)
+    omega (arith, ap length header.line.is, length-append (header_words header.format ++ header.name) (10 ∷ body), length-append (header_words header.format) header.name, words_length header.format)

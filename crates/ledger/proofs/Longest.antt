@@ -4,11 +4,12 @@ use Rattle.std.proofs.lemmas.List.{append_cancel_left}
 use Rattle.machine_text.specs.Packed.{Packed, IsTable}
 use Rattle.machine_text.specs.Text.{table_of}
 use Rattle.cert.specs.Claim.{Recorded}
-use Rattle.cert.specs.Grammar.{record_of}
 use Rattle.ledger.specs.Held.{IsFit, Settles}
 use Rattle.ledger.specs.Offers.{OfferGives}
 use Rattle.text.specs.Lines.{joined, BeginsWithLine}
-use Rattle.ledger.specs.LedgerText.{header_words, HasHeader, AreTaken, IsUnkept, ReadsAs}
+use Rattle.ledger.specs.Versions.{header_words, ledger_record}
+use Rattle.ledger.specs.declared.format.Format.{Format}
+use Rattle.ledger.specs.LedgerText.{HasHeader, AreTaken, IsUnkept, ReadsAs}
 use Rattle.ledger.specs.LedgerLaws.{IsLongest}
 use Rattle.ledger.specs.Lists.{IsFitAfter, AreKept, held, Offer, AreOffered, answered, answered_with, AreFitLines}
 use Rattle.ledger.specs.declared.taken.Taken.{Taken}
@@ -19,6 +20,7 @@ use Rattle.ledger.specs.declared.left.Left.{Left}
 use Rattle.ledger.specs.declared.left.Unkept.{Unkept}
 use Rattle.ledger.specs.declared.left.Unkept.TheVariants.{Torn, Unread, Unfit, Repeated}
 use Rattle.text.proofs.Lines.{same_cut, same_line, line_has_newline}
+use Rattle.ledger.proofs.HeaderLaws.{one_format}
 use Rattle.ledger.proofs.Beginnings.{EndsAt, ends_by}
 use Rattle.ledger.proofs.Agreement.{Agree, agree_none, agree_new, agree_settled, new_fit, settling_fit, fit_now, fit_or_known, fit_or_refused}
 
@@ -57,73 +59,74 @@ pub offers_are_held : (root : Packed) (os : List Offer) (new : List Recorded) �
 offers_are_held root os new table offered = all_offers root [] [] new os table (agree_none root) offered
 
 -- lines that are taken are fit
-fit_lines : (root : Packed) (ks rs new : List Recorded) (lines : List (List ℕ)) → Agree root ks rs → AreTaken root rs lines new
-    → (kept : List Recorded) × AreFitLines root ks lines kept × (new ≡ held kept)
-fit_lines root ks rs new [] agree taken = (ks, refl, taken ∙ agree.is)
-fit_lines root ks rs new (line ∷ lines) agree taken = elim taken.4 [
+fit_lines : (format : Format) (root : Packed) (ks rs new : List Recorded) (lines : List (List ℕ)) → Agree root ks rs → AreTaken format root rs lines new
+    → (kept : List Recorded) × AreFitLines format root ks lines kept × (new ≡ held kept)
+fit_lines format root ks rs new [] agree taken = (ks, refl, taken ∙ agree.is)
+fit_lines format root ks rs new (line ∷ lines) agree taken = elim taken.4 [
   | inl w ↦
-      let later = fit_lines root (ks ++ (taken.0 ∷ [])) taken.1 new lines (subst (Agree root (ks ++ (taken.0 ∷ []))) (sym w.1) (agree_new root ks rs taken.0 agree w.0)) taken.5 in
+      let later = fit_lines format root (ks ++ (taken.0 ∷ [])) taken.1 new lines (subst (Agree root (ks ++ (taken.0 ∷ []))) (sym w.1) (agree_new root ks rs taken.0 agree w.0)) taken.5 in
       (later.0, (taken.0, taken.2, taken.3, new_fit root ks rs taken.0 agree w.0, later.1), later.2)
   | inr w ↦
-      let later = fit_lines root (ks ++ (taken.0 ∷ [])) taken.1 new lines (subst (Agree root (ks ++ (taken.0 ∷ []))) (sym w.1) (agree_settled root ks rs taken.0 agree w.0)) taken.5 in
+      let later = fit_lines format root (ks ++ (taken.0 ∷ [])) taken.1 new lines (subst (Agree root (ks ++ (taken.0 ∷ []))) (sym w.1) (agree_settled root ks rs taken.0 agree w.0)) taken.5 in
       (later.0, (taken.0, taken.2, taken.3, settling_fit root ks rs taken.0 agree w.0, later.1), later.2)
 ]
 
 -- where nothing more is kept, no line is fit
-one_read : (line line' : List ℕ) (r r' : Recorded) → line ≡ line' → record_of line ≡ Ok r → record_of line' ≡ Ok r' → r ≡ r'
-one_read line line' r r' same is is' = let e = ap record_of same in cc
+one_read : (format : Format) (line line' : List ℕ) (r r' : Recorded) → line ≡ line' → ledger_record format line ≡ Ok r → ledger_record format line' ≡ Ok r' → r ≡ r'
+one_read format line line' r r' same is is' = let e = ap (ledger_record format) same in cc
 
-stuck : (root : Packed) (ks rs : List Recorded) (rest line after : List ℕ) (r : Recorded) (why : Unkept) → IsTable root → Agree root ks rs → BeginsWithLine rest line after
-    → record_of line ≡ Ok r → IsFitAfter root ks r → IsUnkept root rs rest why → ⊥
-stuck root ks rs rest line after r Torn table agree begins reads fit is = line_has_newline begins is.0
-stuck root ks rs rest line after r (Unread f) table agree begins reads fit is = let same = ap record_of (same_line begins is.2).0 in let bad = is.3 in absurd (cc)
-stuck root ks rs rest line after r (Unfit f) table agree begins reads fit is =
+stuck : (format : Format) (root : Packed) (ks rs : List Recorded) (rest line after : List ℕ) (r : Recorded) (why : Unkept) → IsTable root → Agree root ks rs → BeginsWithLine rest line after
+    → ledger_record format line ≡ Ok r → IsFitAfter root ks r → IsUnkept format root rs rest why → ⊥
+stuck format root ks rs rest line after r Torn table agree begins reads fit is = line_has_newline begins is.0
+stuck format root ks rs rest line after r (Unread f) table agree begins reads fit is = let same = ap (ledger_record format) (same_line begins is.2).0 in let bad = is.3 in absurd (cc)
+stuck format root ks rs rest line after r (Unfit f) table agree begins reads fit is =
     let w = is.3.1 in
-    let same : r ≡ w.0 = one_read line is.0 r w.0 (same_line begins is.2).0 reads w.1 in
+    let same : r ≡ w.0 = one_read format line is.0 r w.0 (same_line begins is.2).0 reads w.1 in
     fit_or_refused root rs w.0 f rs table agree.is_held (subst (λ (x : Recorded). IsFit root rs x ⊎ Settles rs x) same (fit_now root ks rs r agree fit)) w.2 is.3.0
-stuck root ks rs rest line after r Repeated table agree begins reads fit is =
+stuck format root ks rs rest line after r Repeated table agree begins reads fit is =
     let w = is.3 in
-    let same : r ≡ w.0 = one_read line is.0 r w.0 (same_line begins is.2).0 reads w.1 in
+    let same : r ≡ w.0 = one_read format line is.0 r w.0 (same_line begins is.2).0 reads w.1 in
     fit_or_known root rs w.0 (subst (λ (x : Recorded). IsFit root rs x ⊎ Settles rs x) same (fit_now root ks rs r agree fit)) w.2.0
 
 -- any list of whole lines that are fit in their turn is a beginning of those that are taken up to such an end
-begins_all : (root : Packed) (ks rs new : List Recorded) (lines : List (List ℕ)) (rest : List ℕ) (others : List (List ℕ)) (rest' : List ℕ) (kept : List Recorded) → IsTable root
-    → Agree root ks rs → AreTaken root rs lines new → EndsAt root new rest → joined lines ++ rest ≡ joined others ++ rest' → AreFitLines root ks others kept
+begins_all : (format : Format) (root : Packed) (ks rs new : List Recorded) (lines : List (List ℕ)) (rest : List ℕ) (others : List (List ℕ)) (rest' : List ℕ) (kept : List Recorded) → IsTable root
+    → Agree root ks rs → AreTaken format root rs lines new → EndsAt format root new rest → joined lines ++ rest ≡ joined others ++ rest' → AreFitLines format root ks others kept
     → (more : List (List ℕ)) × (lines ≡ others ++ more)
-begins_all root ks rs new lines rest [] rest' kept table agree taken ends is fit = (lines, refl)
-begins_all root ks rs new [] rest (other ∷ others) rest' kept table agree taken ends is fit =
+begins_all format root ks rs new lines rest [] rest' kept table agree taken ends is fit = (lines, refl)
+begins_all format root ks rs new [] rest (other ∷ others) rest' kept table agree taken ends is fit =
     let begins : BeginsWithLine rest other (joined others ++ rest') = record { is = is ∙ append_assoc other (10 ∷ joined others) rest'; one_line = fit.1 } in
     absurd (elim ends [
       | inl none ↦ let front = sym none ∙ begins.is in no_line other (joined others ++ rest') front
-      | inr u ↦ stuck root ks rs rest other (joined others ++ rest') fit.0 u.0 table agree begins fit.2 fit.3 (subst (λ (l : List Recorded). IsUnkept root l rest u.0) taken u.1)
+      | inr u ↦ stuck format root ks rs rest other (joined others ++ rest') fit.0 u.0 table agree begins fit.2 fit.3 (subst (λ (l : List Recorded). IsUnkept format root l rest u.0) taken u.1)
     ])
   where
     no_line : (line more : List ℕ) → [] ≡ line ++ (10 ∷ more) → ⊥
     no_line [] more e = cc
     no_line (x ∷ xs) more e = cc
-begins_all root ks rs new (line ∷ lines) rest (other ∷ others) rest' kept table agree taken ends is fit =
+begins_all format root ks rs new (line ∷ lines) rest (other ∷ others) rest' kept table agree taken ends is fit =
     let whole : line ++ (10 ∷ (joined lines ++ rest)) ≡ other ++ (10 ∷ (joined others ++ rest')) =
     sym (append_assoc line (10 ∷ joined lines) rest) ∙ (is ∙ append_assoc other (10 ∷ joined others) rest') in
     let same = same_cut line other (joined lines ++ rest) (joined others ++ rest') taken.2 fit.1 whole in
-    let one : taken.0 ≡ fit.0 = one_read line other taken.0 fit.0 same.0 taken.3 fit.2 in
-    let under : AreFitLines root (ks ++ (taken.0 ∷ [])) others kept = subst (λ (x : Recorded). AreFitLines root (ks ++ (x ∷ [])) others kept) (sym one) fit.4 in
+    let one : taken.0 ≡ fit.0 = one_read format line other taken.0 fit.0 same.0 taken.3 fit.2 in
+    let under : AreFitLines format root (ks ++ (taken.0 ∷ [])) others kept = subst (λ (x : Recorded). AreFitLines format root (ks ++ (x ∷ [])) others kept) (sym one) fit.4 in
     let then : Agree root (ks ++ (taken.0 ∷ [])) taken.1 = elim taken.4 [
       | inl w ↦ subst (Agree root (ks ++ (taken.0 ∷ []))) (sym w.1) (agree_new root ks rs taken.0 agree w.0)
       | inr w ↦ subst (Agree root (ks ++ (taken.0 ∷ []))) (sym w.1) (agree_settled root ks rs taken.0 agree w.0)
     ] in
-    let later = begins_all root (ks ++ (taken.0 ∷ [])) taken.1 new lines rest others rest' kept table then taken.5 ends same.1 under in
+    let later = begins_all format root (ks ++ (taken.0 ∷ [])) taken.1 new lines rest others rest' kept table then taken.5 ends same.1 under in
     (later.0, ap (λ (l : List ℕ). l ∷ lines) same.0 ∙ ap (λ (l : List (List ℕ)). other ∷ l) later.1)
 
-pub longest : (root : Packed) (text : List ℕ) (rs : List Recorded) (left : Left) → IsTable root → (reads : ReadsAs root text rs left) → IsLongest root reads.body reads.keeps.lines rs
+pub longest : (root : Packed) (text : List ℕ) (rs : List Recorded) (left : Left) → IsTable root → (reads : ReadsAs root text rs left) → IsLongest reads.header.format root reads.body reads.keeps.lines rs
 longest root text rs left table reads =
     let keeps = reads.keeps in
-    let found = fit_lines root [] [] rs keeps.lines (agree_none root) keeps.taken in
+    let format = reads.header.format in
+    let found = fit_lines format root [] [] rs keeps.lines (agree_none root) keeps.taken in
     record {
       kept = found.0;
       fit = found.1;
       records = found.2;
       longest = λ others rest kept is fit.
-          begins_all root [] [] rs keeps.lines keeps.rest others rest kept table (agree_none root) keeps.taken (ends_by root rs _ _ keeps.rest left keeps.ends) (sym keeps.is ∙ is) fit;
+          begins_all format root [] [] rs keeps.lines keeps.rest others rest kept table (agree_none root) keeps.taken (ends_by format root rs _ _ keeps.rest left keeps.ends) (sym keeps.is ∙ is) fit;
     }
 
 -- so there is one such list
@@ -131,33 +134,45 @@ nothing_more : (xs ys more less : List (List ℕ)) → xs ≡ ys ++ more → ys 
 nothing_more xs ys [] less is back = is ∙ append-nil ys
 nothing_more xs ys (x ∷ more) less is back = absurd (omega (arith, ap length is, length-append ys (x ∷ more), ap length back, length-append xs less))
 
-one_kept : (root : Packed) (ks : List Recorded) (lines : List (List ℕ)) (a b : List Recorded) → AreFitLines root ks lines a → AreFitLines root ks lines b → a ≡ b
-one_kept root ks [] a b fit fit' = fit ∙ sym fit'
-one_kept root ks (line ∷ lines) a b fit fit' =
-    let same : fit'.0 ≡ fit.0 = one_read line line fit'.0 fit.0 refl fit'.2 fit.2 in
-    one_kept root (ks ++ (fit.0 ∷ [])) lines a b fit.4 (subst (λ (x : Recorded). AreFitLines root (ks ++ (x ∷ [])) lines b) same fit'.4)
+one_kept : (format : Format) (root : Packed) (ks : List Recorded) (lines : List (List ℕ)) (a b : List Recorded) → AreFitLines format root ks lines a → AreFitLines format root ks lines b → a ≡ b
+one_kept format root ks [] a b fit fit' = fit ∙ sym fit'
+one_kept format root ks (line ∷ lines) a b fit fit' =
+    let same : fit'.0 ≡ fit.0 = one_read format line line fit'.0 fit.0 refl fit'.2 fit.2 in
+    one_kept format root (ks ++ (fit.0 ∷ [])) lines a b fit.4 (subst (λ (x : Recorded). AreFitLines format root (ks ++ (x ∷ [])) lines b) same fit'.4)
 
-one_root : (text : List ℕ) (root other : Packed) (body body' : List ℕ) → HasHeader text root body → HasHeader text other body' → (root ≡ other) × (body ≡ body')
+one_root : (text : List ℕ) (root other : Packed) (body body' : List ℕ) → (header : HasHeader text root body) → (header' : HasHeader text other body')
+    → (root ≡ other) × (body ≡ body') × (header.format ≡ header'.format)
 one_root text root other body body' header header' =
     let line = same_line header.line header'.line in
-    let name : header.name ≡ header'.name = append_cancel_left header_words header.name header'.name line.0 in
+    let format = one_format header.format header'.format header.name header'.name line.0 in
+    let words : header_words header.format ++ header.name ≡ header_words header.format ++ header'.name =
+    line.0 ∙ ap (λ (f : Format). header_words f ++ header'.name) (sym format) in
+    let name : header.name ≡ header'.name = append_cancel_left (header_words header.format) header.name header'.name words in
     let reads = header.reads in
     let reads' = header'.reads in
     let same = ap table_of name in
-    (cc, line.1)
+    (cc, line.1, format)
 
 one_of_root : (root : Packed) (text : List ℕ) (rs rs' : List Recorded) (left left' : Left) → IsTable root → ReadsAs root text rs left → ReadsAs root text rs' left' → rs ≡ rs'
 one_of_root root text rs rs' left left' table reads reads' =
-    let bodies = (one_root text root root reads.body reads'.body reads.header reads'.header).1 in
+    let one = one_root text root root reads.body reads'.body reads.header reads'.header in
+    let bodies = one.1 in
+    let format = reads.header.format in
     let a = longest root text rs left table reads in
-    let b = longest root text rs' left' table reads' in
+    let b : IsLongest format root reads'.body reads'.keeps.lines rs' =
+    subst (λ (f : Format). IsLongest f root reads'.body reads'.keeps.lines rs') (sym one.2) (longest root text rs' left' table reads') in
     let more = a.longest reads'.keeps.lines reads'.keeps.rest b.kept (bodies ∙ reads'.keeps.is) b.fit in
     let less = b.longest reads.keeps.lines reads.keeps.rest a.kept (sym bodies ∙ reads.keeps.is) a.fit in
     let lines : reads.keeps.lines ≡ reads'.keeps.lines = nothing_more reads.keeps.lines reads'.keeps.lines more.0 less.0 more.1 less.1 in
-    a.records ∙ (ap held (one_kept root [] reads'.keeps.lines a.kept b.kept (subst (λ (l : List (List ℕ)). AreFitLines root [] l a.kept) lines a.fit) b.fit) ∙ sym b.records)
+    let fit = subst (λ (l : List (List ℕ)). AreFitLines format root [] l a.kept) lines a.fit in
+    a.records ∙ (ap held (one_kept format root [] reads'.keeps.lines a.kept b.kept fit b.fit) ∙ sym b.records)
 
 pub reads_as_one : (root other : Packed) (text : List ℕ) (rs rs' : List Recorded) (left left' : Left) → IsTable root → ReadsAs root text rs left → ReadsAs other text rs' left'
     → (root ≡ other) × (rs ≡ rs')
 reads_as_one root other text rs rs' left left' table reads reads' =
     let same = (one_root text root other reads.body reads'.body reads.header reads'.header).0 in
     (same, one_of_root root text rs rs' left left' table reads (subst (λ (p : Packed). ReadsAs p text rs' left') (sym same) reads'))
+
+pub reads_in_one : (root other : Packed) (text : List ℕ) (rs rs' : List Recorded) (left left' : Left) → (reads : ReadsAs root text rs left) → (same : ReadsAs other text rs' left')
+    → reads.header.format ≡ same.header.format
+reads_in_one root other text rs rs' left left' reads same = (one_root text root other reads.body same.body reads.header same.header).2

@@ -8,10 +8,10 @@ use Rattle.tree.specs.Closed.{IsOpen}
 use Rattle.tree.specs.Used.{InOrder}
 use Rattle.ledger.specs.Held.{HasScore}
 use Rattle.ledger.specs.Records.{mark_in, mark_of}
-use Rattle.ledger.specs.inside.Open.{IsOpener, IsOpenMap}
+use Rattle.ledger.specs.inside.Open.{IsOpener, IsOpenMapOf}
 use Rattle.ledger.specs.inside.Counting.{IsCounted}
 use Rattle.ledger.specs.inside.Trees.{IsIndexed}
-use Rattle.ledger.specs.Contents.{IsBoard}
+use Rattle.ledger.specs.Contents.{IsBoardOf}
 use Rattle.ledger.proofs.Claims.{claim_none}
 use Rattle.ledger.proofs.Sets.{only_one}
 
@@ -21,7 +21,7 @@ open_at_start root t = (
   λ h. elim h.place [ inl e ↦ e | inr w ↦ let none = ap (option_map mark_of) (claim_none w.0) in let marked = w.2 in absurd (cc) ],
 )
 
-pub starts : (root : Packed) (tables : BTreeMap Packed ℕ) → tables.entries ≡ (root, 4294967295) ∷ [] → IsOpenMap tables (record { root = root; records = [] })
+pub starts : (root : Packed) (tables : BTreeMap Packed ℕ) → tables.entries ≡ (root, 4294967295) ∷ [] → IsOpenMapOf tables root []
 starts root tables is = record {
   exact = λ t. let only = only_one tables root 4294967295 is t in (λ h. (open_at_start root t).0 (only.0 h), λ h. only.1 ((open_at_start root t).1 h));
   openers = subst (All (λ (e : Packed × ℕ). IsOpener root [] e.0 e.1)) (sym is) (All-cons (λ (e : Packed × ℕ). IsOpener root [] e.0 e.1) (root, 4294967295) [] (inl (refl, refl)) (All-nil (λ (e : Packed × ℕ). IsOpener root [] e.0 e.1)));
@@ -30,7 +30,7 @@ starts root tables is = record {
 pub counted_none : IsCounted [] (record { halting = 0; never = 0; undecided = 0; best = None })
 counted_none = record { halting = refl; never = refl; undecided = refl; best = λ t k halts. let none = ap (option_map mark_of) (claim_none t) in absurd (cc) }
 
-pub board_starts : (root : Packed) → IsTable root → (u : ℕ) × InOrder u (entry_of root) → IsBoard (record { root = root; records = [] })
+pub board_starts : (root : Packed) → IsTable root → (u : ℕ) × InOrder u (entry_of root) → IsBoardOf root []
 board_starts root is_table in_order = record { is_table = is_table; in_order = in_order; held = record { fit = tt; scored = All-nil HasScore } }
 
 pub indexed_none : (root : Packed) → IsIndexed root []

@@ -15,10 +15,10 @@ use Rattle.cert.specs.Certified.{IsCertified}
 use Rattle.cert.specs.Kinds.{owned_claim}
 use Rattle.ledger.specs.Records.{same_table, mark_in, claim_in}
 use Rattle.ledger.specs.Held.{HasScore, Settles, settled}
-use Rattle.ledger.specs.Contents.{IsBoard}
+use Rattle.ledger.specs.Contents.{IsBoardOf}
 use Rattle.ledger.specs.inside.Counting.{is_halting, IsCounted}
 use Rattle.ledger.specs.inside.Stored.{entry_recorded, records_of, KnowsPair}
-use Rattle.ledger.specs.inside.Open.{IsOpener, IsOpenMap}
+use Rattle.ledger.specs.inside.Open.{IsOpener, IsOpenMapOf}
 use Rattle.ledger.specs.inside.Carrying.{first_count}
 use Rattle.ledger.specs.inside.Trees.{IsTreeCount, IsParentPlace, IsIndexed}
 use Rattle.ledger.specs.declared.counts.Counts.{Counts}
@@ -82,7 +82,7 @@ own_entry es place r at =
     let e = entry_of_record es place r at in
     (e.0.1, e.1 ∙ ap (λ (p : Packed). Some (p, e.0.1)) (ap (λ (x : Recorded). x.table) e.2))
 
-pub ready_taken : (root : Packed) (es new : List (Packed × StoredRecord)) (r : Recorded) (k : StoredRecord) (place : ℕ) → IsBoard (record { root = root; records = records_of es }) → IsIndexed root es
+pub ready_taken : (root : Packed) (es new : List (Packed × StoredRecord)) (r : Recorded) (k : StoredRecord) (place : ℕ) → IsBoardOf root (records_of es) → IsIndexed root es
     → IsOpen root (mark_in (records_of es)) r.table → IsCertified r → HasScore r → owned_claim k.certificate ≡ r.claim → IsOpener root (records_of es) r.table k.parent → k.tree ≡ first_count
     → new ≡ insert_entry same_table es r.table k → place ≡ length es → place + 1 < 2 ^ 32 → IsReady root (records_of es) new r place
 ready_taken root es new r k place board indexed is_open certified scored claim opener tree is last small =
@@ -93,7 +93,7 @@ ready_taken root es new r k place board indexed is_open certified scored claim o
     let many = length-map es entry_recorded in
     let own = own_entry new place r (ap (λ (l : List Recorded). slice_get l place) list ∙ ap (slice_get (rs ++ (r ∷ []))) (last ∙ sym many) ∙ got_last rs r) in
     record {
-      board = subst (λ (l : List Recorded). IsBoard (record { root = root; records = l })) (sym list) (board_more root rs r board is_open certified scored);
+      board = subst (λ (l : List Recorded). IsBoardOf root l) (sym list) (board_more root rs r board is_open certified scored);
       had = had;
       taken = subst (λ (l : List Recorded). IsTaken rs l r) (sym list) (taken_last rs r root is_open);
       parents = λ i e at. subst (λ (l : List Recorded). IsParentPlace root l i e.0 e.1.parent) (sym list)
@@ -115,7 +115,7 @@ ready_taken root es new r k place board indexed is_open certified scored claim o
     opened_at i end (inl top) = inl top
     opened_at i end (inr w) = inr (let within = slice_get_within (records_of es) k.parent w.0 w.1 in omega (arith, within, end), (w.0, got_more (records_of es) (r ∷ []) k.parent w.0 w.1, w.2, w.3))
 
-pub ready_settled : (root : Packed) (es new : List (Packed × StoredRecord)) (r x : Recorded) (k old : StoredRecord) (place : ℕ) → IsBoard (record { root = root; records = records_of es }) → IsIndexed root es
+pub ready_settled : (root : Packed) (es new : List (Packed × StoredRecord)) (r x : Recorded) (k old : StoredRecord) (place : ℕ) → IsBoardOf root (records_of es) → IsIndexed root es
     → Settles (records_of es) r → HasScore r → owned_claim k.certificate ≡ r.claim → lookup (same_table r.table) es ≡ Some old → k.parent ≡ old.parent → k.tree ≡ old.tree
     → new ≡ insert_entry same_table es r.table k → slice_get (records_of es) place ≡ Some x → x.table ≡ r.table → place + 1 < 2 ^ 32 → IsReady root (records_of es) new r place
 ready_settled root es new r x k old place board indexed settles scored claim there parent tree is at table small =
@@ -125,7 +125,7 @@ ready_settled root es new r x k old place board indexed settles scored claim the
     let list : records_of new ≡ settled rs r = records_settled es new r k claim holdout is in
     let own = own_entry new place r (ap (λ (l : List Recorded). slice_get l place) list ∙ settled_slot rs r x place (held_apart root rs board.held) at table) in
     record {
-      board = subst (λ (l : List Recorded). IsBoard (record { root = root; records = l })) (sym list) (board_settled root rs r board settles scored);
+      board = subst (λ (l : List Recorded). IsBoardOf root l) (sym list) (board_settled root rs r board settles scored);
       had = have_parents root es board indexed.parents;
       taken = subst (λ (l : List Recorded). IsTaken rs l r) (sym list) (taken_settling rs r holdout);
       parents = λ i e got.
@@ -144,8 +144,8 @@ ready_settled root es new r x k old place board indexed settles scored claim the
 -- what else is kept stays so
 pub stored_carried : (root : Packed) (es new : List (Packed × StoredRecord)) (tables : BTreeMap Packed ℕ) (counts : Counts) → IsStoredUnindexed root es tables counts → records_of new ≡ records_of es → All KnowsPair new → IsStoredUnindexed root new tables counts
 stored_carried root es new tables counts kept same pairs = (
-  subst (λ (l : List Recorded). IsBoard (record { root = root; records = l })) (sym same) kept.0,
-  subst (λ (l : List Recorded). IsOpenMap tables (record { root = root; records = l })) (sym same) kept.1,
+  subst (λ (l : List Recorded). IsBoardOf root l) (sym same) kept.0,
+  subst (λ (l : List Recorded). IsOpenMapOf tables root l) (sym same) kept.1,
   pairs,
   subst (λ (l : List Recorded). IsCounted l counts) (sym same) kept.3,
 )

@@ -7,6 +7,8 @@ use Rattle.text.specs.Lines.{HasNoNewline}
 use Rattle.ledger.specs.LedgerText.{BeginsAsHeader, IsTornHeader, IsTornLeft, HasNoHeader, LoadGives}
 use Rattle.ledger.specs.Loading.{NamesRoot, header_start, IsBodyOf, IsStageOf, Loading, StandsAfter, IsFed, IsStopped}
 use Rattle.ledger.specs.Contents.{Contents}
+use Rattle.ledger.specs.declared.format.Format.{Format}
+use Rattle.ledger.specs.declared.format.Format.TheVariants.{Two}
 use Rattle.ledger.specs.declared.left.Left.{Left}
 use Rattle.ledger.specs.declared.faults.LoadFault.{LoadFault}
 use Rattle.ledger.specs.declared.faults.LoadFault.TheVariants.{BadHeader, WrongRoot}
@@ -32,39 +34,49 @@ pub refused_grows : (root : Packed) (text more : List ℕ) (fault : LoadFault) �
 refused_grows root text more fault is =
     (is.0, λ tail. subst (λ (l : List ℕ). LoadGives root l (Err fault)) (sym (append_assoc text more tail)) (is.1 (more ++ tail)))
 
+-- a new board, in another version
+versioned : Format → Contents → Contents
+versioned format b = record { root = b.root; records = b.records; format = format }
+
+pub new_versioned : (root : Packed) (format : Format) (old new : Contents) → old ≡ record { root = root; records = []; format = Two }
+    → new ≡ record { root = old.root; records = old.records; format = format } → new ≡ record { root = root; records = []; format = format }
+unfolding versioned
+new_versioned root format old new was is = is ∙ ap (versioned format) was
+
 -- the first line has ended: it is no header, or that of another root, or that of the root
 module _ (root : Packed) (text line : List ℕ) (one_line : HasNoNewline text) (kept : line ≡ header_start text) where
-  of_whole : (other : Packed) → NamesRoot line other → NamesRoot text other
-  of_whole other named = named_whole text other (subst (λ (l : List ℕ). NamesRoot l other) kept named)
+  abbrev of_whole : (format : Format) (other : Packed) → NamesRoot format line other → NamesRoot format text other
+  of_whole format other named = named_whole format text other (subst (λ (l : List ℕ). NamesRoot format l other) kept named)
 
-  pub has_no_header : ((other : Packed) → NamesRoot line other → ⊥) → IsStageOf root (text ++ (10 ∷ [])) (Refused BadHeader)
+  pub has_no_header : ((format : Format) (other : Packed) → NamesRoot format line other → ⊥) → IsStageOf root (text ++ (10 ∷ [])) (Refused BadHeader)
   has_no_header apart = (
     λ e. cc,
     λ more. none_named ((text ++ (10 ∷ [])) ++ more) text more (line_ends text more one_line)
-        (λ other named. apart other (subst (λ (l : List ℕ). NamesRoot l other) (sym kept) (named_start text other named))),
+        (λ format other named. apart format other (subst (λ (l : List ℕ). NamesRoot format l other) (sym kept) (named_start format text other named))),
   )
 
-  pub has_other_root : (other : Packed) → NamesRoot line other → other ≢ root → IsStageOf root (text ++ (10 ∷ [])) (Refused WrongRoot)
-  has_other_root other named apart = (
+  pub has_other_root : (format : Format) (other : Packed) → NamesRoot format line other → other ≢ root → IsStageOf root (text ++ (10 ∷ [])) (Refused WrongRoot)
+  has_other_root format other named apart = (
     λ e. cc,
-    λ more. (other, more, is_named ((text ++ (10 ∷ [])) ++ more) text more (line_ends text more one_line) other (of_whole other named), apart),
+    λ more. (other, more, is_named ((text ++ (10 ∷ [])) ++ more) text more (line_ends text more one_line) format other (of_whole format other named), apart),
   )
 
-  pub headed : NamesRoot line root → IsHeaded root (text ++ (10 ∷ []))
-  headed named =
-      ([], is_named (text ++ (10 ∷ [])) text [] (record { is = refl; one_line = one_line }) root (of_whole root named))
+  abbrev pub headed : (format : Format) → NamesRoot format line root → IsHeaded root (text ++ (10 ∷ []))
+  headed format named =
+      ([], is_named (text ++ (10 ∷ [])) text [] (record { is = refl; one_line = one_line }) format root (of_whole format root named))
 
-  pub begins_body : (after : ℕ) (body : Body) → length text + 1 ≡ after → NamesRoot line root → body.board ≡ record { root = root; records = [] } → body.number ≡ 2
+  pub begins_body : (format : Format) (after : ℕ) (body : Body) → length text + 1 ≡ after → NamesRoot format line root
+      → body.board ≡ record { root = root; records = []; format = format } → body.number ≡ 2
       → body.before ≡ after → body.line ≡ Some [] → body.left ≡ None → IsStageOf root (text ++ (10 ∷ [])) (Records body)
-  unfolding headed
-  begins_body after body size named board number before empty none =
-      is_all_taken root (text ++ (10 ∷ [])) body none (cc board) (record {
+  begins_body format after body size named board number before empty none =
+      is_all_taken root (text ++ (10 ∷ [])) body none (ap (λ (b : Contents). b.root) board) (record {
         behind = [];
-        header = (headed named).1;
+        header = (headed format named).1;
         lines = [];
         line = [];
         is = refl;
-        taken = cc board;
+        version = sym (ap (λ (b : Contents). b.format) board);
+        taken = ap (λ (b : Contents). b.records) board;
         number = number;
         before = omega (arith, before, size, length-append text (10 ∷ []));
         unfinished = λ k d below. absurd (omega arith);
@@ -75,14 +87,17 @@ module _ (root : Packed) (text line : List ℕ) (one_line : HasNoNewline text) (
   pub is_torn : BeginsAsHeader line → IsTornHeader text
   is_torn begun = record { no_newline = one_line; begun = begun_whole text (subst BeginsAsHeader kept begun) }
 
-  pub torn_loaded : (board : Contents) (left : Left) → board ≡ record { root = root; records = [] } → BeginsAsHeader line → IsTornLeft line left
+  pub torn_loaded : (board : Contents) (left : Left) → board ≡ record { root = root; records = []; format = Two } → BeginsAsHeader line → IsTornLeft line left
       → LoadGives root text (Ok (board, left))
   torn_loaded board left empty begun ends = (
     ap (λ (b : Contents). b.root) empty,
     inl (record {
-      torn = is_torn begun;
-      none = ap (λ (b : Contents). b.records) empty;
-      ends = torn_left text left (subst (λ (l : List ℕ). IsTornLeft l left) kept ends);
+      reads = record {
+        torn = is_torn begun;
+        none = ap (λ (b : Contents). b.records) empty;
+        ends = torn_left text left (subst (λ (l : List ℕ). IsTornLeft l left) kept ends);
+      };
+      version = ap (λ (b : Contents). b.format) empty;
     }),
   )
 

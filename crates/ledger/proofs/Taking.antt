@@ -16,10 +16,10 @@ use Rattle.cert.specs.Claim.{Claim, Recorded, ending_by}
 use Rattle.cert.specs.Certified.{IsCertified, IsPairOf}
 use Rattle.ledger.specs.Records.{claim_in, mark_in, mark_of, mark_by}
 use Rattle.ledger.specs.Held.{HasScore, IsHoldout, Settles, settled}
-use Rattle.ledger.specs.Contents.{Contents, IsBoard}
+use Rattle.ledger.specs.Contents.{Contents, IsBoard, IsBoardOf}
 use Rattle.ledger.specs.inside.Counting.{is_halting, says_halts}
 use Rattle.machine_text.specs.Order.{table_cmp}
-use Rattle.ledger.specs.inside.Open.{others, AreChildrenAt, IsOpener, IsOpenMap, IsNewChild}
+use Rattle.ledger.specs.inside.Open.{others, AreChildrenAt, IsOpener, IsOpenMap, IsNewChild, IsOpenMapOf}
 use Rattle.ledger.proofs.Apart.{held_apart}
 use Rattle.ledger.proofs.HeldLaws.{unmarked, held_more, held_settled}
 use Rattle.ledger.proofs.OpenAfter.{pair_halts}
@@ -52,17 +52,17 @@ holdout_in_order b t below keeps board holdout =
 abbrev pub Opens : (tables after : BTreeMap Packed ℕ) (rs : List Recorded) (r : Recorded) → Type 0
 Opens tables after rs r = (q : Packed) → ContainsKey table_cmp after q ↔ ((ContainsKey table_cmp tables q × (q ≢ r.table)) ⊎ IsNewChild rs r q)
 
-open_taken_exact : (root : Packed) (old new : List Recorded) (r : Recorded) (tables after : BTreeMap Packed ℕ) → IsOpenMap tables (record { root = root; records = old }) → IsTaken old new r
+open_taken_exact : (root : Packed) (old new : List Recorded) (r : Recorded) (tables after : BTreeMap Packed ℕ) → IsOpenMapOf tables root old → IsTaken old new r
     → Opens tables after old r → (q : Packed) → ContainsKey table_cmp after q ↔ IsOpen root (mark_in new) q
 open_taken_exact root old new r tables after before taken is q = let law = open_taken root old new r q taken in (
   λ h. law.1 (elim ((is q).0 h) [ inl a ↦ inl ((before.exact q).0 a.0, a.1) | inr u ↦ inr u ]),
   λ h. (is q).1 (elim (law.0 h) [ inl a ↦ inl ((before.exact q).1 a.0, a.1) | inr u ↦ inr u ]),
 )
 
-pub same_map : (tables after : BTreeMap Packed ℕ) (b : Contents) → after.entries ≡ tables.entries → IsOpenMap tables b → IsOpenMap after b
-same_map tables after b same before = record {
-  exact = λ t. subst (λ (es : List (Packed × ℕ)). (is_some (lookup (is_at (table_cmp t)) es) ≡ true) ↔ IsOpen b.root (mark_in b.records) t) (sym same) (before.exact t);
-  openers = subst (All (λ (e : Packed × ℕ). IsOpener b.root b.records e.0 e.1)) (sym same) before.openers;
+pub same_map : (tables after : BTreeMap Packed ℕ) (root : Packed) (rs : List Recorded) → after.entries ≡ tables.entries → IsOpenMapOf tables root rs → IsOpenMapOf after root rs
+same_map tables after root rs same before = record {
+  exact = λ t. subst (λ (es : List (Packed × ℕ)). (is_some (lookup (is_at (table_cmp t)) es) ≡ true) ↔ IsOpen root (mark_in rs) t) (sym same) (before.exact t);
+  openers = subst (All (λ (e : Packed × ℕ). IsOpener root rs e.0 e.1)) (sym same) before.openers;
 }
 
 -- the children come into the map, and then the record's table goes out of it
@@ -83,8 +83,8 @@ pub halts_says : (r : Recorded) (k : ℕ) → ending_by r.claim ≡ Some (Halts 
 halts_says r k is = rw is
 
 -- a fit record is taken
-pub board_more : (root : Packed) (old : List Recorded) (r : Recorded) → IsBoard (record { root = root; records = old }) → IsOpen root (mark_in old) r.table → IsCertified r → HasScore r
-    → IsBoard (record { root = root; records = old ++ (r ∷ []) })
+pub board_more : (root : Packed) (old : List Recorded) (r : Recorded) → IsBoardOf root old → IsOpen root (mark_in old) r.table → IsCertified r → HasScore r
+    → IsBoardOf root (old ++ (r ∷ []))
 board_more root old r board is_open certified scored =
     record { is_table = board.is_table; in_order = board.in_order; held = held_more root old r board.held (record { is_open = is_open; certified = certified }) scored }
 
@@ -92,10 +92,10 @@ pub taken_last : (old : List Recorded) (r : Recorded) (root : Packed) → IsOpen
 taken_last old r root is_open = taken_new old r (unmarked (claim_in old r.table) is_open.unmarked)
 
 pub opened_more : (root : Packed) (old : List Recorded) (r : Recorded) (place : ℕ) (pair : Option Pair) (tables mid after : BTreeMap Packed ℕ)
-    → IsOpenMap tables (record { root = root; records = old }) → IsOpen root (mark_in old) r.table → place ≡ length old
+    → IsOpenMapOf tables root old → IsOpen root (mark_in old) r.table → place ≡ length old
     → IsPairOf (ending_by r.claim) r.table pair → others place mid.entries ≡ tables.entries → AreChildrenAt place r.table mid.entries → (pair ≡ None → mid.entries ≡ tables.entries)
     → after.entries ≡ remove_entry (is_at (table_cmp r.table)) mid.entries → Opens tables after old r
-    → IsOpenMap after (record { root = root; records = old ++ (r ∷ []) })
+    → IsOpenMapOf after root (old ++ (r ∷ []))
 opened_more root old r place pair tables mid after before is_open last known others children none removal is = record {
   exact = open_taken_exact root old (old ++ (r ∷ [])) r tables after before (taken_last old r root is_open) is;
   openers = subst (All (λ (e : Packed × ℕ). IsOpener root (old ++ (r ∷ [])) e.0 e.1)) (sym removal)
@@ -105,7 +105,7 @@ opened_more root old r place pair tables mid after before is_open last known oth
 }
 
 -- a holdout is settled
-pub board_settled : (root : Packed) (old : List Recorded) (r : Recorded) → IsBoard (record { root = root; records = old }) → Settles old r → HasScore r → IsBoard (record { root = root; records = settled old r })
+pub board_settled : (root : Packed) (old : List Recorded) (r : Recorded) → IsBoardOf root old → Settles old r → HasScore r → IsBoardOf root (settled old r)
 board_settled root old r board settles scored = record { is_table = board.is_table; in_order = board.in_order; held = held_settled root old r board.held settles scored }
 
 pub taken_settling : (old : List Recorded) (r : Recorded) → IsHoldout old r.table → IsTaken old (settled old r) r
@@ -117,16 +117,16 @@ silent_claim (Some (Halts k)) e = cc
 silent_claim (Some Never) e = refl
 
 -- the holdout's own table is not open
-still_other : (root : Packed) (old : List Recorded) (r : Recorded) (tables : BTreeMap Packed ℕ) (q : Packed) → IsOpenMap tables (record { root = root; records = old }) → IsHoldout old r.table → ContainsKey table_cmp tables q → q ≢ r.table
+still_other : (root : Packed) (old : List Recorded) (r : Recorded) (tables : BTreeMap Packed ℕ) (q : Packed) → IsOpenMapOf tables root old → IsHoldout old r.table → ContainsKey table_cmp tables q → q ≢ r.table
 still_other root old r tables q before holdout there = λ (e : q ≡ r.table).
     let gone = ((before.exact q).0 there).unmarked in let here = subst (λ (p : Packed). mark_in old p ≡ Some Holdout) (sym e) holdout in absurd (cc)
 
 pub opened_settled : (root : Packed) (old : List Recorded) (r x : Recorded) (place : ℕ) (pair : Option Pair) (tables after : BTreeMap Packed ℕ)
-    → IsBoard (record { root = root; records = old }) → IsOpenMap tables (record { root = root; records = old }) → IsHoldout old r.table
+    → IsBoardOf root old → IsOpenMapOf tables root old → IsHoldout old r.table
     → slice_get old place ≡ Some x → x.table ≡ r.table
     → IsPairOf (ending_by r.claim) r.table pair → others place after.entries ≡ tables.entries → AreChildrenAt place r.table after.entries → (pair ≡ None → after.entries ≡ tables.entries)
     → ((q : Packed) → ContainsKey table_cmp after q ↔ (ContainsKey table_cmp tables q ⊎ IsNewChild old r q))
-    → IsOpenMap after (record { root = root; records = settled old r })
+    → IsOpenMapOf after root (settled old r)
 opened_settled root old r x place pair tables after board before holdout at table known others children none is =
     let c = holdout_claim old r.table holdout in
     let opens : Opens tables after old r = λ q. (

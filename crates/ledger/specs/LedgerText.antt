@@ -1,15 +1,18 @@
--- The text of a ledger: a header with the root of its tree, then records, each on a line. A line ends with a
--- newline, the byte 10. A text is read as the records of its lines, up to the first that can't be taken.
-use Rattle.std.specs.Prelude.{◌≡◌, ◌≢◌, ℕ, ◌+◌, ◌⊎◌, List, [], ◌∷◌, ◌++◌, map, length, codes, Option, Some, None, Result, Ok, Err}
+-- The text of a ledger: a header with its version and the root of its tree, then records, each on a line. A line ends
+-- with a newline, the byte 10. A text is read as the records of its lines, up to the first that can't be taken.
+use Rattle.std.specs.Prelude.{◌≡◌, ◌≢◌, ℕ, ◌+◌, ◌⊎◌, List, [], ◌∷◌, ◌++◌, map, length, Option, Some, None, Result, Ok, Err}
 use Rattle.machine_text.specs.Packed.{Packed, entry_of}
 use Rattle.machine_text.specs.Text.{table_of, text_of}
 use Rattle.tree.specs.Used.{InOrder}
 use Rattle.cert.specs.Claim.{Recorded}
-use Rattle.cert.specs.Grammar.{record_of, record_text}
+use Rattle.cert.specs.Scored.{with_score}
+use Rattle.ledger.specs.Versions.{header_words, ledger_record, line_of}
 use Rattle.ledger.specs.Contents.{Contents}
 use Rattle.text.specs.Lines.{joined, HasNoNewline, BeginsWithLine}
 use Rattle.ledger.specs.Held.{IsFit, Settles, settled}
 use Rattle.ledger.specs.Offers.{OfferGives}
+use Rattle.ledger.specs.declared.format.Format.{Format}
+use Rattle.ledger.specs.declared.format.Format.TheVariants.{Two}
 use Rattle.ledger.specs.declared.taken.Taken.TheVariants.{Known}
 use Rattle.ledger.specs.declared.faults.OfferFault.TheVariants.{NoMemory as OfferNoMemory}
 use Rattle.ledger.specs.declared.left.Left.{Left}
@@ -19,23 +22,24 @@ use Rattle.ledger.specs.declared.left.Unkept.TheVariants.{Torn, Unread, Unfit, R
 use Rattle.ledger.specs.declared.faults.LoadFault.{LoadFault}
 use Rattle.ledger.specs.declared.faults.LoadFault.TheVariants.{BadHeader, WrongRoot, NoMemory}
 
--- what a header begins with; the text of the root follows
-abbrev pub header_words : List ℕ
-header_words = codes "bb-ledger 1 "
+-- a beginning of these words, or more than them
+abbrev pub BeginsBy : List ℕ → List ℕ → Type 0
+BeginsBy words text = ((more : List ℕ) × (words ≡ text ++ more)) ⊎ ((more : List ℕ) × (text ≡ words ++ more))
 
--- a beginning of what a header begins with, or more than that
+-- the same of what a header of either version begins with
 abbrev pub BeginsAsHeader : List ℕ → Type 0
-BeginsAsHeader text = ((more : List ℕ) × (header_words ≡ text ++ more)) ⊎ ((more : List ℕ) × (text ≡ header_words ++ more))
+BeginsAsHeader text = (format : Format) × BeginsBy (header_words format) text
 
 -- torn off within its first line, which begins as a header does
 pub record IsTornHeader (text : List ℕ) : Type 0 where
   pub no_newline : HasNoNewline text
   pub begun : BeginsAsHeader text
 
--- the first line is the header of a root
+-- the first line is the header of a root, in a version
 pub record HasHeader (text : List ℕ) (root : Packed) (rest : List ℕ) : Type 0 where
+  pub format : Format
   pub name : List ℕ
-  pub line : BeginsWithLine text (header_words ++ name) rest
+  pub line : BeginsWithLine text (header_words format ++ name) rest
   pub reads : table_of name ≡ Ok root
 
 -- neither torn off within a header, nor with one
@@ -44,61 +48,67 @@ pub record HasNoHeader (text : List ℕ) : Type 0 where
   pub none : (root : Packed) (rest : List ℕ) → HasHeader text root rest → ⊥
 
 -- a record is taken, which makes the records old into the records new: it is fit and comes last, or it settles a
--- holdout and stands in its place
+-- holdout and stands in its place. It is held with its score, whether it came with it or not
 abbrev pub IsTaken : Packed → List Recorded → Recorded → List Recorded → Type 0
-IsTaken root old r new = (IsFit root old r × (new ≡ old ++ (r ∷ []))) ⊎ (Settles old r × (new ≡ settled old r))
+IsTaken root old r new = (IsFit root old r × (new ≡ old ++ (with_score r ∷ []))) ⊎ (Settles old r × (new ≡ settled old (with_score r)))
 
 -- lines that are each read, and taken in turn
-abbrev pub AreTaken : Packed → List Recorded → List (List ℕ) → List Recorded → Type 0
-AreTaken root old [] new = new ≡ old
-AreTaken root old (line ∷ lines) new =
-    (r : Recorded) × (mid : List Recorded) × HasNoNewline line × (record_of line ≡ Ok r) × IsTaken root old r mid × AreTaken root mid lines new
+abbrev pub AreTaken : Format → Packed → List Recorded → List (List ℕ) → List Recorded → Type 0
+AreTaken format root old [] new = new ≡ old
+AreTaken format root old (line ∷ lines) new =
+    (r : Recorded) × (mid : List Recorded) × HasNoNewline line × (ledger_record format line ≡ Ok r) × IsTaken root old r mid × AreTaken format root mid lines new
 
 -- why a line isn't kept behind the records rs
-abbrev pub IsUnkeptLine : Packed → List Recorded → List ℕ → Unkept → Type 0
-IsUnkeptLine root rs line Torn = ⊥
-IsUnkeptLine root rs line (Unread f) = record_of line ≡ Err f
-IsUnkeptLine root rs line (Unfit f) = (f ≢ OfferNoMemory) × ((r : Recorded) × (record_of line ≡ Ok r) × OfferGives root rs r (Err f) rs)
-IsUnkeptLine root rs line Repeated = (r : Recorded) × (record_of line ≡ Ok r) × OfferGives root rs r (Ok Known) rs
+abbrev pub IsUnkeptLine : Format → Packed → List Recorded → List ℕ → Unkept → Type 0
+IsUnkeptLine format root rs line Torn = ⊥
+IsUnkeptLine format root rs line (Unread f) = ledger_record format line ≡ Err f
+IsUnkeptLine format root rs line (Unfit f) = (f ≢ OfferNoMemory) × ((r : Recorded) × (ledger_record format line ≡ Ok r) × OfferGives root rs r (Err f) rs)
+IsUnkeptLine format root rs line Repeated = (r : Recorded) × (ledger_record format line ≡ Ok r) × OfferGives root rs r (Ok Known) rs
 
 -- what becomes of the records where a line is offered: it is taken, or there is a reason why not
-abbrev pub LineGives : Packed → List Recorded → List ℕ → Option Unkept → List Recorded → Type 0
-LineGives root old line None new = (r : Recorded) × (record_of line ≡ Ok r) × IsTaken root old r new
-LineGives root old line (Some why) new = IsUnkeptLine root old line why × (new ≡ old)
+abbrev pub LineGives : Format → Packed → List Recorded → List ℕ → Option Unkept → List Recorded → Type 0
+LineGives format root old line None new = (r : Recorded) × (ledger_record format line ≡ Ok r) × IsTaken root old r new
+LineGives format root old line (Some why) new = IsUnkeptLine format root old line why × (new ≡ old)
 
-abbrev pub BeginsUnkept : Packed → List Recorded → List ℕ → Unkept → Type 0
-BeginsUnkept root rs text why = (line : List ℕ) × (rest : List ℕ) × BeginsWithLine text line rest × IsUnkeptLine root rs line why
+abbrev pub BeginsUnkept : Format → Packed → List Recorded → List ℕ → Unkept → Type 0
+BeginsUnkept format root rs text why = (line : List ℕ) × (rest : List ℕ) × BeginsWithLine text line rest × IsUnkeptLine format root rs line why
 
 -- why nothing of a text is kept behind the records rs: it is torn off within its first line, or that isn't kept
-abbrev pub IsUnkept : Packed → List Recorded → List ℕ → Unkept → Type 0
-IsUnkept root rs text Torn = HasNoNewline text × (text ≢ [])
-IsUnkept root rs text (Unread f) = BeginsUnkept root rs text (Unread f)
-IsUnkept root rs text (Unfit f) = BeginsUnkept root rs text (Unfit f)
-IsUnkept root rs text Repeated = BeginsUnkept root rs text Repeated
+abbrev pub IsUnkept : Format → Packed → List Recorded → List ℕ → Unkept → Type 0
+IsUnkept format root rs text Torn = HasNoNewline text × (text ≢ [])
+IsUnkept format root rs text (Unread f) = BeginsUnkept format root rs text (Unread f)
+IsUnkept format root rs text (Unfit f) = BeginsUnkept format root rs text (Unfit f)
+IsUnkept format root rs text Repeated = BeginsUnkept format root rs text Repeated
 
 -- what is left of a text of n bytes, whose rest begins with the line of this number
-abbrev pub IsLeft : Packed → List Recorded → ℕ → ℕ → List ℕ → Left → Type 0
-IsLeft root rs n number rest Nothing = rest ≡ []
-IsLeft root rs n number rest (From line kept why) = (line ≡ number) × (kept + length rest ≡ n) × IsUnkept root rs rest why
+abbrev pub IsLeft : Format → Packed → List Recorded → ℕ → ℕ → List ℕ → Left → Type 0
+IsLeft format root rs n number rest Nothing = rest ≡ []
+IsLeft format root rs n number rest (From line kept why) = (line ≡ number) × (kept + length rest ≡ n) × IsUnkept format root rs rest why
 
--- what is kept of the body of a text of n bytes: lines that are taken in turn, from the records old to the records
--- new, up to a rest that isn't kept
-pub record Keeps (root : Packed) (n : ℕ) (body : List ℕ) (old new : List Recorded) (left : Left) : Type 0 where
+-- what is kept of the body of a text of n bytes in a version: lines that are taken in turn, from the records old to the
+-- records new, up to a rest that isn't kept
+pub record Keeps (format : Format) (root : Packed) (n : ℕ) (body : List ℕ) (old new : List Recorded) (left : Left) : Type 0 where
   pub lines : List (List ℕ)
   pub rest : List ℕ
   pub is : body ≡ joined lines ++ rest
-  pub taken : AreTaken root old lines new
-  pub ends : IsLeft root new n (length lines + 2) rest left
+  pub taken : AreTaken format root old lines new
+  pub ends : IsLeft format root new n (length lines + 2) rest left
 
--- the text is read as the records rs: they are kept of what stands behind its header
+-- the text is read as the records rs: they are kept of what stands behind its header, whose version is that of all lines
 pub record ReadsAs (root : Packed) (text : List ℕ) (rs : List Recorded) (left : Left) : Type 0 where
   pub body : List ℕ
   pub header : HasHeader text root body
-  pub keeps : Keeps root (length text) body [] rs left
+  pub keeps : Keeps header.format root (length text) body [] rs left
 
--- the text is the ledger of a board, which is in step with it: it reads as the board, and all of it is kept
+-- it is so read in this version
+pub record ReadsIn (format : Format) (root : Packed) (text : List ℕ) (rs : List Recorded) (left : Left) : Type 0 where
+  pub reads : ReadsAs root text rs left
+  pub version : reads.header.format ≡ format
+
+-- the text is the ledger of a board, which is in step with it: it reads as the board, in its version, and all of it is
+-- kept
 abbrev pub IsLedgerOf : Contents → List ℕ → Type 0
-IsLedgerOf b text = ReadsAs b.root text b.records Nothing
+IsLedgerOf b text = ReadsIn b.format b.root text b.records Nothing
 
 -- what is left of a text that is torn off within its header
 abbrev pub IsTornLeft : List ℕ → Left → Type 0
@@ -111,10 +121,15 @@ pub record ReadsAsNone (text : List ℕ) (rs : List Recorded) (left : Left) : Ty
   pub none : rs ≡ []
   pub ends : IsTornLeft text left
 
+-- what was begun of its header counts for nothing: its board has the version of a new one
+pub record ReadsAsNew (b : Contents) (text : List ℕ) (left : Left) : Type 0 where
+  pub reads : ReadsAsNone text b.records left
+  pub version : b.format ≡ Two
+
 -- what a text is loaded as, where the root is asked for
 abbrev pub LoadGives : Packed → List ℕ → Result (Contents × Left) LoadFault → Type 0
 LoadGives root text (Ok loaded) =
-    (loaded.0.root ≡ root) × (ReadsAsNone text loaded.0.records loaded.1 ⊎ ReadsAs root text loaded.0.records loaded.1)
+    (loaded.0.root ≡ root) × (ReadsAsNew loaded.0 text loaded.1 ⊎ ReadsIn loaded.0.format root text loaded.0.records loaded.1)
 LoadGives root text (Err BadHeader) = HasNoHeader text
 LoadGives root text (Err WrongRoot) = (other : Packed) × (rest : List ℕ) × HasHeader text other rest × (other ≢ root)
 LoadGives root text (Err NoMemory) = IsTornHeader text ⊎ ((rest : List ℕ) × HasHeader text root rest)
@@ -128,6 +143,6 @@ PeekGives text (Err WrongRoot) =
     (root : Packed) × (rest : List ℕ) × HasHeader text root rest × (((u : ℕ) × InOrder u (entry_of root)) → ⊥)
 PeekGives text (Err NoMemory) = ⊥
 
--- the text of a ledger
+-- the text of a ledger, which is written in version 2
 unfoldable pub ledger_text : Packed → List Recorded → List ℕ
-ledger_text root rs = header_words ++ text_of root ++ (10 ∷ joined (map record_text rs))
+ledger_text root rs = header_words Two ++ text_of root ++ (10 ∷ joined (map (line_of Two) rs))

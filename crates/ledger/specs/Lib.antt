@@ -1,5 +1,6 @@
 pub mod Records
 pub mod Held
+pub mod Versions
 pub mod Contents
 pub mod Offers
 pub mod Lent

@@ -6,10 +6,11 @@ use Rattle.tree.specs.Tables.{IsChildTable}
 use Rattle.cert.specs.Claim.{Recorded, ending_by}
 use Rattle.cert.specs.Certified.{IsCertified}
 use Rattle.cert.specs.Scored.{with_score}
-use Rattle.cert.specs.Grammar.{record_of}
+use Rattle.ledger.specs.Versions.{ledger_record}
 use Rattle.ledger.specs.Records.{same_table}
 use Rattle.ledger.specs.Offers.{OfferGives}
 use Rattle.text.specs.Lines.{HasNoNewline}
+use Rattle.ledger.specs.declared.format.Format.{Format}
 use Rattle.ledger.specs.declared.taken.Taken.{Taken}
 use Rattle.ledger.specs.declared.faults.OfferFault.{OfferFault}
 use Rattle.ledger.specs.declared.faults.OfferFault.TheVariants.{NoMemory}
@@ -62,8 +63,8 @@ abbrev pub answered : List Offer → List Recorded
 answered [] = []
 answered (o ∷ os) = answered_with o.offered o.answer (answered os)
 
--- lines, each of which reads as a record that is fit in its turn; with them the earlier fit records are these
-abbrev pub AreFitLines : Packed → List Recorded → List (List ℕ) → List Recorded → Type 0
-AreFitLines root earlier [] kept = kept ≡ earlier
-AreFitLines root earlier (line ∷ lines) kept =
-    (r : Recorded) × HasNoNewline line × (record_of line ≡ Ok r) × IsFitAfter root earlier r × AreFitLines root (earlier ++ (r ∷ [])) lines kept
+-- lines of a version, each of which reads as a record that is fit in its turn; with them the earlier fit records are these
+abbrev pub AreFitLines : Format → Packed → List Recorded → List (List ℕ) → List Recorded → Type 0
+AreFitLines format root earlier [] kept = kept ≡ earlier
+AreFitLines format root earlier (line ∷ lines) kept =
+    (r : Recorded) × HasNoNewline line × (ledger_record format line ≡ Ok r) × IsFitAfter root earlier r × AreFitLines format root (earlier ++ (r ∷ [])) lines kept

@@ -5,7 +5,9 @@ use Rattle.machine_text.specs.Text.{table_of}
 use Rattle.cert.specs.Limits.{record_byte_limit}
 use Rattle.text.specs.Lines.{joined, HasNoNewline}
 use Rattle.ledger.specs.Limits.{header_byte_limit}
-use Rattle.ledger.specs.LedgerText.{header_words, HasHeader, AreTaken, ReadsAs, LoadGives}
+use Rattle.ledger.specs.Versions.{header_words}
+use Rattle.ledger.specs.LedgerText.{HasHeader, AreTaken, ReadsIn, LoadGives}
+use Rattle.ledger.specs.declared.format.Format.{Format}
 use Rattle.ledger.specs.declared.left.Left.{Left}
 use Rattle.ledger.specs.declared.faults.LoadFault.TheVariants.{NoMemory}
 use Rattle.ledger.specs.declared.body.Body.{Body}
@@ -13,11 +15,15 @@ use Rattle.ledger.specs.declared.stage.Stage.{Stage}
 use Rattle.ledger.specs.declared.stage.Stage.TheVariants.{Header, Records, Refused}
 use Rattle.ledger.specs.declared.feed_stop.FeedStop.{FeedStop}
 
--- a line that is the header of a root
-pub record NamesRoot (line : List ℕ) (root : Packed) : Type 0 where
+-- a line of these words and the text of a root
+pub record NamesAfter (words line : List ℕ) (root : Packed) : Type 0 where
   pub name : List ℕ
-  pub words : line ≡ header_words ++ name
+  pub is : line ≡ words ++ name
   pub reads : table_of name ≡ Ok root
+
+-- a line that is the header of a root, in a version
+abbrev pub NamesRoot : Format → List ℕ → Packed → Type 0
+NamesRoot format line root = NamesAfter (header_words format) line root
 
 -- what is kept of a first line, as far as it has come: no more bytes than show whether it is a header
 abbrev pub header_start : List ℕ → List ℕ
@@ -34,7 +40,8 @@ pub record IsAllTaken (root : Packed) (text : List ℕ) (body : Body) : Type 0 w
   pub lines : List (List ℕ)
   pub line : List ℕ
   pub is : behind ≡ joined lines ++ line
-  pub taken : AreTaken root [] lines body.board.records
+  pub version : header.format ≡ body.board.format
+  pub taken : AreTaken header.format root [] lines body.board.records
   pub number : body.number ≡ length lines + 2
   pub before : body.before + length line ≡ length text
   pub unfinished : HasNoNewline line
@@ -42,7 +49,7 @@ pub record IsAllTaken (root : Packed) (text : List ℕ) (body : Body) : Type 0 w
 
 -- a line wasn't kept: whatever follows, the text is read as the records on the board, and no more of it is kept
 pub record IsLeftSo (root : Packed) (text : List ℕ) (body : Body) (left : Left) : Type 0 where
-  pub reads : (more : List ℕ) → ReadsAs root (text ++ more) body.board.records left
+  pub reads : (more : List ℕ) → ReadsIn body.board.format root (text ++ more) body.board.records left
   pub kept : body.line ≡ Some []
 
 abbrev pub IsBodyOf : Packed → List ℕ → Body → Type 0

@@ -7,7 +7,9 @@ ghost use Rattle.evidence.specs.Verdict.{IsTrueOf};
 ghost use Rattle.turing.specs.Halting.{IsRado, HaltsAt};
 ghost use Rattle.std.specs.Vec.Iter.{into_iter_items};
 ghost use Rattle.tree.specs.Tables.{IsBestOfTable, IsChildTable};
+ghost use Rattle.ledger.specs.Versions.{format_number};
 ghost use Rattle.ledger.specs.Contents.{IsBoard};
+ghost use Rattle.ledger.specs.declared.format.Format.TheVariants.{Two};
 ghost use Rattle.ledger.specs.inside.Places.{IsPlace};
 ghost use Rattle.ledger.specs.Tally.{AreAll, IsChampion, IsGreatestCount, IsHalting, IsStatus, IsTally};
 
@@ -15,6 +17,7 @@ use crate::chain::carry_up;
 use crate::children::{child_count, children_on};
 use crate::counts::Counts;
 use crate::faults::{BoardFault, OfferFault};
+use crate::format::Format;
 use crate::index::{
     certificate_for, pair_for, place_and_count_of, place_of, tree_count_of, verdict_in,
 };
@@ -56,22 +59,24 @@ pub struct Board {
     open_tables: BTreeMap<Table, u32>,
     // the numbers of the records
     counts: Counts,
+    // of its ledger's text
+    format: Format,
 }
 
 impl Model for Board {
     ghost use Rattle.std.specs.List.{All};
     ghost use Rattle.ledger.specs.inside.Stored.{records_of, KnowsPair};
-    ghost use Rattle.ledger.specs.inside.Open.{IsOpenMap};
+    ghost use Rattle.ledger.specs.inside.Open.{IsOpenMapOf};
     ghost use Rattle.ledger.specs.inside.Counting.{IsCounted};
     ghost use Rattle.ledger.specs.inside.Trees.{IsIndexed};
-    ghost use Rattle.ledger.specs.Contents.{Contents, IsBoard};
+    ghost use Rattle.ledger.specs.Contents.{Contents, IsBoardOf};
 
     ghost Value = { Contents };
 
-    ghost view = { λ a. record { root = a.root; records = records_of a.records.entries } };
+    ghost view = { λ a. record { root = a.root; records = records_of a.records.entries; format = a.format } };
 
-    ghost invariant = { λ a. IsBoard (record { root = a.root; records = records_of a.records.entries })
-        × IsOpenMap a.open_tables (record { root = a.root; records = records_of a.records.entries })
+    ghost invariant = { λ a. IsBoardOf a.root (records_of a.records.entries)
+        × IsOpenMapOf a.open_tables a.root (records_of a.records.entries)
         × All KnowsPair a.records.entries
         × IsCounted (records_of a.records.entries) a.counts
         × IsIndexed a.root a.records.entries };
@@ -90,9 +95,9 @@ impl Board {
     ghost use Rattle.ledger.specs.inside.Places.{IsWhyRefused};
     ghost use Rattle.ledger.specs.inside.Trees.{IsTreeCount};
 
-    /// A board of the tree of a root, without records. The root must name its states in order.
+    /// A board of the tree of a root, without records, of version 2. The root must name its states in order.
     pub fn new(alloc: Global, root: Table) -> Result<Board, BoardFault>
-        ensures ok { IfOk result (λ board. board ≡ record { root = root; records = [] }) }
+        ensures ok { IfOk result (λ board. board ≡ record { root = root; records = []; format = Two }) }
         ensures in_order { IfOk result (λ board. (u : ℕ) × InOrder u (entry_of root)) }
         ensures not_in_order { result ≡ Err BoardFault.NotInOrder → ((u : ℕ) × InOrder u (entry_of root)) → ⊥ }
         ensures memory { result ≡ Err BoardFault.NoMemory → (u : ℕ) × InOrder u (entry_of root) }
@@ -109,7 +114,30 @@ impl Board {
             records: IndexMap::new(alloc),
             open_tables,
             counts: Counts::none(),
+            format: Format::Two,
         })
+    }
+
+    // The board with this version.
+    pub(crate) fn in_format(self, format: Format) -> Board
+        ensures { result ≡ record { root = self.root; records = self.records; format = format } }
+    {
+        Board { format, ..self }
+    }
+
+    /// The number of the version of its ledger's text: that of the text that was loaded, and 2 of a new board and of
+    /// one whose text was torn off within its header. It never changes.
+    pub fn format(&self) -> u8
+        ensures { result ≡ format_number self.now.format }
+    {
+        self.format.number()
+    }
+
+    /// That version.
+    pub fn version(&self) -> Format
+        ensures { result ≡ self.now.format }
+    {
+        self.format
     }
 
     /// The root of the tree. Whoever calls it knows that the board is one: its records are held from its root.
@@ -283,6 +311,7 @@ impl Board {
     pub fn offer(&mut self, r: &Record) -> Result<Taken, OfferFault>
         ensures gives { OfferGives self.old.root self.old.records (recorded r.now) result self.new.records }
         ensures root { self.new.root ≡ self.old.root }
+        ensures format { self.new.format ≡ self.old.format }
         ensures complete { IsComplete self.old.root (mark_in self.old.records) → self.new.records ≡ self.old.records }
     {
         self.put(r, Judging::Due)
@@ -294,6 +323,7 @@ impl Board {
         requires { IsCertified (recorded r.now) }
         ensures gives { OfferGives self.old.root self.old.records (recorded r.now) result self.new.records }
         ensures root { self.new.root ≡ self.old.root }
+        ensures format { self.new.format ≡ self.old.format }
         ensures complete { IsComplete self.old.root (mark_in self.old.records) → self.new.records ≡ self.old.records }
     {
         self.put(r, Judging::Done)
@@ -304,6 +334,7 @@ impl Board {
         requires { judging ≡ Judging.Done → IsCertified (recorded r.now) }
         ensures gives { OfferGives self.old.root self.old.records (recorded r.now) result self.new.records }
         ensures root { self.new.root ≡ self.old.root }
+        ensures format { self.new.format ≡ self.old.format }
         ensures complete { IsComplete self.old.root (mark_in self.old.records) → self.new.records ≡ self.old.records }
     {
         if r.table.states() != self.root.states() {
@@ -346,6 +377,7 @@ impl Board {
         ensures ok { IfOk result (λ taken. (taken ≡ Taken.New) × IsFit self.old.root self.old.records (recorded r.now) × (self.new.records ≡ self.old.records ++ (with_score (recorded r.now) ∷ []))) }
         ensures err { OnErr result (self.new.records ≡ self.old.records) }
         ensures root { self.new.root ≡ self.old.root }
+        ensures format { self.new.format ≡ self.old.format }
         ensures refusal { IfErr result (λ f. IsWhyRefused f (recorded r.now)) }
     {
         child_is_table();
@@ -392,6 +424,7 @@ impl Board {
         ensures ok { IfOk result (λ taken. (taken ≡ Taken.Settled) × Settles self.old.records (recorded r.now) × (self.new.records ≡ settled self.old.records (with_score (recorded r.now)))) }
         ensures err { OnErr result (self.new.records ≡ self.old.records) }
         ensures root { self.new.root ≡ self.old.root }
+        ensures format { self.new.format ≡ self.old.format }
         ensures refusal { IfErr result (λ f. IsWhyRefused f (recorded r.now)) }
     {
         child_is_table();

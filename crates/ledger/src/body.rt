@@ -1,7 +1,9 @@
 // What stands behind the header of a text that is loaded in pieces.
 ghost use Rattle.std.specs.Prelude.{◌≡◌, ◌++◌, ℕ, List, [], None, Some, IfErr, IfOk, Ok, OnOk, OnErr, option_map};
 ghost use Rattle.machine_text.specs.Packed.{Packed};
+ghost use Rattle.cert.specs.Kinds.{read_as};
 ghost use Rattle.text.specs.Lines.{HasNoNewline};
+ghost use Rattle.ledger.specs.Versions.{ledger_record};
 ghost use Rattle.ledger.specs.LedgerText.{LineGives, LoadGives};
 ghost use Rattle.ledger.specs.Loading.{IsBodyOf, record_start};
 ghost use Rattle.ledger.specs.inside.Taking.{BodyEnds, BodyGrows, BodyStops, GoesBehind, IsHeaded, LineTaken};
@@ -9,6 +11,7 @@ ghost use Rattle.ledger.specs.inside.Taking.{BodyEnds, BodyGrows, BodyStops, Goe
 use crate::board::Board;
 use crate::faults::OfferFault;
 use crate::feed_stop::FeedStop;
+use crate::format::Format;
 use crate::left::{Left, Unkept};
 use crate::line_start::LineStart;
 use crate::taken::Taken;
@@ -156,8 +159,9 @@ impl Body {
 // Takes the record of a line of which this is kept; none where it is too long for a record.
 fn take_start(board: &mut Board, start: Option<&[u8]>) -> Result<Option<Unkept>, NoMemory>
     ensures gives { IfOk result (λ why. (line : List ℕ) → option_map (λ kept. kept.now) start.entry ≡ record_start line →
-        LineGives board.old.root board.old.records line why board.new.records) }
+        LineGives board.old.format board.old.root board.old.records line why board.new.records) }
     ensures root { board.new.root ≡ board.old.root }
+    ensures format { board.new.format ≡ board.old.format }
     ensures err { OnErr result (board.new ≡ board.old) }
 {
     match start {
@@ -168,11 +172,12 @@ fn take_start(board: &mut Board, start: Option<&[u8]>) -> Result<Option<Unkept>,
 
 // Takes the record of a line, or says why it isn't kept; then the board is as it was.
 fn take_line(board: &mut Board, line: &[u8]) -> Result<Option<Unkept>, NoMemory>
-    ensures gives { IfOk result (λ why. LineGives board.old.root board.old.records line.now why board.new.records) }
+    ensures gives { IfOk result (λ why. LineGives board.old.format board.old.root board.old.records line.now why board.new.records) }
     ensures root { board.new.root ≡ board.old.root }
+    ensures format { board.new.format ≡ board.old.format }
     ensures err { OnErr result (board.new ≡ board.old) }
 {
-    let record = match Record::parse(line) {
+    let record = match parse_line(board.version(), line) {
         Ok(record) => record,
         Err(fault) => return Ok(Some(Unkept::Unread(fault))),
     };
@@ -181,5 +186,16 @@ fn take_line(board: &mut Board, line: &[u8]) -> Result<Option<Unkept>, NoMemory>
         Ok(Taken::Known) => Ok(Some(Unkept::Repeated)),
         Err(OfferFault::NoMemory) => Err(NoMemory),
         Err(fault) => Ok(Some(Unkept::Unfit(fault))),
+    }
+}
+
+// The record of a line in a version; `BadKind` where it has no score but has to have it, or has one but mustn't.
+fn parse_line(format: Format, line: &[u8]) -> Result<Record<'_>, RecordFault>
+    ensures { read_as result ≡ ledger_record format line.now }
+{
+    match Record::parse(line) {
+        Ok(record) if format.may_hold(&record.certificate) => Ok(record),
+        Ok(_) => Err(RecordFault::BadKind),
+        Err(fault) => Err(fault),
     }
 }

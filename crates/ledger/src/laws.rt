@@ -5,7 +5,7 @@ ghost use Rattle.turing.specs.Halting.{HaltsAt, Never};
 ghost use Rattle.tree.specs.Closed.{IsComplete};
 ghost use Rattle.tree.specs.Tables.{InTableTree};
 ghost use Rattle.cert.specs.Claim.{Recorded};
-ghost use Rattle.cert.specs.Grammar.{record_text};
+ghost use Rattle.cert.specs.Scored.{with_score};
 ghost use Rattle.ledger.specs.declared.left.Left.{Left as LeftOver};
 ghost use Rattle.ledger.specs.declared.left.Left.TheVariants.{Nothing, From};
 ghost use Rattle.ledger.specs.declared.left.Unkept.{Unkept as WhyUnkept};
@@ -17,9 +17,11 @@ ghost use Rattle.ledger.specs.Merging.{IsMerged};
 ghost use Rattle.ledger.specs.Tally.{AreAll, HaltsAfter, IsChampion, IsNeverHalting, IsTally};
 ghost use Rattle.ledger.specs.WholeTree.{IsTreeTally, IsTreeChampion};
 ghost use Rattle.ledger.specs.declared.tally.Tally.{Tally as Counted};
-ghost use Rattle.ledger.specs.Contents.{Contents, IsBoard};
+ghost use Rattle.ledger.specs.Contents.{Contents, IsBoard, IsBoardOf};
+ghost use Rattle.ledger.specs.Versions.{line_of};
+ghost use Rattle.ledger.specs.declared.format.Format.TheVariants.{Two};
 ghost use Rattle.ledger.specs.Lists.{AreKept, Offer, AreOffered, answered, held as held_of};
-ghost use Rattle.ledger.specs.LedgerText.{HasHeader, IsTaken, ReadsAs, ledger_text};
+ghost use Rattle.ledger.specs.LedgerText.{HasHeader, IsLedgerOf, IsTaken, ReadsAs, ReadsIn, ledger_text};
 ghost use Rattle.ledger.specs.LedgerLaws.{ReadsAsFirst, IsLongest};
 
 /// After any list of offers to an empty board its records are those held of the fit ones among the offered
@@ -35,36 +37,37 @@ pub fn answered_records_are_held()
         OfferGives root old r (Ok taken) new → IsSome (claim_in new r.table) }
 {}
 
-/// The ledger of a board reads as its records, and every byte of it is kept.
+/// The ledger that is written of a board reads in version 2 as its records, and every byte of it is kept.
 pub fn ledgers_load_whole()
-    ensures { (root : Packed) (rs : List Recorded) → IsBoard (record { root = root; records = rs }) →
-        ReadsAs root (ledger_text root rs) rs Nothing }
+    ensures { (root : Packed) (rs : List Recorded) → IsBoardOf root rs → ReadsIn Two root (ledger_text root rs) rs Nothing }
 {}
 
-/// A text reads as one root and one list of records only.
+/// A text reads as one root and one list of records only, and in one version.
 pub fn ledgers_read_as_one()
-    ensures { (root other : Packed) (text : List ℕ) (rs others : List Recorded) (left more : LeftOver) → IsTable root →
+    ensures records { (root other : Packed) (text : List ℕ) (rs others : List Recorded) (left more : LeftOver) → IsTable root →
         ReadsAs root text rs left → ReadsAs other text others more → (root ≡ other) × (rs ≡ others) }
+    ensures version { (root other : Packed) (text : List ℕ) (rs others : List Recorded) (left more : LeftOver) →
+        (reads : ReadsAs root text rs left) → (same : ReadsAs other text others more) → reads.header.format ≡ same.header.format }
 {}
 
 /// The lines of a text that are kept are the longest list of whole lines behind its header of which each
 /// reads as a record that is fit in its turn.
 pub fn ledgers_read_longest()
     ensures { (root : Packed) (text : List ℕ) (rs : List Recorded) (left : LeftOver) → IsTable root →
-        (reads : ReadsAs root text rs left) → IsLongest root reads.body reads.keeps.lines rs }
+        (reads : ReadsAs root text rs left) → IsLongest reads.header.format root reads.body reads.keeps.lines rs }
 {}
 
-/// A ledger of a board, all its bytes kept, with the line of one more record behind it reads as the records that
-/// there are once that is taken.
+/// A ledger of a board, all its bytes kept, with the line of one more record behind it, in its version, reads as the
+/// records that there are once that is taken.
 pub fn ledgers_grow()
-    ensures { (b : Contents) (text : List ℕ) (r : Recorded) (new : List Recorded) → IsBoard b → ReadsAs b.root text b.records Nothing →
-        IsTaken b.root b.records r new → ReadsAs b.root (text ++ (record_text r ++ (10 ∷ []))) new Nothing }
+    ensures { (b : Contents) (text : List ℕ) (r : Recorded) (new : List Recorded) → IsBoard b → IsLedgerOf b text →
+        IsTaken b.root b.records r new → ReadsIn b.format b.root (text ++ (line_of b.format (with_score r) ++ (10 ∷ []))) new Nothing }
 {}
 
-/// The bytes that are kept of a text read as the same records, and all of them are kept.
+/// The bytes that are kept of a text read as the same records in the same version, and all of them are kept.
 pub fn kept_bytes_load()
     ensures { (root : Packed) (text : List ℕ) (rs : List Recorded) (line kept : ℕ) (why : WhyUnkept) →
-        ReadsAs root text rs (From line kept why) → ReadsAs root (take kept text) rs Nothing }
+        (reads : ReadsAs root text rs (From line kept why)) → ReadsIn reads.header.format root (take kept text) rs Nothing }
 {}
 
 /// A beginning of a text that reads as records, cut anywhere behind its header, reads as the records of the

@@ -4,13 +4,15 @@
 //! on it is true, whatever calls made it. `specs/Records` says what a list of records says of a table, and
 //! `specs/Held` which lists a board may hold.
 //!
-//! A board's ledger is a text: a header with the root, and a line for each record. `specs/LedgerText` says
-//! as which records a text is read, also where it is cut or spoilt.
+//! A board's ledger is a text: a header with its version and the root, and a line for each record.
+//! `specs/Versions` says what lines a version has, and `specs/LedgerText` as which records a text is read, also
+//! where it is cut or spoilt.
 //!
 //! `specs/Lists` says what is held of a list of records, and `laws` that this is what offers and ledgers come
 //! to. `specs/inside` and `proofs` are for the code alone.
 #![tactic(auto)]
 
+mod as_written;
 mod board;
 mod body;
 mod bound;
@@ -19,6 +21,7 @@ mod children;
 mod counts;
 mod faults;
 mod feed_stop;
+mod format;
 mod header;
 mod header_line;
 mod index;
@@ -45,6 +48,7 @@ pub use board::{Board, Champions, Holdouts};
 pub use bound::Bound;
 pub use faults::{BoardFault, LoadFault, MergeFault, OfferFault};
 pub use feed_stop::FeedStop;
+pub use format::Format;
 pub use header::peek_root;
 pub use laws::{
     answered_records_are_held, beginnings_load, complete_boards_hold_the_tree, complete_is_final,
@@ -59,4 +63,4 @@ pub use records::Records;
 pub use status::Status;
 pub use taken::Taken;
 pub use tally::Tally;
-pub use write_ledger::{append_header, append_record};
+pub use write_ledger::append_header;

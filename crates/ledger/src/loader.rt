@@ -132,8 +132,8 @@ impl Loader {
 
 impl Board {
     /// The board of a ledger's text, and what of the text wasn't kept: the records are those of its lines
-    /// up to the first that isn't whole, doesn't read or can't be taken. A text that is torn off within
-    /// its header has none.
+    /// up to the first that isn't whole, doesn't read or can't be taken. The header's version decides what
+    /// lines read, and is the board's. A text that is torn off within its header has no records, and version 2.
     ///
     /// The root must name its states in order. `BadHeader` where the first line is no header with a table
     /// that reads, or where the text has no newline and doesn't begin as a header does; `WrongRoot` where

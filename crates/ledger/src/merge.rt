@@ -20,6 +20,7 @@ impl Board {
     pub fn merge(&mut self, other: &Board) -> Result<(), MergeFault>
         ensures gives { MergeGives self.old other.now result self.new }
         ensures root { self.new.root ≡ self.old.root }
+        ensures format { self.new.format ≡ self.old.format }
         ensures complete { IsComplete self.old.root (mark_in self.old.records) → self.new.records ≡ self.old.records }
     {
         child_is_table();

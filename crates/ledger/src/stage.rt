@@ -5,13 +5,15 @@ ghost use Rattle.tree.specs.Used.{InOrder};
 ghost use Rattle.text.specs.Lines.{HasNoNewline};
 ghost use Rattle.ledger.specs.LedgerText.{LoadGives};
 ghost use Rattle.ledger.specs.Loading.{IsStageOf, NamesRoot, header_start};
+ghost use Rattle.ledger.specs.declared.format.Format.{Format as Version};
+ghost use Rattle.ledger.specs.declared.format.Format.TheVariants.{Two};
 ghost use Rattle.ledger.specs.inside.Taking.{StageEnds, StageGrows, StageStops, IsHeaded};
 
 use crate::board::Board;
 use crate::body::Body;
 use crate::faults::LoadFault;
 use crate::feed_stop::FeedStop;
-use crate::header::{is_begun_header, root_in};
+use crate::header::{header_in, is_begun_header};
 use crate::header_line::HeaderLine;
 use crate::left::Left;
 use evidence::NoMemory;
@@ -91,19 +93,20 @@ fn ended(alloc: Global, root: &Table, line: &[u8], after: u64) -> Result<Stage, 
     requires { (u : ℕ) × InOrder u (entry_of root.now) }
     ensures ok { IfOk result (λ next. (text : List ℕ) → length text + 1 ≡ after → HasNoNewline text → line.now ≡ header_start text
         → IsStageOf root.now (text ++ 10 ∷ []) next) }
-    ensures err { OnErr result (NamesRoot line.now root.now) }
+    ensures err { OnErr result ((format : Version) × NamesRoot format line.now root.now) }
 {
-    let Some(found) = root_in(line) else {
+    let Some(header) = header_in(line) else {
         return Ok(Stage::Refused(LoadFault::BadHeader));
     };
-    if found != *root {
+    if header.root != *root {
         return Ok(Stage::Refused(LoadFault::WrongRoot));
     }
     let board = empty_board(alloc, *root)?;
+    let board = board.in_format(header.format);
     Ok(Stage::Records(Body::new(alloc, board, after)))
 }
 
-// The board of a text without a newline, of which this is kept.
+// The board of a text without a newline, of which this is kept: a new one, whatever was begun of its header.
 fn torn(alloc: Global, root: Table, line: &[u8]) -> Result<(Board, Left), LoadFault>
     requires { (u : ℕ) × InOrder u (entry_of root) }
     ensures { (text : List ℕ) → HasNoNewline text → line.now ≡ header_start text → LoadGives root text result }
@@ -118,7 +121,7 @@ fn torn(alloc: Global, root: Table, line: &[u8]) -> Result<(Board, Left), LoadFa
 // A board without records, of a root that names its states in order.
 fn empty_board(alloc: Global, root: Table) -> Result<Board, NoMemory>
     requires { (u : ℕ) × InOrder u (entry_of root) }
-    ensures { IfOk result (λ board. board ≡ record { root = root; records = [] }) }
+    ensures { IfOk result (λ board. board ≡ record { root = root; records = []; format = Two }) }
 {
     match Board::new(alloc, root) {
         Ok(board) => Ok(board),

@@ -30,9 +30,12 @@ abbrev pub IsOpener : Packed → List Recorded → Packed → ℕ → Type 0
 IsOpener root rs t place = ((t ≡ root) × (place ≡ no_place)) ⊎ ((r : Recorded) × (slice_get rs place ≡ Some r) × (is_halting r ≡ true) × IsChildTable r.table t)
 
 -- a map of tables is that of the open ones, each with the place of what opened it
-pub record IsOpenMap (tables : BTreeMap Packed ℕ) (b : Contents) : Type 0 where
-  pub exact : (t : Packed) → ContainsKey table_cmp tables t ↔ IsOpen b.root (mark_in b.records) t
-  pub openers : All (λ e. IsOpener b.root b.records e.0 e.1) tables.entries
+pub record IsOpenMapOf (tables : BTreeMap Packed ℕ) (root : Packed) (rs : List Recorded) : Type 0 where
+  pub exact : (t : Packed) → ContainsKey table_cmp tables t ↔ IsOpen root (mark_in rs) t
+  pub openers : All (λ e. IsOpener root rs e.0 e.1) tables.entries
+
+abbrev pub IsOpenMap : BTreeMap Packed ℕ → Contents → Type 0
+IsOpenMap tables b = IsOpenMapOf tables b.root b.records
 
 -- a child of the record's table, by its halting, that has no record itself
 pub record IsNewChild (rs : List Recorded) (r : Recorded) (t : Packed) : Type 0 where

@@ -16,8 +16,9 @@ GoesBehind old (Some why) after new = new.left ≡ Some (From old.number old.bef
 -- a line was offered to a body of which no line wasn't kept
 pub record LineTaken (old : Body) (line : List ℕ) (after : ℕ) (new : Body) : Type 0 where
   pub why : Option Unkept
-  pub gives : LineGives old.board.root old.board.records line why new.board.records
+  pub gives : LineGives old.board.format old.board.root old.board.records line why new.board.records
   pub root : new.board.root ≡ old.board.root
+  pub format : new.board.format ≡ old.board.format
   pub goes_on : GoesBehind old why after new
   pub empty : new.line ≡ Some []
 

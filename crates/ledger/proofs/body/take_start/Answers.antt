@@ -6,4 +6,4 @@ use Rattle.ledger.proofs.body.take_start.Goals as goal
 
 pub returns-in-None-clause-gives : goal.returns-in-None-clause-gives
 returns-in-None-clause-gives c line kept =
-    (too_long line (start_over line (subst (λ (start : Option (Bor (List ℕ))). option_map (λ kept. kept.now) start ≡ record_start line) c.in-None.is kept)), refl)
+    (too_long c.args.board.now.format line (start_over line (subst (λ (start : Option (Bor (List ℕ))). option_map (λ kept. kept.now) start ≡ record_start line) c.in-None.is kept)), refl)

@@ -28,7 +28,7 @@ returns-in-Err-clause-stopped c =
       headed = λ text is.
           let grown = grows text is in
           subst (λ (l : List ℕ). IsHeaded root l) (append_assoc text part (10 ∷ []))
-          (headed root (text ++ part) c.bytes.result.now grown.0 (c.bytes.ensures ∙ grown.1) c.in-Err.ensures.err);
+          (headed root (text ++ part) c.bytes.result.now grown.0 (c.bytes.ensures ∙ grown.1) c.in-Err.ensures.err.0 c.in-Err.ensures.err.1);
     }
 
 pub returns-in-Records-clause-stopped : goal.returns-in-Records-clause-stopped

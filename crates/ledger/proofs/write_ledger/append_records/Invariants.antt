@@ -1,11 +1,12 @@
 use Rattle.std.proofs.Common.{◌≡◌, ◌++◌, map, take, length}
-use Rattle.cert.specs.Grammar.{record_text}
+use Rattle.ledger.specs.Versions.{line_of}
+use Rattle.ledger.specs.declared.format.Format.TheVariants.{Two}
 use Rattle.text.specs.Lines.{joined}
 use Rattle.ledger.proofs.write_ledger.append_records.Given as goal
 
 -- what is written, and the lines that are left, are what will be written
 abbrev pub invariant-loop-r : goal.invariant-loop-r
 invariant-loop-r l = record {
-  whole : l.out.items ++ joined (map record_text l.r-iterator) ≡ l.fn.out.items ++ joined (map record_text l.fn.records);
+  whole : l.out.items ++ joined (map (line_of Two) l.r-iterator) ≡ l.fn.out.items ++ joined (map (line_of Two) l.fn.records);
   kept : take (length l.fn.out.items) l.out.items ≡ l.fn.out.items;
 }

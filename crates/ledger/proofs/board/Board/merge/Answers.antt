@@ -18,6 +18,7 @@ pub loop-r-init : goal.loop-r-init
 loop-r-init c = record {
   so_far = rw (c.into_iter-r-iterator.ensures.into_iter_gives, c.records-r-items.ensures) (none_so_far c.args.self.now.root c.args.self.now.records c.args.other.now.records);
   root = refl;
+  format = refl;
 }
 
 pub loop-r-preserved : goal.loop-r-preserved
@@ -26,6 +27,7 @@ loop-r-preserved c = record {
       c.root-2.ensures.board c.loop-r.invariant.so_far c.in-Some.ensures.steps
       (subst (λ (p : Packed). OfferGives p c.loop-r.self.records (recorded c.in-Some.r) (Ok c.in_default.field-0) c.offer_certified.new.self.records) c.loop-r.invariant.root c.in_default.ensures.gives);
   root = c.in_default.ensures.root ∙ c.loop-r.invariant.root;
+  format = c.in_default.ensures.format ∙ c.loop-r.invariant.format;
 }
 
 pub unreachable-requires : goal.unreachable-requires

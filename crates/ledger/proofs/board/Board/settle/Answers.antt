@@ -55,7 +55,7 @@ with-self-inside-requires-clause-undecided c =
     let small = (numbers_fit c.self.inside.records.entries c.self.inside.counts c.self.invariant.3 c.place_of-found.ensures.room).2 in rw c.without_holdout.ensures (omega (arith, small))
 
 pub invariant_of-self : goal.invariant_of-self
-invariant_of-self c = (c.self.invariant.0, same_map c.self.inside.open_tables c.open_children.new.tables _ c.in_err-open_children.ensures.err c.self.invariant.1, c.self.invariant.2, c.self.invariant.3, c.self.invariant.4)
+invariant_of-self c = (c.self.invariant.0, same_map c.self.inside.open_tables c.open_children.new.tables _ _ c.in_err-open_children.ensures.err c.self.invariant.1, c.self.invariant.2, c.self.invariant.3, c.self.invariant.4)
 
 pub carry_up-requires-clause-there : goal.carry_up-requires-clause-there
 unfolding same_table

@@ -39,7 +39,7 @@ open_children-requires-clause-none c =
 pub invariant_of-self-in_err-open_children : goal.invariant_of-self-in_err-open_children
 invariant_of-self-in_err-open_children c =
     let now = subst (λ (l : List (Packed × StoredRecord)). IsStored c.self.inside.root l c.self.inside.open_tables c.self.inside.counts) (sym c.in_ok-reserve.ensures.entries) c.self.invariant in
-    (now.0, same_map c.self.inside.open_tables c.open_children.new.tables _ c.in_err-open_children.ensures.err now.1, now.2, now.3, now.4)
+    (now.0, same_map c.self.inside.open_tables c.open_children.new.tables _ _ c.in_err-open_children.ensures.err now.1, now.2, now.3, now.4)
 
 pub carry_up-requires-clause-there : goal.carry_up-requires-clause-there
 unfolding same_table

@@ -16,7 +16,7 @@ returns c =
     let tables = subst (IsOpenMap c.self.inside.open_tables) c.self.view_is c.self.invariant.1 in
     let counted = subst (λ (b : Contents). IsCounted b.records counts) c.self.view_is c.self.invariant.3 in
     record {
-      nodes = nodes_counted b c.self.inside.root c.self.inside.records.entries (c.len.result + c.len-2.result) c.len.result c.len-3.result c.self.view_is c.len.ensures.len
+      nodes = nodes_counted b c.self.inside.root c.self.inside.records.entries c.self.inside.format (c.len.result + c.len-2.result) c.len.result c.len-3.result c.self.view_is c.len.ensures.len
           (ap (λ n. c.len.result + n) (c.len-2.ensures.len ∙ sym c.len-3.ensures.len));
       open_count = open_number b c.self.inside.open_tables c.len-3.result tables c.len-3.ensures.len c.len-3.ensures.ordered;
       halting = kind_counted IsHalting is_halting halting_number b counts.halting board counted.halting;

@@ -1,0 +1,91 @@
+-- The line of a record that is held reads, in its version, as a record that is held as that one is.
+use Rattle.std.proofs.Common.{◌≡◌, ℕ, Bool, true, cond, is_some, List, [], ◌∷◌, ◌++◌, Option, Some, None, Result, Ok, Err, ◌⊎◌, inl, inr, IsSome, refl, sym, ap, ◌∙◌, subst}
+use Rattle.machine_text.specs.Packed.{Packed, IsTable}
+use Rattle.evidence.specs.declared.verdicts.Ending.{Ending}
+use Rattle.cert.specs.Claim.{Claim, HaltsClaim, CycleClaim, TranslatedClaim, BackwardClaim, NgramClaim, FarClaim, NoClaim, Recorded, ending_by, score_by}
+use Rattle.cert.specs.Certified.{IsCertified}
+use Rattle.cert.specs.Grammar.{record_text, record_of}
+use Rattle.cert.specs.Scored.{scored, unscored, with_score, without_score}
+use Rattle.cert.specs.declared.record_fault.RecordFault.{RecordFault}
+use Rattle.cert.specs.declared.record_fault.RecordFault.TheVariants.{BadKind}
+use Rattle.cert.proofs.Lines.{record_line, certified_writable, certified_made}
+use Rattle.cert.proofs.RoundTrip.{record_of-record_text}
+use Rattle.cert.proofs.Scores.{scored_again, unscored_ends, unscored_certified}
+use Rattle.text.specs.Lines.{HasNoNewline}
+use Rattle.ledger.specs.Versions.{may_stand, standing_record, ledger_record, as_written, line_of}
+use Rattle.ledger.specs.Held.{HasScore, IsFit, Settles, settled}
+use Rattle.ledger.specs.LedgerText.{IsTaken}
+use Rattle.ledger.specs.declared.format.Format.{Format}
+use Rattle.ledger.specs.declared.format.Format.TheVariants.{One, Two}
+
+-- what stands in a version: a claim without a score in the first, one with its score in the second
+unscored_stands : (c : Claim) → may_stand One (ending_by (unscored c)) (score_by (unscored c)) ≡ true
+unscored_stands (HaltsClaim e) = refl
+unscored_stands (CycleClaim e) = refl
+unscored_stands (TranslatedClaim e) = refl
+unscored_stands (BackwardClaim e) = refl
+unscored_stands (NgramClaim s) = refl
+unscored_stands (FarClaim a) = refl
+unscored_stands NoClaim = refl
+
+scored_stands : (p : Packed) (c : Claim) → may_stand Two (ending_by (scored p c)) (score_by (scored p c)) ≡ true
+scored_stands p (HaltsClaim e) = refl
+scored_stands p (CycleClaim e) = refl
+scored_stands p (TranslatedClaim e) = refl
+scored_stands p (BackwardClaim e) = refl
+scored_stands p (NgramClaim s) = refl
+scored_stands p (FarClaim a) = refl
+scored_stands p NoClaim = refl
+
+written_stands : (format : Format) (r : Recorded) → HasScore r → may_stand format (ending_by (as_written format r).claim) (score_by (as_written format r).claim) ≡ true
+written_stands One r has = unscored_stands r.claim
+written_stands Two r has = subst (λ (x : Recorded). may_stand Two (ending_by x.claim) (score_by x.claim) ≡ true) has (scored_stands r.table r.claim)
+
+written_table : (format : Format) (r : Recorded) → IsTable r.table → IsTable (as_written format r).table
+written_table One r table = table
+written_table Two r table = table
+
+pub written_certified : (format : Format) (r : Recorded) → IsCertified r → IsCertified (as_written format r)
+written_certified One r certified = unscored_certified r certified
+written_certified Two r certified = certified
+
+-- it is held as it was
+pub written_held : (format : Format) (r : Recorded) → HasScore r → with_score (as_written format r) ≡ r
+written_held One r has = ap (λ (c : Claim). record { table = r.table; claim = c }) (scored_again r.table r.claim) ∙ has
+written_held Two r has = has
+
+-- and reads back
+pub reads_back : (format : Format) (r : Recorded) → IsTable r.table → IsCertified r → HasScore r → ledger_record format (line_of format r) ≡ Ok (as_written format r)
+unfolding ledger_record
+reads_back format r table certified has =
+    let w = as_written format r in
+    let is_table = written_table format r table in
+    let stands = written_certified format r certified in
+    let read : record_of (record_text w) ≡ Ok w = record_of-record_text w is_table (certified_writable w stands) (certified_made w stands) in
+    ap (standing_record format) read ∙ ap (λ (b : Bool). cond b (Ok w) (Err BadKind)) (written_stands format r has)
+
+pub one_line : (format : Format) (r : Recorded) → IsTable r.table → IsCertified r → HasNoNewline (line_of format r)
+one_line format r table certified =
+    let w = as_written format r in
+    record_line w (written_table format r table) (certified_writable w (written_certified format r certified))
+
+-- what is fit, or settles, is so as it is written
+fit_written : (format : Format) (root : Packed) (old : List Recorded) (r : Recorded) → IsFit root old r → IsFit root old (as_written format r)
+fit_written One root old r fit = record { is_open = fit.is_open; certified = unscored_certified r fit.certified }
+fit_written Two root old r fit = fit
+
+settles_written : (format : Format) (old : List Recorded) (r : Recorded) → Settles old r → Settles old (as_written format r)
+settles_written One old r settles = record {
+  is_holdout = settles.is_holdout;
+  verdict = subst IsSome (sym (unscored_ends r.claim)) settles.verdict;
+  certified = unscored_certified r settles.certified;
+}
+settles_written Two old r settles = settles
+
+-- a held record that is taken is taken from its line
+pub taken_written : (format : Format) (root : Packed) (old : List Recorded) (r : Recorded) (new : List Recorded) → HasScore r
+    → (IsFit root old r × (new ≡ old ++ (r ∷ []))) ⊎ (Settles old r × (new ≡ settled old r)) → IsTaken root old (as_written format r) new
+taken_written format root old r new has (inl w) =
+    inl (fit_written format root old r w.0, w.1 ∙ ap (λ (x : Recorded). old ++ (x ∷ [])) (sym (written_held format r has)))
+taken_written format root old r new has (inr w) =
+    inr (settles_written format old r w.0, w.1 ∙ ap (λ (x : Recorded). settled old x) (sym (written_held format r has)))

@@ -6,11 +6,13 @@ ghost use Rattle.tree.specs.Used.{InOrder};
 ghost use Rattle.evidence.specs.Verdict.{IsTrueOf};
 ghost use Rattle.turing.specs.Halting.{IsRado, HaltsAt};
 ghost use Rattle.std.specs.Vec.Iter.{into_iter_items};
+ghost use Rattle.tree.specs.Best.{Scores};
 ghost use Rattle.tree.specs.Tables.{IsBestOfTable, IsChildTable};
 ghost use Rattle.ledger.specs.Versions.{format_number};
 ghost use Rattle.ledger.specs.Contents.{IsBoard};
 ghost use Rattle.ledger.specs.declared.format.Format.TheVariants.{Two};
 ghost use Rattle.ledger.specs.inside.Places.{IsPlace};
+ghost use Rattle.ledger.specs.Sigma.{IsSigma};
 ghost use Rattle.ledger.specs.Tally.{AreAll, IsChampion, IsGreatestCount, IsHalting, IsStatus, IsTally};
 
 use crate::chain::carry_up;
@@ -219,6 +221,7 @@ impl Board {
             holdouts: self.counts.undecided,
             open_count: self.open_tables.len() as u64,
             best: self.counts.best,
+            ones: self.counts.ones,
         }
     }
 
@@ -247,11 +250,13 @@ impl Board {
 
     /// How the board stands. Where it is complete, its best is the greatest number of steps of all
     /// extensions of the root that halt, in tree normal form or not; for the empty table of n states that
-    /// is Radó's S(n).
+    /// is Radó's S(n). Its ones are their greatest score, and for the empty table of n states Radó's Σ(n).
     pub fn status(&self) -> Status
         ensures stands { IsStatus self.now.root self.now.records result }
-        ensures best { (best : Option ℕ) → result ≡ Status.Complete best → IsBestOfTable HaltsAt self.now.root best }
-        ensures rado { (n s : ℕ) → 1 ≤ n → n ≤ state_limit → self.now.root ≡ empty_table n → result ≡ Status.Complete (Some s) → IsRado n s }
+        ensures best { (best ones : Option ℕ) → result ≡ Status.Complete best ones → IsBestOfTable HaltsAt self.now.root best }
+        ensures ones { (best ones : Option ℕ) → result ≡ Status.Complete best ones → IsBestOfTable Scores self.now.root ones }
+        ensures rado { (n s : ℕ) (ones : Option ℕ) → 1 ≤ n → n ≤ state_limit → self.now.root ≡ empty_table n → result ≡ Status.Complete (Some s) ones → IsRado n s }
+        ensures sigma { (n s : ℕ) (best : Option ℕ) → 1 ≤ n → n ≤ state_limit → self.now.root ≡ empty_table n → result ≡ Status.Complete best (Some s) → IsSigma n s }
     {
         child_is_table();
         standing_claims_are_true();
@@ -279,6 +284,7 @@ impl Board {
         }
         Status::Complete {
             best: self.counts.best,
+            ones: self.counts.ones,
         }
     }
 
@@ -389,6 +395,7 @@ impl Board {
         };
         let opened = child_count(&held, stored.halts_on);
         let shown = held.certificate.ending();
+        let score = held.certificate.ones();
         let count = self.records.len();
         let place = opener_place(count)?;
         // The proof needs how many open tables there can be.
@@ -409,10 +416,10 @@ impl Board {
         carry_up(
             &mut self.records,
             place,
-            TreeChange::of_taking(opened, shown),
+            TreeChange::of_taking(opened, shown, score),
         );
         self.open_tables.remove(&r.table);
-        self.counts = self.counts.with(shown);
+        self.counts = self.counts.with(shown, score);
         Ok(Taken::New)
     }
 
@@ -436,6 +443,7 @@ impl Board {
         };
         let opened = child_count(&held, stored.halts_on);
         let shown = held.certificate.ending();
+        let score = held.certificate.ones();
         let found = place_of(&self.records, &r.table);
         let place = opener_place(found)?;
         // The proof needs how many open tables there can be.
@@ -455,9 +463,9 @@ impl Board {
         carry_up(
             &mut self.records,
             place,
-            TreeChange::of_settling(opened, shown),
+            TreeChange::of_settling(opened, shown, score),
         );
-        self.counts = self.counts.without_holdout().with(shown);
+        self.counts = self.counts.without_holdout().with(shown, score);
         Ok(Taken::Settled)
     }
 }

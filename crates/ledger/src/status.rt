@@ -6,7 +6,10 @@ pub enum Status {
     Working { count: u64 },
     /// No table is open, but so many are holdouts.
     Holdouts { count: u64 },
-    /// No table is open and none is a holdout. The greatest number of steps recorded of a table that
-    /// halts, or none where none does.
-    Complete { best: Option<u64> },
+    /// No table is open and none is a holdout. The greatest number of steps recorded of a table that halts, and the
+    /// greatest score, or none where none does.
+    Complete {
+        best: Option<u64>,
+        ones: Option<u64>,
+    },
 }

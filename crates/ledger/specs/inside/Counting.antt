@@ -4,8 +4,8 @@ use Rattle.std.specs.Option.{is_none}
 use Rattle.machine_text.specs.Packed.{Packed}
 use Rattle.evidence.specs.declared.verdicts.Ending.{Ending}
 use Rattle.evidence.specs.declared.verdicts.Ending.TheVariants.{Halts, Never}
-use Rattle.cert.specs.Claim.{Recorded, ending_by}
-use Rattle.ledger.specs.Tally.{IsGreatestCount}
+use Rattle.cert.specs.Claim.{Recorded, ending_by, score_by}
+use Rattle.ledger.specs.Tally.{IsGreatestCount, IsGreatestOnes}
 use Rattle.ledger.specs.declared.counts.Counts.{Counts}
 
 -- a record without a verdict
@@ -70,13 +70,14 @@ pub record IsCounted (rs : List Recorded) (c : Counts) : Type 0 where
   pub never : c.never ≡ length (filter is_never rs)
   pub undecided : c.undecided ≡ length (filter is_undecided rs)
   pub best : IsGreatestCount rs c.best
+  pub ones : IsGreatestOnes rs c.ones
 
--- the numbers with one more record, by what it shows
-abbrev pub with_shown : Counts → Option Ending → Counts
-with_shown c None = record { halting = c.halting; never = c.never; undecided = c.undecided + 1; best = c.best }
-with_shown c (Some Never) = record { halting = c.halting; never = c.never + 1; undecided = c.undecided; best = c.best }
-with_shown c (Some (Halts k)) = record { halting = c.halting + 1; never = c.never; undecided = c.undecided; best = greater c.best (Some k) }
+-- the numbers with one more record, by what it shows and its score
+abbrev pub with_shown : Counts → Option Ending → Option ℕ → Counts
+with_shown c None ones = record { halting = c.halting; never = c.never; undecided = c.undecided + 1; best = c.best; ones = greater c.ones ones }
+with_shown c (Some Never) ones = record { halting = c.halting; never = c.never + 1; undecided = c.undecided; best = c.best; ones = greater c.ones ones }
+with_shown c (Some (Halts k)) ones = record { halting = c.halting + 1; never = c.never; undecided = c.undecided; best = greater c.best (Some k); ones = greater c.ones ones }
 
 -- the numbers without a holdout
 abbrev pub without_holdout : Counts → Counts
-without_holdout c = record { halting = c.halting; never = c.never; undecided = c.undecided - 1; best = c.best }
+without_holdout c = record { halting = c.halting; never = c.never; undecided = c.undecided - 1; best = c.best; ones = c.ones }

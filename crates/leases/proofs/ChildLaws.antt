@@ -15,6 +15,8 @@ use Rattle.tree.proofs.TableLaws.{child_map, tree_alike, tree_map, one_table_par
 use Rattle.tree.proofs.TreeLaws.{child_holes}
 use Rattle.tree.proofs.ChildCount.{children_bound}
 use Rattle.cert.specs.Claim.{Recorded}
+use Rattle.cert.specs.Scored.{with_score}
+use Rattle.cert.proofs.Scores.{score_certified}
 use Rattle.ledger.specs.Contents.{Contents, IsBoard, IsOpenOn}
 use Rattle.ledger.specs.Records.{mark_in, mark_of, mark_by}
 use Rattle.ledger.specs.Held.{IsFit, Settles, settled}
@@ -70,7 +72,7 @@ pub record Opens (old new : Contents) (t : Packed) : Type 0 where
   pub not_before : (q : Packed) → IsChildTable t q → IsOpenOn old q → ⊥
 
 opens_by : (b : Contents) (new : List Recorded) (r : Recorded) → Below → IsBoard b → InTableTree b.root r.table → ((k : ℕ) → mark_in b.records r.table ≡ Some (Halting k) → ⊥) → IsTaken b.records new r
-    → Opens b (record { root = b.root; records = new }) r.table
+    → Opens b (record { root = b.root; records = new; format = b.format }) r.table
 opens_by b new r below board in_tree unhalted taken = record {
   cases = λ q h. elim ((open_taken b.root b.records new r q taken).0 h) [
     | inl u ↦ inl u
@@ -80,18 +82,20 @@ opens_by b new r below board in_tree unhalted taken = record {
   not_before = λ q child is_open. not_open_before b r.table q below board in_tree unhalted child is_open;
 }
 
-pub opens_new : (old new : Contents) (r : Recorded) → Below → IsBoard old → new.root ≡ old.root → IsFit old.root old.records r → new.records ≡ old.records ++ (r ∷ []) → Opens old new r.table
-opens_new old new r below board root fit is =
-    let same : new ≡ record { root = old.root; records = old.records ++ (r ∷ []) } = λ i. record { root = root i; records = is i } in
+pub opens_new : (old new : Contents) (r : Recorded) → Below → IsBoard old → new.root ≡ old.root → new.format ≡ old.format → IsFit old.root old.records r → new.records ≡ old.records ++ (with_score r ∷ []) → Opens old new r.table
+opens_new old new r below board root format fit is =
+    let held = with_score r in
+    let same : new ≡ record { root = old.root; records = old.records ++ (held ∷ []); format = old.format } = λ i. record { root = root i; records = is i; format = format i } in
     subst (λ (b : Contents). Opens old b r.table) (sym same)
-    (opens_by old (old.records ++ (r ∷ [])) r below board (open_in_tree old.root old.records r.table below board.held fit.is_open) (λ k marked. let none = fit.is_open.unmarked in absurd (cc)) (taken_last old.records r old.root fit.is_open))
+    (opens_by old (old.records ++ (held ∷ [])) held below board (open_in_tree old.root old.records r.table below board.held fit.is_open) (λ k marked. let none = fit.is_open.unmarked in absurd (cc)) (taken_last old.records held old.root fit.is_open))
 
-pub opens_settled : (old new : Contents) (r : Recorded) → Below → IsBoard old → new.root ≡ old.root → Settles old.records r → new.records ≡ settled old.records r → Opens old new r.table
-opens_settled old new r below board root settles is =
-    let same : new ≡ record { root = old.root; records = settled old.records r } = λ i. record { root = root i; records = is i } in
+pub opens_settled : (old new : Contents) (r : Recorded) → Below → IsBoard old → new.root ≡ old.root → new.format ≡ old.format → Settles old.records r → new.records ≡ settled old.records (with_score r) → Opens old new r.table
+opens_settled old new r below board root format settles is =
+    let held = with_score r in
+    let same : new ≡ record { root = old.root; records = settled old.records held; format = old.format } = λ i. record { root = root i; records = is i; format = format i } in
     let holdout : mark_in old.records r.table ≡ Some Holdout = settles.is_holdout in
     subst (λ (b : Contents). Opens old b r.table) (sym same)
-    (opens_by old (settled old.records r) r below board (marked_in_tree old r.table Holdout below board holdout) (λ k marked. absurd (cc)) (taken_settling old.records r holdout))
+    (opens_by old (settled old.records held) held below board (marked_in_tree old r.table Holdout below board holdout) (λ k marked. absurd (cc)) (taken_settling old.records held holdout))
 
 pub if_few : (t : Packed) (found : Option (List Packed)) → ChildrenListed → IsTable t → IfSome found (AreAll (IsChildTable t)) → IfSome found (λ found. length found ≤ 24)
 if_few t None listed table all = tt

@@ -48,8 +48,8 @@ pub none_came : (live : List Lease) (o : Option ℕ) → ((n : ℕ) → o ≡ So
 none_came live None none = refl
 none_came live (Some n) none = absurd (none n refl)
 
-pub same_board : (a b : Contents) → a.root ≡ b.root → a.records ≡ b.records → a ≡ b
-same_board a b root records = λ i. record { root = root i; records = records i }
+pub same_board : (a b : Contents) → a.root ≡ b.root → a.records ≡ b.records → a.format ≡ b.format → a ≡ b
+same_board a b root records format = λ i. record { root = root i; records = records i; format = format i }
 
 pub refused_board : (root : Packed) (old new : List Recorded) (r : Recorded) (fault : OfferFault) → OfferGives root old r (Err fault) new → new ≡ old
 refused_board root old new r WrongSize gives = gives.1

@@ -174,6 +174,7 @@ impl LeasedBoard {
     pub fn offer(&mut self, r: &Record) -> Result<Taken, OfferFault>
         ensures gives { BoardGives self.old.board.root self.old.board.records (recorded r.now) result self.new.board.records }
         ensures root { self.new.board.root ≡ self.old.board.root }
+        ensures format { self.new.board.format ≡ self.old.board.format }
         ensures leases { LeasesAfter r.now.table result self.old self.new }
     {
         match lease_of(&self.came_under, &self.live, None, &r.table) {
@@ -187,6 +188,7 @@ impl LeasedBoard {
         requires { lease_of self.old.leases r.now.table ≡ None }
         ensures gives { BoardGives self.old.board.root self.old.board.records (recorded r.now) result self.new.board.records }
         ensures root { self.new.board.root ≡ self.old.board.root }
+        ensures format { self.new.board.format ≡ self.old.board.format }
         ensures leases { LeasesAfter r.now.table result self.old self.new }
     {
         child_is_table();
@@ -213,6 +215,7 @@ impl LeasedBoard {
         requires { lease_of self.old.leases r.now.table ≡ Some number }
         ensures gives { BoardGives self.old.board.root self.old.board.records (recorded r.now) result self.new.board.records }
         ensures root { self.new.board.root ≡ self.old.board.root }
+        ensures format { self.new.board.format ≡ self.old.board.format }
         ensures leases { LeasesAfter r.now.table result self.old self.new }
     {
         child_is_table();

@@ -25,8 +25,8 @@ use Rattle.coordinator.proofs.InStep.{start_step}
 module _ (root : Packed) (n : ℕ) (is : root ≡ empty_table n) (text : List ℕ) where
   -- a text that is loaded has the header, or is torn off within it
   pub refused_so : (board : Contents) (left : Left) → LoadGives root text (Ok (board, left)) → BeginsSo n text (Err NoMemory)
-  refused_so board left (same, inl none) = inl none.torn
-  refused_so board left (same, inr reads) = inr (reads.body, subst (λ (p : Packed). HasHeader text p reads.body) is reads.header)
+  refused_so board left (same, inl none) = inl none.reads.torn
+  refused_so board left (same, inr reads) = inr (reads.reads.body, subst (λ (p : Packed). HasHeader text p reads.reads.body) is reads.reads.header)
 
   cant_load : (fault : LoadFault) → LoadGives (empty_table n) text (Err fault) → BeginsSo n text (Err (start_fault_of fault))
   cant_load BadLedgerHeader gives = gives

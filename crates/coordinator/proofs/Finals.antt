@@ -18,8 +18,8 @@ use Rattle.roles.specs.Finals.{IsCompleteBoard, KeepsComplete}
 use Rattle.roles.proofs.Finals.{same_inside}
 use Rattle.coordinator.specs.Finals.{board_of}
 
-same_board : (old new : Contents) → new.root ≡ old.root → new.records ≡ old.records → new ≡ old
-same_board old new root records = ap (λ (p : Packed). record { root = p; records = new.records }) root ∙ ap (λ (rs : List Recorded). record { root = old.root; records = rs }) records
+same_board : (old new : Contents) → new.root ≡ old.root → new.records ≡ old.records → new.format ≡ old.format → new ≡ old
+same_board old new root records format = λ i. record { root = root i; records = records i; format = format i }
 
 done_keeps : (own : Bool) (number : ℕ) (old new : Leased) (out : Out) → DoneRow own number old out new → new.board ≡ old.board
 done_keeps true number old new out row = row.2
@@ -28,7 +28,7 @@ done_keeps false number old new out row = ap (λ (l : Leased). l.board) row.1
 message_keeps : (era : ℕ) (old new : Leased) (m : Message) (out : Out) → MessageRow era old m out new → IsCompleteBoard old.board → new.board ≡ old.board
 message_keeps era old new (Ask id) out row complete = row.2
 message_keeps era old new (Rec r) out row complete =
-    same_board old.board new.board row.2 (offer_is_final old.board.root old.board.records new.board.records r row.0 complete row.1)
+    same_board old.board new.board row.2 (offer_is_final old.board.root old.board.records new.board.records r row.0 complete row.1) row.3
 message_keeps era old new (Done named number) out row complete = done_keeps (nat_eq named era) number old new out row
 message_keeps era old new (Grant named number table) out row complete = ap (λ (l : Leased). l.board) row.1
 message_keeps era old new (Ack table) out row complete = ap (λ (l : Leased). l.board) row.1

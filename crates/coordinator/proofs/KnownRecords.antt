@@ -1,11 +1,15 @@
 -- Which records bring a board nothing new, by what is recorded of their tables.
-use Rattle.std.proofs.Common.{◌≡◌, List, inl, inr, Option, Some, None, IsSome, option_map, refl, sym, ◌∙◌, ap, subst}
+use Rattle.std.proofs.Common.{◌≡◌, ◌↔◌, List, inl, inr, Option, Some, None, IsSome, option_map, refl, sym, ◌∙◌, ap, subst}
+use Rattle.machine_text.specs.Packed.{Packed}
+use Rattle.evidence.specs.Verdict.{ending_of}
+use Rattle.evidence.specs.declared.verdicts.Verdict.{Verdict}
 use Rattle.evidence.specs.declared.verdicts.Ending.{Ending}
 use Rattle.evidence.specs.declared.verdicts.Ending.TheVariants.{Halts, Never}
 use Rattle.tree.specs.Closed.{Holdout, IsVerdict}
 use Rattle.cert.specs.Claim.{Recorded, ending_by}
+use Rattle.cert.proofs.Scores.{ends_as_shown}
 use Rattle.ledger.specs.Offers.{IsKnown}
-use Rattle.ledger.specs.Records.{claim_in, mark_in, mark_by, mark_of, ending_where, ending_in}
+use Rattle.ledger.specs.Records.{claim_in, mark_in, mark_by, mark_of, ending_where, ending_in, shown_where, verdict_in}
 
 has_verdict : (v : Option Ending) → IsSome v → IsVerdict (Some (mark_by v))
 has_verdict (Some (Halts k)) some = tt
@@ -28,12 +32,26 @@ shown rs r is = elim (claim_in rs r.table) as (λ o. IsVerdict (option_map mark_
   | None ↦ λ is. absurd is
 ] is
 
--- where a verdict is offered, the table has one
-pub known_verdict : (rs : List Recorded) (r : Recorded) → IsSome (ending_in rs r.table) → IsKnown rs r
-known_verdict rs r some = record { is = inl (marked rs r some) }
+-- a table has a verdict where its record says how its run ends
+mapped_some : (o : Option Verdict) → IsSome (option_map ending_of o) ↔ IsSome o
+mapped_some None = (λ some. some, λ some. some)
+mapped_some (Some v) = (λ some. refl, λ some. refl)
 
-pub verdict_known : (rs : List Recorded) (r : Recorded) (v : Ending) → ending_by r.claim ≡ Some v → IsKnown rs r → IsSome (ending_in rs r.table)
-verdict_known rs r v offered known = elim known.is [ inl is ↦ shown rs r is | inr holdout ↦ let none = holdout.1 in absurd (cc) ]
+verdict_ends : (rs : List Recorded) (t : Packed) → option_map ending_of (verdict_in rs t) ≡ ending_in rs t
+verdict_ends rs t = elim (claim_in rs t) as (λ o. option_map ending_of (shown_where t o) ≡ ending_where o) [
+  | Some c ↦ ends_as_shown c t
+  | None ↦ refl
+]
+
+ends_some : (rs : List Recorded) (t : Packed) → IsSome (verdict_in rs t) ↔ IsSome (ending_in rs t)
+ends_some rs t = subst (λ (o : Option Ending). IsSome (verdict_in rs t) ↔ IsSome o) (verdict_ends rs t) ((mapped_some (verdict_in rs t)).1, (mapped_some (verdict_in rs t)).0)
+
+-- where a verdict is offered, the table has one
+pub known_verdict : (rs : List Recorded) (r : Recorded) → IsSome (verdict_in rs r.table) → IsKnown rs r
+known_verdict rs r some = record { is = inl (marked rs r ((ends_some rs r.table).0 some)) }
+
+pub verdict_known : (rs : List Recorded) (r : Recorded) (v : Ending) → ending_by r.claim ≡ Some v → IsKnown rs r → IsSome (verdict_in rs r.table)
+verdict_known rs r v offered known = (ends_some rs r.table).1 (elim known.is [ inl is ↦ shown rs r is | inr holdout ↦ let none = holdout.1 in absurd (cc) ])
 
 -- where none is offered, it has a record
 pub known_record : (rs : List Recorded) (r : Recorded) → ending_by r.claim ≡ None → IsSome (claim_in rs r.table) → IsKnown rs r

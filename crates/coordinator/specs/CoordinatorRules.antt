@@ -1,8 +1,10 @@
 -- The rules of a coordinator: what it answers to each event, and what becomes of its board and its leases.
 use Rattle.std.specs.Prelude.{◌≡◌, ℕ, ◌==◌, Bool, true, false, max, [], ◌∷◌, Option, Some, None, Result, Ok, Err}
 use Rattle.cert.specs.Claim.{Recorded}
+use Rattle.cert.specs.Scored.{with_score}
 use Rattle.ledger.specs.Faults.{offer_fault_number}
 use Rattle.ledger.specs.Offers.{OfferGives}
+use Rattle.ledger.specs.declared.format.Format.{Format}
 use Rattle.ledger.specs.declared.taken.Taken.{Taken}
 use Rattle.ledger.specs.declared.taken.Taken.TheVariants.{New, Known, Settled}
 use Rattle.ledger.specs.declared.faults.OfferFault.{OfferFault}
@@ -35,20 +37,20 @@ reply_of era ToStop = Stop
 reply_of era ToWait = Later None
 reply_of era (ToGrant number table) = Grant era number table
 
--- REC, by what the board says of the record
-abbrev pub RecRow : Recorded → Result Taken OfferFault → Out → Type 0
-RecRow r (Ok New) out = Says out None (lines_of (r ∷ [])) (Ack r.table ∷ []) Quiet
-RecRow r (Ok Settled) out = Says out None (lines_of (r ∷ [])) (Ack r.table ∷ []) Quiet
-RecRow r (Ok Known) out = Says out None [] (Ack r.table ∷ []) Quiet
-RecRow r (Err NotOpen) out = Says out None [] (Later (Some r.table) ∷ []) Quiet
-RecRow r (Err WrongSize) out = NotesRefusal (offer_fault_number WrongSize) out
-RecRow r (Err (NotStanding f)) out = NotesRefusal (offer_fault_number (NotStanding f)) out
-RecRow r (Err OfferNoMemory) out = ⊥
+-- REC, by what the board says of the record; a line has what the board then holds, in the version of its ledger
+abbrev pub RecRow : Format → Recorded → Result Taken OfferFault → Out → Type 0
+RecRow format r (Ok New) out = Says out None (lines_of format (with_score r ∷ [])) (Ack r.table ∷ []) Quiet
+RecRow format r (Ok Settled) out = Says out None (lines_of format (with_score r ∷ [])) (Ack r.table ∷ []) Quiet
+RecRow format r (Ok Known) out = Says out None [] (Ack r.table ∷ []) Quiet
+RecRow format r (Err NotOpen) out = Says out None [] (Later (Some r.table) ∷ []) Quiet
+RecRow format r (Err WrongSize) out = NotesRefusal (offer_fault_number WrongSize) out
+RecRow format r (Err (NotStanding f)) out = NotesRefusal (offer_fault_number (NotStanding f)) out
+RecRow format r (Err OfferNoMemory) out = ⊥
 
 abbrev pub OfferRow : Leased → Recorded → Out → Leased → Type 0
 OfferRow old r out new =
     (said : Result Taken OfferFault) × OfferGives old.board.root old.board.records r said new.board.records × (new.board.root ≡ old.board.root)
-    × LeasesAfter r.table said old new × RecRow r said out
+    × (new.board.format ≡ old.board.format) × LeasesAfter r.table said old new × RecRow old.board.format r said out
 
 -- DONE of its own era: the lease of that number ends, if it lives; else it is stale
 abbrev pub note_of : Bool → Note

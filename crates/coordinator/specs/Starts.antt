@@ -3,7 +3,9 @@ use Rattle.std.specs.Prelude.{◌≡◌, ◌≢◌, ◌⊎◌, ℕ, ◌==◌, if
 use Rattle.machine_text.specs.Packed.{Packed, empty_table}
 use Rattle.machine_text.specs.Text.{text_of}
 use Rattle.ledger.specs.Contents.{Contents}
-use Rattle.ledger.specs.LedgerText.{header_words, HasHeader, HasNoHeader, IsLedgerOf, IsTornHeader, LoadGives}
+use Rattle.ledger.specs.Versions.{header_words}
+use Rattle.ledger.specs.declared.format.Format.TheVariants.{Two}
+use Rattle.ledger.specs.LedgerText.{HasHeader, HasNoHeader, IsLedgerOf, IsTornHeader, LoadGives}
 use Rattle.ledger.specs.Reading.{IsRead, IsAllRead}
 use Rattle.ledger.specs.declared.left.Left.{Left}
 use Rattle.wire.specs.Carried.{text_after}
@@ -16,9 +18,9 @@ use Rattle.roles.specs.declared.start_fault.StartFault.{StartFault}
 use Rattle.roles.specs.declared.start_fault.StartFault.TheVariants.{BadHeader, WrongRoot, LedgerFault, NoMemory}
 
 abbrev pub header_line : Packed → List ℕ
-header_line root = header_words ++ text_of root ++ (10 ∷ [])
+header_line root = header_words Two ++ text_of root ++ (10 ∷ [])
 
--- the header is due where no byte was kept
+-- the header, of version 2, is due where no byte was kept
 abbrev pub header_due : Packed → ℕ → List ℕ
 header_due root kept = if kept == 0 then header_line root else []
 

@@ -11,7 +11,7 @@ use crate::frames::{GRANT_BYTES, ack_frame, later_frame, put_reply};
 use crate::known::is_known;
 use cert::Record;
 use leases::LeasedBoard;
-use ledger::{OfferFault, Taken, append_record};
+use ledger::{OfferFault, Taken};
 use roles::{noted, refused, sent};
 use std::alloc::Global;
 use wire::{Event, Msg, NodeFault, Note, Out, decode};
@@ -82,15 +82,17 @@ fn answer_record(alloc: Global, held: &mut LeasedBoard, r: &Record<'_>) -> Resul
     offer_record(alloc, held, r)
 }
 
-// The texts come before the offer: once the board has taken the record, nothing may be refused.
+// The texts come before the offer: once the board has taken the record, nothing may be refused. So a halting record
+// without a score is run once more, to have its line.
 fn offer_record(alloc: Global, held: &mut LeasedBoard, r: &Record<'_>) -> Result<Out, NodeFault>
     requires { r.now.table.states ≡ held.old.board.root.states }
     ensures { GivesOffer held.old (recorded r.now) result held.new }
 {
+    let scored = r.scored(alloc)?;
     let mut append = Vec::new(alloc);
-    append_record(r, &mut append)?;
+    held.board().append_line(&scored, &mut append)?;
     let frames = ack_frame(alloc, &r.table)?;
-    match held.offer(r) {
+    match held.offer(&scored) {
         Ok(Taken::New | Taken::Settled) => Ok(Out {
             cut: None,
             append,

@@ -10,7 +10,7 @@ use ledger::Board;
 pub(crate) fn is_known(board: &Board, r: &Record<'_>) -> bool
     ensures { IsTrue result ↔ IsKnown board.now.records (recorded r.now) }
 {
-    match r.certificate.verdict() {
+    match r.certificate.ending() {
         Some(_) => board.verdict(&r.table).is_some(),
         None => board.is_recorded(&r.table),
     }

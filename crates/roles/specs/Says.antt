@@ -1,7 +1,8 @@
 -- What a node's answer says.
 use Rattle.std.specs.Prelude.{◌≡◌, ℕ, List, [], Option, Some, None, map}
 use Rattle.cert.specs.Claim.{Recorded}
-use Rattle.cert.specs.Grammar.{record_text}
+use Rattle.ledger.specs.Versions.{line_of}
+use Rattle.ledger.specs.declared.format.Format.{Format}
 use Rattle.text.specs.Lines.{joined}
 use Rattle.wire.specs.Grammar.{frames_of}
 use Rattle.wire.specs.Message.{Message}
@@ -9,9 +10,9 @@ use Rattle.wire.specs.declared.node.Note.{Note}
 use Rattle.wire.specs.declared.node.Note.TheVariants.{Refused}
 use Rattle.wire.specs.declared.node.Out.{Out}
 
--- the lines of records, each with its newline
-abbrev pub lines_of : List Recorded → List ℕ
-lines_of rs = joined (map record_text rs)
+-- the lines of records in a ledger of this version, each with its newline
+abbrev pub lines_of : Format → List Recorded → List ℕ
+lines_of format rs = joined (map (line_of format) rs)
 
 -- the ledger is cut so and gains these bytes, these messages are sent, and this is noted
 pub record Says (out : Out) (cut : Option ℕ) (appended : List ℕ) (sent : List Message) (note : Note) : Type 0 where

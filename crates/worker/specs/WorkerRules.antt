@@ -7,7 +7,7 @@ use Rattle.machine_text.specs.Packed.{Packed, entry_of}
 use Rattle.machine_text.specs.Text.{text_of}
 use Rattle.tree.specs.Used.{InOrder}
 use Rattle.cert.specs.Claim.{Recorded}
-use Rattle.cert.specs.Grammar.{record_text}
+use Rattle.cert.specs.Scored.{with_score}
 use Rattle.ledger.specs.Contents.{Contents, IsBoard, IsOpenOn}
 use Rattle.ledger.specs.Held.{IsFit}
 use Rattle.text.specs.Lines.{joined}
@@ -30,13 +30,13 @@ use Rattle.worker.specs.WorkerState.{WorkerState, empty_board, with_record, HasR
 abbrev pub IsFirstOpen : Contents → Packed → Type 0
 IsFirstOpen b t = IsOpenOn b t × ((q : Packed) → IsOpenOn b q → (q ≡ t) ⊎ (slice_cmp nat_cmp (text_of t) (text_of q) ≡ Less))
 
--- a record of the first open table was made: it is fit, it comes last on the board, and it is sent
+-- a record of the first open table was made: it is fit, it comes last on the board with its score, and is sent so
 pub record Makes (b : Contents) (r : Recorded) (out : Out) (board : Option Contents) : Type 0 where
   pub is_board : IsBoard b
   pub first : IsFirstOpen b r.table
   pub few : length b.records < work_record_limit
   pub fit : IsFit b.root b.records r
-  pub says : Says out None (lines_of (r ∷ [])) (Rec r ∷ []) Quiet
+  pub says : Says out None (lines_of b.format (with_score r ∷ [])) (Rec (with_score r) ∷ []) Quiet
   pub taken : board ≡ Some (with_record b r)
 
 -- a lease that ends

@@ -3,7 +3,7 @@ use Rattle.std.specs.Prelude.{◌≡◌, ℕ, Bool, true, false, List, [], Optio
 use Rattle.machine_text.specs.Packed.{Packed, entry_of}
 use Rattle.tree.specs.Used.{InOrder}
 use Rattle.ledger.specs.Contents.{Contents}
-use Rattle.ledger.specs.LedgerText.{HasHeader, HasNoHeader, ReadsAs, ReadsAsNone}
+use Rattle.ledger.specs.LedgerText.{HasHeader, HasNoHeader, ReadsAsNone, ReadsIn}
 use Rattle.ledger.specs.declared.left.Left.{Left}
 use Rattle.ledger.specs.declared.left.Left.TheVariants.{Nothing, From}
 use Rattle.wire.specs.declared.node.Out.{Out}
@@ -20,7 +20,7 @@ IsInOrder t = (u : ℕ) × InOrder u (entry_of t)
 -- a text as a board, and what of it isn't kept: no board where it is torn off within its header
 abbrev pub ReadsAsBoard : List ℕ → Option Contents → Left → Type 0
 ReadsAsBoard text None left = ReadsAsNone text [] left
-ReadsAsBoard text (Some b) left = IsInOrder b.root × ReadsAs b.root text b.records left
+ReadsAsBoard text (Some b) left = IsInOrder b.root × ReadsIn b.format b.root text b.records left
 
 -- why a worker doesn't start; its ledger's bytes are there, so nothing is read that could fail
 abbrev pub IsNoStart : List ℕ → StartFault → Type 0

@@ -3,9 +3,11 @@ use Rattle.std.specs.Prelude.{◌≡◌, ℕ, ◌<◌, Bool, not, List, [], ◌�
 use Rattle.std.specs.List.{list_any}
 use Rattle.machine_text.specs.Packed.{Packed}
 use Rattle.cert.specs.Claim.{Recorded}
+use Rattle.cert.specs.Scored.{with_score}
 use Rattle.ledger.specs.Contents.{Contents, IsOpenOn}
 use Rattle.ledger.specs.Records.{same_table, claim_in}
 use Rattle.ledger.specs.LedgerText.{IsLedgerOf}
+use Rattle.ledger.specs.declared.format.Format.TheVariants.{Two}
 use Rattle.worker.specs.Limits.{work_record_limit}
 use Rattle.worker.specs.declared.lease_name.LeaseName.{LeaseName}
 
@@ -24,13 +26,13 @@ pub record WorkerState (D : Type 0) : Type 0 where
   -- it answers nothing more
   pub stopped : Bool
 
--- a board without records
+-- a board without records; its ledger is of version 2
 abbrev pub empty_board : Packed → Contents
-empty_board root = record { root = root; records = [] }
+empty_board root = record { root = root; records = []; format = Two }
 
--- a board with one more record
+-- a board with one more record, which it holds with its score
 abbrev pub with_record : Contents → Recorded → Contents
-with_record b r = record { root = b.root; records = b.records ++ (r ∷ []) }
+with_record b r = record { root = b.root; records = b.records ++ (with_score r ∷ []); format = b.format }
 
 abbrev pub HasRoot : Option Contents → Packed → Type 0
 HasRoot None t = ⊥

@@ -1,6 +1,6 @@
 // What a worker's answers are made of.
 ghost use Rattle.std.specs.Prelude.{◌≡◌, ◌++◌, ◌∷◌, [], IfOk, OnOk, map, take};
-ghost use Rattle.cert.specs.Kinds.{owned_recorded, recorded};
+ghost use Rattle.cert.specs.Kinds.{recorded};
 ghost use Rattle.ledger.specs.LedgerText.{ledger_text};
 ghost use Rattle.wire.specs.Grammar.{frames_of};
 ghost use Rattle.wire.specs.Meaning.{said};
@@ -13,7 +13,7 @@ ghost use Rattle.worker.specs.WorkerState.{unacknowledged};
 
 use crate::lease_name::LeaseName;
 use crate::limits::MAX_TICK_RECORDS;
-use cert::{OwnedRecord, Record};
+use cert::Record;
 use evidence::NoMemory;
 use indexmap::IndexSet;
 use ledger::Board;
@@ -22,13 +22,12 @@ use std::alloc::Global;
 use text::append_number;
 use wire::{Msg, encode};
 
-// The line of a record.
-pub(crate) fn line_of(alloc: Global, r: &Record) -> Result<Vec<u8>, NoMemory>
-    ensures { IfOk result (λ line. line.items ≡ lines_of (recorded r.now ∷ [])) }
+// The line of a record in a board's ledger.
+pub(crate) fn line_of(alloc: Global, board: &Board, r: &Record) -> Result<Vec<u8>, NoMemory>
+    ensures { IfOk result (λ line. line.items ≡ lines_of board.now.format (recorded r.now ∷ [])) }
 {
     let mut line = Vec::new(alloc);
-    r.write_text(&mut line)?;
-    line.extend_from_slice(b"\n")?;
+    board.append_line(r, &mut line)?;
     Ok(line)
 }
 
@@ -49,15 +48,11 @@ pub(crate) fn send(m: &Msg<'_>, frames: &mut Vec<u8>) -> Result<(), NoMemory>
 }
 
 // The frame of a record.
-pub(crate) fn frame_of(alloc: Global, r: &OwnedRecord) -> Result<Vec<u8>, NoMemory>
-    ensures { IfOk result (λ frames. frames.items ≡ frames_of (RecMessage (owned_recorded r.now) ∷ [])) }
+pub(crate) fn frame_of(alloc: Global, r: Record<'_>) -> Result<Vec<u8>, NoMemory>
+    ensures { IfOk result (λ frames. frames.items ≡ frames_of (RecMessage (recorded r) ∷ [])) }
 {
     let mut frames = Vec::new(alloc);
-    let message = Msg::Rec(Record {
-        table: r.table,
-        certificate: r.certificate.lent(),
-    });
-    send(&message, &mut frames)?;
+    send(&Msg::Rec(r), &mut frames)?;
     Ok(frames)
 }
 

@@ -74,9 +74,10 @@ pub(crate) fn make(alloc: Global, board: &mut Board, made: &OwnedRecord) -> Resu
         table: made.table,
         certificate: made.certificate.lent(),
     };
-    let append = line_of(alloc, &r)?;
-    let frames = frame_of(alloc, made)?;
-    match board.offer_certified(&r) {
+    let scored = r.scored(alloc)?;
+    let append = line_of(alloc, board, &scored)?;
+    let frames = frame_of(alloc, scored)?;
+    match board.offer_certified(&scored) {
         Ok(Taken::New) => Ok(Out {
             cut: None,
             append,

@@ -1,5 +1,8 @@
 -- The greatest score, once a record is taken that has its score.
-use Rattle.std.proofs.Common.{◌≡◌, ◌≢◌, ℕ, true, false, List, Option, Some, None, option_map, inl, inr, ◌⊎◌, ◌≤◌, refl, sym, ◌∙◌, ap, subst, arith}
+use Rattle.std.proofs.Common.{◌≡◌, ◌≢◌, ℕ, true, false, List, Option, Some, None, option_map, inl, inr, ◌⊎◌, ◌≤◌, ◌↔◌, map, refl, sym, ◌∙◌, ap, subst, arith}
+use Rattle.std.specs.List.{All, Contains, filter}
+use Rattle.std.proofs.lemmas.Bool.Decides.{Decides-eqb}
+use Rattle.std.proofs.lemmas.List.Elements.{All-contains}
 use Rattle.std.proofs.lemmas.Option.{same_Some, none-some}
 use Rattle.machine_text.specs.Packed.{Packed, entry_of}
 use Rattle.turing.specs.Score.{score_at}
@@ -11,8 +14,10 @@ use Rattle.cert.specs.Scored.{scored}
 use Rattle.ledger.specs.Records.{same_table, mark_in, mark_of, mark_by}
 use Rattle.ledger.specs.Held.{HasScore}
 use Rattle.ledger.specs.Tally.{HasOnes, IsGreatestOnes}
-use Rattle.ledger.specs.inside.Counting.{greater}
+use Rattle.ledger.specs.inside.Counting.{greater, is_ones_champion, is_steps}
 use Rattle.ledger.proofs.Amounts.{IsGreatestOf, greatest_more}
+use Rattle.ledger.proofs.Apart.{AreApart}
+use Rattle.ledger.proofs.Numbers.{kind_listed, marked_member, member_marked}
 use Rattle.ledger.proofs.OpenLaws.{IsTaken, stopping_verdict}
 use Rattle.ledger.proofs.Same.{same_is, apart}
 
@@ -81,3 +86,23 @@ one_greatest_score rs None (Some s) x y = absurd (x y.0.0 s y.0.1)
 one_greatest_score rs (Some r) None x y = absurd (y x.0.0 r x.0.1)
 one_greatest_score rs (Some r) (Some s) x y =
     let low : r ≤ s = y.1 x.0.0 r x.0.1 in let high : s ≤ r = x.1 y.0.0 s y.0.1 in ap (λ (n : ℕ). Some n) (omega (arith, low, high))
+
+-- the tables of a score
+steps_some : (o : Option ℕ) (best : ℕ) → is_steps best o ≡ true → o ≡ Some best
+steps_some None best e = cc
+steps_some (Some k) best e = ap (λ (n : ℕ). Some n) ((Decides-eqb k best).0 e)
+
+some_steps : (o : Option ℕ) (best : ℕ) → o ≡ Some best → is_steps best o ≡ true
+some_steps None best e = cc
+some_steps (Some k) best e = let same : k ≡ best = cc in (Decides-eqb k best).1 same
+
+pub ones_listed : (best : ℕ) (rs : List Recorded) → AreApart rs → All HasScore rs → (t : Packed) → Contains (map (λ (r : Recorded). r.table) (filter (is_ones_champion best) rs)) t ↔ HasOnes rs best t
+ones_listed best rs apart all t = kind_listed (HasOnes rs best) (is_ones_champion best) rs
+    (λ r at pass.
+        let w = claimed_score r.table r.claim best (claim_has r (All-contains HasScore rs r all at)) (steps_some (score_by r.claim) best pass) in
+        (w.0, member_marked rs r apart at ∙ ap (λ (o : Option Ending). Some (mark_by o)) w.1, w.2))
+    (λ q has.
+        let w = marked_member rs q (Halting has.0) has.1 in
+        let score = score_claimed w.0.table w.0.claim has.0 (claim_has w.0 (All-contains HasScore rs w.0 all w.1)) (stopping_verdict (ending_by w.0.claim) has.0 w.2) in
+        let same = subst (λ (p : Packed). best ≡ score_at (entry_of p) has.0) (sym w.3) has.2 in
+        (w.0, w.1, some_steps (score_by w.0.claim) best (score ∙ ap (λ (n : ℕ). Some n) (sym same)), w.3)) t

@@ -13,7 +13,7 @@ ghost use Rattle.ledger.specs.Contents.{IsBoard};
 ghost use Rattle.ledger.specs.declared.format.Format.TheVariants.{Two};
 ghost use Rattle.ledger.specs.inside.Places.{IsPlace};
 ghost use Rattle.ledger.specs.Sigma.{IsSigma};
-ghost use Rattle.ledger.specs.Tally.{AreAll, IsChampion, IsGreatestCount, IsHalting, IsStatus, IsTally};
+ghost use Rattle.ledger.specs.Tally.{AreAll, IsChampion, IsGreatestCount, IsGreatestOnes, IsHalting, IsOnesChampion, IsStatus, IsTally};
 
 use crate::chain::carry_up;
 use crate::children::{child_count, children_on};
@@ -27,7 +27,9 @@ use crate::open::Open;
 use crate::open_tables::{only, open_children, opener_of, opener_place};
 use crate::place::{Place, recorded_place};
 use crate::records::Records;
-use crate::selected::{listed_tables, sorted_tables, tables_with, undecided_tables};
+use crate::selected::{
+    listed_tables, sorted_tables, tables_with, tables_with_ones, undecided_tables,
+};
 use crate::status::Status;
 use crate::stored_record::{Judging, StoredRecord};
 use crate::taken::Taken;
@@ -47,7 +49,7 @@ use tree::{best_of_closed, child_is_table, closed_tree, rado_of_complete};
 /// An iterator over the holdouts of a board.
 pub type Holdouts = IntoIter<Table>;
 
-/// An iterator over the champions of a board.
+/// An iterator over the champions of a board, by steps or by scores.
 pub type Champions = IntoIter<Table>;
 
 /// The records of a tree's tables, from the tree's root, in the order in which they were taken.
@@ -235,17 +237,33 @@ impl Board {
         sorted_tables(self.alloc, tables)
     }
 
-    /// The champions and the holdouts, as `champions` and `holdouts` give them, by one pass over the records.
-    pub fn champions_and_holdouts(&self) -> Result<(Champions, Holdouts), NoMemory>
-        ensures champions { IfOk result (λ found. (best : Option ℕ) → IsGreatestCount self.now.records best →
-            AreAll (IsChampion self.now.records best) (into_iter_items found.0)) }
-        ensures holdouts { IfOk result (λ found. AreAll (IsHoldout self.now.records) (into_iter_items found.1)) }
+    /// The tables that are recorded with the greatest score, in the order of their texts.
+    pub fn ones_champions(&self) -> Result<Champions, NoMemory>
+        ensures { IfOk result (λ found. (ones : Option ℕ) → IsGreatestOnes self.now.records ones →
+            AreAll (IsOnesChampion self.now.records ones) (into_iter_items found)) }
     {
         child_is_table();
-        let (champions, holdouts) = listed_tables(self.alloc, &self.records, self.counts.best)?;
+        let tables = tables_with_ones(self.alloc, &self.records, self.counts.ones)?;
+        sorted_tables(self.alloc, tables)
+    }
+
+    /// The champions by steps, those by scores and the holdouts, as `champions`, `ones_champions` and `holdouts` give
+    /// them, by one pass over the records.
+    pub fn champions_and_holdouts(&self) -> Result<(Champions, Champions, Holdouts), NoMemory>
+        ensures champions { IfOk result (λ found. (best : Option ℕ) → IsGreatestCount self.now.records best →
+            AreAll (IsChampion self.now.records best) (into_iter_items found.0)) }
+        ensures ones_champions { IfOk result (λ found. (ones : Option ℕ) → IsGreatestOnes self.now.records ones →
+            AreAll (IsOnesChampion self.now.records ones) (into_iter_items found.1)) }
+        ensures holdouts { IfOk result (λ found. AreAll (IsHoldout self.now.records) (into_iter_items found.2)) }
+    {
+        child_is_table();
+        let counts = self.counts;
+        let (champions, ones_champions, holdouts) =
+            listed_tables(self.alloc, &self.records, counts.best, counts.ones)?;
         let champions = sorted_tables(self.alloc, champions)?;
+        let ones_champions = sorted_tables(self.alloc, ones_champions)?;
         let holdouts = sorted_tables(self.alloc, holdouts)?;
-        Ok((champions, holdouts))
+        Ok((champions, ones_champions, holdouts))
     }
 
     /// How the board stands. Where it is complete, its best is the greatest number of steps of all

@@ -46,12 +46,19 @@ champion_by best (Some k) t = if nat_eq k best then Some t else None
 abbrev pub champion_table : ℕ → Recorded → Option Packed
 champion_table best r = champion_by best (steps_of (ending_by r.claim)) r.table
 
+-- the table of a record of such a score
+abbrev pub ones_champion_table : ℕ → Recorded → Option Packed
+ones_champion_table best r = champion_by best (score_by r.claim) r.table
+
 abbrev pub is_steps : ℕ → Option ℕ → Bool
 is_steps best None = false
 is_steps best (Some k) = nat_eq k best
 
 abbrev pub is_champion : ℕ → Recorded → Bool
 is_champion best r = is_steps best (steps_of (ending_by r.claim))
+
+abbrev pub is_ones_champion : ℕ → Recorded → Bool
+is_ones_champion best r = is_steps best (score_by r.claim)
 
 -- the greater of two numbers of which either may be missing
 abbrev pub greater : Option ℕ → Option ℕ → Option ℕ
@@ -63,6 +70,11 @@ greater (Some a) (Some b) = if nat_lt a b then Some b else Some a
 abbrev pub tables_with : Option ℕ → List Recorded → List Packed
 tables_with None rs = []
 tables_with (Some best) rs = filter_map (champion_table best) rs
+
+-- and of such a score
+abbrev pub tables_with_ones : Option ℕ → List Recorded → List Packed
+tables_with_ones None rs = []
+tables_with_ones (Some best) rs = filter_map (ones_champion_table best) rs
 
 -- the numbers that are kept are those of the records
 pub record IsCounted (rs : List Recorded) (c : Counts) : Type 0 where

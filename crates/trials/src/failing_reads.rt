@@ -34,7 +34,7 @@ impl Read for Broken {
     }
 }
 
-fn broken(calls_left: u64, fault: ErrorKind) -> Broken {
+fn breaking_after(calls_left: u64, fault: ErrorKind) -> Broken {
     Broken {
         left: HELD,
         calls_left,
@@ -48,13 +48,13 @@ fn a_coordinator_whose_ledger_is_not_read_is_stopped(rt: HostRuntime) -> Result<
     let alloc = rt.alloc();
     let length = HELD.len() as u64;
     for calls in 0..4 {
-        let mut from = broken(calls, ErrorKind::Other);
+        let mut from = breaking_after(calls, ErrorKind::Other);
         let (mut node, first) = Coordinator::start_from(alloc, 1, 1, &mut from, length);
         assert!(&rt; first.err() == Some(StartFault::LedgerFault));
         let answer = node.on(Event::Frame(b"ASK 1"));
         assert!(&rt; answer.err() == Some(NodeFault::Stopped));
     }
-    let mut from = broken(4, ErrorKind::Other);
+    let mut from = breaking_after(4, ErrorKind::Other);
     let (_, first) = Coordinator::start_from(alloc, 1, 1, &mut from, length);
     let out = first?;
     assert!(&rt; out.cut.is_none() && out.append.is_empty());
@@ -68,7 +68,7 @@ fn a_command_whose_ledger_is_not_read_says_why(rt: HostRuntime) {
         (ErrorKind::OutOfMemory, b"refused memory\n"),
     ] {
         for calls in 0..4 {
-            says(&rt, rt.alloc(), broken(calls, fault), said);
+            says(&rt, rt.alloc(), breaking_after(calls, fault), said);
         }
     }
 }

@@ -1,18 +1,20 @@
 -- The first bytes of a reader, and the header that they have.
-use Rattle.std.proofs.Common.{◌≡◌, ◌≢◌, ℕ, ◌+◌, ◌-◌, ◌≤◌, ◌⊎◌, List, [], ◌++◌, length, take, Option, None, Some, Ok, Err, inl, inr, refl, sym, ap, ◌∙◌, subst, arith, append-nil, length-append, length-take, take_all, get_or}
+use Rattle.std.proofs.Common.{◌≡◌, ◌≢◌, ℕ, ◌+◌, ◌-◌, ◌≤◌, true, false, ◌⊎◌, List, [], ◌++◌, length, take, Option, None, Some, Ok, Err, inl, inr, refl, sym, ap, ◌∙◌, subst, arith, append-nil, length-append, length-take, take_all, get_or}
 use Rattle.std.proofs.Math.Seq.{take-append-add}
 use Rattle.std.proofs.lemmas.List.{take-append-le, take_at, get_or_at, get_or_append_left}
 use Rattle.std.proofs.lemmas.Bool.{cases_lt}
 use Rattle.std.specs.Io.KnownBytes.{Consumes, IsAtEnd}
 use Rattle.machine_text.specs.Packed.{Packed, entry_of}
+use Rattle.machine_text.specs.Text.{states_in, is_table_length}
+use Rattle.machine_text.proofs.Named.{table_of-length, length_of_states}
 use Rattle.tree.specs.Used.{InOrder}
 use Rattle.text.specs.Lines.{HasNoNewline, BeginsWithLine}
 use Rattle.text.proofs.Lines.{cases_line, line_has_newline}
-use Rattle.ledger.specs.LedgerText.{BeginsAsHeader, IsTornHeader, HasHeader, HasNoHeader, PeekGives, LoadGives, ReadsAs}
+use Rattle.ledger.specs.LedgerText.{header_words, BeginsAsHeader, IsTornHeader, HasHeader, HasNoHeader, PeekGives, LoadGives, ReadsAs}
 use Rattle.ledger.specs.Contents.{Contents}
 use Rattle.ledger.specs.declared.left.Left.{Left}
-use Rattle.ledger.specs.Loading.{header_start}
-use Rattle.ledger.proofs.FirstLines.{header_short, begun_whole, begun_start}
+use Rattle.ledger.specs.Loading.{NamesRoot, header_start}
+use Rattle.ledger.proofs.FirstLines.{begun_whole, begun_start}
 use Rattle.ledger.proofs.Feeding.{longer_text, header_more}
 use Rattle.ledger.proofs.HeaderLaws.{none_begun, none_named}
 use Rattle.ledger.specs.declared.faults.LoadFault.{LoadFault}
@@ -25,6 +27,14 @@ use Rattle.ledger_commands.specs.inside.{BeginsReading, BeginsWithRoot, EndsBehi
 use Rattle.ledger_commands.specs.declared.reading.Stopped.{Stopped}
 use Rattle.ledger_commands.specs.declared.reading.Stopped.TheVariants.{Failed, Ended as EndedBy}
 use Rattle.ledger_commands.proofs.LedgerReports.{one_header}
+
+-- a line that names a root is short
+named_short : (line : List ℕ) (root : Packed) → NamesRoot line root → length line ≤ 53
+named_short line root named =
+    elim (is_table_length (length named.name)) as (λ v. is_table_length (length named.name) ≡ v → length line ≤ 53) [
+      | true ↦ λ is. let sizes = length_of_states (length named.name) (states_in (length named.name)) refl is in omega (arith, sizes.0, sizes.2, ap length named.words, length-append header_words named.name)
+      | false ↦ λ is. let fails = table_of-length named.name is in let reads = named.reads in absurd (cc)
+    ] refl
 
 -- as many as there are, up to the limit, are the first ones
 pub all_first : (old new : Option (List ℕ)) (limit : ℕ) (text : List ℕ) → Consumes old new text → length text ≤ limit → (length text ≡ limit) ⊎ IsAtEnd new → AreFirstBytes old limit text
@@ -91,7 +101,7 @@ module _ (first more : List ℕ) (none : HasNoNewline first) (long : 64 ≤ leng
 
   bad_with : (line rest : List ℕ) → BeginsWithLine (first ++ more) line rest → IsBad (first ++ more)
   bad_with line rest begins = inr (none_named (first ++ more) line rest begins (λ root named.
-      let size : length line ≤ 53 = header_short line root named in
+      let size : length line ≤ 53 = named_short line root named in
       let reach : length first ≤ length line = line_long first more line rest none begins in
       absurd (omega (arith, size, reach, long))))
 

@@ -14,7 +14,7 @@ import tempfile
 
 from oracle import Refused, number, printed, read_table
 from records import PROGRAM, damaged
-from tree import Board, HEADER, HEADER
+from tree import Board, HEADER, in_version
 
 MOST_LEASES = 4_096
 
@@ -129,6 +129,8 @@ def frame(rng, model, records):
             made = b"REC " + table + b" U"
         elif way < 0.2:
             made = b"REC " + table + b" " + rng.choice(list(records.values())).split(b" ", 1)[1]
+        elif way < 0.4:
+            made = b"REC " + in_version(1, made[4:])
     else:
         made = rng.choice([b"ACK ------", b"GRANT 1 1 ------", b"LATER", b"STOP", b"LATER ------", b"", b"ask 1", b"REC"])
     return damaged(rng, made, list(records.values())) if rng.random() < 0.1 else made

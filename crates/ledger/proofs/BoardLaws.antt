@@ -10,18 +10,19 @@ use Rattle.machine_text.specs.Packed.{Packed, IsTable, entry_of}
 use Rattle.tree.specs.Used.{InOrder}
 use Rattle.tree.specs.Closed.{Mark, Halting, Holdout, IsOpen}
 use Rattle.tree.specs.Tables.{InTableTree}
-use Rattle.cert.specs.Claim.{Recorded, ending_by}
+use Rattle.cert.specs.Claim.{Recorded, ending_by, score_by}
 use Rattle.ledger.specs.Records.{claim_in, mark_in, mark_of}
 use Rattle.ledger.specs.Held.{IsHoldout}
 use Rattle.machine_text.specs.Order.{table_cmp}
 use Rattle.ledger.specs.inside.Open.{IsOpenMap}
 use Rattle.ledger.specs.Contents.{Contents, IsBoard}
-use Rattle.ledger.specs.Tally.{AreAll, AreSoMany, IsGreatestCount, IsChampion}
-use Rattle.ledger.specs.inside.Counting.{is_undecided, undecided_table, is_champion, champion_table, steps_of, tables_with}
+use Rattle.ledger.specs.Tally.{AreAll, AreSoMany, IsGreatestCount, IsGreatestOnes, IsChampion, IsOnesChampion}
+use Rattle.ledger.specs.inside.Counting.{is_undecided, undecided_table, is_champion, is_ones_champion, is_steps, champion_by, champion_table, ones_champion_table, steps_of, tables_with, tables_with_ones}
 use Rattle.ledger.specs.inside.Stored.{entry_recorded, records_of}
 use Rattle.ledger.specs.declared.stored_record.StoredRecord.{StoredRecord}
 use Rattle.ledger.proofs.Apart.{AreApart, held_apart, chosen_once}
 use Rattle.ledger.proofs.Numbers.{holdouts_listed, halts_listed}
+use Rattle.ledger.proofs.Ones.{ones_listed, one_greatest_score}
 use Rattle.ledger.proofs.OpenLaws.{open_in_tree, recorded_in_tree}
 use Rattle.ledger.proofs.OpenListed.{open_listed}
 use Rattle.ledger.proofs.Sets.{nobody}
@@ -107,13 +108,15 @@ if_both (Ok t) f p q = f t p q
 if_both (Err e) f p q = tt
 
 -- the champions, as the code lists them
-champions_listed : (best : ℕ) (rs : List Recorded) → filter_map (champion_table best) rs ≡ map (λ (r : Recorded). r.table) (filter (is_champion best) rs)
-champions_listed best [] = refl
-champions_listed best (x ∷ xs) =
-    let later = champions_listed best xs in
-    elim (steps_of (ending_by x.claim)) as (λ o. steps_of (ending_by x.claim) ≡ o → filter_map (champion_table best) (x ∷ xs) ≡ map (λ (r : Recorded). r.table) (filter (is_champion best) (x ∷ xs))) [
+champions_listed : (number : Recorded → Option ℕ) (best : ℕ) (rs : List Recorded) → filter_map (λ (r : Recorded). champion_by best (number r) r.table) rs ≡ map (λ (r : Recorded). r.table) (filter (λ (r : Recorded). is_steps best (number r)) rs)
+champions_listed number best [] = refl
+champions_listed number best (x ∷ xs) =
+    let later = champions_listed number best xs in
+    let listed = λ (l : List Recorded). filter_map (λ (r : Recorded). champion_by best (number r) r.table) l in
+    let chosen = λ (l : List Recorded). map (λ (r : Recorded). r.table) (filter (λ (r : Recorded). is_steps best (number r)) l) in
+    elim (number x) as (λ o. number x ≡ o → listed (x ∷ xs) ≡ chosen (x ∷ xs)) [
       | None ↦ λ is. rw is later
-      | Some k ↦ λ is. elim (nat_eq k best) as (λ v. nat_eq k best ≡ v → filter_map (champion_table best) (x ∷ xs) ≡ map (λ (r : Recorded). r.table) (filter (is_champion best) (x ∷ xs))) [
+      | Some k ↦ λ is. elim (nat_eq k best) as (λ v. nat_eq k best ≡ v → listed (x ∷ xs) ≡ chosen (x ∷ xs)) [
         | true ↦ λ same. rw (is, same) (ap (λ (l : List Packed). x.table ∷ l) later)
         | false ↦ λ other. rw (is, other) later
       ] refl
@@ -124,7 +127,7 @@ pub all_champions : (b : Contents) (best : ℕ) (xs ys : List Packed) → Below 
 all_champions b best xs ys below laws board is permuted sorted =
     let apart = held_apart b.root b.records board.held in
     let all = halts_listed best b.records apart in
-    let listed : xs ≡ map (λ (r : Recorded). r.table) (filter (is_champion best) b.records) = is ∙ champions_listed best b.records in
+    let listed : xs ≡ map (λ (r : Recorded). r.table) (filter (is_champion best) b.records) = is ∙ champions_listed (λ (r : Recorded). steps_of (ending_by r.claim)) best b.records in
     all_sorted (IsChampion b.records (Some best)) xs ys
     (λ t at. (all t).0 (subst (λ (l : List Packed). Contains l t) listed at))
     (λ t kind. subst (λ (l : List Packed). Contains l t) (sym listed) ((all t).1 kind))
@@ -137,6 +140,21 @@ no_champions rs xs ys none permuted =
       exact = λ t. (λ at. absurd (empty t at), λ kind. absurd kind);
       rising = λ i j d less below. absurd (empty (get_or ys i d) (All-contains_itself ys i d (omega arith)));
     }
+
+all_ones_champions : (b : Contents) (best : ℕ) (xs ys : List Packed) → Below → OfTables → IsBoard b → xs ≡ filter_map (ones_champion_table best) b.records → IsPermutation xs ys → IsSorted table_cmp ys
+    → AreAll (IsOnesChampion b.records (Some best)) ys
+all_ones_champions b best xs ys below laws board is permuted sorted =
+    let apart = held_apart b.root b.records board.held in
+    let all = ones_listed best b.records apart board.held.scored in
+    let listed : xs ≡ map (λ (r : Recorded). r.table) (filter (is_ones_champion best) b.records) = is ∙ champions_listed (λ (r : Recorded). score_by r.claim) best b.records in
+    all_sorted (IsOnesChampion b.records (Some best)) xs ys
+    (λ t at. (all t).0 (subst (λ (l : List Packed). Contains l t) listed at))
+    (λ t kind. subst (λ (l : List Packed). Contains l t) (sym listed) ((all t).1 kind))
+    (λ t kind. marked_table b t (Halting kind.0) below laws board kind.1)
+    (subst (λ (l : List Packed). AllPairs (λ (p q : Packed). p ≢ q) l) (sym listed) (chosen_once (is_ones_champion best) b.records apart)) permuted sorted
+
+no_ones_champions : (rs : List Recorded) (xs ys : List Packed) → xs ≡ [] → IsPermutation xs ys → AreAll (IsOnesChampion rs None) ys
+no_ones_champions rs xs ys none permuted = let all = no_champions rs xs ys none permuted in record { exact = all.exact; rising = all.rising }
 
 one_greatest : (rs : List Recorded) (a b : Option ℕ) → IsGreatestCount rs a → IsGreatestCount rs b → a ≡ b
 one_greatest rs None None x y = refl
@@ -155,3 +173,13 @@ pub best_champions : (b : Contents) (kept : Option ℕ) (xs ys : List Packed) �
 best_champions b kept xs ys below laws board counted is permuted sorted best greatest =
     let same : kept ≡ best = one_greatest b.records kept best counted greatest in
     by_best b xs ys best below laws board (is ∙ ap (λ (o : Option ℕ). tables_with o b.records) same) permuted sorted
+
+by_ones : (b : Contents) (xs ys : List Packed) (ones : Option ℕ) → Below → OfTables → IsBoard b → xs ≡ tables_with_ones ones b.records → IsPermutation xs ys → IsSorted table_cmp ys → AreAll (IsOnesChampion b.records ones) ys
+by_ones b xs ys None below laws board is permuted sorted = no_ones_champions b.records xs ys is permuted
+by_ones b xs ys (Some best) below laws board is permuted sorted = all_ones_champions b best xs ys below laws board is permuted sorted
+
+pub best_ones_champions : (b : Contents) (kept : Option ℕ) (xs ys : List Packed) → Below → OfTables → IsBoard b → IsGreatestOnes b.records kept → xs ≡ tables_with_ones kept b.records → IsPermutation xs ys → IsSorted table_cmp ys
+    → (ones : Option ℕ) → IsGreatestOnes b.records ones → AreAll (IsOnesChampion b.records ones) ys
+best_ones_champions b kept xs ys below laws board counted is permuted sorted ones greatest =
+    let same : kept ≡ ones = one_greatest_score b.records kept ones counted greatest in
+    by_ones b xs ys ones below laws board (is ∙ ap (λ (o : Option ℕ). tables_with_ones o b.records) same) permuted sorted

@@ -8,7 +8,7 @@ use Rattle.std.proofs.lemmas.List.{map-append, length-map}
 use Rattle.indexmap.specs.IndexMap.{insert_entry}
 use Rattle.machine_text.specs.Packed.{Packed}
 use Rattle.tree.specs.Closed.{IsOpen}
-use Rattle.cert.specs.Claim.{Claim, Recorded, ending_by}
+use Rattle.cert.specs.Claim.{Claim, Recorded, ending_by, score_by}
 use Rattle.cert.specs.Certified.{IsCertified, IsPairOf}
 use Rattle.cert.specs.Kinds.{owned_claim}
 use Rattle.ledger.specs.Records.{same_table, claim_in, mark_in}
@@ -23,6 +23,7 @@ use Rattle.ledger.specs.declared.counts.Counts.{Counts}
 use Rattle.ledger.proofs.Entries.{no_entry, an_entry, entry_last, entry_settled, inserted_pairs, holdout_shows}
 use Rattle.ledger.proofs.HeldLaws.{unmarked}
 use Rattle.ledger.proofs.Numbers.{number_within, counted_more, counted_settled, some_holdout}
+use Rattle.ledger.proofs.Ones.{ones_taken}
 use Rattle.ledger.proofs.Openers.{none_opened, next_opens_none, holdout_opens_none}
 use Rattle.ledger.proofs.Taking.{holdout_claim, opened_then_closed, board_more, taken_last, opened_more, board_settled, taken_settling, opened_settled}
 
@@ -78,7 +79,7 @@ pub stored_more : (root : Packed) (es new : List (Packed × StoredRecord)) (r : 
     → ((q : Packed) → ContainsKey table_cmp mid q ↔ (ContainsKey table_cmp tables q ⊎ IsNewChild (records_of es) r q))
     → others place mid.entries ≡ tables.entries → AreChildrenAt place r.table mid.entries → (k.halts_on ≡ None → mid.entries ≡ tables.entries)
     → ((q : Packed) → ContainsKey table_cmp after q ↔ (ContainsKey table_cmp mid q × (q ≢ r.table))) → after.entries ≡ remove_entry (is_at (table_cmp r.table)) mid.entries
-    → IsStoredUnindexed root new after (with_shown counts (ending_by r.claim))
+    → IsStoredUnindexed root new after (with_shown counts (ending_by r.claim) (score_by r.claim))
 stored_more root es new r k place tables mid after counts kept is_open certified scored claim pair is last opened others children none closed removal =
     let rs = records_of es in
     let gone = unmarked (claim_in rs r.table) is_open.unmarked in
@@ -88,7 +89,7 @@ stored_more root es new r k place tables mid after counts kept is_open certified
           (opened_more root rs r place k.halts_on tables mid after kept.1 is_open (last ∙ sym (length-map es entry_recorded)) pair others children none removal
           (λ q. opened_then_closed rs r _ _ _ q (opened q) (closed q))),
       known es new r k kept.2 claim pair is,
-      subst (λ (l : List Recorded). IsCounted l (with_shown counts (ending_by r.claim))) (sym list) (counted_more rs r counts kept.3 (taken_last rs r root is_open)),
+      subst (λ (l : List Recorded). IsCounted l (with_shown counts (ending_by r.claim) (score_by r.claim))) (sym list) (counted_more rs r counts kept.3 (taken_last rs r root is_open) (ones_taken rs (rs ++ (r ∷ [])) r counts.ones scored (taken_last rs r root is_open) kept.3.ones)),
     )
 
 -- a holdout is settled
@@ -98,7 +99,7 @@ pub stored_settled : (root : Packed) (es new : List (Packed × StoredRecord)) (r
     → (x : Recorded) × (slice_get (records_of es) place ≡ Some x) × (x.table ≡ r.table) × (is_halting x ≡ false)
     → ((q : Packed) → ContainsKey table_cmp after q ↔ (ContainsKey table_cmp tables q ⊎ IsNewChild (records_of es) r q))
     → others place after.entries ≡ tables.entries → AreChildrenAt place r.table after.entries → (k.halts_on ≡ None → after.entries ≡ tables.entries)
-    → IsStoredUnindexed root new after (with_shown (without_holdout counts) (ending_by r.claim))
+    → IsStoredUnindexed root new after (with_shown (without_holdout counts) (ending_by r.claim) (score_by r.claim))
 stored_settled root es new r k place tables after counts kept settles scored claim pair is at opened others children none =
     let rs = records_of es in
     let holdout = settles.is_holdout in
@@ -108,8 +109,9 @@ stored_settled root es new r k place tables after counts kept settles scored cla
       subst (λ (l : List Recorded). IsOpenMapOf after root l) (sym list)
           (opened_settled root rs r at.0 place k.halts_on tables after kept.0 kept.1 holdout at.1 at.2 pair others children none opened),
       known es new r k kept.2 claim pair is,
-      subst (λ (l : List Recorded). IsCounted l (with_shown (without_holdout counts) (ending_by r.claim))) (sym list)
-          (counted_settled rs r c.0 counts kept.3 c.1 (holdout_shows rs r.table c.0 holdout c.1) (taken_settling rs r holdout)),
+      subst (λ (l : List Recorded). IsCounted l (with_shown (without_holdout counts) (ending_by r.claim) (score_by r.claim))) (sym list)
+          (counted_settled rs r c.0 counts kept.3 c.1 (holdout_shows rs r.table c.0 holdout c.1) (taken_settling rs r holdout)
+          (ones_taken rs (settled rs r) r counts.ones scored (taken_settling rs r holdout) kept.3.ones)),
     )
 
 -- there is a holdout to be counted off

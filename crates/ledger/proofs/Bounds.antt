@@ -2,6 +2,7 @@
 use Rattle.std.proofs.Common.{◌≡◌, ℕ, List, Option, Some, None, option_map, IsSome, refl, sym, ap, subst, arith}
 use Rattle.machine_text.specs.Packed.{Packed, IsTable}
 use Rattle.turing.specs.Halting.{HaltsAt}
+use Rattle.tree.specs.Best.{Scores}
 use Rattle.tree.specs.Closed.{Mark, Halting, NeverHalting, Holdout, AreTrueMarks, IsVerdict, IsOpen}
 use Rattle.tree.specs.Tables.{InTableTree, Itself, IsBestOfTable}
 use Rattle.cert.specs.Claim.{Claim, Recorded}
@@ -14,7 +15,7 @@ use Rattle.ledger.specs.declared.tree_count.TreeCount.{TreeCount}
 use Rattle.ledger.specs.declared.bound.Bound.TheVariants.{Unknown, Open, Closed}
 use Rattle.ledger.proofs.Amounts.{none_of_kind}
 use Rattle.ledger.proofs.BoardLaws.{marked_in_order, none_of}
-use Rattle.ledger.proofs.Completeness.{ClosedIsBest}
+use Rattle.ledger.proofs.Completeness.{ClosedIsBest, ClosedIsBestScore, closed_ones}
 use Rattle.ledger.proofs.Taking.{Below, KeepsOrder}
 
 some_claim : (o : Option Claim) → IsSome o → (c : Claim) × (o ≡ Some c)
@@ -22,7 +23,7 @@ some_claim None some = cc
 some_claim (Some c) some = (c, refl)
 
 -- a recorded table in whose tree nothing is open or a holdout is closed
-pub bound_settled : (root : Packed) (rs : List Recorded) (t : Packed) (n : TreeCount) → IsTreeCount root rs t n → IsSome (claim_in rs t) → n.open_count ≡ 0 → n.holdouts ≡ 0 → IsBound root rs t (Closed n.best)
+pub bound_settled : (root : Packed) (rs : List Recorded) (t : Packed) (n : TreeCount) → IsTreeCount root rs t n → IsSome (claim_in rs t) → n.open_count ≡ 0 → n.holdouts ≡ 0 → IsBound root rs t (Closed n.best n.ones)
 bound_settled root rs t n count recorded no_open no_holdouts =
     let none_open = none_of (λ q. InTableTree t q × IsOpen root (mark_in rs) q) n.open_count count.open_count (omega (arith, no_open)) in
     let none_held = none_of (λ q. InTableTree t q × IsHoldout rs q) n.holdouts count.holdouts (omega (arith, no_holdouts)) in
@@ -33,6 +34,7 @@ bound_settled root rs t n count recorded no_open no_holdouts =
         no_holdout = λ q inside holdout. none_held q (inside, holdout);
       },
       count.best,
+      count.ones,
     )
   where
     verdict_of : (m : Mark) → mark_in rs t ≡ Some m → ((q : Packed) → InTableTree t q × IsHoldout rs q → ⊥) → IsVerdict (mark_in rs t)
@@ -68,14 +70,21 @@ pub unrecorded : (o : Option Claim) → (IsSome o → ⊥) → o ≡ None
 unrecorded None h = refl
 unrecorded (Some c) h = absurd (h refl)
 
+some_mark : (o : Option Mark) → IsVerdict o → (m : Mark) × (o ≡ Some m)
+some_mark None verdict = absurd verdict
+some_mark (Some m) verdict = (m, refl)
+
 -- a closed table is recorded, so it is in order, and the greatest in its tree is its best
-pub closed_bound : (b : Contents) (t : Packed) (best : Option ℕ) → Below → KeepsOrder → ClosedIsBest → IsBoard b → IsTable t → AreTrueMarks (mark_in b.records) → IsBound b.root b.records t (Closed best)
+pub closed_bound : (b : Contents) (t : Packed) (best ones : Option ℕ) → Below → KeepsOrder → ClosedIsBest → IsBoard b → IsTable t → AreTrueMarks (mark_in b.records) → IsBound b.root b.records t (Closed best ones)
     → IsBestOfTable HaltsAt t best
-closed_bound b t best below keeps bests board is_table true_marks bound =
+closed_bound b t best ones below keeps bests board is_table true_marks bound =
     let marked = some_mark (mark_in b.records t) bound.0.verdict in
     let in_order = marked_in_order b t marked.0 below keeps board marked.1 in
     (bests b.root t in_order.0 (mark_in b.records) best true_marks is_table in_order.1 bound.0).1 bound.1
-  where
-    some_mark : (o : Option Mark) → IsVerdict o → (m : Mark) × (o ≡ Some m)
-    some_mark None verdict = absurd verdict
-    some_mark (Some m) verdict = (m, refl)
+
+pub closed_bound_ones : (b : Contents) (t : Packed) (best ones : Option ℕ) → Below → KeepsOrder → ClosedIsBestScore → IsBoard b → IsTable t → AreTrueMarks (mark_in b.records) → IsBound b.root b.records t (Closed best ones)
+    → IsBestOfTable Scores t ones
+closed_bound_ones b t best ones below keeps bests board is_table true_marks bound =
+    let marked = some_mark (mark_in b.records t) bound.0.verdict in
+    let in_order = marked_in_order b t marked.0 below keeps board marked.1 in
+    closed_ones b.root t in_order.0 (mark_in b.records) ones bests true_marks is_table in_order.1 bound.0 bound.2

@@ -8,9 +8,9 @@ use Rattle.machine_text.specs.Packed.{Packed}
 use Rattle.evidence.specs.declared.verdicts.Ending.TheVariants.{Halts}
 use Rattle.tree.specs.Closed.{IsOpen}
 use Rattle.tree.specs.Tables.{IsChildTable}
-use Rattle.cert.specs.Claim.{Recorded, ending_by}
+use Rattle.cert.specs.Claim.{Recorded, ending_by, score_by}
 use Rattle.ledger.specs.Records.{mark_in}
-use Rattle.ledger.specs.Held.{IsHoldout}
+use Rattle.ledger.specs.Held.{HasScore, IsHoldout}
 use Rattle.ledger.specs.Contents.{IsBoardOf}
 use Rattle.ledger.specs.Tally.{AreSoMany}
 use Rattle.ledger.specs.inside.Counting.{is_undecided, IsCounted}
@@ -57,39 +57,39 @@ module _ (root : Packed) (es new : List (Packed × StoredRecord)) (r : Recorded)
     under : length (filter is_undecided (records_of es)) < 2 ^ 63
     under = omega (arith, number_within is_undecided (records_of es), length-map es entry_recorded, short)
 
-    pub taking_room : IsOpen root (mark_in (records_of es)) r.table → ChainMayChange new from (taking_change opened (ending_by r.claim))
-    taking_room is_open = ready_room root (records_of es) new r from ready (taking_change opened (ending_by r.claim))
+    pub taking_room : IsOpen root (mark_in (records_of es)) r.table → ChainMayChange new from (taking_change opened (ending_by r.claim) (score_by r.claim))
+    taking_room is_open = ready_room root (records_of es) new r from ready (taking_change opened (ending_by r.claim) (score_by r.claim))
         (λ p n inside count. taken_room root board.is_table (records_of es) ready.had (records_of new) r ready.taken (ready_table root (records_of es) new r from ready) p inside
         n opened opens (length (filter is_undecided (records_of es))) is_open new_ones few open_ones small held_ones under count)
 
-    pub settling_room : IsHoldout (records_of es) r.table → IsSome (ending_by r.claim) → ChainMayChange new from (settling_change opened (ending_by r.claim))
-    settling_room holdout verdict = ready_room root (records_of es) new r from ready (settling_change opened (ending_by r.claim))
+    pub settling_room : IsHoldout (records_of es) r.table → IsSome (ending_by r.claim) → ChainMayChange new from (settling_change opened (ending_by r.claim) (score_by r.claim))
+    settling_room holdout verdict = ready_room root (records_of es) new r from ready (settling_change opened (ending_by r.claim) (score_by r.claim))
         (λ p n inside count. settled_room root board.is_table (records_of es) ready.had (records_of new) r ready.taken (ready_table root (records_of es) new r from ready) p inside
         n opened opens (length (filter is_undecided (records_of es))) holdout verdict few open_ones small held_ones under count)
 
   -- then all that is kept is so of the new records
-  pub taking_carried : (last : List (Packed × StoredRecord)) (after : BTreeMap Packed ℕ) (counts : Counts) → IsOpen root (mark_in (records_of es)) r.table → AreCarried (taking_change opened (ending_by r.claim)) new from last
+  pub taking_carried : (last : List (Packed × StoredRecord)) (after : BTreeMap Packed ℕ) (counts : Counts) → IsOpen root (mark_in (records_of es)) r.table → HasScore r → AreCarried (taking_change opened (ending_by r.claim) (score_by r.claim)) new from last
       → length last ≡ length new → IsStoredUnindexed root new after counts → IsStored root last after counts
-  taking_carried last after counts is_open carried long kept =
-      let c = taking_change opened (ending_by r.claim) in
+  taking_carried last after counts is_open has carried long kept =
+      let c = taking_change opened (ending_by r.claim) (score_by r.claim) in
       let all = stored_carried root new last after counts kept (ready_records root (records_of es) new r from ready c last carried long) (ready_pairs root (records_of es) new r from ready c last carried long kept.2) in (
         all.0,
         all.1,
         all.2,
         all.3,
         ready_indexed root (records_of es) new r from ready c last carried long
-            (λ p n inside count. count_taken root board.is_table (records_of es) ready.had (records_of new) r ready.taken (ready_table root (records_of es) new r from ready) p inside n opened is_open new_ones count),
+            (λ p n inside count. count_taken root board.is_table (records_of es) ready.had (records_of new) r ready.taken (ready_table root (records_of es) new r from ready) p inside n opened is_open new_ones has count),
       )
 
-  pub settling_carried : (last : List (Packed × StoredRecord)) (after : BTreeMap Packed ℕ) (counts : Counts) → IsHoldout (records_of es) r.table → IsSome (ending_by r.claim)
-      → AreCarried (settling_change opened (ending_by r.claim)) new from last → length last ≡ length new → IsStoredUnindexed root new after counts → IsStored root last after counts
-  settling_carried last after counts holdout verdict carried long kept =
-      let c = settling_change opened (ending_by r.claim) in
+  pub settling_carried : (last : List (Packed × StoredRecord)) (after : BTreeMap Packed ℕ) (counts : Counts) → IsHoldout (records_of es) r.table → IsSome (ending_by r.claim) → HasScore r
+      → AreCarried (settling_change opened (ending_by r.claim) (score_by r.claim)) new from last → length last ≡ length new → IsStoredUnindexed root new after counts → IsStored root last after counts
+  settling_carried last after counts holdout verdict has carried long kept =
+      let c = settling_change opened (ending_by r.claim) (score_by r.claim) in
       let all = stored_carried root new last after counts kept (ready_records root (records_of es) new r from ready c last carried long) (ready_pairs root (records_of es) new r from ready c last carried long kept.2) in (
         all.0,
         all.1,
         all.2,
         all.3,
         ready_indexed root (records_of es) new r from ready c last carried long
-            (λ p n inside count. count_settled root board.is_table (records_of es) ready.had (records_of new) r ready.taken (ready_table root (records_of es) new r from ready) p inside n opened holdout verdict new_ones count),
+            (λ p n inside count. count_settled root board.is_table (records_of es) ready.had (records_of new) r ready.taken (ready_table root (records_of es) new r from ready) p inside n opened holdout verdict new_ones has count),
       )

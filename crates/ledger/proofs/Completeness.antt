@@ -1,19 +1,23 @@
 -- The best of a complete board is that of its root.
-use Rattle.std.proofs.Common.{◌≡◌, ℕ, ◌≤◌, List, Option, Some, None, option_map, IfSome, ◌↔◌, refl, subst}
+use Rattle.std.proofs.Common.{◌≡◌, ℕ, ◌≤◌, List, Option, Some, None, option_map, IfSome, ◌↔◌, refl, sym, ◌∙◌, ap, subst}
 use Rattle.machine_text.specs.Packed.{Packed, IsTable, entry_of, empty_table}
 use Rattle.machine_text.specs.declared.limits.TheConstants.{MAX_STATES}
 use Rattle.turing.specs.Halting.{HaltsAt, IsRado}
+use Rattle.turing.specs.Score.{HaltsWith, score_at}
+use Rattle.turing.proofs.Scores.{halts_with}
 use Rattle.evidence.specs.Verdict.{IsTrueOf, ending_of}
 use Rattle.evidence.specs.declared.verdicts.Ending.{Ending}
 use Rattle.evidence.specs.declared.verdicts.Verdict.{Verdict}
 use Rattle.evidence.specs.declared.verdicts.Verdict.TheVariants.{Halts, Never}
 use Rattle.tree.specs.Used.{InOrder}
-use Rattle.tree.specs.Closed.{Mark, Halting, IsTrueMark, AreTrueMarks, IsClosed, IsComplete, IsGreatestRecorded}
+use Rattle.tree.specs.Best.{Scores, IsGreatestOfAll}
+use Rattle.tree.specs.Closed.{Mark, Halting, NeverHalting, Holdout, IsTrueMark, AreTrueMarks, AreTrueScores, IsClosed, IsComplete, IsGreatestRecorded}
 use Rattle.tree.specs.Tables.{InTableTree, Itself, IsBestOfTable}
 use Rattle.cert.specs.Claim.{Claim, Recorded, Stands, shown_by}
 use Rattle.ledger.specs.Records.{claim_in, mark_in, mark_of, mark_by}
 use Rattle.ledger.specs.Contents.{Contents, IsBoard}
-use Rattle.ledger.specs.Tally.{IsGreatestCount, IsStatus}
+use Rattle.ledger.specs.Sigma.{IsSigma}
+use Rattle.ledger.specs.Tally.{IsGreatestCount, IsGreatestOnes, IsStatus}
 use Rattle.ledger.specs.declared.status.Status.{Status}
 use Rattle.ledger.specs.declared.status.Status.TheVariants.{Complete}
 use Rattle.cert.proofs.Scores.{ends_as_shown}
@@ -37,6 +41,14 @@ abbrev pub CompleteIsRado : Type 0
 CompleteIsRado = (n s : ℕ) (marks : Packed → Option Mark) → 1 ≤ n → n ≤ MAX_STATES → AreTrueMarks marks → IsComplete (empty_table n) marks
     → IsGreatestRecorded (λ (t : Packed) (k : ℕ). k) marks (empty_table n) (Some s) ↔ IsRado n s
 
+abbrev pub ClosedIsBestScore : Type 0
+ClosedIsBestScore = (root p : Packed) (u : ℕ) (marks : Packed → Option Mark) (scores : Packed → ℕ) (b : Option ℕ) → AreTrueMarks marks → AreTrueScores marks scores → IsTable p → InOrder u (entry_of p) → IsClosed root marks p
+    → IsBestOfTable Scores p b ↔ IsGreatestRecorded (λ (t : Packed) (k : ℕ). scores t) marks p b
+
+abbrev pub CompleteIsSigma : Type 0
+CompleteIsSigma = (n s : ℕ) (marks : Packed → Option Mark) (scores : Packed → ℕ) → 1 ≤ n → n ≤ MAX_STATES → AreTrueMarks marks → AreTrueScores marks scores → IsComplete (empty_table n) marks
+    → IsGreatestRecorded (λ (t : Packed) (k : ℕ). scores t) marks (empty_table n) (Some s) ↔ IsGreatestOfAll Scores n s
+
 true_mark : (o : Option Verdict) (t : Packed) → IfSome o (λ (v : Verdict). IsTrueOf v (entry_of t)) → IsTrueMark t (Some (mark_by (option_map ending_of o)))
 true_mark None t h = tt
 true_mark (Some (Halts k s)) t h = h.halts
@@ -57,20 +69,73 @@ greatest_in_tree b (Some s) below board greatest = (
   λ t k inside marked. greatest.1 t k marked,
 )
 
-complete_parts : (root : Packed) (rs : List Recorded) (status : Status) (best : Option ℕ) → IsStatus root rs status → status ≡ Complete best → IsComplete root (mark_in rs) × IsGreatestCount rs best
-complete_parts root rs status best stands is = subst (IsStatus root rs) is stands
+complete_parts : (root : Packed) (rs : List Recorded) (status : Status) (best ones : Option ℕ) → IsStatus root rs status → status ≡ Complete best ones → IsComplete root (mark_in rs) × IsGreatestCount rs best × IsGreatestOnes rs ones
+complete_parts root rs status best ones stands is = subst (IsStatus root rs) is stands
 
-pub complete_best : (b : Contents) (status : Status) (best : Option ℕ) → Below → OfTables → Claims → CompleteIsClosed → ClosedIsBest → IsBoard b → IsStatus b.root b.records status → status ≡ Complete best
+pub complete_best : (b : Contents) (status : Status) (best ones : Option ℕ) → Below → OfTables → Claims → CompleteIsClosed → ClosedIsBest → IsBoard b → IsStatus b.root b.records status → status ≡ Complete best ones
     → IsBestOfTable HaltsAt b.root best
-complete_best b status best below tables claims closes bests board stands is =
-    let parts = complete_parts b.root b.records status best stands is in
+complete_best b status best ones below tables claims closes bests board stands is =
+    let parts = complete_parts b.root b.records status best ones stands is in
     let marks = true_marks b below tables claims board in
     (bests b.root b.root board.in_order.0 (mark_in b.records) best marks board.is_table board.in_order.1 (closes b.root b.root (mark_in b.records) marks parts.0 Itself)).1 (greatest_in_tree b best below board parts.1)
 
-pub complete_rado : (b : Contents) (status : Status) (n s : ℕ) → Below → OfTables → Claims → CompleteIsRado → IsBoard b → IsStatus b.root b.records status → 1 ≤ n → n ≤ MAX_STATES
-    → b.root ≡ empty_table n → status ≡ Complete (Some s) → IsRado n s
-complete_rado b status n s below tables claims rado board stands some within root is =
-    let parts = complete_parts b.root b.records status (Some s) stands is in
+pub complete_rado : (b : Contents) (status : Status) (n s : ℕ) (ones : Option ℕ) → Below → OfTables → Claims → CompleteIsRado → IsBoard b → IsStatus b.root b.records status → 1 ≤ n → n ≤ MAX_STATES
+    → b.root ≡ empty_table n → status ≡ Complete (Some s) ones → IsRado n s
+complete_rado b status n s ones below tables claims rado board stands some within root is =
+    let parts = complete_parts b.root b.records status (Some s) ones stands is in
     let greatest = greatest_in_tree b (Some s) below board parts.1 in
     (rado n s (mark_in b.records) some within (true_marks b below tables claims board) (subst (λ (p : Packed). IsComplete p (mark_in b.records)) root parts.0)).0
     (subst (λ (p : Packed). IsGreatestRecorded (λ (t : Packed) (k : ℕ). k) (mark_in b.records) p (Some s)) root greatest)
+
+-- the score of a table by its mark, which is true where the mark is
+abbrev score_marked : Packed → Option Mark → ℕ
+score_marked t None = 0
+score_marked t (Some (Halting k)) = score_at (entry_of t) k
+score_marked t (Some NeverHalting) = 0
+score_marked t (Some Holdout) = 0
+
+abbrev scores_by : (Packed → Option Mark) → Packed → ℕ
+scores_by marks t = score_marked t (marks t)
+
+true_scores : (marks : Packed → Option Mark) → AreTrueMarks marks → AreTrueScores marks (scores_by marks)
+true_scores marks true_marks = λ t k is.
+    subst (HaltsWith (entry_of t) k) (sym (ap (score_marked t) is)) (halts_with (entry_of t) k (subst (IsTrueMark t) is (true_marks t)))
+
+greatest_by_marks : (marks : Packed → Option Mark) (p : Packed) (b : Option ℕ) → IsGreatestRecorded (λ (t : Packed) (k : ℕ). score_at (entry_of t) k) marks p b
+    → IsGreatestRecorded (λ (t : Packed) (k : ℕ). scores_by marks t) marks p b
+greatest_by_marks marks p None g = g
+greatest_by_marks marks p (Some s) g =
+    let (t, k, inside, is, same) = g.0 in (
+      (t, k, inside, is, same ∙ sym (ap (score_marked t) is)),
+      λ t k inside is. subst (λ (n : ℕ). n ≤ s) (sym (ap (score_marked t) is)) (g.1 t k inside is),
+    )
+
+ones_in_tree : (b : Contents) (ones : Option ℕ) → Below → IsBoard b → IsGreatestOnes b.records ones → IsGreatestRecorded (λ (t : Packed) (k : ℕ). score_at (entry_of t) k) (mark_in b.records) b.root ones
+ones_in_tree b None below board greatest = λ t k inside marked. greatest t (score_at (entry_of t) k) (k, marked, refl)
+ones_in_tree b (Some s) below board greatest = (
+  (greatest.0.0, greatest.0.1.0, marked_in_tree b greatest.0.0 (Halting greatest.0.1.0) below board greatest.0.1.1, greatest.0.1.1, greatest.0.1.2),
+  λ t k inside marked. greatest.1 t (score_at (entry_of t) k) (k, marked, refl),
+)
+
+-- so the greatest score of a closed table is its best
+pub closed_ones : (root p : Packed) (u : ℕ) (marks : Packed → Option Mark) (ones : Option ℕ) → ClosedIsBestScore → AreTrueMarks marks → IsTable p → InOrder u (entry_of p) → IsClosed root marks p
+    → IsGreatestRecorded (λ (t : Packed) (k : ℕ). score_at (entry_of t) k) marks p ones → IsBestOfTable Scores p ones
+closed_ones root p u marks ones bests true_ones is_table in_order closed greatest =
+    (bests root p u marks (scores_by marks) ones true_ones (true_scores marks true_ones) is_table in_order closed).1 (greatest_by_marks marks p ones greatest)
+
+pub complete_ones : (b : Contents) (status : Status) (best ones : Option ℕ) → Below → OfTables → Claims → CompleteIsClosed → ClosedIsBestScore → IsBoard b → IsStatus b.root b.records status → status ≡ Complete best ones
+    → IsBestOfTable Scores b.root ones
+complete_ones b status best ones below tables claims closes bests board stands is =
+    let parts = complete_parts b.root b.records status best ones stands is in
+    let marks = true_marks b below tables claims board in
+    closed_ones b.root b.root board.in_order.0 (mark_in b.records) ones bests marks board.is_table board.in_order.1 (closes b.root b.root (mark_in b.records) marks parts.0 Itself) (ones_in_tree b ones below board parts.2)
+
+pub complete_sigma : (b : Contents) (status : Status) (n s : ℕ) (best : Option ℕ) → Below → OfTables → Claims → CompleteIsSigma → IsBoard b → IsStatus b.root b.records status → 1 ≤ n → n ≤ MAX_STATES
+    → b.root ≡ empty_table n → status ≡ Complete best (Some s) → IsSigma n s
+complete_sigma b status n s best below tables claims sigma board stands some within root is =
+    let parts = complete_parts b.root b.records status best (Some s) stands is in
+    let marks = true_marks b below tables claims board in
+    let greatest = greatest_by_marks (mark_in b.records) b.root (Some s) (ones_in_tree b (Some s) below board parts.2) in
+    let all = (sigma n s (mark_in b.records) (scores_by (mark_in b.records)) some within marks (true_scores (mark_in b.records) marks) (subst (λ (p : Packed). IsComplete p (mark_in b.records)) root parts.0)).0
+    (subst (λ (p : Packed). IsGreatestRecorded (λ (t : Packed) (k : ℕ). scores_by (mark_in b.records) t) (mark_in b.records) p (Some s)) root greatest) in
+    record { champion = all.champion; is_machine = all.is_machine; scores = all.worth; greatest = all.greatest }

@@ -13,6 +13,7 @@ pub mod Offering
 pub mod OpenListed
 pub mod Numbers
 pub mod Amounts
+pub mod Ones
 pub mod Ancestors
 pub mod Walked
 pub mod TreeCounts

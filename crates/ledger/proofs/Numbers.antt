@@ -9,11 +9,11 @@ use Rattle.machine_text.specs.Packed.{Packed}
 use Rattle.evidence.specs.declared.verdicts.Ending.{Ending}
 use Rattle.evidence.specs.declared.verdicts.Ending.TheVariants.{Halts, Never}
 use Rattle.tree.specs.Closed.{Mark, Halting, NeverHalting, Holdout}
-use Rattle.cert.specs.Claim.{Claim, Recorded, ending_by}
+use Rattle.cert.specs.Claim.{Claim, Recorded, ending_by, score_by}
 use Rattle.ledger.specs.Records.{same_table, claim_in, mark_in, mark_of, mark_by}
 use Rattle.ledger.specs.Held.{IsHoldout, settled}
 use Rattle.ledger.specs.inside.Counting.{is_undecided, is_halting, is_never, says_halts, says_never, is_champion, is_steps, steps_of, greater, IsCounted, with_shown, without_holdout}
-use Rattle.ledger.specs.Tally.{AreSoMany, HaltsAfter, IsHalting, IsNeverHalting, IsGreatestCount}
+use Rattle.ledger.specs.Tally.{AreSoMany, HaltsAfter, IsHalting, IsNeverHalting, IsGreatestCount, IsGreatestOnes}
 use Rattle.ledger.proofs.OpenLaws.{IsTaken, stopping_verdict}
 use Rattle.ledger.specs.declared.counts.Counts.{Counts}
 use Rattle.ledger.proofs.Same.{same_is, apart}
@@ -212,16 +212,17 @@ no_more : (o : Option ℕ) → o ≡ greater o None
 no_more None = refl
 no_more (Some x) = refl
 
-counts_shown : (c : Counts) (o : Option Ending) (h n u : ℕ) → c.halting + one (says_halts o) ≡ h → c.never + one (says_never o) ≡ n → c.undecided + one (is_none o) ≡ u
-    → ((with_shown c o).halting ≡ h) × ((with_shown c o).never ≡ n) × ((with_shown c o).undecided ≡ u) × ((with_shown c o).best ≡ greater c.best (steps_of o))
-counts_shown c None h n u a b d = (let e : c.halting ≡ h = omega (arith, a) in e, let e : c.never ≡ n = omega (arith, b) in e, let e : c.undecided + 1 ≡ u = omega (arith, d) in e, no_more c.best)
-counts_shown c (Some Never) h n u a b d = (let e : c.halting ≡ h = omega (arith, a) in e, let e : c.never + 1 ≡ n = omega (arith, b) in e, let e : c.undecided ≡ u = omega (arith, d) in e, no_more c.best)
-counts_shown c (Some (Halts k)) h n u a b d = (let e : c.halting + 1 ≡ h = omega (arith, a) in e, let e : c.never ≡ n = omega (arith, b) in e, let e : c.undecided ≡ u = omega (arith, d) in e, refl)
+counts_shown : (c : Counts) (o : Option Ending) (x : Option ℕ) (h n u : ℕ) → c.halting + one (says_halts o) ≡ h → c.never + one (says_never o) ≡ n → c.undecided + one (is_none o) ≡ u
+    → ((with_shown c o x).halting ≡ h) × ((with_shown c o x).never ≡ n) × ((with_shown c o x).undecided ≡ u) × ((with_shown c o x).best ≡ greater c.best (steps_of o)) × ((with_shown c o x).ones ≡ greater c.ones x)
+counts_shown c None x h n u a b d = (let e : c.halting ≡ h = omega (arith, a) in e, let e : c.never ≡ n = omega (arith, b) in e, let e : c.undecided + 1 ≡ u = omega (arith, d) in e, no_more c.best, refl)
+counts_shown c (Some Never) x h n u a b d = (let e : c.halting ≡ h = omega (arith, a) in e, let e : c.never + 1 ≡ n = omega (arith, b) in e, let e : c.undecided ≡ u = omega (arith, d) in e, no_more c.best, refl)
+counts_shown c (Some (Halts k)) x h n u a b d = (let e : c.halting + 1 ≡ h = omega (arith, a) in e, let e : c.never ≡ n = omega (arith, b) in e, let e : c.undecided ≡ u = omega (arith, d) in e, refl, refl)
 
-pub counted_more : (rs : List Recorded) (r : Recorded) (c : Counts) → IsCounted rs c → IsTaken rs (rs ++ (r ∷ [])) r → IsCounted (rs ++ (r ∷ [])) (with_shown c (ending_by r.claim))
-counted_more rs r c counted taken =
-    let now = counts_shown c (ending_by r.claim) _ _ _ (omega (arith, counted.halting, number_more is_halting rs r)) (omega (arith, counted.never, number_more is_never rs r)) (omega (arith, counted.undecided, number_more is_undecided rs r)) in
-    record { halting = now.0; never = now.1; undecided = now.2; best = subst (IsGreatestCount (rs ++ (r ∷ []))) (sym now.3) (greatest_taken rs (rs ++ (r ∷ [])) r c.best taken counted.best) }
+pub counted_more : (rs : List Recorded) (r : Recorded) (c : Counts) → IsCounted rs c → IsTaken rs (rs ++ (r ∷ [])) r → IsGreatestOnes (rs ++ (r ∷ [])) (greater c.ones (score_by r.claim))
+    → IsCounted (rs ++ (r ∷ [])) (with_shown c (ending_by r.claim) (score_by r.claim))
+counted_more rs r c counted taken ones =
+    let now = counts_shown c (ending_by r.claim) (score_by r.claim) _ _ _ (omega (arith, counted.halting, number_more is_halting rs r)) (omega (arith, counted.never, number_more is_never rs r)) (omega (arith, counted.undecided, number_more is_undecided rs r)) in
+    record { halting = now.0; never = now.1; undecided = now.2; best = subst (IsGreatestCount (rs ++ (r ∷ []))) (sym now.3) (greatest_taken rs (rs ++ (r ∷ [])) r c.best taken counted.best); ones = subst (IsGreatestOnes (rs ++ (r ∷ []))) (sym now.4) ones }
 
 pub some_holdout : (rs : List Recorded) (r : Recorded) (x : Claim) → claim_in rs r.table ≡ Some x → ending_by x ≡ None → 0 < length (filter is_undecided rs)
 some_holdout [] r x is none = let gone = claim_none r.table in absurd (cc)
@@ -236,8 +237,8 @@ some_holdout (y ∷ ys) r x is none =
     ] refl
 
 pub counted_settled : (rs : List Recorded) (r : Recorded) (x : Claim) (c : Counts) → IsCounted rs c → claim_in rs r.table ≡ Some x → ending_by x ≡ None → IsTaken rs (settled rs r) r
-    → IsCounted (settled rs r) (with_shown (without_holdout c) (ending_by r.claim))
-counted_settled rs r x c counted is none taken =
+    → IsGreatestOnes (settled rs r) (greater c.ones (score_by r.claim)) → IsCounted (settled rs r) (with_shown (without_holdout c) (ending_by r.claim) (score_by r.claim))
+counted_settled rs r x c counted is none taken ones =
     let halts = number_settled says_halts rs r x is in
     let nevers = number_settled says_never rs r x is in
     let undecided = number_settled (λ (o : Option Ending). is_none o) rs r x is in
@@ -245,8 +246,8 @@ counted_settled rs r x c counted is none taken =
     let n : one (says_never (ending_by x)) ≡ 0 = ap (λ (o : Option Ending). one (says_never o)) none in
     let u : one (is_none (ending_by x)) ≡ 1 = ap (λ (o : Option Ending). one (is_none o)) none in
     let some = some_holdout rs r x is none in
-    let now = counts_shown (without_holdout c) (ending_by r.claim) _ _ _ (omega (arith, counted.halting, halts, h)) (omega (arith, counted.never, nevers, n)) (omega (arith, counted.undecided, undecided, u, some)) in
-    record { halting = now.0; never = now.1; undecided = now.2; best = subst (IsGreatestCount (settled rs r)) (sym now.3) (greatest_taken rs (settled rs r) r c.best taken counted.best) }
+    let now = counts_shown (without_holdout c) (ending_by r.claim) (score_by r.claim) _ _ _ (omega (arith, counted.halting, halts, h)) (omega (arith, counted.never, nevers, n)) (omega (arith, counted.undecided, undecided, u, some)) in
+    record { halting = now.0; never = now.1; undecided = now.2; best = subst (IsGreatestCount (settled rs r)) (sym now.3) (greatest_taken rs (settled rs r) r c.best taken counted.best); ones = subst (IsGreatestOnes (settled rs r)) (sym now.4) ones }
 
 -- the tables of a number of steps
 champion_mark : (o : Option Ending) (best : ℕ) → is_steps best (steps_of o) ≡ true → mark_by o ≡ Halting best

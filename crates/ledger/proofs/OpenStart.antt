@@ -1,10 +1,10 @@
 -- What is kept of a board without records.
-use Rattle.std.proofs.Common.{◌≡◌, ℕ, [], ◌∷◌, None, option_map, inl, inr, ◌↔◌, refl, sym, ap, subst}
+use Rattle.std.proofs.Common.{◌≡◌, ℕ, [], ◌∷◌, Some, None, option_map, inl, inr, ◌↔◌, refl, sym, ap, subst}
 use Rattle.std.specs.List.{All}
 use Rattle.std.specs.BTreeMap.{BTreeMap}
 use Rattle.std.proofs.lemmas.List.Elements.{All-cons, All-nil}
 use Rattle.machine_text.specs.Packed.{Packed, IsTable, entry_of}
-use Rattle.tree.specs.Closed.{IsOpen}
+use Rattle.tree.specs.Closed.{Halting, IsOpen}
 use Rattle.tree.specs.Used.{InOrder}
 use Rattle.ledger.specs.Held.{HasScore}
 use Rattle.ledger.specs.Records.{mark_in, mark_of}
@@ -27,8 +27,11 @@ starts root tables is = record {
   openers = subst (All (λ (e : Packed × ℕ). IsOpener root [] e.0 e.1)) (sym is) (All-cons (λ (e : Packed × ℕ). IsOpener root [] e.0 e.1) (root, 4294967295) [] (inl (refl, refl)) (All-nil (λ (e : Packed × ℕ). IsOpener root [] e.0 e.1)));
 }
 
-pub counted_none : IsCounted [] (record { halting = 0; never = 0; undecided = 0; best = None })
-counted_none = record { halting = refl; never = refl; undecided = refl; best = λ t k halts. let none = ap (option_map mark_of) (claim_none t) in absurd (cc) }
+none_halts : (t : Packed) (k : ℕ) → mark_in [] t ≡ Some (Halting k) → ⊥
+none_halts t k halts = let none = ap (option_map mark_of) (claim_none t) in absurd (cc)
+
+pub counted_none : IsCounted [] (record { halting = 0; never = 0; undecided = 0; best = None; ones = None })
+counted_none = record { halting = refl; never = refl; undecided = refl; best = λ t k halts. none_halts t k halts; ones = λ t s has. none_halts t has.0 has.1 }
 
 pub board_starts : (root : Packed) → IsTable root → (u : ℕ) × InOrder u (entry_of root) → IsBoardOf root []
 board_starts root is_table in_order = record { is_table = is_table; in_order = in_order; held = record { fit = tt; scored = All-nil HasScore } }

@@ -1,14 +1,15 @@
 -- The numbers of a table's tree once a record is taken.
 use Rattle.std.proofs.Common.{true, false, ◌≡◌, ◌≢◌, ℕ, ◌+◌, ◌-◌, ◌<◌, ◌≤◌, ◌^◌, Option, Some, None, IsSome, option_map, List, inl, inr, ◌⊎◌, ◌↔◌, refl, sym, ◌∙◌, ap, subst, arith}
-use Rattle.machine_text.specs.Packed.{Packed, IsTable}
+use Rattle.machine_text.specs.Packed.{Packed, IsTable, entry_of}
+use Rattle.turing.specs.Score.{score_at}
 use Rattle.evidence.specs.declared.verdicts.Ending.{Ending}
 use Rattle.evidence.specs.declared.verdicts.Ending.TheVariants.{Halts, Never}
 use Rattle.tree.specs.Closed.{Mark, Halting, Holdout, IsOpen, IsGreatestRecorded}
 use Rattle.tree.specs.Tables.{IsChildTable, InTableTree, Itself, OfChild}
 use Rattle.tree.proofs.TableLaws.{tree_alike, tree_table_child, one_table_parent}
-use Rattle.cert.specs.Claim.{Claim, Recorded, ending_by}
+use Rattle.cert.specs.Claim.{Claim, Recorded, ending_by, score_by}
 use Rattle.ledger.specs.Records.{same_table, claim_in, mark_in, mark_of, mark_by}
-use Rattle.ledger.specs.Held.{IsHoldout}
+use Rattle.ledger.specs.Held.{HasScore, IsHoldout}
 use Rattle.ledger.specs.Tally.{AreSoMany}
 use Rattle.ledger.specs.inside.Counting.{greater, steps_of}
 use Rattle.ledger.specs.inside.Open.{IsNewChild}
@@ -19,6 +20,7 @@ use Rattle.ledger.proofs.Amounts.{IsGreatestOf, no_more, many_same, many_both, m
 use Rattle.ledger.proofs.Ancestors.{no_way_up, last_step, tree_twice}
 use Rattle.ledger.proofs.HeldLaws.{unmarked}
 use Rattle.ledger.proofs.Numbers.{halting_steps, halts_after}
+use Rattle.ledger.proofs.Ones.{ones_after, ones_now}
 use Rattle.ledger.proofs.OpenLaws.{IsTaken, open_taken}
 use Rattle.ledger.proofs.Same.{same_is, apart}
 
@@ -35,6 +37,23 @@ to_greatest marks p (Some s) g =
 from_greatest : (marks : Packed → Option Mark) (p : Packed) (b : Option ℕ) → IsGreatestOf (HaltsBelow marks p) b → IsGreatestRecorded (λ t k. k) marks p b
 from_greatest marks p None g = λ t k inside halting. g t k (inside, halting)
 from_greatest marks p (Some s) g = ((g.0.0, s, g.0.1.0, g.0.1.1, refl), λ t k inside halting. g.1 t k (inside, halting))
+
+-- and the greatest score
+abbrev score_of_steps : Packed → ℕ → ℕ
+score_of_steps t k = score_at (entry_of t) k
+
+abbrev OnesBelow : (Packed → Option Mark) → Packed → ℕ → Packed → Type 0
+OnesBelow marks p s t = (k : ℕ) × InTableTree p t × (marks t ≡ Some (Halting k)) × (s ≡ score_of_steps t k)
+
+to_ones : (marks : Packed → Option Mark) (p : Packed) (b : Option ℕ) → IsGreatestRecorded score_of_steps marks p b → IsGreatestOf (OnesBelow marks p) b
+to_ones marks p None g = λ t s h. g t h.0 h.1 h.2
+to_ones marks p (Some b) g =
+    let (t, k, inside, halting, is) = g.0 in
+    ((t, (k, inside, halting, is)), λ t s h. subst (λ (n : ℕ). n ≤ b) (sym h.3) (g.1 t h.0 h.1 h.2))
+
+from_ones : (marks : Packed → Option Mark) (p : Packed) (b : Option ℕ) → IsGreatestOf (OnesBelow marks p) b → IsGreatestRecorded score_of_steps marks p b
+from_ones marks p None g = λ t k inside halting. g t (score_of_steps t k) (k, inside, halting, refl)
+from_ones marks p (Some b) g = ((g.0.0, g.0.1.0, g.0.1.1, g.0.1.2, g.0.1.3), λ t k inside halting. g.1 t (score_of_steps t k) (k, inside, halting, refl))
 
 recorded_mark : (rs : List Recorded) (t : Packed) (m : Mark) → mark_in rs t ≡ Some m → IsSome (claim_in rs t)
 recorded_mark rs t m is = elim (claim_in rs t) as (λ o. option_map mark_of o ≡ Some m → IsSome o) [
@@ -75,6 +94,10 @@ module _ (root : Packed) (is_table : IsTable root) (old : List Recorded) (parent
           | inr w ↦ absurd (halts w.0 w.1)
         ]);
         best = λ q k inside halting. elim (alone_below t q there inside (inr (recorded_mark old q (Halting k) halting))) [
+          | inl same ↦ halts k (subst (λ (x : Packed). mark_in old x ≡ Some (Halting k)) (sym same) halting)
+          | inr w ↦ halts w.0 w.1
+        ];
+        ones = λ q k inside halting. elim (alone_below t q there inside (inr (recorded_mark old q (Halting k) halting))) [
           | inl same ↦ halts k (subst (λ (x : Packed). mark_in old x ≡ Some (Halting k)) (sym same) halting)
           | inr w ↦ halts w.0 w.1
         ];
@@ -219,26 +242,36 @@ module _ (root : Packed) (is_table : IsTable root) (old : List Recorded) (parent
           (λ k steps. (r.table, (inside, mark_here ∙ ap (λ (m : Mark). Some m) (halting_steps (ending_by r.claim) k steps))))
           (to_greatest (mark_in old) p b best))
 
-      pub count_taken : (n : TreeCount) (opened : ℕ) → IsOpen root (mark_in old) r.table → AreSoMany (IsNewChild old r) opened → IsTreeCount root old p n
-          → IsTreeCount root new p (changed_count (taking_change opened (ending_by r.claim)) n)
-      count_taken n opened is_open children count = record {
+      ones_taking : (b : Option ℕ) → HasScore r → IsGreatestRecorded score_of_steps (mark_in old) p b → IsGreatestRecorded score_of_steps (mark_in new) p (greater b (score_by r.claim))
+      ones_taking b has best = from_ones (mark_in new) p (greater b (score_by r.claim))
+          (greatest_more (OnesBelow (mark_in old) p) (OnesBelow (mark_in new) p) b (score_by r.claim)
+          (λ s q h. elim (ones_after old new r s q has taken (h.0, h.2, h.3)) [ inl before ↦ inl (before.0, h.1, before.1, before.2) | inr now ↦ inr now ])
+          (λ s q h. (h.0, h.1, still_halting h.0 q h.2, h.3))
+          (λ s is. let now = ones_now old new r s has taken is in (r.table, (now.0, inside, now.1, now.2)))
+          (to_ones (mark_in old) p b best))
+
+      pub count_taken : (n : TreeCount) (opened : ℕ) → IsOpen root (mark_in old) r.table → AreSoMany (IsNewChild old r) opened → HasScore r → IsTreeCount root old p n
+          → IsTreeCount root new p (changed_count (taking_change opened (ending_by r.claim) (score_by r.claim)) n)
+      count_taken n opened is_open children has count = record {
         open_count = (open_taking n.open_count opened is_open children count.open_count).0;
         holdouts = holdouts_taking n.holdouts (λ h. let unmarked = is_open.unmarked in absurd (cc)) count.holdouts;
         best = best_taking n.best count.best;
+        ones = ones_taking n.ones has count.ones;
       }
 
-      pub count_settled : (n : TreeCount) (opened : ℕ) → IsHoldout old r.table → IsSome (ending_by r.claim) → AreSoMany (IsNewChild old r) opened → IsTreeCount root old p n
-          → IsTreeCount root new p (changed_count (settling_change opened (ending_by r.claim)) n)
-      count_settled n opened holdout verdict children count = record {
+      pub count_settled : (n : TreeCount) (opened : ℕ) → IsHoldout old r.table → IsSome (ending_by r.claim) → AreSoMany (IsNewChild old r) opened → HasScore r → IsTreeCount root old p n
+          → IsTreeCount root new p (changed_count (settling_change opened (ending_by r.claim) (score_by r.claim)) n)
+      count_settled n opened holdout verdict children has count = record {
         open_count = open_settling n.open_count opened (λ is_open. let unmarked = is_open.unmarked in absurd (cc)) children count.open_count;
         holdouts = (holdouts_settling n.holdouts holdout verdict count.holdouts).0;
         best = best_taking n.best count.best;
+        ones = ones_taking n.ones has count.ones;
       }
 
       -- there is room for the change
       pub taken_room : (n : TreeCount) (opened opens records : ℕ) → IsOpen root (mark_in old) r.table → AreSoMany (IsNewChild old r) opened → opened < 2 ^ 63
           → AreSoMany (IsOpen root (mark_in old)) opens → opens < 2 ^ 63 → AreSoMany (IsHoldout old) records → records < 2 ^ 63 → IsTreeCount root old p n
-          → MayChange n (taking_change opened (ending_by r.claim))
+          → MayChange n (taking_change opened (ending_by r.claim) (score_by r.claim))
       taken_room n opened opens records is_open children few all small holdouts under count =
           let most = no_more (λ q. InTableTree p q × IsOpen root (mark_in old) q) (IsOpen root (mark_in old)) n.open_count opens (λ q h. h.1) count.open_count all in
           let also = no_more (λ q. InTableTree p q × IsHoldout old q) (IsHoldout old) n.holdouts records (λ q h. h.1) count.holdouts holdouts in
@@ -252,7 +285,7 @@ module _ (root : Packed) (is_table : IsTable root) (old : List Recorded) (parent
 
       pub settled_room : (n : TreeCount) (opened opens records : ℕ) → IsHoldout old r.table → IsSome (ending_by r.claim) → opened < 2 ^ 63
           → AreSoMany (IsOpen root (mark_in old)) opens → opens < 2 ^ 63 → AreSoMany (IsHoldout old) records → records < 2 ^ 63 → IsTreeCount root old p n
-          → MayChange n (settling_change opened (ending_by r.claim))
+          → MayChange n (settling_change opened (ending_by r.claim) (score_by r.claim))
       settled_room n opened opens records holdout verdict few all small holdouts under count =
           let most = no_more (λ q. InTableTree p q × IsOpen root (mark_in old) q) (IsOpen root (mark_in old)) n.open_count opens (λ q h. h.1) count.open_count all in
           let also = no_more (λ q. InTableTree p q × IsHoldout old q) (IsHoldout old) n.holdouts records (λ q h. h.1) count.holdouts holdouts in
@@ -271,6 +304,8 @@ module _ (root : Packed) (is_table : IsTable root) (old : List Recorded) (parent
           (λ q. (λ h. (h.0, mark_other q (other q h.0) ∙ h.1), λ h. (h.0, sym (mark_other q (other q h.0)) ∙ h.1))) count.holdouts;
       best = from_greatest (mark_in new) p n.best (greatest_same (HaltsBelow (mark_in old) p) (HaltsBelow (mark_in new) p) n.best
           (λ k q. (λ h. (h.0, mark_other q (other q h.0) ∙ h.1), λ h. (h.0, sym (mark_other q (other q h.0)) ∙ h.1))) (to_greatest (mark_in old) p n.best count.best));
+      ones = from_ones (mark_in new) p n.ones (greatest_same (OnesBelow (mark_in old) p) (OnesBelow (mark_in new) p) n.ones
+          (λ s q. (λ h. (h.0, h.1, mark_other q (other q h.1) ∙ h.2, h.3), λ h. (h.0, h.1, sym (mark_other q (other q h.1)) ∙ h.2, h.3))) (to_ones (mark_in old) p n.ones count.ones));
     }
       where
         other : (q : Packed) → InTableTree p q → q ≢ r.table

@@ -6,7 +6,11 @@ use Rattle.std.specs.declared.cmp.Ordering.TheVariants.{Less}
 use Rattle.std.specs.Cmp.Lexicographic.{slice_cmp, nat_list_cmp_total}
 use Rattle.machine_text.specs.Packed.{Packed, entry_of}
 use Rattle.machine_text.specs.Text.{text_of}
+use Rattle.turing.specs.Machine.{Machine}
 use Rattle.turing.specs.Halting.{HaltsAt, Never}
+use Rattle.turing.specs.Score.{HaltsWith}
+use Rattle.turing.proofs.Scores.{halts_with, score_is}
+use Rattle.tree.specs.Best.{Scores}
 use Rattle.tree.specs.Closed.{Mark, Halting, NeverHalting, IsTrueMark, AreTrueMarks, IsVerdict, IsComplete}
 use Rattle.tree.specs.Tables.{InTableTree, IsGreatestInTables}
 use Rattle.tree.proofs.TableLaws.{tree_alike, tree_table_child}
@@ -16,8 +20,8 @@ use Rattle.cert.specs.Claim.{Claim, Recorded}
 use Rattle.ledger.specs.Records.{claim_in, mark_in, mark_of}
 use Rattle.ledger.specs.Held.{IsHoldout}
 use Rattle.ledger.specs.Contents.{Contents, IsBoard}
-use Rattle.ledger.specs.Tally.{HaltsAfter, IsHalting, IsNeverHalting, IsGreatestCount, IsChampion, IsTally, AreAll, AreSoMany, AreInTextOrder}
-use Rattle.ledger.specs.WholeTree.{IsTreeTally, IsTreeChampion}
+use Rattle.ledger.specs.Tally.{HaltsAfter, HasOnes, IsHalting, IsNeverHalting, IsGreatestCount, IsGreatestOnes, IsChampion, IsOnesChampion, IsTally, AreAll, AreSoMany, AreInTextOrder}
+use Rattle.ledger.specs.WholeTree.{IsTreeTally, IsTreeChampion, IsTreeOnesChampion}
 use Rattle.ledger.specs.declared.tally.Tally.{Tally}
 pub use Rattle.ledger.proofs.Amounts.{as_many}
 use Rattle.ledger.proofs.Amounts.{many_same, none_of_kind}
@@ -135,6 +139,22 @@ greatest_in_tree b (Some s) board complete greatest =
       λ t k inside halts. greatest.1 t k ((all_halting b t k board complete).1 (inside, halts)),
     )
 
+pub all_ones : (b : Contents) (t : Packed) (s : ℕ) → IsBoard b → IsComplete b.root (mark_in b.records) → HasOnes b.records s t ↔ (InTableTree b.root t × Scores (entry_of t) s)
+all_ones b t s board complete = (
+  λ (k, halts, is).
+      let it = (all_halting b t k board complete).0 halts in
+      (it.0, (k, subst (HaltsWith (entry_of t) k) (sym is) (halts_with (entry_of t) k it.1))),
+  λ (inside, (k, with_score)). (k, (all_halting b t k board complete).1 (inside, with_score.halts), score_is (entry_of t) k s with_score),
+)
+
+greatest_ones_in_tree : (b : Contents) (ones : Option ℕ) → IsBoard b → IsComplete b.root (mark_in b.records) → IsGreatestOnes b.records ones → IsGreatestInTables Scores b.root ones
+greatest_ones_in_tree b None board complete none = λ t s inside scores. none t s ((all_ones b t s board complete).1 (inside, scores))
+greatest_ones_in_tree b (Some best) board complete greatest =
+    let one = (all_ones b greatest.0.0 best board complete).0 greatest.0.1 in (
+      (greatest.0.0, one.0, one.1),
+      λ t s inside scores. greatest.1 t s ((all_ones b t s board complete).1 (inside, scores)),
+    )
+
 pub whole_tally : (b : Contents) (tally : Tally) → IsBoard b → IsComplete b.root (mark_in b.records) → IsTally b.root b.records tally → IsTreeTally b.root tally
 whole_tally b tally board complete counted =
     let none_open = none_of_kind _ tally.open_count counted.open_count complete.none_open in
@@ -148,6 +168,7 @@ whole_tally b tally board complete counted =
       holdouts = none_of_kind (IsHoldout b.records) tally.holdouts counted.holdouts complete.no_holdout;
       open_count = none_open;
       best = greatest_in_tree b tally.best board complete counted.best;
+      ones = greatest_ones_in_tree b tally.ones board complete counted.ones;
     }
 
 whole_champion : (b : Contents) (best : Option ℕ) (t : Packed) → IsBoard b → IsComplete b.root (mark_in b.records) → IsChampion b.records best t ↔ IsTreeChampion b.root best t
@@ -160,16 +181,27 @@ whole_champions b best tables board complete all = record {
   rising = all.rising;
 }
 
+whole_ones_champion : (b : Contents) (ones : Option ℕ) (t : Packed) → IsBoard b → IsComplete b.root (mark_in b.records) → IsOnesChampion b.records ones t ↔ IsTreeOnesChampion b.root ones t
+whole_ones_champion b None t board complete = (λ f. f, λ f. f)
+whole_ones_champion b (Some s) t board complete = all_ones b t s board complete
+
+pub whole_ones_champions : (b : Contents) (ones : Option ℕ) (tables : List Packed) → IsBoard b → IsComplete b.root (mark_in b.records) → AreAll (IsOnesChampion b.records ones) tables
+    → AreAll (IsTreeOnesChampion b.root ones) tables
+whole_ones_champions b ones tables board complete all = record {
+  exact = λ t. let same = whole_ones_champion b ones t board complete in (λ at. same.0 ((all.exact t).0 at), λ h. (all.exact t).1 (same.1 h));
+  rising = all.rising;
+}
+
 -- one tree, one tally
-one_best : (root : Packed) (a b : Option ℕ) → IsGreatestInTables HaltsAt root a → IsGreatestInTables HaltsAt root b → a ≡ b
-one_best root None None x y = refl
-one_best root None (Some s) x y = absurd (x y.0.0 s y.0.1 y.0.2)
-one_best root (Some r) None x y = absurd (y x.0.0 r x.0.1 x.0.2)
-one_best root (Some r) (Some s) x y =
+one_best : (V : Machine → ℕ → Type 0) (root : Packed) (a b : Option ℕ) → IsGreatestInTables V root a → IsGreatestInTables V root b → a ≡ b
+one_best V root None None x y = refl
+one_best V root None (Some s) x y = absurd (x y.0.0 s y.0.1 y.0.2)
+one_best V root (Some r) None x y = absurd (y x.0.0 r x.0.1 x.0.2)
+one_best V root (Some r) (Some s) x y =
     let low : r ≤ s = y.1 x.0.0 r x.0.1 x.0.2 in let high : s ≤ r = x.1 y.0.0 s y.0.1 y.0.2 in ap (λ (n : ℕ). Some n) (omega (arith, low, high))
 
-abbrev told : ℕ → ℕ → ℕ → ℕ → ℕ → Option ℕ → Tally
-told nodes halting never holdouts open_count best = record { nodes = nodes; halting = halting; never = never; holdouts = holdouts; open_count = open_count; best = best }
+abbrev told : ℕ → ℕ → ℕ → ℕ → ℕ → Option ℕ → Option ℕ → Tally
+told nodes halting never holdouts open_count best ones = record { nodes = nodes; halting = halting; never = never; holdouts = holdouts; open_count = open_count; best = best; ones = ones }
 
 pub one_tally : (root : Packed) (a b : Tally) → IsTreeTally root a → IsTreeTally root b → a ≡ b
 one_tally root a b x y =
@@ -178,13 +210,18 @@ one_tally root a b x y =
     let never = as_many _ _ a.never b.never (λ t. (λ h. h, λ h. h)) x.never y.never in
     let holdouts = x.holdouts ∙ sym y.holdouts in
     let open_count = x.open_count ∙ sym y.open_count in
-    let best = one_best root a.best b.best x.best y.best in
-    ap (λ (n : ℕ). told n a.halting a.never a.holdouts a.open_count a.best) nodes
-    ∙ (ap (λ (n : ℕ). told b.nodes n a.never a.holdouts a.open_count a.best) halting
-    ∙ (ap (λ (n : ℕ). told b.nodes b.halting n a.holdouts a.open_count a.best) never
-    ∙ (ap (λ (n : ℕ). told b.nodes b.halting b.never n a.open_count a.best) holdouts
-    ∙ (ap (λ (n : ℕ). told b.nodes b.halting b.never b.holdouts n a.best) open_count
-    ∙ ap (λ (s : Option ℕ). told b.nodes b.halting b.never b.holdouts b.open_count s) best))))
+    let best = one_best HaltsAt root a.best b.best x.best y.best in
+    let ones = one_best Scores root a.ones b.ones x.ones y.ones in
+    ap (λ (n : ℕ). told n a.halting a.never a.holdouts a.open_count a.best a.ones) nodes
+    ∙ (ap (λ (n : ℕ). told b.nodes n a.never a.holdouts a.open_count a.best a.ones) halting
+    ∙ (ap (λ (n : ℕ). told b.nodes b.halting n a.holdouts a.open_count a.best a.ones) never
+    ∙ (ap (λ (n : ℕ). told b.nodes b.halting b.never n a.open_count a.best a.ones) holdouts
+    ∙ (ap (λ (n : ℕ). told b.nodes b.halting b.never b.holdouts n a.best a.ones) open_count
+    ∙ (ap (λ (s : Option ℕ). told b.nodes b.halting b.never b.holdouts b.open_count s a.ones) best
+    ∙ ap (λ (s : Option ℕ). told b.nodes b.halting b.never b.holdouts b.open_count b.best s) ones)))))
 
 pub one_list_of_champions : (root : Packed) (best : Option ℕ) (xs ys : List Packed) → AreAll (IsTreeChampion root best) xs → AreAll (IsTreeChampion root best) ys → xs ≡ ys
 one_list_of_champions root best xs ys x y = one_list (IsTreeChampion root best) (IsTreeChampion root best) xs ys (λ t. (λ h. h, λ h. h)) x y
+
+pub one_list_of_ones_champions : (root : Packed) (ones : Option ℕ) (xs ys : List Packed) → AreAll (IsTreeOnesChampion root ones) xs → AreAll (IsTreeOnesChampion root ones) ys → xs ≡ ys
+one_list_of_ones_champions root ones xs ys x y = one_list (IsTreeOnesChampion root ones) (IsTreeOnesChampion root ones) xs ys (λ t. (λ h. h, λ h. h)) x y

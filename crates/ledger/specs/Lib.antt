@@ -15,4 +15,5 @@ pub mod Lists
 pub mod Merging
 pub mod LedgerLaws
 pub mod WholeTree
+pub mod Sigma
 pub mod inside

@@ -3,8 +3,9 @@ use Rattle.std.specs.Prelude.{◌≡◌, ◌≢◌, ℕ, ◌+◌, ◌<◌, ◌�
 use Rattle.std.specs.Ordering.{nat_cmp}
 use Rattle.std.specs.declared.cmp.Ordering.TheVariants.{Less}
 use Rattle.std.specs.Cmp.Lexicographic.{slice_cmp}
-use Rattle.machine_text.specs.Packed.{Packed}
+use Rattle.machine_text.specs.Packed.{Packed, entry_of}
 use Rattle.machine_text.specs.Text.{text_of}
+use Rattle.turing.specs.Score.{score_at}
 use Rattle.tree.specs.Closed.{Halting, NeverHalting, IsOpen, IsComplete}
 use Rattle.cert.specs.Claim.{Recorded}
 use Rattle.ledger.specs.Records.{mark_in}
@@ -44,10 +45,24 @@ abbrev pub IsGreatestCount : List Recorded → Option ℕ → Type 0
 IsGreatestCount rs None = (t : Packed) (k : ℕ) → HaltsAfter rs k t → ⊥
 IsGreatestCount rs (Some s) = ((t : Packed) × HaltsAfter rs s t) × ((t : Packed) (k : ℕ) → HaltsAfter rs k t → k ≤ s)
 
+-- recorded as halting with so many ones on its tape then, its score (Radó 1962)
+abbrev pub HasOnes : List Recorded → ℕ → Packed → Type 0
+HasOnes rs s t = (k : ℕ) × HaltsAfter rs k t × (s ≡ score_at (entry_of t) k)
+
+-- the greatest score of a table that is recorded as halting; none where none is
+abbrev pub IsGreatestOnes : List Recorded → Option ℕ → Type 0
+IsGreatestOnes rs None = (t : Packed) (s : ℕ) → HasOnes rs s t → ⊥
+IsGreatestOnes rs (Some best) = ((t : Packed) × HasOnes rs best t) × ((t : Packed) (s : ℕ) → HasOnes rs s t → s ≤ best)
+
 -- a table that is recorded with the greatest number of steps
 abbrev pub IsChampion : List Recorded → Option ℕ → Packed → Type 0
 IsChampion rs None t = ⊥
 IsChampion rs (Some s) t = HaltsAfter rs s t
+
+-- a table that is recorded with the greatest score
+abbrev pub IsOnesChampion : List Recorded → Option ℕ → Packed → Type 0
+IsOnesChampion rs None t = ⊥
+IsOnesChampion rs (Some s) t = HasOnes rs s t
 
 -- how many tables there are of each kind; the nodes are the records and the open tables together
 pub record IsTally (root : Packed) (rs : List Recorded) (tally : Tally) : Type 0 where
@@ -57,9 +72,10 @@ pub record IsTally (root : Packed) (rs : List Recorded) (tally : Tally) : Type 0
   pub never : AreSoMany (IsNeverHalting rs) tally.never
   pub holdouts : AreSoMany (IsHoldout rs) tally.holdouts
   pub best : IsGreatestCount rs tally.best
+  pub ones : IsGreatestOnes rs tally.ones
 
 -- how a board stands: tables are open; none is, but there are holdouts; or neither
 abbrev pub IsStatus : Packed → List Recorded → Status → Type 0
 IsStatus root rs (Working count) = (0 < count) × AreSoMany (IsOpen root (mark_in rs)) count
 IsStatus root rs (Holdouts count) = ((t : Packed) → IsOpen root (mark_in rs) t → ⊥) × (0 < count) × AreSoMany (IsHoldout rs) count
-IsStatus root rs (Complete best) = IsComplete root (mark_in rs) × IsGreatestCount rs best
+IsStatus root rs (Complete best ones) = IsComplete root (mark_in rs) × IsGreatestCount rs best × IsGreatestOnes rs ones

@@ -6,12 +6,14 @@ ghost use Rattle.tree.specs.Used.{InOrder};
 ghost use Rattle.evidence.specs.Verdict.{IsTrueOf};
 ghost use Rattle.turing.specs.Halting.{IsRado, HaltsAt};
 ghost use Rattle.std.specs.Vec.Iter.{into_iter_items};
+ghost use Rattle.tree.specs.Best.{Scores};
 ghost use Rattle.tree.specs.Tables.{IsBestOfTable, IsChildTable};
 ghost use Rattle.ledger.specs.Versions.{format_number};
 ghost use Rattle.ledger.specs.Contents.{IsBoard};
 ghost use Rattle.ledger.specs.declared.format.Format.TheVariants.{Two};
 ghost use Rattle.ledger.specs.inside.Places.{IsPlace};
-ghost use Rattle.ledger.specs.Tally.{AreAll, IsChampion, IsGreatestCount, IsHalting, IsStatus, IsTally};
+ghost use Rattle.ledger.specs.Sigma.{IsSigma};
+ghost use Rattle.ledger.specs.Tally.{AreAll, IsChampion, IsGreatestCount, IsGreatestOnes, IsHalting, IsOnesChampion, IsStatus, IsTally};
 
 use crate::chain::carry_up;
 use crate::children::{child_count, children_on};
@@ -25,7 +27,9 @@ use crate::open::Open;
 use crate::open_tables::{only, open_children, opener_of, opener_place};
 use crate::place::{Place, recorded_place};
 use crate::records::Records;
-use crate::selected::{listed_tables, sorted_tables, tables_with, undecided_tables};
+use crate::selected::{
+    listed_tables, sorted_tables, tables_with, tables_with_ones, undecided_tables,
+};
 use crate::status::Status;
 use crate::stored_record::{Judging, StoredRecord};
 use crate::taken::Taken;
@@ -45,7 +49,7 @@ use tree::{best_of_closed, child_is_table, closed_tree, rado_of_complete};
 /// An iterator over the holdouts of a board.
 pub type Holdouts = IntoIter<Table>;
 
-/// An iterator over the champions of a board.
+/// An iterator over the champions of a board, by steps or by scores.
 pub type Champions = IntoIter<Table>;
 
 /// The records of a tree's tables, from the tree's root, in the order in which they were taken.
@@ -219,6 +223,7 @@ impl Board {
             holdouts: self.counts.undecided,
             open_count: self.open_tables.len() as u64,
             best: self.counts.best,
+            ones: self.counts.ones,
         }
     }
 
@@ -232,26 +237,48 @@ impl Board {
         sorted_tables(self.alloc, tables)
     }
 
-    /// The champions and the holdouts, as `champions` and `holdouts` give them, by one pass over the records.
-    pub fn champions_and_holdouts(&self) -> Result<(Champions, Holdouts), NoMemory>
-        ensures champions { IfOk result (λ found. (best : Option ℕ) → IsGreatestCount self.now.records best →
-            AreAll (IsChampion self.now.records best) (into_iter_items found.0)) }
-        ensures holdouts { IfOk result (λ found. AreAll (IsHoldout self.now.records) (into_iter_items found.1)) }
+    /// The tables that are recorded with the greatest score, in the order of their texts.
+    pub fn ones_champions(&self) -> Result<Champions, NoMemory>
+        ensures { IfOk result (λ found. (ones : Option ℕ) → IsGreatestOnes self.now.records ones →
+            AreAll (IsOnesChampion self.now.records ones) (into_iter_items found)) }
     {
         child_is_table();
-        let (champions, holdouts) = listed_tables(self.alloc, &self.records, self.counts.best)?;
+        let tables = tables_with_ones(self.alloc, &self.records, self.counts.ones)?;
+        sorted_tables(self.alloc, tables)
+    }
+
+    /// The champions by steps, those by scores and the holdouts, as `champions`, `ones_champions` and `holdouts` give
+    /// them, by one pass over the records.
+    pub fn champions_and_holdouts(&self) -> Result<(Champions, Champions, Holdouts), NoMemory>
+        ensures champions { IfOk result (λ found. (best : Option ℕ) → IsGreatestCount self.now.records best →
+            AreAll (IsChampion self.now.records best) (into_iter_items found.0)) }
+        ensures ones_champions { IfOk result (λ found. (ones : Option ℕ) → IsGreatestOnes self.now.records ones →
+            AreAll (IsOnesChampion self.now.records ones) (into_iter_items found.1)) }
+        ensures holdouts { IfOk result (λ found. AreAll (IsHoldout self.now.records) (into_iter_items found.2)) }
+    {
+        child_is_table();
+        let counts = self.counts;
+        let (champions, ones_champions, holdouts) = listed_tables(
+            self.alloc,
+            &self.records,
+            counts.best,
+            counts.ones,
+        )?;
         let champions = sorted_tables(self.alloc, champions)?;
+        let ones_champions = sorted_tables(self.alloc, ones_champions)?;
         let holdouts = sorted_tables(self.alloc, holdouts)?;
-        Ok((champions, holdouts))
+        Ok((champions, ones_champions, holdouts))
     }
 
     /// How the board stands. Where it is complete, its best is the greatest number of steps of all
     /// extensions of the root that halt, in tree normal form or not; for the empty table of n states that
-    /// is Radó's S(n).
+    /// is Radó's S(n). Its ones are their greatest score, and for the empty table of n states Radó's Σ(n).
     pub fn status(&self) -> Status
         ensures stands { IsStatus self.now.root self.now.records result }
-        ensures best { (best : Option ℕ) → result ≡ Status.Complete best → IsBestOfTable HaltsAt self.now.root best }
-        ensures rado { (n s : ℕ) → 1 ≤ n → n ≤ state_limit → self.now.root ≡ empty_table n → result ≡ Status.Complete (Some s) → IsRado n s }
+        ensures best { (best ones : Option ℕ) → result ≡ Status.Complete best ones → IsBestOfTable HaltsAt self.now.root best }
+        ensures ones { (best ones : Option ℕ) → result ≡ Status.Complete best ones → IsBestOfTable Scores self.now.root ones }
+        ensures rado { (n s : ℕ) (ones : Option ℕ) → 1 ≤ n → n ≤ state_limit → self.now.root ≡ empty_table n → result ≡ Status.Complete (Some s) ones → IsRado n s }
+        ensures sigma { (n s : ℕ) (best : Option ℕ) → 1 ≤ n → n ≤ state_limit → self.now.root ≡ empty_table n → result ≡ Status.Complete best (Some s) → IsSigma n s }
     {
         child_is_table();
         standing_claims_are_true();
@@ -279,6 +306,7 @@ impl Board {
         }
         Status::Complete {
             best: self.counts.best,
+            ones: self.counts.ones,
         }
     }
 
@@ -389,6 +417,7 @@ impl Board {
         };
         let opened = child_count(&held, stored.halts_on);
         let shown = held.certificate.ending();
+        let score = held.certificate.ones();
         let count = self.records.len();
         let place = opener_place(count)?;
         // The proof needs how many open tables there can be.
@@ -409,10 +438,10 @@ impl Board {
         carry_up(
             &mut self.records,
             place,
-            TreeChange::of_taking(opened, shown),
+            TreeChange::of_taking(opened, shown, score),
         );
         self.open_tables.remove(&r.table);
-        self.counts = self.counts.with(shown);
+        self.counts = self.counts.with(shown, score);
         Ok(Taken::New)
     }
 
@@ -436,6 +465,7 @@ impl Board {
         };
         let opened = child_count(&held, stored.halts_on);
         let shown = held.certificate.ending();
+        let score = held.certificate.ones();
         let found = place_of(&self.records, &r.table);
         let place = opener_place(found)?;
         // The proof needs how many open tables there can be.
@@ -455,9 +485,9 @@ impl Board {
         carry_up(
             &mut self.records,
             place,
-            TreeChange::of_settling(opened, shown),
+            TreeChange::of_settling(opened, shown, score),
         );
-        self.counts = self.counts.without_holdout().with(shown);
+        self.counts = self.counts.without_holdout().with(shown, score);
         Ok(Taken::Settled)
     }
 }

@@ -1,6 +1,7 @@
 // What a board says of the best of a table.
 ghost use Rattle.std.specs.Prelude.{◌≡◌, ℕ, Option, None};
 ghost use Rattle.turing.specs.Halting.{HaltsAt};
+ghost use Rattle.tree.specs.Best.{Scores};
 ghost use Rattle.tree.specs.Tables.{IsBestOfTable};
 ghost use Rattle.ledger.specs.Bounds.{IsBound};
 ghost use Rattle.ledger.specs.Records.{claim_in};
@@ -10,17 +11,20 @@ use cert::standing_claims_are_true;
 use machine_text::Table;
 use tree::{best_of_closed, child_is_table};
 
-/// What a board says of the best of a table: the greatest number of steps of all its extensions that halt,
-/// in tree normal form or not.
+/// What a board says of the best of a table: the greatest number of steps and the greatest score of all its extensions
+/// that halt, in tree normal form or not.
 #[derive(Clone, Copy, Debug, PartialEq, Eq)]
 pub enum Bound {
     /// The table is neither recorded nor open.
     Unknown,
     /// The table has no verdict, or a table of its tree is open or a holdout.
     Open,
-    /// The table has a verdict, and no table of its tree is open or a holdout: this is its best, or none
-    /// where no extension halts.
-    Closed { best: Option<u64> },
+    /// The table has a verdict, and no table of its tree is open or a holdout: these are its best number of steps and its
+    /// best score, or none where no extension halts.
+    Closed {
+        best: Option<u64>,
+        ones: Option<u64>,
+    },
 }
 
 impl Board {
@@ -28,7 +32,8 @@ impl Board {
     /// the records, and one among the open tables where there is no record. No tree is walked.
     pub fn bound(&self, t: &Table) -> Bound
         ensures stands { IsBound self.now.root self.now.records t.now result }
-        ensures best { (best : Option ℕ) → result ≡ Bound.Closed best → IsBestOfTable HaltsAt t.now best }
+        ensures best { (best ones : Option ℕ) → result ≡ Bound.Closed best ones → IsBestOfTable HaltsAt t.now best }
+        ensures ones { (best ones : Option ℕ) → result ≡ Bound.Closed best ones → IsBestOfTable Scores t.now ones }
     {
         child_is_table();
         standing_claims_are_true();
@@ -47,7 +52,10 @@ impl Board {
             return self.bound_unrecorded(t);
         };
         if tree.is_settled() {
-            Bound::Closed { best: tree.best }
+            Bound::Closed {
+                best: tree.best,
+                ones: tree.ones,
+            }
         } else {
             Bound::Open
         }

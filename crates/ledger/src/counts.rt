@@ -4,48 +4,54 @@ ghost use Rattle.ledger.specs.inside.Counting.{with_shown, without_holdout, grea
 
 use evidence::Ending;
 
-// How many records there are of each kind, and the greatest number of steps of those that say that their
-// table halts.
+// How many records there are of each kind, and the greatest number of steps and the greatest score of those that say
+// that their table halts.
 #[derive(Clone, Copy)]
 pub(crate) struct Counts {
     pub halting: u64,
     pub never: u64,
     pub undecided: u64,
     pub best: Option<u64>,
+    pub ones: Option<u64>,
 }
 
 impl Counts {
     // Those of no record.
     pub fn none() -> Counts
-        ensures { result ≡ record { halting = 0; never = 0; undecided = 0; best = None } }
+        ensures { result ≡ record { halting = 0; never = 0; undecided = 0; best = None; ones = None } }
     {
         Counts {
             halting: 0,
             never: 0,
             undecided: 0,
             best: None,
+            ones: None,
         }
     }
 
-    // Those with one more record, which shows this.
-    pub fn with(self, shown: Option<Ending>) -> Counts
+    // Those with one more record, which shows this, with this score.
+    pub fn with(self, shown: Option<Ending>, ones: Option<u64>) -> Counts
         requires halting { self.halting < 2 ^ 63 }
         requires never { self.never < 2 ^ 63 }
         requires undecided { self.undecided < 2 ^ 63 }
-        ensures { result ≡ with_shown self shown }
+        ensures { result ≡ with_shown self shown ones }
     {
+        let ones = greater(self.ones, ones);
         match shown {
             None => Counts {
                 undecided: self.undecided + 1,
+                ones,
                 ..self
             },
             Some(Ending::Never) => Counts {
                 never: self.never + 1,
+                ones,
                 ..self
             },
             Some(Ending::Halts(steps)) => Counts {
                 halting: self.halting + 1,
                 best: greater(self.best, Some(steps)),
+                ones,
                 ..self
             },
         }

@@ -2,6 +2,7 @@
 ghost use Rattle.std.specs.Prelude.{◌≡◌, ◌↔◌, ℕ, List, [], ◌∷◌, ◌++◌, take, Option, Result, Ok, IsSome};
 ghost use Rattle.machine_text.specs.Packed.{Packed, IsTable, entry_of};
 ghost use Rattle.turing.specs.Halting.{HaltsAt, Never};
+ghost use Rattle.tree.specs.Best.{Scores};
 ghost use Rattle.tree.specs.Closed.{IsComplete};
 ghost use Rattle.tree.specs.Tables.{InTableTree};
 ghost use Rattle.cert.specs.Claim.{Recorded};
@@ -14,8 +15,8 @@ ghost use Rattle.ledger.specs.declared.faults.OfferFault.{OfferFault as Fault};
 ghost use Rattle.ledger.specs.Offers.{OfferGives};
 ghost use Rattle.ledger.specs.Records.{claim_in, mark_in};
 ghost use Rattle.ledger.specs.Merging.{IsMerged};
-ghost use Rattle.ledger.specs.Tally.{AreAll, HaltsAfter, IsChampion, IsNeverHalting, IsTally};
-ghost use Rattle.ledger.specs.WholeTree.{IsTreeTally, IsTreeChampion};
+ghost use Rattle.ledger.specs.Tally.{AreAll, HaltsAfter, HasOnes, IsChampion, IsNeverHalting, IsOnesChampion, IsTally};
+ghost use Rattle.ledger.specs.WholeTree.{IsTreeTally, IsTreeChampion, IsTreeOnesChampion};
 ghost use Rattle.ledger.specs.declared.tally.Tally.{Tally as Counted};
 ghost use Rattle.ledger.specs.Contents.{Contents, IsBoard, IsBoardOf};
 ghost use Rattle.ledger.specs.Versions.{line_of};
@@ -91,8 +92,8 @@ pub fn complete_is_final()
 {}
 
 /// A complete board holds the tree of its root: recorded as halting are the tables of the tree that halt, with
-/// their numbers of steps, and as never halting those that never do. So its tally and its champions are those
-/// of the tree.
+/// their numbers of steps and their scores, and as never halting those that never do. So its tally and its champions are
+/// those of the tree.
 pub fn complete_boards_hold_the_tree()
     ensures halting { (b : Contents) (t : Packed) (k : ℕ) → IsBoard b → IsComplete b.root (mark_in b.records) →
         HaltsAfter b.records k t ↔ (InTableTree b.root t × HaltsAt (entry_of t) k) }
@@ -102,11 +103,17 @@ pub fn complete_boards_hold_the_tree()
         IsTally b.root b.records tally → IsTreeTally b.root tally }
     ensures champions { (b : Contents) (best : Option ℕ) (tables : List Packed) → IsBoard b → IsComplete b.root (mark_in b.records) →
         AreAll (IsChampion b.records best) tables → AreAll (IsTreeChampion b.root best) tables }
+    ensures scores { (b : Contents) (t : Packed) (s : ℕ) → IsBoard b → IsComplete b.root (mark_in b.records) →
+        HasOnes b.records s t ↔ (InTableTree b.root t × Scores (entry_of t) s) }
+    ensures ones_champions { (b : Contents) (ones : Option ℕ) (tables : List Packed) → IsBoard b → IsComplete b.root (mark_in b.records) →
+        AreAll (IsOnesChampion b.records ones) tables → AreAll (IsTreeOnesChampion b.root ones) tables }
 {}
 
-/// A tree has one tally, and one list of its champions.
+/// A tree has one tally, and one list of its champions by steps and of those by scores.
 pub fn trees_are_told_once()
     ensures tally { (root : Packed) (a b : Counted) → IsTreeTally root a → IsTreeTally root b → a ≡ b }
     ensures champions { (root : Packed) (best : Option ℕ) (xs ys : List Packed) →
         AreAll (IsTreeChampion root best) xs → AreAll (IsTreeChampion root best) ys → xs ≡ ys }
+    ensures ones_champions { (root : Packed) (ones : Option ℕ) (xs ys : List Packed) →
+        AreAll (IsTreeOnesChampion root ones) xs → AreAll (IsTreeOnesChampion root ones) ys → xs ≡ ys }
 {}

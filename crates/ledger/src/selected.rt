@@ -4,49 +4,63 @@ ghost use Rattle.std.specs.List.Sorted.{IsPermutation, IsSorted};
 ghost use Rattle.std.specs.List.{cons_option};
 ghost use Rattle.std.specs.Vec.Iter.{into_iter_items};
 ghost use Rattle.ledger.specs.inside.Stored.{entry_recorded, records_of};
-ghost use Rattle.ledger.specs.inside.Counting.{undecided_table, champion_table, tables_with};
+ghost use Rattle.ledger.specs.inside.Counting.{undecided_table, champion_table, ones_champion_table, tables_with, tables_with_ones};
 ghost use Rattle.machine_text.specs.Order.{table_cmp};
 
 use crate::stored_record::StoredRecord;
-use evidence::{NoMemory, Ending};
+use evidence::{Ending, NoMemory};
 use indexmap::IndexMap;
 use itertools::Itertools;
 use machine_text::Table;
 use std::alloc::Global;
 use std::vec::IntoIter;
 
-// The tables of the records with the greatest number of steps, which is given, and those of the records without a
-// verdict, by one pass over the records.
+// The tables of the records with the greatest number of steps, those with the greatest score, both of which are given,
+// and those of the records without a verdict, by one pass over the records.
 pub(crate) fn listed_tables(
     alloc: Global,
     records: &IndexMap<Table, StoredRecord>,
     best: Option<u64>,
-) -> Result<(Vec<Table>, Vec<Table>), NoMemory>
+    ones: Option<u64>,
+) -> Result<(Vec<Table>, Vec<Table>, Vec<Table>), NoMemory>
     ensures champions { IfOk result (λ found. found.0.items ≡ tables_with best (records_of records.now.entries)) }
-    ensures holdouts { IfOk result (λ found. found.1.items ≡ filter_map undecided_table (records_of records.now.entries)) }
+    ensures ones_champions { IfOk result (λ found. found.1.items ≡ tables_with_ones ones (records_of records.now.entries)) }
+    ensures holdouts { IfOk result (λ found. found.2.items ≡ filter_map undecided_table (records_of records.now.entries)) }
 {
-    match best {
-        Some(best) => champion_and_undecided_tables(alloc, records, best),
-        None => Ok((Vec::new(alloc), undecided_tables(alloc, records)?)),
+    match (best, ones) {
+        (Some(best), Some(ones)) => champion_and_undecided_tables(alloc, records, best, ones),
+        // no record says that its table halts
+        _ => Ok((
+            tables_with(alloc, records, best)?,
+            tables_with_ones(alloc, records, ones)?,
+            undecided_tables(alloc, records)?,
+        )),
     }
 }
 
-// The same where there is a number of steps.
+// The same where there are such numbers.
 fn champion_and_undecided_tables(
     alloc: Global,
     records: &IndexMap<Table, StoredRecord>,
     best: u64,
-) -> Result<(Vec<Table>, Vec<Table>), NoMemory>
+    ones: u64,
+) -> Result<(Vec<Table>, Vec<Table>, Vec<Table>), NoMemory>
     ensures champions { IfOk result (λ found. found.0.items ≡ filter_map (champion_table best) (records_of records.now.entries)) }
-    ensures holdouts { IfOk result (λ found. found.1.items ≡ filter_map undecided_table (records_of records.now.entries)) }
+    ensures ones_champions { IfOk result (λ found. found.1.items ≡ filter_map (ones_champion_table ones) (records_of records.now.entries)) }
+    ensures holdouts { IfOk result (λ found. found.2.items ≡ filter_map undecided_table (records_of records.now.entries)) }
 {
     let mut champions = Vec::new(alloc);
+    let mut ones_champions = Vec::new(alloc);
     let mut holdouts = Vec::new(alloc);
     for (table, stored) in records.iter() {
         push_some(&mut champions, champion_table(best, table, stored))?;
+        push_some(
+            &mut ones_champions,
+            ones_champion_table(ones, table, stored),
+        )?;
         push_some(&mut holdouts, undecided_table(table, stored))?;
     }
-    Ok((champions, holdouts))
+    Ok((champions, ones_champions, holdouts))
 }
 
 // The tables of the records without a verdict.
@@ -109,6 +123,45 @@ fn champion_table(best: u64, table: &Table, stored: &StoredRecord) -> Option<Tab
 {
     match stored.certificate.ending() {
         Some(Ending::Halts(count)) if count == best => Some(*table),
+        _ => None,
+    }
+}
+
+// The tables of the records with the greatest score, which is given.
+pub(crate) fn tables_with_ones(
+    alloc: Global,
+    records: &IndexMap<Table, StoredRecord>,
+    best: Option<u64>,
+) -> Result<Vec<Table>, NoMemory>
+    ensures { IfOk result (λ found. found.items ≡ tables_with_ones best (records_of records.now.entries)) }
+{
+    match best {
+        Some(best) => ones_champion_tables(alloc, records, best),
+        None => Ok(Vec::new(alloc)),
+    }
+}
+
+// The tables of the records of such a score.
+fn ones_champion_tables(
+    alloc: Global,
+    records: &IndexMap<Table, StoredRecord>,
+    best: u64,
+) -> Result<Vec<Table>, NoMemory>
+    ensures { IfOk result (λ found. found.items ≡ filter_map (ones_champion_table best) (records_of records.now.entries)) }
+{
+    let mut found = Vec::new(alloc);
+    for (table, stored) in records.iter() {
+        push_some(&mut found, ones_champion_table(best, table, stored))?;
+    }
+    Ok(found)
+}
+
+// The table of a record, where it says that the table halts with this score.
+fn ones_champion_table(best: u64, table: &Table, stored: &StoredRecord) -> Option<Table>
+    ensures { result ≡ ones_champion_table best (entry_recorded (table.now, stored.now)) }
+{
+    match stored.certificate.lent().ones() {
+        Some(ones) if ones == best => Some(*table),
         _ => None,
     }
 }

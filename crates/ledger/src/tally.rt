@@ -14,4 +14,7 @@ pub struct Tally {
     pub open_count: u64,
     /// The greatest number of steps recorded of a table that halts, or none where none does.
     pub best: Option<u64>,
+    /// The greatest score recorded of a table that halts, the number of ones on its tape then (Radó 1962), or none where
+    /// none does.
+    pub ones: Option<u64>,
 }

@@ -6,13 +6,14 @@ ghost use Rattle.ledger.specs.inside.Carrying.{changed_count, first_count, settl
 use crate::counts::greater;
 use evidence::Ending;
 
-// How many tables of a table's tree are open, how many are holdouts, and the greatest number of steps recorded
-// in it. The table itself is one of its tree.
+// How many tables of a table's tree are open, how many are holdouts, and the greatest number of steps and the greatest
+// score recorded in it. The table itself is one of its tree.
 #[derive(Clone, Copy)]
 pub(crate) struct TreeCount {
     pub open_count: u64,
     pub holdouts: u64,
     pub best: Option<u64>,
+    pub ones: Option<u64>,
 }
 
 // What a record changes in these numbers, for each table in whose tree its own stands.
@@ -28,6 +29,8 @@ pub(crate) struct TreeChange {
     pub settled: u64,
     // the steps after which its table halts
     pub steps: Option<u64>,
+    // the score with which it does
+    pub ones: Option<u64>,
 }
 
 impl TreeCount {
@@ -39,6 +42,7 @@ impl TreeCount {
             open_count: 1,
             holdouts: 0,
             best: None,
+            ones: None,
         }
     }
 
@@ -51,6 +55,7 @@ impl TreeCount {
             open_count: self.open_count + change.opened - change.closed,
             holdouts: self.holdouts + change.undecided - change.settled,
             best: greater(self.best, change.steps),
+            ones: greater(self.ones, change.ones),
         }
     }
 
@@ -63,9 +68,9 @@ impl TreeCount {
 }
 
 impl TreeChange {
-    // By the first record of an open table, which shows this and opens so many children.
-    pub fn of_taking(opened: u64, shown: Option<Ending>) -> TreeChange
-        ensures { result ≡ taking_change opened shown }
+    // By the first record of an open table, which shows this, with this score, and opens so many children.
+    pub fn of_taking(opened: u64, shown: Option<Ending>, ones: Option<u64>) -> TreeChange
+        ensures { result ≡ taking_change opened shown ones }
     {
         let undecided = match shown {
             None => 1,
@@ -77,12 +82,13 @@ impl TreeChange {
             undecided,
             settled: 0,
             steps: steps_of(shown),
+            ones,
         }
     }
 
-    // By the record that settles a holdout, which shows this and opens so many children.
-    pub fn of_settling(opened: u64, shown: Option<Ending>) -> TreeChange
-        ensures { result ≡ settling_change opened shown }
+    // By the record that settles a holdout, which shows this, with this score, and opens so many children.
+    pub fn of_settling(opened: u64, shown: Option<Ending>, ones: Option<u64>) -> TreeChange
+        ensures { result ≡ settling_change opened shown ones }
     {
         TreeChange {
             opened,
@@ -90,6 +96,7 @@ impl TreeChange {
             undecided: 0,
             settled: 1,
             steps: steps_of(shown),
+            ones,
         }
     }
 }

@@ -10,7 +10,7 @@ use Rattle.ledger.specs.declared.stored_record.StoredRecord.{StoredRecord}
 
 -- the numbers of an open table's tree: itself alone
 abbrev pub first_count : TreeCount
-first_count = record { open_count = 1; holdouts = 0; best = None }
+first_count = record { open_count = 1; holdouts = 0; best = None; ones = None }
 
 -- 1 where there is no verdict
 abbrev pub one_undecided : Option Ending → ℕ
@@ -18,15 +18,15 @@ one_undecided None = 1
 one_undecided (Some v) = 0
 
 -- what the first record of an open table changes, and one that settles a holdout
-abbrev pub taking_change : ℕ → Option Ending → TreeChange
-taking_change n shown = record { opened = n; closed = 1; undecided = one_undecided shown; settled = 0; steps = steps_of shown }
+abbrev pub taking_change : ℕ → Option Ending → Option ℕ → TreeChange
+taking_change n shown ones = record { opened = n; closed = 1; undecided = one_undecided shown; settled = 0; steps = steps_of shown; ones = ones }
 
-abbrev pub settling_change : ℕ → Option Ending → TreeChange
-settling_change n shown = record { opened = n; closed = 0; undecided = 0; settled = 1; steps = steps_of shown }
+abbrev pub settling_change : ℕ → Option Ending → Option ℕ → TreeChange
+settling_change n shown ones = record { opened = n; closed = 0; undecided = 0; settled = 1; steps = steps_of shown; ones = ones }
 
 -- the numbers after a change, which there is room for
 abbrev pub changed_count : TreeChange → TreeCount → TreeCount
-changed_count c n = record { open_count = n.open_count + c.opened - c.closed; holdouts = n.holdouts + c.undecided - c.settled; best = greater n.best c.steps }
+changed_count c n = record { open_count = n.open_count + c.opened - c.closed; holdouts = n.holdouts + c.undecided - c.settled; best = greater n.best c.steps; ones = greater n.ones c.ones }
 
 pub record MayChange (n : TreeCount) (c : TreeChange) : Type 0 where
   pub open_room : n.open_count + c.opened < 2 ^ 64

@@ -4,8 +4,8 @@ use Rattle.std.specs.Option.{is_none}
 use Rattle.machine_text.specs.Packed.{Packed}
 use Rattle.evidence.specs.declared.verdicts.Ending.{Ending}
 use Rattle.evidence.specs.declared.verdicts.Ending.TheVariants.{Halts, Never}
-use Rattle.cert.specs.Claim.{Recorded, ending_by}
-use Rattle.ledger.specs.Tally.{IsGreatestCount}
+use Rattle.cert.specs.Claim.{Recorded, ending_by, score_by}
+use Rattle.ledger.specs.Tally.{IsGreatestCount, IsGreatestOnes}
 use Rattle.ledger.specs.declared.counts.Counts.{Counts}
 
 -- a record without a verdict
@@ -46,12 +46,19 @@ champion_by best (Some k) t = if nat_eq k best then Some t else None
 abbrev pub champion_table : ℕ → Recorded → Option Packed
 champion_table best r = champion_by best (steps_of (ending_by r.claim)) r.table
 
+-- the table of a record of such a score
+abbrev pub ones_champion_table : ℕ → Recorded → Option Packed
+ones_champion_table best r = champion_by best (score_by r.claim) r.table
+
 abbrev pub is_steps : ℕ → Option ℕ → Bool
 is_steps best None = false
 is_steps best (Some k) = nat_eq k best
 
 abbrev pub is_champion : ℕ → Recorded → Bool
 is_champion best r = is_steps best (steps_of (ending_by r.claim))
+
+abbrev pub is_ones_champion : ℕ → Recorded → Bool
+is_ones_champion best r = is_steps best (score_by r.claim)
 
 -- the greater of two numbers of which either may be missing
 abbrev pub greater : Option ℕ → Option ℕ → Option ℕ
@@ -64,19 +71,25 @@ abbrev pub tables_with : Option ℕ → List Recorded → List Packed
 tables_with None rs = []
 tables_with (Some best) rs = filter_map (champion_table best) rs
 
+-- and of such a score
+abbrev pub tables_with_ones : Option ℕ → List Recorded → List Packed
+tables_with_ones None rs = []
+tables_with_ones (Some best) rs = filter_map (ones_champion_table best) rs
+
 -- the numbers that are kept are those of the records
 pub record IsCounted (rs : List Recorded) (c : Counts) : Type 0 where
   pub halting : c.halting ≡ length (filter is_halting rs)
   pub never : c.never ≡ length (filter is_never rs)
   pub undecided : c.undecided ≡ length (filter is_undecided rs)
   pub best : IsGreatestCount rs c.best
+  pub ones : IsGreatestOnes rs c.ones
 
--- the numbers with one more record, by what it shows
-abbrev pub with_shown : Counts → Option Ending → Counts
-with_shown c None = record { halting = c.halting; never = c.never; undecided = c.undecided + 1; best = c.best }
-with_shown c (Some Never) = record { halting = c.halting; never = c.never + 1; undecided = c.undecided; best = c.best }
-with_shown c (Some (Halts k)) = record { halting = c.halting + 1; never = c.never; undecided = c.undecided; best = greater c.best (Some k) }
+-- the numbers with one more record, by what it shows and its score
+abbrev pub with_shown : Counts → Option Ending → Option ℕ → Counts
+with_shown c None ones = record { halting = c.halting; never = c.never; undecided = c.undecided + 1; best = c.best; ones = greater c.ones ones }
+with_shown c (Some Never) ones = record { halting = c.halting; never = c.never + 1; undecided = c.undecided; best = c.best; ones = greater c.ones ones }
+with_shown c (Some (Halts k)) ones = record { halting = c.halting + 1; never = c.never; undecided = c.undecided; best = greater c.best (Some k); ones = greater c.ones ones }
 
 -- the numbers without a holdout
 abbrev pub without_holdout : Counts → Counts
-without_holdout c = record { halting = c.halting; never = c.never; undecided = c.undecided - 1; best = c.best }
+without_holdout c = record { halting = c.halting; never = c.never; undecided = c.undecided - 1; best = c.best; ones = c.ones }

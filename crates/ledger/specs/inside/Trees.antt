@@ -1,6 +1,7 @@
 -- For the code: what the numbers that are kept with a record say of its table's tree.
 use Rattle.std.specs.Prelude.{◌≡◌, ◌⊎◌, ℕ, ◌<◌, true, List, Some, slice_get}
-use Rattle.machine_text.specs.Packed.{Packed}
+use Rattle.machine_text.specs.Packed.{Packed, entry_of}
+use Rattle.turing.specs.Score.{score_at}
 use Rattle.tree.specs.Closed.{IsOpen, IsGreatestRecorded}
 use Rattle.tree.specs.Tables.{IsChildTable, InTableTree}
 use Rattle.cert.specs.Claim.{Recorded}
@@ -18,6 +19,7 @@ pub record IsTreeCount (root : Packed) (rs : List Recorded) (p : Packed) (n : Tr
   pub open_count : AreSoMany (λ t. InTableTree p t × IsOpen root (mark_in rs) t) n.open_count
   pub holdouts : AreSoMany (λ t. InTableTree p t × IsHoldout rs t) n.holdouts
   pub best : IsGreatestRecorded (λ t k. k) (mark_in rs) p n.best
+  pub ones : IsGreatestRecorded (λ t k. score_at (entry_of t) k) (mark_in rs) p n.ones
 
 -- the place of the record of a table's parent, which stands before the table's own place; the root has none
 abbrev pub IsParentPlace : Packed → List Recorded → ℕ → Packed → ℕ → Type 0

@@ -1,6 +1,7 @@
-use Rattle.std.proofs.Common.{◌≡◌, ℕ, false, Some, refl, sym, ◌∙◌, ap, subst, arith}
+use Rattle.std.proofs.Common.{◌≡◌, ℕ, false, Option, Some, refl, sym, ◌∙◌, ap, subst, arith}
 use Rattle.std.specs.Prelude.{slice_get}
-use Rattle.cert.specs.Claim.{Recorded, ending_by}
+use Rattle.evidence.specs.declared.verdicts.Ending.{Ending}
+use Rattle.cert.specs.Claim.{Recorded, ending_by, score_by}
 use Rattle.cert.specs.Kinds.{recorded}
 use Rattle.ledger.specs.Records.{same_table}
 use Rattle.ledger.specs.Held.{IsHoldout, Settles, settled}
@@ -103,7 +104,8 @@ carry_up-requires-clause-room c =
     let old = c.place_and_count_of-parent.ensures in
     let ready = ready_settled root es c.insert.new.self.entries r there.0 c.in_ok-stored.stored old.0 c.in_ok-place.place c.self.invariant.0 c.self.invariant.4 settles certified.1 (sym c.lent.ensures) old.1
     (c.in_ok-stored.ensures.parent ∙ ap (λ (p : ℕ × TreeCount). p.0) old.2) (c.in_ok-stored.ensures.tree ∙ ap (λ (p : ℕ × TreeCount). p.1) old.2) c.in-Ok.ensures.entries there.1 there.2 c.in_ok-place.ensures.small in
-    let change = c.of_settling.ensures ∙ ap (settling_change c.child_count-opened.result) c.ending-shown.ensures in
+    let change = c.of_settling.ensures ∙ (ap (λ (o : Option Ending). settling_change c.child_count-opened.result o c.ones-score.result) c.ending-shown.ensures
+    ∙ ap (settling_change c.child_count-opened.result (ending_by r.claim)) c.ones-score.ensures) in
     subst (ChainMayChange c.insert.new.self.entries c.in_ok-place.place) (sym change)
     (settling_room root es c.insert.new.self.entries r c.in_ok-place.place c.self.invariant.0 ready c.child_count-opened.result c.child_count-opened.ensures.number
     c.self.inside.open_tables c.len.result c.self.invariant.1 c.len.ensures.len c.len.ensures.ordered c.child_count-opened.ensures.small c.len.ensures.small
@@ -123,10 +125,11 @@ invariant_of-self-2 c =
     let old = c.place_and_count_of-parent.ensures in
     let ready = ready_settled root es c.insert.new.self.entries r there.0 c.in_ok-stored.stored old.0 c.in_ok-place.place c.self.invariant.0 c.self.invariant.4 settles certified.1 (sym c.lent.ensures) old.1
     (c.in_ok-stored.ensures.parent ∙ ap (λ (p : ℕ × TreeCount). p.0) old.2) (c.in_ok-stored.ensures.tree ∙ ap (λ (p : ℕ × TreeCount). p.1) old.2) c.in-Ok.ensures.entries there.1 there.2 c.in_ok-place.ensures.small in
-    let change = c.of_settling.ensures ∙ ap (settling_change c.child_count-opened.result) c.ending-shown.ensures in
-    rw (c.with-self-inside.ensures, c.without_holdout.ensures, c.ending-shown.ensures)
+    let change = c.of_settling.ensures ∙ (ap (λ (o : Option Ending). settling_change c.child_count-opened.result o c.ones-score.result) c.ending-shown.ensures
+    ∙ ap (settling_change c.child_count-opened.result (ending_by r.claim)) c.ones-score.ensures) in
+    rw (c.with-self-inside.ensures, c.without_holdout.ensures, c.ending-shown.ensures, c.ones-score.ensures)
     (settling_carried root es c.insert.new.self.entries r c.in_ok-place.place c.self.invariant.0 ready c.child_count-opened.result c.child_count-opened.ensures.number
-    c.carry_up.new.records.entries c.open_children.new.tables (with_shown (without_holdout c.self.inside.counts) (ending_by r.claim)) holdout verdict
+    c.carry_up.new.records.entries c.open_children.new.tables (with_shown (without_holdout c.self.inside.counts) (ending_by r.claim) (score_by r.claim)) holdout verdict certified.1
     (subst (λ (h : TreeChange). AreCarried h c.insert.new.self.entries c.in_ok-place.place c.carry_up.new.records.entries) change c.carry_up.ensures.carried) c.carry_up.ensures.length
     (stored_settled root es c.insert.new.self.entries r c.in_ok-stored.stored c.in_ok-place.place c.self.inside.open_tables c.open_children.new.tables c.self.inside.counts
     (c.self.invariant.0, c.self.invariant.1, c.self.invariant.2, c.self.invariant.3) settles certified.1

@@ -35,4 +35,5 @@ returns c =
         no_holdout = none_of (IsHoldout c.args.self.now.records) c.self.inside.counts.undecided holdouts (search rules);
       },
       counted.best,
+      counted.ones,
     )

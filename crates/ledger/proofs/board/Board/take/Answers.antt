@@ -1,7 +1,8 @@
-use Rattle.std.proofs.Common.{◌<◌, ◌^◌, ◌++◌, ◌∷◌, [], List, length, refl, sym, ◌∙◌, ap, subst}
+use Rattle.std.proofs.Common.{◌<◌, ◌^◌, ◌++◌, ◌∷◌, [], List, length, Option, refl, sym, ◌∙◌, ap, subst}
 use Rattle.machine_text.specs.Packed.{Packed}
 use Rattle.tree.specs.Closed.{IsOpen}
-use Rattle.cert.specs.Claim.{Recorded, ending_by}
+use Rattle.evidence.specs.declared.verdicts.Ending.{Ending}
+use Rattle.cert.specs.Claim.{Recorded, ending_by, score_by}
 use Rattle.cert.specs.Kinds.{recorded}
 use Rattle.ledger.specs.Records.{same_table, mark_in}
 use Rattle.ledger.specs.Contents.{Contents, IsBoard}
@@ -90,7 +91,8 @@ carry_up-requires-clause-room c =
     (opener_at root (records_of es) c.args.r.now.table c.opener_of-parent.result c.self.inside.open_tables.entries now.1.openers c.opener_of-parent.ensures) in
     let ready = ready_taken root es c.insert.new.self.entries r c.in_ok-stored.stored c.in_ok-place.place now.0 now.4 open_now certified.0 certified.1 (sym c.lent.ensures) opener
     (c.in_ok-stored.ensures.tree ∙ c.first.ensures) c.in-Ok.ensures.entries (c.in_ok-place.ensures.is ∙ many) c.in_ok-place.ensures.small in
-    let change = c.of_taking.ensures ∙ ap (taking_change c.child_count-opened.result) c.ending-shown.ensures in
+    let change = c.of_taking.ensures ∙ (ap (λ (o : Option Ending). taking_change c.child_count-opened.result o c.ones-score.result) c.ending-shown.ensures
+    ∙ ap (taking_change c.child_count-opened.result (ending_by r.claim)) c.ones-score.ensures) in
     subst (ChainMayChange c.insert.new.self.entries c.in_ok-place.place) (sym change)
     (taking_room root es c.insert.new.self.entries r c.in_ok-place.place now.0 ready c.child_count-opened.result c.child_count-opened.ensures.number
     c.self.inside.open_tables c.len.result now.1 c.len.ensures.len c.len.ensures.ordered c.child_count-opened.ensures.small c.len.ensures.small
@@ -120,10 +122,11 @@ invariant_of-self-2 c =
     (opener_at root (records_of es) c.args.r.now.table c.opener_of-parent.result c.self.inside.open_tables.entries now.1.openers c.opener_of-parent.ensures) in
     let ready = ready_taken root es c.insert.new.self.entries r c.in_ok-stored.stored c.in_ok-place.place now.0 now.4 open_now certified.0 certified.1 (sym c.lent.ensures) opener
     (c.in_ok-stored.ensures.tree ∙ c.first.ensures) c.in-Ok.ensures.entries (c.in_ok-place.ensures.is ∙ many) c.in_ok-place.ensures.small in
-    let change = c.of_taking.ensures ∙ ap (taking_change c.child_count-opened.result) c.ending-shown.ensures in
-    rw (c.with-self-inside.ensures, c.ending-shown.ensures)
+    let change = c.of_taking.ensures ∙ (ap (λ (o : Option Ending). taking_change c.child_count-opened.result o c.ones-score.result) c.ending-shown.ensures
+    ∙ ap (taking_change c.child_count-opened.result (ending_by r.claim)) c.ones-score.ensures) in
+    rw (c.with-self-inside.ensures, c.ending-shown.ensures, c.ones-score.ensures)
     (taking_carried root es c.insert.new.self.entries r c.in_ok-place.place now.0 ready c.child_count-opened.result c.child_count-opened.ensures.number
-    c.carry_up.new.records.entries c.remove.new.self (with_shown c.self.inside.counts (ending_by r.claim)) open_now
+    c.carry_up.new.records.entries c.remove.new.self (with_shown c.self.inside.counts (ending_by r.claim) (score_by r.claim)) open_now certified.1
     (subst (λ (h : TreeChange). AreCarried h c.insert.new.self.entries c.in_ok-place.place c.carry_up.new.records.entries) change c.carry_up.ensures.carried) c.carry_up.ensures.length
     (stored_more root es c.insert.new.self.entries r c.in_ok-stored.stored c.in_ok-place.place c.self.inside.open_tables c.open_children.new.tables c.remove.new.self c.self.inside.counts
     (now.0, now.1, now.2, now.3) open_now certified.0 certified.1 (sym c.lent.ensures) (lent_pair c.args.r.now.table c.in_ok-stored.stored c.lent.result c.lent.ensures c.in_ok-stored.ensures.pair) c.in-Ok.ensures.entries (c.in_ok-place.ensures.is ∙ many)

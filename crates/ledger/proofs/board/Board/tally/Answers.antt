@@ -23,4 +23,5 @@ returns c =
       never = kind_counted IsNeverHalting is_never never_number b counts.never board counted.never;
       holdouts = kind_counted IsHoldout is_undecided holdout_number b counts.undecided board counted.undecided;
       best = counted.best;
+      ones = counted.ones;
     }

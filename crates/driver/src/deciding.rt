@@ -39,14 +39,17 @@ fn tell<F: Finder, W: Write>(
     text: &'static str,
 ) -> io::Result<()> {
     let mut finders = [finder];
-    for text in [text, "1RB0RB_1LA---"] {
-        let mut deciding = Deciding {
-            finders: &mut finders,
-            text,
-        };
-        told.tell(name, &mut deciding)?;
-    }
-    Ok(())
+    tell_of(told, name, &mut finders, text)?;
+    tell_of(told, name, &mut finders, "1RB0RB_1LA---")
+}
+
+fn tell_of<F: Finder, W: Write>(
+    told: &mut Told<W>,
+    name: &str,
+    finders: &mut [F],
+    text: &'static str,
+) -> io::Result<()> {
+    told.tell(name, &mut Deciding { finders, text })
 }
 
 // A table is decided, and its record printed.

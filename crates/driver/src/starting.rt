@@ -15,9 +15,9 @@ const STEPS: u64 = 100;
 
 /// A node that is started from its ledger.
 pub trait Role: Node + Drop {
-    /// The node, and its first answer. The ledger is one that such a node wrote.
-    fn begun(alloc: Global, states: u8, era: u64, ledger: &[u8]) -> Result<(Self, Out), NoMemory>
-        requires { (1 ≤ states) × (states ≤ 6) };
+    /// The node, and its first answer. The ledger is one that such a node wrote; of the numbers of states, 1 to 6, the
+    /// nearest is taken.
+    fn begun(alloc: Global, states: u8, era: u64, ledger: &[u8]) -> Result<(Self, Out), NoMemory>;
 }
 
 impl Role for Coordinator {
@@ -27,7 +27,7 @@ impl Role for Coordinator {
         era: u64,
         ledger: &[u8],
     ) -> Result<(Coordinator, Out), NoMemory> {
-        match Coordinator::start(alloc, states, era, ledger) {
+        match Coordinator::start(alloc, states.max(1).min(6), era, ledger) {
             (node, Ok(out)) => Ok((node, out)),
             (_, Err(_)) => Err(NoMemory),
         }

@@ -5,7 +5,7 @@ use Rattle.std.proofs.lemmas.List.{take-append-le, take_at, get_or_at, get_or_ap
 use Rattle.std.proofs.lemmas.Bool.{cases_lt}
 use Rattle.std.specs.Io.KnownBytes.{Consumes, IsAtEnd}
 use Rattle.machine_text.specs.Packed.{Packed, entry_of}
-use Rattle.machine_text.specs.Text.{table_of, states_in, is_table_length}
+use Rattle.machine_text.specs.Text.{states_in, is_table_length}
 use Rattle.machine_text.proofs.Named.{table_of-length, length_of_states}
 use Rattle.tree.specs.Used.{InOrder}
 use Rattle.text.specs.Lines.{HasNoNewline, BeginsWithLine}
@@ -29,6 +29,16 @@ use Rattle.ledger_commands.specs.inside.{BeginsReading, BeginsWithRoot, EndsBehi
 use Rattle.ledger_commands.specs.declared.reading.Stopped.{Stopped}
 use Rattle.ledger_commands.specs.declared.reading.Stopped.TheVariants.{Failed, Ended as EndedBy}
 use Rattle.ledger_commands.proofs.LedgerReports.{one_header}
+
+-- a line that names a root is short
+named_short : (format : Format) (line : List ℕ) (root : Packed) → NamesRoot format line root → length line ≤ 53
+named_short format line root named =
+    elim (is_table_length (length named.name)) as (λ v. is_table_length (length named.name) ≡ v → length line ≤ 53) [
+      | true ↦ λ is.
+          let sizes = length_of_states (length named.name) (states_in (length named.name)) refl is in
+          omega (arith, sizes.0, sizes.2, ap length named.is, length-append (header_words format) named.name, words_length format)
+      | false ↦ λ is. let fails = table_of-length named.name is in let reads = named.reads in absurd (cc)
+    ] refl
 
 -- as many as there are, up to the limit, are the first ones
 pub all_first : (old new : Option (List ℕ)) (limit : ℕ) (text : List ℕ) → Consumes old new text → length text ≤ limit → (length text ≡ limit) ⊎ IsAtEnd new → AreFirstBytes old limit text
@@ -75,15 +85,6 @@ line_long first more line rest none begins = elim (cases_lt (length line) (lengt
   | inr long ↦ long
 ]
 
--- a header is no longer than its words and the text of six states
-header_short : (format : Format) (line : List ℕ) (root : Packed) → NamesRoot format line root → length line ≤ 53
-header_short format line root named =
-    let name : length named.name ≤ 41 = elim (is_table_length (length named.name)) as (λ v. is_table_length (length named.name) ≡ v → length named.name ≤ 41) [
-      | true ↦ λ is. let sizes = length_of_states (length named.name) (states_in (length named.name)) refl is in omega (arith, sizes.0, sizes.2)
-      | false ↦ λ is. let fails = table_of-length named.name is in let reads = named.reads in absurd (cc)
-    ] refl in
-    omega (arith, ap length named.is, length-append (header_words format) named.name, words_length format, name)
-
 -- no text that begins so has a header: a newline is among the bytes, or they are too many
 abbrev IsBad : List ℕ → Type 0
 IsBad text = IsTornHeader text ⊎ HasNoHeader text
@@ -104,7 +105,7 @@ module _ (first more : List ℕ) (none : HasNoNewline first) (long : 64 ≤ leng
 
   bad_with : (line rest : List ℕ) → BeginsWithLine (first ++ more) line rest → IsBad (first ++ more)
   bad_with line rest begins = inr (none_named (first ++ more) line rest begins (λ format root named.
-      let size : length line ≤ 53 = header_short format line root named in
+      let size : length line ≤ 53 = named_short format line root named in
       let reach : length first ≤ length line = line_long first more line rest none begins in
       absurd (omega (arith, size, reach, long))))
 

@@ -30,6 +30,8 @@ mod dispatched;
 #[cfg(test)]
 mod failing_devices;
 #[cfg(test)]
+mod failing_reads;
+#[cfg(test)]
 mod file_ledgers;
 #[cfg(test)]
 mod hostile;

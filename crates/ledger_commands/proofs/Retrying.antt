@@ -40,12 +40,16 @@ pub stays_by : (old new : Contents) (r : Recorded) (before after : Option (List 
 stays_by old new r before after board taken root format is =
     subst (λ (text : Option (List ℕ)). StaysInStep old before new text) (sym is) (stays_with old new r before board taken root format)
 
+-- the line of a record whose score was looked for
+pub line_scored : (format : Format) (r scored : Recorded) (line begun : List ℕ) → IsCertified r → GetsScore r scored → line ≡ begun ++ (line_of format scored ++ (10 ∷ [])) → begun ≡ []
+    → line ≡ line_of format (with_score r) ++ (10 ∷ [])
+line_scored format r scored line begun certified gets is none =
+    is ∙ (ap (λ (l : List ℕ). l ++ (line_of format scored ++ (10 ∷ []))) none ∙ ap (λ (x : Recorded). line_of format x ++ (10 ∷ [])) (has_score r scored gets certified))
+
 -- a ledger that gained the line of a record with its score
-pub one_line : (format : Format) (r scored : Recorded) (line begun : List ℕ) (before after : Option (List ℕ)) → IsCertified r → GetsScore r scored
-    → line ≡ begun ++ (line_of format scored ++ (10 ∷ [])) → begun ≡ [] → after ≡ grown before line → after ≡ with_line format r before
-one_line format r scored line begun before after certified gets is none gains =
-    gains ∙ ap (grown before) (is ∙ (ap (λ (l : List ℕ). l ++ (line_of format scored ++ (10 ∷ []))) none
-    ∙ ap (λ (x : Recorded). line_of format x ++ (10 ∷ [])) (has_score r scored gets certified)))
+pub one_line : (format : Format) (r : Recorded) (line : List ℕ) (before after : Option (List ℕ)) → line ≡ line_of format (with_score r) ++ (10 ∷ []) → after ≡ grown before line
+    → after ≡ with_line format r before
+one_line format r line before after is gains = gains ∙ ap (grown before) is
 
 -- what comes of an offer of a record for a holdout: it is never new, and known only where it has no verdict
 pub new_holdout : (root : Packed) (old new : List Recorded) (r : Recorded) (result : Result Taken OfferFault) → IsHoldout old r.table → result ≡ Ok New

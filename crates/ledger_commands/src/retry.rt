@@ -1,12 +1,14 @@
 // `bb retry`: the holdouts of a ledger are tried again.
-ghost use Rattle.std.specs.Prelude.{◌≡◌, IfOk, IfSome, OnOk};
+ghost use Rattle.std.specs.Prelude.{◌≡◌, ◌++◌, ◌∷◌, [], IfOk, IfSome, OnOk};
 ghost use Rattle.cert.specs.Certified.{IsCertified};
 ghost use Rattle.cert.specs.Claim.{ending_by};
 ghost use Rattle.cert.specs.Kinds.{recorded};
+ghost use Rattle.cert.specs.Scored.{with_score};
 ghost use Rattle.ledger.specs.Held.{IsHoldout};
 ghost use Rattle.ledger.specs.Contents.{Contents};
 ghost use Rattle.ledger.specs.LedgerText.{IsLedgerOf, ReadsIn};
 ghost use Rattle.ledger.specs.Tally.{IsStatus};
+ghost use Rattle.ledger.specs.Versions.{line_of};
 ghost use Rattle.ledger.specs.declared.status.Status.{Status as BoardStatus};
 ghost use Rattle.ledger_commands.specs.LedgerReport.{outcome_by};
 ghost use Rattle.ledger_commands.specs.Retry.{SettlesOrStays, StaysInStep, AtSomeTime, ChangesBy, IsTried, AreRetried};
@@ -16,6 +18,7 @@ use crate::ledger_report::outcome_by;
 use crate::reading::{Opened, Stopped, load_from};
 use crate::report_form::{AsLines, write_report};
 use cert::{Decider, Record};
+use evidence::NoMemory;
 use ledger::{Board, Left, Taken, kept_bytes_load};
 use machine_text::Table;
 use options::{Ended, Outcome};
@@ -154,13 +157,23 @@ fn take<L: LedgerOut>(
 {
     // The proof needs that it is a board.
     let _ = board.root();
-    let mut line = Vec::new(alloc);
-    board.append_line(&r.scored(alloc)?, &mut line)?;
+    let line = scored_line(alloc, board, r)?;
     if !gains(board, r)? {
         return Ok(());
     }
     append_to(ledger, &line)?;
     Ok(())
+}
+
+// The line of a certified record with its score, in the version of a board's ledger.
+fn scored_line(alloc: Global, board: &Board, r: &Record) -> Result<Vec<u8>, NoMemory>
+    requires { IsCertified (recorded r.now) }
+    ensures { IfOk result (λ line. line.items ≡ line_of board.now.format (with_score (recorded r.now)) ++ (10 ∷ [])) }
+{
+    let scored = r.scored(alloc)?;
+    let mut line = Vec::new(alloc);
+    board.append_line(&scored, &mut line)?;
+    Ok(line)
 }
 
 // Offers a certified record of a holdout, and answers whether it is taken.

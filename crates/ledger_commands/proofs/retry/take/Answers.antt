@@ -12,7 +12,7 @@ returns-clause-step g c =
     let r = recorded c.args.r.now in
     let gained = subst (λ (b : Bool). SettlesOrStays old.records r b c.gains.new.board.records) c.if-not-branch.false c.in_ok-gains.ensures.ok in
     stays_by old c.gains.new.board r _ _ c.root.ensures.board (inr gained) c.gains.ensures.root c.gains.ensures.format
-    (one_line old.format r _ _ _ _ _ c.requires.certified c.in_ok-scored.ensures c.in_ok-append_line.ensures.ok c.new-line.ensures.items
+    (one_line old.format r _ _ _ c.in_ok-line.ensures
     (c.in_ok-append_to.ensures.ok ∙ ap (grown (g.L.LedgerOut.text c.args.ledger.now)) c.deref.ensures.value))
 
 pub returns-clause-changes : goal.returns-clause-changes
@@ -21,5 +21,5 @@ returns-clause-changes g c =
     let r = recorded c.args.r.now in
     let gained = subst (λ (b : Bool). SettlesOrStays old.records r b c.gains.new.board.records) c.if-not-branch.false c.in_ok-gains.ensures.ok in
     changes_settled old.format _ r _ _ _ _ gained.0.verdict gained.0 gained.1
-    (one_line old.format r _ _ _ _ _ c.requires.certified c.in_ok-scored.ensures c.in_ok-append_line.ensures.ok c.new-line.ensures.items
+    (one_line old.format r _ _ _ c.in_ok-line.ensures
     (c.in_ok-append_to.ensures.ok ∙ ap (grown (g.L.LedgerOut.text c.args.ledger.now)) c.deref.ensures.value))

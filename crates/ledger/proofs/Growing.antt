@@ -10,7 +10,7 @@ use Rattle.cert.specs.Scored.{with_score}
 use Rattle.cert.proofs.Scores.{score_certified}
 use Rattle.ledger.specs.Contents.{Contents, IsBoard}
 use Rattle.text.specs.Lines.{joined}
-use Rattle.ledger.specs.Versions.{header_words, ledger_record, as_written, line_of}
+use Rattle.ledger.specs.Versions.{header_words, ledger_record, as_written, ledger_line}
 use Rattle.ledger.specs.LedgerText.{IsTaken, AreTaken, ReadsAs, ReadsIn, IsLedgerOf}
 use Rattle.ledger.specs.declared.format.Format.{Format}
 use Rattle.ledger.specs.declared.left.Left.TheVariants.{Nothing, From}
@@ -38,12 +38,12 @@ taken_held format root old r new (inl w) = taken_written format root old (with_s
 taken_held format root old r new (inr w) = taken_written format root old (with_score r) new (scored_has r) (inr (settles_scored old r w.0, w.1))
 
 grows_in : (b : Contents) (text : List ℕ) (r : Recorded) (new : List Recorded) → IsBoard b → (reads : ReadsAs b.root text b.records Nothing) → IsTaken b.root b.records r new
-    → ReadsIn reads.header.format b.root (text ++ (line_of reads.header.format (with_score r) ++ (10 ∷ []))) new Nothing
+    → ReadsIn reads.header.format b.root (text ++ (ledger_line reads.header.format (with_score r) ++ (10 ∷ []))) new Nothing
 grows_in b text r new board reads taken =
     let format = reads.header.format in
     let held = with_score r in
     let lines = reads.keeps.lines in
-    let line = line_of format held in
+    let line = ledger_line format held in
     let more = line ++ (10 ∷ []) in
     let table : IsTable held.table = taken_table b r new board taken in
     let certified = score_certified r (taken_certified b.root b.records r new taken) in
@@ -73,9 +73,9 @@ grows_in b text r new board reads taken =
     }
 
 pub grows : (b : Contents) (text : List ℕ) (r : Recorded) (new : List Recorded) → IsBoard b → IsLedgerOf b text → IsTaken b.root b.records r new
-    → ReadsIn b.format b.root (text ++ (line_of b.format (with_score r) ++ (10 ∷ []))) new Nothing
+    → ReadsIn b.format b.root (text ++ (ledger_line b.format (with_score r) ++ (10 ∷ []))) new Nothing
 grows b text r new board ledger taken =
-    subst (λ (f : Format). ReadsIn f b.root (text ++ (line_of f (with_score r) ++ (10 ∷ []))) new Nothing) ledger.version (grows_in b text r new board ledger.reads taken)
+    subst (λ (f : Format). ReadsIn f b.root (text ++ (ledger_line f (with_score r) ++ (10 ∷ []))) new Nothing) ledger.version (grows_in b text r new board ledger.reads taken)
 
 pub cut_to_kept : (root : Packed) (text : List ℕ) (rs : List Recorded) (line kept : ℕ) (why : Unkept) → (reads : ReadsAs root text rs (From line kept why))
     → ReadsIn reads.header.format root (take kept text) rs Nothing

@@ -12,7 +12,7 @@ use Rattle.cert.proofs.Lines.{record_line, certified_writable, certified_made}
 use Rattle.cert.proofs.RoundTrip.{record_of-record_text}
 use Rattle.cert.proofs.Scores.{scored_again, unscored_ends, unscored_certified}
 use Rattle.text.specs.Lines.{HasNoNewline}
-use Rattle.ledger.specs.Versions.{may_stand, standing_record, ledger_record, as_written, line_of}
+use Rattle.ledger.specs.Versions.{may_stand, standing_record, ledger_record, as_written, ledger_line}
 use Rattle.ledger.specs.Held.{HasScore, IsFit, Settles, settled}
 use Rattle.ledger.specs.LedgerText.{IsTaken}
 use Rattle.ledger.specs.declared.format.Format.{Format}
@@ -55,7 +55,7 @@ written_held One r has = ap (λ (c : Claim). record { table = r.table; claim = c
 written_held Two r has = has
 
 -- and reads back
-pub reads_back : (format : Format) (r : Recorded) → IsTable r.table → IsCertified r → HasScore r → ledger_record format (line_of format r) ≡ Ok (as_written format r)
+pub reads_back : (format : Format) (r : Recorded) → IsTable r.table → IsCertified r → HasScore r → ledger_record format (ledger_line format r) ≡ Ok (as_written format r)
 unfolding ledger_record
 reads_back format r table certified has =
     let w = as_written format r in
@@ -64,7 +64,7 @@ reads_back format r table certified has =
     let read : record_of (record_text w) ≡ Ok w = record_of-record_text w is_table (certified_writable w stands) (certified_made w stands) in
     ap (standing_record format) read ∙ ap (λ (b : Bool). cond b (Ok w) (Err BadKind)) (written_stands format r has)
 
-pub one_line : (format : Format) (r : Recorded) → IsTable r.table → IsCertified r → HasNoNewline (line_of format r)
+pub one_line : (format : Format) (r : Recorded) → IsTable r.table → IsCertified r → HasNoNewline (ledger_line format r)
 one_line format r table certified =
     let w = as_written format r in
     record_line w (written_table format r table) (certified_writable w (written_certified format r certified))

@@ -6,7 +6,7 @@ use Rattle.machine_text.specs.Text.{table_of, text_of}
 use Rattle.tree.specs.Used.{InOrder}
 use Rattle.cert.specs.Claim.{Recorded}
 use Rattle.cert.specs.Scored.{with_score}
-use Rattle.ledger.specs.Versions.{header_words, ledger_record, line_of}
+use Rattle.ledger.specs.Versions.{header_words, ledger_record, ledger_line}
 use Rattle.ledger.specs.Contents.{Contents}
 use Rattle.text.specs.Lines.{joined, HasNoNewline, BeginsWithLine}
 use Rattle.ledger.specs.Held.{IsFit, Settles, settled}
@@ -145,4 +145,4 @@ PeekGives text (Err NoMemory) = ⊥
 
 -- the text of a ledger, which is written in version 2
 unfoldable pub ledger_text : Packed → List Recorded → List ℕ
-ledger_text root rs = header_words Two ++ text_of root ++ (10 ∷ joined (map (line_of Two) rs))
+ledger_text root rs = header_words Two ++ text_of root ++ (10 ∷ joined (map (ledger_line Two) rs))

@@ -19,7 +19,7 @@ ghost use Rattle.ledger.specs.Tally.{AreAll, HaltsAfter, HasOnes, IsChampion, Is
 ghost use Rattle.ledger.specs.WholeTree.{IsTreeTally, IsTreeChampion, IsTreeOnesChampion};
 ghost use Rattle.ledger.specs.declared.tally.Tally.{Tally as Counted};
 ghost use Rattle.ledger.specs.Contents.{Contents, IsBoard, IsBoardOf};
-ghost use Rattle.ledger.specs.Versions.{line_of};
+ghost use Rattle.ledger.specs.Versions.{ledger_line};
 ghost use Rattle.ledger.specs.declared.format.Format.TheVariants.{Two};
 ghost use Rattle.ledger.specs.Lists.{AreKept, Offer, AreOffered, answered, held as held_of};
 ghost use Rattle.ledger.specs.LedgerText.{HasHeader, IsLedgerOf, IsTaken, ReadsAs, ReadsIn, ledger_text};
@@ -62,7 +62,7 @@ pub fn ledgers_read_longest()
 /// records that there are once that is taken.
 pub fn ledgers_grow()
     ensures { (b : Contents) (text : List ℕ) (r : Recorded) (new : List Recorded) → IsBoard b → IsLedgerOf b text →
-        IsTaken b.root b.records r new → ReadsIn b.format b.root (text ++ (line_of b.format (with_score r) ++ (10 ∷ []))) new Nothing }
+        IsTaken b.root b.records r new → ReadsIn b.format b.root (text ++ (ledger_line b.format (with_score r) ++ (10 ∷ []))) new Nothing }
 {}
 
 /// The bytes that are kept of a text read as the same records in the same version, and all of them are kept.

@@ -29,6 +29,7 @@ mod left;
 mod line_start;
 mod loader;
 mod merge;
+mod offer_line;
 mod open;
 mod open_tables;
 mod place;

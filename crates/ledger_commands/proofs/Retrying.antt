@@ -6,16 +6,14 @@ use Rattle.machine_text.specs.Packed.{Packed}
 use Rattle.evidence.specs.declared.verdicts.Ending.{Ending}
 use Rattle.tree.specs.Closed.{IsVerdict}
 use Rattle.cert.specs.Claim.{Recorded, ending_by}
-use Rattle.cert.specs.Certified.{IsCertified}
-use Rattle.cert.specs.Scored.{with_score, GetsScore}
-use Rattle.cert.proofs.Scores.{has_score}
+use Rattle.cert.specs.Scored.{with_score}
 use Rattle.ledger.specs.Contents.{Contents, IsBoard}
 use Rattle.ledger.specs.Held.{IsHoldout, Settles, settled}
 use Rattle.ledger.specs.LedgerText.{IsTaken, ReadsIn}
 use Rattle.ledger.specs.Offers.{OfferGives}
 use Rattle.ledger.specs.Records.{mark_of}
 use Rattle.ledger.specs.Tally.{AreAll}
-use Rattle.ledger.specs.Versions.{line_of}
+use Rattle.ledger.specs.GainedLine.{gained_line}
 use Rattle.ledger.specs.declared.format.Format.{Format}
 use Rattle.ledger.specs.declared.left.Left.TheVariants.{Nothing}
 use Rattle.ledger.specs.declared.taken.Taken.{Taken}
@@ -25,54 +23,48 @@ use Rattle.ledger.proofs.Growing.{grows}
 use Rattle.ledger.proofs.OpenLaws.{settled_other}
 use Rattle.ledger.proofs.TextOrder.{all_apart}
 use Rattle.wire.specs.Device.{grown}
-use Rattle.ledger_commands.specs.Retry.{StaysInStep, SettlesOrStays, ChangesBy, with_line}
+use Rattle.ledger_commands.specs.Retry.{StaysInStep, SettlesOrStays, ChangesBy, gained, with_line}
 
 stays_with : (old new : Contents) (r : Recorded) (before : Option (List ℕ)) → IsBoard old → IsTaken old.root old.records r new.records
     → new.root ≡ old.root → new.format ≡ old.format → StaysInStep old before new (with_line old.format r before)
 stays_with old new r None board taken root format = λ s. s
 stays_with old new r (Some text) board taken root format = λ reads.
-    let gained = text ++ (line_of old.format (with_score r) ++ (10 ∷ [])) in
-    subst (λ (f : Format). ReadsIn f new.root gained new.records Nothing) (sym format)
-    (subst (λ (p : Packed). ReadsIn old.format p gained new.records Nothing) (sym root) (grows old text r new.records board reads taken))
+    subst (λ (f : Format). ReadsIn f new.root (text ++ gained old.format r) new.records Nothing) (sym format)
+    (subst (λ (p : Packed). ReadsIn old.format p (text ++ gained old.format r) new.records Nothing) (sym root) (grows old text r new.records board reads taken))
 
 pub stays_by : (old new : Contents) (r : Recorded) (before after : Option (List ℕ)) → IsBoard old → IsTaken old.root old.records r new.records
     → new.root ≡ old.root → new.format ≡ old.format → after ≡ with_line old.format r before → StaysInStep old before new after
 stays_by old new r before after board taken root format is =
     subst (λ (text : Option (List ℕ)). StaysInStep old before new text) (sym is) (stays_with old new r before board taken root format)
 
--- the line of a record whose score was looked for
-pub line_scored : (format : Format) (r scored : Recorded) (line begun : List ℕ) → IsCertified r → GetsScore r scored → line ≡ begun ++ (line_of format scored ++ (10 ∷ [])) → begun ≡ []
-    → line ≡ line_of format (with_score r) ++ (10 ∷ [])
-line_scored format r scored line begun certified gets is none =
-    is ∙ (ap (λ (l : List ℕ). l ++ (line_of format scored ++ (10 ∷ []))) none ∙ ap (λ (x : Recorded). line_of format x ++ (10 ∷ [])) (has_score r scored gets certified))
-
--- a ledger that gained the line of a record with its score
-pub one_line : (format : Format) (r : Recorded) (line : List ℕ) (before after : Option (List ℕ)) → line ≡ line_of format (with_score r) ++ (10 ∷ []) → after ≡ grown before line
+-- a ledger that gained the line of a record
+pub one_line : (format : Format) (r : Recorded) (line begun : List ℕ) (before after : Option (List ℕ)) → line ≡ begun ++ gained format r → begun ≡ [] → after ≡ grown before line
     → after ≡ with_line format r before
-one_line format r line before after is gains = gains ∙ ap (grown before) is
+one_line format r line begun before after is none gains = gains ∙ ap (grown before) (is ∙ ap (λ (l : List ℕ). l ++ gained format r) none)
 
 -- what comes of an offer of a record for a holdout: it is never new, and known only where it has no verdict
-pub new_holdout : (root : Packed) (old new : List Recorded) (r : Recorded) (result : Result Taken OfferFault) → IsHoldout old r.table → result ≡ Ok New
-    → OfferGives root old r result new → SettlesOrStays old r true new
-new_holdout root old new r result holdout is gives =
-    let fit : OfferGives root old r (Ok New) new = subst (λ (x : Result Taken OfferFault). OfferGives root old r x new) is gives in
-    let unmarked = fit.0.is_open.unmarked in
-    absurd (cc)
+module _ (format : Format) (root : Packed) (old new : List Recorded) (r : Recorded) (lines new_lines : List ℕ) (result : Result Taken OfferFault) (gives : OfferGives root old r result new)
+    (line : new_lines ≡ lines ++ gained_line format r result) where
+  pub new_holdout : IsHoldout old r.table → result ≡ Ok New → SettlesOrStays format r true old lines new new_lines
+  new_holdout holdout is =
+      let fit : OfferGives root old r (Ok New) new = subst (λ (x : Result Taken OfferFault). OfferGives root old r x new) is gives in
+      let unmarked = fit.0.is_open.unmarked in
+      absurd (cc)
 
-pub settled_holdout : (root : Packed) (old new : List Recorded) (r : Recorded) (result : Result Taken OfferFault) → result ≡ Ok Settled
-    → OfferGives root old r result new → SettlesOrStays old r true new
-settled_holdout root old new r result is gives = subst (λ (x : Result Taken OfferFault). OfferGives root old r x new) is gives
+  pub settled_holdout : result ≡ Ok Settled → SettlesOrStays format r true old lines new new_lines
+  settled_holdout is =
+      let settles : OfferGives root old r (Ok Settled) new = subst (λ (x : Result Taken OfferFault). OfferGives root old r x new) is gives in
+      (settles.0, settles.1, line ∙ ap (λ (x : Result Taken OfferFault). lines ++ gained_line format r x) is)
 
-pub known_holdout : (root : Packed) (old new : List Recorded) (r : Recorded) (result : Result Taken OfferFault) → IsHoldout old r.table → result ≡ Ok Known
-    → OfferGives root old r result new → SettlesOrStays old r false new
-known_holdout root old new r result holdout is gives =
-    let known : OfferGives root old r (Ok Known) new = subst (λ (x : Result Taken OfferFault). OfferGives root old r x new) is gives in (
-      elim known.0.is [
-        | inl verdict ↦ absurd (subst IsVerdict holdout verdict)
-        | inr later ↦ later.1
-      ],
-      known.1,
-    )
+  pub known_holdout : IsHoldout old r.table → result ≡ Ok Known → SettlesOrStays format r false old lines new new_lines
+  known_holdout holdout is =
+      let known : OfferGives root old r (Ok Known) new = subst (λ (x : Result Taken OfferFault). OfferGives root old r x new) is gives in (
+        elim known.0.is [
+          | inl verdict ↦ absurd (subst IsVerdict holdout verdict)
+          | inr later ↦ later.1
+        ],
+        known.1,
+      )
 
 -- what its offer changes
 pub changes_settled : (format : Format) (o : Option Ending) (r : Recorded) (old new : List Recorded) (before after : Option (List ℕ)) → IsSome o

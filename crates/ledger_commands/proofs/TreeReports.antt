@@ -29,7 +29,7 @@ use Rattle.ledger.specs.declared.status.Status.TheVariants.{Working, Holdouts, C
 use Rattle.ledger.proofs.Apart.{first_member}
 use Rattle.ledger.proofs.Sets.{nobody}
 use Rattle.ledger.proofs.WholeTree.{board_marks, as_many, whole_tally, whole_champions, whole_ones_champions, one_tally, one_list_of_champions, one_list_of_ones_champions}
-use Rattle.ledger_commands.specs.Report.{IsReport, status_name, report_line, table_lines, greatest_text, counts_text, report_text}
+use Rattle.ledger_commands.specs.Report.{IsReport, status_name, line_of, table_lines, greatest_text, counts_text, report_text}
 use Rattle.ledger_commands.specs.TreeReport.{IsTreeReport, TellsRado}
 
 -- where no table is of a kind, none is listed, and there are none
@@ -59,8 +59,8 @@ tree_report b text board complete r =
       counted = whole_tally b r.tally board complete r.counted;
       are_champions = whole_champions b r.tally.best r.champions board complete r.are_champions;
       are_ones_champions = whole_ones_champions b r.tally.ones r.ones_champions board complete r.are_ones_champions;
-      is = r.is ∙ (ap (λ name. report_line (codes "root") (text_of b.root) ++ report_line (codes "status") name ++ counts_text r.tally
-          ++ table_lines (codes "champion") r.champions ++ report_line (codes "ones") (greatest_text r.tally.ones)
+      is = r.is ∙ (ap (λ name. line_of (codes "root") (text_of b.root) ++ line_of (codes "status") name ++ counts_text r.tally
+          ++ table_lines (codes "champion") r.champions ++ line_of (codes "ones") (greatest_text r.tally.ones)
           ++ table_lines (codes "ones_champion") r.ones_champions ++ table_lines (codes "holdout") r.holdouts) status
           ∙ ap (λ hs. report_text b.root (Complete r.tally.best r.tally.ones) r.tally r.champions r.ones_champions hs) holdouts);
     }

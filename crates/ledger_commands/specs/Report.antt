@@ -10,8 +10,8 @@ use Rattle.ledger.specs.declared.status.Status.{Status}
 use Rattle.ledger.specs.declared.status.Status.TheVariants.{Working, Holdouts, Complete}
 
 -- a line of a name and a value
-abbrev pub report_line : List ℕ → List ℕ → List ℕ
-report_line name value = name ++ codes " " ++ value ++ 10 ∷ []
+abbrev pub line_of : List ℕ → List ℕ → List ℕ
+line_of name value = name ++ codes " " ++ value ++ 10 ∷ []
 
 abbrev pub status_name : Status → List ℕ
 status_name (Working count) = codes "working"
@@ -25,26 +25,26 @@ greatest_text (Some k) = decimal k
 
 -- a line for each table
 abbrev pub table_lines : List ℕ → List Packed → List ℕ
-table_lines name tables = flat_map (λ t. report_line name (text_of t)) tables
+table_lines name tables = flat_map (λ t. line_of name (text_of t)) tables
 
 abbrev pub verdicts_text : Tally → List ℕ
 verdicts_text tally =
-    report_line (codes "nodes") (decimal tally.nodes)
-    ++ report_line (codes "halting") (decimal tally.halting)
-    ++ report_line (codes "never") (decimal tally.never)
+    line_of (codes "nodes") (decimal tally.nodes)
+    ++ line_of (codes "halting") (decimal tally.halting)
+    ++ line_of (codes "never") (decimal tally.never)
 
 abbrev pub counts_text : Tally → List ℕ
 counts_text tally =
     verdicts_text tally
-    ++ report_line (codes "holdouts") (decimal tally.holdouts)
-    ++ report_line (codes "open") (decimal tally.open_count)
-    ++ report_line (codes "best") (greatest_text tally.best)
+    ++ line_of (codes "holdouts") (decimal tally.holdouts)
+    ++ line_of (codes "open") (decimal tally.open_count)
+    ++ line_of (codes "best") (greatest_text tally.best)
 
 -- the lines before those of the tables
 abbrev pub head_text : Packed → Status → Tally → List ℕ
 head_text root status tally =
-    report_line (codes "root") (text_of root)
-    ++ report_line (codes "status") (status_name status)
+    line_of (codes "root") (text_of root)
+    ++ line_of (codes "status") (status_name status)
     ++ counts_text tally
 
 -- behind the champions stand the greatest score and the champions by scores, and then the holdouts
@@ -52,7 +52,7 @@ abbrev pub report_text : Packed → Status → Tally → List Packed → List Pa
 report_text root status tally champions ones_champions holdouts =
     head_text root status tally
     ++ table_lines (codes "champion") champions
-    ++ report_line (codes "ones") (greatest_text tally.ones)
+    ++ line_of (codes "ones") (greatest_text tally.ones)
     ++ table_lines (codes "ones_champion") ones_champions
     ++ table_lines (codes "holdout") holdouts
 

@@ -8,7 +8,7 @@ use Rattle.ledger.specs.Contents.{Contents}
 use Rattle.ledger.specs.Held.{IsHoldout, Settles, settled}
 use Rattle.ledger.specs.LedgerText.{IsLedgerOf}
 use Rattle.ledger.specs.Tally.{AreAll}
-use Rattle.ledger.specs.Versions.{line_of}
+use Rattle.ledger.specs.Versions.{ledger_line}
 use Rattle.ledger.specs.declared.format.Format.{Format}
 use Rattle.wire.specs.Device.{grown}
 
@@ -16,15 +16,19 @@ use Rattle.wire.specs.Device.{grown}
 abbrev pub StaysInStep : Contents → Option (List ℕ) → Contents → Option (List ℕ) → Type 0
 StaysInStep old before new after = IfSome before (IsLedgerOf old) → IfSome after (IsLedgerOf new)
 
--- whether a record for a holdout is taken, with its score, as it is where it has a verdict; where it isn't, the records stay
--- as they were
-abbrev pub SettlesOrStays : List Recorded → Recorded → Bool → List Recorded → Type 0
-SettlesOrStays old r true new = Settles old r × (new ≡ settled old (with_score r))
-SettlesOrStays old r false new = (ending_by r.claim ≡ None) × (new ≡ old)
+-- the line of a record that a ledger gains, with its score in version 2
+abbrev pub gained : Format → Recorded → List ℕ
+gained format r = ledger_line format (with_score r) ++ (10 ∷ [])
 
--- a ledger's text, where it is known, with the line of a record behind it, in the ledger's version
+-- whether a record for a holdout is taken, as it is where it has a verdict: it stands in the holdout's place with its
+-- score, and its line is appended; where it isn't taken, the records stay as they were
+abbrev pub SettlesOrStays : Format → Recorded → Bool → List Recorded → List ℕ → List Recorded → List ℕ → Type 0
+SettlesOrStays format r true old lines new new_lines = Settles old r × (new ≡ settled old (with_score r)) × (new_lines ≡ lines ++ gained format r)
+SettlesOrStays format r false old lines new new_lines = (ending_by r.claim ≡ None) × (new ≡ old)
+
+-- a ledger's text, where it is known, with the line of a record behind it
 abbrev pub with_line : Format → Recorded → Option (List ℕ) → Option (List ℕ)
-with_line format r text = grown text (line_of format (with_score r) ++ (10 ∷ []))
+with_line format r text = grown text (gained format r)
 
 -- by the verdict that is shown for a holdout: where there is none nothing changes; else the record stands in the holdout's
 -- place, with its score, and its line is appended

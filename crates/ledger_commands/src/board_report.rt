@@ -7,7 +7,7 @@ ghost use Rattle.machine_text.specs.Text.{text_of};
 ghost use Rattle.tree.specs.Closed.{IsComplete};
 ghost use Rattle.ledger.specs.Records.{mark_in};
 ghost use Rattle.ledger_commands.specs.TreeReport.{IsTreeReport, TellsRado};
-ghost use Rattle.ledger_commands.specs.Report.{IsReport, report_line, table_lines, status_name, greatest_text, verdicts_text, counts_text, head_text, report_text};
+ghost use Rattle.ledger_commands.specs.Report.{IsReport, line_of, table_lines, status_name, greatest_text, verdicts_text, counts_text, head_text, report_text};
 
 use evidence::NoMemory;
 use ledger::{Board, Status, Tally};
@@ -104,7 +104,7 @@ fn append_verdict_counts(tally: &Tally, out: &mut Vec<u8>) -> Result<(), NoMemor
 
 /// Appends the line of a greatest number; where memory is refused, a beginning of it.
 pub(crate) fn append_greatest(name: &[u8], greatest: Option<u64>, out: &mut Vec<u8>) -> Result<(), NoMemory>
-    ensures ok { OnOk result (out.new.items ≡ out.old.items ++ report_line name.now (greatest_text greatest)) }
+    ensures ok { OnOk result (out.new.items ≡ out.old.items ++ line_of name.now (greatest_text greatest)) }
     ensures kept { take (length out.old.items) out.new.items ≡ out.old.items }
 {
     match greatest {
@@ -126,7 +126,7 @@ fn append_tables(name: &[u8], tables: IntoIter<Table>, out: &mut Vec<u8>) -> Res
 
 // Appends a line of a table.
 fn append_table_line(name: &[u8], t: &Table, out: &mut Vec<u8>) -> Result<(), NoMemory>
-    ensures ok { OnOk result (out.new.items ≡ out.old.items ++ report_line name.now (text_of t.now)) }
+    ensures ok { OnOk result (out.new.items ≡ out.old.items ++ line_of name.now (text_of t.now)) }
     ensures kept { take (length out.old.items) out.new.items ≡ out.old.items }
 {
     let mut buf = [0; TEXT_BYTES];
@@ -135,7 +135,7 @@ fn append_table_line(name: &[u8], t: &Table, out: &mut Vec<u8>) -> Result<(), No
 
 // Appends a line of a number.
 fn append_count(name: &[u8], n: u64, out: &mut Vec<u8>) -> Result<(), NoMemory>
-    ensures ok { OnOk result (out.new.items ≡ out.old.items ++ report_line name.now (decimal n)) }
+    ensures ok { OnOk result (out.new.items ≡ out.old.items ++ line_of name.now (decimal n)) }
     ensures kept { take (length out.old.items) out.new.items ≡ out.old.items }
 {
     out.extend_from_slice(name)?;
@@ -146,7 +146,7 @@ fn append_count(name: &[u8], n: u64, out: &mut Vec<u8>) -> Result<(), NoMemory>
 
 // Appends a line.
 fn append_line(name: &[u8], value: &[u8], out: &mut Vec<u8>) -> Result<(), NoMemory>
-    ensures ok { OnOk result (out.new.items ≡ out.old.items ++ report_line name.now value.now) }
+    ensures ok { OnOk result (out.new.items ≡ out.old.items ++ line_of name.now value.now) }
     ensures kept { take (length out.old.items) out.new.items ≡ out.old.items }
 {
     out.extend_from_slice(name)?;

@@ -3,7 +3,7 @@ ghost use Rattle.std.specs.Prelude.{◌≡◌, ◌++◌, List, ℕ, IfOk, OnOk};
 ghost use Rattle.std.specs.Vec.Iter.{into_iter_items};
 ghost use Rattle.std.specs.Io.KnownBytes.{Appends};
 ghost use Rattle.machine_text.specs.Text.{text_of};
-ghost use Rattle.ledger_commands.specs.Report.{report_line, table_lines};
+ghost use Rattle.ledger_commands.specs.Report.{line_of, table_lines};
 ghost use Rattle.ledger_commands.specs.LedgerReport.{IsLines, left_text};
 ghost use Rattle.ledger_commands.specs.Passing.{Passes, bytes_of_lines};
 
@@ -98,7 +98,7 @@ fn pass_line<W: Write>(
     piece: &mut Vec<u8>,
     answers: &mut W,
 ) -> io::Result<()>
-    ensures { OnOk result (Passes (W.contents answers.old) piece.old.items (W.contents answers.new) piece.new.items (report_line name.now (text_of t.now))) }
+    ensures { OnOk result (Passes (W.contents answers.old) piece.old.items (W.contents answers.new) piece.new.items (line_of name.now (text_of t.now))) }
 {
     let mut buf = [0; TEXT_BYTES];
     pass(name, piece, answers)?;

@@ -1,14 +1,12 @@
 // `bb retry`: the holdouts of a ledger are tried again.
-ghost use Rattle.std.specs.Prelude.{◌≡◌, ◌++◌, ◌∷◌, [], IfOk, IfSome, OnOk};
+ghost use Rattle.std.specs.Prelude.{◌≡◌, IfOk, IfSome, OnOk};
 ghost use Rattle.cert.specs.Certified.{IsCertified};
 ghost use Rattle.cert.specs.Claim.{ending_by};
 ghost use Rattle.cert.specs.Kinds.{recorded};
-ghost use Rattle.cert.specs.Scored.{with_score};
 ghost use Rattle.ledger.specs.Held.{IsHoldout};
 ghost use Rattle.ledger.specs.Contents.{Contents};
 ghost use Rattle.ledger.specs.LedgerText.{IsLedgerOf, ReadsIn};
 ghost use Rattle.ledger.specs.Tally.{IsStatus};
-ghost use Rattle.ledger.specs.Versions.{line_of};
 ghost use Rattle.ledger.specs.declared.status.Status.{Status as BoardStatus};
 ghost use Rattle.ledger_commands.specs.LedgerReport.{outcome_by};
 ghost use Rattle.ledger_commands.specs.Retry.{SettlesOrStays, StaysInStep, AtSomeTime, ChangesBy, IsTried, AreRetried};
@@ -18,7 +16,6 @@ use crate::ledger_report::outcome_by;
 use crate::reading::{Opened, Stopped, load_from};
 use crate::report_form::{AsLines, write_report};
 use cert::{Decider, Record};
-use evidence::NoMemory;
 use ledger::{Board, Left, Taken, kept_bytes_load};
 use machine_text::Table;
 use options::{Ended, Outcome};
@@ -157,34 +154,23 @@ fn take<L: LedgerOut>(
 {
     // The proof needs that it is a board.
     let _ = board.root();
-    let line = scored_line(alloc, board, r)?;
-    if !gains(board, r)? {
+    let mut line = Vec::new(alloc);
+    if !gains(board, r, &mut line)? {
         return Ok(());
     }
-    append_to(ledger, &line)?;
-    Ok(())
+    append_to(ledger, &line)
 }
 
-// The line of a certified record with its score, in the version of a board's ledger.
-fn scored_line(alloc: Global, board: &Board, r: &Record) -> Result<Vec<u8>, NoMemory>
-    requires { IsCertified (recorded r.now) }
-    ensures { IfOk result (λ line. line.items ≡ line_of board.now.format (with_score (recorded r.now)) ++ (10 ∷ [])) }
-{
-    let scored = r.scored(alloc)?;
-    let mut line = Vec::new(alloc);
-    board.append_line(&scored, &mut line)?;
-    Ok(line)
-}
-
-// Offers a certified record of a holdout, and answers whether it is taken.
-fn gains(board: &mut Board, r: &Record) -> Result<bool, Ended>
+// Offers a certified record of a holdout, and answers whether it is taken. Where it is, its line is appended, with its
+// score in version 2.
+fn gains(board: &mut Board, r: &Record, line: &mut Vec<u8>) -> Result<bool, Ended>
     requires holdout { IsHoldout board.old.records (recorded r.now).table }
     requires certified { IsCertified (recorded r.now) }
     ensures root { board.new.root ≡ board.old.root }
     ensures format { board.new.format ≡ board.old.format }
-    ensures ok { IfOk result (λ gained. SettlesOrStays board.old.records (recorded r.now) gained board.new.records) }
+    ensures ok { IfOk result (λ gained. SettlesOrStays board.old.format (recorded r.now) gained board.old.records line.old.items board.new.records line.new.items) }
 {
-    match board.offer_certified(r) {
+    match board.offer_certified_line(r, line) {
         Ok(Taken::Settled) => Ok(true),
         // for an open table alone
         Ok(Taken::New) => Ok(true),

@@ -2,7 +2,7 @@ use Rattle.std.proofs.Common.{List, [], ◌++◌, sym, ap, ◌∙◌, append_ass
 use Rattle.std.specs.Vec.Iter.{into_iter_items}
 use Rattle.machine_text.specs.Packed.{Packed}
 use Rattle.machine_text.specs.Text.{text_of}
-use Rattle.ledger_commands.specs.Report.{report_line, table_lines}
+use Rattle.ledger_commands.specs.Report.{line_of, table_lines}
 use Rattle.ledger_commands.proofs.Passing.{only_appended, passes_on}
 use Rattle.ledger_commands.proofs.report_writer.pass_tables.Goals as goal
 
@@ -16,7 +16,7 @@ loop-table-init g c = (
 pub loop-table-preserved : goal.loop-table-preserved
 loop-table-preserved g c =
     let before = c.loop-table.invariant in
-    let line = report_line c.args.name.now (text_of c.in-Some.table) in (
+    let line = line_of c.args.name.now (text_of c.in-Some.table) in (
       before.0 ++ line,
       passes_on before.1 c.in_ok-pass_line.ensures,
       append_assoc before.0 line (table_lines c.args.name.now (into_iter_items c.next.new.self))

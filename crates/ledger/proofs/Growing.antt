@@ -10,8 +10,8 @@ use Rattle.cert.specs.Scored.{with_score}
 use Rattle.cert.proofs.Scores.{score_certified}
 use Rattle.ledger.specs.Contents.{Contents, IsBoard}
 use Rattle.text.specs.Lines.{joined}
-use Rattle.ledger.specs.Versions.{header_words, ledger_record, as_written, ledger_line}
-use Rattle.ledger.specs.LedgerText.{IsTaken, AreTaken, ReadsAs, ReadsIn, IsLedgerOf}
+use Rattle.ledger.specs.Versions.{header_words, as_written, ledger_line}
+use Rattle.ledger.specs.LedgerText.{IsTaken, ReadsAs, ReadsIn, IsLedgerOf}
 use Rattle.ledger.specs.declared.format.Format.{Format}
 use Rattle.ledger.specs.declared.left.Left.TheVariants.{Nothing, From}
 use Rattle.ledger.specs.declared.left.Unkept.{Unkept}

@@ -1,11 +1,10 @@
 -- The line of a record that is held reads, in its version, as a record that is held as that one is.
-use Rattle.std.proofs.Common.{◌≡◌, ℕ, Bool, true, false, cond, is_some, List, [], ◌∷◌, ◌++◌, Option, Some, None, Result, Ok, Err, ◌⊎◌, inl, inr, IsSome, refl, sym, ap, ◌∙◌, subst}
+use Rattle.std.proofs.Common.{◌≡◌, ℕ, Bool, true, false, cond, List, [], ◌∷◌, ◌++◌, Ok, Err, ◌⊎◌, inl, inr, IsSome, refl, sym, ap, ◌∙◌, subst}
 use Rattle.machine_text.specs.Packed.{Packed, IsTable}
-use Rattle.evidence.specs.declared.verdicts.Ending.{Ending}
 use Rattle.cert.specs.Claim.{Claim, HaltsClaim, CycleClaim, TranslatedClaim, BackwardClaim, NgramClaim, FarClaim, NoClaim, Recorded, ending_by, score_by}
 use Rattle.cert.specs.Certified.{IsCertified}
 use Rattle.cert.specs.Grammar.{record_text, record_of}
-use Rattle.cert.specs.Scored.{scored, unscored, with_score, without_score}
+use Rattle.cert.specs.Scored.{scored, unscored, with_score}
 use Rattle.cert.specs.declared.record_fault.RecordFault.{RecordFault}
 use Rattle.cert.specs.declared.record_fault.RecordFault.TheVariants.{BadKind}
 use Rattle.cert.proofs.Lines.{record_line, certified_writable, certified_made}

@@ -3,7 +3,6 @@ pub mod Held
 pub mod Versions
 pub mod Contents
 pub mod Offers
-pub mod GainedLine
 pub mod Lent
 pub mod Tally
 pub mod Bounds

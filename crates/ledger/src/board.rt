@@ -310,7 +310,8 @@ impl Board {
         }
     }
 
-    /// The recorded verdict on a table, which is true of it, with its score where it halts; none where there is none, as for a holdout.
+    /// The recorded verdict on a table, which is true of it, with its score where it halts; none where there is none, as
+    /// for a holdout.
     pub fn verdict(&self, t: &Table) -> Option<Verdict>
         ensures recorded { result ≡ verdict_in self.now.records t.now }
         ensures is_true { IfSome result (λ v. IsTrueOf v (entry_of t.now)) }

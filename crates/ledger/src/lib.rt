@@ -1,7 +1,8 @@
 //! Boards: the records held of a tree's tables, from its root.
 //!
 //! A board holds a record only where its table was open, and where its certificate stands: so each verdict
-//! on it is true, whatever calls made it. `specs/Records` says what a list of records says of a table, and
+//! on it is true, whatever calls made it. A record of a table that halts is held with the table's score, also where it
+//! is offered without one. `specs/Records` says what a list of records says of a table, and
 //! `specs/Held` which lists a board may hold.
 //!
 //! A board's ledger is a text: a header with its version and the root, and a line for each record.

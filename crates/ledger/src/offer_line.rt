@@ -5,7 +5,7 @@ ghost use Rattle.cert.specs.Certified.{IsCertified};
 ghost use Rattle.cert.specs.Kinds.{recorded};
 ghost use Rattle.ledger.specs.Records.{mark_in};
 ghost use Rattle.ledger.specs.Offers.{IsJudged, OfferGives};
-ghost use Rattle.ledger.specs.GainedLine.{gained_line};
+ghost use Rattle.ledger.specs.LedgerText.{gained_line};
 ghost use Rattle.ledger.specs.inside.Places.{IsJudgedSo};
 
 use crate::board::Board;

@@ -49,27 +49,27 @@ grows_in b text r new board reads taken =
     let certified = score_certified r (taken_certified b.root b.records r new taken) in
     let whole = reads.keeps.is ∙ ap (λ (l : List ℕ). joined lines ++ l) reads.keeps.ends ∙ append-nil (joined lines) in
     record {
-     reads = record {
-      body = reads.body ++ more;
-      header = record {
-        format = format;
-        name = reads.header.name;
-        line = record {
-          is = ap (λ (l : List ℕ). l ++ more) reads.header.line.is ∙ append_assoc (header_words format ++ reads.header.name) (10 ∷ reads.body) more;
-          one_line = reads.header.line.one_line;
+      reads = record {
+        body = reads.body ++ more;
+        header = record {
+          format = format;
+          name = reads.header.name;
+          line = record {
+            is = ap (λ (l : List ℕ). l ++ more) reads.header.line.is ∙ append_assoc (header_words format ++ reads.header.name) (10 ∷ reads.body) more;
+            one_line = reads.header.line.one_line;
+          };
+          reads = reads.header.reads;
         };
-        reads = reads.header.reads;
+        keeps = record {
+          lines = lines ++ (line ∷ []);
+          rest = [];
+          is = ap (λ (l : List ℕ). l ++ more) whole ∙ sym (joined-append lines (line ∷ [])) ∙ sym (append-nil (joined (lines ++ (line ∷ []))));
+          taken = taken_more format b.root [] b.records new lines line (as_written format held) reads.keeps.taken (one_line format held table certified)
+              (reads_back format held table certified (scored_has r)) (taken_held format b.root b.records r new taken);
+          ends = refl;
+        };
       };
-      keeps = record {
-        lines = lines ++ (line ∷ []);
-        rest = [];
-        is = ap (λ (l : List ℕ). l ++ more) whole ∙ sym (joined-append lines (line ∷ [])) ∙ sym (append-nil (joined (lines ++ (line ∷ []))));
-        taken = taken_more format b.root [] b.records new lines line (as_written format held) reads.keeps.taken (one_line format held table certified)
-            (reads_back format held table certified (scored_has r)) (taken_held format b.root b.records r new taken);
-        ends = refl;
-      };
-     };
-     version = refl;
+      version = refl;
     }
 
 pub grows : (b : Contents) (text : List ℕ) (r : Recorded) (new : List Recorded) → IsBoard b → IsLedgerOf b text → IsTaken b.root b.records r new

@@ -55,7 +55,7 @@ pub use header::peek_root;
 pub use laws::{
     answered_records_are_held, beginnings_load, complete_boards_hold_the_tree, complete_is_final,
     kept_bytes_load, ledgers_grow, ledgers_load_whole, ledgers_read_as_one, ledgers_read_longest,
-    merges_agree, offers_are_held, trees_are_told_once,
+    merges_agree, offers_are_held, trees_are_told_once, versions_read_apart,
 };
 pub use left::{Left, Unkept};
 pub use loader::Loader;

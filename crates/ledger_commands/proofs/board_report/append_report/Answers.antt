@@ -16,7 +16,7 @@ returns-clause-ok c =
     let holdouts = into_iter_items c.in_ok-champions.holdouts in
     let head : c.append_head.new.out.items ≡ old ++ head_text root status tally =
     c.in_ok-append_head.ensures.ok ∙ ap (λ (t : Packed). old ++ head_text t status tally) c.root.ensures.root in
-    let first = one_more (one_more head c.in_ok-append_tables.ensures.ok) c.in_ok-append_greatest.ensures.ok in
+    let first = one_more _ _ _ (one_more _ _ _ head c.in_ok-append_tables.ensures.ok) c.in_ok-append_greatest.ensures.ok in
     on_ok c.append_tables-3.result (λ last. (
       report_text root status tally champions ones_champions holdouts,
       record {
@@ -32,5 +32,5 @@ returns-clause-ok c =
         are_holdouts = c.in_ok-champions.ensures.holdouts;
         is = refl;
       },
-      one_more (one_more first c.in_ok-append_tables-2.ensures.ok) last,
+      one_more _ _ _ (one_more _ _ _ first c.in_ok-append_tables-2.ensures.ok) last,
     )) c.append_tables-3.ensures.ok

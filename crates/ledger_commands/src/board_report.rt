@@ -103,7 +103,11 @@ fn append_verdict_counts(tally: &Tally, out: &mut Vec<u8>) -> Result<(), NoMemor
 }
 
 /// Appends the line of a greatest number; where memory is refused, a beginning of it.
-pub(crate) fn append_greatest(name: &[u8], greatest: Option<u64>, out: &mut Vec<u8>) -> Result<(), NoMemory>
+pub(crate) fn append_greatest(
+    name: &[u8],
+    greatest: Option<u64>,
+    out: &mut Vec<u8>,
+) -> Result<(), NoMemory>
     ensures ok { OnOk result (out.new.items ≡ out.old.items ++ line_of name.now (greatest_text greatest)) }
     ensures kept { take (length out.old.items) out.new.items ≡ out.old.items }
 {

@@ -58,7 +58,11 @@ pub(crate) fn outcome_of_left(left: &Left) -> Outcome {
 }
 
 // Makes a ledger hold a board's ledger, and nothing else.
-pub(crate) fn write_whole<L: LedgerOut>(alloc: Global, board: &Board, ledger: &mut L) -> Result<(), Ended>
+pub(crate) fn write_whole<L: LedgerOut>(
+    alloc: Global,
+    board: &Board,
+    ledger: &mut L,
+) -> Result<(), Ended>
     ensures ok { OnOk result (L.text ledger.new ≡ rewritten board.now (L.text ledger.old)) }
     ensures err { IfErr result (λ e. ((e ≡ Ended.NoMemory) × (ledger.new ≡ ledger.old)) ⊎ (e ≡ Ended.Ledger)) }
 {

@@ -1,6 +1,5 @@
 use Rattle.std.proofs.Common.{ℕ, List, subst}
 use Rattle.std.specs.Prelude.{IfSome}
-use Rattle.ledger.specs.Contents.{Contents}
 use Rattle.ledger.specs.LedgerText.{ReadsIn}
 use Rattle.ledger.specs.declared.left.Left.{Left}
 use Rattle.ledger_commands.proofs.Reports.{on_ok}

@@ -22,7 +22,7 @@ pub(crate) fn made_beside<H: Host>(
     read: &[&str],
 ) -> Result<Option<String>, NoMemory> {
     let beside = path_beside(alloc, out)?;
-    let is_read = read.iter().any(|path| beside == **path);
+    let is_read = read.iter().any(|path| beside.as_str() == *path);
     // Nothing is lost at either path by that.
     if !is_read && host.is_replaceable(out) && host.is_replaceable(&beside) {
         Ok(Some(beside))
@@ -58,7 +58,11 @@ pub(crate) fn outcome_of_left(left: &Left) -> Outcome {
 }
 
 // Makes a ledger hold a board's ledger, and nothing else.
-pub(crate) fn write_whole<L: LedgerOut>(alloc: Global, board: &Board, ledger: &mut L) -> Result<(), Ended>
+pub(crate) fn write_whole<L: LedgerOut>(
+    alloc: Global,
+    board: &Board,
+    ledger: &mut L,
+) -> Result<(), Ended>
     ensures ok { OnOk result (L.text ledger.new ≡ rewritten board.now (L.text ledger.old)) }
     ensures err { IfErr result (λ e. ((e ≡ Ended.NoMemory) × (ledger.new ≡ ledger.old)) ⊎ (e ≡ Ended.Ledger)) }
 {

@@ -56,7 +56,10 @@ impl<H: Host> LedgerSource for AtPath<'_, H> {
 }
 
 // The board of a ledger, and what of it wasn't kept.
-pub(crate) fn load_source<S: LedgerSource>(alloc: Global, source: &S) -> Result<(Board, Left), Ended>
+pub(crate) fn load_source<S: LedgerSource>(
+    alloc: Global,
+    source: &S,
+) -> Result<(Board, Left), Ended>
     ensures ok { IfOk result (λ l. IsLoaded (S.reads source.now) (Ok l)) }
     ensures err { IfErr result (λ e. IsLoaded (S.reads source.now) (Err e)) }
 {

@@ -1,10 +1,13 @@
 -- Lines that are taken one after another.
-use Rattle.std.proofs.Common.{◌≡◌, ℕ, ◌+◌, ◌≤◌, List, [], ◌∷◌, ◌++◌, length, Ok, refl, sym, ap, ◌∙◌, subst, arith, length-append, append_assoc}
+use Rattle.std.proofs.Common.{◌≡◌, ◌≢◌, ℕ, ◌+◌, ◌≤◌, List, [], ◌∷◌, ◌++◌, length, Some, Ok, Err, refl, sym, ap, ◌∙◌, subst, arith, length-append, append_assoc}
 use Rattle.machine_text.specs.Packed.{Packed}
 use Rattle.cert.specs.Claim.{Recorded}
 use Rattle.ledger.specs.Versions.{header_words, ledger_record}
 use Rattle.text.specs.Lines.{joined, HasNoNewline, BeginsWithLine}
-use Rattle.ledger.specs.LedgerText.{IsTaken, AreTaken, IsUnkeptLine, IsUnkept, HasHeader}
+use Rattle.ledger.specs.LedgerText.{IsTaken, AreTaken, IsUnkeptLine, IsUnkept, LineGives, HasHeader}
+use Rattle.ledger.specs.Offers.{OfferGives}
+use Rattle.ledger.specs.declared.faults.OfferFault.{OfferFault}
+use Rattle.ledger.specs.declared.faults.OfferFault.TheVariants.{WrongSize, NotOpen, Refused as IsRefused, NoMemory}
 use Rattle.ledger.specs.declared.format.Format.{Format}
 use Rattle.ledger.specs.declared.left.Unkept.{Unkept}
 use Rattle.ledger.specs.declared.left.Unkept.TheVariants.{Torn, Unread, Unfit, Repeated}
@@ -29,6 +32,20 @@ unkept format root rs rest line after Torn begins is = absurd is
 unkept format root rs rest line after (Unread f) begins is = (line, after, begins, is)
 unkept format root rs rest line after (Unfit f) begins is = (line, after, begins, is)
 unkept format root rs rest line after Repeated begins is = (line, after, begins, is)
+
+-- an offer that is refused leaves the records
+refused_keeps : (root : Packed) (old new : List Recorded) (r : Recorded) (f : OfferFault) → OfferGives root old r (Err f) new → new ≡ old
+refused_keeps root old new r WrongSize gives = gives.1
+refused_keeps root old new r NotOpen gives = gives.2
+refused_keeps root old new r (IsRefused f) gives = gives.2
+refused_keeps root old new r NoMemory gives = gives.1
+
+-- so a line whose record is refused isn't kept
+pub unfit_line : (format : Format) (root : Packed) (old new : List Recorded) (line : List ℕ) (r : Recorded) (f : OfferFault) → f ≢ NoMemory → ledger_record format line ≡ Ok r
+    → OfferGives root old r (Err f) new → LineGives format root old line (Some (Unfit f)) new
+unfit_line format root old new line r f apart reads gives =
+    let same = refused_keeps root old new r f gives in
+    ((apart, (r, reads, subst (λ (l : List Recorded). OfferGives root old r (Err f) l) same gives)), same)
 
 -- a header is longer than two bytes
 pub behind_header : (text : List ℕ) (root : Packed) (body : List ℕ) → HasHeader text root body → length body + 2 ≤ length text

@@ -99,10 +99,10 @@ some_steps (Some k) best e = let same : k ≡ best = cc in (Decides-eqb k best).
 pub ones_listed : (best : ℕ) (rs : List Recorded) → AreApart rs → All HasScore rs → (t : Packed) → Contains (map (λ (r : Recorded). r.table) (filter (is_ones_champion best) rs)) t ↔ HasOnes rs best t
 ones_listed best rs apart all t = kind_listed (HasOnes rs best) (is_ones_champion best) rs
     (λ r at pass.
-        let w = claimed_score r.table r.claim best (claim_has r (All-contains HasScore rs r all at)) (steps_some (score_by r.claim) best pass) in
-        (w.0, member_marked rs r apart at ∙ ap (λ (o : Option Ending). Some (mark_by o)) w.1, w.2))
+    let w = claimed_score r.table r.claim best (claim_has r (All-contains HasScore rs r all at)) (steps_some (score_by r.claim) best pass) in
+    (w.0, member_marked rs r apart at ∙ ap (λ (o : Option Ending). Some (mark_by o)) w.1, w.2))
     (λ q has.
-        let w = marked_member rs q (Halting has.0) has.1 in
-        let score = score_claimed w.0.table w.0.claim has.0 (claim_has w.0 (All-contains HasScore rs w.0 all w.1)) (stopping_verdict (ending_by w.0.claim) has.0 w.2) in
-        let same = subst (λ (p : Packed). best ≡ score_at (entry_of p) has.0) (sym w.3) has.2 in
-        (w.0, w.1, some_steps (score_by w.0.claim) best (score ∙ ap (λ (n : ℕ). Some n) (sym same)), w.3)) t
+    let w = marked_member rs q (Halting has.0) has.1 in
+    let score = score_claimed w.0.table w.0.claim has.0 (claim_has w.0 (All-contains HasScore rs w.0 all w.1)) (stopping_verdict (ending_by w.0.claim) has.0 w.2) in
+    let same = subst (λ (p : Packed). best ≡ score_at (entry_of p) has.0) (sym w.3) has.2 in
+    (w.0, w.1, some_steps (score_by w.0.claim) best (score ∙ ap (λ (n : ℕ). Some n) (sym same)), w.3)) t

@@ -1,5 +1,5 @@
 -- The line of a record that is held reads, in its version, as a record that is held as that one is.
-use Rattle.std.proofs.Common.{◌≡◌, ℕ, Bool, true, cond, is_some, List, [], ◌∷◌, ◌++◌, Option, Some, None, Result, Ok, Err, ◌⊎◌, inl, inr, IsSome, refl, sym, ap, ◌∙◌, subst}
+use Rattle.std.proofs.Common.{◌≡◌, ℕ, Bool, true, false, cond, is_some, List, [], ◌∷◌, ◌++◌, Option, Some, None, Result, Ok, Err, ◌⊎◌, inl, inr, IsSome, refl, sym, ap, ◌∙◌, subst}
 use Rattle.machine_text.specs.Packed.{Packed, IsTable}
 use Rattle.evidence.specs.declared.verdicts.Ending.{Ending}
 use Rattle.cert.specs.Claim.{Claim, HaltsClaim, CycleClaim, TranslatedClaim, BackwardClaim, NgramClaim, FarClaim, NoClaim, Recorded, ending_by, score_by}
@@ -68,6 +68,23 @@ pub one_line : (format : Format) (r : Recorded) → IsTable r.table → IsCertif
 one_line format r table certified =
     let w = as_written format r in
     record_line w (written_table format r table) (certified_writable w (written_certified format r certified))
+
+-- a line of which the record that it is read as may stand there, or not
+module _ (format : Format) (line : List ℕ) (r : Recorded) (reads : Ok r ≡ record_of line) (b : Bool) (is : b ≡ may_stand format (ending_by r.claim) (score_by r.claim)) where
+  by_test : standing_record format (Ok r) ≡ standing_record format (record_of line)
+  by_test = ap (standing_record format) reads
+
+  pub line_stands : b ≡ true → Ok r ≡ ledger_record format line
+  unfolding ledger_record
+  line_stands holds = sym (ap (λ (v : Bool). cond v (Ok r) (Err BadKind)) (sym is ∙ holds)) ∙ by_test
+
+  pub line_unfit : b ≡ false → Err BadKind ≡ ledger_record format line
+  unfolding ledger_record
+  line_unfit fails = sym (ap (λ (v : Bool). cond v (Ok r) (Err BadKind)) (sym is ∙ fails)) ∙ by_test
+
+pub line_unread : (format : Format) (line : List ℕ) (f : RecordFault) → Err f ≡ record_of line → Err f ≡ ledger_record format line
+unfolding ledger_record
+line_unread format line f reads = ap (standing_record format) reads
 
 -- what is fit, or settles, is so as it is written
 fit_written : (format : Format) (root : Packed) (old : List Recorded) (r : Recorded) → IsFit root old r → IsFit root old (as_written format r)

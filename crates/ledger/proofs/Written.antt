@@ -1,5 +1,5 @@
 -- The ledger of a board reads as its records.
-use Rattle.std.proofs.Common.{◌≡◌, ◌≢◌, ℕ, ◌+◌, List, [], ◌∷◌, ◌++◌, map, inl, refl, sym, ap, subst, arith, append_assoc, append-nil}
+use Rattle.std.proofs.Common.{◌≡◌, ◌≢◌, ℕ, List, [], ◌∷◌, ◌++◌, map, inl, refl, sym, ap, subst, arith, append_assoc, append-nil}
 use Rattle.std.specs.List.{All}
 use Rattle.std.proofs.lemmas.List.Elements.{All-append, All-nil}
 use Rattle.machine_text.specs.Packed.{Packed, IsTable}
@@ -16,6 +16,7 @@ use Rattle.ledger.specs.LedgerText.{AreTaken, ReadsIn, ledger_text}
 use Rattle.ledger.specs.declared.format.Format.{Format}
 use Rattle.ledger.specs.declared.format.Format.TheVariants.{Two}
 use Rattle.ledger.specs.declared.left.Left.TheVariants.{Nothing as NothingLeft}
+use Rattle.ledger.proofs.Entries.{all_first, all_rest}
 use Rattle.ledger.proofs.HeldLaws.{held_more}
 use Rattle.ledger.proofs.OpenLaws.{open_in_tree}
 use Rattle.ledger.proofs.VersionLaws.{one_line, reads_back, taken_written}
@@ -27,8 +28,8 @@ all_taken format root earlier [] table held fit scored = append-nil earlier
 all_taken format root earlier (r ∷ rs) table held fit scored =
     let is_table = (tree_alike root r.table table (open_in_tree root earlier r.table tree_table_child held fit.0.is_open)).is_table in
     let certified = fit.0.certified in
-    let has : HasScore r = scored 0 r (omega arith) in
-    let rest = all_taken format root (earlier ++ (r ∷ [])) rs table (held_more root earlier r held fit.0 has) fit.1 (λ k d below. scored (k + 1) d (omega arith)) in (
+    let has = all_first HasScore r rs scored in
+    let rest = all_taken format root (earlier ++ (r ∷ [])) rs table (held_more root earlier r held fit.0 has) fit.1 (all_rest HasScore r rs scored) in (
       as_written format r,
       earlier ++ (r ∷ []),
       one_line format r is_table certified,

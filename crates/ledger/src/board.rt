@@ -258,8 +258,12 @@ impl Board {
     {
         child_is_table();
         let counts = self.counts;
-        let (champions, ones_champions, holdouts) =
-            listed_tables(self.alloc, &self.records, counts.best, counts.ones)?;
+        let (champions, ones_champions, holdouts) = listed_tables(
+            self.alloc,
+            &self.records,
+            counts.best,
+            counts.ones,
+        )?;
         let champions = sorted_tables(self.alloc, champions)?;
         let ones_champions = sorted_tables(self.alloc, ones_champions)?;
         let holdouts = sorted_tables(self.alloc, holdouts)?;

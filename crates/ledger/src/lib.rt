@@ -12,7 +12,6 @@
 //! to. `specs/inside` and `proofs` are for the code alone.
 #![tactic(auto)]
 
-mod as_written;
 mod board;
 mod body;
 mod bound;
@@ -34,6 +33,7 @@ mod open;
 mod open_tables;
 mod place;
 mod reading;
+mod record_line;
 mod records;
 mod selected;
 mod stage;

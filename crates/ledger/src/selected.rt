@@ -8,7 +8,7 @@ ghost use Rattle.ledger.specs.inside.Counting.{undecided_table, champion_table, 
 ghost use Rattle.machine_text.specs.Order.{table_cmp};
 
 use crate::stored_record::StoredRecord;
-use evidence::{NoMemory, Ending};
+use evidence::{Ending, NoMemory};
 use indexmap::IndexMap;
 use itertools::Itertools;
 use machine_text::Table;
@@ -54,7 +54,10 @@ fn champion_and_undecided_tables(
     let mut holdouts = Vec::new(alloc);
     for (table, stored) in records.iter() {
         push_some(&mut champions, champion_table(best, table, stored))?;
-        push_some(&mut ones_champions, ones_champion_table(ones, table, stored))?;
+        push_some(
+            &mut ones_champions,
+            ones_champion_table(ones, table, stored),
+        )?;
         push_some(&mut holdouts, undecided_table(table, stored))?;
     }
     Ok((champions, ones_champions, holdouts))

@@ -8,10 +8,10 @@ ghost use Rattle.ledger.specs.LedgerText.{ReadsIn, ledger_text};
 ghost use Rattle.ledger.specs.declared.format.Format.TheVariants.{Two};
 ghost use Rattle.ledger.specs.declared.left.Left.TheVariants.{Nothing};
 
-use crate::as_written::as_written;
 use crate::board::Board;
 use crate::format::Format;
 use crate::laws::ledgers_load_whole;
+use crate::record_line::append_in;
 use crate::records::Records;
 use cert::Record;
 use evidence::NoMemory;
@@ -80,13 +80,4 @@ fn append_records(records: Records<'_>, out: &mut Vec<u8>) -> Result<(), NoMemor
         append_in(Format::Two, &r, out)?;
     }
     Ok(())
-}
-
-// Appends the line of a record in a version, with its newline; where memory is refused, a beginning of it.
-fn append_in(format: Format, r: &Record, out: &mut Vec<u8>) -> Result<(), NoMemory>
-    ensures ok { OnOk result (out.new.items ≡ out.old.items ++ (line_of format (recorded r.now) ++ (10 ∷ []))) }
-    ensures kept { take (length out.old.items) out.new.items ≡ out.old.items }
-{
-    as_written(format, r).write_text(out)?;
-    out.extend_from_slice(b"\n")
 }

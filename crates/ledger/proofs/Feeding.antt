@@ -231,11 +231,13 @@ begun_ends part after old mid new one_line small none none' board number before 
 pub ends_whole : (root : Packed) (text : List ℕ) (body : Body) → body.left ≡ None → body.line ≡ Some [] → IsBodyOf root text body → LoadGives root text (Ok (body.board, Nothing))
 ends_whole root text body none empty is =
     let was = all_taken root text body none is in
-    let nothing : was.line ≡ [] = sym (start_is was.line [] (sym empty ∙ was.kept)) in
-    (is.0, inr (record {
-      reads = record { body = was.behind; header = was.header; keeps = record { lines = was.lines; rest = was.line; is = was.is; taken = was.taken; ends = nothing } };
-      version = was.version;
-    }))
+    let nothing : was.line ≡ [] = sym (start_is was.line [] (sym empty ∙ was.kept)) in (
+      is.0,
+      inr (record {
+        reads = record { body = was.behind; header = was.header; keeps = record { lines = was.lines; rest = was.line; is = was.is; taken = was.taken; ends = nothing } };
+        version = was.version;
+      }),
+    )
 
 pub ends_torn : (root : Packed) (text : List ℕ) (body : Body) → body.left ≡ None → body.line ≢ Some [] → IsBodyOf root text body
     → LoadGives root text (Ok (body.board, From body.number body.before Torn))

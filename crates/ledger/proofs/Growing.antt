@@ -10,8 +10,8 @@ use Rattle.cert.specs.Scored.{with_score}
 use Rattle.cert.proofs.Scores.{score_certified}
 use Rattle.ledger.specs.Contents.{Contents, IsBoard}
 use Rattle.text.specs.Lines.{joined}
-use Rattle.ledger.specs.Versions.{header_words, ledger_record, as_written, line_of}
-use Rattle.ledger.specs.LedgerText.{IsTaken, AreTaken, ReadsAs, ReadsIn, IsLedgerOf}
+use Rattle.ledger.specs.Versions.{header_words, as_written, ledger_line}
+use Rattle.ledger.specs.LedgerText.{IsTaken, ReadsAs, ReadsIn, IsLedgerOf}
 use Rattle.ledger.specs.declared.format.Format.{Format}
 use Rattle.ledger.specs.declared.left.Left.TheVariants.{Nothing, From}
 use Rattle.ledger.specs.declared.left.Unkept.{Unkept}
@@ -38,44 +38,44 @@ taken_held format root old r new (inl w) = taken_written format root old (with_s
 taken_held format root old r new (inr w) = taken_written format root old (with_score r) new (scored_has r) (inr (settles_scored old r w.0, w.1))
 
 grows_in : (b : Contents) (text : List ℕ) (r : Recorded) (new : List Recorded) → IsBoard b → (reads : ReadsAs b.root text b.records Nothing) → IsTaken b.root b.records r new
-    → ReadsIn reads.header.format b.root (text ++ (line_of reads.header.format (with_score r) ++ (10 ∷ []))) new Nothing
+    → ReadsIn reads.header.format b.root (text ++ (ledger_line reads.header.format (with_score r) ++ (10 ∷ []))) new Nothing
 grows_in b text r new board reads taken =
     let format = reads.header.format in
     let held = with_score r in
     let lines = reads.keeps.lines in
-    let line = line_of format held in
+    let line = ledger_line format held in
     let more = line ++ (10 ∷ []) in
     let table : IsTable held.table = taken_table b r new board taken in
     let certified = score_certified r (taken_certified b.root b.records r new taken) in
     let whole = reads.keeps.is ∙ ap (λ (l : List ℕ). joined lines ++ l) reads.keeps.ends ∙ append-nil (joined lines) in
     record {
-     reads = record {
-      body = reads.body ++ more;
-      header = record {
-        format = format;
-        name = reads.header.name;
-        line = record {
-          is = ap (λ (l : List ℕ). l ++ more) reads.header.line.is ∙ append_assoc (header_words format ++ reads.header.name) (10 ∷ reads.body) more;
-          one_line = reads.header.line.one_line;
+      reads = record {
+        body = reads.body ++ more;
+        header = record {
+          format = format;
+          name = reads.header.name;
+          line = record {
+            is = ap (λ (l : List ℕ). l ++ more) reads.header.line.is ∙ append_assoc (header_words format ++ reads.header.name) (10 ∷ reads.body) more;
+            one_line = reads.header.line.one_line;
+          };
+          reads = reads.header.reads;
         };
-        reads = reads.header.reads;
+        keeps = record {
+          lines = lines ++ (line ∷ []);
+          rest = [];
+          is = ap (λ (l : List ℕ). l ++ more) whole ∙ sym (joined-append lines (line ∷ [])) ∙ sym (append-nil (joined (lines ++ (line ∷ []))));
+          taken = taken_more format b.root [] b.records new lines line (as_written format held) reads.keeps.taken (one_line format held table certified)
+              (reads_back format held table certified (scored_has r)) (taken_held format b.root b.records r new taken);
+          ends = refl;
+        };
       };
-      keeps = record {
-        lines = lines ++ (line ∷ []);
-        rest = [];
-        is = ap (λ (l : List ℕ). l ++ more) whole ∙ sym (joined-append lines (line ∷ [])) ∙ sym (append-nil (joined (lines ++ (line ∷ []))));
-        taken = taken_more format b.root [] b.records new lines line (as_written format held) reads.keeps.taken (one_line format held table certified)
-            (reads_back format held table certified (scored_has r)) (taken_held format b.root b.records r new taken);
-        ends = refl;
-      };
-     };
-     version = refl;
+      version = refl;
     }
 
 pub grows : (b : Contents) (text : List ℕ) (r : Recorded) (new : List Recorded) → IsBoard b → IsLedgerOf b text → IsTaken b.root b.records r new
-    → ReadsIn b.format b.root (text ++ (line_of b.format (with_score r) ++ (10 ∷ []))) new Nothing
+    → ReadsIn b.format b.root (text ++ (ledger_line b.format (with_score r) ++ (10 ∷ []))) new Nothing
 grows b text r new board ledger taken =
-    subst (λ (f : Format). ReadsIn f b.root (text ++ (line_of f (with_score r) ++ (10 ∷ []))) new Nothing) ledger.version (grows_in b text r new board ledger.reads taken)
+    subst (λ (f : Format). ReadsIn f b.root (text ++ (ledger_line f (with_score r) ++ (10 ∷ []))) new Nothing) ledger.version (grows_in b text r new board ledger.reads taken)
 
 pub cut_to_kept : (root : Packed) (text : List ℕ) (rs : List Recorded) (line kept : ℕ) (why : Unkept) → (reads : ReadsAs root text rs (From line kept why))
     → ReadsIn reads.header.format root (take kept text) rs Nothing

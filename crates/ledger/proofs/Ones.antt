@@ -8,7 +8,7 @@ use Rattle.machine_text.specs.Packed.{Packed, entry_of}
 use Rattle.turing.specs.Score.{score_at}
 use Rattle.evidence.specs.declared.verdicts.Ending.{Ending}
 use Rattle.evidence.specs.declared.verdicts.Ending.TheVariants.{Halts}
-use Rattle.tree.specs.Closed.{Mark, Halting}
+use Rattle.tree.specs.Closed.{Halting}
 use Rattle.cert.specs.Claim.{Claim, HaltsClaim, CycleClaim, TranslatedClaim, BackwardClaim, NgramClaim, FarClaim, NoClaim, Recorded, ending_by, score_by}
 use Rattle.cert.specs.Scored.{scored}
 use Rattle.ledger.specs.Records.{same_table, mark_in, mark_of, mark_by}

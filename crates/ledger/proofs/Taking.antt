@@ -19,7 +19,7 @@ use Rattle.ledger.specs.Held.{HasScore, IsHoldout, Settles, settled}
 use Rattle.ledger.specs.Contents.{Contents, IsBoard, IsBoardOf}
 use Rattle.ledger.specs.inside.Counting.{is_halting, says_halts}
 use Rattle.machine_text.specs.Order.{table_cmp}
-use Rattle.ledger.specs.inside.Open.{others, AreChildrenAt, IsOpener, IsOpenMap, IsNewChild, IsOpenMapOf}
+use Rattle.ledger.specs.inside.Open.{others, AreChildrenAt, IsOpener, IsNewChild, IsOpenMapOf}
 use Rattle.ledger.proofs.Apart.{held_apart}
 use Rattle.ledger.proofs.HeldLaws.{unmarked, held_more, held_settled}
 use Rattle.ledger.proofs.OpenAfter.{pair_halts}

@@ -1,18 +1,19 @@
 -- The line of a record that is held reads, in its version, as a record that is held as that one is.
-use Rattle.std.proofs.Common.{◌≡◌, ℕ, Bool, true, false, cond, is_some, List, [], ◌∷◌, ◌++◌, Option, Some, None, Result, Ok, Err, ◌⊎◌, inl, inr, IsSome, refl, sym, ap, ◌∙◌, subst}
+use Rattle.std.proofs.Common.{◌≡◌, ℕ, Bool, true, false, cond, List, [], ◌∷◌, ◌++◌, Ok, Err, ◌⊎◌, inl, inr, IsSome, refl, sym, ap, ◌∙◌, subst, is_some, not, Option, Some, None, Result}
 use Rattle.machine_text.specs.Packed.{Packed, IsTable}
 use Rattle.evidence.specs.declared.verdicts.Ending.{Ending}
+use Rattle.evidence.specs.declared.verdicts.Ending.TheVariants.{Halts}
 use Rattle.cert.specs.Claim.{Claim, HaltsClaim, CycleClaim, TranslatedClaim, BackwardClaim, NgramClaim, FarClaim, NoClaim, Recorded, ending_by, score_by}
 use Rattle.cert.specs.Certified.{IsCertified}
 use Rattle.cert.specs.Grammar.{record_text, record_of}
-use Rattle.cert.specs.Scored.{scored, unscored, with_score, without_score}
+use Rattle.cert.specs.Scored.{scored, unscored, with_score}
 use Rattle.cert.specs.declared.record_fault.RecordFault.{RecordFault}
 use Rattle.cert.specs.declared.record_fault.RecordFault.TheVariants.{BadKind}
 use Rattle.cert.proofs.Lines.{record_line, certified_writable, certified_made}
 use Rattle.cert.proofs.RoundTrip.{record_of-record_text}
 use Rattle.cert.proofs.Scores.{scored_again, unscored_ends, unscored_certified}
 use Rattle.text.specs.Lines.{HasNoNewline}
-use Rattle.ledger.specs.Versions.{may_stand, standing_record, ledger_record, as_written, line_of}
+use Rattle.ledger.specs.Versions.{may_stand, standing_record, ledger_record, as_written, ledger_line}
 use Rattle.ledger.specs.Held.{HasScore, IsFit, Settles, settled}
 use Rattle.ledger.specs.LedgerText.{IsTaken}
 use Rattle.ledger.specs.declared.format.Format.{Format}
@@ -55,7 +56,7 @@ written_held One r has = ap (λ (c : Claim). record { table = r.table; claim = c
 written_held Two r has = has
 
 -- and reads back
-pub reads_back : (format : Format) (r : Recorded) → IsTable r.table → IsCertified r → HasScore r → ledger_record format (line_of format r) ≡ Ok (as_written format r)
+pub reads_back : (format : Format) (r : Recorded) → IsTable r.table → IsCertified r → HasScore r → ledger_record format (ledger_line format r) ≡ Ok (as_written format r)
 unfolding ledger_record
 reads_back format r table certified has =
     let w = as_written format r in
@@ -64,7 +65,7 @@ reads_back format r table certified has =
     let read : record_of (record_text w) ≡ Ok w = record_of-record_text w is_table (certified_writable w stands) (certified_made w stands) in
     ap (standing_record format) read ∙ ap (λ (b : Bool). cond b (Ok w) (Err BadKind)) (written_stands format r has)
 
-pub one_line : (format : Format) (r : Recorded) → IsTable r.table → IsCertified r → HasNoNewline (line_of format r)
+pub one_line : (format : Format) (r : Recorded) → IsTable r.table → IsCertified r → HasNoNewline (ledger_line format r)
 one_line format r table certified =
     let w = as_written format r in
     record_line w (written_table format r table) (certified_writable w (written_certified format r certified))
@@ -106,3 +107,40 @@ taken_written format root old r new has (inl w) =
     inl (fit_written format root old r w.0, w.1 ∙ ap (λ (x : Recorded). old ++ (x ∷ [])) (sym (written_held format r has)))
 taken_written format root old r new has (inr w) =
     inr (settles_written format old r w.0, w.1 ∙ ap (λ (x : Recorded). settled old x) (sym (written_held format r has)))
+
+-- what is read in a version may stand there
+abbrev given : Bool → Recorded → Result Recorded RecordFault
+given b x = cond b (Ok x) (Err BadKind)
+
+picked : (b : Bool) (x r : Recorded) → given b x ≡ Ok r → (x ≡ r) × (b ≡ true)
+picked true x r is = (cc, refl)
+picked false x r is = absurd (cc)
+
+from_standing : (format : Format) (x : Result Recorded RecordFault) (r : Recorded) → standing_record format x ≡ Ok r
+    → (x ≡ Ok r) × (may_stand format (ending_by r.claim) (score_by r.claim) ≡ true)
+from_standing format (Err f) r is = absurd (cc)
+from_standing format (Ok x) r is =
+    let w = picked (may_stand format (ending_by x.claim) (score_by x.claim)) x r is in
+    (cc w.0, subst (λ (y : Recorded). may_stand format (ending_by y.claim) (score_by y.claim) ≡ true) w.0 w.1)
+
+stands_read : (format : Format) (line : List ℕ) (r : Recorded) → ledger_record format line ≡ Ok r → (record_of line ≡ Ok r) × (may_stand format (ending_by r.claim) (score_by r.claim) ≡ true)
+unfolding ledger_record
+stands_read format line r reads = from_standing format (record_of line) r reads
+
+-- so no line of a halting record is read in both versions
+never_both : (score : Option ℕ) → not (is_some score) ≡ true → is_some score ≡ true → ⊥
+never_both None one two = cc
+never_both (Some s) one two = cc
+
+pub read_apart : (line : List ℕ) (r other : Recorded) → ledger_record One line ≡ Ok r → ledger_record Two line ≡ Ok other
+    → (r ≡ other) × ((k : ℕ) → ending_by r.claim ≡ Some (Halts k) → ⊥)
+read_apart line r other one two =
+    let first = stands_read One line r one in
+    let second = stands_read Two line other two in
+    let both : Ok r ≡ Ok other = sym first.0 ∙ second.0 in
+    let same : r ≡ other = cc in (
+      same,
+      λ k halts.
+          let stands = subst (λ (y : Recorded). may_stand Two (ending_by y.claim) (score_by y.claim) ≡ true) (sym same) second.1 in
+          never_both (score_by r.claim) first.1 (subst (λ (e : Option Ending). may_stand Two e (score_by r.claim) ≡ true) halts stands),
+    )

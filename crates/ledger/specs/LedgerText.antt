@@ -6,14 +6,16 @@ use Rattle.machine_text.specs.Text.{table_of, text_of}
 use Rattle.tree.specs.Used.{InOrder}
 use Rattle.cert.specs.Claim.{Recorded}
 use Rattle.cert.specs.Scored.{with_score}
-use Rattle.ledger.specs.Versions.{header_words, ledger_record, line_of}
+use Rattle.ledger.specs.Versions.{header_words, ledger_record, ledger_line}
 use Rattle.ledger.specs.Contents.{Contents}
 use Rattle.text.specs.Lines.{joined, HasNoNewline, BeginsWithLine}
 use Rattle.ledger.specs.Held.{IsFit, Settles, settled}
 use Rattle.ledger.specs.Offers.{OfferGives}
 use Rattle.ledger.specs.declared.format.Format.{Format}
 use Rattle.ledger.specs.declared.format.Format.TheVariants.{Two}
-use Rattle.ledger.specs.declared.taken.Taken.TheVariants.{Known}
+use Rattle.ledger.specs.declared.taken.Taken.{Taken}
+use Rattle.ledger.specs.declared.taken.Taken.TheVariants.{New, Known, Settled}
+use Rattle.ledger.specs.declared.faults.OfferFault.{OfferFault}
 use Rattle.ledger.specs.declared.faults.OfferFault.TheVariants.{NoMemory as OfferNoMemory}
 use Rattle.ledger.specs.declared.left.Left.{Left}
 use Rattle.ledger.specs.declared.left.Left.TheVariants.{Nothing, From}
@@ -145,4 +147,11 @@ PeekGives text (Err NoMemory) = ⊥
 
 -- the text of a ledger, which is written in version 2
 unfoldable pub ledger_text : Packed → List Recorded → List ℕ
-ledger_text root rs = header_words Two ++ text_of root ++ (10 ∷ joined (map (line_of Two) rs))
+ledger_text root rs = header_words Two ++ text_of root ++ (10 ∷ joined (map (ledger_line Two) rs))
+
+-- what a ledger gains where a record is offered to its board: where that is taken, the line of the record as it is held
+abbrev pub gained_line : Format → Recorded → Result Taken OfferFault → List ℕ
+gained_line format r (Ok New) = ledger_line format (with_score r) ++ (10 ∷ [])
+gained_line format r (Ok Settled) = ledger_line format (with_score r) ++ (10 ∷ [])
+gained_line format r (Ok Known) = []
+gained_line format r (Err fault) = []

@@ -40,5 +40,5 @@ abbrev pub as_written : Format → Recorded → Recorded
 as_written One r = without_score r
 as_written Two r = r
 
-abbrev pub line_of : Format → Recorded → List ℕ
-line_of format r = record_text (as_written format r)
+abbrev pub ledger_line : Format → Recorded → List ℕ
+ledger_line format r = record_text (as_written format r)

@@ -96,7 +96,7 @@ impl Board {
     ghost use Rattle.ledger.specs.Records.{claim_in, mark_in, verdict_in};
     ghost use Rattle.ledger.specs.Held.{IsFit, IsHoldout, Settles, settled};
     ghost use Rattle.ledger.specs.Offers.{OfferGives};
-    ghost use Rattle.ledger.specs.inside.Places.{IsWhyRefused};
+    ghost use Rattle.ledger.specs.inside.Places.{IsJudgedSo, IsWhyRefused};
     ghost use Rattle.ledger.specs.inside.Trees.{IsTreeCount};
 
     /// A board of the tree of a root, without records, of version 2. The root must name its states in order.
@@ -310,7 +310,8 @@ impl Board {
         }
     }
 
-    /// The recorded verdict on a table, which is true of it, with its score where it halts; none where there is none, as for a holdout.
+    /// The recorded verdict on a table, which is true of it, with its score where it halts; none where there is none, as
+    /// for a holdout.
     pub fn verdict(&self, t: &Table) -> Option<Verdict>
         ensures recorded { result ≡ verdict_in self.now.records t.now }
         ensures is_true { IfSome result (λ v. IsTrueOf v (entry_of t.now)) }
@@ -319,6 +320,10 @@ impl Board {
         // The proof needs that it is a table.
         let _ = t.states();
         verdict_in(&self.records, t)
+    }
+
+    pub(crate) fn alloc(&self) -> Global {
+        self.alloc
     }
 
     // The numbers of a recorded table's tree.
@@ -358,8 +363,8 @@ impl Board {
     }
 
     // Offers a record, by whether it is yet to be judged.
-    fn put(&mut self, r: &Record, judging: Judging) -> Result<Taken, OfferFault>
-        requires { judging ≡ Judging.Done → IsCertified (recorded r.now) }
+    pub(crate) fn put(&mut self, r: &Record, judging: Judging) -> Result<Taken, OfferFault>
+        requires { IsJudgedSo judging (recorded r.now) }
         ensures gives { OfferGives self.old.root self.old.records (recorded r.now) result self.new.records }
         ensures root { self.new.root ≡ self.old.root }
         ensures format { self.new.format ≡ self.old.format }
@@ -377,7 +382,7 @@ impl Board {
     }
 
     // Where an offered record stands.
-    fn place(&self, r: &Record) -> Place
+    pub(crate) fn place(&self, r: &Record) -> Place
         ensures { IsPlace self.now.root self.now.records (recorded r.now) result }
     {
         match certificate_for(&self.records, &r.table) {
@@ -401,7 +406,7 @@ impl Board {
     // Takes a record of an open table.
     fn take(&mut self, r: &Record, judging: Judging) -> Result<Taken, OfferFault>
         requires is_open { IsOpen self.old.root (mark_in self.old.records) r.now.table }
-        requires judged { judging ≡ Judging.Done → IsCertified (recorded r.now) }
+        requires judged { IsJudgedSo judging (recorded r.now) }
         ensures ok { IfOk result (λ taken. (taken ≡ Taken.New) × IsFit self.old.root self.old.records (recorded r.now) × (self.new.records ≡ self.old.records ++ (with_score (recorded r.now) ∷ []))) }
         ensures err { OnErr result (self.new.records ≡ self.old.records) }
         ensures root { self.new.root ≡ self.old.root }
@@ -449,7 +454,7 @@ impl Board {
     fn settle(&mut self, r: &Record, judging: Judging) -> Result<Taken, OfferFault>
         requires holdout { IsHoldout self.old.records r.now.table }
         requires verdict { IsSome (ending_by (claim_of r.now.certificate)) }
-        requires judged { judging ≡ Judging.Done → IsCertified (recorded r.now) }
+        requires judged { IsJudgedSo judging (recorded r.now) }
         ensures ok { IfOk result (λ taken. (taken ≡ Taken.Settled) × Settles self.old.records (recorded r.now) × (self.new.records ≡ settled self.old.records (with_score (recorded r.now)))) }
         ensures err { OnErr result (self.new.records ≡ self.old.records) }
         ensures root { self.new.root ≡ self.old.root }

@@ -182,7 +182,8 @@ fn take_line(board: &mut Board, line: &[u8]) -> Result<Option<Unkept>, NoMemory>
         Err(fault) => return Ok(Some(Unkept::Unread(fault))),
     };
     match board.offer(&record) {
-        Ok(Taken::New) | Ok(Taken::Settled) => Ok(None),
+        Ok(Taken::New) => Ok(None),
+        Ok(Taken::Settled) => Ok(None),
         Ok(Taken::Known) => Ok(Some(Unkept::Repeated)),
         Err(OfferFault::NoMemory) => Err(NoMemory),
         Err(fault) => Ok(Some(Unkept::Unfit(fault))),

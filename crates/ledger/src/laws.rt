@@ -1,11 +1,12 @@
 // What is true of all ledgers: laws over the definitions, each the contract of a function without a body.
-ghost use Rattle.std.specs.Prelude.{◌≡◌, ◌↔◌, ℕ, List, [], ◌∷◌, ◌++◌, take, Option, Result, Ok, IsSome};
+ghost use Rattle.std.specs.Prelude.{◌≡◌, ◌↔◌, ℕ, List, [], ◌∷◌, ◌++◌, take, Option, Some, Result, Ok, IsSome};
 ghost use Rattle.machine_text.specs.Packed.{Packed, IsTable, entry_of};
 ghost use Rattle.turing.specs.Halting.{HaltsAt, Never};
 ghost use Rattle.tree.specs.Best.{Scores};
 ghost use Rattle.tree.specs.Closed.{IsComplete};
 ghost use Rattle.tree.specs.Tables.{InTableTree};
-ghost use Rattle.cert.specs.Claim.{Recorded};
+ghost use Rattle.evidence.specs.declared.verdicts.Ending.TheVariants.{Halts};
+ghost use Rattle.cert.specs.Claim.{Recorded, ending_by};
 ghost use Rattle.cert.specs.Scored.{with_score};
 ghost use Rattle.ledger.specs.declared.left.Left.{Left as LeftOver};
 ghost use Rattle.ledger.specs.declared.left.Left.TheVariants.{Nothing, From};
@@ -19,8 +20,8 @@ ghost use Rattle.ledger.specs.Tally.{AreAll, HaltsAfter, HasOnes, IsChampion, Is
 ghost use Rattle.ledger.specs.WholeTree.{IsTreeTally, IsTreeChampion, IsTreeOnesChampion};
 ghost use Rattle.ledger.specs.declared.tally.Tally.{Tally as Counted};
 ghost use Rattle.ledger.specs.Contents.{Contents, IsBoard, IsBoardOf};
-ghost use Rattle.ledger.specs.Versions.{line_of};
-ghost use Rattle.ledger.specs.declared.format.Format.TheVariants.{Two};
+ghost use Rattle.ledger.specs.Versions.{ledger_line, ledger_record};
+ghost use Rattle.ledger.specs.declared.format.Format.TheVariants.{One, Two};
 ghost use Rattle.ledger.specs.Lists.{AreKept, Offer, AreOffered, answered, held as held_of};
 ghost use Rattle.ledger.specs.LedgerText.{HasHeader, IsLedgerOf, IsTaken, ReadsAs, ReadsIn, ledger_text};
 ghost use Rattle.ledger.specs.LedgerLaws.{ReadsAsFirst, IsLongest};
@@ -36,6 +37,13 @@ pub fn offers_are_held()
 pub fn answered_records_are_held()
     ensures { (root : Packed) (old new : List Recorded) (r : Recorded) (taken : Answer) →
         OfferGives root old r (Ok taken) new → IsSome (claim_in new r.table) }
+{}
+
+/// A line that reads in both versions reads as the same record, which doesn't say that its table halts: so no line of a
+/// record that does stands in ledgers of both.
+pub fn versions_read_apart()
+    ensures { (line : List ℕ) (r other : Recorded) → ledger_record One line ≡ Ok r → ledger_record Two line ≡ Ok other →
+        (r ≡ other) × ((k : ℕ) → ending_by r.claim ≡ Some (Halts k) → ⊥) }
 {}
 
 /// The ledger that is written of a board reads in version 2 as its records, and every byte of it is kept.
@@ -62,7 +70,7 @@ pub fn ledgers_read_longest()
 /// records that there are once that is taken.
 pub fn ledgers_grow()
     ensures { (b : Contents) (text : List ℕ) (r : Recorded) (new : List Recorded) → IsBoard b → IsLedgerOf b text →
-        IsTaken b.root b.records r new → ReadsIn b.format b.root (text ++ (line_of b.format (with_score r) ++ (10 ∷ []))) new Nothing }
+        IsTaken b.root b.records r new → ReadsIn b.format b.root (text ++ (ledger_line b.format (with_score r) ++ (10 ∷ []))) new Nothing }
 {}
 
 /// The bytes that are kept of a text read as the same records in the same version, and all of them are kept.

@@ -1,7 +1,8 @@
 //! Boards: the records held of a tree's tables, from its root.
 //!
 //! A board holds a record only where its table was open, and where its certificate stands: so each verdict
-//! on it is true, whatever calls made it. `specs/Records` says what a list of records says of a table, and
+//! on it is true, whatever calls made it. A record of a table that halts is held with the table's score, also where it
+//! is offered without one. `specs/Records` says what a list of records says of a table, and
 //! `specs/Held` which lists a board may hold.
 //!
 //! A board's ledger is a text: a header with its version and the root, and a line for each record.
@@ -29,6 +30,7 @@ mod left;
 mod line_start;
 mod loader;
 mod merge;
+mod offer_line;
 mod open;
 mod open_tables;
 mod place;
@@ -53,7 +55,7 @@ pub use header::peek_root;
 pub use laws::{
     answered_records_are_held, beginnings_load, complete_boards_hold_the_tree, complete_is_final,
     kept_bytes_load, ledgers_grow, ledgers_load_whole, ledgers_read_as_one, ledgers_read_longest,
-    merges_agree, offers_are_held, trees_are_told_once,
+    merges_agree, offers_are_held, trees_are_told_once, versions_read_apart,
 };
 pub use left::{Left, Unkept};
 pub use loader::Loader;

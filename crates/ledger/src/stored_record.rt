@@ -5,7 +5,7 @@ ghost use Rattle.cert.specs.Certified.{IsCertified, IsPairOf};
 ghost use Rattle.cert.specs.Kinds.{claim_of, owned_claim, recorded};
 ghost use Rattle.cert.specs.Scored.{scored};
 ghost use Rattle.ledger.specs.Held.{HasScore};
-ghost use Rattle.ledger.specs.inside.Places.{IsWhyRefused};
+ghost use Rattle.ledger.specs.inside.Places.{IsJudgedSo, IsWhyRefused};
 ghost use Rattle.ledger.specs.inside.Stored.{entry_recorded};
 
 use crate::faults::OfferFault;
@@ -34,6 +34,8 @@ pub(crate) enum Judging {
     Due,
     // it is certified
     Done,
+    // it was judged, with this outcome
+    Seen(Judged),
 }
 
 impl StoredRecord {
@@ -46,7 +48,7 @@ impl StoredRecord {
         parent: u32,
         tree: TreeCount,
     ) -> Result<StoredRecord, OfferFault>
-        requires { judging ≡ Judging.Done → IsCertified (recorded r.now) }
+        requires { IsJudgedSo judging (recorded r.now) }
         ensures certified { OnOk result (IsCertified (recorded r.now)) }
         ensures claim { IfOk result (λ stored. owned_claim stored.certificate ≡ scored r.now.table (claim_of r.now.certificate)) }
         ensures pair { IfOk result (λ stored. IsPairOf (ending_by (owned_claim stored.certificate)) r.now.table stored.halts_on) }
@@ -81,8 +83,8 @@ impl StoredRecord {
 }
 
 // What a record's certificate shows, where it stands.
-fn judged_as(alloc: Global, r: &Record, judging: Judging) -> Result<Judged, OfferFault>
-    requires { judging ≡ Judging.Done → IsCertified (recorded r.now) }
+pub(crate) fn judged_as(alloc: Global, r: &Record, judging: Judging) -> Result<Judged, OfferFault>
+    requires { IsJudgedSo judging (recorded r.now) }
     ensures certified { OnOk result (IsCertified (recorded r.now)) }
     ensures verdict { IfOk result (λ judged. judged.verdict ≡ shown_by (claim_of r.now.certificate) r.now.table) }
     ensures pair { IfOk result (λ judged. IsPairOf (ending_by (claim_of r.now.certificate)) r.now.table judged.halts_on) }
@@ -91,6 +93,7 @@ fn judged_as(alloc: Global, r: &Record, judging: Judging) -> Result<Judged, Offe
     match judging {
         Judging::Due => judged(alloc, r),
         Judging::Done => certified(alloc, r),
+        Judging::Seen(judged) => Ok(judged),
     }
 }
 

@@ -1,9 +1,8 @@
 // A board's ledger as it is written.
 ghost use Rattle.std.specs.Prelude.{◌≡◌, ◌++◌, ◌∷◌, [], map, take, drop, length, OnOk, OnErr};
 ghost use Rattle.machine_text.specs.Text.{text_of};
-ghost use Rattle.cert.specs.Kinds.{recorded};
 ghost use Rattle.text.specs.Lines.{joined};
-ghost use Rattle.ledger.specs.Versions.{header_words, line_of};
+ghost use Rattle.ledger.specs.Versions.{header_words, ledger_line};
 ghost use Rattle.ledger.specs.LedgerText.{ReadsIn, ledger_text};
 ghost use Rattle.ledger.specs.declared.format.Format.TheVariants.{Two};
 ghost use Rattle.ledger.specs.declared.left.Left.TheVariants.{Nothing};
@@ -13,7 +12,6 @@ use crate::format::Format;
 use crate::laws::ledgers_load_whole;
 use crate::record_line::append_in;
 use crate::records::Records;
-use cert::Record;
 use evidence::NoMemory;
 use machine_text::{TEXT_BYTES, Table};
 
@@ -37,16 +35,6 @@ impl Board {
                 Err(fault)
             }
         }
-    }
-
-    /// Appends the line of a record in the board's version, with its newline: of a table that halts with the record's
-    /// score in version 2, and without one in version 1. In version 2 the record must be as the board holds it, with
-    /// its score. Where memory is refused, a beginning of the line is appended.
-    pub fn append_line(&self, r: &Record, out: &mut Vec<u8>) -> Result<(), NoMemory>
-        ensures ok { OnOk result (out.new.items ≡ out.old.items ++ (line_of self.now.format (recorded r.now) ++ (10 ∷ []))) }
-        ensures kept { take (length out.old.items) out.new.items ≡ out.old.items }
-    {
-        append_in(self.version(), r, out)
     }
 }
 
@@ -73,7 +61,7 @@ pub fn append_header(root: &Table, out: &mut Vec<u8>) -> Result<(), NoMemory>
 
 // Appends the lines of records; where memory is refused, a beginning of them.
 fn append_records(records: Records<'_>, out: &mut Vec<u8>) -> Result<(), NoMemory>
-    ensures ok { OnOk result (out.new.items ≡ out.old.items ++ joined (map (line_of Two) records.entry)) }
+    ensures ok { OnOk result (out.new.items ≡ out.old.items ++ joined (map (ledger_line Two) records.entry)) }
     ensures kept { take (length out.old.items) out.new.items ≡ out.old.items }
 {
     for r in records {

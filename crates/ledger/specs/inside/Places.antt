@@ -1,15 +1,17 @@
 -- For the code: where an offered record stands, and why it isn't taken.
-use Rattle.std.specs.Prelude.{List, Option, Some, None, IsSome}
+use Rattle.std.specs.Prelude.{◌≡◌, List, Option, Some, None, IsSome}
 use Rattle.machine_text.specs.Packed.{Packed}
 use Rattle.evidence.specs.declared.verdicts.Ending.{Ending}
 use Rattle.tree.specs.Closed.{IsOpen}
-use Rattle.cert.specs.Claim.{Recorded, ending_by}
+use Rattle.cert.specs.Claim.{Recorded, ending_by, shown_by}
 use Rattle.ledger.specs.Records.{mark_in}
 use Rattle.ledger.specs.Held.{IsHoldout}
 use Rattle.ledger.specs.Offers.{IsKnown, IsElsewhere}
-use Rattle.cert.specs.Certified.{IsRefusedBy}
+use Rattle.cert.specs.Certified.{IsCertified, IsPairOf, IsRefusedBy}
 use Rattle.ledger.specs.declared.faults.OfferFault.{OfferFault}
 use Rattle.ledger.specs.declared.faults.OfferFault.TheVariants.{WrongSize, NotOpen, Refused as IsRefused, NoMemory}
+use Rattle.ledger.specs.declared.stored_record.Judging.{Judging}
+use Rattle.ledger.specs.declared.stored_record.Judging.TheVariants.{Due, Done, Seen}
 use Rattle.ledger.specs.declared.place.Place.{Place}
 use Rattle.ledger.specs.declared.place.Place.TheVariants.{Known, Open, Holdout, Elsewhere}
 
@@ -31,3 +33,9 @@ IsWhyRefused WrongSize r = ⊥
 IsWhyRefused NotOpen r = ⊥
 IsWhyRefused (IsRefused f) r = IsRefusedBy f r
 IsWhyRefused NoMemory r = Unit {0}
+
+-- what is known of a record that is yet to be judged, is certified, or was judged with this outcome
+abbrev pub IsJudgedSo : Judging → Recorded → Type 0
+IsJudgedSo Due r = Unit {0}
+IsJudgedSo Done r = IsCertified r
+IsJudgedSo (Seen judged) r = IsCertified r × (judged.verdict ≡ shown_by r.claim r.table) × IsPairOf (ending_by r.claim) r.table judged.halts_on

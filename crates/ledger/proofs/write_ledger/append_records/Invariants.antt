@@ -1,5 +1,5 @@
 use Rattle.std.proofs.Common.{◌≡◌, ◌++◌, map, take, length}
-use Rattle.ledger.specs.Versions.{line_of}
+use Rattle.ledger.specs.Versions.{ledger_line}
 use Rattle.ledger.specs.declared.format.Format.TheVariants.{Two}
 use Rattle.text.specs.Lines.{joined}
 use Rattle.ledger.proofs.write_ledger.append_records.Given as goal
@@ -7,6 +7,6 @@ use Rattle.ledger.proofs.write_ledger.append_records.Given as goal
 -- what is written, and the lines that are left, are what will be written
 abbrev pub invariant-loop-r : goal.invariant-loop-r
 invariant-loop-r l = record {
-  whole : l.out.items ++ joined (map (line_of Two) l.r-iterator) ≡ l.fn.out.items ++ joined (map (line_of Two) l.fn.records);
+  whole : l.out.items ++ joined (map (ledger_line Two) l.r-iterator) ≡ l.fn.out.items ++ joined (map (ledger_line Two) l.fn.records);
   kept : take (length l.fn.out.items) l.out.items ≡ l.fn.out.items;
 }

@@ -1,8 +1,12 @@
-use Rattle.std.proofs.Common.{ℕ, List, refl, sym, subst, arith, length, take, take_all}
+use Rattle.std.proofs.Common.{ℕ, List, [], ◌∷◌, ◌++◌, refl, sym, subst, arith, length, take, take_all}
 use Rattle.ledger.specs.inside.Taking.{BodyGrows}
 use Rattle.ledger.specs.declared.body.Body.{Body}
-use Rattle.ledger.proofs.Feeding.{none_left, whole_ends, begun_ends, line_grows, body_headed}
+use Rattle.ledger.proofs.Feeding.{none_left, stays_left, whole_ends, begun_ends, line_grows, body_headed}
 use Rattle.ledger.proofs.body.Body.end_line.Goals as goal
+
+pub returns-then-is_some-clause-ok : goal.returns-then-is_some-clause-ok
+returns-then-is_some-clause-ok c root text all is =
+    stays_left c.args.self.now c.is_some.result c.is_some.ensures c.if-is_some.true (c.args.part.now ++ (10 ∷ [])) root text is
 
 pub returns-in-Ok-clause-ok : goal.returns-in-Ok-clause-ok
 returns-in-Ok-clause-ok c =

@@ -1,4 +1,4 @@
-use Rattle.std.proofs.Common.{List, drop, length, min, ◌∙◌, ap}
+use Rattle.std.proofs.Common.{List, drop, min, ◌∙◌, ap}
 use Rattle.machine_text.specs.Packed.{Packed}
 use Rattle.ledger.specs.inside.Stored.{records_of}
 use Rattle.ledger.specs.declared.stored_record.StoredRecord.{StoredRecord}

@@ -1,0 +1,103 @@
+// An offer together with the line that a ledger gains by it.
+ghost use Rattle.std.specs.Prelude.{◌≡◌, ◌++◌, IfErr, IfOk, take, length};
+ghost use Rattle.tree.specs.Closed.{IsComplete};
+ghost use Rattle.cert.specs.Certified.{IsCertified};
+ghost use Rattle.cert.specs.Kinds.{recorded};
+ghost use Rattle.ledger.specs.Records.{mark_in};
+ghost use Rattle.ledger.specs.Offers.{IsJudged, OfferGives};
+ghost use Rattle.ledger.specs.LedgerText.{gained_line};
+ghost use Rattle.ledger.specs.inside.Places.{IsJudgedSo};
+
+use crate::board::Board;
+use crate::faults::OfferFault;
+use crate::place::Place;
+use crate::record_line::append_scored;
+use crate::stored_record::{Judging, judged_as};
+use crate::taken::Taken;
+use cert::{Judged, Record};
+
+impl Board {
+    /// Offers a record as `offer` does; where it is taken, its line in the board's version is appended, with its newline:
+    /// with the score in version 2, whether the record came with it or not. The line is there before the board changes, so
+    /// nothing is refused once it has. Else `out` is as it was.
+    pub fn offer_line(&mut self, r: &Record, out: &mut Vec<u8>) -> Result<Taken, OfferFault>
+        ensures gives { OfferGives self.old.root self.old.records (recorded r.now) result self.new.records }
+        ensures line { out.new.items ≡ out.old.items ++ gained_line self.old.format (recorded r.now) result }
+        ensures root { self.new.root ≡ self.old.root }
+        ensures format { self.new.format ≡ self.old.format }
+        ensures complete { IsComplete self.old.root (mark_in self.old.records) → self.new.records ≡ self.old.records }
+    {
+        self.put_line(r, Judging::Due, out)
+    }
+
+    /// The same of a record that is certified already, as `offer_certified` does.
+    pub fn offer_certified_line(
+        &mut self,
+        r: &Record,
+        out: &mut Vec<u8>,
+    ) -> Result<Taken, OfferFault>
+        requires { IsCertified (recorded r.now) }
+        ensures gives { OfferGives self.old.root self.old.records (recorded r.now) result self.new.records }
+        ensures line { out.new.items ≡ out.old.items ++ gained_line self.old.format (recorded r.now) result }
+        ensures root { self.new.root ≡ self.old.root }
+        ensures format { self.new.format ≡ self.old.format }
+        ensures complete { IsComplete self.old.root (mark_in self.old.records) → self.new.records ≡ self.old.records }
+    {
+        self.put_line(r, Judging::Done, out)
+    }
+
+    // The same, by whether the record is yet to be judged.
+    fn put_line(
+        &mut self,
+        r: &Record,
+        judging: Judging,
+        out: &mut Vec<u8>,
+    ) -> Result<Taken, OfferFault>
+        requires { IsJudgedSo judging (recorded r.now) }
+        ensures gives { OfferGives self.old.root self.old.records (recorded r.now) result self.new.records }
+        ensures line { out.new.items ≡ out.old.items ++ gained_line self.old.format (recorded r.now) result }
+        ensures root { self.new.root ≡ self.old.root }
+        ensures format { self.new.format ≡ self.old.format }
+        ensures complete { IsComplete self.old.root (mark_in self.old.records) → self.new.records ≡ self.old.records }
+    {
+        if r.table.states() != self.root().states() {
+            return Err(OfferFault::WrongSize);
+        }
+        match self.place(r) {
+            Place::Known => Ok(Taken::Known),
+            Place::Elsewhere => Err(OfferFault::NotOpen),
+            Place::Open | Place::Holdout => {
+                let judged = judged_as(self.alloc(), r, judging)?;
+                self.put_judged(r, judged, out)
+            }
+        }
+    }
+
+    // The same of a record that is judged.
+    fn put_judged(
+        &mut self,
+        r: &Record,
+        judged: Judged,
+        out: &mut Vec<u8>,
+    ) -> Result<Taken, OfferFault>
+        requires due { IsJudged self.old.root self.old.records (recorded r.now) }
+        requires judged { IsJudgedSo (Judging.Seen judged) (recorded r.now) }
+        ensures gives { OfferGives self.old.root self.old.records (recorded r.now) result self.new.records }
+        ensures line { out.new.items ≡ out.old.items ++ gained_line self.old.format (recorded r.now) result }
+        ensures root { self.new.root ≡ self.old.root }
+        ensures format { self.new.format ≡ self.old.format }
+        ensures complete { IsComplete self.old.root (mark_in self.old.records) → self.new.records ≡ self.old.records }
+    {
+        let len = out.len();
+        let Ok(()) = append_scored(self.version(), r, judged.verdict, out) else {
+            out.truncate(len);
+            return Err(OfferFault::NoMemory);
+        };
+        let answer = self.put(r, Judging::Seen(judged));
+        match answer {
+            Ok(Taken::New | Taken::Settled) => {}
+            Ok(Taken::Known) | Err(_) => out.truncate(len),
+        }
+        answer
+    }
+}

@@ -1,4 +1,4 @@
-//! Writes a ledger of the tree of n states with so many records: `H K` where a table halts within 200 steps, else
+//! Writes a ledger of the tree of n states with so many records: `H K S` where a table halts within 200 steps, else
 //! `U`. Build with `rustc --edition 2021 -O grow_ledger.rs`; arguments: n, the number, and the order in which open tables are
 //! taken: `first`, always the first in the order of their texts, as who settles a tree by itself takes them; or
 //! `nearest`, the nearest to the root, which leaves as many tables open as can be.
@@ -41,16 +41,16 @@ fn main() -> io::Result<()> {
     };
     let root = vec![[None, None]; states];
     let mut out = BufWriter::new(io::stdout().lock());
-    writeln!(out, "bb-ledger 1 {}", printed(&root))?;
+    writeln!(out, "bb-ledger 2 {}", printed(&root))?;
     open.add(root);
     for _ in 0..records {
         let Some(table) = open.take() else {
             break;
         };
         match halts_on(&table, 200) {
-            Some((count, state, symbol)) => {
-                writeln!(out, "{} H {count}", printed(&table))?;
-                for child in children(&table, state, symbol) {
+            Some(halt) => {
+                writeln!(out, "{} H {} {}", printed(&table), halt.count, halt.ones)?;
+                for child in children(&table, halt.state, halt.symbol) {
                     open.add(child);
                 }
             }

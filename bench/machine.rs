@@ -78,19 +78,26 @@ pub fn printed(rows: &[Row]) -> String {
     texts.join("_")
 }
 
-/// The number of steps in which the table halts, where that is at most `limit`.
-pub fn halts(rows: &[Row], limit: u64) -> Option<u64> {
-    halts_on(rows, limit).map(|(count, _, _)| count)
+/// How a table halts: in so many steps, with so many ones, on a state and a symbol.
+pub struct Halt {
+    pub count: u64,
+    pub ones: u64,
+    pub state: usize,
+    pub symbol: usize,
 }
 
-/// The same, with the state and the symbol on which it halts.
-pub fn halts_on(rows: &[Row], limit: u64) -> Option<(u64, usize, usize)> {
+/// How the table halts, where it does in at most `limit` steps.
+pub fn halts_on(rows: &[Row], limit: u64) -> Option<Halt> {
     let mut tape = vec![0u8; 1];
     let mut head = 0usize;
     let mut state = 0usize;
     for count in 1..=limit {
         let Some(e) = rows[state][tape[head] as usize] else {
-            return Some((count, state, tape[head] as usize));
+            let symbol = tape[head] as usize;
+            // the halting step writes a one
+            tape[head] = 1;
+            let ones = tape.iter().map(|cell| u64::from(*cell)).sum();
+            return Some(Halt { count, ones, state, symbol });
         };
         tape[head] = e.write;
         if e.right {

@@ -10,8 +10,8 @@ const KNOWN: [u64; 4] = [1, 6, 21, 107];
 
 fn walk(rows: &[Row], limit: u64, out: &mut impl Write) -> io::Result<()> {
     writeln!(out, "{}", printed(rows))?;
-    if let Some((_, state, symbol)) = halts_on(rows, limit) {
-        for child in children(rows, state, symbol) {
+    if let Some(halt) = halts_on(rows, limit) {
+        for child in children(rows, halt.state, halt.symbol) {
             walk(&child, limit, out)?;
         }
     }

@@ -3,7 +3,7 @@
 #[allow(dead_code)]
 mod machine;
 
-use machine::{halts, number, parse, printed, Row};
+use machine::{halts_on, number, parse, printed, Row};
 use std::io::{self, BufRead, BufWriter, Write};
 
 /// A run from the blank tape, at some time.
@@ -105,14 +105,22 @@ fn answer(line: &[u8]) -> String {
             false => format!("refused {}", if j > 10_000_000 { 202 } else { 201 }),
         };
     }
-    if parts.len() != 3 || parts[1] != b"H" {
+    if !(3..=4).contains(&parts.len()) || parts[1] != b"H" {
         return "refused 302".to_string();
     }
-    match std::str::from_utf8(parts[2]).ok().and_then(number) {
-        None => "refused 303".to_string(),
-        Some(k) if k > 100_000_000 => "refused 202".to_string(),
-        Some(k) if halts(&rows, k) == Some(k) => format!("{} halts {k}", printed(&rows)),
-        Some(_) => "refused 201".to_string(),
+    let numbers: Option<Vec<u64>> = parts[2..].iter().map(|part| std::str::from_utf8(part).ok().and_then(number)).collect();
+    let Some(numbers) = numbers else {
+        return "refused 303".to_string();
+    };
+    if numbers[0] > 100_000_000 {
+        return "refused 202".to_string();
+    }
+    match (halts_on(&rows, numbers[0]), numbers.get(1)) {
+        (Some(halt), None) if halt.count == numbers[0] => format!("{} halts {}", printed(&rows), halt.count),
+        (Some(halt), Some(ones)) if halt.count == numbers[0] && halt.ones == *ones => {
+            format!("{} halts {} ones {ones}", printed(&rows), halt.count)
+        }
+        _ => "refused 201".to_string(),
     }
 }
 

@@ -12,7 +12,7 @@ fn main() -> io::Result<()> {
     let words: Vec<String> = std::env::args().skip(1).collect();
     let root: Vec<Row> = vec![[None, None]; words[0].parse().expect("a number of states")];
     let mut ledger = OpenOptions::new().append(true).create(true).open(&words[1])?;
-    ledger.write_all(format!("bb-ledger 1 {}\n", printed(&root)).as_bytes())?;
+    ledger.write_all(format!("bb-ledger 2 {}\n", printed(&root)).as_bytes())?;
     let mut records: HashMap<Vec<Row>, Option<u64>> = HashMap::new();
     let mut open = BTreeSet::from([root]);
     let mut out = BufWriter::new(io::stdout().lock());
@@ -36,7 +36,7 @@ fn main() -> io::Result<()> {
         } else {
             let count = number(std::str::from_utf8(parts[2]).expect("a number")).expect("a number");
             match halts_on(&table, count) {
-                Some((found, state, symbol)) if found == count => open.extend(children(&table, state, symbol)),
+                Some(halt) if halt.count == count => open.extend(children(&table, halt.state, halt.symbol)),
                 _ => continue,
             }
             Some(count)

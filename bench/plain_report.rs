@@ -7,14 +7,14 @@ use machine::{children, halts_on, number, parse, printed, Row};
 use std::collections::{BTreeSet, HashMap};
 use std::io::{self, Write};
 
-/// What a record says: that the table halts in so many steps, or nothing.
-type Recorded = Option<u64>;
+/// What a record says: that the table halts in so many steps, with so many ones, or nothing.
+type Recorded = Option<(u64, u64)>;
 
 fn main() -> io::Result<()> {
     let bytes = std::fs::read(std::env::args().nth(1).expect("a path"))?;
     let mut lines = bytes.split(|byte| *byte == b'\n');
     let header = lines.next().unwrap_or(b"");
-    let name = header.strip_prefix(b"bb-ledger 1 ").expect("a header");
+    let name = header.strip_prefix(b"bb-ledger 2 ").expect("a header");
     let root = parse(name).expect("a root");
     let mut records: HashMap<Vec<Row>, Recorded> = HashMap::new();
     let mut open = BTreeSet::from([root.clone()]);
@@ -35,16 +35,13 @@ fn main() -> io::Result<()> {
             None
         } else {
             let count = number(std::str::from_utf8(parts[2]).expect("a number")).expect("a number");
-            let Some((found, state, symbol)) = halts_on(&table, count) else {
+            let ones = number(std::str::from_utf8(parts[3]).expect("a number")).expect("a number");
+            let Some(halt) = halts_on(&table, count).filter(|halt| halt.count == count && halt.ones == ones) else {
                 left = Some(at);
                 break;
             };
-            if found != count {
-                left = Some(at);
-                break;
-            }
-            open.extend(children(&table, state, symbol));
-            Some(count)
+            open.extend(children(&table, halt.state, halt.symbol));
+            Some((count, ones))
         };
         open.remove(&table);
         records.insert(table, recorded);
@@ -58,12 +55,12 @@ fn report(
     open: &BTreeSet<Vec<Row>>,
     left: Option<u64>,
 ) -> io::Result<()> {
-    let best = records.values().flatten().max();
+    let best = records.values().flatten().map(|(count, _)| *count).max();
+    let ones = records.values().flatten().map(|(_, ones)| *ones).max();
     let halting = records.values().flatten().count();
-    let mut holdouts: Vec<String> = tables(records, &None);
-    let mut champions = best.map_or(Vec::new(), |best| tables(records, &Some(*best)));
-    holdouts.sort();
-    champions.sort();
+    let holdouts = tables(records, |says| says.is_none());
+    let champions = tables(records, |says| says.is_some_and(|(count, _)| Some(count) == best));
+    let ones_champions = tables(records, |says| says.is_some_and(|(_, score)| Some(score) == ones));
     let status = if !open.is_empty() {
         "working"
     } else if !holdouts.is_empty() {
@@ -92,6 +89,10 @@ fn report(
     for table in champions {
         writeln!(out, "champion {table}")?;
     }
+    writeln!(out, "ones {}", ones.map_or("none".to_string(), |ones| ones.to_string()))?;
+    for table in ones_champions {
+        writeln!(out, "ones_champion {table}")?;
+    }
     for table in holdouts {
         writeln!(out, "holdout {table}")?;
     }
@@ -101,10 +102,10 @@ fn report(
     out.flush()
 }
 
-fn tables(records: &HashMap<Vec<Row>, Recorded>, recorded: &Recorded) -> Vec<String> {
-    records
-        .iter()
-        .filter(|(_, says)| *says == recorded)
-        .map(|(table, _)| printed(table))
-        .collect()
+/// The tables whose records are such, in the order of their texts.
+fn tables(records: &HashMap<Vec<Row>, Recorded>, is_such: impl Fn(&Recorded) -> bool) -> Vec<String> {
+    let mut found: Vec<String> =
+        records.iter().filter(|(_, says)| is_such(says)).map(|(table, _)| printed(table)).collect();
+    found.sort();
+    found
 }

@@ -23,8 +23,8 @@ fn main() -> io::Result<()> {
     while let Some((text, rows)) = open.pop_first() {
         let certificate = decided(&rows, width, size);
         if certificate.starts_with("H ") {
-            if let Some((_, state, symbol)) = halts_on(&rows, STEPS) {
-                open.extend(children(&rows, state, symbol).into_iter().map(|child| (printed(&child), child)));
+            if let Some(halt) = halts_on(&rows, STEPS) {
+                open.extend(children(&rows, halt.state, halt.symbol).into_iter().map(|child| (printed(&child), child)));
             }
         }
         records.insert(text, certificate);
@@ -34,14 +34,19 @@ fn main() -> io::Result<()> {
 
 fn report(root: &str, records: &HashMap<String, String>) -> io::Result<()> {
     let mut out = BufWriter::new(io::stdout().lock());
-    let count = |certificate: &String| certificate.strip_prefix("H ").map(|k| k.parse::<u64>().expect("a count"));
-    let best = records.values().filter_map(count).max();
+    let numbers = |certificate: &String| {
+        let (k, ones) = certificate.strip_prefix("H ")?.split_once(' ').expect("a count and a score");
+        Some((k.parse::<u64>().expect("a count"), ones.parse::<u64>().expect("a score")))
+    };
+    let best = records.values().filter_map(numbers).map(|(k, _)| k).max();
+    let ones = records.values().filter_map(numbers).map(|(_, ones)| ones).max();
     let halting = records.values().filter(|c| c.starts_with("H ")).count();
     let sorted = |wanted: &dyn Fn(&String) -> bool| -> BTreeSet<&String> {
         records.iter().filter(|(_, c)| wanted(c)).map(|(table, _)| table).collect()
     };
     let holdouts = sorted(&|c| c == "U");
-    let champions = sorted(&|c| best.is_some() && count(c) == best);
+    let champions = sorted(&|c| numbers(c).is_some_and(|(k, _)| Some(k) == best));
+    let ones_champions = sorted(&|c| numbers(c).is_some_and(|(_, s)| Some(s) == ones));
     let status = if holdouts.is_empty() { "complete" } else { "holdouts" };
     let never = records.len() - halting - holdouts.len();
     writeln!(out, "root {root}\nstatus {status}\nnodes {}\nhalting {halting}", records.len())?;
@@ -49,6 +54,10 @@ fn report(root: &str, records: &HashMap<String, String>) -> io::Result<()> {
     writeln!(out, "best {}", best.map_or("none".to_string(), |best| best.to_string()))?;
     for table in champions {
         writeln!(out, "champion {table}")?;
+    }
+    writeln!(out, "ones {}", ones.map_or("none".to_string(), |ones| ones.to_string()))?;
+    for table in ones_champions {
+        writeln!(out, "ones_champion {table}")?;
     }
     for table in holdouts {
         writeln!(out, "holdout {table}")?;

@@ -1,5 +1,5 @@
 //! The searches of bb in plain Rust, which share no code with it.
-use crate::machine::{halts, Entry, Row};
+use crate::machine::{halts_on, Entry, Row};
 use std::collections::HashMap;
 
 const STEPS: u64 = 1_000;
@@ -372,8 +372,8 @@ fn automata(rows: &[Row], most: usize) -> Option<String> {
 
 /// The certificate that is found first, looked for in the order of bb.
 pub fn decided(rows: &[Row], width: usize, size: usize) -> String {
-    if let Some(k) = halts(rows, STEPS) {
-        return format!("H {k}");
+    if let Some(halt) = halts_on(rows, STEPS) {
+        return format!("H {} {}", halt.count, halt.ones);
     }
     if let Some((i, j)) = cycle(rows) {
         return format!("C {i} {j}");

@@ -12,7 +12,12 @@ import sys
 import tempfile
 
 from records import PROGRAM, damaged
-from tree import reported
+from tree import HEADERS, in_version, reported
+
+
+def older(lines):
+    """The same ledger in version 1."""
+    return [HEADERS[1] + lines[0][len(HEADERS[2]):]] + [in_version(1, line) for line in lines[1:]]
 
 
 def whole(states):
@@ -57,7 +62,8 @@ def main():
     with tempfile.TemporaryDirectory() as folder:
         path = os.path.join(folder, "ledger")
         for _ in range(count):
-            text = damage(rng, rng.choice(ledgers))
+            lines = rng.choice(ledgers)
+            text = damage(rng, older(lines) if rng.random() < 0.4 else lines)
             report, fault = reported(text)
             if fault is None:
                 counts["too long to judge here"] += 1

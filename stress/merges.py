@@ -11,7 +11,7 @@ import subprocess
 import sys
 import tempfile
 
-from ledgers import damage, whole
+from ledgers import damage, older, whole
 from oracle import answer, printed
 from records import PROGRAM
 from tree import HEADER, Loaded
@@ -45,8 +45,9 @@ def merged(first, second):
 
 
 def undecided(rng, lines):
-    """A ledger of whose records without children some are given up."""
+    """A ledger of either version, of whose records without children some are given up."""
     share = rng.choice([0, 0.05, 0.3])
+    lines = older(lines) if rng.random() < 0.4 else lines
     return [line.split(b" ")[0] + b" U" if b" H " not in line and i > 0 and rng.random() < share else line
             for i, line in enumerate(lines)]
 
@@ -96,7 +97,7 @@ def compare_retry(rng, ledgers, folder, counts):
     if tried != [table for table in holdouts if table in tried]:
         return f"retry of {text!r}: {tried!r} of {holdouts!r}"
     for line in after[len(kept):].split(b"\n")[:-1]:
-        if answer(line) is None or board.board.take(line) is not None:
+        if answer(line) is None or board.board.take(line, board.version) is not None:
             return f"retry of {text!r}: {line!r}"
     if (run.stdout.decode(), run.stderr) != (board.board.report(None), b""):
         return f"retry of {text!r}: {run.stdout!r}, {run.stderr!r}"

@@ -14,7 +14,7 @@ import tempfile
 
 from oracle import Refused, number, printed, read_table
 from records import PROGRAM, damaged
-from tree import Board
+from tree import Board, HEADER, in_version
 
 MOST_LEASES = 4_096
 
@@ -100,7 +100,7 @@ class Coordinator:
             if lease is not None:
                 self.under.update((child, lease) for child in self.board.open - before)
                 self.deadlines[lease] = self.moment + LEASE_TIME
-            self.lines.append(line if line.endswith(b" U") else table.encode() + line[len(table):])
+            self.lines.append(next(held for held in self.board.lines if held.split(b" ")[0].decode() == table))
             return f"ACK {table}".encode(), "REC, new or settled"
         if why == "repeated":
             return f"ACK {table}".encode(), "REC, known"
@@ -129,6 +129,8 @@ def frame(rng, model, records):
             made = b"REC " + table + b" U"
         elif way < 0.2:
             made = b"REC " + table + b" " + rng.choice(list(records.values())).split(b" ", 1)[1]
+        elif way < 0.4:
+            made = b"REC " + in_version(1, made[4:])
     else:
         made = rng.choice([b"ACK ------", b"GRANT 1 1 ------", b"LATER", b"STOP", b"LATER ------", b"", b"ask 1", b"REC"])
     return damaged(rng, made, list(records.values())) if rng.random() < 0.1 else made
@@ -157,7 +159,7 @@ def session(rng, states, era, path, held, records):
         raise AssertionError(f"{frames!r}: answer {place}: {answers[place:place + 1]!r}, and not {due[place:place + 1]!r}")
     with open(path, "rb") as file:
         ledger = file.read()
-    header = b"bb-ledger 1 " + b"_".join([b"------"] * states) + b"\n"
+    header = HEADER + b"_".join([b"------"] * states) + b"\n"
     if ledger != header + b"".join(line + b"\n" for line in model.lines):
         raise AssertionError(f"{frames!r}: the ledger is {ledger!r}")
     return model.lines, counts

@@ -116,7 +116,14 @@ def side(text):
 
 # Judgements: each gives what is shown, or raises; None where it takes too long here.
 
-def halts(rows, k):
+def score(rows, k):
+    """How many ones a run leaves that halts in k steps: the halting step writes one."""
+    _, head, ones = run(rows, k - 1)[-1]
+    return len(set(ones) | {head})
+
+
+def halts(rows, k, ones):
+    """With or without a score."""
     if k > 100_000_000:
         raise Refused("202")
     if k > STEPS:
@@ -124,7 +131,11 @@ def halts(rows, k):
     configs = run(rows, max(k - 1, 0))
     if k < 1 or len(configs) < k or step(rows, configs[k - 1]) is not None:
         raise Refused("201")
-    return f"halts {k}"
+    if ones is None:
+        return f"halts {k}"
+    if ones != score(rows, k):
+        raise Refused("201")
+    return f"halts {k} ones {ones}"
 
 
 def times(rows, i, j):
@@ -301,12 +312,13 @@ def read_claim(rows, parts):
     if not parts:
         raise Refused("302")
     kind, fields = parts[0], parts[1:]
-    counts = {b"H": 1, b"C": 2, b"T": 3, b"B": 1, b"N": 4, b"F": 5, b"U": 0}
-    if counts.get(kind) != len(fields):
+    counts = {b"H": (1, 2), b"C": (2,), b"T": (3,), b"B": (1,), b"N": (4,), b"F": (5,), b"U": (0,)}
+    if len(fields) not in counts.get(kind, ()):
         raise Refused("302")
     if kind == b"H":
         k = number(fields[0])
-        return lambda: halts(rows, k)
+        ones = number(fields[1]) if len(fields) == 2 else None
+        return lambda: halts(rows, k, ones)
     if kind == b"C":
         i, j = number(fields[0]), number(fields[1])
         return lambda: cycle(rows, i, j)

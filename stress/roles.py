@@ -25,12 +25,12 @@ MOST_SENT = 64
 
 
 def halts_after(rows):
-    """In how many steps a table halts, if in no more than are looked at."""
+    """In how many steps a table halts and with how many ones, if in no more steps than are looked at."""
     state, head, ones = 0, 0, set()
     for step in range(1, STEPS + 1):
         entry = rows[state][int(head in ones)]
         if entry is None:
-            return step
+            return step, len(ones | {head})
         (ones.add if entry[0] else ones.discard)(head)
         head, state = head + entry[1], entry[2]
     return None
@@ -100,7 +100,7 @@ class Worker:
             return told()
         table = min(self.board.open).encode()
         count = halts_after(read_table(table))
-        line = table + (b" U" if count is None else b" H %d" % count)
+        line = table + (b" U" if count is None else b" H %d %d" % count)
         assert self.board.take(line) is None
         return told(appends=line + b"\n", sends=b"REC " + line + b"\n")
 

@@ -1,7 +1,21 @@
 """The tree of machines and the board of a ledger, written anew from docs/FORMATS.md and the field's definitions."""
-from oracle import Refused, answer, printed, read_table, run, step
+from oracle import Refused, answer, printed, read_table, run, score, step
 
-HEADER = b"bb-ledger 1 "
+# What a header begins with in each version; a ledger is written anew in the second.
+HEADERS = {1: b"bb-ledger 1 ", 2: b"bb-ledger 2 "}
+HEADER = HEADERS[2]
+
+
+def in_version(version, line):
+    """A line as it stands in a ledger: without its score in version 1."""
+    parts = line.split(b" ")
+    return b" ".join(parts[:3]) if version == 1 and parts[1] == b"H" else line
+
+
+def may_stand(version, line):
+    """Whether a record's line is one of this version: of a halting table with its score in version 2 alone."""
+    parts = line.split(b" ")
+    return parts[1] != b"H" or len(parts) == version + 2
 
 
 def used(rows):
@@ -44,21 +58,25 @@ def children(rows, count):
 
 
 class Board:
-    """What a ledger's records come to."""
+    """What a ledger's records come to; `lines` has them as they are held, with their scores."""
 
     def __init__(self, root):
         self.root = root
         self.lines = []
         self.shown = {}
+        self.scores = {}
         self.open = {printed(root)}
 
-    def take(self, line):
-        """Takes a record's line; says why it isn't kept, or None where it is. `too long` where that can't be judged here."""
+    def take(self, line, version=None):
+        """Takes a record's line, of a ledger of some version or not; says why it isn't kept, or None where it is. `too long`
+        where that can't be judged here."""
         told = answer(line)
         try:
             rows = read_table(line.split(b" ")[0])
         except Refused as refused:
             return str(refused)
+        if version is not None and not (told or "").startswith("refused 3") and not may_stand(version, line):
+            return "refused 302"
         if told is None:
             return "too long"
         if told.startswith("refused") and not told.startswith("refused 20"):
@@ -76,14 +94,19 @@ class Board:
         if told.startswith("refused"):
             return told
         self.open.discard(table)
+        shown = told.split(" ", 1)[1]
         written = table.encode() + line[len(table):]
+        if shown.startswith("halts "):
+            count = int(shown.split(" ")[1])
+            self.scores[table] = score(rows, count)
+            written = f"{table} H {count} {self.scores[table]}".encode()
+            shown = f"halts {count}"
         if is_holdout:
             # it takes the holdout's place
             place = next(i for i, held in enumerate(self.lines) if held.split(b" ")[0] == table.encode())
             self.lines[place] = written
         else:
             self.lines.append(written)
-        shown = told.split(" ", 1)[1]
         self.shown[table] = shown
         if shown.startswith("halts "):
             for child in children(rows, int(shown.split(" ")[1])):
@@ -102,6 +125,9 @@ class Board:
             f"best {'none' if best is None else best}",
         ]
         lines += [f"champion {t}" for t in sorted(t for t, s in self.shown.items() if best is not None and s == f"halts {best}")]
+        ones = max(self.scores.values(), default=None)
+        lines.append(f"ones {'none' if ones is None else ones}")
+        lines += [f"ones_champion {t}" for t in sorted(t for t, s in self.scores.items() if s == ones)]
         lines += [f"holdout {t}" for t in holdouts]
         if left is not None:
             lines.append(f"left {left}")
@@ -113,8 +139,9 @@ class Loaded:
 
     def __init__(self, text):
         self.board, self.left, self.fault, self.is_too_long = None, None, "", False
+        self.version = next((v for v, words in HEADERS.items() if text.startswith(words)), None)
         end = text.find(b"\n")
-        if end < 0 or not text[:end].startswith(HEADER):
+        if end < 0 or self.version is None:
             self.fault = "refused 404\n"
             return
         try:
@@ -131,7 +158,7 @@ class Loaded:
 
     def take_lines(self, lines):
         for number, line in enumerate(lines[:-1]):
-            why = self.board.take(line)
+            why = self.board.take(line, self.version)
             if why == "too long":
                 self.is_too_long = True
                 return

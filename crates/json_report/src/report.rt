@@ -13,10 +13,10 @@ use ledger::Board;
 use std::alloc::Global;
 
 /// Appends the report of a board as one JSON object, without a space and with its members in the order of
-/// their names, and a newline. `best` is the greatest recorded number of steps, or null; `champions` and
-/// `holdout_tables` are in the order of their texts. The text of a complete board is a function of its root alone;
-/// where that root is the empty table of n states, `best` is S(n) (Radó 1962). Where memory is refused, `out` is as it
-/// was.
+/// their names, and a newline. `best` is the greatest recorded number of steps, or null, and `ones` the greatest recorded
+/// score, or null; `champions`, `ones_champions` and `holdout_tables` are in the order of their texts. The text of a
+/// complete board is a function of its root alone; where that root is the empty table of n states, `best` is S(n) and
+/// `ones` is Σ(n) (Radó 1962). Where memory is refused, `out` is as it was.
 #[tactic(auto, using(crate::proofs::TreeJsons::tree_json, crate::proofs::TreeJsons::json_tells_rado))]
 pub fn report_json(alloc: Global, board: &Board, out: &mut Vec<u8>) -> Result<(), NoMemory>
     ensures ok { OnOk result ((text : List ℕ) × IsJsonReport board.now.root board.now.records text × (out.new.items ≡ out.old.items ++ text)) }
@@ -36,7 +36,7 @@ pub fn report_json(alloc: Global, board: &Board, out: &mut Vec<u8>) -> Result<()
 fn report_text(alloc: Global, board: &Board) -> Result<Vec<u8>, NoMemory>
     ensures { IfOk result (λ text. IsJsonReport board.now.root board.now.records text.items) }
 {
-    let (champions, holdouts) = board.champions_and_holdouts()?;
+    let (champions, ones_champions, holdouts) = board.champions_and_holdouts()?;
     let tally = board.tally();
     let report = report_value(
         alloc,
@@ -44,6 +44,7 @@ fn report_text(alloc: Global, board: &Board) -> Result<Vec<u8>, NoMemory>
         board.status(),
         &tally,
         champions,
+        ones_champions,
         holdouts,
     )?;
     let mut text = report.to_vec(alloc)?;

@@ -10,7 +10,7 @@ ghost use Rattle.json_report.specs.TreeJson.{IsTreeJson, JsonTellsRado};
 
 /// The JSON of a complete board is that of its root's tree, and a tree has one: it is a function of the root
 /// alone, whatever records, certificates and restarts the board came from. Where that root is the empty table of n
-/// states, the best that it tells is S(n) (Radó 1962).
+/// states, the best that it tells is S(n), and the ones are Σ(n) (Radó 1962).
 pub fn complete_boards_tell_their_tree()
     ensures tree { (b : Contents) (text : List ℕ) → IsBoard b → IsComplete b.root (mark_in b.records) →
         IsJsonReport b.root b.records text → IsTreeJson b.root text }

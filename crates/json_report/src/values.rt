@@ -2,7 +2,7 @@
 ghost use Rattle.std.specs.Prelude.{◌≡◌, IfOk, codes};
 ghost use Rattle.std.specs.Vec.Iter.{into_iter_items};
 ghost use Rattle.serde_json.specs.View.{view};
-ghost use Rattle.json_report.specs.JsonReport.{best_value, table_value, tables_value, object_of, report_value};
+ghost use Rattle.json_report.specs.JsonReport.{greatest_value, table_value, tables_value, object_of, report_value};
 
 use evidence::NoMemory;
 use ledger::{Champions, Holdouts, Status, Tally};
@@ -19,11 +19,13 @@ pub(crate) fn report_value(
     status: Status,
     tally: &Tally,
     champions: Champions,
+    ones_champions: Champions,
     holdouts: Holdouts,
 ) -> Result<Value, NoMemory>
-    ensures { IfOk result (λ report. view report ≡ report_value root.now status tally.now (into_iter_items champions) (into_iter_items holdouts)) }
+    ensures { IfOk result (λ report. view report ≡ report_value root.now status tally.now (into_iter_items champions) (into_iter_items ones_champions) (into_iter_items holdouts)) }
 {
     let mut champions = tables_value(alloc, champions)?;
+    let mut ones_champions = tables_value(alloc, ones_champions)?;
     let mut holdouts = tables_value(alloc, holdouts)?;
     let mut root = table_value(alloc, root)?;
     object_of(
@@ -32,6 +34,7 @@ pub(crate) fn report_value(
         status,
         tally,
         &mut champions,
+        &mut ones_champions,
         &mut holdouts,
     )
 }
@@ -44,18 +47,21 @@ fn object_of(
     status: Status,
     tally: &Tally,
     champions: &mut Value,
+    ones_champions: &mut Value,
     holdouts: &mut Value,
 ) -> Result<Value, NoMemory>
-    ensures { IfOk result (λ report. view report ≡ object_of (view root.old) status tally.now (view champions.old) (view holdouts.old)) }
+    ensures { IfOk result (λ report. view report ≡ object_of (view root.old) status tally.now (view champions.old) (view ones_champions.old) (view holdouts.old)) }
 {
     json!(in alloc; {
-        "best": best_value(tally.best),
+        "best": greatest_value(tally.best),
         "champions": champions.take(),
         "halting": tally.halting,
         "holdout_tables": holdouts.take(),
         "holdouts": tally.holdouts,
         "never": tally.never,
         "nodes": tally.nodes,
+        "ones": greatest_value(tally.ones),
+        "ones_champions": ones_champions.take(),
         "open": tally.open_count,
         "root": root.take(),
         "status": status_name(status)
@@ -85,12 +91,12 @@ fn table_value(alloc: Global, t: &Table) -> Result<Value, NoMemory>
     Ok(Value::from(text))
 }
 
-// A number of steps, or null.
-fn best_value(best: Option<u64>) -> Value
-    ensures { view result ≡ best_value best }
+// A greatest number, or null.
+fn greatest_value(greatest: Option<u64>) -> Value
+    ensures { view result ≡ greatest_value greatest }
 {
-    match best {
-        Some(steps) => Value::from(steps),
+    match greatest {
+        Some(greatest) => Value::from(greatest),
         None => Value::Null,
     }
 }

@@ -1,5 +1,5 @@
 -- The first bytes of a reader, and the header that they have.
-use Rattle.std.proofs.Common.{◌≡◌, ◌≢◌, ℕ, ◌+◌, ◌-◌, ◌≤◌, true, false, ◌⊎◌, List, [], ◌++◌, length, take, Option, None, Some, Ok, Err, inl, inr, refl, sym, ap, ◌∙◌, subst, arith, append-nil, length-append, length-take, take_all, get_or}
+use Rattle.std.proofs.Common.{◌≡◌, ◌≢◌, ℕ, ◌+◌, ◌-◌, ◌≤◌, ◌⊎◌, true, false, List, [], ◌++◌, length, take, Option, None, Some, Ok, Err, inl, inr, refl, sym, ap, ◌∙◌, subst, arith, append-nil, length-append, length-take, take_all, get_or}
 use Rattle.std.proofs.Math.Seq.{take-append-add}
 use Rattle.std.proofs.lemmas.List.{take-append-le, take_at, get_or_at, get_or_append_left}
 use Rattle.std.proofs.lemmas.Bool.{cases_lt}
@@ -10,13 +10,15 @@ use Rattle.machine_text.proofs.Named.{table_of-length, length_of_states}
 use Rattle.tree.specs.Used.{InOrder}
 use Rattle.text.specs.Lines.{HasNoNewline, BeginsWithLine}
 use Rattle.text.proofs.Lines.{cases_line, line_has_newline}
-use Rattle.ledger.specs.LedgerText.{header_words, BeginsAsHeader, IsTornHeader, HasHeader, HasNoHeader, PeekGives, LoadGives, ReadsAs}
+use Rattle.ledger.specs.LedgerText.{BeginsAsHeader, IsTornHeader, HasHeader, HasNoHeader, PeekGives, LoadGives, ReadsIn}
 use Rattle.ledger.specs.Contents.{Contents}
 use Rattle.ledger.specs.declared.left.Left.{Left}
 use Rattle.ledger.specs.Loading.{NamesRoot, header_start}
+use Rattle.ledger.specs.Versions.{header_words}
+use Rattle.ledger.specs.declared.format.Format.{Format}
 use Rattle.ledger.proofs.FirstLines.{begun_whole, begun_start}
 use Rattle.ledger.proofs.Feeding.{longer_text, header_more}
-use Rattle.ledger.proofs.HeaderLaws.{none_begun, none_named}
+use Rattle.ledger.proofs.HeaderLaws.{words_length, none_begun, none_named, is_named}
 use Rattle.ledger.specs.declared.faults.LoadFault.{LoadFault}
 use Rattle.ledger.specs.declared.faults.LoadFault.TheVariants.{BadHeader, WrongRoot, NoMemory}
 use Rattle.options.specs.declared.ended.Ended.{Ended}
@@ -29,10 +31,12 @@ use Rattle.ledger_commands.specs.declared.reading.Stopped.TheVariants.{Failed, E
 use Rattle.ledger_commands.proofs.LedgerReports.{one_header}
 
 -- a line that names a root is short
-named_short : (line : List ℕ) (root : Packed) → NamesRoot line root → length line ≤ 53
-named_short line root named =
+named_short : (format : Format) (line : List ℕ) (root : Packed) → NamesRoot format line root → length line ≤ 53
+named_short format line root named =
     elim (is_table_length (length named.name)) as (λ v. is_table_length (length named.name) ≡ v → length line ≤ 53) [
-      | true ↦ λ is. let sizes = length_of_states (length named.name) (states_in (length named.name)) refl is in omega (arith, sizes.0, sizes.2, ap length named.words, length-append header_words named.name)
+      | true ↦ λ is.
+          let sizes = length_of_states (length named.name) (states_in (length named.name)) refl is in
+          omega (arith, sizes.0, sizes.2, ap length named.is, length-append (header_words format) named.name, words_length format)
       | false ↦ λ is. let fails = table_of-length named.name is in let reads = named.reads in absurd (cc)
     ] refl
 
@@ -69,7 +73,7 @@ some_behind old mid limit first consumed within =
 no_header_line : (first more line rest : List ℕ) → BeginsWithLine first line rest → HasNoHeader first → HasNoHeader (first ++ more)
 no_header_line first more line rest begins none =
     none_named (first ++ more) line (rest ++ more) (longer_text more begins)
-    (λ root named. none.none root rest (record { name = named.name; line = subst (λ (l : List ℕ). BeginsWithLine first l rest) named.words begins; reads = named.reads }))
+    (λ format root named. none.none root rest (is_named first line rest begins format root named))
 
 -- a line behind bytes without a newline is no shorter than they are
 line_long : (first more line rest : List ℕ) → HasNoNewline first → BeginsWithLine (first ++ more) line rest → length first ≤ length line
@@ -100,8 +104,8 @@ module _ (first more : List ℕ) (none : HasNoNewline first) (long : 64 ≤ leng
   bad_without no_newline (inr bad) = inr (none_begun (first ++ more) no_newline (λ begun. bad.whole (record { no_newline = none; begun = begun_before begun })))
 
   bad_with : (line rest : List ℕ) → BeginsWithLine (first ++ more) line rest → IsBad (first ++ more)
-  bad_with line rest begins = inr (none_named (first ++ more) line rest begins (λ root named.
-      let size : length line ≤ 53 = named_short line root named in
+  bad_with line rest begins = inr (none_named (first ++ more) line rest begins (λ format root named.
+      let size : length line ≤ 53 = named_short format line root named in
       let reach : length first ≤ length line = line_long first more line rest none begins in
       absurd (omega (arith, size, reach, long))))
 
@@ -174,11 +178,11 @@ module _ (old mid : Option (List ℕ)) (limit : ℕ) (first : List ℕ) (root : 
       let behind = some_behind old mid limit first begins.consumed begins.within in
       (first ++ behind.0, behind.1, (root, begins.rest ++ behind.0, header_more first behind.0 root begins.rest begins.header, apart))
 
-  pub is_loaded : (b : Contents) (left : Left) (more : List ℕ) → b.root ≡ root → AreFirstBytes mid (limit - length first) more → ReadsAs root (first ++ more) b.records left → IsLoadedFrom old limit b left
+  pub is_loaded : (b : Contents) (left : Left) (more : List ℕ) → b.root ≡ root → AreFirstBytes mid (limit - length first) more → ReadsIn b.format root (first ++ more) b.records left → IsLoadedFrom old limit b left
   is_loaded b left more same are reads = record {
     text = first ++ more;
     first = first_behind old mid limit first more begins.consumed begins.within are;
-    reads = subst (λ (p : Packed). ReadsAs p (first ++ more) b.records left) (sym same) reads;
+    reads = subst (λ (p : Packed). ReadsIn b.format p (first ++ more) b.records left) (sym same) reads;
     order = subst (λ (p : Packed). (u : ℕ) × InOrder u (entry_of p)) (sym same) begins.order;
   }
 

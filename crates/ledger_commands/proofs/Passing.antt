@@ -13,8 +13,8 @@ pub all_written : (held new_held : Option (List ℕ)) (piece new : List ℕ) →
 all_written held new_held piece new appended is = record { written = piece; appended = appended; is = ap (λ (l : List ℕ). piece ++ l) is }
 
 -- one text after another
-pub passes_on : (h1 h2 h3 : Option (List ℕ)) (p1 p2 p3 a b : List ℕ) → Passes h1 p1 h2 p2 a → Passes h2 p2 h3 p3 b → Passes h1 p1 h3 p3 (a ++ b)
-passes_on h1 h2 h3 p1 p2 p3 a b x y = record {
+pub passes_on : {h1 h2 h3 : Option (List ℕ)} {p1 p2 p3 a b : List ℕ} → Passes h1 p1 h2 p2 a → Passes h2 p2 h3 p3 b → Passes h1 p1 h3 p3 (a ++ b)
+passes_on {h1} {h2} {h3} {p1} {p2} {p3} {a} {b} x y = record {
   written = x.written ++ y.written;
   appended = Appends-trans h1 h2 h3 x.written y.written x.appended y.appended;
   is = append_assoc x.written y.written p3 ∙ (ap (λ (l : List ℕ). x.written ++ l) y.is
@@ -35,18 +35,11 @@ straight h1 h2 p1 p2 text e1 e2 appended = record {
 
 -- a text passes once the piece is written
 pub written_first : (h1 h2 h3 : Option (List ℕ)) (p1 p2 p3 text : List ℕ) → Appends h1 h2 p1 → p2 ≡ [] → Passes h2 p2 h3 p3 text → Passes h1 p1 h3 p3 text
-written_first h1 h2 h3 p1 p2 p3 text appended none x = passes_on h1 h2 h3 p1 p2 p3 [] text (all_written h1 h2 p1 p2 appended none) x
+written_first h1 h2 h3 p1 p2 p3 text appended none x = passes_on (all_written h1 h2 p1 p2 appended none) x
 
--- the parts of a report one after another, of which the last is what is left in the piece
-pub report_passed : (h1 h2 h3 h4 h5 : Option (List ℕ)) (p1 p2 p3 p4 a b last : List ℕ) → Passes h1 p1 h2 p2 a → Passes h2 p2 h3 p3 b → Passes h3 p3 h4 p4 last
-    → Appends h4 h5 p4 → Appends h1 h5 (p1 ++ a ++ b ++ last)
-report_passed h1 h2 h3 h4 h5 p1 p2 p3 p4 a b last x y z written =
-    let begins : Passes h1 [] h1 p1 p1 = only_appended h1 [] p1 p1 refl in
-    let tables = passes_on h1 h2 h3 [] p2 p3 (p1 ++ a) b (passes_on h1 h1 h2 [] p1 p2 p1 a begins x) y in
-    passed h1 h4 h5 p4 (p1 ++ a ++ b ++ last) (passes_on h1 h3 h4 [] p3 p4 (p1 ++ a ++ b) last tables z) written
-
--- four texts one after another
-pub line_passed : (h1 h2 h3 h4 h5 : Option (List ℕ)) (p1 p2 p3 p4 p5 a b c d : List ℕ) → Passes h1 p1 h2 p2 a → Passes h2 p2 h3 p3 b → Passes h3 p3 h4 p4 c → Passes h4 p4 h5 p5 d
-    → Passes h1 p1 h5 p5 (a ++ b ++ c ++ d)
-line_passed h1 h2 h3 h4 h5 p1 p2 p3 p4 p5 a b c d x y z w =
-    passes_on h1 h4 h5 p1 p4 p5 (a ++ b ++ c) d (passes_on h1 h3 h4 p1 p3 p4 (a ++ b) c (passes_on h1 h2 h3 p1 p2 p3 a b x y) z) w
+-- the parts of a report behind the one that was in the piece, of which the last is what is left there
+pub report_passed : {h0 h1 h2 h3 h4 h5 h6 : Option (List ℕ)} {p0 p1 p2 p3 p4 p5 a b c d last : List ℕ} → Passes h0 p0 h1 p1 a → Passes h1 p1 h2 p2 b → Passes h2 p2 h3 p3 c
+    → Passes h3 p3 h4 p4 d → Passes h4 p4 h5 p5 last → Appends h5 h6 p5 → Appends h0 h6 (p0 ++ a ++ b ++ c ++ d ++ last)
+report_passed {h0} {h1} {h2} {h3} {h4} {h5} {h6} {p0} {p1} {p2} {p3} {p4} {p5} {a} {b} {c} {d} {last} x y z u w written =
+    let begins : Passes h0 [] h0 p0 p0 = only_appended h0 [] p0 p0 refl in
+    passed h0 h5 h6 p5 (p0 ++ a ++ b ++ c ++ d ++ last) (passes_on (passes_on (passes_on (passes_on (passes_on begins x) y) z) u) w) written

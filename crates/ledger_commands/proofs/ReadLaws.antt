@@ -7,7 +7,7 @@ use Rattle.std.specs.Io.KnownBytes.{Consumes, ReadConsumes}
 use Rattle.machine_text.specs.Packed.{Packed}
 use Rattle.ledger.specs.Records.{same_table}
 use Rattle.ledger.specs.Contents.{Contents}
-use Rattle.ledger.specs.LedgerText.{HasHeader, LoadGives, ReadsAs}
+use Rattle.ledger.specs.LedgerText.{HasHeader, LoadGives, ReadsIn}
 use Rattle.ledger.specs.Loading.{Loading, StandsAfter, IsFed}
 use Rattle.ledger.specs.Reading.{FeedsAll}
 use Rattle.ledger.specs.declared.left.Left.{Left}
@@ -48,13 +48,13 @@ behind_loads old new root text result same stands fed gives =
     subst (λ (p : Packed). LoadGives p text result) (fed.root ∙ same) (gives text (fed.stands [] stands))
 
 pub behind_stands : (has : Option (List ℕ)) (limit : ℕ) (root : Packed) (first more rest : List ℕ) (loaded : Contents × Left) → HasHeader first root rest → AreFirstBytes has limit more
-    → LoadGives root (first ++ more) (Ok loaded) → (loaded.0.root ≡ root) × ((text : List ℕ) × AreFirstBytes has limit text × ReadsAs root (first ++ text) loaded.0.records loaded.1)
+    → LoadGives root (first ++ more) (Ok loaded) → (loaded.0.root ≡ root) × ((text : List ℕ) × AreFirstBytes has limit text × ReadsIn loaded.0.format root (first ++ text) loaded.0.records loaded.1)
 behind_stands has limit root first more rest loaded header are gives =
     (gives.0, (more, are, load_taken (first ++ more) root loaded (root, rest ++ more, header_more first more root rest header) gives))
 
 -- with the first bytes it is all that was read
 pub if_loaded : {E : Type 0} (old mid : Option (List ℕ)) (limit left : ℕ) (first : List ℕ) (root : Packed) (r : Result (Contents × Left) E) → BeginsWithRoot old mid limit first root → left ≡ limit - length first
-    → IfOk r (λ l. (l.0.root ≡ root) × ((more : List ℕ) × AreFirstBytes mid left more × ReadsAs root (first ++ more) l.0.records l.1))
+    → IfOk r (λ l. (l.0.root ≡ root) × ((more : List ℕ) × AreFirstBytes mid left more × ReadsIn l.0.format root (first ++ more) l.0.records l.1))
     → IfOk r (λ l. (l.0.root ≡ root) × IsLoadedFrom old limit l.0 l.1)
 if_loaded old mid limit left first root (Ok l) begins is h =
     (h.0, is_loaded old mid limit first root begins l.0 l.1 h.1.0 h.0 (subst (λ (n : ℕ). AreFirstBytes mid n h.1.0) is h.1.1) h.1.2)

@@ -6,6 +6,9 @@ use Rattle.machine_text.specs.Text.{text_of}
 use Rattle.turing.specs.Machine.{Machine}
 use Rattle.turing.specs.Run.{start, from}
 use Rattle.turing.specs.Halting.{HaltsAt, IsRado}
+use Rattle.turing.specs.Score.{score_at}
+use Rattle.turing.proofs.Scores.{halts_with}
+use Rattle.tree.specs.Best.{IsGreatestOfAll, Scores}
 use Rattle.tree.specs.Closed.{IsComplete}
 use Rattle.tree.specs.Filling.{empty_machine}
 use Rattle.tree.specs.Tables.{IsDecidedTable, IsGreatestInTables}
@@ -13,19 +16,20 @@ use Rattle.tree.specs.Tables.InTableTree.{Itself}
 use Rattle.tree.proofs.ClosedLaws.{closed_decided, complete_closed}
 use Rattle.tree.proofs.EmptyTable.{empty_map, greatest_of_all_tables}
 use Rattle.tree.proofs.Rado.{rado_is_greatest}
-use Rattle.tree.proofs.Worth.{steps_worth}
+use Rattle.tree.proofs.Worth.{IsWorth, steps_worth, score_worth}
 use Rattle.cert.specs.Claim.{Recorded}
 use Rattle.ledger.specs.Contents.{Contents, IsBoard}
 use Rattle.ledger.specs.Records.{mark_in}
+use Rattle.ledger.specs.Sigma.{IsSigma}
 use Rattle.ledger.specs.Tally.{AreAll, AreSoMany, IsStatus}
-use Rattle.ledger.specs.WholeTree.{IsTreeChampion}
+use Rattle.ledger.specs.WholeTree.{IsTreeTally, IsTreeChampion, IsTreeOnesChampion}
 use Rattle.ledger.specs.declared.tally.Tally.{Tally}
 use Rattle.ledger.specs.declared.status.Status.{Status}
 use Rattle.ledger.specs.declared.status.Status.TheVariants.{Working, Holdouts, Complete}
 use Rattle.ledger.proofs.Apart.{first_member}
 use Rattle.ledger.proofs.Sets.{nobody}
-use Rattle.ledger.proofs.WholeTree.{board_marks, as_many, whole_tally, whole_champions, one_tally, one_list_of_champions}
-use Rattle.ledger_commands.specs.Report.{IsReport, status_name, line_of, table_lines, counts_text, report_text}
+use Rattle.ledger.proofs.WholeTree.{board_marks, as_many, whole_tally, whole_champions, whole_ones_champions, one_tally, one_list_of_champions, one_list_of_ones_champions}
+use Rattle.ledger_commands.specs.Report.{IsReport, status_name, line_of, table_lines, greatest_text, counts_text, report_text}
 use Rattle.ledger_commands.specs.TreeReport.{IsTreeReport, TellsRado}
 
 -- where no table is of a kind, none is listed, and there are none
@@ -42,7 +46,7 @@ none_many K n some x none =
 pub complete_status : (root : Packed) (rs : List Recorded) (status : Status) → IsComplete root (mark_in rs) → IsStatus root rs status → status_name status ≡ codes "complete"
 complete_status root rs (Working count) complete stands = absurd (none_many _ count stands.0 stands.1 complete.none_open)
 complete_status root rs (Holdouts count) complete stands = absurd (none_many _ count stands.1 stands.2 complete.no_holdout)
-complete_status root rs (Complete best) complete stands = refl
+complete_status root rs (Complete best ones) complete stands = refl
 
 pub tree_report : (b : Contents) (text : List ℕ) → IsBoard b → IsComplete b.root (mark_in b.records) → IsReport b.root b.records text → IsTreeReport b.root text
 tree_report b text board complete r =
@@ -51,50 +55,79 @@ tree_report b text board complete r =
     record {
       tally = r.tally;
       champions = r.champions;
+      ones_champions = r.ones_champions;
       counted = whole_tally b r.tally board complete r.counted;
       are_champions = whole_champions b r.tally.best r.champions board complete r.are_champions;
+      are_ones_champions = whole_ones_champions b r.tally.ones r.ones_champions board complete r.are_ones_champions;
       is = r.is ∙ (ap (λ name. line_of (codes "root") (text_of b.root) ++ line_of (codes "status") name ++ counts_text r.tally
-          ++ table_lines (codes "champion") r.champions ++ table_lines (codes "holdout") r.holdouts) status
-          ∙ ap (λ hs. report_text b.root (Complete r.tally.best) r.tally r.champions hs) holdouts);
+          ++ table_lines (codes "champion") r.champions ++ line_of (codes "ones") (greatest_text r.tally.ones)
+          ++ table_lines (codes "ones_champion") r.ones_champions ++ table_lines (codes "holdout") r.holdouts) status
+          ∙ ap (λ hs. report_text b.root (Complete r.tally.best r.tally.ones) r.tally r.champions r.ones_champions hs) holdouts);
     }
+
+-- a text that is told of a whole tree is one, whatever tally and champions it is told by
+pub one_tree : (root : Packed) (text : Tally → List Packed → List Packed → List ℕ) (a b : Tally) (xs ys us vs : List Packed) → IsTreeTally root a → IsTreeTally root b
+    → AreAll (IsTreeChampion root a.best) xs → AreAll (IsTreeChampion root b.best) ys → AreAll (IsTreeOnesChampion root a.ones) us → AreAll (IsTreeOnesChampion root b.ones) vs
+    → text a xs us ≡ text b ys vs
+one_tree root text a b xs ys us vs x y champions others ones other_ones =
+    let tally : a ≡ b = one_tally root a b x y in
+    let same : xs ≡ ys = one_list_of_champions root b.best xs ys (subst (λ (t : Tally). AreAll (IsTreeChampion root t.best) xs) tally champions) others in
+    let same_ones : us ≡ vs = one_list_of_ones_champions root b.ones us vs (subst (λ (t : Tally). AreAll (IsTreeOnesChampion root t.ones) us) tally ones) other_ones in
+    ap (λ (t : Tally). text t xs us) tally ∙ (ap (λ (cs : List Packed). text b cs us) same ∙ ap (λ (cs : List Packed). text b ys cs) same_ones)
 
 pub one_report : (root : Packed) (a b : List ℕ) → IsTreeReport root a → IsTreeReport root b → a ≡ b
 one_report root a b x y =
-    let tally : x.tally ≡ y.tally = one_tally root x.tally y.tally x.counted y.counted in
-    let champions : x.champions ≡ y.champions = one_list_of_champions root y.tally.best x.champions y.champions
-    (subst (λ (t : Tally). AreAll (IsTreeChampion root t.best) x.champions) tally x.are_champions) y.are_champions in
-    x.is ∙ (ap (λ (t : Tally). report_text root (Complete t.best) t x.champions []) tally
-    ∙ (ap (λ (cs : List Packed). report_text root (Complete y.tally.best) y.tally cs []) champions ∙ sym y.is))
+    let text : Tally → List Packed → List Packed → List ℕ = λ t champions ones_champions. report_text root (Complete t.best t.ones) t champions ones_champions [] in
+    x.is ∙ (one_tree root text x.tally y.tally x.champions y.champions x.ones_champions y.ones_champions x.counted y.counted x.are_champions y.are_champions x.are_ones_champions y.are_ones_champions ∙ sym y.is)
 
--- the machine without entries halts at once, so the tree of an empty table has a greatest number of steps: S(n)
+-- the machine without entries halts at once, so the tree of an empty table has a greatest number of steps, S(n), and a
+-- greatest score, Σ(n)
 empty_halts : HaltsAt empty_machine 1
 unfolding from
 empty_halts = record { last = 0; at = start; is = refl; over = refl; count = refl }
 
-greatest_tells : (n : ℕ) (best : Option ℕ) → 1 ≤ n → n ≤ state_limit → IsDecidedTable (empty_table n) → IsGreatestInTables HaltsAt (empty_table n) best → (s : ℕ) × (best ≡ Some s) × IsRado n s
-greatest_tells n None some limit decided none =
-    absurd (none (empty_table n) 1 Itself (subst (λ (m : Machine). HaltsAt m 1) (sym (empty_map n some limit)) empty_halts))
-greatest_tells n (Some s) some limit decided greatest =
-    (s, refl, (rado_is_greatest n s).0 ((greatest_of_all_tables HaltsAt steps_worth n s some limit decided).0 greatest))
+-- a worth that the machine without entries has
+module _ (V : Machine → ℕ → Type 0) (worth : IsWorth V) (own : ℕ) (empty : V empty_machine own) where
+  greatest_tells : (n : ℕ) (best : Option ℕ) → 1 ≤ n → n ≤ state_limit → IsDecidedTable (empty_table n) → IsGreatestInTables V (empty_table n) best → (s : ℕ) × (best ≡ Some s) × IsGreatestOfAll V n s
+  greatest_tells n None some limit decided none =
+      absurd (none (empty_table n) own Itself (subst (λ (m : Machine). V m own) (sym (empty_map n some limit)) empty))
+  greatest_tells n (Some s) some limit decided greatest = (s, refl, (greatest_of_all_tables V worth n s some limit decided).0 greatest)
+
+  complete_tells : (b : Contents) (n : ℕ) (best : Option ℕ) → IsBoard b → IsComplete b.root (mark_in b.records) → 1 ≤ n → n ≤ state_limit → b.root ≡ empty_table n
+      → IsGreatestInTables V b.root best → (s : ℕ) × (best ≡ Some s) × IsGreatestOfAll V n s
+  complete_tells b n best board complete some limit root greatest =
+      let marks = mark_in b.records in
+      let decided = closed_decided b.root marks (board_marks b board) b.root (complete_closed b.root marks (board_marks b board) complete) in
+      greatest_tells n best some limit (subst IsDecidedTable root decided) (subst (λ (p : Packed). IsGreatestInTables V p best) root greatest)
 
 pub best_tells : (b : Contents) (n : ℕ) (best : Option ℕ) → IsBoard b → IsComplete b.root (mark_in b.records) → 1 ≤ n → n ≤ state_limit → b.root ≡ empty_table n
     → IsGreatestInTables HaltsAt b.root best → (s : ℕ) × (best ≡ Some s) × IsRado n s
 best_tells b n best board complete some limit root greatest =
-    let marks = mark_in b.records in
-    let decided = closed_decided b.root marks (board_marks b board) b.root (complete_closed b.root marks (board_marks b board) complete) in
-    greatest_tells n best some limit (subst IsDecidedTable root decided) (subst (λ (p : Packed). IsGreatestInTables HaltsAt p best) root greatest)
+    let (s, is, all) = complete_tells HaltsAt steps_worth 1 empty_halts b n best board complete some limit root greatest in (s, is, (rado_is_greatest n s).0 all)
+
+pub ones_tell : (b : Contents) (n : ℕ) (ones : Option ℕ) → IsBoard b → IsComplete b.root (mark_in b.records) → 1 ≤ n → n ≤ state_limit → b.root ≡ empty_table n
+    → IsGreatestInTables Scores b.root ones → (s : ℕ) × (ones ≡ Some s) × IsSigma n s
+ones_tell b n ones board complete some limit root greatest =
+    let (s, is, all) = complete_tells Scores score_worth (score_at empty_machine 1) (1, halts_with empty_machine 1 empty_halts) b n ones board complete some limit root greatest in
+    (s, is, record { champion = all.champion; is_machine = all.is_machine; scores = all.worth; greatest = all.greatest })
 
 pub tells_rado : (b : Contents) (n : ℕ) (text : List ℕ) → IsBoard b → IsComplete b.root (mark_in b.records) → 1 ≤ n → n ≤ state_limit → b.root ≡ empty_table n
     → IsReport b.root b.records text → TellsRado n text
 tells_rado b n text board complete some limit root r =
     let tree = tree_report b text board complete r in
     let (s, best, rado) = best_tells b n tree.tally.best board complete some limit root tree.counted.best in
+    let (sigma, ones, is_sigma) = ones_tell b n tree.tally.ones board complete some limit root tree.counted.ones in
     record {
       s = s;
+      sigma = sigma;
       is_rado = rado;
+      is_sigma = is_sigma;
       tally = tree.tally;
       champions = tree.champions;
+      ones_champions = tree.ones_champions;
       best = best;
-      is = tree.is ∙ (ap (λ (p : Packed). report_text p (Complete tree.tally.best) tree.tally tree.champions []) root
-          ∙ ap (λ (o : Option ℕ). report_text (empty_table n) (Complete o) tree.tally tree.champions []) best);
+      ones = ones;
+      is = tree.is ∙ (ap (λ (p : Packed). report_text p (Complete tree.tally.best tree.tally.ones) tree.tally tree.champions tree.ones_champions []) root
+          ∙ (ap (λ (o : Option ℕ). report_text (empty_table n) (Complete o tree.tally.ones) tree.tally tree.champions tree.ones_champions []) best
+          ∙ ap (λ (o : Option ℕ). report_text (empty_table n) (Complete (Some s) o) tree.tally tree.champions tree.ones_champions []) ones));
     }

@@ -23,8 +23,8 @@ left_text (From line kept why) = codes "left " ++ decimal line ++ 10 ∷ []
 
 -- accepted where a board is complete and all of its ledger was kept
 abbrev pub outcome_by : Status → Left → Outcome
-outcome_by (Complete best) Nothing = Accepted
-outcome_by (Complete best) (From line kept why) = Refused
+outcome_by (Complete best ones) Nothing = Accepted
+outcome_by (Complete best ones) (From line kept why) = Refused
 outcome_by (Working count) left = Refused
 outcome_by (Holdouts count) left = Refused
 

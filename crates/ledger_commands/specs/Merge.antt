@@ -2,7 +2,7 @@
 use Rattle.std.specs.Prelude.{◌≡◌, ◌≢◌, ◌⊎◌, ℕ, List, Option, Some, None, Result, Ok, Err}
 use Rattle.machine_text.specs.Packed.{Packed}
 use Rattle.ledger.specs.Contents.{Contents}
-use Rattle.ledger.specs.LedgerText.{IsTornHeader, HasHeader, HasNoHeader, ReadsAs, ledger_text}
+use Rattle.ledger.specs.LedgerText.{IsTornHeader, HasHeader, HasNoHeader, ReadsIn, ledger_text}
 use Rattle.ledger.specs.Merging.{MergeGives}
 use Rattle.ledger.specs.Tally.{IsTally}
 use Rattle.ledger.specs.declared.left.Left.{Left}
@@ -16,9 +16,9 @@ use Rattle.options.specs.declared.ended.Ended.TheVariants.{BadHeader, WrongRoot,
 abbrev pub Readings : Type 1
 Readings = Result (List ℕ) Ended → Type 0
 
--- what is loaded of it: its bytes stand for the records of a board, up to what is left; or it can't be read, or not be loaded
+-- what is loaded of it: its bytes stand for the records of a board, in its version, up to what is left; or it can't be read, or not be loaded
 abbrev pub IsLoaded : Readings → Result (Contents × Left) Ended → Type 0
-IsLoaded reads (Ok l) = (bytes : List ℕ) × reads (Ok bytes) × ReadsAs l.0.root bytes l.0.records l.1
+IsLoaded reads (Ok l) = (bytes : List ℕ) × reads (Ok bytes) × ReadsIn l.0.format l.0.root bytes l.0.records l.1
 IsLoaded reads (Err e) = reads (Err e) ⊎ ((bytes : List ℕ) × reads (Ok bytes) × EndsLedger bytes e)
 
 -- what is told as left of two ledgers: of the first, where not all of it was kept
@@ -26,9 +26,11 @@ abbrev pub first_left : Left → Left → Left
 first_left Nothing other = other
 first_left (From line kept why) other = From line kept why
 
--- the records for which a text stands are taken into a board of the same root
+-- the records for which a text stands are taken into a board of the same root, whatever version either has
 abbrev pub TakesIn : Contents → List ℕ → Left → Contents → Type 0
-TakesIn old text left new = (other : Contents) × ReadsAs other.root text other.records left × MergeGives old other (Ok tt) new
+TakesIn old text left new =
+    (other : Contents) × ReadsIn other.format other.root text other.records left × MergeGives old other (Ok tt) new
+    × (new.root ≡ old.root) × (new.format ≡ old.format)
 
 -- why a text isn't taken into a board of this root: it has no root, or another one; memory may be refused where it has
 -- the same one
@@ -50,7 +52,7 @@ AreJoined one other (Err e) =
     ⊎ ((first : Contents × Left) × IsLoaded one (Ok first)
     × (other (Err e) ⊎ ((bytes : List ℕ) × other (Ok bytes) × EndsTakingIn first.0.root bytes e)))
 
--- what a ledger holds, where that is known, once it is made to hold that of a board and nothing else
+-- what a ledger holds, where that is known, once it is made to hold that of a board, in version 2, and nothing else
 abbrev pub rewritten : Contents → Option (List ℕ) → Option (List ℕ)
 rewritten b (Some text) = Some (ledger_text b.root b.records)
 rewritten b None = None

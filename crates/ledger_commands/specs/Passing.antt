@@ -8,7 +8,12 @@ use Rattle.ledger_commands.specs.declared.report_writer.LineReport.{LineReport}
 -- the bytes of a report that is made
 abbrev pub bytes_of_lines : LineReport → List ℕ
 bytes_of_lines made =
-    made.head.items ++ table_lines (codes "champion") (into_iter_items made.champions) ++ table_lines (codes "holdout") (into_iter_items made.holdouts) ++ made.tail.items
+    made.head.items
+    ++ table_lines (codes "champion") (into_iter_items made.champions)
+    ++ made.ones.items
+    ++ table_lines (codes "ones_champion") (into_iter_items made.ones_champions)
+    ++ table_lines (codes "holdout") (into_iter_items made.holdouts)
+    ++ made.tail.items
 
 -- a text has come behind the piece: what was written since and the new piece are together the old piece and the text
 pub record Passes (held : Option (List ℕ)) (piece : List ℕ) (new_held : Option (List ℕ)) (new_piece text : List ℕ) : Type 0 where

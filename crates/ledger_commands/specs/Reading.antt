@@ -3,7 +3,7 @@ use Rattle.std.specs.Prelude.{◌≡◌, ℕ, ◌≤◌, List, Option, None, Som
 use Rattle.machine_text.specs.Packed.{Packed, entry_of}
 use Rattle.tree.specs.Used.{InOrder}
 use Rattle.ledger.specs.Contents.{Contents}
-use Rattle.ledger.specs.LedgerText.{ReadsAs}
+use Rattle.ledger.specs.LedgerText.{ReadsIn}
 use Rattle.ledger.specs.declared.left.Left.{Left}
 use Rattle.ledger_commands.specs.LedgerReport.{EndsLedger}
 use Rattle.ledger_commands.specs.Merge.{EndsTakingIn}
@@ -15,11 +15,11 @@ abbrev pub AreFirstBytes : Option (List ℕ) → ℕ → List ℕ → Type 0
 AreFirstBytes None limit text = length text ≤ limit
 AreFirstBytes (Some all) limit text = text ≡ take limit all
 
--- they are read as a board, whose root names its states in order, up to what is left
+-- they are read as a board, in its version, whose root names its states in order, up to what is left
 pub record IsLoadedFrom (has : Option (List ℕ)) (limit : ℕ) (b : Contents) (left : Left) : Type 0 where
   pub text : List ℕ
   pub first : AreFirstBytes has limit text
-  pub reads : ReadsAs b.root text b.records left
+  pub reads : ReadsIn b.format b.root text b.records left
   pub order : (u : ℕ) × InOrder u (entry_of b.root)
 
 -- why they aren't loaded: a read failed, or there is a reason in their text

@@ -7,7 +7,7 @@ ghost use Rattle.machine_text.specs.Text.{text_of};
 ghost use Rattle.tree.specs.Closed.{IsComplete};
 ghost use Rattle.ledger.specs.Records.{mark_in};
 ghost use Rattle.ledger_commands.specs.TreeReport.{IsTreeReport, TellsRado};
-ghost use Rattle.ledger_commands.specs.Report.{IsReport, IsHead, line_of, table_lines, status_name, best_text, verdicts_text, counts_text, report_text};
+ghost use Rattle.ledger_commands.specs.Report.{IsReport, line_of, table_lines, status_name, greatest_text, verdicts_text, counts_text, head_text, report_text};
 
 use evidence::NoMemory;
 use ledger::{Board, Status, Tally};
@@ -15,10 +15,10 @@ use machine_text::{TEXT_BYTES, Table};
 use std::vec::IntoIter;
 use text::append_number;
 
-/// Appends the report of a board: its root, how it stands, how many tables there are of each kind, the
-/// greatest recorded number of steps, and the champions and holdouts in the order of their texts. That of a
-/// complete board is a function of its root alone; where that root is the empty table of n states, its best is S(n)
-/// (Radó 1962). Where memory is refused, `out` is as it was.
+/// Appends the report of a board: its root, how it stands, how many tables there are of each kind, the greatest
+/// recorded number of steps and its champions, the greatest recorded score and its champions, and the holdouts, all in
+/// the order of their texts. That of a complete board is a function of its root alone; where that root is the empty
+/// table of n states, its best is S(n) and its ones are Σ(n) (Radó 1962). Where memory is refused, `out` is as it was.
 #[tactic(auto, using(crate::proofs::TreeReports::tree_report, crate::proofs::TreeReports::tells_rado))]
 pub fn report(board: &Board, out: &mut Vec<u8>) -> Result<(), NoMemory>
     ensures ok { OnOk result ((text : List ℕ) × IsReport board.now.root board.now.records text × (out.new.items ≡ out.old.items ++ text)) }
@@ -45,21 +45,29 @@ fn append_report(board: &Board, out: &mut Vec<u8>) -> Result<(), NoMemory>
     ensures ok { OnOk result ((text : List ℕ) × IsReport board.now.root board.now.records text × (out.new.items ≡ out.old.items ++ text)) }
     ensures kept { take (length out.old.items) out.new.items ≡ out.old.items }
 {
-    let (champions, holdouts) = board.champions_and_holdouts()?;
-    append_head(board, out)?;
+    let (champions, ones_champions, holdouts) = board.champions_and_holdouts()?;
+    let tally = board.tally();
+    append_head(board.root(), board.status(), &tally, out)?;
     append_tables(b"champion", champions, out)?;
+    append_greatest(b"ones", tally.ones, out)?;
+    append_tables(b"ones_champion", ones_champions, out)?;
     append_tables(b"holdout", holdouts, out)
 }
 
 /// Appends the lines of a report that stand before those of the tables; where memory is refused, a
 /// beginning of them.
-pub(crate) fn append_head(board: &Board, out: &mut Vec<u8>) -> Result<(), NoMemory>
-    ensures ok { OnOk result ((head : List ℕ) × IsHead board.now.root board.now.records head × (out.new.items ≡ out.old.items ++ head)) }
+pub(crate) fn append_head(
+    root: &Table,
+    status: Status,
+    tally: &Tally,
+    out: &mut Vec<u8>,
+) -> Result<(), NoMemory>
+    ensures ok { OnOk result (out.new.items ≡ out.old.items ++ head_text root.now status tally.now) }
     ensures kept { take (length out.old.items) out.new.items ≡ out.old.items }
 {
-    append_table_line(b"root", board.root(), out)?;
-    append_line(b"status", status_name(board.status()).as_bytes(), out)?;
-    append_counts(&board.tally(), out)
+    append_table_line(b"root", root, out)?;
+    append_line(b"status", status_name(status).as_bytes(), out)?;
+    append_counts(tally, out)
 }
 
 /// The word for how a board stands.
@@ -81,7 +89,7 @@ fn append_counts(tally: &Tally, out: &mut Vec<u8>) -> Result<(), NoMemory>
     append_verdict_counts(tally, out)?;
     append_count(b"holdouts", tally.holdouts, out)?;
     append_count(b"open", tally.open_count, out)?;
-    append_best(tally.best, out)
+    append_greatest(b"best", tally.best, out)
 }
 
 // Appends the lines of the nodes and of the verdicts.
@@ -94,14 +102,14 @@ fn append_verdict_counts(tally: &Tally, out: &mut Vec<u8>) -> Result<(), NoMemor
     append_count(b"never", tally.never, out)
 }
 
-// Appends the line of the greatest number of steps.
-fn append_best(best: Option<u64>, out: &mut Vec<u8>) -> Result<(), NoMemory>
-    ensures ok { OnOk result (out.new.items ≡ out.old.items ++ line_of (codes "best") (best_text best)) }
+/// Appends the line of a greatest number; where memory is refused, a beginning of it.
+pub(crate) fn append_greatest(name: &[u8], greatest: Option<u64>, out: &mut Vec<u8>) -> Result<(), NoMemory>
+    ensures ok { OnOk result (out.new.items ≡ out.old.items ++ line_of name.now (greatest_text greatest)) }
     ensures kept { take (length out.old.items) out.new.items ≡ out.old.items }
 {
-    match best {
-        Some(best) => append_count(b"best", best, out),
-        None => append_line(b"best", b"none", out),
+    match greatest {
+        Some(greatest) => append_count(name, greatest, out),
+        None => append_line(name, b"none", out),
     }
 }
 
@@ -116,8 +124,8 @@ fn append_tables(name: &[u8], tables: IntoIter<Table>, out: &mut Vec<u8>) -> Res
     Ok(())
 }
 
-/// Appends a line of a table; where memory is refused, a beginning of it.
-pub(crate) fn append_table_line(name: &[u8], t: &Table, out: &mut Vec<u8>) -> Result<(), NoMemory>
+// Appends a line of a table.
+fn append_table_line(name: &[u8], t: &Table, out: &mut Vec<u8>) -> Result<(), NoMemory>
     ensures ok { OnOk result (out.new.items ≡ out.old.items ++ line_of name.now (text_of t.now)) }
     ensures kept { take (length out.old.items) out.new.items ≡ out.old.items }
 {

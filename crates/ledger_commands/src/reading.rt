@@ -5,7 +5,7 @@ ghost use Rattle.text.specs.Lines.{HasNoNewline};
 ghost use Rattle.machine_text.specs.Packed.{entry_of};
 ghost use Rattle.tree.specs.Used.{InOrder};
 ghost use Rattle.ledger.specs.Limits.{header_byte_limit};
-ghost use Rattle.ledger.specs.LedgerText.{HasHeader, ReadsAs};
+ghost use Rattle.ledger.specs.LedgerText.{HasHeader, ReadsIn};
 ghost use Rattle.ledger.specs.Loading.{IsFed};
 ghost use Rattle.ledger_commands.specs.Reading.{AreFirstBytes, EndsReading, EndsReadingOf, IsLoadedFrom};
 ghost use Rattle.ledger_commands.specs.inside.{BeginsReading, BeginsWithRoot, EndsBehindHeader};
@@ -191,7 +191,7 @@ fn load_behind<R: Read>(
     requires order { (u : ℕ) × InOrder u (entry_of root) }
     requires header { (rest : List ℕ) × HasHeader first.now root rest }
     requires small { length first.now + limit < 2 ^ 64 }
-    ensures ok { IfOk result (λ l. (l.0.root ≡ root) × ((more : List ℕ) × AreFirstBytes (R.remaining from.old) limit more × ReadsAs root (first.now ++ more) l.0.records l.1)) }
+    ensures ok { IfOk result (λ l. (l.0.root ≡ root) × ((more : List ℕ) × AreFirstBytes (R.remaining from.old) limit more × ReadsIn l.0.format root (first.now ++ more) l.0.records l.1)) }
     ensures err { IfErr result EndsBehindHeader }
 {
     let mut loader = Loader::new(alloc, root);

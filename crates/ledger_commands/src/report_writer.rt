@@ -7,7 +7,7 @@ ghost use Rattle.ledger_commands.specs.Report.{line_of, table_lines};
 ghost use Rattle.ledger_commands.specs.LedgerReport.{IsLines, left_text};
 ghost use Rattle.ledger_commands.specs.Passing.{Passes, bytes_of_lines};
 
-use crate::board_report::append_head;
+use crate::board_report::{append_greatest, append_head};
 use evidence::NoMemory;
 use ledger::{Board, Champions, Holdouts, Left};
 use machine_text::{TEXT_BYTES, Table};
@@ -25,6 +25,9 @@ pub struct LineReport {
     // the lines before those of the tables, with room for more
     head: Vec<u8>,
     champions: Champions,
+    // the line of the greatest score
+    ones: Vec<u8>,
+    ones_champions: Champions,
     holdouts: Holdouts,
     // what wasn't kept
     tail: Vec<u8>,
@@ -34,14 +37,19 @@ pub struct LineReport {
 pub(crate) fn line_report(alloc: Global, board: &Board, left: &Left) -> Result<LineReport, NoMemory>
     ensures { IfOk result (λ made. IsLines board.now.root board.now.records left.now (bytes_of_lines made)) }
 {
-    let (champions, holdouts) = board.champions_and_holdouts()?;
+    let (champions, ones_champions, holdouts) = board.champions_and_holdouts()?;
+    let tally = board.tally();
     let mut head = Vec::with_capacity(alloc, PIECE_BYTES)?;
-    append_head(board, &mut head)?;
+    append_head(board.root(), board.status(), &tally, &mut head)?;
+    let mut ones = Vec::new(alloc);
+    append_greatest(b"ones", tally.ones, &mut ones)?;
     let mut tail = Vec::new(alloc);
     append_left(left, &mut tail)?;
     Ok(LineReport {
         head,
         champions,
+        ones,
+        ones_champions,
         holdouts,
         tail,
     })
@@ -54,11 +62,15 @@ pub(crate) fn write_lines<W: Write>(made: LineReport, answers: &mut W) -> io::Re
     let LineReport {
         head,
         champions,
+        ones,
+        ones_champions,
         holdouts,
         tail,
     } = made;
     let mut piece = head;
     pass_tables(b"champion", champions, &mut piece, answers)?;
+    pass(&ones, &mut piece, answers)?;
+    pass_tables(b"ones_champion", ones_champions, &mut piece, answers)?;
     pass_tables(b"holdout", holdouts, &mut piece, answers)?;
     pass(&tail, &mut piece, answers)?;
     answers.write_all(&piece)

@@ -5,7 +5,7 @@ ghost use Rattle.cert.specs.Claim.{ending_by};
 ghost use Rattle.cert.specs.Kinds.{recorded};
 ghost use Rattle.ledger.specs.Held.{IsHoldout};
 ghost use Rattle.ledger.specs.Contents.{Contents};
-ghost use Rattle.ledger.specs.LedgerText.{IsLedgerOf, ReadsAs};
+ghost use Rattle.ledger.specs.LedgerText.{IsLedgerOf, ReadsIn};
 ghost use Rattle.ledger.specs.Tally.{IsStatus};
 ghost use Rattle.ledger.specs.declared.status.Status.{Status as BoardStatus};
 ghost use Rattle.ledger_commands.specs.LedgerReport.{outcome_by};
@@ -16,7 +16,7 @@ use crate::ledger_report::outcome_by;
 use crate::reading::{Opened, Stopped, load_from};
 use crate::report_form::{AsLines, write_report};
 use cert::{Decider, Record};
-use ledger::{Board, Left, Taken, append_record, kept_bytes_load};
+use ledger::{Board, Left, Taken, kept_bytes_load};
 use machine_text::Table;
 use options::{Ended, Outcome};
 use std::alloc::Global;
@@ -76,7 +76,7 @@ fn settle_further<L: LedgerOut, D: Decider, W: Write>(
     decider: &mut D,
     answers: &mut W,
 ) -> Result<Outcome, Ended>
-    ensures step { IfOk result (λ o. IfSome (L.text ledger.old) (λ text. ReadsAs board.old.root text board.old.records left.now) → IfSome (L.text ledger.new) (IsLedgerOf board.new)) }
+    ensures step { IfOk result (λ o. IfSome (L.text ledger.old) (λ text. ReadsIn board.old.format board.old.root text board.old.records left.now) → IfSome (L.text ledger.new) (IsLedgerOf board.new)) }
     ensures outcome { IfOk result (λ o. (status : BoardStatus) × IsStatus board.new.root board.new.records status × (o ≡ outcome_by status Left.Nothing)) }
 {
     cut_off(left, ledger)?;
@@ -87,7 +87,7 @@ fn settle_further<L: LedgerOut, D: Decider, W: Write>(
 
 // Cuts off what wasn't kept of a board's ledger.
 fn cut_off<L: LedgerOut>(left: &Left, ledger: &mut L) -> Result<(), Ended>
-    ensures step { OnOk result ((b : Contents) → IfSome (L.text ledger.old) (λ text. ReadsAs b.root text b.records left.now) → IfSome (L.text ledger.new) (IsLedgerOf b)) }
+    ensures step { OnOk result ((b : Contents) → IfSome (L.text ledger.old) (λ text. ReadsIn b.format b.root text b.records left.now) → IfSome (L.text ledger.new) (IsLedgerOf b)) }
 {
     kept_bytes_load();
     match left {
@@ -97,8 +97,8 @@ fn cut_off<L: LedgerOut>(left: &Left, ledger: &mut L) -> Result<(), Ended>
 }
 
 /// Asks the decider for each holdout of a board, in the order of their texts. What it answers is taken where
-/// it has a verdict, and its line is appended to the ledger, so that a ledger that was in step with the
-/// board is so again; else nothing changes.
+/// it has a verdict, and its line is appended to the ledger in the ledger's version, so that a ledger that was in step
+/// with the board is so again; else nothing changes.
 pub fn retry_holdouts<L: LedgerOut, D: Decider>(
     alloc: Global,
     board: &mut Board,
@@ -106,6 +106,7 @@ pub fn retry_holdouts<L: LedgerOut, D: Decider>(
     ledger: &mut L,
 ) -> Result<(), Ended>
     ensures root { board.new.root ≡ board.old.root }
+    ensures format { board.new.format ≡ board.old.format }
     ensures step { OnOk result (StaysInStep board.old (L.text ledger.old) board.new (L.text ledger.new)) }
     ensures order { OnOk result (AreRetried (AtSomeTime D D.answers) board.old (L.text ledger.old) board.new (L.text ledger.new)) }
 {
@@ -125,8 +126,9 @@ fn retry<L: LedgerOut, D: Decider>(
 ) -> Result<(), Ended>
     requires { IsHoldout board.old.records t.now }
     ensures root { board.new.root ≡ board.old.root }
+    ensures format { board.new.format ≡ board.old.format }
     ensures step { OnOk result (StaysInStep board.old (L.text ledger.old) board.new (L.text ledger.new)) }
-    ensures tried { OnOk result (IsTried (AtSomeTime D D.answers) t.now board.old.records (L.text ledger.old) board.new.records (L.text ledger.new)) }
+    ensures tried { OnOk result (IsTried (AtSomeTime D D.answers) board.old.format t.now board.old.records (L.text ledger.old) board.new.records (L.text ledger.new)) }
 {
     let made = decider.decide(alloc, t)?;
     let record = Record {
@@ -146,28 +148,29 @@ fn take<L: LedgerOut>(
     requires holdout { IsHoldout board.old.records (recorded r.now).table }
     requires certified { IsCertified (recorded r.now) }
     ensures root { board.new.root ≡ board.old.root }
+    ensures format { board.new.format ≡ board.old.format }
     ensures step { OnOk result (StaysInStep board.old (L.text ledger.old) board.new (L.text ledger.new)) }
-    ensures changes { OnOk result (ChangesBy (ending_by (recorded r.now).claim) (recorded r.now) board.old.records (L.text ledger.old) board.new.records (L.text ledger.new)) }
+    ensures changes { OnOk result (ChangesBy board.old.format (ending_by (recorded r.now).claim) (recorded r.now) board.old.records (L.text ledger.old) board.new.records (L.text ledger.new)) }
 {
     // The proof needs that it is a board.
     let _ = board.root();
     let mut line = Vec::new(alloc);
-    append_record(r, &mut line)?;
-    if !gains(board, r)? {
+    if !gains(board, r, &mut line)? {
         return Ok(());
     }
-    append_to(ledger, &line)?;
-    Ok(())
+    append_to(ledger, &line)
 }
 
-// Offers a certified record of a holdout, and answers whether it is taken.
-fn gains(board: &mut Board, r: &Record) -> Result<bool, Ended>
+// Offers a certified record of a holdout, and answers whether it is taken. Where it is, its line is appended, with its
+// score in version 2.
+fn gains(board: &mut Board, r: &Record, line: &mut Vec<u8>) -> Result<bool, Ended>
     requires holdout { IsHoldout board.old.records (recorded r.now).table }
     requires certified { IsCertified (recorded r.now) }
     ensures root { board.new.root ≡ board.old.root }
-    ensures ok { IfOk result (λ gained. SettlesOrStays board.old.records (recorded r.now) gained board.new.records) }
+    ensures format { board.new.format ≡ board.old.format }
+    ensures ok { IfOk result (λ gained. SettlesOrStays board.old.format (recorded r.now) gained board.old.records line.old.items board.new.records line.new.items) }
 {
-    match board.offer_certified(r) {
+    match board.offer_certified_line(r, line) {
         Ok(Taken::Settled) => Ok(true),
         // for an open table alone
         Ok(Taken::New) => Ok(true),

@@ -22,7 +22,7 @@ pub(crate) fn made_beside<H: Host>(
     read: &[&str],
 ) -> Result<Option<String>, NoMemory> {
     let beside = path_beside(alloc, out)?;
-    let is_read = read.iter().any(|path| beside == **path);
+    let is_read = read.iter().any(|path| beside.as_str() == *path);
     // Nothing is lost at either path by that.
     if !is_read && host.is_replaceable(out) && host.is_replaceable(&beside) {
         Ok(Some(beside))

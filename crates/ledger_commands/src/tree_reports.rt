@@ -10,7 +10,7 @@ ghost use Rattle.ledger_commands.specs.TreeReport.{IsTreeReport, TellsRado};
 
 /// The report of a complete board is that of its root's tree, and a tree has one: it is a function of the root
 /// alone, whatever records, certificates and restarts the board came from. Where that root is the empty table of n
-/// states, the best that it prints is S(n) (Radó 1962).
+/// states, the best that it prints is S(n), and the ones are Σ(n) (Radó 1962).
 pub fn complete_boards_report_their_tree()
     ensures tree { (b : Contents) (text : List ℕ) → IsBoard b → IsComplete b.root (mark_in b.records) →
         IsReport b.root b.records text → IsTreeReport b.root text }

@@ -1,30 +1,36 @@
-use Rattle.std.proofs.Common.{ℕ, List, ◌++◌, refl, ap, ◌∙◌}
-use Rattle.std.specs.Prelude.{codes}
+use Rattle.std.proofs.Common.{◌≡◌, ℕ, List, ◌++◌, refl, ap, ◌∙◌}
 use Rattle.std.specs.Vec.Iter.{into_iter_items}
-use Rattle.ledger_commands.specs.Report.{table_lines, head_text, report_text}
-use Rattle.ledger_commands.proofs.Reports.{on_ok, joined}
+use Rattle.machine_text.specs.Packed.{Packed}
+use Rattle.ledger_commands.specs.Report.{head_text, report_text}
+use Rattle.ledger_commands.proofs.Reports.{on_ok, one_more}
 use Rattle.ledger_commands.proofs.board_report.append_report.Goals as goal
 
 pub returns-clause-ok : goal.returns-clause-ok
 returns-clause-ok c =
-    let found = c.in_ok-append_head.ensures.ok in
-    let head = found.1 in
+    let root = c.args.board.now.root in
+    let old = c.args.out.now.items in
+    let status = c.status.result in
+    let tally = c.tally-tally.result in
     let champions = into_iter_items c.in_ok-champions.champions in
+    let ones_champions = into_iter_items c.in_ok-champions.ones_champions in
     let holdouts = into_iter_items c.in_ok-champions.holdouts in
-    on_ok c.append_tables-2.result (λ last. (
-      report_text c.args.board.now.root head.status head.tally champions holdouts,
+    let head : c.append_head.new.out.items ≡ old ++ head_text root status tally =
+    c.in_ok-append_head.ensures.ok ∙ ap (λ (t : Packed). old ++ head_text t status tally) c.root.ensures.root in
+    let first = one_more (one_more head c.in_ok-append_tables.ensures.ok) c.in_ok-append_greatest.ensures.ok in
+    on_ok c.append_tables-3.result (λ last. (
+      report_text root status tally champions ones_champions holdouts,
       record {
-        status = head.status;
-        tally = head.tally;
+        status = status;
+        tally = tally;
         champions = champions;
+        ones_champions = ones_champions;
         holdouts = holdouts;
-        stands = head.stands;
-        counted = head.counted;
-        are_champions = c.in_ok-champions.ensures.champions head.tally.best head.counted.best;
+        stands = c.status.ensures.stands;
+        counted = c.tally-tally.ensures;
+        are_champions = c.in_ok-champions.ensures.champions tally.best c.tally-tally.ensures.best;
+        are_ones_champions = c.in_ok-champions.ensures.ones_champions tally.ones c.tally-tally.ensures.ones;
         are_holdouts = c.in_ok-champions.ensures.holdouts;
         is = refl;
       },
-      joined c.args.out.now.items c.append_head.new.out.items c.append_tables.new.out.items c.append_tables-2.new.out.items
-          (head_text c.args.board.now.root head.status head.tally) (table_lines (codes "champion") champions) (table_lines (codes "holdout") holdouts)
-          (found.2 ∙ ap (λ (l : List ℕ). c.args.out.now.items ++ l) head.is) c.in_ok-append_tables.ensures.ok last,
-    )) c.append_tables-2.ensures.ok
+      one_more (one_more first c.in_ok-append_tables-2.ensures.ok) last,
+    )) c.append_tables-3.ensures.ok

@@ -18,8 +18,7 @@ loop-table-preserved g c =
     let before = c.loop-table.invariant in
     let line = line_of c.args.name.now (text_of c.in-Some.table) in (
       before.0 ++ line,
-      passes_on (g.W.Write.contents c.args.answers.now) (g.W.Write.contents c.loop-table.answers) (g.W.Write.contents c.pass_line.new.answers)
-          c.args.piece.now.items c.loop-table.piece.items c.pass_line.new.piece.items before.0 line before.1 c.in_ok-pass_line.ensures,
+      passes_on before.1 c.in_ok-pass_line.ensures,
       append_assoc before.0 line (table_lines c.args.name.now (into_iter_items c.next.new.self))
           ∙ (ap (λ (ts : List Packed). before.0 ++ table_lines c.args.name.now ts) (sym c.in-Some.ensures.steps.0) ∙ before.2),
     )

@@ -95,30 +95,34 @@ fn is_carried(
     Ok(())
 }
 
-// A ledger, with `|` for a newline, the paths that are read and written, how many bytes are taken at a time, and the
-// number of the fault.
-const REFUSED: [(&str, &str, &str, usize, &[u8]); 10] = [
-    ("", "a", "b", 100, b"refused 404\n"),
-    ("bb-led", "a", "b", 100, b"refused 404\n"),
-    ("bb-ledger 2 ------", "a", "b", 100, b"refused 404\n"),
-    ("hello|", "a", "b", 100, b"refused 404\n"),
-    ("bb-ledger 3 ------|", "a", "b", 100, b"refused 404\n"),
-    ("bb-ledger 2 1RC---_------_------|", "a", "b", 100, b"refused 405\n"),
-    ("bb-ledger 1 ------|", "absent", "b", 100, b"refused 605\n"),
-    ("bb-ledger 1 ------|", "a", "absent", 100, b"refused 604\n"),
+// A ledger, with `|` for a newline, the paths that are read and written, and what is said of the fault.
+const REFUSED: [(&str, &str, &str, &[u8]); 10] = [
+    ("", "a", "b", b"refused 404\n"),
+    ("bb-led", "a", "b", b"refused 404\n"),
+    ("bb-ledger 2 ------", "a", "b", b"refused 404\n"),
+    ("hello|", "a", "b", b"refused 404\n"),
+    ("bb-ledger 3 ------|", "a", "b", b"refused 404\n"),
+    (
+        "bb-ledger 2 1RC---_------_------|",
+        "a",
+        "b",
+        b"refused 405\n",
+    ),
+    ("bb-ledger 1 ------|", "absent", "b", b"refused 605\n"),
+    ("bb-ledger 1 ------|", "a", "absent", b"refused 604\n"),
     // The ledger that is read comes first.
-    ("hello|", "a", "absent", 100, b"refused 404\n"),
-    ("hello|", "absent", "absent", 100, b"refused 605\n"),
+    ("hello|", "a", "absent", b"refused 404\n"),
+    ("hello|", "absent", "absent", b"refused 605\n"),
 ];
 
 // The ledger that is written is as it was.
 #[test]
 fn ledgers_that_are_not_carried_over(rt: HostRuntime) -> Result<(), Fail> {
-    for (held, ledger, out, at_once, faults) in REFUSED {
+    for (held, ledger, out, faults) in REFUSED {
         let a = RefCell::new(with_newlines(rt.alloc(), held)?);
         let b = RefCell::new(b"before\n".to_vec(rt.alloc())?);
         let carrying = Carrying { ledger, out };
-        let end = ended(rt.alloc(), carrying, &Desk::of(&a, &b, at_once), ALWAYS);
+        let end = ended(rt.alloc(), carrying, &Desk::of(&a, &b, 100), ALWAYS);
         assert_bytes(&rt, &end.faults, faults);
         assert!(rt; end.answers.is_empty(), "{held}");
         let outcome = match faults {

@@ -377,7 +377,10 @@ fn goes_on(
     let end = carried(rt, alloc, asked, frames, &desk);
     assert_bytes(rt, &end.answers, b"ACK ------\nACK 0RA---\nACK 1RA---\n");
     assert!(rt; end.outcome == Outcome::Accepted);
-    assert!(rt; desk.opened.get() == u64::from(kept < whole.len()), "{kept}");
+    assert!(rt;
+        desk.opened.get() == u64::from(kept < whole.len()),
+        "{kept}"
+    );
     let whole = if kept < 19 { SCORED } else { whole };
     assert_bytes(rt, &a.into_inner(), whole.as_bytes());
     Ok(())

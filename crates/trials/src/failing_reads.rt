@@ -64,8 +64,14 @@ fn a_coordinator_whose_ledger_is_not_read_is_stopped(rt: HostRuntime) -> Result<
 #[test]
 fn a_command_whose_ledger_is_not_read_says_why(rt: HostRuntime) {
     for (fault, end) in [
-        (ErrorKind::Other, (b"refused 604\n".as_slice(), Outcome::Failed)),
-        (ErrorKind::OutOfMemory, (b"refused memory\n", Outcome::NoMemory)),
+        (
+            ErrorKind::Other,
+            (b"refused 604\n".as_slice(), Outcome::Failed),
+        ),
+        (
+            ErrorKind::OutOfMemory,
+            (b"refused memory\n", Outcome::NoMemory),
+        ),
     ] {
         for calls in 0..4 {
             says(&rt, rt.alloc(), breaking_after(calls, fault), end);

@@ -16,7 +16,11 @@ const WRITTEN: &str = "bb-ledger 2 ------\n------ H 1 1\n0RA--- T 0 1 R\n1RA--- 
 // How many bytes are written for so many of its whole lines. An empty board's ledger is the header, of 19 bytes, and
 // behind it the line of the root is longer by its score, of 2.
 fn written_for(kept: usize) -> usize {
-    if kept <= 19 { 19 } else { kept.saturating_add(2) }
+    if kept <= 19 {
+        19
+    } else {
+        kept.saturating_add(2)
+    }
 }
 
 // Loads a text with the root of one state.

@@ -58,7 +58,11 @@ fn fed(
 }
 
 /// What a text is loaded as at once, with the root of one state.
-pub fn loaded_whole(rt: &impl Abort, alloc: Global, text: &[u8]) -> Result<(Board, Left), LoadFault> {
+pub fn loaded_whole(
+    rt: &impl Abort,
+    alloc: Global,
+    text: &[u8],
+) -> Result<(Board, Left), LoadFault> {
     let root = table_of(rt, "------");
     if !in_order(&root) {
         panic!(rt; "out of order");

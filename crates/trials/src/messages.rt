@@ -15,10 +15,7 @@ const MESSAGES: [(&str, &str); 15] = [
     ),
     ("REC ------ H 1", "REC ------ H 1\n"),
     ("REC ------ H 1 1", "REC ------ H 1 1\n"),
-    (
-        "REC 1RB1LB_1LA1RZ H 6 4",
-        "REC 1RB1LB_1LA--- H 6 4\n",
-    ),
+    ("REC 1RB1LB_1LA1RZ H 6 4", "REC 1RB1LB_1LA--- H 6 4\n"),
     ("REC 1RA1RH U", "REC 1RA--- U\n"),
     (
         "REC 1RA--- N 1 0,1 0 0A00,1A00",

@@ -60,7 +60,8 @@ impl Plain {
 
     fn ones(&self) -> u64 {
         let head = u64::from(self.read == Sym::One);
-        head.saturating_add(ones_of(&self.left)).saturating_add(ones_of(&self.right))
+        head.saturating_add(ones_of(&self.left))
+            .saturating_add(ones_of(&self.right))
     }
 
     // All cells that are further than 300 off are blank.

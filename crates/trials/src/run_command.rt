@@ -182,10 +182,7 @@ fn three_states_are_settled(rt: HostRuntime) -> Result<(), Fail> {
         end.answers
             .starts_with(b"root ------_------_------\nstatus complete\nnodes ")
     );
-    assert!(rt;
-        end.answers
-            .ends_with(THREE_STATES)
-    );
+    assert!(rt; end.answers.ends_with(THREE_STATES));
     assert!(rt; end.faults.is_empty() && end.outcome == Outcome::Accepted);
     Ok(())
 }

@@ -1,13 +1,14 @@
 // Ledgers of either version: read whole and in pieces, gone on with, and written anew.
-use crate::boards::{board_of, take};
+use crate::boards::board_of;
 use crate::coordinators::{begun, started};
 use crate::ledgers::written;
 use crate::loaders::{loaded_in_pieces, loaded_whole};
 use crate::nodes::{answers, handed};
 use crate::texts::{assert_bytes, number_of, parted, with_newlines};
 use crate::workers;
-use ledger::{Board, Left, LoadFault, Unkept};
+use cert::Record;
 use lease_core::Coordinator;
+use ledger::{Board, Left, LoadFault, OfferFault, Taken, Unkept};
 use std::alloc::Global;
 use std::process::Abort;
 use std::test::Fail;
@@ -126,37 +127,85 @@ fn a_new_board_has_the_newer_version(rt: HostRuntime) {
     assert!(rt; board.format() == 2);
 }
 
-// A line is written in the version of its board.
+// Records that are offered, each behind whether it is taken.
+const OFFERED: &str = "\
+no 1RA--- U
+no ------ H 2
+no ------ H 1 2
+yes ------ H 1
+no ------ H 1 1
+yes 0RA--- U
+no 0RA--- H 1 1
+yes 0RA--- T 0 1 R
+yes 1RA--- T 0 1 R";
+
+// The same with the score.
+const OFFERED_SCORED: &str = "\
+no ------ H 2 1
+yes ------ H 1 1
+no ------ H 1
+yes 0RA--- U
+yes 0RA--- T 0 1 R
+yes 1RA--- T 0 1 R";
+
+const LINES: &[u8] = b"------ H 1\n0RA--- U\n0RA--- T 0 1 R\n1RA--- T 0 1 R\n";
+
+const SCORED_LINES: &[u8] = b"------ H 1 1\n0RA--- U\n0RA--- T 0 1 R\n1RA--- T 0 1 R\n";
+
+// The line of a record that is taken has the version of its board, whether the record came with its score or not.
 #[test]
 fn lines_have_the_version_of_their_board(rt: HostRuntime) -> Result<(), Fail> {
-    let unscored = b"------ H 1\n0RA--- T 0 1 R\n1RA--- U\n";
-    let scored = b"------ H 1 1\n0RA--- T 0 1 R\n1RA--- U\n";
     for (header, lines) in [
-        ("bb-ledger 1 ------|", unscored.as_slice()),
-        ("bb-ledger 2 ------|", scored.as_slice()),
-        ("bb-ledger 1 ---", scored.as_slice()),
-        ("", scored.as_slice()),
+        ("bb-ledger 1 ------|", LINES),
+        ("bb-ledger 2 ------|", SCORED_LINES),
+        ("bb-ledger 1 ---", SCORED_LINES),
+        ("", SCORED_LINES),
     ] {
-        let text = with_newlines(rt.alloc(), header)?;
-        match loaded_whole(&rt, rt.alloc(), &text) {
-            Ok((mut board, _)) => appends(&rt, rt.alloc(), &mut board, lines)?,
-            Err(fault) => panic!(rt; "{header}: {fault:?}"),
+        for records in [OFFERED, OFFERED_SCORED] {
+            let text = with_newlines(rt.alloc(), header)?;
+            match loaded_whole(&rt, rt.alloc(), &text) {
+                Ok((mut board, _)) => appends(&rt, rt.alloc(), &mut board, records, lines)?,
+                Err(fault) => panic!(rt; "{header}: {fault:?}"),
+            }
         }
     }
     Ok(())
 }
 
-// These are the lines of the records that are taken.
-fn appends(rt: &impl Abort, alloc: Global, board: &mut Board, lines: &[u8]) -> Result<(), Fail> {
-    for text in "------ H 1|0RA--- T 0 1 R|1RA--- U".split('|') {
-        take(rt, board, text);
-    }
+// Behind a byte that stands there before, these are the lines of the records that are taken.
+fn appends(
+    rt: &impl Abort,
+    alloc: Global,
+    board: &mut Board,
+    records: &str,
+    lines: &[u8],
+) -> Result<(), Fail> {
     let mut out = Vec::new(alloc);
-    for record in board.records() {
-        board.append_line(&record, &mut out)?;
+    out.push(b'>')?;
+    for row in records.split('\n') {
+        let (word, text) = parted(rt, row);
+        let len = out.len();
+        let is_taken = is_taken_with_line(rt, board, text, &mut out);
+        assert!(rt; is_taken == (word == "yes"), "{row}");
+        assert!(rt; is_taken || out.len() == len, "{row}");
     }
-    assert_bytes(rt, &out, lines);
+    assert!(rt; out.strip_prefix(b">") == Some(lines));
     Ok(())
+}
+
+// Whether a record is taken. Memory may be refused once, and then nothing was appended.
+fn is_taken_with_line(rt: &impl Abort, board: &mut Board, text: &str, out: &mut Vec<u8>) -> bool {
+    let Ok(record) = Record::parse(text.as_bytes()) else {
+        panic!(rt; "{text}: no record");
+    };
+    for _ in 0..9 {
+        let len = out.len();
+        match board.offer_line(&record, out) {
+            Err(OfferFault::NoMemory) => assert!(rt; out.len() == len, "{text}"),
+            answer => return matches!(answer, Ok(Taken::New | Taken::Settled)),
+        }
+    }
+    panic!(rt; "no memory")
 }
 
 // Frames come with a score or without.

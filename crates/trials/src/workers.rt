@@ -64,11 +64,7 @@ fn a_granted_tree_is_worked_on(rt: HostRuntime) -> Result<(), Fail> {
         &mut worker,
         &[
             ("TICK 1", "", ""),
-            (
-                "WORK",
-                "------_1LA--- H 1 1\n",
-                "REC ------_1LA--- H 1 1\n",
-            ),
+            ("WORK", "------_1LA--- H 1 1\n", "REC ------_1LA--- H 1 1\n"),
         ],
     );
     children_are_open(&rt, worker.board());

@@ -38,8 +38,8 @@ pub written_first : (h1 h2 h3 : Option (List ℕ)) (p1 p2 p3 text : List ℕ) �
 written_first h1 h2 h3 p1 p2 p3 text appended none x = passes_on (all_written h1 h2 p1 p2 appended none) x
 
 -- the parts of a report behind the one that was in the piece, of which the last is what is left there
-pub report_passed : {h0 h1 h2 h3 h4 h5 h6 : Option (List ℕ)} {p0 p1 p2 p3 p4 p5 a b c d last : List ℕ} → Passes h0 p0 h1 p1 a → Passes h1 p1 h2 p2 b → Passes h2 p2 h3 p3 c
+pub report_passed : (h6 : Option (List ℕ)) {h0 h1 h2 h3 h4 h5 : Option (List ℕ)} {p0 p1 p2 p3 p4 p5 a b c d last : List ℕ} → Passes h0 p0 h1 p1 a → Passes h1 p1 h2 p2 b → Passes h2 p2 h3 p3 c
     → Passes h3 p3 h4 p4 d → Passes h4 p4 h5 p5 last → Appends h5 h6 p5 → Appends h0 h6 (p0 ++ a ++ b ++ c ++ d ++ last)
-report_passed {h0} {h1} {h2} {h3} {h4} {h5} {h6} {p0} {p1} {p2} {p3} {p4} {p5} {a} {b} {c} {d} {last} x y z u w written =
+report_passed h6 {h0} {h1} {h2} {h3} {h4} {h5} {p0} {p1} {p2} {p3} {p4} {p5} {a} {b} {c} {d} {last} x y z u w written =
     let begins : Passes h0 [] h0 p0 p0 = only_appended h0 [] p0 p0 refl in
     passed h0 h5 h6 p5 (p0 ++ a ++ b ++ c ++ d ++ last) (passes_on (passes_on (passes_on (passes_on (passes_on begins x) y) z) u) w) written

@@ -7,5 +7,5 @@ on_ok (Ok t) f h = f h
 on_ok (Err e) f h = tt
 
 -- one more part, appended after others
-pub one_more : {X : Type 0} {old one two a b : List X} → one ≡ old ++ a → two ≡ one ++ b → two ≡ old ++ (a ++ b)
-one_more {X} {old} {one} {two} {a} {b} h1 h2 = h2 ∙ (ap (λ (l : List X). l ++ b) h1 ∙ append_assoc old a b)
+pub one_more : {X : Type 0} (old a b : List X) {one two : List X} → one ≡ old ++ a → two ≡ one ++ b → two ≡ old ++ (a ++ b)
+one_more {X} old a b {one} {two} h1 h2 = h2 ∙ (ap (λ (l : List X). l ++ b) h1 ∙ append_assoc old a b)

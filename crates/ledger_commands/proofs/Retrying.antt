@@ -1,5 +1,5 @@
 -- A ledger stays in step with a board when a record is taken and its line is appended; and the holdouts that are left stay holdouts.
-use Rattle.std.proofs.Common.{◌≡◌, ◌≢◌, ◌⊎◌, inl, inr, ℕ, suc, true, false, List, [], ◌∷◌, ◌++◌, All, AllPairs, get_or, Option, Some, None, Result, Ok, IsSome, sym, ap, ◌∙◌, subst, arith}
+use Rattle.std.proofs.Common.{◌≡◌, ◌≢◌, ◌⊎◌, inl, inr, ℕ, suc, true, false, List, [], ◌∷◌, ◌++◌, All, AllPairs, get_or, Option, Some, None, Result, Ok, IfSome, IsSome, take, sym, ap, ◌∙◌, subst, arith}
 use Rattle.std.specs.Option.{option_map}
 use Rattle.std.proofs.lemmas.List.Elements.{All-contains_itself}
 use Rattle.machine_text.specs.Packed.{Packed}
@@ -9,21 +9,29 @@ use Rattle.cert.specs.Claim.{Recorded, ending_by}
 use Rattle.cert.specs.Scored.{with_score}
 use Rattle.ledger.specs.Contents.{Contents, IsBoard}
 use Rattle.ledger.specs.Held.{IsHoldout, Settles, settled}
-use Rattle.ledger.specs.LedgerText.{IsTaken, ReadsIn}
+use Rattle.ledger.specs.LedgerText.{IsLedgerOf, IsTaken, ReadsIn, gained_line}
 use Rattle.ledger.specs.Offers.{OfferGives}
 use Rattle.ledger.specs.Records.{mark_of}
 use Rattle.ledger.specs.Tally.{AreAll}
-use Rattle.ledger.specs.GainedLine.{gained_line}
 use Rattle.ledger.specs.declared.format.Format.{Format}
-use Rattle.ledger.specs.declared.left.Left.TheVariants.{Nothing}
+use Rattle.ledger.specs.declared.left.Left.TheVariants.{Nothing, From}
+use Rattle.ledger.specs.declared.left.Unkept.{Unkept}
 use Rattle.ledger.specs.declared.taken.Taken.{Taken}
 use Rattle.ledger.specs.declared.taken.Taken.TheVariants.{New, Known, Settled}
 use Rattle.ledger.specs.declared.faults.OfferFault.{OfferFault}
-use Rattle.ledger.proofs.Growing.{grows}
+use Rattle.ledger.proofs.Growing.{grows, cut_to_kept}
 use Rattle.ledger.proofs.OpenLaws.{settled_other}
 use Rattle.ledger.proofs.TextOrder.{all_apart}
+use Rattle.wire.specs.Carried.{cut_to}
 use Rattle.wire.specs.Device.{grown}
 use Rattle.ledger_commands.specs.Retry.{StaysInStep, SettlesOrStays, ChangesBy, gained, with_line}
+
+-- a ledger that is cut to what was kept of it
+pub cut_in_step : (b : Contents) (before after : Option (List ℕ)) (line kept : ℕ) (why : Unkept) → after ≡ cut_to (Some kept) before
+    → IfSome before (λ text. ReadsIn b.format b.root text b.records (From line kept why)) → IfSome after (IsLedgerOf b)
+cut_in_step b None after line kept why is reads = subst (λ (text : Option (List ℕ)). IfSome text (IsLedgerOf b)) (sym is) tt
+cut_in_step b (Some text) after line kept why is reads = subst (λ (text : Option (List ℕ)). IfSome text (IsLedgerOf b)) (sym is)
+    (subst (λ (f : Format). ReadsIn f b.root (take kept text) b.records Nothing) reads.version (cut_to_kept b.root text b.records line kept why reads.reads))
 
 stays_with : (old new : Contents) (r : Recorded) (before : Option (List ℕ)) → IsBoard old → IsTaken old.root old.records r new.records
     → new.root ≡ old.root → new.format ≡ old.format → StaysInStep old before new (with_line old.format r before)

@@ -1,7 +1,8 @@
 use Rattle.std.proofs.Common.{◌≡◌, ℕ, List, ◌++◌, refl, ap, ◌∙◌}
+use Rattle.std.specs.Prelude.{codes}
 use Rattle.std.specs.Vec.Iter.{into_iter_items}
 use Rattle.machine_text.specs.Packed.{Packed}
-use Rattle.ledger_commands.specs.Report.{head_text, report_text}
+use Rattle.ledger_commands.specs.Report.{line_of, table_lines, greatest_text, head_text, report_text}
 use Rattle.ledger_commands.proofs.Reports.{on_ok, one_more}
 use Rattle.ledger_commands.proofs.board_report.append_report.Goals as goal
 
@@ -14,9 +15,15 @@ returns-clause-ok c =
     let champions = into_iter_items c.in_ok-champions.champions in
     let ones_champions = into_iter_items c.in_ok-champions.ones_champions in
     let holdouts = into_iter_items c.in_ok-champions.holdouts in
-    let head : c.append_head.new.out.items ≡ old ++ head_text root status tally =
+    let head = head_text root status tally in
+    let first = head ++ table_lines (codes "champion") champions in
+    let ones = first ++ line_of (codes "ones") (greatest_text tally.ones) in
+    let second = ones ++ table_lines (codes "ones_champion") ones_champions in
+    let has_head : c.append_head.new.out.items ≡ old ++ head =
     c.in_ok-append_head.ensures.ok ∙ ap (λ (t : Packed). old ++ head_text t status tally) c.root.ensures.root in
-    let first = one_more (one_more head c.in_ok-append_tables.ensures.ok) c.in_ok-append_greatest.ensures.ok in
+    let has_first : c.append_tables.new.out.items ≡ old ++ first = one_more old head (table_lines (codes "champion") champions) has_head c.in_ok-append_tables.ensures.ok in
+    let has_ones : c.append_greatest.new.out.items ≡ old ++ ones = one_more old first (line_of (codes "ones") (greatest_text tally.ones)) has_first c.in_ok-append_greatest.ensures.ok in
+    let has_second : c.append_tables-2.new.out.items ≡ old ++ second = one_more old ones (table_lines (codes "ones_champion") ones_champions) has_ones c.in_ok-append_tables-2.ensures.ok in
     on_ok c.append_tables-3.result (λ last. (
       report_text root status tally champions ones_champions holdouts,
       record {
@@ -32,5 +39,5 @@ returns-clause-ok c =
         are_holdouts = c.in_ok-champions.ensures.holdouts;
         is = refl;
       },
-      one_more (one_more first c.in_ok-append_tables-2.ensures.ok) last,
+      one_more old second (table_lines (codes "holdout") holdouts) has_second last,
     )) c.append_tables-3.ensures.ok

@@ -12,7 +12,7 @@ returns-clause-err g c =
     let text = loaded.1.text in
     let same = loaded.0 ∙ c.root-root.ensures.root in
     let header : (rest : List ℕ) × HasHeader text c.args.board.now.root rest =
-    (loaded.1.reads.body, subst (λ (p : Packed). HasHeader text p loaded.1.reads.body) same loaded.1.reads.header) in (
+    (loaded.1.reads.reads.body, subst (λ (p : Packed). HasHeader text p loaded.1.reads.reads.body) same loaded.1.reads.reads.header) in (
       text,
       loaded.1.first,
       subst (λ (e : Ended). EndsTakingIn c.args.board.now.root text e) (sym c.by_merge.ensures)

@@ -2,7 +2,7 @@
 use command_line::{LineFault, options};
 use ledger_commands::Host;
 use loopback::Sockets;
-use options::{Beginning, Merging, Options, Outcome, Search, Settling};
+use options::{Beginning, Carrying, Merging, Options, Outcome, Search, Settling};
 use program::obey;
 use std::alloc::Global;
 use std::io::{self, Read, Write};
@@ -175,12 +175,18 @@ const LINES: &str = "\
 4 err bb retry absent
 0 out bb merge complete complete complete
 4 err bb merge complete absent complete
+0 out bb carry complete complete
+4 err bb carry complete sealed
+4 err bb carry absent complete
+1 err bb carry damaged complete
+1 err bb carry damaged sealed
 0 out bb report complete --json
 0 out bb report complete
 0 out bb report complete --why
 4 err bb report absent
 0 out bb --help
 0 out bb report --help
+0 out bb carry --help
 0 out bb --version
 2 err bb
 2 err bb chek
@@ -200,6 +206,10 @@ const LINES: &str = "\
 2 err bb run 1 --lose 1
 2 err bb run 1 --rounds 0
 2 err bb merge complete complete
+2 err bb carry
+2 err bb carry complete
+2 err bb carry complete complete complete
+2 err bb carry complete complete --json
 2 err bb retry";
 
 #[test]
@@ -265,6 +275,7 @@ fn options_are_read_from_the_words(rt: HostRuntime) -> Result<(), Fail> {
         ("bb report file --json", report(true, false)),
         ("bb retry file --steps 7", retry(7)),
         ("bb merge a b c", merge()),
+        ("bb carry a b", carry()),
     ] {
         is_asked(&rt, rt.alloc(), text, expected)?;
     }
@@ -328,6 +339,13 @@ fn merge() -> Options<'static> {
         first: "a",
         second: "b",
         out: "c",
+    })
+}
+
+fn carry() -> Options<'static> {
+    Options::Carry(Carrying {
+        ledger: "a",
+        out: "b",
     })
 }
 

@@ -200,9 +200,10 @@ pub fn say_status(status: Status, said: &mut Said) -> Result<(), NoMemory> {
             said.text("holdouts")?;
             said.number(count)
         }
-        Status::Complete { best } => {
+        Status::Complete { best, ones } => {
             said.text("complete")?;
-            say_best(best, said)
+            say_best(best, said)?;
+            say_best(ones, said)
         }
     }
 }
@@ -212,9 +213,10 @@ pub fn say_bound(bound: Bound, said: &mut Said) -> Result<(), NoMemory> {
     match bound {
         Bound::Unknown => said.text("unknown"),
         Bound::Open => said.text("open"),
-        Bound::Closed { best } => {
+        Bound::Closed { best, ones } => {
             said.text("closed")?;
-            say_best(best, said)
+            say_best(best, said)?;
+            say_best(ones, said)
         }
     }
 }

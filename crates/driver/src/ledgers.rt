@@ -8,13 +8,18 @@ use std::alloc::Global;
 use std::io::{self, Write};
 use tnf::in_order;
 
-// Ledgers of one state, with `|` for a newline: whole, torn, with a line that doesn't stand, and with another header.
+// Ledgers of one state, with `|` for a newline: whole, torn, with a line that doesn't stand, with another header, of
+// version 2, with a line of version 1 in it, and the other way round.
 const LEDGERS: &str = "\
 bb-ledger 1 ------|------ H 1|0RA--- T 0 1 R|1RA--- T 0 1 R|
 bb-ledger 1 ------|------ H 1|0RA--- T 0 1
 bb-ledger 1 ------|------ H 1|0RA--- U|1RA--- H 5|
 bb-ledger 1 ------_------|
-bb-led";
+bb-led
+bb-ledger 2 ------|------ H 1 1|0RA--- T 0 1 R|1RA--- T 0 1 R|
+bb-ledger 2 ------|------ H 1|0RA--- T 0 1 R|
+bb-ledger 1 ------|------ H 1 1|0RA--- T 0 1 R|
+bb-ledger 2 ------_-";
 
 /// Loads each.
 pub fn tell_all<W: Write>(told: &mut Told<W>) -> io::Result<()> {

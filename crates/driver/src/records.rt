@@ -10,6 +10,8 @@ const RECORDS: &str = "\
 ------ H 1
 1RB1LB_1LA--- H 6
 1RB1LB_1LA--- H 7
+1RB1LB_1LA--- H 6 4
+1RB1LB_1LA--- H 6 5
 1RB1LB_1LA0LC_1RZ1LD_1RD0RA H 107
 0RB---_0LA--- C 0 2
 0RB---_0LA--- C 0 1
@@ -52,9 +54,10 @@ impl Call for Judging<'_> {
 /// Says a verdict, or that there is none.
 pub fn say_verdict(verdict: Option<Verdict>, said: &mut Said) -> Result<(), NoMemory> {
     match verdict {
-        Some(Verdict::Halts(count)) => {
+        Some(Verdict::Halts { steps, ones }) => {
             said.text("halts")?;
-            said.number(count)
+            said.number(steps)?;
+            said.number(ones)
         }
         Some(Verdict::Never) => said.text("never"),
         None => said.text("no verdict"),

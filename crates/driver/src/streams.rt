@@ -10,7 +10,7 @@ use wire::{Line, Lines, decode, encode};
 pub const FRAMES: &str = "\
 ASK 7
 GRANT 1 1 ------_1LA---
-REC ------ H 1
+REC ------ H 1 1
 REC 0LA---_1LA--- U
 REC 1RA--- N 1 0,1 0 0A00,1A00
 ACK ------

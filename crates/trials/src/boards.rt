@@ -55,7 +55,7 @@ fn a_board_takes_what_is_open_and_stands(rt: HostRuntime) {
         assert!(rt; offered == answer, "{text}: {offered:?}");
     }
     let verdict = board.verdict(&table_of(&rt, "------"));
-    assert!(rt; verdict == Some(Verdict::Halts(1)));
+    assert!(rt; verdict == Some(Verdict::Halts { steps: 1, ones: 1 }));
     assert!(rt; board.verdict(&table_of(&rt, "1RA---")).is_none());
 }
 
@@ -75,7 +75,7 @@ fn a_holdout_is_settled(rt: HostRuntime) {
         assert!(rt; offered == Ok(answer), "{text}: {offered:?}");
     }
     let champion = board.verdict(&table_of(&rt, "1RB1LB_1LA---"));
-    assert!(rt; champion == Some(Verdict::Halts(6)));
+    assert!(rt; champion == Some(Verdict::Halts { steps: 6, ones: 4 }));
 }
 
 #[test]
@@ -102,8 +102,8 @@ pub fn take(rt: &impl Abort, board: &mut Board, text: &str) {
     );
 }
 
-// Whether the tables are those of these texts, in this order, with a space behind each.
-fn are_tables(rt: &impl Abort, tables: &[Table], texts: &str) {
+/// Whether the tables are those of these texts, in this order, with a space behind each.
+pub fn are_tables(rt: &impl Abort, tables: &[Table], texts: &str) {
     let mut left = texts;
     for table in tables {
         let (text, rest) = parted(rt, left);
@@ -220,7 +220,10 @@ fn is_settled(rt: &impl Abort, alloc: Global, board: &mut Board) -> Result<(), F
         rt,
         board,
         "1RA--- T 0 1 R",
-        Status::Complete { best: Some(1) },
+        Status::Complete {
+            best: Some(1),
+            ones: Some(1),
+        },
     );
     are_holdouts(rt, alloc, board, "")
 }
@@ -240,15 +243,21 @@ fn tells_its_tree(rt: &impl Abort, board: &Board) {
         holdouts: 0,
         open_count: 0,
         best: Some(1),
+        ones: Some(1),
     };
     assert!(rt; board.tally() == tally);
     assert!(rt; *board.root() == table_of(rt, "------"));
 }
+
+const NOTHING_HALTS: Status = Status::Complete {
+    best: None,
+    ones: None,
+};
 
 #[test]
 fn the_greatest_count_is_best(rt: HostRuntime) {
     // The run never leaves the row that is filled, so this table has no halting extension.
     let mut board = board_of(&rt, rt.alloc(), "1RA---_------");
     take(&rt, &mut board, "1RA---_------ T 0 1 R");
-    assert!(rt; board.status() == Status::Complete { best: None });
+    assert!(rt; board.status() == NOTHING_HALTS);
 }

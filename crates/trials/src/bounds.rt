@@ -12,7 +12,20 @@ fn bounds_are(rt: &impl Abort, board: &Board, rows: &[(&str, Bound)]) {
     }
 }
 
-const NONE: Bound = Bound::Closed { best: None };
+const NONE: Bound = Bound::Closed {
+    best: None,
+    ones: None,
+};
+
+const ONE: Bound = Bound::Closed {
+    best: Some(1),
+    ones: Some(1),
+};
+
+const WHOLE: Status = Status::Complete {
+    best: Some(1),
+    ones: Some(1),
+};
 
 #[test]
 fn a_settled_tree_is_closed(rt: HostRuntime) {
@@ -37,12 +50,12 @@ fn a_settled_tree_is_closed(rt: HostRuntime) {
     );
     assert!(rt; offered(&rt, &mut board, "1RA--- U") == Ok(Taken::Known));
     assert!(rt; offered(&rt, &mut board, "1RA--- T 0 1 R") == Ok(Taken::Settled));
-    assert!(rt; board.status() == (Status::Complete { best: Some(1) }));
+    assert!(rt; board.status() == WHOLE);
     bounds_are(
         &rt,
         &board,
         &[
-            ("------", Bound::Closed { best: Some(1) }),
+            ("------", ONE),
             ("1RA---", NONE),
             ("0LA---", Bound::Unknown),
         ],

@@ -51,8 +51,8 @@ fn asked(
     cmd_check(alloc, &mut source, sink, faults)
 }
 
-// Rows of a line and its answer, with ` = ` between the two, each asked alone; what begins with `#` is a comment.
-fn rows(rt: &impl Abort, alloc: Global, rows: &str) -> Result<(), Fail> {
+/// Rows of a line and its answer, with ` = ` between the two, each asked alone; what begins with `#` is a comment.
+pub fn rows(rt: &impl Abort, alloc: Global, rows: &str) -> Result<(), Fail> {
     for row in rows.split('\n') {
         match row.split_once(" = ") {
             Some((line, answer)) => is_answered(rt, alloc, line, answer)?,

@@ -84,7 +84,7 @@ fn runs(
     Ok(())
 }
 
-const COMPLETE: &str = "bb-ledger 1 ------\n------ H 1\n0RA--- T 0 1 R\n1RA--- T 0 1 R\n";
+const COMPLETE: &str = "bb-ledger 2 ------\n------ H 1 1\n0RA--- T 0 1 R\n1RA--- T 0 1 R\n";
 
 const SETTLED: &[u8] = b"ASK 7\nREC ------ H 1\nREC 0RA--- T 0 1 R\nREC 1RA--- T 0 1 R\nASK 7\n";
 
@@ -135,7 +135,7 @@ fn odd_lines_are_no_answers(rt: HostRuntime) -> Result<(), Fail> {
         ("", 1, &input),
         (
             "GRANT 1 1 ------\n",
-            "bb-ledger 1 ------\n",
+            "bb-ledger 2 ------\n",
             Outcome::Refused,
         ),
     )

@@ -20,9 +20,14 @@ pub fn begun(rt: &impl Abort, alloc: Global) -> Coordinator {
 }
 
 fn appends_the_header(rt: &impl Abort, out: &Out) {
-    assert_bytes(rt, &out.append, b"bb-ledger 1 ------\n");
+    assert_bytes(rt, &out.append, b"bb-ledger 2 ------\n");
     assert!(rt; out.cut.is_none() && out.frames.is_empty() && out.note == Note::Quiet);
 }
+
+const WHOLE: Status = Status::Complete {
+    best: Some(1),
+    ones: Some(1),
+};
 
 #[test]
 fn records_are_acknowledged_once_they_are_held(rt: HostRuntime) {
@@ -32,7 +37,7 @@ fn records_are_acknowledged_once_they_are_held(rt: HostRuntime) {
         &mut node,
         &[
             ("REC 1RA--- T 0 1 R", "", "LATER 1RA---\n"),
-            ("REC ------ H 1", "------ H 1\n", "ACK ------\n"),
+            ("REC ------ H 1", "------ H 1 1\n", "ACK ------\n"),
             ("REC 1RA--- T 0 1 R", "1RA--- T 0 1 R\n", "ACK 1RA---\n"),
             ("REC ------ H 1", "", "ACK ------\n"),
             ("REC 1RA--- T 0 1 R", "", "ACK 1RA---\n"),
@@ -45,7 +50,7 @@ fn records_are_acknowledged_once_they_are_held(rt: HostRuntime) {
         ],
     );
     match node.board() {
-        Some(board) => assert!(rt; board.status() == (Status::Complete { best: Some(1) })),
+        Some(board) => assert!(rt; board.status() == WHOLE),
         None => panic!(rt; "no board"),
     }
 }
@@ -66,7 +71,7 @@ fn leases_end_with_their_deadline(rt: HostRuntime) {
             // A tick never goes back.
             ("TICK 1", "", ""),
             // The root is recorded; its children come under the second lease, which is renewed.
-            ("REC ------ H 1", "------ H 1\n", "ACK ------\n"),
+            ("REC ------ H 1", "------ H 1 1\n", "ACK ------\n"),
             ("TICK 119", "", ""),
             ("ASK 1", "", "LATER\n"),
             ("REC 0RA--- T 0 1 R", "0RA--- T 0 1 R\n", "ACK 0RA---\n"),
@@ -91,7 +96,7 @@ const SIX_STATES: &str = "------_------_------_------_------_------";
 fn the_largest_tables_and_numbers_are_answered(rt: HostRuntime) -> Result<(), Fail> {
     let (mut node, first) = Coordinator::start(rt.alloc(), 6, u64::MAX, b"");
     let header = first?.append;
-    assert!(rt; header.starts_with(b"bb-ledger 1 ") && header.len() == 54);
+    assert!(rt; header.starts_with(b"bb-ledger 2 ") && header.len() == 54);
     for (frame, note) in [
         ("ASK 4294967295", Note::Quiet),
         ("DONE 18446744073709551615 1", Note::Quiet),
@@ -148,8 +153,8 @@ fn what_is_odd_is_noted(rt: HostRuntime) {
     }
 }
 
-// A start from a ledger's bytes, tried again where memory is refused.
-fn started(
+/// A start from a ledger's bytes, of one state and in era 1, tried again where memory is refused.
+pub fn started(
     rt: &impl Abort,
     alloc: Global,
     ledger: &[u8],
@@ -167,7 +172,12 @@ fn started(
 #[test]
 fn ledgers_start_a_coordinator(rt: HostRuntime) {
     for (ledger, cut, append) in [
-        ("bb-led", Some(0), "bb-ledger 1 ------\n"),
+        ("bb-led", Some(0), "bb-ledger 2 ------\n"),
+        ("bb-ledger 1 ---", Some(0), "bb-ledger 2 ------\n"),
+        ("bb-ledger 2 ---", Some(0), "bb-ledger 2 ------\n"),
+        ("bb-ledger 2 ------\n------ H 1 1\n0RA", Some(32), ""),
+        ("bb-ledger 2 ------\n------ H 1\n", Some(19), ""),
+        ("bb-ledger 1 ------\n------ H 1 1\n", Some(19), ""),
         ("bb-ledger 1 ------\n", None, ""),
         ("bb-ledger 1 ------\n------ H 1\n", None, ""),
         ("bb-ledger 1 ------\n------ H 1\n0RA", Some(30), ""),

@@ -25,9 +25,18 @@ impl Finder for Five {
     ghost gives = { λ finder p budget claim. ⊤ };
 
     fn find(&mut self, _t: &Table, _budget: u64) -> Result<Option<OwnedCertificate>, NoMemory> {
-        Ok(Some(OwnedCertificate::Halts(HaltsIn(5))))
+        Ok(Some(OwnedCertificate::Halts(HaltsIn {
+            steps: 5,
+            ones: None,
+        })))
     }
 }
+
+// What is true of the champion of two states: 6 steps, 4 ones.
+const SIX: HaltsIn = HaltsIn {
+    steps: 6,
+    ones: Some(4),
+};
 
 // Gives nothing but that a table is undecided.
 #[derive(Drop)]
@@ -76,7 +85,7 @@ fn halts_in_six_by(
     table: &Table,
 ) -> Result<(), Fail> {
     let record = decide(alloc, finders, table, 100)?;
-    assert!(rt; matches!(record.lent().certificate, Certificate::Halts(HaltsIn(6))));
+    assert!(rt; record.lent().certificate == Certificate::Halts(SIX));
     Ok(())
 }
 
@@ -164,7 +173,7 @@ fn tables_are_answered_by_records(rt: HostRuntime) -> Result<(), Fail> {
             alloc,
             b"1RB1LB_1LA1RZ\n1RB---_------\n1RA---",
             at_once,
-            b"1RB1LB_1LA--- H 6\n1RB---_------ H 2\n1RA--- U\n",
+            b"1RB1LB_1LA--- H 6 4\n1RB---_------ H 2 2\n1RA--- U\n",
             Outcome::Accepted,
         )?;
         decided(
@@ -172,7 +181,7 @@ fn tables_are_answered_by_records(rt: HostRuntime) -> Result<(), Fail> {
             alloc,
             b"1RC---_------\n\n------\n",
             at_once,
-            b"refused 301 105 2\nrefused 301 101\n------ H 1\n",
+            b"refused 301 105 2\nrefused 301 101\n------ H 1 1\n",
             Outcome::Refused,
         )?;
     }

@@ -69,12 +69,15 @@ const SEARCH: Search = Search {
 };
 
 const ONE_STATE: &[u8] =
-    b"root ------\nstatus complete\nnodes 3\nhalting 1\nnever 2\nholdouts 0\nopen 0\nbest 1\nchampion ------\n";
+    b"root ------\nstatus complete\nnodes 3\nhalting 1\nnever 2\nholdouts 0\nopen 0\nbest 1\nchampion ------\nones 1\nones_champion ------\n";
 
 const ONE_STATE_AS_JSON: &[u8] =
-    b"{\"best\":1,\"champions\":[\"------\"],\"halting\":1,\"holdout_tables\":[],\"holdouts\":0,\"never\":2,\"nodes\":3,\"open\":0,\"root\":\"------\",\"status\":\"complete\"}\n";
+    b"{\"best\":1,\"champions\":[\"------\"],\"halting\":1,\"holdout_tables\":[],\"holdouts\":0,\"never\":2,\"nodes\":3,\"ones\":1,\"ones_champions\":[\"------\"],\"open\":0,\"root\":\"------\",\"status\":\"complete\"}\n";
 
 const COMPLETE: &str = "bb-ledger 1 ------\n------ H 1\n0RA--- T 0 1 R\n1RA--- T 0 1 R\n";
+
+// The same in version 2.
+const SCORED: &str = "bb-ledger 2 ------\n------ H 1 1\n0RA--- T 0 1 R\n1RA--- T 0 1 R\n";
 
 // A report of `-` is that of standard input, up to its end.
 #[test]
@@ -142,7 +145,7 @@ fn a_retry_ends_as_its_report_says(rt: HostRuntime) -> Result<(), Fail> {
             "bb-ledger 1 ------_------\n------_------ H 1\n1RB---_------ U\n",
             "hello\n",
             "1RB---_------ H 2\n",
-            b"root ------_------\nstatus working\nnodes 13\nhalting 2\nnever 0\nholdouts 0\nopen 11\nbest 2\nchampion 1RB---_------\n",
+            b"root ------_------\nstatus working\nnodes 13\nhalting 2\nnever 0\nholdouts 0\nopen 11\nbest 2\nchampion 1RB---_------\nones 2\nones_champion 1RB---_------\n",
             Outcome::Refused,
         ),
     ] {
@@ -340,28 +343,46 @@ fn each_worker_has_an_id_of_its_own(rt: HostRuntime) {
     }
 }
 
-// A ledger goes on where its kept bytes end, also where the file takes few bytes at a time.
+// A ledger goes on where its kept bytes end, in its version, also where the file takes few bytes at a time. Where its
+// header is torn it is begun anew.
 #[test]
 fn an_old_ledger_is_gone_on_with(rt: HostRuntime) -> Result<(), Fail> {
-    let alloc = rt.alloc();
-    let frames = "REC ------ H 1\nREC 0RA--- T 0 1 R\nREC 1RA--- T 0 1 R\n";
-    let beginning = Beginning { states: 1, era: 2 };
-    for kept in [0, 18, 19, 29, 30, 44, 45, 59, 60] {
-        for at_once in [1, 7, 100] {
-            let a = RefCell::new(COMPLETE.as_bytes()[..kept.min(COMPLETE.len())].to_vec(alloc)?);
-            let b = RefCell::new(Vec::new(alloc));
-            let desk = Desk::of(&a, &b, at_once);
-            let asked = Options::Coord {
-                beginning,
-                ledger: Some("a"),
-            };
-            let end = carried(&rt, alloc, asked, frames, &desk);
-            assert_bytes(&rt, &end.answers, b"ACK ------\nACK 0RA---\nACK 1RA---\n");
-            assert!(rt; end.outcome == Outcome::Accepted);
-            assert!(rt; desk.opened.get() == u64::from(kept < 60), "{kept}");
-            assert_bytes(&rt, &a.into_inner(), COMPLETE.as_bytes());
+    for at_once in [1, 7, 100] {
+        for kept in [0, 18, 19, 29, 30, 44, 45, 59, 60] {
+            goes_on(&rt, rt.alloc(), COMPLETE, kept, at_once)?;
+        }
+        for kept in [0, 18, 19, 31, 32, 46, 47, 61, 62] {
+            goes_on(&rt, rt.alloc(), SCORED, kept, at_once)?;
         }
     }
+    Ok(())
+}
+
+// A ledger of which so many bytes are there is made whole.
+fn goes_on(
+    rt: &impl Abort,
+    alloc: Global,
+    whole: &str,
+    kept: usize,
+    at_once: usize,
+) -> Result<(), Fail> {
+    let frames = "REC ------ H 1\nREC 0RA--- T 0 1 R\nREC 1RA--- T 0 1 R\n";
+    let a = RefCell::new(whole.as_bytes()[..kept.min(whole.len())].to_vec(alloc)?);
+    let b = RefCell::new(Vec::new(alloc));
+    let desk = Desk::of(&a, &b, at_once);
+    let asked = Options::Coord {
+        beginning: Beginning { states: 1, era: 2 },
+        ledger: Some("a"),
+    };
+    let end = carried(rt, alloc, asked, frames, &desk);
+    assert_bytes(rt, &end.answers, b"ACK ------\nACK 0RA---\nACK 1RA---\n");
+    assert!(rt; end.outcome == Outcome::Accepted);
+    assert!(rt;
+        desk.opened.get() == u64::from(kept < whole.len()),
+        "{kept}"
+    );
+    let whole = if kept < 19 { SCORED } else { whole };
+    assert_bytes(rt, &a.into_inner(), whole.as_bytes());
     Ok(())
 }
 
@@ -373,7 +394,7 @@ fn a_merge_may_write_over_what_it_read(rt: HostRuntime) -> Result<(), Fail> {
     let y =
         "bb-ledger 1 ------_------\n------_------ H 1\n1RB---_------ H 2\n1RA---_------ T 0 1 R\n";
     let joined =
-        "bb-ledger 1 ------_------\n------_------ H 1\n0RB---_------ H 2\n1RB---_------ H 2\n1RA---_------ T 0 1 R\n";
+        "bb-ledger 2 ------_------\n------_------ H 1 1\n0RB---_------ H 2 1\n1RB---_------ H 2 2\n1RA---_------ T 0 1 R\n";
     for (out, first, second) in [("a", joined, y), ("b", x, joined)] {
         let a = RefCell::new(x.as_bytes().to_vec(alloc)?);
         let b = RefCell::new(y.as_bytes().to_vec(alloc)?);

@@ -14,8 +14,19 @@ REC 1RA--- T 0 1 R > ACK 1RA---
 REC ------ H 1 > ACK ------
 REC 1RA--- T 0 1 R > ACK 1RA---";
 
-// What its ledger holds once all have come.
+// What its ledger holds once all have come, of either version.
 const KEPT: &str = "bb-ledger 1 ------\n------ H 1\n1RA--- T 0 1 R\n";
+
+const SCORED: &str = "bb-ledger 2 ------\n------ H 1 1\n1RA--- T 0 1 R\n";
+
+// What comes of a ledger that holds this before: it goes on in its version, and an empty one begins in the newer.
+fn whole(held: &str) -> &'static str {
+    if held.starts_with("bb-ledger 1 ") {
+        KEPT
+    } else {
+        SCORED
+    }
+}
 
 fn parts<'a>(rt: &impl Abort, row: &'a str) -> (&'a str, &'a str) {
     match row.split_once(" > ") {
@@ -25,8 +36,7 @@ fn parts<'a>(rt: &impl Abort, row: &'a str) -> (&'a str, &'a str) {
 }
 
 // The board is the one without failures: of the three tables one is left open.
-fn is_whole(rt: &impl Abort, node: &Coordinator, ledger: &MemLedger) {
-    assert_bytes(rt, ledger.text(), KEPT.as_bytes());
+fn is_whole(rt: &impl Abort, node: &Coordinator) {
     match node.board() {
         Some(board) => {
             assert!(rt; board.status() == (Status::Working { count: 1 }));
@@ -102,7 +112,7 @@ fn failing_row(
             return Ok(Some(place));
         }
     }
-    is_whole(rt, node, ledger);
+    is_whole(rt, node);
     Ok(None)
 }
 
@@ -130,11 +140,14 @@ fn ledger_fails(
     let mut ledger = MemLedger::holding(held.as_bytes().to_vec(alloc)?);
     ledger.fail_at(call);
     ledger.take_single(slow);
+    let whole = whole(held).as_bytes();
     let Some(from) = goes_on(rt, alloc, &mut ledger, 0)? else {
+        assert_bytes(rt, ledger.text(), whole);
         return Ok(false);
     };
-    assert!(rt; KEPT.as_bytes().starts_with(ledger.text()), "{call}");
+    assert!(rt; whole.starts_with(ledger.text()), "{call}");
     assert!(rt; goes_on(rt, alloc, &mut ledger, from)?.is_none(), "{call}");
+    assert_bytes(rt, ledger.text(), whole);
     Ok(true)
 }
 
@@ -145,6 +158,7 @@ fn a_ledger_may_fail_at_any_call(rt: HostRuntime) -> Result<(), Fail> {
         ("", true),
         ("bb-ledger 1 ------\n------ H", false),
         ("bb-ledger 1 ------\n------ H", true),
+        ("bb-ledger 2 ------\n------ H", false),
     ] {
         let mut failures = 0;
         for call in 1..=u64::MAX {
@@ -189,7 +203,8 @@ fn handed_over(
         link.deliver(b"\n")?;
         turned_to_the_end(node, &mut lines, link, ledger)?;
     }
-    is_whole(rt, node, ledger);
+    is_whole(rt, node);
+    assert_bytes(rt, ledger.text(), SCORED.as_bytes());
     Ok(())
 }
 

@@ -16,9 +16,13 @@ use wire::{Event, MsgFault, Node, Note};
 // Records that are accepted, of each kind.
 const ACCEPTED: &str = "\
 ------ H 1
+------ H 1 1
 1RB1LB_1LA--- H 6
+1RB1LB_1LA--- H 6 4
 1RB1RZ_1LB0RC_1LC1LA H 21
+1RB1RZ_1LB0RC_1LC1LA H 21 5
 1RB1LB_1LA0LC_1RZ1LD_1RD0RA H 107
+1RB1LB_1LA0LC_1RZ1LD_1RD0RA H 107 13
 1RA--- T 0 1 R
 0RB---_0LA--- C 0 2
 0RB---_0LA--- T 0 2 R
@@ -73,13 +77,14 @@ fn is_not_contradicted(rt: &impl Abort, alloc: Global, text: &[u8]) -> bool {
     let found = halts_within(rt, &record.table);
     match verdict {
         Verdict::Never => found.is_none(),
-        Verdict::Halts(count) if count <= 200 => found == Some(count),
-        Verdict::Halts(_) => found.is_none(),
+        Verdict::Halts { steps, ones } if steps <= 200 => found == Some((steps, ones)),
+        Verdict::Halts { .. } => found.is_none(),
     }
 }
 
-// The number of steps in which a table halts from the blank tape, where that are at most 200: a run in an array.
-fn halts_within(rt: &impl Abort, table: &Table) -> Option<u64> {
+// The number of steps in which a table halts from the blank tape, where that are at most 200, and of ones then: a run
+// in an array.
+fn halts_within(rt: &impl Abort, table: &Table) -> Option<(u64, u64)> {
     let mut cells = [Sym::Zero; 512];
     let mut head: usize = 256;
     let mut state = State(0);
@@ -87,7 +92,10 @@ fn halts_within(rt: &impl Abort, table: &Table) -> Option<u64> {
         assert!(rt; 0 < head && head < 511 && state.0 < table.states());
         let entry = match table.get(state, cells[head]) {
             Some(entry) => entry,
-            None => return Some(step),
+            None => {
+                cells[head] = Sym::One;
+                return Some((step, ones_of(&cells)));
+            }
         };
         cells[head] = entry.write;
         head = match entry.dir {
@@ -97,6 +105,10 @@ fn halts_within(rt: &impl Abort, table: &Table) -> Option<u64> {
         state = entry.next;
     }
     None
+}
+
+fn ones_of(cells: &[Sym]) -> u64 {
+    cells.iter().filter(|cell| **cell == Sym::One).count() as u64
 }
 
 // The last byte of a record with each of its bits changed: three counts that aren't the table's, and no numbers.

@@ -55,17 +55,17 @@ fn boards_of_one_state_are_reported(rt: HostRuntime) {
         (
             "bb-ledger 1 ------\n------ H 1\n0RA--- T 0 1 R\n1RA--- T 0 1 R\n",
             "{\"best\":1,\"champions\":[\"------\"],\"halting\":1,\"holdout_tables\":[],\"holdouts\":0,\
-\"never\":2,\"nodes\":3,\"open\":0,\"root\":\"------\",\"status\":\"complete\"}\n",
+\"never\":2,\"nodes\":3,\"ones\":1,\"ones_champions\":[\"------\"],\"open\":0,\"root\":\"------\",\"status\":\"complete\"}\n",
         ),
         (
             "bb-ledger 1 ------\n------ H 1\n0RA--- T 0 1 R\n1RA--- U\n",
             "{\"best\":1,\"champions\":[\"------\"],\"halting\":1,\"holdout_tables\":[\"1RA---\"],\"holdouts\":1,\
-\"never\":1,\"nodes\":3,\"open\":0,\"root\":\"------\",\"status\":\"holdouts\"}\n",
+\"never\":1,\"nodes\":3,\"ones\":1,\"ones_champions\":[\"------\"],\"open\":0,\"root\":\"------\",\"status\":\"holdouts\"}\n",
         ),
         (
             "bb-ledger 1 ------\n",
             "{\"best\":null,\"champions\":[],\"halting\":0,\"holdout_tables\":[],\"holdouts\":0,\
-\"never\":0,\"nodes\":1,\"open\":1,\"root\":\"------\",\"status\":\"working\"}\n",
+\"never\":0,\"nodes\":1,\"ones\":null,\"ones_champions\":[],\"open\":1,\"root\":\"------\",\"status\":\"working\"}\n",
         ),
     ] {
         reported(&rt, rt.alloc(), "------", ledger, report);
@@ -81,6 +81,6 @@ fn champions_are_in_order(rt: HostRuntime) {
         "------_------",
         "bb-ledger 1 ------_------\n------_------ H 1\n1RB---_------ H 2\n0RB---_------ H 2\n",
         "{\"best\":2,\"champions\":[\"0RB---_------\",\"1RB---_------\"],\"halting\":3,\"holdout_tables\":[],\
-\"holdouts\":0,\"never\":0,\"nodes\":21,\"open\":18,\"root\":\"------_------\",\"status\":\"working\"}\n",
+\"holdouts\":0,\"never\":0,\"nodes\":21,\"ones\":2,\"ones_champions\":[\"1RB---_------\"],\"open\":18,\"root\":\"------_------\",\"status\":\"working\"}\n",
     );
 }

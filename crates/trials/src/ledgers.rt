@@ -10,6 +10,19 @@ use tnf::in_order;
 
 const LEDGER: &str = "bb-ledger 1 ------\n------ H 1\n0RA--- T 0 1 R\n1RA--- T 0 1 R\n";
 
+// The same as it is written.
+const WRITTEN: &str = "bb-ledger 2 ------\n------ H 1 1\n0RA--- T 0 1 R\n1RA--- T 0 1 R\n";
+
+// How many bytes are written for so many of its whole lines. An empty board's ledger is the header, of 19 bytes, and
+// behind it the line of the root is longer by its score, of 2.
+fn written_for(kept: usize) -> usize {
+    if kept <= 19 {
+        19
+    } else {
+        kept.saturating_add(2)
+    }
+}
+
 // Loads a text with the root of one state.
 fn load(rt: &impl Abort, alloc: Global, text: &[u8]) -> Result<(Board, Left), LoadFault> {
     load_with(rt, alloc, "------", text)
@@ -41,7 +54,8 @@ fn left_and_written(rt: &impl Abort, alloc: Global, text: &[u8]) -> (Left, Vec<u
     }
 }
 
-fn written(rt: &impl Abort, alloc: Global, board: &Board) -> Vec<u8> {
+/// A board's ledger. Memory may be refused once.
+pub fn written(rt: &impl Abort, alloc: Global, board: &Board) -> Vec<u8> {
     let mut out = Vec::new(alloc);
     if board.write_ledger(&mut out).is_err() && board.write_ledger(&mut out).is_err() {
         panic!(rt; "no memory");
@@ -72,8 +86,7 @@ fn a_ledger_is_cut_anywhere(rt: HostRuntime) {
                 }
             };
             assert!(rt; left == expected, "at {len}: {left:?}");
-            // an empty board's ledger is the header
-            assert!(rt; out.as_slice() == &whole[..kept.max(19)], "at {len}");
+            assert_bytes(&rt, &out, &WRITTEN.as_bytes()[..written_for(kept)]);
         }
     }
 }
@@ -149,9 +162,9 @@ fn is_cut_short(rt: &impl Abort, alloc: Global, text: &str, expected: Left) {
 // The lines that are kept are the first of that ledger.
 fn keeps_the_first_lines(rt: &impl Abort, alloc: Global, text: &str, kept: u64) {
     let (_, out) = left_and_written(rt, alloc, text.as_bytes());
-    let len = if kept < 19 { 19 } else { kept as usize };
+    let len = written_for(kept as usize);
     assert!(rt;
-        LEDGER.as_bytes().get(..len) == Some(out.as_slice()),
+        WRITTEN.as_bytes().get(..len) == Some(out.as_slice()),
         "{text}"
     );
 }
@@ -163,7 +176,11 @@ fn a_ledger_has_the_header_of_its_root(rt: HostRuntime) {
         ("hello", LoadFault::BadHeader),
         ("\n", LoadFault::BadHeader),
         ("bb-ledger 1 \n", LoadFault::BadHeader),
-        ("bb-ledger 2 ------\n", LoadFault::BadHeader),
+        ("bb-ledger 3 ------\n", LoadFault::BadHeader),
+        ("bb-ledger 0 ------\n", LoadFault::BadHeader),
+        ("bb-ledger 21 ------\n", LoadFault::BadHeader),
+        ("bb-ledger 2 ------\r\n", LoadFault::BadHeader),
+        ("bb-ledger 2 ------_------\n", LoadFault::WrongRoot),
         ("bb-ledger 1 ------\r\n", LoadFault::BadHeader),
         ("bb-ledger 1 ------_------\n", LoadFault::WrongRoot),
         ("bb-ledger 1 1RC---_------_------\n", LoadFault::WrongRoot),
@@ -180,6 +197,12 @@ fn a_root_is_peeked_at(rt: HostRuntime) {
         ("", "nothing"),
         ("bb-led", "nothing"),
         ("bb-ledger 1 1RC", "nothing"),
+        ("bb-ledger 2", "nothing"),
+        ("bb-ledger 2 1RC", "nothing"),
+        ("bb-ledger 2 1RB1RH_------\n", "1RB---_------"),
+        ("bb-ledger 2 1RC---_------_------\n", "wrong root"),
+        ("bb-ledger 3", "bad header"),
+        ("bb-ledger 3 ------\n", "bad header"),
         ("bb-ledger 1 ------\n------ Q\n", "------"),
         ("bb-ledger 1 1RZ---\n", "------"),
         ("bb-ledger 1 1RB1RH_------\n", "1RB---_------"),
@@ -211,7 +234,7 @@ fn a_written_ledger_loads_again(rt: HostRuntime) {
     let text =
         "bb-ledger 1 1RZ---_------\n------_------ H 1\n1RB---_------ U\n1RB---_------ H 2\n1RB---_1LA--- U\n";
     let settled =
-        "bb-ledger 1 ------_------\n------_------ H 1\n1RB---_------ H 2\n1RB---_1LA--- U\n";
+        "bb-ledger 2 ------_------\n------_------ H 1 1\n1RB---_------ H 2 2\n1RB---_1LA--- U\n";
     let board = loaded_whole(&rt, rt.alloc(), text.as_bytes());
     let out = written(&rt, rt.alloc(), &board);
     assert_bytes(&rt, &out, settled.as_bytes());

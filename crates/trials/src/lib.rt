@@ -12,6 +12,8 @@ mod boards;
 #[cfg(test)]
 mod bounds;
 #[cfg(test)]
+mod carry_command;
+#[cfg(test)]
 mod check_command;
 #[cfg(test)]
 mod children;
@@ -72,6 +74,8 @@ mod run_command;
 #[cfg(test)]
 mod runs;
 #[cfg(test)]
+mod scores;
+#[cfg(test)]
 mod sockets;
 #[cfg(test)]
 mod streams;
@@ -81,5 +85,7 @@ mod tables;
 mod tapes;
 #[cfg(test)]
 mod texts;
+#[cfg(test)]
+mod versions;
 #[cfg(test)]
 mod workers;

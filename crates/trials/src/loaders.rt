@@ -21,8 +21,8 @@ const OTHERS: [&str; 8] = [
     "bb-ledger 1 ------_-",
 ];
 
-// What a text is loaded as where it comes in pieces of a size.
-fn loaded_in_pieces(
+/// What a text is loaded as where it comes in pieces of a size, with the root of one state.
+pub fn loaded_in_pieces(
     rt: &impl Abort,
     alloc: Global,
     text: &[u8],
@@ -57,7 +57,12 @@ fn fed(
     loader.finish()
 }
 
-fn loaded_whole(rt: &impl Abort, alloc: Global, text: &[u8]) -> Result<(Board, Left), LoadFault> {
+/// What a text is loaded as at once, with the root of one state.
+pub fn loaded_whole(
+    rt: &impl Abort,
+    alloc: Global,
+    text: &[u8],
+) -> Result<(Board, Left), LoadFault> {
     let root = table_of(rt, "------");
     if !in_order(&root) {
         panic!(rt; "out of order");
@@ -92,7 +97,7 @@ fn have_the_same_records(rt: &impl Abort, board: &Board, other: &Board) {
         assert!(rt; others.next() == Some(r));
     }
     assert!(rt; others.next().is_none());
-    assert!(rt; board.status() == other.status());
+    assert!(rt; board.status() == other.status() && board.format() == other.format());
 }
 
 #[test]

@@ -185,10 +185,13 @@ const Y: &str =
     "bb-ledger 1 ------_------\n------_------ H 1\n1RB---_------ H 2\n1RA---_------ T 0 1 R\n";
 
 const X_THEN_Y: &str =
-    "bb-ledger 1 ------_------\n------_------ H 1\n0RB---_------ H 2\n1RB---_------ H 2\n1RA---_------ T 0 1 R\n";
+    "bb-ledger 2 ------_------\n------_------ H 1 1\n0RB---_------ H 2 1\n1RB---_------ H 2 2\n1RA---_------ T 0 1 R\n";
 
 const Y_THEN_X: &str =
-    "bb-ledger 1 ------_------\n------_------ H 1\n1RB---_------ H 2\n1RA---_------ T 0 1 R\n0RB---_------ H 2\n";
+    "bb-ledger 2 ------_------\n------_------ H 1 1\n1RB---_------ H 2 2\n1RA---_------ T 0 1 R\n0RB---_------ H 2 1\n";
+
+// X in version 2.
+const X_SCORED: &str = "bb-ledger 2 ------_------\n------_------ H 1 1\n0RB---_------ H 2 1\n";
 
 #[test]
 fn two_ledgers_are_joined(rt: HostRuntime) {
@@ -199,17 +202,20 @@ fn two_ledgers_are_joined(rt: HostRuntime) {
     merged(
         &rt,
         alloc,
-        (X, X, X),
+        (X, X, X_SCORED),
         ("merged 2 open 11 holdouts 0\n", "", Outcome::Accepted),
     );
+    // A ledger of either version is joined with one of the other.
+    merged(&rt, alloc, (X_SCORED, Y, X_THEN_Y), all);
+    merged(&rt, alloc, (Y, X_SCORED, Y_THEN_X), all);
 }
 
 #[test]
 fn a_holdout_that_the_other_settles_is_settled(rt: HostRuntime) {
     let undecided = "bb-ledger 1 ------\n------ H 1\n0RA--- U\n1RA--- U\n";
     let settled = "bb-ledger 1 ------\n------ H 1\n1RA--- T 0 1 R\n";
-    let both = "bb-ledger 1 ------\n------ H 1\n0RA--- U\n1RA--- T 0 1 R\n";
-    let others = "bb-ledger 1 ------\n------ H 1\n1RA--- T 0 1 R\n0RA--- U\n";
+    let both = "bb-ledger 2 ------\n------ H 1 1\n0RA--- U\n1RA--- T 0 1 R\n";
+    let others = "bb-ledger 2 ------\n------ H 1 1\n1RA--- T 0 1 R\n0RA--- U\n";
     let all = ("merged 3 open 0 holdouts 1\n", "", Outcome::Accepted);
     merged(&rt, rt.alloc(), (undecided, settled, both), all);
     merged(&rt, rt.alloc(), (settled, undecided, others), all);
@@ -219,18 +225,19 @@ fn a_holdout_that_the_other_settles_is_settled(rt: HostRuntime) {
 fn what_is_left_of_the_first_is_told(rt: HostRuntime) {
     let alloc = rt.alloc();
     let whole = "bb-ledger 1 ------\n------ H 1\n";
+    let scored = "bb-ledger 2 ------\n------ H 1 1\n";
     let torn = "bb-ledger 1 ------\n------ H 1\n0RA";
     let unfit = "bb-ledger 1 ------\n------ H 2\n";
     merged(
         &rt,
         alloc,
-        (whole, unfit, whole),
+        (whole, unfit, scored),
         ("merged 1 open 2 holdouts 0\nleft 2\n", "", Outcome::Refused),
     );
     merged(
         &rt,
         alloc,
-        (torn, unfit, whole),
+        (torn, unfit, scored),
         ("merged 1 open 2 holdouts 0\nleft 3\n", "", Outcome::Refused),
     );
 }

@@ -5,7 +5,7 @@ use std::test::Fail;
 use wire::{MsgFault, decode, encode};
 
 // Frames with what they are printed as.
-const MESSAGES: [(&str, &str); 13] = [
+const MESSAGES: [(&str, &str); 15] = [
     ("ASK 7", "ASK 7\n"),
     ("ASK 4294967295", "ASK 4294967295\n"),
     ("GRANT 1 1 ------", "GRANT 1 1 ------\n"),
@@ -14,6 +14,8 @@ const MESSAGES: [(&str, &str); 13] = [
         "GRANT 18446744073709551615 0 1RB---_1LA---\n",
     ),
     ("REC ------ H 1", "REC ------ H 1\n"),
+    ("REC ------ H 1 1", "REC ------ H 1 1\n"),
+    ("REC 1RB1LB_1LA1RZ H 6 4", "REC 1RB1LB_1LA--- H 6 4\n"),
     ("REC 1RA1RH U", "REC 1RA--- U\n"),
     (
         "REC 1RA--- N 1 0,1 0 0A00,1A00",

@@ -58,6 +58,12 @@ impl Plain {
         }
     }
 
+    fn ones(&self) -> u64 {
+        let head = u64::from(self.read == Sym::One);
+        head.saturating_add(ones_of(&self.left))
+            .saturating_add(ones_of(&self.right))
+    }
+
     // All cells that are further than 300 off are blank.
     fn same_half(&self, other: &Plain, from: i64, shift: i64, side: Dir) -> bool {
         (-300i64..300).all(|x| {
@@ -72,6 +78,10 @@ impl Plain {
     fn same(&self, other: &Plain) -> bool {
         self.head == other.head && self.same_half(other, -300, 0, Dir::R)
     }
+}
+
+fn ones_of(side: &[Sym]) -> u64 {
+    side.iter().filter(|s| **s == Sym::One).count() as u64
 }
 
 // The symbol so many cells from the head.
@@ -146,6 +156,7 @@ impl Both {
         for x in -1000i64..1000 {
             assert_eq!(rt; self.packed.cell(x), self.plain.cell(x), "at {x}");
         }
+        assert_eq!(rt; self.packed.ones(), self.plain.ones());
     }
 
     // Random symbols on 150 cells from a place on, with the symbol of the cell `odd` of them turned.
@@ -207,6 +218,24 @@ fn random_steps_as_on_a_plain_tape(rt: HostRuntime) -> Result<(), Fail> {
             both.heads_agree(&rt);
         }
         both.cells_agree(&rt);
+    }
+    Ok(())
+}
+
+// Few symbols are blank in the one half of the runs, and many in the other.
+#[test]
+fn random_ones_as_on_a_plain_tape(rt: HostRuntime) -> Result<(), Fail> {
+    for seed in 0..20u64 {
+        let mut draws = Draws(seed);
+        let mut both = Both::new(rt.alloc());
+        assert_eq!(rt; both.packed.ones(), 0);
+        for _ in 0..300 {
+            let draw = draws.next();
+            let is_one = (draw & 7 == 0) == (seed & 1 == 0);
+            let side = if draw & 0x300 == 0 { Dir::L } else { Dir::R };
+            both.step(&rt, symbol(is_one), side)?;
+            assert_eq!(rt; both.packed.ones(), both.plain.ones());
+        }
     }
     Ok(())
 }

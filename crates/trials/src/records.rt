@@ -1,7 +1,7 @@
 // Records of the field's champions, and lines that are none.
 use crate::texts::{number_of, parted};
 use cert::{Certificate, OwnedCertificate, OwnedRecord, Record, RecordFault, judge, judge_on};
-use evidence::{Refused, Verdict};
+use evidence::{Ending, Refused, Verdict};
 use machine_text::{Pair, State, Sym, TextFault};
 use run::HaltsIn;
 use std::alloc::Global;
@@ -15,11 +15,15 @@ const TEXTS: &str = "\
 302 1RB1LB_1LA---
 302 1RB1LB_1LA---  H 6
 303 1RB1LB_1LA--- H 06
+303 1RB1LB_1LA--- H 6 04
+303 1RB1LB_1LA--- H 6 
+303 1RB1LB_1LA--- H  4
+303 1RB1LB_1LA--- H 6 18446744073709551616
+302 1RB1LB_1LA--- H 6 4 1
 303 1RB1LB_1LA--- H +6
 303 1RB1LB_1LA--- H 6\r
 303 1RB1LB_1LA--- H 
 303 1RB1LB_1LA--- H 18446744073709551616
-302 1RB1LB_1LA--- H 6 
 302 1RB1LB_1LA--- H
 302 1RB1LB_1LA--- h 6
 302 1RB1LB_1LA--- U 6
@@ -58,6 +62,9 @@ const TEXTS: &str = "\
 0 1RA--- B 1001
 0 1RB1LB_1LA--- U
 0 1RB1LB_1LA--- H 0
+0 1RB1LB_1LA--- H 6 4
+0 1RB1LB_1LA--- H 6 0
+0 1RB1LB_1LA--- H 6 18446744073709551615
 0 1RB1LB_1LA--- H 18446744073709551615";
 
 #[test]
@@ -91,6 +98,8 @@ fn records_are_written_in_their_printed_form(rt: HostRuntime) -> Result<(), Fail
         ("1RB1RZ_1LB0RC_1LC1LA H 21", "1RB---_1LB0RC_1LC1LA H 21"),
         ("1RB1RH_1LB0RC_1LC1LA U", "1RB---_1LB0RC_1LC1LA U"),
         ("------ H 0", "------ H 0"),
+        ("1RB1LB_1LA1RZ H 6 4", "1RB1LB_1LA--- H 6 4"),
+        ("------ H 0 0", "------ H 0 0"),
         (
             "1RA1RZ C 0 18446744073709551615",
             "1RA--- C 0 18446744073709551615",
@@ -146,6 +155,9 @@ fn judged(rt: &impl Abort, alloc: Global, text: &str) -> Result<Option<Verdict>,
     }
 }
 
+// What the champion of two states does: in 6 steps it leaves 4 ones (Radó 1962).
+const CHAMPION: Verdict = Verdict::Halts { steps: 6, ones: 4 };
+
 const NEVER: &str = "\
 0RB---_0LA--- C 0 2
 1RA--- T 0 1 R
@@ -156,6 +168,9 @@ const NEVER: &str = "\
 // Just within a limit a certificate is looked at.
 const FAILING: &str = "\
 1RB1LB_1LA--- H 7
+1RB1LB_1LA--- H 6 3
+1RB1LB_1LA--- H 6 5
+1RB1LB_1LA--- H 7 4
 1RB1LB_1LA--- H 100000000
 1RB1LB_1LA--- C 0 10000000
 1RB1LB_1LA--- T 0 10000000 R
@@ -168,13 +183,14 @@ const FAILING: &str = "\
 
 const TOO_LONG: &str = "\
 1RB1LB_1LA--- H 100000001
+1RB1LB_1LA--- H 100000001 4
 1RA--- C 0 10000001
 1RB---_0RB1RB B 1001";
 
 #[test]
 fn certificates_are_judged(rt: HostRuntime) {
     let alloc = rt.alloc();
-    assert!(rt; judged(&rt, alloc, "1RB1LB_1LA--- H 6") == Ok(Some(Verdict::Halts(6))));
+    assert!(rt; judged(&rt, alloc, "1RB1LB_1LA--- H 6") == Ok(Some(CHAMPION)));
     assert!(rt; judged(&rt, alloc, "1RB1LB_1LA--- U") == Ok(None));
     for text in NEVER.split('\n') {
         assert!(rt;
@@ -188,7 +204,11 @@ fn certificates_are_judged(rt: HostRuntime) {
     for text in TOO_LONG.split('\n') {
         assert!(rt; judged(&rt, alloc, text) == Err(Refused::TooLong), "{text}");
     }
-    assert!(rt; Certificate::Halts(HaltsIn(1)) != Certificate::Undecided);
+    let claim = HaltsIn {
+        steps: 1,
+        ones: None,
+    };
+    assert!(rt; Certificate::Halts(claim) != Certificate::Undecided);
 }
 
 // The pair on which a table halts comes with its judgement.
@@ -202,7 +222,7 @@ fn halting_pairs_come_with_judgements(rt: HostRuntime) {
             }
             match judged {
                 Ok(judged) => {
-                    assert_eq!(rt; judged.verdict, Some(Verdict::Halts(6)));
+                    assert_eq!(rt; judged.verdict, Some(CHAMPION));
                     assert_eq!(rt;
                         judged.halts_on,
                         Some(Pair {
@@ -213,7 +233,7 @@ fn halting_pairs_come_with_judgements(rt: HostRuntime) {
                 }
                 Err(refused) => panic!(rt; "{refused:?}"),
             }
-            assert_eq!(rt; record.certificate.verdict(), Some(Verdict::Halts(6)));
+            assert_eq!(rt; record.certificate.ending(), Some(Ending::Halts(6)));
         }
         Err(fault) => panic!(rt; "{fault:?}"),
     }

@@ -40,7 +40,7 @@ const COMPLETE: &[u8] = b"bb-ledger 1 ------\n------ H 1\n0RA--- T 0 1 R\n1RA---
 #[test]
 fn a_complete_ledger_is_accepted(rt: HostRuntime) {
     let report = b"root ------\nstatus complete\nnodes 3\nhalting 1\nnever 2\nholdouts 0\nopen 0\n\
-best 1\nchampion ------\n";
+best 1\nchampion ------\nones 1\nones_champion ------\n";
     for at_once in [1, 7, 60, 1000] {
         reported(
             &rt,
@@ -57,16 +57,16 @@ best 1\nchampion ------\n";
 #[test]
 fn an_open_ledger_is_reported(rt: HostRuntime) {
     let working = b"root ------\nstatus working\nnodes 3\nhalting 1\nnever 0\nholdouts 1\nopen 1\n\
-best 1\nchampion ------\nholdout 0RA---\n";
+best 1\nchampion ------\nones 1\nones_champion ------\nholdout 0RA---\n";
     let begun = b"root ------\nstatus working\nnodes 1\nhalting 0\nnever 0\nholdouts 0\nopen 1\n\
-best none\n";
+best none\nones none\n";
     let holdouts =
         b"root ------\nstatus holdouts\nnodes 3\nhalting 1\nnever 0\nholdouts 2\nopen 0\n\
-best 1\nchampion ------\nholdout 0RA---\nholdout 1RA---\n";
+best 1\nchampion ------\nones 1\nones_champion ------\nholdout 0RA---\nholdout 1RA---\n";
     // Champions come in the order of their texts, whatever the order of their records.
     let champions =
         b"root ------_------\nstatus working\nnodes 21\nhalting 3\nnever 0\nholdouts 0\n\
-open 18\nbest 2\nchampion 0RB---_------\nchampion 1RB---_------\n";
+open 18\nbest 2\nchampion 0RB---_------\nchampion 1RB---_------\nones 2\nones_champion 1RB---_------\n";
     for (ledger, report) in [
         (
             b"bb-ledger 1 ------\n------ H 1\n0RA--- U\n".as_slice(),
@@ -91,9 +91,9 @@ open 18\nbest 2\nchampion 0RB---_------\nchampion 1RB---_------\n";
 fn what_is_left_is_told(rt: HostRuntime) -> Result<(), Fail> {
     let alloc = rt.alloc();
     let none =
-        "root ------\nstatus working\nnodes 1\nhalting 0\nnever 0\nholdouts 0\nopen 1\nbest none\n";
+        "root ------\nstatus working\nnodes 1\nhalting 0\nnever 0\nholdouts 0\nopen 1\nbest none\nones none\n";
     let one =
-        "root ------\nstatus working\nnodes 3\nhalting 1\nnever 0\nholdouts 0\nopen 2\nbest 1\nchampion ------\n";
+        "root ------\nstatus working\nnodes 3\nhalting 1\nnever 0\nholdouts 0\nopen 2\nbest 1\nchampion ------\nones 1\nones_champion ------\n";
     for rest in [
         "------ H 2\n",
         "0RA--- T 0 1 R\n",
@@ -128,7 +128,7 @@ fn a_line_too_many_is_left(rt: HostRuntime) -> Result<(), Fail> {
     ledger.extend_from_slice(COMPLETE)?;
     ledger.extend_from_slice(b"1RA--- T 0 1 R\n")?;
     let report = b"root ------\nstatus complete\nnodes 3\nhalting 1\nnever 2\nholdouts 0\nopen 0\n\
-best 1\nchampion ------\nleft 5\n";
+best 1\nchampion ------\nones 1\nones_champion ------\nleft 5\n";
     reported(
         &rt,
         rt.alloc(),

@@ -53,7 +53,7 @@ fn ended(alloc: Global, held: &[u8], ledger_fails_at: u64) -> Result<Ending, Fai
 }
 
 const ONE_STATE: &[u8] =
-    b"root ------\nstatus complete\nnodes 3\nhalting 1\nnever 2\nholdouts 0\nopen 0\nbest 1\nchampion ------\n";
+    b"root ------\nstatus complete\nnodes 3\nhalting 1\nnever 2\nholdouts 0\nopen 0\nbest 1\nchampion ------\nones 1\nones_champion ------\n";
 
 // A retry after which the tree of one state is settled, and what its ledger then holds.
 fn settles(rt: &impl Abort, alloc: Global, held: &[u8], left: &[u8]) -> Result<(), Fail> {
@@ -76,6 +76,9 @@ fn a_holdout_is_settled(rt: HostRuntime) -> Result<(), Fail> {
 const SETTLED: &[u8] =
     b"bb-ledger 1 ------_------\n------_------ H 1\n1RB---_------ U\n1RB---_------ H 2\n";
 
+const OPENED: &[u8] =
+    b"root ------_------\nstatus working\nnodes 13\nhalting 2\nnever 0\nholdouts 0\nopen 11\nbest 2\nchampion 1RB---_------\nones 2\nones_champion 1RB---_------\n";
+
 #[test]
 fn what_becomes_open_stays_open(rt: HostRuntime) -> Result<(), Fail> {
     let end = ended(
@@ -83,16 +86,23 @@ fn what_becomes_open_stays_open(rt: HostRuntime) -> Result<(), Fail> {
         b"bb-ledger 1 ------_------\n------_------ H 1\n1RB---_------ U\n",
         0,
     )?;
-    assert_bytes(
-        &rt,
-        &end.answers,
-        b"root ------_------\nstatus working\nnodes 13\nhalting 2\nnever 0\nholdouts 0\nopen 11\nbest 2\nchampion 1RB---_------\n",
-    );
+    assert_bytes(&rt, &end.answers, OPENED);
     assert!(rt; end.outcome == Outcome::Refused);
     assert_bytes(&rt, end.ledger.text(), SETTLED);
     let (mut node, started) = Coordinator::start(rt.alloc(), 2, 1, SETTLED);
     started?;
     grants_what_became_open(&rt, &mut node);
+    Ok(())
+}
+
+// A ledger of version 2 goes on in it: what was settled is appended with its score.
+#[test]
+fn a_newer_ledger_stays_one(rt: HostRuntime) -> Result<(), Fail> {
+    let held = "bb-ledger 2 ------_------\n------_------ H 1 1\n1RB---_------ U\n";
+    let end = ended(rt.alloc(), held.as_bytes(), 0)?;
+    assert_bytes(&rt, &end.answers, OPENED);
+    let left = format!(in rt.alloc(); "{held}1RB---_------ H 2 2\n")?;
+    assert_bytes(&rt, end.ledger.text(), left.as_bytes());
     Ok(())
 }
 

@@ -142,12 +142,12 @@ fn ended(
 }
 
 const ONE_STATE: &[u8] =
-    b"root ------\nstatus complete\nnodes 3\nhalting 1\nnever 2\nholdouts 0\nopen 0\nbest 1\nchampion ------\n";
+    b"root ------\nstatus complete\nnodes 3\nhalting 1\nnever 2\nholdouts 0\nopen 0\nbest 1\nchampion ------\nones 1\nones_champion ------\n";
 
 const TWO_STATES: &[u8] =
     b"root ------_------\nstatus complete\nnodes 61\nhalting 19\nnever 42\nholdouts 0
 open 0\nbest 6\nchampion 0RB---_1LA1RB\nchampion 1RB---_0LB1LA\nchampion 1RB---_1LB1LA\nchampion 1RB0LB_1LA---
-champion 1RB1LB_1LA---\n";
+champion 1RB1LB_1LA---\nones 4\nones_champion 1RB1LB_1LA---\n";
 
 #[test]
 fn small_trees_are_settled(rt: HostRuntime) -> Result<(), Fail> {
@@ -167,8 +167,13 @@ fn small_trees_are_settled(rt: HostRuntime) -> Result<(), Fail> {
     Ok(())
 }
 
-// S(3) is 21, and one table in tree normal form has it (Radó and Lin 1965). The tree has thousands of tables: memory
-// is refused to none of them.
+const THREE_STATES: &[u8] = b"
+best 21\nchampion 1RB---_1LB0RC_1LC1LA\nones 6\nones_champion 1RB---_0RC1RB_1LC1LA
+ones_champion 1RB1LC_1LA1RB_1LB---\nones_champion 1RB1LC_1RC---_1LA0LB\nones_champion 1RB1RA_1LC---_1RA1LB
+ones_champion 1RB1RC_1LC---_1RA0LB\n";
+
+// S(3) is 21, and one table in tree normal form has it; Σ(3) is 6, and others have it (Lin and Radó 1965, and a
+// simulator apart from this one). The tree has thousands of tables: memory is refused to none of them.
 #[test]
 fn three_states_are_settled(rt: HostRuntime) -> Result<(), Fail> {
     let asked = settling(3, 2, None, 1_000_000, false);
@@ -177,15 +182,17 @@ fn three_states_are_settled(rt: HostRuntime) -> Result<(), Fail> {
         end.answers
             .starts_with(b"root ------_------_------\nstatus complete\nnodes ")
     );
-    assert!(rt;
-        end.answers
-            .ends_with(b"\nbest 21\nchampion 1RB---_1LB0RC_1LC1LA\n")
-    );
+    assert!(rt; end.answers.ends_with(THREE_STATES));
     assert!(rt; end.faults.is_empty() && end.outcome == Outcome::Accepted);
     Ok(())
 }
 
 const LEDGER: &[u8] = b"bb-ledger 1 ------\n------ H 1\n0RA--- T 0 1 R\n1RA--- T 0 1 R\n";
+
+// What it begins with, and what one begins with that is of version 2.
+const ROOT: &[u8] = b"bb-ledger 1 ------\n------ H 1\n";
+
+const ROOT_SCORED: &[u8] = b"bb-ledger 2 ------\n------ H 1 1\n";
 
 // What the ledger of a run of one state holds at the end, which is complete, where it holds this before.
 fn completed(rt: &impl Abort, alloc: Global, held: &[u8]) -> Result<MemLedger, Fail> {
@@ -200,6 +207,8 @@ fn completed(rt: &impl Abort, alloc: Global, held: &[u8]) -> Result<MemLedger, F
 fn a_run_goes_on_where_its_ledger_ends(rt: HostRuntime) -> Result<(), Fail> {
     for count in 0..=LEDGER.len() {
         let ledger = completed(&rt, rt.alloc(), &LEDGER[..count])?;
+        let begun = if count < 19 { ROOT_SCORED } else { ROOT };
+        assert!(rt; ledger.text().starts_with(begun), "{count}");
         // It is loaded, and nothing is appended.
         let again = completed(&rt, rt.alloc(), ledger.text())?;
         assert_bytes(&rt, again.text(), ledger.text());
@@ -208,7 +217,7 @@ fn a_run_goes_on_where_its_ledger_ends(rt: HostRuntime) -> Result<(), Fail> {
 }
 
 const ONE_STATE_AS_JSON: &[u8] =
-    b"{\"best\":1,\"champions\":[\"------\"],\"halting\":1,\"holdout_tables\":[],\"holdouts\":0,\"never\":2,\"nodes\":3,\"open\":0,\"root\":\"------\",\"status\":\"complete\"}\n";
+    b"{\"best\":1,\"champions\":[\"------\"],\"halting\":1,\"holdout_tables\":[],\"holdouts\":0,\"never\":2,\"nodes\":3,\"ones\":1,\"ones_champions\":[\"------\"],\"open\":0,\"root\":\"------\",\"status\":\"complete\"}\n";
 
 #[test]
 fn a_run_is_reported_as_json(rt: HostRuntime) -> Result<(), Fail> {
@@ -234,7 +243,7 @@ fn a_run_that_is_cut_short_is_no_complete_one(rt: HostRuntime) -> Result<(), Fai
     assert_bytes(
         &rt,
         &end.answers,
-        b"root ------\nstatus working\nnodes 1\nhalting 0\nnever 0\nholdouts 0\nopen 1\nbest none\n",
+        b"root ------\nstatus working\nnodes 1\nhalting 0\nnever 0\nholdouts 0\nopen 1\nbest none\nones none\n",
     );
     assert!(rt; end.outcome == Outcome::Refused);
     Ok(())

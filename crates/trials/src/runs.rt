@@ -2,26 +2,26 @@
 use crate::texts::table_of;
 use evidence::{Evidence, Refused, Verdict};
 use machine_text::{Pair, State, Sym, Table};
-use run::{HaltFinder, HaltsIn, MAX_HALT_STEPS, Runner, Step};
+use run::{HaltFinder, Halted, HaltsIn, MAX_HALT_STEPS, Runner, Step};
 use std::alloc::Global;
 use std::process::Abort;
 use std::test::Fail;
 
-// The champions of 1 to 4 states, with Radó's numbers S(1) to S(4).
-const CHAMPIONS: [(&str, u64); 4] = [
-    ("------", 1),
-    ("1RB1LB_1LA1RZ", 6),
-    ("1RB1RZ_1LB0RC_1LC1LA", 21),
-    ("1RB1LB_1LA0LC_1RZ1LD_1RD0RA", 107),
+// The champions of 1 to 4 states, with Radó's numbers S(1) to S(4) and their scores.
+const CHAMPIONS: [(&str, u64, u64); 4] = [
+    ("------", 1, 1),
+    ("1RB1LB_1LA1RZ", 6, 4),
+    ("1RB1RZ_1LB0RC_1LC1LA", 21, 5),
+    ("1RB1LB_1LA0LC_1RZ1LD_1RD0RA", 107, 13),
 ];
 
 #[test]
 fn champions_halt_in_their_counts(rt: HostRuntime) -> Result<(), Fail> {
-    for (text, count) in CHAMPIONS {
+    for (text, count, score) in CHAMPIONS {
         let table = table_of(&rt, text);
         halts_in(&rt, rt.alloc(), table, count)?;
         assert!(rt;
-            found(rt.alloc(), &table, count)? == Some(HaltsIn(count)),
+            found(rt.alloc(), &table, count)? == Some(claim(count, Some(score))),
             "{text}"
         );
         assert!(rt;
@@ -45,7 +45,12 @@ fn halts_in(rt: &impl Abort, alloc: Global, table: Table, count: u64) -> Result<
     Ok(())
 }
 
-// The halting count that is found within so many steps.
+// The claim of so many steps, and of a score where there is one.
+fn claim(steps: u64, ones: Option<u64>) -> HaltsIn {
+    HaltsIn { steps, ones }
+}
+
+// The halting count, with its score, that is found within so many steps.
 fn found(alloc: Global, table: &Table, steps: u64) -> Result<Option<HaltsIn>, Fail> {
     Ok(HaltFinder::new(alloc, steps).search(table, 1000)?)
 }
@@ -78,17 +83,17 @@ fn begins_again(rt: &impl Abort, runner: &mut Runner) -> Result<(), Fail> {
 fn counts_are_checked(rt: HostRuntime) {
     let alloc = rt.alloc();
     for (text, count, answer) in [
-        ("------", 1, Ok(Verdict::Halts(1))),
+        ("------", 1, Ok(Verdict::Halts { steps: 1, ones: 1 })),
         ("------", 0, Err(Refused::Fails)),
-        ("1RB1LB_1LA---", 6, Ok(Verdict::Halts(6))),
+        ("1RB1LB_1LA---", 6, Ok(Verdict::Halts { steps: 6, ones: 4 })),
         ("1RB1LB_1LA---", 5, Err(Refused::Fails)),
         ("1RB1LB_1LA---", 7, Err(Refused::Fails)),
         ("1RB1LB_1LA---", MAX_HALT_STEPS + 1, Err(Refused::TooLong)),
     ] {
         let table = table_of(&rt, text);
-        let mut checked = HaltsIn(count).check(alloc, &table);
+        let mut checked = claim(count, None).check(alloc, &table);
         if checked == Err(Refused::NoMemory) {
-            checked = HaltsIn(count).check(alloc, &table);
+            checked = claim(count, None).check(alloc, &table);
         }
         assert!(rt; checked == answer, "{text} H {count}");
     }
@@ -110,9 +115,9 @@ fn counts_up_to_the_limit_are_looked_at(rt: HostRuntime) {
         (100_000_000, Refused::Fails),
         (100_000_001, Refused::TooLong),
     ] {
-        let mut checked = HaltsIn(count).check(rt.alloc(), &table);
+        let mut checked = claim(count, None).check(rt.alloc(), &table);
         if checked == Err(Refused::NoMemory) {
-            checked = HaltsIn(count).check(rt.alloc(), &table);
+            checked = claim(count, None).check(rt.alloc(), &table);
         }
         assert!(rt; checked == Err(answer), "H {count}");
     }
@@ -120,23 +125,24 @@ fn counts_up_to_the_limit_are_looked_at(rt: HostRuntime) {
     assert_eq!(rt; Refused::TooLong.number(), Some(202));
 }
 
-// By a simulator apart from this one: where each champion's run ends.
+// By a simulator apart from this one: where each champion's run ends, and with how many ones.
 #[test]
 fn halting_pairs_come_with_the_count(rt: HostRuntime) {
-    for (text, count, state, symbol) in [
-        ("------", 1, 0, Sym::Zero),
-        ("1RB1LB_1LA1RZ", 6, 1, Sym::One),
-        ("1RB1LB_1LA0LC_1RZ1LD_1RD0RA", 107, 2, Sym::Zero),
+    for (text, count, ones, state, symbol) in [
+        ("------", 1, 1, 0, Sym::Zero),
+        ("1RB1LB_1LA1RZ", 6, 4, 1, Sym::One),
+        ("1RB1LB_1LA0LC_1RZ1LD_1RD0RA", 107, 13, 2, Sym::Zero),
     ] {
         let table = table_of(&rt, text);
         let pair = Pair {
             state: State(state),
             symbol,
         };
-        for (claimed, answer) in [(count, Ok(pair)), (count + 1, Err(Refused::Fails))] {
-            let mut found = HaltsIn(claimed).halting_pair(rt.alloc(), &table);
+        let halted = Ok(Halted { pair, ones });
+        for (claimed, answer) in [(count, halted), (count + 1, Err(Refused::Fails))] {
+            let mut found = claim(claimed, None).halted(rt.alloc(), &table);
             if found == Err(Refused::NoMemory) {
-                found = HaltsIn(claimed).halting_pair(rt.alloc(), &table);
+                found = claim(claimed, None).halted(rt.alloc(), &table);
             }
             assert!(rt; found == answer, "{text} H {claimed}");
         }

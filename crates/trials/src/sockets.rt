@@ -328,7 +328,7 @@ fn a_loop_is_a_run(rt: HostRuntime) -> Result<(), Fail> {
 }
 
 const ONE_STATE: &[u8] =
-    b"root ------\nstatus complete\nnodes 3\nhalting 1\nnever 2\nholdouts 0\nopen 0\nbest 1\nchampion ------\n";
+    b"root ------\nstatus complete\nnodes 3\nhalting 1\nnever 2\nholdouts 0\nopen 0\nbest 1\nchampion ------\nones 1\nones_champion ------\n";
 
 // Whether the sockets fail, where they are to once they have been called so often. Then a run goes on with the ledger.
 fn sockets_fail(rt: &impl Abort, alloc: Global, calls: u64) -> bool {

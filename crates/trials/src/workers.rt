@@ -10,8 +10,8 @@ use std::process::Abort;
 use std::test::Fail;
 use wire::{Event, Node, NodeFault, Note, Out};
 
-// A worker with the id 7, which looks for halting counts.
-fn started(
+/// A worker with the id 7, which looks for halting counts.
+pub fn started(
     alloc: Global,
     ledger: &[u8],
 ) -> Result<(Worker<Finders<Box<dyn Finder>>>, Result<Out, StartFault>), Fail> {
@@ -51,7 +51,7 @@ fn a_grant_begins_a_board(rt: HostRuntime) -> Result<(), Fail> {
     assert!(rt; out.cut == Some(0));
     assert_eq!(rt;
         out.append.as_slice(),
-        b"bb-ledger 1 ------_1LA---\n".as_slice()
+        b"bb-ledger 2 ------_1LA---\n".as_slice()
     );
     Ok(())
 }
@@ -64,7 +64,7 @@ fn a_granted_tree_is_worked_on(rt: HostRuntime) -> Result<(), Fail> {
         &mut worker,
         &[
             ("TICK 1", "", ""),
-            ("WORK", "------_1LA--- H 1\n", "REC ------_1LA--- H 1\n"),
+            ("WORK", "------_1LA--- H 1 1\n", "REC ------_1LA--- H 1 1\n"),
         ],
     );
     children_are_open(&rt, worker.board());
@@ -102,7 +102,7 @@ fn records_are_sent_until_they_are_acknowledged(rt: HostRuntime) -> Result<(), F
             (
                 "TICK 2",
                 "",
-                "REC ------_1LA--- H 1\nREC 0LA---_1LA--- U\nREC 0LB---_1LA--- U\n",
+                "REC ------_1LA--- H 1 1\nREC 0LA---_1LA--- U\nREC 0LB---_1LA--- U\n",
             ),
             ("ACK ------_1LA---", "", ""),
             ("ACK 0LB---_1LA---", "", ""),
@@ -114,7 +114,7 @@ fn records_are_sent_until_they_are_acknowledged(rt: HostRuntime) -> Result<(), F
             (
                 "TICK 5",
                 "",
-                "REC ------_1LA--- H 1\nREC 0LA---_1LA--- U\nREC 0LB---_1LA--- U\n",
+                "REC ------_1LA--- H 1 1\nREC 0LA---_1LA--- U\nREC 0LB---_1LA--- U\n",
             ),
         ],
     );

@@ -1,7 +1,7 @@
 // The commands of `bb` that write ledgers, and what has to come of them.
 use crate::killed::Share;
 use crate::restarts::{Command, LEDGER, OTHER, restarted};
-use options::{Beginning, Merging, Options, Search, Settling};
+use options::{Beginning, Carrying, Merging, Options, Search, Settling};
 use std::io;
 
 // The defaults of the program.
@@ -15,7 +15,12 @@ const SEARCH: Search = Search {
 const SHARES: [Share; 3] = [Share::Nothing, Share::Half, Share::Whole];
 
 const ONE_STATE: &str =
-    "root ------\nstatus complete\nnodes 3\nhalting 1\nnever 2\nholdouts 0\nopen 0\nbest 1\nchampion ------\n";
+    "root ------\nstatus complete\nnodes 3\nhalting 1\nnever 2\nholdouts 0\nopen 0\nbest 1\nchampion ------\nones 1\nones_champion ------\n";
+
+// The ledger of one state in version 1, and in version 2.
+const UNSCORED: &str = "bb-ledger 1 ------\n------ H 1\n0RA--- T 0 1 R\n1RA--- T 0 1 R\n";
+
+const SCORED: &str = "bb-ledger 2 ------\n------ H 1 1\n0RA--- T 0 1 R\n1RA--- T 0 1 R\n";
 
 const COORD: Command = Command {
     words: "coord 1",
@@ -28,7 +33,15 @@ const COORD: Command = Command {
     before: None,
     other: None,
     report: ONE_STATE,
-    after: Some("bb-ledger 1 ------\n------ H 1\n0RA--- T 0 1 R\n1RA--- T 0 1 R\n"),
+    after: Some(SCORED),
+};
+
+// A ledger of version 1 goes on in its version.
+const COORD_AGAIN: Command = Command {
+    words: "coord 1 on a ledger of version 1",
+    before: Some("bb-ledger 1 ------\n------ H 1\n"),
+    after: Some(UNSCORED),
+    ..COORD
 };
 
 // `bb run 1`
@@ -74,7 +87,7 @@ const RUN_TWO: Command = Command {
     shares: &[Share::Half],
     before: None,
     other: None,
-    report: "root ------_------\nstatus complete\nnodes 61\nhalting 19\nnever 42\nholdouts 0\nopen 0\nbest 6\nchampion 0RB---_1LA1RB\nchampion 1RB---_0LB1LA\nchampion 1RB---_1LB1LA\nchampion 1RB0LB_1LA---\nchampion 1RB1LB_1LA---\n",
+    report: "root ------_------\nstatus complete\nnodes 61\nhalting 19\nnever 42\nholdouts 0\nopen 0\nbest 6\nchampion 0RB---_1LA1RB\nchampion 1RB---_0LB1LA\nchampion 1RB---_1LB1LA\nchampion 1RB0LB_1LA---\nchampion 1RB1LB_1LA---\nones 4\nones_champion 1RB1LB_1LA---\n",
     after: None,
 };
 
@@ -104,7 +117,7 @@ const RETRY_OPENING: Command = Command {
     shares: &SHARES,
     before: Some("bb-ledger 1 ------_------\n------_------ H 1\n1RB---_------ U\nhello\n"),
     other: None,
-    report: "root ------_------\nstatus working\nnodes 13\nhalting 2\nnever 0\nholdouts 0\nopen 11\nbest 2\nchampion 1RB---_------\n",
+    report: "root ------_------\nstatus working\nnodes 13\nhalting 2\nnever 0\nholdouts 0\nopen 11\nbest 2\nchampion 1RB---_------\nones 2\nones_champion 1RB---_------\n",
     after: Some(
         "bb-ledger 1 ------_------\n------_------ H 1\n1RB---_------ U\n1RB---_------ H 2\n",
     ),
@@ -124,18 +137,35 @@ const MERGE: Command = Command {
     other: Some(
         "bb-ledger 1 ------_------\n------_------ H 1\n1RB---_------ H 2\n1RA---_------ T 0 1 R\n",
     ),
-    report: "root ------_------\nstatus working\nnodes 21\nhalting 3\nnever 1\nholdouts 0\nopen 17\nbest 2\nchampion 0RB---_------\nchampion 1RB---_------\n",
+    report: "root ------_------\nstatus working\nnodes 21\nhalting 3\nnever 1\nholdouts 0\nopen 17\nbest 2\nchampion 0RB---_------\nchampion 1RB---_------\nones 2\nones_champion 1RB---_------\n",
     after: Some(
-        "bb-ledger 1 ------_------\n------_------ H 1\n0RB---_------ H 2\n1RB---_------ H 2\n1RA---_------ T 0 1 R\n",
+        "bb-ledger 2 ------_------\n------_------ H 1 1\n0RB---_------ H 2 1\n1RB---_------ H 2 2\n1RA---_------ T 0 1 R\n",
     ),
+};
+
+// A ledger is carried over into its own place.
+const CARRY: Command = Command {
+    words: "carry",
+    asked: Options::Carry(Carrying {
+        ledger: LEDGER,
+        out: LEDGER,
+    }),
+    input: "",
+    shares: &SHARES,
+    before: Some(UNSCORED),
+    other: None,
+    report: ONE_STATE,
+    after: Some(SCORED),
 };
 
 /// Kills each of the commands in each call of its ledger, and begins it again.
 pub fn restart_all(rt: &HostRuntime) -> io::Result<()> {
     restarted(rt, &COORD)?;
+    restarted(rt, &COORD_AGAIN)?;
     restarted(rt, &RUN_ONE)?;
     restarted(rt, &RUN_TWO)?;
     restarted(rt, &RETRY)?;
     restarted(rt, &RETRY_OPENING)?;
-    restarted(rt, &MERGE)
+    restarted(rt, &MERGE)?;
+    restarted(rt, &CARRY)
 }

@@ -11,9 +11,9 @@ mod restarts;
 
 use commands::restart_all;
 use dispatch::{System, carry_out};
-use options::{Options, Search, Settling};
+use options::{Carrying, Options, Search, Settling};
 use std::fs;
-use std::io::{self, Read};
+use std::io::{self, Read, Write};
 use std::process::ExitCode;
 
 // The defaults of `bb decide`.
@@ -67,6 +67,7 @@ fn main(rt: HostRuntime) -> io::Result<ExitCode> {
     }
     println!(rt; "$ ./bb report --why examples/unfit.ledger")?;
     reported(&rt, "unfit.ledger", true)?;
+    carrying(&rt)?;
     restart_all(&rt)?;
     Ok(ExitCode::SUCCESS)
 }
@@ -77,6 +78,24 @@ fn reading(rt: &HostRuntime, words: &str, asked: Options<'_>, name: &str) -> io:
 {
     println!(rt; "$ ./bb {words} < examples/{name}")?;
     carried_out(rt, asked, &mut fs::open(rt, name)?)
+}
+
+// The ledger that `bb carry` writes.
+const CARRIED: &str = "scored.ledger";
+
+// A ledger of version 1 as one of version 2, which has the same report.
+fn carrying(rt: &HostRuntime) -> io::Result<()> {
+    println!(rt; "$ ./bb carry examples/one-state.ledger {CARRIED}")?;
+    let carry = Options::Carry(Carrying {
+        ledger: "one-state.ledger",
+        out: CARRIED,
+    });
+    carried_out(rt, carry, &mut io::empty())?;
+    println!(rt; "$ cat {CARRIED}")?;
+    rt.stdout().write_all(&fs::read(rt, CARRIED)?)?;
+    println!(rt; "$ ./bb report {CARRIED}")?;
+    reported(rt, CARRIED, false)?;
+    fs::remove_file(rt, CARRIED)
 }
 
 fn reported(rt: &HostRuntime, file: &str, why: bool) -> io::Result<()> {

@@ -7,7 +7,7 @@
 pub use command_line::{LineFault, options};
 use dispatch::System;
 pub use json_report::report_json;
-pub use ledger_commands::{cmd_merge, cmd_report, cmd_retry, report};
+pub use ledger_commands::{cmd_carry, cmd_merge, cmd_report, cmd_retry, report};
 pub use line_commands::{cmd_check, cmd_decide};
 pub use node_commands::{Run, cmd_coord, cmd_loop, cmd_run};
 pub use options::Options;

@@ -8,7 +8,7 @@ use Rattle.cert.specs.Claim.{Recorded}
 use Rattle.cert.specs.Scored.{with_score}
 use Rattle.ledger.specs.Contents.{Contents, IsBoard}
 use Rattle.text.specs.Lines.{joined}
-use Rattle.ledger.specs.Versions.{header_words, line_of}
+use Rattle.ledger.specs.Versions.{header_words, ledger_line}
 use Rattle.ledger.specs.declared.format.Format.{Format}
 use Rattle.ledger.specs.declared.format.Format.TheVariants.{Two}
 use Rattle.ledger.specs.LedgerText.{ledger_text, ReadsAs, ReadsAsNone, ReadsAsNew, ReadsIn, IsLedgerOf}
@@ -51,7 +51,7 @@ same_text old new out sent note text says same stands =
 
 -- the line of a record is
 more_text : (old new : Contents) (r : Recorded) (out : Out) (sent : List Message) (note : Note) (text : List ℕ) → Says out None (lines_of old.format (with_score r ∷ [])) sent note
-    → ReadsIn old.format old.root (text ++ (line_of old.format (with_score r) ++ (10 ∷ []))) new.records Nothing → new.root ≡ old.root → new.format ≡ old.format → Stands new (text_after out text)
+    → ReadsIn old.format old.root (text ++ (ledger_line old.format (with_score r) ++ (10 ∷ []))) new.records Nothing → new.root ≡ old.root → new.format ≡ old.format → Stands new (text_after out text)
 more_text old new r out sent note text says reads root format =
     subst (λ (f : Format). ReadsIn f new.root (text_after out text) new.records Nothing) (sym format)
     (subst (λ (p : Packed). ReadsIn old.format p (text_after out text) new.records Nothing) (sym root)

@@ -1,0 +1,1 @@
+use Rattle.worker.proofs.worker_turns.put.Goals as goal

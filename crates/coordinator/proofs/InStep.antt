@@ -55,7 +55,7 @@ more_text : (old new : Contents) (r : Recorded) (out : Out) (sent : List Message
 more_text old new r out sent note text says reads root format =
     subst (λ (f : Format). ReadsIn f new.root (text_after out text) new.records Nothing) (sym format)
     (subst (λ (p : Packed). ReadsIn old.format p (text_after out text) new.records Nothing) (sym root)
-        (subst (λ (l : List ℕ). ReadsIn old.format old.root l new.records Nothing) (sym (text_with out (lines_of old.format (with_score r ∷ [])) sent note text says)) reads))
+    (subst (λ (l : List ℕ). ReadsIn old.format old.root l new.records Nothing) (sym (text_with out (lines_of old.format (with_score r ∷ [])) sent note text says)) reads))
 
 same_board : (old new : Contents) → new.root ≡ old.root → new.records ≡ old.records → new.format ≡ old.format → new ≡ old
 same_board old new root records format = λ i. record { root = root i; records = records i; format = format i }

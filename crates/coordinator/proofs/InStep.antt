@@ -11,7 +11,7 @@ use Rattle.text.specs.Lines.{joined}
 use Rattle.ledger.specs.Versions.{header_words, ledger_line}
 use Rattle.ledger.specs.declared.format.Format.{Format}
 use Rattle.ledger.specs.declared.format.Format.TheVariants.{Two}
-use Rattle.ledger.specs.LedgerText.{ledger_text, ReadsAs, ReadsAsNone, ReadsAsNew, ReadsIn, IsLedgerOf}
+use Rattle.ledger.specs.LedgerText.{ledger_text, ReadsAs, ReadsAsNone, ReadsIn, IsLedgerOf}
 use Rattle.ledger.specs.declared.left.Left.{Left}
 use Rattle.ledger.specs.declared.left.Left.TheVariants.{Nothing, From}
 use Rattle.ledger.specs.declared.taken.Taken.TheVariants.{New, Known, Settled}

@@ -1,16 +1,37 @@
 -- The record of a work turn, which is offered with its score.
-use Rattle.std.proofs.Common.{◌≡◌, [], ◌∷◌, ◌++◌, Option, Some, None, Result, Ok, Err, IfOk, sym, ap, subst}
+use Rattle.std.proofs.Common.{◌≡◌, ◌<◌, [], ◌∷◌, ◌++◌, length, Option, Some, None, Result, Ok, Err, IfOk, sym, ap, subst}
 use Rattle.cert.specs.Certified.{IsCertified}
 use Rattle.cert.specs.Claim.{Claim, Recorded}
 use Rattle.cert.specs.Scored.{GetsScore, with_score}
 use Rattle.cert.proofs.Scores.{has_score, scored_twice, score_certified}
-use Rattle.ledger.specs.Contents.{Contents}
+use Rattle.ledger.specs.Contents.{Contents, IsBoard}
 use Rattle.ledger.specs.Held.{HasScore}
+use Rattle.ledger.specs.LedgerText.{gained_line}
+use Rattle.ledger.specs.Offers.{OfferGives}
+use Rattle.ledger.specs.declared.taken.Taken.TheVariants.{New}
 use Rattle.wire.specs.Message.{Rec}
 use Rattle.wire.specs.declared.node.Note.TheVariants.{Quiet}
 use Rattle.wire.specs.declared.node.Out.{Out}
 use Rattle.roles.specs.Says.{Says, lines_of}
+use Rattle.worker.specs.Limits.{work_record_limit}
+use Rattle.worker.specs.WorkerState.{with_record}
 use Rattle.worker.specs.WorkerRules.{IsFirstOpen, Makes}
+
+-- a record that has its score is taken
+pub makes : (b new : Contents) (r : Recorded) (out : Out) → IsBoard b → IsFirstOpen b r.table → length b.records < work_record_limit → HasScore r
+    → OfferGives b.root b.records r (Ok New) new.records → new.root ≡ b.root → new.format ≡ b.format
+    → Says out None (gained_line b.format r (Ok New)) (Rec r ∷ []) Quiet → Makes b r out (Some new)
+makes b new r out board first few has gives root format says =
+    let records = gives.1 in
+    let same : new ≡ with_record b r = λ i. record { root = root i; records = records i; format = format i } in
+    record {
+      is_board = board;
+      first = first;
+      few = few;
+      fit = gives.0;
+      says = subst (λ (q : Recorded). Says out None (lines_of b.format (with_score r ∷ [])) (Rec q ∷ []) Quiet) (sym has) says;
+      taken = ap (λ (c : Contents). Some c) same;
+    }
 
 -- what was certified is so with its score, which it then has
 module _ (r s : Recorded) (gets : GetsScore r s) (certified : IsCertified r) where

@@ -1,11 +1,11 @@
 -- What a start gives, from bytes and from a reader, and the coordinator that is made of it.
-use Rattle.std.proofs.Common.{◌≡◌, ℕ, ◌≤◌, List, [], ◌++◌, inl, inr, Option, Some, None, Result, Ok, Err, IfOk, false, refl, sym, ap, ◌∙◌, subst}
+use Rattle.std.proofs.Common.{◌≡◌, ℕ, ◌≤◌, List, [], inl, inr, Option, Some, Result, Ok, Err, IfOk, false, refl, sym, ap, ◌∙◌, subst}
 use Rattle.machine_text.specs.Limits.{state_limit}
 use Rattle.machine_text.specs.Packed.{Packed, empty_table}
 use Rattle.ledger.specs.Contents.{Contents}
 use Rattle.ledger.specs.LedgerText.{HasHeader, LoadGives}
 use Rattle.ledger.specs.Loading.{Loading, StandsAfter}
-use Rattle.ledger.specs.Reading.{IsAllRead, FeedsAll, StopsReading}
+use Rattle.ledger.specs.Reading.{IsAllRead, StopsReading}
 use Rattle.ledger.specs.declared.left.Left.{Left}
 use Rattle.ledger.specs.declared.faults.LoadFault.{LoadFault}
 use Rattle.ledger.specs.declared.faults.LoadFault.TheVariants.{BadHeader as BadLedgerHeader, WrongRoot as OtherRoot, NoMemory as NoLedgerMemory}

@@ -1,7 +1,5 @@
 -- Complete is final: a coordinator keeps a complete board.
-use Rattle.std.proofs.Common.{◌≡◌, ℕ, Bool, true, false, List, nat_eq, Option, Some, None, Result, Ok, Err, sym, ◌∙◌, ap, subst}
-use Rattle.machine_text.specs.Packed.{Packed}
-use Rattle.cert.specs.Claim.{Recorded}
+use Rattle.std.proofs.Common.{◌≡◌, ℕ, Bool, true, false, nat_eq, Option, Some, None, Result, Ok, Err, sym, ◌∙◌, ap, subst}
 use Rattle.ledger.specs.Contents.{Contents}
 use Rattle.ledger.proofs.Merged.{offer_is_final}
 use Rattle.wire.specs.Happening.{Happening, Came, Ticked, Worked}

@@ -8,10 +8,10 @@ use Rattle.cert.specs.Claim.{Recorded}
 use Rattle.cert.specs.Scored.{with_score}
 use Rattle.ledger.specs.Contents.{Contents, IsBoard}
 use Rattle.text.specs.Lines.{joined}
-use Rattle.ledger.specs.Versions.{header_words, line_of}
+use Rattle.ledger.specs.Versions.{header_words, ledger_line}
 use Rattle.ledger.specs.declared.format.Format.{Format}
 use Rattle.ledger.specs.declared.format.Format.TheVariants.{Two}
-use Rattle.ledger.specs.LedgerText.{ledger_text, ReadsAs, ReadsAsNone, ReadsAsNew, ReadsIn, IsLedgerOf}
+use Rattle.ledger.specs.LedgerText.{ledger_text, ReadsAs, ReadsAsNone, ReadsIn, IsLedgerOf}
 use Rattle.ledger.specs.declared.left.Left.{Left}
 use Rattle.ledger.specs.declared.left.Left.TheVariants.{Nothing, From}
 use Rattle.ledger.specs.declared.taken.Taken.TheVariants.{New, Known, Settled}
@@ -51,11 +51,11 @@ same_text old new out sent note text says same stands =
 
 -- the line of a record is
 more_text : (old new : Contents) (r : Recorded) (out : Out) (sent : List Message) (note : Note) (text : List ℕ) → Says out None (lines_of old.format (with_score r ∷ [])) sent note
-    → ReadsIn old.format old.root (text ++ (line_of old.format (with_score r) ++ (10 ∷ []))) new.records Nothing → new.root ≡ old.root → new.format ≡ old.format → Stands new (text_after out text)
+    → ReadsIn old.format old.root (text ++ (ledger_line old.format (with_score r) ++ (10 ∷ []))) new.records Nothing → new.root ≡ old.root → new.format ≡ old.format → Stands new (text_after out text)
 more_text old new r out sent note text says reads root format =
     subst (λ (f : Format). ReadsIn f new.root (text_after out text) new.records Nothing) (sym format)
     (subst (λ (p : Packed). ReadsIn old.format p (text_after out text) new.records Nothing) (sym root)
-        (subst (λ (l : List ℕ). ReadsIn old.format old.root l new.records Nothing) (sym (text_with out (lines_of old.format (with_score r ∷ [])) sent note text says)) reads))
+    (subst (λ (l : List ℕ). ReadsIn old.format old.root l new.records Nothing) (sym (text_with out (lines_of old.format (with_score r ∷ [])) sent note text says)) reads))
 
 same_board : (old new : Contents) → new.root ≡ old.root → new.records ≡ old.records → new.format ≡ old.format → new ≡ old
 same_board old new root records format = λ i. record { root = root i; records = records i; format = format i }

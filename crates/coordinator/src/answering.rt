@@ -82,17 +82,14 @@ fn answer_record(alloc: Global, held: &mut LeasedBoard, r: &Record<'_>) -> Resul
     offer_record(alloc, held, r)
 }
 
-// The texts come before the offer: once the board has taken the record, nothing may be refused. So a halting record
-// without a score is run once more, to have its line.
+// The frame comes before the offer, and the line with it: once the board has taken the record, nothing may be refused.
 fn offer_record(alloc: Global, held: &mut LeasedBoard, r: &Record<'_>) -> Result<Out, NodeFault>
     requires { r.now.table.states ≡ held.old.board.root.states }
     ensures { GivesOffer held.old (recorded r.now) result held.new }
 {
-    let scored = r.scored(alloc)?;
     let mut append = Vec::new(alloc);
-    held.board().append_line(&scored, &mut append)?;
     let frames = ack_frame(alloc, &r.table)?;
-    match held.offer(&scored) {
+    match held.offer_line(r, &mut append) {
         Ok(Taken::New | Taken::Settled) => Ok(Out {
             cut: None,
             append,

@@ -1,5 +1,5 @@
 // A board, and the leases on its open tables.
-ghost use Rattle.std.specs.Prelude.{◌≡◌, ◌==◌, IfOk, OnOk, OnErr, max, true};
+ghost use Rattle.std.specs.Prelude.{◌≡◌, ◌==◌, ◌++◌, IfOk, OnOk, OnErr, max, true};
 
 use crate::board_calls::{has_open, open_tables};
 use crate::children::free_children;
@@ -49,6 +49,7 @@ impl Model for LeasedBoard {
 impl LeasedBoard {
     ghost use Rattle.std.specs.Prelude.{Some, None};
     ghost use Rattle.cert.specs.Kinds.{recorded};
+    ghost use Rattle.ledger.specs.LedgerText.{gained_line};
     ghost use Rattle.leases.specs.Offers.{BoardGives, LeasesAfter};
     ghost use Rattle.leases.specs.Asks.{Asks};
     ghost use Rattle.leases.specs.Leases.{AreLeases, SomeEnds, no_leases, is_live, lease_of, ended, ticked, IsDone};
@@ -166,27 +167,30 @@ impl LeasedBoard {
         }
     }
 
-    /// Offers a record to the board, as `Board::offer` does. Where it was taken as `New`, the children that
-    /// became open come under the lease under which its table stood, or under none, and that lease is
-    /// renewed. Where it settled a holdout, the children are under none. After an error nothing has changed.
+    /// Offers a record to the board, and appends its line where it is taken, as `Board::offer_line` does. Where it was
+    /// taken as `New`, the children that became open come under the lease under which its table stood, or under none,
+    /// and that lease is renewed. Where it settled a holdout, the children are under none. After an error nothing has
+    /// changed.
     ///
     /// Room for the children is made before the board is asked, so `NoMemory` may come for any record.
-    pub fn offer(&mut self, r: &Record) -> Result<Taken, OfferFault>
+    pub fn offer_line(&mut self, r: &Record, out: &mut Vec<u8>) -> Result<Taken, OfferFault>
         ensures gives { BoardGives self.old.board.root self.old.board.records (recorded r.now) result self.new.board.records }
+        ensures line { out.new.items ≡ out.old.items ++ gained_line self.old.board.format (recorded r.now) result }
         ensures root { self.new.board.root ≡ self.old.board.root }
         ensures format { self.new.board.format ≡ self.old.board.format }
         ensures leases { LeasesAfter r.now.table result self.old self.new }
     {
         match lease_of(&self.came_under, &self.live, None, &r.table) {
-            Some(number) => self.offer_under(number, r),
-            None => self.offer_free(r),
+            Some(number) => self.offer_under(number, r, out),
+            None => self.offer_free(r, out),
         }
     }
 
     // Offers a record of a table that is under none.
-    fn offer_free(&mut self, r: &Record) -> Result<Taken, OfferFault>
+    fn offer_free(&mut self, r: &Record, out: &mut Vec<u8>) -> Result<Taken, OfferFault>
         requires { lease_of self.old.leases r.now.table ≡ None }
         ensures gives { BoardGives self.old.board.root self.old.board.records (recorded r.now) result self.new.board.records }
+        ensures line { out.new.items ≡ out.old.items ++ gained_line self.old.board.format (recorded r.now) result }
         ensures root { self.new.board.root ≡ self.old.board.root }
         ensures format { self.new.board.format ≡ self.old.board.format }
         ensures leases { LeasesAfter r.now.table result self.old self.new }
@@ -195,7 +199,7 @@ impl LeasedBoard {
         // The proof needs that it is a board.
         let _ = self.board.root();
         self.free.reserve(MAX_CHILDREN)?;
-        match self.board.offer(r) {
+        match self.board.offer_line(r, out) {
             Ok(Taken::New) => {
                 self.came_under.swap_remove(&r.table);
                 free_children(&mut self.free, &self.board, &r.table);
@@ -211,9 +215,15 @@ impl LeasedBoard {
     }
 
     // Offers a record of a table that is under the live lease of this number.
-    fn offer_under(&mut self, number: u64, r: &Record) -> Result<Taken, OfferFault>
+    fn offer_under(
+        &mut self,
+        number: u64,
+        r: &Record,
+        out: &mut Vec<u8>,
+    ) -> Result<Taken, OfferFault>
         requires { lease_of self.old.leases r.now.table ≡ Some number }
         ensures gives { BoardGives self.old.board.root self.old.board.records (recorded r.now) result self.new.board.records }
+        ensures line { out.new.items ≡ out.old.items ++ gained_line self.old.board.format (recorded r.now) result }
         ensures root { self.new.board.root ≡ self.old.board.root }
         ensures format { self.new.board.format ≡ self.old.board.format }
         ensures leases { LeasesAfter r.now.table result self.old self.new }
@@ -223,7 +233,7 @@ impl LeasedBoard {
         let _ = self.board.root();
         self.came_under.reserve(MAX_CHILDREN)?;
         self.live.make_room(number)?;
-        match self.board.offer(r) {
+        match self.board.offer_line(r, out) {
             Ok(Taken::New) => {
                 self.came_under.swap_remove(&r.table);
                 self.live.renew(

@@ -1,7 +1,7 @@
 -- What a node's answer says.
 use Rattle.std.specs.Prelude.{◌≡◌, ℕ, List, [], Option, Some, None, map}
 use Rattle.cert.specs.Claim.{Recorded}
-use Rattle.ledger.specs.Versions.{line_of}
+use Rattle.ledger.specs.Versions.{ledger_line}
 use Rattle.ledger.specs.declared.format.Format.{Format}
 use Rattle.text.specs.Lines.{joined}
 use Rattle.wire.specs.Grammar.{frames_of}
@@ -12,7 +12,7 @@ use Rattle.wire.specs.declared.node.Out.{Out}
 
 -- the lines of records in a ledger of this version, each with its newline
 abbrev pub lines_of : Format → List Recorded → List ℕ
-lines_of format rs = joined (map (line_of format) rs)
+lines_of format rs = joined (map (ledger_line format) rs)
 
 -- the ledger is cut so and gains these bytes, these messages are sent, and this is noted
 pub record Says (out : Out) (cut : Option ℕ) (appended : List ℕ) (sent : List Message) (note : Note) : Type 0 where

@@ -1,10 +1,7 @@
 -- Complete is final: a worker keeps a complete board, unless it is granted another table.
-use Rattle.std.proofs.Common.{◌≡◌, ℕ, Bool, true, false, List, [], ◌∷◌, nat_eq, inl, inr, Option, Some, None, Result, Ok, Err, refl, sym, ◌∙◌, ap, subst, cond}
+use Rattle.std.proofs.Common.{◌≡◌, ℕ, Bool, true, false, List, [], ◌∷◌, inl, inr, Result, Ok, Err, refl, sym, ◌∙◌, subst}
 use Rattle.machine_text.specs.Packed.{Packed}
 use Rattle.cert.specs.Claim.{Recorded}
-use Rattle.ledger.specs.Contents.{Contents}
-use Rattle.ledger.specs.declared.faults.OfferFault.{OfferFault}
-use Rattle.ledger.specs.declared.taken.Taken.{Taken}
 use Rattle.wire.specs.Happening.{Happening, Came, Ticked, Worked}
 use Rattle.wire.specs.Grammar.{message_of}
 use Rattle.wire.specs.Message.{Message, Ask, Grant, Rec, Ack, Later, Done, Stop}
@@ -13,7 +10,7 @@ use Rattle.wire.specs.declared.node.NodeFault.{NodeFault}
 use Rattle.wire.specs.declared.node.NodeFault.TheVariants.{Stopped, NoMemory}
 use Rattle.wire.specs.declared.node.Out.{Out}
 use Rattle.worker.specs.WorkerState.{WorkerState, records_on, unacknowledged}
-use Rattle.worker.specs.WorkerRules.{Answers, GrantRow, AckRow, FrameRow, IsLeft, WorkRow, TickBy, Row}
+use Rattle.worker.specs.WorkerRules.{Answers, AckRow, FrameRow, IsLeft, WorkRow, TickBy, Row}
 use Rattle.roles.specs.Finals.{IsCompleteBoard, KeepsComplete}
 use Rattle.roles.proofs.Finals.{same_inside}
 use Rattle.worker.specs.Finals.{IsGrant}

@@ -1,4 +1,5 @@
 pub mod WorkerBoards
+pub mod Making
 pub mod WorkerDue
 pub mod WorkerFrames
 pub mod WorkerLaws

@@ -1,51 +1,30 @@
 -- What a worker's board says of tables and of texts.
-use Rattle.std.proofs.Common.{◌≡◌, ℕ, suc, Bool, true, List, ◌∷◌, Option, Some, None, Ok, Err, inl, inr, refl, sym, ◌∙◌, ap, subst, arith}
+use Rattle.std.proofs.Common.{◌≡◌, ℕ, suc, Bool, true, List, ◌∷◌, ◌++◌, Option, Some, Ok, Err, inl, inr, refl, sym, ◌∙◌, ap, subst, arith}
 use Rattle.std.proofs.lemmas.List.{append_cancel_left}
 use Rattle.std.specs.List.{All, AllPairs}
-use Rattle.std.specs.Option.{is_some}
 use Rattle.std.specs.Ordering.{nat_cmp}
 use Rattle.std.specs.declared.cmp.Ordering.TheVariants.{Less}
 use Rattle.std.specs.Cmp.Lexicographic.{slice_cmp}
 use Rattle.std.proofs.lemmas.List.Elements.{All-contains}
 use Rattle.machine_text.specs.Packed.{Packed}
 use Rattle.machine_text.specs.Text.{table_of, text_of}
-use Rattle.tree.proofs.TableLaws.{tree_alike, tree_table_child}
-use Rattle.cert.specs.Claim.{Claim, NoClaim, Recorded}
-use Rattle.ledger.specs.Contents.{Contents, IsBoard, IsOpenOn}
-use Rattle.ledger.specs.Records.{claim_in, same_table}
+use Rattle.ledger.specs.Contents.{Contents, IsOpenOn}
+use Rattle.ledger.specs.Records.{same_table}
 use Rattle.ledger.specs.Tally.{AreAll}
-use Rattle.ledger.specs.Offers.{OfferGives}
-use Rattle.ledger.specs.LedgerText.{header_words, HasHeader, ReadsAs, LoadGives, PeekGives}
+use Rattle.ledger.specs.Versions.{header_words}
+use Rattle.ledger.specs.declared.format.Format.{Format}
+use Rattle.ledger.specs.LedgerText.{HasHeader, ReadsIn, LoadGives, PeekGives}
 use Rattle.ledger.specs.declared.left.Left.{Left}
 use Rattle.ledger.specs.declared.faults.LoadFault.{LoadFault}
 use Rattle.ledger.specs.declared.faults.LoadFault.TheVariants.{BadHeader, WrongRoot, NoMemory as NoLoadMemory}
-use Rattle.ledger.specs.declared.faults.OfferFault.{OfferFault}
-use Rattle.ledger.specs.declared.faults.OfferFault.TheVariants.{WrongSize, NotOpen, Refused as IsRefused, NoMemory}
 use Rattle.ledger.proofs.Apart.{first_member, first_or_later}
 use Rattle.ledger.proofs.Same.{same_is, same_at}
-use Rattle.ledger.proofs.HeldLaws.{unmarked}
+use Rattle.ledger.proofs.HeaderLaws.{one_format}
 use Rattle.text.proofs.Lines.{same_line, line_has_newline}
-use Rattle.ledger.proofs.OpenLaws.{recorded_in_tree}
 use Rattle.roles.specs.Faults.{start_fault_of}
 use Rattle.worker.specs.WorkerState.{HasRoot}
 use Rattle.worker.specs.WorkerRules.{IsFirstOpen}
 use Rattle.worker.specs.WorkerStart.{IsInOrder, IsNoStart, ReadsAsBoard}
-
--- a record without a claim that isn't taken is of a table without a record
-pub unrecorded : (root : Packed) (rs new : List Recorded) (t : Packed) (f : OfferFault) → IsBoard (record { root = root; records = rs })
-    → OfferGives root rs (record { table = t; claim = NoClaim }) (Err f) new → claim_in rs t ≡ None
-unrecorded root rs new t WrongSize board gives =
-    elim (claim_in rs t) as (λ (o : Option Claim). claim_in rs t ≡ o → o ≡ None) [
-      | None ↦ λ e. refl
-      | Some d ↦ λ e. absurd (gives.0 (tree_alike root t board.is_table (recorded_in_tree root rs t d tree_table_child board.held e)).states)
-    ] refl
-unrecorded root rs new t NotOpen board gives = gives.1.unrecorded
-unrecorded root rs new t (IsRefused f) board gives = elim gives.0.is [ inl is_open ↦ unmarked (claim_in rs t) is_open.unmarked | inr later ↦ let claims = later.1 in absurd (cc) ]
-unrecorded root rs new t NoMemory board gives = elim gives.0.is [ inl is_open ↦ unmarked (claim_in rs t) is_open.unmarked | inr later ↦ let claims = later.1 in absurd (cc) ]
-
-pub none_there : (o : Option Claim) → o ≡ None → is_some o ≡ true → ⊥
-none_there None is some = cc
-none_there (Some d) is some = cc
 
 first_before : {X : Type 0} (R : X → X → Type 0) (x : X) (xs : List X) → AllPairs R (x ∷ xs) → All (R x) xs
 first_before R x xs all = λ i d below. all 0 (suc i) d (omega arith) (omega arith)
@@ -65,7 +44,9 @@ first_open b tables t rest all is =
 same_root : (text : List ℕ) (root other : Packed) (rest rest' : List ℕ) → HasHeader text root rest → HasHeader text other rest' → root ≡ other
 same_root text root other rest rest' header header' =
     let line = same_line header.line header'.line in
-    let name : header.name ≡ header'.name = append_cancel_left header_words header.name header'.name line.0 in
+    let format : header.format ≡ header'.format = one_format header.format header'.format header.name header'.name line.0 in
+    let name : header.name ≡ header'.name =
+    append_cancel_left (header_words header.format) header.name header'.name (line.0 ∙ ap (λ (f : Format). header_words f ++ header'.name) (sym format)) in
     let reads = header.reads in
     let reads' = header'.reads in
     let same = ap table_of name in
@@ -75,11 +56,11 @@ same_root text root other rest rest' header header' =
 pub reads_as_board : (root : Packed) (text : List ℕ) (board : Contents) (left : Left) → PeekGives text (Ok (Some root)) → LoadGives root text (Ok (board, left))
     → ReadsAsBoard text (Some board) left
 reads_as_board root text board left peek loads =
-    let reads : ReadsAs root text board.records left = elim loads.1 [
-      | inl none ↦ absurd (line_has_newline peek.0.1.line none.torn.no_newline)
+    let reads : ReadsIn board.format root text board.records left = elim loads.1 [
+      | inl none ↦ absurd (line_has_newline peek.0.1.line none.reads.torn.no_newline)
       | inr there ↦ there
     ] in
-    (subst IsInOrder (sym loads.0) peek.1, subst (λ (p : Packed). ReadsAs p text board.records left) (sym loads.0) reads)
+    (subst IsInOrder (sym loads.0) peek.1, subst (λ (p : Packed). ReadsIn board.format p text board.records left) (sym loads.0) reads)
 
 -- why it isn't
 pub no_start : (root : Packed) (text : List ℕ) (f : LoadFault) → PeekGives text (Ok (Some root)) → LoadGives root text (Err f) → IsNoStart text (start_fault_of f)

@@ -1,11 +1,12 @@
 -- From which place on records may be due.
-use Rattle.std.proofs.Common.{if◌then◌else◌, ◌≡◌, ℕ, zero, suc, ◌+◌, ◌≤◌, Bool, true, false, not, ◌||◌, List, [], ◌∷◌, ◌++◌, length, map, take, drop, filter, inr, Option, None, Result, Ok, Err, Some, IfOk, OnErr, refl, sym, ◌∙◌, ap, subst, arith}
+use Rattle.std.proofs.Common.{if◌then◌else◌, ◌≡◌, ℕ, zero, suc, ◌+◌, ◌≤◌, Bool, true, false, not, ◌||◌, List, [], ◌∷◌, ◌++◌, length, map, take, drop, filter, inr, None, Result, Ok, Err, Some, IfOk, OnErr, refl, sym, ◌∙◌, ap, subst, arith}
 use Rattle.std.specs.List.{list_any}
 use Rattle.std.proofs.lemmas.List.{take-append-drop, take-append-le, length-append}
 use Rattle.std.proofs.lemmas.List.Elements.{filter-append}
 use Rattle.std.proofs.lemmas.List.Folds.{list_any-append}
 use Rattle.machine_text.specs.Packed.{Packed}
 use Rattle.cert.specs.Claim.{Recorded}
+use Rattle.cert.specs.Scored.{with_score}
 use Rattle.ledger.specs.Contents.{Contents}
 use Rattle.ledger.specs.Records.{same_table}
 use Rattle.wire.specs.Grammar.{frames_of}
@@ -93,7 +94,7 @@ pub made_keeps : {E : Type 0} (tables : List Packed) (old new : Contents) (r : R
 made_keeps tables old new r (Ok out) place ok err first =
     let taken = ok.taken in
     let same : new ≡ with_record old r = cc in
-    subst (λ (b : Contents). AreFirstAcknowledged tables b.records place) (sym same) (record_more tables old.records r place first)
+    subst (λ (b : Contents). AreFirstAcknowledged tables b.records place) (sym same) (record_more tables old.records (with_score r) place first)
 made_keeps tables old new r (Err f) place ok err first = subst (λ (b : Contents). AreFirstAcknowledged tables b.records place) (sym err) first
 
 -- nothing is due and no record may be made, so it asks

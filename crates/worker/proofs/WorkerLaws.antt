@@ -1,21 +1,15 @@
 -- What each answer of a worker does to its board and its ledger.
 use Rattle.std.specs.Prelude.{IfOk}
-use Rattle.std.proofs.Common.{◌≡◌, ℕ, ◌+◌, Bool, true, false, List, [], ◌∷◌, ◌++◌, ◌⊎◌, inl, inr, Option, Some, None, Result, Ok, Err, take, length, refl, sym, ◌∙◌, ap, subst, arith, append_assoc, append-nil, length-append}
-use Rattle.std.proofs.Math.Seq.{take-append_seam}
+use Rattle.std.proofs.Common.{◌≡◌, ℕ, Bool, true, false, List, [], ◌∷◌, ◌++◌, ◌⊎◌, inl, inr, Option, Some, None, Result, Ok, Err, take, refl, sym, ◌∙◌, ap, subst, append-nil}
 use Rattle.machine_text.specs.Packed.{Packed}
-use Rattle.tree.proofs.TableLaws.{tree_alike, tree_table_child}
 use Rattle.cert.specs.Claim.{Recorded}
-use Rattle.cert.specs.Grammar.{record_text}
-use Rattle.cert.proofs.Lines.{record_line, certified_writable, certified_made}
-use Rattle.cert.proofs.RoundTrip.{record_of-record_text}
+use Rattle.cert.specs.Scored.{with_score}
 use Rattle.ledger.specs.Contents.{Contents, IsBoard}
-use Rattle.ledger.specs.Held.{IsFit}
-use Rattle.text.specs.Lines.{joined}
-use Rattle.ledger.specs.LedgerText.{header_words, ledger_text, ReadsAs}
+use Rattle.ledger.specs.declared.format.Format.{Format}
+use Rattle.ledger.specs.LedgerText.{ledger_text, IsLedgerOf, ReadsIn}
 use Rattle.ledger.specs.declared.left.Left.{Left}
 use Rattle.ledger.specs.declared.left.Left.TheVariants.{Nothing, From}
-use Rattle.ledger.proofs.LinesTaken.{taken_more, joined-append}
-use Rattle.ledger.proofs.OpenLaws.{open_in_tree}
+use Rattle.ledger.proofs.Growing.{grows, cut_to_kept}
 use Rattle.ledger.proofs.Written.{whole_ledger}
 use Rattle.wire.specs.Carried.{cut_by, text_after}
 use Rattle.wire.specs.Happening.{Happening, Came, Ticked, Worked}
@@ -99,33 +93,6 @@ steps_of asked old (Came frame) out new row = frame_steps old (message_of frame)
 steps_of asked old (Ticked t) out new row = tick_steps old old.rests (unacknowledged old.acknowledged (records_on old.board)) out new row
 steps_of asked old Worked out new row = work_steps asked old out new row
 
--- the text of a ledger with the line of one more record
-one_more : (b : Contents) (r : Recorded) (text : List ℕ) → IsBoard b → IsFit b.root b.records r → ReadsAs b.root text b.records Nothing
-    → ReadsAs b.root (text ++ lines_of (r ∷ [])) (b.records ++ (r ∷ [])) Nothing
-one_more b r text board fit reads =
-    let line = lines_of (r ∷ []) in
-    let words = header_words ++ reads.header.name in
-    let lines = reads.keeps.lines in
-    let is_table = (tree_alike b.root r.table board.is_table (open_in_tree b.root b.records r.table tree_table_child board.held fit.is_open)).is_table in
-    let writable = certified_writable r fit.certified in
-    let body : reads.body ≡ joined lines = reads.keeps.is ∙ (ap (λ (l : List ℕ). joined lines ++ l) reads.keeps.ends ∙ append-nil (joined lines)) in
-    record {
-      body = reads.body ++ line;
-      header = record {
-        name = reads.header.name;
-        line = record { is = ap (λ (l : List ℕ). l ++ line) reads.header.line.is ∙ append_assoc words (10 ∷ reads.body) line; one_line = reads.header.line.one_line };
-        reads = reads.header.reads;
-      };
-      keeps = record {
-        lines = lines ++ (record_text r ∷ []);
-        rest = [];
-        is = ap (λ (l : List ℕ). l ++ line) body ∙ (sym (joined-append lines (record_text r ∷ [])) ∙ sym (append-nil (joined (lines ++ (record_text r ∷ [])))));
-        taken = taken_more b.root [] b.records (b.records ++ (r ∷ [])) lines (record_text r) r reads.keeps.taken (record_line r is_table writable)
-            (record_of-record_text r is_table writable (certified_made r fit.certified)) (inl (fit, refl));
-        ends = refl;
-      };
-    }
-
 -- an answer keeps a ledger in step
 pub stays_in_step : {D : Type 0} (old : WorkerState D) (out : Out) (new : WorkerState D) → Steps old out new → (text : List ℕ) → IsInStep old text → IsInStep new (text_after out text)
 stays_in_step old out new steps text stands = elim steps [
@@ -143,38 +110,20 @@ stays_in_step old out new steps text stands = elim steps [
         let b = made.0 in
         let r = made.1 in
         let makes = made.3 in
-        let reads : ReadsAs b.root text b.records Nothing = subst (λ (o : Option Contents). IsOwnLedger o text) made.2 stands in
-        let after : text_after out text ≡ text ++ lines_of (r ∷ []) =
+        let line = lines_of b.format (with_score r ∷ []) in
+        let reads : IsLedgerOf b text = subst (λ (o : Option Contents). IsOwnLedger o text) made.2 stands in
+        let after : text_after out text ≡ text ++ line =
         ap (λ (c : Option ℕ). cut_by c text ++ out.append.items) makes.says.cut_is ∙ ap (λ (l : List ℕ). text ++ l) makes.says.append_is in
         subst (λ (l : List ℕ). IsInStep new l) (sym after)
-        (subst (λ (o : Option Contents). IsOwnLedger o (text ++ lines_of (r ∷ []))) (sym makes.taken) (one_more b r text makes.is_board makes.fit reads))
+        (subst (λ (o : Option Contents). IsOwnLedger o (text ++ line)) (sym makes.taken) (grows b text r (b.records ++ (with_score r ∷ [])) makes.is_board reads (inl (makes.fit, refl))))
   ]
 ]
 
 -- what is kept of a ledger that is loaded
-kept_reads : (root : Packed) (text : List ℕ) (rs : List Recorded) (left : Left) → ReadsAs root text rs left → ReadsAs root (cut_by (cut_of left) text) rs Nothing
-kept_reads root text rs Nothing reads = reads
-kept_reads root text rs (From line kept why) reads =
-    let words = header_words ++ reads.header.name in
-    let lines = reads.keeps.lines in
-    let rest = reads.keeps.rest in
-    let front = words ++ (10 ∷ joined lines) in
-    let whole : text ≡ front ++ rest = reads.header.line.is ∙ (ap (λ (l : List ℕ). words ++ (10 ∷ l)) reads.keeps.is ∙ sym (append_assoc words (10 ∷ joined lines) rest)) in
-    let long : length text ≡ length front + length rest = ap length whole ∙ length-append front rest in
-    let sum : kept + length rest ≡ length text = reads.keeps.ends.1 in
-    let count : kept ≡ length front = omega (arith, long, sum) in
-    record {
-      body = joined lines;
-      header = record {
-        name = reads.header.name;
-        line = record {
-          is = ap (λ (n : ℕ). take n text) count ∙ (ap (λ (l : List ℕ). take (length front) l) whole ∙ take-append_seam front rest);
-          one_line = reads.header.line.one_line;
-        };
-        reads = reads.header.reads;
-      };
-      keeps = record { lines = lines; rest = []; is = sym (append-nil (joined lines)); taken = reads.keeps.taken; ends = refl };
-    }
+kept_reads : (format : Format) (root : Packed) (text : List ℕ) (rs : List Recorded) (left : Left) → ReadsIn format root text rs left → ReadsIn format root (cut_by (cut_of left) text) rs Nothing
+kept_reads format root text rs Nothing reads = reads
+kept_reads format root text rs (From line kept why) reads =
+    subst (λ (f : Format). ReadsIn f root (take kept text) rs Nothing) reads.version (cut_to_kept root text rs line kept why reads.reads)
 
 torn_empty : (text : List ℕ) (left : Left) → ReadsAsBoard text None left → cut_by (cut_of left) text ≡ []
 torn_empty text Nothing reads = reads.ends
@@ -183,7 +132,7 @@ torn_empty text (From line kept why) reads = ap (λ (n : ℕ). take n text) read
 -- what is kept of a ledger from which a worker starts is in step with it
 pub starts_in_step : (board : Option Contents) (text : List ℕ) (left : Left) → ReadsAsBoard text board left → IsOwnLedger board (cut_by (cut_of left) text)
 starts_in_step None text left reads = torn_empty text left reads
-starts_in_step (Some b) text left reads = kept_reads b.root text b.records left reads.1
+starts_in_step (Some b) text left reads = kept_reads b.format b.root text b.records left reads.1
 
 pub keeps_step : {D : Type 0} (asked : D → Packed → Recorded → Type 0) (old : WorkerState D) (e : Happening) (r : Result Out NodeFault) (new : WorkerState D) → Answers asked old e r new
     → IfOk r (λ (out : Out). (text : List ℕ) → IsInStep old text → IsInStep new (text_after out text))

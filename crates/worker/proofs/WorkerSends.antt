@@ -6,6 +6,7 @@ use Rattle.std.proofs.lemmas.List.{take-append-drop, map-append}
 use Rattle.std.proofs.lemmas.List.Elements.{Contains-append_left, Contains-append_right}
 use Rattle.machine_text.specs.Packed.{Packed}
 use Rattle.cert.specs.Claim.{Recorded}
+use Rattle.cert.specs.Scored.{with_score}
 use Rattle.ledger.specs.Contents.{Contents}
 use Rattle.ledger.specs.Records.{same_table}
 use Rattle.ledger.proofs.Apart.{first_member, first_or_later, chosen_from}
@@ -18,7 +19,7 @@ use Rattle.worker.specs.declared.lease_name.LeaseName.{LeaseName}
 use Rattle.worker.specs.Limits.{tick_record_limit}
 use Rattle.worker.specs.WorkerState.{WorkerState, records_on, unacknowledged}
 use Rattle.worker.specs.WorkerRules.{GrantRow, AckRow, FrameRow, WorkRow, TickBy, Row, done_with}
-use Rattle.worker.specs.WorkerLaws.{SendsOwn, IsGained, Gains}
+use Rattle.worker.specs.WorkerLaws.{SendsOwn, IsGained, Gains, gained_lines}
 use Rattle.worker.proofs.WorkerLaws.{Steps, same_board, steps_of}
 
 no_member : {X : Type 0} {y : X} → Contains [] y → ⊥
@@ -87,10 +88,10 @@ work_sends asked old out new row = elim row [
       let b = made.0 in
       let r = made.1 in
       let makes = made.4 in (
-        Rec r ∷ [],
+        Rec (with_score r) ∷ [],
         makes.says.frames_are,
-        λ q there. subst (λ (o : Option Contents). Contains (records_on o) q) (sym makes.taken) (elim (first_or_later (Rec r) [] (Rec q) there) [
-          | inl one ↦ let same : r ≡ q = cc in Contains-append_right b.records (r ∷ []) q (first_member r q [] same)
+        λ q there. subst (λ (o : Option Contents). Contains (records_on o) q) (sym makes.taken) (elim (first_or_later (Rec (with_score r)) [] (Rec q) there) [
+          | inl one ↦ let same : with_score r ≡ q = cc in Contains-append_right b.records (with_score r ∷ []) q (first_member (with_score r) q [] same)
           | inr later ↦ absurd (no_member later)
         ]),
       )
@@ -104,16 +105,25 @@ sends_own asked old new Worked out row = work_sends asked old out new row
 
 none_gained : (old new : Option Contents) → new ≡ old → IsGained old [] new
 none_gained None new is = (refl, is)
-none_gained (Some b) new is = is ∙ ap (λ (rs : List Recorded). Some (record { root = b.root; records = rs })) (sym (append-nil b.records))
+none_gained (Some b) new is = is ∙ ap (λ (rs : List Recorded). Some (record { root = b.root; records = rs; format = b.format })) (sym (append-nil b.records))
+
+none_lines : (o : Option Contents) → gained_lines o [] ≡ []
+none_lines None = refl
+none_lines (Some b) = refl
 
 by_steps : {D : Type 0} (old : WorkerState D) (out : Out) (new : WorkerState D) → Steps old out new → Gains old.board out new.board
 by_steps old out new steps = elim steps [
-  | inl same ↦ inl ([], none_gained old.board new.board same.0, same.1, same.2)
+  | inl same ↦ inl ([], none_gained old.board new.board same.0, same.1, same.2 ∙ sym (none_lines old.board))
   | inr others ↦ elim others [
     | inl begun ↦ inr (begun.0, begun.2, begun.3, begun.4)
     | inr made ↦
         let makes = made.3 in
-        inl (made.1 ∷ [], subst (λ (o : Option Contents). IsGained o (made.1 ∷ []) new.board) (sym made.2) makes.taken, makes.says.cut_is, makes.says.append_is)
+        let held = with_score made.1 in inl (
+          held ∷ [],
+          subst (λ (o : Option Contents). IsGained o (held ∷ []) new.board) (sym made.2) makes.taken,
+          makes.says.cut_is,
+          subst (λ (o : Option Contents). out.append.items ≡ gained_lines o (held ∷ [])) (sym made.2) makes.says.append_is,
+        )
   ]
 ]
 

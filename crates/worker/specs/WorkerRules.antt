@@ -10,7 +10,6 @@ use Rattle.cert.specs.Claim.{Recorded}
 use Rattle.cert.specs.Scored.{with_score}
 use Rattle.ledger.specs.Contents.{Contents, IsBoard, IsOpenOn}
 use Rattle.ledger.specs.Held.{IsFit}
-use Rattle.text.specs.Lines.{joined}
 use Rattle.ledger.specs.LedgerText.{ledger_text}
 use Rattle.wire.specs.declared.node.Out.{Out}
 use Rattle.wire.specs.declared.node.Note.{Note}
@@ -20,7 +19,7 @@ use Rattle.wire.specs.declared.node.NodeFault.TheVariants.{Stopped, NoMemory}
 use Rattle.wire.specs.declared.message_fault.MsgFault.{MsgFault}
 use Rattle.wire.specs.Happening.{Happening, Came, Ticked, Worked}
 use Rattle.wire.specs.Message.{Message, Ask, Grant, Rec, Ack, Later, Done, Stop}
-use Rattle.wire.specs.Grammar.{frames_of, message_of}
+use Rattle.wire.specs.Grammar.{message_of}
 use Rattle.worker.specs.Limits.{work_record_limit, tick_record_limit}
 use Rattle.roles.specs.Says.{Says, lines_of}
 use Rattle.worker.specs.declared.lease_name.LeaseName.{LeaseName}

@@ -5,7 +5,6 @@ use Rattle.tree.specs.Used.{InOrder}
 use Rattle.ledger.specs.Contents.{Contents}
 use Rattle.ledger.specs.LedgerText.{HasHeader, HasNoHeader, ReadsAsNone, ReadsIn}
 use Rattle.ledger.specs.declared.left.Left.{Left}
-use Rattle.ledger.specs.declared.left.Left.TheVariants.{Nothing, From}
 use Rattle.wire.specs.declared.node.Out.{Out}
 use Rattle.wire.specs.declared.node.Note.TheVariants.{Quiet}
 use Rattle.roles.specs.declared.start_fault.StartFault.{StartFault}

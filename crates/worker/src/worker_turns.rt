@@ -1,13 +1,14 @@
 // What a worker does to its board, and asks of it.
 ghost use Rattle.std.specs.Prelude.{◌≡◌, ◌<◌, ◌↔◌, IsTrue, Some, IfSome, IfNone, IfOk, OnOk, OnErr, length};
 ghost use Rattle.cert.specs.Certified.{IsCertified};
-ghost use Rattle.cert.specs.Kinds.{owned_recorded};
+ghost use Rattle.cert.specs.Kinds.{owned_recorded, recorded};
+ghost use Rattle.ledger.specs.Held.{HasScore};
 ghost use Rattle.worker.specs.Limits.{work_record_limit};
 ghost use Rattle.worker.specs.WorkerState.{HasRoot, IsRecordedOn, MayWork, with_table};
 ghost use Rattle.worker.specs.WorkerRules.{IsFirstOpen, Makes};
 
 use crate::limits::MAX_WORK_RECORDS;
-use crate::worker_answers::{frame_of, line_of};
+use crate::worker_answers::frame_of;
 use cert::{OwnedRecord, Record};
 use evidence::NoMemory;
 use indexmap::IndexSet;
@@ -67,17 +68,32 @@ pub(crate) fn make(alloc: Global, board: &mut Board, made: &OwnedRecord) -> Resu
     ensures ok { IfOk result (λ out. Makes board.old (owned_recorded made.now) out (Some board.new)) }
     ensures err { OnErr result (board.new ≡ board.old) }
 {
-    // The proof needs that it is a board.
-    let _ = board.root();
     // The parts by their names: the borrow checker's proof has to know of what the record is made.
     let r = Record {
         table: made.table,
         certificate: made.certificate.lent(),
     };
-    let scored = r.scored(alloc)?;
-    let append = line_of(alloc, board, &scored)?;
-    let frames = frame_of(alloc, scored)?;
-    match board.offer_certified(&scored) {
+    match r.scored(alloc) {
+        Ok(scored) => put(alloc, board, &scored),
+        Err(_) => Err(NoMemory),
+    }
+}
+
+// The same of a record that has its score. Its frame comes before the offer, and its line with that: once the board has
+// taken the record, nothing may be refused.
+fn put(alloc: Global, board: &mut Board, r: &Record) -> Result<Out, NoMemory>
+    requires first { IsFirstOpen board.old r.now.table }
+    requires few { length board.old.records < work_record_limit }
+    requires certified { IsCertified (recorded r.now) }
+    requires scored { HasScore (recorded r.now) }
+    ensures ok { IfOk result (λ out. Makes board.old (recorded r.now) out (Some board.new)) }
+    ensures err { OnErr result (board.new ≡ board.old) }
+{
+    // The proof needs that it is a board.
+    let _ = board.root();
+    let frames = frame_of(alloc, r)?;
+    let mut append = Vec::new(alloc);
+    match board.offer_certified_line(r, &mut append) {
         Ok(Taken::New) => Ok(Out {
             cut: None,
             append,

@@ -1,7 +1,5 @@
-use Rattle.std.proofs.Common.{◌∙◌, Err, subst, sym}
+use Rattle.std.proofs.Common.{◌∙◌}
 use Rattle.std.proofs.lemmas.Result.{err_from_is_err_and}
-use Rattle.coordinator.specs.inside.Begun.{BeginsSo}
-use Rattle.roles.specs.declared.start_fault.StartFault.{StartFault}
 use Rattle.coordinator.proofs.Begun.{refused_so, cant_so, begins_so}
 use Rattle.coordinator.proofs.starting.begun_by.Goals as goal
 

@@ -1,4 +1,3 @@
-use Rattle.roles.specs.Faults.{start_fault_of}
 use Rattle.std.proofs.Common.{Err, ◌∙◌, ap}
 use Rattle.std.proofs.lemmas.Result.{err_from_is_err_and}
 use Rattle.worker.proofs.WorkerBoards.{reads_as_board, no_start, peeked}

@@ -1,9 +1,21 @@
-use Rattle.std.proofs.Common.{rules}
+use Rattle.std.proofs.Common.{Some, subst}
+use Rattle.cert.specs.Claim.{Claim}
+use Rattle.cert.specs.Kinds.{owned_recorded, recorded}
+use Rattle.cert.specs.Scored.{GetsScore}
+use Rattle.worker.proofs.Making.{scored_certified, scored_first, made_unscored}
 use Rattle.worker.proofs.worker_turns.make.Goals as goal
 
--- answered by name, so that nothing is offered where an edit makes it false
-pub unreachable-requires : goal.unreachable-requires
-unreachable-requires c = search rules steps 1000000
+pub put-requires-clause-first : goal.put-requires-clause-first
+put-requires-clause-first c =
+    let gets = subst (λ (k : Claim). GetsScore (record { table = c.args.made.now.table; claim = k }) (recorded c.in-Ok.scored)) c.lent.ensures c.in-Ok.ensures in
+    scored_first (owned_recorded c.args.made.now) (recorded c.in-Ok.scored) gets c.requires.certified c.args.board.now c.requires.first
 
-pub returns-in-Ok-New-clause-ok : goal.returns-in-Ok-New-clause-ok
-returns-in-Ok-New-clause-ok c = search rules
+pub put-requires-clause-certified : goal.put-requires-clause-certified
+put-requires-clause-certified c =
+    let gets = subst (λ (k : Claim). GetsScore (record { table = c.args.made.now.table; claim = k }) (recorded c.in-Ok.scored)) c.lent.ensures c.in-Ok.ensures in
+    scored_certified (owned_recorded c.args.made.now) (recorded c.in-Ok.scored) gets c.requires.certified
+
+pub returns-in-Ok-clause-ok : goal.returns-in-Ok-clause-ok
+returns-in-Ok-clause-ok c =
+    let gets = subst (λ (k : Claim). GetsScore (record { table = c.args.made.now.table; claim = k }) (recorded c.in-Ok.scored)) c.lent.ensures c.in-Ok.ensures in
+    made_unscored (owned_recorded c.args.made.now) (recorded c.in-Ok.scored) gets c.requires.certified c.args.board.now c.put.result (Some c.put.new.board) c.put.ensures.ok

@@ -17,7 +17,7 @@ returns-in_err-reserve-clause-gives c = inr (err_is c.from_residual.result NoMem
 
 pub invariant_of-self-in-Err : goal.invariant_of-self-in-Err
 invariant_of-self-in-Err c =
-    let same = same_board c.offer.new.self c.self.inside.board c.in-Err.ensures.root (refused_board c.self.inside.board.root c.self.inside.board.records c.offer.new.self.records (recorded c.args.r.now) c.in-Err.fault c.in-Err.ensures.gives) c.in-Err.ensures.format in (
+    let same = same_board c.offer_line.new.self c.self.inside.board c.in-Err.ensures.root (refused_board c.self.inside.board.root c.self.inside.board.records c.offer_line.new.self.records (recorded c.args.r.now) c.in-Err.fault c.in-Err.ensures.gives) c.in-Err.ensures.format in (
       subst (λ (b : Contents). AreLeases b (as_leases c.self.inside.live c.self.inside.came_under.entries c.self.inside.moment c.self.inside.given) × AreStored b c.self.inside.live c.self.inside.came_under.entries c.reserve.new.self.tables) (sym same)
           (subst (λ (free : List Packed). AreLeases c.self.inside.board (as_leases c.self.inside.live c.self.inside.came_under.entries c.self.inside.moment c.self.inside.given) × AreStored c.self.inside.board c.self.inside.live c.self.inside.came_under.entries free) (sym c.in_ok-reserve.ensures.tables) c.self.invariant.0),
       c.self.invariant.1,
@@ -27,7 +27,7 @@ pub invariant_of-self-in-Ok-New : goal.invariant_of-self-in-Ok-New
 unfolding same_table
 invariant_of-self-in-Ok-New c =
     let old = c.self.inside.board in
-    let new = c.offer.new.self in
+    let new = c.offer_line.new.self in
     let ls = c.self.inside.live in
     let came = c.self.inside.came_under.entries in
     let next = c.swap_remove.new.self.entries in
@@ -49,7 +49,7 @@ pub returns-in-Ok-New-clause-leases : goal.returns-in-Ok-New-clause-leases
 unfolding same_table
 returns-in-Ok-New-clause-leases c =
     let old = c.self.inside.board in
-    let new = c.offer.new.self in
+    let new = c.offer_line.new.self in
     let ls = c.self.inside.live in
     let came = c.self.inside.came_under.entries in
     let next = c.swap_remove.new.self.entries in
@@ -67,7 +67,7 @@ returns-in-Ok-New-clause-leases c =
 pub invariant_of-self-in-Ok-Settled : goal.invariant_of-self-in-Ok-Settled
 invariant_of-self-in-Ok-Settled c =
     let old = c.self.inside.board in
-    let new = c.offer.new.self in
+    let new = c.offer_line.new.self in
     let ls = c.self.inside.live in
     let came = c.self.inside.came_under.entries in
     let free = c.self.inside.free.tables in
@@ -86,7 +86,7 @@ invariant_of-self-in-Ok-Settled c =
 pub returns-in-Ok-Settled-clause-leases : goal.returns-in-Ok-Settled-clause-leases
 returns-in-Ok-Settled-clause-leases c =
     let old = c.self.inside.board in
-    let new = c.offer.new.self in
+    let new = c.offer_line.new.self in
     let ls = c.self.inside.live in
     let came = c.self.inside.came_under.entries in
     let free = c.self.inside.free.tables in

@@ -2,7 +2,7 @@ use Rattle.std.proofs.Common.{◌≡◌, sym, ◌∙◌, ap, subst, List, Some, 
 use Rattle.leases.specs.Leases.{Leased, lease_of, came_under, while_live}
 use Rattle.leases.specs.inside.Stored.{StoredLease, as_lease}
 use Rattle.leases.proofs.LiveLaws.{without_none}
-use Rattle.leases.proofs.leased_board.LeasedBoard.offer.Goals as goal
+use Rattle.leases.proofs.leased_board.LeasedBoard.offer_line.Goals as goal
 
 pub offer_under-requires : goal.offer_under-requires
 offer_under-requires c =

@@ -33,7 +33,7 @@ makes b new r out board first few has gives root format says =
       taken = ap (λ (c : Contents). Some c) same;
     }
 
--- what was certified is so with its score, which it then has
+-- what was certified is so with its score
 module _ (r s : Recorded) (gets : GetsScore r s) (certified : IsCertified r) where
   is_scored : s ≡ with_score r
   is_scored = has_score r s gets certified
@@ -43,9 +43,6 @@ module _ (r s : Recorded) (gets : GetsScore r s) (certified : IsCertified r) whe
 
   pub scored_certified : IsCertified s
   scored_certified = subst IsCertified (sym is_scored) (score_certified r certified)
-
-  pub scored_has : HasScore s
-  scored_has = subst HasScore (sym is_scored) twice
 
   pub scored_first : (b : Contents) → IsFirstOpen b r.table → IsFirstOpen b s.table
   scored_first b first = subst (λ (q : Recorded). IsFirstOpen b q.table) (sym is_scored) first

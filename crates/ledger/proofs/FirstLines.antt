@@ -40,7 +40,7 @@ table_text_short name root reads =
       | false ↦ λ is. let fails = table_of-length name is in absurd (cc)
     ] refl
 
-header_short : (format : Format) (line : List ℕ) (root : Packed) → NamesRoot format line root → length line ≤ 53
+pub header_short : (format : Format) (line : List ℕ) (root : Packed) → NamesRoot format line root → length line ≤ 53
 header_short format line root named =
     omega (arith, ap length named.is, length-append (header_words format) named.name, words_length format, table_text_short named.name root named.reads)
 

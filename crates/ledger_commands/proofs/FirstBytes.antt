@@ -5,20 +5,17 @@ use Rattle.std.proofs.lemmas.List.{take-append-le, take_at, get_or_at, get_or_ap
 use Rattle.std.proofs.lemmas.Bool.{cases_lt}
 use Rattle.std.specs.Io.KnownBytes.{Consumes, IsAtEnd}
 use Rattle.machine_text.specs.Packed.{Packed, entry_of}
-use Rattle.machine_text.specs.Text.{states_in, is_table_length}
-use Rattle.machine_text.proofs.Named.{table_of-length, length_of_states}
 use Rattle.tree.specs.Used.{InOrder}
 use Rattle.text.specs.Lines.{HasNoNewline, BeginsWithLine}
 use Rattle.text.proofs.Lines.{cases_line, line_has_newline}
 use Rattle.ledger.specs.LedgerText.{BeginsAsHeader, IsTornHeader, HasHeader, HasNoHeader, PeekGives, LoadGives, ReadsIn}
 use Rattle.ledger.specs.Contents.{Contents}
 use Rattle.ledger.specs.declared.left.Left.{Left}
-use Rattle.ledger.specs.Loading.{NamesRoot, header_start}
-use Rattle.ledger.specs.Versions.{header_words}
+use Rattle.ledger.specs.Loading.{header_start}
 use Rattle.ledger.specs.declared.format.Format.{Format}
-use Rattle.ledger.proofs.FirstLines.{begun_whole, begun_start}
+use Rattle.ledger.proofs.FirstLines.{header_short, begun_whole, begun_start}
 use Rattle.ledger.proofs.Feeding.{longer_text, header_more}
-use Rattle.ledger.proofs.HeaderLaws.{words_length, none_begun, none_named, is_named}
+use Rattle.ledger.proofs.HeaderLaws.{none_begun, none_named, is_named}
 use Rattle.ledger.specs.declared.faults.LoadFault.{LoadFault}
 use Rattle.ledger.specs.declared.faults.LoadFault.TheVariants.{BadHeader, WrongRoot, NoMemory}
 use Rattle.options.specs.declared.ended.Ended.{Ended}
@@ -29,16 +26,6 @@ use Rattle.ledger_commands.specs.inside.{BeginsReading, BeginsWithRoot, EndsBehi
 use Rattle.ledger_commands.specs.declared.reading.Stopped.{Stopped}
 use Rattle.ledger_commands.specs.declared.reading.Stopped.TheVariants.{Failed, Ended as EndedBy}
 use Rattle.ledger_commands.proofs.LedgerReports.{one_header}
-
--- a line that names a root is short
-named_short : (format : Format) (line : List ℕ) (root : Packed) → NamesRoot format line root → length line ≤ 53
-named_short format line root named =
-    elim (is_table_length (length named.name)) as (λ v. is_table_length (length named.name) ≡ v → length line ≤ 53) [
-      | true ↦ λ is.
-          let sizes = length_of_states (length named.name) (states_in (length named.name)) refl is in
-          omega (arith, sizes.0, sizes.2, ap length named.is, length-append (header_words format) named.name, words_length format)
-      | false ↦ λ is. let fails = table_of-length named.name is in let reads = named.reads in absurd (cc)
-    ] refl
 
 -- as many as there are, up to the limit, are the first ones
 pub all_first : (old new : Option (List ℕ)) (limit : ℕ) (text : List ℕ) → Consumes old new text → length text ≤ limit → (length text ≡ limit) ⊎ IsAtEnd new → AreFirstBytes old limit text
@@ -105,7 +92,7 @@ module _ (first more : List ℕ) (none : HasNoNewline first) (long : 64 ≤ leng
 
   bad_with : (line rest : List ℕ) → BeginsWithLine (first ++ more) line rest → IsBad (first ++ more)
   bad_with line rest begins = inr (none_named (first ++ more) line rest begins (λ format root named.
-      let size : length line ≤ 53 = named_short format line root named in
+      let size : length line ≤ 53 = header_short format line root named in
       let reach : length first ≤ length line = line_long first more line rest none begins in
       absurd (omega (arith, size, reach, long))))
 

@@ -1,5 +1,7 @@
 // The commands with their arguments and options, by clap's builder.
-use crate::help::{CARRY, COORD, DECIDE, LOOP, MERGE, RECORDS, REPORT, RETRY, RUN, STATUSES, VERSION};
+use crate::help::{
+    CARRY, COORD, DECIDE, LOOP, MERGE, RECORDS, REPORT, RETRY, RUN, STATUSES, VERSION,
+};
 use crate::words::{
     DEPTH, ERA, FAR, FILE, FIRST, GRAM, IN, JSON, LEDGER, LOSE, OUT, PROGRESS, ROUNDS, SECOND,
     STATES, STEPS, WHY, WORKERS,

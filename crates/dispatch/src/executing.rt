@@ -7,7 +7,8 @@ use evidence::NoMemory;
 use json_report::Form;
 use lease_core::Worker;
 use ledger_commands::{
-    Host, LedgerAt, Opened, cmd_carry, cmd_merge, cmd_report, cmd_report_stream, cmd_retry, held_at, opened,
+    Host, LedgerAt, Opened, cmd_carry, cmd_merge, cmd_report, cmd_report_stream, cmd_retry,
+    held_at, opened,
 };
 use line_commands::{cmd_check, cmd_decide};
 use loopback::Sockets;

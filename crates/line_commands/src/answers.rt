@@ -1,6 +1,7 @@
 // The answer to a line: what is printed for it, and whether it was accepted.
 ghost use Rattle.std.specs.Prelude.{◌≡◌, ◌∷◌, [], ◌++◌, List, ℕ, decimal, OnOk, IfOk};
 ghost use Rattle.machine_text.specs.Text.{text_of};
+ghost use Rattle.cert.specs.Claim.{score_by};
 ghost use Rattle.cert.specs.Kinds.{recorded, read_as};
 ghost use Rattle.line_commands.specs.Answer.{Answers, AnswersRecord, lent_line, ones_text, read_line, verdict_text, text_fault_text, fault_text};
 
@@ -45,9 +46,7 @@ fn answer_record(alloc: Global, r: &Record, out: &mut Vec<u8>) -> Result<Outcome
     let _ = r.table.states();
     match judge(alloc, r) {
         Ok(verdict) => {
-            append_table(&r.table, out)?;
-            append_verdict(verdict, out)?;
-            append_ones(r.certificate.ones(), out)?;
+            append_shown(r, verdict, out)?;
             Ok(Outcome::Accepted)
         }
         Err(refused) => match refused.number() {
@@ -58,6 +57,15 @@ fn answer_record(alloc: Global, r: &Record, out: &mut Vec<u8>) -> Result<Outcome
             None => Err(NoMemory),
         },
     }
+}
+
+// Appends a record's table, what is said of it, and the score that the record has, if any.
+fn append_shown(r: &Record, verdict: Option<Verdict>, out: &mut Vec<u8>) -> Result<(), NoMemory>
+    ensures { OnOk result (out.new.items ≡ out.old.items ++ text_of (recorded r.now).table ++ verdict_text verdict ++ ones_text (score_by (recorded r.now).claim)) }
+{
+    append_table(&r.table, out)?;
+    append_verdict(verdict, out)?;
+    append_ones(r.certificate.ones(), out)
 }
 
 // Appends what is said of a table.

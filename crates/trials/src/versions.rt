@@ -3,8 +3,6 @@ use crate::boards::board_of;
 use crate::coordinators::{begun, started};
 use crate::ledgers::written;
 use crate::loaders::{loaded_in_pieces, loaded_whole};
-use crate::nodes::{answers, handed};
-use crate::texts::{assert_bytes, number_of, parted, with_newlines};
 use crate::workers;
 use cert::Record;
 use lease_core::Coordinator;
@@ -12,6 +10,7 @@ use ledger::{Board, Left, LoadFault, OfferFault, Taken, Unkept};
 use std::alloc::Global;
 use std::process::Abort;
 use std::test::Fail;
+use trial_tools::{answers, assert_bytes, handed, number_of, parted, with_newlines};
 use wire::Note;
 
 // Ledgers of one state, with `|` for a newline, each with its version, what is left of it, and how its board is written:

@@ -1,7 +1,5 @@
 // `bb retry` over ledgers of the tests' own.
-use crate::nodes::handed;
 use crate::streams::{ALWAYS, Sink, file_of};
-use crate::texts::assert_bytes;
 use cert::{Finder, Finders};
 use lease_core::Coordinator;
 use ledger_commands::cmd_retry;
@@ -11,6 +9,7 @@ use run::HaltFinder;
 use std::alloc::Global;
 use std::process::Abort;
 use std::test::Fail;
+use trial_tools::{assert_bytes, handed};
 use wire::MemLedger;
 
 // What is answered, what is said beside it, what the ledger then holds, and the outcome.

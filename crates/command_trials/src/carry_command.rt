@@ -1,13 +1,13 @@
 // `bb carry` over files of the tests' own.
 use crate::desk::Desk;
 use crate::streams::{ALWAYS, Sink};
+use crate::texts::{assert_bytes, with_newlines};
 use ledger_commands::cmd_carry;
 use options::{Carrying, Outcome};
 use std::alloc::Global;
 use std::cell::RefCell;
 use std::process::Abort;
 use std::test::Fail;
-use trial_tools::{assert_bytes, with_newlines};
 
 // Ledgers, with `|` for a newline, each with what they are carried to.
 const CARRIED: &str = "\

@@ -1,11 +1,11 @@
 // `bb check` over streams of the tests' own: the worked rows, and what a stream may do.
 use crate::streams::{ALWAYS, Sink, Source};
+use crate::texts::assert_bytes;
 use line_commands::cmd_check;
 use options::Outcome;
 use std::alloc::Global;
 use std::process::Abort;
 use std::test::Fail;
-use trial_tools::assert_bytes;
 
 // What `bb check` answers to an input that comes so many bytes at a time. Where memory is refused it says
 // so, after answers that stand, and is asked once more: then the answers must come.

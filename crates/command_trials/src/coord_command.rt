@@ -1,5 +1,6 @@
 // `bb coord` over streams and ledgers of the tests' own.
 use crate::streams::{ALWAYS, Sink, Source, file_of};
+use crate::texts::assert_bytes;
 use node_commands::{Streams, cmd_coord};
 use options::{Beginning, Outcome};
 use std::alloc::Global;
@@ -7,7 +8,6 @@ use std::cell::Cell;
 use std::io::{self, Read, Write};
 use std::process::Abort;
 use std::test::Fail;
-use trial_tools::assert_bytes;
 use wire::{Link, MemLedger};
 
 // What is run: the ledger's bytes before, the era, the input, the call at which the ledger fails, and how many

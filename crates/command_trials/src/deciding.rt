@@ -1,5 +1,6 @@
 // Deciding tables by finders, honest and not, and `bb decide` over streams of the tests' own.
 use crate::streams::{ALWAYS, Sink, Source};
+use crate::texts::{assert_bytes, table_of};
 use backward::BackwardFinder;
 use cert::{Certificate, Finder, Finders, OwnedCertificate, decide};
 use evidence::NoMemory;
@@ -13,7 +14,6 @@ use run::{HaltFinder, HaltsIn};
 use std::alloc::Global;
 use std::process::Abort;
 use std::test::Fail;
-use trial_tools::{assert_bytes, table_of};
 
 // Says of each table that it halts in five steps.
 #[derive(Drop)]

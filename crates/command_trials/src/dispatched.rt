@@ -3,13 +3,13 @@ ghost use Rattle.options.specs.Ranges.{AreWithinRanges};
 
 use crate::desk::Desk;
 use crate::streams::{ALWAYS, Sink, Source};
+use crate::texts::assert_bytes;
 use dispatch::carry_out;
 use options::{Beginning, Merging, Options, Outcome, Search, Settling};
 use std::alloc::Global;
 use std::cell::RefCell;
 use std::process::Abort;
 use std::test::Fail;
-use trial_tools::assert_bytes;
 
 // What a command answers, and how it ends. It says nothing of faults.
 #[derive(Drop)]

@@ -1,5 +1,6 @@
 // Ledgers of which a read fails.
 use crate::streams::{ALWAYS, Sink};
+use crate::texts::assert_bytes;
 use lease_core::{Coordinator, StartFault};
 use ledger_commands::Opened;
 use node_commands::cmd_coord;
@@ -8,7 +9,6 @@ use std::alloc::Global;
 use std::io::{self, ErrorKind, Read};
 use std::process::Abort;
 use std::test::Fail;
-use trial_tools::assert_bytes;
 use wire::{Event, MemLedger, Node, NodeFault};
 
 const HELD: &[u8] = b"bb-ledger 1 ------\n------ H 1\n1RA--- T 0 1 R\n";

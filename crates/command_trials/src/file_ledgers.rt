@@ -1,11 +1,11 @@
 // Ledgers in files, over files of the tests' own.
 use crate::desk::{Desk, Paper};
+use crate::texts::assert_bytes;
 use ledger_commands::{FileLedger, Host, LedgerAt};
 use std::alloc::Global;
 use std::cell::{Cell, RefCell};
 use std::process::Abort;
 use std::test::Fail;
-use trial_tools::assert_bytes;
 use wire::{LedgerOut, Note, Out, begin};
 
 // A file that is cut and then appended to, so many bytes at a time, and whether that went well.

@@ -1,11 +1,11 @@
 // The report of a board as JSON.
+use crate::texts::assert_bytes;
 use json_report::report_json;
 use ledger::{Board, Left, LoadFault};
 use machine_text::Table;
 use std::alloc::Global;
 use std::process::Abort;
 use tnf::in_order;
-use trial_tools::assert_bytes;
 
 // The board of a ledger all of whose lines are kept. Memory may be refused once.
 fn board_of(rt: &impl Abort, alloc: Global, root: &str, ledger: &str) -> Board {

@@ -41,3 +41,5 @@ mod run_command;
 mod sockets;
 #[cfg(test)]
 mod streams;
+#[cfg(test)]
+mod texts;

@@ -1,12 +1,12 @@
 // Frames that are lost on purpose.
 use crate::probes::Probe;
 use crate::rounds::run_rounds;
+use crate::texts::assert_bytes;
 use node_commands::{Losses, carry};
 use std::alloc::Global;
 use std::cell::RefCell;
 use std::process::Abort;
 use std::test::Fail;
-use trial_tools::assert_bytes;
 use wire::{Link, MemLink};
 
 // Of so many frames every so many-th of the first 1,000 is lost, and each other is delivered, in their order.

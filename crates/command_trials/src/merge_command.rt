@@ -1,12 +1,12 @@
 // `bb merge` over files of the tests' own.
 use crate::streams::{ALWAYS, Sink, Source};
+use crate::texts::assert_bytes;
 use ledger_commands::{Host, cmd_merge};
 use options::{Merging, Outcome};
 use std::alloc::Global;
 use std::cell::Cell;
 use std::io;
 use std::process::Abort;
-use trial_tools::assert_bytes;
 use wire::{Fault, LedgerOut};
 
 // Two ledgers, `a` and `b`, and what is to be written to `out`: in a file beside it where `out` is a plain file, and

@@ -1,12 +1,12 @@
 // `bb report` over files of the tests' own.
 use crate::streams::{ALWAYS, Sink, Source, file_of};
+use crate::texts::assert_bytes;
 use ledger_commands::{AsLines, Opened, cmd_report};
 use options::{Ended, Outcome};
 use std::alloc::Global;
 use std::io;
 use std::process::Abort;
 use std::test::Fail;
-use trial_tools::assert_bytes;
 
 // What `bb report` prints of a ledger that comes so many bytes at a time, and what it says of faults. Where
 // memory is refused it says so and prints nothing, and is asked once more: then the report must come.

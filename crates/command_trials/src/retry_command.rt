@@ -1,5 +1,6 @@
 // `bb retry` over ledgers of the tests' own.
 use crate::streams::{ALWAYS, Sink, file_of};
+use crate::texts::assert_bytes;
 use cert::{Finder, Finders};
 use lease_core::Coordinator;
 use ledger_commands::cmd_retry;
@@ -9,8 +10,7 @@ use run::HaltFinder;
 use std::alloc::Global;
 use std::process::Abort;
 use std::test::Fail;
-use trial_tools::{assert_bytes, handed};
-use wire::MemLedger;
+use wire::{Event, MemLedger, Node, NodeFault, Out};
 
 // What is answered, what is said beside it, what the ledger then holds, and the outcome.
 #[derive(Drop)]
@@ -103,6 +103,17 @@ fn a_newer_ledger_stays_one(rt: HostRuntime) -> Result<(), Fail> {
     let left = format!(in rt.alloc(); "{held}1RB---_------ H 2 2\n")?;
     assert_bytes(&rt, end.ledger.text(), left.as_bytes());
     Ok(())
+}
+
+// Memory may be refused, and then the frame is handed over again.
+fn handed(rt: &impl Abort, node: &mut Coordinator, frame: &str) -> Out {
+    for _ in 0..9 {
+        match node.on(Event::Frame(frame.as_bytes())) {
+            Ok(out) => return out,
+            Err(fault) => assert!(rt; fault == NodeFault::NoMemory, "{frame}: {fault}"),
+        }
+    }
+    panic!(rt; "{frame}: no answer")
 }
 
 // A coordinator that starts from that ledger grants what became open: its first open table is another, so all

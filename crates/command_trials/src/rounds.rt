@@ -1,6 +1,7 @@
 // The rounds of `bb run`, as its workers see them.
 use crate::probes::Probe;
 use crate::streams::{ALWAYS, Sink, file_of};
+use crate::texts::assert_bytes;
 use json_report::Form;
 use node_commands::{NoLedger, Run, cmd_run};
 use options::{Outcome, Search, Settling};
@@ -10,7 +11,6 @@ use std::io;
 use std::process::Abort;
 use std::test::Fail;
 use std::time::{Clock, Duration};
-use trial_tools::assert_bytes;
 
 /// A clock that has stopped.
 #[derive(Drop)]

@@ -1,5 +1,6 @@
 // `bb run` over ledgers and clocks of the tests' own.
 use crate::streams::{ALWAYS, Sink, file_of};
+use crate::texts::assert_bytes;
 use backward::BackwardFinder;
 use cert::{Finder, Finders};
 use far::FarFinder;
@@ -16,7 +17,6 @@ use std::io;
 use std::process::Abort;
 use std::test::Fail;
 use std::time::{Clock, Duration};
-use trial_tools::assert_bytes;
 use wire::MemLedger;
 
 const STEPS: u64 = 1_000;

@@ -3,6 +3,7 @@ ghost use Rattle.options.specs.Ranges.{AreWithinRanges};
 
 use crate::desk::{Desk, Page, Paper};
 use crate::streams::{ALWAYS, Sink, Source};
+use crate::texts::assert_bytes;
 use dispatch::carry_out;
 use ledger_commands::{FileLedger, Host};
 use loopback::{Sockets, move_all};
@@ -13,7 +14,6 @@ use std::io::{self, ErrorKind, Read, Write};
 use std::process::Abort;
 use std::test::Fail;
 use std::time::{Clock, Duration};
-use trial_tools::assert_bytes;
 use wire::{Link, MemLink};
 
 // A desk has no sockets.

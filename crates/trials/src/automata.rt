@@ -1,10 +1,10 @@
 // Automata with their answers, texts that aren't automata, and what the finder finds.
+use crate::texts::{number_of, parted, table_of};
 use evidence::{Evidence, Refused, Verdict};
 use far::{Far, FarFinder, OwnedFar};
 use machine_text::{Dir, Table};
 use std::alloc::Global;
 use std::process::Abort;
-use trial_tools::{number_of, parted, table_of};
 
 // The automata of a size that the texts are, if they are such.
 fn automata_of(

@@ -1,8 +1,8 @@
 // Checks and searches of tables whose answers come from elsewhere.
+use crate::texts::{number_of, parted, table_of};
 use backward::{Backward, BackwardFinder, MAX_DEPTH};
 use evidence::{Evidence, Refused, Verdict};
 use std::process::Abort;
-use trial_tools::{number_of, parted, table_of};
 
 #[test]
 fn claims_are_checked(rt: HostRuntime) {

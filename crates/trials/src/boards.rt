@@ -1,4 +1,5 @@
 // A board of the tree of one state, and offers that it refuses.
+use crate::texts::{parted, table_of};
 use cert::Record;
 use evidence::{Refused, Verdict};
 use ledger::{Board, BoardFault, OfferFault, Status, Taken, Tally};
@@ -6,7 +7,6 @@ use machine_text::Table;
 use std::alloc::Global;
 use std::process::Abort;
 use std::test::Fail;
-use trial_tools::{parted, table_of};
 
 // What a board answers to a record that is offered. Memory may be refused once.
 pub fn offered(rt: &impl Abort, board: &mut Board, text: &str) -> Result<Taken, OfferFault> {

@@ -1,9 +1,9 @@
 // What a board says of the best of a table, and two boards merged.
 use crate::boards::{board_of, offered, take};
+use crate::texts::table_of;
 use ledger::{Board, Bound, MergeFault, Status, Taken};
 use std::alloc::Global;
 use std::process::Abort;
-use trial_tools::table_of;
 
 fn bounds_are(rt: &impl Abort, board: &Board, rows: &[(&str, Bound)]) {
     for (text, bound) in rows {

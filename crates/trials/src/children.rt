@@ -1,10 +1,10 @@
 // Tables of a tree by their texts.
 ghost use Rattle.std.specs.Prelude.{◌≤◌, length};
 
+use crate::texts::table_of;
 use machine_text::{State, Sym, TEXT_BYTES};
 use std::process::Abort;
 use tnf::{Children, children, in_order, root, used};
-use trial_tools::table_of;
 
 fn children_of(rt: &impl Abort, text: &str, q: u8, s: Sym) -> Children
     ensures { length result ≤ 24 }

@@ -1,10 +1,11 @@
 // A coordinator's answers to frames and ticks, and what it makes of ledgers.
+use crate::nodes::{answers, handed};
+use crate::texts::{assert_bytes, table_of};
 use lease_core::{Coordinator, StartFault};
 use ledger::Status;
 use std::alloc::Global;
 use std::process::Abort;
 use std::test::Fail;
-use trial_tools::{answers, assert_bytes, handed, table_of};
 use wire::{Event, Node, NodeFault, Note, Out};
 
 /// A coordinator for one state that begins with an empty ledger, and the header that it appends.

@@ -1,10 +1,10 @@
 // Certificates with their answers, and machines that are known to loop.
+use crate::texts::{number_of, parted, table_of};
 use evidence::{Evidence, Refused, Verdict};
 use loops::{Cycle, CycleFinder, Translated, TranslatedFinder};
 use machine_text::{Dir, Table};
 use std::alloc::Global;
 use std::process::Abort;
-use trial_tools::{number_of, parted, table_of};
 
 const NEVER: Result<Verdict, Refused> = Ok(Verdict::Never);
 

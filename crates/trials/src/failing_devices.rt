@@ -1,10 +1,10 @@
 // A coordinator over a ledger or a link in memory that fails at each of its calls in turn.
+use crate::texts::assert_bytes;
 use lease_core::{Coordinator, StartFault};
 use ledger::Status;
 use std::alloc::Global;
 use std::process::Abort;
 use std::test::Fail;
-use trial_tools::assert_bytes;
 use wire::{Lines, MemLedger, MemLink, Node, NodeFault, Out, Turn, TurnFault, begin, turn};
 
 // What comes to a coordinator for one state, and what it answers to each. The last two are known by then.

@@ -1,6 +1,8 @@
 // Records with a bit changed, and frames that are cut off, too long, or for the other role.
 use crate::coordinators::begun;
 use crate::messages::fault_of;
+use crate::nodes::{answers, handed};
+use crate::texts::table_of;
 use crate::workers::idle;
 use cert::{Record, judge};
 use evidence::{Refused, Verdict};
@@ -9,7 +11,6 @@ use machine_text::{Dir, State, Sym, Table};
 use std::alloc::Global;
 use std::process::Abort;
 use std::test::Fail;
-use trial_tools::{answers, handed, table_of};
 use wire::{Event, MsgFault, Node, Note};
 
 // Records that are accepted, of each kind.

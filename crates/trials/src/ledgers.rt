@@ -1,4 +1,5 @@
 // Ledgers, whole, cut and spoilt. What wants memory is tried again once.
+use crate::texts::{assert_bytes, table_of};
 use cert::RecordFault;
 use evidence::Refused;
 use ledger::{Board, Left, LoadFault, OfferFault, Unkept, peek_root};
@@ -6,7 +7,6 @@ use machine_text::{Table, TextFault};
 use std::alloc::Global;
 use std::process::Abort;
 use tnf::in_order;
-use trial_tools::{assert_bytes, table_of};
 
 const LEDGER: &str = "bb-ledger 1 ------\n------ H 1\n0RA--- T 0 1 R\n1RA--- T 0 1 R\n";
 

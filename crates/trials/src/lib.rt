@@ -30,6 +30,8 @@ mod loaders;
 #[cfg(test)]
 mod messages;
 #[cfg(test)]
+mod nodes;
+#[cfg(test)]
 mod plain_tapes;
 #[cfg(test)]
 mod position_set_search;
@@ -45,6 +47,8 @@ mod scores;
 mod tables;
 #[cfg(test)]
 mod tapes;
+#[cfg(test)]
+mod texts;
 #[cfg(test)]
 mod versions;
 #[cfg(test)]

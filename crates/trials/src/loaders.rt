@@ -1,11 +1,11 @@
 // Ledgers that are loaded in pieces. What wants memory is tried again.
+use crate::texts::table_of;
 use cert::RecordFault;
 use ledger::{Board, Left, LoadFault, Loader, Unkept};
 use std::alloc::Global;
 use std::process::Abort;
 use std::test::Fail;
 use tnf::in_order;
-use trial_tools::table_of;
 
 const LEDGER: &str = "bb-ledger 1 ------\n------ H 1\n0RA--- T 0 1 R\n1RA--- T 0 1 R\n";
 

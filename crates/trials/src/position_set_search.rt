@@ -1,11 +1,11 @@
 // What is searched of closed position sets, and lists that keep their own text. All sets here were computed
 // by a program apart from this one, from the definition.
+use crate::texts::{assert_bytes, number_of, parted, table_of};
 use evidence::{Evidence, Verdict};
 use machine_text::Table;
 use ngram_cps::{Ngram, NgramFinder, OwnedNgram};
 use std::alloc::Global;
 use std::process::Abort;
-use trial_tools::{assert_bytes, number_of, parted, table_of};
 
 // Machines with the least width at which they have a closed position set, and its lists.
 const SETS: &str = "\

@@ -1,4 +1,5 @@
 // Records of the field's champions, and lines that are none.
+use crate::texts::{number_of, parted};
 use cert::{Certificate, OwnedCertificate, OwnedRecord, Record, RecordFault, judge, judge_on};
 use evidence::{Ending, Refused, Verdict};
 use machine_text::{Pair, State, Sym, TextFault};
@@ -6,7 +7,6 @@ use run::HaltsIn;
 use std::alloc::Global;
 use std::process::Abort;
 use std::test::Fail;
-use trial_tools::{number_of, parted};
 
 // Texts behind the number of their fault, 0 where there is none. A space at the end of a line belongs to its text.
 const TEXTS: &str = "\

@@ -1,11 +1,11 @@
 // Step counts and a tape of the field, and runs for which memory is refused.
+use crate::texts::table_of;
 use evidence::{Evidence, Refused, Verdict};
 use machine_text::{Pair, State, Sym, Table};
 use run::{HaltFinder, Halted, HaltsIn, MAX_HALT_STEPS, Runner, Step};
 use std::alloc::Global;
 use std::process::Abort;
 use std::test::Fail;
-use trial_tools::table_of;
 
 // The champions of 1 to 4 states, with Radó's numbers S(1) to S(4) and their scores.
 const CHAMPIONS: [(&str, u64, u64); 4] = [

@@ -1,5 +1,6 @@
 // Scores: how many ones a table leaves where it halts, in records, in runs and on boards.
 use crate::boards::{are_tables, board_of, offered, take};
+use crate::texts::{number_of, parted, table_of};
 use evidence::{Evidence, Refused, Verdict};
 use ledger::{Board, Bound, Status, Taken};
 use machine_text::Table;
@@ -7,7 +8,6 @@ use run::{HaltFinder, HaltsIn, Runner, Step};
 use std::alloc::Global;
 use std::process::Abort;
 use std::test::Fail;
-use trial_tools::{number_of, parted, table_of};
 
 // The steps in which a table halts, the ones on its tape before the last of them, and after it. The tables are those of
 // 1 to 3 states with the greatest number of steps or the greatest score, the champion of four states, and others; the

@@ -3,6 +3,8 @@ use crate::boards::board_of;
 use crate::coordinators::{begun, started};
 use crate::ledgers::written;
 use crate::loaders::{loaded_in_pieces, loaded_whole};
+use crate::nodes::{answers, handed};
+use crate::texts::{assert_bytes, number_of, parted, with_newlines};
 use crate::workers;
 use cert::Record;
 use lease_core::Coordinator;
@@ -10,7 +12,6 @@ use ledger::{Board, Left, LoadFault, OfferFault, Taken, Unkept};
 use std::alloc::Global;
 use std::process::Abort;
 use std::test::Fail;
-use trial_tools::{answers, assert_bytes, handed, number_of, parted, with_newlines};
 use wire::Note;
 
 // Ledgers of one state, with `|` for a newline, each with its version, what is left of it, and how its board is written:

@@ -1,4 +1,6 @@
 // A worker's answers to frames, ticks and time to work.
+use crate::nodes::{answers, handed};
+use crate::texts::table_of;
 use cert::{Finder, Finders};
 use lease_core::{StartFault, Worker};
 use ledger::Board;
@@ -6,7 +8,6 @@ use run::HaltFinder;
 use std::alloc::Global;
 use std::process::Abort;
 use std::test::Fail;
-use trial_tools::{answers, handed, table_of};
 use wire::{Event, Node, NodeFault, Note, Out};
 
 /// A worker with the id 7, which looks for halting counts.

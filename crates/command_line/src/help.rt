@@ -8,8 +8,9 @@ pub(crate) const STATUSES: &str =
 3 out of memory; 4 a stream or a file failed.";
 
 pub(crate) const REPORT: &str =
-    "A ledger is the line `bb-ledger 1 TABLE`, which names the root of a tree, and then records, one a
-line. Each record is judged again; what stands behind the first line that can't be taken isn't kept.
+    "A ledger is the line `bb-ledger 2 TABLE`, which names the root of a tree, and then records, one a
+line; `bb-ledger 1 TABLE` begins one of version 1, whose records of the kind H have no score. Each record is
+judged again; what stands behind the first line that can't be taken isn't kept.
 A file is read as far as it went when it was opened, standard input (`-`) to its end; a file that is named
 so is `./-`.
 
@@ -25,11 +26,14 @@ The report has these lines
   open N             open tables
   best K             the greatest recorded number of steps, or `none`
   champion TABLE     a line for each table recorded with that number
+  ones S             the greatest score, the ones on the tape after the halting step, or `none`
+  ones_champion TABLE   a line for each table with that score
   holdout TABLE      a line for each holdout
   left LINE          the number of the first line that wasn't kept, where there is one
 
 With --json it is one object and a newline: best (a number or null), champions, halting, holdout_tables,
-holdouts, never, nodes, open, root, status. It doesn't say what wasn't kept; the status is the same.
+holdouts, never, nodes, ones (a number or null), ones_champions, open, root, status. It doesn't say what
+wasn't kept; the status is the same.
 
 Exit status: 0 the report says complete, and all was kept; 1 it doesn't, or the ledger was refused
 (`refused 404` no header with a readable table, `refused 405` its table doesn't name its states in order);

@@ -31,22 +31,38 @@ impl AutomataSearch {
         Ok(AutomataSearch { levels, depth: 0 })
     }
 
-    /// An automaton of a table, of so many states at most, by all stages in their order, scaled by a budget; none
-    /// where none is found. In the first stage that names as many states as there may be, no other state is added,
-    /// and the further ones are left out.
+    /// An automaton of a table, of so many states at most, by the stages in their order, scaled by a budget; none
+    /// where none is found. The stage that comes to as many states as there may be is the last one: first one state
+    /// is left for what is never called, and then all are named.
     pub fn find(&mut self, table: &Table, most_states: u8, budget: u64) -> Option<Automaton>
         ensures { IfSome result (λ a. a.size ≤ most_states) }
     {
-        if most_states == 0 {
-            return None;
-        }
         for stage in STAGES {
-            let found = self.find_in_stage(table, stage.scaled(budget), most_states);
-            if found.is_some() || stage.named >= most_states {
+            let stage = stage.scaled(budget);
+            if most_states <= 1 || stage.named >= most_states - 1 {
+                return self.find_last(table, stage, most_states);
+            }
+            let found = self.find_in_stage(table, stage, most_states);
+            if found.is_some() {
                 return found;
             }
         }
         None
+    }
+
+    // An automaton by the last stage.
+    fn find_last(&mut self, table: &Table, stage: Stage, most_states: u8) -> Option<Automaton>
+        ensures { IfSome result (λ a. a.size ≤ most_states) }
+    {
+        if most_states > 1 {
+            let named = most_states - 1;
+            let found = self.find_in_stage(table, Stage { named, ..stage }, most_states);
+            if found.is_some() {
+                return found;
+            }
+        }
+        let named = most_states;
+        self.find_in_stage(table, Stage { named, ..stage }, most_states)
     }
 
     /// An automaton of a table, by one stage: on the right side first, and then on the left.
@@ -75,6 +91,9 @@ impl AutomataSearch {
     ) -> Option<Automaton>
         ensures { IfSome result (λ a. a.size ≤ most_states) }
     {
+        if most_states == 0 {
+            return None;
+        }
         let sided = SidedTable::new(table, side);
         let limit = stage.named.min(most_states).min(MAX_SIZE);
         self.depth = 0;

@@ -94,14 +94,14 @@ impl AutomataSearch {
         if most_states == 0 {
             return None;
         }
+        let most = most_states.min(MAX_SIZE);
         let sided = SidedTable::new(table, side);
-        let limit = stage.named.min(most_states).min(MAX_SIZE);
         self.depth = 0;
         self.levels[0].begin(&sided);
-        for node in 0..stage.nodes {
+        for attempt in 0..stage.tries {
             let level = &mut self.levels[self.depth];
-            if level.settle(&sided, limit, most_states) {
-                return level.automaton(side, most_states);
+            if level.settle(&sided, stage.named.min(most), most) {
+                return level.automaton(side, most);
             }
             if !self.descend(&sided) {
                 return None;

@@ -1,9 +1,9 @@
-// A node of the search: the two automata with the transitions so far, and a transition to be decided next.
+// A level of the search: the two automata with the transitions so far, and a transition to be decided next.
 ghost use Rattle.std.specs.Prelude.{◌<◌, ◌≤◌, IfSome};
 
 use crate::automaton::Automaton;
 use crate::edges::Edges;
-use crate::limits::{WIDTH, symbol_of};
+use crate::limits::{STATE_NODES, WIDTH, symbol_of};
 use crate::sided_table::SidedTable;
 use crate::transitions::{Bits, Transitions};
 use machine_text::Dir;
@@ -78,7 +78,7 @@ impl Level {
         ];
         let is_full = self.first.named() >= most_states;
         for number in 0..2 * self.first.named() as usize {
-            let called = (pushed[number % 2] >> (WIDTH * (number / 2))) & 0xff != 0;
+            let called = (pushed[number % 2] >> (WIDTH * (number / 2))) & STATE_NODES != 0;
             if (called || is_full) && !self.first.is_decided(number) {
                 return Some(number);
             }

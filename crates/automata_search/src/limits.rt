@@ -22,6 +22,9 @@ pub(crate) const MAX_ROWS: usize = 2 * MAX_NODES;
 
 const _: () = prove!(MAX_STATES as usize <= WIDTH);
 
+// The nodes of the first automaton's first state.
+pub(crate) const STATE_NODES: Set = 0xff;
+
 // A bit for the first node of each state.
 const FIRST_NODES: Set = 0x0101_0101_0101_0101_0101_0101_0101_0101;
 

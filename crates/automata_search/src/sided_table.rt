@@ -1,12 +1,12 @@
 // A table as the automata of one side see it.
 ghost use Rattle.std.specs.Prelude.{◌<◌, IfSome};
 
-use crate::limits::{nodes_of, symbol_of};
+use crate::limits::{WIDTH, nodes_of, symbol_of};
 use crate::node_pairs::NodePairs;
 use machine_text::{Dir, Entry, State, Sym, Table};
 
-// How many pairs of a state and a symbol there may be.
-pub(crate) const MAX_PAIRS: usize = 16;
+// How many pairs of a state and a symbol there may be, numbered 2 * state + symbol.
+pub(crate) const MAX_PAIRS: usize = 2 * WIDTH;
 
 // What the table does at a pair: whether the head goes ahead, what it writes, and the next state.
 #[derive(Clone, Copy)]
@@ -17,9 +17,10 @@ pub(crate) struct Step {
     ghost small: { next < 8 },
 }
 
+// The pairs as they are for one side, and the nodes of those of each kind.
 #[derive(Clone, Copy)]
 pub(crate) struct SidedTable {
-    // by 2 * state + symbol
+    // by the number of the pair
     pub steps: [Option<Step>; MAX_PAIRS],
     // where the table halts
     pub halting: NodePairs,

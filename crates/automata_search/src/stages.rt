@@ -1,60 +1,60 @@
 // How far a search goes, and in what order.
 ghost use Rattle.std.specs.Prelude.{◌≡◌, ◌+◌, ◌*◌, ◌^◌, ◌<◌, ◌≤◌};
 
-/// Automata of so many named states, of which a search looks at so many nodes on each side.
+/// Automata of so many named states, and how many of them are tried.
 #[derive(Clone, Copy, Debug, PartialEq, Eq)]
 pub struct Stage {
     /// How many states are named: those that are called. One more may follow them, for what is never called.
     pub named: u8,
-    /// How many nodes of the search tree are looked at on each side.
-    pub nodes: u64,
+    /// How many automata are tried on each side, as far as they have grown: these are the nodes of the search tree.
+    pub tries: u64,
 }
 
 /// The stages, by which small automata come first: each is tried on what the ones before it leave.
 pub const STAGES: [Stage; 7] = [
     Stage {
         named: 2,
-        nodes: 60,
+        tries: 60,
     },
     Stage {
         named: 3,
-        nodes: 60,
+        tries: 60,
     },
     Stage {
         named: 6,
-        nodes: 100,
+        tries: 100,
     },
     Stage {
         named: 8,
-        nodes: 500,
+        tries: 500,
     },
     Stage {
         named: 10,
-        nodes: 2_000,
+        tries: 2_000,
     },
     Stage {
         named: 12,
-        nodes: 4_000,
+        tries: 4_000,
     },
     Stage {
         named: 15,
-        nodes: 4_000,
+        tries: 4_000,
     },
 ];
 
-/// The budget at which a stage has its own number of nodes.
+/// The budget at which a stage has its own number of tries.
 pub const USUAL_BUDGET: u64 = 1_000;
 
 impl Stage {
-    /// The stage with its nodes in proportion to a budget, rounded up.
+    /// The stage with its tries in proportion to a budget, rounded up.
     pub fn scaled(self, budget: u64) -> Stage
         ensures named { result.named ≡ self.named }
-        ensures enough { self.nodes * budget < 2 ^ 64 → self.nodes * budget ≤ 1000 * result.nodes }
-        ensures no_more { 1000 * result.nodes < self.nodes * budget + 1000 }
+        ensures enough { self.tries * budget < 2 ^ 64 → self.tries * budget ≤ 1000 * result.tries }
+        ensures no_more { 1000 * result.tries < self.tries * budget + 1000 }
     {
         Stage {
             named: self.named,
-            nodes: self.nodes.saturating_mul(budget).div_ceil(USUAL_BUDGET),
+            tries: self.tries.saturating_mul(budget).div_ceil(USUAL_BUDGET),
         }
     }
 }

@@ -24,7 +24,7 @@ pub struct AutomataSearch {
 impl AutomataSearch {
     /// A search, with the memory for the largest automata: 140 kilobytes.
     pub fn new(alloc: Global) -> Result<AutomataSearch, AllocError> {
-        let mut levels = Vec::new(alloc);
+        let mut levels = Vec::with_capacity(alloc, LEVELS)?;
         for level in 0..LEVELS {
             levels.push(Level::new())?;
         }

@@ -27,34 +27,28 @@ pub enum Found {
 #[derive(Drop)]
 pub struct LoopFinder {
     alloc: Global,
-    /// The time at which it first looks for what repeats, in steps; then at each time four times as late.
-    pub first: u64,
-    /// The most steps that it carries out.
-    pub steps: u64,
     runner: Option<Runner>,
     history: History,
     borders: Borders,
 }
 
 impl LoopFinder {
-    /// A finder that carries out so many steps at most, and none beyond `MAX_TIME`, and looks for what repeats from a
-    /// time on.
-    pub fn new(alloc: Global, first: u64, steps: u64) -> LoopFinder {
+    /// A finder that has run nothing yet. Takes no memory.
+    pub fn new(alloc: Global) -> LoopFinder {
         LoopFinder {
             alloc,
-            first,
-            steps,
             runner: None,
             history: History::new(alloc),
             borders: Borders::new(alloc),
         }
     }
 
-    /// What the run of a table shows within the finder's steps and the budget; none where it finds nothing. No contract
-    /// says what is found, nor that it stands: whoever takes it judges it.
-    pub fn search(&mut self, t: &Table, budget: u64) -> Result<Option<Found>, NoMemory> {
+    /// What the run of a table shows within so many steps, and by `MAX_TIME`; none where it finds nothing. It looks for
+    /// what repeats at time `first`, at each time four times as late, and at the end. No contract says what is found,
+    /// nor that it stands: whoever takes it judges it.
+    pub fn search(&mut self, t: &Table, first: u64, steps: u64) -> Result<Option<Found>, NoMemory> {
         let mut runner = begun(self.alloc, self.runner.take(), t)?;
-        let found = self.found_in(&mut runner, t, self.steps.min(budget).min(MAX_TIME));
+        let found = self.found_in(&mut runner, t, first, steps.min(MAX_TIME));
         self.runner = Some(runner);
         found
     }
@@ -64,10 +58,11 @@ impl LoopFinder {
         &mut self,
         runner: &mut Runner,
         t: &Table,
+        first: u64,
         limit: u64,
     ) -> Result<Option<Found>, NoMemory> {
         self.history.clear();
-        let mut checkpoint = self.first.min(limit);
+        let mut checkpoint = first.min(limit);
         for time in 0..limit {
             if runner.steps() >= MAX_TIME {
                 return Ok(None);

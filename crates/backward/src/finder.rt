@@ -12,6 +12,9 @@ use machine_text::Table;
 use std::alloc::Global;
 use tape::NoMemory;
 
+// The depths to which a narrow search looks before it goes further.
+const FIRST_DEPTHS: [u64; 3] = [3, 6, 12];
+
 /// Searches the least depth at which backward reasoning shows that a table never halts.
 #[derive(Drop)]
 pub struct BackwardFinder {
@@ -55,6 +58,27 @@ impl BackwardFinder {
             return Ok(None);
         }
         Ok(Some(Backward { depth }))
+    }
+
+    /// A depth at which the claim stands, looked for among few paths: to a depth of 3, then 6 and 12, and then as far as
+    /// the finder goes back; it gives up where the last depth has more than so many paths. None where it finds none, or
+    /// gives up. No contract says what is found.
+    pub fn search_narrow(&mut self, t: &Table, paths: u64) -> Result<Option<Backward>, NoMemory>
+        ensures found { IfOk result (λ o. IfSome o (λ e. IsBackward t.now.states (entry_of t.now) e.depth
+            × (IsTooWide t.now e.depth → ⊥)
+            × (e.depth ≤ min self.old.depth depth_limit))) }
+        ensures same { self.new.depth ≡ self.old.depth }
+    {
+        for depth in FIRST_DEPTHS {
+            let found = self.search(t, depth)?;
+            if found.is_some() {
+                return Ok(found);
+            }
+            if self.paths.counts.last().is_some_and(|count| *count > paths) {
+                return Ok(None);
+            }
+        }
+        self.search(t, u64::MAX)
     }
 }
 

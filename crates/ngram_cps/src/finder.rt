@@ -75,6 +75,32 @@ impl NgramFinder {
         Ok(None)
     }
 
+    /// A closed position set of the table of just this width, at most the finder's; none where it finds none. What it
+    /// gives stands, and is within the limits. The set has 32 members for each step of the budget at most.
+    pub fn search_at(
+        &mut self,
+        t: &Table,
+        width: u64,
+        budget: u64,
+    ) -> Result<Option<OwnedNgram>, NoMemory>
+        ensures found { IfOk result (λ o. IfSome o (λ e. IsPositionSet (owned_lists e) t.now)) }
+        ensures lists { IfOk result (λ o. IfSome o (λ e. AreLists (owned_lists e))) }
+        ensures width { IfOk result (λ o. IfSome o (λ e. (owned_lists e).width ≡ width)) }
+        ensures short { IfOk result (λ o. IfSome o (λ e.
+            length (owned_lists e).left + length (owned_lists e).right + length (owned_lists e).local ≤ list_byte_limit)) }
+        ensures same { self.new.width ≡ self.old.width }
+    {
+        if width == 0 || width > self.width.min(MAX_WIDTH as u64) {
+            return Ok(None);
+        }
+        let symbols = width as u8;
+        self.search_width(
+            t,
+            Width { symbols },
+            budget.saturating_mul(MEMBERS_PER_STEP),
+        )
+    }
+
     // A closed position set of a width, with so many members at most.
     fn search_width(
         &mut self,

@@ -5,6 +5,7 @@ use Rattle.std.proofs.lemmas.Bool.{ne_eqb}
 use Rattle.std.proofs.lemmas.List.{take_more, map-append, take-append-drop, append_assoc, drop-set-lt, drop_all, get_or-set_same, length-set}
 use Rattle.std.proofs.Math.Seq.{drop-cons}
 use Rattle.std.proofs.lemmas.Int.Digits.{digits_of_step, length-digits_of_step, length-digits_of-le, number_push, number_after_append, number_after_ge}
+use Rattle.far.specs.Limits.{word_bits}
 use Rattle.far.specs.Texts.{hex_glyph, hex_value, hex_text, hex_worth}
 use Rattle.far.specs.inside.Reading.{IsWorth, IsWritten}
 
@@ -29,12 +30,12 @@ pub worth_first : (text : List ℕ) → IsWorth text 0 0
 worth_first text = record { worth = refl; small = omega arith }
 
 -- nothing is written yet
-pub written_first : (number : ℕ) (buf : List ℕ) → number < 2 ^ 64 → length buf ≡ 16 → IsWritten number number 16 buf
+pub written_first : (number : ℕ) (buf : List ℕ) → number < 2 ^ word_bits → length buf ≡ word_bits / 4 → IsWritten number number (word_bits / 4) buf
 written_first number buf small size = record {
-  room = length-digits_of-le 16 16 number (omega arith) (omega arith);
+  room = length-digits_of-le 16 (word_bits / 4) number (omega arith) (omega arith);
   end = omega arith;
   size = size;
-  digits = ap (λ xs. map hex_glyph (digits_of 16 number) ++ xs) (drop_all 16 buf (omega arith)) ∙ append-nil (map hex_glyph (digits_of 16 number));
+  digits = ap (λ xs. map hex_glyph (digits_of 16 number) ++ xs) (drop_all (word_bits / 4) buf (omega arith)) ∙ append-nil (map hex_glyph (digits_of 16 number));
 }
   where
     append-nil : (xs : List ℕ) → xs ++ [] ≡ xs

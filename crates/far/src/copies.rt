@@ -1,5 +1,6 @@
 // Numbers that are copied from one place to another.
 ghost use Rattle.std.specs.Prelude.{◌≡◌, ◌++◌, ◌<◌, ◌≤◌, ℕ, OnOk, length, take, slice_index};
+ghost use Rattle.far.specs.Limits.{move_limit, row_limit};
 
 use crate::limits::{MAX_MOVES, MAX_ROWS, Set};
 use evidence::NoMemory;
@@ -16,7 +17,7 @@ pub(crate) fn append_moves(delta: &[u8], numbers: &mut Vec<Set>) -> Result<(), N
 
 // Those numbers again.
 pub(crate) fn moves_from(numbers: &[Set]) -> [u8; MAX_MOVES]
-    requires count { length numbers.now ≤ 16 }
+    requires count { length numbers.now ≤ move_limit }
     requires small { (k : ℕ) → slice_index numbers.now k < 256 }
     ensures { take (length numbers.now) result ≡ numbers.now }
 {
@@ -29,7 +30,7 @@ pub(crate) fn moves_from(numbers: &[Set]) -> [u8; MAX_MOVES]
 
 // Rows from a list of them.
 pub(crate) fn rows_from(numbers: &[Set]) -> [Set; MAX_ROWS]
-    requires { length numbers.now ≤ 96 }
+    requires { length numbers.now ≤ row_limit }
     ensures { take (length numbers.now) result ≡ numbers.now }
 {
     let mut rows = [0; MAX_ROWS];

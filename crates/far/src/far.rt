@@ -1,7 +1,7 @@
 // Two automata, and the evidence that they fit a table.
 ghost use Rattle.std.specs.Prelude.{◌≡◌, ◌+◌, ◌*◌, ◌≤◌, take};
 ghost use Rattle.machine_text.specs.Limits.{state_limit};
-ghost use Rattle.far.specs.Limits.{size_limit};
+ghost use Rattle.far.specs.Limits.{size_limit, pair_limit};
 ghost use Rattle.far.specs.Automata.{automata, AreAutomata, AreSized};
 
 use crate::hexadecimal::hex_number;
@@ -157,7 +157,7 @@ impl Far {
     // The number of the halt state.
     pub(crate) fn last(&self) -> usize
         ensures last { result ≡ last (automata_of self.now) }
-        ensures limit { result ≤ 48 }
+        ensures limit { result ≤ pair_limit }
         ensures some { 1 ≤ result }
     {
         self.size as usize * self.states as usize

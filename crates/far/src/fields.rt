@@ -10,7 +10,7 @@ ghost use Rattle.far.specs.Limits.{size_limit};
 ghost use Rattle.far.specs.Texts.{hex_text, delta_text, rows_text};
 
 use crate::far::Far;
-use crate::hexadecimal::{MAX_DIGITS, hex_text};
+use crate::hexadecimal::{MAX_DIGITS, hex_glyph, hex_text};
 use crate::limits::Set;
 use evidence::{NoMemory, side_of, side_text};
 use machine_text::Dir;
@@ -95,12 +95,12 @@ fn numbers_from(
 }
 
 fn append_delta(delta: &[u8], out: &mut Vec<u8>) -> Result<(), NoMemory>
-    requires { (k : ℕ) → slice_index delta.now k < 10 }
+    requires { (k : ℕ) → slice_index delta.now k < 16 }
     ensures ok { OnOk result (out.new.items ≡ out.old.items ++ delta_text delta.now) }
     ensures kept { take (length out.old.items) out.new.items ≡ out.old.items }
 {
     for target in delta {
-        out.push(b'0' + *target)?;
+        out.push(hex_glyph(*target))?;
     }
     Ok(())
 }

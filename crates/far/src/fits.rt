@@ -3,6 +3,7 @@ ghost use Rattle.std.specs.Prelude.{◌≡◌, ◌↔◌, ◌+◌, ◌*◌, ◌<
 ghost use Rattle.machine_text.specs.Packed.{entry_of, symbol_number};
 ghost use Rattle.far.specs.Automata.{AreAutomataOf, has, row_at, target};
 ghost use Rattle.far.specs.Far.{automata_of};
+ghost use Rattle.far.specs.Limits.{pair_limit, word_bits};
 ghost use Rattle.far.specs.inside.Steps.{last, ReachesIn, FitsEntry, FitsPair, EachFits, KeepsBlank};
 
 use crate::far::Far;
@@ -148,7 +149,7 @@ impl Far {
         requires second { f < self.now.states }
         ensures number { result ≡ q * self.now.states + f }
         ensures below { result < last (automata_of self.now) }
-        ensures limit { result < 48 }
+        ensures limit { result < pair_limit }
     {
         q * self.states as usize + f
     }
@@ -183,7 +184,7 @@ fn is_ahead(dir: Dir, side: Dir) -> bool
 
 // Whether the halt state, if it is in a set, is in a row too.
 fn halts_in(set: Set, row: Set, last: usize) -> bool
-    requires { last < 64 }
+    requires { last < word_bits }
     ensures { IsTrue result ↔ (IsTrue (has set last) → IsTrue (has row last)) }
 {
     !has(set, last) || has(row, last)

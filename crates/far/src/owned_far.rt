@@ -13,7 +13,7 @@ use machine_text::Dir;
 use std::alloc::Global;
 
 /// The same claim as `Far`, with as much memory as its numbers need: `Far` itself has room for the largest ones,
-/// some 800 bytes.
+/// some 3,600 bytes.
 #[derive(Debug, Drop)]
 pub struct OwnedFar {
     states: u8,

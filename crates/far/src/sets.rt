@@ -1,13 +1,14 @@
-// Sets of numbers below 64, as the bits of one.
+// Sets of numbers, as the bits of one.
 ghost use Rattle.std.specs.Prelude.{◌≡◌, ◌↔◌, ◌+◌, ◌*◌, ◌<◌, ◌≤◌, length, IsTrue};
 ghost use Rattle.far.specs.Automata.{has};
+ghost use Rattle.far.specs.Limits.{word_bits};
 ghost use Rattle.far.specs.inside.Sets.{Gathers, IsPart};
 
 use crate::limits::Set;
 
 // Whether a number is in a set.
 pub(crate) fn has(set: Set, k: usize) -> bool
-    requires { k < 64 }
+    requires { k < word_bits }
     ensures { result ≡ has set k }
 {
     (set >> k) & 1 == 1
@@ -16,7 +17,7 @@ pub(crate) fn has(set: Set, k: usize) -> bool
 // What is in the rows of the members of a set: number j has the row 2j + r.
 pub(crate) fn union_over(rows: &[Set], set: Set, r: usize, reach: usize) -> Set
     requires symbol { r < 2 }
-    requires reach { reach < 64 }
+    requires reach { reach < word_bits }
     requires rows { 2 * reach ≤ length rows.now }
     ensures { Gathers rows.now set r reach result }
 {

@@ -7,4 +7,5 @@ pub mod RoundTrip
 pub mod Short
 pub mod Tested
 pub mod Blank
+pub mod Written
 pub mod FieldLaws

@@ -3,8 +3,8 @@
 ghost use Rattle.std.specs.Prelude.{◌≡◌, ◌↔◌, ◌+◌, ◌*◌, ◌<◌, ◌≤◌, ℕ, IsTrue, IfSome, slice_index};
 ghost use Rattle.far.specs.Limits.{size_limit, pair_limit, row_limit};
 
-use crate::far::Far;
 use crate::limits::{MAX_MOVES, MAX_PAIRS, MAX_ROWS, Set};
+use crate::unpacked::Unpacked;
 use evidence::NoMemory;
 use machine_text::{Dir, Entry, State, Sym, Table};
 use std::alloc::Global;
@@ -103,8 +103,8 @@ impl Growing {
     }
 
     // The automata, once they are complete.
-    pub fn automata(&self) -> Option<Far> {
-        Far::from_numbers(
+    pub fn automata(&self) -> Option<Unpacked> {
+        Unpacked::of_numbers(
             self.table.states(),
             self.side,
             self.size,

@@ -105,7 +105,7 @@ delta_from_comma : (delta : List ℕ) → All (λ b. 44 ≤ b) (delta_text delta
 delta_from_comma [] = All-nil (λ b. 44 ≤ b)
 delta_from_comma (d ∷ ds) = All-cons (λ b. 44 ≤ b) (hex_glyph d) (delta_text ds) (let high = glyph_above d in omega arith) (delta_from_comma ds)
 
-digit_back : (size d : ℕ) → d < size → IsDigit size (hex_glyph d)
+pub digit_back : (size d : ℕ) → d < size → IsDigit size (hex_glyph d)
 digit_back size d small = record { form = ap hex_glyph (value_back d); small = subst (λ k. k < size) (sym (value_back d)) small }
 
 delta_back : (size : ℕ) (delta : List ℕ) → length delta ≡ 2 * size → ((k : ℕ) → get_or delta k 0 < size) → IsDelta size (delta_text delta)

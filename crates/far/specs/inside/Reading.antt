@@ -5,10 +5,12 @@ use Rattle.far.specs.Limits.{word_bits, move_limit, pair_limit, row_limit}
 use Rattle.text.specs.Parts.{parts_of}
 use Rattle.far.specs.Texts.{hex_glyph, hex_worth, IsDigit, IsHex, delta_of}
 
--- so many digits of a number in hexadecimal are read
+-- so many digits of a number in hexadecimal are read, and they are its form
 pub record IsWorth (text : List ℕ) (reach number : ℕ) : Type 0 where
   pub worth : number ≡ hex_worth (take reach text)
   pub small : number < 2 ^ (pair_limit + 1)
+  pub some : 0 < reach → 0 < number
+  pub form : map hex_glyph (digits_of 16 number) ≡ take reach text
 
 -- what is left of a number has its digits in front of those that stand in the buffer from a place on
 pub record IsWritten (number rest at : ℕ) (buf : List ℕ) : Type 0 where

@@ -6,4 +6,6 @@ pub mod WellFormed
 pub mod RoundTrip
 pub mod Short
 pub mod Tested
+pub mod Blank
+pub mod Written
 pub mod FieldLaws

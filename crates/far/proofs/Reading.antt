@@ -1,33 +1,30 @@
 -- Texts that are read number by number.
-use Rattle.std.proofs.Common.{◌≡◌, ℕ, zero, suc, ◌+◌, ◌-◌, ◌*◌, ◌<◌, ◌≤◌, List, [], ◌∷◌, ◌++◌, length, take, drop, get_or, map, set, inl, inr, sym, ◌∙◌, ap, subst, arith}
+use Rattle.std.proofs.Common.{◌≡◌, ℕ, zero, suc, ◌+◌, ◌*◌, ◌<◌, List, [], ◌∷◌, ◌++◌, length, take, drop, get_or, map, set, inl, inr, sym, ◌∙◌, ap, subst, arith}
 use Rattle.std.proofs.lemmas.Bool.{cases_eq}
 use Rattle.std.proofs.lemmas.List.{take_more, take_more_set, take_all, map-append, length-set, length-drop}
 use Rattle.text.specs.Parts.{parts_of}
-use Rattle.far.specs.Texts.{hex_worth, IsHex, IsDelta, IsRows, delta_of, rows_of}
+use Rattle.far.specs.Limits.{move_limit, row_limit}
+use Rattle.far.specs.Texts.{hex_value, hex_worth, IsDigit, IsHex, IsDelta, IsRows, delta_of, rows_of}
 use Rattle.far.specs.inside.Reading.{AreMoves, AreEdges}
 
 -- one number of delta more
-pub moves_more : (size : ℕ) (text : List ℕ) (k : ℕ) (delta : List ℕ) → k < 16 → k < length text → 48 ≤ get_or text k 0 → get_or text k 0 < 48 + size → AreMoves size text k delta
-    → AreMoves size text (k + 1) (set delta k (get_or text k 0 - 48))
-moves_more size text k delta room within low high m =
+pub moves_more : (size : ℕ) (text : List ℕ) (k : ℕ) (delta : List ℕ) → (target : ℕ) → k < move_limit → k < length text → target ≡ hex_value (get_or text k 0) → IsDigit size (get_or text k 0) → AreMoves size text k delta
+    → AreMoves size text (k + 1) (set delta k target)
+moves_more size text k delta target room within worth digit m =
     let long = m.length_is in
     record {
-      length_is = length-set delta k (get_or text k 0 - 48) ∙ m.length_is;
-      same = take_more_set delta k (get_or text k 0 - 48) (omega arith) ∙ ap (λ xs. xs ++ (get_or text k 0 - 48) ∷ []) m.same
-          ∙ sym (map-append (λ b. b - 48) (take k text) (get_or text k 0 ∷ [])) ∙ ap delta_of (sym (take_more text k 0 within));
-      from = λ i below. elim (cases_eq i k) [
-        | inl same ↦ subst (λ n. 48 ≤ get_or text n 0) (sym same) low
-        | inr other ↦ m.from i (omega arith)
-      ];
-      to = λ i below. elim (cases_eq i k) [
-        | inl same ↦ subst (λ n. get_or text n 0 < 48 + size) (sym same) high
-        | inr other ↦ m.to i (omega arith)
+      length_is = length-set delta k target ∙ m.length_is;
+      same = take_more_set delta k target (omega arith) ∙ ap (λ xs. xs ++ target ∷ []) m.same ∙ ap (λ d. delta_of (take k text) ++ d ∷ []) worth
+          ∙ sym (map-append hex_value (take k text) (get_or text k 0 ∷ [])) ∙ ap delta_of (sym (take_more text k 0 within));
+      each = λ i below. elim (cases_eq i k) [
+        | inl same ↦ subst (λ n. IsDigit size (get_or text n 0)) (sym same) digit
+        | inr other ↦ m.each i (omega arith)
       ];
     }
 
 -- all of them
-pub moves_all : (size : ℕ) (text : List ℕ) (delta : List ℕ) → length text ≡ 2 * size → AreMoves size text (2 * size) delta → (take (2 * size) delta ≡ delta_of text) × IsDelta size text × (length delta ≡ 16)
-moves_all size text delta long m = (m.same ∙ ap delta_of (take_all (2 * size) text (omega arith)), record { count = long; from = m.from; to = m.to }, m.length_is)
+pub moves_all : (size : ℕ) (text : List ℕ) (delta : List ℕ) → length text ≡ 2 * size → AreMoves size text (2 * size) delta → (take (2 * size) delta ≡ delta_of text) × IsDelta size text × (length delta ≡ move_limit)
+moves_all size text delta long m = (m.same ∙ ap delta_of (take_all (2 * size) text (omega arith)), record { count = long; each = m.each }, m.length_is)
 
 -- what is left of a list begins with its next element
 next_part : (parts : List (List ℕ)) (part : List ℕ) (rest : List (List ℕ)) (k : ℕ) → part ∷ rest ≡ drop k parts → (k < length parts) × (part ≡ get_or parts k []) × (rest ≡ drop (k + 1) parts)
@@ -37,7 +34,7 @@ next_part (p ∷ ps) part rest zero is = (omega arith, (cc), (cc))
 next_part (p ∷ ps) part rest (suc k) is = let (less, same, rest_is) = next_part ps part rest k is in (omega arith, same, rest_is ∙ ap (λ i. drop i (p ∷ ps)) (let e : suc (k + 1) ≡ suc k + 1 = omega arith in e))
 
 -- one row more
-pub edges_more : (limit : ℕ) (text : List ℕ) (k : ℕ) (left rest : List (List ℕ)) (rows part : List ℕ) (number : ℕ) → k < 96 → left ≡ part ∷ rest → number ≡ hex_worth part → IsHex limit part → AreEdges limit text k left rows
+pub edges_more : (limit : ℕ) (text : List ℕ) (k : ℕ) (left rest : List (List ℕ)) (rows part : List ℕ) (number : ℕ) → k < row_limit → left ≡ part ∷ rest → number ≡ hex_worth part → IsHex limit part → AreEdges limit text k left rows
     → AreEdges limit text (k + 1) rest (set rows k number)
 edges_more limit text k left rest rows part number room is worth hex e =
     let (less, same, rest_is) = next_part (parts_of 44 text) part rest k (sym is ∙ e.left_is) in
@@ -56,7 +53,7 @@ edges_more limit text k left rest rows part number room is worth hex e =
     }
 
 -- and all of them, where nothing is left
-pub edges_all : (limit : ℕ) (text : List ℕ) (count : ℕ) (left : List (List ℕ)) (rows : List ℕ) → left ≡ [] → AreEdges limit text count left rows → (take count rows ≡ rows_of text) × IsRows count limit text × (length rows ≡ 96)
+pub edges_all : (limit : ℕ) (text : List ℕ) (count : ℕ) (left : List (List ℕ)) (rows : List ℕ) → left ≡ [] → AreEdges limit text count left rows → (take count rows ≡ rows_of text) × IsRows count limit text × (length rows ≡ row_limit)
 edges_all limit text count left rows none e =
     let rest : length (drop count (parts_of 44 text)) ≡ 0 = ap length (sym e.left_is) ∙ ap length none in
     let size = length-drop count (parts_of 44 text) in

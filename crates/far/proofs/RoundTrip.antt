@@ -2,15 +2,15 @@
 use Rattle.std.proofs.Common.{◌≡◌, ℕ, zero, suc, ◌+◌, ◌-◌, ◌*◌, ◌^◌, ◌<◌, ◌≤◌, false, cond, eqb, min, List, [], ◌∷◌, ◌++◌, length, take, get_or, map, refl, inl, inr, sym, ◌∙◌, ap, subst, arith}
 use Rattle.std.specs.Prelude.{All}
 use Rattle.std.specs.Prelude.{slice_index_or}
-use Rattle.std.specs.Int.Digits.{digits_of, number_from_digits, AllBelowBase}
+use Rattle.std.specs.Int.Digits.{digits_of, number_from_digits}
 use Rattle.std.proofs.lemmas.Bool.{cases_eq, cases_lt, lt-ltb, le-ltb, ne_eqb}
-use Rattle.std.proofs.lemmas.Int.Digits.{number_digits_of, all_below_base_digits_of}
+use Rattle.std.proofs.lemmas.Int.Digits.{number_digits_of}
 use Rattle.std.proofs.lemmas.List.{length-map, get_or-map, length-append, length-take, length-take-le, take-take, append_assoc, take_more, take_at}
 use Rattle.std.proofs.lemmas.List.Elements.{All-append, All-cons, All-nil}
 use Rattle.std.proofs.lemmas.List.Splits.{slice_split_at, slice_split_none}
 use Rattle.far.specs.Automata.{Automata, automata, AreAutomata}
 use Rattle.text.specs.Parts.{parts_of}
-use Rattle.far.specs.Texts.{hex_glyph, hex_value, hex_text, hex_worth, IsHex, IsDelta, IsRows, AreTexts, delta_of, delta_text, rows_of, rows_text, automata_by}
+use Rattle.far.specs.Texts.{hex_glyph, hex_value, hex_text, hex_worth, IsDigit, IsHex, IsDelta, IsRows, AreTexts, delta_text, rows_of, rows_text, automata_by}
 
 -- a digit
 glyph_low : (d : ℕ) → d < 10 → hex_glyph d ≡ 48 + d
@@ -19,16 +19,16 @@ glyph_low d low = ap (λ b. cond b (48 + d) (87 + d)) (lt-ltb d 10 low)
 glyph_high : (d : ℕ) → 10 ≤ d → hex_glyph d ≡ 87 + d
 glyph_high d high = ap (λ b. cond b (48 + d) (87 + d)) (le-ltb d 10 high)
 
-value_back : (d : ℕ) → d < 16 → hex_value (hex_glyph d) ≡ d
-value_back d small =
+pub value_back : (d : ℕ) → hex_value (hex_glyph d) ≡ d
+value_back d =
     elim (cases_lt d 10) [
       | inl low ↦ ap hex_value (glyph_low d low) ∙ ap (λ b. cond b (48 + d - 48) (48 + d - 87)) (lt-ltb (48 + d) 58 (omega arith)) ∙ (let e : 48 + d - 48 ≡ d = omega arith in e)
       | inr high ↦ ap hex_value (glyph_high d high) ∙ ap (λ b. cond b (87 + d - 48) (87 + d - 87)) (le-ltb (87 + d) 58 (omega arith)) ∙ (let e : 87 + d - 87 ≡ d = omega arith in e)
     ]
 
-values_back : (ds : List ℕ) → AllBelowBase 16 ds → map hex_value (map hex_glyph ds) ≡ ds
-values_back [] all = refl
-values_back (d ∷ ds) all = ap (λ x. x ∷ map hex_value (map hex_glyph ds)) (value_back d all.0) ∙ ap (λ xs. d ∷ xs) (values_back ds all.1)
+values_back : (ds : List ℕ) → map hex_value (map hex_glyph ds) ≡ ds
+values_back [] = refl
+values_back (d ∷ ds) = ap (λ x. x ∷ map hex_value (map hex_glyph ds)) (value_back d) ∙ ap (λ xs. d ∷ xs) (values_back ds)
 
 -- a number
 pub text_of_some : (n : ℕ) → (n ≡ 0 → ⊥) → hex_text n ≡ map hex_glyph (digits_of 16 n)
@@ -42,19 +42,22 @@ text_of_none = refl
 pub worth_back : (n : ℕ) → hex_worth (hex_text n) ≡ n
 worth_back n = elim (cases_eq n 0) [
   | inl none ↦ ap (λ k. hex_worth (hex_text k)) none ∙ ap hex_worth text_of_none ∙ sym none
-  | inr some ↦ ap hex_worth (text_of_some n some) ∙ ap (number_from_digits 16) (values_back (digits_of 16 n) (all_below_base_digits_of 16 n (omega arith))) ∙ number_digits_of 16 n (omega arith)
+  | inr some ↦ ap hex_worth (text_of_some n some) ∙ ap (number_from_digits 16) (values_back (digits_of 16 n)) ∙ number_digits_of 16 n (omega arith)
 ]
 
 hex_back : (limit n : ℕ) → n < limit → IsHex limit (hex_text n)
 hex_back limit n small = record { form = ap hex_text (worth_back n); small = subst (λ k. k < limit) (sym (worth_back n)) small }
 
 -- each byte of it is a digit
-glyphs_above : (ds : List ℕ) → All (λ b. 48 ≤ b) (map hex_glyph ds)
-glyphs_above [] = All-nil (λ b. 48 ≤ b)
-glyphs_above (d ∷ ds) = All-cons (λ b. 48 ≤ b) (hex_glyph d) (map hex_glyph ds) (elim (cases_lt d 10) [
+glyph_above : (d : ℕ) → 48 ≤ hex_glyph d
+glyph_above d = elim (cases_lt d 10) [
   | inl low ↦ let e = glyph_low d low in omega arith
   | inr high ↦ let e = glyph_high d high in omega arith
-]) (glyphs_above ds)
+]
+
+glyphs_above : (ds : List ℕ) → All (λ b. 48 ≤ b) (map hex_glyph ds)
+glyphs_above [] = All-nil (λ b. 48 ≤ b)
+glyphs_above (d ∷ ds) = All-cons (λ b. 48 ≤ b) (hex_glyph d) (map hex_glyph ds) (glyph_above d) (glyphs_above ds)
 
 text_above : (n : ℕ) → All (λ b. 48 ≤ b) (hex_text n)
 text_above n = elim (cases_eq n 0) [
@@ -98,19 +101,17 @@ rows_back count limit rows some size small =
     }
 
 -- delta
-moves_back : (delta : List ℕ) → delta_of (delta_text delta) ≡ delta
-moves_back [] = refl
-moves_back (d ∷ ds) = ap (λ n. n ∷ delta_of (delta_text ds)) (let e : 48 + d - 48 ≡ d = omega arith in e) ∙ ap (λ ns. d ∷ ns) (moves_back ds)
-
 delta_from_comma : (delta : List ℕ) → All (λ b. 44 ≤ b) (delta_text delta)
 delta_from_comma [] = All-nil (λ b. 44 ≤ b)
-delta_from_comma (d ∷ ds) = All-cons (λ b. 44 ≤ b) (48 + d) (delta_text ds) (omega arith) (delta_from_comma ds)
+delta_from_comma (d ∷ ds) = All-cons (λ b. 44 ≤ b) (hex_glyph d) (delta_text ds) (let high = glyph_above d in omega arith) (delta_from_comma ds)
+
+pub digit_back : (size d : ℕ) → d < size → IsDigit size (hex_glyph d)
+digit_back size d small = record { form = ap hex_glyph (value_back d); small = subst (λ k. k < size) (sym (value_back d)) small }
 
 delta_back : (size : ℕ) (delta : List ℕ) → length delta ≡ 2 * size → ((k : ℕ) → get_or delta k 0 < size) → IsDelta size (delta_text delta)
 delta_back size delta long small = record {
-  count = length-map delta (λ d. 48 + d) ∙ long;
-  from = λ k less. let e = get_or-map (λ d. 48 + d) delta k 0 0 (omega arith) in omega arith;
-  to = λ k less. let e = get_or-map (λ d. 48 + d) delta k 0 0 (omega arith) in let s = small k in omega arith;
+  count = length-map delta hex_glyph ∙ long;
+  each = λ k less. subst (IsDigit size) (sym (get_or-map hex_glyph delta k 0 0 (omega arith))) (digit_back size (get_or delta k 0) (small k));
 }
 
 some_rows : (m n : ℕ) → 1 ≤ m → 1 ≤ n → 1 ≤ 2 * (m * n)
@@ -128,7 +129,7 @@ texts_back a sized some numbers = record {
 pub same_back : (a : Automata) → 1 ≤ a.size → 1 ≤ a.states → AreAutomata a → automata_by a.states a.side a.size (delta_text a.delta) (rows_text a.rows) (hex_text a.keep) ≡ a
 same_back a sized some numbers =
     let edges = numbers.edges in
-    ap (λ d. automata a.states a.side a.size d (rows_of (rows_text a.rows)) (hex_worth (hex_text a.keep))) (moves_back a.delta)
+    ap (λ d. automata a.states a.side a.size d (rows_of (rows_text a.rows)) (hex_worth (hex_text a.keep))) (values_back a.delta)
     ∙ ap (λ r. automata a.states a.side a.size a.delta r (hex_worth (hex_text a.keep))) (ap (map hex_worth) (parts_of_rows a.rows (subst (λ n. 1 ≤ n) (sym edges) (some_rows a.size a.states sized some))) ∙ worths_back a.rows)
     ∙ ap (λ k. automata a.states a.side a.size a.delta a.rows k) (worth_back a.keep)
 

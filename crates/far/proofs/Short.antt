@@ -7,6 +7,7 @@ use Rattle.std.proofs.lemmas.List.{length-map, length-append}
 use Rattle.std.proofs.Math.Nat.{mul-le-mul}
 use Rattle.std.proofs.Math.Pow.{pow_mono}
 use Rattle.far.specs.Automata.{Automata, AreAutomata, AreSized}
+use Rattle.far.specs.Limits.{pair_limit, digit_limit, number_byte_limit}
 use Rattle.far.specs.Texts.{hex_glyph, hex_text, delta_text, rows_text}
 use Rattle.far.specs.Fields.{number_fields}
 use Rattle.text.specs.Fields.{spaced}
@@ -31,18 +32,18 @@ length_of_rows (x ∷ y ∷ ys) k some small =
     let whole = length-append (hex_text x) (44 ∷ rows_text (y ∷ ys)) in
     omega (arith, first, others, whole)
 
--- a set of up to 49 bits has at most 13 digits
-digits_of_set : (last n : ℕ) → last ≤ 48 → n < 2 ^ (last + 1) → n < 16 ^ 13
+-- the digits of a set are enough for its bits
+digits_of_set : (last n : ℕ) → last ≤ pair_limit → n < 2 ^ (last + 1) → n < 16 ^ digit_limit
 digits_of_set last n few small =
-    let most : 2 ^ (last + 1) ≤ 2 ^ 49 = pow_mono {i = last + 1} {j = 49} (omega arith) in
+    let most : 2 ^ (last + 1) ≤ 2 ^ (pair_limit + 1) = pow_mono {i = last + 1} {j = pair_limit + 1} (omega arith) in
     omega (arith, most, small)
 
-pub fields_are_short : (a : Automata) → AreSized a → AreAutomata a → length (spaced (number_fields a)) ≤ 1401
+pub fields_are_short : (a : Automata) → AreSized a → AreAutomata a → length (spaced (number_fields a)) ≤ number_byte_limit
 fields_are_short a within numbers =
-    let few : a.size * a.states ≤ 8 * 6 = mul-le-mul within.small within.few in
-    let rows = length_of_rows a.rows 13 (omega arith) (λ i. digits_of_set (a.size * a.states) (get_or a.rows i 0) few (numbers.sets i)) in
-    let keep = length_of_hex a.keep 13 (omega arith) (digits_of_set (a.size * a.states) a.keep few numbers.kept) in
-    let moves : length (delta_text a.delta) ≡ length a.delta = length-map a.delta (λ d. 48 + d) in
+    let few : a.size * a.states ≤ pair_limit = mul-le-mul within.small within.few in
+    let rows = length_of_rows a.rows digit_limit (omega arith) (λ i. digits_of_set (a.size * a.states) (get_or a.rows i 0) few (numbers.sets i)) in
+    let keep = length_of_hex a.keep digit_limit (omega arith) (digits_of_set (a.size * a.states) a.keep few numbers.kept) in
+    let moves : length (delta_text a.delta) ≡ length a.delta = length-map a.delta hex_glyph in
     let small = within.small in
     let count = numbers.moves in
     let edges = numbers.edges in

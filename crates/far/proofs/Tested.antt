@@ -1,26 +1,28 @@
 -- The tests of texts answer as the texts are.
-use Rattle.std.proofs.Common.{ℕ, ◌+◌, ◌*◌, ◌^◌, ◌<◌, ◌≤◌, Bool, not, ltb, List, [], length, get_or, refl, arith}
+use Rattle.std.proofs.Common.{ℕ, ◌+◌, ◌*◌, ◌^◌, List, [], length, get_or}
 use Rattle.std.specs.Prelude.{Decides}
-use Rattle.std.proofs.lemmas.Bool.Decides.{nat_tests, Decides-and, Decides-eqb, Decides-ltb}
+use Rattle.std.proofs.lemmas.Bool.Decides.{Decides-and, Decides-eqb, Decides-ltb}
 use Rattle.std.proofs.lemmas.Slice.Eq.{bytes_eq-Decides}
 use Rattle.text.specs.Parts.{parts_of}
-use Rattle.far.specs.Texts.{hex_text, hex_worth, IsHex, IsDelta, IsRows, AreTexts}
+use Rattle.far.specs.Texts.{hex_glyph, hex_value, hex_text, hex_worth, IsDigit, IsHex, IsDelta, IsRows, AreTexts}
 use Rattle.evidence.proofs.Tested.{below_decides}
-use Rattle.far.specs.Tests.{is_hex, is_delta, is_rows, are_texts}
-
-at_least : (a b : ℕ) → Decides (not (ltb b a)) (a ≤ b)
-at_least a b = (λ t. grind (arith, nat_tests, t), λ le. grind (arith, nat_tests, le))
+use Rattle.far.specs.Tests.{is_hex, is_digit, is_delta, is_rows, are_texts}
 
 hex_decides : (limit : ℕ) (text : List ℕ) → Decides (is_hex limit text) (IsHex limit text)
 hex_decides limit text =
     let all = Decides-and _ _ (bytes_eq-Decides (hex_text (hex_worth text)) text) (Decides-ltb (hex_worth text) limit) in
     (λ t. let h = all.0 t in record { form = h.0; small = h.1 }, λ h. all.1 (h.form, h.small))
 
+digit_decides : (limit byte : ℕ) → Decides (is_digit limit byte) (IsDigit limit byte)
+digit_decides limit byte =
+    let all = Decides-and _ _ (Decides-eqb (hex_glyph (hex_value byte)) byte) (Decides-ltb (hex_value byte) limit) in
+    (λ t. let h = all.0 t in record { form = h.0; small = h.1 }, λ h. all.1 (h.form, h.small))
+
 delta_decides : (size : ℕ) (text : List ℕ) → Decides (is_delta size text) (IsDelta size text)
 delta_decides size text =
-    let digits = below_decides (λ k. _) (λ k. _) (λ k. Decides-and _ _ (at_least 48 (get_or text k 0)) (Decides-ltb (get_or text k 0) (48 + size))) (2 * size) in
+    let digits = below_decides (λ k. _) (λ k. _) (λ k. digit_decides size (get_or text k 0)) (2 * size) in
     let all = Decides-and _ _ (Decides-eqb (length text) (2 * size)) digits in
-    (λ t. let d = all.0 t in record { count = d.0; from = λ k less. (d.1 k less).0; to = λ k less. (d.1 k less).1 }, λ d. all.1 (d.count, λ k less. (d.from k less, d.to k less)))
+    (λ t. let d = all.0 t in record { count = d.0; each = d.1 }, λ d. all.1 (d.count, d.each))
 
 rows_decide : (count limit : ℕ) (text : List ℕ) → Decides (is_rows count limit text) (IsRows count limit text)
 rows_decide count limit text =

@@ -4,6 +4,6 @@ pub mod Texts
 pub mod Tests
 pub mod Fields
 pub mod Far
-pub mod NumberList
+pub mod TextList
 pub mod OwnedFar
 pub mod inside

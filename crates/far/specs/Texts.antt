@@ -1,5 +1,5 @@
 -- The texts of automata's numbers. Bytes are their ASCII codes: 44 is the comma, 48 `0`, 97 `a`.
-use Rattle.std.specs.Prelude.{◌≡◌, ℕ, ◌+◌, ◌-◌, ◌*◌, ◌^◌, ◌<◌, ◌≤◌, ◌==◌, nat_lt, if◌then◌else◌, List, [], ◌∷◌, length, get_or, map, slice_index}
+use Rattle.std.specs.Prelude.{◌≡◌, ℕ, ◌+◌, ◌-◌, ◌*◌, ◌^◌, ◌<◌, ◌==◌, nat_lt, if◌then◌else◌, List, [], ◌∷◌, length, get_or, map, slice_index}
 use Rattle.std.specs.List.{join_with_byte}
 use Rattle.std.specs.Int.Digits.{digits_of, number_from_digits}
 use Rattle.machine_text.specs.declared.transition.Dir.{Dir}
@@ -26,17 +26,21 @@ pub record IsHex (limit : ℕ) (text : List ℕ) : Type 0 where
   pub form : hex_text (hex_worth text) ≡ text
   pub small : hex_worth text < limit
 
--- delta: two digits for each state
+-- a byte is the digit of a number below a limit
+pub record IsDigit (limit byte : ℕ) : Type 0 where
+  pub form : hex_glyph (hex_value byte) ≡ byte
+  pub small : hex_value byte < limit
+
+-- delta: two digits for each state, each that of a state
 pub record IsDelta (size : ℕ) (text : List ℕ) : Type 0 where
   pub count : length text ≡ 2 * size
-  pub from : (k : ℕ) → k < 2 * size → 48 ≤ slice_index text k
-  pub to : (k : ℕ) → k < 2 * size → slice_index text k < 48 + size
+  pub each : (k : ℕ) → k < 2 * size → IsDigit size (slice_index text k)
 
 abbrev pub delta_of : List ℕ → List ℕ
-delta_of text = map (λ b. b - 48) text
+delta_of text = map hex_value text
 
 abbrev pub delta_text : List ℕ → List ℕ
-delta_text delta = map (λ d. 48 + d) delta
+delta_text delta = map hex_glyph delta
 
 -- rows: so many numbers in hexadecimal, with a comma between each two
 pub record IsRows (count limit : ℕ) (text : List ℕ) : Type 0 where

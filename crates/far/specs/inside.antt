@@ -3,3 +3,4 @@ pub mod Sets
 pub mod Reading
 pub mod Steps
 pub mod Growing
+pub mod Unpacked

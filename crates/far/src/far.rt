@@ -1,38 +1,38 @@
 // Two automata, and the evidence that they fit a table.
-ghost use Rattle.std.specs.Prelude.{◌≡◌, ◌+◌, ◌*◌, ◌≤◌, take};
+ghost use Rattle.std.specs.Prelude.{◌≡◌, ◌≤◌};
 ghost use Rattle.machine_text.specs.Limits.{state_limit};
 ghost use Rattle.far.specs.Limits.{size_limit};
-ghost use Rattle.far.specs.Automata.{automata, AreAutomata, AreSized};
+ghost use Rattle.far.specs.Automata.{AreAutomata, AreSized};
+ghost use Rattle.far.specs.Texts.{AreTexts};
 
-use crate::hexadecimal::hex_number;
-use crate::limits::{MAX_MOVES, MAX_ROWS, MAX_SIZE, Set};
-use crate::numbers::{are_sets, are_states, delta_of, rows_of, set_limit};
+use crate::limits::MAX_SIZE;
+use crate::unpacked::Unpacked;
 use evidence::{Evidence, Refused, Verdict};
 use machine_text::{Dir, Table};
 use std::alloc::Global;
 
 /// The claim that two automata fit a table, by which it never halts. The first, with the states 0 to `size` - 1,
 /// reads the half tape behind the head, from far away towards the head; the side says which way is ahead. The
-/// states of the second are pairs of a state of the first and a machine state, and one halt state. The automata
-/// are made for tables of so many states, and fit no other.
+/// states of the second are pairs of a state of the first and a machine state, and one halt state. The numbers of
+/// the automata are texts, borrowed, and unpacked where they are checked. The automata are made for tables of so
+/// many states, and fit no other.
 #[derive(Clone, Copy, Debug, PartialEq, Eq)]
-pub struct Far {
+pub struct Far<'a> {
     pub(crate) states: u8,
     pub(crate) side: Dir,
     pub(crate) size: u8,
-    pub(crate) delta: [u8; MAX_MOVES],
-    pub(crate) rows: [Set; MAX_ROWS],
-    pub(crate) keep: Set,
+    pub(crate) delta: &'a [u8],
+    pub(crate) rows: &'a [u8],
+    pub(crate) keep: &'a [u8],
     ghost limits: { (1 ≤ states) × (states ≤ state_limit) × (1 ≤ size) × (size ≤ size_limit) },
-    ghost numbers: { AreAutomata (automata states side size (take (2 * size) delta) (take (2 * (size * states)) rows) keep) },
+    ghost texts: { AreTexts states size delta.now rows.now keep.now },
 }
 
-impl Far {
+impl<'a> Far<'a> {
     ghost use Rattle.std.specs.Prelude.{◌↔◌, IsTrue, IfSome, IfNone};
-    ghost use Rattle.far.specs.Texts.{AreTexts, automata_by};
+    ghost use Rattle.far.specs.Texts.{automata_by, delta_text, rows_text, hex_text};
     ghost use Rattle.far.specs.Automata.{AreAutomataOf};
     ghost use Rattle.far.specs.Far.{automata_of};
-    ghost use Rattle.far.specs.inside.Steps.{last};
 
     /// Whether the first automaton may have this size: from 1 to `MAX_SIZE`.
     pub fn is_size(size: u64) -> bool
@@ -48,55 +48,17 @@ impl Far {
         states: u8,
         side: Dir,
         size: u8,
-        delta: &[u8],
-        rows: &[u8],
-        keep: &[u8],
-    ) -> Option<Far>
+        delta: &'a [u8],
+        rows: &'a [u8],
+        keep: &'a [u8],
+    ) -> Option<Far<'a>>
         requires states { (1 ≤ states) × (states ≤ state_limit) }
         requires size { (1 ≤ size) × (size ≤ size_limit) }
         ensures some { IfSome result (λ e. automata_of e ≡ automata_by states side size delta.now rows.now keep.now) }
         ensures texts { IfSome result (λ e. AreTexts states size delta.now rows.now keep.now) }
         ensures none { IfNone result (AreTexts states size delta.now rows.now keep.now → ⊥) }
     {
-        let last = size as usize * states as usize;
-        let limit = set_limit(last);
-        let delta = delta_of(delta, size)?;
-        let rows = rows_of(rows, 2 * last, limit)?;
-        let keep = hex_number(keep, limit)?;
-        Some(Far {
-            states,
-            side,
-            size,
-            delta,
-            rows,
-            keep,
-        })
-    }
-
-    // The automata with these numbers; none where one is too large.
-    pub(crate) fn from_numbers(
-        states: u8,
-        side: Dir,
-        size: u8,
-        delta: [u8; MAX_MOVES],
-        rows: [Set; MAX_ROWS],
-        keep: Set,
-    ) -> Option<Far>
-        requires states { (1 ≤ states) × (states ≤ state_limit) }
-        requires size { (1 ≤ size) × (size ≤ size_limit) }
-        ensures { IfSome result (λ e. automata_of e
-            ≡ automata states side size (take (2 * size) delta) (take (2 * (size * states)) rows) keep) }
-    {
-        let limit = set_limit(size as usize * states as usize);
-        if !are_states(&delta, size) {
-            return None;
-        }
-        if !are_sets(&rows, limit) {
-            return None;
-        }
-        if keep >= limit {
-            return None;
-        }
+        let _ = Unpacked::of_texts(states, side, size, delta, rows, keep)?;
         Some(Far {
             states,
             side,
@@ -132,46 +94,48 @@ impl Far {
         self.size
     }
 
-    /// Where the first automaton goes: from state q on the symbol s, number 2q + s.
-    pub fn delta(&self) -> &[u8]
-        ensures { result.now ≡ (automata_of self.now).delta }
+    /// Where the first automaton goes, as text: from state q on the symbol s, number 2q + s, a digit each.
+    pub fn delta(&self) -> &'a [u8]
+        ensures { result.now ≡ delta_text (automata_of self.now).delta }
     {
-        &self.delta[..2 * self.size as usize]
+        self.delta
     }
 
-    /// The edges of the second automaton: from (q, f), whose number is j = q times `states` + f, on the symbol r,
-    /// number 2j + r. In a set a bit stands for the state of its number; the halt state is the last.
-    pub fn rows(&self) -> &[Set]
-        ensures { result.now ≡ (automata_of self.now).rows }
+    /// The edges of the second automaton, as text: from (q, f), whose number is j = q times `states` + f, on the
+    /// symbol r, number 2j + r. In a set a bit stands for the state of its number; the halt state is the last.
+    pub fn rows(&self) -> &'a [u8]
+        ensures { result.now ≡ rows_text (automata_of self.now).rows }
     {
-        &self.rows[..2 * self.last()]
+        self.rows
     }
 
-    /// The states of the second automaton that are kept.
-    pub fn keep(&self) -> Set
-        ensures { result ≡ (automata_of self.now).keep }
+    /// The states of the second automaton that are kept, as text.
+    pub fn keep(&self) -> &'a [u8]
+        ensures { result.now ≡ hex_text (automata_of self.now).keep }
     {
         self.keep
-    }
-
-    // The number of the halt state.
-    pub(crate) fn last(&self) -> usize
-        ensures last { result ≡ last (automata_of self.now) }
-        ensures limit { result ≤ 48 }
-        ensures some { 1 ≤ result }
-    {
-        self.size as usize * self.states as usize
     }
 
     /// Whether the automata are those of a table. Takes no memory.
     pub fn holds(&self, t: &Table) -> bool
         ensures { IsTrue result ↔ AreAutomataOf (automata_of self.now) t.now }
     {
-        self.states == t.states() && self.fits(t)
+        match Unpacked::of_texts(
+            self.states,
+            self.side,
+            self.size,
+            self.delta,
+            self.rows,
+            self.keep,
+        ) {
+            Some(numbers) => numbers.hold(t),
+            // It never comes to this: the texts were read before.
+            None => false,
+        }
     }
 }
 
-impl Evidence for Far {
+impl Evidence for Far<'_> {
     ghost use Rattle.machine_text.specs.Packed.{entry_of};
     ghost use Rattle.evidence.specs.declared.verdicts.Verdict.TheVariants.{Never};
     ghost use Rattle.far.specs.Automata.{AreAutomataOf, described};

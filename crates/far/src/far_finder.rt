@@ -2,11 +2,11 @@
 ghost use Rattle.std.specs.Prelude.{◌≡◌, ◌≤◌, min, IfSome, IfOk};
 ghost use Rattle.far.specs.Limits.{size_limit};
 ghost use Rattle.far.specs.Automata.{AreAutomataOf};
-ghost use Rattle.far.specs.Far.{automata_of};
+ghost use Rattle.far.specs.OwnedFar.{owned_automata};
 
-use crate::far::Far;
 use crate::growing::Growing;
 use crate::limits::MAX_SIZE;
+use crate::owned_far::OwnedFar;
 use evidence::NoMemory;
 use machine_text::{Dir, Table};
 use std::alloc::Global;
@@ -48,9 +48,9 @@ impl FarFinder {
     ///
     /// It tries no more than 20,000 transitions for each step of the budget. No contract says what is found or
     /// how long it takes.
-    pub fn search(&mut self, t: &Table, budget: u64) -> Result<Option<Far>, NoMemory>
-        ensures found { IfOk result (λ o. IfSome o (λ e. AreAutomataOf (automata_of e) t.now)) }
-        ensures size { IfOk result (λ o. IfSome o (λ e. (automata_of e).size ≤ min self.old.size size_limit)) }
+    pub fn search(&mut self, t: &Table, budget: u64) -> Result<Option<OwnedFar>, NoMemory>
+        ensures found { IfOk result (λ o. IfSome o (λ e. AreAutomataOf (owned_automata e) t.now)) }
+        ensures size { IfOk result (λ o. IfSome o (λ e. (owned_automata e).size ≤ min self.old.size size_limit)) }
         ensures same { self.new.size ≡ self.old.size }
     {
         let mut left = budget.saturating_mul(TRIES_PER_STEP);
@@ -72,10 +72,10 @@ impl FarFinder {
         side: Dir,
         size: u8,
         left: &mut u64,
-    ) -> Result<Option<Far>, NoMemory>
+    ) -> Result<Option<OwnedFar>, NoMemory>
         requires { (1 ≤ size) × (size ≤ size_limit) }
-        ensures found { IfOk result (λ o. IfSome o (λ e. AreAutomataOf (automata_of e) t.now)) }
-        ensures size { IfOk result (λ o. IfSome o (λ e. (automata_of e).size ≡ size)) }
+        ensures found { IfOk result (λ o. IfSome o (λ e. AreAutomataOf (owned_automata e) t.now)) }
+        ensures size { IfOk result (λ o. IfSome o (λ e. (owned_automata e).size ≡ size)) }
         ensures same { self.new.size ≡ self.old.size }
     {
         self.growing.begin(t, side, size);
@@ -84,7 +84,7 @@ impl FarFinder {
             *left -= 1;
             let will_do = self.growing.extend(target)?;
             if will_do && self.growing.is_complete() {
-                return Ok(standing(&self.growing, t, size));
+                return standing(self.alloc, &self.growing, t, size);
             }
             match self.growing.next_target(will_do) {
                 Some(next) => target = next,
@@ -96,13 +96,20 @@ impl FarFinder {
 }
 
 // The automata, if they are of this size and those of the table.
-fn standing(growing: &Growing, t: &Table, size: u8) -> Option<Far>
-    ensures found { IfSome result (λ e. AreAutomataOf (automata_of e) t.now) }
-    ensures size { IfSome result (λ e. (automata_of e).size ≡ size) }
+fn standing(
+    alloc: Global,
+    growing: &Growing,
+    t: &Table,
+    size: u8,
+) -> Result<Option<OwnedFar>, NoMemory>
+    ensures found { IfOk result (λ o. IfSome o (λ e. AreAutomataOf (owned_automata e) t.now)) }
+    ensures size { IfOk result (λ o. IfSome o (λ e. (owned_automata e).size ≡ size)) }
 {
-    let found = growing.automata()?;
-    if found.size() != size || !found.holds(t) {
-        return None;
+    let Some(found) = growing.automata() else {
+        return Ok(None);
+    };
+    if found.size != size || !found.hold(t) {
+        return Ok(None);
     }
-    Some(found)
+    Ok(Some(OwnedFar::of_numbers(alloc, &found)?))
 }

@@ -1,5 +1,5 @@
 // Automata as the fields of a record.
-ghost use Rattle.std.specs.Prelude.{◌≡◌, ◌+◌, ◌++◌, ◌∷◌, ◌<◌, ◌≤◌, ℕ, Some, None, OnOk, OnErr, IfOk, IfErr, length, take, slice_index};
+ghost use Rattle.std.specs.Prelude.{◌≡◌, ◌++◌, ◌≤◌, Some, None, OnOk, IfOk, IfErr, length, take};
 ghost use Rattle.machine_text.specs.Limits.{state_limit};
 ghost use Rattle.text.specs.Decimal.{decimal_value};
 ghost use Rattle.text.specs.Fields.{spaced, made_of};
@@ -7,19 +7,16 @@ ghost use Rattle.far.specs.Automata.{AreAutomata, AreSized};
 ghost use Rattle.far.specs.Far.{automata_of};
 ghost use Rattle.far.specs.Fields.{size_in, numbers_by, far_by, number_fields, far_fields};
 ghost use Rattle.far.specs.Limits.{size_limit};
-ghost use Rattle.far.specs.Texts.{hex_text, delta_text, rows_text};
 
 use crate::far::Far;
-use crate::hexadecimal::{MAX_DIGITS, hex_text};
-use crate::limits::Set;
 use evidence::{NoMemory, side_of, side_text};
 use machine_text::Dir;
 use text::{FieldFault, Parts, append_field, append_number_field, end_of, next_field, number_in};
 
-impl Far {
+impl<'a> Far<'a> {
     /// The claim that the fields of a record make, for a table of so many states: `side m delta rows keep`. Takes
     /// no memory.
-    pub fn read(states: u8, mut fields: Parts<'_>) -> Result<Far, FieldFault>
+    pub fn read(states: u8, mut fields: Parts<'a>) -> Result<Far<'a>, FieldFault>
         requires { (1 ≤ states) × (states ≤ state_limit) }
         ensures { made_of automata_of result ≡ far_by states fields.entry }
     {
@@ -33,7 +30,9 @@ impl Far {
         let size = size_from(size)?;
         numbers_from(states, side, size, delta, rows, keep)
     }
+}
 
+impl Far<'_> {
     /// Appends the fields of a record, each behind a space: they read back as the same automata (`far_reads_back`).
     /// Where memory is refused, a beginning of them.
     pub fn append_fields(&self, out: &mut Vec<u8>) -> Result<(), NoMemory>
@@ -53,12 +52,9 @@ impl Far {
         ensures ok { OnOk result (out.new.items ≡ out.old.items ++ spaced (number_fields (automata_of self.now))) }
         ensures kept { take (length out.old.items) out.new.items ≡ out.old.items }
     {
-        out.extend_from_slice(b" ")?;
-        append_delta(self.delta(), out)?;
-        out.extend_from_slice(b" ")?;
-        append_rows(self.rows(), out)?;
-        out.extend_from_slice(b" ")?;
-        append_hex(self.keep(), out)
+        append_field(self.delta(), out)?;
+        append_field(self.rows(), out)?;
+        append_field(self.keep(), out)
     }
 }
 
@@ -76,14 +72,14 @@ fn size_from(field: &[u8]) -> Result<u8, FieldFault>
 }
 
 // The automata of a size that three texts give, for tables of so many states.
-fn numbers_from(
+fn numbers_from<'a>(
     states: u8,
     side: Dir,
     size: u8,
-    delta: &[u8],
-    rows: &[u8],
-    keep: &[u8],
-) -> Result<Far, FieldFault>
+    delta: &'a [u8],
+    rows: &'a [u8],
+    keep: &'a [u8],
+) -> Result<Far<'a>, FieldFault>
     requires states { (1 ≤ states) × (states ≤ state_limit) }
     requires size { (1 ≤ size) × (size ≤ size_limit) }
     ensures { made_of automata_of result ≡ numbers_by states side size delta.now rows.now keep.now }
@@ -92,44 +88,4 @@ fn numbers_from(
         Some(evidence) => Ok(evidence),
         None => Err(FieldFault::BadList),
     }
-}
-
-fn append_delta(delta: &[u8], out: &mut Vec<u8>) -> Result<(), NoMemory>
-    requires { (k : ℕ) → slice_index delta.now k < 10 }
-    ensures ok { OnOk result (out.new.items ≡ out.old.items ++ delta_text delta.now) }
-    ensures kept { take (length out.old.items) out.new.items ≡ out.old.items }
-{
-    for target in delta {
-        out.push(b'0' + *target)?;
-    }
-    Ok(())
-}
-
-fn append_rows(rows: &[Set], out: &mut Vec<u8>) -> Result<(), NoMemory>
-    requires { 1 ≤ length rows.now }
-    ensures ok { OnOk result (out.new.items ≡ out.old.items ++ rows_text rows.now) }
-    ensures kept { take (length out.old.items) out.new.items ≡ out.old.items }
-{
-    append_hex(rows[0], out)?;
-    for k in 1..rows.len() {
-        append_row(rows[k], out)?;
-    }
-    Ok(())
-}
-
-// A comma and a row.
-fn append_row(row: Set, out: &mut Vec<u8>) -> Result<(), NoMemory>
-    ensures ok { OnOk result (out.new.items ≡ out.old.items ++ 44 ∷ hex_text row) }
-    ensures kept { take (length out.old.items) out.new.items ≡ out.old.items }
-{
-    out.extend_from_slice(b",")?;
-    append_hex(row, out)
-}
-
-fn append_hex(number: Set, out: &mut Vec<u8>) -> Result<(), NoMemory>
-    ensures ok { OnOk result (out.new.items ≡ out.old.items ++ hex_text number) }
-    ensures kept { take (length out.old.items) out.new.items ≡ out.old.items }
-{
-    let mut buf = [0; MAX_DIGITS];
-    out.extend_from_slice(hex_text(number, &mut buf))
 }

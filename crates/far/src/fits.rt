@@ -2,19 +2,20 @@
 ghost use Rattle.std.specs.Prelude.{◌≡◌, ◌↔◌, ◌+◌, ◌*◌, ◌<◌, ◌≤◌, IsTrue};
 ghost use Rattle.machine_text.specs.Packed.{entry_of, symbol_number};
 ghost use Rattle.far.specs.Automata.{AreAutomataOf, has, row_at, target};
-ghost use Rattle.far.specs.Far.{automata_of};
+ghost use Rattle.far.specs.Limits.{pair_limit, word_bits};
 ghost use Rattle.far.specs.inside.Steps.{last, ReachesIn, FitsEntry, FitsPair, EachFits, KeepsBlank};
+ghost use Rattle.far.specs.inside.Unpacked.{unpacked_of};
 
-use crate::far::Far;
 use crate::limits::Set;
 use crate::sets::{has, is_part, union_over};
+use crate::unpacked::Unpacked;
 use machine_text::{Dir, Entry, State, Sym, Table};
 
-impl Far {
+impl Unpacked {
     // Whether the automata fit a table of their number of states.
     pub(crate) fn fits(&self, t: &Table) -> bool
         requires { self.now.states ≡ t.now.states }
-        ensures { IsTrue result ↔ AreAutomataOf (automata_of self.now) t.now }
+        ensures { IsTrue result ↔ AreAutomataOf (unpacked_of self.now) t.now }
     {
         // The proof needs that the table is one.
         let _ = t.states();
@@ -26,7 +27,7 @@ impl Far {
 
     // Whether the blank tape is kept away from the halt state.
     fn keeps_blank(&self) -> bool
-        ensures { IsTrue result ↔ KeepsBlank (automata_of self.now) }
+        ensures { IsTrue result ↔ KeepsBlank (unpacked_of self.now) }
     {
         if self.target(0, Sym::Zero) != 0 {
             return false;
@@ -43,7 +44,7 @@ impl Far {
     // Whether each state of the second automaton but the halt state has its edges.
     fn each_fits(&self, t: &Table) -> bool
         requires { self.now.states ≡ t.now.states }
-        ensures { IsTrue result ↔ EachFits (entry_of t.now) (automata_of self.now) (last (automata_of self.now)) }
+        ensures { IsTrue result ↔ EachFits (entry_of t.now) (unpacked_of self.now) (last (unpacked_of self.now)) }
     {
         let states = self.states as usize;
         for j in 0..self.last() {
@@ -63,7 +64,7 @@ impl Far {
         requires states { self.now.states ≡ t.now.states }
         requires first { q < self.now.size }
         requires second { f < self.now.states }
-        ensures { IsTrue result ↔ FitsPair (entry_of t.now) (automata_of self.now) q f r }
+        ensures { IsTrue result ↔ FitsPair (entry_of t.now) (unpacked_of self.now) q f r }
     {
         match t.get(State(f as u8), r) {
             Some(entry) => self.fits_entry(q, f, r, entry),
@@ -76,7 +77,7 @@ impl Far {
         requires first { q < self.now.size }
         requires second { f < self.now.states }
         requires next { entry.next.0 < self.now.states }
-        ensures { IsTrue result ↔ FitsEntry (automata_of self.now) q f r entry }
+        ensures { IsTrue result ↔ FitsEntry (unpacked_of self.now) q f r entry }
     {
         if !self.fits_ahead(q, f, r, entry) {
             return false;
@@ -93,8 +94,8 @@ impl Far {
         requires second { f < self.now.states }
         requires next { entry.next.0 < self.now.states }
         ensures { IsTrue result ↔ (entry.dir ≡ self.now.side
-            → IsTrue (has (row_at (automata_of self.now) (q * self.now.states + f) r)
-            (target (automata_of self.now) q entry.write * self.now.states + entry.next.0))) }
+            → IsTrue (has (row_at (unpacked_of self.now) (q * self.now.states + f) r)
+            (target (unpacked_of self.now) q entry.write * self.now.states + entry.next.0))) }
     {
         if !is_ahead(entry.dir, self.side) {
             return true;
@@ -110,8 +111,8 @@ impl Far {
         requires second { f < self.now.states }
         requires next { entry.next.0 < self.now.states }
         ensures { IsTrue result ↔ ((entry.dir ≡ self.now.side → ⊥)
-            → ReachesIn (automata_of self.now) (row_at (automata_of self.now) (q * self.now.states + entry.next.0) b)
-            entry.write (row_at (automata_of self.now) (target (automata_of self.now) q b * self.now.states + f) r)) }
+            → ReachesIn (unpacked_of self.now) (row_at (unpacked_of self.now) (q * self.now.states + entry.next.0) b)
+            entry.write (row_at (unpacked_of self.now) (target (unpacked_of self.now) q b * self.now.states + f) r)) }
     {
         if is_ahead(entry.dir, self.side) {
             return true;
@@ -122,7 +123,7 @@ impl Far {
 
     // Whether what the members of a set reach by a symbol is in a row.
     fn reaches_in(&self, set: Set, s: Sym, row: Set) -> bool
-        ensures { IsTrue result ↔ ReachesIn (automata_of self.now) set s row }
+        ensures { IsTrue result ↔ ReachesIn (unpacked_of self.now) set s row }
     {
         if !halts_in(set, row, self.last()) {
             return false;
@@ -137,7 +138,7 @@ impl Far {
     fn row(&self, q: usize, f: usize, r: Sym) -> Set
         requires first { q < self.now.size }
         requires second { f < self.now.states }
-        ensures { result ≡ row_at (automata_of self.now) (q * self.now.states + f) r }
+        ensures { result ≡ row_at (unpacked_of self.now) (q * self.now.states + f) r }
     {
         self.rows()[2 * self.number(q, f) + symbol_number(r)]
     }
@@ -147,8 +148,8 @@ impl Far {
         requires first { q < self.now.size }
         requires second { f < self.now.states }
         ensures number { result ≡ q * self.now.states + f }
-        ensures below { result < last (automata_of self.now) }
-        ensures limit { result < 48 }
+        ensures below { result < last (unpacked_of self.now) }
+        ensures limit { result < pair_limit }
     {
         q * self.states as usize + f
     }
@@ -156,7 +157,7 @@ impl Far {
     // Where the first automaton goes from q on a symbol.
     fn target(&self, q: usize, s: Sym) -> usize
         requires { q < self.now.size }
-        ensures target { result ≡ target (automata_of self.now) q s }
+        ensures target { result ≡ target (unpacked_of self.now) q s }
         ensures below { result < self.now.size }
     {
         self.delta()[2 * q + symbol_number(s)] as usize
@@ -183,7 +184,7 @@ fn is_ahead(dir: Dir, side: Dir) -> bool
 
 // Whether the halt state, if it is in a set, is in a row too.
 fn halts_in(set: Set, row: Set, last: usize) -> bool
-    requires { last < 64 }
+    requires { last < word_bits }
     ensures { IsTrue result ↔ (IsTrue (has set last) → IsTrue (has row last)) }
 {
     !has(set, last) || has(row, last)

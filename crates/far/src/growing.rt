@@ -1,10 +1,10 @@
 // Two automata in the making: the first one gets a transition at a time, and the edges that the table then asks
 // for grow the second one. They only grow, so the last transition is taken back by a trail of what they were.
 ghost use Rattle.std.specs.Prelude.{◌≡◌, ◌↔◌, ◌+◌, ◌*◌, ◌<◌, ◌≤◌, ℕ, IsTrue, IfSome, slice_index};
-ghost use Rattle.far.specs.Limits.{size_limit};
+ghost use Rattle.far.specs.Limits.{size_limit, pair_limit, row_limit};
 
-use crate::far::Far;
-use crate::limits::{MAX_MOVES, MAX_ROWS, Set};
+use crate::limits::{MAX_MOVES, MAX_PAIRS, MAX_ROWS, Set};
+use crate::unpacked::Unpacked;
 use evidence::NoMemory;
 use machine_text::{Dir, Entry, State, Sym, Table};
 use std::alloc::Global;
@@ -49,7 +49,7 @@ struct Move {
 }
 
 // The most edges that the second automaton can have.
-const MAX_EDGES: usize = 49 * MAX_ROWS;
+const MAX_EDGES: usize = (MAX_PAIRS + 1) * MAX_ROWS;
 
 impl Model for Growing {
     ghost use Rattle.std.specs.Prelude.{◌*◌, ◌<◌, ◌≤◌, ℕ, slice_index};
@@ -103,8 +103,8 @@ impl Growing {
     }
 
     // The automata, once they are complete.
-    pub fn automata(&self) -> Option<Far> {
-        Far::from_numbers(
+    pub fn automata(&self) -> Option<Unpacked> {
+        Unpacked::of_numbers(
             self.table.states(),
             self.side,
             self.size,
@@ -290,7 +290,7 @@ impl Growing {
 
     // Adds to a row, and says whether it grew.
     fn add(&mut self, place: usize, more: Set) -> Result<bool, NoMemory>
-        requires { place < 96 }
+        requires { place < row_limit }
         ensures { self.new ≡ self.old }
     {
         let row = self.rows[place];
@@ -334,7 +334,7 @@ impl Growing {
 
     // The number of the halt state.
     fn last(&self) -> usize
-        ensures { result ≤ 48 }
+        ensures { result ≤ pair_limit }
     {
         self.size as usize * self.table.states() as usize
     }
@@ -343,7 +343,7 @@ impl Growing {
     fn number(&self, q: u8, state: State) -> usize
         requires first { q < self.now.size }
         requires second { state.0 < self.now.states }
-        ensures { result < 48 }
+        ensures { result < pair_limit }
     {
         q as usize * self.table.states() as usize + state.0 as usize
     }
@@ -352,7 +352,7 @@ impl Growing {
     fn place(&self, q: u8, state: State, s: Sym) -> usize
         requires first { q < self.now.size }
         requires second { state.0 < self.now.states }
-        ensures { result < 96 }
+        ensures { result < row_limit }
     {
         2 * self.number(q, state) + s as usize
     }

@@ -1,40 +1,77 @@
 // Numbers in hexadecimal.
-ghost use Rattle.std.specs.Prelude.{◌≡◌, ◌+◌, ◌-◌, ◌*◌, ◌^◌, ◌<◌, ◌≤◌, IfSome, IfNone, drop};
-ghost use Rattle.far.specs.Texts.{hex_glyph, hex_value, hex_text, hex_worth, IsHex};
+ghost use Rattle.std.specs.Prelude.{◌≡◌, ◌+◌, ◌-◌, ◌*◌, ◌/◌, ◌^◌, ◌<◌, ◌≤◌, ◌≢◌, IfSome, IfNone, length, slice_index, drop};
+ghost use Rattle.far.specs.Limits.{pair_limit, word_bits};
+ghost use Rattle.far.specs.Texts.{hex_glyph, hex_value, hex_text, hex_worth, IsDigit, IsHex};
 
 use crate::limits::Set;
 
-// The most digits of a set.
-pub(crate) const MAX_DIGITS: usize = 16;
+// The most digits of a number in which a set is kept.
+pub(crate) const MAX_DIGITS: usize = Set::BITS as usize / 4;
 
 // The number below a limit of which a text is the hexadecimal form: in lower case, without leading zeros.
 pub(crate) fn hex_number(text: &[u8], limit: Set) -> Option<Set>
-    requires { limit ≤ 2 ^ 57 }
+    requires { limit ≤ 2 ^ (pair_limit + 1) }
     ensures some { IfSome result (λ n. (n ≡ hex_worth text.now) × IsHex limit text.now) }
     ensures none { IfNone result (IsHex limit text.now → ⊥) }
 {
-    let number = worth_of(text, limit)?;
-    let mut buf = [0; MAX_DIGITS];
-    if hex_text(number, &mut buf) != text {
+    if text.is_empty() {
         return None;
     }
-    Some(number)
+    if text[0] == b'0' {
+        zero_in(text, limit)
+    } else {
+        positive_in(text, limit)
+    }
 }
 
-// What a row of digits is worth, where that is below a limit.
-fn worth_of(text: &[u8], limit: Set) -> Option<Set>
-    requires { limit ≤ 2 ^ 57 }
-    ensures some { IfSome result (λ n. (n ≡ hex_worth text.now) × (n < limit)) }
-    ensures none { IfNone result (limit ≤ hex_worth text.now) }
+// The number 0, where a text that begins with its digit is its form.
+fn zero_in(text: &[u8], limit: Set) -> Option<Set>
+    requires some { 0 < length text.now }
+    requires zero { slice_index text.now 0 ≡ 48 }
+    ensures some { IfSome result (λ n. (n ≡ hex_worth text.now) × IsHex limit text.now) }
+    ensures none { IfNone result (IsHex limit text.now → ⊥) }
+{
+    if text.len() > 1 {
+        return None;
+    }
+    if limit == 0 {
+        return None;
+    }
+    Some(0)
+}
+
+// The number whose digits a text has, of which the first is no zero.
+fn positive_in(text: &[u8], limit: Set) -> Option<Set>
+    requires limit { limit ≤ 2 ^ (pair_limit + 1) }
+    requires some { 0 < length text.now }
+    requires positive { slice_index text.now 0 ≢ 48 }
+    ensures some { IfSome result (λ n. (n ≡ hex_worth text.now) × IsHex limit text.now) }
+    ensures none { IfNone result (IsHex limit text.now → ⊥) }
 {
     let mut number: Set = 0;
     for byte in text {
-        number = 16 * number + Set::from(hex_value(*byte));
+        number = 16 * number + Set::from(hex_digit(*byte, 16)?);
         if number >= limit {
             return None;
         }
     }
     if number >= limit { None } else { Some(number) }
+}
+
+// The number below a limit whose digit a byte is.
+pub(crate) fn hex_digit(byte: u8, limit: u8) -> Option<u8>
+    requires { limit ≤ 16 }
+    ensures some { IfSome result (λ d. (d ≡ hex_value byte) × IsDigit limit byte) }
+    ensures none { IfNone result (IsDigit limit byte → ⊥) }
+{
+    let digit = hex_value(byte);
+    if digit >= limit {
+        return None;
+    }
+    if hex_glyph(digit) != byte {
+        return None;
+    }
+    Some(digit)
 }
 
 // What a digit is worth.
@@ -49,7 +86,7 @@ fn hex_value(byte: u8) -> u8
 }
 
 // A digit that is worth so much.
-fn hex_glyph(digit: u8) -> u8
+pub(crate) fn hex_glyph(digit: u8) -> u8
     requires { digit < 16 }
     ensures { result ≡ hex_glyph digit }
 {
@@ -79,7 +116,7 @@ pub(crate) fn hex_text(number: Set, buf: &mut [u8; MAX_DIGITS]) -> &[u8]
 
 // What stands from a place on.
 fn behind(buf: &[u8; MAX_DIGITS], at: usize) -> &[u8]
-    requires { at ≤ 16 }
+    requires { at ≤ word_bits / 4 }
     ensures { result.now ≡ drop at buf.now }
 {
     &buf[at..]

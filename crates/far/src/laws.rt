@@ -3,17 +3,18 @@ ghost use Rattle.std.specs.Prelude.{◌≡◌, ◌≤◌, ℕ, List, Ok, All, De
 ghost use Rattle.text.specs.Fields.{AreFields, spaced};
 ghost use Rattle.far.specs.Automata.{Automata, AreAutomata, AreSized};
 ghost use Rattle.far.specs.Fields.{number_fields, far_by, far_fields};
+ghost use Rattle.far.specs.Limits.{number_byte_limit};
 ghost use Rattle.far.specs.Tests.{are_texts};
 ghost use Rattle.far.specs.Texts.{AreTexts, automata_by, delta_text, rows_text, hex_text};
 
 /// The texts of automata's numbers give those numbers again. They hold neither a space nor a newline, and with
-/// a space before each they have at most 1,401 bytes.
+/// a space before each they have at most 6,784 bytes.
 pub fn texts_read_back()
     ensures texts { (a : Automata) → 1 ≤ a.size → 1 ≤ a.states → AreAutomata a →
         AreTexts a.states a.size (delta_text a.delta) (rows_text a.rows) (hex_text a.keep) }
     ensures same { (a : Automata) → 1 ≤ a.size → 1 ≤ a.states → AreAutomata a →
         automata_by a.states a.side a.size (delta_text a.delta) (rows_text a.rows) (hex_text a.keep) ≡ a }
-    ensures short { (a : Automata) → AreSized a → AreAutomata a → length (spaced (number_fields a)) ≤ 1401 }
+    ensures short { (a : Automata) → AreSized a → AreAutomata a → length (spaced (number_fields a)) ≤ number_byte_limit }
     ensures bytes { (a : Automata) →
         All (λ b. 44 ≤ b) (delta_text a.delta) × All (λ b. 44 ≤ b) (rows_text a.rows) × All (λ b. 44 ≤ b) (hex_text a.keep) }
 {}

@@ -7,7 +7,6 @@
 //! and the limits (`Limits`). `specs/inside` is for the crate's own code.
 #![tactic(auto)]
 
-mod copies;
 mod far;
 mod far_finder;
 mod fields;
@@ -19,9 +18,11 @@ mod limits;
 mod numbers;
 mod owned_far;
 mod sets;
+mod unpacked;
+mod writing;
 
 pub use far::Far;
 pub use far_finder::FarFinder;
 pub use laws::{far_reads_back, texts_are_tested, texts_read_back};
-pub use limits::{MAX_SIZE, Set};
+pub use limits::MAX_SIZE;
 pub use owned_far::OwnedFar;

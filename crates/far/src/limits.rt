@@ -2,12 +2,14 @@
 use machine_text::MAX_STATES;
 
 /// The most states of the first automaton.
-pub const MAX_SIZE: u8 = 8;
+pub const MAX_SIZE: u8 = 16;
 
-/// A set of states of the second automaton, a bit for each. There are up to 49.
-pub type Set = u64;
+/// A set of states of the second automaton, a bit for each. There are up to 113.
+pub type Set = u128;
 
 // How many numbers the largest automata have.
 pub(crate) const MAX_MOVES: usize = 2 * MAX_SIZE as usize;
 
-pub(crate) const MAX_ROWS: usize = 2 * MAX_SIZE as usize * MAX_STATES as usize;
+pub(crate) const MAX_PAIRS: usize = MAX_SIZE as usize * MAX_STATES as usize;
+
+pub(crate) const MAX_ROWS: usize = 2 * MAX_PAIRS;

@@ -1,66 +1,94 @@
-// Automata that own their numbers.
+// Automata that keep their own texts.
 ghost use Rattle.std.specs.Prelude.{◌≡◌, ◌+◌, ◌*◌, ◌≤◌, length};
 ghost use Rattle.machine_text.specs.Limits.{state_limit};
 ghost use Rattle.far.specs.Limits.{size_limit};
-ghost use Rattle.far.specs.Automata.{automata, AreAutomata};
-ghost use Rattle.far.specs.NumberList.{owned_delta, owned_rows, owned_keep};
+ghost use Rattle.far.specs.TextList.{owned_delta, owned_rows, owned_keep};
+ghost use Rattle.far.specs.Texts.{AreTexts};
 
-use crate::copies::{append_moves, moves_from, rows_from};
 use crate::far::Far;
-use crate::limits::Set;
+use crate::unpacked::Unpacked;
+use crate::writing::{append_delta, append_hex, append_rows};
 use evidence::NoMemory;
 use machine_text::Dir;
 use std::alloc::Global;
 
-/// The same claim as `Far`, with as much memory as its numbers need: `Far` itself has room for the largest ones,
-/// some 800 bytes.
+/// A `Far` with a text of its own, for automata that are kept longer than the text from which they come: one text with
+/// the three texts one behind another, and nothing between them.
 #[derive(Debug, Drop)]
 pub struct OwnedFar {
+    text: Vec<u8>,
+    row_bytes: usize,
     states: u8,
     side: Dir,
     size: u8,
-    // delta, then rows, then keep
-    numbers: Vec<Set>,
     ghost limits: { (1 ≤ states) × (states ≤ state_limit) × (1 ≤ size) × (size ≤ size_limit) },
-    ghost count: { length numbers.items ≡ 2 * size + 2 * (size * states) + 1 },
-    ghost well_formed: { AreAutomata (automata states side size (owned_delta size numbers.items)
-        (owned_rows size states numbers.items) (owned_keep size states numbers.items)) },
+    ghost room: { 2 * size + row_bytes ≤ length text.items },
+    ghost texts: { AreTexts states size (owned_delta size text.items) (owned_rows size row_bytes text.items) (owned_keep size row_bytes text.items) },
 }
 
 impl OwnedFar {
     ghost use Rattle.std.specs.Prelude.{IfOk};
     ghost use Rattle.far.specs.Far.{automata_of};
     ghost use Rattle.far.specs.OwnedFar.{owned_automata};
+    ghost use Rattle.far.specs.inside.Unpacked.{unpacked_of};
 
-    /// Copies a claim.
+    /// A copy of a claim.
     pub fn of(alloc: Global, e: &Far) -> Result<OwnedFar, NoMemory>
         ensures { IfOk result (λ o. owned_automata o ≡ automata_of e.now) }
     {
-        let mut numbers = Vec::with_capacity(alloc, e.delta().len() + e.rows().len() + 1)?;
-        append_moves(e.delta(), &mut numbers)?;
-        numbers.extend_from_slice(e.rows())?;
-        numbers.push(e.keep())?;
+        let Far {
+            states,
+            side,
+            size,
+            delta,
+            rows,
+            keep,
+        } = *e;
+        let mut text = Vec::with_capacity(alloc, delta.len() + rows.len() + keep.len())?;
+        text.extend_from_slice(delta)?;
+        text.extend_from_slice(rows)?;
+        text.extend_from_slice(keep)?;
         Ok(OwnedFar {
-            states: e.states(),
-            side: e.side(),
-            size: e.size(),
-            numbers,
+            text,
+            row_bytes: rows.len(),
+            states,
+            side,
+            size,
         })
     }
 
-    /// The claim. Takes no memory.
-    pub fn lent(&self) -> Far
+    // The claim that numbers make, as text.
+    pub(crate) fn of_numbers(alloc: Global, numbers: &Unpacked) -> Result<OwnedFar, NoMemory>
+        ensures { IfOk result (λ o. owned_automata o ≡ unpacked_of numbers.now) }
+    {
+        let delta = numbers.delta();
+        let mut text = Vec::new(alloc);
+        append_delta(delta, &mut text)?;
+        append_rows(numbers.rows(), &mut text)?;
+        let row_bytes = text.len() - delta.len();
+        append_hex(numbers.keep, &mut text)?;
+        Ok(OwnedFar {
+            text,
+            row_bytes,
+            states: numbers.states,
+            side: numbers.side,
+            size: numbers.size,
+        })
+    }
+
+    /// The claim, lent. Takes no memory, and looks at no byte.
+    pub fn lent(&self) -> Far<'_>
         ensures { automata_of result ≡ owned_automata self.now }
     {
-        let moves = 2 * self.size as usize;
-        let last = self.size as usize * self.states as usize;
+        let (delta, others) = self.text.split_at(2 * self.size as usize);
+        let (rows, keep) = others.split_at(self.row_bytes);
         Far {
             states: self.states,
             side: self.side,
             size: self.size,
-            delta: moves_from(&self.numbers[..moves]),
-            rows: rows_from(&self.numbers[moves..moves + 2 * last]),
-            keep: self.numbers[moves + 2 * last],
+            delta,
+            rows,
+            keep,
         }
     }
 }

@@ -1,19 +1,22 @@
 -- How far texts are read or written.
-use Rattle.std.specs.Prelude.{◌≡◌, ℕ, ◌+◌, ◌^◌, ◌<◌, ◌≤◌, List, [], ◌++◌, length, get_or, map, take, drop, slice_index}
+use Rattle.std.specs.Prelude.{◌≡◌, ℕ, ◌+◌, ◌/◌, ◌^◌, ◌<◌, ◌≤◌, List, [], ◌++◌, length, get_or, map, take, drop, slice_index}
 use Rattle.std.specs.Int.Digits.{digits_of}
+use Rattle.far.specs.Limits.{word_bits, move_limit, pair_limit, row_limit}
 use Rattle.text.specs.Parts.{parts_of}
-use Rattle.far.specs.Texts.{hex_glyph, hex_worth, IsHex, delta_of}
+use Rattle.far.specs.Texts.{hex_glyph, hex_worth, IsDigit, IsHex, delta_of}
 
--- so many digits of a number in hexadecimal are read
+-- so many digits of a number in hexadecimal are read, and they are its form
 pub record IsWorth (text : List ℕ) (reach number : ℕ) : Type 0 where
   pub worth : number ≡ hex_worth (take reach text)
-  pub small : number < 2 ^ 57
+  pub small : number < 2 ^ (pair_limit + 1)
+  pub some : 0 < reach → 0 < number
+  pub form : map hex_glyph (digits_of 16 number) ≡ take reach text
 
 -- what is left of a number has its digits in front of those that stand in the buffer from a place on
 pub record IsWritten (number rest at : ℕ) (buf : List ℕ) : Type 0 where
   pub room : length (digits_of 16 rest) ≤ at
-  pub end : at ≤ 16
-  pub size : length buf ≡ 16
+  pub end : at ≤ word_bits / 4
+  pub size : length buf ≡ word_bits / 4
   pub digits : map hex_glyph (digits_of 16 rest) ++ drop at buf ≡ map hex_glyph (digits_of 16 number)
 
 -- each number is below a limit
@@ -22,15 +25,14 @@ pub record AreBelow (limit : ℕ) (numbers : List ℕ) : Type 0 where
 
 -- so many numbers of delta are read
 pub record AreMoves (size : ℕ) (text : List ℕ) (reach : ℕ) (delta : List ℕ) : Type 0 where
-  pub length_is : length delta ≡ 16
+  pub length_is : length delta ≡ move_limit
   pub same : take reach delta ≡ delta_of (take reach text)
-  pub from : (k : ℕ) → k < reach → 48 ≤ slice_index text k
-  pub to : (k : ℕ) → k < reach → slice_index text k < 48 + size
+  pub each : (k : ℕ) → k < reach → IsDigit size (slice_index text k)
 
 -- so many rows are read
 pub record AreEdges (limit : ℕ) (text : List ℕ) (reach : ℕ) (left : List (List ℕ)) (rows : List ℕ) : Type 0 where
   pub left_is : left ≡ drop reach (parts_of 44 text)
   pub there : reach ≤ length (parts_of 44 text)
-  pub length_is : length rows ≡ 96
+  pub length_is : length rows ≡ row_limit
   pub same : take reach rows ≡ map hex_worth (take reach (parts_of 44 text))
   pub each : (k : ℕ) → k < reach → IsHex limit (get_or (parts_of 44 text) k [])

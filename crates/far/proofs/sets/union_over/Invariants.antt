@@ -1,5 +1,9 @@
-use Rattle.far.specs.inside.Sets.{Gathers}
+use Rattle.std.proofs.Common.{◌≤◌}
+use Rattle.far.specs.inside.Sets.{IsUnited}
 use Rattle.far.proofs.sets.union_over.Given as goal
 
-abbrev pub invariant-loop-j : goal.invariant-loop-j
-invariant-loop-j l = Gathers l.rows l.set l.r l.j l.union
+abbrev pub decreases-members : goal.decreases-members
+decreases-members l = l.rest
+
+abbrev pub invariant-members : goal.invariant-members
+invariant-members l = record { united : IsUnited l.rows l.set l.r l.from l.rest l.union; within : l.from ≤ l.reach }

@@ -1,5 +1,0 @@
-use Rattle.std.proofs.Common.{◌≡◌, length, take}
-use Rattle.far.proofs.copies.rows_from.Given as goal
-
-abbrev pub invariant-loop-k : goal.invariant-loop-k
-invariant-loop-k l = record { same : take l.k l.rows ≡ take l.k l.numbers; size : length l.rows ≡ 96 }

@@ -325,6 +325,7 @@ const DEFAULTS: Search = Search {
     depth: 20,
     gram: 3,
     far: 2,
+    hard: false,
 };
 
 fn retry(steps: u64) -> Options<'static> {

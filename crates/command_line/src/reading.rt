@@ -5,8 +5,8 @@ ghost use Rattle.options.specs.Ranges.{AreWithinRanges, IsSettling, IsWithinRang
 use crate::grammar::program;
 use crate::line_fault::LineFault;
 use crate::words::{
-    DEPTH, ERA, FAR, FILE, FIRST, GRAM, IN, JSON, LEDGER, LOSE, OUT, PROGRESS, ROUNDS, SECOND,
-    STATES, STEPS, WHY, WORKERS,
+    DEPTH, ERA, FAR, FILE, FIRST, GRAM, HARD, IN, JSON, LEDGER, LOSE, OUT, PROGRESS, ROUNDS,
+    SECOND, STATES, STEPS, WHY, WORKERS,
 };
 use clap::ArgMatches;
 use options::{Beginning, Carrying, Merging, Options, Search, Settling};
@@ -41,6 +41,7 @@ fn search_of(matches: &ArgMatches<'_>) -> Result<Search, LineFault>
         depth: number_of(matches, DEPTH, 0, 1_000)?,
         gram: number_of(matches, GRAM, 0, 8)?,
         far: number_of(matches, FAR, 0, 16)?,
+        hard: matches.get_flag(HARD),
     })
 }
 

@@ -7,6 +7,8 @@ pub(crate) const GRAM: &str = "gram";
 
 pub(crate) const FAR: &str = "far";
 
+pub(crate) const HARD: &str = "hard";
+
 pub(crate) const STATES: &str = "N";
 
 pub(crate) const LEDGER: &str = "ledger";

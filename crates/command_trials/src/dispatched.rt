@@ -66,6 +66,7 @@ const SEARCH: Search = Search {
     depth: 20,
     gram: 3,
     far: 2,
+    hard: false,
 };
 
 const ONE_STATE: &[u8] =
@@ -194,6 +195,7 @@ fn search_of(numbers: [u64; 4]) -> Search {
         depth: numbers[1],
         gram: numbers[2],
         far: numbers[3],
+        hard: false,
     }
 }
 

@@ -44,6 +44,7 @@ pub fn run_rounds(
             depth: 20,
             gram: 3,
             far: 2,
+            hard: false,
         },
         json: false,
         progress: false,

@@ -70,6 +70,7 @@ fn settling(states: u8, workers: u8, lose: Option<u64>, rounds: u64, progress: b
             depth: 20,
             gram: 3,
             far: 3,
+            hard: false,
         },
         json: false,
         progress,

@@ -278,6 +278,7 @@ fn settled(
             depth: 20,
             gram: 3,
             far: 2,
+            hard: false,
         },
         json: false,
         progress: false,

@@ -1,4 +1,5 @@
 // The finders that the command line can ask for.
+use crate::hard_finder::HardFinder;
 use backward::BackwardFinder;
 use cert::{Finder, OwnedCertificate};
 use evidence::NoMemory;
@@ -19,6 +20,7 @@ pub(crate) enum AnyFinder {
     Backward(BackwardFinder),
     Ngram(NgramFinder),
     Far(FarFinder),
+    Hard(HardFinder),
 }
 
 impl Finder for AnyFinder {
@@ -34,14 +36,19 @@ impl Finder for AnyFinder {
             AnyFinder::Backward(finder) => finder.find(t, budget),
             AnyFinder::Ngram(finder) => finder.find(t, budget),
             AnyFinder::Far(finder) => finder.find(t, budget),
+            AnyFinder::Hard(finder) => finder.find(t, budget),
         }
     }
 }
 
-// One of each, in the order in which they are asked.
+// One of each, in the order in which they are asked; or the one that goes through the stages, where the search is hard.
 pub(crate) fn all_finders(alloc: Global, search: &Search) -> Result<Vec<AnyFinder>, NoMemory> {
     let steps = search.steps;
     let mut finders = Vec::new(alloc);
+    if search.hard {
+        finders.push(AnyFinder::Hard(HardFinder::new(alloc, steps)))?;
+        return Ok(finders);
+    }
     finders.push(AnyFinder::Halts(HaltFinder::new(alloc, steps)))?;
     finders.push(AnyFinder::Cycle(CycleFinder::new(alloc, steps)))?;
     finders.push(AnyFinder::Translated(TranslatedFinder::new(alloc, steps)))?;

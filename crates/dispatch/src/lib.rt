@@ -5,6 +5,8 @@
 
 mod any_finder;
 mod executing;
+mod hard_finder;
+mod stages;
 mod system;
 
 pub use executing::carry_out;

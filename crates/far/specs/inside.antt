@@ -2,5 +2,5 @@
 pub mod Sets
 pub mod Reading
 pub mod Steps
-pub mod Growing
+pub mod LeastEdges
 pub mod Unpacked

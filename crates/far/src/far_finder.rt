@@ -4,22 +4,21 @@ ghost use Rattle.far.specs.Limits.{size_limit};
 ghost use Rattle.far.specs.Automata.{AreAutomataOf};
 ghost use Rattle.far.specs.OwnedFar.{owned_automata};
 
-use crate::growing::Growing;
+use crate::least_edges::LeastEdges;
 use crate::limits::MAX_SIZE;
 use crate::owned_far::OwnedFar;
+use automata_search::{AutomataSearch, Automaton, Stage};
 use evidence::NoMemory;
-use machine_text::{Dir, Table};
+use machine_text::Table;
 use std::alloc::Global;
-
-// How many transitions are tried for each step of a budget.
-const TRIES_PER_STEP: u64 = 20_000;
 
 /// Searches automata.
 #[derive(Drop)]
 pub struct FarFinder {
     alloc: Global,
     pub size: u64,
-    growing: Growing,
+    // made by the first search
+    search: Option<AutomataSearch>,
 }
 
 impl FarFinder {
@@ -30,7 +29,7 @@ impl FarFinder {
         FarFinder {
             alloc,
             size,
-            growing: Growing::new(alloc),
+            search: None,
         }
     }
 
@@ -41,75 +40,76 @@ impl FarFinder {
 
     /// Automata of a table, of the finder's size at most; none where it finds none. What it gives stands.
     ///
-    /// It tries the sizes one after another, and for each both sides. The transitions of the first automaton
-    /// are tried one by one, a state being named where it is first gone to, and the edges of the second are the
-    /// least that go with them. They only grow, so where the blank tape leads to the halt state, no automaton
-    /// with these transitions will do, and the last one is taken back.
-    ///
-    /// It tries no more than 20,000 transitions for each step of the budget. No contract says what is found or
-    /// how long it takes.
+    /// `automata_search` looks for the first automaton, by stages that a budget of 1,000 runs as they are and others
+    /// in proportion. The second one has the least edges that go with it. No contract says what is found or how long
+    /// it takes. The first search takes the memory to search in, and each one that of what it finds.
     pub fn search(&mut self, t: &Table, budget: u64) -> Result<Option<OwnedFar>, NoMemory>
         ensures found { IfOk result (λ o. IfSome o (λ e. AreAutomataOf (owned_automata e) t.now)) }
         ensures size { IfOk result (λ o. IfSome o (λ e. (owned_automata e).size ≤ min self.old.size size_limit)) }
         ensures same { self.new.size ≡ self.old.size }
     {
-        let mut left = budget.saturating_mul(TRIES_PER_STEP);
-        for size in 1..=self.size.min(MAX_SIZE as u64) as u8 {
-            if let Some(found) = self.find(t, Dir::R, size, &mut left)? {
-                return Ok(Some(found));
-            }
-            if let Some(found) = self.find(t, Dir::L, size, &mut left)? {
-                return Ok(Some(found));
-            }
-        }
-        Ok(None)
+        self.make_ready()?;
+        let most = self.most();
+        let Some(search) = &mut self.search else {
+            return Ok(None);
+        };
+        let Some(found) = search.find(t, most, budget) else {
+            return Ok(None);
+        };
+        standing(self.alloc, &found, t, most)
     }
 
-    // Automata of this side and size; `left` is how many transitions may be tried.
-    fn find(
-        &mut self,
-        t: &Table,
-        side: Dir,
-        size: u8,
-        left: &mut u64,
-    ) -> Result<Option<OwnedFar>, NoMemory>
-        requires { (1 ≤ size) × (size ≤ size_limit) }
+    /// The same by one stage of the search.
+    pub fn search_in_stage(&mut self, t: &Table, stage: Stage) -> Result<Option<OwnedFar>, NoMemory>
         ensures found { IfOk result (λ o. IfSome o (λ e. AreAutomataOf (owned_automata e) t.now)) }
-        ensures size { IfOk result (λ o. IfSome o (λ e. (owned_automata e).size ≡ size)) }
+        ensures size { IfOk result (λ o. IfSome o (λ e. (owned_automata e).size ≤ min self.old.size size_limit)) }
         ensures same { self.new.size ≡ self.old.size }
     {
-        self.growing.begin(t, side, size);
-        let mut target = 0;
-        'tries: while *left > 0 {
-            *left -= 1;
-            let will_do = self.growing.extend(target)?;
-            if will_do && self.growing.is_complete() {
-                return standing(self.alloc, &self.growing, t, size);
-            }
-            match self.growing.next_target(will_do) {
-                Some(next) => target = next,
-                None => return Ok(None),
-            }
+        self.make_ready()?;
+        let most = self.most();
+        let Some(search) = &mut self.search else {
+            return Ok(None);
+        };
+        let Some(found) = search.find_in_stage(t, stage, most) else {
+            return Ok(None);
+        };
+        standing(self.alloc, &found, t, most)
+    }
+
+    // The most states that may be named.
+    fn most(&self) -> u8
+        ensures { result ≡ min self.now.size size_limit }
+    {
+        self.size.min(MAX_SIZE as u64) as u8
+    }
+
+    // Takes the memory to search in, where there is none yet.
+    fn make_ready(&mut self) -> Result<(), NoMemory>
+        ensures { self.new.size ≡ self.old.size }
+    {
+        if self.search.is_none() {
+            self.search = Some(AutomataSearch::new(self.alloc)?);
         }
-        Ok(None)
+        Ok(())
     }
 }
 
-// The automata, if they are of this size and those of the table.
+// The automata of this first one, if they are of this size at most and those of the table.
 fn standing(
     alloc: Global,
-    growing: &Growing,
+    found: &Automaton,
     t: &Table,
-    size: u8,
+    most: u8,
 ) -> Result<Option<OwnedFar>, NoMemory>
     ensures found { IfOk result (λ o. IfSome o (λ e. AreAutomataOf (owned_automata e) t.now)) }
-    ensures size { IfOk result (λ o. IfSome o (λ e. (owned_automata e).size ≡ size)) }
+    ensures size { IfOk result (λ o. IfSome o (λ e. (owned_automata e).size ≤ most)) }
 {
-    let Some(found) = growing.automata() else {
+    let edges = LeastEdges::new(t, found.side, found.size, found.delta);
+    let Some(automata) = edges.automata() else {
         return Ok(None);
     };
-    if found.size != size || !found.hold(t) {
+    if automata.size > most || !automata.hold(t) {
         return Ok(None);
     }
-    Ok(Some(OwnedFar::of_numbers(alloc, &found)?))
+    Ok(Some(OwnedFar::of_numbers(alloc, &automata)?))
 }

@@ -82,6 +82,9 @@ pub struct Search {
     pub gram: u64,
     /// The most states of the first automaton of two: 0 to 16, where 0 asks for none.
     pub far: u64,
+    /// Whether it goes by stages of its own, from cheap searches to dear ones, which `steps` scales; the other numbers
+    /// aren't used then.
+    pub hard: bool,
 }
 
 /// How a coordinator is begun.

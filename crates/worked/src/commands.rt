@@ -10,6 +10,7 @@ const SEARCH: Search = Search {
     depth: 20,
     gram: 3,
     far: 2,
+    hard: false,
 };
 
 const SHARES: [Share; 3] = [Share::Nothing, Share::Half, Share::Whole];

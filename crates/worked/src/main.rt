@@ -22,6 +22,7 @@ const SEARCH: Search = Search {
     depth: 20,
     gram: 3,
     far: 2,
+    hard: false,
 };
 
 // `bb run 3 --far 3`
@@ -35,6 +36,7 @@ const SETTLING: Settling = Settling {
         depth: 20,
         gram: 3,
         far: 3,
+        hard: false,
     },
     json: false,
     progress: false,
@@ -58,6 +60,7 @@ fn main(rt: HostRuntime) -> io::Result<ExitCode> {
     let further = Options::Decide(Search {
         gram: 4,
         far: 3,
+        hard: false,
         ..SEARCH
     });
     reading(&rt, "decide --gram 4 --far 3", further, "known.txt")?;

@@ -1,0 +1,235 @@
+// The least second automaton that goes with a first one.
+ghost use Rattle.std.specs.Prelude.{◌≡◌, ◌*◌, ◌<◌, ◌≤◌, ℕ, slice_index};
+ghost use Rattle.far.specs.Limits.{size_limit, pair_limit, row_limit};
+
+use crate::limits::{MAX_MOVES, MAX_PAIRS, MAX_ROWS, Set};
+use crate::unpacked::Unpacked;
+use machine_text::{Dir, Entry, State, Sym, Table};
+use std::marker::Model;
+
+// A first automaton, and of the second the edges that were found so far.
+#[derive(Drop)]
+pub(crate) struct LeastEdges {
+    table: Table,
+    side: Dir,
+    size: u8,
+    delta: [u8; MAX_MOVES],
+    rows: [Set; MAX_ROWS],
+}
+
+// A transition of the first automaton: from a state on a symbol to a state.
+#[derive(Clone, Copy)]
+struct Move {
+    from: u8,
+    read: Sym,
+    to: u8,
+}
+
+// The most edges that the second automaton can have.
+const MAX_EDGES: usize = (MAX_PAIRS + 1) * MAX_ROWS;
+
+impl Model for LeastEdges {
+    ghost use Rattle.std.specs.Prelude.{◌<◌, ◌≤◌, ℕ, slice_index};
+    ghost use Rattle.far.specs.Limits.{size_limit};
+    ghost use Rattle.far.specs.inside.LeastEdges.{Sizes};
+
+    ghost Value = { Sizes };
+
+    ghost view = { λ a. record { states = a.table.states; size = a.size } };
+
+    ghost invariant = { λ a. (1 ≤ a.size) × (a.size ≤ size_limit)
+        × ((k : ℕ) → slice_index a.delta k < a.size) };
+}
+
+impl LeastEdges {
+    // The edges that this first automaton asks for.
+    pub fn new(table: &Table, side: Dir, size: u8, delta: [u8; MAX_MOVES]) -> LeastEdges
+        requires size { (1 ≤ size) × (size ≤ size_limit) }
+        requires states { (k : ℕ) → slice_index delta k < size }
+        ensures { result.size ≡ size }
+    {
+        let mut edges = LeastEdges {
+            table: *table,
+            side,
+            size,
+            delta,
+            rows: halting_rows(table, size),
+        };
+        edges.grow();
+        edges
+    }
+
+    // The automata, with what the start of the second reaches by blanks.
+    pub fn automata(&self) -> Option<Unpacked> {
+        Unpacked::of_numbers(
+            self.table.states(),
+            self.side,
+            self.size,
+            self.delta,
+            self.rows,
+            self.kept(),
+        )
+    }
+
+    // Adds all the edges that are asked for. Each pass adds one at least, until there are no more.
+    fn grow(&mut self)
+        ensures { self.new ≡ self.old }
+    {
+        for pass in 0..MAX_EDGES {
+            if !self.grow_once() {
+                return;
+            }
+        }
+    }
+
+    // Adds the edges that are asked for by what is there, and says whether there were any.
+    fn grow_once(&mut self) -> bool
+        ensures { self.new ≡ self.old }
+    {
+        let mut grew = false;
+        for number in 0..2 * self.size {
+            if self.grow_by(number) {
+                grew = true;
+            }
+        }
+        grew
+    }
+
+    // Those that one transition of the first automaton asks for.
+    fn grow_by(&mut self, number: u8) -> bool
+        requires { number < 2 * self.old.size }
+        ensures { self.new ≡ self.old }
+    {
+        let step = Move {
+            from: number / 2,
+            read: symbol_of(number as usize % 2),
+            to: self.delta[number as usize],
+        };
+        let mut grew = false;
+        for pair in 0..2 * self.table.states() {
+            if self.grow_at(step, State(pair / 2), symbol_of(pair as usize % 2)) {
+                grew = true;
+            }
+        }
+        grew
+    }
+
+    // Those that it asks for with one pair of the table.
+    fn grow_at(&mut self, step: Move, state: State, read: Sym) -> bool
+        requires from { step.from < self.old.size }
+        requires to { step.to < self.old.size }
+        requires state { state.0 < self.old.states }
+        ensures { self.new ≡ self.old }
+    {
+        let Some(entry) = self.table.get(state, read) else {
+            return false;
+        };
+        if entry.dir != self.side {
+            return self.grow_back(step, state, read, entry);
+        }
+        if entry.write != step.read {
+            return false;
+        }
+        let set = 1 << self.number(step.to, entry.next);
+        self.add(self.place(step.from, state, read), set)
+    }
+
+    // The head moves back: the second automaton reads what the first had read last, and then the written symbol.
+    fn grow_back(&mut self, step: Move, state: State, read: Sym, entry: Entry) -> bool
+        requires from { step.from < self.old.size }
+        requires to { step.to < self.old.size }
+        requires state { state.0 < self.old.states }
+        requires next { entry.next.0 < self.old.states }
+        ensures { self.new ≡ self.old }
+    {
+        let first = self.rows[self.place(step.from, entry.next, step.read)];
+        let set = self.reached(first, entry.write);
+        self.add(self.place(step.to, state, read), set)
+    }
+
+    // Adds to a row, and says whether it grew.
+    fn add(&mut self, place: usize, more: Set) -> bool
+        requires { place < row_limit }
+        ensures { self.new ≡ self.old }
+    {
+        let row = self.rows[place];
+        self.rows[place] = row | more;
+        row | more != row
+    }
+
+    // What the start reaches by blanks.
+    fn kept(&self) -> Set {
+        let mut keep = 1;
+        for pass in 0..Set::BITS {
+            let reached = self.reached(keep, Sym::Zero);
+            if reached | keep == keep {
+                break;
+            }
+            keep |= reached;
+        }
+        keep
+    }
+
+    // What the members of a set reach by a symbol.
+    fn reached(&self, set: Set, s: Sym) -> Set {
+        let last = self.last();
+        let mut union = 0;
+        let mut rest = set;
+        'members: while rest != 0 {
+            let j = rest.trailing_zeros() as usize;
+            union |= if j < last {
+                self.rows[2 * j + s as usize]
+            } else {
+                1 << last
+            };
+            rest &= rest - 1;
+        }
+        union
+    }
+
+    // The number of the halt state.
+    fn last(&self) -> usize
+        ensures { result ≤ pair_limit }
+    {
+        self.size as usize * self.table.states() as usize
+    }
+
+    // The number of a state of the second automaton.
+    fn number(&self, q: u8, state: State) -> usize
+        requires first { q < self.now.size }
+        requires second { state.0 < self.now.states }
+        ensures { result < pair_limit }
+    {
+        q as usize * self.table.states() as usize + state.0 as usize
+    }
+
+    // The place of its edges on a symbol.
+    fn place(&self, q: u8, state: State, s: Sym) -> usize
+        requires first { q < self.now.size }
+        requires second { state.0 < self.now.states }
+        ensures { result < row_limit }
+    {
+        2 * self.number(q, state) + s as usize
+    }
+}
+
+// The rows that have an edge to the halt state where the table halts, and no other.
+fn halting_rows(table: &Table, size: u8) -> [Set; MAX_ROWS]
+    requires { (1 ≤ size) × (size ≤ size_limit) }
+{
+    let mut rows = [0; MAX_ROWS];
+    let states = table.states() as usize;
+    let last = size as usize * states;
+    for place in 0..2 * last {
+        let state = State((place / 2 % states) as u8);
+        if table.get(state, symbol_of(place % 2)).is_none() {
+            rows[place] = 1 << last;
+        }
+    }
+    rows
+}
+
+// The symbol of a number.
+fn symbol_of(number: usize) -> Sym {
+    if number == 0 { Sym::Zero } else { Sym::One }
+}

@@ -1,5 +1,5 @@
 // The finder that goes through the stages.
-use crate::stages::{DEPTH, LARGEST, STAGES, Stage, WIDEST};
+use crate::stages::{DEPTH, LARGEST, Stage, WIDEST, stages};
 use backward::BackwardFinder;
 use cert::{Finder, OwnedCertificate};
 use evidence::NoMemory;
@@ -90,7 +90,7 @@ impl Finder for HardFinder {
     ghost gives = { λ finder p budget claim. ⊤ };
 
     fn find(&mut self, t: &Table, budget: u64) -> Result<Option<OwnedCertificate>, NoMemory> {
-        for stage in STAGES {
+        for stage in stages() {
             let found = self.ask(stage, t, budget)?;
             if found.is_some() {
                 return Ok(found);

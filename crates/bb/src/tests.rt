@@ -198,9 +198,9 @@ const LINES: &str = "\
 2 err bb decide --steps 100000001
 2 err bb decide --depth 1001
 2 err bb decide --gram 9
-2 err bb decide --far 9
+2 err bb decide --far 17
 2 err bb coord 0
-2 err bb coord 7
+2 err bb coord 8
 2 err bb coord 1 --era 0
 2 err bb run 1 --workers 65
 2 err bb run 1 --lose 1
@@ -261,8 +261,8 @@ const SEARCHES: [(&str, [u64; 4]); 3] = [
         [100_000_000, 0, 0, 0],
     ),
     (
-        "bb decide --far 8 --gram 8 --depth 1000 --steps 1",
-        [1, 1_000, 8, 8],
+        "bb decide --far 16 --gram 8 --depth 1000 --steps 1",
+        [1, 1_000, 8, 16],
     ),
 ];
 
@@ -281,7 +281,7 @@ fn options_are_read_from_the_words(rt: HostRuntime) -> Result<(), Fail> {
     }
     for (text, states, era, ledger) in [
         ("bb coord 1", 1, 1, None),
-        ("bb coord 6 --era 18446744073709551615", 6, u64::MAX, None),
+        ("bb coord 7 --era 18446744073709551615", 7, u64::MAX, None),
         ("bb coord --ledger file 3 --era 2", 3, 2, Some("file")),
     ] {
         let beginning = Beginning { states, era };

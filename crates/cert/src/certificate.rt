@@ -27,13 +27,14 @@ pub enum Certificate<'a> {
     Backward(Backward),
     /// `N g L R C`: a closed position set of width g, its three lists borrowed from the record's text.
     Ngram(Ngram<'a>),
-    /// `F side m delta rows keep`: two automata, a first one of m states, by which it never halts.
-    Far(Far),
+    /// `F side m delta rows keep`: two automata, a first one of m states, by which it never halts; their numbers are
+    /// borrowed from the record's text.
+    Far(Far<'a>),
     /// `U`: nothing is claimed.
     Undecided,
 }
 
-/// A certificate that keeps its own texts and numbers. Lists and automata stand in a box, so that records of the
+/// A certificate that keeps its own texts. Lists and automata stand in a box, so that records of the
 /// other kinds are small.
 #[derive(Drop, Debug)]
 pub enum OwnedCertificate {

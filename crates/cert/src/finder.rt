@@ -2,7 +2,7 @@
 use crate::certificate::OwnedCertificate;
 use backward::BackwardFinder;
 use evidence::NoMemory;
-use far::{FarFinder, OwnedFar};
+use far::FarFinder;
 use loops::{CycleFinder, TranslatedFinder};
 use machine_text::Table;
 use ngram_cps::NgramFinder;
@@ -93,12 +93,11 @@ impl Finder for FarFinder {
     ghost gives = { λ finder p budget claim. ⊤ };
 
     fn find(&mut self, t: &Table, budget: u64) -> Result<Option<OwnedCertificate>, NoMemory> {
-        let alloc = self.allocator();
         match self.search(t, budget)? {
-            Some(automata) => {
-                let owned = OwnedFar::of(alloc, &automata)?;
-                Ok(Some(OwnedCertificate::Far(Box::new(alloc, owned)?)))
-            }
+            Some(automata) => Ok(Some(OwnedCertificate::Far(Box::new(
+                self.allocator(),
+                automata,
+            )?))),
             None => Ok(None),
         }
     }

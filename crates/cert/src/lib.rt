@@ -26,8 +26,8 @@ pub use evidence::NoMemory;
 pub use finder::Finder;
 pub use judgement::{Judged, judge, judge_on};
 pub use laws::{
-    certified_claims_are_writable, record_texts_are_lines, records_parse_back,
-    scores_leave_claims, standing_claims_are_true,
+    certified_claims_are_writable, record_texts_are_lines, records_parse_back, scores_leave_claims,
+    standing_claims_are_true,
 };
 pub use limits::MAX_RECORD_BYTES;
 pub use record::{OwnedRecord, Record};

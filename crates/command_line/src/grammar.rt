@@ -1,5 +1,7 @@
 // The commands with their arguments and options, by clap's builder.
-use crate::help::{CARRY, COORD, DECIDE, LOOP, MERGE, RECORDS, REPORT, RETRY, RUN, STATUSES, VERSION};
+use crate::help::{
+    CARRY, COORD, DECIDE, LOOP, MERGE, RECORDS, REPORT, RETRY, RUN, STATUSES, VERSION,
+};
 use crate::words::{
     DEPTH, ERA, FAR, FILE, FIRST, GRAM, IN, JSON, LEDGER, LOSE, OUT, PROGRESS, ROUNDS, SECOND,
     STATES, STEPS, WHY, WORKERS,
@@ -61,7 +63,7 @@ fn with_search<'a>(alloc: Global, command: Command<'a>) -> Result<Command<'a>, N
         .arg(number_arg(alloc, STEPS, "K", 1, 100_000_000, steps).default_value("1000"))?
         .arg(number_arg(alloc, DEPTH, "D", 0, 1_000, depth).default_value("20"))?
         .arg(number_arg(alloc, GRAM, "G", 0, 8, gram).default_value("3"))?
-        .arg(number_arg(alloc, FAR, "M", 0, 8, far).default_value("2"))
+        .arg(number_arg(alloc, FAR, "M", 0, 16, far).default_value("2"))
 }
 
 fn run_command<'a>(alloc: Global) -> Result<Command<'a>, NoMemory> {
@@ -200,7 +202,7 @@ fn file_arg<'a>(alloc: Global, name: &'static str, help: &'static str) -> Arg<'a
 fn states_arg<'a>(alloc: Global) -> Arg<'a> {
     Arg::new(alloc, STATES)
         .required(true)
-        .value_parser(value_parser!(u64).range(1..=6))
+        .value_parser(value_parser!(u64).range(1..=7))
         .help("How many states the machines have")
 }
 

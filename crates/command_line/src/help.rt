@@ -113,7 +113,7 @@ pub(crate) const RECORDS: &str =
               local configurations; g from 1 to 8, each list sorted and joined by commas, and the three
               together up to 49,152 bytes
   F side m delta rows keep
-              two automata, by which the run never comes to a halt; the first has m states, from 1 to 8, and
+              two automata, by which the run never comes to a halt; the first has m states, from 1 to 16, and
               goes where the digits of delta say; rows and keep are sets of states of the second, in hexadecimal
   U           nothing is claimed
 
@@ -128,7 +128,7 @@ An answer is one of
   refused 301 F P    no table: its fault is F (101 length, 102 bar, 103 symbol, 104 direction,
                      105 state), at place P
   refused 302        no such kind, or another number of fields
-  refused 303        no number, no side, or a width that isn't from 1 to 8
+  refused 303        no number, no side, or a g or an m that isn't in its range
   refused 304        no list
   refused 305        the line is too long, or the lists are
 

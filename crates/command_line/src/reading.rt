@@ -40,7 +40,7 @@ fn search_of(matches: &ArgMatches<'_>) -> Result<Search, LineFault>
         steps: number_of(matches, STEPS, 1, 100_000_000)?,
         depth: number_of(matches, DEPTH, 0, 1_000)?,
         gram: number_of(matches, GRAM, 0, 8)?,
-        far: number_of(matches, FAR, 0, 8)?,
+        far: number_of(matches, FAR, 0, 16)?,
     })
 }
 
@@ -73,7 +73,7 @@ fn coord_options<'a>(coord: &ArgMatches<'a>) -> Result<Options<'a>, LineFault>
     ensures { IfOk result AreWithinRanges }
 {
     let beginning = Beginning {
-        states: number_of(coord, STATES, 1, 6)? as u8,
+        states: number_of(coord, STATES, 1, 7)? as u8,
         era: number_of(coord, ERA, 1, u64::MAX)?,
     };
     Ok(Options::Coord {
@@ -107,7 +107,7 @@ fn settling_of(matches: &ArgMatches<'_>, lose: Option<u64>) -> Result<Settling, 
     ensures { IfOk result (λ settling. IsSettling settling × (settling.lose ≡ lose)) }
 {
     Ok(Settling {
-        states: number_of(matches, STATES, 1, 6)? as u8,
+        states: number_of(matches, STATES, 1, 7)? as u8,
         workers: number_of(matches, WORKERS, 1, 64)? as u8,
         lose,
         rounds: number_of(matches, ROUNDS, 1, 1_000_000_000)?,

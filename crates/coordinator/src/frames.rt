@@ -1,5 +1,6 @@
 // Frames that are written where there is room for them, so that no memory is needed.
 ghost use Rattle.std.specs.Prelude.{◌≡◌, ◌+◌, ◌<◌, ◌≤◌, ◌∷◌, [], ◌++◌, Some, IfOk, decimal, length};
+ghost use Rattle.machine_text.specs.Limits.{text_byte_limit};
 ghost use Rattle.machine_text.specs.Text.{text_of};
 ghost use Rattle.wire.specs.Grammar.{frames_of};
 ghost use Rattle.wire.specs.Message.{Ack, Later};
@@ -11,8 +12,8 @@ use leases::Reply;
 use machine_text::{TEXT_BYTES, Table};
 use std::alloc::Global;
 
-/// The most bytes of the frame that answers a worker that asks, with its newline.
-pub(crate) const GRANT_BYTES: usize = 96;
+/// The most bytes of the frame that answers a worker that asks, with its newline: a word, two numbers and a table.
+pub(crate) const GRANT_BYTES: usize = 49 + TEXT_BYTES;
 
 // The frame that says that a table's record is held.
 #[tactic(auto, unfolding(wire::specs::Grammar::message_text))]
@@ -42,7 +43,7 @@ pub(crate) fn later_frame(alloc: Global, table: &Table) -> Result<Vec<u8>, NoMem
 #[tactic(auto, unfolding(wire::specs::Grammar::message_text))]
 pub(crate) fn put_reply(era: u64, reply: &Reply, frames: &mut Vec<u8>)
     requires none { frames.old.items ≡ [] }
-    requires room { 96 ≤ frames.old.cap }
+    requires room { 49 + text_byte_limit ≤ frames.old.cap }
     ensures { frames.new.items ≡ frames_of (reply_of era reply.now ∷ []) }
 {
     match reply {
@@ -71,9 +72,9 @@ fn put_number(n: u64, out: &mut Vec<u8>)
 }
 
 fn put_table(t: &Table, out: &mut Vec<u8>)
-    requires { length out.old.items + 41 ≤ out.old.cap }
+    requires { length out.old.items + text_byte_limit ≤ out.old.cap }
     ensures items { out.new.items ≡ out.old.items ++ text_of t.now }
-    ensures length { length out.new.items ≤ length out.old.items + 41 }
+    ensures length { length out.new.items ≤ length out.old.items + text_byte_limit }
     ensures capacity { out.old.cap ≤ out.new.cap }
 {
     // The proof needs how many states a table has at most.

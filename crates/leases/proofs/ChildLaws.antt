@@ -25,14 +25,15 @@ use Rattle.ledger.proofs.Apart.{first_member, all_members}
 use Rattle.ledger.proofs.BoardLaws.{marked_in_tree}
 use Rattle.ledger.proofs.OpenLaws.{IsTaken, open_taken, open_in_tree}
 use Rattle.ledger.proofs.Taking.{Below, taken_last, taken_settling}
+use Rattle.leases.specs.Limits.{child_limit}
 use Rattle.ledger.proofs.TextOrder.{all_apart}
 
 -- the law of the list of a table's children
 abbrev pub ChildrenListed : Type 0
 ChildrenListed = (p t : Packed) (u k q : ℕ) (s : Sym) → IsTable p → InOrder u (entry_of p) → HaltsOn (entry_of p) k q s → Contains (children_at p q s) t ↔ IsChildTable p t
 
--- a table has no more than 24 children
-pub few_children : (t : Packed) (found : List Packed) → ChildrenListed → IsTable t → AreAll (IsChildTable t) found → length found ≤ 24
+-- a table has no more children than may be
+pub few_children : (t : Packed) (found : List Packed) → ChildrenListed → IsTable t → AreAll (IsChildTable t) found → length found ≤ child_limit
 few_children t [] listed table all = omega arith
 few_children t (x ∷ xs) listed table all =
     let child = (all.exact x).0 (first_member x x xs refl) in
@@ -97,6 +98,6 @@ opens_settled old new r below board root format settles is =
     subst (λ (b : Contents). Opens old b r.table) (sym same)
     (opens_by old (settled old.records held) held below board (marked_in_tree old r.table Holdout below board holdout) (λ k marked. absurd (cc)) (taken_settling old.records held holdout))
 
-pub if_few : (t : Packed) (found : Option (List Packed)) → ChildrenListed → IsTable t → IfSome found (AreAll (IsChildTable t)) → IfSome found (λ found. length found ≤ 24)
+pub if_few : (t : Packed) (found : Option (List Packed)) → ChildrenListed → IsTable t → IfSome found (AreAll (IsChildTable t)) → IfSome found (λ found. length found ≤ child_limit)
 if_few t None listed table all = tt
 if_few t (Some found) listed table all = few_children t found listed table all

@@ -17,6 +17,7 @@ use Rattle.std.proofs.lemmas.Map.Keys.{sorted_head, sorted_tail}
 use Rattle.std.proofs.lemmas.Map.Views.{All-found, Contains-from_lookup}
 use Rattle.std.proofs.lemmas.Option.{same_Some}
 use Rattle.ledger.proofs.Apart.{first_member, later_member}
+use Rattle.leases.specs.Limits.{child_limit}
 use Rattle.leases.specs.Leases.{is_live}
 use Rattle.leases.specs.inside.Stored.{StoredLease, stored_lease, as_lease, is_numbered, without, AreOfWorkers, IsOwn, AreAmongFree}
 use Rattle.machine_text.specs.Packed.{Packed}
@@ -327,11 +328,11 @@ not_own id (Some m) n ls is last =
     elim (eqb_tells n m) [ inl same ↦ let e = same.1 in absurd (omega arith) | inr differ ↦ differ.0 ]
 
 -- room under a number
-pub room_one : (n : ℕ) (w : HeldLease) (m : BTreeMap ℕ HeldLease) → IsOrdered nat_cmp m → get nat_cmp m n ≡ Some w → 24 ≤ (stored_lease (n, w)).room → HasRoomForChildren n (map stored_lease m.entries)
+pub room_one : (n : ℕ) (w : HeldLease) (m : BTreeMap ℕ HeldLease) → IsOrdered nat_cmp m → get nat_cmp m n ≡ Some w → child_limit ≤ (stored_lease (n, w)).room → HasRoomForChildren n (map stored_lease m.entries)
 room_one n w m ordered found room l member number =
     let there = member_at m ordered l member in
     let one : there.0 ≡ w = same_Some there.0 w (sym there.1 ∙ (ap (get nat_cmp m) number ∙ found)) in
-    subst (λ (l : StoredLease). 24 ≤ l.room) there.2 (subst (λ (v : HeldLease). 24 ≤ (stored_lease (l.number, v)).room) (sym one) room)
+    subst (λ (l : StoredLease). child_limit ≤ l.room) there.2 (subst (λ (v : HeldLease). child_limit ≤ (stored_lease (l.number, v)).room) (sym one) room)
 
 pub room_none : (n : ℕ) (m : BTreeMap ℕ HeldLease) → IsOrdered nat_cmp m → get nat_cmp m n ≡ None → HasRoomForChildren n (map stored_lease m.entries)
 room_none n m ordered none l member number =

@@ -1,5 +1,6 @@
 -- The limits of leases.
-use Rattle.std.specs.Prelude.{ℕ}
+use Rattle.std.specs.Prelude.{ℕ, ◌*◌}
+use Rattle.machine_text.specs.Limits.{state_limit}
 
 -- so many leases live at most
 abbrev pub lease_limit : ℕ
@@ -13,6 +14,6 @@ lease_time = 60
 abbrev pub last_number : ℕ
 last_number = 18446744073709551615
 
--- a table has so many children at most
+-- a table has so many children at most: to each of its states four
 abbrev pub child_limit : ℕ
-child_limit = 24
+child_limit = 4 * state_limit

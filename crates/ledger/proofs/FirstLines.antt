@@ -3,6 +3,7 @@ use Rattle.std.proofs.Common.{◌≡◌, ℕ, ◌+◌, ◌≤◌, min, true, fal
 use Rattle.std.proofs.Math.Seq.{take-append-add}
 use Rattle.std.proofs.lemmas.List.{take-append-le}
 use Rattle.std.proofs.lemmas.Bool.{cases_lt}
+use Rattle.machine_text.specs.Limits.{text_byte_limit}
 use Rattle.machine_text.specs.Packed.{Packed}
 use Rattle.machine_text.specs.Text.{table_of, states_in, is_table_length}
 use Rattle.machine_text.proofs.Named.{table_of-length, length_of_states}
@@ -33,24 +34,28 @@ start_added n room count old more all is =
     let size : length old + room ≡ n = omega (arith, all) in
     ap (λ (l : List ℕ). old ++ l) same ∙ (sym (take-append-add old more room) ∙ ap (λ (k : ℕ). take k (old ++ more)) size)
 
-table_text_short : (name : List ℕ) (root : Packed) → table_of name ≡ Ok root → length name ≤ 41
+-- the most bytes of a header: its words, and the text of a table
+abbrev pub header_limit : ℕ
+header_limit = 12 + text_byte_limit
+
+table_text_short : (name : List ℕ) (root : Packed) → table_of name ≡ Ok root → length name ≤ text_byte_limit
 table_text_short name root reads =
-    elim (is_table_length (length name)) as (λ v. is_table_length (length name) ≡ v → length name ≤ 41) [
+    elim (is_table_length (length name)) as (λ v. is_table_length (length name) ≡ v → length name ≤ text_byte_limit) [
       | true ↦ λ is. let sizes = length_of_states (length name) (states_in (length name)) refl is in omega (arith, sizes.0, sizes.2)
       | false ↦ λ is. let fails = table_of-length name is in absurd (cc)
     ] refl
 
-pub header_short : (format : Format) (line : List ℕ) (root : Packed) → NamesRoot format line root → length line ≤ 53
+pub header_short : (format : Format) (line : List ℕ) (root : Packed) → NamesRoot format line root → length line ≤ header_limit
 header_short format line root named =
     omega (arith, ap length named.is, length-append (header_words format) named.name, words_length format, table_text_short named.name root named.reads)
 
-whole_start : (line : List ℕ) → length line ≤ 53 → header_start line ≡ line
+whole_start : (line : List ℕ) → length line ≤ header_limit → header_start line ≡ line
 whole_start line short = take_all 64 line (omega arith)
 
 -- a line and what is kept of it are headers of the same roots
 pub named_whole : (format : Format) (line : List ℕ) (root : Packed) → NamesRoot format (header_start line) root → NamesRoot format line root
 named_whole format line root named =
-    let short : length line ≤ 53 = omega (arith, header_short format (header_start line) root named, length-take 64 line) in
+    let short : length line ≤ header_limit = omega (arith, header_short format (header_start line) root named, length-take 64 line) in
     subst (λ (l : List ℕ). NamesRoot format l root) (whole_start line short) named
 
 pub named_start : (format : Format) (line : List ℕ) (root : Packed) → NamesRoot format line root → NamesRoot format (header_start line) root
@@ -59,7 +64,7 @@ named_start format line root named = subst (λ (l : List ℕ). NamesRoot format 
 -- and begin both as headers
 pub begun_whole : (text : List ℕ) → BeginsAsHeader (header_start text) → BeginsAsHeader text
 begun_whole text (format, inl w) =
-    let short : length text ≤ 53 = omega (arith, ap length w.1, length-append (header_start text) w.0, length-take 64 text, words_length format) in
+    let short : length text ≤ header_limit = omega (arith, ap length w.1, length-append (header_start text) w.0, length-take 64 text, words_length format) in
     (format, inl (w.0, w.1 ∙ ap (λ (l : List ℕ). l ++ w.0) (whole_start text short)))
 begun_whole text (format, inr w) = (
   format,
@@ -71,7 +76,7 @@ begun_whole text (format, inr w) = (
 
 pub begun_start : (text : List ℕ) → BeginsAsHeader text → BeginsAsHeader (header_start text)
 begun_start text (format, inl w) =
-    let short : length text ≤ 53 = omega (arith, ap length w.1, length-append text w.0, words_length format) in
+    let short : length text ≤ header_limit = omega (arith, ap length w.1, length-append text w.0, words_length format) in
     (format, inl (w.0, w.1 ∙ ap (λ (l : List ℕ). l ++ w.0) (sym (whole_start text short))))
 begun_start text (format, inr w) =
     let words = header_words format in

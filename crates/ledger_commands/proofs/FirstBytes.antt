@@ -13,7 +13,7 @@ use Rattle.ledger.specs.Contents.{Contents}
 use Rattle.ledger.specs.declared.left.Left.{Left}
 use Rattle.ledger.specs.Loading.{header_start}
 use Rattle.ledger.specs.declared.format.Format.{Format}
-use Rattle.ledger.proofs.FirstLines.{header_short, begun_whole, begun_start}
+use Rattle.ledger.proofs.FirstLines.{header_limit, header_short, begun_whole, begun_start}
 use Rattle.ledger.proofs.Feeding.{longer_text, header_more}
 use Rattle.ledger.proofs.HeaderLaws.{none_begun, none_named, is_named}
 use Rattle.ledger.specs.declared.faults.LoadFault.{LoadFault}
@@ -92,7 +92,7 @@ module _ (first more : List ℕ) (none : HasNoNewline first) (long : 64 ≤ leng
 
   bad_with : (line rest : List ℕ) → BeginsWithLine (first ++ more) line rest → IsBad (first ++ more)
   bad_with line rest begins = inr (none_named (first ++ more) line rest begins (λ format root named.
-      let size : length line ≤ 53 = header_short format line root named in
+      let size : length line ≤ header_limit = header_short format line root named in
       let reach : length first ≤ length line = line_long first more line rest none begins in
       absurd (omega (arith, size, reach, long))))
 

@@ -11,16 +11,16 @@ pub record IsWithinRange (s : Search) : Type 0 where
   pub steps : s.steps ≤ 100000000
   pub depth : s.depth ≤ 1000
   pub gram : s.gram ≤ 8
-  pub far : s.far ≤ 8
+  pub far : s.far ≤ 16
 
 pub record IsBeginning (b : Beginning) : Type 0 where
   pub some_states : 1 ≤ b.states
-  pub states : b.states ≤ 6
+  pub states : b.states ≤ 7
   pub era : 1 ≤ b.era
 
 pub record IsSettling (s : Settling) : Type 0 where
   pub some_states : 1 ≤ s.states
-  pub states : s.states ≤ 6
+  pub states : s.states ≤ 7
   pub some_workers : 1 ≤ s.workers
   pub workers : s.workers ≤ 64
   pub lose : IfSome s.lose (λ every. (2 ≤ every) × (every ≤ 1000))

@@ -80,14 +80,14 @@ pub struct Search {
     pub depth: u64,
     /// The greatest width of words in position sets: 0 to 8, where 0 asks for none.
     pub gram: u64,
-    /// The most states of the first automaton of two: 0 to 8, where 0 asks for none.
+    /// The most states of the first automaton of two: 0 to 16, where 0 asks for none.
     pub far: u64,
 }
 
 /// How a coordinator is begun.
 #[derive(Clone, Copy, Debug, PartialEq, Eq)]
 pub struct Beginning {
-    /// How many states the machines have: 1 to 6.
+    /// How many states the machines have: 1 to 7.
     pub states: u8,
     /// The number by which its leases are told from those of an earlier run: 1 or more.
     pub era: u64,
@@ -96,7 +96,7 @@ pub struct Beginning {
 /// How a tree is settled by a coordinator and workers in one process.
 #[derive(Clone, Copy, Debug, PartialEq, Eq)]
 pub struct Settling {
-    /// How many states the machines have: 1 to 6.
+    /// How many states the machines have: 1 to 7.
     pub states: u8,
     /// How many workers there are: 1 to 64.
     pub workers: u8,

@@ -7,22 +7,22 @@ use std::alloc::Global;
 use std::process::Abort;
 
 // The automata of a size that the texts are, if they are such.
-fn automata_of(
+fn automata_of<'a>(
     rt: &impl Abort,
     states: u8,
     side: Dir,
     size: u8,
-    delta: &str,
-    rows: &str,
-    keep: &str,
-) -> Option<Far> {
+    delta: &'a str,
+    rows: &'a str,
+    keep: &'a str,
+) -> Option<Far<'a>> {
     if !Far::is_size(size as u64) {
         panic!(rt; "{size} is no size");
     }
     if states == 0 {
         panic!(rt; "tables have states");
     }
-    if states > 6 {
+    if states > 7 {
         panic!(rt; "no table has {states} states");
     }
     Far::new(
@@ -37,7 +37,7 @@ fn automata_of(
 
 // The table of a row and its automata, if the texts are such: table, side, size, delta, rows and keep, with a
 // space between each two.
-fn read(rt: &impl Abort, row: &str) -> (Table, Option<Far>) {
+fn read<'a>(rt: &impl Abort, row: &'a str) -> (Table, Option<Far<'a>>) {
     let (text, fields) = parted(rt, row);
     let (side, fields) = parted(rt, fields);
     let (size, fields) = parted(rt, fields);
@@ -45,7 +45,7 @@ fn read(rt: &impl Abort, row: &str) -> (Table, Option<Far>) {
     let (rows, keep) = parted(rt, fields);
     let table = table_of(rt, text);
     let side = if side == "L" { Dir::L } else { Dir::R };
-    let size = size.bytes().next().unwrap_or(b'0').wrapping_sub(b'0');
+    let size = u8::try_from(number_of(rt, size)).unwrap_or(0);
     let automata = automata_of(rt, table.states(), side, size, delta, rows, keep);
     (table, automata)
 }
@@ -72,7 +72,9 @@ never 1LA--- L 2 0111 2,4,2,4 3
 fails ------ R 1 00 2,2 1
 never 0RB---_0LA--- R 2 0111 2,10,0,10,8,10,10,10 3
 fails 0RB---_0LA--- R 2 0111 2,10,0,10,8,10,0,10 3
-never 0LB---_0RA--- L 2 0111 2,10,0,10,8,10,10,10 3";
+never 0LB---_0RA--- L 2 0111 2,10,0,10,8,10,10,10 3
+never 1RA--- R 9 000000000000000000 1,200,1,200,1,200,1,200,1,200,1,200,1,200,1,200,1,200 1
+fails 1RA--- R 9 000000000000000000 1,200,1,200,1,200,1,200,1,200,1,200,1,200,1,200,1,100 1";
 
 #[test]
 fn automata_are_judged(rt: HostRuntime) {
@@ -99,7 +101,9 @@ const AUTOMATA: &str = "\
 1RA--- L 1 00 0,0 0
 1RA--- R 3 012012 f,e,a,0,1,2 c
 1RA--- R 8 0123456701234567 1ff,1ab,9,0,1,2,1ff,1ab,9,0,1,2,1ff,1ab,9,0 1ff
-1RA--- L 8 0123456701234567 1ff,1ab,9,0,1,2,1ff,1ab,9,0,1,2,1ff,1ab,9,0 fe";
+1RA--- L 8 0123456701234567 1ff,1ab,9,0,1,2,1ff,1ab,9,0,1,2,1ff,1ab,9,0 fe
+1RA--- R 9 012345678012345678 1,200,1,200,1,200,1,200,1,200,1,200,1,200,1,200,1,3ff 1
+1RA--- R 11 0123456789a0123456789a 1,2,3,4,5,6,7,8,9,a,b,c,d,e,f,10,fff,0,1,2,3,4 800";
 
 // Texts that aren't: the first number that has a bit but those of the states; too few digits, too many, one that
 // is no state, none; too few rows, too many, an empty one, another separator; leading zeros, no number, none, a
@@ -135,7 +139,13 @@ const NO_AUTOMATA: &str = "\
 1RA--- R 8 0123456701234567 1ff,1ab,9,0,1,2,1ff,1ab,9,0,1,2,1ff,1ab,9,0 200
 1RA--- R 8 0123456701234568 1ff,1ab,9,0,1,2,1ff,1ab,9,0,1,2,1ff,1ab,9,0 1ff
 1RA--- R 8 0123456701234567 1ff,1ab,9,0,1,2,1ff,1ab,9,0,1,2,1ff,1ab,9,200 1ff
-1RA--- R 8 0123456701234567 1ff,1ab,9,0,1,2,1ff,1ab,9,0,1,2,1ff,1ab,9,100000000000000001 1ff";
+1RA--- R 8 0123456701234567 1ff,1ab,9,0,1,2,1ff,1ab,9,0,1,2,1ff,1ab,9,100000000000000001 1ff
+1RA--- R 8 0123456701234567 1ff,1ab,9,0,1,2,1ff,1ab,9,0,1,2,1ff,1ab,9,100000000000000000000000000000001 1ff
+1RA--- R 9 000000000000000000 1,200,1,200,1,200,1,200,1,200,1,200,1,200,1,200,1,400 1
+1RA--- R 9 000000000000000009 1,200,1,200,1,200,1,200,1,200,1,200,1,200,1,200,1,200 1
+1RA--- R 11 0123456789A0123456789a 1,2,3,4,5,6,7,8,9,a,b,c,d,e,f,10,fff,0,1,2,3,4 800
+1RA--- R 11 0123456789b0123456789a 1,2,3,4,5,6,7,8,9,a,b,c,d,e,f,10,fff,0,1,2,3,4 800
+1RA--- R 11 0123456789:0123456789a 1,2,3,4,5,6,7,8,9,a,b,c,d,e,f,10,fff,0,1,2,3,4 800";
 
 #[test]
 fn texts_are_automata_or_not(rt: HostRuntime) {
@@ -151,24 +161,25 @@ fn texts_are_automata_or_not(rt: HostRuntime) {
     assert!(rt; automata_of(&rt, 1, Dir::R, 1, "00", "1,2", " 1").is_none());
 }
 
-// The widest sets have 49 bits: of six states, with a first automaton of eight.
+// The widest sets have 113 bits: of seven states, with a first automaton of sixteen.
 #[test]
-fn the_widest_sets_have_49_bits(rt: HostRuntime) {
+fn the_widest_sets_have_113_bits(rt: HostRuntime) {
     let rows =
-        "1ffffffffffff,fedcba987654,0,0,0,0,0,0,0,0,0,0,0,0,0,0,0,0,0,0,0,0,0,0,0,0,0,0,0,0,0,0,0,0,0,0,0,0,0,0,0,0,0,0,0,0,0,0,0,0,0,0,0,0,0,0,0,0,0,0,0,0,0,0,0,0,0,0,0,0,0,0,0,0,0,0,0,0,0,0,0,0,0,0,0,0,0,0,0,0,0,0,0,0,0,1000000000000";
-    let delta = "0123456701234567";
-    let Some(automata) = automata_of(&rt, 6, Dir::L, 8, delta, rows, "1ffffffffffff") else {
+        "1ffffffffffffffffffffffffffff,123456789abcdef0fedcba987654,0,0,0,0,0,0,0,0,0,0,0,0,0,0,0,0,0,0,0,0,0,0,0,0,0,0,0,0,0,0,0,0,0,0,0,0,0,0,0,0,0,0,0,0,0,0,0,0,0,0,0,0,0,0,0,0,0,0,0,0,0,0,0,0,0,0,0,0,0,0,0,0,0,0,0,0,0,0,0,0,0,0,0,0,0,0,0,0,0,0,0,0,0,0,0,0,0,0,0,0,0,0,0,0,0,0,0,0,0,0,0,0,0,0,0,0,0,0,0,0,0,0,0,0,0,0,0,0,0,0,0,0,0,0,0,0,0,0,0,0,0,0,0,0,0,0,0,0,0,0,0,0,0,0,0,0,0,0,0,0,0,0,0,0,0,0,0,0,0,0,0,0,0,0,0,0,0,0,0,0,0,0,0,0,0,0,0,0,0,0,0,0,0,0,0,0,0,0,0,0,0,0,0,0,0,0,0,0,0,0,0,0,0,0,0,0,0,0,0,0,0,10000000000000000000000000000";
+    let delta = "0123456789abcdef0123456789abcdef";
+    let keep = "1ffffffffffffffffffffffffffff";
+    let Some(automata) = automata_of(&rt, 7, Dir::L, 16, delta, rows, keep) else {
         panic!(rt; "these are automata");
     };
-    assert!(rt; automata.keep() == 0x1_ffff_ffff_ffff);
-    assert!(rt; automata.rows().len() == 96);
-    assert!(rt; automata.rows()[0] == 0x1_ffff_ffff_ffff && automata.rows()[1] == 0xfedc_ba98_7654);
-    assert!(rt; automata.rows()[95] == 0x1_0000_0000_0000);
-    assert!(rt; automata_of(&rt, 6, Dir::L, 8, delta, rows, "2000000000000").is_none());
+    assert!(rt; automata.delta() == delta.as_bytes());
+    assert!(rt; automata.rows() == rows.as_bytes());
+    assert!(rt; automata.keep() == keep.as_bytes());
+    let keep = "20000000000000000000000000000";
+    assert!(rt; automata_of(&rt, 7, Dir::L, 16, delta, rows, keep).is_none());
 }
 
 // The automata of a row that is such.
-fn made(rt: &impl Abort, row: &str) -> Far {
+fn made<'a>(rt: &impl Abort, row: &'a str) -> Far<'a> {
     match read(rt, row).1 {
         Some(automata) => automata,
         None => panic!(rt; "{row}: no automata"),
@@ -180,9 +191,9 @@ fn made(rt: &impl Abort, row: &str) -> Far {
 fn automata_keep_their_fields(rt: HostRuntime) {
     let automata = made(&rt, "1RA--- R 2 0111 2,4,2,4 3");
     assert!(rt; automata.states() == 1 && automata.size() == 2);
-    assert!(rt; automata.side() == Dir::R && automata.keep() == 3);
-    assert!(rt; automata.delta() == [0, 1, 1, 1].as_slice());
-    assert!(rt; automata.rows() == [2, 4, 2, 4].as_slice());
+    assert!(rt; automata.side() == Dir::R && automata.keep() == b"3".as_slice());
+    assert!(rt; automata.delta() == b"0111".as_slice());
+    assert!(rt; automata.rows() == b"2,4,2,4".as_slice());
     let (one, two) = (table_of(&rt, "1RA---"), table_of(&rt, "1RA---_------"));
     assert!(rt; automata.holds(&one) && !automata.holds(&two));
     let automata = made(&rt, "1RA---_------ R 1 00 1,4,4,4 1");
@@ -191,7 +202,7 @@ fn automata_keep_their_fields(rt: HostRuntime) {
 
 #[test]
 fn sizes_have_a_limit(rt: HostRuntime) {
-    for (size, answer) in [(0, false), (1, true), (8, true), (9, false)] {
+    for (size, answer) in [(0, false), (1, true), (16, true), (17, false)] {
         assert!(rt; Far::is_size(size) == answer, "{size}");
     }
 }
@@ -261,7 +272,7 @@ fn automata_of_the_least_size_are_found(rt: HostRuntime) {
         let (table, size) = (table_of(&rt, text), number_of(&rt, size));
         match finder.search(&table, 1_000) {
             Ok(Some(found)) => assert!(rt;
-                found.size() as u64 == size && found.holds(&table),
+                found.lent().size() as u64 == size && found.lent().holds(&table),
                 "{row}"
             ),
             Ok(None) => assert!(rt; size == 0, "{row}"),
@@ -284,7 +295,7 @@ fn finders_of_automata_have_bounds(rt: HostRuntime) {
     ] {
         let mut finder = FarFinder::new(alloc, size);
         let found = match finder.search(&table, budget) {
-            Ok(found) => found.map_or(0, |automata| automata.size()),
+            Ok(found) => found.map_or(0, |automata| automata.lent().size()),
             Err(fault) => panic!(rt; "{fault:?}"),
         };
         assert!(rt; found == answer, "{size} {budget}");

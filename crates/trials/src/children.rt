@@ -7,7 +7,7 @@ use std::process::Abort;
 use tnf::{Children, children, in_order, root, used};
 
 fn children_of(rt: &impl Abort, text: &str, q: u8, s: Sym) -> Children
-    ensures { length result ≤ 24 }
+    ensures { length result ≤ 28 }
 {
     let table = table_of(rt, text);
     assert!(rt; q < table.states());

@@ -50,8 +50,16 @@ fn faults_come_with_the_leftmost_place(rt: HostRuntime) {
         ("1RB1LB1LA---", TextFault::BadLength),
         ("1RA---\n", TextFault::BadLength),
         (
-            "------_------_------_------_------_------_------",
+            "------_------_------_------_------_------_------_------",
             TextFault::BadLength,
+        ),
+        (
+            "1RG---_------_------_------_------_------",
+            TextFault::BadState(2),
+        ),
+        (
+            "1RI---_------_------_------_------_------_------",
+            TextFault::BadState(2),
         ),
         ("1RB1LB-1LA---", TextFault::BadBar(6)),
         ("1RB1LB_1LA---:------", TextFault::BadBar(13)),

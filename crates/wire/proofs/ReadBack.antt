@@ -2,6 +2,7 @@
 use Rattle.std.proofs.Common.{◌≡◌, ℕ, ◌^◌, ◌<◌, ◌≤◌, true, false, cond, ltb, List, ◌∷◌, ◌++◌, length, Some, None, Ok, Err, refl, ap, ◌∙◌, append_assoc, length-append, lit≤, arith}
 use Rattle.std.specs.Prelude.{codes, decimal}
 use Rattle.std.proofs.lemmas.Bool.Decides.{nat_tests}
+use Rattle.machine_text.specs.Limits.{text_byte_limit}
 use Rattle.machine_text.specs.Packed.{Packed, IsTable}
 use Rattle.machine_text.specs.Text.{text_of}
 use Rattle.machine_text.proofs.Rows.{length-text_of}
@@ -55,7 +56,7 @@ read_back (Later (Some table)) is = ap (λ o. read_table o >>= λ t. Some (Later
 read_back (Done era lease) fits = done_back era lease fits.0 fits.1
 read_back Stop fits = refl
 
-length_of_table : (p : Packed) → IsTable p → length (text_of p) ≤ 41
+length_of_table : (p : Packed) → IsTable p → length (text_of p) ≤ text_byte_limit
 length_of_table p table = omega (arith, length-text_of p table.some, table.limit)
 
 -- what is read as a record isn't too long for one

@@ -20,6 +20,8 @@ mod cycles;
 #[cfg(test)]
 mod failing_devices;
 #[cfg(test)]
+mod first_automata;
+#[cfg(test)]
 mod hostile;
 #[cfg(test)]
 mod ledgers;

@@ -2,9 +2,9 @@
 use Rattle.std.specs.Prelude.{ℕ}
 
 -- the most states of an automaton
-abbrev pub size_limit : ℕ
-size_limit = 16
+abbrev pub largest_size : ℕ
+largest_size = 16
 
 -- how many transitions such an automaton has
-abbrev pub move_limit : ℕ
-move_limit = 32
+abbrev pub most_moves : ℕ
+most_moves = 32

@@ -7,7 +7,7 @@ use crate::limits::{MAX_MOVES, MAX_SIZE};
 use crate::sided_table::SidedTable;
 use crate::stages::{STAGES, Stage};
 use machine_text::{Dir, Table};
-use std::alloc::{AllocError, Global};
+use std::alloc::{AllocError as NoMemory, Global};
 
 // The root, and a level below it for each transition.
 const LEVELS: usize = MAX_MOVES + 1;
@@ -23,7 +23,7 @@ pub struct AutomataSearch {
 
 impl AutomataSearch {
     /// A search, with the memory for the largest automata: 140 kilobytes.
-    pub fn new(alloc: Global) -> Result<AutomataSearch, AllocError> {
+    pub fn new(alloc: Global) -> Result<AutomataSearch, NoMemory> {
         let mut levels = Vec::with_capacity(alloc, LEVELS)?;
         for level in 0..LEVELS {
             levels.push(Level::new())?;

@@ -1,6 +1,6 @@
 // An automaton that was found.
 ghost use Rattle.std.specs.Prelude.{◌≡◌, ◌*◌, ◌<◌, ◌≤◌, ℕ, slice_index};
-ghost use Rattle.automata_search.specs.Limits.{size_limit};
+ghost use Rattle.automata_search.specs.Limits.{largest_size};
 
 use crate::limits::MAX_MOVES;
 use machine_text::Dir;
@@ -13,7 +13,7 @@ pub struct Automaton {
     pub side: Dir,
     pub size: u8,
     pub delta: [u8; MAX_MOVES],
-    pub ghost limits: { (1 ≤ size) × (size ≤ size_limit) },
+    pub ghost limits: { (1 ≤ size) × (size ≤ largest_size) },
     pub ghost states: { (k : ℕ) → slice_index delta k < size },
     pub ghost blank: { slice_index delta 0 ≡ 0 },
 }

@@ -6,14 +6,14 @@ use Rattle.std.proofs.lemmas.Slice.Eq.{bytes_eq-Decides}
 use Rattle.text.specs.Parts.{parts_of}
 use Rattle.far.specs.Texts.{hex_glyph, hex_value, hex_text, hex_worth, IsDigit, IsHex, IsDelta, IsRows, AreTexts}
 use Rattle.evidence.proofs.Tested.{below_decides}
-use Rattle.far.specs.Tests.{is_hex, is_digit, is_delta, is_rows, are_texts}
+use Rattle.far.specs.Tests.{is_hex, is_state_digit, is_delta, is_rows, are_texts}
 
 hex_decides : (limit : ℕ) (text : List ℕ) → Decides (is_hex limit text) (IsHex limit text)
 hex_decides limit text =
     let all = Decides-and _ _ (bytes_eq-Decides (hex_text (hex_worth text)) text) (Decides-ltb (hex_worth text) limit) in
     (λ t. let h = all.0 t in record { form = h.0; small = h.1 }, λ h. all.1 (h.form, h.small))
 
-digit_decides : (limit byte : ℕ) → Decides (is_digit limit byte) (IsDigit limit byte)
+digit_decides : (limit byte : ℕ) → Decides (is_state_digit limit byte) (IsDigit limit byte)
 digit_decides limit byte =
     let all = Decides-and _ _ (Decides-eqb (hex_glyph (hex_value byte)) byte) (Decides-ltb (hex_value byte) limit) in
     (λ t. let h = all.0 t in record { form = h.0; small = h.1 }, λ h. all.1 (h.form, h.small))

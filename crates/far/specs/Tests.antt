@@ -8,11 +8,11 @@ use Rattle.far.specs.Texts.{hex_glyph, hex_value, hex_text, hex_worth}
 abbrev pub is_hex : ℕ → List ℕ → Bool
 is_hex limit text = bytes_eq (hex_text (hex_worth text)) text && nat_lt (hex_worth text) limit
 
-abbrev pub is_digit : ℕ → ℕ → Bool
-is_digit limit byte = (hex_glyph (hex_value byte) == byte) && nat_lt (hex_value byte) limit
+abbrev pub is_state_digit : ℕ → ℕ → Bool
+is_state_digit limit byte = (hex_glyph (hex_value byte) == byte) && nat_lt (hex_value byte) limit
 
 abbrev pub is_delta : ℕ → List ℕ → Bool
-is_delta size text = (length text == 2 * size) && each_below (λ k. is_digit size (slice_index text k)) (2 * size)
+is_delta size text = (length text == 2 * size) && each_below (λ k. is_state_digit size (slice_index text k)) (2 * size)
 
 abbrev pub is_rows : ℕ → ℕ → List ℕ → Bool
 is_rows count limit text = (length (parts_of 44 text) == count) && each_below (λ k. is_hex limit (get_or (parts_of 44 text) k [])) count

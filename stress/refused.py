@@ -28,7 +28,7 @@ from program import PROGRAM  # noqa: E402
 CALLS = os.path.join(TOP, "crates", "driver", "out", "driver")
 
 RECORDS = b"""------ H 1
-1RB1LB_1LA--- H 6
+1RB1LB_1LA--- H 6 4
 1RB1LB_1LA--- H 7
 0RB---_0LA--- C 0 2
 1RA--- T 0 1 R
@@ -62,6 +62,8 @@ COMMANDS = [
     (["retry", "--far", "2", "first"], b"", {"first": FIRST}, "first"),
     (["merge", "first", "second", "out"], b"", {"first": FIRST, "second": SECOND}, "out"),
     (["merge", "first", "second", "first"], b"", {"first": FIRST, "second": SECOND}, "first"),
+    (["carry", "first", "out"], b"", {"first": FIRST}, "out"),
+    (["carry", "first", "first"], b"", {"first": FIRST}, "first"),
 ]
 
 

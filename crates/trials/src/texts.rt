@@ -1,7 +1,5 @@
 // Texts that the tests take for granted, and texts that are compared.
-use evidence::NoMemory;
 use machine_text::Table;
-use std::alloc::Global;
 use std::process::Abort;
 
 /// The table of a text that must be one.
@@ -27,15 +25,6 @@ pub fn parted<'a>(rt: &impl Abort, row: &'a str) -> (&'a str, &'a str) {
         Some(parts) => parts,
         None => panic!(rt; "{row}: no space"),
     }
-}
-
-/// The bytes of a text in which `|` stands for a newline.
-pub fn with_newlines(alloc: Global, text: &str) -> Result<Vec<u8>, NoMemory> {
-    let mut bytes = Vec::new(alloc);
-    for byte in text.as_bytes() {
-        bytes.push(if *byte == b'|' { b'\n' } else { *byte })?;
-    }
-    Ok(bytes)
 }
 
 /// The bytes must be these. A function, since what an assertion compares and prints is proved wherever it stands.

@@ -246,6 +246,23 @@ fn finite_automata(rt: HostRuntime) -> Result<(), Fail> {
     )
 }
 
+// A first automaton of nine states, in whose second one the halt state is 9; a table of seven states.
+#[test]
+fn sizes_up_to_their_limits(rt: HostRuntime) -> Result<(), Fail> {
+    rows(
+        &rt,
+        rt.alloc(),
+        "\
+1RA--- F R 9 000000000000000000 1,200,1,200,1,200,1,200,1,200,1,200,1,200,1,200,1,200 1 = 1RA--- never
+1RA--- F R 9 000000000000000000 1,200,1,200,1,200,1,200,1,200,1,200,1,200,1,200,1,100 1 = refused 201
+1RA--- F R 9 000000000000000000 1,200,1,200,1,200,1,200,1,200,1,200,1,200,1,200,1,400 1 = refused 304
+1RA--- F R 9 000000000000000009 1,200,1,200,1,200,1,200,1,200,1,200,1,200,1,200,1,200 1 = refused 304
+1RA--- F R 17 0 0 0 = refused 303
+1RH---_------_------_------_------_------_------ H 1 1 = ------_------_------_------_------_------_------ halts 1 ones 1
+1RH---_------_------_------_------_------_------_------ H 1 1 = refused 301 101",
+    )
+}
+
 // The width is judged first, then how long the lists are together, and then each of them.
 #[test]
 fn long_lists_are_refused(rt: HostRuntime) -> Result<(), Fail> {

@@ -58,14 +58,25 @@ fn with_search<'a>(alloc: Global, command: Command<'a>) -> Result<Command<'a>, N
     let steps = "Steps that each search runs a table at most";
     let depth = "Greatest depth of backward reasoning";
     let gram = "Greatest width of words in closed position sets; 0 for none";
-    let hard = "Go by stages, from cheap searches to dear ones; --steps scales them";
     let far = "Most states of a first automaton, in finite automata reduction; 0 for none";
     command
         .arg(number_arg(alloc, STEPS, "K", 1, 100_000_000, steps).default_value("1000"))?
         .arg(number_arg(alloc, DEPTH, "D", 0, 1_000, depth).default_value("20"))?
         .arg(number_arg(alloc, GRAM, "G", 0, 8, gram).default_value("3"))?
         .arg(number_arg(alloc, FAR, "M", 0, 16, far).default_value("2"))?
-        .arg(flag_arg(alloc, HARD, hard).conflicts_with_all(&[DEPTH, GRAM, FAR])?)
+        .arg(hard_arg(alloc)?)
+}
+
+// The stages say themselves how far they look.
+fn hard_arg<'a>(alloc: Global) -> Result<Arg<'a>, NoMemory> {
+    flag_arg(
+        alloc,
+        HARD,
+        "Go by stages, from cheap searches to dear ones; --steps scales them",
+    )
+    .conflicts_with(DEPTH)?
+    .conflicts_with(GRAM)?
+    .conflicts_with(FAR)
 }
 
 fn run_command<'a>(alloc: Global) -> Result<Command<'a>, NoMemory> {

@@ -1,6 +1,7 @@
 #!/usr/bin/env python3
-"""Ends bb run with a ledger (kill -9) at random points of the tree of three states, a hundred times (argument: another
-number), starts it again on its ledger, and checks that what it reports in the end is always the same."""
+"""Ends bb run with a ledger (kill -9) at random points of the tree of three states, a hundred times, starts it again on its
+ledger, and checks that what it reports in the end is always the same. Arguments: another number of times, and `loop` to
+do so with bb loop, whose ledger both go on with in turn."""
 import os
 import random
 import subprocess
@@ -10,13 +11,13 @@ import time
 
 from program import PROGRAM
 
-HERE = os.path.dirname(os.path.abspath(__file__))
-BB = [PROGRAM, "run", "3", "--far", "3"]
+RUN = [PROGRAM, "run", "3", "--far", "3"]
+LOOP = [PROGRAM, "loop", "3", "--far", "3"]
 
 
-def killed(ledger, seconds):
+def killed(command, ledger, seconds):
     """Whether the program was still running, and how many lines its ledger then had."""
-    program = subprocess.Popen(BB + ["--ledger", ledger], stdout=subprocess.DEVNULL, stderr=subprocess.DEVNULL)
+    program = subprocess.Popen(command + ["--ledger", ledger], stdout=subprocess.DEVNULL, stderr=subprocess.DEVNULL)
     time.sleep(seconds)
     running = program.poll() is None
     program.kill()
@@ -28,21 +29,23 @@ def killed(ledger, seconds):
 
 
 def main():
-    times = int(sys.argv[1]) if len(sys.argv) > 1 else 100
+    words = sys.argv[1:]
+    first = LOOP if "loop" in words else RUN
+    times = next((int(word) for word in words if word.isdigit()), 100)
     chance = random.Random(1)
     begun = time.perf_counter()
-    expected = subprocess.run(BB, stdout=subprocess.PIPE, check=True).stdout
+    expected = subprocess.run(first, stdout=subprocess.PIPE, check=True).stdout
     whole = time.perf_counter() - begun
     cut_short, lines = 0, []
     with tempfile.TemporaryDirectory() as folder:
         ledger = os.path.join(folder, "ledger")
-        for _ in range(times):
+        for turn in range(times):
             if os.path.exists(ledger):
                 os.remove(ledger)
-            running, count = killed(ledger, chance.uniform(0, whole))
+            running, count = killed(first, ledger, chance.uniform(0, whole))
             cut_short += running
             lines.append(count)
-            report = subprocess.run(BB + ["--ledger", ledger], stdout=subprocess.PIPE, check=False).stdout
+            report = subprocess.run((first if turn % 2 else RUN) + ["--ledger", ledger], stdout=subprocess.PIPE, check=False).stdout
             if report != expected:
                 print("started again it reported something else")
                 return 1

@@ -38,33 +38,37 @@ fn tell<F: Finder, W: Write>(
     finder: F,
     text: &'static str,
 ) -> io::Result<()> {
-    let mut finders = [finder];
-    tell_of(told, name, &mut finders, text)?;
-    tell_of(told, name, &mut finders, "1RB0RB_1LA---")
-}
-
-fn tell_of<F: Finder, W: Write>(
-    told: &mut Told<W>,
-    name: &str,
-    finders: &mut [F],
-    text: &'static str,
-) -> io::Result<()> {
-    told.tell(name, &mut Deciding { finders, text })
+    let mut deciding = Deciding {
+        finder: Some(finder),
+        finders: Vec::new(told.alloc),
+        text,
+    };
+    told.tell(name, &mut deciding)?;
+    deciding.text = "1RB0RB_1LA---";
+    told.tell(name, &mut deciding)
 }
 
 // A table is decided, and its record printed.
 #[derive(Drop)]
-struct Deciding<'a, F> {
-    finders: &'a mut [F],
+struct Deciding<F> {
+    // the finder, before there is room for it among the finders
+    finder: Option<F>,
+    finders: Vec<F>,
     text: &'static str,
 }
 
-impl<F: Finder> Call for Deciding<'_, F> {
+impl<F: Finder> Call for Deciding<F> {
     fn make(&mut self, alloc: Global, said: &mut Said) -> Result<(), NoMemory> {
         let Ok(table) = Table::parse(self.text.as_bytes()) else {
             return said.text("no table");
         };
-        let record = decide(alloc, self.finders, &table, 100)?;
+        if self.finders.is_empty() {
+            self.finders.reserve(1)?;
+        }
+        if let Some(finder) = self.finder.take() {
+            self.finders.push(finder)?;
+        }
+        let record = decide(alloc, &mut self.finders, &table, 100)?;
         let mut out = Vec::new(alloc);
         record.lent().write_text(&mut out)?;
         said.bytes(&out)

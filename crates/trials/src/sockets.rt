@@ -290,14 +290,14 @@ fn settled(
     }
 }
 
-// A report and a ledger over sockets are those of a run, byte for byte.
-fn is_the_same(
+// The same with a ledger, over sockets that take so many bytes at once; and how many of their calls are left.
+fn settled_with(
     rt: &impl Abort,
     alloc: Global,
-    states: u8,
-    workers: u8,
-    at_once: usize,
-) -> Result<(), Fail> {
+    (states, workers, at_once): (u8, u8, usize),
+    is_loop: bool,
+    ledger: &RefCell<Vec<u8>>,
+) -> (Ending, u64) {
     let row = RefCell::new(Vec::new(alloc));
     let calls_left = Cell::new(ALWAYS);
     let socket = Socket {
@@ -305,26 +305,30 @@ fn is_the_same(
         at_once,
         calls_left: &calls_left,
     };
+    let desk = Desk::of(ledger, ledger, 100);
+    let room = Room { desk, socket };
+    let ending = settled(rt, alloc, states, workers, is_loop, &room);
+    (ending, calls_left.get())
+}
+
+// A report and a ledger over sockets are those of a run, byte for byte.
+fn is_the_same(rt: &impl Abort, alloc: Global, tree: (u8, u8, usize)) {
     let of_loop = RefCell::new(Vec::new(alloc));
+    let (looped, calls_left) = settled_with(rt, alloc, tree, true, &of_loop);
+    assert!(rt; calls_left < ALWAYS);
     let of_run = RefCell::new(Vec::new(alloc));
-    let desk = Desk::of(&of_loop, &of_loop, 100);
-    let looped = settled(rt, alloc, states, workers, true, &Room { desk, socket });
-    let desk = Desk::of(&of_run, &of_run, 100);
-    let run = settled(rt, alloc, states, workers, false, &Room { desk, socket });
+    let (run, _) = settled_with(rt, alloc, tree, false, &of_run);
     assert_bytes(rt, &looped.answers, &run.answers);
     assert_bytes(rt, &looped.faults, b"");
     assert!(rt; looped.outcome == run.outcome);
     assert_bytes(rt, &of_loop.into_inner(), &of_run.into_inner());
-    assert!(rt; calls_left.get() < ALWAYS);
-    Ok(())
 }
 
 #[test]
-fn a_loop_is_a_run(rt: HostRuntime) -> Result<(), Fail> {
-    for (states, workers, at_once) in [(1, 2, 1), (1, 1, 4_096), (2, 5, 100)] {
-        is_the_same(&rt, rt.alloc(), states, workers, at_once)?;
+fn a_loop_is_a_run(rt: HostRuntime) {
+    for tree in [(1, 2, 1), (1, 1, 4_096), (2, 5, 100)] {
+        is_the_same(&rt, rt.alloc(), tree);
     }
-    Ok(())
 }
 
 const ONE_STATE: &[u8] =

@@ -63,18 +63,24 @@ fn a_coordinator_whose_ledger_is_not_read_is_stopped(rt: HostRuntime) -> Result<
 
 #[test]
 fn a_command_whose_ledger_is_not_read_says_why(rt: HostRuntime) {
-    for (fault, said) in [
-        (ErrorKind::Other, b"refused 604\n".as_slice()),
-        (ErrorKind::OutOfMemory, b"refused memory\n"),
+    for (fault, end) in [
+        (
+            ErrorKind::Other,
+            (b"refused 604\n".as_slice(), Outcome::Failed),
+        ),
+        (
+            ErrorKind::OutOfMemory,
+            (b"refused memory\n", Outcome::NoMemory),
+        ),
     ] {
         for calls in 0..4 {
-            says(&rt, rt.alloc(), breaking_after(calls, fault), said);
+            says(&rt, rt.alloc(), breaking_after(calls, fault), end);
         }
     }
 }
 
 // Nothing is answered, and the ledger is as it was.
-fn says(rt: &impl Abort, alloc: Global, reader: Broken, said: &[u8]) {
+fn says(rt: &impl Abort, alloc: Global, reader: Broken, (said, end): (&[u8], Outcome)) {
     let mut ledger = MemLedger::new(alloc);
     let mut answers = Sink::new(alloc, usize::MAX, ALWAYS);
     let mut faults = Sink::new(alloc, usize::MAX, ALWAYS);
@@ -90,7 +96,7 @@ fn says(rt: &impl Abort, alloc: Global, reader: Broken, said: &[u8]) {
         &mut answers,
         &mut faults,
     );
-    assert!(rt; outcome == Outcome::Failed);
+    assert!(rt; outcome == end);
     assert_bytes(rt, &faults.kept, said);
     assert!(rt; answers.kept.is_empty() && ledger.text().is_empty());
 }

@@ -35,18 +35,31 @@ const ACCEPTED: &str = "\
 #[test]
 fn a_changed_bit_claims_nothing_wrong(rt: HostRuntime) -> Result<(), Fail> {
     for text in ACCEPTED.split('\n') {
-        let alloc = rt.alloc();
-        assert!(rt; verdict_of(&rt, alloc, text.as_bytes()).is_some(), "{text}");
-        let mut bytes = Vec::new(alloc);
-        bytes.extend_from_slice(text.as_bytes())?;
+        let bytes = text.as_bytes();
+        assert!(rt; verdict_of(&rt, rt.alloc(), bytes).is_some(), "{text}");
         for place in 0..bytes.len() {
-            for bit in 0..8u8 {
-                bytes[place] ^= 1 << bit;
-                let is_right = is_not_contradicted(&rt, alloc, &bytes);
-                assert!(rt; is_right, "{text}: bit {bit} of byte {place}");
-                bytes[place] ^= 1 << bit;
-            }
+            changed_byte_claims_nothing_wrong(&rt, rt.alloc(), bytes, place)?;
         }
+    }
+    Ok(())
+}
+
+// Each bit of a byte is changed in turn.
+fn changed_byte_claims_nothing_wrong(
+    rt: &impl Abort,
+    alloc: Global,
+    text: &[u8],
+    place: usize,
+) -> Result<(), Fail> {
+    for bit in [1u8, 2, 4, 8, 16, 32, 64, 128] {
+        let mut bytes = text.to_vec(alloc)?;
+        if let Some(byte) = bytes.get_mut(place) {
+            *byte ^= bit;
+        }
+        assert!(rt;
+            is_not_contradicted(rt, alloc, &bytes),
+            "byte {place}, bit {bit}"
+        );
     }
     Ok(())
 }

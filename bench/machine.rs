@@ -13,7 +13,7 @@ pub type Row = [Option<Entry>; 2];
 /// where it has one.
 pub fn parse(text: &[u8]) -> Result<Vec<Row>, (u16, Option<usize>)> {
     let states = (text.len() + 1) / 7;
-    if 7 * states != text.len() + 1 || !(1..=6).contains(&states) {
+    if 7 * states != text.len() + 1 || !(1..=7).contains(&states) {
         return Err((101, None));
     }
     for place in 0..text.len() {

@@ -1,6 +1,7 @@
 //! What bb decide does, in plain Rust: a yardstick for speed, and, since it shares no code with bb, for what is
 //! found. Build with `rustc --edition 2021 -O`. Reads tables from standard input. The greatest width of words and the greatest
 //! size of a first automaton may be given as arguments.
+mod automata;
 #[allow(dead_code)]
 mod machine;
 mod searches;

@@ -1,6 +1,7 @@
 //! What bb run does, in plain Rust, in one process without messages: the tree of n states is settled, each
 //! certificate that is found is written down, and the report is printed. Build with `rustc --edition 2021 -O`. The arguments are
 //! n, the greatest width of words and the greatest size of a first automaton.
+mod automata;
 #[allow(dead_code)]
 mod machine;
 mod searches;

@@ -1,4 +1,5 @@
 //! The searches of bb in plain Rust, which share no code with it.
+use crate::automata::automata;
 use crate::machine::{halts_on, Entry, Row};
 use std::collections::HashMap;
 
@@ -8,7 +9,6 @@ pub const WIDTH: usize = 3;
 pub const SIZE: usize = 2;
 const MAX_PATHS: usize = 65_536;
 const MAX_LIST_BYTES: usize = 49_152;
-const MAX_TRIES: u64 = 20_000 * STEPS;
 
 /// A configuration on a byte tape that grows on both sides.
 #[derive(Clone)]
@@ -262,111 +262,6 @@ fn lists(rows: &[Row], most: usize) -> Option<String> {
         let texts = [listed(&left), listed(&right), local.join(",")];
         let bytes: usize = texts.iter().map(String::len).sum();
         (bytes <= MAX_LIST_BYTES).then(|| format!("N {width} {}", texts.join(" ")))
-    })
-}
-
-/// The search for automata of one size and side: a first automaton that is grown by a transition at a time, and
-/// the least edges of a second one that go with it, as bits.
-struct Automata<'a> {
-    rows: &'a [Row],
-    right: bool,
-    size: usize,
-}
-
-impl Automata<'_> {
-    fn last(&self) -> usize {
-        self.size * self.rows.len()
-    }
-
-    fn reached(&self, edges: &[u64], set: u64, symbol: usize) -> u64 {
-        let onward = (0..self.last()).filter(|j| set >> j & 1 == 1).map(|j| edges[2 * j + symbol]);
-        onward.fold(set & 1 << self.last(), |union, more| union | more)
-    }
-
-    /// The edges that these transitions ask for, beside those that are there.
-    fn grow(&self, delta: &[usize], edges: &mut [u64]) {
-        let n = self.rows.len();
-        loop {
-            let mut grew = false;
-            for (k, to) in delta.iter().enumerate() {
-                let (from, written) = (k / 2, k % 2);
-                for (f, s, e) in entries(self.rows) {
-                    let (place, more) = if e.right == self.right {
-                        if e.write as usize != written {
-                            continue;
-                        }
-                        (2 * (from * n + f) + s as usize, 1 << (to * n + e.next))
-                    } else {
-                        let first = edges[2 * (from * n + e.next) + written];
-                        (2 * (to * n + f) + s as usize, self.reached(edges, first, e.write as usize))
-                    };
-                    grew |= edges[place] | more != edges[place];
-                    edges[place] |= more;
-                }
-            }
-            if !grew {
-                return;
-            }
-        }
-    }
-
-    fn kept(&self, edges: &[u64]) -> u64 {
-        let mut keep = 1;
-        loop {
-            let more = keep | self.reached(edges, keep, 0);
-            if more == keep {
-                return keep;
-            }
-            keep = more;
-        }
-    }
-
-    /// The text of the first automata that these transitions begin.
-    fn search(&self, delta: &mut Vec<usize>, edges: &[u64], left: &mut u64) -> Option<String> {
-        if delta.len() == 2 * self.size {
-            return Some(self.text(delta, edges));
-        }
-        let named = delta.iter().max().map_or(1, |most| most + 1);
-        let count = match delta.len() {
-            0 => 1,
-            moves if moves / 2 >= named => 0,
-            _ => self.size.min(named + 1),
-        };
-        for to in 0..count {
-            if *left == 0 {
-                return None;
-            }
-            *left -= 1;
-            let mut grown = edges.to_vec();
-            delta.push(to);
-            self.grow(delta, &mut grown);
-            if self.kept(&grown) >> self.last() == 0 {
-                if let Some(text) = self.search(delta, &grown, left) {
-                    return Some(text);
-                }
-            }
-            delta.pop();
-        }
-        None
-    }
-
-    fn text(&self, delta: &[usize], edges: &[u64]) -> String {
-        let side = if self.right { 'R' } else { 'L' };
-        let digits: String = delta.iter().map(usize::to_string).collect();
-        let sets: Vec<String> = edges.iter().map(|set| format!("{set:x}")).collect();
-        format!("F {side} {} {digits} {} {:x}", self.size, sets.join(","), self.kept(edges))
-    }
-}
-
-fn automata(rows: &[Row], most: usize) -> Option<String> {
-    let mut left = MAX_TRIES;
-    (1..=most).find_map(|size| {
-        [true, false].into_iter().find_map(|right| {
-            let search = Automata { rows, right, size };
-            let halts = |place: usize| rows[place / 2 % rows.len()][place % 2].is_none();
-            let edges: Vec<u64> = (0..2 * search.last()).map(|place| u64::from(halts(place)) << search.last()).collect();
-            search.search(&mut Vec::new(), &edges, &mut left)
-        })
     })
 }
 

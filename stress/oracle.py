@@ -8,6 +8,11 @@ STEPS = 2_000
 PATHS = 65_536
 FEW_PATHS = 300
 
+STATES = b"ABCDEFG"
+
+# The digits of delta, which are those of hexadecimal numbers.
+DIGITS = b"0123456789abcdef"
+
 
 class Refused(Exception):
     """Ends the reading or the judgement of a line: what follows `refused`."""
@@ -16,10 +21,10 @@ class Refused(Exception):
 # Tables: a list of rows, each of two entries; an entry is (write, move, next) or None.
 
 def read_table(text):
-    if len(text) not in (6, 13, 20, 27, 34, 41):
+    if len(text) not in range(6, 49, 7):
         raise Refused("301 101")
     count = (len(text) + 1) // 7
-    letters = b"ABCDEF"[:count]
+    letters = STATES[:count]
     rows = []
     place = 0
     for number in range(count):
@@ -56,7 +61,7 @@ def read_entry(text, place, letters):
 
 def printed(rows):
     def entry(e):
-        return "---" if e is None else f"{e[0]}{'R' if e[1] > 0 else 'L'}{'ABCDEF'[e[2]]}"
+        return "---" if e is None else f"{e[0]}{'R' if e[1] > 0 else 'L'}{STATES.decode()[e[2]]}"
     return "_".join(entry(row[0]) + entry(row[1]) for row in rows)
 
 
@@ -101,9 +106,9 @@ def number(text):
     return int(text)
 
 
-def size(text):
+def size(text, most):
     value = number(text)
-    if not 1 <= value <= 8:
+    if not 1 <= value <= most:
         raise Refused("303")
     return value
 
@@ -219,7 +224,7 @@ def ngram(rows, width, left, right, local):
     for word in lefts + rights:
         if len(word) != width or any(b not in b"01" for b in word):
             raise Refused("304")
-    letters = b"ABCDEF"[:len(rows)]
+    letters = STATES[:len(rows)]
     for member in members:
         if len(member) != 2 * width + 2 or member[width] not in letters:
             raise Refused("304")
@@ -241,7 +246,7 @@ def follows(rows, width, lefts, rights, members, member):
     if entry is None:
         return False
     write, move, following = entry
-    written, letter = b"01"[write:write + 1], b"ABCDEF"[following:following + 1]
+    written, letter = b"01"[write:write + 1], STATES[following:following + 1]
     if move > 0:
         new = behind[1:] + written
         return new in lefts and all(
@@ -252,7 +257,7 @@ def follows(rows, width, lefts, rights, members, member):
 
 
 def hexadecimal(text, limit):
-    if not text or any(b not in b"0123456789abcdef" for b in text) or (len(text) > 1 and text[0] == ord("0")):
+    if not text or any(b not in DIGITS for b in text) or (len(text) > 1 and text[0] == ord("0")):
         raise Refused("304")
     value = int(text, 16)
     if value >= limit:
@@ -262,7 +267,7 @@ def hexadecimal(text, limit):
 
 def far(rows, to, count, delta, row_texts, keep):
     states = len(rows)
-    if len(delta) != 2 * count or any(not ord("0") <= b < ord("0") + count for b in delta):
+    if len(delta) != 2 * count or any(b not in DIGITS[:count] for b in delta):
         raise Refused("304")
     last = count * states
     limit = 2 ** (last + 1)
@@ -271,7 +276,7 @@ def far(rows, to, count, delta, row_texts, keep):
         raise Refused("304")
     edges = [hexadecimal(text, limit) for text in edges]
     keep = hexadecimal(keep, limit)
-    goes = [b - ord("0") for b in delta]
+    goes = [DIGITS.index(b) for b in delta]
     if to == b"L":
         rows = mirrored(rows)
 
@@ -329,10 +334,10 @@ def read_claim(rows, parts):
         depth = number(fields[0])
         return lambda: backward(rows, depth)
     if kind == b"N":
-        width = size(fields[0])
+        width = size(fields[0], 8)
         return lambda: ngram(rows, width, *fields[1:])
     if kind == b"F":
-        to, count = side(fields[0]), size(fields[1])
+        to, count = side(fields[0]), size(fields[1], 16)
         return lambda: far(rows, to, count, *fields[2:])
     return lambda: "undecided"
 

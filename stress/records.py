@@ -22,8 +22,10 @@ SEEDS = [
     b"0RA--- T 0 1 R", b"1RA--- T 0 1 R", b"1RB0LC_1LA0LA_0RA--- C 8 16", b"1RB1LA_0LA0RB C 0 8",
     b"1RB1RC_1LB1LA_---0RB T 12 27 R", b"1RB---_1LC1RB_0RA0LC B 3", b"0RB---_1LB--- B 2",
     b"1RB---_0LA--- N 1 0,1 0,1 0A00,0A01,0B00,1A00,1B00", b"1RB1LA_1RC1RB_1LA--- U",
+    b"1RH---_------_------_------_------_------_------ H 1 1", b"1RB---_1RC---_1RD---_1RE---_1RF---_1RG---_------ H 7 7",
+    b"1RA--- F R 9 000000000000000000 " + b"1,200," * 8 + b"1,200 1",
 ]
-SYMBOLS = b"0123456789ABCDEFLRHTNU-_, abcdef"
+SYMBOLS = b"0123456789ABCDEFGLRHTNU-_, abcdef"
 
 
 # Tables that closed position sets and automata settle, and nothing before them.
@@ -39,9 +41,9 @@ def found(tables, *options):
 
 
 def random_table(rng):
-    states = rng.randint(1, 4)
+    states = rng.choice([1, 2, 2, 3, 3, 3, 4, 4, 4, 5, 6, 7])
     def entry():
-        return "---" if rng.random() < 0.15 else rng.choice("01") + rng.choice("LR") + rng.choice("ABCD"[:states])
+        return "---" if rng.random() < 0.15 else rng.choice("01") + rng.choice("LR") + rng.choice("ABCDEFG"[:states])
     return "_".join(entry() + entry() for _ in range(states))
 
 

@@ -10,10 +10,11 @@ use std::process::Abort;
 use std::test::Fail;
 use wire::{Link, MemLedger};
 
-// What is run: the ledger's bytes before, the era, the input, the call at which the ledger fails, and how many
-// writes of answers succeed.
+// What is run: the number of states, the ledger's bytes before, the era, the input, the call at which the ledger fails,
+// and how many writes of answers succeed.
 #[derive(Drop)]
 struct Run<'a> {
+    states: u8,
     held: &'a [u8],
     era: u64,
     input: &'a [u8],
@@ -30,7 +31,8 @@ struct Ending {
     outcome: Outcome,
 }
 
-fn ended(alloc: Global, run: &Run<'_>) -> Result<Ending, Fail> {
+fn ended(rt: &impl Abort, alloc: Global, run: &Run<'_>) -> Result<Ending, Fail> {
+    assert!(rt; 1 <= run.states && run.states <= 7);
     let mut ledger = MemLedger::holding(run.held.to_vec(alloc)?);
     ledger.fail_at(run.ledger_fails_at);
     let mut input = Source {
@@ -41,7 +43,7 @@ fn ended(alloc: Global, run: &Run<'_>) -> Result<Ending, Fail> {
     let mut answers = Sink::new(alloc, usize::MAX, run.writes_left);
     let mut faults = Sink::new(alloc, usize::MAX, ALWAYS);
     let beginning = Beginning {
-        states: 1,
+        states: run.states,
         era: run.era,
     };
     let outcome = cmd_coord(
@@ -61,16 +63,29 @@ fn ended(alloc: Global, run: &Run<'_>) -> Result<Ending, Fail> {
     })
 }
 
-// Without failures: what is answered, the ledger then, and the outcome.
+// A tree of one state without failures: what is answered, the ledger then, and the outcome.
 fn runs(
     rt: &impl Abort,
     alloc: Global,
     (held, era, input): (&str, u64, &[u8]),
     (answers, ledger, outcome): (&str, &str, Outcome),
 ) -> Result<(), Fail> {
+    tree_runs(rt, alloc, 1, (held, era, input), (answers, ledger, outcome))
+}
+
+// The same for a tree of so many states.
+fn tree_runs(
+    rt: &impl Abort,
+    alloc: Global,
+    states: u8,
+    (held, era, input): (&str, u64, &[u8]),
+    (answers, ledger, outcome): (&str, &str, Outcome),
+) -> Result<(), Fail> {
     let end = ended(
+        rt,
         alloc,
         &Run {
+            states,
             held: held.as_bytes(),
             era,
             input,
@@ -122,6 +137,21 @@ fn a_tree_is_settled_over_streams(rt: HostRuntime) -> Result<(), Fail> {
 }
 
 #[test]
+fn a_tree_of_seven_states_is_begun(rt: HostRuntime) -> Result<(), Fail> {
+    tree_runs(
+        &rt,
+        rt.alloc(),
+        7,
+        ("", 1, b"ASK 1\n"),
+        (
+            "GRANT 1 1 ------_------_------_------_------_------_------\n",
+            "bb-ledger 2 ------_------_------_------_------_------_------\n",
+            Outcome::Refused,
+        ),
+    )
+}
+
+#[test]
 fn odd_lines_are_no_answers(rt: HostRuntime) -> Result<(), Fail> {
     let alloc = rt.alloc();
     let mut input = Vec::new(alloc);
@@ -166,8 +196,10 @@ fn fails_at(
     lines: usize,
 ) -> Result<(), Fail> {
     let end = ended(
+        rt,
         alloc,
         &Run {
+            states: 1,
             held: b"",
             era: 1,
             input: SETTLED,
@@ -212,8 +244,10 @@ fn ends_with(
     (faults, outcome): (&[u8], Outcome),
 ) -> Result<(), Fail> {
     let end = ended(
+        rt,
         alloc,
         &Run {
+            states: 1,
             held,
             era: 1,
             input: b"ASK 7\n",

@@ -280,7 +280,7 @@ struct Run {
 }
 
 fn ran(rt: &impl Abort, alloc: Global, run: Run, ledger: Option<&str>, desk: &Desk<'_>) -> Ending {
-    assert!(rt; 1 <= run.states && run.states <= 6 && 1 <= run.workers && run.workers <= 64);
+    assert!(rt; 1 <= run.states && run.states <= 7 && 1 <= run.workers && run.workers <= 64);
     assert!(rt; 1 <= run.rounds && run.rounds <= 1_000_000_000);
     let settling = Settling {
         states: run.states,

@@ -109,7 +109,7 @@ fn ended(
     ledger_fails_at: u64,
     writes_left: u64,
 ) -> Result<Ending, Fail> {
-    assert!(rt; 1 <= settling.states && settling.states <= 6);
+    assert!(rt; 1 <= settling.states && settling.states <= 7);
     let mut ledger = MemLedger::holding(held.to_vec(alloc)?);
     ledger.fail_at(ledger_fails_at);
     let workers = workers_of(alloc, settling.workers)?;

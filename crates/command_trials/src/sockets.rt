@@ -267,7 +267,7 @@ fn settled(
     is_loop: bool,
     room: &Room<'_>,
 ) -> Ending {
-    assert!(rt; 1 <= states && states <= 6 && 1 <= workers && workers <= 64);
+    assert!(rt; 1 <= states && states <= 7 && 1 <= workers && workers <= 64);
     let settling = Settling {
         states,
         workers,

@@ -53,7 +53,7 @@ fn first_bytes<R: Read>(input: &mut R) -> io::Result<[u8; 3]> {
 // The number of states that a digit names.
 fn states_of(digit: u8) -> u8 {
     match digit {
-        b'2'..=b'6' => digit - b'0',
+        b'2'..=b'7' => digit - b'0',
         _ => 1,
     }
 }

@@ -3,6 +3,7 @@ use crate::calls::{Call, Said, Told};
 use crate::handing::event_of;
 use crate::starting::{Role, say_answer};
 use evidence::NoMemory;
+use machine_text::MAX_STATES;
 use std::alloc::Global;
 use std::io::{self, BufRead, BufReader, Read, Write};
 use wire::{NodeFault, Out};
@@ -70,7 +71,7 @@ struct Starting<'a, N> {
 impl<N: Role> Call for Starting<'_, N> {
     fn make(&mut self, alloc: Global, said: &mut Said) -> Result<(), NoMemory> {
         let era = self.desk.era.saturating_add(1);
-        let states = self.desk.states.clamp(1, 6);
+        let states = self.desk.states.clamp(1, MAX_STATES);
         let (node, out) = N::begun(alloc, states, era, &self.desk.ledger)?;
         self.desk.keep(&out)?;
         self.desk.node = Some(node);

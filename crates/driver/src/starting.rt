@@ -3,6 +3,7 @@ use crate::calls::Said;
 use cert::Finders;
 use evidence::NoMemory;
 use lease_core::{Coordinator, Worker};
+use machine_text::MAX_STATES;
 use run::HaltFinder;
 use std::alloc::Global;
 use wire::{Node, Note, Out};
@@ -15,7 +16,7 @@ const STEPS: u64 = 100;
 
 /// A node that is started from its ledger.
 pub trait Role: Node + Drop {
-    /// The node, and its first answer. The ledger is one that such a node wrote; of the numbers of states, 1 to 6, the
+    /// The node, and its first answer. The ledger is one that such a node wrote; of the numbers of states, 1 to 7, the
     /// nearest is taken.
     fn begun(alloc: Global, states: u8, era: u64, ledger: &[u8]) -> Result<(Self, Out), NoMemory>;
 }
@@ -27,7 +28,7 @@ impl Role for Coordinator {
         era: u64,
         ledger: &[u8],
     ) -> Result<(Coordinator, Out), NoMemory> {
-        match Coordinator::start(alloc, states.max(1).min(6), era, ledger) {
+        match Coordinator::start(alloc, states.max(1).min(MAX_STATES), era, ledger) {
             (node, Ok(out)) => Ok((node, out)),
             (_, Err(_)) => Err(NoMemory),
         }

@@ -167,10 +167,12 @@ const LINES: &str = "\
 1 out bb run 1 --rounds 1
 0 out bb run 1 --ledger complete --json
 0 out bb run 1 --ledger sealed
+0 out bb run 1 --hard
 1 err bb run 1 --ledger damaged
 4 err bb run 1 --ledger absent
 0 out bb retry complete
 0 out bb retry sealed
+0 out bb retry complete --hard --steps 7
 1 err bb retry damaged
 4 err bb retry absent
 0 out bb merge complete complete complete
@@ -199,6 +201,10 @@ const LINES: &str = "\
 2 err bb decide --depth 1001
 2 err bb decide --gram 9
 2 err bb decide --far 17
+2 err bb decide --hard --far 3
+2 err bb decide --depth 20 --hard
+2 err bb run 1 --gram 3 --hard
+2 err bb loop 1 --hard --far 2
 2 err bb coord 0
 2 err bb coord 8
 2 err bb coord 1 --era 0
@@ -274,6 +280,7 @@ fn options_are_read_from_the_words(rt: HostRuntime) -> Result<(), Fail> {
         ("bb report --why file", report(false, true)),
         ("bb report file --json", report(true, false)),
         ("bb retry file --steps 7", retry(7)),
+        ("bb decide --hard --steps 7", Options::Decide(hard(7))),
         ("bb merge a b c", merge()),
         ("bb carry a b", carry()),
     ] {
@@ -293,6 +300,7 @@ fn options_are_read_from_the_words(rt: HostRuntime) -> Result<(), Fail> {
             depth,
             gram,
             far,
+            hard: false,
         };
         is_asked(&rt, rt.alloc(), text, Options::Decide(search))?;
     }
@@ -327,6 +335,14 @@ const DEFAULTS: Search = Search {
     far: 2,
     hard: false,
 };
+
+fn hard(steps: u64) -> Search {
+    Search {
+        steps,
+        hard: true,
+        ..DEFAULTS
+    }
+}
 
 fn retry(steps: u64) -> Options<'static> {
     Options::Retry {

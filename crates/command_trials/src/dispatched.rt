@@ -41,14 +41,14 @@ fn carried(
 // The search must be one that the command line can ask for.
 fn retried(rt: &impl Abort, alloc: Global, search: Search, desk: &Desk<'_>) -> Ending {
     assert!(rt; 1 <= search.steps && search.steps <= 100_000_000);
-    assert!(rt; search.depth <= 1_000 && search.gram <= 8 && search.far <= 8);
+    assert!(rt; search.depth <= 1_000 && search.gram <= 8 && search.far <= 16);
     let asked = Options::Retry { file: "a", search };
     carried(rt, alloc, asked, "", desk)
 }
 
 fn decided(rt: &impl Abort, alloc: Global, search: Search, input: &str, desk: &Desk<'_>) -> Ending {
     assert!(rt; 1 <= search.steps && search.steps <= 100_000_000);
-    assert!(rt; search.depth <= 1_000 && search.gram <= 8 && search.far <= 8);
+    assert!(rt; search.depth <= 1_000 && search.gram <= 8 && search.far <= 16);
     carried(rt, alloc, Options::Decide(search), input, desk)
 }
 
@@ -233,6 +233,34 @@ fn all_finders_are_asked(rt: HostRuntime) -> Result<(), Fail> {
     for (table, kind, enough, short) in SEARCHES {
         finds(&rt, rt.alloc(), table, search_of(enough), kind)?;
         finds(&rt, rt.alloc(), table, search_of(short), "U")?;
+    }
+    Ok(())
+}
+
+// What the stages of a hard search find of the same tables, of the two of four states that no automaton with up to eight
+// named states settles, and of the champion of five states, which halts too late for them.
+const STAGES: &str = "\
+1RB1LB_1LA--- H
+1RB0LC_1LA0LA_0RA--- C
+1RB1RC_1LB1LA_---0RB T
+1RB---_1LC1RB_0RA0LC B
+1RB1LA_1RC1RB_1LA--- F
+1RB1LC_0LA0RB_1LA--- F
+1RB0RB_1LB0LC_0LD---_1RD0RA F
+1RB0LD_1RC---_1RD0LA_1LC0RB T
+1RB1LC_1RC1RB_1RD0LE_1LA1LD_---0LA U";
+
+#[test]
+fn a_hard_search_goes_through_its_stages(rt: HostRuntime) -> Result<(), Fail> {
+    let search = Search {
+        hard: true,
+        ..SEARCH
+    };
+    for row in STAGES.split('\n') {
+        match row.split_once(' ') {
+            Some((table, kind)) => finds(&rt, rt.alloc(), table, search, kind)?,
+            None => panic!(rt; "{row}: no kind"),
+        }
     }
     Ok(())
 }

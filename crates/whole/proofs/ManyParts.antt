@@ -1,5 +1,5 @@
 -- The same of a trunk and any number of parts.
-use Rattle.std.proofs.Common.{◌≡◌, ◌≢◌, ℕ, suc, List, [], ◌∷◌, ◌++◌, Some, inl, inr, ◌⊎◌, ◌↔◌, refl, sym, ◌∙◌, ap, subst, arith}
+use Rattle.std.proofs.Common.{◌≡◌, ◌≢◌, ℕ, suc, List, [], ◌∷◌, ◌++◌, Option, Some, None, inl, inr, ◌⊎◌, ◌↔◌, refl, sym, ◌∙◌, ap, subst, arith}
 use Rattle.std.specs.List.{Contains, AllPairs}
 use Rattle.machine_text.specs.Packed.{Packed, IsTable}
 use Rattle.tree.specs.Closed.{Mark, Holdout, IsOpen, IsComplete}
@@ -17,6 +17,12 @@ no_part (k, below, is) = omega arith
 -- the first of the parts, and the others behind it
 first_root : (p : Contents) (parts : List Contents) (q : Contents) → AllPairs (λ (a b : Contents). a.root ≢ b.root) (p ∷ parts) → Contains parts q → p.root ≢ q.root
 first_root p parts q once (k, below, is) = subst (λ (c : Contents). p.root ≢ c.root) is (once 0 (suc k) q (omega arith) (omega arith))
+
+-- two marks of which either says what the other says
+same_mark : (a b : Option Mark) → ((m : Mark) → (a ≡ Some m) ↔ (b ≡ Some m)) → a ≡ b
+same_mark None None same = refl
+same_mark None (Some n) same = let is = (same n).1 refl in absurd (cc)
+same_mark (Some m) b same = sym ((same m).0 refl)
 
 module _ (root : Packed) (is_table : IsTable root) where
   other_parts : (rs : List Recorded) (p : Contents) (parts : List Contents) → IsHeld root rs → AreParts root rs (p ∷ parts) → AreParts root (rs ++ p.records) parts
@@ -79,10 +85,13 @@ module _ (root : Packed) (is_table : IsTable root) where
       let rest = all_open (rs ++ p.records) parts t (held_first rs p parts held are) (other_parts rs p parts held are) in (
         λ opened. elim (rest.0 opened) [
           | inl w ↦ elim (one.0 w.0) [
-            | inl before ↦ inl (before.0, λ q at. elim (first_or_later p parts q at) [
-              | inl same ↦ subst (λ (c : Contents). t ≢ c.root) same before.1
-              | inr later ↦ w.1 q later
-            ])
+            | inl before ↦ inl (
+              before.0,
+              λ q at. elim (first_or_later p parts q at) [
+                | inl same ↦ subst (λ (c : Contents). t ≢ c.root) same before.1
+                | inr later ↦ w.1 q later
+              ],
+            )
             | inr by_first ↦ inr (p, first_member p p parts refl, by_first)
           ]
           | inr w ↦ inr (w.0, later_member p parts w.0 w.1, w.2)
@@ -112,6 +121,14 @@ module _ (root : Packed) (is_table : IsTable root) where
       | inr w ↦ (complete w.0 w.1).no_holdout t w.2
     ];
   }
+
+  -- in whichever order the parts come, all together say the same of each table
+  pub any_order : (rs : List Recorded) (parts others : List Contents) (t : Packed) → IsHeld root rs → AreParts root rs parts → AreParts root rs others
+      → ((p : Contents) → Contains parts p ↔ Contains others p) → mark_in (joined_with rs parts) t ≡ mark_in (joined_with rs others) t
+  any_order rs parts others t held are also same = same_mark (mark_in (joined_with rs parts) t) (mark_in (joined_with rs others) t) (λ m. (
+    λ is. (all_marks rs others t m held also).1 (elim ((all_marks rs parts t m held are).0 is) [ inl before ↦ inl before | inr w ↦ inr (w.0, (same w.0).0 w.1, w.2) ]),
+    λ is. (all_marks rs parts t m held are).1 (elim ((all_marks rs others t m held also).0 is) [ inl before ↦ inl before | inr w ↦ inr (w.0, (same w.0).1 w.1, w.2) ]),
+  ))
 
 -- one part more comes last
 pub joined_more : (rs : List Recorded) (parts : List Contents) (p : Contents) → joined_with rs (parts ++ (p ∷ [])) ≡ joined_with rs parts ++ p.records

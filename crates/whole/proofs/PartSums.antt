@@ -175,7 +175,7 @@ module _ (root r : Packed) (rs : List Recorded) (is_table : IsTable root) (held 
   both_tally a b x y =
       let less = many_less (IsOpen root (mark_in rs)) r a.open_count x.open_count is_open in
       let opened = many_both (λ q. IsOpen root (mark_in rs) q × (q ≢ r)) (IsOpen r (mark_in ps)) (a.open_count - 1) b.open_count less.0 y.open_count
-          (λ t k l. k.1 (one_opens root r rs is_table held is_open ps part_held t k.0 l)) in
+      (λ t k l. k.1 (one_opens root r rs is_table held is_open ps part_held t k.0 l)) in
       record {
         nodes = omega (arith, x.nodes, y.nodes, less.1, length-append rs ps);
         open_count = many_same _ (IsOpen root (mark_in (rs ++ ps))) (a.open_count - 1 + b.open_count) open_both opened;

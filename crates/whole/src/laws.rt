@@ -34,7 +34,8 @@ pub fn parts_are_held()
 
 /// The same of a trunk and any number of parts: they are held together, recorded is what one of them records, and open is
 /// what the trunk leaves open and is no part's root, and what a part leaves open. So where each open table of the trunk is
-/// the root of a part, the trunk has no holdout and each part is complete, all together are complete.
+/// the root of a part, the trunk has no holdout and each part is complete, all together are complete. In whichever order
+/// the parts come, all together say the same of each table.
 pub fn many_parts_are_held()
     ensures held { (root : Packed) (rs : List Recorded) (parts : List Contents) → IsTable root → IsHeld root rs → AreParts root rs parts →
         IsHeld root (joined_with rs parts) }
@@ -46,6 +47,9 @@ pub fn many_parts_are_held()
     ensures complete { (root : Packed) (rs : List Recorded) (parts : List Contents) → IsTable root → IsHeld root rs → AreParts root rs parts →
         ((t : Packed) → IsOpen root (mark_in rs) t → (p : Contents) × Contains parts p × (t ≡ p.root)) → ((t : Packed) → IsHoldout rs t → ⊥) →
         ((p : Contents) → Contains parts p → IsComplete p.root (mark_in p.records)) → IsComplete root (mark_in (joined_with rs parts)) }
+    ensures order { (root t : Packed) (rs : List Recorded) (parts others : List Contents) → IsTable root → IsHeld root rs → AreParts root rs parts →
+        AreParts root rs others → ((p : Contents) → Contains parts p ↔ Contains others p) →
+        mark_in (joined_with rs parts) t ≡ mark_in (joined_with rs others) t }
 {}
 
 /// Two lists of records that are held from a root and say the same of each table are told of in the same way: the same

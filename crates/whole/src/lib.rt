@@ -6,6 +6,7 @@
 //! the same way. `specs/inside` and `proofs` are for the code alone.
 #![tactic(auto)]
 
+mod adding;
 mod champions;
 mod laws;
 mod part_fault;

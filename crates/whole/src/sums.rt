@@ -41,6 +41,7 @@ impl Sums {
     // Makes room for the tables of others.
     pub fn reserve(&mut self, more: &Sums) -> Result<(), NoMemory>
         ensures same { totals_of self.new ≡ totals_of self.old }
+        ensures tally { self.new.tally ≡ self.old.tally }
         ensures room { OnOk result (HasRoomFor self.new more.now) }
     {
         self.champions.reserve(more.champions.len())?;

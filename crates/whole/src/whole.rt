@@ -13,9 +13,10 @@ ghost use Rattle.ledger.specs.Tally.{AreAll, IsChampion, IsGreatestCount, IsGrea
 ghost use Rattle.whole.specs.Parts.{joined_with};
 ghost use Rattle.whole.specs.Whole.{AddGives, IsWhole};
 
+use crate::adding::{add_part, has_root};
 use crate::part_fault::PartFault;
 use crate::standing::status_by;
-use crate::sums::{Sums, with_part};
+use crate::sums::Sums;
 use crate::tables::sorted;
 use cert::standing_claims_are_true;
 use evidence::NoMemory;
@@ -73,25 +74,21 @@ impl Whole {
     pub fn add(&mut self, part: &Board) -> Result<(), PartFault>
         ensures { AddGives self.old part.now result self.new }
     {
-        if !self.trunk.is_open(part.root()) {
+        let its_root = part.root();
+        if !self.trunk.is_open(its_root) {
             return Err(PartFault::NotOpen);
         }
-        if self.roots.contains(part.root()) {
+        if has_root(&self.roots, its_root) {
             return Err(PartFault::AddedBefore);
         }
-        let more = Sums::of(self.alloc, part)?;
-        let Some(tally) = with_part(&self.sums.tally, &more.tally) else {
-            return Err(PartFault::NoMemory);
-        };
-        self.sums.reserve(&more)?;
-        self.roots.reserve(1)?;
-        // From here on nothing is refused: there is room for the root and the tables.
-        match self.roots.insert(*part.root()) {
-            Ok(_) => {}
-            Err(_) => unreachable!(),
-        }
-        self.sums.take(more, tally);
-        Ok(())
+        add_part(self.alloc, &mut self.roots, &mut self.sums, part)
+    }
+
+    /// The board of the trunk.
+    pub fn trunk(&self) -> &Board
+        ensures { result.now ≡ self.now.trunk }
+    {
+        &self.trunk
     }
 
     /// The root of the tree. Whoever calls it knows that there are parts of which this is the whole.

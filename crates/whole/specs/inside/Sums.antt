@@ -1,10 +1,10 @@
 -- For the code: the totals as they are kept, and how those of a part come to them.
-use Rattle.std.specs.Prelude.{ℕ, ◌+◌, ◌≤◌, vec_len, vec_capacity, nat_lt, nat_eq, if◌then◌else◌, List, ◌++◌, Option, Some, None}
+use Rattle.std.specs.Prelude.{◌≡◌, ℕ, ◌+◌, ◌≤◌, vec_len, vec_capacity, nat_lt, nat_eq, if◌then◌else◌, List, ◌++◌, Option, Some, None}
 use Rattle.machine_text.specs.Packed.{Packed}
 use Rattle.ledger.specs.Contents.{Contents}
 use Rattle.ledger.specs.declared.tally.Tally.{Tally}
 use Rattle.whole.specs.Parts.{with_part}
-use Rattle.whole.specs.Whole.{Totals, Collected, IsWhole}
+use Rattle.whole.specs.Whole.{AreTotals, Totals, Collected, IsWhole}
 use Rattle.whole.specs.declared.sums.Sums.{Sums}
 
 -- the totals that are kept
@@ -31,6 +31,12 @@ pub record HasRoomFor (s more : Sums) : Type 0 where
   pub champions : vec_len s.champions + vec_len more.champions ≤ vec_capacity s.champions
   pub ones_champions : vec_len s.ones_champions + vec_len more.ones_champions ≤ vec_capacity s.ones_champions
   pub holdouts : vec_len s.holdouts + vec_len more.holdouts ≤ vec_capacity s.holdouts
+
+-- the totals with those of a part
+pub record AddsTotals (part : Contents) (old new : Totals) : Type 0 where
+  pub its : Totals
+  pub are : AreTotals part.root part.records its
+  pub sum : new ≡ totals_with old its
 
 -- it is the whole of some parts
 abbrev pub IsOfParts : Collected → Type 0

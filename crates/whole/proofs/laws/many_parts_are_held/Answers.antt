@@ -1,4 +1,4 @@
-use Rattle.whole.proofs.ManyParts.{all_held, all_marks, all_open, all_complete}
+use Rattle.whole.proofs.ManyParts.{all_held, all_marks, all_open, all_complete, any_order}
 use Rattle.whole.proofs.laws.many_parts_are_held.Goals as goal
 
 pub returns-clause-held : goal.returns-clause-held
@@ -12,3 +12,6 @@ returns-clause-left_open c = λ root t rs parts is_table. all_open root is_table
 
 pub returns-clause-complete : goal.returns-clause-complete
 returns-clause-complete c = λ root rs parts is_table. all_complete root is_table rs parts
+
+pub returns-clause-order : goal.returns-clause-order
+returns-clause-order c = λ root t rs parts others is_table. any_order root is_table rs parts others t

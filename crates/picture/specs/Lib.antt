@@ -1,0 +1,4 @@
+pub mod View
+pub mod Times
+pub mod Runs
+pub mod inside

@@ -1,1 +1,4 @@
 pub mod RunLaws
+pub mod VisitLaws
+pub mod RowLaws
+pub mod PictureLaws

@@ -7,7 +7,7 @@ use Rattle.picture.specs.declared.times.Times.{Times}
 pub record AreWithinRuns (t : Times) : Type 0 where
   pub last : t.from + t.steps ≤ run_step_limit
   pub onward : 0 < t.every
-  pub near : t.every ≤ run_step_limit
+  pub near : t.every ≤ run_step_limit + 1
 
 -- the time of row number n, as far as the run gets there
 abbrev pub due : Times → ℕ → ℕ

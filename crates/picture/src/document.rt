@@ -2,13 +2,13 @@
 ghost use Rattle.std.specs.Prelude.{◌≡◌, false, ◌++◌, ◌-◌, ◌<◌, ◌^◌, List, length, flat_map, IfOk, OnOk};
 ghost use Rattle.machine_text.specs.Packed.{entry_of};
 ghost use Rattle.picture.specs.Rows.{Shown, AreRows};
-ghost use Rattle.picture.specs.Svg.{row_svg, opening, svg_text};
+ghost use Rattle.picture.specs.Svg.{row_svg, size_svg, frame_svg, title_svg, opening, svg_text};
 ghost use Rattle.picture.specs.Times.{AreWithinRuns};
 
 use crate::lines::append_row;
 use crate::row::Row;
 use crate::rows::Rows;
-use crate::style::STYLE;
+use crate::style::{BEGINNING, STYLE};
 use crate::times::Times;
 use crate::view::View;
 use machine_text::{TEXT_BYTES, Table};
@@ -54,17 +54,40 @@ fn append_rows(
 }
 
 // Appends what stands before the rows, of which there are so many.
+#[tactic(auto, unfolding(crate::specs::Svg::opening))]
 fn append_opening(t: &Table, view: &View, rows: u64, out: &mut Vec<u8>) -> Result<(), NoMemory>
     requires { rows < 2 ^ 64 - 1 }
     ensures { OnOk result (out.new.items ≡ out.old.items ++ opening t.now view.now rows) }
 {
-    let mut buf = [0; TEXT_BYTES];
-    out.extend_from_slice(b"<svg xmlns='http://www.w3.org/2000/svg' viewBox='0 0 ")?;
-    append_number(view.width, out)?;
-    out.extend_from_slice(b" ")?;
-    append_number(rows + 1, out)?;
-    out.extend_from_slice(b"' shape-rendering='crispEdges'>\n<title>")?;
-    out.extend_from_slice(t.text(&mut buf))?;
-    out.extend_from_slice(b"</title>\n")?;
+    append_frame(view.width, rows + 1, out)?;
+    append_title(t, out)?;
     out.extend_from_slice(STYLE)
+}
+
+// Appends the beginning of a document that is so wide and so high.
+fn append_frame(width: u64, height: u64, out: &mut Vec<u8>) -> Result<(), NoMemory>
+    ensures { OnOk result (out.new.items ≡ out.old.items ++ frame_svg width height) }
+{
+    out.extend_from_slice(BEGINNING)?;
+    append_size(width, height, out)?;
+    out.extend_from_slice(b"'>\n")
+}
+
+// Appends a width and a height.
+fn append_size(width: u64, height: u64, out: &mut Vec<u8>) -> Result<(), NoMemory>
+    ensures { OnOk result (out.new.items ≡ out.old.items ++ size_svg width height) }
+{
+    append_number(width, out)?;
+    out.extend_from_slice(b" ")?;
+    append_number(height, out)
+}
+
+// Appends a table's text as the title.
+fn append_title(t: &Table, out: &mut Vec<u8>) -> Result<(), NoMemory>
+    ensures { OnOk result (out.new.items ≡ out.old.items ++ title_svg t.now) }
+{
+    let mut buf = [0; TEXT_BYTES];
+    out.extend_from_slice(b"<title>")?;
+    out.extend_from_slice(t.text(&mut buf))?;
+    out.extend_from_slice(b"</title>\n")
 }

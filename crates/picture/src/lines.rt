@@ -1,7 +1,7 @@
 // A row of a picture as a line of an SVG document.
 ghost use Rattle.std.specs.Prelude.{◌≡◌, ◌++◌, OnOk};
 ghost use Rattle.picture.specs.Rows.{shown_row};
-ghost use Rattle.picture.specs.Svg.{row_svg, ones_svg, head_svg, halt_svg, cells_svg};
+ghost use Rattle.picture.specs.Svg.{row_svg, ones_svg, head_svg, halt_svg, bar_svg, cells_svg};
 
 use crate::ones::Run;
 use crate::row::Row;
@@ -11,6 +11,7 @@ use tape::NoMemory;
 use text::append_number;
 
 // Appends a row: its ones, the head over them, and the bar where the machine halts.
+#[tactic(auto, unfolding(crate::specs::Svg::row_svg))]
 pub(crate) fn append_row(view: &View, row: &Row, out: &mut Vec<u8>) -> Result<(), NoMemory>
     ensures { OnOk result (out.new.items ≡ out.old.items ++ row_svg view.now (shown_row row.now)) }
 {
@@ -49,11 +50,19 @@ fn append_head(y: u64, state: State, head: Option<u64>, out: &mut Vec<u8>) -> Re
 fn append_halt(y: u64, halts: bool, view: &View, out: &mut Vec<u8>) -> Result<(), NoMemory>
     ensures { OnOk result (out.new.items ≡ out.old.items ++ halt_svg view.now y halts) }
 {
-    if !halts {
-        return Ok(());
+    if halts {
+        append_bar(y, view.width, out)
+    } else {
+        Ok(())
     }
+}
+
+// Appends a bar beneath a row.
+fn append_bar(y: u64, width: u64, out: &mut Vec<u8>) -> Result<(), NoMemory>
+    ensures { OnOk result (out.new.items ≡ out.old.items ++ bar_svg width y) }
+{
     out.extend_from_slice(b"<path class='halt' transform='translate(0 1)' d='")?;
-    append_line(0, y, view.width, out)?;
+    append_line(0, y, width, out)?;
     out.extend_from_slice(b"'/>")
 }
 

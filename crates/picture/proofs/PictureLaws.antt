@@ -150,9 +150,9 @@ pub appended_next : (p : Packed) (v : View) (t : Times) (old new : Progress) (gi
 appended_next p v t old new given r begin before after table view times appended gives is text =
     let row = given_row (entry_of old.table) old new given r gives is in
     let here : IsRow (entry_of p) v t old.number r =
-      subst (λ (q : Packed). IsRow (entry_of q) v t old.number r) table
-      (subst (λ (w : View). IsRow (entry_of old.table) w t old.number r) view
-      (subst (λ (u : Times). IsRow (entry_of old.table) old.view u old.number r) times row.0))
+    subst (λ (q : Packed). IsRow (entry_of q) v t old.number r) table
+    (subst (λ (w : View). IsRow (entry_of old.table) w t old.number r) view
+    (subst (λ (u : Times). IsRow (entry_of old.table) old.view u old.number r) times row.0))
     in
     appended_more (entry_of p) v t old.over new.over old.number new.number begin before after r appended row.1 here (ap (λ (q : Progress). q.over) row.2) (ap (λ (q : Progress). q.number) row.2) text
 

@@ -1,5 +1,5 @@
 -- What is shown in a row, and when the next one is.
-use Rattle.std.proofs.Common.{◌≡◌, ◌↔◌, ℕ, zero, ◌+◌, ◌*◌, ◌/◌, ◌<◌, ◌≤◌, inl, inr, Option, Some, None, is_some, Bool, true, false, not, IsTrue, sym, ◌∙◌, ap, refl, arith}
+use Rattle.std.proofs.Common.{◌≡◌, ◌↔◌, ℕ, ◌+◌, ◌*◌, ◌/◌, ◌<◌, ◌≤◌, inl, inr, Option, Some, None, is_some, Bool, true, false, not, IsTrue, sym, ◌∙◌, ap, refl, arith}
 use Rattle.std.proofs.Math.Nat.{add-mul, le-mul_of_pos_right, mul-le-mul_right, lt-mul-div-succ}
 use Rattle.std.proofs.lemmas.Bool.{cases_lt}
 use Rattle.std.proofs.lemmas.Option.{none-some}

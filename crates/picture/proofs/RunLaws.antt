@@ -1,5 +1,5 @@
 -- Runs of ones: what a row of runs draws when one more is put behind it.
-use Rattle.std.proofs.Common.{◌≡◌, ◌≢◌, ℕ, ℤ, ◌≤ℤ◌, ◌+◌, ◌<◌, ◌≤◌, nat_le, nat_lt, ◌&&◌, Bool, true, false, if◌then◌else◌, List, [], ◌∷◌, ◌++◌, ◌⊎◌, inl, inr, sym, ◌∙◌, ap, refl, subst, arith}
+use Rattle.std.proofs.Common.{◌≡◌, ◌≢◌, ℕ, ℤ, ◌≤ℤ◌, ◌+◌, ◌<◌, ◌≤◌, nat_le, nat_lt, ◌&&◌, Bool, true, false, if◌then◌else◌, List, [], ◌∷◌, ◌++◌, ◌⊎◌, inl, inr, sym, ◌∙◌, ap, refl, arith}
 use Rattle.std.proofs.lemmas.Bool.{cases_lt}
 use Rattle.std.specs.Ordering.{int_cmp}
 use Rattle.std.specs.FinSet as set
@@ -149,10 +149,10 @@ pub outside : (v : View) (cells : Span) (ones : set.FinSet int_cmp) (first end :
     → (i : ℕ) → i < v.width → (i < first) ⊎ (end ≤ i) → cell_of ones (place v i) ≡ Zero
 outside v cells ones first end has all i low out =
     not_one (cell_of ones (place v i)) (λ one.
-        let at : (first ≤ i) × (i < end) = all i low (has.low (place v i) one) (has.high (place v i) one) in
-        let from = at.0 in
-        let to = at.1 in
-        elim out [
-          | inl less ↦ omega arith
-          | inr more ↦ omega arith
-        ])
+    let at : (first ≤ i) × (i < end) = all i low (has.low (place v i) one) (has.high (place v i) one) in
+    let from = at.0 in
+    let to = at.1 in
+    elim out [
+      | inl less ↦ omega arith
+      | inr more ↦ omega arith
+    ])

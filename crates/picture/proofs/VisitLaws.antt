@@ -4,14 +4,12 @@ use Rattle.std.specs.Ordering.{int_cmp}
 use Rattle.std.specs.FinSet as set
 use Rattle.std.proofs.lemmas.Bool.{cases_lt}
 use Rattle.std.proofs.lemmas.Int.{ints, by_lt_z}
-use Rattle.std.proofs.lemmas.Option.{same_Some, none-some}
+use Rattle.std.proofs.lemmas.Option.{same_Some}
 use Rattle.machine_text.specs.Packed.{Packed, entry_of}
-use Rattle.machine_text.specs.declared.transition.Sym.{Sym}
 use Rattle.machine_text.specs.declared.transition.Sym.TheVariants.{Zero, One}
 use Rattle.machine_text.specs.declared.transition.Dir.{Dir}
 use Rattle.machine_text.specs.declared.transition.Dir.TheVariants.{L, R}
 use Rattle.turing.specs.Machine.{Machine}
-use Rattle.turing.specs.Tape.{cell_of}
 use Rattle.turing.specs.Run.{Config, start, cell, next, after}
 use Rattle.turing.specs.Halting.{HaltsAt}
 use Rattle.turing.specs.Translated.{Beyond, Farthest}
@@ -205,7 +203,7 @@ placed p t v r0 r1 r2 s1 s2 wider same runs on visited left all =
     let begun = between t.from r0 r1 s1 runs in
     let machine : r1.table ≡ p = begun.table ∙ same in
     let whole = visited_last (entry_of p) r1.steps r2.steps (last_time t) wider visited
-      (subst (λ (q : Packed). (r2.steps ≡ last_time t) ⊎ ((r2.steps < last_time t) × HaltsAt (entry_of q) (r2.steps + 1))) machine (stands_due (last_time t) r1 r2 s2 on))
+    (subst (λ (q : Packed). (r2.steps ≡ last_time t) ⊎ ((r2.steps < last_time t) × HaltsAt (entry_of q) (r2.steps + 1))) machine (stands_due (last_time t) r1 r2 s2 on))
     in
     let end : place v v.width ≡ wider.last +ℤ pos 1 = all (visited_order (entry_of p) r1.steps r2.steps wider visited) in
     let right : wider.last ≡ place v v.width -ℤ pos 1 = omega (arith, ints) in

@@ -1,6 +1,6 @@
 -- The text of a picture as an SVG document. A cell is one unit wide, a row one unit high; a path `Mx yhn` is n cells of
 -- row y from column x on.
-use Rattle.std.specs.Prelude.{ℕ, ◌+◌, Bool, true, false, Option, Some, None, List, [], ◌∷◌, ◌++◌, length, flat_map, codes, decimal}
+use Rattle.std.specs.Prelude.{ℕ, ◌+◌, Bool, true, false, Option, Some, None, List, [], ◌++◌, length, flat_map, codes, decimal}
 use Rattle.machine_text.specs.Packed.{Packed}
 use Rattle.machine_text.specs.Text.{text_of}
 use Rattle.picture.specs.declared.ones.Run.{Run}

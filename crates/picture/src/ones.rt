@@ -1,5 +1,5 @@
 // The ones of a row, as runs.
-ghost use Rattle.std.specs.Prelude.{◌≡◌, ◌≢◌, ℕ, ◌+◌, ◌-◌, ◌^◌, ◌<◌, ◌≤◌, ℤ, pos, ◌+ℤ◌, ◌≤ℤ◌, OnOk};
+ghost use Rattle.std.specs.Prelude.{◌≡◌, ◌≢◌, ℕ, ◌+◌, ◌-◌, ◌^◌, ◌<◌, ◌≤◌, ℤ, pos, ◌≤ℤ◌, OnOk};
 ghost use Rattle.machine_text.specs.declared.transition.Sym.TheVariants.{One};
 ghost use Rattle.turing.specs.Tape.{cell_of};
 ghost use Rattle.picture.specs.View.{place};

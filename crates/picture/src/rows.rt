@@ -100,13 +100,7 @@ impl Rows {
 }
 
 // Fills a row with what a runner's configuration shows.
-fn show(
-    runner: &Runner,
-    t: &Table,
-    view: &View,
-    cells: Span,
-    row: &mut Row,
-) -> Result<(), NoMemory>
+fn show(runner: &Runner, t: &Table, view: &View, cells: Span, row: &mut Row) -> Result<(), NoMemory>
     requires same { runner.now.table ≡ t.now }
     requires visited { IsVisited (entry_of t.now) 0 runner.now.steps cells }
     ensures number { OnOk result (row.new.number ≡ row.old.number) }

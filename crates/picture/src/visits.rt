@@ -1,5 +1,5 @@
 // The cells that a run visits.
-ghost use Rattle.std.specs.Prelude.{◌≡◌, ℕ, ◌≤◌, IfOk, OnErr};
+ghost use Rattle.std.specs.Prelude.{ℕ, ◌≤◌, IfOk, OnErr};
 ghost use Rattle.machine_text.specs.Packed.{entry_of};
 ghost use Rattle.run.specs.Limits.{run_step_limit};
 ghost use Rattle.run.specs.Steps.{RunsTo, IsBetween};

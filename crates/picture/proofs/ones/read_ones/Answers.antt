@@ -1,10 +1,10 @@
-use Rattle.std.proofs.Common.{rules, ◌≡◌, ℕ, ◌+◌, ◌-◌, ◌<◌, ◌≤◌, List, [], ◌∷◌, ◌++◌, inl, inr, sym, ◌∙◌, subst, arith}
+use Rattle.std.proofs.Common.{rules, ◌≡◌, ℕ, ◌+◌, ◌-◌, ◌<◌, ◌≤◌, [], ◌∷◌, ◌++◌, inl, inr, sym, ◌∙◌, subst, arith}
 use Rattle.std.proofs.lemmas.Bool.{cases_lt}
 use Rattle.turing.specs.Tape.{cell_of}
 use Rattle.picture.specs.declared.ones.Run.{Run}
 use Rattle.picture.specs.View.{place}
-use Rattle.picture.specs.Runs.{drawn, AreApart}
-use Rattle.picture.proofs.RunLaws.{apart_none, apart_later, apart_push, drawn_none, drawn_beyond, drawn_push, past_ones, past_blanks, outside, not_one, not_zero}
+use Rattle.picture.specs.Runs.{AreApart}
+use Rattle.picture.proofs.RunLaws.{apart_none, apart_later, apart_push, drawn_none, drawn_beyond, drawn_push, past_ones, past_blanks, outside}
 use Rattle.picture.proofs.ones.read_ones.Goals as goal
 
 -- left of the first one the view is blank
@@ -34,7 +34,7 @@ loop-column-preserved c =
     let items : c.push.new.self.items ≡ c.loop-column.runs.items ++ r ∷ [] = search rules in
     let ends : c.loop-column.column + (c.pass-after.result - c.loop-column.column) ≡ c.pass-after.result = omega arith in
     let apart : AreApart 0 (c.loop-column.runs.items ++ r ∷ []) (c.pass-after.result + 1) =
-      subst (λ n. AreApart 0 (c.loop-column.runs.items ++ r ∷ []) (n + 1)) ends (apart_push 0 c.loop-column.runs.items c.loop-column.column r (c.loop-column.invariant.next low) (omega arith) (omega arith))
+    subst (λ n. AreApart 0 (c.loop-column.runs.items ++ r ∷ []) (n + 1)) ends (apart_push 0 c.loop-column.runs.items c.loop-column.column r (c.loop-column.invariant.next low) (omega arith) (omega arith))
     in
     let later : c.pass-after.result ≤ c.pass-column-in-loop-column.result = c.pass-column-in-loop-column.ensures.onward in
     record {

@@ -1,4 +1,4 @@
-use Rattle.std.proofs.Common.{◌≡◌, ◌+◌, ◌≤◌, ◌∙◌, ap, arith}
+use Rattle.std.proofs.Common.{◌∙◌, ap, arith}
 use Rattle.machine_text.specs.Packed.{entry_of}
 use Rattle.turing.specs.Tape.{Tape}
 use Rattle.run.specs.RunState.{RunState}

@@ -21,9 +21,9 @@ pub returns-clause-shows : goal.returns-clause-shows
 returns-clause-shows c =
     let at = subst (λ (p : Packed). after (entry_of p) c.args.runner.now.steps ≡ Some c.args.runner.now.config) c.requires.same c.steps-row.ensures.stands.at in
     let entry : c.get.result ≡ entry_of c.args.t.now c.args.runner.now.config.state (symbol_read c.args.runner.now.config.tape) =
-      c.get.ensures.entry
-      ∙ (ap (λ q. entry_of c.args.t.now q c.read.result) c.state.ensures
-      ∙ ap (λ (s : Sym). entry_of c.args.t.now c.args.runner.now.config.state s) (c.read.ensures ∙ ap (λ (t : Tape). symbol_read t) c.tape-tape.ensures))
+    c.get.ensures.entry
+    ∙ (ap (λ q. entry_of c.args.t.now q c.read.result) c.state.ensures
+    ∙ ap (λ (s : Sym). entry_of c.args.t.now c.args.runner.now.config.state s) (c.read.ensures ∙ ap (λ (t : Tape). symbol_read t) c.tape-tape.ensures))
     in
     record {
       at = c.args.runner.now.config;

@@ -1,4 +1,4 @@
-use Rattle.std.proofs.Common.{◌≡◌, ◌+◌, ◌<◌, ◌≤◌, ◌∙◌, subst, arith}
+use Rattle.std.proofs.Common.{◌≡◌, ◌+◌, ◌∙◌, subst, arith}
 use Rattle.turing.specs.Tape.{Tape}
 use Rattle.run.specs.Steps.{TakesStep}
 use Rattle.picture.proofs.VisitLaws.{Reaches, took, visited_step}
@@ -9,12 +9,12 @@ pub steps-preserved : goal.steps-preserved
 steps-preserved c =
     let step : TakesStep c.steps.runner c.step.new.self = took c.steps.runner c.step.new.self c.in_ok-step.step c.in_ok-step.ensures.ok c.in-Went.is in
     let reaches : Reaches c.steps.cells c.reach.new.self c.step.new.self.config.tape.head =
-      subst (λ (t : Tape). Reaches c.steps.cells c.reach.new.self t.head) c.tape.ensures (record {
-        first_new = c.reach.ensures.first_new;
-        first_same = c.reach.ensures.first_same;
-        last_new = c.reach.ensures.last_new;
-        last_same = c.reach.ensures.last_same;
-      })
+    subst (λ (t : Tape). Reaches c.steps.cells c.reach.new.self t.head) c.tape.ensures (record {
+      first_new = c.reach.ensures.first_new;
+      first_same = c.reach.ensures.first_same;
+      last_new = c.reach.ensures.last_new;
+      last_same = c.reach.ensures.last_same;
+    })
     in
     let more : c.step.new.self.steps ≡ c.steps.runner.steps + 1 = step.steps in
     let here = c.steps-in-steps.ensures.steps in

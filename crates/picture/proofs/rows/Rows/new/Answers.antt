@@ -1,4 +1,4 @@
-use Rattle.std.proofs.Common.{◌≡◌, ◌+◌, ◌*◌, ◌≤◌, ◌∙◌, ap, arith}
+use Rattle.std.proofs.Common.{◌≡◌, ◌∙◌, ap, arith}
 use Rattle.turing.specs.Tape.{Tape}
 use Rattle.run.specs.RunState.{RunState}
 use Rattle.picture.proofs.VisitLaws.{visited_start}

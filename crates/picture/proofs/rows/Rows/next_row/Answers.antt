@@ -1,4 +1,4 @@
-use Rattle.std.proofs.Common.{◌≡◌, ◌+◌, ◌*◌, ◌<◌, ◌≤◌, sym, ◌∙◌, arith}
+use Rattle.std.proofs.Common.{◌≡◌, ◌+◌, ◌∙◌, arith}
 use Rattle.picture.specs.Times.{due}
 use Rattle.picture.proofs.RowLaws.{due_next}
 use Rattle.picture.proofs.VisitLaws.{between, visited_on}

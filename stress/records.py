@@ -83,6 +83,7 @@ def main():
     large = found(LISTED, "--far", "0", "--gram", "3") + found(AUTOMATIC, "--gram", "0", "--far", "3")
     for _ in range(batches):
         made = found((random_table(rng) for _ in range(500)), "--gram", "3", "--far", "3")
+        made += found((random_table(rng) for _ in range(200)), "--hard")
         for line in made:
             if (answer(line) or "").startswith("refused"):
                 print(f"records: seed {seed}: bb decide answers {line!r}")

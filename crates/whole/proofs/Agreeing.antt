@@ -1,16 +1,15 @@
 -- Records that say the same of each table are told of in the same way.
-use Rattle.std.proofs.Common.{◌≡◌, ◌≢◌, ℕ, ◌+◌, ◌<◌, ◌≤◌, true, filter, length, List, [], ◌∷◌, Option, Some, None, option_map, inl, inr, ◌⊎◌, ◌↔◌, refl, sym, ◌∙◌, ap, subst, arith}
-use Rattle.machine_text.specs.Packed.{Packed, entry_of}
-use Rattle.turing.specs.Score.{score_at}
-use Rattle.tree.specs.Closed.{Mark, Halting, NeverHalting, Holdout, IsOpen, IsComplete}
-use Rattle.cert.specs.Claim.{Claim, Recorded}
-use Rattle.ledger.specs.Records.{claim_in, mark_in, mark_of}
+use Rattle.std.proofs.Common.{◌≡◌, ℕ, ◌<◌, ◌≤◌, true, filter, length, List, [], ◌∷◌, Option, Some, None, option_map, inl, inr, ◌↔◌, refl, sym, ◌∙◌, ap, subst, arith}
+use Rattle.machine_text.specs.Packed.{Packed}
+use Rattle.tree.specs.Closed.{Mark, Halting, NeverHalting, Holdout, IsOpen}
+use Rattle.cert.specs.Claim.{Recorded}
+use Rattle.ledger.specs.Records.{mark_in, mark_of}
 use Rattle.ledger.specs.Held.{IsHeld, IsHoldout}
-use Rattle.ledger.specs.Tally.{AreAll, AreSoMany, HaltsAfter, HasOnes, IsHalting, IsNeverHalting, IsGreatestCount, IsGreatestOnes, IsChampion, IsOnesChampion, IsTally, IsStatus}
+use Rattle.ledger.specs.Tally.{AreAll, AreSoMany, HasOnes, IsHalting, IsNeverHalting, IsGreatestCount, IsGreatestOnes, IsChampion, IsOnesChampion, IsTally, IsStatus}
 use Rattle.ledger.specs.declared.tally.Tally.{Tally}
 use Rattle.ledger.specs.declared.status.Status.{Status}
 use Rattle.ledger.specs.declared.status.Status.TheVariants.{Working, Holdouts, Complete}
-use Rattle.ledger.proofs.Amounts.{as_many, many_same, none_of_kind}
+use Rattle.ledger.proofs.Amounts.{as_many, none_of_kind}
 use Rattle.ledger.proofs.Apart.{held_apart, claim_member, member_claim}
 use Rattle.ledger.proofs.Numbers.{number_of_kind}
 use Rattle.ledger.proofs.WholeTree.{one_list}

@@ -1,5 +1,5 @@
 -- The same of a trunk and any number of parts.
-use Rattle.std.proofs.Common.{◌≡◌, ◌≢◌, ℕ, suc, List, [], ◌∷◌, ◌++◌, Option, Some, None, inl, inr, ◌⊎◌, ◌↔◌, refl, sym, ◌∙◌, ap, subst, arith}
+use Rattle.std.proofs.Common.{◌≡◌, ◌≢◌, suc, List, [], ◌∷◌, ◌++◌, Option, Some, None, inl, inr, ◌⊎◌, ◌↔◌, refl, sym, ◌∙◌, subst, arith}
 use Rattle.std.specs.List.{Contains, AllPairs}
 use Rattle.machine_text.specs.Packed.{Packed, IsTable}
 use Rattle.tree.specs.Closed.{Mark, Holdout, IsOpen, IsComplete}

@@ -1,17 +1,16 @@
 -- What is told of a trunk and of a part comes to what is told of both.
-use Rattle.std.proofs.Common.{◌≡◌, ◌≢◌, ℕ, ◌+◌, ◌-◌, ◌<◌, ◌≤◌, suc, nat_lt, nat_eq, true, false, cond, List, [], ◌∷◌, ◌++◌, length, get_or, Option, Some, None, inl, inr, ◌⊎◌, ◌↔◌, refl, sym, ◌∙◌, ap, subst, arith, length-append}
+use Rattle.std.proofs.Common.{◌≡◌, ◌≢◌, ℕ, ◌+◌, ◌-◌, ◌≤◌, suc, nat_lt, nat_eq, true, false, cond, List, [], ◌∷◌, ◌++◌, Option, Some, None, inl, inr, ◌⊎◌, ◌↔◌, refl, sym, subst, arith, length-append}
 use Rattle.std.specs.List.{Contains, All, AllPairs}
 use Rattle.std.proofs.lemmas.Bool.{ltb-true, ltb-false}
 use Rattle.std.proofs.lemmas.Bool.Decides.{Decides-eqb}
 use Rattle.std.proofs.lemmas.List.Elements.{All-contains, Contains-append_left, Contains-append_right, Contains-append_cases}
 use Rattle.std.proofs.lemmas.List.Kept.{AllPairs-cons}
-use Rattle.machine_text.specs.Packed.{Packed, IsTable, entry_of}
-use Rattle.turing.specs.Score.{score_at}
+use Rattle.machine_text.specs.Packed.{Packed, IsTable}
 use Rattle.tree.specs.Closed.{Mark, Halting, NeverHalting, Holdout, IsOpen}
 use Rattle.cert.specs.Claim.{Recorded}
 use Rattle.ledger.specs.Records.{mark_in}
 use Rattle.ledger.specs.Held.{IsHeld, IsHoldout}
-use Rattle.ledger.specs.Tally.{AreSoMany, HaltsAfter, HasOnes, IsHalting, IsNeverHalting, IsGreatestCount, IsGreatestOnes, IsChampion, IsOnesChampion, IsTally}
+use Rattle.ledger.specs.Tally.{HaltsAfter, HasOnes, IsHalting, IsGreatestCount, IsGreatestOnes, IsChampion, IsOnesChampion, IsTally}
 use Rattle.ledger.specs.declared.tally.Tally.{Tally}
 use Rattle.ledger.proofs.Amounts.{IsGreatestOf, many_same, many_both, many_less}
 use Rattle.ledger.proofs.Apart.{first_member, later_member, all_members}

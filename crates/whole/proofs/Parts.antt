@@ -1,8 +1,8 @@
 -- A trunk and a part behind it are held together.
-use Rattle.std.proofs.Common.{◌≡◌, ◌≢◌, ℕ, true, false, List, [], ◌∷◌, ◌++◌, Option, Some, None, option_map, inl, inr, ◌⊎◌, ◌↔◌, refl, sym, ◌∙◌, ap, subst, append_assoc, append-nil}
+use Rattle.std.proofs.Common.{◌≡◌, ◌≢◌, ℕ, true, false, List, [], ◌∷◌, ◌++◌, Some, None, option_map, inl, inr, ◌⊎◌, ◌↔◌, refl, sym, ◌∙◌, ap, subst, append_assoc, append-nil}
 use Rattle.std.proofs.lemmas.List.Elements.{All-append}
 use Rattle.machine_text.specs.Packed.{Packed, IsTable}
-use Rattle.tree.specs.Closed.{Mark, Halting, Holdout, IsVerdict, IsOpen, IsClosed}
+use Rattle.tree.specs.Closed.{Mark, Halting, IsVerdict, IsOpen, IsClosed}
 use Rattle.tree.specs.Tables.{IsChildTable, InTableTree, Itself, OfChild}
 use Rattle.tree.proofs.TableLaws.{tree_table_child, one_table_parent}
 use Rattle.cert.specs.Claim.{Claim, Recorded}
@@ -13,7 +13,6 @@ use Rattle.ledger.proofs.Same.{same_is, apart}
 use Rattle.ledger.proofs.Claims.{claim_past, claim_none, claim_more}
 use Rattle.ledger.proofs.HeldLaws.{unmarked, mark_kept, none_before}
 use Rattle.ledger.proofs.OpenLaws.{recorded_in_tree, open_in_tree}
-use Rattle.whole.specs.Parts.{IsPartOf}
 
 -- the root, or a child of a table marked as halting
 abbrev HasParent : Packed → List Recorded → Packed → Type 0

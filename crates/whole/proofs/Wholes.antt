@@ -1,6 +1,6 @@
 -- What a whole holds, and what it tells.
-use Rattle.std.proofs.Common.{◌≡◌, ◌≢◌, ℕ, ◌≤◌, List, [], ◌∷◌, ◌++◌, map, length, get_or, Option, Some, None, inl, inr, ◌⊎◌, ◌↔◌, refl, sym, ◌∙◌, ap, subst, arith}
-use Rattle.std.specs.List.{Contains, AllPairs}
+use Rattle.std.proofs.Common.{◌≡◌, ◌≢◌, ℕ, ◌≤◌, List, [], ◌∷◌, ◌++◌, map, get_or, Option, Some, None, inl, inr, refl, sym, ◌∙◌, ap, subst, arith}
+use Rattle.std.specs.List.{Contains}
 use Rattle.std.specs.List.Sorted.{IsPermutation, IsSorted}
 use Rattle.std.proofs.lemmas.List.{map-append}
 use Rattle.std.proofs.lemmas.List.Elements.{Contains-push_cases, Contains-get_or}
@@ -11,15 +11,15 @@ use Rattle.tree.specs.Closed.{Halting, Holdout, IsOpen}
 use Rattle.tree.proofs.TableLaws.{tree_table_child, tree_alike}
 use Rattle.cert.specs.Claim.{Recorded}
 use Rattle.ledger.specs.Records.{mark_in}
-use Rattle.ledger.specs.Held.{IsHeld, IsHoldout}
+use Rattle.ledger.specs.Held.{IsHoldout}
 use Rattle.ledger.specs.Contents.{Contents, IsBoard, IsOpenOn}
-use Rattle.ledger.specs.Tally.{AreAll, AreSoMany, IsChampion, IsOnesChampion, IsGreatestCount, IsGreatestOnes, IsTally, IsStatus}
+use Rattle.ledger.specs.Tally.{AreAll, IsChampion, IsOnesChampion, IsGreatestCount, IsGreatestOnes, IsTally}
 use Rattle.ledger.specs.declared.tally.Tally.{Tally}
 use Rattle.ledger.proofs.Apart.{first_or_later, first_member, later_member}
 use Rattle.ledger.proofs.Amounts.{many_less}
 use Rattle.ledger.proofs.BoardLaws.{OfTables, marked_table}
 use Rattle.ledger.proofs.TextOrder.{all_apart, all_sorted}
-use Rattle.whole.specs.Parts.{AreParts, IsPartOf, joined_with}
+use Rattle.whole.specs.Parts.{IsPartOf, joined_with}
 use Rattle.whole.specs.Whole.{AreExactly, AreTotals, Totals, Collected, IsWhole}
 use Rattle.whole.specs.inside.Sums.{totals_with}
 use Rattle.whole.proofs.PartSums.{both_totals}

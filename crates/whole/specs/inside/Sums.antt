@@ -2,7 +2,6 @@
 use Rattle.std.specs.Prelude.{◌≡◌, ℕ, ◌+◌, ◌≤◌, vec_len, vec_capacity, nat_lt, nat_eq, if◌then◌else◌, List, ◌++◌, Option, Some, None}
 use Rattle.machine_text.specs.Packed.{Packed}
 use Rattle.ledger.specs.Contents.{Contents}
-use Rattle.ledger.specs.declared.tally.Tally.{Tally}
 use Rattle.whole.specs.Parts.{with_part}
 use Rattle.whole.specs.Whole.{AreTotals, Totals, Collected, IsWhole}
 use Rattle.whole.specs.declared.sums.Sums.{Sums}

@@ -1,4 +1,4 @@
-use Rattle.std.proofs.Common.{sym, subst, List, Contains, rules}
+use Rattle.std.proofs.Common.{sym, subst, Contains, rules}
 use Rattle.machine_text.specs.Packed.{Packed}
 use Rattle.ledger.specs.Contents.{IsOpenOn}
 use Rattle.whole.specs.Whole.{AddGives, Collected}

@@ -1,5 +1,4 @@
 use Rattle.std.proofs.Common.{subst}
-use Rattle.ledger.specs.declared.status.Status.{Status}
 use Rattle.whole.specs.Whole.{Collected}
 use Rattle.whole.specs.inside.Sums.{IsOfParts}
 use Rattle.whole.proofs.Stands.{IsByTally, whole_best, whole_ones, whole_rado, whole_sigma}

@@ -1,0 +1,4 @@
+pub mod Settled
+pub mod Read
+pub mod Begun
+pub mod Trunks

@@ -1,0 +1,20 @@
+use Rattle.std.proofs.Common.{take}
+use Rattle.ledger.proofs.StageLaws.{if_err}
+use Rattle.ledger_commands.proofs.ReadLaws.{if_loaded, loaded_alone, left_behind}
+use Rattle.part_commands.proofs.Read.{ends_behind}
+use Rattle.part_commands.proofs.reading.load_from.Goals as goal
+
+pub returns-clause-ok : goal.returns-clause-ok
+returns-clause-ok g c =
+    let begins = c.in_ok-root.ensures.ok in
+    let is = begins.1 in
+    loaded_alone _ c.args.limit c.in_ok-root.root c.load_behind.result
+    (if_loaded (g.R.Read.remaining c.args.from.now) (g.R.Read.remaining c.begin.new.from) c.args.limit _ (take c.in_ok-root.len c.begin.new.buffer) c.in_ok-root.root c.load_behind.result
+        (record { consumed = is.consumed; within = is.within; rest = is.rest; header = is.header; order = is.order })
+    (left_behind c.args.limit c.in_ok-root.len c.begin.new.buffer begins.0) c.load_behind.ensures.ok)
+
+pub returns-clause-err : goal.returns-clause-err
+returns-clause-err g c =
+    let begins = c.in_ok-root.ensures.ok in
+    if_err c.load_behind.result
+    (ends_behind (g.R.Read.remaining c.args.from.now) (g.R.Read.remaining c.begin.new.from) c.args.limit (take c.in_ok-root.len c.begin.new.buffer) c.in_ok-root.root begins.1) c.load_behind.ensures.err

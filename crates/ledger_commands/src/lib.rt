@@ -25,6 +25,7 @@ mod tree_reports;
 
 pub use board_report::{report, status_name};
 pub use carry::{carry_into, cmd_carry};
+pub use faults::by_load;
 pub use file_ledger::FileLedger;
 pub use host::{Held, Host, held_at, opened};
 pub use ledger_at::LedgerAt;
@@ -37,6 +38,7 @@ pub use reading::{Opened, Stopped, load_from};
 pub use report_form::{AsLines, ReportForm, write_report, write_told};
 pub use report_writer::LineReport;
 pub use retry::{cmd_retry, retry_holdouts};
+pub use rewriting::{made_beside, put_back};
 pub use source::LedgerSource;
 pub use told::Told;
 pub use tree_reports::complete_boards_report_their_tree;

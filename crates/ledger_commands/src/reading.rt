@@ -89,11 +89,7 @@ const MAX_HEADER_BYTES: usize = 64;
 
 /// The board of the ledger that a reader has in its first bytes, with the root that it names, and what of it wasn't
 /// kept. No more than a piece of the text is in memory.
-pub fn load_from<R: Read>(
-    alloc: Global,
-    from: &mut R,
-    limit: u64,
-) -> Result<(Board, Left), Stopped>
+pub fn load_from<R: Read>(alloc: Global, from: &mut R, limit: u64) -> Result<(Board, Left), Stopped>
     ensures ok { IfOk result (λ l. IsLoadedFrom (R.remaining from.old) limit l.0 l.1) }
     ensures err { IfErr result (EndsReading (R.remaining from.old) limit) }
 {

@@ -1,4 +1,3 @@
 pub mod Settled
-pub mod Read
 pub mod Begun
 pub mod Trunks

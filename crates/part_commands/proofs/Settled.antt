@@ -80,8 +80,8 @@ module _ (Answers : Packed → Recorded → Type 0) (IsDue : Contents → Packed
   many_more_settled k zero n old mid new before text after is many none =
       let same : n ≡ k = omega (arith, is) in
       subst (λ (x : ℕ). SettlesMany Answers IsDue x old before new after) (sym same)
-          (subst (λ (b : Contents). SettlesMany Answers IsDue k old before b after) (sym none.0)
-          (subst (λ (t : Option (List ℕ)). SettlesMany Answers IsDue k old before mid t) (sym none.1) many))
+      (subst (λ (b : Contents). SettlesMany Answers IsDue k old before b after) (sym none.0)
+      (subst (λ (t : Option (List ℕ)). SettlesMany Answers IsDue k old before mid t) (sym none.1) many))
   many_more_settled k (suc j) n old mid new before text after is many more =
       one_more_settled (k + j) n old more.0 new before more.1 after (omega (arith, is)) (many_more_settled k j (k + j) old mid more.0 before text more.1 refl many more.2) more.3
 

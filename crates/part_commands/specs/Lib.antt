@@ -1,5 +1,5 @@
 pub mod Settling
 pub mod Settle
-pub mod PartEnded
 pub mod Split
+pub mod Join
 pub mod inside

@@ -14,6 +14,9 @@ use options::Ended;
 use std::alloc::Global;
 use wire::{LedgerOut, append_all};
 
+// The name of the trunk's ledger.
+pub(crate) const TRUNK: &str = "trunk";
+
 /// A folder of ledgers, one for each part of a tree.
 pub trait Folder {
     ghost use Rattle.std.specs.Prelude.{◌≡◌, ◌∷◌, [], List, Option, OnOk};
@@ -54,7 +57,12 @@ impl<H: Host> Folder for FolderAt<'_, H> {
     fn begin(&mut self, root: &Table) -> Result<(), Ended> {
         let path = part_path(self.alloc, self.path, root)?;
         let bytes = bytes_at(self.host, &path)?;
-        begin_part(self.alloc, root, bytes, &mut LedgerAt::new(self.host, &path))
+        begin_part(
+            self.alloc,
+            root,
+            bytes,
+            &mut LedgerAt::new(self.host, &path),
+        )
     }
 }
 

@@ -1,8 +1,6 @@
 // Folders and locks of a host.
 ghost use Rattle.std.specs.Prelude.{◌≡◌, ◌⊎◌, Err, IfErr, IfOk, None, Ok, Some};
-ghost use Rattle.options.specs.declared.ended.Ended.{Ended as WhatEnded};
 
-use crate::part_ended::PartEnded;
 use ledger_commands::Host;
 use options::Ended;
 use std::io;
@@ -27,14 +25,13 @@ pub trait PartsHost: Host {
     fn make_folder(&self, path: &str) -> io::Result<()>;
 }
 
-/// Locks a ledger for writing: `Locked` exactly where another process has it locked.
-pub fn lock_ledger<H: PartsHost>(host: &H, path: &str) -> Result<H::Lock, PartEnded>
+/// Locks a ledger for writing; `Locked` where another process has it locked.
+pub fn lock_ledger<H: PartsHost>(host: &H, path: &str) -> Result<H::Lock, Ended>
     ensures ok { IfOk result (λ lock. H.locks host.now path.now (Ok (Some lock))) }
-    ensures err { IfErr result (λ e. ((e ≡ PartEnded.Locked) × H.locks host.now path.now (Ok None))
-        ⊎ ((ended : WhatEnded) × (e ≡ PartEnded.Ended ended) × H.locks host.now path.now (Err ended))) }
+    ensures err { IfErr result (λ e. ((e ≡ Ended.Locked) × H.locks host.now path.now (Ok None)) ⊎ H.locks host.now path.now (Err e)) }
 {
     match host.lock(path)? {
         Some(lock) => Ok(lock),
-        None => Err(PartEnded::Locked),
+        None => Err(Ended::Locked),
     }
 }

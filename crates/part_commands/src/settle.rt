@@ -12,7 +12,7 @@ use cert::Decider;
 use evidence::NoMemory;
 use ledger::{Board, Left, Tally, kept_bytes_load};
 use ledger_commands::Opened;
-use options::{Ended, Outcome};
+use options::Ended;
 use std::alloc::Global;
 use std::io::{self, Read, Write};
 use text::append_number;
@@ -20,28 +20,8 @@ use wire::LedgerOut;
 
 /// Cuts a ledger to the bytes that are kept of it, and settles its board: the first open table in text order is decided,
 /// and its record appended, until no table is open. Then it prints how many tables it settled, and how many holdouts
-/// there are, and accepts, whether there are any or not. `held` reads what the ledger holds; what ends the command early
-/// is said on `faults`, and what was settled before stands in the ledger.
-pub fn cmd_settle<F: Read + Drop, L: LedgerOut, D: Decider, P: Tells, W: Write, E: Write>(
-    alloc: Global,
-    held: io::Result<Opened<F>>,
-    ledger: &mut L,
-    decider: &mut D,
-    progress: &mut P,
-    answers: &mut W,
-    faults: &mut E,
-) -> Outcome
-    ensures accepted { result ≡ Outcome.Accepted → MatchResult held
-        (λ file. SettlesLedger (AtSomeTime D D.answers) (F.remaining file.reader) file.length (L.text ledger.old) (L.text ledger.new) (W.contents answers.old) (W.contents answers.new))
-        (λ fault. ⊥) }
-{
-    match settle_ledger(alloc, held, ledger, decider, progress, answers) {
-        Ok(()) => Outcome::Accepted,
-        Err(ended) => ended.told(faults),
-    }
-}
-
-fn settle_ledger<F: Read + Drop, L: LedgerOut, D: Decider, P: Tells, W: Write>(
+/// there are. `held` reads what the ledger holds. What ends it early leaves in the ledger what was settled before.
+pub fn settle_ledger<F: Read + Drop, L: LedgerOut, D: Decider, P: Tells, W: Write>(
     alloc: Global,
     held: io::Result<Opened<F>>,
     ledger: &mut L,

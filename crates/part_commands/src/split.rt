@@ -8,8 +8,7 @@ ghost use Rattle.ledger.specs.Tally.{AreAll, IsTally};
 ghost use Rattle.ledger.specs.declared.tally.Tally.{Tally as Counted};
 ghost use Rattle.part_commands.specs.Split.{SplitsTree, also_begun, path_within, split_text};
 
-use crate::folder::{Folder, FolderAt, begin_parts, path_within};
-use crate::part_ended::PartEnded;
+use crate::folder::{Folder, FolderAt, TRUNK, begin_parts, path_within};
 use crate::parts_host::{PartsHost, lock_ledger};
 use crate::tells::Tells;
 use crate::trunk::grow_trunk;
@@ -17,25 +16,12 @@ use cert::Decider;
 use evidence::NoMemory;
 use ledger::{Board, Tally};
 use ledger_commands::{LedgerAt, opened};
-use options::{Ended, Outcome};
+use options::{Ended, Outcome, Splitting};
 use std::alloc::Global;
 use std::io::Write;
 use text::append_number;
 
-/// How a tree is split.
-#[derive(Clone, Copy, Debug, PartialEq, Eq)]
-pub struct Splitting<'a> {
-    /// How many states the machines have.
-    pub states: u8,
-    /// The path of the folder of the ledgers.
-    pub folder: &'a str,
-    /// Tables with fewer filled entries are settled in the trunk.
-    pub filled: u64,
-}
-
 // The name of the trunk's ledger.
-const TRUNK: &str = "trunk";
-
 /// Splits a tree into ledgers in a folder, which is made where it isn't there. The trunk, `trunk.ledger`, is locked while
 /// it is written, and grown: its open tables with few filled entries are settled. Then a part is begun for each table
 /// that it leaves open: a ledger under the table's text, unless there is one with as many bytes as its header. It prints
@@ -43,16 +29,16 @@ const TRUNK: &str = "trunk";
 /// given again, and only adds what is missing.
 pub fn cmd_split<H: PartsHost, D: Decider, P: Tells, W: Write, E: Write>(
     alloc: Global,
-    splitting: Splitting<'_>,
+    splitting: &Splitting<'_>,
     host: &H,
     decider: &mut D,
     progress: &mut P,
     answers: &mut W,
     faults: &mut E,
 ) -> Outcome
-    requires { (1 ≤ splitting.states) × (splitting.states ≤ state_limit) }
-    ensures accepted { result ≡ Outcome.Accepted → SplitsTree splitting.entry.states splitting.entry.filled (W.contents answers.old) (W.contents answers.new) }
-    ensures locked { result ≡ Outcome.Accepted → (lock : H.Lock) × H.locks host.now (path_within splitting.entry.folder.now (codes "trunk")) (Ok (Some lock)) }
+    requires { (1 ≤ splitting.now.states) × (splitting.now.states ≤ state_limit) }
+    ensures accepted { result ≡ Outcome.Accepted → SplitsTree splitting.now.states splitting.now.filled (W.contents answers.old) (W.contents answers.new) }
+    ensures locked { result ≡ Outcome.Accepted → (lock : H.Lock) × H.locks host.now (path_within splitting.now.folder.now (codes "trunk")) (Ok (Some lock)) }
 {
     match split(alloc, splitting, host, decider, progress, answers) {
         Ok(()) => Outcome::Accepted,
@@ -62,41 +48,48 @@ pub fn cmd_split<H: PartsHost, D: Decider, P: Tells, W: Write, E: Write>(
 
 fn split<H: PartsHost, D: Decider, P: Tells, W: Write>(
     alloc: Global,
-    splitting: Splitting<'_>,
+    splitting: &Splitting<'_>,
     host: &H,
     decider: &mut D,
     progress: &mut P,
     answers: &mut W,
-) -> Result<(), PartEnded>
-    requires { (1 ≤ splitting.states) × (splitting.states ≤ state_limit) }
-    ensures splits { OnOk result (SplitsTree splitting.entry.states splitting.entry.filled (W.contents answers.old) (W.contents answers.new)) }
-    ensures locked { OnOk result ((lock : H.Lock) × H.locks host.now (path_within splitting.entry.folder.now (codes "trunk")) (Ok (Some lock))) }
+) -> Result<(), Ended>
+    requires { (1 ≤ splitting.now.states) × (splitting.now.states ≤ state_limit) }
+    ensures splits { OnOk result (SplitsTree splitting.now.states splitting.now.filled (W.contents answers.old) (W.contents answers.new)) }
+    ensures locked { OnOk result ((lock : H.Lock) × H.locks host.now (path_within splitting.now.folder.now (codes "trunk")) (Ok (Some lock))) }
 {
     make_folder(host, splitting.folder)?;
     let path = path_within(alloc, splitting.folder, TRUNK)?;
     create(host, &path)?;
     let _lock = lock_ledger(host, &path)?;
-    split_at(alloc, splitting, host, &path, decider, progress, answers)?;
-    Ok(())
+    split_at(alloc, splitting, host, &path, decider, progress, answers)
 }
 
 // The same where the trunk's ledger is locked.
 fn split_at<H: PartsHost, D: Decider, P: Tells, W: Write>(
     alloc: Global,
-    splitting: Splitting<'_>,
+    splitting: &Splitting<'_>,
     host: &H,
     path: &str,
     decider: &mut D,
     progress: &mut P,
     answers: &mut W,
 ) -> Result<(), Ended>
-    requires { (1 ≤ splitting.states) × (splitting.states ≤ state_limit) }
-    ensures { OnOk result (SplitsTree splitting.entry.states splitting.entry.filled (W.contents answers.old) (W.contents answers.new)) }
+    requires { (1 ≤ splitting.now.states) × (splitting.now.states ≤ state_limit) }
+    ensures { OnOk result (SplitsTree splitting.now.states splitting.now.filled (W.contents answers.old) (W.contents answers.new)) }
 {
     let held = opened(host, path);
     let mut ledger = LedgerAt::new(host, path);
-    let limit = splitting.filled;
-    match grow_trunk(alloc, splitting.states, held, limit, decider, &mut ledger, progress) {
+    let limit = u64::from(splitting.filled);
+    match grow_trunk(
+        alloc,
+        splitting.states,
+        held,
+        limit,
+        decider,
+        &mut ledger,
+        progress,
+    ) {
         Ok(trunk) => {
             let mut folder = FolderAt {
                 alloc,

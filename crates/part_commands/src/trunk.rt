@@ -10,13 +10,12 @@ ghost use Rattle.ledger_commands.specs.Retry.{AtSomeTime};
 ghost use Rattle.part_commands.specs.Settling.{IsOpenBelow, SettlesMany, filled_count};
 ghost use Rattle.part_commands.specs.Split.{GrowsTrunk, begun_trunk, due_header, kept_size};
 
-use crate::reading::by_load;
 use crate::settle::cut_off;
 use crate::settling::{append_line, settle_below};
 use crate::tells::Tells;
 use cert::Decider;
 use ledger::{Board, Left, Loader, ReadStop, append_header};
-use ledger_commands::Opened;
+use ledger_commands::{Opened, by_load};
 use machine_text::Table;
 use options::Ended;
 use std::alloc::Global;
@@ -46,7 +45,9 @@ pub fn grow_trunk<F: Read + Drop, L: LedgerOut, D: Decider, P: Tells>(
 {
     match load_trunk(alloc, n, held) {
         Ok((mut board, left, bytes)) => {
-            match grow(alloc, &mut board, &left, bytes, limit, decider, ledger, progress) {
+            match grow(
+                alloc, &mut board, &left, bytes, limit, decider, ledger, progress,
+            ) {
                 Ok(()) => Ok(board),
                 Err(ended) => Err(ended),
             }

@@ -13,5 +13,5 @@ loop-root-preserved g c =
       roots,
       all,
       ap (λ (o : Option (List Packed)). also_begun o c.next.new.self) c.in_ok-begin.ensures
-      ∙ (one_begun begun c.in-Some.root.now c.next.new.self ∙ (ap (also_begun begun) (sym is) ∙ will)),
+          ∙ (one_begun begun c.in-Some.root.now c.next.new.self ∙ (ap (also_begun begun) (sym is) ∙ will)),
     )

@@ -8,7 +8,7 @@ use json_report::Form;
 use ledger::Tally;
 use node_commands::Progress;
 use options::{Ended, Joining, Outcome, Search, Splitting};
-use part_commands::{PartsHost, Silent, Tells, cmd_join, cmd_split, settle_at};
+use part_commands::{PartsHost, Silent, Tells, cmd_join, cmd_split, settle_ledger_at};
 use std::alloc::Global;
 use std::io::Write;
 use std::time::Clock;
@@ -78,7 +78,7 @@ fn settle_telling<H: PartsHost + Clock, D: Decider, W: Write, E: Write>(
     let mut telling = Telling {
         progress: Progress::new(alloc, wanted, 0, host, faults),
     };
-    settle_at(alloc, file, host, decider, &mut telling, answers)
+    settle_ledger_at(alloc, file, host, decider, &mut telling, answers)
 }
 
 // `bb join`.

@@ -36,7 +36,7 @@ pub fn cmd_join<H: Host, P: ReportForm, W: Write, E: Write>(
 ) -> Outcome {
     let ended = match joining.out {
         Some(out) => join_into(alloc, form, joining.folder, out, host, answers, faults),
-        None => join(
+        None => join_parts(
             alloc,
             form,
             joining.folder,
@@ -70,14 +70,14 @@ fn join_into<H: Host, P: ReportForm, W: Write, E: Write>(
     if one.ledger.cut(0).is_err() {
         return Err(Ended::Ledger);
     }
-    let outcome = join(alloc, form, folder, host, &mut one, answers, faults)?;
+    let outcome = join_parts(alloc, form, folder, host, &mut one, answers, faults)?;
     put_back(host, &beside, out)?;
     Ok(outcome)
 }
 
 /// Prints the report of the trunk in a folder and of its parts, and collects the one ledger of all. What is wrong with a
 /// part is said on `faults` behind its path. Accepted where the report says complete and nothing was wrong.
-pub fn join<H: Host, P: ReportForm, C: Collector, W: Write, E: Write>(
+pub fn join_parts<H: Host, P: ReportForm, C: Collector, W: Write, E: Write>(
     alloc: Global,
     form: &P,
     folder: &str,

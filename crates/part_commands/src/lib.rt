@@ -20,10 +20,10 @@ mod trunk;
 
 pub use collector::{Collector, Nowhere, OneLedger};
 pub use folder::{Folder, FolderAt, begin_part, begin_parts, part_path};
-pub use join::{cmd_join, join};
+pub use join::{cmd_join, join_parts};
 pub use parts_host::{PartsHost, lock_ledger};
 pub use settle::settle_ledger;
-pub use settle_at::settle_at;
+pub use settle_at::settle_ledger_at;
 pub use settling::{settle_below, settle_board};
 pub use split::{cmd_split, split_off};
 pub use tells::{Silent, Tells};

@@ -12,7 +12,7 @@ use std::io::Write;
 
 /// Settles the ledger file at a path, which has to be there, as `settle_ledger` does. It is locked before it is read; where
 /// another process has it locked, nothing is done.
-pub fn settle_at<H: PartsHost, D: Decider, P: Tells, W: Write>(
+pub fn settle_ledger_at<H: PartsHost, D: Decider, P: Tells, W: Write>(
     alloc: Global,
     path: &str,
     host: &H,

@@ -44,7 +44,8 @@ pub record IsWhole (w : Collected) (parts : List Contents) : Type 0 where
   pub totals_are : AreTotals w.trunk.root (joined_with w.trunk.records parts) w.totals
 
 -- what becomes of a whole to which a part is added: of whichever parts it was the whole, it is now that of these and this
--- one; or the part's root isn't open by the trunk, or is that of a part that was added before, and nothing changes
+-- one; or nothing changes, since the part's root isn't open by the trunk, is that of a part that was added before, or, where
+-- it is neither, for want of memory
 abbrev pub AddGives : Collected → Contents → Result (Unit {0}) PartFault → Collected → Type 0
 AddGives old part (Ok done) new =
     IsOpenOn old.trunk part.root × (Contains old.roots part.root → ⊥) × (new.trunk ≡ old.trunk)

@@ -14,8 +14,8 @@ ghost use Rattle.whole.specs.Parts.{AreParts, IsPartOf, joined_with, with_part};
 
 /// A trunk's records and a part's behind them are held from the trunk's root. Open by both are the tables that are open by
 /// the trunk, but for the part's root, and those that are open by the part; recorded is what either records, and no table
-/// is recorded by both. So their tally is the sums, but that the part's root is open no more. A table of the part's tree is
-/// closed just where the part says so.
+/// is recorded by both. So their tally is the sums, but that the part's root is counted as open by the trunk already. A
+/// table of the part's tree is closed just where the part says so.
 pub fn parts_are_held()
     ensures held { (root r : Packed) (rs ps : List Recorded) → IsTable root → IsHeld root rs → IsPartOf root rs r ps → IsHeld root (rs ++ ps) }
     ensures left_open { (root r t : Packed) (rs ps : List Recorded) → IsTable root → IsHeld root rs → IsPartOf root rs r ps →

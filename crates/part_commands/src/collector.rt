@@ -79,7 +79,7 @@ fn text_and_header(alloc: Global, board: &Board) -> Result<(Vec<u8>, usize), NoM
 {
     let mut text = Vec::new(alloc);
     append_header(board.root(), &mut text)?;
-    let header = text.len();
+    let header = text.as_slice().len();
     text.clear();
     board.write_ledger(&mut text)?;
     Ok((text, header))

@@ -1,15 +1,17 @@
 // `bb join`: a trunk and the parts of its tree, told of as one ledger would be that holds the records of all.
-ghost use Rattle.std.specs.Prelude.{◌≡◌, IfOk, List, OnOk};
+ghost use Rattle.std.specs.Prelude.{◌≡◌, ◌⊎◌, ℕ, IfOk, List, OnOk, Option};
 ghost use Rattle.ledger.specs.Contents.{Contents};
+ghost use Rattle.ledger.specs.declared.left.Left.TheVariants.{Nothing};
+ghost use Rattle.ledger_commands.specs.LedgerReport.{outcome_by};
 ghost use Rattle.ledger_commands.specs.Told.{IsToldOf};
 ghost use Rattle.whole.specs.Parts.{joined_with};
 ghost use Rattle.whole.specs.Whole.{IsWhole};
-ghost use Rattle.part_commands.specs.Join.{AddsPart, TellsAll};
+ghost use Rattle.part_commands.specs.Join.{AddsPart, IsGathered, TellsAll, TellsParts};
 
 use crate::collector::{Collector, Nowhere, OneLedger};
 use crate::folder::{TRUNK, part_path, path_within};
 use evidence::NoMemory;
-use ledger::{Board, Left};
+use ledger::{Board, Left, Status};
 use ledger_commands::{
     Host, LedgerAt, Opened, ReportForm, Stopped, Told, load_from, made_beside, opened, outcome_by,
     put_back, write_told,
@@ -88,23 +90,74 @@ pub fn join_parts<H: Host, P: ReportForm, C: Collector, W: Write, E: Write>(
 ) -> Result<Outcome, Ended>
     ensures { IfOk result (TellsAll (P.is_text form.now) (C.text collector.old) (C.text collector.new) (W.contents answers.old) (W.contents answers.new)) }
 {
+    let (whole, is_sound) = gather(alloc, folder, host, collector, faults)?;
+    tell_whole(alloc, form, &whole, is_sound, answers)
+}
+
+// The trunk and the parts beside it, and whether nothing is wrong with them.
+fn gather<H: Host, C: Collector, E: Write>(
+    alloc: Global,
+    folder: &str,
+    host: &H,
+    collector: &mut C,
+    faults: &mut E,
+) -> Result<(Whole, bool), Ended>
+    ensures { IfOk result (λ gathered. IsGathered (C.text collector.old) gathered.0 (C.text collector.new)) }
+{
     let path = path_within(alloc, folder, TRUNK)?;
     let (trunk, left) = trunk_at(alloc, host, &path)?;
-    let mut is_sound = says_left(alloc, &path, &left, faults)?;
+    let is_kept = says_left(alloc, &path, &left, faults)?;
     collector.begin(alloc, &trunk)?;
     let roots = open_tables(alloc, &trunk)?;
     let mut whole = Whole::of(alloc, trunk)?;
+    let are_sound = add_parts(alloc, host, folder, roots, &mut whole, collector, faults)?;
+    Ok((whole, is_kept && are_sound))
+}
+
+// Adds the parts of these roots, and answers whether all are there and sound.
+fn add_parts<H: Host, C: Collector, E: Write>(
+    alloc: Global,
+    host: &H,
+    folder: &str,
+    roots: Vec<Table>,
+    whole: &mut Whole,
+    collector: &mut C,
+    faults: &mut E,
+) -> Result<bool, Ended>
+    ensures { OnOk result ((start : Option (List ℕ)) → IsGathered start whole.old (C.text collector.old) → IsGathered start whole.new (C.text collector.new)) }
+{
+    let mut are_sound = true;
     for root in roots {
-        if !join_part(alloc, host, folder, &root, &mut whole, collector, faults)? {
-            is_sound = false;
+        if !join_part(alloc, host, folder, &root, whole, collector, faults)? {
+            are_sound = false;
         }
     }
+    Ok(are_sound)
+}
+
+// Prints the report of a whole.
+fn tell_whole<P: ReportForm, W: Write>(
+    alloc: Global,
+    form: &P,
+    whole: &Whole,
+    is_sound: bool,
+    answers: &mut W,
+) -> Result<Outcome, Ended>
+    ensures { IfOk result (λ o. (parts : List Contents) → IsWhole whole.now parts → TellsParts (P.is_text form.now) whole.now.trunk parts (W.contents answers.old) (W.contents answers.new) o) }
+{
     let status = whole.status();
-    write_told(alloc, form, told_of(&whole)?, &Left::Nothing, answers)?;
+    write_told(alloc, form, told_of(whole)?, &Left::Nothing, answers)?;
+    Ok(outcome_of(status, is_sound))
+}
+
+// Accepted where the whole is complete and sound.
+fn outcome_of(status: Status, is_sound: bool) -> Outcome
+    ensures { (result ≡ outcome_by status Nothing) ⊎ (result ≡ Outcome.Refused) }
+{
     if is_sound {
-        Ok(outcome_by(status, &Left::Nothing))
+        outcome_by(status, &Left::Nothing)
     } else {
-        Ok(Outcome::Refused)
+        Outcome::Refused
     }
 }
 

@@ -1,5 +1,5 @@
 -- Tables that are settled one after another: the ledger stays in step, and the tables that are left stay due.
-use Rattle.std.proofs.Common.{IfOk, IfSome, Some, take, ◌≡◌, ◌≢◌, ℕ, zero, suc, ◌+◌, ◌<◌, Bool, true, false, List, [], ◌∷◌, ◌++◌, length, Option, None, Result, Ok, Err, OnOk, cond, inl, inr, ◌⊎◌, refl, sym, ◌∙◌, ap, subst, arith, length-append, get_or, ltb}
+use Rattle.std.proofs.Common.{IfOk, IfSome, Some, take, ◌≡◌, ◌≢◌, ℕ, zero, suc, ◌+◌, Bool, true, false, List, [], ◌∷◌, ◌++◌, length, Option, None, Result, Ok, Err, cond, inl, inr, refl, sym, ◌∙◌, ap, subst, arith, length-append, get_or}
 use Rattle.std.specs.List.{All, AllPairs, Contains, filter}
 use Rattle.std.proofs.lemmas.List.Elements.{All-contains, All-filter, filter_passes, All-contains_itself}
 use Rattle.std.proofs.lemmas.List.Kept.{AllPairs-filter}
@@ -25,7 +25,7 @@ use Rattle.ledger_commands.specs.Retry.{StaysInStep}
 use Rattle.ledger_commands.proofs.Retrying.{cut_in_step, stays_by}
 use Rattle.options.specs.declared.ended.Ended.{Ended}
 use Rattle.options.specs.declared.ended.Ended.TheVariants.{BadHeader, WrongRoot, Stream, Ledger, File, NoMemory}
-use Rattle.part_commands.specs.Settling.{ComesFirst, EndsAtOne, EndsSettling, IsOpenBelow, SettlesMany, SettlesOne, filled_count, with_last}
+use Rattle.part_commands.specs.Settling.{ComesFirst, EndsAtOne, EndsSettling, IsOpenBelow, SettlesMany, SettlesOne, with_last}
 use Rattle.part_commands.specs.Settle.{kept_part}
 use Rattle.part_commands.specs.inside.{is_below}
 
@@ -80,8 +80,8 @@ module _ (Answers : Packed → Recorded → Type 0) (IsDue : Contents → Packed
   many_more_settled k zero n old mid new before text after is many none =
       let same : n ≡ k = omega (arith, is) in
       subst (λ (x : ℕ). SettlesMany Answers IsDue x old before new after) (sym same)
-          (subst (λ (b : Contents). SettlesMany Answers IsDue k old before b after) (sym none.0)
-          (subst (λ (t : Option (List ℕ)). SettlesMany Answers IsDue k old before mid t) (sym none.1) many))
+      (subst (λ (b : Contents). SettlesMany Answers IsDue k old before b after) (sym none.0)
+      (subst (λ (t : Option (List ℕ)). SettlesMany Answers IsDue k old before mid t) (sym none.1) many))
   many_more_settled k (suc j) n old mid new before text after is many more =
       one_more_settled (k + j) n old more.0 new before more.1 after (omega (arith, is)) (many_more_settled k j (k + j) old mid more.0 before text more.1 refl many more.2) more.3
 

@@ -54,12 +54,17 @@ impl<H: Host> Folder for FolderAt<'_, H> {
     fn begin(&mut self, root: &Table) -> Result<(), Ended> {
         let path = part_path(self.alloc, self.path, root)?;
         let bytes = bytes_at(self.host, &path)?;
-        begin_part(self.alloc, root, bytes, &mut LedgerAt::new(self.host, &path))
+        begin_part(
+            self.alloc,
+            root,
+            bytes,
+            &mut LedgerAt::new(self.host, &path),
+        )
     }
 }
 
-/// Begins the ledger of a part that has so many bytes: where they are fewer than its header has, that is written in their
-/// place; else it is left as it is.
+/// Begins the ledger of a part that has so many bytes: where they are fewer than its header has, that is written in
+/// their place; else it is left as it is.
 pub fn begin_part<L: LedgerOut>(
     alloc: Global,
     root: &Table,

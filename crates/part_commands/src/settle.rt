@@ -18,10 +18,10 @@ use std::io::{self, Read, Write};
 use text::append_number;
 use wire::LedgerOut;
 
-/// Cuts a ledger to the bytes that are kept of it, and settles its board: the first open table in text order is decided,
-/// and its record appended, until no table is open. Then it prints how many tables it settled, and how many holdouts
-/// there are, and accepts, whether there are any or not. `held` reads what the ledger holds; what ends the command early
-/// is said on `faults`, and what was settled before stands in the ledger.
+/// Cuts a ledger to the bytes that are kept of it, and settles its board: the first open table in text order is
+/// decided, and its record appended, until no table is open. Then it prints how many tables it settled, and how many
+/// holdouts there are, and accepts, whether there are any or not. `held` reads what the ledger holds; what ends the
+/// command early is said on `faults`, and what was settled before stands in the ledger.
 pub fn cmd_settle<F: Read + Drop, L: LedgerOut, D: Decider, P: Tells, W: Write, E: Write>(
     alloc: Global,
     held: io::Result<Opened<F>>,

@@ -10,8 +10,8 @@ use options::Outcome;
 use std::alloc::Global;
 use std::io::Write;
 
-/// Settles the ledger file at a path, which has to be there, as `cmd_settle` does. It is locked before it is read; where
-/// another process has it locked, nothing is done.
+/// Settles the ledger file at a path, which has to be there, as `cmd_settle` does. It is locked before it is read;
+/// where another process has it locked, nothing is done.
 pub fn cmd_settle_at<H: PartsHost, D: Decider, P: Tells, W: Write, E: Write>(
     alloc: Global,
     path: &str,

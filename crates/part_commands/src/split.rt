@@ -36,11 +36,11 @@ pub struct Splitting<'a> {
 // The name of the trunk's ledger.
 const TRUNK: &str = "trunk";
 
-/// Splits a tree into ledgers in a folder, which is made where it isn't there. The trunk, `trunk.ledger`, is locked while
-/// it is written, and grown: its open tables with few filled entries are settled. Then a part is begun for each table
-/// that it leaves open: a ledger under the table's text, unless there is one with as many bytes as its header. It prints
-/// how many records the trunk has, and how many parts there are. What ends the command early is said on `faults`; it can be
-/// given again, and only adds what is missing.
+/// Splits a tree into ledgers in a folder, which is made where it isn't there. The trunk, `trunk.ledger`, is locked
+/// while it is written, and grown: its open tables with few filled entries are settled. Then a part is begun for each
+/// table that it leaves open: a ledger under the table's text, unless there is one with as many bytes as its header.
+/// It prints how many records the trunk has, and how many parts there are. What ends the command early is said on
+/// `faults`; it can be given again, and only adds what is missing.
 pub fn cmd_split<H: PartsHost, D: Decider, P: Tells, W: Write, E: Write>(
     alloc: Global,
     splitting: Splitting<'_>,
@@ -96,7 +96,15 @@ fn split_at<H: PartsHost, D: Decider, P: Tells, W: Write>(
     let held = opened(host, path);
     let mut ledger = LedgerAt::new(host, path);
     let limit = splitting.filled;
-    match grow_trunk(alloc, splitting.states, held, limit, decider, &mut ledger, progress) {
+    match grow_trunk(
+        alloc,
+        splitting.states,
+        held,
+        limit,
+        decider,
+        &mut ledger,
+        progress,
+    ) {
         Ok(trunk) => {
             let mut folder = FolderAt {
                 alloc,

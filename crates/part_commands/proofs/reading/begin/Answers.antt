@@ -20,4 +20,4 @@ returns-in-Err-peek_root-clause-err g c =
     let begins = c.in-Ok.ensures.ok in
     subst (λ (e : Ended). EndsReading (g.R.Read.remaining c.args.from.now) c.args.limit (EndedBy e)) (sym c.by_load.ensures)
     (peek_stops (g.R.Read.remaining c.args.from.now) (g.R.Read.remaining c.fill.new.from) c.args.limit first (record { consumed = begins.consumed; within = begins.within; enough = begins.enough })
-        c.in-Err-peek_root.fault c.in-Err-peek_root.ensures)
+    c.in-Err-peek_root.fault c.in-Err-peek_root.ensures)

@@ -10,7 +10,7 @@ returns-clause-ok g c =
     let is = begins.1 in
     loaded_alone _ c.args.limit c.in_ok-root.root c.load_behind.result
     (if_loaded (g.R.Read.remaining c.args.from.now) (g.R.Read.remaining c.begin.new.from) c.args.limit _ (take c.in_ok-root.len c.begin.new.buffer) c.in_ok-root.root c.load_behind.result
-        (record { consumed = is.consumed; within = is.within; rest = is.rest; header = is.header; order = is.order })
+    (record { consumed = is.consumed; within = is.within; rest = is.rest; header = is.header; order = is.order })
     (left_behind c.args.limit c.in_ok-root.len c.begin.new.buffer begins.0) c.load_behind.ensures.ok)
 
 pub returns-clause-err : goal.returns-clause-err

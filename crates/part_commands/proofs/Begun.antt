@@ -1,5 +1,5 @@
 -- The parts of a trunk, which are begun one after another.
-use Rattle.std.proofs.Common.{◌≡◌, List, [], ◌∷◌, ◌++◌, Option, Some, None, refl, ap, append_assoc, append-nil}
+use Rattle.std.proofs.Common.{◌≡◌, List, [], ◌∷◌, Option, Some, None, refl, ap, append_assoc, append-nil}
 use Rattle.machine_text.specs.Packed.{Packed}
 use Rattle.part_commands.specs.Split.{also_begun}
 

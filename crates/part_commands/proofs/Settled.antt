@@ -1,5 +1,5 @@
 -- Tables that are settled one after another: the ledger stays in step, and the tables that are left stay due.
-use Rattle.std.proofs.Common.{IfOk, IfSome, Some, take, ◌≡◌, ◌≢◌, ℕ, zero, suc, ◌+◌, ◌<◌, Bool, true, false, List, [], ◌∷◌, ◌++◌, length, Option, None, Result, Ok, Err, OnOk, cond, inl, inr, ◌⊎◌, refl, sym, ◌∙◌, ap, subst, arith, length-append, get_or, ltb}
+use Rattle.std.proofs.Common.{IfOk, IfSome, Some, take, ◌≡◌, ◌≢◌, ℕ, zero, suc, ◌+◌, Bool, true, false, List, [], ◌∷◌, ◌++◌, length, Option, None, Result, Ok, Err, cond, inl, inr, refl, sym, ◌∙◌, ap, subst, arith, length-append, get_or}
 use Rattle.std.specs.List.{All, AllPairs, Contains, filter}
 use Rattle.std.proofs.lemmas.List.Elements.{All-contains, All-filter, filter_passes, All-contains_itself}
 use Rattle.std.proofs.lemmas.List.Kept.{AllPairs-filter}

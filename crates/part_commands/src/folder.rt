@@ -66,8 +66,8 @@ impl<H: Host> Folder for FolderAt<'_, H> {
     }
 }
 
-/// Begins the ledger of a part that has so many bytes: where they are fewer than its header has, that is written in their
-/// place; else it is left as it is.
+/// Begins the ledger of a part that has so many bytes: where they are fewer than its header has, that is written in
+/// their place; else it is left as it is.
 pub fn begin_part<L: LedgerOut>(
     alloc: Global,
     root: &Table,

@@ -13,11 +13,12 @@ pub trait PartsHost: Host {
     /// By what a ledger is locked. It is locked until this is let go.
     type Lock: Drop;
 
-    /// What may come of locking the ledger at a path: it is locked by this, or another process has it locked; or it can't
-    /// be locked, which ends a command so.
+    /// What may come of locking the ledger at a path: it is locked by this, or another process has it locked; or it
+    /// can't be locked, which ends a command so.
     ghost locks: { Self → List ℕ → Result (Option Self.Lock) Ended → Type 0 };
 
-    /// Locks the ledger file at a path, which has to be there, without waiting; none where another process has it locked.
+    /// Locks the ledger file at a path, which has to be there, without waiting; none where another process has it
+    /// locked.
     fn lock(&self, path: &str) -> Result<Option<Self::Lock>, Ended>
         ensures { locks self.now path.now result };
 

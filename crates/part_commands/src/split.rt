@@ -21,7 +21,6 @@ use std::alloc::Global;
 use std::io::Write;
 use text::append_number;
 
-// The name of the trunk's ledger.
 /// Splits a tree into ledgers in a folder, which is made where it isn't there. The trunk, `trunk.ledger`, is locked while
 /// it is written, and grown: its open tables with few filled entries are settled. Then a part is begun for each table
 /// that it leaves open: a ledger under the table's text, unless there is one with as many bytes as its header. It prints

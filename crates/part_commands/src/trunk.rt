@@ -25,8 +25,8 @@ use tree::rado_of_tables;
 use wire::LedgerOut;
 
 /// Grows the trunk of the tree of n states. Its ledger is cut to the bytes that are kept of it, and gains a header
-/// where none are; then the open tables that have fewer filled entries than so many are settled, as `settle_below` does.
-/// `held` reads what the ledger holds.
+/// where none are; then the open tables that have fewer filled entries than so many are settled, as `settle_below`
+/// does. `held` reads what the ledger holds.
 pub fn grow_trunk<F: Read + Drop, L: LedgerOut, D: Decider, P: Tells>(
     alloc: Global,
     n: u8,

@@ -1,8 +1,8 @@
-use Rattle.std.proofs.Common.{rules, ◌≡◌, List, [], ◌∷◌, refl, sym, ap, ◌∙◌}
+use Rattle.std.proofs.Common.{rules, ◌≡◌, List, ◌∷◌, sym, ap, ◌∙◌}
 use Rattle.std.specs.Prelude.{Option}
 use Rattle.machine_text.specs.Packed.{Packed}
 use Rattle.part_commands.specs.Split.{also_begun}
-use Rattle.part_commands.proofs.Begun.{one_begun, none_begun}
+use Rattle.part_commands.proofs.Begun.{one_begun}
 use Rattle.part_commands.proofs.folder.begin_parts.Goals as goal
 
 pub loop-root-preserved : goal.loop-root-preserved

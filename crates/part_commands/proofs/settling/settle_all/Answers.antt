@@ -1,4 +1,4 @@
-use Rattle.std.proofs.Common.{rules, ◌≡◌, ◌<◌, ◌^◌, ℕ, ◌+◌, refl, sym, ◌∙◌, subst, arith, get_or, length}
+use Rattle.std.proofs.Common.{rules, ◌<◌, ◌^◌, ◌+◌, refl, sym, ◌∙◌, subst, arith, get_or, length}
 use Rattle.std.proofs.lemmas.List.{get_or_read_under}
 use Rattle.std.proofs.lemmas.List.Elements.{All-contains_itself}
 use Rattle.std.proofs.lemmas.Result.{err_from_is_err_and}

@@ -1,4 +1,4 @@
-use Rattle.std.proofs.Common.{◌≡◌, ℕ, suc, ◌+◌, refl, sym, ◌∙◌, subst, arith}
+use Rattle.std.proofs.Common.{suc, refl, sym, ◌∙◌, subst, arith}
 use Rattle.std.proofs.lemmas.Result.{err_from_is_err_and}
 use Rattle.ledger_commands.specs.Retry.{AtSomeTime}
 use Rattle.options.specs.declared.ended.Ended.{Ended}

@@ -2,7 +2,8 @@
 use command_line::{LineFault, options};
 use ledger_commands::Host;
 use loopback::Sockets;
-use options::{Beginning, Carrying, Merging, Options, Outcome, Search, Settling};
+use options::{Beginning, Carrying, Ended, Merging, Options, Outcome, Search, Settling};
+use part_commands::PartsHost;
 use program::obey;
 use std::alloc::Global;
 use std::io::{self, Read, Write};
@@ -49,6 +50,21 @@ impl Host for Shelf {
 
     fn rename(&self, _from: &str, _to: &str) -> io::Result<()> {
         Err(io::Error::from(io::ErrorKind::Unsupported))
+    }
+}
+
+// Nobody else writes there.
+impl PartsHost for Shelf {
+    type Lock = ();
+
+    ghost locks = { λ host path locked. Unit {0} };
+
+    fn lock(&self, _path: &str) -> Result<Option<()>, Ended> {
+        Ok(Some(()))
+    }
+
+    fn make_folder(&self, _path: &str) -> io::Result<()> {
+        Ok(())
     }
 }
 
@@ -205,6 +221,14 @@ const LINES: &str = "\
 2 err bb decide --depth 20 --hard
 2 err bb run 1 --gram 3 --hard
 2 err bb loop 1 --hard --far 2
+2 err bb split 8 folder
+2 err bb split 1
+2 err bb split 1 folder --filled 15
+2 err bb settle
+2 err bb join
+2 err bb join folder --ledger
+4 err bb settle absent
+4 err bb join absent
 2 err bb coord 0
 2 err bb coord 8
 2 err bb coord 1 --era 0

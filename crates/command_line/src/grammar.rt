@@ -1,10 +1,11 @@
 // The commands with their arguments and options, by clap's builder.
 use crate::help::{
-    CARRY, COORD, DECIDE, LOOP, MERGE, RECORDS, REPORT, RETRY, RUN, STATUSES, VERSION,
+    CARRY, COORD, DECIDE, JOIN, LOOP, MERGE, RECORDS, REPORT, RETRY, RUN, SETTLE, SPLIT, STATUSES,
+    VERSION,
 };
 use crate::words::{
-    DEPTH, ERA, FAR, FILE, FIRST, GRAM, HARD, IN, JSON, LEDGER, LOSE, OUT, PROGRESS, ROUNDS,
-    SECOND, STATES, STEPS, WHY, WORKERS,
+    DEPTH, ERA, FAR, FILE, FILLED, FIRST, FOLDER, GRAM, HARD, IN, JSON, LEDGER, LOSE, OUT,
+    PROGRESS, ROUNDS, SECOND, STATES, STEPS, WHY, WORKERS,
 };
 use clap::{Arg, ArgAction, Command, value_parser};
 use options::NoMemory;
@@ -20,6 +21,9 @@ pub(crate) fn program<'a>(alloc: Global) -> Result<Command<'a>, NoMemory> {
     let program = with(program, retry_command(alloc))?;
     let program = with(program, merge_command(alloc))?;
     let program = with(program, carry_command(alloc))?;
+    let program = with(program, split_command(alloc))?;
+    let program = with(program, settle_command(alloc))?;
+    let program = with(program, join_command(alloc))?;
     with(program, report_command(alloc))
 }
 
@@ -109,11 +113,10 @@ fn with_workers<'a>(alloc: Global, command: Command<'a>) -> Result<Command<'a>, 
 // The command with the options of rounds, of what is said of them, and of a search for certificates.
 fn with_rounds<'a>(alloc: Global, command: Command<'a>) -> Result<Command<'a>, NoMemory> {
     let rounds = "Stop after so many rounds";
-    let progress = "Say on standard error, once a second, how far it is";
     let command = command
         .arg(number_arg(alloc, ROUNDS, "R", 1, 1_000_000_000, rounds).default_value("1000000"))?
         .arg(json_arg(alloc))?
-        .arg(flag_arg(alloc, PROGRESS, progress))?;
+        .arg(progress_arg(alloc))?;
     with_search(alloc, command)
 }
 
@@ -168,6 +171,44 @@ fn carry_command<'a>(alloc: Global) -> Result<Command<'a>, NoMemory> {
         ))
 }
 
+fn split_command<'a>(alloc: Global) -> Result<Command<'a>, NoMemory> {
+    let filled = "Decide the tables with fewer filled entries, and leave the others to the parts";
+    let split = Command::new(alloc, "split")
+        .about(
+            "Cuts the tree of all machines of N states into a trunk and parts, ledgers of their own.",
+        )
+        .after_help(SPLIT)
+        .arg(states_arg(alloc))?
+        .arg(folder_arg(alloc))?
+        .arg(number_arg(alloc, FILLED, "D", 0, 14, filled).default_value("4"))?;
+    with_search(alloc, split)
+}
+
+fn settle_command<'a>(alloc: Global) -> Result<Command<'a>, NoMemory> {
+    let settle = Command::new(alloc, "settle")
+        .about("Decides the open tables of a ledger, until none is open.")
+        .after_help(SETTLE)
+        .arg(file_arg(alloc, FILE, "The ledger file"))?
+        .arg(progress_arg(alloc))?;
+    with_search(alloc, settle)
+}
+
+fn join_command<'a>(alloc: Global) -> Result<Command<'a>, NoMemory> {
+    Command::new(alloc, "join")
+        .about(
+            "Prints the report of a trunk and its parts together, as of one ledger that holds all.",
+        )
+        .after_help(JOIN)
+        .arg(folder_arg(alloc))?
+        .arg(json_arg(alloc))?
+        .arg(
+            Arg::new(alloc, LEDGER)
+                .long(LEDGER)
+                .value_name("OUT")
+                .help("Write the one ledger too"),
+        )
+}
+
 fn report_command<'a>(alloc: Global) -> Result<Command<'a>, NoMemory> {
     Command::new(alloc, "report")
         .about("Prints the report of a ledger.")
@@ -206,6 +247,18 @@ fn flag_arg<'a>(alloc: Global, name: &'static str, help: &'static str) -> Arg<'a
 
 fn json_arg<'a>(alloc: Global) -> Arg<'a> {
     flag_arg(alloc, JSON, "Print the report as JSON")
+}
+
+fn progress_arg<'a>(alloc: Global) -> Arg<'a> {
+    flag_arg(
+        alloc,
+        PROGRESS,
+        "Say on standard error, once a second, how far it is",
+    )
+}
+
+fn folder_arg<'a>(alloc: Global) -> Arg<'a> {
+    file_arg(alloc, FOLDER, "The folder of the trunk and the parts")
 }
 
 fn file_arg<'a>(alloc: Global, name: &'static str, help: &'static str) -> Arg<'a> {

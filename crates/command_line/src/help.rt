@@ -96,6 +96,38 @@ table, `refused 405` its table doesn't name its states in order); 2 a wrong comm
 (`refused memory`); 4 a file couldn't be read (`refused 605`) or written (`refused 604`), or a stream failed
 (`refused 603`).";
 
+pub(crate) const SPLIT: &str =
+    "DIR/trunk.ledger is the trunk, a ledger from the root: it holds all tables with fewer than D filled entries. Each
+other table that is open then is the root of a part, DIR/TABLE.ledger, which begins with no record. Each part can be
+worked off by `bb settle` anywhere, in any order, and begun again where it was stopped; `bb join DIR` says how all
+stand together. On a folder that is there already only what is missing is added. Then comes the line
+`trunk R parts P`: how many records the trunk has, and how many parts there are.
+
+Exit status: 0 trunk and parts are there; 1 the trunk was refused (`refused 404` no header with a readable table,
+`refused 405` another root); 2 a wrong command line; 3 out of memory (`refused memory`); 4 a file failed
+(`refused 604`), or a stream did (`refused 603`), or another process writes the trunk (`refused 606`).";
+
+pub(crate) const SETTLE: &str =
+    "The first open table in the order of the texts is looked at, as by `bb decide`, and its record is appended, until
+none is open. What follows the last line that can be kept is cut off first. It can be stopped at any time, and goes
+on where it was. Then comes the line `settled R holdouts H`: how many records came, and how many tables of the
+ledger are recorded without a verdict.
+
+Exit status: 0 no table is open, with or without holdouts; 1 the ledger was refused (`refused 404` no header with a
+readable table, `refused 405` its table doesn't name its states in order); 2 a wrong command line; 3 out of memory
+(`refused memory`); 4 the file failed (`refused 604`), or a stream did (`refused 603`), or another process writes it
+(`refused 606`).";
+
+pub(crate) const JOIN: &str =
+    "The report is that of one ledger with the records of the trunk and of all parts, byte for byte. A part that isn't
+there counts as an open table. What is wrong with a part is said on standard error behind its path, and its records
+count as far as they are kept: `missing`, `left LINE` as by `bb report`, `refused 404` no header with a readable table,
+`refused 406` its root is another table than its name says. With --ledger the one ledger is written too.
+
+Exit status: 0 the report says complete, and all was kept; 1 it doesn't, or a ledger was refused; 2 a wrong command
+line; 3 out of memory (`refused memory`); 4 a file couldn't be read (`refused 605`) or written (`refused 604`), or a
+stream failed (`refused 603`).";
+
 pub(crate) const DECIDE: &str =
     "A line is a table in the bbchallenge standard format. Its record has the first certificate that is
 found and stands, looked for in this order: that it halts, a cycle, a translated cycle, backward

@@ -5,11 +5,11 @@ ghost use Rattle.options.specs.Ranges.{AreWithinRanges, IsSettling, IsWithinRang
 use crate::grammar::program;
 use crate::line_fault::LineFault;
 use crate::words::{
-    DEPTH, ERA, FAR, FILE, FIRST, GRAM, HARD, IN, JSON, LEDGER, LOSE, OUT, PROGRESS, ROUNDS,
-    SECOND, STATES, STEPS, WHY, WORKERS,
+    DEPTH, ERA, FAR, FILE, FILLED, FIRST, FOLDER, GRAM, HARD, IN, JSON, LEDGER, LOSE, OUT,
+    PROGRESS, ROUNDS, SECOND, STATES, STEPS, WHY, WORKERS,
 };
 use clap::ArgMatches;
-use options::{Beginning, Carrying, Merging, Options, Search, Settling};
+use options::{Beginning, Carrying, Joining, Merging, Options, Search, Settling, Splitting};
 use std::alloc::Global;
 
 /// What the words of a command line ask for, the program's name first. Where there are options, each number
@@ -27,6 +27,9 @@ pub fn options<'a>(alloc: Global, words: &'a [&'a str]) -> Result<Options<'a>, L
         Some(("retry", retry)) => retry_options(retry),
         Some(("merge", merge)) => Ok(merge_options(merge)),
         Some(("carry", carry)) => Ok(carry_options(carry)),
+        Some(("split", split)) => split_options(split),
+        Some(("settle", settle)) => settle_options(settle),
+        Some(("join", join)) => Ok(join_options(join)),
         Some(("report", report)) => Ok(report_options(report)),
         _ => Err(LineFault::NoSuchCommand),
     }
@@ -143,6 +146,37 @@ fn carry_options<'a>(carry: &ArgMatches<'a>) -> Options<'a>
     Options::Carry(Carrying {
         ledger: carry.get_str(IN).unwrap_or_default(),
         out: carry.get_str(OUT).unwrap_or_default(),
+    })
+}
+
+fn split_options<'a>(split: &ArgMatches<'a>) -> Result<Options<'a>, LineFault>
+    ensures { IfOk result AreWithinRanges }
+{
+    Ok(Options::Split(Splitting {
+        states: number_of(split, STATES, 1, 7)? as u8,
+        folder: split.get_str(FOLDER).unwrap_or_default(),
+        filled: number_of(split, FILLED, 0, 14)? as u8,
+        search: search_of(split)?,
+    }))
+}
+
+fn settle_options<'a>(settle: &ArgMatches<'a>) -> Result<Options<'a>, LineFault>
+    ensures { IfOk result AreWithinRanges }
+{
+    Ok(Options::Settle {
+        file: settle.get_str(FILE).unwrap_or_default(),
+        search: search_of(settle)?,
+        progress: settle.get_flag(PROGRESS),
+    })
+}
+
+fn join_options<'a>(join: &ArgMatches<'a>) -> Options<'a>
+    ensures { AreWithinRanges result }
+{
+    Options::Join(Joining {
+        folder: join.get_str(FOLDER).unwrap_or_default(),
+        out: join.get_str(LEDGER),
+        json: join.get_flag(JSON),
     })
 }
 

@@ -25,6 +25,10 @@ pub(crate) const PROGRESS: &str = "progress";
 
 pub(crate) const FILE: &str = "FILE";
 
+pub(crate) const FOLDER: &str = "DIR";
+
+pub(crate) const FILLED: &str = "filled";
+
 pub(crate) const JSON: &str = "json";
 
 pub(crate) const WHY: &str = "why";

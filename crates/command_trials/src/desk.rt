@@ -1,5 +1,7 @@
 // Files in memory.
 use ledger_commands::{FileLedger, Host};
+use options::Ended;
+use part_commands::PartsHost;
 use std::cell::{Cell, RefCell};
 use std::fs::{Metadata, OpenFile};
 use std::io::{self, ErrorKind, Read, Write};
@@ -139,6 +141,21 @@ impl<'a> Host for Desk<'a> {
 
     fn rename(&self, _from: &str, _to: &str) -> io::Result<()> {
         Err(io::Error::from(ErrorKind::Unsupported))
+    }
+}
+
+// Nobody else writes there.
+impl PartsHost for Desk<'_> {
+    type Lock = ();
+
+    ghost locks = { λ host path locked. Unit {0} };
+
+    fn lock(&self, _path: &str) -> Result<Option<()>, Ended> {
+        Ok(Some(()))
+    }
+
+    fn make_folder(&self, _path: &str) -> io::Result<()> {
+        Ok(())
     }
 }
 

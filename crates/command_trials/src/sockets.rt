@@ -8,6 +8,7 @@ use dispatch::carry_out;
 use ledger_commands::{FileLedger, Host};
 use loopback::{Sockets, move_all};
 use options::{Ended, Options, Outcome, Search, Settling};
+use part_commands::PartsHost;
 use std::alloc::Global;
 use std::cell::{Cell, RefCell};
 use std::io::{self, ErrorKind, Read, Write};
@@ -144,6 +145,20 @@ impl<'a> Host for Room<'a> {
 
     fn rename(&self, from: &str, to: &str) -> io::Result<()> {
         self.desk.rename(from, to)
+    }
+}
+
+impl PartsHost for Room<'_> {
+    type Lock = ();
+
+    ghost locks = { λ host path locked. Unit {0} };
+
+    fn lock(&self, path: &str) -> Result<Option<()>, Ended> {
+        self.desk.lock(path)
+    }
+
+    fn make_folder(&self, path: &str) -> io::Result<()> {
+        self.desk.make_folder(path)
     }
 }
 

@@ -2,6 +2,7 @@
 ghost use Rattle.options.specs.Ranges.{IsBeginning, IsSettling, AreWithinRanges};
 
 use crate::any_finder::{AnyFinder, all_finders};
+use crate::parts;
 use cert::{Decider, Finders};
 use evidence::NoMemory;
 use json_report::Form;
@@ -14,6 +15,7 @@ use line_commands::{cmd_check, cmd_decide};
 use loopback::Sockets;
 use node_commands::{NoLedger, Run, cmd_coord, cmd_loop, cmd_run};
 use options::{Beginning, Ended, Options, Outcome, Search, Settling};
+use part_commands::PartsHost;
 use std::alloc::Global;
 use std::io::{self, Empty, Read, Write};
 use std::time::Clock;
@@ -25,7 +27,7 @@ const STANDARD_INPUT: &str = "-";
 /// Does what is asked for: `bb check`, `bb decide` and `bb coord` read `input`, and so does `bb report -`. The answer goes to
 /// `answers`, and what ends the command early to `faults`. Each end is an `Outcome`: want of memory and a
 /// stream or a file that fails too.
-pub fn carry_out<H: Host + Clock + Sockets, R: Read, W: Write, E: Write>(
+pub fn carry_out<H: PartsHost + Clock + Sockets, R: Read, W: Write, E: Write>(
     alloc: Global,
     asked: Options<'_>,
     host: &H,
@@ -56,6 +58,19 @@ pub fn carry_out<H: Host + Clock + Sockets, R: Read, W: Write, E: Write>(
             let ended = retry(alloc, file, &search, host, answers, faults);
             or_told(ended, faults)
         }
+        Options::Split(splitting) => {
+            let ended = parts::split(alloc, &splitting, host, answers, faults);
+            or_told(ended, faults)
+        }
+        Options::Settle {
+            file,
+            search,
+            progress,
+        } => {
+            let ended = parts::settle_file(alloc, file, &search, progress, host, answers, faults);
+            or_told(ended, faults)
+        }
+        Options::Join(joining) => parts::join(alloc, &joining, host, answers, faults),
         Options::Merge(merging) => cmd_merge(alloc, merging, host, answers, faults),
         Options::Carry(carrying) => cmd_carry(alloc, carrying, host, answers, faults),
         Options::Report { file, json, why } => {

@@ -6,6 +6,7 @@
 mod any_finder;
 mod executing;
 mod hard_finder;
+mod parts;
 mod stages;
 mod system;
 

@@ -1,7 +1,9 @@
 // The files, the clock and the sockets of the system.
 use ledger_commands::{FileLedger, Host};
 use loopback::Sockets;
-use std::fs::{self, OpenFile, OpenOptions};
+use options::Ended;
+use part_commands::PartsHost;
+use std::fs::{self, OpenFile, OpenOptions, TryLockError};
 use std::io::{self, ErrorKind};
 use std::net::{TcpListener, TcpStream};
 use std::time::{Clock, Duration};
@@ -49,6 +51,28 @@ impl<'a> Host for System<'a> {
 
     fn rename(&self, from: &str, to: &str) -> io::Result<()> {
         fs::rename(self.rt, from, to)
+    }
+}
+
+impl<'a> PartsHost for System<'a> {
+    type Lock = fs::File;
+
+    ghost locks = { λ system path locked. Unit {0} };
+
+    fn lock(&self, path: &str) -> Result<Option<fs::File>, Ended> {
+        let file = match OpenOptions::new().append(true).open(self.rt, path) {
+            Ok(file) => file,
+            Err(fault) => return Err(Ended::by_ledger(&fault)),
+        };
+        match file.try_lock() {
+            Ok(()) => Ok(Some(file)),
+            Err(TryLockError::WouldBlock) => Ok(None),
+            Err(TryLockError::Error(fault)) => Err(Ended::by_ledger(&fault)),
+        }
+    }
+
+    fn make_folder(&self, path: &str) -> io::Result<()> {
+        fs::create_dir_all(self.rt, path)
     }
 }
 

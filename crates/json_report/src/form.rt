@@ -2,10 +2,10 @@
 ghost use Rattle.std.specs.Prelude.{◌≡◌};
 ghost use Rattle.json_report.specs.Forms.{form_of};
 
-use crate::report::report_json;
+use crate::report::told_text;
 use evidence::NoMemory;
-use ledger::{Board, Left};
-use ledger_commands::{AsLines, LineReport, ReportForm};
+use ledger::Left;
+use ledger_commands::{AsLines, LineReport, ReportForm, Told};
 use std::alloc::Global;
 use std::io::{self, Write};
 
@@ -45,14 +45,10 @@ impl ReportForm for Form {
 
     ghost bytes = { bytes_of };
 
-    fn make(&self, alloc: Global, board: &Board, left: &Left) -> Result<Made, NoMemory> {
+    fn make(&self, alloc: Global, told: Told, left: &Left) -> Result<Made, NoMemory> {
         match self {
-            Form::Lines => Ok(Made::Lines(AsLines.make(alloc, board, left)?)),
-            Form::Json => {
-                let mut text = Vec::new(alloc);
-                report_json(alloc, board, &mut text)?;
-                Ok(Made::Json(text))
-            }
+            Form::Lines => Ok(Made::Lines(AsLines.make(alloc, told, left)?)),
+            Form::Json => Ok(Made::Json(told_text(alloc, told)?)),
         }
     }
 

@@ -1,15 +1,18 @@
 // The report of a board as JSON.
 ghost use Rattle.std.specs.Prelude.{◌≡◌, ◌++◌, List, ℕ, ◌≤◌, IfOk, OnOk, OnErr};
 ghost use Rattle.machine_text.specs.Limits.{state_limit};
-ghost use Rattle.machine_text.specs.Packed.{empty_table};
+ghost use Rattle.machine_text.specs.Packed.{Packed, empty_table};
 ghost use Rattle.tree.specs.Closed.{IsComplete};
+ghost use Rattle.cert.specs.Claim.{Recorded};
 ghost use Rattle.ledger.specs.Records.{mark_in};
+ghost use Rattle.ledger_commands.specs.Told.{IsToldOf};
 ghost use Rattle.json_report.specs.JsonReport.{IsJsonReport};
 ghost use Rattle.json_report.specs.TreeJson.{IsTreeJson, JsonTellsRado};
 
 use crate::values::report_value;
 use evidence::NoMemory;
 use ledger::Board;
+use ledger_commands::Told;
 use std::alloc::Global;
 
 /// Appends the report of a board as one JSON object, without a space and with its members in the order of
@@ -36,12 +39,25 @@ pub fn report_json(alloc: Global, board: &Board, out: &mut Vec<u8>) -> Result<()
 fn report_text(alloc: Global, board: &Board) -> Result<Vec<u8>, NoMemory>
     ensures { IfOk result (λ text. IsJsonReport board.now.root board.now.records text.items) }
 {
-    let (champions, ones_champions, holdouts) = board.champions_and_holdouts()?;
-    let tally = board.tally();
+    told_text(alloc, Told::of(board)?)
+}
+
+// The text of the report of what is told.
+pub(crate) fn told_text(alloc: Global, told: Told) -> Result<Vec<u8>, NoMemory>
+    ensures { IfOk result (λ text. (root : Packed) (rs : List Recorded) → IsToldOf root rs told → IsJsonReport root rs text.items) }
+{
+    let Told {
+        root,
+        status,
+        tally,
+        champions,
+        ones_champions,
+        holdouts,
+    } = told;
     let report = report_value(
         alloc,
-        board.root(),
-        board.status(),
+        &root,
+        status,
         &tally,
         champions,
         ones_champions,

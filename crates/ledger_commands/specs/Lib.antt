@@ -1,5 +1,6 @@
 pub mod Faults
 pub mod Report
+pub mod Told
 pub mod TreeReport
 pub mod LedgerReport
 pub mod Merge

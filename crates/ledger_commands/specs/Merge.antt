@@ -10,7 +10,7 @@ use Rattle.ledger.specs.declared.left.Left.TheVariants.{Nothing, From}
 use Rattle.ledger.specs.declared.tally.Tally.{Tally}
 use Rattle.ledger_commands.specs.LedgerReport.{EndsLedger}
 use Rattle.options.specs.declared.ended.Ended.{Ended}
-use Rattle.options.specs.declared.ended.Ended.TheVariants.{BadHeader, WrongRoot, Stream, Ledger, File, NoMemory}
+use Rattle.options.specs.declared.ended.Ended.TheVariants.{BadHeader, WrongRoot, Stream, Ledger, File, Locked, NoMemory}
 
 -- what may come of reading a ledger: its bytes, or what ends the command
 abbrev pub Readings : Type 1
@@ -40,6 +40,7 @@ EndsTakingIn root text WrongRoot = (other : Packed) × (rest : List ℕ) × HasH
 EndsTakingIn root text Stream = ⊥
 EndsTakingIn root text Ledger = ⊥
 EndsTakingIn root text File = ⊥
+EndsTakingIn root text Locked = ⊥
 EndsTakingIn root text NoMemory = (rest : List ℕ) × HasHeader text root rest
 
 -- the second ledger is read once the first one is loaded, and its records are taken into the first one's board

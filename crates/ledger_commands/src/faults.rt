@@ -5,8 +5,8 @@ ghost use Rattle.ledger_commands.specs.Faults.{ended_by_load, ended_by_merge};
 use ledger::{LoadFault, MergeFault};
 use options::Ended;
 
-// A ledger can't be loaded.
-pub(crate) fn by_load(fault: LoadFault) -> Ended
+/// What ends a command whose ledger can't be loaded.
+pub fn by_load(fault: LoadFault) -> Ended
     ensures { result ≡ ended_by_load fault }
 {
     match fault {

@@ -1,6 +1,6 @@
 //! The commands of `bb` that read ledgers, over readers, writers and files: `report`, `retry`, `merge` and `carry`.
 //!
-//! `specs/Report` is the report of a board, `specs/TreeReport` that of a complete one, `specs/LedgerReport` what is
+//! `specs/Report` is the report of a board, `specs/Told` what it tells before it is printed, `specs/TreeReport` that of a complete one, `specs/LedgerReport` what is
 //! printed for a ledger's text, `specs/Reading` how that is read, `specs/Retry` what becomes of holdouts that are tried
 //! again, `specs/Merge` of two ledgers that are joined, `specs/Carry` of one that is written as version 2.
 #![tactic(auto)]
@@ -20,10 +20,12 @@ mod report_writer;
 mod retry;
 mod rewriting;
 mod source;
+mod told;
 mod tree_reports;
 
 pub use board_report::{report, status_name};
 pub use carry::{carry_into, cmd_carry};
+pub use faults::by_load;
 pub use file_ledger::FileLedger;
 pub use host::{Held, Host, held_at, opened};
 pub use ledger_at::LedgerAt;
@@ -32,9 +34,11 @@ pub use ledger_report::{
     cmd_report, cmd_report_stream, outcome_by, report_ledger, write_ledger_report,
 };
 pub use merge::{cmd_merge, join, join_into};
-pub use reading::{Opened, Stopped};
-pub use report_form::{AsLines, ReportForm, write_report};
+pub use reading::{Opened, Stopped, load_from};
+pub use report_form::{AsLines, ReportForm, write_report, write_told};
 pub use report_writer::LineReport;
 pub use retry::{cmd_retry, retry_holdouts};
+pub use rewriting::{made_beside, put_back};
 pub use source::LedgerSource;
+pub use told::Told;
 pub use tree_reports::complete_boards_report_their_tree;

@@ -36,8 +36,8 @@ pub enum Stopped {
 }
 
 impl Stopped {
-    // What ends a command that only reads the ledger.
-    pub(crate) fn by_file(self) -> Ended {
+    /// What ends a command that only reads the ledger.
+    pub fn by_file(self) -> Ended {
         match self {
             Stopped::Failed(fault) => Ended::by_file(&fault),
             Stopped::Ended(ended) => ended,
@@ -52,8 +52,8 @@ impl Stopped {
         }
     }
 
-    // What ends a command that would write the ledger.
-    pub(crate) fn by_ledger(self) -> Ended {
+    /// What ends a command that would write the ledger.
+    pub fn by_ledger(self) -> Ended {
         match self {
             Stopped::Failed(fault) => Ended::by_ledger(&fault),
             Stopped::Ended(ended) => ended,
@@ -89,11 +89,7 @@ const MAX_HEADER_BYTES: usize = 64;
 
 /// The board of the ledger that a reader has in its first bytes, with the root that it names, and what of it wasn't
 /// kept. No more than a piece of the text is in memory.
-pub(crate) fn load_from<R: Read>(
-    alloc: Global,
-    from: &mut R,
-    limit: u64,
-) -> Result<(Board, Left), Stopped>
+pub fn load_from<R: Read>(alloc: Global, from: &mut R, limit: u64) -> Result<(Board, Left), Stopped>
     ensures ok { IfOk result (λ l. IsLoadedFrom (R.remaining from.old) limit l.0 l.1) }
     ensures err { IfErr result (EndsReading (R.remaining from.old) limit) }
 {

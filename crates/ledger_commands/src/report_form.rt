@@ -1,15 +1,19 @@
 // In which form a report is printed.
 ghost use Rattle.std.specs.Prelude.{◌≡◌, ◌⊎◌, List, ℕ, IfErr, OnOk};
 ghost use Rattle.std.specs.Io.KnownBytes.{Appends};
+ghost use Rattle.machine_text.specs.Packed.{Packed};
+ghost use Rattle.cert.specs.Claim.{Recorded};
+ghost use Rattle.ledger_commands.specs.Told.{IsToldOf};
 
 use crate::report_writer::{LineReport, line_report, write_lines};
+use crate::told::Told;
 use evidence::NoMemory;
 use ledger::{Board, Left};
 use options::Ended;
 use std::alloc::Global;
 use std::io::{self, Write};
 
-/// A form in which the report of a board is printed. A report is made first, by what may be refused memory and has
+/// A form in which a report is printed. A report is made first, by what may be refused memory and has
 /// nothing to write to; it is then written by what has nothing to take memory from, and can fail for its stream alone.
 pub trait ReportForm {
     ghost use Rattle.std.specs.Prelude.{List, ℕ, IfOk, OnOk};
@@ -17,6 +21,7 @@ pub trait ReportForm {
     ghost use Rattle.machine_text.specs.Packed.{Packed};
     ghost use Rattle.cert.specs.Claim.{Recorded};
     ghost use Rattle.ledger.specs.declared.left.Left.{Left as LeftOver};
+    ghost use Rattle.ledger_commands.specs.Told.{IsToldOf};
 
     /// A report that is made.
     type Made: Drop;
@@ -27,9 +32,9 @@ pub trait ReportForm {
     /// The bytes of a report that is made.
     ghost bytes: { Self.Made → List ℕ };
 
-    /// Makes the report of a board.
-    fn make(&self, alloc: Global, board: &Board, left: &Left) -> Result<Self::Made, NoMemory>
-        ensures { IfOk result (λ made. is_text self.now board.now.root board.now.records left.now (bytes made)) };
+    /// Makes the report of what is told.
+    fn make(&self, alloc: Global, told: Told, left: &Left) -> Result<Self::Made, NoMemory>
+        ensures { IfOk result (λ made. (root : Packed) (rs : List Recorded) → IsToldOf root rs told → is_text self.now root rs left.now (bytes made)) };
 
     /// Writes a report that is made.
     fn write<W: Write>(&self, made: Self::Made, answers: &mut W) -> io::Result<()>
@@ -48,7 +53,22 @@ pub fn write_report<P: ReportForm, W: Write>(
         × Appends (W.contents answers.old) (W.contents answers.new) text) }
     ensures err { IfErr result (λ e. ((e ≡ Ended.NoMemory) × (answers.new ≡ answers.old)) ⊎ (e ≡ Ended.Stream)) }
 {
-    let made = form.make(alloc, board, left)?;
+    write_told(alloc, form, Told::of(board)?, left, answers)
+}
+
+/// Writes the report of what is told in a form. Where memory is refused, nothing was written.
+pub fn write_told<P: ReportForm, W: Write>(
+    alloc: Global,
+    form: &P,
+    told: Told,
+    left: &Left,
+    answers: &mut W,
+) -> Result<(), Ended>
+    ensures ok { OnOk result ((root : Packed) (rs : List Recorded) → IsToldOf root rs told → (text : List ℕ) × P.is_text form.now root rs left.now text
+        × Appends (W.contents answers.old) (W.contents answers.new) text) }
+    ensures err { IfErr result (λ e. ((e ≡ Ended.NoMemory) × (answers.new ≡ answers.old)) ⊎ (e ≡ Ended.Stream)) }
+{
+    let made = form.make(alloc, told, left)?;
     form.write(made, answers)?;
     Ok(())
 }
@@ -67,8 +87,8 @@ impl ReportForm for AsLines {
 
     ghost bytes = { bytes_of_lines };
 
-    fn make(&self, alloc: Global, board: &Board, left: &Left) -> Result<LineReport, NoMemory> {
-        line_report(alloc, board, left)
+    fn make(&self, alloc: Global, told: Told, left: &Left) -> Result<LineReport, NoMemory> {
+        line_report(alloc, told, left)
     }
 
     fn write<W: Write>(&self, made: LineReport, answers: &mut W) -> io::Result<()> {

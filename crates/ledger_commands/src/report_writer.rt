@@ -2,14 +2,18 @@
 ghost use Rattle.std.specs.Prelude.{◌≡◌, ◌++◌, List, ℕ, IfOk, OnOk};
 ghost use Rattle.std.specs.Vec.Iter.{into_iter_items};
 ghost use Rattle.std.specs.Io.KnownBytes.{Appends};
+ghost use Rattle.machine_text.specs.Packed.{Packed};
 ghost use Rattle.machine_text.specs.Text.{text_of};
+ghost use Rattle.cert.specs.Claim.{Recorded};
 ghost use Rattle.ledger_commands.specs.Report.{line_of, table_lines};
 ghost use Rattle.ledger_commands.specs.LedgerReport.{IsLines, left_text};
 ghost use Rattle.ledger_commands.specs.Passing.{Passes, bytes_of_lines};
+ghost use Rattle.ledger_commands.specs.Told.{IsToldOf};
 
 use crate::board_report::{append_greatest, append_head};
+use crate::told::Told;
 use evidence::NoMemory;
-use ledger::{Board, Champions, Holdouts, Left};
+use ledger::{Champions, Holdouts, Left};
 use machine_text::{TEXT_BYTES, Table};
 use std::alloc::Global;
 use std::io::{self, Write};
@@ -33,14 +37,20 @@ pub struct LineReport {
     tail: Vec<u8>,
 }
 
-// Makes the report of a board, and `left LINE` where not all of its ledger was kept.
-pub(crate) fn line_report(alloc: Global, board: &Board, left: &Left) -> Result<LineReport, NoMemory>
-    ensures { IfOk result (λ made. IsLines board.now.root board.now.records left.now (bytes_of_lines made)) }
+// Makes the report of what is told, and `left LINE` where not all of a ledger was kept.
+pub(crate) fn line_report(alloc: Global, told: Told, left: &Left) -> Result<LineReport, NoMemory>
+    ensures { IfOk result (λ made. (root : Packed) (rs : List Recorded) → IsToldOf root rs told → IsLines root rs left.now (bytes_of_lines made)) }
 {
-    let (champions, ones_champions, holdouts) = board.champions_and_holdouts()?;
-    let tally = board.tally();
+    let Told {
+        root,
+        status,
+        tally,
+        champions,
+        ones_champions,
+        holdouts,
+    } = told;
     let mut head = Vec::with_capacity(alloc, PIECE_BYTES)?;
-    append_head(board.root(), board.status(), &tally, &mut head)?;
+    append_head(&root, status, &tally, &mut head)?;
     let mut ones = Vec::new(alloc);
     append_greatest(b"ones", tally.ones, &mut ones)?;
     let mut tail = Vec::new(alloc);

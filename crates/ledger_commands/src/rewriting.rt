@@ -13,9 +13,9 @@ use wire::LedgerOut;
 // What is put behind the path of a ledger to name the file in which it is made.
 const NEW_SUFFIX: &str = ".new";
 
-// The path of the file in which a ledger is made that is then put in its place: beside it, where that place is for a
-// plain file and none of the ledgers that are read stands at that path. None where it is written over.
-pub(crate) fn made_beside<H: Host>(
+/// The path of the file in which a ledger is made that is then put in its place: beside it, where that place is for a
+/// plain file and none of the ledgers that are read stands at that path. None where it is written over.
+pub fn made_beside<H: Host>(
     alloc: Global,
     host: &H,
     out: &str,
@@ -38,8 +38,8 @@ fn path_beside(alloc: Global, path: &str) -> Result<String, NoMemory> {
     Ok(beside)
 }
 
-// Puts a ledger that was made beside its place there.
-pub(crate) fn put_back<H: Host>(host: &H, beside: &Option<String>, to: &str) -> Result<(), Ended> {
+/// Puts a ledger that was made beside its place there.
+pub fn put_back<H: Host>(host: &H, beside: &Option<String>, to: &str) -> Result<(), Ended> {
     let Some(from) = beside else {
         return Ok(());
     };

@@ -3,7 +3,7 @@ use Rattle.std.specs.Prelude.{ℕ, List, [], ◌∷◌, ◌++◌, codes}
 use Rattle.options.specs.declared.outcome.Outcome.{Outcome}
 use Rattle.options.specs.declared.outcome.Outcome.TheVariants.{Accepted, Refused, BadLine, NoMemory, Failed}
 use Rattle.options.specs.declared.ended.Ended.{Ended}
-use Rattle.options.specs.declared.ended.Ended.TheVariants.{BadHeader, WrongRoot, Stream, Ledger, File, NoMemory as WantsMemory}
+use Rattle.options.specs.declared.ended.Ended.TheVariants.{BadHeader, WrongRoot, Stream, Ledger, File, Locked, NoMemory as WantsMemory}
 
 abbrev pub status_of : Outcome → ℕ
 status_of Accepted = 0
@@ -19,6 +19,7 @@ outcome_of WrongRoot = Refused
 outcome_of Stream = Failed
 outcome_of Ledger = Failed
 outcome_of File = Failed
+outcome_of Locked = Failed
 outcome_of WantsMemory = NoMemory
 
 -- the line that says what ended it
@@ -28,6 +29,7 @@ ended_line WrongRoot = codes "refused 405"
 ended_line Stream = codes "refused 603"
 ended_line Ledger = codes "refused 604"
 ended_line File = codes "refused 605"
+ended_line Locked = codes "refused 606"
 ended_line WantsMemory = codes "refused memory"
 
 -- with its newline

@@ -1,10 +1,11 @@
 -- The ranges of the options' numbers.
 use Rattle.std.specs.Prelude.{◌≡◌, ◌≤◌, None, IfSome}
 use Rattle.options.specs.declared.options.Options.{Options}
-use Rattle.options.specs.declared.options.Options.TheVariants.{Check, Decide, Coord, Run, Loop, Retry, Merge, Carry, Report}
+use Rattle.options.specs.declared.options.Options.TheVariants.{Check, Decide, Coord, Run, Loop, Retry, Merge, Carry, Split, Settle, Join, Report}
 use Rattle.options.specs.declared.options.Search.{Search}
 use Rattle.options.specs.declared.options.Beginning.{Beginning}
 use Rattle.options.specs.declared.options.Settling.{Settling}
+use Rattle.options.specs.declared.options.Splitting.{Splitting}
 
 pub record IsWithinRange (s : Search) : Type 0 where
   pub some_steps : 1 ≤ s.steps
@@ -28,6 +29,12 @@ pub record IsSettling (s : Settling) : Type 0 where
   pub rounds : s.rounds ≤ 1000000000
   pub search : IsWithinRange s.search
 
+pub record IsSplitting (s : Splitting) : Type 0 where
+  pub some_states : 1 ≤ s.states
+  pub states : s.states ≤ 7
+  pub filled : s.filled ≤ 14
+  pub search : IsWithinRange s.search
+
 abbrev pub AreWithinRanges : Options → Type 0
 AreWithinRanges Check = Unit {0}
 AreWithinRanges (Decide search) = IsWithinRange search
@@ -37,4 +44,7 @@ AreWithinRanges (Loop settling ledger) = IsSettling settling × (settling.lose �
 AreWithinRanges (Retry file search) = IsWithinRange search
 AreWithinRanges (Merge merging) = Unit {0}
 AreWithinRanges (Carry carrying) = Unit {0}
+AreWithinRanges (Split splitting) = IsSplitting splitting
+AreWithinRanges (Settle file search progress) = IsWithinRange search
+AreWithinRanges (Join joining) = Unit {0}
 AreWithinRanges (Report file json why) = Unit {0}

@@ -20,6 +20,8 @@ pub enum Ended {
     Ledger,
     /// Another file couldn't be opened or read.
     File,
+    /// Another process writes the ledger that is to be written.
+    Locked,
     /// Memory was refused.
     NoMemory,
 }
@@ -35,6 +37,7 @@ impl Ended {
             Ended::Stream => b"refused 603\n",
             Ended::Ledger => b"refused 604\n",
             Ended::File => b"refused 605\n",
+            Ended::Locked => b"refused 606\n",
             Ended::NoMemory => b"refused memory\n",
         }
     }
@@ -61,7 +64,7 @@ impl Ended {
     {
         match self {
             Ended::BadHeader | Ended::WrongRoot => Outcome::Refused,
-            Ended::Stream | Ended::Ledger | Ended::File => Outcome::Failed,
+            Ended::Stream | Ended::Ledger | Ended::File | Ended::Locked => Outcome::Failed,
             Ended::NoMemory => Outcome::NoMemory,
         }
     }

@@ -8,6 +8,6 @@ mod options;
 mod outcome;
 
 pub use ended::Ended;
-pub use options::{Beginning, Carrying, Merging, Options, Search, Settling};
+pub use options::{Beginning, Carrying, Joining, Merging, Options, Search, Settling, Splitting};
 pub use outcome::Outcome;
 pub use std::alloc::AllocError as NoMemory;

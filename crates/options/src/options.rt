@@ -40,6 +40,19 @@ pub enum Options<'a> {
     Merge(Merging<'a>),
     /// `bb carry IN OUT`
     Carry(Carrying<'a>),
+    /// `bb split N DIR [--filled D]` and the options of `decide`
+    Split(Splitting<'a>),
+    /// `bb settle FILE [--progress]` and the options of `decide`
+    Settle {
+        /// The ledger's path.
+        file: &'a str,
+        /// How far certificates are searched for.
+        search: Search,
+        /// Whether to tell on standard error, while it goes on, how far it is.
+        progress: bool,
+    },
+    /// `bb join DIR [--json] [--ledger OUT]`
+    Join(Joining<'a>),
     /// `bb report FILE [--json] [--why]`
     Report {
         /// The ledger's path, or `-`: it is read from standard input.
@@ -69,6 +82,30 @@ pub struct Carrying<'a> {
     pub ledger: &'a str,
     /// The ledger that is written; it may be the same.
     pub out: &'a str,
+}
+
+/// How a tree is cut into a trunk and parts.
+#[derive(Clone, Copy, Debug, PartialEq, Eq)]
+pub struct Splitting<'a> {
+    /// How many states the machines have: 1 to 7.
+    pub states: u8,
+    /// The folder in which the trunk's ledger and those of the parts stand.
+    pub folder: &'a str,
+    /// A table with fewer filled entries is decided in the trunk; any other is the root of a part: 0 to 14.
+    pub filled: u8,
+    /// How far certificates are searched for in the trunk.
+    pub search: Search,
+}
+
+/// What is said of a trunk and its parts together.
+#[derive(Clone, Copy, Debug, PartialEq, Eq)]
+pub struct Joining<'a> {
+    /// The folder of the trunk and the parts.
+    pub folder: &'a str,
+    /// The path of the one ledger that is written of all; none where none is.
+    pub out: Option<&'a str>,
+    /// Whether to print the report as JSON.
+    pub json: bool,
 }
 
 /// How far certificates are searched for.

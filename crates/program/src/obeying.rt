@@ -4,16 +4,16 @@ ghost use Rattle.command_line.specs.Unread.{EndsUnread};
 
 use command_line::{LineFault, options};
 use dispatch::carry_out;
-use ledger_commands::Host;
 use loopback::Sockets;
 use options::{Ended, NoMemory, Outcome};
+use part_commands::PartsHost;
 use std::alloc::Global;
 use std::io::{Read, Write};
 use std::time::Clock;
 
 /// Does what the words ask for, the program's name first, and answers how it ended. Each end is an
 /// `Outcome`: a line that can't be read or is refused too, and a stream that fails.
-pub fn obey<H: Host + Clock + Sockets, R: Read, W: Write, E: Write>(
+pub fn obey<H: PartsHost + Clock + Sockets, R: Read, W: Write, E: Write>(
     alloc: Global,
     words: Result<Vec<String>, LineFault>,
     host: &H,

@@ -4,6 +4,8 @@ ghost use Rattle.std.specs.Prelude.{◌≢◌, ◌≤◌};
 use dispatch::System;
 use ledger_commands::{FileLedger, Host};
 use loopback::Sockets;
+use options::Ended;
+use part_commands::PartsHost;
 use std::cell::Cell;
 use std::fs;
 use std::io::{self, ErrorKind};
@@ -131,6 +133,20 @@ impl<'a> Host for Killed<'a> {
             }
             _ => Err(io::Error::from(ErrorKind::Other)),
         }
+    }
+}
+
+impl<'a> PartsHost for Killed<'a> {
+    type Lock = fs::File;
+
+    ghost locks = { λ host path locked. Unit {0} };
+
+    fn lock(&self, path: &str) -> Result<Option<fs::File>, Ended> {
+        self.system.lock(path)
+    }
+
+    fn make_folder(&self, path: &str) -> io::Result<()> {
+        self.system.make_folder(path)
     }
 }
 

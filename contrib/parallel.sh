@@ -1,0 +1,11 @@
+#!/bin/sh
+# Works off the parts of a tree with GNU parallel, as many at once as there are processors:
+#   contrib/parallel.sh DIR [OPTIONS OF bb settle..]
+# DIR is a folder that `bb split` made. BB names the program (./bb if it isn't set), JOBS how many parts are worked at
+# once. Begun again, it goes on with what is left: a part that is done takes as long as reading it.
+set -e
+folder=${1:?"contrib/parallel.sh DIR [OPTIONS..]"}
+shift
+find "$folder" -name '*.ledger' ! -name trunk.ledger | sort |
+    parallel --jobs "${JOBS:-100%}" --joblog "$folder/parallel.log" --will-cite "${BB:-./bb}" settle {} "$@" > "$folder/parallel.out"
+echo "$(wc -l < "$folder/parallel.out") parts are worked off; ${BB:-./bb} join $folder says how the tree stands"

@@ -1,0 +1,4 @@
+pub mod Settled
+pub mod Begun
+pub mod Trunks
+pub mod Joining

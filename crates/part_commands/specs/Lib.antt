@@ -1,0 +1,5 @@
+pub mod Settling
+pub mod Settle
+pub mod Split
+pub mod Join
+pub mod inside

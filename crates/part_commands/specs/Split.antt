@@ -1,0 +1,77 @@
+-- A tree that is split: a trunk, whose tables of few entries are settled, and a ledger for each table that it leaves open.
+use Rattle.std.specs.Prelude.{◌≡◌, ℕ, ◌-◌, ◌≤◌, nat_lt, ◌==◌, if◌then◌else◌, List, [], ◌∷◌, ◌++◌, length, Option, Some, None, IfSome, Ok, codes, decimal}
+use Rattle.std.specs.Io.KnownBytes.{Appends}
+use Rattle.machine_text.specs.Packed.{Packed, empty_table}
+use Rattle.machine_text.specs.Text.{text_of}
+use Rattle.cert.specs.Claim.{Recorded}
+use Rattle.ledger.specs.Contents.{Contents, IsOpenOn}
+use Rattle.ledger.specs.LedgerText.{IsLedgerOf, LoadGives}
+use Rattle.ledger.specs.Tally.{IsTally}
+use Rattle.ledger.specs.Versions.{header_words}
+use Rattle.ledger.specs.declared.format.Format.TheVariants.{Two}
+use Rattle.ledger.specs.declared.left.Left.{Left}
+use Rattle.ledger.specs.declared.left.Left.TheVariants.{Nothing, From}
+use Rattle.ledger.specs.declared.tally.Tally.{Tally}
+use Rattle.wire.specs.Device.{grown}
+use Rattle.ledger_commands.specs.Reading.{AreFirstBytes}
+use Rattle.part_commands.specs.Settle.{kept_part}
+use Rattle.part_commands.specs.Settling.{IsOpenBelow, SettlesMany, filled_count}
+
+-- the path of a ledger in a folder
+abbrev pub path_within : List ℕ → List ℕ → List ℕ
+path_within folder name = folder ++ codes "/" ++ name ++ codes ".ledger"
+
+-- the header of a ledger that is begun: of version 2
+abbrev pub begun_header : Packed → List ℕ
+begun_header root = header_words Two ++ text_of root ++ (10 ∷ [])
+
+-- a part's ledger of so many bytes, where its text is known: it is left as it is, but where it is shorter than its header, and
+-- is begun anew
+abbrev pub begun_part : Packed → ℕ → Option (List ℕ) → Option (List ℕ)
+begun_part root bytes None = None
+begun_part root bytes (Some text) = Some (if nat_lt bytes (length (begun_header root)) then begun_header root else text)
+
+-- how much is kept of a ledger of so many bytes
+abbrev pub kept_size : ℕ → Left → ℕ
+kept_size bytes Nothing = bytes
+kept_size bytes (From line kept why) = kept
+
+-- what a trunk's ledger gains before it is gone on with: a header, where nothing of it was kept
+abbrev pub due_header : Packed → ℕ → List ℕ
+due_header root kept = if kept == 0 then begun_header root else []
+
+-- a trunk's ledger, where its text is known, that is cut to what was kept of it, and has a header
+abbrev pub begun_trunk : Packed → ℕ → Left → Option (List ℕ) → Option (List ℕ)
+begun_trunk root bytes left text = grown (kept_part left text) (due_header root (kept_size bytes left))
+
+-- the trunk of the tree of n states that a reader has in its first bytes is loaded, and settled until each open table has so
+-- many filled entries
+pub record GrowsTrunk (Answers : Packed → Recorded → Type 0) (n limit : ℕ) (has : Option (List ℕ)) (size : ℕ) (before : Option (List ℕ)) (new : Contents) (after : Option (List ℕ)) : Type 0 where
+  pub text : List ℕ
+  pub first : AreFirstBytes has size text
+  pub loaded : Contents
+  pub left : Left
+  pub loads : LoadGives (empty_table n) text (Ok (loaded, left))
+  pub count : ℕ
+  pub many : SettlesMany Answers (IsOpenBelow limit) count loaded (begun_trunk (empty_table n) (length text) left before) new after
+  pub none_below : (t : Packed) → IsOpenOn new t → limit ≤ filled_count t
+  -- where that was the whole ledger, it is the ledger of the trunk
+  pub step : before ≡ Some text → IfSome after (IsLedgerOf new)
+
+-- roots of parts that were begun, where they are known, and more of them
+abbrev pub also_begun : Option (List Packed) → List Packed → Option (List Packed)
+also_begun (Some roots) more = Some (roots ++ more)
+also_begun None more = None
+
+-- the line that says how many records the trunk has, and how many parts there are
+abbrev pub split_text : Tally → List ℕ
+split_text tally = codes "trunk " ++ decimal (tally.nodes - tally.open_count) ++ codes " parts " ++ decimal tally.open_count ++ 10 ∷ []
+
+-- the tree of n states is split, and it is told: no open table of the trunk has fewer filled entries than so many
+pub record SplitsTree (n limit : ℕ) (said new_said : Option (List ℕ)) : Type 0 where
+  pub trunk : Contents
+  pub root : trunk.root ≡ empty_table n
+  pub none_below : (t : Packed) → IsOpenOn trunk t → limit ≤ filled_count t
+  pub tally : Tally
+  pub counted : IsTally trunk.root trunk.records tally
+  pub says : Appends said new_said (split_text tally)

@@ -1,0 +1,291 @@
+// `bb join`: a trunk and the parts of its tree, told of as one ledger would be that holds the records of all.
+ghost use Rattle.std.specs.Prelude.{◌≡◌, ◌⊎◌, ℕ, IfOk, List, OnOk, Option};
+ghost use Rattle.ledger.specs.Contents.{Contents};
+ghost use Rattle.ledger.specs.declared.left.Left.TheVariants.{Nothing};
+ghost use Rattle.ledger_commands.specs.LedgerReport.{outcome_by};
+ghost use Rattle.ledger_commands.specs.Told.{IsToldOf};
+ghost use Rattle.whole.specs.Parts.{joined_with};
+ghost use Rattle.whole.specs.Whole.{IsWhole};
+ghost use Rattle.part_commands.specs.Join.{AddsPart, IsGathered, TellsAll, TellsParts};
+
+use crate::collector::{Collector, Nowhere, OneLedger};
+use crate::folder::{TRUNK, part_path, path_within};
+use evidence::NoMemory;
+use ledger::{Board, Left, Status};
+use ledger_commands::{
+    Host, LedgerAt, Opened, ReportForm, Stopped, Told, load_from, made_beside, opened, outcome_by,
+    put_back, write_told,
+};
+use machine_text::Table;
+use options::{Ended, Joining, Outcome};
+use std::alloc::Global;
+use std::io::{ErrorKind, Read, Write};
+use text::append_number;
+use whole::{PartFault, Whole};
+use wire::LedgerOut;
+
+/// Prints the report of the trunk in a folder and of the parts beside it, in a form: the report of one ledger that holds the
+/// records of all. Where that is asked for, it writes that ledger too, in a file beside it, `.new`, which is then put in its
+/// place. A part that isn't there counts as an open table. What is wrong with a part is said on `faults` behind its path,
+/// and what is kept of it counts. Accepted where the report says complete and nothing was wrong.
+pub fn cmd_join<H: Host, P: ReportForm, W: Write, E: Write>(
+    alloc: Global,
+    form: &P,
+    joining: &Joining<'_>,
+    host: &H,
+    answers: &mut W,
+    faults: &mut E,
+) -> Outcome {
+    let ended = match joining.out {
+        Some(out) => join_into(alloc, form, joining.folder, out, host, answers, faults),
+        None => join_parts(
+            alloc,
+            form,
+            joining.folder,
+            host,
+            &mut Nowhere,
+            answers,
+            faults,
+        ),
+    };
+    match ended {
+        Ok(outcome) => outcome,
+        Err(ended) => ended.told(faults),
+    }
+}
+
+// The same with the one ledger at a path.
+fn join_into<H: Host, P: ReportForm, W: Write, E: Write>(
+    alloc: Global,
+    form: &P,
+    folder: &str,
+    out: &str,
+    host: &H,
+    answers: &mut W,
+    faults: &mut E,
+) -> Result<Outcome, Ended> {
+    let beside = made_beside(alloc, host, out, &[])?;
+    let path = beside.as_deref().unwrap_or(out);
+    let mut one = OneLedger {
+        ledger: LedgerAt::new(host, path),
+    };
+    if one.ledger.cut(0).is_err() {
+        return Err(Ended::Ledger);
+    }
+    let outcome = join_parts(alloc, form, folder, host, &mut one, answers, faults)?;
+    put_back(host, &beside, out)?;
+    Ok(outcome)
+}
+
+/// Prints the report of the trunk in a folder and of its parts, and collects the one ledger of all. What is wrong with a
+/// part is said on `faults` behind its path. Accepted where the report says complete and nothing was wrong.
+pub fn join_parts<H: Host, P: ReportForm, C: Collector, W: Write, E: Write>(
+    alloc: Global,
+    form: &P,
+    folder: &str,
+    host: &H,
+    collector: &mut C,
+    answers: &mut W,
+    faults: &mut E,
+) -> Result<Outcome, Ended>
+    ensures { IfOk result (TellsAll (P.is_text form.now) (C.text collector.old) (C.text collector.new) (W.contents answers.old) (W.contents answers.new)) }
+{
+    let (whole, is_sound) = gather(alloc, folder, host, collector, faults)?;
+    tell_whole(alloc, form, &whole, is_sound, answers)
+}
+
+// The trunk and the parts beside it, and whether nothing is wrong with them.
+fn gather<H: Host, C: Collector, E: Write>(
+    alloc: Global,
+    folder: &str,
+    host: &H,
+    collector: &mut C,
+    faults: &mut E,
+) -> Result<(Whole, bool), Ended>
+    ensures { IfOk result (λ gathered. IsGathered (C.text collector.old) gathered.0 (C.text collector.new)) }
+{
+    let path = path_within(alloc, folder, TRUNK)?;
+    let (trunk, left) = trunk_at(alloc, host, &path)?;
+    let is_kept = says_left(alloc, &path, &left, faults)?;
+    collector.begin(alloc, &trunk)?;
+    let roots = open_tables(alloc, &trunk)?;
+    let mut whole = Whole::of(alloc, trunk)?;
+    let are_sound = add_parts(alloc, host, folder, roots, &mut whole, collector, faults)?;
+    Ok((whole, is_kept && are_sound))
+}
+
+// Adds the parts of these roots, and answers whether all are there and sound.
+fn add_parts<H: Host, C: Collector, E: Write>(
+    alloc: Global,
+    host: &H,
+    folder: &str,
+    roots: Vec<Table>,
+    whole: &mut Whole,
+    collector: &mut C,
+    faults: &mut E,
+) -> Result<bool, Ended>
+    ensures { OnOk result ((start : Option (List ℕ)) → IsGathered start whole.old (C.text collector.old) → IsGathered start whole.new (C.text collector.new)) }
+{
+    let mut are_sound = true;
+    for root in roots {
+        if !join_part(alloc, host, folder, &root, whole, collector, faults)? {
+            are_sound = false;
+        }
+    }
+    Ok(are_sound)
+}
+
+// Prints the report of a whole.
+fn tell_whole<P: ReportForm, W: Write>(
+    alloc: Global,
+    form: &P,
+    whole: &Whole,
+    is_sound: bool,
+    answers: &mut W,
+) -> Result<Outcome, Ended>
+    ensures { IfOk result (λ o. (parts : List Contents) → IsWhole whole.now parts → TellsParts (P.is_text form.now) whole.now.trunk parts (W.contents answers.old) (W.contents answers.new) o) }
+{
+    let status = whole.status();
+    write_told(alloc, form, told_of(whole)?, &Left::Nothing, answers)?;
+    Ok(outcome_of(status, is_sound))
+}
+
+// Accepted where the whole is complete and sound.
+fn outcome_of(status: Status, is_sound: bool) -> Outcome
+    ensures { (result ≡ outcome_by status Nothing) ⊎ (result ≡ Outcome.Refused) }
+{
+    if is_sound {
+        outcome_by(status, &Left::Nothing)
+    } else {
+        Outcome::Refused
+    }
+}
+
+// The board of the trunk's ledger, which has to be there, and what of it wasn't kept.
+fn trunk_at<H: Host>(alloc: Global, host: &H, path: &str) -> Result<(Board, Left), Ended> {
+    match opened(host, path) {
+        Ok(mut file) => match load_from(alloc, &mut file.reader, file.length) {
+            Ok(loaded) => Ok(loaded),
+            Err(stopped) => Err(stopped.by_file()),
+        },
+        Err(fault) => Err(Ended::by_file(&fault)),
+    }
+}
+
+// The open tables of a trunk.
+fn open_tables(alloc: Global, trunk: &Board) -> Result<Vec<Table>, NoMemory> {
+    let mut roots = Vec::new(alloc);
+    for root in trunk.open() {
+        roots.push(*root)?;
+    }
+    Ok(roots)
+}
+
+// Adds the part of a root, and answers whether it is there and sound.
+fn join_part<H: Host, C: Collector, E: Write>(
+    alloc: Global,
+    host: &H,
+    folder: &str,
+    root: &Table,
+    whole: &mut Whole,
+    collector: &mut C,
+    faults: &mut E,
+) -> Result<bool, Ended>
+    ensures { OnOk result (AddsPart whole.old (C.text collector.old) whole.new (C.text collector.new)) }
+{
+    let path = part_path(alloc, folder, root)?;
+    match opened(host, &path) {
+        Ok(file) => add_read(alloc, file, &path, root, whole, collector, faults),
+        Err(fault) if fault.kind() == ErrorKind::NotFound => says(alloc, &path, b"missing", faults),
+        Err(fault) => Err(Ended::by_file(&fault)),
+    }
+}
+
+// Adds what is read of a part.
+fn add_read<F: Read + Drop, C: Collector, E: Write>(
+    alloc: Global,
+    mut file: Opened<F>,
+    path: &str,
+    root: &Table,
+    whole: &mut Whole,
+    collector: &mut C,
+    faults: &mut E,
+) -> Result<bool, Ended>
+    ensures { OnOk result (AddsPart whole.old (C.text collector.old) whole.new (C.text collector.new)) }
+{
+    match load_from(alloc, &mut file.reader, file.length) {
+        Ok((part, _)) if part.root() != root => says(alloc, path, b"refused 406", faults),
+        Ok((part, left)) => {
+            if !add(alloc, &part, whole, collector)? {
+                return says(alloc, path, b"refused 406", faults);
+            }
+            says_left(alloc, path, &left, faults)
+        }
+        Err(Stopped::Ended(Ended::BadHeader)) => says(alloc, path, b"refused 404", faults),
+        Err(Stopped::Ended(Ended::WrongRoot)) => says(alloc, path, b"refused 405", faults),
+        Err(stopped) => Err(stopped.by_file()),
+    }
+}
+
+// Adds a part's board, and answers whether it was: it is where its root is one of the trunk's open tables, and comes once.
+fn add<C: Collector>(
+    alloc: Global,
+    part: &Board,
+    whole: &mut Whole,
+    collector: &mut C,
+) -> Result<bool, Ended>
+    ensures { OnOk result (AddsPart whole.old (C.text collector.old) whole.new (C.text collector.new)) }
+{
+    match whole.add(part) {
+        Ok(()) => {
+            collector.add(alloc, part)?;
+            Ok(true)
+        }
+        Err(PartFault::NoMemory) => Err(Ended::NoMemory),
+        Err(PartFault::NotOpen) | Err(PartFault::AddedBefore) => Ok(false),
+    }
+}
+
+// Says behind a path which line wasn't kept, where there is one, and answers whether all was.
+fn says_left<E: Write>(
+    alloc: Global,
+    path: &str,
+    left: &Left,
+    faults: &mut E,
+) -> Result<bool, Ended> {
+    match left {
+        Left::Nothing => Ok(true),
+        Left::From { line, .. } => {
+            let mut told = Vec::new(alloc);
+            told.extend_from_slice(b"left ")?;
+            append_number(*line, &mut told)?;
+            says(alloc, path, &told, faults)
+        }
+    }
+}
+
+// Says behind a path what is wrong there; so all isn't sound.
+fn says<E: Write>(alloc: Global, path: &str, what: &[u8], faults: &mut E) -> Result<bool, Ended> {
+    let mut line = Vec::new(alloc);
+    line.extend_from_slice(path.as_bytes())?;
+    line.extend_from_slice(b": ")?;
+    line.extend_from_slice(what)?;
+    line.extend_from_slice(b"\n")?;
+    faults.write_all(&line)?;
+    Ok(false)
+}
+
+// What a report tells of a trunk and the parts that were added.
+fn told_of(whole: &Whole) -> Result<Told, NoMemory>
+    ensures { IfOk result (λ told. (parts : List Contents) → IsWhole whole.now parts → IsToldOf whole.now.trunk.root (joined_with whole.now.trunk.records parts) told) }
+{
+    let (champions, ones_champions, holdouts) = whole.champions_and_holdouts()?;
+    Ok(Told {
+        root: *whole.root(),
+        status: whole.status(),
+        tally: whole.tally(),
+        champions,
+        ones_champions,
+        holdouts,
+    })
+}

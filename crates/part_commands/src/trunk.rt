@@ -1,0 +1,152 @@
+// The trunk of a tree, which is begun or gone on with.
+ghost use Rattle.std.specs.Prelude.{◌≡◌, ◌≤◌, ◌^◌, ◌<◌, ℕ, List, [], Err, IfErr, IfOk, IfSome, MatchResult, Ok, OnOk, length};
+ghost use Rattle.machine_text.specs.Limits.{state_limit};
+ghost use Rattle.machine_text.specs.Packed.{Packed, empty_table};
+ghost use Rattle.ledger.specs.Contents.{IsOpenOn};
+ghost use Rattle.ledger.specs.LedgerText.{IsLedgerOf, LoadGives};
+ghost use Rattle.ledger.specs.Loading.{StandsAfter};
+ghost use Rattle.ledger_commands.specs.Reading.{AreFirstBytes};
+ghost use Rattle.ledger_commands.specs.Retry.{AtSomeTime};
+ghost use Rattle.part_commands.specs.Settling.{IsOpenBelow, SettlesMany, filled_count};
+ghost use Rattle.part_commands.specs.Split.{GrowsTrunk, begun_trunk, due_header, kept_size};
+
+use crate::settle::cut_off;
+use crate::settling::{append_line, settle_below};
+use crate::tells::Tells;
+use cert::Decider;
+use ledger::{Board, Left, Loader, ReadStop, append_header};
+use ledger_commands::{Opened, by_load};
+use machine_text::Table;
+use options::Ended;
+use std::alloc::Global;
+use std::io::{self, Read};
+use tnf::root;
+use tree::rado_of_tables;
+use wire::LedgerOut;
+
+/// Grows the trunk of the tree of n states. Its ledger is cut to the bytes that are kept of it, and gains a header
+/// where none are; then the open tables that have fewer filled entries than so many are settled, as `settle_below`
+/// does. `held` reads what the ledger holds.
+pub fn grow_trunk<F: Read + Drop, L: LedgerOut, D: Decider, P: Tells>(
+    alloc: Global,
+    n: u8,
+    held: io::Result<Opened<F>>,
+    limit: u64,
+    decider: &mut D,
+    ledger: &mut L,
+    progress: &mut P,
+) -> Result<Board, Ended>
+    requires { (1 ≤ n) × (n ≤ state_limit) }
+    ensures grows { IfOk result (λ board. MatchResult held
+        (λ file. GrowsTrunk (AtSomeTime D D.answers) n limit (F.remaining file.reader) file.length (L.text ledger.old) board (L.text ledger.new))
+        (λ fault. ⊥)) }
+    ensures root { IfOk result (λ board. board.root ≡ empty_table n) }
+    ensures all { IfOk result (λ board. (t : Packed) → IsOpenOn board t → limit ≤ filled_count t) }
+{
+    match load_trunk(alloc, n, held) {
+        Ok((mut board, left, bytes)) => {
+            match grow(
+                alloc, &mut board, &left, bytes, limit, decider, ledger, progress,
+            ) {
+                Ok(()) => Ok(board),
+                Err(ended) => Err(ended),
+            }
+        }
+        Err(ended) => Err(ended),
+    }
+}
+
+// The board of what a trunk's ledger holds, what of it wasn't kept, and how many bytes it has.
+fn load_trunk<F: Read + Drop>(
+    alloc: Global,
+    n: u8,
+    held: io::Result<Opened<F>>,
+) -> Result<(Board, Left, u64), Ended>
+    requires { (1 ≤ n) × (n ≤ state_limit) }
+    ensures { IfOk result (λ l. MatchResult held (λ file. (text : List ℕ) × AreFirstBytes (F.remaining file.reader) file.length text
+        × (l.2 ≡ length text) × LoadGives (empty_table n) text (Ok (l.0, l.1))) (λ fault. ⊥)) }
+{
+    match held {
+        Ok(mut held) => load_tree(alloc, n, &mut held.reader, held.length),
+        Err(fault) => Err(Ended::by_ledger(&fault)),
+    }
+}
+
+// The same of what a reader has in its first bytes.
+fn load_tree<R: Read>(
+    alloc: Global,
+    n: u8,
+    from: &mut R,
+    limit: u64,
+) -> Result<(Board, Left, u64), Ended>
+    requires { (1 ≤ n) × (n ≤ state_limit) }
+    ensures { IfOk result (λ l. (text : List ℕ) × AreFirstBytes (R.remaining from.old) limit text
+        × (l.2 ≡ length text) × LoadGives (empty_table n) text (Ok (l.0, l.1))) }
+{
+    rado_of_tables();
+    let mut loader = Loader::new(alloc, root(n));
+    match loader.feed_from(from, limit) {
+        Ok(()) => finished(loader),
+        Err(ReadStop::Failed(fault)) => Err(Ended::by_ledger(&fault)),
+        Err(ReadStop::NoMemory) => Err(Ended::NoMemory),
+    }
+}
+
+// The same of what a loader was fed.
+fn finished(loader: Loader) -> Result<(Board, Left, u64), Ended>
+    ensures { (text : List ℕ) → StandsAfter loader text → IfOk result (λ l. (l.2 ≡ length text) × LoadGives loader.root text (Ok (l.0, l.1))) }
+{
+    let bytes = loader.bytes();
+    match loader.finish() {
+        Ok((board, left)) => Ok((board, left, bytes)),
+        Err(fault) => Err(by_load(fault)),
+    }
+}
+
+// Grows a trunk from the board of its ledger.
+fn grow<L: LedgerOut, D: Decider, P: Tells>(
+    alloc: Global,
+    board: &mut Board,
+    left: &Left,
+    bytes: u64,
+    limit: u64,
+    decider: &mut D,
+    ledger: &mut L,
+    progress: &mut P,
+) -> Result<(), Ended>
+    ensures settled { OnOk result ((k : ℕ) × SettlesMany (AtSomeTime D D.answers) (IsOpenBelow limit) k board.old (begun_trunk board.old.root bytes left.now (L.text ledger.old)) board.new (L.text ledger.new)) }
+    ensures all { OnOk result ((t : Packed) → IsOpenOn board.new t → limit ≤ filled_count t) }
+    ensures step { OnOk result (IfSome (begun_trunk board.old.root bytes left.now (L.text ledger.old)) (IsLedgerOf board.old) → IfSome (L.text ledger.new) (IsLedgerOf board.new)) }
+{
+    begin_trunk(alloc, board.root(), left, bytes, ledger)?;
+    settle_below(alloc, board, limit, decider, ledger, progress)?;
+    Ok(())
+}
+
+// Cuts a trunk's ledger to what is kept of it, and appends a header where nothing is.
+fn begin_trunk<L: LedgerOut>(
+    alloc: Global,
+    root: &Table,
+    left: &Left,
+    bytes: u64,
+    ledger: &mut L,
+) -> Result<(), Ended>
+    ensures { OnOk result (L.text ledger.new ≡ begun_trunk root.now bytes left.now (L.text ledger.old)) }
+{
+    let mut header = Vec::new(alloc);
+    if kept_size(left, bytes) == 0 {
+        append_header(root, &mut header)?;
+    }
+    cut_off(left, ledger)?;
+    append_line(ledger, &header)
+}
+
+// How much is kept of a ledger of so many bytes.
+fn kept_size(left: &Left, bytes: u64) -> u64
+    ensures { result ≡ kept_size bytes left.now }
+{
+    match left {
+        Left::Nothing => bytes,
+        Left::From { kept, .. } => *kept,
+    }
+}

@@ -1,0 +1,4 @@
+pub mod RunLaws
+pub mod VisitLaws
+pub mod RowLaws
+pub mod PictureLaws

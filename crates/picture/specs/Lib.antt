@@ -1,0 +1,7 @@
+pub mod View
+pub mod Times
+pub mod Runs
+pub mod Rows
+pub mod Visits
+pub mod Svg
+pub mod inside

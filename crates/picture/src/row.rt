@@ -1,0 +1,39 @@
+// One row of a picture.
+ghost use Rattle.std.specs.Prelude.{◌≡◌, [], false, None};
+
+use crate::ones::Run;
+use machine_text::State;
+use std::alloc::Global;
+
+/// What a configuration of a run shows within a view. A row is kept and filled again and again.
+#[derive(Drop)]
+pub struct Row {
+    /// Its number, from 0 on, downwards.
+    pub number: u64,
+    /// The time: the number of steps that led to the configuration.
+    pub time: u64,
+    /// The state.
+    pub state: State,
+    /// The column of the head, where the view has it.
+    pub head: Option<u64>,
+    /// Whether the machine halts with the next step.
+    pub halts: bool,
+    /// The ones in the view, from left to right.
+    pub runs: Vec<Run>,
+}
+
+impl Row {
+    /// A row in which nothing is shown. It takes no memory.
+    pub fn new(alloc: Global) -> Row
+        ensures { result.runs.items ≡ [] }
+    {
+        Row {
+            number: 0,
+            time: 0,
+            state: State(0),
+            head: None,
+            halts: false,
+            runs: Vec::new(alloc),
+        }
+    }
+}

@@ -1,0 +1,2 @@
+-- What only the code of this crate needs.
+pub mod Sums

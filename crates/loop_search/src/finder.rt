@@ -1,6 +1,8 @@
-ghost use Rattle.std.specs.Prelude.{◌≡◌, IfOk};
-ghost use Rattle.turing.specs.Run.{start};
 // The search of one run.
+ghost use Rattle.std.specs.Prelude.{◌≡◌, ◌×◌, IfOk, IfSome, IsTrue};
+ghost use Rattle.turing.specs.Run.{start};
+ghost use Rattle.loop_search.specs.Findings.{IsShown};
+
 use crate::borders::Borders;
 use crate::history::History;
 use evidence::{Evidence, NoMemory, Refused};
@@ -44,9 +46,11 @@ impl LoopFinder {
     }
 
     /// What the run of a table shows within so many steps, and by `MAX_TIME`; none where it finds nothing. It looks for
-    /// what repeats at time `first`, at each time four times as late, and at the end. No contract says what is found,
-    /// nor that it stands: whoever takes it judges it.
-    pub fn search(&mut self, t: &Table, first: u64, steps: u64) -> Result<Option<Found>, NoMemory> {
+    /// what repeats at time `first`, at each time four times as late, and at the end. What it gives stands; no
+    /// contract says what is found.
+    pub fn search(&mut self, t: &Table, first: u64, steps: u64) -> Result<Option<Found>, NoMemory>
+        ensures { IfOk result (λ o. IfSome o (IsShown t.now)) }
+    {
         let mut runner = begun(self.alloc, self.runner.take(), t)?;
         let found = self.found_in(&mut runner, t, first, steps.min(MAX_TIME));
         self.runner = Some(runner);
@@ -60,7 +64,9 @@ impl LoopFinder {
         t: &Table,
         first: u64,
         limit: u64,
-    ) -> Result<Option<Found>, NoMemory> {
+    ) -> Result<Option<Found>, NoMemory>
+        ensures { IfOk result (λ o. IfSome o (IsShown t.now)) }
+    {
         self.history.clear();
         let mut checkpoint = first.min(limit);
         for time in 0..limit {
@@ -69,10 +75,7 @@ impl LoopFinder {
             }
             self.history.note(runner)?;
             if let Step::Halts { count } = runner.step()? {
-                return Ok(Some(Found::Halts(HaltsIn {
-                    steps: count,
-                    ones: Some(score(runner)),
-                })));
+                return self.halting(runner, t, count);
             }
             if time + 1 == checkpoint {
                 if let Some(found) = self.repetition(t)? {
@@ -84,8 +87,21 @@ impl LoopFinder {
         Ok(None)
     }
 
+    // That a run halts in so many steps where a runner stands, if that stands.
+    fn halting(&self, runner: &Runner, t: &Table, count: u64) -> Result<Option<Found>, NoMemory>
+        ensures { IfOk result (λ o. IfSome o (IsShown t.now)) }
+    {
+        let halts = HaltsIn {
+            steps: count,
+            ones: Some(score(runner)),
+        };
+        Ok(standing(&halts, self.alloc, t)?.then_some(Found::Halts(halts)))
+    }
+
     // What the run so far repeats, if that stands.
-    fn repetition(&mut self, t: &Table) -> Result<Option<Found>, NoMemory> {
+    fn repetition(&mut self, t: &Table) -> Result<Option<Found>, NoMemory>
+        ensures { IfOk result (λ o. IfSome o (IsShown t.now)) }
+    {
         self.borders.retake(self.history.pairs())?;
         let mut left = MOST_PERIODS;
         for count in 1..=self.borders.len() {
@@ -104,7 +120,9 @@ impl LoopFinder {
     }
 
     // The loop of a period, if it stands.
-    fn loop_of(&self, t: &Table, period: usize) -> Result<Option<Found>, NoMemory> {
+    fn loop_of(&self, t: &Table, period: usize) -> Result<Option<Found>, NoMemory>
+        ensures { IfOk result (λ o. IfSome o (IsShown t.now)) }
+    {
         let now = self.history.pairs().len();
         let second = now.saturating_sub(period);
         let first = second.saturating_sub(period);
@@ -148,7 +166,9 @@ fn score(runner: &Runner) -> u64 {
 }
 
 // Whether a claim stands.
-fn standing<E: Evidence>(claim: &E, alloc: Global, t: &Table) -> Result<bool, NoMemory> {
+fn standing<E: Evidence>(claim: &E, alloc: Global, t: &Table) -> Result<bool, NoMemory>
+    ensures { IfOk result (λ stands. IsTrue stands → E.stands claim.now t.now × E.within claim.now) }
+{
     match claim.check(alloc, t) {
         Ok(_) => Ok(true),
         Err(Refused::NoMemory) => Err(NoMemory),

@@ -15,17 +15,17 @@ use Rattle.wire.specs.Device.{grown}
 use Rattle.whole.specs.Parts.{joined_with}
 use Rattle.whole.specs.Whole.{Collected, IsWhole}
 use Rattle.whole.proofs.ManyParts.{joined_more}
-use Rattle.part_commands.specs.Join.{AddsPart, IsGathered, lines_of}
+use Rattle.part_commands.specs.Join.{AddsPart, IsGathered, record_lines}
 
-lines_both : (a b : List Recorded) → lines_of (a ++ b) ≡ lines_of a ++ lines_of b
+lines_both : (a b : List Recorded) → record_lines (a ++ b) ≡ record_lines a ++ record_lines b
 lines_both a b = ap joined (map-append (ledger_line Two) a b) ∙ joined-append (map (ledger_line Two) a) (map (ledger_line Two) b)
 
 -- a ledger with more lines is that of more records
-ledger_more : (root : Packed) (a b : List Recorded) → ledger_text root a ++ lines_of b ≡ ledger_text root (a ++ b)
+ledger_more : (root : Packed) (a b : List Recorded) → ledger_text root a ++ record_lines b ≡ ledger_text root (a ++ b)
 unfolding ledger_text
 ledger_more root a b =
-    append_assoc (header_words Two) (text_of root ++ (10 ∷ lines_of a)) (lines_of b)
-    ∙ ap (λ (l : List ℕ). header_words Two ++ l) (append_assoc (text_of root) (10 ∷ lines_of a) (lines_of b)
+    append_assoc (header_words Two) (text_of root ++ (10 ∷ record_lines a)) (record_lines b)
+    ∙ ap (λ (l : List ℕ). header_words Two ++ l) (append_assoc (text_of root) (10 ∷ record_lines a) (record_lines b)
     ∙ ap (λ (l : List ℕ). text_of root ++ (10 ∷ l)) (sym (lines_both a b)))
 
 grown_more : (start : Option (List ℕ)) (a b c : List ℕ) → a ++ b ≡ c → grown (grown start a) b ≡ grown start c
@@ -44,12 +44,12 @@ gathered_more start old new before after (inr added) h =
     let trunk = old.trunk in
     let parts = h.0 ++ (part ∷ []) in
     let own = joined_with trunk.records h.0 in
-    let more : ledger_text trunk.root own ++ lines_of part.records ≡ ledger_text trunk.root (joined_with trunk.records parts) =
+    let more : ledger_text trunk.root own ++ record_lines part.records ≡ ledger_text trunk.root (joined_with trunk.records parts) =
     ledger_more trunk.root own part.records ∙ ap (λ (l : List Recorded). ledger_text trunk.root l) (sym (joined_more trunk.records h.0 part)) in (
       parts,
       added.1.3 h.0 h.1,
-      added.2 ∙ (ap (λ (t : Option (List ℕ)). grown t (lines_of part.records)) h.2
-          ∙ (grown_more start (ledger_text trunk.root own) (lines_of part.records) (ledger_text trunk.root (joined_with trunk.records parts)) more
+      added.2 ∙ (ap (λ (t : Option (List ℕ)). grown t (record_lines part.records)) h.2
+          ∙ (grown_more start (ledger_text trunk.root own) (record_lines part.records) (ledger_text trunk.root (joined_with trunk.records parts)) more
           ∙ ap (λ (b : Contents). grown start (ledger_text b.root (joined_with b.records parts))) (sym added.1.2))),
     )
 
@@ -57,17 +57,17 @@ drop_front : (xs ys : List ℕ) → drop (length xs) (xs ++ ys) ≡ ys
 drop_front [] ys = refl
 drop_front (x ∷ xs) ys = drop_front xs ys
 
-header_lines : (root : Packed) (rs : List Recorded) → (header_words Two ++ text_of root ++ (10 ∷ [])) ++ lines_of rs ≡ ledger_text root rs
+header_lines : (root : Packed) (rs : List Recorded) → (header_words Two ++ text_of root ++ (10 ∷ [])) ++ record_lines rs ≡ ledger_text root rs
 unfolding ledger_text
 header_lines root rs =
-    append_assoc (header_words Two) (text_of root ++ (10 ∷ [])) (lines_of rs)
-    ∙ ap (λ (l : List ℕ). header_words Two ++ l) (append_assoc (text_of root) (10 ∷ []) (lines_of rs))
+    append_assoc (header_words Two) (text_of root ++ (10 ∷ [])) (record_lines rs)
+    ∙ ap (λ (l : List ℕ). header_words Two ++ l) (append_assoc (text_of root) (10 ∷ []) (record_lines rs))
 
 -- behind the header of a ledger stand the lines of its records
 pub behind_header : (root : Packed) (rs : List Recorded) (n : ℕ) (header text : List ℕ) → header ≡ header_words Two ++ text_of root ++ (10 ∷ []) → n ≡ length header
-    → text ≡ ledger_text root rs → (n ≤ length text) × (drop n text ≡ lines_of rs)
+    → text ≡ ledger_text root rs → (n ≤ length text) × (drop n text ≡ record_lines rs)
 behind_header root rs n header text is len all =
-    let whole : text ≡ header ++ lines_of rs = all ∙ (sym (header_lines root rs) ∙ ap (λ (l : List ℕ). l ++ lines_of rs) (sym is)) in (
-      omega (arith, len, ap length whole, length-append header (lines_of rs)),
-      ap (λ (l : List ℕ). drop n l) whole ∙ (ap (λ (k : ℕ). drop k (header ++ lines_of rs)) len ∙ drop_front header (lines_of rs)),
+    let whole : text ≡ header ++ record_lines rs = all ∙ (sym (header_lines root rs) ∙ ap (λ (l : List ℕ). l ++ record_lines rs) (sym is)) in (
+      omega (arith, len, ap length whole, length-append header (record_lines rs)),
+      ap (λ (l : List ℕ). drop n l) whole ∙ (ap (λ (k : ℕ). drop k (header ++ record_lines rs)) len ∙ drop_front header (record_lines rs)),
     )

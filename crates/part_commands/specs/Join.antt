@@ -20,13 +20,13 @@ use Rattle.whole.specs.Parts.{AreParts, joined_with}
 use Rattle.whole.specs.Whole.{AddGives, Collected, IsWhole}
 
 -- the lines of records in a ledger of version 2
-abbrev pub lines_of : List Recorded → List ℕ
-lines_of rs = joined (map (ledger_line Two) rs)
+abbrev pub record_lines : List Recorded → List ℕ
+record_lines rs = joined (map (ledger_line Two) rs)
 
 -- a part is added to a whole, and its lines are appended to the one ledger; or nothing changes
 abbrev pub AddsPart : Collected → Option (List ℕ) → Collected → Option (List ℕ) → Type 0
 AddsPart old before new after =
-    ((new ≡ old) × (after ≡ before)) ⊎ ((part : Contents) × AddGives old part (Ok tt) new × (after ≡ grown before (lines_of part.records)))
+    ((new ≡ old) × (after ≡ before)) ⊎ ((part : Contents) × AddGives old part (Ok tt) new × (after ≡ grown before (record_lines part.records)))
 
 -- of a trunk and parts behind it the report is printed that one ledger has which holds all of their records; accepted where
 -- they are complete alone, and where something was wrong not even then

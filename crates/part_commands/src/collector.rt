@@ -1,6 +1,6 @@
 // Where the one ledger of a trunk and its parts goes.
 ghost use Rattle.std.specs.Prelude.{◌≡◌, ◌≤◌, IfOk, OnOk, drop, length};
-ghost use Rattle.part_commands.specs.Join.{lines_of};
+ghost use Rattle.part_commands.specs.Join.{record_lines};
 
 use evidence::NoMemory;
 use ledger::{Board, append_header};
@@ -13,7 +13,7 @@ pub trait Collector {
     ghost use Rattle.std.specs.Prelude.{◌≡◌, List, ℕ, Option, OnOk};
     ghost use Rattle.ledger.specs.LedgerText.{ledger_text};
     ghost use Rattle.wire.specs.Device.{grown};
-    ghost use Rattle.part_commands.specs.Join.{lines_of};
+    ghost use Rattle.part_commands.specs.Join.{record_lines};
 
     /// The ledger's text, where it is known.
     ghost text: { Self → Option (List ℕ) };
@@ -24,7 +24,7 @@ pub trait Collector {
 
     /// Adds the lines of a part.
     fn add(&mut self, alloc: Global, part: &Board) -> Result<(), Ended>
-        ensures { OnOk result (text self.new ≡ grown (text self.old) (lines_of part.now.records)) };
+        ensures { OnOk result (text self.new ≡ grown (text self.old) (record_lines part.now.records)) };
 }
 
 /// There is no such ledger.
@@ -75,7 +75,7 @@ impl<L: LedgerOut> Collector for OneLedger<L> {
 // A board's ledger, and how long its header is.
 fn text_and_header(alloc: Global, board: &Board) -> Result<(Vec<u8>, usize), NoMemory>
     ensures within { IfOk result (λ made. made.1 ≤ length made.0.items) }
-    ensures lines { IfOk result (λ made. drop made.1 made.0.items ≡ lines_of board.now.records) }
+    ensures lines { IfOk result (λ made. drop made.1 made.0.items ≡ record_lines board.now.records) }
 {
     let mut text = Vec::new(alloc);
     append_header(board.root(), &mut text)?;

@@ -4,11 +4,11 @@ use Rattle.machine_text.specs.Text.{text_of}
 use Rattle.ledger.specs.LedgerText.{ledger_text}
 use Rattle.ledger.specs.Versions.{header_words}
 use Rattle.ledger.specs.declared.format.Format.TheVariants.{Two}
-use Rattle.part_commands.specs.Join.{lines_of}
+use Rattle.part_commands.specs.Join.{record_lines}
 use Rattle.part_commands.proofs.Joining.{behind_header}
 use Rattle.part_commands.proofs.collector.text_and_header.Goals as goal
 
-both : (c : goal.In_ok-write_ledger) → ((length c.as_slice-header.result.now) ≤ length c.write_ledger.new.out.items) × (drop (length c.as_slice-header.result.now) c.write_ledger.new.out.items ≡ lines_of c.args.board.now.records)
+both : (c : goal.In_ok-write_ledger) → ((length c.as_slice-header.result.now) ≤ length c.write_ledger.new.out.items) × (drop (length c.as_slice-header.result.now) c.write_ledger.new.out.items ≡ record_lines c.args.board.now.records)
 both c =
     let root = c.args.board.now.root in
     let header : c.append_header.new.out.items ≡ header_words Two ++ text_of root ++ (10 ∷ []) =

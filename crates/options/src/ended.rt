@@ -14,6 +14,8 @@ pub enum Ended {
     BadHeader,
     /// A ledger's root doesn't name its states in order, or is another than is asked for.
     WrongRoot,
+    /// A table that would be decided in a trunk has a part already.
+    HasPart,
     /// A stream failed.
     Stream,
     /// A ledger that is written couldn't be opened, read, cut or appended to.
@@ -34,6 +36,7 @@ impl Ended {
         match self {
             Ended::BadHeader => b"refused 404\n",
             Ended::WrongRoot => b"refused 405\n",
+            Ended::HasPart => b"refused 407\n",
             Ended::Stream => b"refused 603\n",
             Ended::Ledger => b"refused 604\n",
             Ended::File => b"refused 605\n",
@@ -63,7 +66,7 @@ impl Ended {
         ensures { result ≡ outcome_of self }
     {
         match self {
-            Ended::BadHeader | Ended::WrongRoot => Outcome::Refused,
+            Ended::BadHeader | Ended::WrongRoot | Ended::HasPart => Outcome::Refused,
             Ended::Stream | Ended::Ledger | Ended::File | Ended::Locked => Outcome::Failed,
             Ended::NoMemory => Outcome::NoMemory,
         }

@@ -45,6 +45,13 @@ ONE = b"bb-ledger 1 ------\n------ H 1\n0RA--- T 0 1 R\n1RA--- U\n"
 FIRST = b"bb-ledger 1 ------_------\n------_------ H 1\n0RB---_------ H 2\n1RB---_------ U\n"
 SECOND = b"bb-ledger 1 ------_------\n------_------ H 1\n1RB---_------ H 2\n1RA---_------ T 0 1 R\n"
 
+TRUNK = b"bb-ledger 2 ------\n------ H 1 1\n"
+PARTS = {
+    "trunk.ledger": TRUNK,
+    "0RA---.ledger": b"bb-ledger 2 0RA---\n0RA--- T 0 1 R\n",
+    "1RA---.ledger": b"bb-ledger 2 1RA---\n1RA--- U\n",
+}
+
 # Each command: its words, its input, the files that lie there, and the ledger that it writes, if it writes one.
 COMMANDS = [
     (["check"], RECORDS, {}, None),
@@ -64,7 +71,17 @@ COMMANDS = [
     (["merge", "first", "second", "first"], b"", {"first": FIRST, "second": SECOND}, "first"),
     (["carry", "first", "out"], b"", {"first": FIRST}, "out"),
     (["carry", "first", "first"], b"", {"first": FIRST}, "first"),
+    (["split", "2", ".", "--filled", "1"], b"", {}, "trunk.ledger"),
+    (["split", "1", ".", "--filled", "2"], b"", {"trunk.ledger": TRUNK + b"0RA"}, "trunk.ledger"),
+    (["split", "1", ".", "--filled", "0"], b"", PARTS, "trunk.ledger"),
+    (["settle", "part"], b"", {"part": b"bb-ledger 2 0RB---_------\n0RB--"}, "part"),
+    (["join", "."], b"", PARTS, None),
+    (["join", ".", "--ledger", "out"], b"", PARTS, "out"),
+    (["join", ".", "--json", "--ledger", "out"], b"", {**PARTS, "out": ONE}, "out"),
 ]
+
+# What these print hangs on what was done before.
+SAY_WHAT_THEY_DID = ("coord", "settle")
 
 
 def laid(folder, files):
@@ -117,7 +134,7 @@ def wrong(command, folder, refusing, ample, ample_ledger):
             return f"left the ledger {left!r}", refused, False
         again, _ = run(words, given, folder)
         is_end = again.returncode == ample.returncode and read(folder, ledger) == ample_ledger
-        if not is_end or (words[0] != "coord" and again.stdout != ample.stdout):
+        if not is_end or (words[0] not in SAY_WHAT_THEY_DID and again.stdout != ample.stdout):
             return f"the same again: status {again.returncode}, {again.stdout[:300]!r}", refused, False
     return None, refused, same(ran, ample)
 

@@ -104,8 +104,9 @@ stand together. On a folder that is there already only what is missing is added.
 `trunk R parts P`: how many records the trunk has, and how many parts there are.
 
 Exit status: 0 trunk and parts are there; 1 the trunk was refused (`refused 404` no header with a readable table,
-`refused 405` another root); 2 a wrong command line; 3 out of memory (`refused memory`); 4 a file failed
-(`refused 604`), or a stream did (`refused 603`), or another process writes the trunk (`refused 606`).";
+`refused 405` another root), or a table with fewer than D filled entries has a part (`refused 407`); 2 a wrong
+command line; 3 out of memory (`refused memory`); 4 a file failed (`refused 604`), or a stream did (`refused 603`), or
+another process writes the trunk (`refused 606`).";
 
 pub(crate) const SETTLE: &str =
     "The first open table in the order of the texts is looked at, as by `bb decide`, and its record is appended, until
@@ -122,7 +123,8 @@ pub(crate) const JOIN: &str =
     "The report is that of one ledger with the records of the trunk and of all parts, byte for byte. A part that isn't
 there counts as an open table. What is wrong with a part is said on standard error behind its path, and its records
 count as far as they are kept: `missing`, `left LINE` as by `bb report`, `refused 404` no header with a readable table,
-`refused 406` its root is another table than its name says. With --ledger the one ledger is written too.
+`refused 405` its table doesn't name its states in order, `refused 406` its root is another table than its name says.
+With --ledger the one ledger is written too.
 
 Exit status: 0 the report says complete, and all was kept; 1 it doesn't, or a ledger was refused; 2 a wrong command
 line; 3 out of memory (`refused memory`); 4 a file couldn't be read (`refused 605`) or written (`refused 604`), or a

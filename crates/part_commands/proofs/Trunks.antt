@@ -90,13 +90,14 @@ if_tree has limit n text root (Ok l) first is h = (text, first, h.0, subst (λ (
 if_tree has limit n text root (Err e) first is h = tt
 
 -- what was loaded is grown
-pub grows_so : (Answers : Packed → Recorded → Type 0) (n limit : ℕ) → 1 ≤ n → n ≤ state_limit → (has : Option (List ℕ)) (size : ℕ) (before after : Option (List ℕ)) (loaded new : Contents) (left : Left) (bytes : ℕ)
+pub grows_so : (HasNoPart : Packed → Type 0) (Answers : Packed → Recorded → Type 0) (n limit : ℕ) → 1 ≤ n → n ≤ state_limit → (has : Option (List ℕ)) (size : ℕ) (before after : Option (List ℕ)) (loaded new : Contents) (left : Left) (bytes : ℕ)
     → ((text : List ℕ) × AreFirstBytes has size text × (bytes ≡ length text) × LoadGives (empty_table n) text (Ok (loaded, left)))
+    → ((t : Packed) → IsOpenBelow limit loaded t → HasNoPart t)
     → ((k : ℕ) × SettlesMany Answers (IsOpenBelow limit) k loaded (begun_trunk loaded.root bytes left before) new after)
     → ((t : Packed) → IsOpenOn new t → limit ≤ filled_count t)
     → (IfSome (begun_trunk loaded.root bytes left before) (IsLedgerOf loaded) → IfSome after (IsLedgerOf new))
-    → GrowsTrunk Answers n limit has size before new after
-grows_so Answers n limit some few has size before after loaded new left bytes (text, first, is, loads) (k, many) all step =
+    → GrowsTrunk HasNoPart Answers n limit has size before new after
+grows_so HasNoPart Answers n limit some few has size before after loaded new left bytes (text, first, is, loads) unsplit (k, many) all step =
     let begun : begun_trunk loaded.root bytes left before ≡ begun_trunk (empty_table n) (length text) left before =
     ap (λ (p : Packed). begun_trunk p bytes left before) loads.0 ∙ ap (λ (m : ℕ). begun_trunk (empty_table n) m left before) is in
     record {
@@ -105,6 +106,7 @@ grows_so Answers n limit some few has size before after loaded new left bytes (t
       loaded = loaded;
       left = left;
       loads = loads;
+      unsplit = unsplit;
       count = k;
       many = subst (λ (o : Option (List ℕ)). SettlesMany Answers (IsOpenBelow limit) k loaded o new after) begun many;
       none_below = all;

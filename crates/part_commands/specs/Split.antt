@@ -46,12 +46,14 @@ begun_trunk root bytes left text = grown (kept_part left text) (due_header root 
 
 -- the trunk of the tree of n states that a reader has in its first bytes is loaded, and settled until each open table has so
 -- many filled entries
-pub record GrowsTrunk (Answers : Packed → Recorded → Type 0) (n limit : ℕ) (has : Option (List ℕ)) (size : ℕ) (before : Option (List ℕ)) (new : Contents) (after : Option (List ℕ)) : Type 0 where
+pub record GrowsTrunk (HasNoPart : Packed → Type 0) (Answers : Packed → Recorded → Type 0) (n limit : ℕ) (has : Option (List ℕ)) (size : ℕ) (before : Option (List ℕ)) (new : Contents) (after : Option (List ℕ)) : Type 0 where
   pub text : List ℕ
   pub first : AreFirstBytes has size text
   pub loaded : Contents
   pub left : Left
   pub loads : LoadGives (empty_table n) text (Ok (loaded, left))
+  -- none of the tables to be settled had a part
+  pub unsplit : (t : Packed) → IsOpenBelow limit loaded t → HasNoPart t
   pub count : ℕ
   pub many : SettlesMany Answers (IsOpenBelow limit) count loaded (begun_trunk (empty_table n) (length text) left before) new after
   pub none_below : (t : Packed) → IsOpenOn new t → limit ≤ filled_count t

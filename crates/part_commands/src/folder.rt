@@ -19,12 +19,19 @@ pub(crate) const TRUNK: &str = "trunk";
 
 /// A folder of ledgers, one for each part of a tree.
 pub trait Folder {
-    ghost use Rattle.std.specs.Prelude.{◌≡◌, ◌∷◌, [], List, Option, OnOk};
+    ghost use Rattle.std.specs.Prelude.{◌≡◌, ◌∷◌, [], Bool, IfOk, List, Option, OnOk};
     ghost use Rattle.machine_text.specs.Packed.{Packed};
     ghost use Rattle.part_commands.specs.Split.{also_begun};
 
     /// The roots of the parts that were begun, in their order, where that is known.
     ghost begun: { Self → Option (List Packed) };
+
+    /// What may come of looking for the part of a root.
+    ghost sees: { Self → Packed → Bool → Type 0 };
+
+    /// Whether the ledger of the part of a root is there and holds something.
+    fn has(&self, root: &Table) -> Result<bool, Ended>
+        ensures { IfOk result (sees self.now root.now) };
 
     /// Makes sure that the ledger of the part of a root begins with its header.
     fn begin(&mut self, root: &Table) -> Result<(), Ended>
@@ -50,9 +57,16 @@ pub struct FolderAt<'a, H> {
 }
 
 impl<H: Host> Folder for FolderAt<'_, H> {
-    ghost use Rattle.std.specs.Prelude.{None};
+    ghost use Rattle.std.specs.Prelude.{None, ⊤};
 
     ghost begun = { λ folder. None };
+
+    ghost sees = { λ folder root there. ⊤ };
+
+    fn has(&self, root: &Table) -> Result<bool, Ended> {
+        let path = part_path(self.alloc, self.path, root)?;
+        Ok(bytes_at(self.host, &path)? > 0)
+    }
 
     fn begin(&mut self, root: &Table) -> Result<(), Ended> {
         let path = part_path(self.alloc, self.path, root)?;

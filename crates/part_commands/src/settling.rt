@@ -108,7 +108,7 @@ fn record_count(board: &Board) -> u64
 }
 
 // The open tables with fewer filled entries than so many, in the order of their texts.
-fn open_below(alloc: Global, board: &Board, limit: u64) -> Result<Vec<Table>, NoMemory>
+pub(crate) fn open_below(alloc: Global, board: &Board, limit: u64) -> Result<Vec<Table>, NoMemory>
     ensures { IfOk result (λ due. AreAll (IsOpenBelow limit board.now) due.items) }
 {
     below(alloc, board.open(), limit)

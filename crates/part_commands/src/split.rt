@@ -25,7 +25,7 @@ use text::append_number;
 /// it is written, and grown: its open tables with few filled entries are settled. Then a part is begun for each table
 /// that it leaves open: a ledger under the table's text, unless there is one with as many bytes as its header. It prints
 /// how many records the trunk has, and how many parts there are. What ends the command early is said on `faults`; it can be
-/// given again, and only adds what is missing.
+/// given again, and only adds what is missing. A table that has a part isn't settled in the trunk: that is `HasPart`.
 pub fn cmd_split<H: PartsHost, D: Decider, P: Tells, W: Write, E: Write>(
     alloc: Global,
     splitting: &Splitting<'_>,
@@ -79,24 +79,23 @@ fn split_at<H: PartsHost, D: Decider, P: Tells, W: Write>(
 {
     let held = opened(host, path);
     let mut ledger = LedgerAt::new(host, path);
+    let mut folder = FolderAt {
+        alloc,
+        host,
+        path: splitting.folder,
+    };
     let limit = u64::from(splitting.filled);
     match grow_trunk(
         alloc,
         splitting.states,
         held,
         limit,
+        &folder,
         decider,
         &mut ledger,
         progress,
     ) {
-        Ok(trunk) => {
-            let mut folder = FolderAt {
-                alloc,
-                host,
-                path: splitting.folder,
-            };
-            split_off(alloc, &trunk, &mut folder, answers)
-        }
+        Ok(trunk) => split_off(alloc, &trunk, &mut folder, answers),
         Err(ended) => Err(ended),
     }
 }

@@ -1,5 +1,5 @@
 // The trunk of a tree, which is begun or gone on with.
-ghost use Rattle.std.specs.Prelude.{◌≡◌, ◌≤◌, ◌^◌, ◌<◌, ℕ, List, [], Err, IfErr, IfOk, IfSome, MatchResult, Ok, OnOk, length};
+ghost use Rattle.std.specs.Prelude.{◌≡◌, ◌≤◌, ◌^◌, ◌<◌, ℕ, All, List, [], Err, IfErr, IfOk, IfSome, MatchResult, Ok, OnOk, false, length};
 ghost use Rattle.machine_text.specs.Limits.{state_limit};
 ghost use Rattle.machine_text.specs.Packed.{Packed, empty_table};
 ghost use Rattle.ledger.specs.Contents.{IsOpenOn};
@@ -10,8 +10,9 @@ ghost use Rattle.ledger_commands.specs.Retry.{AtSomeTime};
 ghost use Rattle.part_commands.specs.Settling.{IsOpenBelow, SettlesMany, filled_count};
 ghost use Rattle.part_commands.specs.Split.{GrowsTrunk, begun_trunk, due_header, kept_size};
 
+use crate::folder::Folder;
 use crate::settle::cut_off;
-use crate::settling::{append_line, settle_below};
+use crate::settling::{append_line, open_below, settle_below};
 use crate::tells::Tells;
 use cert::Decider;
 use ledger::{Board, Left, Loader, ReadStop, append_header};
@@ -26,25 +27,28 @@ use wire::LedgerOut;
 
 /// Grows the trunk of the tree of n states. Its ledger is cut to the bytes that are kept of it, and gains a header
 /// where none are; then the open tables that have fewer filled entries than so many are settled, as `settle_below`
-/// does. `held` reads what the ledger holds.
-pub fn grow_trunk<F: Read + Drop, L: LedgerOut, D: Decider, P: Tells>(
+/// does. `held` reads what the ledger holds. Where one of those that are open at first has a part in the folder, nothing is
+/// done, and that is `HasPart`.
+pub fn grow_trunk<F: Read + Drop, G: Folder, L: LedgerOut, D: Decider, P: Tells>(
     alloc: Global,
     n: u8,
     held: io::Result<Opened<F>>,
     limit: u64,
+    folder: &G,
     decider: &mut D,
     ledger: &mut L,
     progress: &mut P,
 ) -> Result<Board, Ended>
     requires { (1 ≤ n) × (n ≤ state_limit) }
     ensures grows { IfOk result (λ board. MatchResult held
-        (λ file. GrowsTrunk (AtSomeTime D D.answers) n limit (F.remaining file.reader) file.length (L.text ledger.old) board (L.text ledger.new))
+        (λ file. GrowsTrunk (λ t. G.sees folder.now t false) (AtSomeTime D D.answers) n limit (F.remaining file.reader) file.length (L.text ledger.old) board (L.text ledger.new))
         (λ fault. ⊥)) }
     ensures root { IfOk result (λ board. board.root ≡ empty_table n) }
     ensures all { IfOk result (λ board. (t : Packed) → IsOpenOn board t → limit ≤ filled_count t) }
 {
     match load_trunk(alloc, n, held) {
         Ok((mut board, left, bytes)) => {
+            refuse_parts(alloc, &board, limit, folder)?;
             match grow(
                 alloc, &mut board, &left, bytes, limit, decider, ledger, progress,
             ) {
@@ -101,6 +105,31 @@ fn finished(loader: Loader) -> Result<(Board, Left, u64), Ended>
         Ok((board, left)) => Ok((board, left, bytes)),
         Err(fault) => Err(by_load(fault)),
     }
+}
+
+// Refuses where the folder has a part of an open table that has fewer filled entries than so many.
+fn refuse_parts<G: Folder>(
+    alloc: Global,
+    board: &Board,
+    limit: u64,
+    folder: &G,
+) -> Result<(), Ended>
+    ensures { OnOk result ((t : Packed) → IsOpenBelow limit board.now t → G.sees folder.now t false) }
+{
+    let due = open_below(alloc, board, limit)?;
+    refuse_parts_of(&due, folder)
+}
+
+// Refuses where the folder has a part of one of these tables.
+fn refuse_parts_of<G: Folder>(tables: &[Table], folder: &G) -> Result<(), Ended>
+    ensures { OnOk result (All (λ t. G.sees folder.now t false) tables.now) }
+{
+    for t in tables {
+        if folder.has(t)? {
+            return Err(Ended::HasPart);
+        }
+    }
+    Ok(())
 }
 
 // Grows a trunk from the board of its ledger.

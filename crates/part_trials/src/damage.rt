@@ -1,0 +1,106 @@
+// Parts that are damaged: what is wrong is said with the part's path, or nothing is different.
+use crate::cabinet::{ALWAYS, Cabinet, part_paths, put, text_at};
+use crate::commands::{Ending, SEARCH, cabinet_of, join, settle, split};
+use crate::trees::{TWO_STATES, assert_bytes};
+use options::Outcome;
+use std::alloc::Global;
+use std::cell::{Cell, RefCell};
+use std::process::Abort;
+use std::test::Fail;
+
+// The tree of two states in four parts, all settled.
+fn settled(rt: &impl Abort, cabinet: &Cabinet<'_>) -> Result<Vec<String>, Fail> {
+    let begun = split(rt, cabinet, 2, 1, SEARCH);
+    assert_bytes(rt, &begun.answers, b"trunk 1 parts 4\n");
+    let paths = part_paths(cabinet.alloc, cabinet.sheets)?;
+    for path in &paths {
+        let ended = settle(rt, cabinet, path, SEARCH);
+        assert!(rt; ended.outcome == Outcome::Accepted);
+    }
+    Ok(paths)
+}
+
+// What is wrong is said behind the path of a part.
+fn is_named(ended: &Ending, path: &str) -> bool {
+    ended.outcome == Outcome::Refused
+        && ended.faults.starts_with(path.as_bytes())
+        && ended.faults.ends_with(b"\n")
+}
+
+// The text with one of its bits changed.
+fn with_changed_bit(alloc: Global, text: &[u8], bit: usize) -> Result<Vec<u8>, Fail> {
+    let mut changed = text.to_vec(alloc)?;
+    if let Some(byte) = changed.get_mut(bit / 8) {
+        *byte ^= 1 << (bit % 8);
+    }
+    Ok(changed)
+}
+
+// Each bit of a part is changed: that is named, or the report is the same.
+fn change_each_bit(rt: &impl Abort, cabinet: &Cabinet<'_>, path: &str) -> Result<(), Fail> {
+    let Some(text) = text_at(cabinet.alloc, cabinet.sheets, path)? else {
+        panic!(rt; "{path}: not there");
+    };
+    assert!(rt; text.len() < 100_000);
+    for bit in 0..8 * text.len() {
+        let changed = with_changed_bit(cabinet.alloc, &text, bit)?;
+        put(cabinet.alloc, cabinet.sheets, path, changed)?;
+        let ended = join(cabinet, None, false);
+        assert!(rt;
+            is_named(&ended, path) || ended.answers.as_slice() == TWO_STATES,
+            "{path}: bit {bit}"
+        );
+    }
+    Ok(put(cabinet.alloc, cabinet.sheets, path, text)?)
+}
+
+#[test]
+fn each_changed_bit_is_named(rt: HostRuntime) -> Result<(), Fail> {
+    let alloc = rt.alloc();
+    let sheets = RefCell::new(Vec::new(alloc));
+    let calls_left = Cell::new(ALWAYS);
+    let cabinet = cabinet_of(alloc, &sheets, &calls_left);
+    for path in settled(&rt, &cabinet)? {
+        change_each_bit(&rt, &cabinet, &path)?;
+    }
+    assert_bytes(&rt, &join(&cabinet, None, false).answers, TWO_STATES);
+    Ok(())
+}
+
+// A part is cut at each of its bytes: what is left of it counts, and the tree isn't complete.
+fn cut_each_byte(rt: &impl Abort, cabinet: &Cabinet<'_>, path: &str) -> Result<(), Fail> {
+    let Some(text) = text_at(cabinet.alloc, cabinet.sheets, path)? else {
+        panic!(rt; "{path}: not there");
+    };
+    for len in 0..text.len() {
+        let torn = text[..len].to_vec(cabinet.alloc)?;
+        put(cabinet.alloc, cabinet.sheets, path, torn)?;
+        let ended = join(cabinet, None, false);
+        let ends_a_line = text[..len].ends_with(b"\n");
+        assert!(rt;
+            ended.outcome == Outcome::Refused && is_named(&ended, path) != ends_a_line,
+            "{path}: {len}"
+        );
+        assert!(rt;
+            ended
+                .answers
+                .starts_with(b"root ------_------\nstatus working\n")
+        );
+    }
+    Ok(put(cabinet.alloc, cabinet.sheets, path, text)?)
+}
+
+#[test]
+fn each_torn_part_is_named(rt: HostRuntime) -> Result<(), Fail> {
+    let alloc = rt.alloc();
+    let sheets = RefCell::new(Vec::new(alloc));
+    let calls_left = Cell::new(ALWAYS);
+    let cabinet = cabinet_of(alloc, &sheets, &calls_left);
+    for path in settled(&rt, &cabinet)? {
+        cut_each_byte(&rt, &cabinet, &path)?;
+        // A torn part is gone on with.
+        let _ = settle(&rt, &cabinet, &path, SEARCH);
+    }
+    assert_bytes(&rt, &join(&cabinet, None, false).answers, TWO_STATES);
+    Ok(())
+}

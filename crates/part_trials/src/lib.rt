@@ -1,0 +1,17 @@
+//! Tests of trees in parts, over the commands as the program begins them and files in memory: a tree is split, its parts are
+//! settled in many orders, killed and damaged, and told of together. They stand in a crate without code of its own, as those
+//! in `command_trials`.
+#![tactic(auto)]
+
+#[cfg(test)]
+mod cabinet;
+#[cfg(test)]
+mod commands;
+#[cfg(test)]
+mod damage;
+#[cfg(test)]
+mod kills;
+#[cfg(test)]
+mod refusals;
+#[cfg(test)]
+mod trees;

@@ -1,5 +1,5 @@
 -- One ledger of a trunk and its parts: its lines are the trunk's, and then those of each part.
-use Rattle.std.proofs.Common.{◌≡◌, ◌≤◌, ℕ, List, [], ◌∷◌, ◌++◌, length, drop, Option, Some, None, inl, inr, refl, sym, ap, subst, ◌∙◌, append_assoc, length-append, arith}
+use Rattle.std.proofs.Common.{◌≡◌, ◌≤◌, ℕ, List, [], ◌∷◌, ◌++◌, length, drop, Option, Some, None, IfOk, Result, Ok, Err, inl, inr, refl, sym, ap, subst, ◌∙◌, append_assoc, length-append, arith}
 use Rattle.std.specs.Prelude.{map}
 use Rattle.std.proofs.lemmas.List.{map-append}
 use Rattle.text.specs.Lines.{joined}
@@ -10,12 +10,15 @@ use Rattle.ledger.specs.Contents.{Contents}
 use Rattle.ledger.specs.LedgerText.{ledger_text}
 use Rattle.ledger.specs.Versions.{header_words, ledger_line}
 use Rattle.ledger.specs.declared.format.Format.TheVariants.{Two}
+use Rattle.ledger.specs.declared.left.Left.{Left}
+use Rattle.options.specs.declared.ended.Ended.{Ended}
+use Rattle.options.specs.declared.outcome.Outcome.{Outcome}
 use Rattle.ledger.proofs.LinesTaken.{joined-append}
 use Rattle.wire.specs.Device.{grown}
 use Rattle.whole.specs.Parts.{joined_with}
 use Rattle.whole.specs.Whole.{Collected, IsWhole}
 use Rattle.whole.proofs.ManyParts.{joined_more}
-use Rattle.part_commands.specs.Join.{AddsPart, IsGathered, record_lines}
+use Rattle.part_commands.specs.Join.{AddsPart, IsGathered, TellsAll, TellsParts, record_lines}
 
 lines_both : (a b : List Recorded) → record_lines (a ++ b) ≡ record_lines a ++ record_lines b
 lines_both a b = ap joined (map-append (ledger_line Two) a b) ∙ joined-append (map (ledger_line Two) a) (map (ledger_line Two) b)
@@ -71,3 +74,17 @@ behind_header root rs n header text is len all =
       omega (arith, len, ap length whole, length-append header (record_lines rs)),
       ap (λ (l : List ℕ). drop n l) whole ∙ (ap (λ (k : ℕ). drop k (header ++ record_lines rs)) len ∙ drop_front header (record_lines rs)),
     )
+
+-- what is told of a whole that was gathered is told of the trunk and all its parts
+pub all_told : (IsText : Packed → List Recorded → Left → List ℕ → Type 0) (before after said new_said : Option (List ℕ)) (whole : Collected) (r : Result Outcome Ended)
+    → IsGathered before whole after → IfOk r (λ o. (parts : List Contents) → IsWhole whole parts → TellsParts IsText whole.trunk parts said new_said o)
+    → IfOk r (TellsAll IsText before after said new_said)
+all_told IsText before after said new_said whole (Ok o) (parts, is, writes) tells = record {
+  trunk = whole.trunk;
+  parts = parts;
+  is_board = is.trunk_is;
+  are_parts = is.are_parts;
+  tells = tells parts is;
+  writes = writes;
+}
+all_told IsText before after said new_said whole (Err e) gathered tells = tt

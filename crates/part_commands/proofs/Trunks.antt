@@ -1,12 +1,14 @@
 -- A trunk's ledger that is begun: what is kept of it, or a header alone, is the ledger of its board.
 use Rattle.std.proofs.Common.{◌≡◌, ℕ, zero, suc, ◌+◌, ◌≤◌, cond, List, [], ◌∷◌, ◌++◌, length, take, Option, Some, None, IfSome, IfOk, Result, Ok, Err, inl, inr, refl, sym, ap, ◌∙◌, subst, append-nil, length-append, arith}
 use Rattle.std.proofs.lemmas.Bool.{ne_eqb}
+use Rattle.std.proofs.lemmas.List.Elements.{All-contains}
 use Rattle.machine_text.specs.Limits.{state_limit}
 use Rattle.machine_text.specs.Packed.{Packed, empty_table}
 use Rattle.tree.proofs.EmptyTable.{empty_table_in_order, empty_is_table}
 use Rattle.cert.specs.Claim.{Recorded}
-use Rattle.std.specs.Prelude.{MatchResult}
+use Rattle.std.specs.Prelude.{All, MatchResult, OnOk}
 use Rattle.ledger.specs.Contents.{Contents, IsOpenOn}
+use Rattle.ledger.specs.Tally.{AreAll}
 use Rattle.text.specs.Lines.{joined}
 use Rattle.ledger.specs.Versions.{header_words}
 use Rattle.ledger.specs.declared.format.Format.{Format}
@@ -122,3 +124,8 @@ match_so (Err e) f h = h
 pub match_out : {T E : Type 0} {P : T → Type 0} {Q : Type 0} (r : Result T E) → ((x : T) → P x → Q) → MatchResult r P (λ _. ⊥) → Q
 match_out (Ok x) f h = f x h
 match_out (Err e) f h = absurd h
+
+-- where each of the tables that are due is seen so, each that is due is
+pub none_seen : {T E : Type 0} (IsSeen IsDue : Packed → Type 0) (due : List Packed) (r : Result T E) → AreAll IsDue due → OnOk r (All IsSeen due) → OnOk r ((t : Packed) → IsDue t → IsSeen t)
+none_seen IsSeen IsDue due (Ok x) all h = λ t is. All-contains IsSeen due t h ((all.exact t).1 is)
+none_seen IsSeen IsDue due (Err e) all h = tt

@@ -1,14 +1,6 @@
-use Rattle.part_commands.proofs.Settled.{if_ok}
+use Rattle.part_commands.proofs.Joining.{all_told}
 use Rattle.part_commands.proofs.join.join_parts.Goals as goal
 
 pub returns : goal.returns
-returns g c =
-    let gathered = c.in_ok-whole.ensures in
-    if_ok c.tell_whole.result (λ o tells. record {
-      trunk = c.in_ok-whole.whole.trunk;
-      parts = gathered.0;
-      is_board = gathered.1.trunk_is;
-      are_parts = gathered.1.are_parts;
-      tells = tells gathered.0 gathered.1;
-      writes = gathered.2;
-    }) c.tell_whole.ensures
+returns g c = all_told (g.P.ReportForm.is_text c.args.form.now) (g.C.Collector.text c.args.collector.now) (g.C.Collector.text c.in_ok-whole.new.collector) (g.W.Write.contents c.args.answers.now) (g.W.Write.contents c.tell_whole.new.answers)
+    c.in_ok-whole.whole c.tell_whole.result c.in_ok-whole.ensures c.tell_whole.ensures

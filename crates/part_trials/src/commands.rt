@@ -1,12 +1,13 @@
 // Commands as the program begins them, over a cabinet.
 ghost use Rattle.options.specs.Ranges.{AreWithinRanges};
 
-use crate::cabinet::{ALWAYS, Cabinet, Sheet};
+use crate::cabinet::{ALWAYS, Cabinet, Sheet, text_at};
 use dispatch::carry_out;
 use options::{Joining, Options, Outcome, Search, Settling, Splitting};
 use std::alloc::Global;
 use std::cell::{Cell, RefCell};
 use std::process::Abort;
+use std::test::Fail;
 
 /// What a command answers, what it says of faults, and how it ends.
 #[derive(Drop)]
@@ -147,4 +148,12 @@ pub fn report(cabinet: &Cabinet<'_>, file: &str, json: bool) -> Ending {
         why: false,
     };
     carried(cabinet.alloc, asked, cabinet)
+}
+
+/// What a file holds, which has to be there.
+pub fn held(rt: &impl Abort, cabinet: &Cabinet<'_>, path: &str) -> Result<Vec<u8>, Fail> {
+    match text_at(cabinet.alloc, cabinet.sheets, path)? {
+        Some(text) => Ok(text),
+        None => panic!(rt; "{path}: not there"),
+    }
 }

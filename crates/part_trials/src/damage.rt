@@ -1,17 +1,22 @@
 // Parts that are damaged: what is wrong is said with the part's path, or nothing is different.
-use crate::cabinet::{ALWAYS, Cabinet, part_paths, put, text_at};
-use crate::commands::{Ending, SEARCH, cabinet_of, join, settle, split};
-use crate::trees::{TWO_STATES, assert_bytes};
+use crate::cabinet::{ALWAYS, Cabinet, part_paths, put};
+use crate::commands::{Ending, SEARCH, cabinet_of, held, join, settle, split};
+use crate::trees::assert_bytes;
 use options::Outcome;
 use std::alloc::Global;
 use std::cell::{Cell, RefCell};
 use std::process::Abort;
 use std::test::Fail;
 
-// The tree of two states in four parts, all settled.
-fn settled(rt: &impl Abort, cabinet: &Cabinet<'_>) -> Result<Vec<String>, Fail> {
-    let begun = split(rt, cabinet, 2, 1, SEARCH);
-    assert_bytes(rt, &begun.answers, b"trunk 1 parts 4\n");
+// The tree of one state: S(1) = 1, and Σ(1) = 1 (Radó 1962).
+const ONE_STATE: &[u8] =
+    b"root ------\nstatus complete\nnodes 3\nhalting 1\nnever 2\nholdouts 0\nopen 0\n\
+best 1\nchampion ------\nones 1\nones_champion ------\n";
+
+// That tree in the parts of tables with so many filled entries, all settled. Gives their paths.
+fn settled(rt: &impl Abort, cabinet: &Cabinet<'_>, filled: u8) -> Result<Vec<String>, Fail> {
+    let begun = split(rt, cabinet, 1, filled, SEARCH);
+    assert!(rt; begun.outcome == Outcome::Accepted);
     let paths = part_paths(cabinet.alloc, cabinet.sheets)?;
     for path in &paths {
         let ended = settle(rt, cabinet, path, SEARCH);
@@ -38,16 +43,14 @@ fn with_changed_bit(alloc: Global, text: &[u8], bit: usize) -> Result<Vec<u8>, F
 
 // Each bit of a part is changed: that is named, or the report is the same.
 fn change_each_bit(rt: &impl Abort, cabinet: &Cabinet<'_>, path: &str) -> Result<(), Fail> {
-    let Some(text) = text_at(cabinet.alloc, cabinet.sheets, path)? else {
-        panic!(rt; "{path}: not there");
-    };
+    let text = held(rt, cabinet, path)?;
     assert!(rt; text.len() < 100_000);
     for bit in 0..8 * text.len() {
         let changed = with_changed_bit(cabinet.alloc, &text, bit)?;
         put(cabinet.alloc, cabinet.sheets, path, changed)?;
         let ended = join(cabinet, None, false);
         assert!(rt;
-            is_named(&ended, path) || ended.answers.as_slice() == TWO_STATES,
+            is_named(&ended, path) || ended.answers.as_slice() == ONE_STATE,
             "{path}: bit {bit}"
         );
     }
@@ -56,22 +59,24 @@ fn change_each_bit(rt: &impl Abort, cabinet: &Cabinet<'_>, path: &str) -> Result
 
 #[test]
 fn each_changed_bit_is_named(rt: HostRuntime) -> Result<(), Fail> {
-    let alloc = rt.alloc();
+    changed_bits_are_named(&rt, rt.alloc(), 0)?;
+    changed_bits_are_named(&rt, rt.alloc(), 1)
+}
+
+fn changed_bits_are_named(rt: &impl Abort, alloc: Global, filled: u8) -> Result<(), Fail> {
     let sheets = RefCell::new(Vec::new(alloc));
     let calls_left = Cell::new(ALWAYS);
     let cabinet = cabinet_of(alloc, &sheets, &calls_left);
-    for path in settled(&rt, &cabinet)? {
-        change_each_bit(&rt, &cabinet, &path)?;
+    for path in settled(rt, &cabinet, filled)? {
+        change_each_bit(rt, &cabinet, &path)?;
     }
-    assert_bytes(&rt, &join(&cabinet, None, false).answers, TWO_STATES);
+    assert_bytes(rt, &join(&cabinet, None, false).answers, ONE_STATE);
     Ok(())
 }
 
 // A part is cut at each of its bytes: what is left of it counts, and the tree isn't complete.
 fn cut_each_byte(rt: &impl Abort, cabinet: &Cabinet<'_>, path: &str) -> Result<(), Fail> {
-    let Some(text) = text_at(cabinet.alloc, cabinet.sheets, path)? else {
-        panic!(rt; "{path}: not there");
-    };
+    let text = held(rt, cabinet, path)?;
     for len in 0..text.len() {
         let torn = text[..len].to_vec(cabinet.alloc)?;
         put(cabinet.alloc, cabinet.sheets, path, torn)?;
@@ -81,26 +86,24 @@ fn cut_each_byte(rt: &impl Abort, cabinet: &Cabinet<'_>, path: &str) -> Result<(
             ended.outcome == Outcome::Refused && is_named(&ended, path) != ends_a_line,
             "{path}: {len}"
         );
-        assert!(rt;
-            ended
-                .answers
-                .starts_with(b"root ------_------\nstatus working\n")
-        );
+        assert!(rt; ended.answers.starts_with(b"root ------\nstatus working\n"));
     }
     Ok(put(cabinet.alloc, cabinet.sheets, path, text)?)
 }
 
 #[test]
 fn each_torn_part_is_named(rt: HostRuntime) -> Result<(), Fail> {
-    let alloc = rt.alloc();
+    torn_parts_are_named(&rt, rt.alloc(), 0)?;
+    torn_parts_are_named(&rt, rt.alloc(), 1)
+}
+
+fn torn_parts_are_named(rt: &impl Abort, alloc: Global, filled: u8) -> Result<(), Fail> {
     let sheets = RefCell::new(Vec::new(alloc));
     let calls_left = Cell::new(ALWAYS);
     let cabinet = cabinet_of(alloc, &sheets, &calls_left);
-    for path in settled(&rt, &cabinet)? {
-        cut_each_byte(&rt, &cabinet, &path)?;
-        // A torn part is gone on with.
-        let _ = settle(&rt, &cabinet, &path, SEARCH);
+    for path in settled(rt, &cabinet, filled)? {
+        cut_each_byte(rt, &cabinet, &path)?;
     }
-    assert_bytes(&rt, &join(&cabinet, None, false).answers, TWO_STATES);
+    assert_bytes(rt, &join(&cabinet, None, false).answers, ONE_STATE);
     Ok(())
 }

@@ -1,6 +1,6 @@
 // Commands that end in each of the calls by which they write, half of which is done, and are given again.
-use crate::cabinet::{ALWAYS, Cabinet, Sheet, TRUNK, put, text_at};
-use crate::commands::{SEARCH, cabinet_of, join, settle, split};
+use crate::cabinet::{ALWAYS, Sheet, TRUNK, put};
+use crate::commands::{SEARCH, cabinet_of, held, join, settle, split};
 use crate::trees::{TWO_STATES, assert_bytes};
 use options::Outcome;
 use std::alloc::Global;
@@ -47,19 +47,11 @@ fn settle_in(
     let cabinet = cabinet_of(alloc, sheets, &calls_left);
     let ended = settle(rt, &cabinet, PART, SEARCH);
     let is_enough = ended.outcome == Outcome::Accepted;
-    assert!(rt; is_enough || ended.faults.as_slice() == b"refused 604\n");
+    assert!(rt; is_enough || ended.faults.as_slice() == b"refused 604\n".as_slice());
     calls_left.set(ALWAYS);
     let ended = settle(rt, &cabinet, PART, SEARCH);
     assert!(rt; ended.outcome == Outcome::Accepted);
     Ok(is_enough)
-}
-
-// What a file must hold.
-fn held(rt: &impl Abort, cabinet: &Cabinet<'_>, path: &str) -> Result<Vec<u8>, Fail> {
-    match text_at(cabinet.alloc, cabinet.sheets, path)? {
-        Some(text) => Ok(text),
-        None => panic!(rt; "{path}: not there"),
-    }
 }
 
 // However a split ends early, the one that is given again makes the trunk that it would have made.

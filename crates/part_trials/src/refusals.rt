@@ -1,6 +1,6 @@
 // What is refused of trees in parts, and by which number.
-use crate::cabinet::{ALWAYS, Cabinet, TRUNK, put, take_away, text_at};
-use crate::commands::{Ending, SEARCH, cabinet_of, join, report, settle, split};
+use crate::cabinet::{ALWAYS, TRUNK, put, take_away};
+use crate::commands::{Ending, SEARCH, cabinet_of, held, join, report, settle, split};
 use crate::trees::{TWO_STATES, assert_bytes};
 use options::Outcome;
 use std::cell::{Cell, RefCell};
@@ -88,20 +88,15 @@ fn a_locked_ledger_is_left_alone(rt: HostRuntime) -> Result<(), Fail> {
     let torn = b"bb-ledger 2 0RA---_------\n0RA---_";
     put(alloc, &sheets, PART, torn.to_vec(alloc)?)?;
     put(alloc, &sheets, TRUNK, b"bb-led".to_vec(alloc)?)?;
-    let locked = |path: &'static str| Cabinet {
-        alloc,
-        sheets: &sheets,
-        calls_left: &calls_left,
-        locked: path,
-    };
-    let ended = settle(&rt, &locked(PART), PART, SEARCH);
+    let mut cabinet = cabinet_of(alloc, &sheets, &calls_left);
+    cabinet.locked = PART;
+    let ended = settle(&rt, &cabinet, PART, SEARCH);
     assert_end(&rt, &ended, Outcome::Failed, b"", b"refused 606\n");
-    let ended = split(&rt, &locked(TRUNK), 2, 1, SEARCH);
+    cabinet.locked = TRUNK;
+    let ended = split(&rt, &cabinet, 2, 1, SEARCH);
     assert_end(&rt, &ended, Outcome::Failed, b"", b"refused 606\n");
-    for (path, text) in [(PART, torn.as_slice()), (TRUNK, b"bb-led")] {
-        let left = text_at(alloc, &sheets, path)?.unwrap_or_default();
-        assert_bytes(&rt, &left, text);
-    }
+    assert_bytes(&rt, &held(&rt, &cabinet, PART)?, torn);
+    assert_bytes(&rt, &held(&rt, &cabinet, TRUNK)?, b"bb-led");
     Ok(())
 }
 
@@ -125,7 +120,7 @@ fn a_tree_is_not_split_through_its_parts(rt: HostRuntime) -> Result<(), Fail> {
     ] {
         let ended = split(&rt, &cabinet, 2, filled, SEARCH);
         assert_end(&rt, &ended, outcome, answers, faults);
-        let trunk = text_at(alloc, &sheets, TRUNK)?.unwrap_or_default();
+        let trunk = held(&rt, &cabinet, TRUNK)?;
         assert_bytes(
             &rt,
             &trunk,

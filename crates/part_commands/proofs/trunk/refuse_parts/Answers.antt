@@ -1,7 +1,14 @@
-use Rattle.std.specs.Prelude.{false}
+use Rattle.std.proofs.Common.{rules, ◌≡◌, sym, subst}
+use Rattle.std.specs.Prelude.{List, false}
+use Rattle.machine_text.specs.Packed.{Packed}
+use Rattle.ledger.specs.Tally.{AreAll}
 use Rattle.part_commands.specs.Settling.{IsOpenBelow}
 use Rattle.part_commands.proofs.Trunks.{none_seen}
 use Rattle.part_commands.proofs.trunk.refuse_parts.Goals as goal
 
 pub returns : goal.returns
-returns g c = none_seen (λ t. g.G.Folder.sees c.args.folder.now t false) (IsOpenBelow c.args.limit c.args.board.now) c.in_ok-due.due.items c.refuse_parts_of.result c.in_ok-due.ensures c.refuse_parts_of.ensures
+returns g c =
+    let IsDue = IsOpenBelow c.args.limit c.args.board.now in
+    let is : c.deref.result.now ≡ c.in_ok-due.due.items = search rules in
+    let all = subst (λ (due : List Packed). AreAll IsDue due) (sym is) c.in_ok-due.ensures in
+    none_seen (λ t. g.G.Folder.sees c.args.folder.now t false) IsDue c.deref.result.now c.refuse_parts_of.result all c.refuse_parts_of.ensures

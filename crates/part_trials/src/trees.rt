@@ -19,13 +19,6 @@ pub const TWO_STATES: &[u8] =
 open 0\nbest 6\nchampion 0RB---_1LA1RB\nchampion 1RB---_0LB1LA\nchampion 1RB---_1LB1LA\nchampion 1RB0LB_1LA---\n\
 champion 1RB1LB_1LA---\nones 4\nones_champion 1RB1LB_1LA---\n";
 
-// Of three: S(3) = 21, and Σ(3) = 6 (Lin and Radó 1965).
-const THREE_STATES: &[u8] =
-    b"root ------_------_------\nstatus complete\nnodes 5417\nhalting 1772\nnever 3645\n\
-holdouts 0\nopen 0\nbest 21\nchampion 1RB---_1LB0RC_1LC1LA\nones 6\nones_champion 1RB---_0RC1RB_1LC1LA\n\
-ones_champion 1RB1LC_1LA1RB_1LB---\nones_champion 1RB1LC_1RC---_1LA0LB\nones_champion 1RB1RA_1LC---_1RA1LB\n\
-ones_champion 1RB1RC_1LC---_1RA0LB\n";
-
 // What is told of the trunk and the parts is what is told of the one ledger that holds all their records. Gives it.
 fn told_as_one(rt: &impl Abort, cabinet: &Cabinet<'_>) -> Vec<u8> {
     for json in [true, false] {
@@ -123,13 +116,6 @@ fn each_state_of_the_parts_is_told_as_one(rt: HostRuntime) -> Result<(), Fail> {
         let told = told_in_parts(&rt, rt.alloc(), 2, filled, 7, SEARCH, true)?;
         assert_bytes(&rt, &told, TWO_STATES);
     }
-    Ok(())
-}
-
-#[test]
-fn three_states_in_parts_are_one_tree(rt: HostRuntime) -> Result<(), Fail> {
-    let told = told_in_parts(&rt, rt.alloc(), 3, 2, 7, SEARCH, false)?;
-    assert_bytes(&rt, &told, THREE_STATES);
     Ok(())
 }
 

@@ -11,7 +11,7 @@ mod restarts;
 
 use commands::restart_all;
 use dispatch::{System, carry_out};
-use options::{Carrying, Options, Search, Settling};
+use options::{Carrying, Joining, Options, Search, Settling, Splitting};
 use std::fs;
 use std::io::{self, Read, Write};
 use std::process::ExitCode;
@@ -71,6 +71,7 @@ fn main(rt: HostRuntime) -> io::Result<ExitCode> {
     println!(rt; "$ ./bb report --why examples/unfit.ledger")?;
     reported(&rt, "unfit.ledger", true)?;
     carrying(&rt)?;
+    in_parts(&rt)?;
     restart_all(&rt)?;
     Ok(ExitCode::SUCCESS)
 }
@@ -99,6 +100,51 @@ fn carrying(rt: &HostRuntime) -> io::Result<()> {
     println!(rt; "$ ./bb report {CARRIED}")?;
     reported(rt, CARRIED, false)?;
     fs::remove_file(rt, CARRIED)
+}
+
+// The folder of a tree in parts, and its ledgers: the trunk holds the root alone.
+const FOLDER: &str = "three";
+
+const TRUNK: &str = "three/trunk.ledger";
+
+const PARTS: [&str; 4] = [
+    "three/1RB---_------_------.ledger",
+    "three/0RA---_------_------.ledger",
+    "three/0RB---_------_------.ledger",
+    "three/1RA---_------_------.ledger",
+];
+
+// A tree that is split, its parts settled, and told of together.
+fn in_parts(rt: &HostRuntime) -> io::Result<()> {
+    println!(rt; "$ ./bb split 3 {FOLDER} --filled 1")?;
+    let split = Options::Split(Splitting {
+        states: 3,
+        folder: FOLDER,
+        filled: 1,
+        search: SEARCH,
+    });
+    carried_out(rt, split, &mut io::empty())?;
+    for file in PARTS {
+        println!(rt; "$ ./bb settle {file} --far 3")?;
+        let settle = Options::Settle {
+            file,
+            search: SETTLING.search,
+            progress: false,
+        };
+        carried_out(rt, settle, &mut io::empty())?;
+    }
+    println!(rt; "$ ./bb join {FOLDER}")?;
+    let join = Options::Join(Joining {
+        folder: FOLDER,
+        out: None,
+        json: false,
+    });
+    carried_out(rt, join, &mut io::empty())?;
+    for file in PARTS {
+        fs::remove_file(rt, file)?;
+    }
+    fs::remove_file(rt, TRUNK)?;
+    fs::remove_dir(rt, FOLDER)
 }
 
 fn reported(rt: &HostRuntime, file: &str, why: bool) -> io::Result<()> {

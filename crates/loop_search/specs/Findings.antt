@@ -1,5 +1,5 @@
 -- What one run shows of a table.
-use Rattle.std.specs.Prelude.{◌≤◌, ◌×◌}
+use Rattle.std.specs.Prelude.{◌≤◌}
 use Rattle.machine_text.specs.Packed.{Packed, entry_of}
 use Rattle.turing.specs.Cycle.{Cycle as IsCycle}
 use Rattle.turing.specs.Translated.{Translated as IsTranslated}

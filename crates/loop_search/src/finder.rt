@@ -1,5 +1,5 @@
 // The search of one run.
-ghost use Rattle.std.specs.Prelude.{◌≡◌, ◌×◌, IfOk, IfSome, IsTrue};
+ghost use Rattle.std.specs.Prelude.{◌≡◌, IfOk, IfSome, IsTrue};
 ghost use Rattle.turing.specs.Run.{start};
 ghost use Rattle.loop_search.specs.Findings.{IsShown};
 

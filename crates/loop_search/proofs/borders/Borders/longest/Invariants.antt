@@ -1,4 +1,3 @@
-use Rattle.std.proofs.Common.{ℕ}
 use Rattle.loop_search.proofs.borders.Borders.longest.Given as goal
 
 -- each turn falls back to a shorter border

@@ -1,10 +1,9 @@
 -- The parts of a page, put together.
-use Rattle.std.proofs.Common.{◌≡◌, ℕ, zero, suc, ◌+◌, ◌-◌, ◌*◌, ◌<◌, ◌≤◌, List, [], ◌∷◌, ◌++◌, decimal, flat_map, get_or, cond, Result, Ok, Err, OnOk, refl, sym, ap, ◌∙◌, arith}
+use Rattle.std.proofs.Common.{◌≡◌, ℕ, zero, suc, ◌+◌, ◌-◌, ◌*◌, ◌<◌, ◌≤◌, List, [], ◌++◌, decimal, flat_map, get_or, cond, Result, Ok, Err, OnOk, refl, ap, ◌∙◌, arith}
 use Rattle.std.specs.Result.{is_ok}
 use Rattle.std.specs.List.{range_with_len}
 use Rattle.std.specs.Vec.Iter.{into_iter_items}
 use Rattle.machine_text.specs.Limits.{state_limit}
-use Rattle.machine_text.specs.Packed.{Packed}
 use Rattle.cert.specs.Claim.{Recorded}
 use Rattle.ledger.specs.declared.left.Left.{Left}
 use Rattle.ledger_commands.specs.declared.told.Told.{Told}

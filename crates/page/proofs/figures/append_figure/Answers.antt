@@ -1,5 +1,5 @@
-use Rattle.std.proofs.Common.{ℕ, List, ◌++◌, ◌≡◌, ap, ◌∙◌}
-use Rattle.std.specs.Prelude.{codes, decimal}
+use Rattle.std.proofs.Common.{ℕ, List, ◌++◌}
+use Rattle.std.specs.Prelude.{codes}
 use Rattle.ledger_commands.proofs.Reports.{on_ok, one_more}
 use Rattle.page.proofs.PageLaws.{ended}
 use Rattle.page.specs.Figures.{caption_html, figure_html}

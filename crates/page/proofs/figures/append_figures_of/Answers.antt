@@ -1,6 +1,6 @@
 use Rattle.std.proofs.Common.{List, ℕ, ltb, sym, ap, ◌∙◌, subst}
 use Rattle.std.specs.Vec.Iter.{into_iter_items}
-use Rattle.page.specs.Figures.{IsPictureIf, figure_html}
+use Rattle.page.specs.Figures.{IsPictureIf}
 use Rattle.page.proofs.FigureLaws.{begun_none, begun_more, begun_all}
 use Rattle.page.proofs.figures.append_figures_of.Goals as goal
 

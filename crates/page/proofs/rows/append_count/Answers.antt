@@ -1,4 +1,4 @@
-use Rattle.std.proofs.Common.{ℕ, List, ◌++◌, ◌≡◌, ap, ◌∙◌}
+use Rattle.std.proofs.Common.{ℕ, List, ◌++◌}
 use Rattle.std.specs.Prelude.{codes, decimal}
 use Rattle.ledger_commands.proofs.Reports.{on_ok, one_more}
 use Rattle.page.proofs.PageLaws.{ended}

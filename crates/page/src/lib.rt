@@ -13,7 +13,6 @@ mod figures;
 mod laws;
 mod making;
 mod page;
-mod passing;
 mod rows;
 mod style;
 mod summary;

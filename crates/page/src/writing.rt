@@ -8,10 +8,10 @@ ghost use Rattle.page.specs.inside.{bytes_of_page};
 
 use crate::entries::entry_count;
 use crate::making::MadePage;
-use crate::passing::pass;
 use crate::style::ENDING;
 use itoa::Buffer;
 use ledger::Holdouts;
+use ledger_commands::pass;
 use machine_text::{TEXT_BYTES, Table};
 use std::io::{self, Write};
 

@@ -38,7 +38,7 @@ pub record IsWindow (visited v : View) : Type 0 where
   pub width : v.width ≡ min visited.width column_limit
 
 -- a picture of a table's run up to its halting: the configurations at these times, in these cells
-pub record IsPicture (t : Packed) (best : ℕ) (svg : List ℕ) : Type 0 where
+pub record IsChampionPicture (t : Packed) (best : ℕ) (svg : List ℕ) : Type 0 where
   pub visited : View
   pub view : View
   pub rows : List Shown
@@ -49,7 +49,7 @@ pub record IsPicture (t : Packed) (best : ℕ) (svg : List ℕ) : Type 0 where
 
 -- a picture where there is to be one
 abbrev pub IsPictureIf : Bool → Packed → ℕ → List ℕ → Type 0
-IsPictureIf true t best svg = IsPicture t best svg
+IsPictureIf true t best svg = IsChampionPicture t best svg
 IsPictureIf false t best svg = svg ≡ []
 
 abbrev pub caption_html : Packed → ℕ → List ℕ

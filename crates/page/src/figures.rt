@@ -2,7 +2,7 @@
 ghost use Rattle.std.specs.Prelude.{◌≡◌, ℕ, ◌++◌, List, IfOk, OnOk};
 ghost use Rattle.std.specs.Vec.Iter.{into_iter_items};
 ghost use Rattle.picture.specs.Times.{AreWithinRuns};
-ghost use Rattle.page.specs.Figures.{AreFigures, AreFiguresOf, IsPicture, IsPictureIf, IsWindow, caption_html, figure_html, picture_limit, picture_times};
+ghost use Rattle.page.specs.Figures.{AreFigures, AreFiguresOf, IsChampionPicture, IsPictureIf, IsWindow, caption_html, figure_html, picture_limit, picture_times};
 
 use evidence::NoMemory;
 use ledger::Champions;
@@ -92,7 +92,7 @@ fn picture_if(alloc: Global, wanted: bool, t: Table, best: u64) -> Result<Vec<u8
 
 // The picture of a table's run up to its halting, which is recorded to come with so many steps.
 fn picture_of(alloc: Global, t: Table, best: u64) -> Result<Vec<u8>, NoMemory>
-    ensures { IfOk result (λ svg. IsPicture t best svg.items) }
+    ensures { IfOk result (λ svg. IsChampionPicture t best svg.items) }
 {
     let times = picture_times(best);
     let visited = placement(alloc, t, times)?;

@@ -117,7 +117,11 @@ class Slurm:
     def stop(self):
         for path in self.pids:
             with open(path, encoding="ascii") as file:
-                os.kill(int(file.read()), signal.SIGTERM)
+                pid = int(file.read())
+            os.kill(pid, signal.SIGTERM)
+            # it still writes into its folder until it has ended
+            while os.path.exists(f"/proc/{pid}"):
+                time.sleep(0.1)
 
 
 def settled(engine, folder, rng):

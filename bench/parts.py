@@ -117,7 +117,11 @@ class Slurm:
     def stop(self):
         for path in self.pids:
             with open(path, encoding="ascii") as file:
-                os.kill(int(file.read()), signal.SIGTERM)
+                pid = int(file.read())
+            os.kill(pid, signal.SIGTERM)
+            # it still writes into its folder until it has ended
+            while os.path.exists(f"/proc/{pid}"):
+                time.sleep(0.1)
 
 
 def settled(engine, folder, rng):
@@ -135,12 +139,30 @@ def settled(engine, folder, rng):
     return bb("join", folder)
 
 
+def second_settle(folder):
+    """How a second bb settle of a part ends while a first one works on it."""
+    bb("split", STATES, folder, "--filled", "0")
+    (part,) = (path for path in glob.glob(os.path.join(folder, "*.ledger")) if not path.endswith("trunk.ledger"))
+    first = subprocess.Popen([PROGRAM, "settle", part, "--hard"], stdout=subprocess.DEVNULL)
+    while os.path.getsize(part) < 100_000:
+        time.sleep(0.01)
+    second = subprocess.run([PROGRAM, "settle", part, "--hard"], capture_output=True, check=False)
+    first.kill()
+    first.wait()
+    shutil.rmtree(folder)
+    return second.returncode, second.stdout, second.stderr
+
+
 def main():
     rng = random.Random(int(sys.argv[1]) if len(sys.argv) > 1 else 1)
     install("parallel", "parallel")
     install("slurmctld", "slurm-wlm")
     whole = bb("run", STATES, "--hard")
     with tempfile.TemporaryDirectory() as folder:
+        second = second_settle(os.path.join(folder, "parts"))
+        print(f"a second bb settle: status {second[0]}, {second[2].decode().strip()}")
+        if second != (4, b"", b"refused 606\n"):
+            return 1
         slurm = Slurm(folder)
         try:
             for engine in (Parallel(), slurm):

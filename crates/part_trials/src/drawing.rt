@@ -29,12 +29,16 @@ const ROWS: &[u8] = b"<path d=''/><path class='s0' d='M2 0h1'/>\n\
 </g>\n</svg>\n";
 
 // A picture of a table that is so wide and so high, with these rows.
-fn is_picture(rt: &impl Abort, text: &[u8], size: &[u8], rows: &[u8]) {
+fn is_picture(rt: &impl Abort, text: &[u8], size: &str, rows: &[u8]) {
     assert!(rt; text.starts_with(b"<svg xmlns='http://www.w3.org/2000/svg' "));
-    let Some((first, _)) = text.split_once(|byte| *byte == b'\n') else {
-        panic!(rt; "a picture of one line");
+    let first = match str::from_utf8(text) {
+        Ok(text) => text.split_once('\n'),
+        Err(_) => None,
     };
-    assert!(rt; first.ends_with(size));
+    match first {
+        Some((first, _)) => assert!(rt; first.ends_with(size), "{first}"),
+        None => panic!(rt; "a picture of one line"),
+    }
     assert!(rt; text.ends_with(rows));
 }
 
@@ -47,7 +51,7 @@ fn a_run_is_drawn_row_by_row(rt: HostRuntime) {
     for input in ["1RB1LB_1LA---\n", "1RB1LB_1LA--- H 6 4\n", CHAMPION] {
         let ended = draw(&cabinet, WHOLE, input);
         assert!(rt; ended.outcome == Outcome::Accepted && ended.faults.is_empty());
-        is_picture(&rt, &ended.answers, b" 0 0 4 7'>", ROWS);
+        is_picture(&rt, &ended.answers, "'0 0 4 7'>", ROWS);
     }
 }
 
@@ -67,7 +71,7 @@ fn a_part_of_a_run_is_drawn(rt: HostRuntime) {
     let ended = draw(&cabinet, part, CHAMPION);
     let rows =
         b"<path d='M0 0h1'/>\n<path d='M0 1h1'/><path class='halt' transform='translate(0 1)' d='M0 1h1'/>\n</g>\n</svg>\n";
-    is_picture(&rt, &ended.answers, b" 0 0 1 3'>", rows);
+    is_picture(&rt, &ended.answers, "'0 0 1 3'>", rows);
 }
 
 // Without a folder one picture is drawn, and what else is read is refused beside it; nothing is drawn of nothing.
@@ -78,7 +82,7 @@ fn one_picture_is_drawn(rt: HostRuntime) {
     let calls_left = Cell::new(ALWAYS);
     let cabinet = cabinet_of(alloc, &sheets, &calls_left);
     let ended = draw(&cabinet, WHOLE, "\n1RB1LB_1LA---\n------\nx\n");
-    is_picture(&rt, &ended.answers, b" 0 0 4 7'>", ROWS);
+    is_picture(&rt, &ended.answers, "'0 0 4 7'>", ROWS);
     assert_bytes(
         &rt,
         &ended.faults,
@@ -113,13 +117,13 @@ fn each_table_has_a_file(rt: HostRuntime) -> Result<(), Fail> {
     );
     assert!(rt; ended.outcome == Outcome::Refused && ended.faults.is_empty());
     let picture = held(&rt, &cabinet, "pictures/1RB1LB_1LA---.svg")?;
-    is_picture(&rt, &picture, b" 0 0 4 7'>", ROWS);
+    is_picture(&rt, &picture, "'0 0 4 7'>", ROWS);
     assert!(rt; text_at(alloc, &sheets, "pictures/1RB1LB_1LA---.svg.new")?.is_none());
     let alone = held(&rt, &cabinet, "pictures/------.svg")?;
     is_picture(
         &rt,
         &alone,
-        b" 0 0 1 2'>",
+        "'0 0 1 2'>",
         b"<path d=''/><path class='s0' d='M0 0h1'/><path class='halt' transform='translate(0 1)' d='M0 0h1'/>\n</g>\n</svg>\n",
     );
     Ok(())

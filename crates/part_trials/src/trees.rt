@@ -40,10 +40,13 @@ fn order(alloc: Global, count: usize, number: usize) -> Result<Vec<usize>, NoMem
     }
     let mut places = Vec::new(alloc);
     let mut code = number;
-    'places: while !rest.is_empty() {
-        let place = code % rest.len();
-        code /= rest.len();
-        places.push(rest.remove(place))?;
+    for taken in 0..count {
+        let left = count - taken;
+        let place = code % left;
+        code /= left;
+        if place < rest.len() {
+            places.push(rest.remove(place))?;
+        }
     }
     Ok(places)
 }

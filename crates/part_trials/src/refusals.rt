@@ -130,63 +130,39 @@ fn a_tree_is_not_split_through_its_parts(rt: HostRuntime) -> Result<(), Fail> {
     Ok(())
 }
 
-// A file that isn't there, one that is no ledger, and a trunk of another tree.
+// A ledger that isn't there, and one that is none.
 #[test]
-fn files_that_are_no_trees_are_refused(rt: HostRuntime) -> Result<(), Fail> {
+fn files_that_are_no_ledgers_are_refused(rt: HostRuntime) -> Result<(), Fail> {
     let alloc = rt.alloc();
     let sheets = RefCell::new(Vec::new(alloc));
     let calls_left = Cell::new(ALWAYS);
     let cabinet = cabinet_of(alloc, &sheets, &calls_left);
-    assert_end(
-        &rt,
-        &join(&cabinet, None, false),
-        Outcome::Failed,
-        b"",
-        b"refused 605\n",
-    );
-    assert_end(
-        &rt,
-        &settle(&rt, &cabinet, PART, SEARCH),
-        Outcome::Failed,
-        b"",
-        b"refused 604\n",
-    );
+    let joined = join(&cabinet, None, false);
+    assert_end(&rt, &joined, Outcome::Failed, b"", b"refused 605\n");
+    let settled = settle(&rt, &cabinet, PART, SEARCH);
+    assert_end(&rt, &settled, Outcome::Failed, b"", b"refused 604\n");
     put(alloc, &sheets, PART, b"hello\n".to_vec(alloc)?)?;
-    assert_end(
-        &rt,
-        &settle(&rt, &cabinet, PART, SEARCH),
-        Outcome::Refused,
-        b"",
-        b"refused 404\n",
-    );
+    let settled = settle(&rt, &cabinet, PART, SEARCH);
+    assert_end(&rt, &settled, Outcome::Refused, b"", b"refused 404\n");
+    Ok(())
+}
+
+// A trunk that is no ledger, and one of another tree.
+#[test]
+fn trunks_of_no_such_tree_are_refused(rt: HostRuntime) -> Result<(), Fail> {
+    let alloc = rt.alloc();
+    let sheets = RefCell::new(Vec::new(alloc));
+    let calls_left = Cell::new(ALWAYS);
+    let cabinet = cabinet_of(alloc, &sheets, &calls_left);
     put(alloc, &sheets, TRUNK, b"hello\n".to_vec(alloc)?)?;
-    assert_end(
-        &rt,
-        &join(&cabinet, None, false),
-        Outcome::Refused,
-        b"",
-        b"refused 404\n",
-    );
-    assert_end(
-        &rt,
-        &split(&rt, &cabinet, 2, 1, SEARCH),
-        Outcome::Refused,
-        b"",
-        b"refused 404\n",
-    );
-    put(
-        alloc,
-        &sheets,
-        TRUNK,
-        b"bb-ledger 2 ------\n".to_vec(alloc)?,
-    )?;
-    assert_end(
-        &rt,
-        &split(&rt, &cabinet, 2, 1, SEARCH),
-        Outcome::Refused,
-        b"",
-        b"refused 405\n",
-    );
+    let joined = join(&cabinet, None, false);
+    assert_end(&rt, &joined, Outcome::Refused, b"", b"refused 404\n");
+    let begun = split(&rt, &cabinet, 2, 1, SEARCH);
+    assert_end(&rt, &begun, Outcome::Refused, b"", b"refused 404\n");
+    let of_one_state = b"bb-ledger 2 ------\n".to_vec(alloc)?;
+    put(alloc, &sheets, TRUNK, of_one_state)?;
+    let begun = split(&rt, &cabinet, 2, 1, SEARCH);
+    assert_end(&rt, &begun, Outcome::Refused, b"", b"refused 405\n");
     Ok(())
 }
 

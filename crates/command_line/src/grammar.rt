@@ -1,11 +1,11 @@
 // The commands with their arguments and options, by clap's builder.
 use crate::help::{
-    CARRY, COORD, DECIDE, JOIN, LOOP, MERGE, RECORDS, REPORT, RETRY, RUN, SETTLE, SPLIT, STATUSES,
-    VERSION,
+    CARRY, COORD, DECIDE, DRAW, JOIN, LOOP, MERGE, PAGE, RECORDS, REPORT, RETRY, RUN, SETTLE,
+    SPLIT, STATUSES, VERSION,
 };
 use crate::words::{
-    DEPTH, ERA, FAR, FILE, FILLED, FIRST, FOLDER, GRAM, HARD, IN, JSON, LEDGER, LOSE, OUT,
-    PROGRESS, ROUNDS, SECOND, STATES, STEPS, WHY, WORKERS,
+    DEPTH, ERA, FAR, FILE, FILLED, FIRST, FOLDER, FROM, GRAM, HARD, IN, JSON, LEDGER, LOSE, OUT,
+    PICTURES, PROGRESS, ROUNDS, ROWS, SECOND, STATES, STEPS, WHY, WIDTH, WORKERS,
 };
 use clap::{Arg, ArgAction, Command, value_parser};
 use options::NoMemory;
@@ -24,6 +24,8 @@ pub(crate) fn program<'a>(alloc: Global) -> Result<Command<'a>, NoMemory> {
     let program = with(program, split_command(alloc))?;
     let program = with(program, settle_command(alloc))?;
     let program = with(program, join_command(alloc))?;
+    let program = with(program, draw_command(alloc))?;
+    let program = with(program, page_command(alloc))?;
     with(program, report_command(alloc))
 }
 
@@ -207,6 +209,32 @@ fn join_command<'a>(alloc: Global) -> Result<Command<'a>, NoMemory> {
                 .value_name("OUT")
                 .help("Write the one ledger too"),
         )
+}
+
+fn draw_command<'a>(alloc: Global) -> Result<Command<'a>, NoMemory> {
+    let steps = "Draw so many steps from there on (default one less than --rows)";
+    let width =
+        "Draw so many cells, the first head in the middle; with 0 those that the head visits";
+    Command::new(alloc, "draw")
+        .about("Reads a table or a record a line on standard input, and draws its run as SVG.")
+        .after_help(DRAW)
+        .arg(number_arg(alloc, FROM, "T", 0, 100_000_000, "Begin at this time").default_value("0"))?
+        .arg(number_arg(alloc, STEPS, "K", 0, 100_000_000, steps))?
+        .arg(number_arg(alloc, ROWS, "R", 1, 10_000, "The most rows").default_value("500"))?
+        .arg(number_arg(alloc, WIDTH, "W", 0, 1_000_000, width).default_value("0"))?
+        .arg(
+            Arg::new(alloc, PICTURES)
+                .long(PICTURES)
+                .value_name("DIR")
+                .help("Make a file of each picture, DIR/TABLE.svg"),
+        )
+}
+
+fn page_command<'a>(alloc: Global) -> Result<Command<'a>, NoMemory> {
+    Command::new(alloc, "page")
+        .about("Prints the report of a ledger as one HTML page, with pictures.")
+        .after_help(PAGE)
+        .arg(file_arg(alloc, FILE, "The ledger file, or `-` for standard input"))
 }
 
 fn report_command<'a>(alloc: Global) -> Result<Command<'a>, NoMemory> {

@@ -96,6 +96,28 @@ table, `refused 405` its table doesn't name its states in order); 2 a wrong comm
 (`refused memory`); 4 a file couldn't be read (`refused 605`) or written (`refused 604`), or a stream failed
 (`refused 603`).";
 
+pub(crate) const DRAW: &str =
+    "Time goes downwards, a row for each time, cells to the right; ones are dark, the head has the colour of its state, and
+a bar beneath the last row says that the machine halts with its next step. Where there are more steps than rows, only
+every so many-th is drawn. The whole first picture goes to standard output, and a table after the first is refused
+(`refused 306`); with --out each table has a file, and its line the answer `TABLE drawn`.
+
+  echo 1RB1LB_1LA--- | bb draw > champion.svg
+  bb draw --out pictures < tables.txt
+
+Exit status: 0 each line was a table or a record, and one at most without --out; 1 a line was refused; 2 a wrong command
+line; 3 out of memory (`refused memory`); 4 a stream failed (`refused 603`), or a picture couldn't be written
+(`refused 605`).";
+
+pub(crate) const PAGE: &str =
+    "The page needs no server and loads nothing: how the tree stands, how many records there are of each kind and by how
+many entries are filled, the champions with pictures of their runs, and the holdouts, in a table that can be searched and
+sorted. The ledger is read as by `bb report`.
+
+  bb page four.ledger > four.html
+
+Exit status: as that of `bb report`.";
+
 pub(crate) const SPLIT: &str =
     "DIR/trunk.ledger is the trunk, a ledger from the root: it holds all tables with fewer than D filled entries. Each
 other table that is open then is the root of a part, DIR/TABLE.ledger, which begins with no record. Each part can be

@@ -5,11 +5,13 @@ ghost use Rattle.options.specs.Ranges.{AreWithinRanges, IsSettling, IsWithinRang
 use crate::grammar::program;
 use crate::line_fault::LineFault;
 use crate::words::{
-    DEPTH, ERA, FAR, FILE, FILLED, FIRST, FOLDER, GRAM, HARD, IN, JSON, LEDGER, LOSE, OUT,
-    PROGRESS, ROUNDS, SECOND, STATES, STEPS, WHY, WORKERS,
+    DEPTH, ERA, FAR, FILE, FILLED, FIRST, FOLDER, FROM, GRAM, HARD, IN, JSON, LEDGER, LOSE, OUT,
+    PICTURES, PROGRESS, ROUNDS, ROWS, SECOND, STATES, STEPS, WHY, WIDTH, WORKERS,
 };
 use clap::ArgMatches;
-use options::{Beginning, Carrying, Joining, Merging, Options, Search, Settling, Splitting};
+use options::{
+    Beginning, Carrying, Drawing, Joining, Merging, Options, Search, Settling, Splitting,
+};
 use std::alloc::Global;
 
 /// What the words of a command line ask for, the program's name first. Where there are options, each number
@@ -30,6 +32,8 @@ pub fn options<'a>(alloc: Global, words: &'a [&'a str]) -> Result<Options<'a>, L
         Some(("split", split)) => split_options(split),
         Some(("settle", settle)) => settle_options(settle),
         Some(("join", join)) => Ok(join_options(join)),
+        Some(("draw", draw)) => draw_options(draw),
+        Some(("page", page)) => Ok(page_options(page)),
         Some(("report", report)) => Ok(report_options(report)),
         _ => Err(LineFault::NoSuchCommand),
     }
@@ -178,6 +182,26 @@ fn join_options<'a>(join: &ArgMatches<'a>) -> Options<'a>
         out: join.get_str(LEDGER),
         json: join.get_flag(JSON),
     })
+}
+
+fn draw_options<'a>(draw: &ArgMatches<'a>) -> Result<Options<'a>, LineFault>
+    ensures { IfOk result AreWithinRanges }
+{
+    Ok(Options::Draw(Drawing {
+        from: number_of(draw, FROM, 0, 100_000_000)?,
+        steps: number_if_given(draw, STEPS, 0, 100_000_000)?,
+        rows: number_of(draw, ROWS, 1, 10_000)?,
+        width: number_of(draw, WIDTH, 0, 1_000_000)?,
+        out: draw.get_str(PICTURES),
+    }))
+}
+
+fn page_options<'a>(page: &ArgMatches<'a>) -> Options<'a>
+    ensures { AreWithinRanges result }
+{
+    Options::Page {
+        file: page.get_str(FILE).unwrap_or_default(),
+    }
 }
 
 fn report_options<'a>(report: &ArgMatches<'a>) -> Options<'a>

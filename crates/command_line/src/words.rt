@@ -23,6 +23,14 @@ pub(crate) const ROUNDS: &str = "rounds";
 
 pub(crate) const PROGRESS: &str = "progress";
 
+pub(crate) const FROM: &str = "from";
+
+pub(crate) const ROWS: &str = "rows";
+
+pub(crate) const WIDTH: &str = "width";
+
+pub(crate) const PICTURES: &str = "out";
+
 pub(crate) const FILE: &str = "FILE";
 
 pub(crate) const FOLDER: &str = "DIR";

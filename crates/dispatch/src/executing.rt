@@ -2,7 +2,7 @@
 ghost use Rattle.options.specs.Ranges.{IsBeginning, IsSettling, AreWithinRanges};
 
 use crate::any_finder::{AnyFinder, all_finders};
-use crate::parts;
+use crate::{parts, pictures};
 use cert::{Decider, Finders};
 use evidence::NoMemory;
 use json_report::Form;
@@ -73,6 +73,14 @@ pub fn carry_out<H: PartsHost + Clock + Sockets, R: Read, W: Write, E: Write>(
         Options::Join(joining) => parts::join(alloc, &joining, host, answers, faults),
         Options::Merge(merging) => cmd_merge(alloc, merging, host, answers, faults),
         Options::Carry(carrying) => cmd_carry(alloc, carrying, host, answers, faults),
+        Options::Draw(drawing) => pictures::draw(alloc, &drawing, host, input, answers, faults),
+        Options::Page { file } => {
+            if file == STANDARD_INPUT {
+                pictures::page_of_stream(alloc, input, answers, faults)
+            } else {
+                pictures::page_of_file(alloc, file, host, answers, faults)
+            }
+        }
         Options::Report { file, json, why } => {
             let form = Form::of(json);
             if file == STANDARD_INPUT {

@@ -7,6 +7,7 @@ mod any_finder;
 mod executing;
 mod hard_finder;
 mod parts;
+mod pictures;
 mod stages;
 mod system;
 

@@ -36,7 +36,7 @@ pub use ledger_report::{
 pub use merge::{cmd_merge, join, join_into};
 pub use reading::{Opened, Stopped, load_from};
 pub use report_form::{AsLines, ReportForm, write_report, write_told};
-pub use report_writer::LineReport;
+pub use report_writer::{LineReport, pass};
 pub use retry::{cmd_retry, retry_holdouts};
 pub use rewriting::{made_beside, put_back};
 pub use source::LedgerSource;

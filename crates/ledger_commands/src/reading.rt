@@ -44,8 +44,8 @@ impl Stopped {
         }
     }
 
-    // What ends a command that reads the ledger from a stream.
-    pub(crate) fn by_stream(self) -> Ended {
+    /// What ends a command that reads the ledger from a stream.
+    pub fn by_stream(self) -> Ended {
         match self {
             Stopped::Failed(fault) => Ended::from(fault),
             Stopped::Ended(ended) => ended,

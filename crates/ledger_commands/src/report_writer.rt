@@ -117,9 +117,9 @@ fn pass_line<W: Write>(
     pass(b"\n", piece, answers)
 }
 
-// Passes bytes on: they come behind the piece, or, where it has no room for them, they are written behind it. The
-// piece never grows.
-fn pass<W: Write>(bytes: &[u8], piece: &mut Vec<u8>, answers: &mut W) -> io::Result<()>
+/// Passes bytes on to a writer by way of a piece in memory: they come behind the piece, or, where it has no room for them,
+/// it is written, and they behind it. The piece never grows.
+pub fn pass<W: Write>(bytes: &[u8], piece: &mut Vec<u8>, answers: &mut W) -> io::Result<()>
     ensures { OnOk result (Passes (W.contents answers.old) piece.old.items (W.contents answers.new) piece.new.items bytes.now) }
 {
     if bytes.len() > piece.capacity() - piece.len() {

@@ -90,7 +90,7 @@ fn append_ones(ones: Option<u64>, out: &mut Vec<u8>) -> Result<(), NoMemory>
 }
 
 /// Appends a fault of a record's text; of a table's text also its own fault, and where that is.
-pub(crate) fn append_fault(fault: RecordFault, out: &mut Vec<u8>) -> Result<(), NoMemory>
+pub fn append_fault(fault: RecordFault, out: &mut Vec<u8>) -> Result<(), NoMemory>
     ensures { OnOk result (out.new.items ≡ out.old.items ++ fault_text fault) }
 {
     append_named(b"refused ", u64::from(fault.number()), out)?;

@@ -8,6 +8,6 @@ mod check;
 mod decide;
 mod line_loop;
 
-pub use answers::answer;
+pub use answers::{answer, append_fault};
 pub use check::cmd_check;
 pub use decide::{cmd_decide, decide_line};

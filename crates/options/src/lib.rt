@@ -3,10 +3,12 @@
 //! `specs/Ranges` has the ranges of the options' numbers, `specs/Outcome` the exit statuses.
 #![tactic(auto)]
 
+mod drawing;
 mod ended;
 mod options;
 mod outcome;
 
+pub use drawing::Drawing;
 pub use ended::Ended;
 pub use options::{Beginning, Carrying, Joining, Merging, Options, Search, Settling, Splitting};
 pub use outcome::Outcome;

@@ -1,4 +1,5 @@
 // What a command line asks for.
+use crate::drawing::Drawing;
 
 /// What a command line asks for: a command, with its files and options under their names.
 #[derive(Clone, Copy, Debug, PartialEq, Eq)]
@@ -53,6 +54,13 @@ pub enum Options<'a> {
     },
     /// `bb join DIR [--json] [--ledger OUT]`
     Join(Joining<'a>),
+    /// `bb draw [--from T] [--steps K] [--rows R] [--width W] [--out DIR]`
+    Draw(Drawing<'a>),
+    /// `bb page FILE`
+    Page {
+        /// The ledger's path, or `-`: it is read from standard input.
+        file: &'a str,
+    },
     /// `bb report FILE [--json] [--why]`
     Report {
         /// The ledger's path, or `-`: it is read from standard input.

@@ -3,7 +3,7 @@ ghost use Rattle.options.specs.Ranges.{AreWithinRanges};
 
 use crate::cabinet::{ALWAYS, Cabinet, Sheet, text_at};
 use dispatch::carry_out;
-use options::{Joining, Options, Outcome, Search, Settling, Splitting};
+use options::{Drawing, Joining, Options, Outcome, Search, Settling, Splitting};
 use std::alloc::Global;
 use std::cell::{Cell, RefCell};
 use std::process::Abort;
@@ -44,10 +44,10 @@ pub fn cabinet_of<'a>(
 }
 
 // Does what is asked for.
-fn once(alloc: Global, asked: Options<'_>, cabinet: &Cabinet<'_>) -> Ending
+fn once(alloc: Global, asked: Options<'_>, input: &str, cabinet: &Cabinet<'_>) -> Ending
     requires { AreWithinRanges asked }
 {
-    let mut input: &[u8] = b"";
+    let mut input = input.as_bytes();
     let mut answers = Vec::new(alloc);
     let mut faults = Vec::new(alloc);
     let outcome = carry_out(alloc, asked, cabinet, &mut input, &mut answers, &mut faults);
@@ -58,16 +58,16 @@ fn once(alloc: Global, asked: Options<'_>, cabinet: &Cabinet<'_>) -> Ending
     }
 }
 
-// The same, and again where memory or a file failed: a command of parts may be given again.
-fn carried(alloc: Global, asked: Options<'_>, cabinet: &Cabinet<'_>) -> Ending
+// The same, and again where memory or a file failed: a command may be given again.
+fn carried(alloc: Global, asked: Options<'_>, input: &str, cabinet: &Cabinet<'_>) -> Ending
     requires { AreWithinRanges asked }
 {
-    let ended = once(alloc, asked, cabinet);
+    let ended = once(alloc, asked, input, cabinet);
     if cabinet.calls_left.get() < ALWAYS / 2 {
         return ended;
     }
     match ended.outcome {
-        Outcome::NoMemory | Outcome::Failed => once(alloc, asked, cabinet),
+        Outcome::NoMemory | Outcome::Failed => once(alloc, asked, input, cabinet),
         _ => ended,
     }
 }
@@ -97,7 +97,7 @@ pub fn run(rt: &impl Abort, cabinet: &Cabinet<'_>, states: u8, search: Search) -
         settling,
         ledger: None,
     };
-    carried(cabinet.alloc, asked, cabinet)
+    carried(cabinet.alloc, asked, "", cabinet)
 }
 
 /// `bb split`.
@@ -116,7 +116,7 @@ pub fn split(
         filled,
         search,
     });
-    carried(cabinet.alloc, asked, cabinet)
+    carried(cabinet.alloc, asked, "", cabinet)
 }
 
 /// `bb settle`.
@@ -127,7 +127,7 @@ pub fn settle(rt: &impl Abort, cabinet: &Cabinet<'_>, file: &str, search: Search
         search,
         progress: false,
     };
-    carried(cabinet.alloc, asked, cabinet)
+    carried(cabinet.alloc, asked, "", cabinet)
 }
 
 /// `bb join`.
@@ -137,7 +137,7 @@ pub fn join(cabinet: &Cabinet<'_>, out: Option<&str>, json: bool) -> Ending {
         out,
         json,
     });
-    carried(cabinet.alloc, asked, cabinet)
+    carried(cabinet.alloc, asked, "", cabinet)
 }
 
 /// `bb report`.
@@ -147,7 +147,17 @@ pub fn report(cabinet: &Cabinet<'_>, file: &str, json: bool) -> Ending {
         json,
         why: false,
     };
-    carried(cabinet.alloc, asked, cabinet)
+    carried(cabinet.alloc, asked, "", cabinet)
+}
+
+/// `bb draw`.
+pub fn draw(cabinet: &Cabinet<'_>, drawing: Drawing<'_>, input: &str) -> Ending {
+    carried(cabinet.alloc, Options::Draw(drawing), input, cabinet)
+}
+
+/// `bb page`.
+pub fn page(cabinet: &Cabinet<'_>, file: &str, input: &str) -> Ending {
+    carried(cabinet.alloc, Options::Page { file }, input, cabinet)
 }
 
 /// What a file holds, which has to be there.

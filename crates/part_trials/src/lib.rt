@@ -10,7 +10,11 @@ mod commands;
 #[cfg(test)]
 mod damage;
 #[cfg(test)]
+mod drawing;
+#[cfg(test)]
 mod kills;
+#[cfg(test)]
+mod paging;
 #[cfg(test)]
 mod refusals;
 #[cfg(test)]

@@ -1,5 +1,5 @@
 // Which times of a run are drawn.
-ghost use Rattle.std.specs.Prelude.{◌≡◌, ℕ, ◌+◌, ◌-◌, ◌<◌, ◌≤◌, min, max};
+ghost use Rattle.std.specs.Prelude.{◌≡◌, ℕ, ◌+◌, ◌-◌, ◌/◌, ◌<◌, ◌≤◌, min, max};
 ghost use Rattle.run.specs.Limits.{run_step_limit};
 
 use run::MAX_RUN_STEPS;
@@ -36,6 +36,7 @@ impl Times {
         requires { AreWithinRuns self }
         ensures from { result.from ≡ self.from }
         ensures steps { result.steps ≡ self.steps }
+        ensures every { result.every ≡ self.steps / max rows 1 + 1 }
         ensures within { AreWithinRuns result }
         ensures few { (n : ℕ) → due result n ≤ last_time result → n < max rows 1 }
     {

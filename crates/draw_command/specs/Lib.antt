@@ -1,0 +1,6 @@
+pub mod Picture
+pub mod Asked
+pub mod Said
+pub mod Files
+pub mod One
+pub mod inside

@@ -1,0 +1,24 @@
+//! `bb draw`: reads a table or a record a line, and draws a space-time picture of each table, as SVG.
+//!
+//! `specs/Picture` says which picture is drawn of a table, `specs/Asked` which table a line asks for, `specs/Files` what is
+//! said where each picture is a file, `specs/One` what where one goes to a stream. `specs/Said` is for both: what is said to
+//! the lines of a stream.
+#![tactic(auto)]
+
+mod asked;
+mod command;
+mod files;
+mod host;
+mod laws;
+mod line_loop;
+mod one;
+mod picturing;
+mod placing;
+
+pub use asked::table_asked;
+pub use command::cmd_draw;
+pub use files::{draw_files, picture_path, put_picture};
+pub use host::PictureHost;
+pub use laws::paths_are_apart;
+pub use one::{First, draw_first};
+pub use picturing::picture_of;

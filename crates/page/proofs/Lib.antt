@@ -1,0 +1,6 @@
+pub mod EntryLaws
+pub mod Escapes
+pub mod TableTexts
+pub mod Counted
+pub mod FigureLaws
+pub mod PageLaws

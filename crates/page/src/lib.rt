@@ -1,0 +1,22 @@
+//! The report of a board as one HTML file, which needs no server and asks for nothing from elsewhere.
+//!
+//! `specs/Page` says which text a page is: how the board stands, how many records there are of each kind and of tables
+//! with so many entries (`specs/Census`), the champions with pictures of their runs (`specs/Figures`), and the holdouts,
+//! a row each, in the order of their texts. `specs/Escaped` says how a text of any bytes stands in HTML.
+#![tactic(auto)]
+
+mod census;
+mod counts;
+mod entries;
+mod escape;
+mod figures;
+mod laws;
+mod making;
+mod page;
+mod rows;
+mod style;
+mod summary;
+mod writing;
+
+pub use laws::{escaped_is_plain, tables_need_no_escape};
+pub use page::{write_ledger_page, write_page};

@@ -2,7 +2,9 @@
 use command_line::{LineFault, options};
 use ledger_commands::Host;
 use loopback::Sockets;
-use options::{Beginning, Carrying, Ended, Merging, Options, Outcome, Search, Settling};
+use options::{
+    Beginning, Carrying, Durability, Ended, LedgerFile, Merging, Options, Outcome, Search, Settling,
+};
 use part_commands::PartsHost;
 use program::obey;
 use std::alloc::Global;
@@ -36,8 +38,8 @@ impl Host for Shelf {
 
     type Ledger = MemLedger;
 
-    fn ledger(&self, path: &str) -> io::Result<MemLedger> {
-        if path == "complete" {
+    fn ledger(&self, file: &LedgerFile<'_>) -> io::Result<MemLedger> {
+        if file.path == "complete" {
             Ok(MemLedger::new(self.alloc))
         } else {
             Err(io::Error::from(io::ErrorKind::PermissionDenied))
@@ -46,6 +48,10 @@ impl Host for Shelf {
 
     fn is_replaceable(&self, _path: &str) -> bool {
         false
+    }
+
+    fn sync(&self, _path: &str) -> io::Result<()> {
+        Ok(())
     }
 
     fn rename(&self, _from: &str, _to: &str) -> io::Result<()> {
@@ -313,7 +319,8 @@ fn options_are_read_from_the_words(rt: HostRuntime) -> Result<(), Fail> {
     for (text, states, era, ledger) in [
         ("bb coord 1", 1, 1, None),
         ("bb coord 7 --era 18446744073709551615", 7, u64::MAX, None),
-        ("bb coord --ledger file 3 --era 2", 3, 2, Some("file")),
+        ("bb coord --ledger file 3 --era 2", 3, 2, Some(LedgerFile::at("file"))),
+        ("bb coord --sync --ledger file 3", 3, 1, Some(SYNCED)),
     ] {
         let beginning = Beginning { states, era };
         is_asked(&rt, rt.alloc(), text, Options::Coord { beginning, ledger })?;
@@ -352,6 +359,11 @@ fn report(json: bool, why: bool) -> Options<'static> {
     }
 }
 
+const SYNCED: LedgerFile<'static> = LedgerFile {
+    path: "file",
+    durability: Durability::Disk,
+};
+
 const DEFAULTS: Search = Search {
     steps: 1_000,
     depth: 20,
@@ -370,7 +382,7 @@ fn hard(steps: u64) -> Search {
 
 fn retry(steps: u64) -> Options<'static> {
     Options::Retry {
-        file: "file",
+        file: LedgerFile::at("file"),
         search: Search { steps, ..DEFAULTS },
     }
 }
@@ -430,7 +442,7 @@ fn options_of_a_run_are_read_from_the_words(rt: HostRuntime) -> Result<(), Fail>
         "bb run --json 3 --lose 1000 --workers 64 --ledger file --rounds 1000000000 --progress --far 8",
         Options::Run {
             settling,
-            ledger: Some("file"),
+            ledger: Some(LedgerFile::at("file")),
         },
     )
 }

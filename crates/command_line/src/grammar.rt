@@ -5,7 +5,7 @@ use crate::help::{
 };
 use crate::words::{
     DEPTH, ERA, FAR, FILE, FILLED, FIRST, FOLDER, FROM, GRAM, HARD, IN, JSON, LEDGER, LOSE, OUT,
-    PICTURES, PROGRESS, ROUNDS, ROWS, SECOND, STATES, STEPS, WHY, WIDTH, WORKERS,
+    PICTURES, PROGRESS, ROUNDS, ROWS, SECOND, STATES, STEPS, SYNC, WHY, WIDTH, WORKERS,
 };
 use clap::{Arg, ArgAction, Command, value_parser};
 use options::NoMemory;
@@ -109,7 +109,8 @@ fn with_workers<'a>(alloc: Global, command: Command<'a>) -> Result<Command<'a>, 
     command
         .arg(states_arg(alloc))?
         .arg(number_arg(alloc, WORKERS, "W", 1, 64, workers).default_value("2"))?
-        .arg(ledger_arg(alloc))
+        .arg(ledger_arg(alloc))?
+        .arg(sync_arg(alloc).requires_arg(LEDGER)?)
 }
 
 // The command with the options of rounds, of what is said of them, and of a search for certificates.
@@ -130,6 +131,7 @@ fn coord_command<'a>(alloc: Global) -> Result<Command<'a>, NoMemory> {
         .after_help(COORD)
         .arg(states_arg(alloc))?
         .arg(ledger_arg(alloc))?
+        .arg(sync_arg(alloc).requires_arg(LEDGER)?)?
         .arg(
             Arg::new(alloc, ERA)
                 .long(ERA)
@@ -144,7 +146,8 @@ fn retry_command<'a>(alloc: Global) -> Result<Command<'a>, NoMemory> {
     let retry = Command::new(alloc, "retry")
         .about("Tries the holdouts of a ledger again, and prints its report.")
         .after_help(RETRY)
-        .arg(file_arg(alloc, FILE, "The ledger file"))?;
+        .arg(file_arg(alloc, FILE, "The ledger file"))?
+        .arg(sync_arg(alloc))?;
     with_search(alloc, retry)
 }
 
@@ -191,6 +194,7 @@ fn settle_command<'a>(alloc: Global) -> Result<Command<'a>, NoMemory> {
         .about("Decides the open tables of a ledger, until none is open.")
         .after_help(SETTLE)
         .arg(file_arg(alloc, FILE, "The ledger file"))?
+        .arg(sync_arg(alloc))?
         .arg(progress_arg(alloc))?;
     with_search(alloc, settle)
 }
@@ -282,6 +286,14 @@ fn progress_arg<'a>(alloc: Global) -> Arg<'a> {
         alloc,
         PROGRESS,
         "Say on standard error, once a second, how far it is",
+    )
+}
+
+fn sync_arg<'a>(alloc: Global) -> Arg<'a> {
+    flag_arg(
+        alloc,
+        SYNC,
+        "Wait until each line of the ledger is on the disk, against a power cut",
     )
 }
 

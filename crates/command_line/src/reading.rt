@@ -6,11 +6,12 @@ use crate::grammar::program;
 use crate::line_fault::LineFault;
 use crate::words::{
     DEPTH, ERA, FAR, FILE, FILLED, FIRST, FOLDER, FROM, GRAM, HARD, IN, JSON, LEDGER, LOSE, OUT,
-    PICTURES, PROGRESS, ROUNDS, ROWS, SECOND, STATES, STEPS, WHY, WIDTH, WORKERS,
+    PICTURES, PROGRESS, ROUNDS, ROWS, SECOND, STATES, STEPS, SYNC, WHY, WIDTH, WORKERS,
 };
 use clap::ArgMatches;
 use options::{
-    Beginning, Carrying, Drawing, Joining, Merging, Options, Search, Settling, Splitting,
+    Beginning, Carrying, Drawing, Durability, Joining, LedgerFile, Merging, Options, Search, Settling,
+    Splitting,
 };
 use std::alloc::Global;
 
@@ -77,6 +78,22 @@ fn number_if_given(
     Ok(Some(number_of(matches, name, least, most)?))
 }
 
+// The ledger that is kept, if one is.
+fn ledger_of<'a>(matches: &ArgMatches<'a>) -> Option<LedgerFile<'a>> {
+    let path = matches.get_str(LEDGER)?;
+    Some(written_of(matches, path))
+}
+
+// The ledger at a path, as it is to be written.
+fn written_of<'a>(matches: &ArgMatches<'a>, path: &'a str) -> LedgerFile<'a> {
+    let durability = if matches.get_flag(SYNC) {
+        Durability::Disk
+    } else {
+        Durability::System
+    };
+    LedgerFile { path, durability }
+}
+
 fn coord_options<'a>(coord: &ArgMatches<'a>) -> Result<Options<'a>, LineFault>
     ensures { IfOk result AreWithinRanges }
 {
@@ -86,7 +103,7 @@ fn coord_options<'a>(coord: &ArgMatches<'a>) -> Result<Options<'a>, LineFault>
     };
     Ok(Options::Coord {
         beginning,
-        ledger: coord.get_str(LEDGER),
+        ledger: ledger_of(coord),
     })
 }
 
@@ -96,7 +113,7 @@ fn run_options<'a>(run: &ArgMatches<'a>) -> Result<Options<'a>, LineFault>
     let lose = number_if_given(run, LOSE, 2, 1_000)?;
     Ok(Options::Run {
         settling: settling_of(run, lose)?,
-        ledger: run.get_str(LEDGER),
+        ledger: ledger_of(run),
     })
 }
 
@@ -105,7 +122,7 @@ fn loop_options<'a>(over_sockets: &ArgMatches<'a>) -> Result<Options<'a>, LineFa
 {
     Ok(Options::Loop {
         settling: settling_of(over_sockets, None)?,
-        ledger: over_sockets.get_str(LEDGER),
+        ledger: ledger_of(over_sockets),
     })
 }
 
@@ -129,7 +146,7 @@ fn retry_options<'a>(retry: &ArgMatches<'a>) -> Result<Options<'a>, LineFault>
     ensures { IfOk result AreWithinRanges }
 {
     Ok(Options::Retry {
-        file: retry.get_str(FILE).unwrap_or_default(),
+        file: written_of(retry, retry.get_str(FILE).unwrap_or_default()),
         search: search_of(retry)?,
     })
 }
@@ -168,7 +185,7 @@ fn settle_options<'a>(settle: &ArgMatches<'a>) -> Result<Options<'a>, LineFault>
     ensures { IfOk result AreWithinRanges }
 {
     Ok(Options::Settle {
-        file: settle.get_str(FILE).unwrap_or_default(),
+        file: written_of(settle, settle.get_str(FILE).unwrap_or_default()),
         search: search_of(settle)?,
         progress: settle.get_flag(PROGRESS),
     })

@@ -13,6 +13,8 @@ pub(crate) const STATES: &str = "N";
 
 pub(crate) const LEDGER: &str = "ledger";
 
+pub(crate) const SYNC: &str = "sync";
+
 pub(crate) const ERA: &str = "era";
 
 pub(crate) const WORKERS: &str = "workers";

@@ -1,6 +1,6 @@
 // Files in memory.
 use ledger_commands::{FileLedger, Host};
-use options::Ended;
+use options::{Ended, LedgerFile};
 use part_commands::PartsHost;
 use std::cell::{Cell, RefCell};
 use std::fs::{Metadata, OpenFile};
@@ -127,16 +127,20 @@ impl<'a> Host for Desk<'a> {
 
     type Ledger = FileLedger<Paper<'a>>;
 
-    fn ledger(&self, path: &str) -> io::Result<FileLedger<Paper<'a>>> {
+    fn ledger(&self, file: &LedgerFile<'_>) -> io::Result<FileLedger<Paper<'a>>> {
         self.opened.set(self.opened.get().saturating_add(1));
         Ok(FileLedger::of(Paper {
-            text: self.file(path)?,
+            text: self.file(file.path)?,
             at_once: self.at_once,
-        }))
+        }, file.durability))
     }
 
     fn is_replaceable(&self, _path: &str) -> bool {
         false
+    }
+
+    fn sync(&self, _path: &str) -> io::Result<()> {
+        Ok(())
     }
 
     fn rename(&self, _from: &str, _to: &str) -> io::Result<()> {

@@ -5,7 +5,7 @@ use crate::desk::Desk;
 use crate::streams::{ALWAYS, Sink, Source};
 use crate::texts::assert_bytes;
 use dispatch::carry_out;
-use options::{Beginning, Merging, Options, Outcome, Search, Settling};
+use options::{Beginning, LedgerFile, Merging, Options, Outcome, Search, Settling};
 use std::alloc::Global;
 use std::cell::RefCell;
 use std::process::Abort;
@@ -42,7 +42,10 @@ fn carried(
 fn retried(rt: &impl Abort, alloc: Global, search: Search, desk: &Desk<'_>) -> Ending {
     assert!(rt; 1 <= search.steps && search.steps <= 100_000_000);
     assert!(rt; search.depth <= 1_000 && search.gram <= 8 && search.far <= 16);
-    let asked = Options::Retry { file: "a", search };
+    let asked = Options::Retry {
+        file: LedgerFile::at("a"),
+        search,
+    };
     carried(rt, alloc, asked, "", desk)
 }
 
@@ -319,6 +322,7 @@ fn ran(rt: &impl Abort, alloc: Global, run: Run, ledger: Option<&str>, desk: &De
         json: run.json,
         progress: false,
     };
+    let ledger = ledger.map(LedgerFile::at);
     carried(rt, alloc, Options::Run { settling, ledger }, "", desk)
 }
 
@@ -402,7 +406,7 @@ fn goes_on(
     let desk = Desk::of(&a, &b, at_once);
     let asked = Options::Coord {
         beginning: Beginning { states: 1, era: 2 },
-        ledger: Some("a"),
+        ledger: Some(LedgerFile::at("a")),
     };
     let end = carried(rt, alloc, asked, frames, &desk);
     assert_bytes(rt, &end.answers, b"ACK ------\nACK 0RA---\nACK 1RA---\n");

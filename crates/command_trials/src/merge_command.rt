@@ -2,7 +2,7 @@
 use crate::streams::{ALWAYS, Sink, Source};
 use crate::texts::assert_bytes;
 use ledger_commands::{Host, cmd_merge};
-use options::{Merging, Outcome};
+use options::{LedgerFile, Merging, Outcome};
 use std::alloc::Global;
 use std::cell::Cell;
 use std::io;
@@ -70,8 +70,8 @@ impl Host for Shelf {
     type Ledger = Expecting;
 
     // It opens once both ledgers were read.
-    fn ledger(&self, path: &str) -> io::Result<Expecting> {
-        if path == self.written_at() && self.reads.get() >= 2 {
+    fn ledger(&self, file: &LedgerFile<'_>) -> io::Result<Expecting> {
+        if file.path == self.written_at() && self.reads.get() >= 2 {
             Ok(Expecting {
                 text: self.out,
                 is_empty: false,
@@ -84,6 +84,14 @@ impl Host for Shelf {
 
     fn is_replaceable(&self, path: &str) -> bool {
         self.is_plain && (path == "out" || path == "out.new")
+    }
+
+    fn sync(&self, path: &str) -> io::Result<()> {
+        if path == "out.new" {
+            Ok(())
+        } else {
+            Err(io::Error::from(io::ErrorKind::NotFound))
+        }
     }
 
     fn rename(&self, from: &str, to: &str) -> io::Result<()> {

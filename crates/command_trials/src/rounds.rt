@@ -3,7 +3,7 @@ use crate::probes::Probe;
 use crate::streams::{ALWAYS, Sink, file_of};
 use crate::texts::assert_bytes;
 use json_report::Form;
-use node_commands::{NoLedger, Run, cmd_run};
+use node_commands::{NoLedger, Run, Telling, cmd_run};
 use options::{Outcome, Search, Settling};
 use std::alloc::Global;
 use std::cell::RefCell;
@@ -56,6 +56,7 @@ pub fn run_rounds(
         settling: &settling,
         form: &form,
         workers,
+        telling: Telling::Nothing,
         clock: &Stopped,
     };
     let outcome = cmd_run(

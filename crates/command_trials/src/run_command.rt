@@ -6,9 +6,10 @@ use cert::{Finder, Finders};
 use far::FarFinder;
 use json_report::Form;
 use lease_core::Worker;
+use ledger::Tally;
 use loops::{CycleFinder, TranslatedFinder};
 use ngram_cps::NgramFinder;
-use node_commands::{Run, cmd_run};
+use node_commands::{Progress, Run, Telling, cmd_run};
 use options::{Outcome, Search, Settling};
 use run::HaltFinder;
 use std::alloc::Global;
@@ -124,6 +125,7 @@ fn ended(
         settling,
         form: &form,
         workers,
+        telling: Telling::of(settling.progress, false),
         clock: &clock,
     };
     let outcome = cmd_run(
@@ -292,4 +294,37 @@ fn a_run_tells_how_far_it_is(rt: HostRuntime) -> Result<(), Fail> {
         b"3 nodes recorded, 0 open, 0 holdouts, 3 records a second\n",
     );
     Ok(())
+}
+
+// On a terminal a line is written over the last one, and ends when all is told.
+#[test]
+fn a_terminal_has_one_line(rt: HostRuntime) {
+    let clock = Steady {
+        now: Cell::new(0),
+        between: 3_723_000,
+    };
+    let mut told = Sink::new(rt.alloc(), usize::MAX, ALWAYS);
+    let mut progress = Progress::new(rt.alloc(), Telling::OneLine, 0, &clock, &mut told);
+    progress.tell(&tally(5_000_000, 1_000, 20));
+    progress.tell(&tally(5_000_000, 0, 0));
+    progress.end();
+    progress.end();
+    assert_bytes(
+        &rt,
+        &told.kept,
+        b"\r1:02:03 4999000 nodes recorded, 1000 open, 20 holdouts, 1342 records a second\
+\r2:04:06 5000000 nodes recorded, 0 open, 0 holdouts, 0 records a second       \n",
+    );
+}
+
+fn tally(nodes: u64, open_count: u64, holdouts: u64) -> Tally {
+    Tally {
+        nodes,
+        halting: 0,
+        never: 0,
+        holdouts,
+        open_count,
+        best: None,
+        ones: None,
+    }
 }

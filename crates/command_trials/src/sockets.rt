@@ -7,7 +7,7 @@ use crate::texts::assert_bytes;
 use dispatch::carry_out;
 use ledger_commands::{FileLedger, Host};
 use loopback::{Sockets, move_all};
-use options::{Ended, Options, Outcome, Search, Settling};
+use options::{Ended, LedgerFile, Options, Outcome, Search, Settling};
 use part_commands::PartsHost;
 use std::alloc::Global;
 use std::cell::{Cell, RefCell};
@@ -135,12 +135,16 @@ impl<'a> Host for Room<'a> {
 
     type Ledger = FileLedger<Paper<'a>>;
 
-    fn ledger(&self, path: &str) -> io::Result<FileLedger<Paper<'a>>> {
-        self.desk.ledger(path)
+    fn ledger(&self, file: &LedgerFile<'_>) -> io::Result<FileLedger<Paper<'a>>> {
+        self.desk.ledger(file)
     }
 
     fn is_replaceable(&self, path: &str) -> bool {
         self.desk.is_replaceable(path)
+    }
+
+    fn sync(&self, path: &str) -> io::Result<()> {
+        self.desk.sync(path)
     }
 
     fn rename(&self, from: &str, to: &str) -> io::Result<()> {
@@ -298,7 +302,7 @@ fn settled(
         json: false,
         progress: false,
     };
-    let ledger = Some("a");
+    let ledger = Some(LedgerFile::at("a"));
     if is_loop {
         carried(alloc, Options::Loop { settling, ledger }, room)
     } else {

@@ -6,10 +6,14 @@
 mod any_finder;
 mod executing;
 mod hard_finder;
+mod ledgers;
+mod lines;
+mod locking;
+mod nodes;
 mod parts;
 mod pictures;
 mod stages;
 mod system;
 
 pub use executing::carry_out;
-pub use system::System;
+pub use system::{FileLock, System};

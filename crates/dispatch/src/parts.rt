@@ -3,12 +3,13 @@ ghost use Rattle.options.specs.Ranges.{IsSplitting};
 
 use crate::any_finder::all_finders;
 use cert::{Decider, Finders};
-use evidence::NoMemory;
 use json_report::Form;
 use ledger::Tally;
-use node_commands::Progress;
-use options::{Ended, Joining, Outcome, Search, Splitting};
-use part_commands::{PartsHost, Silent, Tells, cmd_join, cmd_split, settle_ledger_at};
+use node_commands::{Progress, Telling};
+use options::{Ended, Joining, LedgerFile, Outcome, Search, Splitting};
+use part_commands::{
+    PartsHost, Silent, Tells, cmd_join, cmd_split, lock_ledger, settle_ledger_at,
+};
 use std::alloc::Global;
 use std::io::Write;
 use std::time::Clock;
@@ -20,29 +21,31 @@ pub(crate) fn split<H: PartsHost, W: Write, E: Write>(
     host: &H,
     answers: &mut W,
     faults: &mut E,
-) -> Result<Outcome, NoMemory>
+) -> Outcome
     requires { IsSplitting splitting.now }
 {
     let search = &splitting.search;
-    let mut decider = Finders::new(all_finders(alloc, search)?, search.steps);
-    Ok(cmd_split(
-        alloc,
-        splitting,
-        host,
-        &mut decider,
-        &mut Silent,
-        answers,
-        faults,
-    ))
+    match all_finders(alloc, search) {
+        Ok(finders) => cmd_split(
+            alloc,
+            splitting,
+            host,
+            &mut Finders::new(finders, search.steps),
+            &mut Silent,
+            answers,
+            faults,
+        ),
+        Err(_) => Ended::NoMemory.told(faults),
+    }
 }
 
 // How far a ledger is settled, told while it goes on.
 #[derive(Drop)]
-struct Telling<'a, C, E> {
+struct Teller<'a, C, E> {
     progress: Progress<'a, C, E>,
 }
 
-impl<'a, C: Clock, E: Write> Tells for Telling<'a, C, E> {
+impl<'a, C: Clock, E: Write> Tells for Teller<'a, C, E> {
     fn tell(&mut self, tally: &Tally) {
         self.progress.tell(tally);
     }
@@ -51,38 +54,64 @@ impl<'a, C: Clock, E: Write> Tells for Telling<'a, C, E> {
 // `bb settle`.
 pub(crate) fn settle_file<H: PartsHost + Clock, W: Write, E: Write>(
     alloc: Global,
-    file: &str,
+    file: LedgerFile<'_>,
     search: &Search,
     progress: bool,
     host: &H,
     answers: &mut W,
     faults: &mut E,
-) -> Result<Outcome, NoMemory> {
-    let mut decider = Finders::new(all_finders(alloc, search)?, search.steps);
-    match settle_telling(alloc, file, progress, host, &mut decider, answers, faults) {
-        Ok(()) => Ok(Outcome::Accepted),
-        Err(ended) => Ok(ended.told(faults)),
+) -> Outcome {
+    let ended = match all_finders(alloc, search) {
+        Ok(finders) => {
+            let mut decider = Finders::new(finders, search.steps);
+            settle_telling(alloc, file, progress, host, &mut decider, answers, faults)
+        }
+        Err(_) => Err(Ended::NoMemory),
+    };
+    match ended {
+        Ok(()) => Outcome::Accepted,
+        Err(ended) => ended.told(faults),
     }
 }
 
 // The same by a decider; how far it is, is told on `faults` where that is wanted.
 fn settle_telling<H: PartsHost + Clock, D: Decider, W: Write, E: Write>(
     alloc: Global,
-    file: &str,
-    wanted: bool,
+    file: LedgerFile<'_>,
+    is_wanted: bool,
     host: &H,
     decider: &mut D,
     answers: &mut W,
     faults: &mut E,
 ) -> Result<(), Ended> {
-    let mut telling = Telling {
-        progress: Progress::new(alloc, wanted, 0, host, faults),
+    let telling = Telling::of(is_wanted, host.tells_terminal());
+    let mut teller = Teller {
+        progress: Progress::new(alloc, telling, 0, host, faults),
     };
-    settle_ledger_at(alloc, file, host, decider, &mut telling, answers)
+    let ended = settle_ledger_at(alloc, file, host, decider, &mut teller, answers);
+    teller.progress.end();
+    ended
 }
 
 // `bb join`.
 pub(crate) fn join<H: PartsHost, W: Write, E: Write>(
+    alloc: Global,
+    joining: &Joining<'_>,
+    host: &H,
+    answers: &mut W,
+    faults: &mut E,
+) -> Outcome {
+    let Some(out) = joining.out else {
+        return tell_joined(alloc, joining, host, answers, faults);
+    };
+    match lock_ledger(host, out) {
+        Ok(_lock) => tell_joined(alloc, joining, host, answers, faults),
+        Err(ended) => ended.told(faults),
+    }
+}
+
+// The same where the one ledger is locked that is written, if one is.
+fn tell_joined<H: PartsHost, W: Write, E: Write>(
     alloc: Global,
     joining: &Joining<'_>,
     host: &H,

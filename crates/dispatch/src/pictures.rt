@@ -1,8 +1,9 @@
 // `bb draw` and `bb page`.
+use crate::ledgers::STANDARD_INPUT;
 use draw_command::{PictureHost, cmd_draw};
 use ledger::Left;
 use ledger_commands::{Host, Stopped, opened};
-use options::{Drawing, Outcome};
+use options::{Drawing, LedgerFile, Outcome};
 use page::write_ledger_page;
 use part_commands::PartsHost;
 use std::alloc::Global;
@@ -23,7 +24,7 @@ impl<H: PartsHost> PictureHost for PictureFiles<'_, H> {
     }
 
     fn write(&self, path: &str, bytes: &[u8]) -> io::Result<()> {
-        let mut file = self.host.ledger(path)?;
+        let mut file = self.host.ledger(&LedgerFile::at(path))?;
         if file.cut(0).is_ok() && append_all(&mut file, bytes).is_ok() {
             Ok(())
         } else {
@@ -59,8 +60,23 @@ pub(crate) fn draw<H: PartsHost, R: Read, W: Write, E: Write>(
     )
 }
 
-// `bb page` of a ledger file.
-pub(crate) fn page_of_file<H: Host, W: Write, E: Write>(
+// `bb page`, of a file or of `input`.
+pub(crate) fn page<H: Host, R: Read, W: Write, E: Write>(
+    alloc: Global,
+    file: &str,
+    host: &H,
+    input: &mut R,
+    answers: &mut W,
+    faults: &mut E,
+) -> Outcome {
+    if file == STANDARD_INPUT {
+        page_of_stream(alloc, input, answers, faults)
+    } else {
+        page_of_file(alloc, file, host, answers, faults)
+    }
+}
+
+fn page_of_file<H: Host, W: Write, E: Write>(
     alloc: Global,
     path: &str,
     host: &H,
@@ -85,8 +101,8 @@ fn write_page_at<H: Host, W: Write>(
     }
 }
 
-// `bb page` of the ledger that a stream has up to its end.
-pub(crate) fn page_of_stream<R: Read, W: Write, E: Write>(
+// Of the ledger that a stream has up to its end.
+fn page_of_stream<R: Read, W: Write, E: Write>(
     alloc: Global,
     input: &mut R,
     answers: &mut W,

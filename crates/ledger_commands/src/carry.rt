@@ -9,7 +9,7 @@ use crate::rewriting::{made_beside, outcome_of_left, put_back, write_whole};
 use crate::source::{AtPath, LedgerSource, load_source};
 use evidence::NoMemory;
 use ledger::{Left, Tally};
-use options::{Carrying, Ended, Outcome};
+use options::{Carrying, Ended, LedgerFile, Outcome};
 use std::alloc::Global;
 use std::io::Write;
 use text::append_number;
@@ -64,7 +64,7 @@ fn carry_at<H: Host>(
         host,
         path: carrying.ledger,
     };
-    carry_into(alloc, &from, &mut LedgerAt::new(host, path))
+    carry_into(alloc, &from, &mut LedgerAt::new(host, LedgerFile::at(path)))
 }
 
 /// Reads and loads a ledger, and makes another hold what it holds as version 2, whatever it held before. Answers how

@@ -1,5 +1,6 @@
 // Where the files stand that a command line names.
 use crate::reading::Opened;
+use options::LedgerFile;
 use std::io::{self, ErrorKind, Read};
 use wire::LedgerOut;
 
@@ -15,13 +16,21 @@ pub trait Host {
     type Ledger: LedgerOut + Drop;
 
     /// A ledger file, to be cut and appended to, which is created where it isn't there.
-    fn ledger(&self, path: &str) -> io::Result<Self::Ledger>;
+    fn ledger(&self, file: &LedgerFile<'_>) -> io::Result<Self::Ledger>;
 
     /// Whether another file may be put in the place of what stands at a path: there is a plain file, or nothing.
     fn is_replaceable(&self, path: &str) -> bool;
 
+    /// Waits until what was written to the file at a path is on the disk.
+    fn sync(&self, path: &str) -> io::Result<()>;
+
     /// Puts a file in the place of what stands at another path, at once.
     fn rename(&self, from: &str, to: &str) -> io::Result<()>;
+
+    /// Whether what is said on standard error is shown on a terminal.
+    fn tells_terminal(&self) -> bool {
+        false
+    }
 }
 
 /// A file, and how long it is now.

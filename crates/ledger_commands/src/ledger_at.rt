@@ -2,6 +2,7 @@
 ghost use Rattle.std.specs.Prelude.{◌≡◌, ◌≢◌, ◌≤◌, IfOk, length};
 
 use crate::host::Host;
+use options::LedgerFile;
 use wire::{Fault, LedgerOut};
 
 /// The ledger at a path of a host. It is opened for writing by the first cut or the first bytes that are appended, so
@@ -9,18 +10,18 @@ use wire::{Fault, LedgerOut};
 #[derive(Drop)]
 pub struct LedgerAt<'a, H: Host> {
     host: &'a H,
-    path: &'a str,
+    file: LedgerFile<'a>,
     // none before it is opened
     ledger: Option<H::Ledger>,
     failures: u64,
 }
 
 impl<'a, H: Host> LedgerAt<'a, H> {
-    /// The ledger at a path, not yet opened.
-    pub fn new(host: &'a H, path: &'a str) -> LedgerAt<'a, H> {
+    /// A ledger file, not yet opened.
+    pub fn new(host: &'a H, file: LedgerFile<'a>) -> LedgerAt<'a, H> {
         LedgerAt {
             host,
-            path,
+            file,
             ledger: None,
             failures: 0,
         }
@@ -33,7 +34,7 @@ impl<'a, H: Host> LedgerAt<'a, H> {
         if self.ledger.is_some() {
             return Ok(());
         }
-        match self.host.ledger(self.path) {
+        match self.host.ledger(&self.file) {
             Ok(ledger) => {
                 self.ledger = Some(ledger);
                 Ok(())

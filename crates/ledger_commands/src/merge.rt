@@ -12,7 +12,7 @@ use crate::rewriting::{made_beside, outcome_of_left, put_back, write_whole};
 use crate::source::{AtPath, LedgerSource, load_source};
 use evidence::NoMemory;
 use ledger::{Board, Left, Tally};
-use options::{Ended, Merging, Outcome};
+use options::{Ended, LedgerFile, Merging, Outcome};
 use std::alloc::Global;
 use std::io::{Read, Write};
 use text::append_number;
@@ -68,7 +68,7 @@ fn join_at<H: Host>(
         host,
         path: merging.second,
     };
-    join_into(alloc, &first, &second, &mut LedgerAt::new(host, path))
+    join_into(alloc, &first, &second, &mut LedgerAt::new(host, LedgerFile::at(path)))
 }
 
 // Prints what the board holds, and what wasn't kept.

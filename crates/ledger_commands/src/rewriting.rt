@@ -8,6 +8,7 @@ use evidence::NoMemory;
 use ledger::{Board, Left};
 use options::{Ended, Outcome};
 use std::alloc::Global;
+use std::io;
 use wire::LedgerOut;
 
 // What is put behind the path of a ledger to name the file in which it is made.
@@ -38,15 +39,20 @@ fn path_beside(alloc: Global, path: &str) -> Result<String, NoMemory> {
     Ok(beside)
 }
 
-/// Puts a ledger that was made beside its place there.
+/// Puts a ledger that was made beside its place there, once it is on the disk: a power cut leaves one of the two there.
 pub fn put_back<H: Host>(host: &H, beside: &Option<String>, to: &str) -> Result<(), Ended> {
     let Some(from) = beside else {
         return Ok(());
     };
-    match host.rename(from, to) {
+    match synced(host, from, to) {
         Ok(()) => Ok(()),
         Err(fault) => Err(Ended::by_ledger(&fault)),
     }
+}
+
+fn synced<H: Host>(host: &H, from: &str, to: &str) -> io::Result<()> {
+    host.sync(from)?;
+    host.rename(from, to)
 }
 
 // Accepted where all of what was read was kept.

@@ -16,6 +16,7 @@ mod rounds;
 mod run_command;
 mod station;
 mod streams;
+mod telling;
 mod working;
 
 pub use coord::cmd_coord;
@@ -25,4 +26,5 @@ pub use no_ledger::NoLedger;
 pub use progress::Progress;
 pub use run_command::{Run, cmd_run};
 pub use streams::Streams;
+pub use telling::Telling;
 pub use working::work;

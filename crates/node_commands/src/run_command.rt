@@ -7,6 +7,7 @@ use crate::coord::{outcome_of, start_coordinator};
 use crate::progress::Progress;
 use crate::rounds::run_rounds;
 use crate::station::Station;
+use crate::telling::Telling;
 use coordinator::Coordinator;
 use ledger::Left;
 use ledger_commands::{Opened, ReportForm, write_report};
@@ -25,7 +26,9 @@ pub struct Run<'a, P, N, C> {
     pub form: &'a P,
     /// The workers, which were started from empty ledgers.
     pub workers: Vec<N>,
-    /// The clock by which is told how far it is.
+    /// How it is told how far it is.
+    pub telling: Telling,
+    /// The clock by which that is told.
     pub clock: &'a C,
 }
 
@@ -103,8 +106,10 @@ fn run_workers<P, L: LedgerOut, N: Node + Drop, C: Clock, Y: Carriers, E: Write>
     let settling = run.settling;
     let mut stations = stations(alloc, run.workers, carriers)?;
     let records = recorded(node);
-    let mut progress = Progress::new(alloc, settling.progress, records, run.clock, faults);
-    run_rounds(node, ledger, &mut stations, settling.rounds, &mut progress)
+    let mut progress = Progress::new(alloc, run.telling, records, run.clock, faults);
+    let ended = run_rounds(node, ledger, &mut stations, settling.rounds, &mut progress);
+    progress.end();
+    ended
 }
 
 // Each worker with a link of its own.

@@ -5,11 +5,13 @@
 
 mod drawing;
 mod ended;
+mod ledger_file;
 mod options;
 mod outcome;
 
 pub use drawing::Drawing;
 pub use ended::Ended;
+pub use ledger_file::{Durability, LedgerFile};
 pub use options::{Beginning, Carrying, Joining, Merging, Options, Search, Settling, Splitting};
 pub use outcome::Outcome;
 pub use std::alloc::AllocError as NoMemory;

@@ -1,5 +1,6 @@
 // What a command line asks for.
 use crate::drawing::Drawing;
+use crate::ledger_file::LedgerFile;
 
 /// What a command line asks for: a command, with its files and options under their names.
 #[derive(Clone, Copy, Debug, PartialEq, Eq)]
@@ -8,32 +9,32 @@ pub enum Options<'a> {
     Check,
     /// `bb decide [--steps K] [--depth D] [--gram G] [--far M]`
     Decide(Search),
-    /// `bb coord N [--ledger FILE] [--era E]`
+    /// `bb coord N [--ledger FILE] [--sync] [--era E]`
     Coord {
         /// How a coordinator is begun.
         beginning: Beginning,
-        /// The ledger's path; none where it is kept in memory.
-        ledger: Option<&'a str>,
+        /// The ledger; none where it is kept in memory.
+        ledger: Option<LedgerFile<'a>>,
     },
-    /// `bb run N [--workers W] [--ledger FILE] [--lose K] [--rounds R] [--json] [--progress]` and the options
-    /// of `decide`
+    /// `bb run N [--workers W] [--ledger FILE] [--sync] [--lose K] [--rounds R] [--json] [--progress]` and the
+    /// options of `decide`
     Run {
         /// How the tree is settled.
         settling: Settling,
-        /// The coordinator's ledger's path; none where it is kept in memory.
-        ledger: Option<&'a str>,
+        /// The coordinator's ledger; none where it is kept in memory.
+        ledger: Option<LedgerFile<'a>>,
     },
     /// `bb loop N` and the options of `run` but `--lose`
     Loop {
         /// How the tree is settled; no frame is lost.
         settling: Settling,
-        /// The coordinator's ledger's path; none where it is kept in memory.
-        ledger: Option<&'a str>,
+        /// The coordinator's ledger; none where it is kept in memory.
+        ledger: Option<LedgerFile<'a>>,
     },
-    /// `bb retry FILE` and the options of `decide`
+    /// `bb retry FILE [--sync]` and the options of `decide`
     Retry {
-        /// The ledger's path.
-        file: &'a str,
+        /// The ledger.
+        file: LedgerFile<'a>,
         /// How far certificates are searched for.
         search: Search,
     },
@@ -43,10 +44,10 @@ pub enum Options<'a> {
     Carry(Carrying<'a>),
     /// `bb split N DIR [--filled D]` and the options of `decide`
     Split(Splitting<'a>),
-    /// `bb settle FILE [--progress]` and the options of `decide`
+    /// `bb settle FILE [--sync] [--progress]` and the options of `decide`
     Settle {
-        /// The ledger's path.
-        file: &'a str,
+        /// The ledger.
+        file: LedgerFile<'a>,
         /// How far certificates are searched for.
         search: Search,
         /// Whether to tell on standard error, while it goes on, how far it is.

@@ -10,7 +10,7 @@ use evidence::NoMemory;
 use ledger::{Board, append_header};
 use ledger_commands::{Host, LedgerAt, held_at};
 use machine_text::{TEXT_BYTES, Table};
-use options::Ended;
+use options::{Ended, LedgerFile};
 use std::alloc::Global;
 use wire::{LedgerOut, append_all};
 
@@ -75,7 +75,7 @@ impl<H: Host> Folder for FolderAt<'_, H> {
             self.alloc,
             root,
             bytes,
-            &mut LedgerAt::new(self.host, &path),
+            &mut LedgerAt::new(self.host, LedgerFile::at(&path)),
         )
     }
 }

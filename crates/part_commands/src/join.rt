@@ -17,7 +17,7 @@ use ledger_commands::{
     put_back, write_told,
 };
 use machine_text::Table;
-use options::{Ended, Joining, Outcome};
+use options::{Ended, Joining, LedgerFile, Outcome};
 use std::alloc::Global;
 use std::io::{ErrorKind, Read, Write};
 use text::append_number;
@@ -67,7 +67,7 @@ fn join_into<H: Host, P: ReportForm, W: Write, E: Write>(
     let beside = made_beside(alloc, host, out, &[])?;
     let path = beside.as_deref().unwrap_or(out);
     let mut one = OneLedger {
-        ledger: LedgerAt::new(host, path),
+        ledger: LedgerAt::new(host, LedgerFile::at(path)),
     };
     if one.ledger.cut(0).is_err() {
         return Err(Ended::Ledger);

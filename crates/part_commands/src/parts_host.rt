@@ -10,15 +10,15 @@ pub trait PartsHost: Host {
     ghost use Rattle.std.specs.Prelude.{List, ℕ, Option, Result};
     ghost use Rattle.options.specs.declared.ended.Ended.{Ended};
 
-    /// By what a ledger is locked. It is locked until this is let go.
+    /// By what a ledger is locked. It is locked until this is let go; a lock of nothing comes where nothing can be locked.
     type Lock: Drop;
 
     /// What may come of locking the ledger at a path: it is locked by this, or another process has it locked; or it
     /// can't be locked, which ends a command so.
     ghost locks: { Self → List ℕ → Result (Option Self.Lock) Ended → Type 0 };
 
-    /// Locks the ledger file at a path, which has to be there, without waiting; none where another process has it
-    /// locked.
+    /// Locks the ledger file at a path without waiting; none where another process has it locked. Where no plain file is
+    /// there that can be written, or its file system knows no locks, there is nothing to lock.
     fn lock(&self, path: &str) -> Result<Option<Self::Lock>, Ended>
         ensures { locks self.now path.now result };
 

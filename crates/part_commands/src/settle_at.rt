@@ -6,24 +6,24 @@ use crate::settle::settle_ledger;
 use crate::tells::Tells;
 use cert::Decider;
 use ledger_commands::{LedgerAt, opened};
-use options::Ended;
+use options::{Ended, LedgerFile};
 use std::alloc::Global;
 use std::io::Write;
 
-/// Settles the ledger file at a path, which has to be there, as `settle_ledger` does. It is locked before it is read; where
-/// another process has it locked, nothing is done.
+/// Settles a ledger file, which has to be there, as `settle_ledger` does. It is locked before it is read; where another
+/// process has it locked, nothing is done.
 pub fn settle_ledger_at<H: PartsHost, D: Decider, P: Tells, W: Write>(
     alloc: Global,
-    path: &str,
+    file: LedgerFile<'_>,
     host: &H,
     decider: &mut D,
     progress: &mut P,
     answers: &mut W,
 ) -> Result<(), Ended>
-    ensures { OnOk result ((lock : H.Lock) × H.locks host.now path.now (Ok (Some lock))) }
+    ensures { OnOk result ((lock : H.Lock) × H.locks host.now file.path.now (Ok (Some lock))) }
 {
-    let _lock = lock_ledger(host, path)?;
-    let mut ledger = LedgerAt::new(host, path);
-    let held = opened(host, path);
+    let _lock = lock_ledger(host, file.path)?;
+    let mut ledger = LedgerAt::new(host, file);
+    let held = opened(host, file.path);
     settle_ledger(alloc, held, &mut ledger, decider, progress, answers)
 }

@@ -16,7 +16,7 @@ use cert::Decider;
 use evidence::NoMemory;
 use ledger::{Board, Tally};
 use ledger_commands::{LedgerAt, opened};
-use options::{Ended, Outcome, Splitting};
+use options::{Ended, LedgerFile, Outcome, Splitting};
 use std::alloc::Global;
 use std::io::Write;
 use text::append_number;
@@ -78,7 +78,7 @@ fn split_at<H: PartsHost, D: Decider, P: Tells, W: Write>(
     ensures { OnOk result (SplitsTree splitting.now.states splitting.now.filled (W.contents answers.old) (W.contents answers.new)) }
 {
     let held = opened(host, path);
-    let mut ledger = LedgerAt::new(host, path);
+    let mut ledger = LedgerAt::new(host, LedgerFile::at(path));
     let mut folder = FolderAt {
         alloc,
         host,
@@ -126,7 +126,7 @@ fn make_folder<H: PartsHost>(host: &H, path: &str) -> Result<(), Ended> {
 
 // Creates a ledger file where there is none.
 fn create<H: PartsHost>(host: &H, path: &str) -> Result<(), Ended> {
-    match host.ledger(path) {
+    match host.ledger(&LedgerFile::at(path)) {
         Ok(_) => Ok(()),
         Err(fault) => Err(Ended::by_ledger(&fault)),
     }

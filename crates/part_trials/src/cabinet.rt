@@ -2,7 +2,7 @@
 use evidence::NoMemory;
 use ledger_commands::{FileLedger, Host};
 use loopback::Sockets;
-use options::Ended;
+use options::{Ended, LedgerFile};
 use part_commands::PartsHost;
 use std::alloc::Global;
 use std::cell::{Cell, RefCell};
@@ -262,23 +262,27 @@ impl<'a> Host for Cabinet<'a> {
 
     type Ledger = FileLedger<Drawer<'a>>;
 
-    fn ledger(&self, path: &str) -> io::Result<FileLedger<Drawer<'a>>> {
+    fn ledger(&self, file: &LedgerFile<'_>) -> io::Result<FileLedger<Drawer<'a>>> {
         if self.calls_left.get() == 0 {
             return Err(fault());
         }
         let Ok(mut sheets) = self.sheets.try_borrow_mut() else {
             return Err(fault());
         };
-        let place = made(self.alloc, &mut sheets, path)?;
+        let place = made(self.alloc, &mut sheets, file.path)?;
         Ok(FileLedger::of(Drawer {
             sheets: self.sheets,
             calls_left: self.calls_left,
             place,
-        }))
+        }, file.durability))
     }
 
     fn is_replaceable(&self, _path: &str) -> bool {
         true
+    }
+
+    fn sync(&self, _path: &str) -> io::Result<()> {
+        Ok(())
     }
 
     fn rename(&self, from: &str, to: &str) -> io::Result<()> {

@@ -3,7 +3,7 @@ ghost use Rattle.options.specs.Ranges.{AreWithinRanges};
 
 use crate::cabinet::{ALWAYS, Cabinet, Sheet, text_at};
 use dispatch::carry_out;
-use options::{Drawing, Joining, Options, Outcome, Search, Settling, Splitting};
+use options::{Drawing, Joining, LedgerFile, Options, Outcome, Search, Settling, Splitting};
 use std::alloc::Global;
 use std::cell::{Cell, RefCell};
 use std::process::Abort;
@@ -123,7 +123,7 @@ pub fn split(
 pub fn settle(rt: &impl Abort, cabinet: &Cabinet<'_>, file: &str, search: Search) -> Ending {
     check_search(rt, &search);
     let asked = Options::Settle {
-        file,
+        file: LedgerFile::at(file),
         search,
         progress: false,
     };

@@ -1,7 +1,7 @@
 // The commands of `bb` that write ledgers, and what has to come of them.
 use crate::killed::Share;
 use crate::restarts::{Command, LEDGER, OTHER, restarted};
-use options::{Beginning, Carrying, Merging, Options, Search, Settling};
+use options::{Beginning, Carrying, LedgerFile, Merging, Options, Search, Settling};
 use std::io;
 
 // The defaults of the program.
@@ -27,7 +27,7 @@ const COORD: Command = Command {
     words: "coord 1",
     asked: Options::Coord {
         beginning: Beginning { states: 1, era: 1 },
-        ledger: Some(LEDGER),
+        ledger: Some(LedgerFile::at(LEDGER)),
     },
     input: "ASK 7\nREC ------ H 1\nREC 0RA--- T 0 1 R\nREC 1RA--- T 0 1 R\nASK 7\n",
     shares: &SHARES,
@@ -58,7 +58,7 @@ const RUN_ONE: Command = Command {
             json: false,
             progress: false,
         },
-        ledger: Some(LEDGER),
+        ledger: Some(LedgerFile::at(LEDGER)),
     },
     input: "",
     shares: &SHARES,
@@ -81,7 +81,7 @@ const RUN_TWO: Command = Command {
             json: false,
             progress: false,
         },
-        ledger: Some(LEDGER),
+        ledger: Some(LedgerFile::at(LEDGER)),
     },
     input: "",
     // once in each call, since it makes many
@@ -96,7 +96,7 @@ const RUN_TWO: Command = Command {
 const RETRY: Command = Command {
     words: "retry of one state",
     asked: Options::Retry {
-        file: LEDGER,
+        file: LedgerFile::at(LEDGER),
         search: SEARCH,
     },
     input: "",
@@ -111,7 +111,7 @@ const RETRY: Command = Command {
 const RETRY_OPENING: Command = Command {
     words: "retry of two states",
     asked: Options::Retry {
-        file: LEDGER,
+        file: LedgerFile::at(LEDGER),
         search: SEARCH,
     },
     input: "",

@@ -1,10 +1,10 @@
 // Files of a program that is killed while it writes a ledger.
 ghost use Rattle.std.specs.Prelude.{◌≢◌, ◌≤◌};
 
-use dispatch::System;
+use dispatch::{FileLock, System};
 use ledger_commands::{FileLedger, Host};
 use loopback::Sockets;
-use options::Ended;
+use options::{Ended, LedgerFile};
 use part_commands::PartsHost;
 use std::cell::Cell;
 use std::fs;
@@ -109,12 +109,12 @@ impl<'a> Host for Killed<'a> {
 
     type Ledger = LedgerOfKilled<'a>;
 
-    fn ledger(&self, path: &str) -> io::Result<LedgerOfKilled<'a>> {
+    fn ledger(&self, file: &LedgerFile<'_>) -> io::Result<LedgerOfKilled<'a>> {
         if self.life.is_over() {
             return Err(io::Error::from(ErrorKind::Other));
         }
         Ok(LedgerOfKilled {
-            ledger: self.system.ledger(path)?,
+            ledger: self.system.ledger(file)?,
             life: self.life,
             failures: 0,
         })
@@ -122,6 +122,10 @@ impl<'a> Host for Killed<'a> {
 
     fn is_replaceable(&self, path: &str) -> bool {
         self.system.is_replaceable(path)
+    }
+
+    fn sync(&self, path: &str) -> io::Result<()> {
+        self.system.sync(path)
     }
 
     fn rename(&self, from: &str, to: &str) -> io::Result<()> {
@@ -137,11 +141,11 @@ impl<'a> Host for Killed<'a> {
 }
 
 impl<'a> PartsHost for Killed<'a> {
-    type Lock = fs::File;
+    type Lock = FileLock;
 
     ghost locks = { λ host path locked. Unit {0} };
 
-    fn lock(&self, path: &str) -> Result<Option<fs::File>, Ended> {
+    fn lock(&self, path: &str) -> Result<Option<FileLock>, Ended> {
         self.system.lock(path)
     }
 

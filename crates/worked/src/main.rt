@@ -11,7 +11,7 @@ mod restarts;
 
 use commands::restart_all;
 use dispatch::{System, carry_out};
-use options::{Carrying, Joining, Options, Search, Settling, Splitting};
+use options::{Carrying, Joining, LedgerFile, Options, Search, Settling, Splitting};
 use std::fs;
 use std::io::{self, Read, Write};
 use std::process::ExitCode;
@@ -127,7 +127,7 @@ fn in_parts(rt: &HostRuntime) -> io::Result<()> {
     for file in PARTS {
         println!(rt; "$ ./bb settle {file} --far 3")?;
         let settle = Options::Settle {
-            file,
+            file: LedgerFile::at(file),
             search: SETTLING.search,
             progress: false,
         };

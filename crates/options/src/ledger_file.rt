@@ -1,0 +1,29 @@
+// Ledger files that are written.
+
+/// How far the lines of a ledger have come when they count as written.
+#[derive(Clone, Copy, Debug, PartialEq, Eq)]
+pub enum Durability {
+    /// The system has them: they outlive the process.
+    System,
+    /// They are on the disk: they outlive a power cut.
+    Disk,
+}
+
+/// A ledger file that is written.
+#[derive(Clone, Copy, Debug, PartialEq, Eq)]
+pub struct LedgerFile<'a> {
+    /// Its path.
+    pub path: &'a str,
+    /// How far a line of it has come when it counts as written.
+    pub durability: Durability,
+}
+
+impl<'a> LedgerFile<'a> {
+    /// The file at a path, whose lines count as written when the system has them.
+    pub const fn at(path: &'a str) -> LedgerFile<'a> {
+        LedgerFile {
+            path,
+            durability: Durability::System,
+        }
+    }
+}

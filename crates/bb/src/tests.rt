@@ -319,7 +319,12 @@ fn options_are_read_from_the_words(rt: HostRuntime) -> Result<(), Fail> {
     for (text, states, era, ledger) in [
         ("bb coord 1", 1, 1, None),
         ("bb coord 7 --era 18446744073709551615", 7, u64::MAX, None),
-        ("bb coord --ledger file 3 --era 2", 3, 2, Some(LedgerFile::at("file"))),
+        (
+            "bb coord --ledger file 3 --era 2",
+            3,
+            2,
+            Some(LedgerFile::at("file")),
+        ),
         ("bb coord --sync --ledger file 3", 3, 1, Some(SYNCED)),
     ] {
         let beginning = Beginning { states, era };

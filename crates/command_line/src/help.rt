@@ -47,7 +47,8 @@ it is new, and then acknowledged. There is no clock: a lease ends where its work
 
 Exit status: 0 at the end of the input the board is complete; 1 it isn't, or the ledger was refused
 (`refused 404` no header with a readable table, `refused 405` another root); 2 a wrong command line;
-3 out of memory (`refused memory`); 4 a stream failed (`refused 603`), or the ledger did (`refused 604`).";
+3 out of memory (`refused memory`); 4 a stream failed (`refused 603`), or the ledger did (`refused 604`), or
+another process writes it (`refused 606`).";
 
 pub(crate) const RUN: &str =
     "A coordinator grants tables to workers; each looks for certificates as `bb decide` does, and the coordinator
@@ -56,7 +57,8 @@ there are and whatever frames are lost. With --ledger a run that was stopped goe
 
 Exit status: 0 the report says complete; 1 it doesn't, or the ledger was refused (`refused 404` no header
 with a readable table, `refused 405` another root); 2 a wrong command line; 3 out of memory
-(`refused memory`); 4 the ledger failed (`refused 604`), or a stream did (`refused 603`).";
+(`refused memory`); 4 the ledger failed (`refused 604`), or a stream did (`refused 603`), or another process writes
+the ledger (`refused 606`).";
 
 pub(crate) const LOOP: &str =
     "As `bb run`, but that the frames of each worker go over a connection of its own on 127.0.0.1, at most 4,096
@@ -72,7 +74,8 @@ What becomes open below a settled table stays open: `bb run --ledger FILE` goes 
 
 Exit status: 0 the report says complete; 1 it doesn't, or the ledger was refused (`refused 404` no header
 with a readable table, `refused 405` its table doesn't name its states in order); 2 a wrong command line;
-3 out of memory (`refused memory`); 4 the file failed (`refused 604`), or a stream did (`refused 603`).";
+3 out of memory (`refused memory`); 4 the file failed (`refused 604`), or a stream did (`refused 603`), or another
+process writes it (`refused 606`).";
 
 pub(crate) const MERGE: &str =
     "Both ledgers are of one tree. OUT gets the records of A, each holdout that B settles settled in its place,
@@ -83,7 +86,7 @@ and then those of B for tables that A has no record of. Each record is judged ag
 Exit status: 0 all was kept; 1 it wasn't, or a ledger was refused (`refused 404` no header with a readable
 table, `refused 405` the tables of the two headers differ, or one isn't in order); 2 a wrong command line;
 3 out of memory (`refused memory`); 4 a file couldn't be read (`refused 605`) or written (`refused 604`),
-or a stream failed (`refused 603`).";
+or a stream failed (`refused 603`), or another process writes OUT (`refused 606`).";
 
 pub(crate) const CARRY: &str =
     "A ledger of version 1 has `H k` for a table that halts in k steps, one of version 2 `H k s`, with s ones on the
@@ -94,7 +97,7 @@ halts; and `left LINE`, as by `bb report`, where not all of IN could be kept.
 Exit status: 0 all was kept; 1 it wasn't, or the ledger was refused (`refused 404` no header with a readable
 table, `refused 405` its table doesn't name its states in order); 2 a wrong command line; 3 out of memory
 (`refused memory`); 4 a file couldn't be read (`refused 605`) or written (`refused 604`), or a stream failed
-(`refused 603`).";
+(`refused 603`), or another process writes OUT (`refused 606`).";
 
 pub(crate) const DRAW: &str =
     "Time goes downwards, a row for each time, cells to the right; ones are dark, the head has the colour of its state, and
@@ -150,20 +153,27 @@ With --ledger the one ledger is written too.
 
 Exit status: 0 the report says complete, and all was kept; 1 it doesn't, or a ledger was refused; 2 a wrong command
 line; 3 out of memory (`refused memory`); 4 a file couldn't be read (`refused 605`) or written (`refused 604`), or a
-stream failed (`refused 603`).";
+stream failed (`refused 603`), or another process writes the one ledger (`refused 606`).";
 
-pub(crate) const DECIDE: &str =
-    "A line is a table in the bbchallenge standard format. Its record has the first certificate that is
+pub(crate) const DECIDE: &str = "  $ echo 1RB1LB_1LA--- | bb decide
+  1RB1LB_1LA--- H 6 4
+  $ echo 0RB0LA_0LB--- | bb decide | bb check
+  0RB0LA_0LB--- never
+
+A line is a table in the bbchallenge standard format. Its record has the first certificate that is
 found and stands, looked for in this order: that it halts, a cycle, a translated cycle, backward
 reasoning, a closed position set, finite automata; or `U`, undecided. A text that is no table is answered
 `refused 301` with its fault, as by `bb check`, and a line over 65,536 bytes `refused 305`.
-`bb decide | bb check` checks what was found.
 
 Exit status: 0 each line was a table; 1 some wasn't; 2 a wrong command line; 3 out of memory
 (`refused memory` on standard error); 4 a stream failed (`refused 603`).";
 
-pub(crate) const RECORDS: &str =
-    "A record is a table in the bbchallenge standard format, a space and a certificate:
+pub(crate) const RECORDS: &str = "  $ echo 1RB1LB_1LA--- H 6 4 | bb check
+  1RB1LB_1LA--- halts 6 ones 4
+  $ echo 0RB---_0LA--- C 0 2 | bb check
+  0RB---_0LA--- never
+
+A record is a table in the bbchallenge standard format, a space and a certificate:
   H k         it halts in k steps (the halting step counts); k up to 100,000,000
   H k s       so it does, and with s ones on its tape then (the halting step writes one)
   C i j       the configurations at the times i and j are equal; j up to 10,000,000

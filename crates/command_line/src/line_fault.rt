@@ -8,12 +8,15 @@ use std::alloc::{AllocFailed, Global};
 use std::io::{self, Write};
 use thiserror::Error as Fault;
 
-/// Why there are no options: clap refused the words or was asked for help or the version, a word isn't
-/// text, clap let through a command or a number that it should have refused, or memory was refused.
+/// Why there are no options: clap refused the words, also for a path where a number belongs, or was asked for help or the
+/// version, a word isn't text, clap let through a command or a number that it should have refused, or memory was refused.
 #[derive(Debug, Drop, Fault)]
 pub enum LineFault {
     #[error("{0}")]
     Refused(Error),
+    #[error("{0}\nA number belongs there, and that is a path: a ledger is named as FILE where the command has one, else behind \
+--ledger.\n")]
+    PathForNumber(Error),
     #[error("error: a word of the command line isn't UTF-8\n")]
     NotText,
     #[error("error: no such command\n")]
@@ -33,7 +36,10 @@ impl LineFault {
     {
         let is_answer = match &self {
             LineFault::Refused(refused) => !refused.use_stderr(),
-            LineFault::NotText | LineFault::NoSuchCommand | LineFault::OutOfRange => false,
+            LineFault::PathForNumber(_)
+            | LineFault::NotText
+            | LineFault::NoSuchCommand
+            | LineFault::OutOfRange => false,
             LineFault::NoMemory => return Ended::NoMemory.told(faults),
         };
         let Ok(text) = format!(in alloc; "{self}") else {

@@ -8,10 +8,11 @@ use crate::words::{
     DEPTH, ERA, FAR, FILE, FILLED, FIRST, FOLDER, FROM, GRAM, HARD, IN, JSON, LEDGER, LOSE, OUT,
     PICTURES, PROGRESS, ROUNDS, ROWS, SECOND, STATES, STEPS, SYNC, WHY, WIDTH, WORKERS,
 };
-use clap::ArgMatches;
+use clap::error::ErrorKind;
+use clap::{ArgMatches, Error};
 use options::{
-    Beginning, Carrying, Drawing, Durability, Joining, LedgerFile, Merging, Options, Search, Settling,
-    Splitting,
+    Beginning, Carrying, Drawing, Durability, Joining, LedgerFile, Merging, NoMemory, Options,
+    Search, Settling, Splitting,
 };
 use std::alloc::Global;
 
@@ -20,7 +21,10 @@ use std::alloc::Global;
 pub fn options<'a>(alloc: Global, words: &'a [&'a str]) -> Result<Options<'a>, LineFault>
     ensures { IfOk result AreWithinRanges }
 {
-    let matches = program(alloc)?.try_get_matches_from(words)?;
+    let matches = match program(alloc)?.try_get_matches_from(words) {
+        Ok(matches) => matches,
+        Err(fault) => return Err(refused(alloc, fault, words)),
+    };
     match matches.subcommand() {
         Some(("check", _)) => Ok(Options::Check),
         Some(("decide", decide)) => Ok(Options::Decide(search_of(decide)?)),
@@ -38,6 +42,30 @@ pub fn options<'a>(alloc: Global, words: &'a [&'a str]) -> Result<Options<'a>, L
         Some(("report", report)) => Ok(report_options(report)),
         _ => Err(LineFault::NoSuchCommand),
     }
+}
+
+// What clap refuses; named where it is a path in the place of a number.
+fn refused(alloc: Global, fault: Error, words: &[&str]) -> LineFault {
+    if fault.kind() != ErrorKind::ValueValidation {
+        return LineFault::from(fault);
+    }
+    match has_path(alloc, &fault, words) {
+        Ok(true) => LineFault::PathForNumber(fault),
+        Ok(false) => LineFault::from(fault),
+        Err(NoMemory) => LineFault::NoMemory,
+    }
+}
+
+// Whether a word of which clap speaks is a path.
+fn has_path(alloc: Global, fault: &Error, words: &[&str]) -> Result<bool, NoMemory> {
+    let said = format!(in alloc; "{fault}")?;
+    for word in words {
+        let quoted = format!(in alloc; "'{word}'")?;
+        if word.contains(['/', '.']) && said.contains(quoted.as_str()) {
+            return Ok(true);
+        }
+    }
+    Ok(false)
 }
 
 // How far to search. clap has refused what is out of range.

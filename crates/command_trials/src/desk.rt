@@ -129,10 +129,13 @@ impl<'a> Host for Desk<'a> {
 
     fn ledger(&self, file: &LedgerFile<'_>) -> io::Result<FileLedger<Paper<'a>>> {
         self.opened.set(self.opened.get().saturating_add(1));
-        Ok(FileLedger::of(Paper {
-            text: self.file(file.path)?,
-            at_once: self.at_once,
-        }, file.durability))
+        Ok(FileLedger::of(
+            Paper {
+                text: self.file(file.path)?,
+                at_once: self.at_once,
+            },
+            file.durability,
+        ))
     }
 
     fn is_replaceable(&self, _path: &str) -> bool {

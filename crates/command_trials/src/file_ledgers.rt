@@ -151,8 +151,7 @@ impl OpenFile for Slab<'_> {
         if self.syncs_left.get() == 0 {
             return Err(io::Error::from(ErrorKind::Other));
         }
-        self.syncs_left
-            .set(self.syncs_left.get().saturating_sub(1));
+        self.syncs_left.set(self.syncs_left.get().saturating_sub(1));
         self.on_disk.set(self.bytes.get());
         Ok(())
     }
@@ -183,7 +182,10 @@ fn lines_are_on_the_disk_where_that_is_asked_for(rt: HostRuntime) -> Result<(), 
     let alloc = rt.alloc();
     assert!(rt; on_disk(alloc, Durability::System, 0)? == Some(0));
     for syncs in 0..4 {
-        assert!(rt; on_disk(alloc, Durability::Disk, syncs)?.is_none(), "{syncs}");
+        assert!(rt;
+            on_disk(alloc, Durability::Disk, syncs)?.is_none(),
+            "{syncs}"
+        );
     }
     assert!(rt; on_disk(alloc, Durability::Disk, 4)? == Some(12));
     Ok(())

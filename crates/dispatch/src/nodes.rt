@@ -46,9 +46,7 @@ pub(crate) fn settle_over_sockets<H: PartsHost + Clock + Sockets, W: Write, E: W
     requires { IsSettling settling.now }
 {
     match workers_of(alloc, settling) {
-        Ok(workers) => run_over_sockets(
-            alloc, settling, ledger, workers, host, answers, faults,
-        ),
+        Ok(workers) => run_over_sockets(alloc, settling, ledger, workers, host, answers, faults),
         Err(_) => Ended::NoMemory.told(faults),
     }
 }

@@ -7,9 +7,7 @@ use json_report::Form;
 use ledger::Tally;
 use node_commands::{Progress, Telling};
 use options::{Ended, Joining, LedgerFile, Outcome, Search, Splitting};
-use part_commands::{
-    PartsHost, Silent, Tells, cmd_join, cmd_split, lock_ledger, settle_ledger_at,
-};
+use part_commands::{PartsHost, Silent, Tells, cmd_join, cmd_split, lock_ledger, settle_ledger_at};
 use std::alloc::Global;
 use std::io::Write;
 use std::time::Clock;

@@ -68,7 +68,12 @@ fn join_at<H: Host>(
         host,
         path: merging.second,
     };
-    join_into(alloc, &first, &second, &mut LedgerAt::new(host, LedgerFile::at(path)))
+    join_into(
+        alloc,
+        &first,
+        &second,
+        &mut LedgerAt::new(host, LedgerFile::at(path)),
+    )
 }
 
 // Prints what the board holds, and what wasn't kept.

@@ -5,13 +5,21 @@ ghost use Rattle.line_commands.specs.Stream.{AnswersStream};
 
 use crate::answers::answer;
 use crate::line_loop::{Answerer, answer_lines};
+use crate::misplaced::{Misplaced, Remark};
 use evidence::NoMemory;
+use machine_text::Table;
 use options::Outcome;
 use std::alloc::Global;
 use std::io::{Read, Write};
 
+// What is said where a line is what `bb decide` reads.
+const TABLE_ALONE: Remark = Remark {
+    before: b"bb check reads records, and line ",
+    behind: b" is a table alone: bb decide looks for its record\n",
+};
+
 /// Reads a record a line and prints an answer a line. A last line without newline is read too. What a
-/// failed stream or refused memory ends is said on `faults`; else what was printed is the answers to the lines of
+/// failed stream or refused memory ends is said on `faults`, and which line was the first that is a table alone; else what was printed is the answers to the lines of
 /// the input, in their order, and each `halts K` and each `never` of them is true of its table.
 pub fn cmd_check<R: Read, W: Write, E: Write>(
     alloc: Global,
@@ -22,12 +30,19 @@ pub fn cmd_check<R: Read, W: Write, E: Write>(
     ensures { AnswersStream SaysOfRecord (R.remaining input.old) (R.remaining input.new) (W.contents answers.old) (W.contents answers.new) result
         ⊎ (result ≡ Outcome.NoMemory) ⊎ (result ≡ Outcome.Failed) }
 {
-    answer_lines(alloc, &mut Checker { alloc }, input, answers, faults)
+    let mut checker = Checker {
+        alloc,
+        tables: Misplaced::none(),
+    };
+    let ended = answer_lines(alloc, &mut checker, input, answers, faults);
+    checker.tables.told(alloc, &TABLE_ALONE, ended, faults)
 }
 
 #[derive(Drop)]
 struct Checker {
     alloc: Global,
+    // the lines that are tables alone
+    tables: Misplaced,
 }
 
 impl Answerer for Checker {
@@ -36,6 +51,17 @@ impl Answerer for Checker {
     ghost says = { SaysOfRecord };
 
     fn answer(&mut self, line: Option<&[u8]>, out: &mut Vec<u8>) -> Result<Outcome, NoMemory> {
-        answer(self.alloc, line, out)
+        let outcome = answer(self.alloc, line, out)?;
+        self.tables
+            .count(outcome == Outcome::Refused && is_table(line));
+        Ok(outcome)
+    }
+}
+
+// Whether a line is a table and nothing else.
+fn is_table(line: Option<&[u8]>) -> bool {
+    match line {
+        Some(text) => Table::parse(text).is_ok(),
+        None => false,
     }
 }

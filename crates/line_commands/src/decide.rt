@@ -6,16 +6,23 @@ ghost use Rattle.line_commands.specs.Stream.{AnswersStream};
 
 use crate::answers::append_fault;
 use crate::line_loop::{Answerer, answer_lines};
-use cert::{Decider, RecordFault};
+use crate::misplaced::{Misplaced, Remark};
+use cert::{Decider, Record, RecordFault};
 use evidence::NoMemory;
 use machine_text::Table;
 use options::Outcome;
 use std::alloc::Global;
 use std::io::{Read, Write};
 
+// What is said where a line is what `bb check` reads.
+const RECORD: Remark = Remark {
+    before: b"bb decide reads tables, and line ",
+    behind: b" is a record: bb check judges it\n",
+};
+
 /// Reads a table a line and prints a record a line, as the decider answers: certified, or undecided. Lines are
 /// answered as they come, and a last line without newline is read too. What a failed stream or refused memory ends
-/// is said on `faults`; else what was printed is the answers to the lines of the input, in their order.
+/// is said on `faults`, and which line was the first that is a record; else what was printed is the answers to the lines of the input, in their order.
 pub fn cmd_decide<D: Decider, R: Read, W: Write, E: Write>(
     alloc: Global,
     decider: &mut D,
@@ -26,14 +33,21 @@ pub fn cmd_decide<D: Decider, R: Read, W: Write, E: Write>(
     ensures { AnswersStream (SaysOfTable D.answers) (R.remaining input.old) (R.remaining input.new) (W.contents answers.old) (W.contents answers.new) result
         ⊎ (result ≡ Outcome.NoMemory) ⊎ (result ≡ Outcome.Failed) }
 {
-    let mut answerer = TableAnswerer { alloc, decider };
-    answer_lines(alloc, &mut answerer, input, answers, faults)
+    let mut answerer = TableAnswerer {
+        alloc,
+        decider,
+        records: Misplaced::none(),
+    };
+    let ended = answer_lines(alloc, &mut answerer, input, answers, faults);
+    answerer.records.told(alloc, &RECORD, ended, faults)
 }
 
 #[derive(Drop)]
 struct TableAnswerer<'a, D> {
     alloc: Global,
     decider: &'a mut D,
+    // the lines that are records
+    records: Misplaced,
 }
 
 impl<'a, D: Decider> Answerer for TableAnswerer<'a, D> {
@@ -42,7 +56,10 @@ impl<'a, D: Decider> Answerer for TableAnswerer<'a, D> {
     ghost says = { SaysOfTable D.answers };
 
     fn answer(&mut self, line: Option<&[u8]>, out: &mut Vec<u8>) -> Result<Outcome, NoMemory> {
-        decide_line(self.alloc, self.decider, line, out)
+        let outcome = decide_line(self.alloc, self.decider, line, out)?;
+        self.records
+            .count(outcome == Outcome::Refused && is_record(line));
+        Ok(outcome)
     }
 }
 
@@ -92,4 +109,12 @@ fn append_record<D: Decider>(
     let record = decider.decide(alloc, t)?;
     record.lent().write_text(out)?;
     Ok(Outcome::Accepted)
+}
+
+// Whether a line is a record.
+fn is_record(line: Option<&[u8]>) -> bool {
+    match line {
+        Some(text) => Record::parse(text).is_ok(),
+        None => false,
+    }
 }

@@ -7,6 +7,7 @@ mod answers;
 mod check;
 mod decide;
 mod line_loop;
+mod misplaced;
 
 pub use answers::{answer, append_fault};
 pub use check::cmd_check;

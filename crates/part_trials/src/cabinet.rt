@@ -270,11 +270,14 @@ impl<'a> Host for Cabinet<'a> {
             return Err(fault());
         };
         let place = made(self.alloc, &mut sheets, file.path)?;
-        Ok(FileLedger::of(Drawer {
-            sheets: self.sheets,
-            calls_left: self.calls_left,
-            place,
-        }, file.durability))
+        Ok(FileLedger::of(
+            Drawer {
+                sheets: self.sheets,
+                calls_left: self.calls_left,
+                place,
+            },
+            file.durability,
+        ))
     }
 
     fn is_replaceable(&self, _path: &str) -> bool {

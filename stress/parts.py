@@ -182,7 +182,7 @@ def compare_split(rng, states, folder, counts):
     if names and min(map(filled, trunk.board.open)) < limit + 1:
         words[5] = str(limit + 1)
         run = subprocess.run(words, capture_output=True, check=False)
-        if (run.stdout, run.stderr, run.returncode) != (b"", b"refused 407\n", 1):
+        if (run.stdout, run.stderr, run.returncode) != (b"", b"refused 407: a table that would be decided in the trunk has a part\n", 1):
             return f"split {states} at {limit} and then {limit + 1}: {run.stdout!r}, {run.stderr!r}"
         counts["split: refused 407"] += 1
     return None

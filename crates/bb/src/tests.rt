@@ -174,13 +174,16 @@ fn ended(alloc: Global, text: &str, fails: (bool, bool)) -> Result<(Outcome, boo
     Ok((outcome, answers.written > 0, faults.written > 0))
 }
 
-// Command lines behind the exit status of each and the stream that something is written to. The input of
-// `bb decide` is a record, and no table.
+// Command lines behind the exit status of each and the stream that something is written to. The input is a record, and no
+// table.
 const LINES: &str = "\
 0 out bb check
-1 out bb decide
+1 both bb decide
+0 out bb draw
+0 out bb draw --width 1000000 --steps 0
 0 none bb coord 1 --ledger complete
 0 none bb coord 1 --ledger sealed
+0 none bb coord 1 --sync --ledger complete
 1 err bb coord 1 --ledger damaged
 4 err bb coord 1 --ledger absent
 1 err bb coord 2 --ledger complete
@@ -207,6 +210,9 @@ const LINES: &str = "\
 0 out bb report complete --json
 0 out bb report complete
 0 out bb report complete --why
+0 out bb page complete
+1 err bb page damaged
+4 err bb page absent
 4 err bb report absent
 0 out bb --help
 0 out bb report --help
@@ -219,6 +225,7 @@ const LINES: &str = "\
 2 err bb report a b
 2 err bb --steps
 2 err bb decide --steps 0
+2 err bb decide --steps file.ledger
 2 err bb decide --steps 100000001
 2 err bb decide --depth 1001
 2 err bb decide --gram 9
@@ -236,6 +243,9 @@ const LINES: &str = "\
 4 err bb settle absent
 4 err bb join absent
 2 err bb coord 0
+2 err bb coord folder/file
+2 err bb coord 1 --sync
+2 err bb loop 1 --sync
 2 err bb coord 8
 2 err bb coord 1 --era 0
 2 err bb run 1 --workers 65
@@ -246,6 +256,12 @@ const LINES: &str = "\
 2 err bb carry complete
 2 err bb carry complete complete complete
 2 err bb carry complete complete --json
+2 err bb draw --rows 0
+2 err bb draw --rows 10001
+2 err bb draw --width 1000001
+2 err bb draw --from 100000001
+2 err bb draw file
+2 err bb page
 2 err bb retry";
 
 #[test]
@@ -274,7 +290,10 @@ fn ends_so(
     status: &str,
     stream: &str,
 ) -> Result<(), Fail> {
-    let writes = (stream == "out", stream == "err");
+    let writes = (
+        stream == "out" || stream == "both",
+        stream == "err" || stream == "both",
+    );
     let (outcome, answers, faults) = ended(alloc, line, (false, false))?;
     assert!(rt;
         status.parse() == Ok(outcome.status()),
@@ -287,6 +306,36 @@ fn ends_so(
         assert!(rt; outcome == Outcome::Failed, "{line}: {outcome:?}");
     }
     Ok(())
+}
+
+// What clap refuses for a path in the place of a number is named so.
+#[test]
+fn paths_are_no_numbers(rt: HostRuntime) -> Result<(), Fail> {
+    for (text, is_path) in [
+        ("bb run four.ledger", true),
+        ("bb split parts/trunk 4", true),
+        ("bb decide --steps ./7", true),
+        ("bb run 8 --ledger four.ledger", false),
+        ("bb settle four.ledger --steps x", false),
+        ("bb report", false),
+    ] {
+        let is_named = names_path(&rt, rt.alloc(), text)?;
+        assert!(rt; is_named == is_path, "{text}");
+    }
+    Ok(())
+}
+
+// Whether the words of a text are refused for a path.
+fn names_path(rt: &impl Abort, alloc: Global, text: &str) -> Result<bool, Fail> {
+    let mut words = Vec::new(alloc);
+    for word in text.split(' ') {
+        words.push(word)?;
+    }
+    match options(alloc, &words) {
+        Err(LineFault::PathForNumber(_)) => Ok(true),
+        Err(LineFault::Refused(_)) => Ok(false),
+        _ => panic!(rt; "{text}: another end"),
+    }
 }
 
 // Numbers of `bb decide`: steps, depth, width and size.

@@ -8,7 +8,8 @@ use std::process::Abort;
 use std::test::Fail;
 
 // What `bb check` answers to an input that comes so many bytes at a time. Where memory is refused it says
-// so, after answers that stand, and is asked once more: then the answers must come.
+// so, after answers that stand, and is asked once more: then the answers must come. Nothing is said beside them, but
+// where the first line is a table alone.
 fn checked(
     rt: &impl Abort,
     alloc: Global,
@@ -25,7 +26,9 @@ fn checked(
         ended = asked(alloc, input, at_once, &mut sink, &mut faults);
     }
     assert_bytes(rt, &sink.kept, answers);
-    assert!(rt; ended == outcome && faults.kept.is_empty());
+    let remark =
+        b"bb check reads records, and line 1 is a table alone: bb decide looks for its record\n";
+    assert!(rt; ended == outcome && (faults.kept.is_empty() || faults.kept.as_slice() == remark));
 }
 
 // Memory was refused after some of the answers; what was said is let go.
@@ -406,4 +409,30 @@ fn statuses_rise_with_gravity(rt: HostRuntime) {
         assert_eq!(rt; outcome.status(), status);
     }
     assert!(rt; Outcome::Refused.max(Outcome::Failed) == Outcome::Failed);
+}
+
+// Who gives tables to what reads records is told, of the first; where that can't be said, a stream failed.
+#[test]
+fn a_table_alone_is_no_record(rt: HostRuntime) {
+    let alloc = rt.alloc();
+    let input = b"------ H 1\n1RA\n1RA---\n------";
+    for (writes_left, said, outcome) in [
+        (
+            ALWAYS,
+            b"bb check reads records, and line 3 is a table alone: bb decide looks for its record\n".as_slice(),
+            Outcome::Refused,
+        ),
+        (0, b"".as_slice(), Outcome::Failed),
+    ] {
+        let mut sink = Sink::new(alloc, usize::MAX, ALWAYS);
+        let mut faults = Sink::new(alloc, usize::MAX, writes_left);
+        let ended = asked(alloc, input, 5, &mut sink, &mut faults);
+        assert_bytes(
+            &rt,
+            &sink.kept,
+            b"------ halts 1\nrefused 301 101\nrefused 302\nrefused 302\n",
+        );
+        assert_bytes(&rt, &faults.kept, said);
+        assert!(rt; ended == outcome);
+    }
 }

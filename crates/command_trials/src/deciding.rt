@@ -146,6 +146,7 @@ fn decided(
     input: &[u8],
     at_once: usize,
     answers: &[u8],
+    said: &[u8],
     outcome: Outcome,
 ) -> Result<(), Fail> {
     let mut finders: Vec<Box<dyn Finder>> = Vec::new(alloc);
@@ -160,7 +161,8 @@ fn decided(
     let mut decider = Finders::new(finders, 100);
     let ended = cmd_decide(alloc, &mut decider, &mut source, &mut sink, &mut faults);
     assert_bytes(rt, &sink.kept, answers);
-    assert!(rt; ended == outcome && faults.kept.is_empty());
+    assert_bytes(rt, &faults.kept, said);
+    assert!(rt; ended == outcome);
     Ok(())
 }
 
@@ -174,6 +176,7 @@ fn tables_are_answered_by_records(rt: HostRuntime) -> Result<(), Fail> {
             b"1RB1LB_1LA1RZ\n1RB---_------\n1RA---",
             at_once,
             b"1RB1LB_1LA--- H 6 4\n1RB---_------ H 2 2\n1RA--- U\n",
+            b"",
             Outcome::Accepted,
         )?;
         decided(
@@ -182,6 +185,7 @@ fn tables_are_answered_by_records(rt: HostRuntime) -> Result<(), Fail> {
             b"1RC---_------\n\n------\n",
             at_once,
             b"refused 301 105 2\nrefused 301 101\n------ H 1 1\n",
+            b"",
             Outcome::Refused,
         )?;
     }
@@ -197,7 +201,23 @@ fn long_lines_are_no_tables(rt: HostRuntime) -> Result<(), Fail> {
         (65_537, b"refused 305\n".as_slice()),
     ] {
         let input = vec![in alloc; b'x'; length]?;
-        decided(&rt, alloc, &input, 4096, answer, Outcome::Refused)?;
+        decided(&rt, alloc, &input, 4096, answer, b"", Outcome::Refused)?;
+    }
+    Ok(())
+}
+
+// Who gives records to what reads tables is told, of the first.
+#[test]
+fn a_record_is_no_table(rt: HostRuntime) -> Result<(), Fail> {
+    for (input, answers, said) in [
+        (
+            b"------\nx\n------ H 1\n------ U\n".as_slice(),
+            b"------ H 1 1\nrefused 301 101\nrefused 301 101\nrefused 301 101\n".as_slice(),
+            b"bb decide reads tables, and line 3 is a record: bb check judges it\n".as_slice(),
+        ),
+        (b"------ X 1", b"refused 301 101\n", b""),
+    ] {
+        decided(&rt, rt.alloc(), input, 7, answers, said, Outcome::Refused)?;
     }
     Ok(())
 }

@@ -27,11 +27,11 @@ outcome_of WantsMemory = NoMemory
 abbrev pub ended_line : Ended → List ℕ
 ended_line BadHeader = codes "refused 404"
 ended_line WrongRoot = codes "refused 405"
-ended_line HasPart = codes "refused 407"
+ended_line HasPart = codes "refused 407: a table that would be decided in the trunk has a part"
 ended_line Stream = codes "refused 603"
 ended_line Ledger = codes "refused 604"
 ended_line File = codes "refused 605"
-ended_line Locked = codes "refused 606"
+ended_line Locked = codes "refused 606: another process writes the ledger"
 ended_line WantsMemory = codes "refused memory"
 
 -- with its newline

@@ -36,11 +36,12 @@ impl Ended {
         match self {
             Ended::BadHeader => b"refused 404\n",
             Ended::WrongRoot => b"refused 405\n",
-            Ended::HasPart => b"refused 407\n",
+            Ended::HasPart =>
+                b"refused 407: a table that would be decided in the trunk has a part\n",
             Ended::Stream => b"refused 603\n",
             Ended::Ledger => b"refused 604\n",
             Ended::File => b"refused 605\n",
-            Ended::Locked => b"refused 606\n",
+            Ended::Locked => b"refused 606: another process writes the ledger\n",
             Ended::NoMemory => b"refused memory\n",
         }
     }

@@ -3,7 +3,10 @@ ghost use Rattle.options.specs.Ranges.{AreWithinRanges};
 
 use crate::cabinet::{ALWAYS, Cabinet, Sheet, text_at};
 use dispatch::carry_out;
-use options::{Drawing, Joining, LedgerFile, Options, Outcome, Search, Settling, Splitting};
+use options::{
+    Beginning, Carrying, Drawing, Joining, LedgerFile, Merging, Options, Outcome, Search, Settling,
+    Splitting,
+};
 use std::alloc::Global;
 use std::cell::{Cell, RefCell};
 use std::process::Abort;
@@ -137,6 +140,71 @@ pub fn join(cabinet: &Cabinet<'_>, out: Option<&str>, json: bool) -> Ending {
         out,
         json,
     });
+    carried(cabinet.alloc, asked, "", cabinet)
+}
+
+/// `bb run 1` or `bb loop 1` on a ledger.
+pub fn run_into(rt: &impl Abort, cabinet: &Cabinet<'_>, file: &str, is_loop: bool) -> Ending {
+    check_search(rt, &SEARCH);
+    let settling = Settling {
+        states: 1,
+        workers: 1,
+        lose: None,
+        rounds: 1_000,
+        search: SEARCH,
+        json: false,
+        progress: false,
+    };
+    let ledger = Some(LedgerFile::at(file));
+    if is_loop {
+        carried(
+            cabinet.alloc,
+            Options::Loop { settling, ledger },
+            "",
+            cabinet,
+        )
+    } else {
+        carried(
+            cabinet.alloc,
+            Options::Run { settling, ledger },
+            "",
+            cabinet,
+        )
+    }
+}
+
+/// `bb coord 1` on a ledger, without a line.
+pub fn coord(cabinet: &Cabinet<'_>, file: &str) -> Ending {
+    let asked = Options::Coord {
+        beginning: Beginning { states: 1, era: 1 },
+        ledger: Some(LedgerFile::at(file)),
+    };
+    carried(cabinet.alloc, asked, "", cabinet)
+}
+
+/// `bb retry`.
+pub fn retry(rt: &impl Abort, cabinet: &Cabinet<'_>, file: &str, search: Search) -> Ending {
+    check_search(rt, &search);
+    let asked = Options::Retry {
+        file: LedgerFile::at(file),
+        search,
+    };
+    carried(cabinet.alloc, asked, "", cabinet)
+}
+
+/// `bb merge` of a ledger with itself.
+pub fn merge(cabinet: &Cabinet<'_>, file: &str, out: &str) -> Ending {
+    let asked = Options::Merge(Merging {
+        first: file,
+        second: file,
+        out,
+    });
+    carried(cabinet.alloc, asked, "", cabinet)
+}
+
+/// `bb carry`.
+pub fn carry(cabinet: &Cabinet<'_>, file: &str, out: &str) -> Ending {
+    let asked = Options::Carry(Carrying { ledger: file, out });
     carried(cabinet.alloc, asked, "", cabinet)
 }
 

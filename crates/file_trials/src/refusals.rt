@@ -7,6 +7,10 @@ use std::cell::{Cell, RefCell};
 use std::process::Abort;
 use std::test::Fail;
 
+const LOCKED: &[u8] = b"refused 606: another process writes the ledger\n";
+
+const HAS_PART: &[u8] = b"refused 407: a table that would be decided in the trunk has a part\n";
+
 // A part of the tree of two states where the root alone is settled in the trunk.
 const PART: &str = "parts/0RA---_------.ledger";
 
@@ -91,10 +95,10 @@ fn a_locked_ledger_is_left_alone(rt: HostRuntime) -> Result<(), Fail> {
     let mut cabinet = cabinet_of(alloc, &sheets, &calls_left);
     cabinet.locked = PART;
     let ended = settle(&rt, &cabinet, PART, SEARCH);
-    assert_end(&rt, &ended, Outcome::Failed, b"", b"refused 606\n");
+    assert_end(&rt, &ended, Outcome::Failed, b"", LOCKED);
     cabinet.locked = TRUNK;
     let ended = split(&rt, &cabinet, 2, 1, SEARCH);
-    assert_end(&rt, &ended, Outcome::Failed, b"", b"refused 606\n");
+    assert_end(&rt, &ended, Outcome::Failed, b"", LOCKED);
     assert_bytes(&rt, &held(&rt, &cabinet, PART)?, torn);
     assert_bytes(&rt, &held(&rt, &cabinet, TRUNK)?, b"bb-led");
     Ok(())
@@ -116,7 +120,7 @@ fn a_tree_is_not_split_through_its_parts(rt: HostRuntime) -> Result<(), Fail> {
         ),
         (1, Outcome::Accepted, b"trunk 1 parts 4\n", b""),
         (0, Outcome::Accepted, b"trunk 1 parts 4\n", b""),
-        (2, Outcome::Refused, b"", b"refused 407\n"),
+        (2, Outcome::Refused, b"", HAS_PART),
     ] {
         let ended = split(&rt, &cabinet, 2, filled, SEARCH);
         assert_end(&rt, &ended, outcome, answers, faults);

@@ -28,7 +28,9 @@ fn checked(
     assert_bytes(rt, &sink.kept, answers);
     let remark =
         b"bb check reads records, and line 1 is a table alone: bb decide looks for its record\n";
-    assert!(rt; ended == outcome && (faults.kept.is_empty() || faults.kept.as_slice() == remark));
+    assert!(rt;
+        ended == outcome && (faults.kept.is_empty() || faults.kept.as_slice() == remark.as_slice())
+    );
 }
 
 // Memory was refused after some of the answers; what was said is let go.

@@ -15,9 +15,10 @@ use Rattle.ledger.specs.Contents.{Contents, IsBoard, IsOpenOn}
 use Rattle.ledger.specs.Held.{IsFit}
 use Rattle.ledger.specs.Records.{claim_in}
 use Rattle.ledger.specs.LedgerText.{IsLedgerOf, ReadsIn}
-use Rattle.ledger.specs.Tally.{AreAll}
+use Rattle.ledger.specs.Tally.{AreAll, IsTally}
 use Rattle.ledger.specs.declared.left.Left.{Left}
 use Rattle.ledger.specs.declared.left.Left.TheVariants.{Nothing, From}
+use Rattle.ledger.specs.declared.tally.Tally.{Tally}
 use Rattle.ledger.proofs.Apart.{first_member, first_or_later, later_member}
 use Rattle.ledger.proofs.HeldLaws.{unmarked}
 use Rattle.ledger.proofs.OpenLaws.{open_taken, taken_new}
@@ -25,8 +26,8 @@ use Rattle.ledger_commands.specs.Retry.{StaysInStep}
 use Rattle.ledger_commands.proofs.Retrying.{cut_in_step, stays_by}
 use Rattle.options.specs.declared.ended.Ended.{Ended}
 use Rattle.options.specs.declared.ended.Ended.TheVariants.{BadHeader, WrongRoot, Stream, Ledger, File, HasPart, Locked, NoMemory}
-use Rattle.part_commands.specs.Settling.{ComesFirst, EndsAtOne, EndsSettling, IsOpenBelow, SettlesMany, SettlesOne, filled_count, with_last}
-use Rattle.part_commands.specs.Settle.{kept_part}
+use Rattle.part_commands.specs.Settling.{ComesFirst, EndsAtOne, EndsSettling, IsOpenBelow, SettlesMany, SettlesOne, with_last}
+use Rattle.part_commands.specs.Settle.{EndsWhole, kept_part, settled_text}
 use Rattle.part_commands.specs.inside.{is_below}
 
 first_before : {X : Type 0} (R : X → X → Type 0) (x : X) (xs : List X) → AllPairs R (x ∷ xs) → All (R x) xs
@@ -147,3 +148,26 @@ pub cut_reads : (b : Contents) (left : Left) (text : Option (List ℕ)) → IfSo
 cut_reads b Nothing text h = h
 cut_reads b (From line kept why) None h = tt
 cut_reads b (From line kept why) (Some text) h = cut_in_step b (Some text) (Some (take kept text)) line kept why refl h
+
+-- all is settled, and there is no memory to say so
+pub unsaid : (Answers : Packed → Recorded → Type 0) (HasFailed : Type 0) (old new : Contents) (left : Left) (before cut after said : Option (List ℕ)) (k : ℕ) (tally : Tally) → cut ≡ kept_part left before
+    → SettlesMany Answers ComesFirst k old cut new after → ((t : Packed) → IsOpenOn new t → ⊥) → IsTally new.root new.records tally
+    → EndsWhole Answers HasFailed NoMemory old left before after said said
+unsaid Answers HasFailed old new left before cut after said k tally is many all counted = record {
+  failed = λ same. absurd (cc);
+  how = inr (
+    inr (refl, refl),
+    (
+      settled_text k tally.holdouts,
+      record {
+        count = k;
+        board = new;
+        many = subst (λ (o : Option (List ℕ)). SettlesMany Answers ComesFirst k old o new after) is many;
+        none_open = all;
+        tally = tally;
+        counted = counted;
+        is = refl;
+      },
+    ),
+  );
+}

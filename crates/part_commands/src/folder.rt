@@ -19,19 +19,20 @@ pub(crate) const TRUNK: &str = "trunk";
 
 /// A folder of ledgers, one for each part of a tree.
 pub trait Folder {
-    ghost use Rattle.std.specs.Prelude.{◌≡◌, ◌∷◌, [], Bool, IfOk, List, Option, OnOk};
+    ghost use Rattle.std.specs.Prelude.{◌≡◌, ◌∷◌, [], Bool, List, Option, OnOk, Result};
     ghost use Rattle.machine_text.specs.Packed.{Packed};
+    ghost use Rattle.options.specs.declared.ended.Ended.{Ended};
     ghost use Rattle.part_commands.specs.Split.{also_begun};
 
     /// The roots of the parts that were begun, in their order, where that is known.
     ghost begun: { Self → Option (List Packed) };
 
-    /// What may come of looking for the part of a root.
-    ghost sees: { Self → Packed → Bool → Type 0 };
+    /// What may come of looking for the part of a root: whether it is there, or what ends a command that can't see it.
+    ghost sees: { Self → Packed → Result Bool Ended → Type 0 };
 
     /// Whether the ledger of the part of a root is there and holds something.
     fn has(&self, root: &Table) -> Result<bool, Ended>
-        ensures { IfOk result (sees self.now root.now) };
+        ensures { sees self.now root.now result };
 
     /// Makes sure that the ledger of the part of a root begins with its header.
     fn begin(&mut self, root: &Table) -> Result<(), Ended>
@@ -61,7 +62,7 @@ impl<H: Host> Folder for FolderAt<'_, H> {
 
     ghost begun = { λ folder. None };
 
-    ghost sees = { λ folder root there. ⊤ };
+    ghost sees = { λ folder root seen. ⊤ };
 
     fn has(&self, root: &Table) -> Result<bool, Ended> {
         let path = part_path(self.alloc, self.path, root)?;

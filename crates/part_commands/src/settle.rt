@@ -1,9 +1,9 @@
 // `bb settle`: a ledger is gone on with until no table of its board is open.
-ghost use Rattle.std.specs.Prelude.{◌≡◌, ◌++◌, IfSome, MatchResult, OnOk, OnErr, List, ℕ};
+ghost use Rattle.std.specs.Prelude.{◌≡◌, ◌≢◌, ◌++◌, IfErr, IfSome, MatchResult, OnOk, OnErr, List, ℕ};
 ghost use Rattle.std.specs.Io.KnownBytes.{Appends};
 ghost use Rattle.ledger.specs.LedgerText.{IsLedgerOf, ReadsIn};
 ghost use Rattle.ledger_commands.specs.Retry.{AtSomeTime};
-ghost use Rattle.part_commands.specs.Settle.{SettlesLedger, SettlesWhole, kept_part, settled_text};
+ghost use Rattle.part_commands.specs.Settle.{EndsLedgerAt, EndsWhole, FailsCut, FailsReading, SettlesLedger, SettlesWhole, kept_part, settled_text};
 
 use crate::reading::load_held;
 use crate::settling::settle_board;
@@ -29,9 +29,12 @@ pub fn settle_ledger<F: Read + Drop, L: LedgerOut, D: Decider, P: Tells, W: Writ
     progress: &mut P,
     answers: &mut W,
 ) -> Result<(), Ended>
-    ensures { OnOk result (MatchResult held
+    ensures settles { OnOk result (MatchResult held
         (λ file. SettlesLedger (AtSomeTime D D.answers) (F.remaining file.reader) file.length (L.text ledger.old) (L.text ledger.new) (W.contents answers.old) (W.contents answers.new))
         (λ fault. ⊥)) }
+    ensures ended { IfErr result (λ e. MatchResult held
+        (λ file. EndsLedgerAt (AtSomeTime D D.answers) (L.failures ledger.old ≢ L.failures ledger.new) e (F.remaining file.reader) file.length (L.text ledger.old) (L.text ledger.new) (W.contents answers.old) (W.contents answers.new))
+        (λ fault. FailsReading e × (L.text ledger.new ≡ L.text ledger.old) × (W.contents answers.new ≡ W.contents answers.old))) }
 {
     match load_held(alloc, held) {
         Ok((mut board, left)) => {
@@ -54,6 +57,7 @@ fn settle_loaded<L: LedgerOut, D: Decider, P: Tells, W: Write>(
     ensures settled { OnOk result ((told : List ℕ) × SettlesWhole (AtSomeTime D D.answers) board.old left.now (L.text ledger.old) (L.text ledger.new) told
         × Appends (W.contents answers.old) (W.contents answers.new) told) }
     ensures step { OnOk result (IfSome (L.text ledger.old) (λ text. ReadsIn board.old.format board.old.root text board.old.records left.now) → IfSome (L.text ledger.new) (IsLedgerOf board.new)) }
+    ensures ended { IfErr result (λ e. EndsWhole (AtSomeTime D D.answers) (L.failures ledger.old ≢ L.failures ledger.new) e board.old left.now (L.text ledger.old) (L.text ledger.new) (W.contents answers.old) (W.contents answers.new)) }
 {
     cut_off(left, ledger)?;
     let count = settle_board(alloc, board, decider, ledger, progress)?;
@@ -65,7 +69,9 @@ fn settle_loaded<L: LedgerOut, D: Decider, P: Tells, W: Write>(
 
 // Cuts off what wasn't kept of a ledger.
 pub(crate) fn cut_off<L: LedgerOut>(left: &Left, ledger: &mut L) -> Result<(), Ended>
-    ensures { OnOk result (L.text ledger.new ≡ kept_part left.now (L.text ledger.old)) }
+    ensures ok { OnOk result ((L.text ledger.new ≡ kept_part left.now (L.text ledger.old)) × (L.failures ledger.new ≡ L.failures ledger.old)) }
+    ensures err { IfErr result (λ e. FailsCut left.now e (L.text ledger.old) (L.text ledger.new)) }
+    ensures failed { OnErr result (L.failures ledger.old ≢ L.failures ledger.new) }
 {
     let cut = match left {
         Left::Nothing => Ok(()),

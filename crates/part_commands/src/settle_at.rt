@@ -20,7 +20,7 @@ pub fn settle_ledger_at<H: PartsHost, D: Decider, P: Tells, W: Write>(
     progress: &mut P,
     answers: &mut W,
 ) -> Result<(), Ended>
-    ensures { OnOk result ((lock : H.Lock) × H.locks host.now file.path.now (Ok (Some lock))) }
+    ensures { OnOk result ((lock : H.Lock) × H.locks host.now file.entry.path.now (Ok (Some lock))) }
 {
     let _lock = lock_ledger(host, file.path)?;
     let mut ledger = LedgerAt::new(host, file);

@@ -1,16 +1,20 @@
 // The trunk of a tree, which is begun or gone on with.
-ghost use Rattle.std.specs.Prelude.{◌≡◌, ◌≤◌, ◌^◌, ◌<◌, ℕ, All, List, [], Err, IfErr, IfOk, IfSome, MatchResult, Ok, OnOk, false, length};
+ghost use Rattle.std.specs.Prelude.{◌≡◌, ◌≢◌, ◌≤◌, ◌^◌, ◌<◌, ℕ, All, List, [], Contains, Err, IfErr, IfOk, IfSome, MatchResult, Ok, OnErr, OnOk, false, length};
 ghost use Rattle.machine_text.specs.Limits.{state_limit};
 ghost use Rattle.machine_text.specs.Packed.{Packed, empty_table};
 ghost use Rattle.ledger.specs.Contents.{IsOpenOn};
 ghost use Rattle.ledger.specs.LedgerText.{IsLedgerOf, LoadGives};
 ghost use Rattle.ledger.specs.Loading.{StandsAfter};
+ghost use Rattle.ledger.specs.declared.faults.LoadFault.{LoadFault};
+ghost use Rattle.ledger_commands.specs.Faults.{ended_by_load};
 ghost use Rattle.ledger_commands.specs.Reading.{AreFirstBytes};
 ghost use Rattle.ledger_commands.specs.Retry.{AtSomeTime};
+ghost use Rattle.part_commands.specs.Settle.{FailsReading};
 ghost use Rattle.part_commands.specs.Settling.{IsOpenBelow, SettlesMany, filled_count};
-ghost use Rattle.part_commands.specs.Split.{GrowsTrunk, begun_trunk, due_header, kept_size};
+ghost use Rattle.part_commands.specs.Split.{EndsBeginning, EndsGrowing, EndsLooking, EndsTrunk, GrowsTrunk, IsNoTrunk, StopsAt, begun_trunk, due_header, kept_size};
 
 use crate::folder::Folder;
+use crate::reading::by_fault;
 use crate::settle::cut_off;
 use crate::settling::{append_line, open_below, settle_below};
 use crate::tells::Tells;
@@ -41,10 +45,13 @@ pub fn grow_trunk<F: Read + Drop, G: Folder, L: LedgerOut, D: Decider, P: Tells>
 ) -> Result<Board, Ended>
     requires { (1 ≤ n) × (n ≤ state_limit) }
     ensures grows { IfOk result (λ board. MatchResult held
-        (λ file. GrowsTrunk (λ t. G.sees folder.now t false) (AtSomeTime D D.answers) n limit (F.remaining file.reader) file.length (L.text ledger.old) board (L.text ledger.new))
+        (λ file. GrowsTrunk (λ t. G.sees folder.now t (Ok false)) (AtSomeTime D D.answers) n limit (F.remaining file.reader) file.length (L.text ledger.old) board (L.text ledger.new))
         (λ fault. ⊥)) }
     ensures root { IfOk result (λ board. board.root ≡ empty_table n) }
     ensures all { IfOk result (λ board. (t : Packed) → IsOpenOn board t → limit ≤ filled_count t) }
+    ensures ended { IfErr result (λ e. MatchResult held
+        (λ file. EndsTrunk (G.sees folder.now) (AtSomeTime D D.answers) (L.failures ledger.old ≢ L.failures ledger.new) n limit e (F.remaining file.reader) file.length (L.text ledger.old) (L.text ledger.new))
+        (λ fault. FailsReading e × (L.text ledger.new ≡ L.text ledger.old))) }
 {
     match load_trunk(alloc, n, held) {
         Ok((mut board, left, bytes)) => {
@@ -67,12 +74,13 @@ fn load_trunk<F: Read + Drop>(
     held: io::Result<Opened<F>>,
 ) -> Result<(Board, Left, u64), Ended>
     requires { (1 ≤ n) × (n ≤ state_limit) }
-    ensures { IfOk result (λ l. MatchResult held (λ file. (text : List ℕ) × AreFirstBytes (F.remaining file.reader) file.length text
+    ensures ok { IfOk result (λ l. MatchResult held (λ file. (text : List ℕ) × AreFirstBytes (F.remaining file.reader) file.length text
         × (l.2 ≡ length text) × LoadGives (empty_table n) text (Ok (l.0, l.1))) (λ fault. ⊥)) }
+    ensures err { IfErr result (λ e. MatchResult held (λ file. IsNoTrunk n (F.remaining file.reader) file.length e) (λ fault. FailsReading e)) }
 {
     match held {
         Ok(mut held) => load_tree(alloc, n, &mut held.reader, held.length),
-        Err(fault) => Err(Ended::by_ledger(&fault)),
+        Err(fault) => Err(by_fault(&fault)),
     }
 }
 
@@ -84,21 +92,23 @@ fn load_tree<R: Read>(
     limit: u64,
 ) -> Result<(Board, Left, u64), Ended>
     requires { (1 ≤ n) × (n ≤ state_limit) }
-    ensures { IfOk result (λ l. (text : List ℕ) × AreFirstBytes (R.remaining from.old) limit text
+    ensures ok { IfOk result (λ l. (text : List ℕ) × AreFirstBytes (R.remaining from.old) limit text
         × (l.2 ≡ length text) × LoadGives (empty_table n) text (Ok (l.0, l.1))) }
+    ensures err { IfErr result (IsNoTrunk n (R.remaining from.old) limit) }
 {
     rado_of_tables();
     let mut loader = Loader::new(alloc, root(n));
     match loader.feed_from(from, limit) {
         Ok(()) => finished(loader),
-        Err(ReadStop::Failed(fault)) => Err(Ended::by_ledger(&fault)),
+        Err(ReadStop::Failed(fault)) => Err(by_fault(&fault)),
         Err(ReadStop::NoMemory) => Err(Ended::NoMemory),
     }
 }
 
 // The same of what a loader was fed.
 fn finished(loader: Loader) -> Result<(Board, Left, u64), Ended>
-    ensures { (text : List ℕ) → StandsAfter loader text → IfOk result (λ l. (l.2 ≡ length text) × LoadGives loader.root text (Ok (l.0, l.1))) }
+    ensures ok { (text : List ℕ) → StandsAfter loader text → IfOk result (λ l. (l.2 ≡ length text) × LoadGives loader.root text (Ok (l.0, l.1))) }
+    ensures err { (text : List ℕ) → StandsAfter loader text → IfErr result (λ e. (fault : LoadFault) × LoadGives loader.root text (Err fault) × (e ≡ ended_by_load fault)) }
 {
     let bytes = loader.bytes();
     match loader.finish() {
@@ -114,7 +124,8 @@ fn refuse_parts<G: Folder>(
     limit: u64,
     folder: &G,
 ) -> Result<(), Ended>
-    ensures { OnOk result ((t : Packed) → IsOpenBelow limit board.now t → G.sees folder.now t false) }
+    ensures ok { OnOk result ((t : Packed) → IsOpenBelow limit board.now t → G.sees folder.now t (Ok false)) }
+    ensures err { IfErr result (EndsLooking (G.sees folder.now) limit board.now) }
 {
     let due = open_below(alloc, board, limit)?;
     refuse_parts_of(&due, folder)
@@ -122,7 +133,8 @@ fn refuse_parts<G: Folder>(
 
 // Refuses where the folder has a part of one of these tables.
 fn refuse_parts_of<G: Folder>(tables: &[Table], folder: &G) -> Result<(), Ended>
-    ensures { OnOk result (All (λ t. G.sees folder.now t false) tables.now) }
+    ensures ok { OnOk result (All (λ t. G.sees folder.now t (Ok false)) tables.now) }
+    ensures err { IfErr result (λ e. (t : Packed) × Contains tables.now t × StopsAt (G.sees folder.now) t e) }
 {
     for t in tables {
         if folder.has(t)? {
@@ -146,6 +158,7 @@ fn grow<L: LedgerOut, D: Decider, P: Tells>(
     ensures settled { OnOk result ((k : ℕ) × SettlesMany (AtSomeTime D D.answers) (IsOpenBelow limit) k board.old (begun_trunk board.old.root bytes left.now (L.text ledger.old)) board.new (L.text ledger.new)) }
     ensures all { OnOk result ((t : Packed) → IsOpenOn board.new t → limit ≤ filled_count t) }
     ensures step { OnOk result (IfSome (begun_trunk board.old.root bytes left.now (L.text ledger.old)) (IsLedgerOf board.old) → IfSome (L.text ledger.new) (IsLedgerOf board.new)) }
+    ensures ended { IfErr result (λ e. EndsGrowing (AtSomeTime D D.answers) (L.failures ledger.old ≢ L.failures ledger.new) limit e board.old bytes left.now (L.text ledger.old) (L.text ledger.new)) }
 {
     begin_trunk(alloc, board.root(), left, bytes, ledger)?;
     settle_below(alloc, board, limit, decider, ledger, progress)?;
@@ -160,7 +173,8 @@ fn begin_trunk<L: LedgerOut>(
     bytes: u64,
     ledger: &mut L,
 ) -> Result<(), Ended>
-    ensures { OnOk result (L.text ledger.new ≡ begun_trunk root.now bytes left.now (L.text ledger.old)) }
+    ensures ok { OnOk result ((L.text ledger.new ≡ begun_trunk root.now bytes left.now (L.text ledger.old)) × (L.failures ledger.new ≡ L.failures ledger.old)) }
+    ensures err { IfErr result (λ e. EndsBeginning (L.failures ledger.old ≢ L.failures ledger.new) e root.now bytes left.now (L.text ledger.old) (L.text ledger.new)) }
 {
     let mut header = Vec::new(alloc);
     if kept_size(left, bytes) == 0 {

@@ -40,14 +40,14 @@ def hard(text, tables):
     """bb decide --hard, and bb check."""
     seconds, records = run(DECIDE + ["--hard"], text)
     row(f"`bb decide --hard`, all {tables:,} tables of four states", None,
-        f"{seconds:.1f} s, {1e6 * seconds / tables:.1f} microseconds a table; {len(left(records))} are left; {kinds(records)}")
+        f"{seconds:.1f} s, {1e6 * seconds / tables:.1f} microseconds a table; {len(left(records))} left; {kinds(records)}")
     seconds, refused = judged(records)
-    row(f"`bb check` of these {tables:,} records", None, f"{seconds:.1f} s, {refused} are refused")
+    row(f"`bb check` of these {tables:,} records", None, f"{seconds:.1f} s, {refused} refused")
     automata = [line + b"\n" for line in records.splitlines() if line.split(b" ")[1] == b"F"]
     many = b"".join(automata[k % len(automata)] for k in range(AUTOMATA))
     seconds, refused = judged(many)
     row(f"`bb check` of {AUTOMATA:,} records of automata, those {len(automata):,} again and again", None,
-        f"{seconds:.2f} s, {refused} are refused")
+        f"{seconds:.2f} s, {refused} refused")
 
 
 def automata(text):
@@ -64,7 +64,7 @@ def automata(text):
             return False
         ratio = seconds / other
     row(f"`bb decide --gram 0 --far 16`, the {tables:,} of them that `--gram 0 --far 0` leaves", ratio,
-        f"{seconds:.1f} s; {len(left(records))} are left")
+        f"{seconds:.1f} s; {len(left(records))} left")
     for words in (["--far", "2"], ["--far", "3"], ["--far", "8"], ["--far", "8", "--steps", "10000"], ["--hard"]):
         words = words if words == ["--hard"] else ["--gram", "0", *words]
         seconds, records = run(DECIDE + words, text)
@@ -86,7 +86,7 @@ def parts():
     if report != expected:
         print(f"the parts' report differs:\n{report.decode()}")
         return False
-    row(f"four states in {told[3]} parts after a trunk of {told[1]} records: `split`, `settle --hard`, `join`, against `bb run 4 --hard`",
+    row(f"four states in {int(told[3]):,} parts after a trunk of {told[1]} records: `split`, `settle --hard`, `join`, against `bb run 4 --hard`",
         seconds / whole, f"{seconds:.1f} s against {whole:.1f}, same report")
     return True
 
@@ -105,7 +105,7 @@ def main():
             rest = left(records)
             again = left(run(DECIDE + ["--gram", "8", "--far", far, "--steps", "10000"], b"".join(rest))[1])
             row(f"`bb decide --gram 8 --far {far}`, all {count:,} tables of four states", None,
-                f"{seconds:.1f} s; {len(rest)} are left, {len(again)} of them with `--steps 10000`")
+                f"{seconds:.1f} s; {len(rest)} left, {len(again)} of them with `--steps 10000`")
     return 0
 
 

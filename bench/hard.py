@@ -46,9 +46,10 @@ def main():
                   f"{1e6 * left[-1] / len(records):.0f} left of a million; {dict(sorted(found.items()))}; {refused} refused by bb check")
         steps = "" if budget == "1000" else f" --steps {budget}"
         settled = ", ".join(f"{count:,} `{kind}`" for kind, count in sorted(kinds.items()))
-        row(f"`bb decide --hard{steps}`, {kinds.total():,} tables of five states (samples by `bench/sample.py`, seeds {', '.join(seeds)})", None,
-            f"{min(times):.1f} to {max(times):.1f} microseconds a table; {', '.join(map(str, left))} are left, "
-            f"{1e6 * sum(left) / kinds.total():.0f} of a million; {settled}; {refused} are refused by `bb check`")
+        row(f"`bb decide --hard{steps}`, {kinds.total():,} tables of five states (`bench/sample.py`, seeds {', '.join(seeds)})", None,
+            f"{' to '.join(dict.fromkeys(f'{time:.1f}' for time in (min(times), max(times))))} microseconds a table; "
+            f"{', '.join(map(str, left))} left, "
+            f"{1e6 * sum(left) / kinds.total():.0f} of a million; {settled}; {refused} refused by `bb check`")
     return 0
 
 

@@ -1,10 +1,10 @@
 #!/bin/sh
 # Prints docs/SPEED.md's table of commands anew, each figure made by this run: bench/all.sh [quick]. What the scripts say
-# beside their rows goes to standard error. It needs Python 3 and an x86-64 Linux, and for the ratios rustc, by which the
-# plain programs are built; without it only the rows that have no ratio are made. With nothing beside it the whole takes some 7
+# beside their rows goes to standard error. It needs Python 3 and Linux on x86-64, and for the rows with ratios rustc, by
+# which the plain programs are built; where there is none, it says so, and those are left out. The whole takes some five
 # minutes of one processor, `quick`, with fewer records and one sample of five states, two. Not run here, since they
-# take longer or install packages: five states in parts (docs/FIVE.md), bench/stages.py, bench/loops.py, bench/parts.py,
-# bench/killed.py, bench/killed_run.py.
+# make no row of that table: bench/five_states.py (hours), bench/stages.py, bench/loops.py, bench/killed.py,
+# bench/killed_run.py, bench/read_json.py, and bench/parts.py, which installs packages.
 set -e
 cd "$(dirname "$0")"
 said=$(mktemp)

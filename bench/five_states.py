@@ -32,23 +32,15 @@ def verdicts(path):
     with open(path, "rb") as file:
         next(file)
         for line in file:
-            table, kind = line.split()[:2]
-            if kind == b"U":
+            table, rest = line.split(b" ", 1)
+            kind = rest[:1].decode()
+            kinds[kind] += 1
+            if kind == "U":
                 undecided.add(table)
-            elif table in undecided:
+            elif undecided and table in undecided:
                 undecided.remove(table)
-                settled[kind.decode()] += 1
+                settled[kind] += 1
                 kinds["U"] -= 1
-            kinds[kind.decode()] += 1
-    return kinds, settled
-
-
-def counted(paths):
-    kinds, settled = collections.Counter(), collections.Counter()
-    for path in paths:
-        more = verdicts(path)
-        kinds.update(more[0])
-        settled.update(more[1])
     return kinds, settled
 
 
@@ -65,7 +57,7 @@ def main():
     folder, (states, filled), options = sys.argv[1], sys.argv[2:4] or ("5", "5"), sys.argv[4:] or ["--hard"]
     told = subprocess.run([PROGRAM, "split", states, folder, "--filled", filled, *options], stdout=subprocess.PIPE, check=False).stdout
     print(told.decode(), end="", flush=True)
-    paths = parts(folder)
+    paths, counts = parts(folder), {}
     for command, words in PASSES:
         words = [command, *(words or options)]
         begun, before = time.perf_counter(), used()
@@ -73,12 +65,13 @@ def main():
         if command == "retry":
             worked_off(paths, ["settle", *options])
         clock, processor = time.perf_counter() - begun, used() - before
-        kinds, settled = counted(parts(folder) + [os.path.join(folder, "trunk.ledger")])
+        counts.update((path, verdicts(path)) for path in [*paths, os.path.join(folder, "trunk.ledger")])
+        kinds, settled = (sum((count[k] for count in counts.values()), collections.Counter()) for k in (0, 1))
         tables = kinds.total()
         print(f"| `{' '.join(words)}` of {len(paths):,} parts | {clock / 60:.1f} min | {processor / 60:.1f} processor minutes | "
               f"{kinds['U']:,} holdouts | {1e6 * kinds['U'] / tables:.0f} of a million |", flush=True)
         print(f"holdouts that were settled: {dict(sorted(settled.items()))}", flush=True)
-        paths = [path for path in parts(folder) if verdicts(path)[0]["U"]]
+        paths = [path for path in parts(folder) if counts[path][0]["U"]]
     print(f"records: {', '.join(f'{count:,} `{kind}`' for kind, count in sorted(kinds.items()))}; "
           f"ledgers of {sum(map(os.path.getsize, glob.glob(os.path.join(folder, '*.ledger')))) / 1e9:.1f} gigabytes; "
           f"no process had more than {resource.getrusage(resource.RUSAGE_CHILDREN).ru_maxrss / 1000:.0f} megabytes")

@@ -1,10 +1,10 @@
 #!/bin/sh
 # Prints docs/SPEED.md's table of commands anew, each figure made by this run: bench/all.sh [quick]. What the scripts say
-# beside their rows goes to standard error. It needs Python 3 and Linux on x86-64, and for the rows with ratios rustc, by
-# which the plain programs are built; where there is none, it says so, and those are left out. The whole takes some five
-# minutes of one processor, `quick`, with fewer records and one sample of five states, two. Not run here, since they
-# make no row of that table: bench/five_states.py (hours), bench/stages.py, bench/loops.py, bench/killed.py,
-# bench/killed_run.py, bench/read_json.py, and bench/parts.py, which installs packages.
+# beside their rows goes to standard error. It needs Python 3.10 and Linux on x86-64, and rustc for the plain programs with
+# which bb is compared; where there is none, it says so, and those rows are left out. The whole takes some five minutes of
+# one processor, `quick`, with fewer records and one sample of five states, two. Not run here, since they make no row of
+# that table: bench/five_states.py (hours), bench/stages.py, bench/loops.py, bench/killed.py, bench/killed_run.py,
+# bench/read_json.py, and bench/parts.py, which installs packages.
 set -e
 cd "$(dirname "$0")"
 said=$(mktemp)
@@ -37,7 +37,7 @@ if command -v rustc > /dev/null; then
     bench coord.py $frames
     bench report.py $records
 else
-    echo "bench/all.sh: there is no rustc, so there are no ratios" >&2
+    echo "bench/all.sh: there is no rustc, so nothing is compared with plain programs" >&2
 fi
 # shellcheck disable=SC2086
 bench four_states.py $quick

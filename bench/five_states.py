@@ -1,7 +1,8 @@
 #!/usr/bin/env python3
 """What docs/FIVE.md says of five states: their tree is split, its parts are settled and those with holdouts tried again twice (and
-settled again, where that opened tables), and all is told of by bb join. Prints of each pass the time on the clock, the processor minutes, and how many holdouts there are
-after it; then how many records of each kind the ledgers hold, their bytes, and the report.
+settled again, where that opened tables), and all is told of by bb join. Prints of each pass the time on the clock, the
+processor minutes, how many holdouts there are after it, and of which kinds those are that were settled so far; then how many
+records of each kind the ledgers hold, their bytes, the most memory that a process had, and the report.
 
 bench/five_states.py DIR [N FILLED [OPTIONS OF bb settle..]]: DIR is the folder for the ledgers, of 9 gigabytes; it takes two
 hours of one processor, and goes on with what is there. JOBS is how many parts are worked off at once, as many as there

@@ -27,7 +27,8 @@ fn main() -> io::Result<()> {
             read = ahead.pop().unwrap_or(0);
             state = e.next;
         }
-        println!("{}: of {steps} steps {again} take the entry of the step before again, {:.2} per cent", printed(&rows), 100.0 * again as f64 / steps as f64);
+        let share = 100.0 * again as f64 / steps as f64;
+        println!("{}: of {steps} steps {again} take the entry of the step before again, {share:.2} per cent", printed(&rows));
     }
     Ok(())
 }

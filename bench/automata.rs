@@ -2,8 +2,8 @@
 use crate::machine::Row;
 
 /// Named states and tries a side, at a budget of 1,000.
-const STAGES: [(usize, u64); 7] = [(2, 60), (3, 60), (6, 100), (8, 500), (10, 2_000), (12, 4_000), (15, 4_000)];
-const MAX_STATES: usize = 16;
+pub const STAGES: [(usize, u64); 7] = [(2, 60), (3, 60), (6, 100), (8, 500), (10, 2_000), (12, 4_000), (15, 4_000)];
+pub const MAX_STATES: usize = 16;
 
 /// The table as one side sees it: of each pair what is written, whether the head goes ahead, and the next state.
 type Sided = Vec<Option<(usize, bool, usize)>>;
@@ -137,11 +137,13 @@ impl Grown {
     }
 }
 
-fn search(table: &Sided, limit: usize, most: usize, tries: u64) -> Option<Vec<usize>> {
+/// The first automaton that is found; of the tries those are left that weren't made.
+fn search(table: &Sided, limit: usize, most: usize, tries: &mut u64) -> Option<Vec<usize>> {
     // what waits: automata, each with its next transition, and the targets of it in reverse order
     let mut levels: Vec<(Grown, usize, Vec<usize>)> = Vec::new();
     let mut grown = Grown::begin(table);
-    for _ in 0..tries {
+    while *tries > 0 {
+        *tries -= 1;
         if grown.close(table) {
             match grown.next_number(table, most) {
                 None => return Some(grown.finished()).filter(|delta| delta.len() <= 2 * most),
@@ -169,8 +171,8 @@ fn sided(rows: &[Row], right: bool) -> Sided {
     rows.iter().flatten().map(|entry| entry.map(|e| (e.write as usize, e.right == right, e.next))).collect()
 }
 
-/// The fields of a record, with the least edges that go with a first automaton.
-fn text(rows: &[Row], right: bool, delta: &[usize]) -> String {
+/// The least edges that go with a first automaton, and what is reached from the blank tape.
+fn least(rows: &[Row], right: bool, delta: &[usize]) -> (Vec<u128>, u128) {
     let (n, table) = (rows.len(), sided(rows, right));
     let last = delta.len() / 2 * n;
     let halts = |place: usize| u128::from(table[place % (2 * n)].is_none()) << last;
@@ -200,16 +202,45 @@ fn text(rows: &[Row], right: bool, delta: &[usize]) -> String {
     while keep | reached(&edges, keep, 0) != keep {
         keep |= reached(&edges, keep, 0);
     }
+    (edges, keep)
+}
+
+/// The fields of a record.
+fn text(rows: &[Row], right: bool, delta: &[usize]) -> String {
+    let (edges, keep) = least(rows, right, delta);
     let side = if right { 'R' } else { 'L' };
     let digits: String = delta.iter().map(|q| format!("{q:x}")).collect();
     let sets: Vec<String> = edges.iter().map(|set| format!("{set:x}")).collect();
     format!("F {side} {} {digits} {} {keep:x}", delta.len() / 2, sets.join(","))
 }
 
-fn in_stage(rows: &[Row], named: usize, tries: u64, most: usize) -> Option<String> {
+/// So many tries on each side, those that were made counted.
+pub fn in_stage(rows: &[Row], named: usize, tries: u64, most: usize, made: &mut u64) -> Option<String> {
     [true, false].into_iter().find_map(|right| {
-        let found = search(&sided(rows, right), named.min(most), most, tries)?;
-        Some(text(rows, right, &found))
+        let mut left = tries;
+        let found = search(&sided(rows, right), named.min(most), most, &mut left);
+        *made += tries - left;
+        Some(text(rows, right, &found?))
+    })
+}
+
+/// How the search on one side ends.
+pub fn told(rows: &[Row], right: bool, named: usize, tries: u64) -> String {
+    let mut left = tries;
+    match search(&sided(rows, right), named, MAX_STATES, &mut left) {
+        Some(delta) => format!("finds one of {} states", delta.len() / 2),
+        None if left == 0 => format!("has no end within {tries} tries"),
+        None => format!("ends by itself after {} tries", tries - left),
+    }
+}
+
+/// Whether a first automaton of so many states fits on either side: all are tried.
+pub fn has_one(rows: &[Row], states: usize) -> bool {
+    let last = 1 << (states * rows.len());
+    (0..states.pow(2 * states as u32 - 1)).any(|number| {
+        let digits = (0..2 * states - 1).map(|k| number / states.pow(k as u32) % states);
+        let delta: Vec<usize> = std::iter::once(0).chain(digits).collect();
+        [true, false].into_iter().any(|right| least(rows, right, &delta).1 & last == 0)
     })
 }
 
@@ -220,10 +251,10 @@ pub fn automata(rows: &[Row], most: usize) -> Option<String> {
     }
     for (named, tries) in STAGES {
         if most <= 1 || named >= most - 1 {
-            let first = (most > 1).then(|| in_stage(rows, most - 1, tries, most)).flatten();
-            return first.or_else(|| in_stage(rows, most, tries, most));
+            let first = (most > 1).then(|| in_stage(rows, most - 1, tries, most, &mut 0)).flatten();
+            return first.or_else(|| in_stage(rows, most, tries, most, &mut 0));
         }
-        if let Some(found) = in_stage(rows, named, tries, most) {
+        if let Some(found) = in_stage(rows, named, tries, most, &mut 0) {
             return Some(found);
         }
     }

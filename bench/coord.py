@@ -5,29 +5,22 @@ import os
 import subprocess
 import sys
 import tempfile
-import time
 
+from measured import built, row, used
 from program import PROGRAM
 
-HERE = os.path.dirname(os.path.abspath(__file__))
 BB = PROGRAM
 TURNS = 3
 
 
-def built(folder, name):
-    path = os.path.join(folder, name)
-    subprocess.run(["rustc", "--edition", "2021", "-O", "-o", path, os.path.join(HERE, name + ".rs")], check=True)
-    return path
-
-
 def run(command, stream, ledger):
-    """The seconds, the output, and the ledger's bytes."""
+    """The processor seconds, the output, and the ledger's bytes."""
     if os.path.exists(ledger):
         os.remove(ledger)
     with open(stream, "rb") as frames:
-        begun = time.perf_counter()
+        before = used()
         done = subprocess.run(command, stdin=frames, stdout=subprocess.PIPE, check=False)
-        seconds = time.perf_counter() - begun
+        seconds = used() - before
     with open(ledger, "rb") as file:
         return seconds, done.stdout, file.read()
 
@@ -48,7 +41,9 @@ def main():
             print("the outputs differ")
             return 1
         ours, theirs = (min(turn[k][0] for turn in turns) for k in (0, 1))
-        print(f"{size} frames: bb {ours:.2f} s ({size / ours:.0f} a second), plain Rust {theirs:.2f} s, ratio {ours / theirs:.2f}, same output and ledger")
+        print(f"{size} frames: bb {ours:.2f} s, plain Rust {theirs:.2f} s, ratio {ours / theirs:.2f}, same output and ledger")
+        row(f"`bb coord 4 --ledger FILE`, {size:,} records of four states", ours / theirs,
+            f"{ours:.2f} s, {size / ours:,.0f} frames a second, each new line in the ledger before it is acknowledged")
     return 0
 
 

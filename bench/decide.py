@@ -1,33 +1,18 @@
 #!/usr/bin/env python3
 """Times bb decide with its defaults against bench/plain_decide.rs on all tables of the tree of three states, and on
-20,000 of four, compares what both print, and says how many tables each kind of certificate settled. The two
-are run in turn, and the least time of each counts."""
+20,000 of four, compares what both print, and says how many tables each kind of certificate settled, how many of the rest
+--far 3 leaves, and which of the rest takes longest. The two are run in turn, and the least time of each counts."""
 import collections
-import os
 import random
-import subprocess
 import sys
 import tempfile
-import time
 
+from measured import built, row, run
 from program import PROGRAM
 
-HERE = os.path.dirname(os.path.abspath(__file__))
 BB = [PROGRAM, "decide"]
 TURNS = 5
 SAMPLE = 20_000
-
-
-def built(folder, name):
-    program = os.path.join(folder, name)
-    subprocess.run(["rustc", "--edition", "2021", "-O", "-o", program, os.path.join(HERE, name + ".rs")], check=True)
-    return program
-
-
-def run(command, text):
-    begun = time.perf_counter()
-    done = subprocess.run(command, input=text, stdout=subprocess.PIPE, check=False)
-    return time.perf_counter() - begun, done.stdout
 
 
 def slowest(tables):
@@ -39,9 +24,9 @@ def slowest(tables):
 def main():
     with tempfile.TemporaryDirectory() as folder:
         nodes, plain = built(folder, "nodes"), [built(folder, "plain_decide")]
-        three, four = (run([nodes, n], b"")[1].splitlines(True) for n in ("3", "4"))
+        three, four = (run([nodes, n])[1].splitlines(True) for n in ("3", "4"))
         four = random.Random(1).sample(four, SAMPLE)
-        for name, tables in [("three states", three), (f"{SAMPLE} of four states", four)]:
+        for name, tables in [(f"all {len(three):,} tables of three states", three), (f"{SAMPLE:,} tables of four states", four)]:
             text = b"".join(tables)
             turns = [(run(BB, text), run(plain, text)) for _ in range(TURNS)]
             if any(ours[1] != theirs[1] for ours, theirs in turns):
@@ -50,9 +35,12 @@ def main():
             records = turns[0][0][1].split(b"\n")[:-1]
             kinds = collections.Counter(record.split(b" ")[1].decode() for record in records)
             ours, theirs = min(t[0][0] for t in turns), min(t[1][0] for t in turns)
-            print(f"{name}: {len(records)} tables, bb {ours:.3f} s ({len(records) / ours:.0f} a second), "
-                  f"plain Rust {theirs:.3f} s, ratio {ours / theirs:.2f}, same output; {dict(sorted(kinds.items()))}")
+            settled = ", ".join(f"{count:,} `{kind}`" for kind, count in sorted(kinds.items()))
             undecided = [record.split(b" ")[0] for record in records if record.endswith(b" U")]
+            left = run(BB + ["--far", "3"], b"".join(table + b"\n" for table in undecided))[1].count(b" U\n")
+            print(f"{name}: bb {ours:.3f} s, plain Rust {theirs:.3f} s, ratio {ours / theirs:.2f}, same output")
+            row(f"`bb decide`, {name}", ours / theirs,
+                f"{ours:.3f} s, {len(records) / ours:,.0f} tables a second; {settled}; of the {kinds['U']} `--far 3` leaves {left}")
             longest, table = slowest(undecided[:100])
             print(f"  of the undecided {table.decode()} takes longest: {1000 * longest:.1f} ms")
     return 0

@@ -1,13 +1,14 @@
 //! What bb run does, in plain Rust, in one process without messages: the tree of n states is settled, each
 //! certificate that is found is written down, and the report is printed. Build with `rustc --edition 2021 -O`. The arguments are
 //! n, the greatest width of words and the greatest size of a first automaton.
+#[allow(dead_code)]
 mod automata;
 #[allow(dead_code)]
 mod machine;
 mod searches;
 
 use machine::{children, halts_on, printed, Row};
-use searches::{decided, SIZE, WIDTH};
+use searches::{decided, DEPTH, SIZE, WIDTH};
 use std::collections::{BTreeSet, HashMap};
 use std::env;
 use std::io::{self, BufWriter, Write};
@@ -22,7 +23,7 @@ fn main() -> io::Result<()> {
     let mut open = BTreeSet::from([(printed(&root), root.clone())]);
     let mut records: HashMap<String, String> = HashMap::new();
     while let Some((text, rows)) = open.pop_first() {
-        let certificate = decided(&rows, width, size);
+        let certificate = decided(&rows, DEPTH, width, size);
         if certificate.starts_with("H ") {
             if let Some(halt) = halts_on(&rows, STEPS) {
                 open.extend(children(&rows, halt.state, halt.symbol).into_iter().map(|child| (printed(&child), child)));

@@ -28,11 +28,12 @@ def read(command, text):
 def of_lines(text):
     """The object that a report in lines comes to."""
     lines = [line.split(" ") for line in text.decode().splitlines()]
-    said = {name: value for name, value in lines if name not in ("champion", "holdout", "left")}
+    said = {name: value for name, value in lines if name not in ("champion", "ones_champion", "holdout", "left")}
     for name in NUMBERS:
         said[name] = int(said[name])
-    said["best"] = None if said["best"] == "none" else int(said["best"])
-    said["champions"] = [value for name, value in lines if name == "champion"]
+    for name, champion in (("best", "champion"), ("ones", "ones_champion")):
+        said[name] = None if said[name] == "none" else int(said[name])
+        said[champion + "s"] = [value for word, value in lines if word == champion]
     said["holdout_tables"] = [value for name, value in lines if name == "holdout"]
     return said
 

@@ -4,7 +4,7 @@ use crate::machine::{halts_on, Entry, Row};
 use std::collections::HashMap;
 
 const STEPS: u64 = 1_000;
-const DEPTH: usize = 20;
+pub const DEPTH: usize = 20;
 pub const WIDTH: usize = 3;
 pub const SIZE: usize = 2;
 const MAX_PATHS: usize = 65_536;
@@ -160,14 +160,14 @@ fn entries(rows: &[Row]) -> impl Iterator<Item = (usize, u8, Entry)> + '_ {
         .flat_map(|(q, row)| [0, 1].into_iter().filter_map(move |s| row[s as usize].map(|e| (q, s, e))))
 }
 
-/// The least depth that no path reaches.
-fn backward(rows: &[Row]) -> Option<usize> {
+/// The least depth that no path reaches, if it is so many at most.
+fn backward(rows: &[Row], most: usize) -> Option<usize> {
     let mut level: Vec<Partial> = (0..rows.len())
         .flat_map(|q| [0u8, 1].into_iter().map(move |s| (q, s)))
         .filter(|(q, s)| rows[*q][*s as usize].is_none())
         .map(|(state, s)| Partial { state, head: 0, cells: HashMap::from([(0, s)]) })
         .collect();
-    for depth in 0..=DEPTH {
+    for depth in 0..=most {
         if level.is_empty() {
             return Some(depth);
         }
@@ -266,7 +266,7 @@ fn lists(rows: &[Row], most: usize) -> Option<String> {
 }
 
 /// The certificate that is found first, looked for in the order of bb.
-pub fn decided(rows: &[Row], width: usize, size: usize) -> String {
+pub fn decided(rows: &[Row], depth: usize, width: usize, size: usize) -> String {
     if let Some(halt) = halts_on(rows, STEPS) {
         return format!("H {} {}", halt.count, halt.ones);
     }
@@ -276,7 +276,7 @@ pub fn decided(rows: &[Row], width: usize, size: usize) -> String {
     if let Some((i, j, side)) = translated(rows) {
         return format!("T {i} {j} {side}");
     }
-    if let Some(depth) = backward(rows) {
+    if let Some(depth) = backward(rows, depth) {
         return format!("B {depth}");
     }
     lists(rows, width).or_else(|| automata(rows, size)).unwrap_or_else(|| "U".to_string())

@@ -178,7 +178,7 @@ fn ended(alloc: Global, text: &str, fails: (bool, bool)) -> Result<(Outcome, boo
 // table.
 const LINES: &str = "\
 0 out bb check
-1 both bb decide
+1 out bb decide
 0 out bb draw
 0 out bb draw --width 1000000 --steps 0
 0 none bb coord 1 --ledger complete
@@ -290,10 +290,7 @@ fn ends_so(
     status: &str,
     stream: &str,
 ) -> Result<(), Fail> {
-    let writes = (
-        stream == "out" || stream == "both",
-        stream == "err" || stream == "both",
-    );
+    let writes = (stream == "out", stream == "err");
     let (outcome, answers, faults) = ended(alloc, line, (false, false))?;
     assert!(rt;
         status.parse() == Ok(outcome.status()),

@@ -1,15 +1,14 @@
 // `bb check` over streams of the tests' own: the worked rows, and what a stream may do.
 use crate::streams::{ALWAYS, Sink, Source};
 use crate::texts::assert_bytes;
-use line_commands::cmd_check;
+use line_commands::{Reader, check_for, cmd_check};
 use options::Outcome;
 use std::alloc::Global;
 use std::process::Abort;
 use std::test::Fail;
 
 // What `bb check` answers to an input that comes so many bytes at a time. Where memory is refused it says
-// so, after answers that stand, and is asked once more: then the answers must come. Nothing is said beside them, but
-// where the first line is a table alone.
+// so, after answers that stand, and is asked once more: then the answers must come.
 fn checked(
     rt: &impl Abort,
     alloc: Global,
@@ -26,11 +25,7 @@ fn checked(
         ended = asked(alloc, input, at_once, &mut sink, &mut faults);
     }
     assert_bytes(rt, &sink.kept, answers);
-    let remark =
-        b"bb check reads records, and line 1 is a table alone: bb decide looks for its record\n";
-    assert!(rt;
-        ended == outcome && (faults.kept.is_empty() || faults.kept.as_slice() == remark.as_slice())
-    );
+    assert!(rt; ended == outcome && faults.kept.is_empty());
 }
 
 // Memory was refused after some of the answers; what was said is let go.
@@ -413,22 +408,27 @@ fn statuses_rise_with_gravity(rt: HostRuntime) {
     assert!(rt; Outcome::Refused.max(Outcome::Failed) == Outcome::Failed);
 }
 
-// Who gives tables to what reads records is told, of the first; where that can't be said, a stream failed.
+// A person who gives tables to what reads records is told, of the first; where that can't be said, a stream failed.
 #[test]
 fn a_table_alone_is_no_record(rt: HostRuntime) {
-    let alloc = rt.alloc();
-    let input = b"------ H 1\n1RA\n1RA---\n------";
-    for (writes_left, said, outcome) in [
+    for (reader, writes_left, said, outcome) in [
+        (Reader::Script, ALWAYS, b"".as_slice(), Outcome::Refused),
         (
+            Reader::Person,
             ALWAYS,
-            b"bb check reads records, and line 3 is a table alone: bb decide looks for its record\n".as_slice(),
+            b"bb check reads records, and line 3 is a table alone: bb decide looks for its record\n",
             Outcome::Refused,
         ),
-        (0, b"".as_slice(), Outcome::Failed),
+        (Reader::Person, 0, b"", Outcome::Failed),
     ] {
-        let mut sink = Sink::new(alloc, usize::MAX, ALWAYS);
-        let mut faults = Sink::new(alloc, usize::MAX, writes_left);
-        let ended = asked(alloc, input, 5, &mut sink, &mut faults);
+        let mut source = Source {
+            left: b"------ H 1\n1RA\n1RA---\n------",
+            at_once: 5,
+            calls_left: ALWAYS,
+        };
+        let mut sink = Sink::new(rt.alloc(), usize::MAX, ALWAYS);
+        let mut faults = Sink::new(rt.alloc(), usize::MAX, writes_left);
+        let ended = check_for(rt.alloc(), reader, &mut source, &mut sink, &mut faults);
         assert_bytes(
             &rt,
             &sink.kept,

@@ -2,7 +2,6 @@
 ghost use Rattle.options.specs.Ranges.{AreWithinRanges};
 
 use crate::{ledgers, lines, nodes, parts, pictures};
-use line_commands::cmd_check;
 use loopback::Sockets;
 use options::{Options, Outcome};
 use part_commands::PartsHost;
@@ -24,8 +23,8 @@ pub fn carry_out<H: PartsHost + Clock + Sockets, R: Read, W: Write, E: Write>(
     requires { AreWithinRanges asked }
 {
     match asked {
-        Options::Check => cmd_check(alloc, input, answers, faults),
-        Options::Decide(search) => lines::decide(alloc, &search, input, answers, faults),
+        Options::Check => lines::check(alloc, host, input, answers, faults),
+        Options::Decide(search) => lines::decide(alloc, &search, host, input, answers, faults),
         Options::Draw(drawing) => pictures::draw(alloc, &drawing, host, input, answers, faults),
         Options::Coord { beginning, ledger } => {
             nodes::coordinate(alloc, beginning, ledger, host, input, answers, faults)

@@ -5,7 +5,7 @@ ghost use Rattle.line_commands.specs.Stream.{AnswersStream};
 
 use crate::answers::answer;
 use crate::line_loop::{Answerer, answer_lines};
-use crate::misplaced::{Misplaced, Remark};
+use crate::misplaced::{Misplaced, Reader, Remark};
 use evidence::NoMemory;
 use machine_text::Table;
 use options::Outcome;
@@ -19,10 +19,24 @@ const TABLE_ALONE: Remark = Remark {
 };
 
 /// Reads a record a line and prints an answer a line. A last line without newline is read too. What a
-/// failed stream or refused memory ends is said on `faults`, and which line was the first that is a table alone; else what was printed is the answers to the lines of
+/// failed stream or refused memory ends is said on `faults`; else what was printed is the answers to the lines of
 /// the input, in their order, and each `halts K` and each `never` of them is true of its table.
 pub fn cmd_check<R: Read, W: Write, E: Write>(
     alloc: Global,
+    input: &mut R,
+    answers: &mut W,
+    faults: &mut E,
+) -> Outcome
+    ensures { AnswersStream SaysOfRecord (R.remaining input.old) (R.remaining input.new) (W.contents answers.old) (W.contents answers.new) result
+        ⊎ (result ≡ Outcome.NoMemory) ⊎ (result ≡ Outcome.Failed) }
+{
+    check_for(alloc, Reader::Script, input, answers, faults)
+}
+
+/// The same for a script or a person, who is told on `faults` at the end which line was the first that is a table alone.
+pub fn check_for<R: Read, W: Write, E: Write>(
+    alloc: Global,
+    reader: Reader,
     input: &mut R,
     answers: &mut W,
     faults: &mut E,
@@ -35,7 +49,10 @@ pub fn cmd_check<R: Read, W: Write, E: Write>(
         tables: Misplaced::none(),
     };
     let ended = answer_lines(alloc, &mut checker, input, answers, faults);
-    checker.tables.told(alloc, &TABLE_ALONE, ended, faults)
+    match reader {
+        Reader::Script => ended,
+        Reader::Person => checker.tables.told(alloc, &TABLE_ALONE, ended, faults),
+    }
 }
 
 #[derive(Drop)]

@@ -6,7 +6,7 @@ ghost use Rattle.line_commands.specs.Stream.{AnswersStream};
 
 use crate::answers::append_fault;
 use crate::line_loop::{Answerer, answer_lines};
-use crate::misplaced::{Misplaced, Remark};
+use crate::misplaced::{Misplaced, Reader, Remark};
 use cert::{Decider, Record, RecordFault};
 use evidence::NoMemory;
 use machine_text::Table;
@@ -22,9 +22,24 @@ const RECORD: Remark = Remark {
 
 /// Reads a table a line and prints a record a line, as the decider answers: certified, or undecided. Lines are
 /// answered as they come, and a last line without newline is read too. What a failed stream or refused memory ends
-/// is said on `faults`, and which line was the first that is a record; else what was printed is the answers to the lines of the input, in their order.
+/// is said on `faults`; else what was printed is the answers to the lines of the input, in their order.
 pub fn cmd_decide<D: Decider, R: Read, W: Write, E: Write>(
     alloc: Global,
+    decider: &mut D,
+    input: &mut R,
+    answers: &mut W,
+    faults: &mut E,
+) -> Outcome
+    ensures { AnswersStream (SaysOfTable D.answers) (R.remaining input.old) (R.remaining input.new) (W.contents answers.old) (W.contents answers.new) result
+        ⊎ (result ≡ Outcome.NoMemory) ⊎ (result ≡ Outcome.Failed) }
+{
+    decide_for(alloc, Reader::Script, decider, input, answers, faults)
+}
+
+/// The same for a script or a person, who is told on `faults` at the end which line was the first that is a record.
+pub fn decide_for<D: Decider, R: Read, W: Write, E: Write>(
+    alloc: Global,
+    reader: Reader,
     decider: &mut D,
     input: &mut R,
     answers: &mut W,
@@ -39,7 +54,10 @@ pub fn cmd_decide<D: Decider, R: Read, W: Write, E: Write>(
         records: Misplaced::none(),
     };
     let ended = answer_lines(alloc, &mut answerer, input, answers, faults);
-    answerer.records.told(alloc, &RECORD, ended, faults)
+    match reader {
+        Reader::Script => ended,
+        Reader::Person => answerer.records.told(alloc, &RECORD, ended, faults),
+    }
 }
 
 #[derive(Drop)]

@@ -10,5 +10,6 @@ mod line_loop;
 mod misplaced;
 
 pub use answers::{answer, append_fault};
-pub use check::cmd_check;
-pub use decide::{cmd_decide, decide_line};
+pub use check::{check_for, cmd_check};
+pub use decide::{cmd_decide, decide_for, decide_line};
+pub use misplaced::Reader;

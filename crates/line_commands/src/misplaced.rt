@@ -7,6 +7,15 @@ use std::alloc::Global;
 use std::io::Write;
 use text::append_number;
 
+/// Who reads what is said beside answers.
+#[derive(Clone, Copy, Debug, PartialEq, Eq)]
+pub enum Reader {
+    /// A script, which reads answers and nothing else.
+    Script,
+    /// A person at a terminal.
+    Person,
+}
+
 /// What is said of such a line, before its number and behind it.
 #[derive(Drop)]
 pub(crate) struct Remark {

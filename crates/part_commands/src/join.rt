@@ -1,25 +1,31 @@
 // `bb join`: a trunk and the parts of its tree, told of as one ledger would be that holds the records of all.
-ghost use Rattle.std.specs.Prelude.{◌≡◌, ◌⊎◌, ℕ, IfOk, List, OnOk, Option};
-ghost use Rattle.ledger.specs.Contents.{Contents};
+ghost use Rattle.std.specs.Prelude.{◌≡◌, ◌++◌, [], ℕ, Contains, IfOk, List, Ok, OnOk, Option, Some, false, codes};
+ghost use Rattle.std.specs.Io.KnownBytes.{Appends};
+ghost use Rattle.machine_text.specs.Text.{text_of};
+ghost use Rattle.ledger.specs.Contents.{Contents, IsOpenOn};
+ghost use Rattle.ledger.specs.Tally.{AreAll};
 ghost use Rattle.ledger.specs.declared.left.Left.TheVariants.{Nothing};
-ghost use Rattle.ledger_commands.specs.LedgerReport.{outcome_by};
 ghost use Rattle.ledger_commands.specs.Told.{IsToldOf};
+ghost use Rattle.wire.specs.Device.{grown};
 ghost use Rattle.whole.specs.Parts.{joined_with};
-ghost use Rattle.whole.specs.Whole.{IsWhole};
-ghost use Rattle.part_commands.specs.Join.{AddsPart, IsGathered, TellsAll, TellsParts};
+ghost use Rattle.whole.specs.Whole.{AddGives, IsWhole};
+ghost use Rattle.part_commands.specs.Split.{path_within};
+ghost use Rattle.part_commands.specs.Join.{IsMet, IsMetAs, IsMetIn, IsReadAt, TellsAll, TellsParts, ended_by, is_silent, left_line, line_behind, record_lines};
+ghost use Rattle.part_commands.specs.inside.{AreAdded, IsGathered, MeetsPart};
 
 use crate::collector::{Collector, Nowhere, OneLedger};
 use crate::folder::{TRUNK, part_path, path_within};
+use crate::parts::{Parts, PartsOf};
 use evidence::NoMemory;
 use ledger::{Board, Left, Status};
 use ledger_commands::{
-    Host, LedgerAt, Opened, ReportForm, Stopped, Told, load_from, made_beside, opened, outcome_by,
+    Host, LedgerAt, Opened, ReportForm, Stopped, Told, load_from, made_beside, outcome_by,
     put_back, write_told,
 };
 use machine_text::Table;
 use options::{Ended, Joining, LedgerFile, Outcome};
 use std::alloc::Global;
-use std::io::{ErrorKind, Read, Write};
+use std::io::{Read, Write};
 use text::append_number;
 use whole::{PartFault, Whole};
 use wire::LedgerOut;
@@ -42,7 +48,7 @@ pub fn cmd_join<H: Host, P: ReportForm, W: Write, E: Write>(
             alloc,
             form,
             joining.folder,
-            host,
+            &PartsOf { host },
             &mut Nowhere,
             answers,
             faults,
@@ -72,63 +78,74 @@ fn join_into<H: Host, P: ReportForm, W: Write, E: Write>(
     if one.ledger.cut(0).is_err() {
         return Err(Ended::Ledger);
     }
-    let outcome = join_parts(alloc, form, folder, host, &mut one, answers, faults)?;
+    let outcome = join_parts(
+        alloc,
+        form,
+        folder,
+        &PartsOf { host },
+        &mut one,
+        answers,
+        faults,
+    )?;
     put_back(host, &beside, out)?;
     Ok(outcome)
 }
 
-/// Prints the report of the trunk in a folder and of its parts, and collects the one ledger of all. What is wrong with a
-/// part is said on `faults` behind its path. Accepted where the report says complete and nothing was wrong.
-pub fn join_parts<H: Host, P: ReportForm, C: Collector, W: Write, E: Write>(
+/// Prints the report of the trunk in a folder and of its parts, and collects the one ledger of all. The parts are those of
+/// the trunk's open tables, in the order of their texts. What is wrong with the trunk or a part is said on `faults` behind its
+/// path. Accepted where the report says complete and nothing was wrong.
+pub fn join_parts<S: Parts, P: ReportForm, C: Collector, W: Write, E: Write>(
     alloc: Global,
     form: &P,
     folder: &str,
-    host: &H,
+    parts: &S,
     collector: &mut C,
     answers: &mut W,
     faults: &mut E,
 ) -> Result<Outcome, Ended>
-    ensures { IfOk result (TellsAll (P.is_text form.now) (C.text collector.old) (C.text collector.new) (W.contents answers.old) (W.contents answers.new)) }
+    ensures { IfOk result (TellsAll (P.is_text form.now) (S.finds parts.now) folder.now (C.text collector.old) (C.text collector.new) (W.contents answers.old) (W.contents answers.new) (E.contents faults.old) (E.contents faults.new)) }
 {
-    let (whole, is_sound) = gather(alloc, folder, host, collector, faults)?;
+    let (whole, is_sound) = gather(alloc, folder, parts, collector, faults)?;
     tell_whole(alloc, form, &whole, is_sound, answers)
 }
 
 // The trunk and the parts beside it, and whether nothing is wrong with them.
-fn gather<H: Host, C: Collector, E: Write>(
+fn gather<S: Parts, C: Collector, E: Write>(
     alloc: Global,
     folder: &str,
-    host: &H,
+    parts: &S,
     collector: &mut C,
     faults: &mut E,
 ) -> Result<(Whole, bool), Ended>
-    ensures { IfOk result (λ gathered. IsGathered (C.text collector.old) gathered.0 (C.text collector.new)) }
+    ensures { IfOk result (λ gathered. IsGathered (S.finds parts.now) folder.now gathered.0 gathered.1 (C.text collector.old) (C.text collector.new) (E.contents faults.old) (E.contents faults.new)) }
 {
     let path = path_within(alloc, folder, TRUNK)?;
-    let (trunk, left) = trunk_at(alloc, host, &path)?;
+    let (trunk, left) = trunk_at(alloc, parts, &path)?;
     let is_kept = says_left(alloc, &path, &left, faults)?;
     collector.begin(alloc, &trunk)?;
     let roots = open_tables(alloc, &trunk)?;
     let mut whole = Whole::of(alloc, trunk)?;
-    let are_sound = add_parts(alloc, host, folder, roots, &mut whole, collector, faults)?;
+    let are_sound = add_parts(alloc, parts, folder, &roots, &mut whole, collector, faults)?;
     Ok((whole, is_kept && are_sound))
 }
 
 // Adds the parts of these roots, and answers whether all are there and sound.
-fn add_parts<H: Host, C: Collector, E: Write>(
+fn add_parts<S: Parts, C: Collector, E: Write>(
     alloc: Global,
-    host: &H,
+    parts: &S,
     folder: &str,
-    roots: Vec<Table>,
+    roots: &[Table],
     whole: &mut Whole,
     collector: &mut C,
     faults: &mut E,
 ) -> Result<bool, Ended>
-    ensures { OnOk result ((start : Option (List ℕ)) → IsGathered start whole.old (C.text collector.old) → IsGathered start whole.new (C.text collector.new)) }
+    requires all { AreAll (IsOpenOn whole.old.trunk) roots.now }
+    requires none { IsWhole whole.old [] }
+    ensures { IfOk result (λ sound. AreAdded (S.finds parts.now) folder.now roots.now whole.old.trunk whole.new sound (C.text collector.old) (C.text collector.new) (E.contents faults.old) (E.contents faults.new)) }
 {
     let mut are_sound = true;
     for root in roots {
-        if !join_part(alloc, host, folder, &root, whole, collector, faults)? {
+        if !join_part(alloc, parts, folder, root, whole, collector, faults)? {
             are_sound = false;
         }
     }
@@ -143,7 +160,7 @@ fn tell_whole<P: ReportForm, W: Write>(
     is_sound: bool,
     answers: &mut W,
 ) -> Result<Outcome, Ended>
-    ensures { IfOk result (λ o. (parts : List Contents) → IsWhole whole.now parts → TellsParts (P.is_text form.now) whole.now.trunk parts (W.contents answers.old) (W.contents answers.new) o) }
+    ensures { IfOk result (λ o. (parts : List Contents) → IsWhole whole.now parts → TellsParts (P.is_text form.now) whole.now.trunk parts is_sound (W.contents answers.old) (W.contents answers.new) o) }
 {
     let status = whole.status();
     write_told(alloc, form, told_of(whole)?, &Left::Nothing, answers)?;
@@ -152,7 +169,7 @@ fn tell_whole<P: ReportForm, W: Write>(
 
 // Accepted where the whole is complete and sound.
 fn outcome_of(status: Status, is_sound: bool) -> Outcome
-    ensures { (result ≡ outcome_by status Nothing) ⊎ (result ≡ Outcome.Refused) }
+    ensures { result ≡ ended_by status is_sound }
 {
     if is_sound {
         outcome_by(status, &Left::Nothing)
@@ -162,18 +179,22 @@ fn outcome_of(status: Status, is_sound: bool) -> Outcome
 }
 
 // The board of the trunk's ledger, which has to be there, and what of it wasn't kept.
-fn trunk_at<H: Host>(alloc: Global, host: &H, path: &str) -> Result<(Board, Left), Ended> {
-    match opened(host, path) {
-        Ok(mut file) => match load_from(alloc, &mut file.reader, file.length) {
+fn trunk_at<S: Parts>(alloc: Global, parts: &S, path: &str) -> Result<(Board, Left), Ended>
+    ensures { IfOk result (λ l. IsReadAt (S.finds parts.now) path.now l.0 l.1) }
+{
+    match parts.open(path)? {
+        Some(mut file) => match load_from(alloc, &mut file.reader, file.length) {
             Ok(loaded) => Ok(loaded),
             Err(stopped) => Err(stopped.by_file()),
         },
-        Err(fault) => Err(Ended::by_file(&fault)),
+        None => Err(Ended::File),
     }
 }
 
 // The open tables of a trunk.
-fn open_tables(alloc: Global, trunk: &Board) -> Result<Vec<Table>, NoMemory> {
+fn open_tables(alloc: Global, trunk: &Board) -> Result<Vec<Table>, NoMemory>
+    ensures { IfOk result (λ roots. AreAll (IsOpenOn trunk.now) roots.items) }
+{
     let mut roots = Vec::new(alloc);
     for root in trunk.open() {
         roots.push(*root)?;
@@ -182,22 +203,22 @@ fn open_tables(alloc: Global, trunk: &Board) -> Result<Vec<Table>, NoMemory> {
 }
 
 // Adds the part of a root, and answers whether it is there and sound.
-fn join_part<H: Host, C: Collector, E: Write>(
+fn join_part<S: Parts, C: Collector, E: Write>(
     alloc: Global,
-    host: &H,
+    parts: &S,
     folder: &str,
     root: &Table,
     whole: &mut Whole,
     collector: &mut C,
     faults: &mut E,
 ) -> Result<bool, Ended>
-    ensures { OnOk result (AddsPart whole.old (C.text collector.old) whole.new (C.text collector.new)) }
+    requires { IsOpenOn whole.old.trunk root.now × (Contains whole.old.roots root.now → ⊥) }
+    ensures { IfOk result (λ sound. MeetsPart (IsMet (S.finds parts.now) folder.now root.now) sound whole.old whole.new (C.text collector.old) (C.text collector.new) (E.contents faults.old) (E.contents faults.new)) }
 {
     let path = part_path(alloc, folder, root)?;
-    match opened(host, &path) {
-        Ok(file) => add_read(alloc, file, &path, root, whole, collector, faults),
-        Err(fault) if fault.kind() == ErrorKind::NotFound => says(alloc, &path, b"missing", faults),
-        Err(fault) => Err(Ended::by_file(&fault)),
+    match parts.open(&path)? {
+        Some(file) => add_read(alloc, file, &path, root, whole, collector, faults),
+        None => says(alloc, &path, b"missing", faults),
     }
 }
 
@@ -211,15 +232,12 @@ fn add_read<F: Read + Drop, C: Collector, E: Write>(
     collector: &mut C,
     faults: &mut E,
 ) -> Result<bool, Ended>
-    ensures { OnOk result (AddsPart whole.old (C.text collector.old) whole.new (C.text collector.new)) }
+    requires { IsOpenOn whole.old.trunk root.now × (Contains whole.old.roots root.now → ⊥) }
+    ensures { IfOk result (λ sound. MeetsPart (IsMetIn (F.remaining file.reader) file.length path.now root.now) sound whole.old whole.new (C.text collector.old) (C.text collector.new) (E.contents faults.old) (E.contents faults.new)) }
 {
     match load_from(alloc, &mut file.reader, file.length) {
-        Ok((part, _)) if part.root() != root => says(alloc, path, b"refused 406", faults),
         Ok((part, left)) => {
-            if !add(alloc, &part, whole, collector)? {
-                return says(alloc, path, b"refused 406", faults);
-            }
-            says_left(alloc, path, &left, faults)
+            add_loaded(alloc, &part, &left, path, root, whole, collector, faults)
         }
         Err(Stopped::Ended(Ended::BadHeader)) => says(alloc, path, b"refused 404", faults),
         Err(Stopped::Ended(Ended::WrongRoot)) => says(alloc, path, b"refused 405", faults),
@@ -227,22 +245,42 @@ fn add_read<F: Read + Drop, C: Collector, E: Write>(
     }
 }
 
-// Adds a part's board, and answers whether it was: it is where its root is one of the trunk's open tables, and comes once.
+// Adds what is loaded of a part, where it has this root.
+fn add_loaded<C: Collector, E: Write>(
+    alloc: Global,
+    part: &Board,
+    left: &Left,
+    path: &str,
+    root: &Table,
+    whole: &mut Whole,
+    collector: &mut C,
+    faults: &mut E,
+) -> Result<bool, Ended>
+    requires { IsOpenOn whole.old.trunk root.now × (Contains whole.old.roots root.now → ⊥) }
+    ensures { IfOk result (λ sound. MeetsPart (IsMetAs part.now left.now path.now root.now) sound whole.old whole.new (C.text collector.old) (C.text collector.new) (E.contents faults.old) (E.contents faults.new)) }
+{
+    if *part.root() != *root {
+        return says(alloc, path, b"refused 406", faults);
+    }
+    add(alloc, part, whole, collector)?;
+    says_left(alloc, path, left, faults)
+}
+
+// Adds a part's board.
 fn add<C: Collector>(
     alloc: Global,
     part: &Board,
     whole: &mut Whole,
     collector: &mut C,
-) -> Result<bool, Ended>
-    ensures { OnOk result (AddsPart whole.old (C.text collector.old) whole.new (C.text collector.new)) }
+) -> Result<(), Ended>
+    requires { IsOpenOn whole.old.trunk part.now.root × (Contains whole.old.roots part.now.root → ⊥) }
+    ensures { OnOk result (AddGives whole.old part.now (Ok tt) whole.new × (C.text collector.new ≡ grown (C.text collector.old) (record_lines part.now.records))) }
 {
     match whole.add(part) {
-        Ok(()) => {
-            collector.add(alloc, part)?;
-            Ok(true)
-        }
+        Ok(()) => collector.add(alloc, part),
         Err(PartFault::NoMemory) => Err(Ended::NoMemory),
-        Err(PartFault::NotOpen) | Err(PartFault::AddedBefore) => Ok(false),
+        // the trunk leaves its root open, and no part with that was added before
+        Err(PartFault::NotOpen) | Err(PartFault::AddedBefore) => unreachable!(),
     }
 }
 
@@ -252,7 +290,9 @@ fn says_left<E: Write>(
     path: &str,
     left: &Left,
     faults: &mut E,
-) -> Result<bool, Ended> {
+) -> Result<bool, Ended>
+    ensures { IfOk result (λ sound. (sound ≡ is_silent (left_line path.now left.now)) × Appends (E.contents faults.old) (E.contents faults.new) (left_line path.now left.now)) }
+{
     match left {
         Left::Nothing => Ok(true),
         Left::From { line, .. } => {
@@ -265,7 +305,9 @@ fn says_left<E: Write>(
 }
 
 // Says behind a path what is wrong there; so all isn't sound.
-fn says<E: Write>(alloc: Global, path: &str, what: &[u8], faults: &mut E) -> Result<bool, Ended> {
+fn says<E: Write>(alloc: Global, path: &str, what: &[u8], faults: &mut E) -> Result<bool, Ended>
+    ensures { IfOk result (λ sound. (sound ≡ false) × Appends (E.contents faults.old) (E.contents faults.new) (line_behind path.now what.now)) }
+{
     let mut line = Vec::new(alloc);
     line.extend_from_slice(path.as_bytes())?;
     line.extend_from_slice(b": ")?;

@@ -1,0 +1,40 @@
+// Where the ledgers of a trunk and its parts are read.
+use ledger_commands::{Host, Opened, opened};
+use options::Ended;
+use std::io::{ErrorKind, Read};
+
+/// Where the ledgers of a trunk and its parts are read, each by its path.
+pub trait Parts {
+    ghost use Rattle.std.specs.Prelude.{ℕ, IfOk, List, Option, option_map};
+
+    type File: Read + Drop;
+
+    /// What may be found at a path: nothing; or a ledger, with what its reader has, where that is known, and its length.
+    ghost finds: { Self → List ℕ → Option (Option (List ℕ) × ℕ) → Type 0 };
+
+    /// Opens the ledger at a path; none where nothing is there.
+    fn open(&self, path: &str) -> Result<Option<Opened<Self::File>>, Ended>
+        ensures { IfOk result (λ found. finds self.now path.now (option_map (λ file. (Self.File.remaining file.reader, file.length)) found)) };
+}
+
+/// The files of a host.
+#[derive(Drop)]
+pub struct PartsOf<'a, H> {
+    pub host: &'a H,
+}
+
+impl<H: Host> Parts for PartsOf<'_, H> {
+    ghost use Rattle.std.specs.Prelude.{⊤};
+
+    type File = H::File;
+
+    ghost finds = { λ parts path found. ⊤ };
+
+    fn open(&self, path: &str) -> Result<Option<Opened<H::File>>, Ended> {
+        match opened(self.host, path) {
+            Ok(file) => Ok(Some(file)),
+            Err(fault) if fault.kind() == ErrorKind::NotFound => Ok(None),
+            Err(fault) => Err(Ended::by_file(&fault)),
+        }
+    }
+}

@@ -43,3 +43,5 @@ fi
 bench four_states.py $quick
 # shellcheck disable=SC2086
 bench hard.py $seeds
+bench draw.py
+bench sync.py

@@ -1,7 +1,7 @@
 // The commands of `bb` that write ledgers, and what has to come of them.
 use crate::killed::Share;
 use crate::restarts::{Command, LEDGER, OTHER, restarted};
-use options::{Beginning, Carrying, LedgerFile, Merging, Options, Search, Settling};
+use options::{Beginning, Carrying, Durability, LedgerFile, Merging, Options, Search, Settling};
 use std::io;
 
 // The defaults of the program.
@@ -18,6 +18,11 @@ const SHARES: [Share; 3] = [Share::Nothing, Share::Half, Share::Whole];
 const ONE_STATE: &str =
     "root ------\nstatus complete\nnodes 3\nhalting 1\nnever 2\nholdouts 0\nopen 0\nbest 1\nchampion ------\nones 1\nones_champion ------\n";
 
+const WRITTEN: LedgerFile<'static> = LedgerFile {
+    path: LEDGER,
+    durability: Durability::System,
+};
+
 // The ledger of one state in version 1, and in version 2.
 const UNSCORED: &str = "bb-ledger 1 ------\n------ H 1\n0RA--- T 0 1 R\n1RA--- T 0 1 R\n";
 
@@ -27,7 +32,7 @@ const COORD: Command = Command {
     words: "coord 1",
     asked: Options::Coord {
         beginning: Beginning { states: 1, era: 1 },
-        ledger: Some(LedgerFile::at(LEDGER)),
+        ledger: Some(WRITTEN),
     },
     input: "ASK 7\nREC ------ H 1\nREC 0RA--- T 0 1 R\nREC 1RA--- T 0 1 R\nASK 7\n",
     shares: &SHARES,
@@ -58,7 +63,7 @@ const RUN_ONE: Command = Command {
             json: false,
             progress: false,
         },
-        ledger: Some(LedgerFile::at(LEDGER)),
+        ledger: Some(WRITTEN),
     },
     input: "",
     shares: &SHARES,
@@ -81,7 +86,7 @@ const RUN_TWO: Command = Command {
             json: false,
             progress: false,
         },
-        ledger: Some(LedgerFile::at(LEDGER)),
+        ledger: Some(WRITTEN),
     },
     input: "",
     // once in each call, since it makes many
@@ -96,7 +101,7 @@ const RUN_TWO: Command = Command {
 const RETRY: Command = Command {
     words: "retry of one state",
     asked: Options::Retry {
-        file: LedgerFile::at(LEDGER),
+        file: WRITTEN,
         search: SEARCH,
     },
     input: "",
@@ -111,7 +116,7 @@ const RETRY: Command = Command {
 const RETRY_OPENING: Command = Command {
     words: "retry of two states",
     asked: Options::Retry {
-        file: LedgerFile::at(LEDGER),
+        file: WRITTEN,
         search: SEARCH,
     },
     input: "",

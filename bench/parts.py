@@ -161,7 +161,7 @@ def main():
     with tempfile.TemporaryDirectory() as folder:
         second = second_settle(os.path.join(folder, "parts"))
         print(f"a second bb settle: status {second[0]}, {second[2].decode().strip()}")
-        if second != (4, b"", b"refused 606\n"):
+        if second != (4, b"", b"refused 606: another process writes the ledger\n"):
             return 1
         slurm = Slurm(folder)
         try:

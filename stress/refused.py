@@ -2,9 +2,10 @@
 """Every request for memory refused, N counting up until a run meets no refusal.
 
 stress/refused.py: each command of `bb` on a small input, with its Nth request refused; once that request alone, and once
-all from it on. Such a run ends as the one with ample memory does, or with 3, `refused memory` on standard error and
-a beginning of the ample run's output. Where it has a ledger, what it leaves is a beginning of the ample run's ledger, or
-what stood there; and the same command, again and with ample memory, then comes to the ample run's end.
+all from it on. Such a run ends as the one with ample memory does, or with 3, a beginning of the ample run's output, and
+`refused memory` behind a beginning of its standard error. Where it has a ledger, what it leaves is a beginning of the
+ample run's ledger, or what stood there; and the same command, again and with ample memory, then comes to the ample run's
+end.
 
 stress/refused.py --calls: the calls of the crates below, by the program of `crates/driver`, which makes each again where
 it is refused: it prints what it prints with ample memory. Of its calls that take no memory not one request comes.
@@ -132,7 +133,8 @@ def wrong(command, folder, refusing, ample, ample_ledger):
     laid(folder, files)
     ran, refused = run(words, given, folder, refusing)
     if not same(ran, ample):
-        if ran.returncode != 3 or ran.stderr != b"refused memory\n":
+        said = ran.stderr.removesuffix(b"refused memory\n")
+        if ran.returncode != 3 or said == ran.stderr or not ample.stderr.startswith(said):
             return f"status {ran.returncode}, {ran.stderr[:200]!r}", refused, False
         if not ample.stdout.startswith(ran.stdout):
             return f"printed {ran.stdout[:200]!r}", refused, False

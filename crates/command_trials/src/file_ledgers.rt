@@ -20,11 +20,11 @@ fn written(
     (after, is_whole): (&str, bool),
 ) -> Result<(), Fail> {
     let text = RefCell::new(before.as_bytes().to_vec(alloc)?);
-    let file = Paper {
+    let paper = Paper {
         text: &text,
         at_once,
     };
-    let mut ledger = FileLedger::of(file, Durability::System);
+    let mut ledger = FileLedger::of(paper, Durability::System);
     let out = Out {
         cut,
         append: append.as_bytes().to_vec(alloc)?,

@@ -1,0 +1,134 @@
+// Files that are read, and files that are changed.
+use crate::device::{Call, failed};
+use crate::room::Room;
+use std::alloc::Global;
+use std::fs::{Metadata, OpenFile};
+use std::io::{self, ErrorKind, Read, Write};
+
+/// A file that is read: a read gives what then stands behind what was read.
+#[derive(Drop)]
+pub struct Page<'a> {
+    pub(crate) room: &'a Room<'a>,
+    pub(crate) place: usize,
+    pub(crate) at: usize,
+}
+
+impl Read for Page<'_> {
+    fn read(&mut self, buf: &mut [u8]) -> io::Result<usize> {
+        self.room.reading.check()?;
+        let Ok(disk) = self.room.disk.try_borrow() else {
+            return Err(failed());
+        };
+        let Some(text) = disk.text_of(self.place) else {
+            return Err(failed());
+        };
+        let left = &text[self.at.min(text.len())..];
+        let count = self.room.reading.count(left.len().min(buf.len()));
+        buf[..count].copy_from_slice(&left[..count]);
+        self.at = self.at.saturating_add(count);
+        Ok(count)
+    }
+}
+
+/// A file that is open for appending.
+#[derive(Drop)]
+pub struct Sheet<'a> {
+    pub(crate) room: &'a Room<'a>,
+    pub(crate) path: String,
+    pub(crate) place: usize,
+}
+
+impl Sheet<'_> {
+    fn append(&self, bytes: &[u8]) -> io::Result<()> {
+        if bytes.is_empty() {
+            return Ok(());
+        }
+        self.room
+            .note_bytes("append", &self.path, bytes.len() as u64)?;
+        let Ok(mut disk) = self.room.disk.try_borrow_mut() else {
+            return Err(failed());
+        };
+        match disk.text_mut(self.place) {
+            Some(text) => Ok(text.extend_from_slice(bytes)?),
+            None => Err(failed()),
+        }
+    }
+
+    fn cut(&self, size: u64) -> io::Result<()> {
+        self.room.note_bytes("cut", &self.path, size)?;
+        let Ok(mut disk) = self.room.disk.try_borrow_mut() else {
+            return Err(failed());
+        };
+        match disk.text_mut(self.place) {
+            Some(text) => {
+                if size < text.len() as u64 {
+                    text.truncate(size as usize);
+                }
+                Ok(())
+            }
+            None => Err(failed()),
+        }
+    }
+}
+
+impl Write for Sheet<'_> {
+    fn write(&mut self, buf: &[u8]) -> io::Result<usize> {
+        match self.room.files.call() {
+            Call::Succeeds => {
+                let count = self.room.files.count(buf.len());
+                self.append(&buf[..count])?;
+                Ok(count)
+            }
+            Call::Fails(share) => {
+                self.append(&buf[..share.of(buf.len())])?;
+                Err(failed())
+            }
+        }
+    }
+
+    fn flush(&mut self) -> io::Result<()> {
+        Ok(())
+    }
+}
+
+impl OpenFile for Sheet<'_> {
+    fn metadata(&self) -> io::Result<Metadata> {
+        Err(io::Error::from(ErrorKind::Unsupported))
+    }
+
+    // What has no bytes is done as a whole or not at all.
+    fn set_len(&self, size: u64) -> io::Result<()> {
+        match self.room.files.call() {
+            Call::Succeeds => self.cut(size),
+            Call::Fails(share) => {
+                if share.of(1) == 1 {
+                    self.cut(size)?;
+                }
+                Err(failed())
+            }
+        }
+    }
+
+    fn sync_all(&self) -> io::Result<()> {
+        self.room.note("sync", &self.path)
+    }
+
+    fn sync_data(&self) -> io::Result<()> {
+        self.room.note("sync", &self.path)
+    }
+}
+
+// A file that is open for appending, which is made where it isn't there.
+pub(crate) fn sheet_at<'a>(alloc: Global, room: &'a Room<'a>, path: &str) -> io::Result<Sheet<'a>> {
+    let Ok(mut disk) = room.disk.try_borrow_mut() else {
+        return Err(failed());
+    };
+    let Some((place, was_there)) = disk.made(path)? else {
+        return Err(failed());
+    };
+    if !was_there {
+        room.note("make", path)?;
+    }
+    let path = path.to_string(alloc)?;
+    Ok(Sheet { room, path, place })
+}

@@ -1,0 +1,17 @@
+//! What a command of a case finds in place of the system: files, sockets and a clock in memory, and streams, of which
+//! each may fail at a call, give or take few bytes at once, and is written down.
+#![tactic(auto)]
+
+mod device;
+mod disk;
+mod files;
+mod host;
+mod room;
+mod sockets;
+mod streams;
+
+pub use device::Share;
+pub use disk::Disk;
+pub use host::CaseHost;
+pub use room::{Failing, Room};
+pub use streams::{Input, Output};

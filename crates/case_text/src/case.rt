@@ -1,0 +1,72 @@
+// Cases: files, and steps one after the other.
+use crate::conditions::Conditions;
+
+/// What is shown by commands that are given one after the other over the same files.
+#[derive(Drop)]
+pub struct Case {
+    /// What it shows.
+    pub name: String,
+    /// The number of its first line.
+    pub line: usize,
+    /// The files before the first step.
+    pub files: Vec<FileText>,
+    pub steps: Vec<Step>,
+}
+
+/// A file: its path, and what it holds, or what comes of it.
+#[derive(Drop)]
+pub struct FileText {
+    pub path: String,
+    pub said: Said,
+}
+
+/// What has to stand somewhere.
+#[derive(Drop)]
+pub enum Said {
+    /// These bytes.
+    Bytes(Vec<u8>),
+    /// Anything but nothing, which the case doesn't compare.
+    Something,
+    /// No file.
+    Gone,
+    /// The file of another path: a symbolic link to it.
+    Link(String),
+    /// The file of another path: a second name of it.
+    Name(String),
+}
+
+/// A command, what it meets, and what has to come of it.
+#[derive(Drop)]
+pub struct Step {
+    /// The number of its line.
+    pub line: usize,
+    /// The words of the command line.
+    pub words: Vec<String>,
+    /// What the command meets.
+    pub conditions: Conditions,
+    /// Standard input.
+    pub input: Vec<u8>,
+    /// Where a line of standard input begins, and how much was answered above it.
+    pub turns: Vec<Turn>,
+    /// Standard output.
+    pub answers: Said,
+    /// Standard error.
+    pub faults: Said,
+    /// The exit status.
+    pub status: u8,
+    /// The files that aren't as they were.
+    pub after: Vec<FileText>,
+    /// The calls of files and streams, where the case says them.
+    pub trace: Option<Vec<u8>>,
+    /// What the words ask for, where the case says it in place of what comes of them.
+    pub asked: Option<Vec<u8>>,
+}
+
+/// A line of standard input, as the lines of a step tell of a talk.
+#[derive(Clone, Copy, Drop)]
+pub struct Turn {
+    /// How many bytes stand before it.
+    pub start: usize,
+    /// How many bytes of answers stand above it.
+    pub due: usize,
+}

@@ -1,0 +1,16 @@
+// Why a text of cases isn't read.
+use std::alloc::AllocError;
+
+/// Why a text of cases isn't read.
+#[derive(Clone, Copy, Debug, Drop, PartialEq, Eq)]
+pub enum CaseFault {
+    NoMemory,
+    /// A line that is none of a case, or stands where it may not; 1 is the first.
+    Line(usize),
+}
+
+impl From<AllocError> for CaseFault {
+    fn from(_: AllocError) -> CaseFault {
+        CaseFault::NoMemory
+    }
+}

@@ -1,0 +1,220 @@
+// From a text to its cases.
+use crate::case::{Case, FileText, Said, Step, Turn};
+use crate::conditions::Conditions;
+use crate::escapes::append_text;
+use crate::fault::CaseFault;
+use std::alloc::{AllocError as NoMemory, Global};
+
+/// The cases of a text.
+///
+/// Errors: `Line` for the first line that is none of a case, or stands where it may not; `NoMemory`.
+pub fn cases_of(alloc: Global, text: &str) -> Result<Vec<Case>, CaseFault> {
+    let mut reader = Reader {
+        alloc,
+        cases: Vec::new(alloc),
+        last: Place::Nothing,
+    };
+    for (place, line) in text.lines().enumerate() {
+        let number = place.saturating_add(1);
+        if !reader.take(number, line)? {
+            return Err(CaseFault::Line(number));
+        }
+    }
+    Ok(reader.cases)
+}
+
+// Where the last line of text went.
+#[derive(Clone, Copy, Drop, PartialEq, Eq)]
+enum Place {
+    Nothing,
+    File,
+    Input,
+    Answers,
+    Faults,
+}
+
+#[derive(Drop)]
+struct Reader {
+    alloc: Global,
+    cases: Vec<Case>,
+    last: Place,
+}
+
+impl Reader {
+    // Takes a line; whether it may stand here.
+    fn take(&mut self, number: usize, line: &str) -> Result<bool, NoMemory> {
+        if line.is_empty() || line.starts_with('#') {
+            return Ok(true);
+        }
+        if line == "\\" {
+            return Ok(self.drop_newline());
+        }
+        let (mark, text) = line.split_once(' ').unwrap_or((line, ""));
+        match mark {
+            "case" => self.begin_case(number, text),
+            "$" => self.begin_step(number, text),
+            "file" | "gone" | "some" | "link" | "name" => self.begin_file(mark, text),
+            "|" => self.append(Place::File, text),
+            "<" => self.append(Place::Input, text),
+            ">" => self.append(Place::Answers, text),
+            "!" => self.append(Place::Faults, text),
+            _ => self.take_detail(mark, text),
+        }
+    }
+
+    // What a line says of the last step beside its streams.
+    fn take_detail(&mut self, mark: &str, text: &str) -> Result<bool, NoMemory> {
+        let alloc = self.alloc;
+        let Some(step) = self.step() else {
+            return Ok(false);
+        };
+        match mark {
+            "@" => return step.conditions.take(alloc, text),
+            ">>" => step.answers = Said::Something,
+            "!!" => step.faults = Said::Something,
+            "?" => match text.parse::<u8>() {
+                Ok(status) => step.status = status,
+                Err(_) => return Ok(false),
+            },
+            "%" => return append_line(alloc, &mut step.trace, text),
+            "=" => return append_line(alloc, &mut step.asked, text),
+            _ => return Ok(false),
+        }
+        Ok(true)
+    }
+
+    fn begin_case(&mut self, number: usize, text: &str) -> Result<bool, NoMemory> {
+        self.last = Place::Nothing;
+        self.cases.push(Case {
+            name: text.to_string(self.alloc)?,
+            line: number,
+            files: Vec::new(self.alloc),
+            steps: Vec::new(self.alloc),
+        })?;
+        Ok(true)
+    }
+
+    // A command line, whose words stand between spaces.
+    fn begin_step(&mut self, number: usize, text: &str) -> Result<bool, NoMemory> {
+        let alloc = self.alloc;
+        self.last = Place::Nothing;
+        let Some(case) = self.cases.last_mut() else {
+            return Ok(false);
+        };
+        let mut words = Vec::new(alloc);
+        for word in text.split(' ') {
+            words.push(word.to_string(alloc)?)?;
+        }
+        case.steps.push(Step {
+            line: number,
+            words,
+            conditions: Conditions::new(alloc),
+            input: Vec::new(alloc),
+            turns: Vec::new(alloc),
+            answers: Said::Bytes(Vec::new(alloc)),
+            faults: Said::Bytes(Vec::new(alloc)),
+            status: 0,
+            after: Vec::new(alloc),
+            trace: None,
+            asked: None,
+        })?;
+        Ok(true)
+    }
+
+    // A file before the first step, or behind the last.
+    fn begin_file(&mut self, mark: &str, text: &str) -> Result<bool, NoMemory> {
+        let alloc = self.alloc;
+        let (path, other) = text.split_once(' ').unwrap_or((text, ""));
+        let said = match mark {
+            "gone" => Said::Gone,
+            "some" => Said::Something,
+            "link" => Said::Link(other.to_string(alloc)?),
+            "name" => Said::Name(other.to_string(alloc)?),
+            _ => Said::Bytes(Vec::new(alloc)),
+        };
+        let path = path.to_string(alloc)?;
+        self.last = Place::File;
+        match self.files() {
+            Some(files) => {
+                files.push(FileText { path, said })?;
+                Ok(true)
+            }
+            None => Ok(false),
+        }
+    }
+
+    // A line of a file or of a stream.
+    fn append(&mut self, place: Place, text: &str) -> Result<bool, NoMemory> {
+        self.last = place;
+        if place == Place::Input {
+            self.begin_turn()?;
+        }
+        match self.bytes_at(place) {
+            Some(bytes) => {
+                let is_read = append_text(bytes, text)?;
+                bytes.push(b'\n')?;
+                Ok(is_read)
+            }
+            None => Ok(false),
+        }
+    }
+
+    // Remembers where a line of standard input begins.
+    fn begin_turn(&mut self) -> Result<(), NoMemory> {
+        if let Some(step) = self.step() {
+            let due = match &step.answers {
+                Said::Bytes(bytes) => bytes.len(),
+                _ => 0,
+            };
+            let start = step.input.len();
+            step.turns.push(Turn { start, due })?;
+        }
+        Ok(())
+    }
+
+    // Takes the newline of the last line of text away; whether there was one.
+    fn drop_newline(&mut self) -> bool {
+        let last = self.last;
+        self.last = Place::Nothing;
+        match self.bytes_at(last) {
+            Some(bytes) => bytes.pop().is_some(),
+            None => false,
+        }
+    }
+
+    fn step(&mut self) -> Option<&mut Step> {
+        self.cases.last_mut()?.steps.last_mut()
+    }
+
+    // The files of the last step; of the case where it has no step yet.
+    fn files(&mut self) -> Option<&mut Vec<FileText>> {
+        let case = self.cases.last_mut()?;
+        match case.steps.last_mut() {
+            Some(step) => Some(&mut step.after),
+            None => Some(&mut case.files),
+        }
+    }
+
+    // Where text of a place goes.
+    fn bytes_at(&mut self, place: Place) -> Option<&mut Vec<u8>> {
+        let said = match place {
+            Place::Nothing => return None,
+            Place::File => &mut self.files()?.last_mut()?.said,
+            Place::Input => return Some(&mut self.step()?.input),
+            Place::Answers => &mut self.step()?.answers,
+            Place::Faults => &mut self.step()?.faults,
+        };
+        match said {
+            Said::Bytes(bytes) => Some(bytes),
+            _ => None,
+        }
+    }
+}
+
+// Appends a line to a text that need not be there yet.
+fn append_line(alloc: Global, lines: &mut Option<Vec<u8>>, text: &str) -> Result<bool, NoMemory> {
+    let bytes = lines.get_or_insert(Vec::new(alloc));
+    let is_read = append_text(bytes, text)?;
+    bytes.push(b'\n')?;
+    Ok(is_read)
+}

@@ -1,0 +1,71 @@
+// A command of a step, carried out.
+use case_host::{CaseHost, Disk, Failing, Input, Output, Room};
+use case_text::{Limits, Step};
+use command_line::{LineFault, options};
+use program::obey;
+use std::alloc::{AllocError as NoMemory, Global};
+use std::cell::RefCell;
+
+/// What came of a command.
+#[derive(Drop)]
+pub struct Found {
+    pub answers: Vec<u8>,
+    pub faults: Vec<u8>,
+    pub status: u8,
+    pub trace: Vec<u8>,
+    /// Whether files or sockets failed.
+    pub has_failed: bool,
+}
+
+/// Gives the command of a step, with standard output and standard error that take so much.
+pub fn carry(
+    alloc: Global,
+    disk: &RefCell<Disk>,
+    step: &Step,
+    failing: Failing,
+    (answers, faults): (Limits, Limits),
+) -> Result<Found, NoMemory> {
+    let room = Room::new(alloc, disk, &step.conditions, failing);
+    let mut input = Input::of(&room, step);
+    let mut answers = Output::answers(&room, answers);
+    let mut faults = Output::faults(&room, faults);
+    let outcome = obey(
+        alloc,
+        words_of(alloc, step),
+        &CaseHost { room: &room },
+        &mut input,
+        &mut answers,
+        &mut faults,
+    );
+    Ok(Found {
+        answers: answers.kept,
+        faults: faults.kept,
+        status: outcome.status(),
+        has_failed: room.has_failed(),
+        trace: room.trace()?,
+    })
+}
+
+// The words of the command line.
+fn words_of(alloc: Global, step: &Step) -> Result<Vec<String>, LineFault> {
+    if step.conditions.is_no_text {
+        return Err(LineFault::NotText);
+    }
+    let mut words = Vec::new(alloc);
+    for word in &step.words {
+        words.push(word.to_string(alloc)?)?;
+    }
+    Ok(words)
+}
+
+/// What the words of a step ask for, as it is printed; none where they ask for nothing.
+pub fn asked_of(alloc: Global, step: &Step) -> Result<Option<String>, NoMemory> {
+    let mut words = Vec::new(alloc);
+    for word in &step.words {
+        words.push(word.as_str())?;
+    }
+    match options(alloc, &words) {
+        Ok(asked) => Ok(Some(format!(in alloc; "{asked:?}\n")?)),
+        Err(_) => Ok(None),
+    }
+}

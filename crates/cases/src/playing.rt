@@ -1,0 +1,136 @@
+// The cases of a text, played one after the other.
+use crate::comparing::Difference;
+use crate::folder::CaseFile;
+use crate::stepping::{Played, play_step};
+use crate::trial::Trial;
+use case_host::Disk;
+use case_text::{Case, CaseFault, FileText, Said, cases_of};
+use std::alloc::Global;
+use std::cell::RefCell;
+use std::io::{self, ErrorKind, Write};
+
+/// Plays the cases of a file. Says how many hold, and of each other what is different; answers whether all hold.
+pub fn play_file<W: Write>(alloc: Global, file: &CaseFile, out: &mut W) -> io::Result<bool> {
+    let name = file.name.as_str();
+    let Ok(text) = str::from_utf8(&file.bytes) else {
+        return Err(io::Error::from(ErrorKind::InvalidData));
+    };
+    let cases = match cases_of(alloc, text) {
+        Ok(cases) => cases,
+        Err(CaseFault::NoMemory) => return Err(io::Error::from(ErrorKind::OutOfMemory)),
+        Err(CaseFault::Line(line)) => {
+            writeln!(out, "{name}:{line}: no line of a case")?;
+            return Ok(false);
+        }
+    };
+    let mut held: usize = 0;
+    for case in &cases {
+        if play_case(alloc, name, case, out)? {
+            held = held.saturating_add(1);
+        }
+    }
+    let count = cases.len();
+    writeln!(out, "{name}: {held} of {count} cases hold")?;
+    Ok(held == count && count > 0)
+}
+
+// A case whose step fails: the step's line, what was tried, and what is different.
+#[derive(Drop)]
+struct Failed {
+    line: usize,
+    trial: Trial,
+    difference: Difference,
+}
+
+// Plays a case as often as there are places in which something goes wrong. A case without a step shows nothing.
+fn play_case<W: Write>(alloc: Global, name: &str, case: &Case, out: &mut W) -> io::Result<bool> {
+    if case.steps.is_empty() {
+        let line = case.line;
+        writeln!(out, "{name}:{line}: a case without a command")?;
+        return Ok(false);
+    }
+    let mut trial = Trial::first(case);
+    for _ in 0..u64::MAX {
+        match play_once(alloc, case, trial)? {
+            Ok(true) => trial = trial.next(),
+            Ok(false) => break,
+            Err(failed) => {
+                tell(out, name, case, &failed)?;
+                return Ok(false);
+            }
+        }
+    }
+    Ok(true)
+}
+
+// Plays the steps of a case; whether something went wrong, or the step that differs.
+fn play_once(alloc: Global, case: &Case, trial: Trial) -> io::Result<Result<bool, Failed>> {
+    let disk = RefCell::new(laid_out(alloc, &case.files)?);
+    let mut has_failed = false;
+    for step in &case.steps {
+        let trial = if step.conditions.variant.is_some() {
+            trial
+        } else {
+            Trial::Plain
+        };
+        let Played {
+            difference,
+            was_met,
+        } = play_step(alloc, &disk, step, trial)?;
+        if let Some(difference) = difference {
+            let line = step.line;
+            return Ok(Err(Failed {
+                line,
+                trial,
+                difference,
+            }));
+        }
+        has_failed |= was_met;
+        // What comes behind it stands on what wasn't said, or on another file.
+        if was_met && matches!(trial, Trial::Unsaid | Trial::Bit(_) | Trial::Cut(_)) {
+            break;
+        }
+    }
+    Ok(Ok(has_failed))
+}
+
+// The files before the first step.
+fn laid_out(alloc: Global, files: &[FileText]) -> io::Result<Disk> {
+    let mut disk = Disk::new(alloc);
+    for file in files {
+        let path = file.path.as_str();
+        let is_laid = match &file.said {
+            Said::Bytes(bytes) => {
+                disk.put(path, bytes.as_slice().to_vec(alloc)?)?;
+                true
+            }
+            Said::Link(to) => {
+                disk.link(path, to)?;
+                true
+            }
+            Said::Name(of) => disk.add(path, of)?,
+            Said::Something | Said::Gone => false,
+        };
+        if !is_laid {
+            return Err(io::Error::from(ErrorKind::InvalidData));
+        }
+    }
+    Ok(disk)
+}
+
+fn tell<W: Write>(out: &mut W, name: &str, case: &Case, failed: &Failed) -> io::Result<()> {
+    let Failed {
+        line,
+        trial,
+        difference,
+    } = failed;
+    writeln!(
+        out,
+        "{name}:{line}: {} ({trial:?}): {} differs",
+        case.name, difference.name
+    )?;
+    writeln!(out, "wanted:")?;
+    out.write_all(&difference.wanted)?;
+    writeln!(out, "found:")?;
+    out.write_all(&difference.found)
+}

@@ -40,6 +40,7 @@ pub(crate) enum Call {
 pub(crate) struct Device {
     at_once: usize,
     calls_left: Cell<u64>,
+    lacks_memory: bool,
     share: Share,
     is_over: Cell<bool>,
 }
@@ -49,6 +50,7 @@ impl Device {
         Device {
             at_once: limits.at_once,
             calls_left: Cell::new(limits.calls),
+            lacks_memory: limits.lacks_memory,
             share,
             is_over: Cell::new(false),
         }
@@ -77,6 +79,7 @@ impl Device {
     pub(crate) fn check(&self) -> io::Result<()> {
         match self.call() {
             Call::Succeeds => Ok(()),
+            Call::Fails(_) if self.lacks_memory => Err(io::Error::from(ErrorKind::OutOfMemory)),
             Call::Fails(_) => Err(failed()),
         }
     }

@@ -110,12 +110,18 @@ impl OpenFile for Sheet<'_> {
     }
 
     fn sync_all(&self) -> io::Result<()> {
-        self.room.note("sync", &self.path)
+        synced(self.room, &self.path)
     }
 
     fn sync_data(&self) -> io::Result<()> {
-        self.room.note("sync", &self.path)
+        synced(self.room, &self.path)
     }
+}
+
+// Waits for the disk.
+pub(crate) fn synced(room: &Room<'_>, path: &str) -> io::Result<()> {
+    room.files.check()?;
+    room.note("sync", path)
 }
 
 // A file that is open for appending, which is made where it isn't there.
@@ -126,9 +132,7 @@ pub(crate) fn sheet_at<'a>(alloc: Global, room: &'a Room<'a>, path: &str) -> io:
     let Some((place, was_there)) = disk.made(path)? else {
         return Err(failed());
     };
-    if !was_there {
-        room.note("make", path)?;
-    }
+    room.note(if was_there { "write" } else { "make" }, path)?;
     let path = path.to_string(alloc)?;
     Ok(Sheet { room, path, place })
 }

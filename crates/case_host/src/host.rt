@@ -1,6 +1,6 @@
 // The host of a case: its files, locks, sockets and clock.
 use crate::device::{Call, failed};
-use crate::files::{Page, Sheet, sheet_at};
+use crate::files::{Page, Sheet, sheet_at, synced};
 use crate::room::Room;
 use crate::sockets::Socket;
 use ledger_commands::{FileLedger, Host};
@@ -68,7 +68,7 @@ impl<'a> Host for CaseHost<'a> {
     }
 
     fn sync(&self, path: &str) -> io::Result<()> {
-        self.room.note("sync", path)
+        synced(self.room, path)
     }
 
     fn rename(&self, from: &str, to: &str) -> io::Result<()> {

@@ -48,16 +48,19 @@ impl<'a> Room<'a> {
         let (calls, share) = failing
             .files
             .unwrap_or((conditions.files.calls, Share::Nothing));
-        let at_once = conditions.files.at_once;
+        let files = Limits {
+            calls,
+            ..conditions.files
+        };
         let sockets = Limits {
-            at_once: conditions.sockets.at_once,
             calls: failing.sockets.unwrap_or(conditions.sockets.calls),
+            ..conditions.sockets
         };
         Room {
             alloc,
             disk,
             conditions,
-            files: Device::new(Limits { at_once, calls }, share),
+            files: Device::new(files, share),
             reading: Device::new(conditions.reading, Share::Nothing),
             sockets: Device::new(sockets, Share::Nothing),
             under_way: RefCell::new(Vec::new(alloc)),

@@ -9,15 +9,18 @@ use std::io::{self, Read, Write};
 pub struct Input<'a> {
     room: &'a Room<'a>,
     step: &'a Step,
+    given: &'a [u8],
     device: Device,
     at: usize,
 }
 
 impl<'a> Input<'a> {
-    pub fn of(room: &'a Room<'a>, step: &'a Step) -> Input<'a> {
+    /// These bytes.
+    pub fn of(room: &'a Room<'a>, step: &'a Step, given: &'a [u8]) -> Input<'a> {
         Input {
             room,
             step,
+            given,
             device: Device::new(step.conditions.input, Share::Nothing),
             at: 0,
         }
@@ -25,7 +28,7 @@ impl<'a> Input<'a> {
 
     // Where what can be given next ends. A line of a talk comes by itself, once what stands above it was flushed.
     fn end(&self) -> io::Result<usize> {
-        let whole = self.step.input.len();
+        let whole = self.given.len();
         if !self.step.conditions.is_talk {
             return Ok(whole);
         }
@@ -52,9 +55,8 @@ fn next_start(turns: &[Turn], at: usize) -> Option<usize> {
 impl Read for Input<'_> {
     fn read(&mut self, buf: &mut [u8]) -> io::Result<usize> {
         self.device.check()?;
-        let given = self.step.input.as_slice();
-        let end = self.end()?.min(given.len());
-        let left = &given[self.at.min(end)..end];
+        let end = self.end()?.min(self.given.len());
+        let left = &self.given[self.at.min(end)..end];
         let count = self.device.count(left.len().min(buf.len()));
         buf[..count].copy_from_slice(&left[..count]);
         self.at = self.at.saturating_add(count);

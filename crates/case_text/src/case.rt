@@ -25,8 +25,18 @@ pub struct FileText {
 pub enum Said {
     /// These bytes.
     Bytes(Vec<u8>),
+    /// These bytes, and some behind them.
+    Beginning(Vec<u8>),
+    /// These, one behind another, with anything between.
+    Pieces(Vec<Vec<u8>>),
     /// Anything but nothing, which the case doesn't compare.
     Something,
+    /// What an earlier command of the case answered; 1 is the first.
+    Answer(usize),
+    /// What the file at another path holds.
+    Same(String),
+    /// What a file of the program's folder holds.
+    Data(String),
     /// No file.
     Gone,
     /// The file of another path: a symbolic link to it.
@@ -46,6 +56,8 @@ pub struct Step {
     pub conditions: Conditions,
     /// Standard input.
     pub input: Vec<u8>,
+    /// The file of the program's folder that is standard input in place of it.
+    pub input_file: Option<String>,
     /// Where a line of standard input begins, and how much was answered above it.
     pub turns: Vec<Turn>,
     /// Standard output.
@@ -56,6 +68,8 @@ pub struct Step {
     pub status: u8,
     /// The files that aren't as they were.
     pub after: Vec<FileText>,
+    /// Whether files that the case doesn't name may change too.
+    pub has_others: bool,
     /// The calls of files and streams, where the case says them.
     pub trace: Option<Vec<u8>>,
     /// What the words ask for, where the case says it in place of what comes of them.

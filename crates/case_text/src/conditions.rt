@@ -8,6 +8,8 @@ pub struct Limits {
     pub at_once: usize,
     /// How many of its calls succeed.
     pub calls: u64,
+    /// Whether it is for want of memory that the others fail.
+    pub lacks_memory: bool,
 }
 
 impl Limits {
@@ -15,6 +17,7 @@ impl Limits {
     pub const NONE: Limits = Limits {
         at_once: usize::MAX,
         calls: u64::MAX,
+        lacks_memory: false,
     };
 }
 
@@ -30,6 +33,8 @@ pub enum Variant {
     Bit(String),
     /// The file at a path is cut at each of its bytes: what is left counts, and a torn line is named.
     Cut(String),
+    /// From each beginning of the file at a path the command comes to the same end.
+    Beginning(String),
     /// What there is to say can't be written.
     Unsaid,
 }
@@ -110,7 +115,7 @@ impl Conditions {
         true
     }
 
-    // `DEVICE by N` or `DEVICE fails at call N`; whether it is one of them.
+    // `DEVICE by N`, `DEVICE fails at call N` or `DEVICE lacks memory at call N`; whether it is one of them.
     fn set_limit(&mut self, name: &str, rest: &str) -> bool {
         let Some(limits) = self.limits_of(name) else {
             return false;
@@ -118,7 +123,11 @@ impl Conditions {
         if let Some(number) = rest.strip_prefix("by ") {
             return set_size(&mut limits.at_once, number);
         }
-        match rest.strip_prefix("fails at call ") {
+        if let Some(number) = rest.strip_prefix("fails at call ") {
+            return set_calls(&mut limits.calls, number);
+        }
+        limits.lacks_memory = true;
+        match rest.strip_prefix("lacks memory at call ") {
             Some(number) => set_calls(&mut limits.calls, number),
             None => false,
         }
@@ -131,6 +140,7 @@ impl Conditions {
             "sealed" => self.sealed = path.to_string(alloc)?,
             "fixed" => self.fixed = path.to_string(alloc)?,
             "bits" => self.variant = Some(Variant::Bit(path.to_string(alloc)?)),
+            "beginnings" => self.variant = Some(Variant::Beginning(path.to_string(alloc)?)),
             "cuts" => self.variant = Some(Variant::Cut(path.to_string(alloc)?)),
             _ => return Ok(false),
         }

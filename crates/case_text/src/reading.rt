@@ -49,15 +49,25 @@ impl Reader {
         if line == "\\" {
             return Ok(self.drop_newline());
         }
+        let alloc = self.alloc;
         let (mark, text) = line.split_once(' ').unwrap_or((line, ""));
         match mark {
             "case" => self.begin_case(number, text),
             "$" => self.begin_step(number, text),
-            "file" | "gone" | "some" | "link" | "name" => self.begin_file(mark, text),
+            "file" | "gone" | "some" | "link" | "name" | "same" | "data" => self.begin_file(
+                mark, text,
+            ),
             "|" => self.append(Place::File, text),
             "<" => self.append(Place::Input, text),
             ">" => self.append(Place::Answers, text),
             "!" => self.append(Place::Faults, text),
+            "|*" => match self.said_at(Place::File) {
+                Some(said) => append_piece(alloc, said, text),
+                None => Ok(false),
+            },
+            "|~" => self.append_beginning(Place::File, text),
+            ">~" => self.append_beginning(Place::Answers, text),
+            "!~" => self.append_beginning(Place::Faults, text),
             _ => self.take_detail(mark, text),
         }
     }
@@ -70,6 +80,13 @@ impl Reader {
         };
         match mark {
             "@" => return step.conditions.take(alloc, text),
+            "others" => step.has_others = true,
+            "<<" => step.input_file = Some(text.to_string(alloc)?),
+            ">*" => return append_piece(alloc, &mut step.answers, text),
+            ">=" => match text.parse::<usize>() {
+                Ok(number) => step.answers = Said::Answer(number),
+                Err(_) => return Ok(false),
+            },
             ">>" => step.answers = Said::Something,
             "!!" => step.faults = Said::Something,
             "?" => match text.parse::<u8>() {
@@ -110,11 +127,13 @@ impl Reader {
             words,
             conditions: Conditions::new(alloc),
             input: Vec::new(alloc),
+            input_file: None,
             turns: Vec::new(alloc),
             answers: Said::Bytes(Vec::new(alloc)),
             faults: Said::Bytes(Vec::new(alloc)),
             status: 0,
             after: Vec::new(alloc),
+            has_others: false,
             trace: None,
             asked: None,
         })?;
@@ -129,7 +148,9 @@ impl Reader {
             "gone" => Said::Gone,
             "some" => Said::Something,
             "link" => Said::Link(other.to_string(alloc)?),
+            "data" => Said::Data(other.to_string(alloc)?),
             "name" => Said::Name(other.to_string(alloc)?),
+            "same" => Said::Same(other.to_string(alloc)?),
             _ => Said::Bytes(Vec::new(alloc)),
         };
         let path = path.to_string(alloc)?;
@@ -153,6 +174,23 @@ impl Reader {
             Some(bytes) => {
                 let is_read = append_text(bytes, text)?;
                 bytes.push(b'\n')?;
+                Ok(is_read)
+            }
+            None => Ok(false),
+        }
+    }
+
+    // The beginning of what is behind the lines so far.
+    fn append_beginning(&mut self, place: Place, text: &str) -> Result<bool, NoMemory> {
+        let alloc = self.alloc;
+        let Some(bytes) = self.bytes_at(place) else {
+            return Ok(false);
+        };
+        let mut beginning = bytes.as_slice().to_vec(alloc)?;
+        let is_read = append_text(&mut beginning, text)?;
+        match self.said_at(place) {
+            Some(said) => {
+                *said = Said::Beginning(beginning);
                 Ok(is_read)
             }
             None => Ok(false),
@@ -195,20 +233,42 @@ impl Reader {
         }
     }
 
+    // What is said at a place.
+    fn said_at(&mut self, place: Place) -> Option<&mut Said> {
+        match place {
+            Place::Nothing | Place::Input => None,
+            Place::File => Some(&mut self.files()?.last_mut()?.said),
+            Place::Answers => Some(&mut self.step()?.answers),
+            Place::Faults => Some(&mut self.step()?.faults),
+        }
+    }
+
     // Where text of a place goes.
     fn bytes_at(&mut self, place: Place) -> Option<&mut Vec<u8>> {
-        let said = match place {
-            Place::Nothing => return None,
-            Place::File => &mut self.files()?.last_mut()?.said,
-            Place::Input => return Some(&mut self.step()?.input),
-            Place::Answers => &mut self.step()?.answers,
-            Place::Faults => &mut self.step()?.faults,
-        };
-        match said {
+        if place == Place::Input {
+            return Some(&mut self.step()?.input);
+        }
+        match self.said_at(place)? {
             Said::Bytes(bytes) => Some(bytes),
             _ => None,
         }
     }
+}
+
+// Appends a text that stands behind others, in place of lines that stand there alone.
+fn append_piece(alloc: Global, said: &mut Said, text: &str) -> Result<bool, NoMemory> {
+    let mut piece = Vec::new(alloc);
+    let is_read = append_text(&mut piece, text)?;
+    match said {
+        Said::Pieces(pieces) => pieces.push(piece)?,
+        Said::Bytes(bytes) if bytes.is_empty() => {
+            let mut pieces = Vec::new(alloc);
+            pieces.push(piece)?;
+            *said = Said::Pieces(pieces);
+        }
+        _ => return Ok(false),
+    }
+    Ok(is_read)
 }
 
 // Appends a line to a text that need not be there yet.

@@ -17,16 +17,17 @@ pub struct Found {
     pub has_failed: bool,
 }
 
-/// Gives the command of a step, with standard output and standard error that take so much.
+/// Gives the command of a step, with this on standard input, and standard output and standard error that take so much.
 pub fn carry(
     alloc: Global,
     disk: &RefCell<Disk>,
     step: &Step,
+    given: &[u8],
     failing: Failing,
     (answers, faults): (Limits, Limits),
 ) -> Result<Found, NoMemory> {
     let room = Room::new(alloc, disk, &step.conditions, failing);
-    let mut input = Input::of(&room, step);
+    let mut input = Input::of(&room, step, given);
     let mut answers = Output::answers(&room, answers);
     let mut faults = Output::faults(&room, faults);
     let outcome = obey(
@@ -58,14 +59,15 @@ fn words_of(alloc: Global, step: &Step) -> Result<Vec<String>, LineFault> {
     Ok(words)
 }
 
-/// What the words of a step ask for, as it is printed; none where they ask for nothing.
-pub fn asked_of(alloc: Global, step: &Step) -> Result<Option<String>, NoMemory> {
+/// What the words of a step ask for, or what they are refused for.
+pub fn asked_of(alloc: Global, step: &Step) -> Result<String, NoMemory> {
     let mut words = Vec::new(alloc);
     for word in &step.words {
         words.push(word.as_str())?;
     }
     match options(alloc, &words) {
-        Ok(asked) => Ok(Some(format!(in alloc; "{asked:?}\n")?)),
-        Err(_) => Ok(None),
+        Ok(asked) => format!(in alloc; "{asked:?}\n"),
+        Err(LineFault::PathForNumber(_)) => "a path where a number belongs\n".to_string(alloc),
+        Err(_) => "nothing\n".to_string(alloc),
     }
 }

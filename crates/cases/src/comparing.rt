@@ -47,18 +47,14 @@ pub fn held_of(alloc: Global, disk: &Disk) -> Result<Vec<Held>, NoMemory> {
     Ok(held)
 }
 
-/// What is different of streams, the exit status and the calls.
+/// What is different of streams, the exit status and the calls. What earlier commands of the case answered is given.
 pub fn streams_differ(
     alloc: Global,
     step: &Step,
     found: &Found,
+    earlier: &[Vec<u8>],
 ) -> Result<Option<Difference>, NoMemory> {
-    if let Some(difference) = said_differs(
-        alloc,
-        "standard output",
-        &step.answers,
-        Some(&found.answers),
-    )? {
+    if let Some(difference) = answers_differ(alloc, &step.answers, &found.answers, earlier)? {
         return Ok(Some(difference));
     }
     if let Some(difference) = said_differs(
@@ -77,6 +73,29 @@ pub fn streams_differ(
     status_differs(alloc, step.status, found.status)
 }
 
+// What is different of standard output.
+fn answers_differ(
+    alloc: Global,
+    said: &Said,
+    found: &[u8],
+    earlier: &[Vec<u8>],
+) -> Result<Option<Difference>, NoMemory> {
+    let name = "standard output";
+    match said {
+        Said::Answer(number) => {
+            let wanted = match earlier.get(number.saturating_sub(1)) {
+                Some(wanted) => wanted.as_slice(),
+                None => b"(no such command)\n",
+            };
+            if wanted == found {
+                return Ok(None);
+            }
+            Ok(Some(Difference::of(alloc, name, wanted, found)?))
+        }
+        _ => said_differs(alloc, name, said, Some(found)),
+    }
+}
+
 /// What is different of an exit status.
 pub fn status_differs(
     alloc: Global,
@@ -92,6 +111,63 @@ pub fn status_differs(
     Ok(Some(difference))
 }
 
+// Whether these stand in a text, one behind another.
+fn has_pieces(text: &[u8], pieces: &[Vec<u8>]) -> bool {
+    let mut left = text;
+    for piece in pieces {
+        match place_of(left, piece) {
+            Some(place) => left = &left[place..],
+            None => return false,
+        }
+    }
+    true
+}
+
+// Where the first of these that stands in a text ends.
+fn place_of(text: &[u8], piece: &[u8]) -> Option<usize> {
+    for place in 0..text.len() {
+        if text[place..].starts_with(piece) {
+            return Some(place.saturating_add(piece.len()).min(text.len()));
+        }
+    }
+    None
+}
+
+// Whether this is what has to stand somewhere; none is found where there is no file.
+fn is_said(said: &Said, found: Option<&[u8]>) -> bool {
+    let Some(found) = found else {
+        return matches!(said, Said::Gone);
+    };
+    match said {
+        Said::Bytes(bytes) => found == bytes.as_slice(),
+        Said::Beginning(bytes) => {
+            found.starts_with(bytes) && bytes.len() < found.len() && found.ends_with(b"\n")
+        }
+        Said::Something => !found.is_empty(),
+        Said::Pieces(pieces) => has_pieces(found, pieces),
+        // No command makes a link; what another command answered or another file holds is put in their place.
+        Said::Gone
+        | Said::Data(_)
+        | Said::Link(_)
+        | Said::Name(_)
+        | Said::Answer(_)
+        | Said::Same(_) => false,
+    }
+}
+
+// What has to stand somewhere, as it is told.
+fn wanted_of(said: &Said) -> &[u8] {
+    match said {
+        Said::Bytes(bytes) | Said::Beginning(bytes) => bytes,
+        Said::Something => b"(something)\n",
+        Said::Gone => b"(no file)\n",
+        Said::Pieces(_) => b"(pieces, one behind another)\n",
+        Said::Data(_) | Said::Link(_) | Said::Name(_) => b"(what stands before a command alone)\n",
+        Said::Answer(_) => b"(no such command)\n",
+        Said::Same(_) => b"(no such file)\n",
+    }
+}
+
 // What is different of a text; none is found where there is no file.
 fn said_differs(
     alloc: Global,
@@ -99,21 +175,11 @@ fn said_differs(
     said: &Said,
     found: Option<&[u8]>,
 ) -> Result<Option<Difference>, NoMemory> {
-    let (is_said, wanted) = match (said, found) {
-        (Said::Bytes(bytes), Some(found)) => (bytes.as_slice() == found, bytes.as_slice()),
-        (Said::Bytes(bytes), None) => (false, bytes.as_slice()),
-        (Said::Something, found) => (
-            found.is_some_and(|found| !found.is_empty()),
-            b"(something)\n".as_slice(),
-        ),
-        (Said::Gone, found) => (found.is_none(), b"(no file)\n".as_slice()),
-        (Said::Link(_) | Said::Name(_), _) => (false, b"(no link after a command)\n".as_slice()),
-    };
-    if is_said {
+    if is_said(said, found) {
         return Ok(None);
     }
     let found = found.unwrap_or(b"(no file)\n");
-    Ok(Some(Difference::of(alloc, name, wanted, found)?))
+    Ok(Some(Difference::of(alloc, name, wanted_of(said), found)?))
 }
 
 /// What is different of the files: those that a step names are as it says, and each other is as it was.
@@ -125,9 +191,18 @@ pub fn files_differ(
 ) -> Result<Option<Difference>, NoMemory> {
     for file in &step.after {
         let found = disk.text_at(&file.path);
+        if let Said::Same(other) = &file.said
+            && found.is_some()
+            && found == disk.text_at(other)
+        {
+            continue;
+        }
         if let Some(difference) = said_differs(alloc, &file.path, &file.said, found)? {
             return Ok(Some(difference));
         }
+    }
+    if step.has_others {
+        return Ok(None);
     }
     for path in disk.paths() {
         if let Some(difference) = other_differs(alloc, step, before, disk, path)? {

@@ -12,19 +12,24 @@ mod playing;
 mod stepping;
 mod trial;
 
-use folder::case_files;
+use folder::data_files;
 use playing::play_file;
 use std::io;
 use std::process::ExitCode;
 
 fn main(rt: HostRuntime) -> io::Result<ExitCode> {
-    let mut is_well = true;
-    for file in case_files(&rt)? {
-        if !play_file(rt.alloc(), &file, &mut rt.stdout())? {
-            is_well = false;
+    let files = data_files(&rt)?;
+    let mut count: usize = 0;
+    let mut held: usize = 0;
+    for file in &files {
+        if file.name.ends_with(".case") {
+            count = count.saturating_add(1);
+            if play_file(rt.alloc(), &files, file, &mut rt.stdout())? {
+                held = held.saturating_add(1);
+            }
         }
     }
-    Ok(if is_well {
+    Ok(if count > 0 && held == count {
         ExitCode::SUCCESS
     } else {
         ExitCode::FAILURE

@@ -1,16 +1,21 @@
 // The cases of a text, played one after the other.
 use crate::comparing::Difference;
-use crate::folder::CaseFile;
-use crate::stepping::{Played, play_step};
+use crate::folder::{DataFile, data_of};
+use crate::stepping::{Played, Scene};
 use crate::trial::Trial;
 use case_host::Disk;
 use case_text::{Case, CaseFault, FileText, Said, cases_of};
 use std::alloc::Global;
-use std::cell::RefCell;
 use std::io::{self, ErrorKind, Write};
 
-/// Plays the cases of a file. Says how many hold, and of each other what is different; answers whether all hold.
-pub fn play_file<W: Write>(alloc: Global, file: &CaseFile, out: &mut W) -> io::Result<bool> {
+/// Plays the cases of a file over the data of its folder. Says how many hold, and of each other what is different; answers
+/// whether all hold.
+pub fn play_file<W: Write>(
+    alloc: Global,
+    data: &[DataFile],
+    file: &DataFile,
+    out: &mut W,
+) -> io::Result<bool> {
     let name = file.name.as_str();
     let Ok(text) = str::from_utf8(&file.bytes) else {
         return Err(io::Error::from(ErrorKind::InvalidData));
@@ -25,7 +30,7 @@ pub fn play_file<W: Write>(alloc: Global, file: &CaseFile, out: &mut W) -> io::R
     };
     let mut held: usize = 0;
     for case in &cases {
-        if play_case(alloc, name, case, out)? {
+        if play_case(alloc, data, name, case, out)? {
             held = held.saturating_add(1);
         }
     }
@@ -43,16 +48,27 @@ struct Failed {
 }
 
 // Plays a case as often as there are places in which something goes wrong. A case without a step shows nothing.
-fn play_case<W: Write>(alloc: Global, name: &str, case: &Case, out: &mut W) -> io::Result<bool> {
+fn play_case<W: Write>(
+    alloc: Global,
+    data: &[DataFile],
+    name: &str,
+    case: &Case,
+    out: &mut W,
+) -> io::Result<bool> {
     if case.steps.is_empty() {
         let line = case.line;
         writeln!(out, "{name}:{line}: a case without a command")?;
         return Ok(false);
     }
     let mut trial = Trial::first(case);
+    // What is to go wrong goes wrong at least once.
+    let mut is_shown = trial == Trial::Plain;
     for _ in 0..u64::MAX {
-        match play_once(alloc, case, trial)? {
-            Ok(true) => trial = trial.next(),
+        match play_once(alloc, data, case, trial)? {
+            Ok(true) => {
+                trial = trial.next();
+                is_shown = true;
+            }
             Ok(false) => break,
             Err(failed) => {
                 tell(out, name, case, &failed)?;
@@ -60,12 +76,22 @@ fn play_case<W: Write>(alloc: Global, name: &str, case: &Case, out: &mut W) -> i
             }
         }
     }
-    Ok(true)
+    if !is_shown {
+        let line = case.line;
+        writeln!(out, "{name}:{line}: nothing went wrong")?;
+    }
+    Ok(is_shown)
 }
 
 // Plays the steps of a case; whether something went wrong, or the step that differs.
-fn play_once(alloc: Global, case: &Case, trial: Trial) -> io::Result<Result<bool, Failed>> {
-    let disk = RefCell::new(laid_out(alloc, &case.files)?);
+fn play_once(
+    alloc: Global,
+    data: &[DataFile],
+    case: &Case,
+    trial: Trial,
+) -> io::Result<Result<bool, Failed>> {
+    let disk = laid_out(alloc, data, &case.files)?;
+    let mut scene = Scene::new(alloc, data, disk);
     let mut has_failed = false;
     for step in &case.steps {
         let trial = if step.conditions.variant.is_some() {
@@ -76,7 +102,7 @@ fn play_once(alloc: Global, case: &Case, trial: Trial) -> io::Result<Result<bool
         let Played {
             difference,
             was_met,
-        } = play_step(alloc, &disk, step, trial)?;
+        } = scene.play(step, trial)?;
         if let Some(difference) = difference {
             let line = step.line;
             return Ok(Err(Failed {
@@ -87,7 +113,12 @@ fn play_once(alloc: Global, case: &Case, trial: Trial) -> io::Result<Result<bool
         }
         has_failed |= was_met;
         // What comes behind it stands on what wasn't said, or on another file.
-        if was_met && matches!(trial, Trial::Unsaid | Trial::Bit(_) | Trial::Cut(_)) {
+        if was_met
+            && matches!(
+                trial,
+                Trial::Unsaid | Trial::Bit(_) | Trial::Cut(_)
+            )
+        {
             break;
         }
     }
@@ -95,7 +126,7 @@ fn play_once(alloc: Global, case: &Case, trial: Trial) -> io::Result<Result<bool
 }
 
 // The files before the first step.
-fn laid_out(alloc: Global, files: &[FileText]) -> io::Result<Disk> {
+fn laid_out(alloc: Global, data: &[DataFile], files: &[FileText]) -> io::Result<Disk> {
     let mut disk = Disk::new(alloc);
     for file in files {
         let path = file.path.as_str();
@@ -108,8 +139,12 @@ fn laid_out(alloc: Global, files: &[FileText]) -> io::Result<Disk> {
                 disk.link(path, to)?;
                 true
             }
+            Said::Data(name) => {
+                disk.put(path, data_of(data, name)?.to_vec(alloc)?)?;
+                true
+            }
             Said::Name(of) => disk.add(path, of)?,
-            Said::Something | Said::Gone => false,
+            _ => false,
         };
         if !is_laid {
             return Err(io::Error::from(ErrorKind::InvalidData));

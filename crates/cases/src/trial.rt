@@ -14,6 +14,8 @@ pub enum Trial {
     Bit(usize),
     /// So many bytes of a file are left.
     Cut(usize),
+    /// So many bytes of a file are left, and nothing is different.
+    Beginning(usize),
     /// What there is to say can't be written.
     Unsaid,
 }
@@ -28,6 +30,7 @@ impl Trial {
                     Variant::SocketsFail => Trial::Sockets(0),
                     Variant::Bit(_) => Trial::Bit(0),
                     Variant::Cut(_) => Trial::Cut(0),
+                    Variant::Beginning(_) => Trial::Beginning(0),
                     Variant::Unsaid => Trial::Unsaid,
                 };
             }
@@ -46,6 +49,7 @@ impl Trial {
             Trial::Sockets(calls) => Trial::Sockets(calls.saturating_add(1)),
             Trial::Bit(bit) => Trial::Bit(bit.saturating_add(1)),
             Trial::Cut(len) => Trial::Cut(len.saturating_add(1)),
+            Trial::Beginning(len) => Trial::Beginning(len.saturating_add(1)),
             Trial::Plain | Trial::Unsaid => Trial::Plain,
         }
     }

@@ -10,10 +10,17 @@ enum Entry {
     Link(String),
 }
 
+/// A name of a file, or a symbolic link.
 #[derive(Drop)]
-struct Name {
+pub struct Name {
     path: String,
     entry: Entry,
+}
+
+impl Name {
+    pub fn path(&self) -> &str {
+        &self.path
+    }
 }
 
 /// Files in memory. A file may have several names, and outlives them while it is open.
@@ -86,9 +93,9 @@ impl Disk {
         }
     }
 
-    /// The paths of all names, in the order in which they were made.
-    pub fn paths(&self) -> impl Iterator<Item = &str> {
-        self.names.iter().map(|name| name.path.as_str())
+    /// All names, in the order in which they were made.
+    pub fn names(&self) -> &[Name] {
+        &self.names
     }
 
     fn add_name(&mut self, path: &str, entry: Entry) -> Result<(), NoMemory> {

@@ -11,7 +11,7 @@ mod sockets;
 mod streams;
 
 pub use device::Share;
-pub use disk::Disk;
+pub use disk::{Disk, Name};
 pub use host::CaseHost;
 pub use room::{Failing, Room};
 pub use streams::{Input, Output};

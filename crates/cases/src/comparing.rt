@@ -37,10 +37,10 @@ pub struct Held {
 /// What there is of all files.
 pub fn held_of(alloc: Global, disk: &Disk) -> Result<Vec<Held>, NoMemory> {
     let mut held = Vec::new(alloc);
-    for path in disk.paths() {
-        if let Some(text) = disk.text_at(path) {
+    for name in disk.names() {
+        if let Some(text) = disk.text_at(name.path()) {
             let text = text.to_vec(alloc)?;
-            let path = path.to_string(alloc)?;
+            let path = name.path().to_string(alloc)?;
             held.push(Held { path, text })?;
         }
     }
@@ -204,8 +204,8 @@ pub fn files_differ(
     if step.has_others {
         return Ok(None);
     }
-    for path in disk.paths() {
-        if let Some(difference) = other_differs(alloc, step, before, disk, path)? {
+    for name in disk.names() {
+        if let Some(difference) = other_differs(alloc, step, before, disk, name.path())? {
             return Ok(Some(difference));
         }
     }

@@ -38,8 +38,8 @@ pub fn broken_off_differs(
 
 // Whether a file has a line of a table's record.
 fn stands(disk: &Disk, table: &[u8]) -> bool {
-    for path in disk.paths() {
-        if has_line_of(disk.text_at(path).unwrap_or(b""), table) {
+    for name in disk.names() {
+        if has_line_of(disk.text_at(name.path()).unwrap_or(b""), table) {
             return true;
         }
     }

@@ -113,12 +113,7 @@ fn play_once(
         }
         has_failed |= was_met;
         // What comes behind it stands on what wasn't said, or on another file.
-        if was_met
-            && matches!(
-                trial,
-                Trial::Unsaid | Trial::Bit(_) | Trial::Cut(_)
-            )
-        {
+        if was_met && matches!(trial, Trial::Unsaid | Trial::Bit(_) | Trial::Cut(_)) {
             break;
         }
     }

@@ -1,7 +1,7 @@
 // Workers that say what a row says, and write down what happens to them.
 use crate::rows::Row;
 use std::alloc::{AllocError as NoMemory, Global};
-use std::cell::RefCell;
+use std::cell::{Cell, RefCell};
 use wire::{Event, Node, NodeFault, Note, Out};
 
 /// A worker of a row.
@@ -12,8 +12,8 @@ pub struct Probe<'a> {
     name: &'a str,
     log: &'a RefCell<Vec<u8>>,
     // How often it worked since the last moment, and that moment.
-    works: u64,
-    moment: u64,
+    works: Cell<u64>,
+    moment: Cell<u64>,
     is_stopped: bool,
 }
 
@@ -24,8 +24,8 @@ impl<'a> Probe<'a> {
             row,
             name,
             log,
-            works: 0,
-            moment: 0,
+            works: Cell::new(0),
+            moment: Cell::new(0),
             is_stopped: false,
         }
     }
@@ -45,7 +45,7 @@ impl<'a> Probe<'a> {
     fn frames(&self) -> Result<Vec<u8>, NoMemory> {
         let mut frames = Vec::new(self.alloc);
         for said in &self.row.said {
-            let is_now = said.moment.is_none() || said.moment == Some(self.moment);
+            let is_now = said.moment.is_none() || said.moment == Some(self.moment.get());
             if is_now && said.worker.as_str() == self.name {
                 frames.extend_from_slice(&said.frame)?;
             }
@@ -53,30 +53,28 @@ impl<'a> Probe<'a> {
         Ok(frames)
     }
 
-    fn tick(&mut self, moment: u64) -> Result<Vec<u8>, NoMemory> {
-        self.moment = moment;
+    fn tick(&self, moment: u64) -> Result<Vec<u8>, NoMemory> {
+        self.moment.set(moment);
+        let works = self.works.replace(0);
         if self.row.tells_all {
-            let line = format!(in self.alloc;
-                "{} works {}, ticks {moment}",
-                self.name, self.works
-            )?;
+            let line = format!(in self.alloc; "{} works {works}, ticks {moment}", self.name)?;
             self.tell(&line)?;
         }
-        self.works = 0;
         self.frames()
     }
 
     fn get(&self, frame: &[u8]) -> Result<Vec<u8>, NoMemory> {
         let frame = str::from_utf8(frame).unwrap_or("?");
-        let line = format!(in self.alloc; "{} gets {frame} in round {}", self.name, self.moment)?;
+        let moment = self.moment.get();
+        let line = format!(in self.alloc; "{} gets {frame} in round {moment}", self.name)?;
         self.tell(&line)?;
         Ok(Vec::new(self.alloc))
     }
 
-    fn answer(&mut self, e: Event<'_>) -> Result<Out, NoMemory> {
+    fn answer(&self, e: Event<'_>) -> Result<Out, NoMemory> {
         let frames = match e {
             Event::Work => {
-                self.works = self.works.saturating_add(1);
+                self.works.set(self.works.get().saturating_add(1));
                 Vec::new(self.alloc)
             }
             Event::Tick(moment) => self.tick(moment)?,

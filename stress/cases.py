@@ -93,7 +93,7 @@ def cases_of(path):
             elif mark in ("|", "<", ">", "!"):
                 last = last if mark == "|" else {"<": step and step.input, ">": step and step.answers, "!": step and step.faults}[mark]
                 last.bytes += text_of(text) + b"\n"
-            elif mark in ("|~", ">~", "!~", "|*", ">*"):
+            elif mark in ("|~", ">~", "!~", "|*", ">*", "!*"):
                 said = last if mark[0] == "|" else step.answers if mark[0] == ">" else step.faults
                 if mark[1] == "~":
                     said.kind, said.bytes = "beginning", said.bytes + text_of(text)

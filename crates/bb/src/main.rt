@@ -35,6 +35,3 @@ fn words_of(rt: &HostRuntime) -> Result<Vec<String>, LineFault> {
     }
     Ok(words)
 }
-
-#[cfg(test)]
-mod tests;

@@ -83,6 +83,7 @@ impl Reader {
             "others" => step.has_others = true,
             "<<" => step.input_file = Some(text.to_string(alloc)?),
             ">*" => return append_piece(alloc, &mut step.answers, text),
+            "!*" => return append_piece(alloc, &mut step.faults, text),
             ">=" => match text.parse::<usize>() {
                 Ok(number) => step.answers = Said::Answer(number),
                 Err(_) => return Ok(false),

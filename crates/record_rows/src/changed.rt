@@ -18,15 +18,14 @@ pub fn say_changed(alloc: Global, text: &str, said: &mut Said) -> Result<(), NoM
         return said.text("no verdict");
     }
     for place in 0..bytes.len() {
-        for bit in 0..8u8 {
-            bytes[place] ^= 1 << bit;
-            let is_wrong = is_contradicted(alloc, &bytes);
-            bytes[place] ^= 1 << bit;
-            if is_wrong {
-                said.text("contradicted at byte and bit")?;
+        for bit in [1, 2, 4, 8, 16, 32, 64, 128] {
+            turn(&mut bytes, place, bit);
+            if is_contradicted(alloc, &bytes) {
+                said.text("contradicted at byte")?;
                 said.number(place as u64)?;
-                return said.number(u64::from(bit));
+                return said.bytes(&bytes);
             }
+            turn(&mut bytes, place, bit);
         }
     }
     said.text(if is_contradicted(alloc, &bytes) {
@@ -34,6 +33,13 @@ pub fn say_changed(alloc: Global, text: &str, said: &mut Said) -> Result<(), NoM
     } else {
         "no wrong claim"
     })
+}
+
+// Turns a bit of a byte.
+fn turn(bytes: &mut [u8], place: usize, bit: u8) {
+    if let Some(byte) = bytes.get_mut(place) {
+        *byte ^= bit;
+    }
 }
 
 // The verdict of a text's record; none where it isn't accepted.
@@ -61,13 +67,13 @@ fn halts_within(table: &Table) -> Option<(u64, u64)> {
     let mut cells = [Sym::Zero; CELLS];
     let mut head = CELLS / 2;
     let mut state = State(0);
-    for step in 1..=STEPS {
-        if head == 0 || head + 1 >= CELLS || state.0 >= table.states() {
+    for step in 0..STEPS {
+        if head == 0 || head >= CELLS - 1 || state.0 >= table.states() {
             return None;
         }
         let Some(entry) = table.get(state, cells[head]) else {
             cells[head] = Sym::One;
-            return Some((step, ones_of(&cells)));
+            return Some((step.saturating_add(1), ones_of(&cells)));
         };
         cells[head] = entry.write;
         head = match entry.dir {

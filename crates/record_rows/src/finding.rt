@@ -2,7 +2,7 @@
 use crate::words::{number_of, parted, table_of, unread};
 use automata_search::{AutomataSearch, STAGES, Stage};
 use backward::BackwardFinder;
-use cert::{Certificate, Finder, OwnedCertificate, OwnedRecord, decide};
+use cert::{Certificate, Finder, OwnedCertificate, OwnedRecord, Record, decide};
 use evidence::{NoMemory, side_text};
 use far::FarFinder;
 use loops::{CycleFinder, TranslatedFinder};
@@ -132,8 +132,13 @@ impl Finding {
 }
 
 fn say_record(alloc: Global, record: &OwnedRecord, said: &mut Said) -> Result<(), NoMemory> {
+    // The parts by their names: the borrow checker's proof has to know of what the record is made.
+    let lent = Record {
+        table: record.table,
+        certificate: record.certificate.lent(),
+    };
     let mut out = Vec::new(alloc);
-    record.lent().write_text(&mut out)?;
+    lent.write_text(&mut out)?;
     said.bytes(&out)
 }
 

@@ -28,13 +28,18 @@ impl Plain {
 
     /// Writes a symbol and moves. Where memory is refused, nothing changes.
     pub fn write(&mut self, s: Sym, side: Dir) -> Result<(), NoMemory> {
-        let (behind, ahead, by) = match side {
-            Dir::L => (&mut self.right, &mut self.left, -1),
-            Dir::R => (&mut self.left, &mut self.right, 1),
-        };
-        behind.push(s)?;
-        self.read = ahead.pop().unwrap_or(Sym::Zero);
-        self.head = self.head.wrapping_add(by);
+        match side {
+            Dir::L => {
+                self.right.push(s)?;
+                self.read = self.left.pop().unwrap_or(Sym::Zero);
+                self.head = self.head.wrapping_sub(1);
+            }
+            Dir::R => {
+                self.left.push(s)?;
+                self.read = self.right.pop().unwrap_or(Sym::Zero);
+                self.head = self.head.wrapping_add(1);
+            }
+        }
         Ok(())
     }
 

@@ -259,7 +259,7 @@ impl Tapes {
             return unread(said);
         };
         let last = shift.saturating_add_unsigned(shifts);
-        if places > FAR || shift < -FAR || FAR < last {
+        if places < 0 || FAR < places || shift < -FAR || FAR < last {
             return unread(said);
         }
         for by in shift..last {

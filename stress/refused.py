@@ -7,8 +7,9 @@ all from it on. Such a run ends as the one with ample memory does, or with 3, a 
 ample run's ledger, or what stood there; and the same command, again and with ample memory, then comes to the ample run's
 end.
 
-stress/refused.py --calls: the calls of the crates below, by the program of `crates/driver`, which makes each again where
-it is refused: it prints what it prints with ample memory. Of its calls that take no memory not one request comes.
+stress/refused.py --calls: the calls of the crates below, by the programs of `crates/record_rows` and `crates/node_rows`,
+which make those of `calls.rows` again where they are refused: all rows are kept, whichever one request is refused. Of the
+calls of `free.rows` that take no memory none is the first that is refused.
 
 Both are a part of `./ci`.
 
@@ -26,7 +27,10 @@ TOP = os.path.dirname(os.path.dirname(os.path.abspath(__file__)))
 sys.path.insert(0, os.path.join(TOP, "bench"))
 from program import PROGRAM  # noqa: E402
 
-CALLS = os.path.join(TOP, "crates", "driver", "out", "driver")
+ROWS = ["record_rows", "node_rows"]
+
+# The line of `free.rows` behind which no memory is taken.
+FREE = b"\n# From here on no memory is taken.\n"
 
 RECORDS = b"""------ H 1
 1RB1LB_1LA--- H 6 4
@@ -169,69 +173,68 @@ def tried(command, folder, shim, is_all):
         spared += is_same
 
 
-def calls_wrong(folder, shim):
-    """Refuses each request of the program of calls; answers what was wrong, or how many there were of each call."""
-    ample, _ = run([], b"", folder, program=CALLS)
-    if ample.returncode != 0 or b"refused memory" in ample.stdout:
-        return f"with ample memory: status {ample.returncode}", {}
+def kept(name, rows, refusing=None):
+    """Has a program's file of rows kept; answers how that ended and how many requests were refused."""
+    crate = os.path.join(TOP, "crates", name)
+    return run([rows], b"", os.path.join(crate, "data"), refusing, os.path.join(crate, "out", name))
+
+
+def calls_wrong(name, shim):
+    """Refuses each request of the calls of a program; answers what was wrong, or how many there were of each call."""
+    ample, _ = kept(name, "calls.rows")
+    if ample.returncode != 0:
+        return f"with ample memory: {ample.stdout!r}", {}
     counts = collections.Counter()
     number = 0
     while True:
         number += 1
         refusing = {"LD_PRELOAD": shim, "BB_REFUSE": str(number)}
-        ran, refused = run([], b"", folder, refusing, CALLS)
+        ran, refused = kept(name, "calls.rows", refusing)
         if not same(ran, ample):
-            return f"request {number} refused: {first_other(ample.stdout, ran.stdout)}", counts
+            return f"request {number} refused: {ran.stdout!r}", counts
         if refused == 0:
             return None, counts
         # With all later requests refused too, the call that met it is the first that isn't answered.
-        ran, _ = run([], b"", folder, {**refusing, "BB_REFUSE_ALL": "1"}, CALLS)
-        counts[first_refused(ran.stdout)] += 1
+        ran, _ = kept(name, "calls.rows", {**refusing, "BB_REFUSE_ALL": "1"})
+        counts[first_refused(ran.stdout).split(b" ")[0].decode()] += 1
 
 
 def first_refused(printed):
-    """The name of the first call that was refused memory."""
-    for line in printed.decode().split("\n"):
-        name, _, answer = line.rpartition(": ")
-        if answer == "refused memory":
-            return name
-    return "before the first call"
+    """The first row that was refused memory."""
+    rest, _, answer = printed.partition(b"\nbut there came:\n")
+    return rest.partition(b": ")[2] if answer == b"refused memory\n" else b"(before the first call)"
 
 
-def first_other(expected, found):
-    """The first line that is printed otherwise."""
-    for one, other in zip(expected.split(b"\n"), found.split(b"\n")):
-        if one != other:
-            return f"{other!r} and not {one!r}"
-    return f"{len(found)} bytes and not {len(expected)}"
-
-
-def free_wrong(folder, shim):
-    """Refuses all requests from one on, until there is a board: what then takes no memory makes no request at all."""
-    ample, _ = run([], b"free", folder, program=CALLS)
+def free_wrong(name, shim):
+    """Refuses all requests from one on, until the rows are kept: which was refused then takes no memory?"""
+    with open(os.path.join(TOP, "crates", name, "data", "free.rows"), "rb") as file:
+        free = file.read().partition(FREE)[2].split(b"\n")
     number = 0
     while True:
         number += 1
         refusing = {"LD_PRELOAD": shim, "BB_REFUSE": str(number), "BB_REFUSE_ALL": "1"}
-        ran, refused = run([], b"free", folder, refusing, CALLS)
-        if same(ran, ample):
-            return (f"{refused} requests of calls that take no memory" if refused else None), number - 1
-        if refused == 0:
-            return f"printed {ran.stdout[-300:]!r}", number
+        ran, refused = kept(name, "free.rows", refusing)
+        if ran.returncode == 0:
+            return (f"{refused} requests, and all rows are kept" if refused else None), number - 1
+        row = first_refused(ran.stdout)
+        if refused == 0 or any(line.startswith(row + b" = ") or line == row for line in free):
+            return f"{row!r} takes memory", number
 
 
-def try_calls(folder, shim):
-    laid(folder, {})
-    found, counts = calls_wrong(folder, shim)
-    if not found:
-        for name, count in counts.items():
-            print(f"refused: {count} requests of {name}")
-        print(f"refused: {sum(counts.values())} requests of calls, one by one: each call made again, with the same answer")
-        found, count = free_wrong(folder, shim)
-    if found:
-        print(f"refused: the calls: {found}")
-        return 1
-    print(f"refused: {count} requests until there is a board, and none from the calls that take no memory")
+def try_calls(shim):
+    total = 0
+    for name in ROWS:
+        found, counts = calls_wrong(name, shim)
+        if not found:
+            for call, count in counts.items():
+                print(f"refused: {count} requests of {call}")
+            total += sum(counts.values())
+            found, count = free_wrong(name, shim)
+        if found:
+            print(f"refused: the calls of {name}: {found}")
+            return 1
+        print(f"refused: {count} requests of {name} before those of its calls that take no memory, and none from them")
+    print(f"refused: {total} requests of calls, one by one: each call made again, with the same answer")
     return 0
 
 
@@ -240,7 +243,7 @@ def main():
         shim = os.path.join(top, "refused.so")
         subprocess.run(["cc", "-O1", "-shared", "-fPIC", "-o", shim, os.path.join(TOP, "stress", "refused.c"), "-ldl"], check=True)
         if sys.argv[1:] == ["--calls"]:
-            return try_calls(os.path.join(top, "folder"), shim)
+            return try_calls(shim)
         total = 0
         for command in COMMANDS:
             said = []

@@ -1,8 +1,8 @@
 #!/usr/bin/env python3
 """Frames, ticks, turns of work and restarts in random order: a worker and a coordinator against plain models of their rules.
 
-stress/roles.py [SEED [SESSIONS]]: events are handed to a node by the program of `crates/driver`, which has to be built, and
-each answer, with what it appends, sends and notes, is compared. A worker gets grants, acknowledgements and forged frames;
+stress/roles.py [SEED [SESSIONS]]: events are handed to a node by the program of `crates/node_rows`, which has to be built,
+and each answer, with what it appends, sends and notes, is compared. A worker gets grants, acknowledgements and forged frames;
 a coordinator of one to three states, for which `nodes.py` has no clock, gets ticks too. Both are begun again from the
 ledgers that they wrote. Prints how many events of each kind were answered, and the first that differs, and then ends with 1.
 """
@@ -18,7 +18,7 @@ from records import damaged
 from tree import Board, HEADER, is_in_order
 
 TOP = os.path.dirname(os.path.dirname(os.path.abspath(__file__)))
-DRIVER = os.path.join(TOP, "crates", "driver", "out", "driver")
+DRIVER = os.path.join(TOP, "crates", "node_rows", "out", "node_rows")
 STEPS = 100
 MOST_RECORDS = 32
 MOST_SENT = 64
@@ -40,13 +40,21 @@ def told(cut=None, appends=b"", sends=b"", note=b""):
     """How an answer is printed."""
     parts = [] if cut is None else [b"cut to %d" % cut]
     parts += [word + b" " + text.replace(b"\n", b"|") for word, text in ((b"appends", appends), (b"sends", sends)) if text]
-    return b"".join(b" " + part for part in parts + ([note] if note else []))
+    return b" ".join(parts + ([note] if note else [])) or b"nothing"
+
+
+def call(event):
+    """The call of an event: a tick, a turn of work or a start by their names, and a frame as it is written out."""
+    words = event.split(b" ")
+    if event in (b"WORK", b"RESTART") or words[0] == b"TICK":
+        return event.lower()
+    return b"on " + b"".join(b"%c" % byte if 32 <= byte < 127 and byte not in b"\\|" else b"\\x%02x" % byte for byte in event)
 
 
 class Worker:
     """The rules of docs/FORMATS.md, with a finder of halting counts."""
 
-    name = b"w1\n"
+    name = b"worker"
 
     def __init__(self):
         self.board, self.acknowledged, self.lease, self.is_told_to_stop = None, set(), None, False
@@ -139,7 +147,7 @@ class Clocked:
 
     def __init__(self, states, records):
         self.states, self.records, self.era = states, records, 0
-        self.name = b"c%d\n" % states
+        self.name = b"coordinator %d 1" % states
         self.model = None
 
     def start(self):
@@ -171,11 +179,11 @@ class Clocked:
 
 def session(rng, node, tables, counts):
     """Events that are answered; what differs, if something does."""
-    events, due = [], [b"start:" + node.start()]
+    events, due = [], [node.start()]
     for _ in range(rng.randint(1, 400)):
         if rng.random() < 0.02:
             event, answer, kind = b"RESTART", None, "restart"
-            due.append(b"start:" + node.start())
+            due.append(node.start())
         else:
             event = node.event(rng, tables)
             if b"\n" in event or event == b"RESTART":
@@ -183,10 +191,10 @@ def session(rng, node, tables, counts):
             answer, kind = node.answer(event)
             if kind == "too long":
                 continue
-            due.append(b"answer:" + answer)
+            due.append(answer)
         events.append(event)
-        counts[f"{node.name[:1].decode()} {kind}"] += 1
-    ran = subprocess.run([DRIVER], input=node.name + b"".join(event + b"\n" for event in events), capture_output=True, check=False)
+        counts[f"{node.name.split(b' ')[0].decode()} {kind}"] += 1
+    ran = subprocess.run([DRIVER], input=b"".join(line + b"\n" for line in [node.name, *map(call, events)]), capture_output=True, check=False)
     answers = ran.stdout.split(b"\n")[:-1]
     if answers == due:
         return None

@@ -1,5 +1,5 @@
 // Why a text of cases isn't read.
-use std::alloc::AllocError;
+use std::alloc::AllocError as NoMemory;
 
 /// Why a text of cases isn't read.
 #[derive(Clone, Copy, Debug, Drop, PartialEq, Eq)]
@@ -9,8 +9,8 @@ pub enum CaseFault {
     Line(usize),
 }
 
-impl From<AllocError> for CaseFault {
-    fn from(_: AllocError) -> CaseFault {
+impl From<NoMemory> for CaseFault {
+    fn from(_: NoMemory) -> CaseFault {
         CaseFault::NoMemory
     }
 }

@@ -11,9 +11,9 @@ use std::time::{Clock, Duration};
 
 // A clock that stands.
 #[derive(Drop)]
-struct Standing;
+struct StillClock;
 
-impl Clock for Standing {
+impl Clock for StillClock {
     fn monotonic(&self) -> io::Result<Duration> {
         Ok(Duration::ZERO)
     }
@@ -69,7 +69,7 @@ fn ran(alloc: Global, row: &Row, workers: Vec<Probe<'_>>) -> Outcome {
         form: &AsLines,
         workers,
         telling: Telling::Nothing,
-        clock: &Standing,
+        clock: &StillClock,
     };
     cmd_run(
         alloc,

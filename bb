@@ -1,16 +1,35 @@
 #!/bin/sh
-# Runs bb from any folder: the program that is kept in dist/ where it is the one of these sources, else one that is
-# built from them, once. BB_BUILD=1 builds it in any case.
+# Runs bb from any folder, also through links: the program that is kept in dist/ where it is the one of these sources, else
+# one that is built from them, once. BB_BUILD=1 builds it in any case. `./bb --where` prints the path of the program that it
+# would run: who runs it often asks once.
 set -e
-top=$(cd "$(dirname "$0")" && pwd)
+self=$0
+while [ -L "$self" ]; do
+    link=$(readlink "$self")
+    case $link in
+        /*) self=$link ;;
+        *) self=${self%/*}/$link ;;
+    esac
+done
+top=$(cd "${self%/*}" && pwd)
 kept=$top/dist/bb-linux-x86_64
 built=$top/crates/bb/out/bb
 stamp=$top/crates/bb/out/bb.sources
+
 sources=$("$top/tools/sources")
+
+run() {
+    if [ "$1" = --where ] && [ $# = 1 ]; then
+        echo "$program"
+        exit
+    fi
+    exec "$program" "$@"
+}
 
 if [ -z "$BB_BUILD" ] && [ "$(uname -s)-$(uname -m)" = Linux-x86_64 ] && [ -x "$kept" ] &&
     [ "$(sed -n 's/^sources //p' "$top/dist/SOURCES")" = "$sources" ]; then
-    exec "$kept" "$@"
+    program=$kept
+    run "$@"
 fi
 
 if [ ! -x "$built" ] || [ "$(cat "$stamp" 2> /dev/null)" != "$sources" ]; then
@@ -44,4 +63,5 @@ if [ ! -x "$built" ] || [ "$(cat "$stamp" 2> /dev/null)" != "$sources" ]; then
     fi
     echo "$sources" > "$stamp"
 fi
-exec "$built" "$@"
+program=$built
+run "$@"

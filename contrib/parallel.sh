@@ -6,6 +6,8 @@
 set -e
 folder=${1:?"contrib/parallel.sh DIR [OPTIONS..]"}
 shift
+# The script ./bb sums up its sources each time: it is asked once which program it runs.
+bb=${BB:-$(./bb --where)}
 find "$folder" -name '*.ledger' ! -name trunk.ledger | sort |
-    parallel --jobs "${JOBS:-100%}" --joblog "$folder/parallel.log" --will-cite "${BB:-./bb}" settle {} "$@" > "$folder/parallel.out"
+    parallel --jobs "${JOBS:-100%}" --joblog "$folder/parallel.log" --will-cite "$bb" settle {} "$@" > "$folder/parallel.out"
 echo "$(wc -l < "$folder/parallel.out") parts are worked off; ${BB:-./bb} join $folder says how the tree stands"

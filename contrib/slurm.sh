@@ -11,7 +11,9 @@ first=${SLURM_ARRAY_TASK_MIN:-1}
 step=${SLURM_ARRAY_TASK_COUNT:-1}
 mine=$((${SLURM_ARRAY_TASK_ID:-1} - first))
 status=0
+# The script ./bb sums up its sources each time: it is asked once which program it runs.
+bb=${BB:-$(./bb --where)}
 for part in $(find "$folder" -name '*.ledger' ! -name trunk.ledger | sort | awk -v mine="$mine" -v step="$step" 'NR % step == mine % step'); do
-    "${BB:-./bb}" settle "$part" "$@" || status=$?
+    "$bb" settle "$part" "$@" || status=$?
 done
 exit "$status"

@@ -6,6 +6,8 @@
 //! be read.
 #![tactic(auto)]
 
+mod arguments;
+mod commands;
 mod grammar;
 mod help;
 mod line_fault;

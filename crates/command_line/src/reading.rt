@@ -2,12 +2,14 @@
 ghost use Rattle.std.specs.Prelude.{◌≡◌, ◌≤◌, IfOk, IfSome};
 ghost use Rattle.options.specs.Ranges.{AreWithinRanges, IsSettling, IsWithinRange};
 
+use crate::arguments::{
+    CARRIED, DEPTH, DRAWN, ERA, FAR, FILE, FILLED, FIRST, FOLDER, FROM, GRAM, HARD, JOINED, JSON,
+    LEDGER, LOSE, MERGED, OLD, PICTURES, PROGRESS, READ, ROUNDS, ROWS, SECOND, STATES, STEPS, SYNC,
+    WHY, WIDTH, WORKERS,
+};
 use crate::grammar::program;
 use crate::line_fault::LineFault;
-use crate::words::{
-    DEPTH, ERA, FAR, FILE, FILLED, FIRST, FOLDER, FROM, GRAM, HARD, IN, JSON, LEDGER, LOSE, OUT,
-    PICTURES, PROGRESS, ROUNDS, ROWS, SECOND, STATES, STEPS, SYNC, WHY, WIDTH, WORKERS,
-};
+use crate::words::Number;
 use clap::error::ErrorKind;
 use clap::{ArgMatches, Error};
 use options::{
@@ -60,12 +62,17 @@ fn refused(alloc: Global, fault: Error, words: &[&str]) -> LineFault {
 fn has_path(alloc: Global, fault: &Error, words: &[&str]) -> Result<bool, NoMemory> {
     let said = format!(in alloc; "{fault}")?;
     for word in words {
-        let quoted = format!(in alloc; "'{word}'")?;
-        if word.contains(['/', '.']) && said.contains(quoted.as_str()) {
+        if word.contains(['/', '.']) && quotes(alloc, &said, word)? {
             return Ok(true);
         }
     }
     Ok(false)
+}
+
+// Whether the text has the word in quotes.
+fn quotes(alloc: Global, text: &str, word: &str) -> Result<bool, NoMemory> {
+    let quoted = format!(in alloc; "'{word}'")?;
+    Ok(text.contains(quoted.as_str()))
 }
 
 // How far to search. clap has refused what is out of range.
@@ -73,48 +80,43 @@ fn search_of(matches: &ArgMatches<'_>) -> Result<Search, LineFault>
     ensures { IfOk result IsWithinRange }
 {
     Ok(Search {
-        steps: number_of(matches, STEPS, 1, 100_000_000)?,
-        depth: number_of(matches, DEPTH, 0, 1_000)?,
-        gram: number_of(matches, GRAM, 0, 8)?,
-        far: number_of(matches, FAR, 0, 16)?,
-        hard: matches.get_flag(HARD),
+        steps: number_of(matches, STEPS)?,
+        depth: number_of(matches, DEPTH)?,
+        gram: number_of(matches, GRAM)?,
+        far: number_of(matches, FAR)?,
+        hard: matches.get_flag(HARD.name),
     })
 }
 
 // The number of an option.
-fn number_of(matches: &ArgMatches<'_>, name: &str, least: u64, most: u64) -> Result<u64, LineFault>
-    ensures { IfOk result (λ number. (least ≤ number) × (number ≤ most)) }
+fn number_of(matches: &ArgMatches<'_>, number: Number) -> Result<u64, LineFault>
+    ensures { IfOk result (λ given. (number.least ≤ given) × (given ≤ number.most)) }
 {
-    match matches.get_one::<u64>(name) {
-        Some(number) if least <= number && number <= most => Ok(number),
+    match matches.get_one::<u64>(number.name) {
+        Some(given) if number.least <= given && given <= number.most => Ok(given),
         _ => Err(LineFault::OutOfRange),
     }
 }
 
 // The number of an option that may be left out.
-fn number_if_given(
-    matches: &ArgMatches<'_>,
-    name: &str,
-    least: u64,
-    most: u64,
-) -> Result<Option<u64>, LineFault>
-    ensures { IfOk result (λ given. IfSome given (λ number. (least ≤ number) × (number ≤ most))) }
+fn number_if_given(matches: &ArgMatches<'_>, number: Number) -> Result<Option<u64>, LineFault>
+    ensures { IfOk result (λ given. IfSome given (λ given. (number.least ≤ given) × (given ≤ number.most))) }
 {
-    if matches.get_one::<u64>(name).is_none() {
+    if matches.get_str(number.name).is_none() {
         return Ok(None);
     }
-    Ok(Some(number_of(matches, name, least, most)?))
+    Ok(Some(number_of(matches, number)?))
 }
 
 // The ledger that is kept, if one is.
 fn ledger_of<'a>(matches: &ArgMatches<'a>) -> Option<LedgerFile<'a>> {
-    let path = matches.get_str(LEDGER)?;
+    let path = matches.get_str(LEDGER.name)?;
     Some(written_of(matches, path))
 }
 
 // The ledger at a path, as it is to be written.
 fn written_of<'a>(matches: &ArgMatches<'a>, path: &'a str) -> LedgerFile<'a> {
-    let durability = if matches.get_flag(SYNC) {
+    let durability = if matches.get_flag(SYNC.name) {
         Durability::Disk
     } else {
         Durability::System
@@ -126,8 +128,8 @@ fn coord_options<'a>(coord: &ArgMatches<'a>) -> Result<Options<'a>, LineFault>
     ensures { IfOk result AreWithinRanges }
 {
     let beginning = Beginning {
-        states: number_of(coord, STATES, 1, 7)? as u8,
-        era: number_of(coord, ERA, 1, u64::MAX)?,
+        states: number_of(coord, STATES)? as u8,
+        era: number_of(coord, ERA)?,
     };
     Ok(Options::Coord {
         beginning,
@@ -138,7 +140,7 @@ fn coord_options<'a>(coord: &ArgMatches<'a>) -> Result<Options<'a>, LineFault>
 fn run_options<'a>(run: &ArgMatches<'a>) -> Result<Options<'a>, LineFault>
     ensures { IfOk result AreWithinRanges }
 {
-    let lose = number_if_given(run, LOSE, 2, 1_000)?;
+    let lose = number_if_given(run, LOSE)?;
     Ok(Options::Run {
         settling: settling_of(run, lose)?,
         ledger: ledger_of(run),
@@ -160,13 +162,13 @@ fn settling_of(matches: &ArgMatches<'_>, lose: Option<u64>) -> Result<Settling, 
     ensures { IfOk result (λ settling. IsSettling settling × (settling.lose ≡ lose)) }
 {
     Ok(Settling {
-        states: number_of(matches, STATES, 1, 7)? as u8,
-        workers: number_of(matches, WORKERS, 1, 64)? as u8,
+        states: number_of(matches, STATES)? as u8,
+        workers: number_of(matches, WORKERS)? as u8,
         lose,
-        rounds: number_of(matches, ROUNDS, 1, 1_000_000_000)?,
+        rounds: number_of(matches, ROUNDS)?,
         search: search_of(matches)?,
-        json: matches.get_flag(JSON),
-        progress: matches.get_flag(PROGRESS),
+        json: matches.get_flag(JSON.name),
+        progress: matches.get_flag(PROGRESS.name),
     })
 }
 
@@ -174,7 +176,7 @@ fn retry_options<'a>(retry: &ArgMatches<'a>) -> Result<Options<'a>, LineFault>
     ensures { IfOk result AreWithinRanges }
 {
     Ok(Options::Retry {
-        file: written_of(retry, retry.get_str(FILE).unwrap_or_default()),
+        file: written_of(retry, retry.get_str(FILE.name).unwrap_or_default()),
         search: search_of(retry)?,
     })
 }
@@ -183,9 +185,9 @@ fn merge_options<'a>(merge: &ArgMatches<'a>) -> Options<'a>
     ensures { AreWithinRanges result }
 {
     Options::Merge(Merging {
-        first: merge.get_str(FIRST).unwrap_or_default(),
-        second: merge.get_str(SECOND).unwrap_or_default(),
-        out: merge.get_str(OUT).unwrap_or_default(),
+        first: merge.get_str(FIRST.name).unwrap_or_default(),
+        second: merge.get_str(SECOND.name).unwrap_or_default(),
+        out: merge.get_str(MERGED.name).unwrap_or_default(),
     })
 }
 
@@ -193,8 +195,8 @@ fn carry_options<'a>(carry: &ArgMatches<'a>) -> Options<'a>
     ensures { AreWithinRanges result }
 {
     Options::Carry(Carrying {
-        ledger: carry.get_str(IN).unwrap_or_default(),
-        out: carry.get_str(OUT).unwrap_or_default(),
+        ledger: carry.get_str(OLD.name).unwrap_or_default(),
+        out: carry.get_str(CARRIED.name).unwrap_or_default(),
     })
 }
 
@@ -202,9 +204,9 @@ fn split_options<'a>(split: &ArgMatches<'a>) -> Result<Options<'a>, LineFault>
     ensures { IfOk result AreWithinRanges }
 {
     Ok(Options::Split(Splitting {
-        states: number_of(split, STATES, 1, 7)? as u8,
-        folder: split.get_str(FOLDER).unwrap_or_default(),
-        filled: number_of(split, FILLED, 0, 14)? as u8,
+        states: number_of(split, STATES)? as u8,
+        folder: split.get_str(FOLDER.name).unwrap_or_default(),
+        filled: number_of(split, FILLED)? as u8,
         search: search_of(split)?,
     }))
 }
@@ -213,9 +215,9 @@ fn settle_options<'a>(settle: &ArgMatches<'a>) -> Result<Options<'a>, LineFault>
     ensures { IfOk result AreWithinRanges }
 {
     Ok(Options::Settle {
-        file: written_of(settle, settle.get_str(FILE).unwrap_or_default()),
+        file: written_of(settle, settle.get_str(FILE.name).unwrap_or_default()),
         search: search_of(settle)?,
-        progress: settle.get_flag(PROGRESS),
+        progress: settle.get_flag(PROGRESS.name),
     })
 }
 
@@ -223,9 +225,9 @@ fn join_options<'a>(join: &ArgMatches<'a>) -> Options<'a>
     ensures { AreWithinRanges result }
 {
     Options::Join(Joining {
-        folder: join.get_str(FOLDER).unwrap_or_default(),
-        out: join.get_str(LEDGER),
-        json: join.get_flag(JSON),
+        folder: join.get_str(FOLDER.name).unwrap_or_default(),
+        out: join.get_str(JOINED.name),
+        json: join.get_flag(JSON.name),
     })
 }
 
@@ -233,11 +235,11 @@ fn draw_options<'a>(draw: &ArgMatches<'a>) -> Result<Options<'a>, LineFault>
     ensures { IfOk result AreWithinRanges }
 {
     Ok(Options::Draw(Drawing {
-        from: number_of(draw, FROM, 0, 100_000_000)?,
-        steps: number_if_given(draw, STEPS, 0, 100_000_000)?,
-        rows: number_of(draw, ROWS, 1, 10_000)?,
-        width: number_of(draw, WIDTH, 0, 1_000_000)?,
-        out: draw.get_str(PICTURES),
+        from: number_of(draw, FROM)?,
+        steps: number_if_given(draw, DRAWN)?,
+        rows: number_of(draw, ROWS)?,
+        width: number_of(draw, WIDTH)?,
+        out: draw.get_str(PICTURES.name),
     }))
 }
 
@@ -245,7 +247,7 @@ fn page_options<'a>(page: &ArgMatches<'a>) -> Options<'a>
     ensures { AreWithinRanges result }
 {
     Options::Page {
-        file: page.get_str(FILE).unwrap_or_default(),
+        file: page.get_str(READ.name).unwrap_or_default(),
     }
 }
 
@@ -253,8 +255,8 @@ fn report_options<'a>(report: &ArgMatches<'a>) -> Options<'a>
     ensures { AreWithinRanges result }
 {
     Options::Report {
-        file: report.get_str(FILE).unwrap_or_default(),
-        json: report.get_flag(JSON),
-        why: report.get_flag(WHY),
+        file: report.get_str(READ.name).unwrap_or_default(),
+        json: report.get_flag(JSON.name),
+        why: report.get_flag(WHY.name),
     }
 }

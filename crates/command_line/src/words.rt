@@ -1,52 +1,48 @@
-// The names of arguments and options.
-pub(crate) const STEPS: &str = "steps";
+// What the words of an argument or an option are.
 
-pub(crate) const DEPTH: &str = "depth";
+/// An argument or an option of a command.
+#[derive(Clone, Copy)]
+pub(crate) enum Argument {
+    Number(Number),
+    Text(Text),
+    Flag(Flag),
+}
 
-pub(crate) const GRAM: &str = "gram";
+/// A number within a range.
+#[derive(Clone, Copy)]
+pub(crate) struct Number {
+    /// What it is read by, and the word of an option.
+    pub(crate) name: &'static str,
+    /// What help calls the value of an option; none of an argument, which has to be given.
+    pub(crate) value: Option<&'static str>,
+    pub(crate) least: u64,
+    pub(crate) most: u64,
+    /// The number where none is given.
+    pub(crate) default: Option<&'static str>,
+    /// What help says of it.
+    pub(crate) help: &'static str,
+}
 
-pub(crate) const FAR: &str = "far";
+/// Any text, as a path.
+#[derive(Clone, Copy)]
+pub(crate) struct Text {
+    /// What it is read by, and the word of an option.
+    pub(crate) name: &'static str,
+    /// What help calls the value of an option; none of an argument, which has to be given.
+    pub(crate) value: Option<&'static str>,
+    /// What help says of it.
+    pub(crate) help: &'static str,
+}
 
-pub(crate) const HARD: &str = "hard";
-
-pub(crate) const STATES: &str = "N";
-
-pub(crate) const LEDGER: &str = "ledger";
-
-pub(crate) const SYNC: &str = "sync";
-
-pub(crate) const ERA: &str = "era";
-
-pub(crate) const WORKERS: &str = "workers";
-
-pub(crate) const LOSE: &str = "lose";
-
-pub(crate) const ROUNDS: &str = "rounds";
-
-pub(crate) const PROGRESS: &str = "progress";
-
-pub(crate) const FROM: &str = "from";
-
-pub(crate) const ROWS: &str = "rows";
-
-pub(crate) const WIDTH: &str = "width";
-
-pub(crate) const PICTURES: &str = "out";
-
-pub(crate) const FILE: &str = "FILE";
-
-pub(crate) const FOLDER: &str = "DIR";
-
-pub(crate) const FILLED: &str = "filled";
-
-pub(crate) const JSON: &str = "json";
-
-pub(crate) const WHY: &str = "why";
-
-pub(crate) const FIRST: &str = "A";
-
-pub(crate) const SECOND: &str = "B";
-
-pub(crate) const IN: &str = "IN";
-
-pub(crate) const OUT: &str = "OUT";
+/// An option without a value.
+#[derive(Clone, Copy)]
+pub(crate) struct Flag {
+    /// What it is read by, and its word.
+    pub(crate) name: &'static str,
+    /// The names of options without which it can't be given.
+    pub(crate) needs: &'static [&'static str],
+    /// The names of options with which it can't be given.
+    pub(crate) excludes: &'static [&'static str],
+    /// What help says of it.
+    pub(crate) help: &'static str,
+}

@@ -1,0 +1,65 @@
+// The arguments and options.
+pub(crate) use rows::*;
+
+#[rattlefmt::skip]
+mod rows {
+    use crate::words::{Flag, Number, Text};
+
+    pub(crate) const STATES: Number = Number { name: "N", value: None, least: 1, most: 7, default: None,
+        help: "How many states the machines have" };
+    pub(crate) const WORKERS: Number = Number { name: "workers", value: Some("W"), least: 1, most: 64, default: Some("2"),
+        help: "How many workers there are" };
+    pub(crate) const LOSE: Number = Number { name: "lose", value: Some("K"), least: 2, most: 1_000, default: None,
+        help: "Lose every K-th of the first 1,000 frames, in each direction of each link" };
+    pub(crate) const ROUNDS: Number = Number { name: "rounds", value: Some("R"), least: 1, most: 1_000_000_000,
+        default: Some("1000000"), help: "Stop after so many rounds" };
+    pub(crate) const ERA: Number = Number { name: "era", value: Some("E"), least: 1, most: u64::MAX, default: Some("1"),
+        help: "Tells this run's leases from those of an earlier one" };
+    pub(crate) const FILLED: Number = Number { name: "filled", value: Some("D"), least: 0, most: 14, default: Some("4"),
+        help: "Decide the tables with fewer filled entries, and leave the others to the parts" };
+    pub(crate) const STEPS: Number = Number { name: "steps", value: Some("K"), least: 1, most: 100_000_000,
+        default: Some("1000"), help: "Steps that each search runs a table at most" };
+    pub(crate) const DEPTH: Number = Number { name: "depth", value: Some("D"), least: 0, most: 1_000, default: Some("20"),
+        help: "Greatest depth of backward reasoning" };
+    pub(crate) const GRAM: Number = Number { name: "gram", value: Some("G"), least: 0, most: 8, default: Some("3"),
+        help: "Greatest width of words in closed position sets; 0 for none" };
+    pub(crate) const FAR: Number = Number { name: "far", value: Some("M"), least: 0, most: 16, default: Some("2"),
+        help: "Most states of a first automaton, in finite automata reduction; 0 for none" };
+    pub(crate) const FROM: Number = Number { name: "from", value: Some("T"), least: 0, most: 100_000_000, default: Some("0"),
+        help: "Begin at this time" };
+    pub(crate) const DRAWN: Number = Number { name: "steps", value: Some("K"), least: 0, most: 100_000_000, default: None,
+        help: "Draw so many steps from there on (default one less than --rows)" };
+    pub(crate) const ROWS: Number = Number { name: "rows", value: Some("R"), least: 1, most: 10_000, default: Some("500"),
+        help: "The most rows" };
+    pub(crate) const WIDTH: Number = Number { name: "width", value: Some("W"), least: 0, most: 1_000_000, default: Some("0"),
+        help: "Draw so many cells, the first head in the middle; with 0 those that the head visits" };
+
+    pub(crate) const FILE: Text = Text { name: "FILE", value: None, help: "The ledger file" };
+    pub(crate) const READ: Text = Text { name: "FILE", value: None, help: "The ledger file, or `-` for standard input" };
+    pub(crate) const FOLDER: Text = Text { name: "DIR", value: None, help: "The folder of the trunk and the parts" };
+    pub(crate) const FIRST: Text = Text { name: "A", value: None, help: "The ledger whose records come first" };
+    pub(crate) const SECOND: Text = Text { name: "B", value: None, help: "The other ledger" };
+    pub(crate) const MERGED: Text = Text { name: "OUT", value: None,
+        help: "The ledger file that is written; it may be one of the two" };
+    pub(crate) const OLD: Text = Text { name: "IN", value: None, help: "The ledger file, of either version" };
+    pub(crate) const CARRIED: Text = Text { name: "OUT", value: None,
+        help: "The ledger file that is written; it may be the same" };
+    pub(crate) const LEDGER: Text = Text { name: "ledger", value: Some("FILE"),
+        help: "The ledger file, which is created where it isn't there; none is kept without it" };
+    pub(crate) const JOINED: Text = Text { name: "ledger", value: Some("OUT"), help: "Write the one ledger too" };
+    pub(crate) const PICTURES: Text = Text { name: "out", value: Some("DIR"),
+        help: "Make a file of each picture, DIR/TABLE.svg" };
+
+    pub(crate) const SYNC: Flag = Flag { name: "sync", needs: &[], excludes: &[],
+        help: "Wait until each line of the ledger is on the disk, against a power cut" };
+    // Where the ledger is an option.
+    pub(crate) const LEDGER_SYNC: Flag = Flag { needs: &["ledger"], ..SYNC };
+    // The stages say themselves how far they look.
+    pub(crate) const HARD: Flag = Flag { name: "hard", needs: &[], excludes: &["depth", "gram", "far"],
+        help: "Go by stages, from cheap searches to dear ones; --steps scales them" };
+    pub(crate) const JSON: Flag = Flag { name: "json", needs: &[], excludes: &[], help: "Print the report as JSON" };
+    pub(crate) const PROGRESS: Flag = Flag { name: "progress", needs: &[], excludes: &[],
+        help: "Say on standard error, once a second, how far it is" };
+    pub(crate) const WHY: Flag = Flag { name: "why", needs: &[], excludes: &[],
+        help: "Say on standard error why the first line that isn't kept isn't" };
+}

@@ -1,0 +1,75 @@
+// The commands, a row each.
+use crate::arguments::*;
+use crate::help::{
+    CARRY, COORD, DECIDE, DRAW, JOIN, LOOP, MERGE, PAGE, RECORDS, REPORT, RETRY, RUN, SETTLE, SPLIT,
+};
+use crate::words::Argument::{self, Flag, Number, Text};
+
+/// A command with its arguments and options, in the order in which help has them.
+pub(crate) struct CommandWords {
+    pub(crate) name: &'static str,
+    /// What it does.
+    pub(crate) about: &'static str,
+    /// What help says last.
+    pub(crate) after_help: &'static str,
+    pub(crate) arguments: &'static [Argument],
+    /// Whether the options of a search for certificates follow.
+    pub(crate) searches: bool,
+}
+
+/// The options of a search for certificates.
+pub(crate) const SEARCH: [Argument; 5] = [
+    Number(STEPS),
+    Number(DEPTH),
+    Number(GRAM),
+    Number(FAR),
+    Flag(HARD),
+];
+
+#[rattlefmt::skip]
+pub(crate) const COMMANDS: [CommandWords; 14] = [
+    CommandWords { name: "check", searches: false, after_help: RECORDS,
+        about: "Checks a record a line on standard input, and prints an answer a line.",
+        arguments: &[] },
+    CommandWords { name: "decide", searches: true, after_help: DECIDE,
+        about: "Reads a table a line on standard input, and prints a record a line.",
+        arguments: &[] },
+    CommandWords { name: "run", searches: true, after_help: RUN,
+        about: "Settles the tree of all machines of N states in this process, and prints the report.",
+        arguments: &[Number(STATES), Number(WORKERS), Text(LEDGER), Flag(LEDGER_SYNC), Number(LOSE), Number(ROUNDS),
+            Flag(JSON), Flag(PROGRESS)] },
+    CommandWords { name: "loop", searches: true, after_help: LOOP,
+        about: "Does what `bb run` does, with sockets between the coordinator and its workers.",
+        arguments: &[Number(STATES), Number(WORKERS), Text(LEDGER), Flag(LEDGER_SYNC), Number(ROUNDS), Flag(JSON),
+            Flag(PROGRESS)] },
+    CommandWords { name: "coord", searches: false, after_help: COORD,
+        about: "Answers workers: frames on standard input, a line each, and frames on standard output.",
+        arguments: &[Number(STATES), Text(LEDGER), Flag(LEDGER_SYNC), Number(ERA)] },
+    CommandWords { name: "retry", searches: true, after_help: RETRY,
+        about: "Tries the holdouts of a ledger again, and prints its report.",
+        arguments: &[Text(FILE), Flag(SYNC)] },
+    CommandWords { name: "merge", searches: false, after_help: MERGE,
+        about: "Writes the ledger of what two ledgers hold together.",
+        arguments: &[Text(FIRST), Text(SECOND), Text(MERGED)] },
+    CommandWords { name: "carry", searches: false, after_help: CARRY,
+        about: "Writes a ledger as one of version 2, with the scores of the tables that halt.",
+        arguments: &[Text(OLD), Text(CARRIED)] },
+    CommandWords { name: "split", searches: true, after_help: SPLIT,
+        about: "Cuts the tree of all machines of N states into a trunk and parts, ledgers of their own.",
+        arguments: &[Number(STATES), Text(FOLDER), Number(FILLED)] },
+    CommandWords { name: "settle", searches: true, after_help: SETTLE,
+        about: "Decides the open tables of a ledger, until none is open.",
+        arguments: &[Text(FILE), Flag(SYNC), Flag(PROGRESS)] },
+    CommandWords { name: "join", searches: false, after_help: JOIN,
+        about: "Prints the report of a trunk and its parts together, as of one ledger that holds all.",
+        arguments: &[Text(FOLDER), Flag(JSON), Text(JOINED)] },
+    CommandWords { name: "draw", searches: false, after_help: DRAW,
+        about: "Reads a table or a record a line on standard input, and draws its run as SVG.",
+        arguments: &[Number(FROM), Number(DRAWN), Number(ROWS), Number(WIDTH), Text(PICTURES)] },
+    CommandWords { name: "page", searches: false, after_help: PAGE,
+        about: "Prints the report of a ledger as one HTML page, with pictures.",
+        arguments: &[Text(READ)] },
+    CommandWords { name: "report", searches: false, after_help: REPORT,
+        about: "Prints the report of a ledger.",
+        arguments: &[Text(READ), Flag(JSON), Flag(WHY)] },
+];

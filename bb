@@ -8,10 +8,10 @@ while [ -L "$self" ]; do
     link=$(readlink "$self")
     case $link in
         /*) self=$link ;;
-        *) self=${self%/*}/$link ;;
+        *) self=$(dirname "$self")/$link ;;
     esac
 done
-top=$(cd "${self%/*}" && pwd)
+top=$(cd "$(dirname "$self")" && pwd)
 kept=$top/dist/bb-linux-x86_64
 built=$top/crates/bb/out/bb
 stamp=$top/crates/bb/out/bb.sources

@@ -28,20 +28,31 @@ pub fn options<'a>(alloc: Global, words: &'a [&'a str]) -> Result<Options<'a>, L
         Err(fault) => return Err(refused(alloc, fault, words)),
     };
     match matches.subcommand() {
-        Some(("check", _)) => Ok(Options::Check),
-        Some(("decide", decide)) => Ok(Options::Decide(search_of(decide)?)),
-        Some(("coord", coord)) => coord_options(coord),
-        Some(("run", run)) => run_options(run),
-        Some(("loop", over_sockets)) => loop_options(over_sockets),
-        Some(("retry", retry)) => retry_options(retry),
-        Some(("merge", merge)) => Ok(merge_options(merge)),
-        Some(("carry", carry)) => Ok(carry_options(carry)),
-        Some(("split", split)) => split_options(split),
-        Some(("settle", settle)) => settle_options(settle),
-        Some(("join", join)) => Ok(join_options(join)),
-        Some(("draw", draw)) => draw_options(draw),
-        Some(("page", page)) => Ok(page_options(page)),
-        Some(("report", report)) => Ok(report_options(report)),
+        Some((name, command)) => asked(name, command),
+        None => Err(LineFault::NoSuchCommand),
+    }
+}
+
+// What the command of a name asks for. A function of its own: the proof of so many ways out of one that owns clap's matches
+// would be dear.
+fn asked<'a>(name: &str, command: &ArgMatches<'a>) -> Result<Options<'a>, LineFault>
+    ensures { IfOk result AreWithinRanges }
+{
+    match name {
+        "check" => Ok(Options::Check),
+        "decide" => Ok(Options::Decide(search_of(command)?)),
+        "coord" => coord_options(command),
+        "run" => run_options(command),
+        "loop" => loop_options(command),
+        "retry" => retry_options(command),
+        "merge" => Ok(merge_options(command)),
+        "carry" => Ok(carry_options(command)),
+        "split" => split_options(command),
+        "settle" => settle_options(command),
+        "join" => Ok(join_options(command)),
+        "draw" => draw_options(command),
+        "page" => Ok(page_options(command)),
+        "report" => Ok(report_options(command)),
         _ => Err(LineFault::NoSuchCommand),
     }
 }

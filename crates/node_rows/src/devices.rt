@@ -4,7 +4,7 @@ use lease_core::Coordinator;
 use ledger::Board;
 use rows::Said;
 use std::alloc::{AllocError as NoMemory, Global};
-use wire::{Lines, MemLedger, MemLink, NodeFault, Turn, TurnFault, begin, turn};
+use wire::{Lines, MemLedger, MemLink, Node, NodeFault, Out, Turn, TurnFault, begin, turn};
 
 // No session has more calls.
 const MOST_CALLS: u64 = 10_000;
@@ -101,44 +101,13 @@ impl Session<'_> {
             if place < from {
                 continue;
             }
-            match self.hand(&mut node, ledger, row)? {
+            match hand(self.alloc, &mut node, ledger, row)? {
                 Came::Whole => {}
                 Came::Failed(_) => return Ok(Came::Failed(place)),
                 Came::Wrong => return Ok(Came::Wrong),
             }
         }
         self.has_whole_board(&node)
-    }
-
-    // Hands over a row's frame, whose answer must be the row's; or the ledger fails, nothing is sent, and the node is stopped.
-    fn hand(
-        self,
-        node: &mut Coordinator,
-        ledger: &mut MemLedger,
-        row: &str,
-    ) -> Result<Came, NoMemory> {
-        let Some((frame, answer)) = row.split_once(" > ") else {
-            return Ok(Came::Wrong);
-        };
-        let mut lines = Lines::new(self.alloc);
-        let mut link = MemLink::new(self.alloc);
-        link.deliver(frame.as_bytes())?;
-        link.deliver(b"\n")?;
-        let came = turn(node, &mut lines, &mut link, ledger);
-        match came {
-            Ok(_) if link.sent().strip_suffix(b"\n") == Some(answer.as_bytes()) => {
-                Ok(Came::Whole)
-            }
-            Err(TurnFault::LedgerFault) if link.sent().is_empty() => {
-                link.deliver(b"ASK 1\n")?;
-                let stopped = Err(TurnFault::Node(NodeFault::Stopped));
-                if turn(node, &mut lines, &mut link, ledger) == stopped {
-                    return Ok(Came::Failed(0));
-                }
-                Ok(Came::Wrong)
-            }
-            _ => Ok(Came::Wrong),
-        }
     }
 
     // Whether the board is the one of the ledger that is kept.
@@ -189,11 +158,47 @@ impl Session<'_> {
 // A coordinator that begins with what a ledger holds; none where the ledger fails.
 fn begun(alloc: Global, ledger: &mut MemLedger) -> Result<Option<Coordinator>, NoMemory> {
     match coordinator(alloc, 1, 1, ledger.text())? {
-        (node, Ok(out)) => match begin(&out, ledger) {
-            Ok(()) => Ok(Some(node)),
-            Err(_) => Ok(None),
-        },
+        (node, Ok(out)) => {
+            if is_begun(&out, ledger) {
+                return Ok(Some(node));
+            }
+            Ok(None)
+        }
         (_, Err(_)) => Err(NoMemory),
+    }
+}
+
+// Carries out the first answer of a node; false where the ledger fails.
+fn is_begun(first: &Out, ledger: &mut MemLedger) -> bool {
+    begin(first, ledger).is_ok()
+}
+
+// Hands over a row's frame, whose answer must be the row's; or the ledger fails, nothing is sent, and the node is stopped. Of
+// any node: the proof then has no rules of a coordinator to look at.
+fn hand<N: Node>(
+    alloc: Global,
+    node: &mut N,
+    ledger: &mut MemLedger,
+    row: &str,
+) -> Result<Came, NoMemory> {
+    let Some((frame, answer)) = row.split_once(" > ") else {
+        return Ok(Came::Wrong);
+    };
+    let mut lines = Lines::new(alloc);
+    let mut link = MemLink::new(alloc);
+    link.deliver(frame.as_bytes())?;
+    link.deliver(b"\n")?;
+    match turn(node, &mut lines, &mut link, ledger) {
+        Ok(_) if link.sent().strip_suffix(b"\n") == Some(answer.as_bytes()) => Ok(Came::Whole),
+        Err(TurnFault::LedgerFault) if link.sent().is_empty() => {
+            link.deliver(b"ASK 1\n")?;
+            let stopped = Err(TurnFault::Node(NodeFault::Stopped));
+            if turn(node, &mut lines, &mut link, ledger) == stopped {
+                return Ok(Came::Failed(0));
+            }
+            Ok(Came::Wrong)
+        }
+        _ => Ok(Came::Wrong),
     }
 }
 
@@ -202,8 +207,8 @@ fn are_alike(board: &Board, other: &Board) -> bool {
 }
 
 // Turns until nothing more comes, also where the link fails in one; says whether nothing else went wrong.
-fn turn_to_the_end(
-    node: &mut Coordinator,
+fn turn_to_the_end<N: Node>(
+    node: &mut N,
     lines: &mut Lines,
     link: &mut MemLink,
     ledger: &mut MemLedger,

@@ -112,23 +112,32 @@ impl Station {
     }
 
     fn begin(&mut self, ledger: &[u8], said: &mut Said) -> Result<(), NoMemory> {
-        let (node, first) = match self.states {
-            Some(states) => {
-                let (node, first) = coordinator(self.alloc, states, self.era, ledger)?;
-                (Role::Coordinator(node), first)
-            }
-            None => {
-                let (node, first) = worker(self.alloc, ledger)?;
-                (Role::Worker(node), first)
-            }
+        let first = match self.states {
+            Some(states) => self.put_coordinator(states, ledger)?,
+            None => self.put_worker(ledger)?,
         };
-        self.node = Some(node);
         self.ledger.clear();
         self.ledger.extend_from_slice(ledger)?;
         match first {
             Ok(out) => self.answer(&out, said),
             Err(fault) => said.refusal(fault.number()),
         }
+    }
+
+    fn put_coordinator(
+        &mut self,
+        states: u8,
+        ledger: &[u8],
+    ) -> Result<Result<Out, StartFault>, NoMemory> {
+        let (node, first) = coordinator(self.alloc, states, self.era, ledger)?;
+        self.node = Some(Role::Coordinator(node));
+        Ok(first)
+    }
+
+    fn put_worker(&mut self, ledger: &[u8]) -> Result<Result<Out, StartFault>, NoMemory> {
+        let (node, first) = worker(self.alloc, ledger)?;
+        self.node = Some(Role::Worker(node));
+        Ok(first)
     }
 
     /// An event happens to the node.

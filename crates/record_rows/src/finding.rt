@@ -25,27 +25,15 @@ pub enum Seeker {
 
 impl Seeker {
     // The finder of the kind with this letter, with its limit.
-    fn new(alloc: Global, kind: &str, limit: u64) -> Option<Seeker> {
+    fn new(alloc: Global, kind: u8, limit: u64) -> Option<Seeker> {
         match kind {
-            "H" => Some(Seeker::Halts(HaltFinder::new(alloc, limit))),
-            "C" => Some(Seeker::Cycle(CycleFinder::new(alloc, limit))),
-            "T" => Some(Seeker::Translated(TranslatedFinder::new(alloc, limit))),
-            "B" => Some(Seeker::Backward(BackwardFinder::new(alloc, limit))),
-            "N" => Some(Seeker::Ngram(NgramFinder::new(alloc, limit))),
-            "F" => Some(Seeker::Far(FarFinder::new(alloc, limit))),
+            b'H' => Some(Seeker::Halts(HaltFinder::new(alloc, limit))),
+            b'C' => Some(Seeker::Cycle(CycleFinder::new(alloc, limit))),
+            b'T' => Some(Seeker::Translated(TranslatedFinder::new(alloc, limit))),
+            b'B' => Some(Seeker::Backward(BackwardFinder::new(alloc, limit))),
+            b'N' => Some(Seeker::Ngram(NgramFinder::new(alloc, limit))),
+            b'F' => Some(Seeker::Far(FarFinder::new(alloc, limit))),
             _ => None,
-        }
-    }
-
-    // A new finder of the same kind, with a limit.
-    fn anew(&self, alloc: Global, limit: u64) -> Seeker {
-        match self {
-            Seeker::Halts(_) => Seeker::Halts(HaltFinder::new(alloc, limit)),
-            Seeker::Cycle(_) => Seeker::Cycle(CycleFinder::new(alloc, limit)),
-            Seeker::Translated(_) => Seeker::Translated(TranslatedFinder::new(alloc, limit)),
-            Seeker::Backward(_) => Seeker::Backward(BackwardFinder::new(alloc, limit)),
-            Seeker::Ngram(_) => Seeker::Ngram(NgramFinder::new(alloc, limit)),
-            Seeker::Far(_) => Seeker::Far(FarFinder::new(alloc, limit)),
         }
     }
 }
@@ -67,9 +55,10 @@ impl Finder for Seeker {
     }
 }
 
-/// The finder that is asked, with its limit.
+/// The finder that is asked, with the letter of its kind and its limit.
 #[derive(Drop)]
 pub struct Finding {
+    kind: u8,
     limit: u64,
     // the finder; none before the first
     seekers: Vec<Seeker>,
@@ -79,6 +68,7 @@ impl Finding {
     /// No finder yet.
     pub fn new(alloc: Global) -> Finding {
         Finding {
+            kind: 0,
             limit: 0,
             seekers: Vec::new(alloc),
         }
@@ -87,14 +77,15 @@ impl Finding {
     /// `finder KIND LIMIT`: a finder that is asked from here on, for many tables.
     pub fn begin(&mut self, alloc: Global, rest: &str, said: &mut Said) -> Result<(), NoMemory> {
         let (kind, limit) = parted(rest);
-        let Some(limit) = number_of(limit) else {
+        let ([kind], Some(limit)) = (kind.as_bytes(), number_of(limit)) else {
             return unread(said);
         };
-        let Some(seeker) = Seeker::new(alloc, kind, limit) else {
+        let Some(seeker) = Seeker::new(alloc, *kind, limit) else {
             return unread(said);
         };
         self.seekers.clear();
         self.seekers.push(seeker)?;
+        self.kind = *kind;
         self.limit = limit;
         said.text("begun")
     }
@@ -109,14 +100,12 @@ impl Finding {
         said: &mut Said,
     ) -> Result<(), NoMemory> {
         let (budget, text) = parted(rest);
-        let (Some(budget), Some(table), Some(seeker)) = (
-            number_of(budget),
-            table_of(text),
-            self.seekers.first(),
-        ) else {
+        let anew = Seeker::new(alloc, self.kind, self.limit);
+        let (Some(budget), Some(table), Some(mut anew)) = (number_of(budget), table_of(text), anew)
+        else {
             return unread(said);
         };
-        let afresh = match seeker.anew(alloc, self.limit).find(&table, budget)? {
+        let afresh = match anew.find(&table, budget)? {
             Some(certificate) => certificate,
             None => OwnedCertificate::Undecided,
         };
@@ -173,31 +162,29 @@ fn say_short(record: &OwnedRecord, said: &mut Said) -> Result<(), NoMemory> {
     }
 }
 
-/// `automaton MOST TABLE`: the size of the first automaton that is found, of at most so many states.
-pub fn say_automaton(alloc: Global, rest: &str, said: &mut Said) -> Result<(), NoMemory> {
-    let (most, text) = parted(rest);
-    let (Some(most @ 0..=255), Some(table)) = (number_of(most), table_of(text)) else {
+/// `automaton MOST TABLE`: the size of the first automaton that is found, of at most so many states; by `stage` instead of one
+/// stage with so many named states, which tries all, of at most 16.
+pub fn say_automaton(
+    alloc: Global,
+    rest: &str,
+    is_staged: bool,
+    said: &mut Said,
+) -> Result<(), NoMemory> {
+    let (number, text) = parted(rest);
+    let (Some(number @ 0..=255), Some(table)) = (number_of(number), table_of(text)) else {
         return unread(said);
     };
     let mut search = AutomataSearch::new(alloc)?;
-    match search.find(&table, most as u8, 1_000) {
-        Some(automaton) => said.number(u64::from(automaton.size)),
-        None => said.text("none"),
-    }
-}
-
-/// `stage NAMED TABLE`: the size of the first automaton by a stage that tries all, of at most 16 states.
-pub fn say_stage(alloc: Global, rest: &str, said: &mut Said) -> Result<(), NoMemory> {
-    let (named, text) = parted(rest);
-    let (Some(named @ 0..=255), Some(table)) = (number_of(named), table_of(text)) else {
-        return unread(said);
+    let found = if is_staged {
+        let stage = Stage {
+            named: number as u8,
+            tries: u64::MAX,
+        };
+        search.find_in_stage(&table, stage, 16)
+    } else {
+        search.find(&table, number as u8, 1_000)
     };
-    let stage = Stage {
-        named: named as u8,
-        tries: u64::MAX,
-    };
-    let mut search = AutomataSearch::new(alloc)?;
-    match search.find_in_stage(&table, stage, 16) {
+    match found {
         Some(automaton) => said.number(u64::from(automaton.size)),
         None => said.text("none"),
     }

@@ -162,6 +162,17 @@ impl Tapes {
         }
     }
 
+    // One of the tapes, blank again.
+    fn begun(&mut self, alloc: Global, is_other: bool) -> &mut Both {
+        let both = if is_other {
+            &mut self.other
+        } else {
+            &mut self.one
+        };
+        both.clear(alloc);
+        both
+    }
+
     /// `tape FROM WORD HEAD`: the tape with these symbols from a place on, and the head at a place; by `against` the other
     /// one.
     pub fn write(
@@ -175,12 +186,7 @@ impl Tapes {
         let (Some(from), Some(head)) = (place_of(from), place_of(head)) else {
             return unread(said);
         };
-        let both = if is_other {
-            &mut self.other
-        } else {
-            &mut self.one
-        };
-        both.clear(alloc);
+        let both = self.begun(alloc, is_other);
         go_to(both, from)?;
         for byte in word.as_bytes() {
             both.step(symbol(*byte == b'1'), Dir::R)?;
@@ -295,12 +301,7 @@ impl Tapes {
         else {
             return unread(said);
         };
-        let both = if is_other {
-            &mut self.other
-        } else {
-            &mut self.one
-        };
-        both.clear(alloc);
+        let both = self.begun(alloc, is_other);
         go_to(both, from)?;
         let mut draws = Draws(seed);
         for number in 0..150u64 {

@@ -1,6 +1,7 @@
 // The calls by their names.
 use crate::changed::say_changed;
 use crate::finding::{Finding, say_automaton, say_scaled};
+use crate::lying::say_lied;
 use crate::records::{say_judged, say_of_other, say_pair, say_printed};
 use crate::runs;
 use crate::tapes::Tapes;
@@ -81,6 +82,7 @@ impl Caller for Desk {
             "finder" => self.finding.begin(self.alloc, rest, said),
             "find" => self.finding.find(self.alloc, rest, false, said),
             "seek" => self.finding.find(self.alloc, rest, true, said),
+            "lied" => say_lied(self.alloc, rest, said),
             "automaton" => say_automaton(self.alloc, rest, false, said),
             "stage" => say_automaton(self.alloc, rest, true, said),
             "scaled" => say_scaled(rest, said),

@@ -120,7 +120,11 @@ impl Finding {
     }
 }
 
-fn say_record(alloc: Global, record: &OwnedRecord, said: &mut Said) -> Result<(), NoMemory> {
+pub(crate) fn say_record(
+    alloc: Global,
+    record: &OwnedRecord,
+    said: &mut Said,
+) -> Result<(), NoMemory> {
     // The parts by their names: the borrow checker's proof has to know of what the record is made.
     let lent = Record {
         table: record.table,

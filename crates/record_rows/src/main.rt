@@ -6,6 +6,7 @@
 mod changed;
 mod desk;
 mod finding;
+mod lying;
 mod plain;
 mod records;
 mod runs;

@@ -123,36 +123,50 @@ impl Session<'_> {
     // fail, all is answered.
     fn with_link(self, call: u64, slow: bool) -> Result<Came, NoMemory> {
         let mut ledger = MemLedger::new(self.alloc);
-        let mut link = MemLink::new(self.alloc);
-        link.fail_at(call);
-        link.take_single(slow);
         let Some(mut node) = begun(self.alloc, &mut ledger)? else {
             return Ok(Came::Wrong);
         };
-        let mut lines = Lines::new(self.alloc);
-        let mut due = Vec::new(self.alloc);
-        for row in self.rows.split('|') {
-            let (frame, answer) = row.split_once(" > ").unwrap_or((row, ""));
-            due.extend_from_slice(answer.as_bytes())?;
-            due.push(b'\n')?;
-            link.deliver(frame.as_bytes())?;
-            link.deliver(b"\n")?;
-            if !turn_to_the_end(&mut node, &mut lines, &mut link, &mut ledger) {
-                return Ok(Came::Wrong);
-            }
-        }
-        let came = self.has_whole_board(&node)?;
-        if self.came_whole(came, ledger.text()) != Came::Whole {
+        let came = deliver_all(self, &mut node, &mut ledger, call, slow)?;
+        let whole = self.has_whole_board(&node)?;
+        if self.came_whole(whole, ledger.text()) != Came::Whole {
             return Ok(Came::Wrong);
         }
-        if link.failures() > 0 {
-            return Ok(Came::Failed(0));
-        }
-        if link.sent() == due.as_slice() {
-            return Ok(Came::Whole);
-        }
-        Ok(Came::Wrong)
+        Ok(came)
     }
+}
+
+// Hands over all frames by a link that fails at one of its calls; says whether it did, and else whether all is answered.
+fn deliver_all<N: Node>(
+    session: Session<'_>,
+    node: &mut N,
+    ledger: &mut MemLedger,
+    call: u64,
+    slow: bool,
+) -> Result<Came, NoMemory> {
+    let mut link = MemLink::new(session.alloc);
+    link.fail_at(call);
+    link.take_single(slow);
+    let mut lines = Lines::new(session.alloc);
+    let mut due = Vec::new(session.alloc);
+    for row in session.rows.split('|') {
+        let Some((frame, answer)) = row.split_once(" > ") else {
+            return Ok(Came::Wrong);
+        };
+        due.extend_from_slice(answer.as_bytes())?;
+        due.push(b'\n')?;
+        link.deliver(frame.as_bytes())?;
+        link.deliver(b"\n")?;
+        if !turn_to_the_end(node, &mut lines, &mut link, ledger) {
+            return Ok(Came::Wrong);
+        }
+    }
+    if link.failures() > 0 {
+        return Ok(Came::Failed(0));
+    }
+    if link.sent() == due.as_slice() {
+        return Ok(Came::Whole);
+    }
+    Ok(Came::Wrong)
 }
 
 // A coordinator that begins with what a ledger holds; none where the ledger fails.

@@ -115,19 +115,19 @@ pub fn status_differs(
 fn has_pieces(text: &[u8], pieces: &[Vec<u8>]) -> bool {
     let mut left = text;
     for piece in pieces {
-        match place_of(left, piece) {
-            Some(place) => left = &left[place..],
+        match behind(left, piece) {
+            Some(rest) => left = rest,
             None => return false,
         }
     }
     true
 }
 
-// Where the first of these that stands in a text ends.
-fn place_of(text: &[u8], piece: &[u8]) -> Option<usize> {
+// What stands behind the first of these in a text.
+fn behind<'a>(text: &'a [u8], piece: &[u8]) -> Option<&'a [u8]> {
     for place in 0..text.len() {
-        if text[place..].starts_with(piece) {
-            return Some(place.saturating_add(piece.len()).min(text.len()));
+        if let Some(rest) = text[place..].strip_prefix(piece) {
+            return Some(rest);
         }
     }
     None

@@ -5,7 +5,7 @@
 #![tactic(auto)]
 
 pub use command_line::{LineFault, options};
-use dispatch::System;
+use dispatch::{Failures, System};
 pub use json_report::report_json;
 pub use ledger_commands::{cmd_carry, cmd_merge, cmd_report, cmd_retry, report};
 pub use line_commands::{cmd_check, cmd_decide};
@@ -16,10 +16,11 @@ use std::env;
 use std::process::ExitCode;
 
 fn main(rt: HostRuntime) -> ExitCode {
+    let failures = Failures::new(rt.alloc());
     let outcome = obey(
         rt.alloc(),
         words_of(&rt),
-        &System::of(&rt),
+        &System::of(&rt, &failures),
         &mut rt.stdin(),
         &mut rt.stdout(),
         &mut rt.stderr(),

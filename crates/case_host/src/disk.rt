@@ -34,6 +34,11 @@ pub struct Disk {
 // The most links that a path leads through.
 const LINKS: usize = 8;
 
+// A path without the name of the folder that it begins in.
+fn plain(path: &str) -> &str {
+    path.strip_prefix("./").unwrap_or(path)
+}
+
 impl Disk {
     pub fn new(alloc: Global) -> Disk {
         Disk {
@@ -44,11 +49,12 @@ impl Disk {
     }
 
     fn name_at(&self, path: &str) -> Option<&Name> {
+        let path = plain(path);
         self.names.iter().find(|name| name.path.as_str() == path)
     }
 
     // The path at the end of a path's links.
-    fn end_of<'a>(&'a self, path: &'a str) -> Option<&'a str> {
+    pub(crate) fn end_of<'a>(&'a self, path: &'a str) -> Option<&'a str> {
         let mut end = path;
         for _ in 0..LINKS {
             match self.name_at(end) {
@@ -100,13 +106,14 @@ impl Disk {
 
     fn add_name(&mut self, path: &str, entry: Entry) -> Result<(), NoMemory> {
         self.remove(path);
-        let path = path.to_string(self.alloc)?;
+        let path = plain(path).to_string(self.alloc)?;
         self.names.push(Name { path, entry })?;
         Ok(())
     }
 
     /// Takes a name away; whether there was one.
     pub fn remove(&mut self, path: &str) -> bool {
+        let path = plain(path);
         let found = self
             .names
             .iter()

@@ -9,13 +9,14 @@ use std::io::{self, ErrorKind, Read, Write};
 #[derive(Drop)]
 pub struct Page<'a> {
     pub(crate) room: &'a Room<'a>,
+    pub(crate) path: String,
     pub(crate) place: usize,
     pub(crate) at: usize,
 }
 
 impl Read for Page<'_> {
     fn read(&mut self, buf: &mut [u8]) -> io::Result<usize> {
-        self.room.reading.check()?;
+        self.room.noted(&self.path, self.room.reading.check())?;
         let Ok(disk) = self.room.disk.try_borrow() else {
             return Err(failed());
         };
@@ -81,7 +82,7 @@ impl Write for Sheet<'_> {
             }
             Call::Fails(share) => {
                 self.append(&buf[..share.of(buf.len())])?;
-                Err(failed())
+                self.room.noted(&self.path, Err(failed()))
             }
         }
     }
@@ -104,7 +105,7 @@ impl OpenFile for Sheet<'_> {
                 if share.of(1) == 1 {
                     self.cut(size)?;
                 }
-                Err(failed())
+                self.room.noted(&self.path, Err(failed()))
             }
         }
     }

@@ -28,11 +28,14 @@ impl<'a> Host for CaseHost<'a> {
                 self.room.note("open", path)?;
                 Ok(Page {
                     room: self.room,
+                    path: path.to_string(self.room.alloc)?,
                     place,
                     at: 0,
                 })
             }
-            None => Err(io::Error::from(ErrorKind::NotFound)),
+            None => self
+                .room
+                .noted(path, Err(io::Error::from(ErrorKind::NotFound))),
         }
     }
 
@@ -46,6 +49,31 @@ impl<'a> Host for CaseHost<'a> {
         }
     }
 
+    // What nothing can be put in the place of is no plain file.
+    fn extent(&self, file: &Page<'a>) -> io::Result<u64> {
+        self.length(file)
+    }
+
+    fn is_same(&self, one: &str, other: &str) -> bool {
+        match self.room.disk.try_borrow() {
+            Ok(disk) => {
+                let place = disk.file_at(one);
+                place.is_some() && place == disk.file_at(other)
+            }
+            Err(_) => false,
+        }
+    }
+
+    fn end_of(&self, path: &str) -> io::Result<String> {
+        let Ok(disk) = self.room.disk.try_borrow() else {
+            return Err(failed());
+        };
+        match disk.end_of(path) {
+            Some(end) => Ok(end.to_string(self.room.alloc)?),
+            None => Err(io::Error::from(ErrorKind::InvalidInput)),
+        }
+    }
+
     type Ledger = FileLedger<Sheet<'a>>;
 
     // A process that has ended opens nothing.
@@ -54,10 +82,22 @@ impl<'a> Host for CaseHost<'a> {
             return Err(failed());
         }
         if file.path == self.room.conditions.sealed.as_str() {
-            return Err(io::Error::from(ErrorKind::PermissionDenied));
+            let denied = io::Error::from(ErrorKind::PermissionDenied);
+            return self.room.noted(file.path, Err(denied));
         }
         let sheet = sheet_at(self.room.alloc, self.room, file.path)?;
         Ok(FileLedger::of(sheet, file.durability))
+    }
+
+    fn anew(&self, path: &str) -> io::Result<FileLedger<Sheet<'a>>> {
+        let Ok(mut disk) = self.room.disk.try_borrow_mut() else {
+            return Err(failed());
+        };
+        if disk.remove(path) {
+            self.room.note("remove", path)?;
+        }
+        drop(disk);
+        self.ledger(&LedgerFile::at(path))
     }
 
     fn is_replaceable(&self, path: &str) -> bool {
@@ -85,6 +125,21 @@ impl<'a> Host for CaseHost<'a> {
 
     fn tells_terminal(&self) -> bool {
         self.room.conditions.is_terminal
+    }
+
+    fn tell_cut(&self, path: &str, count: u64, kept_at: &str) {
+        if self.tells_terminal() {
+            let _ = self.room.note_bytes("told of the cut", path, count);
+            let _ = self.room.note("kept at", kept_at);
+        }
+    }
+
+    fn remember(&self, name: &str, fault: &io::Error) {
+        self.room.remember(name, fault);
+    }
+
+    fn reason(&self) -> Option<String> {
+        self.room.reason()
     }
 }
 

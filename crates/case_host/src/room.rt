@@ -36,6 +36,8 @@ pub struct Room<'a> {
     // How many bytes of answers were flushed.
     pub(crate) flushed: Cell<usize>,
     trace: RefCell<Vec<u8>>,
+    // What failed last, and why.
+    reason: RefCell<Option<String>>,
 }
 
 impl<'a> Room<'a> {
@@ -67,6 +69,7 @@ impl<'a> Room<'a> {
             now: Cell::new(0),
             flushed: Cell::new(0),
             trace: RefCell::new(Vec::new(alloc)),
+            reason: RefCell::new(None),
         }
     }
 
@@ -91,6 +94,29 @@ impl<'a> Room<'a> {
     pub(crate) fn note_bytes(&self, call: &str, path: &str, count: u64) -> io::Result<()> {
         let text = format!(in self.alloc; "{path} {count}")?;
         self.note(call, &text)
+    }
+
+    // Remembers what of a name failed.
+    pub(crate) fn noted<T>(&self, name: &str, done: io::Result<T>) -> io::Result<T> {
+        if let Err(fault) = &done {
+            self.remember(name, fault);
+        }
+        done
+    }
+
+    // Remembers what failed.
+    pub(crate) fn remember(&self, name: &str, fault: &io::Error) {
+        let told = format!(in self.alloc; "{name}: {fault}\n").ok();
+        if let Ok(mut reason) = self.reason.try_borrow_mut() {
+            *reason = told;
+        }
+    }
+
+    pub(crate) fn reason(&self) -> Option<String> {
+        match self.reason.try_borrow_mut() {
+            Ok(mut reason) => reason.take(),
+            Err(_) => None,
+        }
     }
 
     /// The calls that were made, a line each.

@@ -4,6 +4,7 @@ use cert::{Decider, Finders};
 use json_report::Form;
 use ledger_commands::{
     Host, LedgerAt, cmd_carry, cmd_merge, cmd_report, cmd_report_stream, cmd_retry, opened,
+    opened_to_end,
 };
 use options::{Carrying, Ended, LedgerFile, Merging, Outcome, Search};
 use part_commands::{PartsHost, lock_ledger};
@@ -43,7 +44,7 @@ fn retry_at<H: PartsHost, D: Decider, W: Write, E: Write>(
     match lock_ledger(host, file.path) {
         Ok(_lock) => {
             let held = opened(host, file.path);
-            let mut ledger = LedgerAt::new(host, file);
+            let mut ledger = LedgerAt::new(alloc, host, file);
             cmd_retry(alloc, held, &mut ledger, decider, answers, faults)
         }
         Err(ended) => ended.told(faults),
@@ -93,6 +94,13 @@ pub(crate) fn report<H: Host, R: Read, W: Write, E: Write>(
     if file == STANDARD_INPUT {
         cmd_report_stream(alloc, &form, why, input, answers, faults)
     } else {
-        cmd_report(alloc, &form, why, opened(host, file), answers, faults)
+        cmd_report(
+            alloc,
+            &form,
+            why,
+            opened_to_end(host, file),
+            answers,
+            faults,
+        )
     }
 }

@@ -5,10 +5,12 @@
 
 mod any_finder;
 mod executing;
+mod failures;
 mod hard_finder;
 mod ledgers;
 mod lines;
 mod locking;
+mod named_file;
 mod nodes;
 mod parts;
 mod pictures;
@@ -16,4 +18,6 @@ mod stages;
 mod system;
 
 pub use executing::carry_out;
+pub use failures::Failures;
+pub use named_file::NamedFile;
 pub use system::{FileLock, System};

@@ -2,7 +2,7 @@
 use crate::ledgers::STANDARD_INPUT;
 use draw_command::{PictureHost, cmd_draw};
 use ledger::Left;
-use ledger_commands::{Host, Stopped, opened};
+use ledger_commands::{Host, Stopped, opened_to_end};
 use options::{Drawing, LedgerFile, Outcome};
 use page::write_ledger_page;
 use part_commands::PartsHost;
@@ -95,7 +95,7 @@ fn write_page_at<H: Host, W: Write>(
     host: &H,
     answers: &mut W,
 ) -> Result<(Outcome, Left), Stopped> {
-    match opened(host, path) {
+    match opened_to_end(host, path) {
         Ok(mut file) => { write_ledger_page(alloc, path, &mut file.reader, file.length, answers) }
         Err(fault) => Err(Stopped::Failed(fault)),
     }

@@ -1,10 +1,13 @@
 // The files, the clock and the sockets of the system.
+use crate::failures::Failures;
+use crate::named_file::NamedFile;
 use ledger_commands::{FileLedger, Host};
 use loopback::Sockets;
-use options::{Ended, LedgerFile};
+use options::{Durability, Ended, LedgerFile};
 use part_commands::PartsHost;
-use std::fs::{self, OpenFile, OpenOptions, TryLockError};
-use std::io::{self, ErrorKind, IsTerminal};
+use std::cell::RefCell;
+use std::fs::{self, Files, OpenFile, OpenOptions, TryLockError};
+use std::io::{self, ErrorKind, IsTerminal, Write};
 use std::net::{TcpListener, TcpStream};
 use std::os::unix::fs::MetadataExt;
 use std::time::{Clock, Duration};
@@ -13,12 +16,42 @@ use std::time::{Clock, Duration};
 #[derive(Drop)]
 pub struct System<'a> {
     rt: &'a HostRuntime,
+    failures: &'a Failures,
 }
 
 impl<'a> System<'a> {
-    /// Those that the program was given.
-    pub fn of(rt: &'a HostRuntime) -> System<'a> {
-        System { rt }
+    /// Those that the program was given; what fails is remembered.
+    pub fn of(rt: &'a HostRuntime, failures: &'a Failures) -> System<'a> {
+        System { rt, failures }
+    }
+
+    // Remembers why something at a path failed.
+    fn noted<T>(&self, path: &str, done: io::Result<T>) -> io::Result<T> {
+        if let Err(fault) = &done {
+            self.failures.remember(path, fault);
+        }
+        done
+    }
+
+    fn named(&self, file: fs::File, path: &str) -> io::Result<NamedFile<'a>> {
+        Ok(NamedFile {
+            file,
+            path: path.to_string(self.rt.alloc())?,
+            failures: self.failures,
+        })
+    }
+
+    // Where a symbolic link at a path leads; none where there is no link.
+    fn link_at(&self, path: &str) -> io::Result<Option<String>> {
+        match fs::symlink_metadata(self.rt, path) {
+            Ok(found) if found.is_symlink() => {
+                let to = self.rt.read_link(self.rt.alloc(), path)?;
+                Ok(Some(beside(self.rt, path, to.as_str())?))
+            }
+            Ok(_) => Ok(None),
+            Err(fault) if fault.kind() == ErrorKind::NotFound => Ok(None),
+            Err(fault) => Err(fault),
+        }
     }
 
     // The plain file at a path, open for writing; none where there is none, or it can't be written.
@@ -50,25 +83,81 @@ fn has_no_locks(fault: &io::Error) -> bool {
     fault.kind() == ErrorKind::Unsupported
 }
 
-impl<'a> Host for System<'a> {
-    type File = fs::File;
+// The most links that a path leads through.
+const MOST_LINKS: u32 = 40;
 
-    fn open(&self, path: &str) -> io::Result<fs::File> {
-        fs::open(self.rt, path)
+// What a link at a path leads to: its text is a path from the folder of the link, unless it begins at the root.
+fn beside(rt: &HostRuntime, path: &str, to: &str) -> io::Result<String> {
+    let mut end = String::new(rt.alloc());
+    if !to.starts_with('/')
+        && let Some((folder, _)) = path.rsplit_once('/')
+    {
+        end.push_str(folder)?;
+        end.push_str("/")?;
+    }
+    end.push_str(to)?;
+    Ok(end)
+}
+
+impl<'a> Host for System<'a> {
+    type File = NamedFile<'a>;
+
+    fn open(&self, path: &str) -> io::Result<NamedFile<'a>> {
+        let file = self.noted(path, fs::open(self.rt, path))?;
+        self.named(file, path)
     }
 
-    fn length(&self, file: &fs::File) -> io::Result<u64> {
+    fn length(&self, file: &NamedFile<'a>) -> io::Result<u64> {
         Ok(file.metadata()?.len())
     }
 
-    type Ledger = FileLedger<fs::File>;
+    fn extent(&self, file: &NamedFile<'a>) -> io::Result<u64> {
+        let found = file.metadata()?;
+        Ok(if found.is_file() {
+            found.len()
+        } else {
+            u64::MAX
+        })
+    }
 
-    fn ledger(&self, file: &LedgerFile<'_>) -> io::Result<FileLedger<fs::File>> {
-        let opened = OpenOptions::new()
-            .append(true)
-            .create(true)
-            .open(self.rt, file.path)?;
-        Ok(FileLedger::of(opened, file.durability))
+    fn is_same(&self, one: &str, other: &str) -> bool {
+        match (fs::metadata(self.rt, one), fs::metadata(self.rt, other)) {
+            (Ok(one), Ok(other)) => one.dev() == other.dev() && one.ino() == other.ino(),
+            _ => false,
+        }
+    }
+
+    fn end_of(&self, path: &str) -> io::Result<String> {
+        let mut end = path.to_string(self.rt.alloc())?;
+        for _ in 0..MOST_LINKS {
+            match self.noted(path, self.link_at(&end))? {
+                Some(next) => end = next,
+                None => return Ok(end),
+            }
+        }
+        self.noted(path, Err(io::Error::from(ErrorKind::InvalidInput)))
+    }
+
+    type Ledger = FileLedger<NamedFile<'a>>;
+
+    fn ledger(&self, file: &LedgerFile<'_>) -> io::Result<FileLedger<NamedFile<'a>>> {
+        let mut asked = OpenOptions::new();
+        asked.append(true).create(true);
+        let opened = self.noted(file.path, asked.open(self.rt, file.path))?;
+        Ok(FileLedger::of(self.named(opened, file.path)?, file.durability))
+    }
+
+    fn anew(&self, path: &str) -> io::Result<FileLedger<NamedFile<'a>>> {
+        match fs::remove_file(self.rt, path) {
+            Err(fault) if fault.kind() != ErrorKind::NotFound => {
+                return self.noted(path, Err(fault));
+            }
+            _ => {}
+        }
+        let mut asked = OpenOptions::new();
+        asked.append(true).create_new(true);
+        let opened = self.noted(path, asked.open(self.rt, path))?;
+        Ok(FileLedger::of(self.named(opened, path)?, Durability::System))
     }
 
     fn is_replaceable(&self, path: &str) -> bool {
@@ -79,15 +168,34 @@ impl<'a> Host for System<'a> {
     }
 
     fn sync(&self, path: &str) -> io::Result<()> {
-        fs::open(self.rt, path)?.sync_all()
+        let file = self.noted(path, fs::open(self.rt, path))?;
+        self.noted(path, file.sync_all())
     }
 
     fn rename(&self, from: &str, to: &str) -> io::Result<()> {
-        fs::rename(self.rt, from, to)
+        self.noted(to, fs::rename(self.rt, from, to))
     }
 
     fn tells_terminal(&self) -> bool {
         self.rt.stderr().is_terminal()
+    }
+
+    fn tell_cut(&self, path: &str, count: u64, kept_at: &str) {
+        if self.tells_terminal() {
+            // Nothing hangs on whether it can be said.
+            let _ = writeln!(
+                self.rt.stderr(),
+                "{path}: {count} bytes were cut off, and are kept in {kept_at}"
+            );
+        }
+    }
+
+    fn remember(&self, name: &str, fault: &io::Error) {
+        self.failures.remember(name, fault);
+    }
+
+    fn reason(&self) -> Option<String> {
+        self.failures.take()
     }
 }
 

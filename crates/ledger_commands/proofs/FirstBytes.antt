@@ -19,7 +19,7 @@ use Rattle.ledger.proofs.HeaderLaws.{none_begun, none_named, is_named}
 use Rattle.ledger.specs.declared.faults.LoadFault.{LoadFault}
 use Rattle.ledger.specs.declared.faults.LoadFault.TheVariants.{BadHeader, WrongRoot, NoMemory}
 use Rattle.options.specs.declared.ended.Ended.{Ended}
-use Rattle.options.specs.declared.ended.Ended.TheVariants.{BadHeader as HeaderEnds, WrongRoot as OtherRoot, Stream, Ledger, File, HasPart, Locked, NoMemory as WantsMemory}
+use Rattle.options.specs.declared.ended.Ended.TheVariants.{BadHeader as HeaderEnds, WrongRoot as OtherRoot, Stream, Ledger, File, HasPart, OutInFolder, Locked, NoMemory as WantsMemory}
 use Rattle.ledger_commands.specs.Faults.{ended_by_load}
 use Rattle.ledger_commands.specs.Reading.{AreFirstBytes, EndsReading, EndsReadingOf, IsLoadedFrom}
 use Rattle.ledger_commands.specs.inside.{BeginsReading, BeginsWithRoot, EndsBehindHeader}
@@ -182,6 +182,7 @@ taking_ends root has limit Stream order none h = absurd h.2
 taking_ends root has limit Ledger order none h = absurd h.2
 taking_ends root has limit File order none h = absurd h.2
 taking_ends root has limit HasPart order none h = absurd h.2
+taking_ends root has limit OutInFolder order none h = absurd h.2
 taking_ends root has limit Locked order none h = absurd h.2
 taking_ends root has limit WantsMemory order none h = absurd (none refl)
 

@@ -14,7 +14,7 @@ use Rattle.ledger_commands.specs.Report.{IsReport}
 use Rattle.options.specs.declared.outcome.Outcome.{Outcome}
 use Rattle.options.specs.declared.outcome.Outcome.TheVariants.{Accepted, Refused}
 use Rattle.options.specs.declared.ended.Ended.{Ended}
-use Rattle.options.specs.declared.ended.Ended.TheVariants.{BadHeader, WrongRoot, Stream, Ledger, File, HasPart, Locked, NoMemory}
+use Rattle.options.specs.declared.ended.Ended.TheVariants.{BadHeader, WrongRoot, Stream, Ledger, File, HasPart, OutInFolder, Locked, NoMemory}
 
 -- the line behind the report that says which line wasn't kept
 abbrev pub left_text : Left → List ℕ
@@ -64,5 +64,6 @@ EndsLedger text Stream = ⊥
 EndsLedger text Ledger = ⊥
 EndsLedger text File = ⊥
 EndsLedger text HasPart = ⊥
+EndsLedger text OutInFolder = ⊥
 EndsLedger text Locked = ⊥
 EndsLedger text NoMemory = (root : Packed) × (rest : List ℕ) × HasHeader text root rest × ((u : ℕ) × InOrder u (entry_of root))

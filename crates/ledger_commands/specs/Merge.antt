@@ -10,7 +10,7 @@ use Rattle.ledger.specs.declared.left.Left.TheVariants.{Nothing, From}
 use Rattle.ledger.specs.declared.tally.Tally.{Tally}
 use Rattle.ledger_commands.specs.LedgerReport.{EndsLedger}
 use Rattle.options.specs.declared.ended.Ended.{Ended}
-use Rattle.options.specs.declared.ended.Ended.TheVariants.{BadHeader, WrongRoot, Stream, Ledger, File, HasPart, Locked, NoMemory}
+use Rattle.options.specs.declared.ended.Ended.TheVariants.{BadHeader, WrongRoot, Stream, Ledger, File, HasPart, OutInFolder, Locked, NoMemory}
 
 -- what may come of reading a ledger: its bytes, or what ends the command
 abbrev pub Readings : Type 1
@@ -41,6 +41,7 @@ EndsTakingIn root text Stream = ⊥
 EndsTakingIn root text Ledger = ⊥
 EndsTakingIn root text File = ⊥
 EndsTakingIn root text HasPart = ⊥
+EndsTakingIn root text OutInFolder = ⊥
 EndsTakingIn root text Locked = ⊥
 EndsTakingIn root text NoMemory = (rest : List ℕ) × HasHeader text root rest
 

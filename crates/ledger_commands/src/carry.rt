@@ -3,13 +3,12 @@ ghost use Rattle.std.specs.Prelude.{◌≡◌, IfOk, IfErr};
 ghost use Rattle.ledger_commands.specs.Carry.{CarriesInto, EndsCarryingInto};
 
 use crate::host::Host;
-use crate::ledger_at::LedgerAt;
 use crate::report_writer::append_left;
-use crate::rewriting::{made_beside, outcome_of_left, put_back, write_whole};
+use crate::rewriting::{Place, outcome_of_left, write_whole};
 use crate::source::{AtPath, LedgerSource, load_source};
 use evidence::NoMemory;
 use ledger::{Left, Tally};
-use options::{Carrying, Ended, LedgerFile, Outcome};
+use options::{Carrying, Ended, Outcome};
 use std::alloc::Global;
 use std::io::Write;
 use text::append_number;
@@ -40,12 +39,9 @@ fn carry_ledger<H: Host, W: Write>(
     host: &H,
     answers: &mut W,
 ) -> Result<Outcome, Ended> {
-    let beside = made_beside(alloc, host, carrying.out, &[carrying.ledger])?;
-    let (tally, left) = match &beside {
-        Some(beside) => carry_at(alloc, carrying, host, beside)?,
-        None => carry_at(alloc, carrying, host, carrying.out)?,
-    };
-    put_back(host, &beside, carrying.out)?;
+    let place = Place::of(alloc, host, carrying.out, &[carrying.ledger])?;
+    let (tally, left) = carry_at(alloc, carrying, host, &place)?;
+    place.put(host)?;
     let mut said = Vec::new(alloc);
     append_carried(&tally, &mut said)?;
     append_left(&left, &mut said)?;
@@ -53,18 +49,18 @@ fn carry_ledger<H: Host, W: Write>(
     Ok(outcome_of_left(&left))
 }
 
-// Carries the ledger to a path.
+// Carries the ledger to a place.
 fn carry_at<H: Host>(
     alloc: Global,
     carrying: Carrying<'_>,
     host: &H,
-    path: &str,
+    place: &Place,
 ) -> Result<(Tally, Left), Ended> {
     let from = AtPath {
         host,
         path: carrying.ledger,
     };
-    carry_into(alloc, &from, &mut LedgerAt::new(host, LedgerFile::at(path)))
+    carry_into(alloc, &from, &mut place.ledger(alloc, host, carrying.out))
 }
 
 /// Reads and loads a ledger, and makes another hold what it holds as version 2, whatever it held before. Answers how

@@ -13,10 +13,23 @@ pub trait Host {
     /// How many bytes a file has now.
     fn length(&self, file: &Self::File) -> io::Result<u64>;
 
+    /// How many bytes of a file there are to read where it is only read: those that it has now; of what is no plain file,
+    /// whatever comes until its end.
+    fn extent(&self, file: &Self::File) -> io::Result<u64>;
+
+    /// Whether two paths lead to one file.
+    fn is_same(&self, one: &str, other: &str) -> bool;
+
+    /// The path to which the symbolic links of a path lead; nothing need stand there.
+    fn end_of(&self, path: &str) -> io::Result<String>;
+
     type Ledger: LedgerOut + Drop;
 
     /// A ledger file, to be cut and appended to, which is created where it isn't there.
     fn ledger(&self, file: &LedgerFile<'_>) -> io::Result<Self::Ledger>;
+
+    /// A new ledger file at a path. A name that stands there is removed first: what it named isn't written to.
+    fn anew(&self, path: &str) -> io::Result<Self::Ledger>;
 
     /// Whether another file may be put in the place of what stands at a path: there is a plain file, or nothing.
     fn is_replaceable(&self, path: &str) -> bool;
@@ -31,12 +44,30 @@ pub trait Host {
     fn tells_terminal(&self) -> bool {
         false
     }
+
+    /// Says on a terminal that so many bytes were cut off the ledger at a path, and where they are.
+    fn tell_cut(&self, _path: &str, _count: u64, _kept_at: &str) {}
+
+    /// Remembers what failed, and why.
+    fn remember(&self, _name: &str, _fault: &io::Error) {}
+
+    /// What failed last, and why.
+    fn reason(&self) -> Option<String> {
+        None
+    }
 }
 
 /// A file, and how long it is now.
 pub fn opened<H: Host>(host: &H, path: &str) -> io::Result<Opened<H::File>> {
     let reader = host.open(path)?;
     let length = host.length(&reader)?;
+    Ok(Opened { reader, length })
+}
+
+/// A file that is only read, up to its end.
+pub fn opened_to_end<H: Host>(host: &H, path: &str) -> io::Result<Opened<H::File>> {
+    let reader = host.open(path)?;
+    let length = host.extent(&reader)?;
     Ok(Opened { reader, length })
 }
 

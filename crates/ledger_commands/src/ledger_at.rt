@@ -2,29 +2,81 @@
 ghost use Rattle.std.specs.Prelude.{◌≡◌, ◌≢◌, ◌≤◌, IfOk, length};
 
 use crate::host::Host;
+use crate::keeping::keep_cut;
 use options::LedgerFile;
+use std::alloc::Global;
 use wire::{Fault, LedgerOut};
 
 /// The ledger at a path of a host. It is opened for writing by the first cut or the first bytes that are appended, so
 /// that a ledger that needs neither may be one that can't be written. A ledger that can't be opened fails.
 #[derive(Drop)]
 pub struct LedgerAt<'a, H: Host> {
+    alloc: Global,
     host: &'a H,
     file: LedgerFile<'a>,
+    beginning: Beginning,
     // none before it is opened
     ledger: Option<H::Ledger>,
     failures: u64,
 }
 
+// What a ledger begins with.
+#[derive(Clone, Copy, Debug, PartialEq, Eq)]
+enum Beginning {
+    // What stands there; what is cut off it is kept.
+    Kept,
+    // Nothing: it is written over.
+    Over,
+    // Nothing, in a new file.
+    Anew,
+}
+
 impl<'a, H: Host> LedgerAt<'a, H> {
-    /// A ledger file, not yet opened.
-    pub fn new(host: &'a H, file: LedgerFile<'a>) -> LedgerAt<'a, H> {
+    /// A ledger file that goes on, not yet opened. What is cut off it, but for a torn last line, is first appended to the
+    /// file beside it, `.cut`; where that can't be written, the cut fails and the ledger is as it was.
+    pub fn new(alloc: Global, host: &'a H, file: LedgerFile<'a>) -> LedgerAt<'a, H> {
+        LedgerAt::begun(alloc, host, file, Beginning::Kept)
+    }
+
+    /// A ledger file that is written over, not yet opened.
+    pub fn over(alloc: Global, host: &'a H, path: &'a str) -> LedgerAt<'a, H> {
+        LedgerAt::begun(alloc, host, LedgerFile::at(path), Beginning::Over)
+    }
+
+    /// A new ledger file, not yet made.
+    pub fn anew(alloc: Global, host: &'a H, path: &'a str) -> LedgerAt<'a, H> {
+        LedgerAt::begun(alloc, host, LedgerFile::at(path), Beginning::Anew)
+    }
+
+    fn begun(
+        alloc: Global,
+        host: &'a H,
+        file: LedgerFile<'a>,
+        beginning: Beginning,
+    ) -> LedgerAt<'a, H> {
         LedgerAt {
+            alloc,
             host,
             file,
+            beginning,
             ledger: None,
             failures: 0,
         }
+    }
+
+    // Opens the file as it begins.
+    fn opened(&self) -> Result<H::Ledger, Fault> {
+        let opened = match self.beginning {
+            Beginning::Anew => self.host.anew(self.file.path),
+            Beginning::Kept | Beginning::Over => self.host.ledger(&self.file),
+        };
+        let Ok(mut ledger) = opened else {
+            return Err(Fault);
+        };
+        if self.beginning == Beginning::Over {
+            ledger.cut(0)?;
+        }
+        Ok(ledger)
     }
 
     // Opens the ledger where it isn't open yet.
@@ -34,11 +86,17 @@ impl<'a, H: Host> LedgerAt<'a, H> {
         if self.ledger.is_some() {
             return Ok(());
         }
-        match self.host.ledger(&self.file) {
-            Ok(ledger) => {
-                self.ledger = Some(ledger);
-                Ok(())
-            }
+        self.ledger = Some(self.opened()?);
+        Ok(())
+    }
+
+    // Keeps what a cut takes away, where the ledger goes on.
+    fn keep(&self, len: u64) -> Result<(), Fault> {
+        if self.beginning != Beginning::Kept {
+            return Ok(());
+        }
+        match keep_cut(self.alloc, self.host, self.file.path, len) {
+            Ok(()) => Ok(()),
             Err(_) => Err(Fault),
         }
     }
@@ -47,7 +105,11 @@ impl<'a, H: Host> LedgerAt<'a, H> {
     fn cut_open(&mut self, len: u64) -> Result<(), Fault>
         ensures { self.new.failures ≡ self.old.failures }
     {
+        self.keep(len)?;
         self.open()?;
+        if len == 0 && self.beginning != Beginning::Kept {
+            return Ok(());
+        }
         match &mut self.ledger {
             Some(ledger) => ledger.cut(len),
             None => Err(Fault),

@@ -5,14 +5,13 @@ ghost use Rattle.ledger_commands.specs.Reading.{AreFirstBytes, EndsReadingOf};
 
 use crate::faults::by_merge;
 use crate::host::Host;
-use crate::ledger_at::LedgerAt;
 use crate::reading::{Stopped, load_of};
 use crate::report_writer::append_left;
-use crate::rewriting::{made_beside, outcome_of_left, put_back, write_whole};
+use crate::rewriting::{Place, outcome_of_left, write_whole};
 use crate::source::{AtPath, LedgerSource, load_source};
 use evidence::NoMemory;
 use ledger::{Board, Left, Tally};
-use options::{Ended, LedgerFile, Merging, Outcome};
+use options::{Ended, Merging, Outcome};
 use std::alloc::Global;
 use std::io::{Read, Write};
 use text::append_number;
@@ -20,9 +19,10 @@ use wire::LedgerOut;
 
 /// Writes the ledger of what two ledgers hold together, and prints how many records, open tables and holdouts
 /// that has, and `left LINE` for the first of the two of which not all could be kept. Each of the two is read
-/// and judged before the next, and both before anything is written. Where a plain file or nothing stands at the
-/// path that is to be written, the ledger is made in a file beside it, `.new`, which is then put in its place, so that
-/// a program that is killed leaves the old ledger or the new one; after a failure that file is left. Accepted where
+/// and judged before the next, and both before anything is written. Where the
+/// path that is to be written leads to a plain file or to nothing, the ledger is made in a new file beside that, `.new`, which
+/// is then put in its place, so that a program that is killed leaves the old ledger or the new one; after a failure that file
+/// is left. Accepted where
 /// all was kept. What ends the command early is said on `faults`.
 pub fn cmd_merge<H: Host, W: Write, E: Write>(
     alloc: Global,
@@ -43,22 +43,19 @@ fn merge_ledgers<H: Host, W: Write>(
     host: &H,
     answers: &mut W,
 ) -> Result<Outcome, Ended> {
-    let beside = made_beside(alloc, host, merging.out, &[merging.first, merging.second])?;
-    let (tally, left) = match &beside {
-        Some(beside) => join_at(alloc, merging, host, beside)?,
-        None => join_at(alloc, merging, host, merging.out)?,
-    };
-    put_back(host, &beside, merging.out)?;
+    let place = Place::of(alloc, host, merging.out, &[merging.first, merging.second])?;
+    let (tally, left) = join_at(alloc, merging, host, &place)?;
+    place.put(host)?;
     tell(alloc, &tally, &left, answers)?;
     Ok(outcome_of_left(&left))
 }
 
-// Joins the two ledgers into one at a path.
+// Joins the two ledgers into one at a place.
 fn join_at<H: Host>(
     alloc: Global,
     merging: Merging<'_>,
     host: &H,
-    path: &str,
+    place: &Place,
 ) -> Result<(Tally, Left), Ended> {
     let first = AtPath {
         host,
@@ -72,7 +69,7 @@ fn join_at<H: Host>(
         alloc,
         &first,
         &second,
-        &mut LedgerAt::new(host, LedgerFile::at(path)),
+        &mut place.ledger(alloc, host, merging.out),
     )
 }
 

@@ -3,8 +3,9 @@ ghost use Rattle.std.specs.Prelude.{◌≡◌, ◌⊎◌, OnOk, IfErr};
 ghost use Rattle.ledger_commands.specs.Merge.{rewritten};
 
 use crate::host::Host;
+use crate::keeping::path_behind;
+use crate::ledger_at::LedgerAt;
 use crate::ledger_changes::{append_to, cut_to};
-use evidence::NoMemory;
 use ledger::{Board, Left};
 use options::{Ended, Outcome};
 use std::alloc::Global;
@@ -14,40 +15,83 @@ use wire::LedgerOut;
 // What is put behind the path of a ledger to name the file in which it is made.
 const NEW_SUFFIX: &str = ".new";
 
-/// The path of the file in which a ledger is made that is then put in its place: beside it, where that place is for a
-/// plain file and none of the ledgers that are read stands at that path. None where it is written over.
-pub fn made_beside<H: Host>(
-    alloc: Global,
-    host: &H,
-    out: &str,
-    read: &[&str],
-) -> Result<Option<String>, NoMemory> {
-    let beside = path_beside(alloc, out)?;
-    let is_read = read.iter().any(|path| beside.as_str() == *path);
-    // Nothing is lost at either path by that.
-    if !is_read && host.is_replaceable(out) && host.is_replaceable(&beside) {
-        Ok(Some(beside))
-    } else {
-        Ok(None)
+// How often that is put behind it at most, where what is read has such a name.
+const MOST_SUFFIXES: u32 = 8;
+
+/// Where a ledger is written anew.
+#[derive(Drop)]
+pub enum Place {
+    /// In a new file beside the one that its path leads to, in whose place it is then put.
+    Beside {
+        /// The path of the new file.
+        made: String,
+        /// The path in whose place it is put.
+        end: String,
+    },
+    /// Over what stands there, which is no plain file.
+    Over,
+}
+
+impl Place {
+    /// Where the ledger at a path is written anew: in a new file beside the one to which the path's links lead, whose name is
+    /// none of those that are read; over a device. Errors: `Ledger` where the links lead nowhere, or each such name is read.
+    pub fn of<H: Host>(alloc: Global, host: &H, out: &str, read: &[&str]) -> Result<Place, Ended> {
+        let end = match host.end_of(out) {
+            Ok(end) => end,
+            Err(fault) => return Err(Ended::by_ledger(&fault)),
+        };
+        if !host.is_replaceable(&end) {
+            return Ok(Place::Over);
+        }
+        let made = new_name(alloc, host, &end, read)?;
+        Ok(Place::Beside { made, end })
+    }
+
+    /// The ledger, not yet made.
+    pub fn ledger<'a, H: Host>(
+        &'a self,
+        alloc: Global,
+        host: &'a H,
+        out: &'a str,
+    ) -> LedgerAt<'a, H> {
+        match self {
+            Place::Beside { made, .. } => LedgerAt::anew(alloc, host, made),
+            Place::Over => LedgerAt::over(alloc, host, out),
+        }
+    }
+
+    /// Puts a ledger that was made beside its place there, once it is on the disk: a power cut leaves one of the two there.
+    pub fn put<H: Host>(&self, host: &H) -> Result<(), Ended> {
+        let Place::Beside { made, end } = self else {
+            return Ok(());
+        };
+        match synced(host, made, end) {
+            Ok(()) => Ok(()),
+            Err(fault) => Err(Ended::by_ledger(&fault)),
+        }
     }
 }
 
-fn path_beside(alloc: Global, path: &str) -> Result<String, NoMemory> {
-    let mut beside = String::new(alloc);
-    beside.push_str(path)?;
-    beside.push_str(NEW_SUFFIX)?;
-    Ok(beside)
+// A name beside a path that none of what is read has.
+fn new_name<H: Host>(alloc: Global, host: &H, end: &str, read: &[&str]) -> Result<String, Ended> {
+    let mut made = path_behind(alloc, end, NEW_SUFFIX)?;
+    for _ in 0..MOST_SUFFIXES {
+        if !is_read(host, &made, read) {
+            return Ok(made);
+        }
+        made.push_str(NEW_SUFFIX)?;
+    }
+    Err(Ended::Ledger)
 }
 
-/// Puts a ledger that was made beside its place there, once it is on the disk: a power cut leaves one of the two there.
-pub fn put_back<H: Host>(host: &H, beside: &Option<String>, to: &str) -> Result<(), Ended> {
-    let Some(from) = beside else {
-        return Ok(());
-    };
-    match synced(host, from, to) {
-        Ok(()) => Ok(()),
-        Err(fault) => Err(Ended::by_ledger(&fault)),
+// Whether a path leads to a file that is read.
+fn is_read<H: Host>(host: &H, path: &str, read: &[&str]) -> bool {
+    for other in read {
+        if host.is_same(path, other) {
+            return true;
+        }
     }
+    false
 }
 
 fn synced<H: Host>(host: &H, from: &str, to: &str) -> io::Result<()> {

@@ -2,7 +2,7 @@
 ghost use Rattle.std.specs.Prelude.{Ok, Err, IfOk, IfErr};
 ghost use Rattle.ledger_commands.specs.Merge.{IsLoaded};
 
-use crate::host::{Host, opened};
+use crate::host::{Host, opened_to_end};
 use crate::reading::{Opened, Stopped, load_from};
 use ledger::{Board, Left};
 use options::Ended;
@@ -44,7 +44,7 @@ impl<H: Host> LedgerSource for AtPath<'_, H> {
     ghost reads = { λ s r. Unit {0} };
 
     fn open(&self) -> Result<Opened<H::File>, Ended> {
-        match opened(self.host, self.path) {
+        match opened_to_end(self.host, self.path) {
             Ok(file) => Ok(file),
             Err(fault) => Err(self.failed(&fault)),
         }

@@ -3,7 +3,7 @@ use Rattle.std.specs.Prelude.{ℕ, List, [], ◌∷◌, ◌++◌, codes}
 use Rattle.options.specs.declared.outcome.Outcome.{Outcome}
 use Rattle.options.specs.declared.outcome.Outcome.TheVariants.{Accepted, Refused, BadLine, NoMemory, Failed}
 use Rattle.options.specs.declared.ended.Ended.{Ended}
-use Rattle.options.specs.declared.ended.Ended.TheVariants.{BadHeader, WrongRoot, HasPart, Stream, Ledger, File, Locked, NoMemory as WantsMemory}
+use Rattle.options.specs.declared.ended.Ended.TheVariants.{BadHeader, WrongRoot, HasPart, OutInFolder, Stream, Ledger, File, Locked, NoMemory as WantsMemory}
 
 abbrev pub status_of : Outcome → ℕ
 status_of Accepted = 0
@@ -17,6 +17,7 @@ abbrev pub outcome_of : Ended → Outcome
 outcome_of BadHeader = Refused
 outcome_of WrongRoot = Refused
 outcome_of HasPart = Refused
+outcome_of OutInFolder = Refused
 outcome_of Stream = Failed
 outcome_of Ledger = Failed
 outcome_of File = Failed
@@ -28,6 +29,7 @@ abbrev pub ended_line : Ended → List ℕ
 ended_line BadHeader = codes "refused 404"
 ended_line WrongRoot = codes "refused 405"
 ended_line HasPart = codes "refused 407: a table that would be decided in the trunk has a part"
+ended_line OutInFolder = codes "refused 408: OUT is a ledger of the folder"
 ended_line Stream = codes "refused 603"
 ended_line Ledger = codes "refused 604"
 ended_line File = codes "refused 605"

@@ -16,6 +16,8 @@ pub enum Ended {
     WrongRoot,
     /// A table that would be decided in a trunk has a part already.
     HasPart,
+    /// A ledger that is to be written anew is the trunk or a part of the folder that is read.
+    OutInFolder,
     /// A stream failed.
     Stream,
     /// A ledger that is written couldn't be opened, read, cut or appended to.
@@ -38,6 +40,7 @@ impl Ended {
             Ended::WrongRoot => b"refused 405\n",
             Ended::HasPart =>
                 b"refused 407: a table that would be decided in the trunk has a part\n",
+            Ended::OutInFolder => b"refused 408: OUT is a ledger of the folder\n",
             Ended::Stream => b"refused 603\n",
             Ended::Ledger => b"refused 604\n",
             Ended::File => b"refused 605\n",
@@ -67,7 +70,9 @@ impl Ended {
         ensures { result ≡ outcome_of self }
     {
         match self {
-            Ended::BadHeader | Ended::WrongRoot | Ended::HasPart => Outcome::Refused,
+            Ended::BadHeader | Ended::WrongRoot | Ended::HasPart | Ended::OutInFolder => {
+                Outcome::Refused
+            }
             Ended::Stream | Ended::Ledger | Ended::File | Ended::Locked => Outcome::Failed,
             Ended::NoMemory => Outcome::NoMemory,
         }

@@ -25,7 +25,7 @@ use Rattle.ledger.proofs.OpenLaws.{open_taken, taken_new}
 use Rattle.ledger_commands.specs.Retry.{StaysInStep}
 use Rattle.ledger_commands.proofs.Retrying.{cut_in_step, stays_by}
 use Rattle.options.specs.declared.ended.Ended.{Ended}
-use Rattle.options.specs.declared.ended.Ended.TheVariants.{BadHeader, WrongRoot, Stream, Ledger, File, HasPart, Locked, NoMemory}
+use Rattle.options.specs.declared.ended.Ended.TheVariants.{BadHeader, WrongRoot, Stream, Ledger, File, HasPart, OutInFolder, Locked, NoMemory}
 use Rattle.part_commands.specs.Settling.{ComesFirst, EndsAtOne, EndsSettling, IsOpenBelow, SettlesMany, SettlesOne, with_last}
 use Rattle.part_commands.specs.Settle.{EndsWhole, kept_part, settled_text}
 use Rattle.part_commands.specs.inside.{is_below}
@@ -68,6 +68,7 @@ module _ (Answers : Packed → Recorded → Type 0) (IsDue : Contents → Packed
   }
   ends_so t File old new before after due h = h
   ends_so t HasPart old new before after due h = h
+  ends_so t OutInFolder old new before after due h = h
   ends_so t Locked old new before after due h = h
   ends_so t NoMemory old new before after due h = h
 

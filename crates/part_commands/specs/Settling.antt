@@ -12,7 +12,7 @@ use Rattle.ledger.specs.Held.{IsFit}
 use Rattle.wire.specs.Device.{IsBegun}
 use Rattle.ledger_commands.specs.Retry.{gained, with_line}
 use Rattle.options.specs.declared.ended.Ended.{Ended}
-use Rattle.options.specs.declared.ended.Ended.TheVariants.{BadHeader, WrongRoot, Stream, Ledger, File, HasPart, Locked, NoMemory}
+use Rattle.options.specs.declared.ended.Ended.TheVariants.{BadHeader, WrongRoot, Stream, Ledger, File, HasPart, OutInFolder, Locked, NoMemory}
 
 -- the open table whose text comes first
 abbrev pub ComesFirst : Contents → Packed → Type 0
@@ -64,6 +64,7 @@ EndsAtOne Answers IsDue Stream old before new after = ⊥
 EndsAtOne Answers IsDue Ledger old before new after = TearsLine Answers IsDue old before new after
 EndsAtOne Answers IsDue File old before new after = ⊥
 EndsAtOne Answers IsDue HasPart old before new after = ⊥
+EndsAtOne Answers IsDue OutInFolder old before new after = ⊥
 EndsAtOne Answers IsDue Locked old before new after = ⊥
 EndsAtOne Answers IsDue NoMemory old before new after = (new ≡ old) × (after ≡ before)
 

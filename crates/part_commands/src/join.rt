@@ -19,20 +19,19 @@ use crate::parts::{Parts, PartsOf};
 use evidence::NoMemory;
 use ledger::{Board, Left, Status};
 use ledger_commands::{
-    Host, LedgerAt, Opened, ReportForm, Stopped, Told, load_from, made_beside, outcome_by,
-    put_back, write_told,
+    Host, Opened, Place, ReportForm, Stopped, Told, load_from, outcome_by, write_told,
 };
 use machine_text::Table;
-use options::{Ended, Joining, LedgerFile, Outcome};
+use options::{Ended, Joining, Outcome};
 use std::alloc::Global;
 use std::io::{Read, Write};
 use text::append_number;
 use whole::{PartFault, Whole};
-use wire::LedgerOut;
 
 /// Prints the report of the trunk in a folder and of the parts beside it, in a form: the report of one ledger that holds the
-/// records of all. Where that is asked for, it writes that ledger too, in a file beside it, `.new`, which is then put in its
-/// place. A part that isn't there counts as an open table. What is wrong with a part is said on `faults` behind its path,
+/// records of all. Where that is asked for, it writes that ledger too, in a new file beside it, `.new`, which is put in its
+/// place once the last part was judged; a ledger of the folder itself is refused for that before anything is written. A part
+/// that isn't there counts as an open table. What is wrong with a part is said on `faults` behind its path,
 /// and what is kept of it counts. Accepted where the report says complete and nothing was wrong.
 pub fn cmd_join<H: Host, P: ReportForm, W: Write, E: Write>(
     alloc: Global,
@@ -48,7 +47,7 @@ pub fn cmd_join<H: Host, P: ReportForm, W: Write, E: Write>(
             alloc,
             form,
             joining.folder,
-            &PartsOf { host },
+            &PartsOf { host, out: None },
             &mut Nowhere,
             answers,
             faults,
@@ -70,24 +69,16 @@ fn join_into<H: Host, P: ReportForm, W: Write, E: Write>(
     answers: &mut W,
     faults: &mut E,
 ) -> Result<Outcome, Ended> {
-    let beside = made_beside(alloc, host, out, &[])?;
-    let path = beside.as_deref().unwrap_or(out);
+    let place = Place::of(alloc, host, out, &[])?;
     let mut one = OneLedger {
-        ledger: LedgerAt::new(host, LedgerFile::at(path)),
+        ledger: place.ledger(alloc, host, out),
     };
-    if one.ledger.cut(0).is_err() {
-        return Err(Ended::Ledger);
-    }
-    let outcome = join_parts(
-        alloc,
-        form,
-        folder,
-        &PartsOf { host },
-        &mut one,
-        answers,
-        faults,
-    )?;
-    put_back(host, &beside, out)?;
+    let parts = PartsOf {
+        host,
+        out: Some(out),
+    };
+    let outcome = join_parts(alloc, form, folder, &parts, &mut one, answers, faults)?;
+    place.put(host)?;
     Ok(outcome)
 }
 
@@ -121,12 +112,32 @@ fn gather<S: Parts, C: Collector, E: Write>(
 {
     let path = path_within(alloc, folder, TRUNK)?;
     let (trunk, left) = trunk_at(alloc, parts, &path)?;
+    let roots = open_tables(alloc, &trunk)?;
+    spare(alloc, parts, folder, &path, &roots)?;
     let is_kept = says_left(alloc, &path, &left, faults)?;
     collector.begin(alloc, &trunk)?;
-    let roots = open_tables(alloc, &trunk)?;
     let mut whole = Whole::of(alloc, trunk)?;
     let are_sound = add_parts(alloc, parts, folder, &roots, &mut whole, collector, faults)?;
     Ok((whole, is_kept && are_sound))
+}
+
+// Refuses to write over the trunk or one of the parts of these roots.
+fn spare<S: Parts>(
+    alloc: Global,
+    parts: &S,
+    folder: &str,
+    trunk: &str,
+    roots: &[Table],
+) -> Result<(), Ended> {
+    if parts.is_written(trunk) {
+        return Err(Ended::OutInFolder);
+    }
+    for root in roots {
+        if parts.is_written(&part_path(alloc, folder, root)?) {
+            return Err(Ended::OutInFolder);
+        }
+    }
+    Ok(())
 }
 
 // Adds the parts of these roots, and answers whether all are there and sound.

@@ -1,5 +1,5 @@
 // Where the ledgers of a trunk and its parts are read.
-use ledger_commands::{Host, Opened, opened};
+use ledger_commands::{Host, Opened, opened_to_end};
 use options::Ended;
 use std::io::{ErrorKind, Read};
 
@@ -15,12 +15,17 @@ pub trait Parts {
     /// Opens the ledger at a path; none where nothing is there.
     fn open(&self, path: &str) -> Result<Option<Opened<Self::File>>, Ended>
         ensures { IfOk result (λ found. finds self.now path.now (option_map (λ file. (Self.File.remaining file.reader, file.length)) found)) };
+
+    /// Whether the ledger at a path is the one that is to be written.
+    fn is_written(&self, path: &str) -> bool;
 }
 
 /// The files of a host.
 #[derive(Drop)]
 pub struct PartsOf<'a, H> {
     pub host: &'a H,
+    /// The path of the one ledger that is written, if one is.
+    pub out: Option<&'a str>,
 }
 
 impl<H: Host> Parts for PartsOf<'_, H> {
@@ -31,10 +36,17 @@ impl<H: Host> Parts for PartsOf<'_, H> {
     ghost finds = { λ parts path found. ⊤ };
 
     fn open(&self, path: &str) -> Result<Option<Opened<H::File>>, Ended> {
-        match opened(self.host, path) {
+        match opened_to_end(self.host, path) {
             Ok(file) => Ok(Some(file)),
             Err(fault) if fault.kind() == ErrorKind::NotFound => Ok(None),
             Err(fault) => Err(Ended::by_file(&fault)),
+        }
+    }
+
+    fn is_written(&self, path: &str) -> bool {
+        match self.out {
+            Some(out) => self.host.is_same(out, path),
+            None => false,
         }
     }
 }

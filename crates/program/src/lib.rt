@@ -3,6 +3,7 @@
 //! Here the words (`command_line`) and the commands (`dispatch`) meet; each is proved without the other.
 #![tactic(auto)]
 
+mod named;
 mod obeying;
 
 pub use obeying::obey;

@@ -1,11 +1,14 @@
 // From the words of a command line to how it ended.
-ghost use Rattle.std.specs.Prelude.{IfErr};
+ghost use Rattle.std.specs.Prelude.{◌≡◌, IfErr};
 ghost use Rattle.command_line.specs.Unread.{EndsUnread};
+ghost use Rattle.options.specs.Ranges.{AreWithinRanges};
 
+use crate::named::Named;
 use command_line::{LineFault, options};
 use dispatch::carry_out;
+use ledger_commands::Host;
 use loopback::Sockets;
-use options::{Ended, NoMemory, Outcome};
+use options::{Ended, NoMemory, Options, Outcome};
 use part_commands::PartsHost;
 use std::alloc::Global;
 use std::io::{Read, Write};
@@ -32,9 +35,43 @@ pub fn obey<H: PartsHost + Clock + Sockets, R: Read, W: Write, E: Write>(
         Err(_) => return Ended::NoMemory.told(faults),
     };
     match options(alloc, &line) {
-        Ok(asked) => carry_out(alloc, asked, host, input, answers, faults),
+        Ok(asked) => {
+            let outcome = carried_out(alloc, asked, host, input, answers, faults);
+            tell_reason(host, outcome, faults)
+        }
         Err(fault) => fault.told(alloc, answers, faults),
     }
+}
+
+// Does what is asked for; which of the streams fails is remembered.
+fn carried_out<H: PartsHost + Clock + Sockets, R: Read, W: Write, E: Write>(
+    alloc: Global,
+    asked: Options<'_>,
+    host: &H,
+    input: &mut R,
+    answers: &mut W,
+    faults: &mut E,
+) -> Outcome
+    requires { AreWithinRanges asked }
+{
+    let mut input = Named::of(host, "standard input", input);
+    let mut answers = Named::of(host, "standard output", answers);
+    let mut faults = Named::of(host, "standard error", faults);
+    carry_out(alloc, asked, host, &mut input, &mut answers, &mut faults)
+}
+
+// Where a command failed, says on a terminal what of it failed, and why.
+fn tell_reason<H: Host, E: Write>(host: &H, outcome: Outcome, faults: &mut E) -> Outcome
+    ensures { result ≡ outcome }
+{
+    if outcome == Outcome::Failed
+        && host.tells_terminal()
+        && let Some(reason) = host.reason()
+    {
+        // It has failed, whether that can be said or not.
+        let _ = faults.write_all(reason.as_bytes());
+    }
+    outcome
 }
 
 fn line_of(alloc: Global, words: &[String]) -> Result<Vec<&str>, NoMemory> {

@@ -1,0 +1,62 @@
+// A file that remembers what of it fails.
+use crate::failures::Failures;
+use std::fs::{self, Metadata, OpenFile};
+use std::io::{self, Read, Write};
+
+/// A file of the system under the path at which it was opened: what of it fails is remembered.
+#[derive(Drop)]
+pub struct NamedFile<'a> {
+    pub(crate) file: fs::File,
+    pub(crate) path: String,
+    pub(crate) failures: &'a Failures,
+}
+
+impl NamedFile<'_> {
+    fn noted<T>(&self, done: io::Result<T>) -> io::Result<T> {
+        if let Err(fault) = &done {
+            self.failures.remember(&self.path, fault);
+        }
+        done
+    }
+}
+
+impl Read for NamedFile<'_> {
+    fn read(&mut self, buf: &mut [u8]) -> io::Result<usize> {
+        match self.file.read(buf) {
+            Ok(count) => Ok(count),
+            Err(fault) => self.noted(Err(fault)),
+        }
+    }
+}
+
+impl Write for NamedFile<'_> {
+    fn write(&mut self, buf: &[u8]) -> io::Result<usize> {
+        match self.file.write(buf) {
+            Ok(count) => Ok(count),
+            Err(fault) => self.noted(Err(fault)),
+        }
+    }
+
+    fn flush(&mut self) -> io::Result<()> {
+        let flushed = self.file.flush();
+        self.noted(flushed)
+    }
+}
+
+impl OpenFile for NamedFile<'_> {
+    fn metadata(&self) -> io::Result<Metadata> {
+        self.noted(self.file.metadata())
+    }
+
+    fn set_len(&self, size: u64) -> io::Result<()> {
+        self.noted(self.file.set_len(size))
+    }
+
+    fn sync_all(&self) -> io::Result<()> {
+        self.noted(self.file.sync_all())
+    }
+
+    fn sync_data(&self) -> io::Result<()> {
+        self.noted(self.file.sync_data())
+    }
+}

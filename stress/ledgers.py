@@ -53,6 +53,23 @@ def damage(rng, lines):
     return text[:rng.randrange(len(text) + 1)] if rng.random() < 0.2 else text
 
 
+def cut_off(text, kept):
+    """What is kept in FILE.cut where a ledger of this text is cut to what is kept of it: a torn last line isn't."""
+    rest = text[len(kept):]
+    return rest if b"\n" in rest else None
+
+
+def taken_cut(path):
+    """What FILE.cut of a ledger holds, which is taken away; none where it isn't there."""
+    try:
+        with open(path + ".cut", "rb") as file:
+            held = file.read()
+        os.remove(path + ".cut")
+        return held
+    except FileNotFoundError:
+        return None
+
+
 def main():
     seed = int(sys.argv[1]) if len(sys.argv) > 1 else 1
     count = int(sys.argv[2]) if len(sys.argv) > 2 else 1_000

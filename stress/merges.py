@@ -11,7 +11,7 @@ import subprocess
 import sys
 import tempfile
 
-from ledgers import damage, older, whole
+from ledgers import cut_off, damage, older, taken_cut, whole
 from oracle import answer, printed
 from records import PROGRAM
 from tree import HEADER, Loaded
@@ -93,6 +93,9 @@ def compare_retry(rng, ledgers, folder, counts):
         after = file.read()
     if not after.startswith(kept):
         return f"retry of {text!r}: the ledger is {after!r}"
+    cut = taken_cut(path)
+    if cut != cut_off(text, kept):
+        return f"retry of {text!r}: {path}.cut is {cut!r}"
     tried = [line.split(b" ")[0].decode() for line in after[len(kept):].split(b"\n")[:-1]]
     if tried != [table for table in holdouts if table in tried]:
         return f"retry of {text!r}: {tried!r} of {holdouts!r}"

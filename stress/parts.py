@@ -12,7 +12,7 @@ import subprocess
 import sys
 import tempfile
 
-from ledgers import damage, older, whole
+from ledgers import cut_off, damage, older, taken_cut, whole
 from merges import undecided, written
 from oracle import answer, printed, read_table
 from records import PROGRAM
@@ -144,6 +144,9 @@ def compare_settle(rng, texts, folder, counts):
         return None if (told, after) == (("", ledger.fault, 1), texts[name]) else f"settle of {texts[name]!r}: {told!r}"
     if not after.startswith(ledger.kept):
         return f"settle of {texts[name]!r}: the ledger is {after!r}"
+    cut = taken_cut(path)
+    if cut != cut_off(texts[name], ledger.kept):
+        return f"settle of {texts[name]!r}: {path}.cut is {cut!r}"
     lines = after[len(ledger.kept):].split(b"\n")
     for line in lines[:-1]:
         first = min(ledger.board.open, default="").encode()

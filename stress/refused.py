@@ -4,8 +4,8 @@
 stress/refused.py: each command of `bb` on a small input, with its Nth request refused; once that request alone, and once
 all from it on. Such a run ends as the one with ample memory does, or with 3, a beginning of the ample run's output, and
 `refused memory` behind a beginning of its standard error. Where it has a ledger, what it leaves is a beginning of the
-ample run's ledger, or what stood there; and the same command, again and with ample memory, then comes to the ample run's
-end.
+ample run's ledger, or what stood there; where it goes on with it, each whole line that stood there is in it, or in the file
+beside it that keeps what is cut off. The same command, again and with ample memory, then comes to the ample run's end.
 
 stress/refused.py --calls: the calls of the crates below, by the programs of `crates/record_rows` and `crates/node_rows`,
 which make those of `calls.rows` again where they are refused: all rows are kept, whichever one request is refused. Of the
@@ -50,6 +50,7 @@ ONE = b"bb-ledger 1 ------\n------ H 1\n0RA--- T 0 1 R\n1RA--- U\n"
 FIRST = b"bb-ledger 1 ------_------\n------_------ H 1\n0RB---_------ H 2\n1RB---_------ U\n"
 SECOND = b"bb-ledger 1 ------_------\n------_------ H 1\n1RB---_------ H 2\n1RA---_------ T 0 1 R\n"
 
+DAMAGED = b"bb-ledger 2 ------\n------ H 1 1\n0RA--- T 0 1 R\r\n1RA--- U\n1RA--- T 0 1 R\ntorn"
 TRUNK = b"bb-ledger 2 ------\n------ H 1 1\n"
 PARTS = {
     "trunk.ledger": TRUNK,
@@ -84,6 +85,14 @@ COMMANDS = [
     (["merge", "first", "second", "first"], b"", {"first": FIRST, "second": SECOND}, "first"),
     (["carry", "first", "out"], b"", {"first": FIRST}, "out"),
     (["carry", "first", "first"], b"", {"first": FIRST}, "first"),
+    (["mend", "damaged", "out"], b"", {"damaged": DAMAGED}, "out"),
+    (["mend", "damaged", "damaged"], b"", {"damaged": DAMAGED}, "damaged"),
+    (["mend", "-", "out"], DAMAGED, {"out": ONE}, "out"),
+    (["retry", "damaged"], b"", {"damaged": DAMAGED}, "damaged"),
+    (["run", "1", "--ledger", "damaged"], b"", {"damaged": DAMAGED}, "damaged"),
+    (["coord", "1", "--ledger", "damaged"], FRAMES, {"damaged": DAMAGED}, "damaged"),
+    (["settle", "damaged"], b"", {"damaged": DAMAGED, "damaged.cut": b"what was cut before\n"}, "damaged"),
+    (["split", "1", ".", "--filled", "2"], b"", {"trunk.ledger": DAMAGED}, "trunk.ledger"),
     (["split", "2", ".", "--filled", "1"], b"", {}, "trunk.ledger"),
     (["split", "1", ".", "--filled", "2"], b"", {"trunk.ledger": TRUNK + b"0RA"}, "trunk.ledger"),
     (["split", "1", ".", "--filled", "0"], b"", PARTS, "trunk.ledger"),
@@ -92,6 +101,9 @@ COMMANDS = [
     (["join", ".", "--ledger", "out"], b"", PARTS, "out"),
     (["join", ".", "--json", "--ledger", "out"], b"", {**PARTS, "out": ONE}, "out"),
 ]
+
+# These go on with their ledger, and keep what they cut off it.
+CUT = ("coord", "retry", "run", "settle", "split")
 
 # What these print hangs on what was done before.
 SAY_WHAT_THEY_DID = ("coord", "settle")
@@ -146,6 +158,9 @@ def wrong(command, folder, refusing, ample, ample_ledger):
         left, before = read(folder, ledger), files.get(ledger)
         if left != before and (left is None or not ample_ledger.startswith(left)):
             return f"left the ledger {left!r}", refused, False
+        kept = (left or b"") + (read(folder, ledger + ".cut") or b"")
+        if words[0] in CUT and before and not set(before.split(b"\n")[:-1]) <= set(kept.split(b"\n")):
+            return f"lost lines of {before!r}: {kept!r}", refused, False
         again, _ = run(words, given, folder)
         is_end = again.returncode == ample.returncode and read(folder, ledger) == ample_ledger
         if not is_end or (words[0] not in SAY_WHAT_THEY_DID and again.stdout != ample.stdout):

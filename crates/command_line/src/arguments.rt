@@ -44,6 +44,10 @@ mod rows {
     pub(crate) const OLD: Text = Text { name: "IN", value: None, help: "The ledger file, of either version" };
     pub(crate) const CARRIED: Text = Text { name: "OUT", value: None,
         help: "The ledger file that is written; it may be the same" };
+    pub(crate) const DAMAGED: Text = Text { name: "IN", value: None,
+        help: "The ledger file, of either version, or `-` for standard input" };
+    pub(crate) const MENDED: Text = Text { name: "OUT", value: None,
+        help: "The ledger file that is written; it may be the same" };
     pub(crate) const LEDGER: Text = Text { name: "ledger", value: Some("FILE"),
         help: "The ledger file, which is created where it isn't there; none is kept without it" };
     pub(crate) const JOINED: Text = Text { name: "ledger", value: Some("OUT"), help: "Write the one ledger too" };

@@ -1,7 +1,8 @@
 // The commands, a row each.
 use crate::arguments::*;
 use crate::help::{
-    CARRY, COORD, DECIDE, DRAW, JOIN, LOOP, MERGE, PAGE, RECORDS, REPORT, RETRY, RUN, SETTLE, SPLIT,
+    CARRY, COORD, DECIDE, DRAW, JOIN, LOOP, MEND, MERGE, PAGE, RECORDS, REPORT, RETRY, RUN, SETTLE,
+    SPLIT,
 };
 use crate::words::Argument::{self, Flag, Number, Text};
 
@@ -27,7 +28,7 @@ pub(crate) const SEARCH: [Argument; 5] = [
 ];
 
 #[rattlefmt::skip]
-pub(crate) const COMMANDS: [CommandWords; 14] = [
+pub(crate) const COMMANDS: [CommandWords; 15] = [
     CommandWords { name: "check", searches: false, after_help: RECORDS,
         about: "Checks a record a line on standard input, and prints an answer a line.",
         arguments: &[] },
@@ -54,6 +55,9 @@ pub(crate) const COMMANDS: [CommandWords; 14] = [
     CommandWords { name: "carry", searches: false, after_help: CARRY,
         about: "Writes a ledger as one of version 2, with the scores of the tables that halt.",
         arguments: &[Text(OLD), Text(CARRIED)] },
+    CommandWords { name: "mend", searches: false, after_help: MEND,
+        about: "Writes what can be kept of a damaged ledger, whatever line is spoilt.",
+        arguments: &[Text(DAMAGED), Text(MENDED)] },
     CommandWords { name: "split", searches: true, after_help: SPLIT,
         about: "Cuts the tree of all machines of N states into a trunk and parts, ledgers of their own.",
         arguments: &[Number(STATES), Text(FOLDER), Number(FILLED)] },

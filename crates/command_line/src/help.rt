@@ -69,7 +69,8 @@ Exit status: as of `bb run`; 4 where a socket failed too (`refused 603`). A ledg
 
 pub(crate) const RETRY: &str =
     "Holdouts are tables that are recorded without a verdict. Each is looked at again, as by `bb decide`, and a
-record with a verdict is appended to FILE. What follows the last line that can be kept is cut off first.
+record with a verdict is appended to FILE. What follows the last line that can be kept is cut off first; but for a
+torn last line it is kept in FILE.cut, and `bb mend` reads it.
 What becomes open below a settled table stays open: `bb run --ledger FILE` goes on with it.
 
 Exit status: 0 the report says complete; 1 it doesn't, or the ledger was refused (`refused 404` no header
@@ -95,6 +96,20 @@ comes the line `carried R halting H`: how many records there are, and how many o
 halts; and `left LINE`, as by `bb report`, where not all of IN could be kept.
 
 Exit status: 0 all was kept; 1 it wasn't, or the ledger was refused (`refused 404` no header with a readable
+table, `refused 405` its table doesn't name its states in order); 2 a wrong command line; 3 out of memory
+(`refused memory`); 4 a file couldn't be read (`refused 605`) or written (`refused 604`), or a stream failed
+(`refused 603`), or another process writes OUT (`refused 606`).";
+
+pub(crate) const MEND: &str =
+    "Each line of IN behind its header is read by itself and offered in turn, and OUT gets the records that are taken, as a
+ledger of version 2: so a line that is spoilt costs itself and the tables below its own, and none behind it. Then comes
+the line `mended R dropped D`: how many records OUT has, and how many lines weren't taken.
+Commands that cut a damaged ledger keep what they cut off in a file beside it, FILE.cut.
+
+  bb mend damaged.ledger whole.ledger
+  cat FILE FILE.cut | bb mend - whole.ledger
+
+Exit status: 0 each line was taken; 1 one wasn't, or the ledger was refused (`refused 404` no header with a readable
 table, `refused 405` its table doesn't name its states in order); 2 a wrong command line; 3 out of memory
 (`refused memory`); 4 a file couldn't be read (`refused 605`) or written (`refused 604`), or a stream failed
 (`refused 603`), or another process writes OUT (`refused 606`).";
@@ -135,8 +150,8 @@ another process writes the trunk (`refused 606`).";
 
 pub(crate) const SETTLE: &str =
     "The first open table in the order of the texts is looked at, as by `bb decide`, and its record is appended, until
-none is open. What follows the last line that can be kept is cut off first. It can be stopped at any time, and goes
-on where it was. Then comes the line `settled R holdouts H`: how many records came, and how many tables of the
+none is open. What follows the last line that can be kept is cut off first; but for a torn last line it is kept in
+FILE.cut, and `bb mend` reads it. It can be stopped at any time, and goes on where it was. Then comes the line `settled R holdouts H`: how many records came, and how many tables of the
 ledger are recorded without a verdict.
 
 Exit status: 0 no table is open, with or without holdouts; 1 the ledger was refused (`refused 404` no header with a
@@ -149,7 +164,7 @@ pub(crate) const JOIN: &str =
 there counts as an open table. What is wrong with a part is said on standard error behind its path, and its records
 count as far as they are kept: `missing`, `left LINE` as by `bb report`, `refused 404` no header with a readable table,
 `refused 405` its table doesn't name its states in order, `refused 406` its root is another table than its name says.
-With --ledger the one ledger is written too.
+With --ledger the one ledger is written too; it must be none of the folder's (`refused 408`).
 
 Exit status: 0 the report says complete, and all was kept; 1 it doesn't, or a ledger was refused; 2 a wrong command
 line; 3 out of memory (`refused memory`); 4 a file couldn't be read (`refused 605`) or written (`refused 604`), or a
@@ -186,6 +201,8 @@ A record is a table in the bbchallenge standard format, a space and a certificat
               two automata, by which the run never comes to a halt; the first has m states, from 1 to 16, and
               goes where the digits of delta say; rows and keep are sets of states of the second, in hexadecimal
   U           nothing is claimed
+An entry to Z or H, as in 1RB1LB_1LA0RZ, is an undefined entry, as `---` is: it halts, what it would write isn't looked
+at, and the score counts a one there (1RB1LB_1LA0RZ H 6 4 is right).
 
 An answer is one of
   TABLE halts K      the certificate stands: the table halts in K steps

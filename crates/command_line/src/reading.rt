@@ -13,7 +13,7 @@ use crate::words::Number;
 use clap::error::ErrorKind;
 use clap::{ArgMatches, Error};
 use options::{
-    Beginning, Carrying, Drawing, Durability, Joining, LedgerFile, Merging, NoMemory, Options,
+    Beginning, Carrying, Drawing, Durability, Joining, LedgerFile, Mending, Merging, NoMemory, Options,
     Search, Settling, Splitting,
 };
 use std::alloc::Global;
@@ -47,6 +47,7 @@ fn asked<'a>(name: &str, command: &ArgMatches<'a>) -> Result<Options<'a>, LineFa
         "retry" => retry_options(command),
         "merge" => Ok(merge_options(command)),
         "carry" => Ok(carry_options(command)),
+        "mend" => Ok(mend_options(command)),
         "split" => split_options(command),
         "settle" => settle_options(command),
         "join" => Ok(join_options(command)),
@@ -208,6 +209,15 @@ fn carry_options<'a>(carry: &ArgMatches<'a>) -> Options<'a>
     Options::Carry(Carrying {
         ledger: carry.get_str(OLD.name).unwrap_or_default(),
         out: carry.get_str(CARRIED.name).unwrap_or_default(),
+    })
+}
+
+fn mend_options<'a>(mend: &ArgMatches<'a>) -> Options<'a>
+    ensures { AreWithinRanges result }
+{
+    Options::Mend(Mending {
+        ledger: mend.get_str(DAMAGED.name).unwrap_or_default(),
+        out: mend.get_str(MENDED.name).unwrap_or_default(),
     })
 }
 

@@ -9,8 +9,8 @@ use std::alloc::Global;
 use std::io::{Read, Write};
 use std::time::Clock;
 
-/// Does what is asked for: `bb check`, `bb decide`, `bb draw` and `bb coord` read `input`, and so do `bb report -` and
-/// `bb page -`. The answer goes to `answers`, and what ends the command early to `faults`. Each end is an `Outcome`: want of
+/// Does what is asked for: `bb check`, `bb decide`, `bb draw` and `bb coord` read `input`, and so do `bb report -`,
+/// `bb page -` and `bb mend -`. The answer goes to `answers`, and what ends the command early to `faults`. Each end is an `Outcome`: want of
 /// memory and a stream or a file that fails too.
 pub fn carry_out<H: PartsHost + Clock + Sockets, R: Read, W: Write, E: Write>(
     alloc: Global,
@@ -40,6 +40,7 @@ pub fn carry_out<H: PartsHost + Clock + Sockets, R: Read, W: Write, E: Write>(
         }
         Options::Merge(merging) => ledgers::merge(alloc, merging, host, answers, faults),
         Options::Carry(carrying) => ledgers::carry(alloc, carrying, host, answers, faults),
+        Options::Mend(mending) => ledgers::mend(alloc, mending, host, input, answers, faults),
         Options::Report { file, json, why } => {
             ledgers::report(alloc, file, json, why, host, input, answers, faults)
         }

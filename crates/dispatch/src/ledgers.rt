@@ -1,4 +1,4 @@
-// `bb retry`, `bb merge`, `bb carry` and `bb report`.
+// `bb retry`, `bb merge`, `bb carry`, `bb mend` and `bb report`.
 use crate::any_finder::all_finders;
 use cert::{Decider, Finders};
 use json_report::Form;
@@ -6,7 +6,8 @@ use ledger_commands::{
     Host, LedgerAt, cmd_carry, cmd_merge, cmd_report, cmd_report_stream, cmd_retry, opened,
     opened_to_end,
 };
-use options::{Carrying, Ended, LedgerFile, Merging, Outcome, Search};
+use mend_command::{cmd_mend, cmd_mend_stream};
+use options::{Carrying, Ended, LedgerFile, Mending, Merging, Outcome, Search};
 use part_commands::{PartsHost, lock_ledger};
 use std::alloc::Global;
 use std::io::{Read, Write};
@@ -75,6 +76,24 @@ pub(crate) fn carry<H: PartsHost, W: Write, E: Write>(
 ) -> Outcome {
     match lock_ledger(host, carrying.out) {
         Ok(_lock) => cmd_carry(alloc, carrying, host, answers, faults),
+        Err(ended) => ended.told(faults),
+    }
+}
+
+// `bb mend`, of a file or of `input`.
+pub(crate) fn mend<H: PartsHost, R: Read, W: Write, E: Write>(
+    alloc: Global,
+    mending: Mending<'_>,
+    host: &H,
+    input: &mut R,
+    answers: &mut W,
+    faults: &mut E,
+) -> Outcome {
+    match lock_ledger(host, mending.out) {
+        Ok(_lock) if mending.ledger == STANDARD_INPUT => {
+            cmd_mend_stream(alloc, mending.out, host, input, answers, faults)
+        }
+        Ok(_lock) => cmd_mend(alloc, mending, host, answers, faults),
         Err(ended) => ended.told(faults),
     }
 }

@@ -6,11 +6,12 @@ use Rattle.std.proofs.lemmas.List.Elements.{All-append, All-nil}
 use Rattle.text.specs.Lines.{joined, HasNoNewline, BeginsWithLine, BoundedLine, bounded_line, with_more}
 use Rattle.options.specs.declared.outcome.Outcome.{Outcome}
 use Rattle.options.specs.declared.outcome.Outcome.TheVariants.{Accepted, Refused, BadLine, NoMemory, Failed}
-use Rattle.line_commands.specs.Stream.{AnswersStream, AreLines, AreAnswered, first_fault}
+use Rattle.line_taking.specs.Lines.{AreLines, AreOneLineEach}
+use Rattle.line_commands.specs.Stream.{AnswersStream, AreAnswered, first_fault}
 use Rattle.line_commands.proofs.Answering.{appended, appended_none, consumed, consumed_none}
 use Rattle.draw_command.specs.Said.{AreTakenBy, TakesStream}
 use Rattle.draw_command.specs.Files.{AnswersAlone}
-use Rattle.draw_command.specs.inside.{AreOneLineEach, HasTaken, IsUnderWay, TakesPiece}
+use Rattle.draw_command.specs.inside.{HasTaken, IsUnderWay, TakesPiece}
 
 fault_assoc : (a b c : Outcome) → first_fault a (first_fault b c) ≡ first_fault (first_fault a b) c
 fault_assoc Accepted b c = refl

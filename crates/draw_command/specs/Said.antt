@@ -2,7 +2,8 @@
 use Rattle.std.specs.Prelude.{◌≡◌, ◌⊎◌, ℕ, List, [], ◌∷◌, ◌++◌, Option}
 use Rattle.std.specs.Io.KnownBytes.{Consumes, Appends, IsAtEnd}
 use Rattle.text.specs.Lines.{BoundedLine, bounded_line}
-use Rattle.line_commands.specs.Stream.{AreLines, first_fault}
+use Rattle.line_taking.specs.Lines.{AreLines}
+use Rattle.line_commands.specs.Stream.{first_fault}
 use Rattle.options.specs.declared.ended.Ended.{Ended}
 use Rattle.options.specs.declared.ended.Ended.TheVariants.{Stream, File, NoMemory as WantsMemory}
 use Rattle.options.specs.declared.outcome.Outcome.{Outcome}

@@ -1,14 +1,10 @@
 -- For the code: how far a stream has been taken.
-use Rattle.std.specs.Prelude.{◌≡◌, ℕ, List, [], ◌∷◌, ◌++◌, Option, ⊤}
+use Rattle.std.specs.Prelude.{◌≡◌, ℕ, List, ◌++◌, Option}
 use Rattle.std.specs.Io.KnownBytes.{Consumes, Appends, IsAtEnd}
 use Rattle.text.specs.Lines.{HasNoNewline, joined, BoundedLine, bounded_line}
 use Rattle.options.specs.declared.outcome.Outcome.{Outcome}
+use Rattle.line_taking.specs.Lines.{AreOneLineEach}
 use Rattle.draw_command.specs.Said.{AreTakenBy, TakesStream}
-
--- each of these is one line
-abbrev pub AreOneLineEach : List (List ℕ) → Type 0
-AreOneLineEach [] = ⊤
-AreOneLineEach (line ∷ lines) = HasNoNewline line × AreOneLineEach lines
 
 -- of this text the whole lines are taken, and what stands behind them is kept
 pub record HasTaken {D : Type 0} (Takes : D → BoundedLine → Outcome → D → List ℕ → Type 0) (start : D) (held : Option (List ℕ)) (text : List ℕ) (bounded : BoundedLine) (o : Outcome) (now : D) (new_held : Option (List ℕ)) : Type 0 where

@@ -1,5 +1,5 @@
 -- The first bytes of a reader, and the header that they have.
-use Rattle.std.proofs.Common.{◌≡◌, ◌≢◌, ℕ, ◌+◌, ◌-◌, ◌≤◌, ◌⊎◌, true, false, List, [], ◌++◌, length, take, Option, None, Some, Ok, Err, inl, inr, refl, sym, ap, ◌∙◌, subst, arith, append-nil, length-append, length-take, take_all, get_or}
+use Rattle.std.proofs.Common.{◌≡◌, ◌≢◌, ℕ, ◌+◌, ◌-◌, ◌≤◌, ◌⊎◌, List, [], ◌++◌, length, take, Option, None, Some, Ok, Err, inl, inr, refl, sym, ap, ◌∙◌, subst, arith, append-nil, length-append, length-take, take_all, get_or}
 use Rattle.std.proofs.Math.Seq.{take-append-add}
 use Rattle.std.proofs.lemmas.List.{take-append-le, take_at, get_or_at, get_or_append_left}
 use Rattle.std.proofs.lemmas.Bool.{cases_lt}
@@ -12,7 +12,6 @@ use Rattle.ledger.specs.LedgerText.{BeginsAsHeader, IsTornHeader, HasHeader, Has
 use Rattle.ledger.specs.Contents.{Contents}
 use Rattle.ledger.specs.declared.left.Left.{Left}
 use Rattle.ledger.specs.Loading.{header_start}
-use Rattle.ledger.specs.declared.format.Format.{Format}
 use Rattle.ledger.proofs.FirstLines.{header_limit, header_short, begun_whole, begun_start}
 use Rattle.ledger.proofs.Feeding.{longer_text, header_more}
 use Rattle.ledger.proofs.HeaderLaws.{none_begun, none_named, is_named}
@@ -21,10 +20,10 @@ use Rattle.ledger.specs.declared.faults.LoadFault.TheVariants.{BadHeader, WrongR
 use Rattle.options.specs.declared.ended.Ended.{Ended}
 use Rattle.options.specs.declared.ended.Ended.TheVariants.{BadHeader as HeaderEnds, WrongRoot as OtherRoot, Stream, Ledger, File, HasPart, OutInFolder, Locked, NoMemory as WantsMemory}
 use Rattle.ledger_commands.specs.Faults.{ended_by_load}
-use Rattle.ledger_commands.specs.Reading.{AreFirstBytes, EndsReading, EndsReadingOf, IsLoadedFrom}
-use Rattle.ledger_commands.specs.inside.{BeginsReading, BeginsWithRoot, EndsBehindHeader}
-use Rattle.ledger_commands.specs.declared.reading.Stopped.{Stopped}
-use Rattle.ledger_commands.specs.declared.reading.Stopped.TheVariants.{Failed, Ended as EndedBy}
+use Rattle.ledger_commands.specs.Reading.{AreFirstBytes, BeginsWithRoot, EndsBehindHeader, EndsReading, EndsReadingOf, IsLoadedFrom}
+use Rattle.ledger_commands.specs.inside.{BeginsReading}
+use Rattle.options.specs.declared.stopped.Stopped.{Stopped}
+use Rattle.options.specs.declared.stopped.Stopped.TheVariants.{Failed, Ended as EndedBy}
 use Rattle.ledger_commands.proofs.LedgerReports.{one_header}
 
 -- as many as there are, up to the limit, are the first ones

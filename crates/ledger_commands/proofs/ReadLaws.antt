@@ -15,8 +15,7 @@ use Rattle.ledger.specs.declared.faults.LoadFault.{LoadFault}
 use Rattle.ledger.proofs.Feeding.{header_more}
 use Rattle.ledger.proofs.Same.{same_is}
 use Rattle.ledger.proofs.StageLaws.{fed_more}
-use Rattle.ledger_commands.specs.Reading.{AreFirstBytes, IsLoadedFrom}
-use Rattle.ledger_commands.specs.inside.{BeginsWithRoot}
+use Rattle.ledger_commands.specs.Reading.{AreFirstBytes, BeginsWithRoot, IsLoadedFrom}
 use Rattle.ledger_commands.proofs.FirstBytes.{all_first, is_loaded}
 use Rattle.ledger_commands.proofs.Joining.{load_taken}
 

@@ -5,11 +5,11 @@ ghost use Rattle.ledger_commands.specs.Reading.{AreFirstBytes, EndsReading};
 ghost use Rattle.ledger_commands.specs.Report.{IsReport};
 
 use crate::board_report::report;
-use crate::reading::{Opened, Stopped, load_from};
+use crate::reading::{Opened, load_from};
 use crate::report_form::{ReportForm, write_report};
 use crate::report_writer::append_left;
 use ledger::{Board, Left, Status, Unkept};
-use options::{Ended, Outcome};
+use options::{Ended, Outcome, Stopped};
 use std::alloc::Global;
 use std::io::{self, Read, Write};
 

@@ -35,11 +35,11 @@ pub use ledger_report::{
     cmd_report, cmd_report_stream, outcome_by, report_ledger, write_ledger_report,
 };
 pub use merge::{cmd_merge, join, join_into};
-pub use reading::{Opened, Stopped, load_from};
+pub use reading::{MAX_HEADER_BYTES, Opened, begin_reading, load_from};
 pub use report_form::{AsLines, ReportForm, write_report, write_told};
 pub use report_writer::{LineReport, pass};
 pub use retry::{cmd_retry, retry_holdouts};
-pub use rewriting::Place;
+pub use rewriting::{Place, write_whole};
 pub use source::LedgerSource;
 pub use told::Told;
 pub use tree_reports::complete_boards_report_their_tree;

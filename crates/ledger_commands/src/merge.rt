@@ -5,13 +5,13 @@ ghost use Rattle.ledger_commands.specs.Reading.{AreFirstBytes, EndsReadingOf};
 
 use crate::faults::by_merge;
 use crate::host::Host;
-use crate::reading::{Stopped, load_of};
+use crate::reading::load_of;
 use crate::report_writer::append_left;
 use crate::rewriting::{Place, outcome_of_left, write_whole};
 use crate::source::{AtPath, LedgerSource, load_source};
 use evidence::NoMemory;
 use ledger::{Board, Left, Tally};
-use options::{Ended, Merging, Outcome};
+use options::{Ended, Merging, Outcome, Stopped};
 use std::alloc::Global;
 use std::io::{Read, Write};
 use text::append_number;

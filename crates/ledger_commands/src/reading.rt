@@ -7,14 +7,13 @@ ghost use Rattle.tree.specs.Used.{InOrder};
 ghost use Rattle.ledger.specs.Limits.{header_byte_limit};
 ghost use Rattle.ledger.specs.LedgerText.{HasHeader, ReadsIn};
 ghost use Rattle.ledger.specs.Loading.{IsFed};
-ghost use Rattle.ledger_commands.specs.Reading.{AreFirstBytes, EndsReading, EndsReadingOf, IsLoadedFrom};
-ghost use Rattle.ledger_commands.specs.inside.{BeginsReading, BeginsWithRoot, EndsBehindHeader};
+ghost use Rattle.ledger_commands.specs.Reading.{AreFirstBytes, BeginsWithRoot, EndsBehindHeader, EndsReading, EndsReadingOf, IsLoadedFrom};
+ghost use Rattle.ledger_commands.specs.inside.{BeginsReading};
 
 use crate::faults::by_load;
-use evidence::NoMemory;
 use ledger::{Board, Left, Loader, ReadStop, peek_root};
 use machine_text::Table;
-use options::Ended;
+use options::{Ended, Stopped};
 use std::alloc::Global;
 use std::io::{self, Read};
 use text::first_line;
@@ -26,66 +25,8 @@ pub struct Opened<R> {
     pub length: u64,
 }
 
-/// What ends a command that reads a ledger before its work is done.
-#[derive(Debug, Drop)]
-pub enum Stopped {
-    /// A read failed.
-    Failed(io::Error),
-    /// Anything else.
-    Ended(Ended),
-}
-
-impl Stopped {
-    /// What ends a command that only reads the ledger.
-    pub fn by_file(self) -> Ended {
-        match self {
-            Stopped::Failed(fault) => Ended::by_file(&fault),
-            Stopped::Ended(ended) => ended,
-        }
-    }
-
-    /// What ends a command that reads the ledger from a stream.
-    pub fn by_stream(self) -> Ended {
-        match self {
-            Stopped::Failed(fault) => Ended::from(fault),
-            Stopped::Ended(ended) => ended,
-        }
-    }
-
-    /// What ends a command that would write the ledger.
-    pub fn by_ledger(self) -> Ended {
-        match self {
-            Stopped::Failed(fault) => Ended::by_ledger(&fault),
-            Stopped::Ended(ended) => ended,
-        }
-    }
-}
-
-impl From<Ended> for Stopped {
-    ghost use Rattle.std.specs.Prelude.{◌≡◌};
-    ghost use Rattle.ledger_commands.specs.declared.reading.Stopped.TheVariants.{Ended as EndedBy};
-
-    ghost from_gives = { λ ended e. e ≡ EndedBy ended };
-
-    fn from(ended: Ended) -> Stopped {
-        Stopped::Ended(ended)
-    }
-}
-
-impl From<NoMemory> for Stopped {
-    ghost use Rattle.std.specs.Prelude.{◌≡◌};
-    ghost use Rattle.options.specs.declared.ended.Ended.TheVariants.{NoMemory};
-    ghost use Rattle.ledger_commands.specs.declared.reading.Stopped.TheVariants.{Ended as EndedBy};
-
-    ghost from_gives = { λ _ e. e ≡ EndedBy NoMemory };
-
-    fn from(_: NoMemory) -> Stopped {
-        Stopped::Ended(Ended::NoMemory)
-    }
-}
-
-// More bytes than a header has.
-const MAX_HEADER_BYTES: usize = 64;
+/// More bytes than a ledger's header has.
+pub const MAX_HEADER_BYTES: usize = 64;
 
 /// The board of the ledger that a reader has in its first bytes, with the root that it names, and what of it wasn't
 /// kept. No more than a piece of the text is in memory.
@@ -96,7 +37,7 @@ pub fn load_from<R: Read>(alloc: Global, from: &mut R, limit: u64) -> Result<(Bo
     let mut buffer = [0; MAX_HEADER_BYTES];
     let room = limit.min(MAX_HEADER_BYTES as u64) as usize;
     let begun = &mut buffer[..room];
-    let (root, len) = begin(from, limit, begun)?;
+    let (root, len) = begin_reading(from, limit, begun)?;
     load_behind(alloc, root, &begun[..len], from, limit - len as u64)
 }
 
@@ -114,15 +55,20 @@ pub(crate) fn load_of<R: Read>(
     let mut buffer = [0; MAX_HEADER_BYTES];
     let room = limit.min(MAX_HEADER_BYTES as u64) as usize;
     let begun = &mut buffer[..room];
-    let (found, len) = begin(from, limit, begun)?;
+    let (found, len) = begin_reading(from, limit, begun)?;
     if found != root {
         return Err(Stopped::Ended(Ended::WrongRoot));
     }
     load_behind(alloc, root, &begun[..len], from, limit - len as u64)
 }
 
-// Reads the first bytes of a ledger into a buffer. Answers the root that they name, and how many they are.
-fn begin<R: Read>(from: &mut R, limit: u64, buffer: &mut [u8]) -> Result<(Table, usize), Stopped>
+/// Reads the first bytes of a ledger into a buffer, which has room for `MAX_HEADER_BYTES` of them or for all up to the
+/// limit. Answers the root that they name, and how many they are: its header is among them. It never wants memory.
+pub fn begin_reading<R: Read>(
+    from: &mut R,
+    limit: u64,
+    buffer: &mut [u8],
+) -> Result<(Table, usize), Stopped>
     requires { length buffer.old ≡ min limit header_byte_limit }
     ensures ok { IfOk result (λ b. (b.1 ≤ length buffer.new) × BeginsWithRoot (R.remaining from.old) (R.remaining from.new) limit (take b.1 buffer.new) b.0) }
     ensures err { IfErr result (EndsReading (R.remaining from.old) limit) }

@@ -13,12 +13,12 @@ ghost use Rattle.ledger_commands.specs.Retry.{SettlesOrStays, StaysInStep, AtSom
 
 use crate::ledger_changes::{append_to, cut_to};
 use crate::ledger_report::outcome_by;
-use crate::reading::{Opened, Stopped, load_from};
+use crate::reading::{Opened, load_from};
 use crate::report_form::{AsLines, write_report};
 use cert::{Decider, Record};
 use ledger::{Board, Left, Taken, kept_bytes_load};
 use machine_text::Table;
-use options::{Ended, Outcome};
+use options::{Ended, Outcome, Stopped};
 use std::alloc::Global;
 use std::io::{self, Read, Write};
 use wire::LedgerOut;

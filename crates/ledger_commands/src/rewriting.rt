@@ -107,12 +107,9 @@ pub(crate) fn outcome_of_left(left: &Left) -> Outcome {
     }
 }
 
-// Makes a ledger hold a board's ledger, and nothing else.
-pub(crate) fn write_whole<L: LedgerOut>(
-    alloc: Global,
-    board: &Board,
-    ledger: &mut L,
-) -> Result<(), Ended>
+/// Makes a ledger hold a board's ledger, of version 2, and nothing else. Errors: `NoMemory` where memory is refused for
+/// the text, and then the ledger is as it was; `Ledger` where it fails.
+pub fn write_whole<L: LedgerOut>(alloc: Global, board: &Board, ledger: &mut L) -> Result<(), Ended>
     ensures ok { OnOk result (L.text ledger.new ≡ rewritten board.now (L.text ledger.old)) }
     ensures err { IfErr result (λ e. ((e ≡ Ended.NoMemory) × (ledger.new ≡ ledger.old)) ⊎ (e ≡ Ended.Ledger)) }
 {

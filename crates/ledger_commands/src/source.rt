@@ -3,9 +3,9 @@ ghost use Rattle.std.specs.Prelude.{Ok, Err, IfOk, IfErr};
 ghost use Rattle.ledger_commands.specs.Merge.{IsLoaded};
 
 use crate::host::{Host, opened_to_end};
-use crate::reading::{Opened, Stopped, load_from};
+use crate::reading::{Opened, load_from};
 use ledger::{Board, Left};
-use options::Ended;
+use options::{Ended, Stopped};
 use std::alloc::Global;
 use std::io::{self, Read};
 

@@ -1,13 +1,14 @@
 -- Lines that are answered one after another, and the text of which they are the lines.
-use Rattle.std.proofs.Common.{◌≡◌, ◌≢◌, ◌⊎◌, inl, inr, ℕ, ◌≤◌, true, false, Bool, List, [], ◌∷◌, ◌++◌, length, Option, Some, None, sym, ◌∙◌, ap, subst, refl, append_assoc, append-nil, arith, length-append}
-use Rattle.std.specs.Io.KnownBytes.{Consumes, Appends, IsAtEnd}
+use Rattle.std.proofs.Common.{◌≡◌, ◌≢◌, inl, inr, ℕ, List, [], ◌∷◌, ◌++◌, Option, Some, None, sym, ◌∙◌, ap, subst, refl, append_assoc, append-nil, arith, length-append}
+use Rattle.std.specs.Io.KnownBytes.{Consumes, Appends}
 use Rattle.std.proofs.lemmas.Bool.Decides.{nat_tests}
 use Rattle.std.proofs.lemmas.List.Elements.{All-append, All-nil}
 use Rattle.text.specs.Lines.{joined, HasNoNewline, BeginsWithLine, BoundedLine, bounded_line, with_more}
 use Rattle.options.specs.declared.outcome.Outcome.{Outcome}
 use Rattle.options.specs.declared.outcome.Outcome.TheVariants.{Accepted, Refused, BadLine, NoMemory, Failed}
-use Rattle.line_commands.specs.Stream.{AreLines, AreAnswered, AnswersStream, first_fault}
-use Rattle.line_commands.specs.inside.Loop.{AreWhole, IsAnswered, IsGoingOn}
+use Rattle.line_taking.specs.Lines.{AreLines}
+use Rattle.line_commands.specs.Stream.{AreAnswered, first_fault}
+use Rattle.line_commands.specs.inside.Loop.{AreWhole, IsAnswered}
 
 fault_assoc : (a b c : Outcome) → first_fault a (first_fault b c) ≡ first_fault (first_fault a b) c
 fault_assoc Accepted b c = refl

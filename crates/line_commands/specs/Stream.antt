@@ -1,15 +1,10 @@
--- The lines of a stream, and the answers to them, one after another.
-use Rattle.std.specs.Prelude.{◌≡◌, ◌≢◌, ◌⊎◌, ℕ, List, [], ◌∷◌, ◌++◌, Option}
+-- The answers to the lines of a stream, one after another.
+use Rattle.std.specs.Prelude.{◌≡◌, ℕ, List, [], ◌∷◌, ◌++◌, Option}
 use Rattle.std.specs.Io.KnownBytes.{Consumes, Appends, IsAtEnd}
-use Rattle.text.specs.Lines.{HasNoNewline, BeginsWithLine, bounded_line}
+use Rattle.text.specs.Lines.{bounded_line}
+use Rattle.line_taking.specs.Lines.{AreLines}
 use Rattle.options.specs.declared.outcome.Outcome.{Outcome}
 use Rattle.options.specs.declared.outcome.Outcome.TheVariants.{Accepted, Refused, BadLine, NoMemory, Failed}
-
--- the lines of a text: what stands before each newline, and what stands behind the last one, where that is something
-abbrev pub AreLines : List ℕ → List (List ℕ) → Type 0
-AreLines text [] = text ≡ []
-AreLines text (line ∷ lines) =
-    ((rest : List ℕ) × BeginsWithLine text line rest × AreLines rest lines) ⊎ ((text ≡ line) × (line ≢ []) × HasNoNewline line × (lines ≡ []))
 
 -- the first of two outcomes that isn't that all was accepted
 abbrev pub first_fault : Outcome → Outcome → Outcome

@@ -1,7 +1,8 @@
 // From a stream of lines to a stream of answers.
 ghost use Rattle.std.specs.Prelude.{◌≡◌, ◌⊎◌, ◌↔◌, ◌∷◌, ◌++◌, [], List, ℕ, Option, Some, false, OnOk, IfErr};
 ghost use Rattle.std.specs.Io.KnownBytes.{Appends, IsAtEnd};
-ghost use Rattle.line_commands.specs.Stream.{AnswersStream, AreAnswered, AreLines, first_fault};
+ghost use Rattle.line_taking.specs.Lines.{AreLines};
+ghost use Rattle.line_commands.specs.Stream.{AnswersStream, AreAnswered, first_fault};
 ghost use Rattle.line_commands.specs.inside.Loop.{IsAnswered, IsGoingOn};
 
 use evidence::NoMemory;

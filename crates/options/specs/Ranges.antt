@@ -1,7 +1,7 @@
 -- The ranges of the options' numbers.
 use Rattle.std.specs.Prelude.{◌≡◌, ◌≤◌, None, IfSome}
 use Rattle.options.specs.declared.options.Options.{Options}
-use Rattle.options.specs.declared.options.Options.TheVariants.{Check, Decide, Coord, Run, Loop, Retry, Merge, Carry, Split, Settle, Join, Draw, Page, Report}
+use Rattle.options.specs.declared.options.Options.TheVariants.{Check, Decide, Coord, Run, Loop, Retry, Merge, Carry, Mend, Split, Settle, Join, Draw, Page, Report}
 use Rattle.options.specs.declared.options.Search.{Search}
 use Rattle.options.specs.declared.options.Beginning.{Beginning}
 use Rattle.options.specs.declared.options.Settling.{Settling}
@@ -44,6 +44,7 @@ AreWithinRanges (Loop settling ledger) = IsSettling settling × (settling.lose �
 AreWithinRanges (Retry file search) = IsWithinRange search
 AreWithinRanges (Merge merging) = Unit {0}
 AreWithinRanges (Carry carrying) = Unit {0}
+AreWithinRanges (Mend mending) = Unit {0}
 AreWithinRanges (Split splitting) = IsSplitting splitting
 AreWithinRanges (Settle file search progress) = IsWithinRange search
 AreWithinRanges (Join joining) = Unit {0}

@@ -8,10 +8,14 @@ mod ended;
 mod ledger_file;
 mod options;
 mod outcome;
+mod stopped;
 
 pub use drawing::Drawing;
 pub use ended::Ended;
 pub use ledger_file::{Durability, LedgerFile};
-pub use options::{Beginning, Carrying, Joining, Merging, Options, Search, Settling, Splitting};
+pub use options::{
+    Beginning, Carrying, Joining, Mending, Merging, Options, Search, Settling, Splitting,
+};
 pub use outcome::Outcome;
 pub use std::alloc::AllocError as NoMemory;
+pub use stopped::Stopped;

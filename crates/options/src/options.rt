@@ -42,6 +42,8 @@ pub enum Options<'a> {
     Merge(Merging<'a>),
     /// `bb carry IN OUT`
     Carry(Carrying<'a>),
+    /// `bb mend IN OUT`
+    Mend(Mending<'a>),
     /// `bb split N DIR [--filled D]` and the options of `decide`
     Split(Splitting<'a>),
     /// `bb settle FILE [--sync] [--progress]` and the options of `decide`
@@ -88,6 +90,15 @@ pub struct Merging<'a> {
 #[derive(Clone, Copy, Debug, PartialEq, Eq)]
 pub struct Carrying<'a> {
     /// The ledger that is read.
+    pub ledger: &'a str,
+    /// The ledger that is written; it may be the same.
+    pub out: &'a str,
+}
+
+/// The paths of a damaged ledger and of the one that is written, of version 2.
+#[derive(Clone, Copy, Debug, PartialEq, Eq)]
+pub struct Mending<'a> {
+    /// The path of the ledger that is read, or `-`: it is read from standard input.
     pub ledger: &'a str,
     /// The ledger that is written; it may be the same.
     pub out: &'a str,

@@ -8,8 +8,8 @@ ghost use Rattle.page.specs.Page.{IsPage};
 use crate::making::page_of;
 use crate::writing::write_made;
 use ledger::{Board, Left};
-use ledger_commands::{Stopped, load_from, outcome_by};
-use options::{Ended, Outcome};
+use ledger_commands::{load_from, outcome_by};
+use options::{Ended, Outcome, Stopped};
 use std::alloc::Global;
 use std::io::{Read, Write};
 

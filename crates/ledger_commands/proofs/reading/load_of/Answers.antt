@@ -5,9 +5,8 @@ use Rattle.ledger.specs.LedgerText.{HasHeader}
 use Rattle.ledger.specs.Records.{same_table}
 use Rattle.ledger.proofs.Same.{differ}
 use Rattle.ledger.proofs.StageLaws.{if_err}
-use Rattle.ledger_commands.specs.Reading.{EndsReadingOf}
-use Rattle.ledger_commands.specs.inside.{BeginsWithRoot}
-use Rattle.ledger_commands.specs.declared.reading.Stopped.{Stopped}
+use Rattle.ledger_commands.specs.Reading.{BeginsWithRoot, EndsReadingOf}
+use Rattle.options.specs.declared.stopped.Stopped.{Stopped}
 use Rattle.ledger_commands.proofs.FirstBytes.{begin_ends_of, behind_ends_of, other_ends}
 use Rattle.ledger_commands.proofs.ReadLaws.{if_loaded, left_behind, no_difference}
 use Rattle.ledger_commands.proofs.reading.load_of.Goals as goal
@@ -22,7 +21,7 @@ pub returns-then-ne-clause-err : goal.returns-then-ne-clause-err
 unfolding same_table
 returns-then-ne-clause-err g c =
     let begins = c.in_ok-found.ensures.ok in
-    other_ends (g.R.Read.remaining c.args.from.now) (g.R.Read.remaining c.begin.new.from) c.args.limit (take c.in_ok-found.len c.begin.new.buffer) c.in_ok-found.found begins.1 c.args.root
+    other_ends (g.R.Read.remaining c.args.from.now) (g.R.Read.remaining c.begin_reading.new.from) c.args.limit (take c.in_ok-found.len c.begin_reading.new.buffer) c.in_ok-found.found begins.1 c.args.root
     ((differ c.in_ok-found.found c.args.root c.ne.result c.ne.ensures).0 c.if-ne.true)
 
 pub load_behind-requires-clause-header : goal.load_behind-requires-clause-header
@@ -30,25 +29,25 @@ unfolding same_table
 load_behind-requires-clause-header g c =
     let begins = c.in_ok-found.ensures.ok in
     let same : c.in_ok-found.found ≡ c.args.root = no_difference c.in_ok-found.found c.args.root c.ne.result c.ne.ensures c.if-ne.false in
-    (begins.1.rest, subst (λ (p : Packed). HasHeader (take c.in_ok-found.len c.begin.new.buffer) p begins.1.rest) same begins.1.header)
+    (begins.1.rest, subst (λ (p : Packed). HasHeader (take c.in_ok-found.len c.begin_reading.new.buffer) p begins.1.rest) same begins.1.header)
 
 pub returns-clause-ok : goal.returns-clause-ok
 unfolding same_table
 returns-clause-ok g c =
     let begins = c.in_ok-found.ensures.ok in
     let same : c.in_ok-found.found ≡ c.args.root = no_difference c.in_ok-found.found c.args.root c.ne.result c.ne.ensures c.if-ne.false in
-    let first = take c.in_ok-found.len c.begin.new.buffer in
-    if_loaded (g.R.Read.remaining c.args.from.now) (g.R.Read.remaining c.begin.new.from) c.args.limit _ first c.args.root c.load_behind.result
-    (subst (λ (p : Packed). BeginsWithRoot (g.R.Read.remaining c.args.from.now) (g.R.Read.remaining c.begin.new.from) c.args.limit first p) same begins.1)
-    (left_behind c.args.limit c.in_ok-found.len c.begin.new.buffer begins.0) c.load_behind.ensures.ok
+    let first = take c.in_ok-found.len c.begin_reading.new.buffer in
+    if_loaded (g.R.Read.remaining c.args.from.now) (g.R.Read.remaining c.begin_reading.new.from) c.args.limit _ first c.args.root c.load_behind.result
+    (subst (λ (p : Packed). BeginsWithRoot (g.R.Read.remaining c.args.from.now) (g.R.Read.remaining c.begin_reading.new.from) c.args.limit first p) same begins.1)
+    (left_behind c.args.limit c.in_ok-found.len c.begin_reading.new.buffer begins.0) c.load_behind.ensures.ok
 
 pub returns-clause-err : goal.returns-clause-err
 unfolding same_table
 returns-clause-err g c =
     let begins = c.in_ok-found.ensures.ok in
     let same : c.in_ok-found.found ≡ c.args.root = no_difference c.in_ok-found.found c.args.root c.ne.result c.ne.ensures c.if-ne.false in
-    let first = take c.in_ok-found.len c.begin.new.buffer in
+    let first = take c.in_ok-found.len c.begin_reading.new.buffer in
     if_err c.load_behind.result
-    (behind_ends_of (g.R.Read.remaining c.args.from.now) (g.R.Read.remaining c.begin.new.from) c.args.limit first c.args.root
-    (subst (λ (p : Packed). BeginsWithRoot (g.R.Read.remaining c.args.from.now) (g.R.Read.remaining c.begin.new.from) c.args.limit first p) same begins.1))
+    (behind_ends_of (g.R.Read.remaining c.args.from.now) (g.R.Read.remaining c.begin_reading.new.from) c.args.limit first c.args.root
+    (subst (λ (p : Packed). BeginsWithRoot (g.R.Read.remaining c.args.from.now) (g.R.Read.remaining c.begin_reading.new.from) c.args.limit first p) same begins.1))
     c.load_behind.ensures.err

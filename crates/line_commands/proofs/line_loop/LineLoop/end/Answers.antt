@@ -1,4 +1,4 @@
-use Rattle.std.proofs.Common.{◌≡◌, true, false, sym, ◌∙◌, ap, subst, List, ℕ, ◌++◌, ◌∷◌, [], append_assoc}
+use Rattle.std.proofs.Common.{◌≡◌, true, false, sym, ◌∙◌, subst, List, ℕ, ◌++◌, ◌∷◌, []}
 use Rattle.std.proofs.lemmas.Result.{on_ok_weaker}
 use Rattle.line_commands.proofs.Answering.{nothing_left, last_answered, behind_all}
 use Rattle.line_commands.specs.inside.Loop.{IsAnswered}

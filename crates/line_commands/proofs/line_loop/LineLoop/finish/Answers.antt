@@ -1,4 +1,4 @@
-use Rattle.std.proofs.Common.{◌≡◌, List, ℕ, [], ◌++◌, sym, ◌∙◌, ap, subst, append-nil}
+use Rattle.std.proofs.Common.{◌≡◌, List, ℕ, ◌++◌, sym, ◌∙◌, ap, subst, append-nil}
 use Rattle.line_commands.specs.Stream.{AreAnswered}
 use Rattle.line_commands.specs.inside.Loop.{IsAnswered}
 use Rattle.line_commands.proofs.Answering.{appended}

@@ -1,4 +1,4 @@
-use Rattle.std.proofs.Common.{◌≡◌, List, ℕ, [], ◌++◌, sym, ◌∙◌, ap, subst, append-nil, take}
+use Rattle.std.proofs.Common.{◌≡◌, List, ℕ, ◌++◌, sym, ◌∙◌, ap, subst, append-nil, take}
 use Rattle.line_commands.specs.inside.Loop.{IsAnswered}
 use Rattle.line_commands.proofs.Answering.{appended, consumed}
 use Rattle.line_commands.proofs.line_loop.LineLoop.run.Goals as goal

@@ -1,4 +1,4 @@
-use Rattle.std.proofs.Common.{◌≡◌, List, ℕ, [], ◌∷◌, ◌++◌, Some, sym, ◌∙◌, ap, subst, append_assoc}
+use Rattle.std.proofs.Common.{◌≡◌, List, ℕ, [], ◌∷◌, ◌++◌, Some, sym, subst}
 use Rattle.text.specs.Lines.{BeginsWithLine, IsCut}
 use Rattle.line_commands.specs.Stream.{first_fault}
 use Rattle.line_commands.specs.inside.Loop.{IsAnswered}

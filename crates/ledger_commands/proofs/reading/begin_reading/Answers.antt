@@ -3,9 +3,9 @@ use Rattle.machine_text.specs.Packed.{Packed}
 use Rattle.ledger.specs.LedgerText.{PeekGives}
 use Rattle.options.specs.declared.ended.Ended.{Ended}
 use Rattle.ledger_commands.specs.Reading.{EndsReading}
-use Rattle.ledger_commands.specs.declared.reading.Stopped.TheVariants.{Ended as EndedBy}
+use Rattle.options.specs.declared.stopped.Stopped.TheVariants.{Ended as EndedBy}
 use Rattle.ledger_commands.proofs.FirstBytes.{torn_stops, peek_stops}
-use Rattle.ledger_commands.proofs.reading.begin.Goals as goal
+use Rattle.ledger_commands.proofs.reading.begin_reading.Goals as goal
 
 pub returns-in-Ok-None-clause-err : goal.returns-in-Ok-None-clause-err
 returns-in-Ok-None-clause-err g c =

@@ -1,0 +1,3 @@
+pub mod Lines
+pub mod Taken
+pub mod inside

@@ -1,0 +1,283 @@
+#!/usr/bin/env python3
+"""What might lose a ledger, on the built program with what a system has: symbolic and hard links, other spellings of a path, a
+FIFO, standard input under its path, /dev/full, a folder that can't be written, a terminal. A part of `./ci`.
+
+stress/losses.py: prints how many commands were tried, and ends with 1 at the first that answers otherwise or leaves a file
+otherwise than docs/FORMATS.md says.
+"""
+import os
+import pty
+import shutil
+import subprocess
+import sys
+import tempfile
+import threading
+
+TOP = os.path.dirname(os.path.dirname(os.path.abspath(__file__)))
+sys.path.insert(0, os.path.join(TOP, "bench"))
+from program import PROGRAM  # noqa: E402
+
+HEADER = b"bb-ledger 2 ------\n"
+ROOT, LEFT, RIGHT = b"------ H 1 1\n", b"0RA--- T 0 1 R\n", b"1RA--- T 0 1 R\n"
+WHOLE = HEADER + ROOT + LEFT + RIGHT
+SPOILT = HEADER + ROOT + LEFT[:-1] + b"\r\n" + RIGHT
+CUT = LEFT[:-1] + b"\r\n" + RIGHT
+TRUNK = HEADER + ROOT
+PARTS = {
+    "parts/trunk.ledger": TRUNK,
+    "parts/0RA---.ledger": b"bb-ledger 2 0RA---\n" + LEFT,
+    "parts/1RA---.ledger": b"bb-ledger 2 1RA---\n" + RIGHT,
+}
+REPORT = b"""root ------
+status complete
+nodes 3
+halting 1
+never 2
+holdouts 0
+open 0
+best 1
+champion ------
+ones 1
+ones_champion ------
+"""
+NOBODY = 65534
+
+
+class Room:
+    """A folder with files, in which commands are tried."""
+
+    tried, folders = 0, []
+
+    def __init__(self, files):
+        self.folder = tempfile.mkdtemp()
+        Room.folders.append(self.folder)
+        os.chmod(self.folder, 0o755)
+        for name, held in files.items():
+            self.write(name, held)
+
+    def at(self, name):
+        return os.path.join(self.folder, name)
+
+    def write(self, name, held):
+        os.makedirs(os.path.dirname(self.at(name)), exist_ok=True)
+        with open(self.at(name), "wb") as file:
+            file.write(held)
+
+    def held(self):
+        """The files and what they hold; where a link leads."""
+        found = {}
+        for top, _, names in os.walk(self.folder):
+            for name in names:
+                path = os.path.join(top, name)
+                kept = os.path.relpath(path, self.folder)
+                if os.path.islink(path):
+                    found[kept] = "-> " + os.readlink(path)
+                elif os.path.isfile(path):
+                    with open(path, "rb") as file:
+                        found[kept] = file.read()
+        return found
+
+    def run(self, words, status, answers=b"", faults=b"", given=b"", after=None, gone=(), **how):
+        """Runs a command, which ends so, says this, and leaves these files otherwise than they were, and these not at all."""
+        Room.tried += 1
+        due = {**self.held(), **(after or {})}
+        for name in gone:
+            due.pop(name, None)
+        ran = subprocess.run([PROGRAM, *words], input=given, capture_output=True, cwd=self.folder, check=False, **how)
+        told = (ran.returncode, ran.stdout, ran.stderr)
+        if told != (status, answers, faults):
+            sys.exit(f"losses: {words}: {told!r}, and not {(status, answers, faults)!r}")
+        if self.held() != due:
+            sys.exit(f"losses: {words}: leaves {self.held()!r}, and not {due!r}")
+
+    def fed(self, name, held):
+        """A FIFO that gives these bytes once."""
+        path = self.at(name)
+        if not os.path.exists(path):
+            os.mkfifo(path)
+
+        def feed():
+            with open(path, "wb") as file:
+                file.write(held)
+
+        threading.Thread(target=feed, daemon=True).start()
+        return name
+
+
+def over_what_is_read():
+    """`join` writes over none of the ledgers that it reads, whatever name leads there."""
+    refused = b"refused 408: OUT is a ledger of the folder\n"
+    room = Room(PARTS)
+    os.symlink("parts/trunk.ledger", room.at("trunk"))
+    os.symlink("parts/0RA---.ledger", room.at("part"))
+    os.symlink("part", room.at("twice"))
+    os.link(room.at("parts/1RA---.ledger"), room.at("second"))
+    names = ["parts/trunk.ledger", "parts/0RA---.ledger", "./parts//1RA---.ledger", "parts/../parts/trunk.ledger", room.at("parts/trunk.ledger")]
+    for name in [*names, "trunk", "part", "twice", "second"]:
+        room.run(["join", "parts", "--ledger", name], 1, faults=refused)
+        room.run(["join", "--json", "parts", "--ledger", name], 1, faults=refused)
+    # the name of the new file beside OUT may be a link to what is read: it is removed, and never written to
+    for name in PARTS:
+        os.link(room.at(name), room.at("out.new"))
+        room.run(["join", "parts", "--ledger", "out"], 0, REPORT, after={"out": WHOLE}, gone=["out.new"])
+        os.symlink(name, room.at("out.new"))
+        room.run(["join", "parts", "--ledger", "out"], 0, REPORT, after={"out": WHOLE}, gone=["out.new"])
+
+
+def beside_out():
+    """The file beside OUT is none that is read; OUT may be one."""
+    room = Room({"a": TRUNK, "a.new": HEADER + ROOT + LEFT, "b": HEADER + ROOT + RIGHT})
+    merged = b"merged 2 open 1 holdouts 0\n"
+    for name in ("a.new", "./a.new", room.at("a.new")):
+        room.run(["merge", "a", name, "a"], 0, merged, after={"a": HEADER + ROOT + LEFT})
+        room.run(["merge", name, "a", "a"], 0, merged)
+        room.run(["carry", name, "a"], 0, b"carried 2 halting 1\n")
+        room.run(["mend", name, "a"], 0, b"mended 2 dropped 0\n")
+    with open(room.at("a.new"), "rb") as file:
+        room.run(["mend", "-", "a"], 0, b"mended 2 dropped 0\n", stdin=file)
+    os.link(room.at("b"), room.at("out.new"))
+    room.run(["merge", "a", "b", "out"], 0, b"merged 3 open 0 holdouts 0\n", after={"out": WHOLE})
+    if not os.path.samefile(room.at("b"), room.at("out.new")):
+        sys.exit("losses: merge: out.new is gone, which is a second name of B")
+    room.run(["merge", "a", "b", "b"], 0, b"merged 3 open 0 holdouts 0\n", after={"b": WHOLE})
+
+
+def through_links():
+    """OUT's links stay, and the file to which they lead is another then, with what was written."""
+    room = Room({"a": WHOLE, "to/file": b"what stood there"})
+    os.symlink("to/file", room.at("link"))
+    os.symlink("link", room.at("twice"))
+    os.symlink("nowhere", room.at("dangling"))
+    os.symlink("round", room.at("round"))
+    os.link(room.at("to/file"), room.at("second"))
+    for words, said in ((["carry", "a"], b"carried 3 halting 1\n"), (["mend", "a"], b"mended 3 dropped 0\n"), (["merge", "a", "a"], b"merged 3 open 0 holdouts 0\n")):
+        room.run([*words, "twice"], 0, said, after={"to/file": WHOLE})
+        room.run([*words, "round"], 4, faults=b"refused 604\n")
+    room.run(["carry", "a", "dangling"], 0, b"carried 3 halting 1\n", after={"nowhere": WHOLE})
+    if room.held()["second"] != b"what stood there":
+        sys.exit("losses: a second name of OUT's file was written to")
+
+
+def devices():
+    """A device is written over, as the commands do that end by `refused 604` where it is full."""
+    room = Room({"a": WHOLE, **PARTS})
+    for words, said in ((["carry", "a"], b"carried 3 halting 1\n"), (["mend", "a"], b"mended 3 dropped 0\n"), (["merge", "a", "a"], b"merged 3 open 0 holdouts 0\n"), (["join", "parts", "--ledger"], REPORT)):
+        room.run([*words, "/dev/null"], 0, said)
+        room.run([*words, "/dev/full"], 4, faults=b"refused 604\n")
+    for words in (["run", "1"], ["loop", "1"], ["coord", "1"]):
+        room.run([*words, "--ledger", "/dev/full"], 4, faults=b"refused 604\n", given=b"REC ------ H 1 1\n")
+
+
+def pipes():
+    """What is no plain file is read to its end where it is only read."""
+    room = Room({"a": WHOLE, **PARTS})
+    for name in (room.fed("fifo", WHOLE), "/dev/stdin"):
+        room.run(["report", name], 0, REPORT, given=WHOLE)
+    room.run(["report", "-"], 0, REPORT, given=WHOLE)
+    room.run(["carry", room.fed("fifo", WHOLE), "out"], 0, b"carried 3 halting 1\n", after={"out": WHOLE})
+    room.run(["mend", room.fed("fifo", SPOILT), "out"], 1, b"mended 2 dropped 1\n", after={"out": HEADER + ROOT + RIGHT})
+    room.run(["mend", "/dev/stdin", "out"], 0, b"mended 3 dropped 0\n", given=WHOLE, after={"out": WHOLE})
+    room.run(["merge", room.fed("fifo", TRUNK), "/dev/stdin", "out"], 0, b"merged 3 open 0 holdouts 0\n", given=WHOLE)
+    room.run(["merge", "a", room.fed("fifo", WHOLE), "a"], 0, b"merged 3 open 0 holdouts 0\n")
+    os.rename(room.at("parts/0RA---.ledger"), room.at("part"))
+    room.fed("parts/0RA---.ledger", PARTS["parts/0RA---.ledger"])
+    room.run(["join", "parts"], 0, REPORT)
+    shell = ["bash", "-c", f"{PROGRAM} report <(cat a) && {PROGRAM} page <(cat a) | grep -c '<html'"]
+    if shutil.which("bash"):
+        Room.tried += 2
+        ran = subprocess.run(shell, capture_output=True, cwd=room.folder, check=False)
+        if ran.stdout != REPORT + b"1\n":
+            sys.exit(f"losses: {shell}: {ran!r}")
+
+
+def cuts():
+    """What is cut off a ledger is kept beside it, behind what was kept there before."""
+    for words, given, answers, after in (
+        (["run", "1", "--ledger", "a"], b"", REPORT, TRUNK + LEFT + RIGHT),
+        (["loop", "1", "--ledger", "a"], b"", REPORT, TRUNK + LEFT + RIGHT),
+        (["coord", "1", "--ledger", "a"], b"REC " + LEFT + b"REC " + RIGHT, b"ACK 0RA---\nACK 1RA---\n", TRUNK + LEFT + RIGHT),
+        (["settle", "a"], b"", b"settled 2 holdouts 0\n", TRUNK + LEFT + RIGHT),
+    ):
+        room = Room({"a": SPOILT})
+        room.run(words, 0, answers, given=given, after={"a": after, "a.cut": CUT})
+        room.write("a", SPOILT)
+        room.run(words, 0, answers, given=given, after={"a": after, "a.cut": CUT + CUT})
+        room.write("a", WHOLE[:-1])
+        room.run(words, 0, answers if words[0] != "settle" else b"settled 1 holdouts 0\n", given=given, after={"a": WHOLE})
+        room.run(["mend", "-", "b"], 1, b"mended 2 dropped 1\n", given=TRUNK + CUT, after={"b": HEADER + ROOT + RIGHT})
+    working = REPORT.replace(b"complete", b"working").replace(b"never 2", b"never 0").replace(b"open 0", b"open 2")
+    room = Room({"a": SPOILT})
+    room.run(["retry", "a"], 1, working, after={"a": TRUNK, "a.cut": CUT})
+    room = Room({"parts/trunk.ledger": SPOILT, "parts/1RA---.ledger": PARTS["parts/1RA---.ledger"]})
+    room.run(["split", "1", "parts", "--filled", "1"], 0, b"trunk 1 parts 2\n", after={"parts/trunk.ledger": TRUNK, "parts/trunk.ledger.cut": CUT, "parts/0RA---.ledger": b"bb-ledger 2 0RA---\n"})
+    # given again it leaves the parts as they are
+    room.write("parts/0RA---.ledger", PARTS["parts/0RA---.ledger"])
+    room.run(["split", "1", "parts", "--filled", "1"], 0, b"trunk 1 parts 2\n")
+
+
+def without_leave():
+    """A folder that can't be written: what can't be kept isn't cut, and OUT is as it was."""
+    room = Room({"a": SPOILT, "b": WHOLE, "out": b"what stood there"})
+    as_nobody = {}
+    if os.geteuid() == 0:
+        as_nobody = {"user": NOBODY, "executable": room.at("bb")}
+        shutil.copy(PROGRAM, room.at("bb"))
+        for name in ("a", "b", "out"):
+            os.chown(room.at(name), NOBODY, NOBODY)
+    os.chmod(room.folder, 0o555)
+    for words in (["run", "1", "--ledger", "a"], ["loop", "1", "--ledger", "a"], ["coord", "1", "--ledger", "a"], ["settle", "a"], ["retry", "a"]):
+        room.run(words, 4, faults=b"refused 604\n", given=b"REC " + LEFT, **as_nobody)
+    for words in (["merge", "b", "b", "out"], ["carry", "b", "out"], ["mend", "a", "out"], ["mend", "a", "a"]):
+        room.run(words, 4, faults=b"refused 604\n", **as_nobody)
+    os.chmod(room.folder, 0o755)
+
+
+def told_at_terminal(room, words):
+    """What a terminal shows where standard error is one."""
+    Room.tried += 1
+    reader, writer = pty.openpty()
+    ran = subprocess.run([PROGRAM, *words], stdin=subprocess.DEVNULL, stdout=subprocess.PIPE, stderr=writer, cwd=room.folder, check=False)
+    os.close(writer)
+    told = b""
+    try:
+        while piece := os.read(reader, 4096):
+            told += piece
+    except OSError:
+        pass
+    os.close(reader)
+    return ran, told.replace(b"\r\n", b"\n")
+
+
+def reasons():
+    """A terminal is told which file failed and why, and what was cut; a script isn't."""
+    room = Room({"a": SPOILT, "b": WHOLE})
+    os.symlink("round", room.at("round"))
+    for words, told in (
+        (["merge", "b", "absent", "c"], b"refused 605\nabsent: No such file or directory (os error 2)\n"),
+        (["report", "absent"], b"refused 605\nabsent: No such file or directory (os error 2)\n"),
+        (["join", "absent"], b"refused 605\nabsent/trunk.ledger: No such file or directory (os error 2)\n"),
+        (["run", "1", "--ledger", "/dev/full"], b"refused 604\n/dev/full: No space left on device (os error 28)\n"),
+        (["carry", "b", "no/folder"], b"refused 604\nno/folder.new: No such file or directory (os error 2)\n"),
+        (["run", "1", "--ledger", "no/folder"], b"refused 604\nno/folder: No such file or directory (os error 2)\n"),
+        (["retry", "."], b"refused 604\n.: Is a directory (os error 21)\n"),
+    ):
+        ran, shown = told_at_terminal(room, words)
+        if shown != told or ran.returncode != 4 or ran.stdout != b"":
+            sys.exit(f"losses: {words} at a terminal: {shown!r}, {ran!r}, and not {told!r}")
+        room.run(words, 4, faults=told.split(b"\n")[0] + b"\n")
+    ran, shown = told_at_terminal(room, ["settle", "a"])
+    if ran.stdout != b"settled 2 holdouts 0\n" or b"a.cut" not in shown or str(len(CUT)).encode() not in shown or shown.count(b"\n") != 1:
+        sys.exit(f"losses: settle at a terminal: {shown!r}, {ran!r}")
+
+
+def main():
+    for play in (over_what_is_read, beside_out, through_links, devices, pipes, cuts, without_leave, reasons):
+        play()
+    for folder in Room.folders:
+        shutil.rmtree(folder, ignore_errors=True)
+    print(f"losses: {Room.tried} commands, none loses a ledger, and each is told of what went wrong")
+    return 0
+
+
+if __name__ == "__main__":
+    sys.exit(main())

@@ -3,9 +3,9 @@ ghost use Rattle.std.specs.Prelude.{◌≡◌, ◌≤◌, IfOk, IfSome};
 ghost use Rattle.options.specs.Ranges.{AreWithinRanges, IsSettling, IsWithinRange};
 
 use crate::arguments::{
-    CARRIED, DEPTH, DRAWN, ERA, FAR, FILE, FILLED, FIRST, FOLDER, FROM, GRAM, HARD, JOINED, JSON,
-    LEDGER, LOSE, MERGED, OLD, PICTURES, PROGRESS, READ, ROUNDS, ROWS, SECOND, STATES, STEPS, SYNC,
-    WHY, WIDTH, WORKERS,
+    CARRIED, DAMAGED, DEPTH, DRAWN, ERA, FAR, FILE, FILLED, FIRST, FOLDER, FROM, GRAM, HARD,
+    JOINED, JSON, LEDGER, LOSE, MENDED, MERGED, OLD, PICTURES, PROGRESS, READ, ROUNDS, ROWS,
+    SECOND, STATES, STEPS, SYNC, WHY, WIDTH, WORKERS,
 };
 use crate::grammar::program;
 use crate::line_fault::LineFault;
@@ -13,8 +13,8 @@ use crate::words::Number;
 use clap::error::ErrorKind;
 use clap::{ArgMatches, Error};
 use options::{
-    Beginning, Carrying, Drawing, Durability, Joining, LedgerFile, Mending, Merging, NoMemory, Options,
-    Search, Settling, Splitting,
+    Beginning, Carrying, Drawing, Durability, Joining, LedgerFile, Mending, Merging, NoMemory,
+    Options, Search, Settling, Splitting,
 };
 use std::alloc::Global;
 

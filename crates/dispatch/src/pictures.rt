@@ -2,8 +2,8 @@
 use crate::ledgers::STANDARD_INPUT;
 use draw_command::{PictureHost, cmd_draw};
 use ledger::Left;
-use ledger_commands::{Host, Stopped, opened_to_end};
-use options::{Drawing, LedgerFile, Outcome};
+use ledger_commands::{Host, opened_to_end};
+use options::{Drawing, LedgerFile, Outcome, Stopped};
 use page::write_ledger_page;
 use part_commands::PartsHost;
 use std::alloc::Global;

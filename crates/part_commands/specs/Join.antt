@@ -16,7 +16,7 @@ use Rattle.ledger.specs.declared.status.Status.{Status}
 use Rattle.wire.specs.Device.{grown}
 use Rattle.ledger_commands.specs.LedgerReport.{outcome_by}
 use Rattle.ledger_commands.specs.Reading.{EndsReading, IsLoadedFrom}
-use Rattle.ledger_commands.specs.declared.reading.Stopped.TheVariants.{Ended as EndedBy}
+use Rattle.options.specs.declared.stopped.Stopped.TheVariants.{Ended as EndedBy}
 use Rattle.options.specs.Outcome.{ended_line}
 use Rattle.options.specs.declared.ended.Ended.{Ended}
 use Rattle.options.specs.declared.ended.Ended.TheVariants.{BadHeader, WrongRoot}

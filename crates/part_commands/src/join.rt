@@ -18,11 +18,9 @@ use crate::folder::{TRUNK, part_path, path_within};
 use crate::parts::{Parts, PartsOf};
 use evidence::NoMemory;
 use ledger::{Board, Left, Status};
-use ledger_commands::{
-    Host, Opened, Place, ReportForm, Stopped, Told, load_from, outcome_by, write_told,
-};
+use ledger_commands::{Host, Opened, Place, ReportForm, Told, load_from, outcome_by, write_told};
 use machine_text::Table;
-use options::{Ended, Joining, Outcome};
+use options::{Ended, Joining, Outcome, Stopped};
 use std::alloc::Global;
 use std::io::{Read, Write};
 use text::append_number;

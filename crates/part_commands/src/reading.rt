@@ -4,8 +4,8 @@ ghost use Rattle.ledger_commands.specs.Reading.{IsLoadedFrom};
 ghost use Rattle.part_commands.specs.Settle.{EndsLoading, FailsReading};
 
 use ledger::{Board, Left};
-use ledger_commands::{Opened, Stopped, load_from};
-use options::Ended;
+use ledger_commands::{Opened, load_from};
+use options::{Ended, Stopped};
 use std::alloc::Global;
 use std::io::{self, ErrorKind, Read};
 

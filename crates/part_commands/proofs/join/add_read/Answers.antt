@@ -1,8 +1,8 @@
 use Rattle.std.proofs.Common.{rules, ◌≡◌, inl, inr, refl, subst}
 use Rattle.std.specs.Prelude.{codes}
 use Rattle.ledger_commands.specs.Reading.{EndsReading}
-use Rattle.ledger_commands.specs.declared.reading.Stopped.{Stopped}
-use Rattle.ledger_commands.specs.declared.reading.Stopped.TheVariants.{Ended as EndedBy}
+use Rattle.options.specs.declared.stopped.Stopped.{Stopped}
+use Rattle.options.specs.declared.stopped.Stopped.TheVariants.{Ended as EndedBy}
 use Rattle.options.specs.declared.ended.Ended.TheVariants.{BadHeader, WrongRoot}
 use Rattle.part_commands.specs.Join.{IsMetAs, IsMetIn}
 use Rattle.part_commands.proofs.Joining.{met_so, unmet}

@@ -205,6 +205,10 @@ def cuts():
         room.write("a", WHOLE[:-1])
         room.run(words, 0, answers if words[0] != "settle" else b"settled 1 holdouts 0\n", given=given, after={"a": WHOLE})
         room.run(["mend", "-", "b"], 1, b"mended 2 dropped 1\n", given=TRUNK + CUT, after={"b": HEADER + ROOT + RIGHT})
+    for link in (os.link, os.symlink):
+        room = Room({"a": SPOILT})
+        link(room.at("a"), room.at("a.cut"))
+        room.run(["settle", "a"], 4, faults=b"refused 604\n")
     working = REPORT.replace(b"complete", b"working").replace(b"never 2", b"never 0").replace(b"open 0", b"open 2")
     room = Room({"a": SPOILT})
     room.run(["retry", "a"], 1, working, after={"a": TRUNK, "a.cut": CUT})

@@ -1,8 +1,9 @@
 #!/usr/bin/env python3
 """What --sync waits for, as the system sees it: stress/sync.py. Each command that takes it is run under strace, and after
 each cut of its ledger and each write to it the disk has to be waited for, before anything else is written anywhere; without
-it the disk is never waited for. `merge`, `carry` and `join` wait for the file beside OUT before it takes OUT's place. Ends
-with 1 at the first that does otherwise. Needs strace."""
+it the disk is never waited for. `merge`, `carry`, `mend` and `join` wait for the file beside OUT before it takes OUT's place.
+What is cut off a ledger is on the disk, in the file beside it, before the ledger is cut, with --sync or without. Ends with 1
+at the first that does otherwise. Needs strace."""
 import os
 import re
 import shutil
@@ -25,7 +26,8 @@ SYNCED = [
     (["retry", "ledger"], b"", HOLDOUT),
     (["settle", "ledger"], b"", TORN),
 ]
-MADE_BESIDE = [["merge", "ledger", "ledger", "out"], ["carry", "ledger", "out"], ["join", "parts", "--ledger", "out"]]
+MADE_BESIDE = [["merge", "ledger", "ledger", "out"], ["carry", "ledger", "out"], ["mend", "ledger", "out"], ["join", "parts", "--ledger", "out"]]
+SPOILT = b"bb-ledger 2 ------\n------ H 1 1\n0RA--- T 0 1 R\r\n1RA--- T 0 1 R\n"
 
 
 def calls(words, given, folder):
@@ -55,6 +57,13 @@ def waits(found):
     return count
 
 
+def is_kept_first(found):
+    """Whether what is cut is written to the file beside the ledger, and on the disk, before the ledger is cut."""
+    changes = [place for place, (name, path) in enumerate(found) if path == "ledger" and name in ("write", "ftruncate")]
+    kept = [(name, path) for name, path in found[:changes[0] if changes else 0] if path == "ledger.cut"]
+    return "write" in [name for name, _ in kept] and kept[-1][0] == "fdatasync" and found[changes[0]][0] == "ftruncate"
+
+
 def main():
     if not shutil.which("strace"):
         print("sync: there is no strace, and nothing was tried")
@@ -70,6 +79,15 @@ def main():
                 if not count or synced != (count if more else 0):
                     sys.exit(f"{' '.join(words + more)}: {found}")
             print(f"sync: bb {' '.join(words)}: {count} cuts and writes, each waited for with --sync, and none without")
+            cut = os.path.join(folder, "ledger.cut")
+            for more in ([], ["--sync"]):
+                with open(os.path.join(folder, "ledger"), "wb") as file:
+                    file.write(SPOILT)
+                found = calls(words[:1] + ["1"] + words[2:] + more if words[0] == "run" else words + more, given, folder)
+                if not is_kept_first(found):
+                    sys.exit(f"{' '.join(words + more)}: {found}")
+                os.remove(cut)
+            print(f"sync: bb {' '.join(words)}: ledger.cut is on the disk before the ledger is cut")
         subprocess.run([PROGRAM, "split", "1", "parts", "--filled", "0"], cwd=folder, stdout=subprocess.DEVNULL, check=True)
         for words in MADE_BESIDE:
             found = calls(words, b"", folder)

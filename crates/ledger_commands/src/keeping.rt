@@ -12,12 +12,17 @@ const CUT_SUFFIX: &str = ".cut";
 const PIECE: usize = 4_096;
 
 /// Appends what stands behind the first bytes of the ledger at a path to the file beside it, `.cut`, and waits for the disk,
-/// unless that is a torn last line alone: what a process that was killed leaves of its last line is no loss.
+/// unless that is a torn last line alone: what a process that was killed leaves of its last line is no loss. Fails where the
+/// name leads to the ledger itself.
 pub(crate) fn keep_cut<H: Host>(alloc: Global, host: &H, path: &str, len: u64) -> io::Result<()> {
     if !has_line_behind(host, path, len)? {
         return Ok(());
     }
     let kept_at = path_behind(alloc, path, CUT_SUFFIX)?;
+    if host.is_same(path, &kept_at) {
+        // It would be cut with the ledger.
+        return Err(io::Error::from(ErrorKind::InvalidInput));
+    }
     let count = copy_behind(host, path, len, &kept_at)?;
     host.tell_cut(path, count, &kept_at);
     Ok(())

@@ -124,6 +124,13 @@ def over_what_is_read():
         room.run(["join", "parts", "--ledger", "out"], 0, REPORT, after={"out": WHOLE}, gone=["out.new"])
 
 
+    # a part that is a link to that name would be lost
+    room = Room({**PARTS, "out.new": PARTS["parts/0RA---.ledger"]})
+    os.remove(room.at("parts/0RA---.ledger"))
+    os.symlink("../out.new", room.at("parts/0RA---.ledger"))
+    room.run(["join", "parts", "--ledger", "out"], 1, faults=refused)
+
+
 def beside_out():
     """The file beside OUT is none that is read; OUT may be one."""
     room = Room({"a": TRUNK, "a.new": HEADER + ROOT + LEFT, "b": HEADER + ROOT + RIGHT})

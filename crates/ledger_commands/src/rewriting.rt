@@ -60,6 +60,14 @@ impl Place {
         }
     }
 
+    /// The path of the new file in which the ledger is made; none where it is written over.
+    pub fn made(&self) -> Option<&str> {
+        match self {
+            Place::Beside { made, .. } => Some(made),
+            Place::Over => None,
+        }
+    }
+
     /// Puts a ledger that was made beside its place there, once it is on the disk: a power cut leaves one of the two there.
     pub fn put<H: Host>(&self, host: &H) -> Result<(), Ended> {
         let Place::Beside { made, end } = self else {

@@ -15,7 +15,7 @@ ghost use Rattle.part_commands.specs.inside.{AreAdded, IsGathered, MeetsPart};
 
 use crate::collector::{Collector, Nowhere, OneLedger};
 use crate::folder::{TRUNK, part_path, path_within};
-use crate::parts::{Parts, PartsOf};
+use crate::parts::{Parts, PartsOf, Written};
 use evidence::NoMemory;
 use ledger::{Board, Left, Status};
 use ledger_commands::{Host, Opened, Place, ReportForm, Told, load_from, outcome_by, write_told};
@@ -45,7 +45,10 @@ pub fn cmd_join<H: Host, P: ReportForm, W: Write, E: Write>(
             alloc,
             form,
             joining.folder,
-            &PartsOf { host, out: None },
+            &PartsOf {
+                host,
+                written: None,
+            },
             &mut Nowhere,
             answers,
             faults,
@@ -73,7 +76,10 @@ fn join_into<H: Host, P: ReportForm, W: Write, E: Write>(
     };
     let parts = PartsOf {
         host,
-        out: Some(out),
+        written: Some(Written {
+            out,
+            made: place.made(),
+        }),
     };
     let outcome = join_parts(alloc, form, folder, &parts, &mut one, answers, faults)?;
     place.put(host)?;

@@ -22,7 +22,7 @@ mod trunk;
 pub use collector::{Collector, Nowhere, OneLedger};
 pub use folder::{Folder, FolderAt, begin_part, begin_parts, part_path};
 pub use join::{cmd_join, join_parts};
-pub use parts::{Parts, PartsOf};
+pub use parts::{Parts, PartsOf, Written};
 pub use parts_host::{PartsHost, lock_ledger};
 pub use settle::settle_ledger;
 pub use settle_at::settle_ledger_at;

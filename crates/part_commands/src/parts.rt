@@ -16,7 +16,7 @@ pub trait Parts {
     fn open(&self, path: &str) -> Result<Option<Opened<Self::File>>, Ended>
         ensures { IfOk result (λ found. finds self.now path.now (option_map (λ file. (Self.File.remaining file.reader, file.length)) found)) };
 
-    /// Whether the ledger at a path is the one that is to be written.
+    /// Whether the ledger at a path is the one that is to be written, or would be lost where that is made.
     fn is_written(&self, path: &str) -> bool;
 }
 
@@ -24,8 +24,27 @@ pub trait Parts {
 #[derive(Drop)]
 pub struct PartsOf<'a, H> {
     pub host: &'a H,
-    /// The path of the one ledger that is written, if one is.
-    pub out: Option<&'a str>,
+    /// The one ledger that is written, if one is.
+    pub written: Option<Written<'a>>,
+}
+
+/// A ledger that is written while others are read.
+#[derive(Clone, Copy, Debug)]
+pub struct Written<'a> {
+    /// Its path.
+    pub out: &'a str,
+    /// The path of the new file in which it is made, if it is.
+    pub made: Option<&'a str>,
+}
+
+impl<H: Host> PartsOf<'_, H> {
+    // Whether a symbolic link at a path leads to the name of the new file, which is removed before that is made.
+    fn leads_to(&self, path: &str, made: Option<&str>) -> bool {
+        match (made, self.host.end_of(path)) {
+            (Some(made), Ok(end)) => end.as_str() != path && self.host.is_same(&end, made),
+            _ => false,
+        }
+    }
 }
 
 impl<H: Host> Parts for PartsOf<'_, H> {
@@ -44,8 +63,10 @@ impl<H: Host> Parts for PartsOf<'_, H> {
     }
 
     fn is_written(&self, path: &str) -> bool {
-        match self.out {
-            Some(out) => self.host.is_same(out, path),
+        match self.written {
+            Some(Written { out, made }) => {
+                self.host.is_same(out, path) || self.leads_to(path, made)
+            }
             None => false,
         }
     }

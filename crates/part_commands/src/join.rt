@@ -61,12 +61,12 @@ pub fn cmd_join<H: Host, P: ReportForm, W: Write, E: Write>(
 }
 
 // The same with the one ledger at a path.
-fn join_into<H: Host, P: ReportForm, W: Write, E: Write>(
+fn join_into<'a, H: Host, P: ReportForm, W: Write, E: Write>(
     alloc: Global,
     form: &P,
     folder: &str,
-    out: &str,
-    host: &H,
+    out: &'a str,
+    host: &'a H,
     answers: &mut W,
     faults: &mut E,
 ) -> Result<Outcome, Ended> {

@@ -1,7 +1,8 @@
 #!/usr/bin/env python3
 """Ends bb run with a ledger (kill -9) at random points of the tree of three states, a hundred times, starts it again on its
-ledger, and checks that what it reports in the end is always the same. Arguments: another number of times, and `loop` to
-do so with bb loop, whose ledger both go on with in turn."""
+ledger, and checks that what it reports in the end is always the same, and that nothing but a torn last line was cut off the
+ledger: no file beside it keeps anything. Arguments: another number of times, and `loop` to do so with bb loop, whose ledger
+both go on with in turn."""
 import os
 import random
 import subprocess
@@ -48,6 +49,9 @@ def main():
             report = subprocess.run((first if turn % 2 else RUN) + ["--ledger", ledger], stdout=subprocess.PIPE, check=False).stdout
             if report != expected:
                 print("started again it reported something else")
+                return 1
+            if os.path.exists(ledger + ".cut"):
+                print("started again it cut more than a torn line")
                 return 1
     print(f"ended {times} times, {cut_short} of them before it had ended itself, with {min(lines)} to {max(lines)} lines "
           "in its ledger; the last report was always the same")

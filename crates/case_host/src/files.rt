@@ -82,7 +82,9 @@ impl Write for Sheet<'_> {
             }
             Call::Fails(share) => {
                 self.append(&buf[..share.of(buf.len())])?;
-                self.room.noted(&self.path, Err(failed()))
+                let fault = failed();
+                self.room.remember(&self.path, &fault);
+                Err(fault)
             }
         }
     }

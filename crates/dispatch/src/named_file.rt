@@ -24,7 +24,10 @@ impl Read for NamedFile<'_> {
     fn read(&mut self, buf: &mut [u8]) -> io::Result<usize> {
         match self.file.read(buf) {
             Ok(count) => Ok(count),
-            Err(fault) => self.noted(Err(fault)),
+            Err(fault) => {
+                self.failures.remember(&self.path, &fault);
+                Err(fault)
+            }
         }
     }
 }
@@ -33,7 +36,10 @@ impl Write for NamedFile<'_> {
     fn write(&mut self, buf: &[u8]) -> io::Result<usize> {
         match self.file.write(buf) {
             Ok(count) => Ok(count),
-            Err(fault) => self.noted(Err(fault)),
+            Err(fault) => {
+                self.failures.remember(&self.path, &fault);
+                Err(fault)
+            }
         }
     }
 

@@ -83,7 +83,8 @@ class Room:
         due = {**self.held(), **(after or {})}
         for name in gone:
             due.pop(name, None)
-        ran = subprocess.run([PROGRAM, *words], input=given, capture_output=True, cwd=self.folder, check=False, **how)
+        how = how if "stdin" in how else {**how, "input": given}
+        ran = subprocess.run([PROGRAM, *words], capture_output=True, cwd=self.folder, check=False, **how)
         told = (ran.returncode, ran.stdout, ran.stderr)
         if told != (status, answers, faults):
             sys.exit(f"losses: {words}: {told!r}, and not {(status, answers, faults)!r}")

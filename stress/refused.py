@@ -99,6 +99,9 @@ COMMANDS = [
     (["settle", "part"], b"", {"part": b"bb-ledger 2 0RB---_------\n0RB--"}, "part"),
     (["join", "."], b"", PARTS, None),
     (["join", ".", "--ledger", "out"], b"", PARTS, "out"),
+    (["join", ".", "--ledger", "trunk.ledger"], b"", PARTS, "trunk.ledger"),
+    (["join", ".", "--ledger", "1RA---.ledger"], b"", PARTS, "1RA---.ledger"),
+    (["merge", "a", "a.new", "a"], b"", {"a": FIRST, "a.new": SECOND}, "a.new"),
     (["join", ".", "--json", "--ledger", "out"], b"", {**PARTS, "out": ONE}, "out"),
 ]
 

@@ -9,6 +9,7 @@ use options::{Ended, LedgerFile};
 use part_commands::PartsHost;
 use std::io::{self, ErrorKind};
 use std::time::{Clock, Duration};
+use wire::LedgerOut;
 
 /// What a command finds, as a host.
 #[derive(Clone, Copy, Drop)]
@@ -87,6 +88,14 @@ impl<'a> Host for CaseHost<'a> {
         }
         let sheet = sheet_at(self.room.alloc, self.room, file.path)?;
         Ok(FileLedger::of(sheet, file.durability))
+    }
+
+    fn over(&self, path: &str) -> io::Result<FileLedger<Sheet<'a>>> {
+        let mut ledger = self.ledger(&LedgerFile::at(path))?;
+        match ledger.cut(0) {
+            Ok(()) => Ok(ledger),
+            Err(_) => Err(failed()),
+        }
     }
 
     fn anew(&self, path: &str) -> io::Result<FileLedger<Sheet<'a>>> {

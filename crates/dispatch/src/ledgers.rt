@@ -45,7 +45,7 @@ fn retry_at<H: PartsHost, D: Decider, W: Write, E: Write>(
     match lock_ledger(host, file.path) {
         Ok(_lock) => {
             let held = opened(host, file.path);
-            let mut ledger = LedgerAt::new(alloc, host, file);
+            let mut ledger = LedgerAt::new(host, file);
             cmd_retry(alloc, held, &mut ledger, decider, answers, faults)
         }
         Err(ended) => ended.told(faults),

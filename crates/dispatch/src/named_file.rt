@@ -7,16 +7,22 @@ use std::io::{self, Read, Write};
 #[derive(Drop)]
 pub struct NamedFile<'a> {
     pub(crate) file: fs::File,
-    pub(crate) path: String,
+    // None where memory was refused for it.
+    pub(crate) path: Option<String>,
     pub(crate) failures: &'a Failures,
 }
 
 impl NamedFile<'_> {
     fn noted<T>(&self, done: io::Result<T>) -> io::Result<T> {
         if let Err(fault) = &done {
-            self.failures.remember(&self.path, fault);
+            self.remember(fault);
         }
         done
+    }
+
+    fn remember(&self, fault: &io::Error) {
+        let name = self.path.as_deref().unwrap_or("a file");
+        self.failures.remember(name, fault);
     }
 }
 
@@ -25,7 +31,7 @@ impl Read for NamedFile<'_> {
         match self.file.read(buf) {
             Ok(count) => Ok(count),
             Err(fault) => {
-                self.failures.remember(&self.path, &fault);
+                self.remember(&fault);
                 Err(fault)
             }
         }
@@ -37,7 +43,7 @@ impl Write for NamedFile<'_> {
         match self.file.write(buf) {
             Ok(count) => Ok(count),
             Err(fault) => {
-                self.failures.remember(&self.path, &fault);
+                self.remember(&fault);
                 Err(fault)
             }
         }

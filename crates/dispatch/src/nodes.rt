@@ -96,7 +96,7 @@ fn run<N: Node + Drop, H: PartsHost + Clock, W: Write, E: Write>(
     match lock_begun(host, file.path) {
         Ok(_lock) => {
             let held = held_at(host, file.path);
-            let mut ledger = LedgerAt::new(alloc, host, file);
+            let mut ledger = LedgerAt::new(host, file);
             cmd_run(alloc, run, held, &mut ledger, answers, faults)
         }
         Err(ended) => ended.told(faults),
@@ -130,7 +130,7 @@ fn run_over_sockets<N: Node + Drop, H: PartsHost + Clock + Sockets, W: Write, E:
     match lock_begun(host, file.path) {
         Ok(_lock) => {
             let held = held_at(host, file.path);
-            let mut ledger = LedgerAt::new(alloc, host, file);
+            let mut ledger = LedgerAt::new(host, file);
             cmd_loop(alloc, run, host, held, &mut ledger, answers, faults)
         }
         Err(ended) => ended.told(faults),
@@ -164,7 +164,7 @@ pub(crate) fn coordinate<H: PartsHost, R: Read, W: Write, E: Write>(
     match lock_begun(host, file.path) {
         Ok(_lock) => {
             let held = held_at(host, file.path);
-            let mut ledger = LedgerAt::new(alloc, host, file);
+            let mut ledger = LedgerAt::new(host, file);
             cmd_coord(alloc, beginning, held, &mut ledger, input, answers, faults)
         }
         Err(ended) => ended.told(faults),

@@ -33,12 +33,12 @@ impl<'a> System<'a> {
         done
     }
 
-    fn named(&self, file: fs::File, path: &str) -> io::Result<NamedFile<'a>> {
-        Ok(NamedFile {
+    fn named(&self, file: fs::File, path: &str) -> NamedFile<'a> {
+        NamedFile {
             file,
-            path: path.to_string(self.rt.alloc())?,
+            path: path.to_string(self.rt.alloc()).ok(),
             failures: self.failures,
-        })
+        }
     }
 
     // Where a symbolic link at a path leads; none where there is no link.
@@ -104,7 +104,7 @@ impl<'a> Host for System<'a> {
 
     fn open(&self, path: &str) -> io::Result<NamedFile<'a>> {
         let file = self.noted(path, fs::open(self.rt, path))?;
-        self.named(file, path)
+        Ok(self.named(file, path))
     }
 
     fn length(&self, file: &NamedFile<'a>) -> io::Result<u64> {
@@ -144,7 +144,14 @@ impl<'a> Host for System<'a> {
         let mut asked = OpenOptions::new();
         asked.append(true).create(true);
         let opened = self.noted(file.path, asked.open(self.rt, file.path))?;
-        Ok(FileLedger::of(self.named(opened, file.path)?, file.durability))
+        Ok(FileLedger::of(self.named(opened, file.path), file.durability))
+    }
+
+    fn over(&self, path: &str) -> io::Result<FileLedger<NamedFile<'a>>> {
+        let mut asked = OpenOptions::new();
+        asked.write(true).truncate(true).create(true);
+        let opened = self.noted(path, asked.open(self.rt, path))?;
+        Ok(FileLedger::of(self.named(opened, path), Durability::System))
     }
 
     fn anew(&self, path: &str) -> io::Result<FileLedger<NamedFile<'a>>> {
@@ -157,7 +164,7 @@ impl<'a> Host for System<'a> {
         let mut asked = OpenOptions::new();
         asked.append(true).create_new(true);
         let opened = self.noted(path, asked.open(self.rt, path))?;
-        Ok(FileLedger::of(self.named(opened, path)?, Durability::System))
+        Ok(FileLedger::of(self.named(opened, path), Durability::System))
     }
 
     fn is_replaceable(&self, path: &str) -> bool {

@@ -60,7 +60,7 @@ fn carry_at<H: Host>(
         host,
         path: carrying.ledger,
     };
-    carry_into(alloc, &from, &mut place.ledger(alloc, host, carrying.out))
+    carry_into(alloc, &from, &mut place.ledger(host, carrying.out))
 }
 
 /// Reads and loads a ledger, and makes another hold what it holds as version 2, whatever it held before. Answers how

@@ -28,6 +28,9 @@ pub trait Host {
     /// A ledger file, to be cut and appended to, which is created where it isn't there.
     fn ledger(&self, file: &LedgerFile<'_>) -> io::Result<Self::Ledger>;
 
+    /// What stands at a path, emptied, to be written over: a device has nothing to be emptied of.
+    fn over(&self, path: &str) -> io::Result<Self::Ledger>;
+
     /// A new ledger file at a path. A name that stands there is removed first: what it named isn't written to.
     fn anew(&self, path: &str) -> io::Result<Self::Ledger>;
 

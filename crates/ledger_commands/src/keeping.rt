@@ -1,12 +1,15 @@
 // What is cut off a ledger is kept beside it.
 use crate::host::Host;
+use arrayvec::ArrayString;
 use options::{Durability, LedgerFile};
-use std::alloc::{AllocError as NoMemory, Global};
 use std::io::{self, ErrorKind, Read};
 use wire::append_all;
 
 // What is put behind the path of a ledger to name the file in which what is cut off it is kept.
 const CUT_SUFFIX: &str = ".cut";
+
+// The most bytes of that file's path. It is made without memory: a ledger that wants some has no way to say so.
+const MAX_PATH_BYTES: usize = 8_192;
 
 // How many bytes are read at once.
 const PIECE: usize = 4_096;
@@ -14,11 +17,11 @@ const PIECE: usize = 4_096;
 /// Appends what stands behind the first bytes of the ledger at a path to the file beside it, `.cut`, and waits for the disk,
 /// unless that is a torn last line alone: what a process that was killed leaves of its last line is no loss. Fails where the
 /// name leads to the ledger itself.
-pub(crate) fn keep_cut<H: Host>(alloc: Global, host: &H, path: &str, len: u64) -> io::Result<()> {
+pub(crate) fn keep_cut<H: Host>(host: &H, path: &str, len: u64) -> io::Result<()> {
     if !has_line_behind(host, path, len)? {
         return Ok(());
     }
-    let kept_at = path_behind(alloc, path, CUT_SUFFIX)?;
+    let kept_at = cut_path(path)?;
     if host.is_same(path, &kept_at) {
         // It would be cut with the ledger.
         return Err(io::Error::from(ErrorKind::InvalidInput));
@@ -28,12 +31,14 @@ pub(crate) fn keep_cut<H: Host>(alloc: Global, host: &H, path: &str, len: u64) -
     Ok(())
 }
 
-/// A path with something behind it.
-pub(crate) fn path_behind(alloc: Global, path: &str, suffix: &str) -> Result<String, NoMemory> {
-    let mut behind = String::new(alloc);
-    behind.push_str(path)?;
-    behind.push_str(suffix)?;
-    Ok(behind)
+// The path of the file in which what is cut off a ledger is kept.
+fn cut_path(path: &str) -> io::Result<ArrayString<MAX_PATH_BYTES>> {
+    let mut kept_at = ArrayString::new();
+    if kept_at.try_push_str(path).is_ok() && kept_at.try_push_str(CUT_SUFFIX).is_ok() {
+        Ok(kept_at)
+    } else {
+        Err(io::Error::from(ErrorKind::InvalidInput))
+    }
 }
 
 // Whether a line ends behind the first bytes of a file, which need not be there.

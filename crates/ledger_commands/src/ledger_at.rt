@@ -4,14 +4,12 @@ ghost use Rattle.std.specs.Prelude.{◌≡◌, ◌≢◌, ◌≤◌, IfOk, lengt
 use crate::host::Host;
 use crate::keeping::keep_cut;
 use options::LedgerFile;
-use std::alloc::Global;
 use wire::{Fault, LedgerOut};
 
 /// The ledger at a path of a host. It is opened for writing by the first cut or the first bytes that are appended, so
 /// that a ledger that needs neither may be one that can't be written. A ledger that can't be opened fails.
 #[derive(Drop)]
 pub struct LedgerAt<'a, H: Host> {
-    alloc: Global,
     host: &'a H,
     file: LedgerFile<'a>,
     beginning: Beginning,
@@ -34,28 +32,22 @@ enum Beginning {
 impl<'a, H: Host> LedgerAt<'a, H> {
     /// A ledger file that goes on, not yet opened. What is cut off it, but for a torn last line, is first appended to the
     /// file beside it, `.cut`; where that can't be written, the cut fails and the ledger is as it was.
-    pub fn new(alloc: Global, host: &'a H, file: LedgerFile<'a>) -> LedgerAt<'a, H> {
-        LedgerAt::begun(alloc, host, file, Beginning::Kept)
+    pub fn new(host: &'a H, file: LedgerFile<'a>) -> LedgerAt<'a, H> {
+        LedgerAt::begun(host, file, Beginning::Kept)
     }
 
     /// A ledger file that is written over, not yet opened.
-    pub fn over(alloc: Global, host: &'a H, path: &'a str) -> LedgerAt<'a, H> {
-        LedgerAt::begun(alloc, host, LedgerFile::at(path), Beginning::Over)
+    pub fn over(host: &'a H, path: &'a str) -> LedgerAt<'a, H> {
+        LedgerAt::begun(host, LedgerFile::at(path), Beginning::Over)
     }
 
     /// A new ledger file, not yet made.
-    pub fn anew(alloc: Global, host: &'a H, path: &'a str) -> LedgerAt<'a, H> {
-        LedgerAt::begun(alloc, host, LedgerFile::at(path), Beginning::Anew)
+    pub fn anew(host: &'a H, path: &'a str) -> LedgerAt<'a, H> {
+        LedgerAt::begun(host, LedgerFile::at(path), Beginning::Anew)
     }
 
-    fn begun(
-        alloc: Global,
-        host: &'a H,
-        file: LedgerFile<'a>,
-        beginning: Beginning,
-    ) -> LedgerAt<'a, H> {
+    fn begun(host: &'a H, file: LedgerFile<'a>, beginning: Beginning) -> LedgerAt<'a, H> {
         LedgerAt {
-            alloc,
             host,
             file,
             beginning,
@@ -67,16 +59,14 @@ impl<'a, H: Host> LedgerAt<'a, H> {
     // Opens the file as it begins.
     fn opened(&self) -> Result<H::Ledger, Fault> {
         let opened = match self.beginning {
+            Beginning::Kept => self.host.ledger(&self.file),
+            Beginning::Over => self.host.over(self.file.path),
             Beginning::Anew => self.host.anew(self.file.path),
-            Beginning::Kept | Beginning::Over => self.host.ledger(&self.file),
         };
-        let Ok(mut ledger) = opened else {
-            return Err(Fault);
-        };
-        if self.beginning == Beginning::Over {
-            ledger.cut(0)?;
+        match opened {
+            Ok(ledger) => Ok(ledger),
+            Err(_) => Err(Fault),
         }
-        Ok(ledger)
     }
 
     // Opens the ledger where it isn't open yet.
@@ -95,7 +85,7 @@ impl<'a, H: Host> LedgerAt<'a, H> {
         if self.beginning != Beginning::Kept {
             return Ok(());
         }
-        match keep_cut(self.alloc, self.host, self.file.path, len) {
+        match keep_cut(self.host, self.file.path, len) {
             Ok(()) => Ok(()),
             Err(_) => Err(Fault),
         }

@@ -65,12 +65,7 @@ fn join_at<H: Host>(
         host,
         path: merging.second,
     };
-    join_into(
-        alloc,
-        &first,
-        &second,
-        &mut place.ledger(alloc, host, merging.out),
-    )
+    join_into(alloc, &first, &second, &mut place.ledger(host, merging.out))
 }
 
 // Prints what the board holds, and what wasn't kept.

@@ -3,7 +3,6 @@ ghost use Rattle.std.specs.Prelude.{◌≡◌, ◌⊎◌, OnOk, IfErr};
 ghost use Rattle.ledger_commands.specs.Merge.{rewritten};
 
 use crate::host::Host;
-use crate::keeping::path_behind;
 use crate::ledger_at::LedgerAt;
 use crate::ledger_changes::{append_to, cut_to};
 use ledger::{Board, Left};
@@ -48,15 +47,10 @@ impl Place {
     }
 
     /// The ledger, not yet made.
-    pub fn ledger<'a, H: Host>(
-        &'a self,
-        alloc: Global,
-        host: &'a H,
-        out: &'a str,
-    ) -> LedgerAt<'a, H> {
+    pub fn ledger<'a, H: Host>(&'a self, host: &'a H, out: &'a str) -> LedgerAt<'a, H> {
         match self {
-            Place::Beside { made, .. } => LedgerAt::anew(alloc, host, made),
-            Place::Over => LedgerAt::over(alloc, host, out),
+            Place::Beside { made, .. } => LedgerAt::anew(host, made),
+            Place::Over => LedgerAt::over(host, out),
         }
     }
 
@@ -82,7 +76,9 @@ impl Place {
 
 // A name beside a path that none of what is read has.
 fn new_name<H: Host>(alloc: Global, host: &H, end: &str, read: &[&str]) -> Result<String, Ended> {
-    let mut made = path_behind(alloc, end, NEW_SUFFIX)?;
+    let mut made = String::new(alloc);
+    made.push_str(end)?;
+    made.push_str(NEW_SUFFIX)?;
     for _ in 0..MOST_SUFFIXES {
         if !is_read(host, &made, read) {
             return Ok(made);

@@ -91,7 +91,7 @@ fn mend_at<H: Host, R: Read>(
     from: &mut R,
     limit: u64,
 ) -> Result<(Tally, u64), Stopped> {
-    mend_into(alloc, from, limit, &mut place.ledger(alloc, host, out))
+    mend_into(alloc, from, limit, &mut place.ledger(host, out))
 }
 
 // Puts the ledger in its place, and prints how many records it has, and how many lines weren't taken.

@@ -76,7 +76,7 @@ impl<H: Host> Folder for FolderAt<'_, H> {
             self.alloc,
             root,
             bytes,
-            &mut LedgerAt::new(self.alloc, self.host, LedgerFile::at(&path)),
+            &mut LedgerAt::new(self.host, LedgerFile::at(&path)),
         )
     }
 }

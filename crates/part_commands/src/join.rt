@@ -72,7 +72,7 @@ fn join_into<'a, H: Host, P: ReportForm, W: Write, E: Write>(
 ) -> Result<Outcome, Ended> {
     let place = Place::of(alloc, host, out, &[])?;
     let mut one = OneLedger {
-        ledger: place.ledger(alloc, host, out),
+        ledger: place.ledger(host, out),
     };
     let parts = PartsOf {
         host,

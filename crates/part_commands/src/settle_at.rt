@@ -23,7 +23,7 @@ pub fn settle_ledger_at<H: PartsHost, D: Decider, P: Tells, W: Write>(
     ensures { OnOk result ((lock : H.Lock) × H.locks host.now file.entry.path.now (Ok (Some lock))) }
 {
     let _lock = lock_ledger(host, file.path)?;
-    let mut ledger = LedgerAt::new(alloc, host, file);
+    let mut ledger = LedgerAt::new(host, file);
     let held = opened(host, file.path);
     settle_ledger(alloc, held, &mut ledger, decider, progress, answers)
 }

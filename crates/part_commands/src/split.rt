@@ -78,7 +78,7 @@ fn split_at<H: PartsHost, D: Decider, P: Tells, W: Write>(
     ensures { OnOk result (SplitsTree splitting.now.states splitting.now.filled (W.contents answers.old) (W.contents answers.new)) }
 {
     let held = opened(host, path);
-    let mut ledger = LedgerAt::new(alloc, host, LedgerFile::at(path));
+    let mut ledger = LedgerAt::new(host, LedgerFile::at(path));
     let mut folder = FolderAt {
         alloc,
         host,

@@ -5,6 +5,7 @@ FIFO, standard input under its path, /dev/full, a folder that can't be written, 
 stress/losses.py: prints how many commands were tried, and ends with 1 at the first that answers otherwise or leaves a file
 otherwise than docs/FORMATS.md says.
 """
+import fcntl
 import os
 import pty
 import shutil
@@ -277,6 +278,13 @@ def reasons():
         if shown != told or ran.returncode != 4 or ran.stdout != b"":
             sys.exit(f"losses: {words} at a terminal: {shown!r}, {ran!r}, and not {told!r}")
         room.run(words, 4, faults=told.split(b"\n")[0] + b"\n")
+    with open(room.at("b"), "ab") as held:
+        fcntl.flock(held, fcntl.LOCK_EX)
+        for words in (["retry", "b"], ["coord", "1", "--ledger", "b"], ["mend", "a", "b"]):
+            ran, shown = told_at_terminal(room, words)
+            if shown != b"refused 606: another process writes the ledger\nb: resource busy\n" or ran.returncode != 4:
+                sys.exit(f"losses: {words} at a terminal: {shown!r}, {ran!r}")
+            room.run(words, 4, faults=b"refused 606: another process writes the ledger\n")
     ran, shown = told_at_terminal(room, ["settle", "a"])
     if ran.stdout != b"settled 2 holdouts 0\n" or b"a.cut" not in shown or str(len(CUT)).encode() not in shown or shown.count(b"\n") != 1:
         sys.exit(f"losses: settle at a terminal: {shown!r}, {ran!r}")

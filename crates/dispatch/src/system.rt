@@ -217,18 +217,24 @@ impl<'a> PartsHost for System<'a> {
         };
         match file.try_lock() {
             Ok(()) if self.is_at(&file, path) => Ok(Some(FileLock { file: Some(file) })),
-            // The one that held it has put another file in its place.
-            Ok(()) => Ok(None),
-            Err(TryLockError::WouldBlock) => Ok(None),
+            // Where it could be locked, the one that held it has put another file in its place.
+            Ok(()) | Err(TryLockError::WouldBlock) => {
+                let busy = io::Error::from(ErrorKind::ResourceBusy);
+                self.failures.remember(path, &busy);
+                Ok(None)
+            }
             Err(TryLockError::Error(fault)) if has_no_locks(&fault) => {
                 Ok(Some(FileLock { file: None }))
             }
-            Err(TryLockError::Error(fault)) => Err(Ended::by_ledger(&fault)),
+            Err(TryLockError::Error(fault)) => {
+                self.failures.remember(path, &fault);
+                Err(Ended::by_ledger(&fault))
+            }
         }
     }
 
     fn make_folder(&self, path: &str) -> io::Result<()> {
-        fs::create_dir_all(self.rt, path)
+        self.noted(path, fs::create_dir_all(self.rt, path))
     }
 }
 

@@ -7,7 +7,7 @@ all from it on. Such a run ends as the one with ample memory does, or with 3, a 
 ample run's ledger, or what stood there; where it goes on with it, each whole line that stood there is in it, or in the file
 beside it that keeps what is cut off. The same command, again and with ample memory, then comes to the ample run's end.
 
-stress/refused.py --calls: the calls of the crates below, by the programs of `crates/record_rows` and `crates/node_rows`,
+stress/refused.py --calls: the calls of the crates below, by the programs of `crates/try_records` and `crates/try_nodes`,
 which make those of `calls.rows` again where they are refused: all rows are kept, whichever one request is refused. Of the
 calls of `free.rows` that take no memory none is the first that is refused.
 
@@ -27,7 +27,7 @@ TOP = os.path.dirname(os.path.dirname(os.path.abspath(__file__)))
 sys.path.insert(0, os.path.join(TOP, "bench"))
 from program import PROGRAM  # noqa: E402
 
-ROWS = ["record_rows", "node_rows"]
+ROWS = ["try_records", "try_nodes"]
 
 # The line of `free.rows` behind which no memory is taken.
 FREE = b"\n# From here on no memory is taken.\n"

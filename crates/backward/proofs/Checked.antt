@@ -3,12 +3,12 @@ use Rattle.std.proofs.Common.{◌≡◌, ℕ, ◌+◌, ◌-◌, ◌<◌, ◌≤�
 use Rattle.std.specs.Result.{is_err}
 use Rattle.std.proofs.lemmas.Bool.{cases_lt}
 use Rattle.machine_text.specs.Packed.{Packed, IsTable, entry_of}
-use Rattle.turing.specs.Run.{Config, start, after}
-use Rattle.turing.specs.Backward.{Backward}
-use Rattle.turing.specs.Levels.{level}
-use Rattle.turing.proofs.RunLaws.{before, not_past}
-use Rattle.turing.proofs.TableLaws.{table_machine}
-use Rattle.turing.proofs.LevelLaws.{level_wider, longer_level, backward_level, level_backward, empty_below}
+use Rattle.law_turing.specs.Run.{Config, start, after}
+use Rattle.law_turing.specs.Backward.{Backward}
+use Rattle.law_turing.specs.Levels.{level}
+use Rattle.law_turing.proofs.RunLaws.{before, not_past}
+use Rattle.law_turing.proofs.TableLaws.{table_machine}
+use Rattle.law_turing.proofs.LevelLaws.{level_wider, longer_level, backward_level, level_backward, empty_below}
 use Rattle.run.specs.RunState.{RunState}
 use Rattle.run.specs.Steps.{RunsTo}
 use Rattle.run.specs.declared.runner.Step.{Step}

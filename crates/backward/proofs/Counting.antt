@@ -4,10 +4,10 @@ use Rattle.std.proofs.lemmas.List.{set-set, set-get_or}
 use Rattle.std.proofs.lemmas.Bool.{cases_eq}
 use Rattle.machine_text.specs.Packed.{Packed, entry_of}
 use Rattle.machine_text.specs.declared.transition.Sym.{Sym}
-use Rattle.turing.specs.Backward.{Pair, Partial}
-use Rattle.turing.specs.Levels.{known_before}
+use Rattle.law_turing.specs.Backward.{Pair, Partial}
+use Rattle.law_turing.specs.Levels.{known_before}
 use Rattle.backward.specs.Limits.{path_limit}
-use Rattle.turing.proofs.BackwardLaws.{same_pair}
+use Rattle.law_turing.proofs.BackwardLaws.{same_pair}
 use Rattle.backward.specs.inside.Known.{known_about, pair_at}
 use Rattle.backward.specs.inside.Counts.{paths_beyond, CountsOn, Exceeds}
 use Rattle.backward.proofs.Sums.{sum_first, sum_first-zero, sum_first-more, sum_first-le, if_known, if_known-none, if_known-some, sum_of_pairs}

@@ -5,9 +5,9 @@ use Rattle.std.proofs.lemmas.List.Elements.{filter_map-append}
 use Rattle.std.proofs.lemmas.List.Sums.{sum_by-append, sum_by-cons}
 use Rattle.machine_text.specs.Packed.{symbol_of}
 use Rattle.machine_text.specs.declared.transition.Sym.TheVariants.{Zero, One}
-use Rattle.turing.specs.Machine.{Machine}
-use Rattle.turing.specs.Backward.{Pair, Partial}
-use Rattle.turing.specs.Levels.{all_pairs, known_before, level}
+use Rattle.law_turing.specs.Machine.{Machine}
+use Rattle.law_turing.specs.Backward.{Pair, Partial}
+use Rattle.law_turing.specs.Levels.{all_pairs, known_before, level}
 use Rattle.backward.specs.inside.Known.{pair_at}
 use Rattle.backward.specs.inside.Counts.{paths_beyond}
 

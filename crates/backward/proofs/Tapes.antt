@@ -7,11 +7,11 @@ use Rattle.machine_text.specs.declared.transition.Sym.{Sym}
 use Rattle.machine_text.specs.declared.transition.Dir.{Dir}
 use Rattle.machine_text.specs.declared.transition.Dir.TheVariants.{L, R}
 use Rattle.machine_text.specs.declared.transition.Entry.{Entry}
-use Rattle.turing.specs.Tape.{moved_head}
-use Rattle.turing.specs.Mirror.{opposite}
-use Rattle.turing.specs.Backward.{Pair, Partial, standing_on, left_behind, before_step}
-use Rattle.turing.specs.Levels.{may_hold, can_lead_to, known_before}
-use Rattle.turing.proofs.Cells.{by_place, not_tied}
+use Rattle.law_turing.specs.Tape.{moved_head}
+use Rattle.law_turing.specs.Mirror.{opposite}
+use Rattle.law_turing.specs.Backward.{Pair, Partial, standing_on, left_behind, before_step}
+use Rattle.law_turing.specs.Levels.{may_hold, can_lead_to, known_before}
+use Rattle.law_turing.proofs.Cells.{by_place, not_tied}
 use Rattle.backward.specs.inside.Known.{known_cell, known_about}
 
 -- a cell that is known anew, and the others

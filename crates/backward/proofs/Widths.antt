@@ -4,9 +4,9 @@ use Rattle.std.specs.Option.{is_some}
 use Rattle.machine_text.specs.Packed.{Packed, entry_of}
 use Rattle.machine_text.specs.declared.transition.Sym.{Sym}
 use Rattle.machine_text.specs.declared.transition.Entry.{Entry}
-use Rattle.turing.specs.Backward.{Pair, standing_on}
-use Rattle.turing.specs.Levels.{known_at_end, level}
-use Rattle.turing.proofs.BackwardLaws.{same_pair}
+use Rattle.law_turing.specs.Backward.{Pair, standing_on}
+use Rattle.law_turing.specs.Levels.{known_at_end, level}
+use Rattle.law_turing.proofs.BackwardLaws.{same_pair}
 use Rattle.backward.specs.Limits.{path_limit}
 use Rattle.backward.specs.inside.Known.{known_about, pair_at}
 use Rattle.backward.specs.inside.Counts.{paths_beyond, CountsOn, Exceeds, AreWidths, HasTooMany}

@@ -1,8 +1,8 @@
 -- When backward reasoning has more paths to go through than it may.
 use Rattle.std.specs.Prelude.{◌≡◌, ℕ, ◌≤◌, Some}
 use Rattle.machine_text.specs.Packed.{Packed, entry_of}
-use Rattle.turing.specs.Run.{Config, after}
-use Rattle.turing.specs.Backward.{IsWider}
+use Rattle.law_turing.specs.Run.{Config, after}
+use Rattle.law_turing.specs.Backward.{IsWider}
 use Rattle.backward.specs.Limits.{path_limit}
 
 -- the run does so many steps, and some depth up to them has more paths than the limit

@@ -7,7 +7,7 @@ ghost use Rattle.text.specs.Fields.{spaced};
 
 use crate::limits::MAX_DEPTH;
 use crate::path_counter::PathCounter;
-use evidence::{Evidence, Refused, Verdict};
+use kind_evidence::{Evidence, Refused, Verdict};
 use machine_text::Table;
 use run::{Runner, Step};
 use std::alloc::Global;
@@ -49,8 +49,8 @@ impl Backward {
 impl Evidence for Backward {
     ghost use Rattle.std.specs.Prelude.{◌≤◌};
     ghost use Rattle.machine_text.specs.Packed.{entry_of};
-    ghost use Rattle.turing.specs.Backward.{Backward as IsBackward};
-    ghost use Rattle.evidence.specs.declared.verdicts.Verdict.TheVariants.{Never};
+    ghost use Rattle.law_turing.specs.Backward.{Backward as IsBackward};
+    ghost use Rattle.kind_evidence.specs.declared.verdicts.Verdict.TheVariants.{Never};
     ghost use Rattle.backward.specs.Paths.{IsTooWide};
 
     ghost within = { λ e. e.depth ≤ depth_limit };
@@ -83,8 +83,8 @@ impl Evidence for Backward {
         }
     }
 
-    ghost use Rattle.turing.proofs.BackwardLaws.{backward_never};
-    ghost use Rattle.turing.proofs.TableLaws.{table_machine};
+    ghost use Rattle.law_turing.proofs.BackwardLaws.{backward_never};
+    ghost use Rattle.law_turing.proofs.TableLaws.{table_machine};
 
     ghost law = { λ e p is_table stands. backward_never p.states (entry_of p) e.depth (table_machine p is_table) stands };
 }

@@ -1,7 +1,7 @@
 // The search for a depth at which backward reasoning shows that a table never halts.
 ghost use Rattle.std.specs.Prelude.{◌≡◌, ◌≢◌, ◌<◌, ◌≤◌, ℕ, min, length, slice_index, EachIndex, IfSome, IfNone, IfOk};
 ghost use Rattle.machine_text.specs.Packed.{entry_of};
-ghost use Rattle.turing.specs.Backward.{Backward as IsBackward};
+ghost use Rattle.law_turing.specs.Backward.{Backward as IsBackward};
 ghost use Rattle.backward.specs.Limits.{depth_limit};
 ghost use Rattle.backward.specs.Paths.{IsTooWide};
 

@@ -2,7 +2,7 @@
 //!
 //! A path of depth k is a list of k + 1 pairs through which some configuration runs, and whose last pair
 //! halts. Where the run from the blank tape does d steps and there is no path of depth d, the table never
-//! halts. turing's `Backward` says so; `specs/` adds when there are more paths than may be gone through
+//! halts. law_turing's `Backward` says so; `specs/` adds when there are more paths than may be gone through
 //! (`Paths`), how it is written in a record (`Fields`) and the limits as numbers (`Limits`). `specs/inside` is for
 //! the crate's own code: what a stretch of known cells tells of a configuration (`Known`), and how many paths go
 //! further back than one (`Counts`).

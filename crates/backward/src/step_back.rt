@@ -1,7 +1,7 @@
 // One step back: the pairs in their order, and how one can come before what is known of a tape.
 ghost use Rattle.std.specs.Prelude.{◌≡◌, ◌==◌, ◌&&◌, ◌+◌, ◌^◌, ◌<◌, ◌≤◌, ℤ, pos, ◌+ℤ◌, length, slice_set, IfSome, IfNone, Some, None};
-ghost use Rattle.turing.specs.Backward.{left_behind};
-ghost use Rattle.turing.specs.Levels.{may_hold};
+ghost use Rattle.law_turing.specs.Backward.{left_behind};
+ghost use Rattle.law_turing.specs.Levels.{may_hold};
 ghost use Rattle.backward.specs.inside.Known.{known_about, known_from, pair_at, HasRoom};
 
 use machine_text::{Dir, Entry, Pair, State, Sym, Table};

@@ -1,17 +1,17 @@
 //! `bb`, a verified tool for the busy beaver problem: `main` hands the words of the command line, the streams and
-//! the system's files and sockets to `obey` (`program`). The words are read in the crate `command_line`, the command that they
-//! ask for is begun in `dispatch`, and what the commands do stands in `line_commands`, `ledger_commands` and
-//! `node_commands`.
+//! the system's files and sockets to `obey` (`cmd_program`). The words are read in the crate `cmd_words`, the command that they
+//! ask for is begun in `cmd_dispatch`, and what the commands do stands in `cmd_lines`, `cmd_ledgers` and
+//! `cmd_nodes`.
 #![tactic(auto)]
 
-pub use command_line::{LineFault, options};
-use dispatch::{Failures, System};
-pub use json_report::report_json;
-pub use ledger_commands::{cmd_carry, cmd_merge, cmd_report, cmd_retry, report};
-pub use line_commands::{cmd_check, cmd_decide};
-pub use node_commands::{Run, cmd_coord, cmd_loop, cmd_run};
-pub use options::Options;
-use program::obey;
+use cmd_dispatch::{Failures, System};
+pub use cmd_json::report_json;
+pub use cmd_ledgers::{cmd_carry, cmd_merge, cmd_report, cmd_retry, report};
+pub use cmd_lines::{cmd_check, cmd_decide};
+pub use cmd_nodes::{Run, cmd_coord, cmd_loop, cmd_run};
+pub use cmd_options::Options;
+use cmd_program::obey;
+pub use cmd_words::{LineFault, options};
 use std::env;
 use std::process::ExitCode;
 

@@ -1,10 +1,10 @@
 // A command of a step, carried out.
-use case_host::{CaseHost, Disk, Failing, Input, Output, Room};
-use case_text::{Limits, Step};
-use command_line::{LineFault, options};
-use program::obey;
+use cmd_program::obey;
+use cmd_words::{LineFault, options};
 use std::alloc::{AllocError as NoMemory, Global};
 use std::cell::RefCell;
+use try_host::{CaseHost, Disk, Failing, Input, Output, Room};
+use try_text::{Limits, Step};
 
 /// What came of a command.
 #[derive(Drop)]

@@ -1,8 +1,8 @@
 // What came of a step, compared with what has to come of it.
 use crate::carrying::Found;
-use case_host::Disk;
-use case_text::{FileText, Said, Step};
 use std::alloc::{AllocError as NoMemory, Global};
+use try_host::Disk;
+use try_text::{FileText, Said, Step};
 
 /// What is different: its name, what has to come, and what came.
 #[derive(Drop)]

@@ -1,9 +1,9 @@
 // What has to come of a step in which something goes wrong.
 use crate::carrying::Found;
 use crate::comparing::{Difference, status_differs};
-use case_host::Disk;
-use case_text::{Said, Step};
 use std::alloc::{AllocError as NoMemory, Global};
+use try_host::Disk;
+use try_text::{Said, Step};
 
 // The exit status where a stream or a file fails.
 const FAILED: u8 = 4;

@@ -3,10 +3,10 @@ use crate::comparing::Difference;
 use crate::folder::{DataFile, data_of};
 use crate::stepping::{Played, Scene};
 use crate::trial::Trial;
-use case_host::Disk;
-use case_text::{Case, CaseFault, FileText, Said, cases_of};
 use std::alloc::Global;
 use std::io::{self, ErrorKind, Write};
+use try_host::Disk;
+use try_text::{Case, CaseFault, FileText, Said, cases_of};
 
 /// Plays the cases of a file over the data of its folder. Says how many hold, and of each other what is different; answers
 /// whether all hold.

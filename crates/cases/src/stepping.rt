@@ -6,11 +6,11 @@ use crate::failing::{
 };
 use crate::folder::{DataFile, data_of};
 use crate::trial::Trial;
-use case_host::{Disk, Failing};
-use case_text::{Limits, Said, Step, Variant};
 use std::alloc::Global;
 use std::cell::RefCell;
 use std::io::{self, ErrorKind};
+use try_host::{Disk, Failing};
+use try_text::{Limits, Said, Step, Variant};
 
 /// What came of a step.
 #[derive(Drop)]

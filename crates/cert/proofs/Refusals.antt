@@ -4,8 +4,8 @@ use Rattle.machine_text.specs.Packed.{Packed}
 use Rattle.run.specs.declared.halts_in.HaltsIn.{HaltsIn}
 use Rattle.run.specs.Halts.{HaltsAsClaimed}
 use Rattle.run.specs.Limits.{halt_step_limit}
-use Rattle.evidence.specs.declared.verdicts.Refused.{Refused}
-use Rattle.evidence.specs.declared.verdicts.Refused.TheVariants.{Fails, TooLong, TooWide, NoMemory}
+use Rattle.kind_evidence.specs.declared.verdicts.Refused.{Refused}
+use Rattle.kind_evidence.specs.declared.verdicts.Refused.TheVariants.{Fails, TooLong, TooWide, NoMemory}
 use Rattle.cert.specs.Claim.{Recorded, HaltsClaim}
 use Rattle.cert.specs.Kinds.{recorded}
 use Rattle.cert.specs.declared.record.Record.{Record}

@@ -5,7 +5,7 @@ use Rattle.machine_text.specs.Packed.{Packed}
 use Rattle.run.specs.declared.halts_in.HaltsIn.{HaltsIn}
 use Rattle.run.specs.Halts.{HaltsAsClaimed}
 use Rattle.run.specs.Limits.{halt_step_limit}
-use Rattle.evidence.specs.Verdict.{ending_of}
+use Rattle.kind_evidence.specs.Verdict.{ending_of}
 use Rattle.cert.specs.Claim.{Claim, HaltsClaim, CycleClaim, TranslatedClaim, BackwardClaim, NgramClaim, FarClaim, NoClaim, Recorded, ending_by, shown_by, IsWithin, IsWide, Stands}
 use Rattle.cert.specs.Certified.{IsCertified}
 use Rattle.cert.specs.Kinds.{recorded}

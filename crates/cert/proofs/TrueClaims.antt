@@ -1,18 +1,18 @@
 -- A claim that stands makes its verdict true.
 use Rattle.std.proofs.Common.{IfSome}
 use Rattle.machine_text.specs.Packed.{Packed, IsTable, entry_of}
-use Rattle.turing.proofs.CycleLaws.{cycle_never}
-use Rattle.turing.proofs.TranslatedLaws.{translated_never}
-use Rattle.turing.proofs.BackwardLaws.{backward_never}
-use Rattle.turing.proofs.ClosedSets.{closed_never}
-use Rattle.turing.proofs.AutomataLaws.{automata_never}
-use Rattle.turing.proofs.TableLaws.{table_machine}
+use Rattle.law_turing.proofs.CycleLaws.{cycle_never}
+use Rattle.law_turing.proofs.TranslatedLaws.{translated_never}
+use Rattle.law_turing.proofs.BackwardLaws.{backward_never}
+use Rattle.law_turing.proofs.ClosedSets.{closed_never}
+use Rattle.law_turing.proofs.AutomataLaws.{automata_never}
+use Rattle.law_turing.proofs.TableLaws.{table_machine}
 use Rattle.run.proofs.ScoreLaws.{claimed_is_true}
 use Rattle.far.specs.Automata.{described}
 use Rattle.ngram_cps.specs.Listing.{IsItem}
 use Rattle.ngram_cps.specs.Words.{word_text}
 use Rattle.ngram_cps.specs.Lists.{IsLocalItem}
-use Rattle.evidence.specs.Verdict.{IsTrueOf}
+use Rattle.kind_evidence.specs.Verdict.{IsTrueOf}
 use Rattle.cert.specs.Claim.{Claim, HaltsClaim, CycleClaim, TranslatedClaim, BackwardClaim, NgramClaim, FarClaim, NoClaim, Stands, shown_by}
 
 pub standing_is_true : (c : Claim) (p : Packed) → IsTable p → Stands c p → IfSome (shown_by c p) (λ v. IsTrueOf v (entry_of p))

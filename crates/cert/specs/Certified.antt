@@ -2,11 +2,11 @@
 use Rattle.std.specs.Prelude.{◌≡◌, ℕ, ◌<◌, Option, Some, None}
 use Rattle.machine_text.specs.Packed.{Packed, entry_of}
 use Rattle.machine_text.specs.declared.transition.Pair.{Pair}
-use Rattle.turing.specs.Halting.{HaltsOn}
-use Rattle.evidence.specs.declared.verdicts.Ending.{Ending}
-use Rattle.evidence.specs.declared.verdicts.Ending.TheVariants.{Halts, Never}
-use Rattle.evidence.specs.declared.verdicts.Refused.{Refused}
-use Rattle.evidence.specs.declared.verdicts.Refused.TheVariants.{Fails, TooLong, TooWide, NoMemory}
+use Rattle.law_turing.specs.Halting.{HaltsOn}
+use Rattle.kind_evidence.specs.declared.verdicts.Ending.{Ending}
+use Rattle.kind_evidence.specs.declared.verdicts.Ending.TheVariants.{Halts, Never}
+use Rattle.kind_evidence.specs.declared.verdicts.Refused.{Refused}
+use Rattle.kind_evidence.specs.declared.verdicts.Refused.TheVariants.{Fails, TooLong, TooWide, NoMemory}
 use Rattle.cert.specs.Claim.{Recorded, IsWithin, IsWide, Stands}
 
 -- what is claimed stands, within the limits; where nothing is claimed nothing has to

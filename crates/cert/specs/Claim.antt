@@ -7,8 +7,8 @@ use Rattle.loops.specs.declared.translated.Translated.{Translated}
 use Rattle.backward.specs.declared.backward.Backward.{Backward}
 use Rattle.far.specs.Automata.{Automata}
 use Rattle.ngram_cps.specs.Lists.{Lists}
-use Rattle.evidence.specs.declared.verdicts.Ending.{Ending}
-use Rattle.evidence.specs.declared.verdicts.Verdict.{Verdict}
+use Rattle.kind_evidence.specs.declared.verdicts.Ending.{Ending}
+use Rattle.kind_evidence.specs.declared.verdicts.Verdict.{Verdict}
 use Rattle.cert.specs.Meaning.{Meaning}
 use Rattle.cert.specs.meanings.Halts.{halts_meaning}
 use Rattle.cert.specs.meanings.Cycle.{cycle_meaning}

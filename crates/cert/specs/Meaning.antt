@@ -1,8 +1,8 @@
 -- What a claim of a kind means, whatever the kind.
 use Rattle.std.specs.Prelude.{ℕ, Option}
 use Rattle.machine_text.specs.Packed.{Packed}
-use Rattle.evidence.specs.declared.verdicts.Ending.{Ending}
-use Rattle.evidence.specs.declared.verdicts.Verdict.{Verdict}
+use Rattle.kind_evidence.specs.declared.verdicts.Ending.{Ending}
+use Rattle.kind_evidence.specs.declared.verdicts.Verdict.{Verdict}
 
 pub record Meaning : Type 1 where
   -- it has a text: its numbers are those of 64 bits, its lists and automata are such and aren't too large

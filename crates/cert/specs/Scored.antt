@@ -1,7 +1,7 @@
 -- Records of tables that halt with their score, and without.
 use Rattle.std.specs.Prelude.{◌≡◌, ◌≤◌, ◌⊎◌, Some, None}
 use Rattle.machine_text.specs.Packed.{Packed, entry_of}
-use Rattle.turing.specs.Score.{score_at}
+use Rattle.law_turing.specs.Score.{score_at}
 use Rattle.run.specs.Halts.{HaltsAsClaimed}
 use Rattle.run.specs.Limits.{halt_step_limit}
 use Rattle.run.specs.declared.halts_in.HaltsIn.{HaltsIn}

@@ -2,7 +2,7 @@
 ghost use Rattle.std.specs.Prelude.{◌≡◌, ◌++◌, OnOk, OnErr};
 ghost use Rattle.machine_text.specs.Text.{text_of};
 
-use evidence::NoMemory;
+use kind_evidence::NoMemory;
 use machine_text::{TEXT_BYTES, Table};
 
 /// Appends a table's text. Where memory is refused, `out` is as it was.

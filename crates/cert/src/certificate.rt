@@ -6,8 +6,8 @@ ghost use Rattle.text.specs.Fields.{made_of};
 ghost use Rattle.cert.specs.Kinds.{claim_of};
 
 use backward::Backward;
-use evidence::{Ending, NoMemory, Verdict};
 use far::{Far, OwnedFar};
+use kind_evidence::{Ending, NoMemory, Verdict};
 use loops::{Cycle, Translated};
 use ngram_cps::{Ngram, OwnedNgram};
 use run::HaltsIn;

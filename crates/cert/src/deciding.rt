@@ -9,7 +9,7 @@ use crate::certificate::OwnedCertificate;
 use crate::finder::Finder;
 use crate::judgement::judge;
 use crate::record::{OwnedRecord, Record};
-use evidence::{NoMemory, Refused};
+use kind_evidence::{NoMemory, Refused};
 use machine_text::Table;
 use std::alloc::Global;
 

@@ -1,8 +1,8 @@
 // Finders: what looks for certificates.
 use crate::certificate::OwnedCertificate;
 use backward::BackwardFinder;
-use evidence::NoMemory;
 use far::FarFinder;
+use kind_evidence::NoMemory;
 use loops::{CycleFinder, TranslatedFinder};
 use machine_text::Table;
 use ngram_cps::NgramFinder;

@@ -6,7 +6,7 @@ ghost use Rattle.cert.specs.Kinds.{claim_of, recorded};
 
 use crate::certificate::Certificate;
 use crate::record::Record;
-use evidence::{Evidence, Refused, Verdict};
+use kind_evidence::{Evidence, Refused, Verdict};
 use machine_text::{Pair, Table};
 use std::alloc::Global;
 

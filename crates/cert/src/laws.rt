@@ -1,7 +1,7 @@
 // What is true of all records: laws over the definitions, each the contract of a function without a body.
 ghost use Rattle.std.specs.Prelude.{◌≡◌, ◌≢◌, Some, Ok, IfSome, All, option_map};
 ghost use Rattle.machine_text.specs.Packed.{Packed, IsTable, entry_of};
-ghost use Rattle.evidence.specs.Verdict.{IsTrueOf, ending_of};
+ghost use Rattle.kind_evidence.specs.Verdict.{IsTrueOf, ending_of};
 ghost use Rattle.cert.specs.Claim.{Claim, Recorded, IsWritable, IsMadeFor, Stands, ending_by, shown_by};
 ghost use Rattle.cert.specs.Certified.{IsCertified};
 ghost use Rattle.cert.specs.Grammar.{record_of, record_text};

@@ -22,9 +22,9 @@ mod scoring;
 pub use appending::append_table;
 pub use certificate::{Certificate, OwnedCertificate};
 pub use deciding::{Decider, Finders, decide};
-pub use evidence::NoMemory;
 pub use finder::Finder;
 pub use judgement::{Judged, judge, judge_on};
+pub use kind_evidence::NoMemory;
 pub use laws::{
     certified_claims_are_writable, record_texts_are_lines, records_parse_back, scores_leave_claims,
     standing_claims_are_true,

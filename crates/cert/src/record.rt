@@ -11,7 +11,7 @@ use crate::certificate::{Certificate, OwnedCertificate};
 use crate::laws::records_parse_back;
 use crate::limits::MAX_RECORD_BYTES;
 use crate::record_fault::RecordFault;
-use evidence::NoMemory;
+use kind_evidence::NoMemory;
 use machine_text::Table;
 use text::{FieldFault, Parts, next_field};
 

@@ -5,7 +5,7 @@ ghost use Rattle.cert.specs.Scored.{GetsOnes, GetsScore};
 
 use crate::certificate::Certificate;
 use crate::record::Record;
-use evidence::{NoMemory, Refused};
+use kind_evidence::{NoMemory, Refused};
 use machine_text::Table;
 use run::HaltsIn;
 use std::alloc::Global;

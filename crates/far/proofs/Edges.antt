@@ -9,8 +9,8 @@ use Rattle.machine_text.specs.declared.transition.Sym.{Sym}
 use Rattle.machine_text.specs.declared.transition.Sym.TheVariants.{Zero, One}
 use Rattle.machine_text.specs.declared.transition.Entry.{Entry}
 use Rattle.machine_text.specs.Packed.{Packed, IsTable, symbol_number, entry_of}
-use Rattle.turing.specs.Automata.{Node, At, Halt}
-use Rattle.turing.proofs.TableLaws.{table_machine}
+use Rattle.law_turing.specs.Automata.{Node, At, Halt}
+use Rattle.law_turing.proofs.TableLaws.{table_machine}
 use Rattle.far.specs.Automata.{Automata, has, is_node, has_node, node_number, row_at, target, has_edge, described, AreAutomata, AreAutomataOf}
 use Rattle.far.specs.inside.Sets.{Gathers, IsPart}
 use Rattle.far.specs.inside.Steps.{last, ReachesIn, FitsEntry, FitsBy, FitsPair, EachFits, KeepsBlank}

@@ -4,8 +4,8 @@ use Rattle.std.proofs.Common.{◌≡◌, ℕ, ◌^◌, ◌<◌, true, false, ltb
 use Rattle.std.specs.Prelude.{decimal}
 use Rattle.std.proofs.lemmas.Bool.Decides.{nat_tests}
 use Rattle.machine_text.specs.declared.transition.Dir.{Dir}
-use Rattle.evidence.specs.Side.{side_text}
-use Rattle.evidence.proofs.Sides.{side_back, side_is_high, length_of_side}
+use Rattle.kind_evidence.specs.Side.{side_text}
+use Rattle.kind_evidence.proofs.Sides.{side_back, side_is_high, length_of_side}
 use Rattle.text.specs.Decimal.{decimal_value}
 use Rattle.text.specs.Fields.{AreFields, with_value}
 use Rattle.text.specs.declared.fields.FieldFault.TheVariants.{BadList}

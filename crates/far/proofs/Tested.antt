@@ -5,7 +5,7 @@ use Rattle.std.proofs.lemmas.Bool.Decides.{Decides-and, Decides-eqb, Decides-ltb
 use Rattle.std.proofs.lemmas.Slice.Eq.{bytes_eq-Decides}
 use Rattle.text.specs.Parts.{parts_of}
 use Rattle.far.specs.Texts.{hex_glyph, hex_value, hex_text, hex_worth, IsDigit, IsHex, IsDelta, IsRows, AreTexts}
-use Rattle.evidence.proofs.Tested.{below_decides}
+use Rattle.kind_evidence.proofs.Tested.{below_decides}
 use Rattle.far.specs.Tests.{is_hex, is_state_digit, is_delta, is_rows, are_texts}
 
 hex_decides : (limit : ℕ) (text : List ℕ) → Decides (is_hex limit text) (IsHex limit text)

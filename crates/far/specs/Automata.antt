@@ -5,7 +5,7 @@ use Rattle.machine_text.specs.declared.transition.Sym.{Sym}
 use Rattle.machine_text.specs.declared.transition.Dir.{Dir}
 use Rattle.machine_text.specs.Packed.{Packed, symbol_number, entry_of}
 use Rattle.machine_text.specs.Limits.{state_limit}
-use Rattle.turing.specs.Automata.{Node, At, Halt, TwoAutomata as Tests, Fits}
+use Rattle.law_turing.specs.Automata.{Node, At, Halt, TwoAutomata as Tests, Fits}
 use Rattle.far.specs.Limits.{size_limit}
 
 -- what they were made for, which way is ahead, the size of the first automaton, where it goes from state q on

@@ -1,7 +1,7 @@
 -- The fields of a record of automata: how they are read and written.
 use Rattle.std.specs.Prelude.{ℕ, ◌&&◌, not, nat_lt, if◌then◌else◌, List, [], ◌∷◌, Option, Some, None, Result, Ok, Err, decimal}
 use Rattle.machine_text.specs.declared.transition.Dir.{Dir}
-use Rattle.evidence.specs.Side.{side_of, side_text}
+use Rattle.kind_evidence.specs.Side.{side_of, side_text}
 use Rattle.text.specs.Decimal.{decimal_value}
 use Rattle.text.specs.Fields.{with_value}
 use Rattle.text.specs.declared.fields.FieldFault.{FieldFault}

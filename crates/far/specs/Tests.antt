@@ -1,7 +1,7 @@
 -- Whether texts are those of automata, as tests: a grammar needs an answer, and not the fact alone.
 use Rattle.std.specs.Prelude.{ℕ, ◌+◌, ◌*◌, ◌^◌, ◌==◌, ◌&&◌, nat_lt, Bool, List, [], length, get_or, slice_index}
 use Rattle.std.specs.Str.{bytes_eq}
-use Rattle.evidence.specs.Tests.{each_below}
+use Rattle.kind_evidence.specs.Tests.{each_below}
 use Rattle.text.specs.Parts.{parts_of}
 use Rattle.far.specs.Texts.{hex_glyph, hex_value, hex_text, hex_worth}
 

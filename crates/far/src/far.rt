@@ -7,7 +7,7 @@ ghost use Rattle.far.specs.Texts.{AreTexts};
 
 use crate::limits::MAX_SIZE;
 use crate::unpacked::Unpacked;
-use evidence::{Evidence, Refused, Verdict};
+use kind_evidence::{Evidence, Refused, Verdict};
 use machine_text::{Dir, Table};
 use std::alloc::Global;
 
@@ -137,11 +137,11 @@ impl<'a> Far<'a> {
 
 impl Evidence for Far<'_> {
     ghost use Rattle.machine_text.specs.Packed.{entry_of};
-    ghost use Rattle.evidence.specs.declared.verdicts.Verdict.TheVariants.{Never};
+    ghost use Rattle.kind_evidence.specs.declared.verdicts.Verdict.TheVariants.{Never};
     ghost use Rattle.far.specs.Automata.{AreAutomataOf, described};
     ghost use Rattle.far.specs.Far.{automata_of};
-    ghost use Rattle.turing.proofs.AutomataLaws.{automata_never};
-    ghost use Rattle.turing.proofs.TableLaws.{table_machine};
+    ghost use Rattle.law_turing.proofs.AutomataLaws.{automata_never};
+    ghost use Rattle.law_turing.proofs.TableLaws.{table_machine};
 
     ghost within = { λ e. AreSized (automata_of e) };
 

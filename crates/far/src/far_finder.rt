@@ -7,8 +7,8 @@ ghost use Rattle.far.specs.OwnedFar.{owned_automata};
 use crate::least_edges::LeastEdges;
 use crate::limits::MAX_SIZE;
 use crate::owned_far::OwnedFar;
-use automata_search::{AutomataSearch, Automaton, Stage};
-use evidence::NoMemory;
+use find_automata::{AutomataSearch, Automaton, Stage};
+use kind_evidence::NoMemory;
 use machine_text::Table;
 use std::alloc::Global;
 
@@ -40,7 +40,7 @@ impl FarFinder {
 
     /// Automata of a table, of the finder's size at most; none where it finds none. What it gives stands.
     ///
-    /// `automata_search` looks for the first automaton, by stages that a budget of 1,000 runs as they are and others
+    /// `find_automata` looks for the first automaton, by stages that a budget of 1,000 runs as they are and others
     /// in proportion. The second one has the least edges that go with it. No contract says what is found or how long
     /// it takes. The first search takes the memory to search in, and each one that of what it finds.
     pub fn search(&mut self, t: &Table, budget: u64) -> Result<Option<OwnedFar>, NoMemory>

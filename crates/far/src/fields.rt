@@ -9,7 +9,7 @@ ghost use Rattle.far.specs.Fields.{size_in, numbers_by, far_by, number_fields, f
 ghost use Rattle.far.specs.Limits.{size_limit};
 
 use crate::far::Far;
-use evidence::{NoMemory, side_of, side_text};
+use kind_evidence::{NoMemory, side_of, side_text};
 use machine_text::Dir;
 use text::{FieldFault, Parts, append_field, append_number_field, end_of, next_field, number_in};
 

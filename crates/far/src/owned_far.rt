@@ -8,7 +8,7 @@ ghost use Rattle.far.specs.Texts.{AreTexts};
 use crate::far::Far;
 use crate::unpacked::Unpacked;
 use crate::writing::{append_delta, append_hex, append_rows};
-use evidence::NoMemory;
+use kind_evidence::NoMemory;
 use machine_text::Dir;
 use std::alloc::Global;
 

@@ -4,7 +4,7 @@ ghost use Rattle.far.specs.Texts.{hex_text, delta_text, rows_text};
 
 use crate::hexadecimal::{MAX_DIGITS, hex_glyph, hex_text};
 use crate::limits::Set;
-use evidence::NoMemory;
+use kind_evidence::NoMemory;
 
 // Where the first automaton goes, digit by digit.
 pub(crate) fn append_delta(delta: &[u8], out: &mut Vec<u8>) -> Result<(), NoMemory>

@@ -2,18 +2,18 @@
 use Rattle.std.proofs.Common.{◌≡◌, ℕ, ◌≤◌, ◌⊎◌, ◌↔◌, inl, inr, refl, sym, ◌∙◌, ap, subst, List, [], ◌∷◌, ◌++◌, All, length, Option, Some, None, IfSome, Contains, arith}
 use Rattle.machine_text.specs.declared.transition.Sym.{Sym}
 use Rattle.machine_text.specs.Packed.{Packed, IsTable, entry_of}
-use Rattle.turing.proofs.Counting.{length-le_of_members}
-use Rattle.turing.proofs.TableLaws.{table_machine}
+use Rattle.law_turing.proofs.Counting.{length-le_of_members}
+use Rattle.law_turing.proofs.TableLaws.{table_machine}
 use Rattle.std.specs.Option.{option_map}
-use Rattle.evidence.specs.declared.verdicts.Ending.{Ending}
-use Rattle.tree.specs.Closed.{Halting, Holdout}
-use Rattle.tree.specs.Children.{HaltsOn, IsChild}
-use Rattle.tree.specs.Tables.{IsChildTable, InTableTree, children_at}
-use Rattle.tree.specs.Used.{InOrder}
-use Rattle.tree.proofs.Parents.{tree_machine, tree_holes}
-use Rattle.tree.proofs.TableLaws.{child_map, tree_alike, tree_map, one_table_parent}
-use Rattle.tree.proofs.TreeLaws.{child_holes}
-use Rattle.tree.proofs.ChildCount.{children_bound}
+use Rattle.kind_evidence.specs.declared.verdicts.Ending.{Ending}
+use Rattle.law_tree.specs.Closed.{Halting, Holdout}
+use Rattle.law_tree.specs.Children.{HaltsOn, IsChild}
+use Rattle.law_tree.specs.Tables.{IsChildTable, InTableTree, children_at}
+use Rattle.law_tree.specs.Used.{InOrder}
+use Rattle.law_tree.proofs.Parents.{tree_machine, tree_holes}
+use Rattle.law_tree.proofs.TableLaws.{child_map, tree_alike, tree_map, one_table_parent}
+use Rattle.law_tree.proofs.TreeLaws.{child_holes}
+use Rattle.law_tree.proofs.ChildCount.{children_bound}
 use Rattle.cert.specs.Claim.{Recorded}
 use Rattle.cert.specs.Scored.{with_score}
 use Rattle.cert.proofs.Scores.{score_certified}

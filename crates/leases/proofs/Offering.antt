@@ -12,8 +12,8 @@ use Rattle.leases.proofs.FreeLaws.{mapped, unmapped}
 use Rattle.leases.proofs.Members.{member_lives}
 use Rattle.std.proofs.lemmas.Option.{same_Some}
 use Rattle.machine_text.specs.Packed.{Packed}
-use Rattle.tree.specs.Closed.{Holdout}
-use Rattle.tree.specs.Tables.{IsChildTable}
+use Rattle.law_tree.specs.Closed.{Holdout}
+use Rattle.law_tree.specs.Tables.{IsChildTable}
 use Rattle.cert.specs.Claim.{Recorded}
 use Rattle.ledger.specs.Contents.{Contents, IsOpenOn}
 use Rattle.ledger.specs.Records.{same_table, mark_in}

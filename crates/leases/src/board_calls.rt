@@ -4,7 +4,7 @@ ghost use Rattle.machine_text.specs.Packed.{Packed};
 ghost use Rattle.ledger.specs.Contents.{IsOpenOn};
 
 use crate::free_tables::FreeTables;
-use evidence::NoMemory;
+use kind_evidence::NoMemory;
 use ledger::Board;
 use machine_text::Table;
 use std::alloc::Global;

@@ -1,7 +1,7 @@
 // The children of a table that was recorded, which became open.
 ghost use Rattle.std.specs.Prelude.{◌≡◌, ◌↔◌, ◌+◌, ◌≤◌, ℕ, Contains, IsSome, IfSome, length};
 ghost use Rattle.machine_text.specs.Packed.{Packed};
-ghost use Rattle.tree.specs.Tables.{IsChildTable};
+ghost use Rattle.law_tree.specs.Tables.{IsChildTable};
 ghost use Rattle.ledger.specs.Tally.{AreAll, IsHalting};
 ghost use Rattle.std.specs.Prelude.{Some};
 ghost use Rattle.indexmap.specs.IndexMap.{spare};
@@ -14,10 +14,10 @@ ghost use Rattle.leases.specs.inside.Free.{ComesIn};
 
 use crate::free_tables::FreeTables;
 use indexmap::{IndexMap, IndexSet};
+use law_tree::children_listed;
 use ledger::Board;
 use machine_text::Table;
 use tnf::Children;
-use tree::children_listed;
 
 // The children of a table that is recorded as halting.
 fn children_of(board: &Board, t: &Table) -> Option<Children>

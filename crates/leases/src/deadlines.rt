@@ -5,7 +5,7 @@ ghost use Rattle.std.specs.declared.cmp.Reverse.{Reverse};
 ghost use Rattle.leases.specs.inside.Deadlines.{entry, is_past, TakesPast};
 
 use crate::held_leases::is_due;
-use evidence::NoMemory;
+use kind_evidence::NoMemory;
 use std::alloc::Global;
 use std::cmp::Reverse;
 use std::collections::BinaryHeap;

@@ -9,7 +9,7 @@ ghost use Rattle.leases.specs.declared.held_leases.HeldLease.{HeldLease};
 
 use crate::deadlines::Deadlines;
 use crate::held_leases::{HeldLease, is_due};
-use evidence::NoMemory;
+use kind_evidence::NoMemory;
 use std::collections::BTreeMap;
 
 // Takes out the entries of the leases that have ended by a moment, and lists their numbers. What it meets

@@ -10,9 +10,9 @@ use crate::free_tables::FreeTables;
 use crate::held_leases::is_numbered;
 use crate::live_leases::LiveLeases;
 use indexmap::IndexMap;
+use law_tree::child_is_table;
 use ledger::Board;
 use machine_text::Table;
-use tree::child_is_table;
 
 // The number of the live lease under which a table stands, or none. One lease may be left out.
 pub(crate) fn lease_of(

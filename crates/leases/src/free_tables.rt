@@ -5,7 +5,7 @@ ghost use Rattle.machine_text.specs.Packed.{Packed};
 ghost use Rattle.machine_text.specs.Order.{table_cmp};
 ghost use Rattle.leases.specs.inside.Free.{ComesIn, IsOnTop, LosesOnly};
 
-use evidence::NoMemory;
+use kind_evidence::NoMemory;
 use machine_text::Table;
 use std::alloc::Global;
 use std::cmp::Reverse;

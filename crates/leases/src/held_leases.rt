@@ -6,8 +6,8 @@ ghost use Rattle.leases.specs.inside.Stored.{is_numbered};
 
 use crate::free_tables::FreeTables;
 use crate::limits::LEASE_TIME;
-use evidence::NoMemory;
 use indexmap::IndexSet;
+use kind_evidence::NoMemory;
 use machine_text::Table;
 use std::alloc::Global;
 

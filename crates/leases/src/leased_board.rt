@@ -10,13 +10,13 @@ use crate::limits::{MAX_CHILDREN, may_grant};
 use crate::live_leases::LiveLeases;
 use crate::reply::Reply;
 use cert::Record;
-use evidence::NoMemory;
 use indexmap::IndexMap;
+use kind_evidence::NoMemory;
+use law_tree::child_is_table;
 use ledger::{Board, OfferFault, Taken};
 use machine_text::Table;
 use std::alloc::Global;
 use std::marker::Model;
-use tree::child_is_table;
 
 /// A board, and the leases on its open tables: each open table is under none or under one live lease.
 #[derive(Drop)]

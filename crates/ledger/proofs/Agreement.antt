@@ -7,11 +7,11 @@ use Rattle.std.proofs.lemmas.List.{map-append}
 use Rattle.std.proofs.lemmas.List.Sums.{fold-append}
 use Rattle.std.proofs.lemmas.Option.{same_Some}
 use Rattle.machine_text.specs.Packed.{Packed, IsTable}
-use Rattle.evidence.specs.declared.verdicts.Ending.{Ending}
-use Rattle.evidence.specs.declared.verdicts.Ending.TheVariants.{Halts, Never}
-use Rattle.tree.specs.Closed.{Mark, Halting, NeverHalting, Holdout, IsVerdict, IsOpen}
-use Rattle.tree.specs.Tables.{IsChildTable}
-use Rattle.tree.proofs.TableLaws.{tree_alike, tree_table_child}
+use Rattle.kind_evidence.specs.declared.verdicts.Ending.{Ending}
+use Rattle.kind_evidence.specs.declared.verdicts.Ending.TheVariants.{Halts, Never}
+use Rattle.law_tree.specs.Closed.{Mark, Halting, NeverHalting, Holdout, IsVerdict, IsOpen}
+use Rattle.law_tree.specs.Tables.{IsChildTable}
+use Rattle.law_tree.proofs.TableLaws.{tree_alike, tree_table_child}
 use Rattle.cert.specs.Claim.{Claim, Recorded, ending_by}
 use Rattle.cert.specs.Certified.{IsCertified}
 use Rattle.cert.specs.Scored.{scored, with_score}

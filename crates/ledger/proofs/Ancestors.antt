@@ -3,10 +3,10 @@ use Rattle.std.proofs.Common.{◌≡◌, ℕ, zero, suc, ◌+◌, ◌<◌, ◌�
 use Rattle.std.specs.Prelude.{slice_get}
 use Rattle.std.proofs.lemmas.Option.{same_Some, slice_get-map}
 use Rattle.machine_text.specs.Packed.{Packed, IsTable, entry_of, holes}
-use Rattle.turing.proofs.TableLaws.{table_machine}
-use Rattle.tree.specs.Tables.{IsChildTable, InTableTree, Itself, OfChild}
-use Rattle.tree.proofs.TableLaws.{child_alike, child_map, tree_alike, tree_table_child, one_table_parent}
-use Rattle.tree.proofs.TreeLaws.{child_holes}
+use Rattle.law_turing.proofs.TableLaws.{table_machine}
+use Rattle.law_tree.specs.Tables.{IsChildTable, InTableTree, Itself, OfChild}
+use Rattle.law_tree.proofs.TableLaws.{child_alike, child_map, tree_alike, tree_table_child, one_table_parent}
+use Rattle.law_tree.proofs.TreeLaws.{child_holes}
 use Rattle.cert.specs.Claim.{Recorded}
 use Rattle.ledger.specs.inside.Stored.{entry_recorded, records_of}
 use Rattle.ledger.specs.inside.Open.{no_place}

@@ -1,7 +1,7 @@
 -- A record that is answered is of a table that has a record.
 use Rattle.std.proofs.Common.{◌≡◌, List, [], ◌∷◌, ◌++◌, Some, None, Ok, IsSome, inl, inr, refl, sym, ◌∙◌, subst, option_map}
 use Rattle.machine_text.specs.Packed.{Packed}
-use Rattle.tree.specs.Closed.{Mark, Holdout, IsVerdict}
+use Rattle.law_tree.specs.Closed.{Mark, Holdout, IsVerdict}
 use Rattle.cert.specs.Claim.{Claim, Recorded}
 use Rattle.cert.specs.Scored.{with_score}
 use Rattle.ledger.specs.Offers.{OfferGives, IsKnown}

@@ -7,9 +7,9 @@ use Rattle.std.proofs.lemmas.List.{length-map}
 use Rattle.std.proofs.lemmas.List.Sorted.{Contains-permutation, IsPermutation-sym}
 use Rattle.std.proofs.lemmas.List.Elements.{All-contains_itself}
 use Rattle.machine_text.specs.Packed.{Packed, IsTable, entry_of}
-use Rattle.tree.specs.Used.{InOrder}
-use Rattle.tree.specs.Closed.{Mark, Halting, Holdout, IsOpen}
-use Rattle.tree.specs.Tables.{InTableTree}
+use Rattle.law_tree.specs.Used.{InOrder}
+use Rattle.law_tree.specs.Closed.{Mark, Halting, Holdout, IsOpen}
+use Rattle.law_tree.specs.Tables.{InTableTree}
 use Rattle.cert.specs.Claim.{Recorded, ending_by, score_by}
 use Rattle.ledger.specs.Records.{claim_in, mark_in, mark_of}
 use Rattle.ledger.specs.Held.{IsHoldout}

@@ -7,7 +7,7 @@ use Rattle.std.specs.BTreeMap.{BTreeMap, ContainsKey, is_at}
 use Rattle.std.proofs.lemmas.List.{map-append, length-map}
 use Rattle.indexmap.specs.IndexMap.{insert_entry}
 use Rattle.machine_text.specs.Packed.{Packed}
-use Rattle.tree.specs.Closed.{IsOpen}
+use Rattle.law_tree.specs.Closed.{IsOpen}
 use Rattle.cert.specs.Claim.{Claim, Recorded, ending_by, score_by}
 use Rattle.cert.specs.Certified.{IsCertified, IsPairOf}
 use Rattle.cert.specs.Kinds.{owned_claim}

@@ -1,10 +1,10 @@
 -- The bound of a table, by the numbers of its tree.
 use Rattle.std.proofs.Common.{◌≡◌, ℕ, List, Option, Some, None, option_map, IsSome, refl, sym, ap, subst, arith}
 use Rattle.machine_text.specs.Packed.{Packed, IsTable}
-use Rattle.turing.specs.Halting.{HaltsAt}
-use Rattle.tree.specs.Best.{Scores}
-use Rattle.tree.specs.Closed.{Mark, Halting, NeverHalting, Holdout, AreTrueMarks, IsVerdict, IsOpen}
-use Rattle.tree.specs.Tables.{InTableTree, Itself, IsBestOfTable}
+use Rattle.law_turing.specs.Halting.{HaltsAt}
+use Rattle.law_tree.specs.Best.{Scores}
+use Rattle.law_tree.specs.Closed.{Mark, Halting, NeverHalting, Holdout, AreTrueMarks, IsVerdict, IsOpen}
+use Rattle.law_tree.specs.Tables.{InTableTree, Itself, IsBestOfTable}
 use Rattle.cert.specs.Claim.{Claim, Recorded}
 use Rattle.ledger.specs.Records.{claim_in, mark_in, mark_of}
 use Rattle.ledger.specs.Held.{IsHoldout}

@@ -5,9 +5,9 @@ use Rattle.std.specs.BTreeMap.{BTreeMap, keys}
 use Rattle.std.specs.List.Sorted.{IsStrictlySortedBy}
 use Rattle.std.proofs.lemmas.List.{length-map}
 use Rattle.machine_text.specs.Packed.{Packed}
-use Rattle.evidence.specs.declared.verdicts.Ending.TheVariants.{Halts}
-use Rattle.tree.specs.Closed.{IsOpen}
-use Rattle.tree.specs.Tables.{IsChildTable}
+use Rattle.kind_evidence.specs.declared.verdicts.Ending.TheVariants.{Halts}
+use Rattle.law_tree.specs.Closed.{IsOpen}
+use Rattle.law_tree.specs.Tables.{IsChildTable}
 use Rattle.cert.specs.Claim.{Recorded, ending_by, score_by}
 use Rattle.ledger.specs.Records.{mark_in}
 use Rattle.ledger.specs.Held.{HasScore, IsHoldout}

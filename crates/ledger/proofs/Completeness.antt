@@ -2,17 +2,17 @@
 use Rattle.std.proofs.Common.{◌≡◌, ℕ, ◌≤◌, List, Option, Some, None, option_map, IfSome, ◌↔◌, refl, sym, ◌∙◌, ap, subst}
 use Rattle.machine_text.specs.Packed.{Packed, IsTable, entry_of, empty_table}
 use Rattle.machine_text.specs.declared.limits.TheConstants.{MAX_STATES}
-use Rattle.turing.specs.Halting.{HaltsAt, IsRado}
-use Rattle.turing.specs.Score.{HaltsWith, score_at}
-use Rattle.turing.proofs.Scores.{halts_with}
-use Rattle.evidence.specs.Verdict.{IsTrueOf, ending_of}
-use Rattle.evidence.specs.declared.verdicts.Ending.{Ending}
-use Rattle.evidence.specs.declared.verdicts.Verdict.{Verdict}
-use Rattle.evidence.specs.declared.verdicts.Verdict.TheVariants.{Halts, Never}
-use Rattle.tree.specs.Used.{InOrder}
-use Rattle.tree.specs.Best.{Scores, IsGreatestOfAll}
-use Rattle.tree.specs.Closed.{Mark, Halting, NeverHalting, Holdout, IsTrueMark, AreTrueMarks, AreTrueScores, IsClosed, IsComplete, IsGreatestRecorded}
-use Rattle.tree.specs.Tables.{InTableTree, Itself, IsBestOfTable}
+use Rattle.law_turing.specs.Halting.{HaltsAt, IsRado}
+use Rattle.law_turing.specs.Score.{HaltsWith, score_at}
+use Rattle.law_turing.proofs.Scores.{halts_with}
+use Rattle.kind_evidence.specs.Verdict.{IsTrueOf, ending_of}
+use Rattle.kind_evidence.specs.declared.verdicts.Ending.{Ending}
+use Rattle.kind_evidence.specs.declared.verdicts.Verdict.{Verdict}
+use Rattle.kind_evidence.specs.declared.verdicts.Verdict.TheVariants.{Halts, Never}
+use Rattle.law_tree.specs.Used.{InOrder}
+use Rattle.law_tree.specs.Best.{Scores, IsGreatestOfAll}
+use Rattle.law_tree.specs.Closed.{Mark, Halting, NeverHalting, Holdout, IsTrueMark, AreTrueMarks, AreTrueScores, IsClosed, IsComplete, IsGreatestRecorded}
+use Rattle.law_tree.specs.Tables.{InTableTree, Itself, IsBestOfTable}
 use Rattle.cert.specs.Claim.{Claim, Recorded, Stands, shown_by}
 use Rattle.ledger.specs.Records.{claim_in, mark_in, mark_of, mark_by}
 use Rattle.ledger.specs.Contents.{Contents, IsBoard}

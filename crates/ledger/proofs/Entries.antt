@@ -10,9 +10,9 @@ use Rattle.std.proofs.lemmas.List.Elements.{All-cons, All-nil}
 use Rattle.std.proofs.lemmas.Option.{same_Some, slice_get-map, slice_get_within}
 use Rattle.indexmap.specs.IndexMap.{insert_entry}
 use Rattle.machine_text.specs.Packed.{Packed}
-use Rattle.evidence.specs.declared.verdicts.Ending.{Ending}
-use Rattle.evidence.specs.declared.verdicts.Ending.TheVariants.{Halts, Never}
-use Rattle.tree.specs.Closed.{Holdout}
+use Rattle.kind_evidence.specs.declared.verdicts.Ending.{Ending}
+use Rattle.kind_evidence.specs.declared.verdicts.Ending.TheVariants.{Halts, Never}
+use Rattle.law_tree.specs.Closed.{Holdout}
 use Rattle.cert.specs.Claim.{Claim, Recorded, ending_by}
 use Rattle.cert.specs.Kinds.{owned_claim}
 use Rattle.ledger.specs.Records.{same_table, claim_in, mark_of, mark_by}

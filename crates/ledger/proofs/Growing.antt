@@ -2,8 +2,8 @@
 use Rattle.std.proofs.Common.{◌≡◌, ℕ, ◌+◌, List, [], ◌∷◌, ◌++◌, length, take, inl, inr, refl, sym, ap, ◌∙◌, subst, arith, append_assoc, append-nil, length-append}
 use Rattle.std.proofs.Math.Seq.{take-append_seam}
 use Rattle.machine_text.specs.Packed.{Packed, IsTable}
-use Rattle.tree.specs.Closed.{Holdout}
-use Rattle.tree.proofs.TableLaws.{tree_alike, tree_table_child}
+use Rattle.law_tree.specs.Closed.{Holdout}
+use Rattle.law_tree.proofs.TableLaws.{tree_alike, tree_table_child}
 use Rattle.cert.specs.Claim.{Recorded}
 use Rattle.cert.specs.Certified.{IsCertified}
 use Rattle.cert.specs.Scored.{with_score}

@@ -1,9 +1,9 @@
 -- What is true of every held list, and what keeps a list held.
 use Rattle.std.proofs.Common.{◌≡◌, ℕ, true, false, cond, List, [], ◌∷◌, ◌++◌, Option, Some, None, option_map, inl, inr, refl, sym, ◌∙◌, ap, subst, append_assoc, append-nil, IfSome, ◌⊎◌}
-use Rattle.evidence.specs.Verdict.{IsTrueOf}
-use Rattle.evidence.specs.declared.verdicts.Verdict.{Verdict}
+use Rattle.kind_evidence.specs.Verdict.{IsTrueOf}
+use Rattle.kind_evidence.specs.declared.verdicts.Verdict.{Verdict}
 use Rattle.machine_text.specs.Packed.{Packed, IsTable, entry_of}
-use Rattle.tree.specs.Closed.{Mark, Halting, Holdout, IsOpen}
+use Rattle.law_tree.specs.Closed.{Mark, Halting, Holdout, IsOpen}
 use Rattle.std.specs.List.{All}
 use Rattle.std.proofs.lemmas.List.Elements.{All-append, All-cons, All-nil}
 use Rattle.cert.specs.Claim.{Claim, Recorded, Stands, shown_by}

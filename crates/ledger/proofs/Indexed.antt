@@ -6,11 +6,11 @@ use Rattle.std.specs.Map.{lookup}
 use Rattle.std.proofs.lemmas.Bool.{cases_lt}
 use Rattle.std.proofs.lemmas.Option.{same_Some, slice_get-map, slice_get_within, slice_get-get_or, get_or_from_slice_get}
 use Rattle.machine_text.specs.Packed.{Packed}
-use Rattle.evidence.specs.declared.verdicts.Ending.{Ending}
-use Rattle.evidence.specs.declared.verdicts.Ending.TheVariants.{Halts, Never}
-use Rattle.tree.specs.Closed.{Halting}
-use Rattle.tree.specs.Tables.{IsChildTable, InTableTree, Itself}
-use Rattle.tree.proofs.TableLaws.{tree_table_child, one_table_parent}
+use Rattle.kind_evidence.specs.declared.verdicts.Ending.{Ending}
+use Rattle.kind_evidence.specs.declared.verdicts.Ending.TheVariants.{Halts, Never}
+use Rattle.law_tree.specs.Closed.{Halting}
+use Rattle.law_tree.specs.Tables.{IsChildTable, InTableTree, Itself}
+use Rattle.law_tree.proofs.TableLaws.{tree_table_child, one_table_parent}
 use Rattle.cert.specs.Claim.{Claim, Recorded, ending_by}
 use Rattle.ledger.specs.Records.{same_table, claim_in, mark_in, mark_by}
 use Rattle.ledger.specs.Contents.{IsBoardOf}

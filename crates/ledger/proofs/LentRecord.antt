@@ -1,7 +1,7 @@
 -- The record that is held, as it is lent: the offered one with its score.
 use Rattle.std.proofs.Common.{◌≡◌, IsSome, Option, sym, ◌∙◌, ap, subst}
 use Rattle.machine_text.specs.Packed.{Packed}
-use Rattle.evidence.specs.declared.verdicts.Ending.{Ending}
+use Rattle.kind_evidence.specs.declared.verdicts.Ending.{Ending}
 use Rattle.cert.specs.Claim.{Claim, Recorded, ending_by}
 use Rattle.cert.specs.Certified.{IsCertified, IsPairOf}
 use Rattle.cert.specs.Kinds.{claim_of, owned_claim}

@@ -6,9 +6,9 @@ use Rattle.std.proofs.lemmas.Bool.{ltb-true, ltb-false}
 use Rattle.std.proofs.lemmas.Bool.Decides.{Decides-eqb}
 use Rattle.std.proofs.lemmas.List.{length-map}
 use Rattle.machine_text.specs.Packed.{Packed}
-use Rattle.evidence.specs.declared.verdicts.Ending.{Ending}
-use Rattle.evidence.specs.declared.verdicts.Ending.TheVariants.{Halts, Never}
-use Rattle.tree.specs.Closed.{Mark, Halting, NeverHalting, Holdout}
+use Rattle.kind_evidence.specs.declared.verdicts.Ending.{Ending}
+use Rattle.kind_evidence.specs.declared.verdicts.Ending.TheVariants.{Halts, Never}
+use Rattle.law_tree.specs.Closed.{Mark, Halting, NeverHalting, Holdout}
 use Rattle.cert.specs.Claim.{Claim, Recorded, ending_by, score_by}
 use Rattle.ledger.specs.Records.{same_table, claim_in, mark_in, mark_of, mark_by}
 use Rattle.ledger.specs.Held.{IsHoldout, settled}

@@ -1,11 +1,11 @@
 -- Which tables are opened by a record, and the pair that is known of a recorded table.
 use Rattle.std.proofs.Common.{◌≡◌, ℕ, ◌⊎◌, inl, inr, ◌↔◌, Some, None, List, Option, Contains, IfSome, IfNone, option_map, OnOk, Result, Ok, Err, refl, sym, ◌∙◌, ap}
 use Rattle.machine_text.specs.Packed.{Packed}
-use Rattle.evidence.specs.declared.verdicts.Ending.{Ending}
-use Rattle.evidence.specs.declared.verdicts.Ending.TheVariants.{Halts, Never}
-use Rattle.tree.specs.Tables.{IsChildTable}
+use Rattle.kind_evidence.specs.declared.verdicts.Ending.{Ending}
+use Rattle.kind_evidence.specs.declared.verdicts.Ending.TheVariants.{Halts, Never}
+use Rattle.law_tree.specs.Tables.{IsChildTable}
 use Rattle.cert.specs.Claim.{Claim, Recorded, ending_by}
-use Rattle.tree.specs.Closed.{Halting}
+use Rattle.law_tree.specs.Closed.{Halting}
 use Rattle.ledger.specs.Records.{claim_in, mark_of, mark_by}
 use Rattle.ledger.specs.Tally.{HaltsAfter, IsHalting}
 use Rattle.ledger.proofs.OpenLaws.{stopping_verdict}

@@ -3,7 +3,7 @@ use Rattle.std.proofs.Common.{ℕ, ◌↔◌}
 use Rattle.std.specs.List.{Contains}
 use Rattle.std.specs.BTreeMap.{BTreeMap, keys}
 use Rattle.machine_text.specs.Packed.{Packed}
-use Rattle.tree.specs.Closed.{IsOpen}
+use Rattle.law_tree.specs.Closed.{IsOpen}
 use Rattle.ledger.specs.Records.{mark_in}
 use Rattle.ledger.specs.Contents.{Contents}
 use Rattle.ledger.specs.inside.Open.{IsOpenMap}

@@ -4,8 +4,8 @@ use Rattle.std.specs.List.{All}
 use Rattle.std.specs.BTreeMap.{BTreeMap}
 use Rattle.std.proofs.lemmas.List.Elements.{All-cons, All-nil}
 use Rattle.machine_text.specs.Packed.{Packed, IsTable, entry_of}
-use Rattle.tree.specs.Closed.{Halting, IsOpen}
-use Rattle.tree.specs.Used.{InOrder}
+use Rattle.law_tree.specs.Closed.{Halting, IsOpen}
+use Rattle.law_tree.specs.Used.{InOrder}
 use Rattle.ledger.specs.Held.{HasScore}
 use Rattle.ledger.specs.Records.{mark_in, mark_of}
 use Rattle.ledger.specs.inside.Open.{IsOpener, IsOpenMapOf}

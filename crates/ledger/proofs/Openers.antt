@@ -11,7 +11,7 @@ use Rattle.std.proofs.lemmas.Bool.Decides.{Decides-eqb}
 use Rattle.std.proofs.lemmas.List.Elements.{All-cons, All-nil, filter_passes}
 use Rattle.std.proofs.lemmas.Option.{slice_get_past, slice_get_within, get_or_from_slice_get}
 use Rattle.machine_text.specs.Packed.{Packed}
-use Rattle.tree.specs.Tables.{IsChildTable}
+use Rattle.law_tree.specs.Tables.{IsChildTable}
 use Rattle.cert.specs.Claim.{Claim, Recorded, ending_by}
 use Rattle.ledger.specs.Records.{same_table, claim_in}
 use Rattle.ledger.specs.Held.{settled}

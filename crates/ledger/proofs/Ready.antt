@@ -8,8 +8,8 @@ use Rattle.std.proofs.lemmas.List.{length-map}
 use Rattle.std.proofs.lemmas.Option.{same_Some, slice_get_within}
 use Rattle.indexmap.specs.IndexMap.{insert_entry}
 use Rattle.machine_text.specs.Packed.{Packed}
-use Rattle.tree.specs.Closed.{IsOpen}
-use Rattle.tree.proofs.TableLaws.{tree_table_child}
+use Rattle.law_tree.specs.Closed.{IsOpen}
+use Rattle.law_tree.proofs.TableLaws.{tree_table_child}
 use Rattle.cert.specs.Claim.{Claim, Recorded, ending_by}
 use Rattle.cert.specs.Certified.{IsCertified}
 use Rattle.cert.specs.Kinds.{owned_claim}

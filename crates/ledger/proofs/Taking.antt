@@ -7,11 +7,11 @@ use Rattle.std.specs.Option.{is_some}
 use Rattle.std.specs.BTreeMap.{BTreeMap, ContainsKey, is_at}
 use Rattle.machine_text.specs.Packed.{Packed, IsTable, entry_of}
 use Rattle.machine_text.specs.declared.transition.Pair.{Pair}
-use Rattle.evidence.specs.declared.verdicts.Ending.{Ending}
-use Rattle.evidence.specs.declared.verdicts.Ending.TheVariants.{Halts, Never}
-use Rattle.tree.specs.Used.{InOrder}
-use Rattle.tree.specs.Closed.{IsOpen, Holdout}
-use Rattle.tree.specs.Tables.{IsChildTable, InTableTree}
+use Rattle.kind_evidence.specs.declared.verdicts.Ending.{Ending}
+use Rattle.kind_evidence.specs.declared.verdicts.Ending.TheVariants.{Halts, Never}
+use Rattle.law_tree.specs.Used.{InOrder}
+use Rattle.law_tree.specs.Closed.{IsOpen, Holdout}
+use Rattle.law_tree.specs.Tables.{IsChildTable, InTableTree}
 use Rattle.cert.specs.Claim.{Claim, Recorded, ending_by}
 use Rattle.cert.specs.Certified.{IsCertified, IsPairOf}
 use Rattle.ledger.specs.Records.{claim_in, mark_in, mark_of, mark_by}

@@ -1,12 +1,12 @@
 -- The numbers of a table's tree once a record is taken.
 use Rattle.std.proofs.Common.{true, false, ◌≡◌, ◌≢◌, ℕ, ◌+◌, ◌-◌, ◌<◌, ◌≤◌, ◌^◌, Option, Some, None, IsSome, option_map, List, inl, inr, ◌⊎◌, ◌↔◌, refl, sym, ◌∙◌, ap, subst, arith}
 use Rattle.machine_text.specs.Packed.{Packed, IsTable, entry_of}
-use Rattle.turing.specs.Score.{score_at}
-use Rattle.evidence.specs.declared.verdicts.Ending.{Ending}
-use Rattle.evidence.specs.declared.verdicts.Ending.TheVariants.{Halts, Never}
-use Rattle.tree.specs.Closed.{Mark, Halting, Holdout, IsOpen, IsGreatestRecorded}
-use Rattle.tree.specs.Tables.{IsChildTable, InTableTree, Itself, OfChild}
-use Rattle.tree.proofs.TableLaws.{tree_alike, tree_table_child, one_table_parent}
+use Rattle.law_turing.specs.Score.{score_at}
+use Rattle.kind_evidence.specs.declared.verdicts.Ending.{Ending}
+use Rattle.kind_evidence.specs.declared.verdicts.Ending.TheVariants.{Halts, Never}
+use Rattle.law_tree.specs.Closed.{Mark, Halting, Holdout, IsOpen, IsGreatestRecorded}
+use Rattle.law_tree.specs.Tables.{IsChildTable, InTableTree, Itself, OfChild}
+use Rattle.law_tree.proofs.TableLaws.{tree_alike, tree_table_child, one_table_parent}
 use Rattle.cert.specs.Claim.{Claim, Recorded, ending_by, score_by}
 use Rattle.ledger.specs.Records.{same_table, claim_in, mark_in, mark_of, mark_by}
 use Rattle.ledger.specs.Held.{HasScore, IsHoldout}

@@ -1,8 +1,8 @@
 -- The line of a record that is held reads, in its version, as a record that is held as that one is.
 use Rattle.std.proofs.Common.{◌≡◌, ℕ, Bool, true, false, cond, List, [], ◌∷◌, ◌++◌, Ok, Err, ◌⊎◌, inl, inr, IsSome, refl, sym, ap, ◌∙◌, subst, is_some, not, Option, Some, None, Result}
 use Rattle.machine_text.specs.Packed.{Packed, IsTable}
-use Rattle.evidence.specs.declared.verdicts.Ending.{Ending}
-use Rattle.evidence.specs.declared.verdicts.Ending.TheVariants.{Halts}
+use Rattle.kind_evidence.specs.declared.verdicts.Ending.{Ending}
+use Rattle.kind_evidence.specs.declared.verdicts.Ending.TheVariants.{Halts}
 use Rattle.cert.specs.Claim.{Claim, HaltsClaim, CycleClaim, TranslatedClaim, BackwardClaim, NgramClaim, FarClaim, NoClaim, Recorded, ending_by, score_by}
 use Rattle.cert.specs.Certified.{IsCertified}
 use Rattle.cert.specs.Grammar.{record_text, record_of}

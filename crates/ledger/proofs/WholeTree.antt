@@ -6,15 +6,15 @@ use Rattle.std.specs.declared.cmp.Ordering.TheVariants.{Less}
 use Rattle.std.specs.Cmp.Lexicographic.{slice_cmp, nat_list_cmp_total}
 use Rattle.machine_text.specs.Packed.{Packed, entry_of}
 use Rattle.machine_text.specs.Text.{text_of}
-use Rattle.turing.specs.Machine.{Machine}
-use Rattle.turing.specs.Halting.{HaltsAt, Never}
-use Rattle.turing.specs.Score.{HaltsWith}
-use Rattle.turing.proofs.Scores.{halts_with, score_is}
-use Rattle.tree.specs.Best.{Scores}
-use Rattle.tree.specs.Closed.{Mark, Halting, NeverHalting, IsTrueMark, AreTrueMarks, IsVerdict, IsComplete}
-use Rattle.tree.specs.Tables.{InTableTree, IsGreatestInTables}
-use Rattle.tree.proofs.TableLaws.{tree_alike, tree_table_child}
-use Rattle.tree.proofs.ClosedLaws.{one_mark, closed_verdict, complete_closed}
+use Rattle.law_turing.specs.Machine.{Machine}
+use Rattle.law_turing.specs.Halting.{HaltsAt, Never}
+use Rattle.law_turing.specs.Score.{HaltsWith}
+use Rattle.law_turing.proofs.Scores.{halts_with, score_is}
+use Rattle.law_tree.specs.Best.{Scores}
+use Rattle.law_tree.specs.Closed.{Mark, Halting, NeverHalting, IsTrueMark, AreTrueMarks, IsVerdict, IsComplete}
+use Rattle.law_tree.specs.Tables.{InTableTree, IsGreatestInTables}
+use Rattle.law_tree.proofs.TableLaws.{tree_alike, tree_table_child}
+use Rattle.law_tree.proofs.ClosedLaws.{one_mark, closed_verdict, complete_closed}
 use Rattle.cert.proofs.TrueClaims.{standing_is_true}
 use Rattle.cert.specs.Claim.{Claim, Recorded}
 use Rattle.ledger.specs.Records.{claim_in, mark_in, mark_of}

@@ -5,7 +5,7 @@ use Rattle.std.proofs.lemmas.List.Elements.{All-append, All-nil}
 use Rattle.machine_text.specs.Packed.{Packed, IsTable}
 use Rattle.machine_text.specs.Text.{text_of}
 use Rattle.machine_text.proofs.RoundTrip.{table_of-text_of}
-use Rattle.tree.proofs.TableLaws.{tree_alike, tree_table_child}
+use Rattle.law_tree.proofs.TableLaws.{tree_alike, tree_table_child}
 use Rattle.cert.specs.Claim.{Recorded}
 use Rattle.cert.proofs.Lines.{by_test, text_line}
 use Rattle.ledger.specs.Contents.{IsBoardOf}

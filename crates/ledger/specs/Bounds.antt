@@ -1,8 +1,8 @@
 -- What a board says of the best of a table.
 use Rattle.machine_text.specs.Packed.{Packed, entry_of}
 use Rattle.std.specs.Prelude.{List}
-use Rattle.turing.specs.Score.{score_at}
-use Rattle.tree.specs.Closed.{IsClosed, IsGreatestRecorded}
+use Rattle.law_turing.specs.Score.{score_at}
+use Rattle.law_tree.specs.Closed.{IsClosed, IsGreatestRecorded}
 use Rattle.cert.specs.Claim.{Recorded}
 use Rattle.ledger.specs.Records.{mark_in}
 use Rattle.ledger.specs.Offers.{IsElsewhere}

@@ -1,8 +1,8 @@
 -- What a board holds: the root of its tree, the records in their order, and the version of its ledger's text.
 use Rattle.std.specs.Prelude.{ℕ, List}
 use Rattle.machine_text.specs.Packed.{Packed, IsTable, entry_of}
-use Rattle.tree.specs.Used.{InOrder}
-use Rattle.tree.specs.Closed.{IsOpen}
+use Rattle.law_tree.specs.Used.{InOrder}
+use Rattle.law_tree.specs.Closed.{IsOpen}
 use Rattle.cert.specs.Claim.{Recorded}
 use Rattle.ledger.specs.Held.{IsHeld}
 use Rattle.ledger.specs.Records.{mark_in}

@@ -1,7 +1,7 @@
 -- The refusal number of each fault, which refused memory doesn't have, and the sentence that says it.
 use Rattle.std.specs.Prelude.{ℕ, List, Option, Some, None, codes}
-use Rattle.evidence.specs.declared.verdicts.Refused.TheVariants.{Fails, TooLong, TooWide, NoMemory as WantsMemory}
-use Rattle.evidence.specs.Verdict.{refused_number}
+use Rattle.kind_evidence.specs.declared.verdicts.Refused.TheVariants.{Fails, TooLong, TooWide, NoMemory as WantsMemory}
+use Rattle.kind_evidence.specs.Verdict.{refused_number}
 use Rattle.cert.specs.Fault.{record_fault_text}
 use Rattle.ledger.specs.declared.faults.BoardFault.{BoardFault}
 use Rattle.ledger.specs.declared.faults.BoardFault.TheVariants.{NotInOrder, NoMemory as NoBoardMemory}

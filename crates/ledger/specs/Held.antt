@@ -1,7 +1,7 @@
 -- Which lists of records a board may hold from a root, and how a record changes them.
 use Rattle.std.specs.Prelude.{◌≡◌, if◌then◌else◌, All, List, [], ◌∷◌, ◌++◌, Some, IsSome}
 use Rattle.machine_text.specs.Packed.{Packed}
-use Rattle.tree.specs.Closed.{Holdout, IsOpen}
+use Rattle.law_tree.specs.Closed.{Holdout, IsOpen}
 use Rattle.cert.specs.Claim.{Recorded, ending_by}
 use Rattle.cert.specs.Certified.{IsCertified}
 use Rattle.cert.specs.Scored.{with_score}

@@ -3,7 +3,7 @@
 use Rattle.std.specs.Prelude.{◌≡◌, ◌≢◌, ℕ, ◌+◌, ◌⊎◌, List, [], ◌∷◌, ◌++◌, map, length, Option, Some, None, Result, Ok, Err}
 use Rattle.machine_text.specs.Packed.{Packed, entry_of}
 use Rattle.machine_text.specs.Text.{table_of, text_of}
-use Rattle.tree.specs.Used.{InOrder}
+use Rattle.law_tree.specs.Used.{InOrder}
 use Rattle.cert.specs.Claim.{Recorded}
 use Rattle.cert.specs.Scored.{with_score}
 use Rattle.ledger.specs.Versions.{header_words, ledger_record, ledger_line}

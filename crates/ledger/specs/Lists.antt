@@ -1,8 +1,8 @@
 -- Lists of records, in order: which of them are fit in their turn, and what is held of them in the end.
 use Rattle.std.specs.Prelude.{◌≡◌, ◌≢◌, ℕ, ◌⊎◌, if◌then◌else◌, List, [], ◌∷◌, ◌++◌, Contains, Some, None, Result, Ok, Err, fold, map}
 use Rattle.machine_text.specs.Packed.{Packed}
-use Rattle.evidence.specs.declared.verdicts.Ending.TheVariants.{Halts}
-use Rattle.tree.specs.Tables.{IsChildTable}
+use Rattle.kind_evidence.specs.declared.verdicts.Ending.TheVariants.{Halts}
+use Rattle.law_tree.specs.Tables.{IsChildTable}
 use Rattle.cert.specs.Claim.{Recorded, ending_by}
 use Rattle.cert.specs.Certified.{IsCertified}
 use Rattle.cert.specs.Scored.{with_score}

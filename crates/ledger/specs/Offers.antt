@@ -1,7 +1,7 @@
 -- What an offered record does to the records held, and why it is refused.
 use Rattle.std.specs.Prelude.{◌≡◌, ◌≢◌, ◌⊎◌, List, [], ◌∷◌, ◌++◌, None, Result, Ok, Err, IsSome}
 use Rattle.machine_text.specs.Packed.{Packed}
-use Rattle.tree.specs.Closed.{IsVerdict, IsOpen}
+use Rattle.law_tree.specs.Closed.{IsVerdict, IsOpen}
 use Rattle.cert.specs.Claim.{Recorded, ending_by}
 use Rattle.cert.specs.Certified.{IsRefusedBy}
 use Rattle.cert.specs.Scored.{with_score}

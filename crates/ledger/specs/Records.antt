@@ -2,10 +2,10 @@
 use Rattle.std.specs.Prelude.{Bool, ◌&&◌, if◌then◌else◌, List, [], ◌∷◌, Option, Some, None, option_map, nat_eq}
 use Rattle.std.specs.Cmp.Lexicographic.{pointwise}
 use Rattle.machine_text.specs.Packed.{Packed}
-use Rattle.evidence.specs.declared.verdicts.Ending.{Ending}
-use Rattle.evidence.specs.declared.verdicts.Verdict.{Verdict}
-use Rattle.evidence.specs.declared.verdicts.Ending.TheVariants.{Halts, Never}
-use Rattle.tree.specs.Closed.{Mark, Halting, NeverHalting, Holdout}
+use Rattle.kind_evidence.specs.declared.verdicts.Ending.{Ending}
+use Rattle.kind_evidence.specs.declared.verdicts.Verdict.{Verdict}
+use Rattle.kind_evidence.specs.declared.verdicts.Ending.TheVariants.{Halts, Never}
+use Rattle.law_tree.specs.Closed.{Mark, Halting, NeverHalting, Holdout}
 use Rattle.cert.specs.Claim.{Claim, Recorded, ending_by, shown_by}
 
 -- whether two tables are one

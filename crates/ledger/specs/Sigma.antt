@@ -1,7 +1,7 @@
 -- The greatest score: Σ(n) (Radó 1962).
 use Rattle.std.specs.Prelude.{ℕ, ◌≤◌}
-use Rattle.turing.specs.Machine.{Machine, IsMachine}
-use Rattle.tree.specs.Best.{Scores}
+use Rattle.law_turing.specs.Machine.{Machine, IsMachine}
+use Rattle.law_tree.specs.Best.{Scores}
 
 -- s is the greatest score with which a machine of n states halts: Σ(n)
 pub record IsSigma (n s : ℕ) : Type 0 where

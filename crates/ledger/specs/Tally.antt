@@ -5,8 +5,8 @@ use Rattle.std.specs.declared.cmp.Ordering.TheVariants.{Less}
 use Rattle.std.specs.Cmp.Lexicographic.{slice_cmp}
 use Rattle.machine_text.specs.Packed.{Packed, entry_of}
 use Rattle.machine_text.specs.Text.{text_of}
-use Rattle.turing.specs.Score.{score_at}
-use Rattle.tree.specs.Closed.{Halting, NeverHalting, IsOpen, IsComplete}
+use Rattle.law_turing.specs.Score.{score_at}
+use Rattle.law_tree.specs.Closed.{Halting, NeverHalting, IsOpen, IsComplete}
 use Rattle.cert.specs.Claim.{Recorded}
 use Rattle.ledger.specs.Records.{mark_in}
 use Rattle.ledger.specs.Held.{IsHoldout}

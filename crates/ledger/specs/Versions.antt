@@ -1,8 +1,8 @@
 -- The versions of a ledger's text. In version 1 a record that says that its table halts stands without its score, in
 -- version 2 with it.
 use Rattle.std.specs.Prelude.{ℕ, Bool, true, not, is_some, if◌then◌else◌, List, codes, Option, Some, None, Result, Ok, Err}
-use Rattle.evidence.specs.declared.verdicts.Ending.{Ending}
-use Rattle.evidence.specs.declared.verdicts.Ending.TheVariants.{Halts, Never}
+use Rattle.kind_evidence.specs.declared.verdicts.Ending.{Ending}
+use Rattle.kind_evidence.specs.declared.verdicts.Ending.TheVariants.{Halts, Never}
 use Rattle.cert.specs.Claim.{Recorded, ending_by, score_by}
 use Rattle.cert.specs.Grammar.{record_of, record_text}
 use Rattle.cert.specs.Scored.{without_score}

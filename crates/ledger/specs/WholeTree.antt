@@ -2,9 +2,9 @@
 -- board tells.
 use Rattle.std.specs.Prelude.{◌≡◌, ℕ, Option, Some, None}
 use Rattle.machine_text.specs.Packed.{Packed, entry_of}
-use Rattle.turing.specs.Halting.{HaltsAt, Never}
-use Rattle.tree.specs.Best.{Scores}
-use Rattle.tree.specs.Tables.{InTableTree, IsGreatestInTables}
+use Rattle.law_turing.specs.Halting.{HaltsAt, Never}
+use Rattle.law_tree.specs.Best.{Scores}
+use Rattle.law_tree.specs.Tables.{InTableTree, IsGreatestInTables}
 use Rattle.ledger.specs.Tally.{AreSoMany}
 use Rattle.ledger.specs.declared.tally.Tally.{Tally}
 

@@ -2,12 +2,12 @@
 ghost use Rattle.std.specs.Prelude.{◌≡◌, ℕ, IfSome, IfOk, Err, ◌↔◌, ◌≤◌, Option, Some, IsTrue, drop};
 ghost use Rattle.machine_text.specs.Limits.{state_limit};
 ghost use Rattle.machine_text.specs.Packed.{entry_of, empty_table};
-ghost use Rattle.tree.specs.Used.{InOrder};
-ghost use Rattle.evidence.specs.Verdict.{IsTrueOf};
-ghost use Rattle.turing.specs.Halting.{IsRado, HaltsAt};
+ghost use Rattle.law_tree.specs.Used.{InOrder};
+ghost use Rattle.kind_evidence.specs.Verdict.{IsTrueOf};
+ghost use Rattle.law_turing.specs.Halting.{IsRado, HaltsAt};
 ghost use Rattle.std.specs.Vec.Iter.{into_iter_items};
-ghost use Rattle.tree.specs.Best.{Scores};
-ghost use Rattle.tree.specs.Tables.{IsBestOfTable, IsChildTable};
+ghost use Rattle.law_tree.specs.Best.{Scores};
+ghost use Rattle.law_tree.specs.Tables.{IsBestOfTable, IsChildTable};
 ghost use Rattle.ledger.specs.Versions.{format_number};
 ghost use Rattle.ledger.specs.Contents.{IsBoard};
 ghost use Rattle.ledger.specs.declared.format.Format.TheVariants.{Two};
@@ -36,15 +36,15 @@ use crate::taken::Taken;
 use crate::tally::Tally;
 use crate::tree_count::{TreeChange, TreeCount};
 use cert::{Record, standing_claims_are_true};
-use evidence::{NoMemory, Verdict};
 use indexmap::IndexMap;
+use kind_evidence::{NoMemory, Verdict};
+use law_tree::{best_of_closed, child_is_table, closed_tree, rado_of_complete};
 use machine_text::Table;
 use std::alloc::Global;
 use std::collections::BTreeMap;
 use std::marker::Model;
 use std::vec::IntoIter;
 use tnf::{Children, in_order};
-use tree::{best_of_closed, child_is_table, closed_tree, rado_of_complete};
 
 /// An iterator over the holdouts of a board.
 pub type Holdouts = IntoIter<Table>;
@@ -88,7 +88,7 @@ impl Model for Board {
 
 impl Board {
     ghost use Rattle.std.specs.Prelude.{[], ◌∷◌, ◌++◌, OnOk, OnErr, IfErr, ◌⊎◌, IsSome};
-    ghost use Rattle.tree.specs.Closed.{IsComplete, IsOpen};
+    ghost use Rattle.law_tree.specs.Closed.{IsComplete, IsOpen};
     ghost use Rattle.cert.specs.Claim.{ending_by};
     ghost use Rattle.cert.specs.Certified.{IsCertified};
     ghost use Rattle.cert.specs.Kinds.{claim_of, recorded};

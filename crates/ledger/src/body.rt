@@ -16,7 +16,7 @@ use crate::left::{Left, Unkept};
 use crate::line_start::LineStart;
 use crate::taken::Taken;
 use cert::{Record, RecordFault};
-use evidence::NoMemory;
+use kind_evidence::NoMemory;
 use std::alloc::Global;
 
 /// The lines behind a header, up to one that isn't kept.

@@ -1,15 +1,15 @@
 // What a board says of the best of a table.
 ghost use Rattle.std.specs.Prelude.{◌≡◌, ℕ, Option, None};
-ghost use Rattle.turing.specs.Halting.{HaltsAt};
-ghost use Rattle.tree.specs.Best.{Scores};
-ghost use Rattle.tree.specs.Tables.{IsBestOfTable};
+ghost use Rattle.law_turing.specs.Halting.{HaltsAt};
+ghost use Rattle.law_tree.specs.Best.{Scores};
+ghost use Rattle.law_tree.specs.Tables.{IsBestOfTable};
 ghost use Rattle.ledger.specs.Bounds.{IsBound};
 ghost use Rattle.ledger.specs.Records.{claim_in};
 
 use crate::board::Board;
 use cert::standing_claims_are_true;
+use law_tree::{best_of_closed, child_is_table};
 use machine_text::Table;
-use tree::{best_of_closed, child_is_table};
 
 /// What a board says of the best of a table: the greatest number of steps and the greatest score of all its extensions
 /// that halt, in tree normal form or not.

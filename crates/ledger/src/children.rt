@@ -5,18 +5,18 @@ ghost use Rattle.std.specs.declared.cmp.Ordering.TheVariants.{Less};
 ghost use Rattle.std.specs.Cmp.Lexicographic.{slice_cmp};
 ghost use Rattle.machine_text.specs.Packed.{Packed, entry_of};
 ghost use Rattle.machine_text.specs.Text.{text_of};
-ghost use Rattle.tree.specs.Used.{InOrder};
-ghost use Rattle.tree.specs.Tables.{IsChildTable};
-ghost use Rattle.evidence.specs.declared.verdicts.Ending.TheVariants.{Halts};
+ghost use Rattle.law_tree.specs.Used.{InOrder};
+ghost use Rattle.law_tree.specs.Tables.{IsChildTable};
+ghost use Rattle.kind_evidence.specs.declared.verdicts.Ending.TheVariants.{Halts};
 ghost use Rattle.cert.specs.Claim.{ending_by};
 ghost use Rattle.cert.specs.Kinds.{claim_of};
 ghost use Rattle.cert.specs.Certified.{HaltsOnPair, IsPairOf};
 ghost use Rattle.ledger.specs.Tally.{AreSoMany};
 
 use cert::Record;
+use law_tree::children_listed;
 use machine_text::{Pair, Table};
 use tnf::{Children, children};
-use tree::children_listed;
 
 // The children of a table in order that halts on a pair, in the order of their texts.
 pub(crate) fn children_on(parent: &Table, pair: Pair) -> Children

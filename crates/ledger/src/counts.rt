@@ -2,7 +2,7 @@
 ghost use Rattle.std.specs.Prelude.{◌≡◌, ℕ, ◌<◌, ◌^◌, None};
 ghost use Rattle.ledger.specs.inside.Counting.{with_shown, without_holdout, greater};
 
-use evidence::Ending;
+use kind_evidence::Ending;
 
 // How many records there are of each kind, and the greatest number of steps and the greatest score of those that say
 // that their table halts.

@@ -1,7 +1,7 @@
 // Why calls of a board are refused.
 ghost use Rattle.std.specs.Prelude.{◌≡◌};
 
-use evidence::{NoMemory, Refused};
+use kind_evidence::{NoMemory, Refused};
 use std::error::Error;
 use std::fmt;
 

@@ -5,7 +5,7 @@ ghost use Rattle.cert.specs.Kinds.{claim_of};
 ghost use Rattle.ledger.specs.Versions.{format_number, header_words, may_stand};
 
 use cert::Certificate;
-use evidence::Ending;
+use kind_evidence::Ending;
 
 /// The version of a ledger's text, which its header names. It is decided there for all lines.
 #[derive(Clone, Copy, Debug, PartialEq, Eq)]

@@ -14,8 +14,8 @@ ghost use Rattle.std.specs.Map.{lookup};
 use crate::stored_record::StoredRecord;
 use crate::tree_count::TreeCount;
 use cert::Certificate;
-use evidence::Verdict;
 use indexmap::IndexMap;
+use kind_evidence::Verdict;
 use machine_text::{Pair, Table};
 
 // What the record for a table claims of it.

@@ -1,11 +1,11 @@
 // What is true of all ledgers: laws over the definitions, each the contract of a function without a body.
 ghost use Rattle.std.specs.Prelude.{◌≡◌, ◌↔◌, ℕ, List, [], ◌∷◌, ◌++◌, take, Option, Some, Result, Ok, IsSome};
 ghost use Rattle.machine_text.specs.Packed.{Packed, IsTable, entry_of};
-ghost use Rattle.turing.specs.Halting.{HaltsAt, Never};
-ghost use Rattle.tree.specs.Best.{Scores};
-ghost use Rattle.tree.specs.Closed.{IsComplete};
-ghost use Rattle.tree.specs.Tables.{InTableTree};
-ghost use Rattle.evidence.specs.declared.verdicts.Ending.TheVariants.{Halts};
+ghost use Rattle.law_turing.specs.Halting.{HaltsAt, Never};
+ghost use Rattle.law_tree.specs.Best.{Scores};
+ghost use Rattle.law_tree.specs.Closed.{IsComplete};
+ghost use Rattle.law_tree.specs.Tables.{InTableTree};
+ghost use Rattle.kind_evidence.specs.declared.verdicts.Ending.TheVariants.{Halts};
 ghost use Rattle.cert.specs.Claim.{Recorded, ending_by};
 ghost use Rattle.cert.specs.Scored.{with_score};
 ghost use Rattle.ledger.specs.declared.left.Left.{Left as LeftOver};

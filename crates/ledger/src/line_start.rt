@@ -3,7 +3,7 @@ ghost use Rattle.std.specs.Prelude.{◌≡◌, ◌↔◌, ◌++◌, [], List, �
 ghost use Rattle.ledger.specs.Loading.{record_start};
 
 use cert::MAX_RECORD_BYTES;
-use evidence::NoMemory;
+use kind_evidence::NoMemory;
 use std::alloc::Global;
 use std::marker::Model;
 

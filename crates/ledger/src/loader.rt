@@ -1,7 +1,7 @@
 // A ledger's text as it is loaded.
 ghost use Rattle.std.specs.Prelude.{◌≡◌, ℕ, ◌+◌, ◌<◌, ◌^◌, List, [], ◌++◌, ◌∷◌, length, IfErr, OnOk};
 ghost use Rattle.machine_text.specs.Packed.{entry_of};
-ghost use Rattle.tree.specs.Used.{InOrder};
+ghost use Rattle.law_tree.specs.Used.{InOrder};
 ghost use Rattle.text.specs.Lines.{HasNoNewline};
 ghost use Rattle.ledger.specs.LedgerText.{LoadGives};
 ghost use Rattle.ledger.specs.Loading.{StandsAfter, IsFed, IsStopped};
@@ -30,7 +30,7 @@ pub struct Loader {
 impl Model for Loader {
     ghost use Rattle.std.specs.Prelude.{ℕ};
     ghost use Rattle.machine_text.specs.Packed.{entry_of};
-    ghost use Rattle.tree.specs.Used.{InOrder};
+    ghost use Rattle.law_tree.specs.Used.{InOrder};
     ghost use Rattle.ledger.specs.Loading.{Loading};
 
     ghost Value = { Loading };

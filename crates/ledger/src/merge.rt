@@ -1,13 +1,13 @@
 // Two boards of one root, joined.
 ghost use Rattle.std.specs.Prelude.{◌≡◌};
-ghost use Rattle.tree.specs.Closed.{IsComplete};
+ghost use Rattle.law_tree.specs.Closed.{IsComplete};
 ghost use Rattle.ledger.specs.Records.{mark_in};
 ghost use Rattle.ledger.specs.Merging.{MergeGives};
 
 use crate::board::Board;
 use crate::faults::{MergeFault, OfferFault};
 use cert::standing_claims_are_true;
-use tree::{child_is_table, one_true_verdict};
+use law_tree::{child_is_table, one_true_verdict};
 
 impl Board {
     /// Offers the records of another board, in their order. Then the tables with a verdict are those of

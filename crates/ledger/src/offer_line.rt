@@ -1,6 +1,6 @@
 // An offer together with the line that a ledger gains by it.
 ghost use Rattle.std.specs.Prelude.{◌≡◌, ◌++◌, IfErr, IfOk, take, length};
-ghost use Rattle.tree.specs.Closed.{IsComplete};
+ghost use Rattle.law_tree.specs.Closed.{IsComplete};
 ghost use Rattle.cert.specs.Certified.{IsCertified};
 ghost use Rattle.cert.specs.Kinds.{recorded};
 ghost use Rattle.ledger.specs.Records.{mark_in};

@@ -8,7 +8,7 @@ ghost use Rattle.ledger.specs.Versions.{ledger_line};
 
 use crate::format::Format;
 use cert::{Certificate, Record};
-use evidence::{NoMemory, Verdict};
+use kind_evidence::{NoMemory, Verdict};
 
 /// Appends the line of a record in a version, with its newline; where memory is refused, a beginning of it.
 pub(crate) fn append_in(format: Format, r: &Record, out: &mut Vec<u8>) -> Result<(), NoMemory>

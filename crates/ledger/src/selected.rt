@@ -8,9 +8,9 @@ ghost use Rattle.ledger.specs.inside.Counting.{undecided_table, champion_table, 
 ghost use Rattle.machine_text.specs.Order.{table_cmp};
 
 use crate::stored_record::StoredRecord;
-use evidence::{Ending, NoMemory};
 use indexmap::IndexMap;
 use itertools::Itertools;
+use kind_evidence::{Ending, NoMemory};
 use machine_text::Table;
 use std::alloc::Global;
 use std::vec::IntoIter;

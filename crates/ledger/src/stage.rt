@@ -1,7 +1,7 @@
 // What a text that is loaded in pieces has come to.
 ghost use Rattle.std.specs.Prelude.{◌≡◌, ◌+◌, ◌++◌, ◌∷◌, ℕ, List, [], length, IfErr, IfOk, OnOk, OnErr};
 ghost use Rattle.machine_text.specs.Packed.{entry_of};
-ghost use Rattle.tree.specs.Used.{InOrder};
+ghost use Rattle.law_tree.specs.Used.{InOrder};
 ghost use Rattle.text.specs.Lines.{HasNoNewline};
 ghost use Rattle.ledger.specs.LedgerText.{LoadGives};
 ghost use Rattle.ledger.specs.Loading.{IsStageOf, NamesRoot, header_start};
@@ -16,7 +16,7 @@ use crate::feed_stop::FeedStop;
 use crate::header::{header_in, is_begun_header};
 use crate::header_line::HeaderLine;
 use crate::left::Left;
-use evidence::NoMemory;
+use kind_evidence::NoMemory;
 use machine_text::Table;
 use std::alloc::Global;
 

@@ -11,7 +11,7 @@ ghost use Rattle.ledger.specs.inside.Stored.{entry_recorded};
 use crate::faults::OfferFault;
 use crate::tree_count::TreeCount;
 use cert::{Judged, OwnedCertificate, Record, judge_on};
-use evidence::{Ending, Refused, Verdict};
+use kind_evidence::{Ending, Refused, Verdict};
 use machine_text::{Pair, Table};
 use std::alloc::Global;
 

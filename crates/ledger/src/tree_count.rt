@@ -4,7 +4,7 @@ ghost use Rattle.ledger.specs.inside.Counting.{steps_of};
 ghost use Rattle.ledger.specs.inside.Carrying.{changed_count, first_count, settling_change, taking_change, MayChange};
 
 use crate::counts::greater;
-use evidence::Ending;
+use kind_evidence::Ending;
 
 // How many tables of a table's tree are open, how many are holdouts, and the greatest number of steps and the greatest
 // score recorded in it. The table itself is one of its tree.

@@ -12,7 +12,7 @@ use crate::format::Format;
 use crate::laws::ledgers_load_whole;
 use crate::record_line::append_in;
 use crate::records::Records;
-use evidence::NoMemory;
+use kind_evidence::NoMemory;
 use machine_text::{TEXT_BYTES, Table};
 
 impl Board {

@@ -3,10 +3,10 @@ use Rattle.std.proofs.Common.{◌≡◌, ℕ, ◌+◌, ℤ, Some, ◌⊎◌, inl
 use Rattle.std.proofs.lemmas.Int.{ints, by_lt_z}
 use Rattle.machine_text.specs.declared.transition.Dir.{Dir}
 use Rattle.machine_text.specs.declared.transition.Dir.TheVariants.{L, R}
-use Rattle.turing.specs.Machine.{Machine}
-use Rattle.turing.specs.Run.{Config, after}
-use Rattle.turing.specs.Translated.{Beyond, Farthest}
-use Rattle.turing.proofs.Heads.{beyond_itself, farthest_first, farthest_same, farthest_new}
+use Rattle.law_turing.specs.Machine.{Machine}
+use Rattle.law_turing.specs.Run.{Config, after}
+use Rattle.law_turing.specs.Translated.{Beyond, Farthest}
+use Rattle.law_turing.proofs.Heads.{beyond_itself, farthest_first, farthest_same, farthest_new}
 
 -- of two places one is beyond the other
 pub beyond_or : (side : Dir) (a b : ℤ) → Beyond side a b ⊎ Beyond side b a

@@ -1,8 +1,8 @@
 -- The fields of cycles and translated cycles read back.
 use Rattle.std.proofs.Common.{◌≡◌, ◌^◌, ◌<◌, [], ◌∷◌, Ok, refl, arith}
 use Rattle.std.specs.Prelude.{decimal}
-use Rattle.evidence.specs.Side.{side_text}
-use Rattle.evidence.proofs.Sides.{side_back, side_is_high, length_of_side}
+use Rattle.kind_evidence.specs.Side.{side_text}
+use Rattle.kind_evidence.proofs.Sides.{side_back, side_is_high, length_of_side}
 use Rattle.text.specs.Fields.{AreFields}
 use Rattle.text.proofs.Numbers.{decimal_value-decimal, length_of_number}
 use Rattle.text.proofs.Spaced.{number_is_field, and_field, no_fields, length-spaced}

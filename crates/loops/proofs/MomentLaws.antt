@@ -4,11 +4,11 @@ use Rattle.std.proofs.lemmas.Option.{same_Some}
 use Rattle.std.proofs.Common.{◌≡◌, ℕ, ◌+◌, ◌<◌, ◌≤◌, Bool, true, false, ℤ, Some, sym, ◌∙◌, ap, subst, arith}
 use Rattle.machine_text.specs.Packed.{Packed, entry_of}
 use Rattle.machine_text.specs.declared.transition.Dir.{Dir}
-use Rattle.turing.specs.Machine.{Machine}
-use Rattle.turing.specs.Run.{Config, start, after}
-use Rattle.turing.specs.Cycle.{Cycle}
-use Rattle.turing.proofs.RunLaws.{before}
-use Rattle.turing.proofs.Heads.{farthest_first}
+use Rattle.law_turing.specs.Machine.{Machine}
+use Rattle.law_turing.specs.Run.{Config, start, after}
+use Rattle.law_turing.specs.Cycle.{Cycle}
+use Rattle.law_turing.proofs.RunLaws.{before}
+use Rattle.law_turing.proofs.Heads.{farthest_first}
 use Rattle.run.specs.RunState.{RunState, OnRun}
 use Rattle.loops.specs.inside.Moment.{Moment, moment_of, IsMomentOf}
 use Rattle.loops.specs.inside.Arrival.{Arrives, ComesTo}

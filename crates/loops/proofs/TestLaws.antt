@@ -5,10 +5,10 @@ use Rattle.std.proofs.lemmas.Int.{ints}
 use Rattle.std.proofs.lemmas.Option.{same_Some}
 use Rattle.machine_text.specs.Packed.{entry_of}
 use Rattle.machine_text.specs.declared.transition.Dir.{Dir}
-use Rattle.turing.specs.Machine.{Machine}
-use Rattle.turing.specs.Run.{Config, after}
-use Rattle.turing.specs.Translated.{Beyond, Farthest, Translated}
-use Rattle.turing.proofs.Heads.{one_farthest}
+use Rattle.law_turing.specs.Machine.{Machine}
+use Rattle.law_turing.specs.Run.{Config, after}
+use Rattle.law_turing.specs.Translated.{Beyond, Farthest, Translated}
+use Rattle.law_turing.proofs.Heads.{one_farthest}
 use Rattle.tape.specs.Places.{SameBeyond}
 use Rattle.run.specs.RunState.{RunState, OnRun}
 use Rattle.loops.specs.inside.Moment.{Moment, IsMomentOf}

@@ -5,11 +5,11 @@ use Rattle.std.specs.Int.{w64}
 use Rattle.std.specs.Int.RustNames.{FitsSigned}
 use Rattle.machine_text.specs.Packed.{Packed, entry_of}
 use Rattle.machine_text.specs.declared.transition.Dir.{Dir}
-use Rattle.turing.specs.Machine.{Machine}
-use Rattle.turing.specs.Run.{Config, start, after}
-use Rattle.turing.specs.Translated.{Farthest}
-use Rattle.turing.proofs.RunLaws.{not_past}
-use Rattle.turing.proofs.Heads.{head_reach}
+use Rattle.law_turing.specs.Machine.{Machine}
+use Rattle.law_turing.specs.Run.{Config, start, after}
+use Rattle.law_turing.specs.Translated.{Farthest}
+use Rattle.law_turing.proofs.RunLaws.{not_past}
+use Rattle.law_turing.proofs.Heads.{head_reach}
 use Rattle.tape.specs.Places.{IsWithinLimit}
 use Rattle.run.specs.RunState.{RunState, OnRun}
 use Rattle.run.specs.Steps.{RunsTo, StepsTo}

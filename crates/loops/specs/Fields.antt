@@ -4,7 +4,7 @@ use Rattle.text.specs.Decimal.{decimal_value}
 use Rattle.text.specs.Fields.{with_value}
 use Rattle.text.specs.declared.fields.FieldFault.{FieldFault}
 use Rattle.text.specs.declared.fields.FieldFault.TheVariants.{BadKind}
-use Rattle.evidence.specs.Side.{side_of, side_text}
+use Rattle.kind_evidence.specs.Side.{side_of, side_text}
 use Rattle.loops.specs.declared.cycle.Cycle.{Cycle}
 use Rattle.loops.specs.declared.translated.Translated.{Translated}
 

@@ -3,7 +3,7 @@ ghost use Rattle.std.specs.Prelude.{◌≡◌, ◌+◌, ◌<◌, ◌≤◌, IfOk
 ghost use Rattle.loops.specs.Limits.{time_limit};
 ghost use Rattle.loops.specs.inside.Arrival.{ComesTo};
 
-use evidence::NoMemory;
+use kind_evidence::NoMemory;
 use run::{Runner, Step};
 
 // Whether the run comes to time k. If so, the runner then stands there.

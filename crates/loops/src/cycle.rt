@@ -1,7 +1,7 @@
 // The evidence of a run that comes to one configuration twice.
 ghost use Rattle.std.specs.Prelude.{◌≡◌, ◌↔◌, ◌<◌, ◌≤◌, ◌^◌, ◌++◌, length, take, OnOk, IfOk, IsTrue};
 ghost use Rattle.machine_text.specs.Packed.{entry_of};
-ghost use Rattle.turing.specs.Cycle.{Cycle as IsCycle};
+ghost use Rattle.law_turing.specs.Cycle.{Cycle as IsCycle};
 ghost use Rattle.loops.specs.Fields.{cycle_by, cycle_fields};
 ghost use Rattle.loops.specs.Limits.{time_limit};
 ghost use Rattle.text.specs.Fields.{spaced};
@@ -9,7 +9,7 @@ ghost use Rattle.text.specs.Fields.{spaced};
 use crate::arrival::comes_to;
 use crate::limits::MAX_TIME;
 use crate::snapshot::Snapshot;
-use evidence::{Evidence, NoMemory, Refused, Verdict};
+use kind_evidence::{Evidence, NoMemory, Refused, Verdict};
 use machine_text::Table;
 use run::Runner;
 use std::alloc::Global;
@@ -50,8 +50,8 @@ impl Cycle {
 }
 
 impl Evidence for Cycle {
-    ghost use Rattle.turing.proofs.CycleLaws.{cycle_never};
-    ghost use Rattle.evidence.specs.declared.verdicts.Verdict.TheVariants.{Never};
+    ghost use Rattle.law_turing.proofs.CycleLaws.{cycle_never};
+    ghost use Rattle.kind_evidence.specs.declared.verdicts.Verdict.TheVariants.{Never};
 
     ghost within = { λ e. e.j ≤ time_limit };
 

@@ -1,13 +1,13 @@
 // The search for cycles.
 ghost use Rattle.std.specs.Prelude.{◌≡◌, ◌≤◌, min, IfSome, IfOk};
 ghost use Rattle.machine_text.specs.Packed.{entry_of};
-ghost use Rattle.turing.specs.Cycle.{Cycle as IsCycle};
+ghost use Rattle.law_turing.specs.Cycle.{Cycle as IsCycle};
 ghost use Rattle.loops.specs.Limits.{time_limit};
 
 use crate::cycle::Cycle;
 use crate::cycle_watch::CycleWatch;
 use crate::search::Search;
-use evidence::NoMemory;
+use kind_evidence::NoMemory;
 use machine_text::Table;
 use std::alloc::Global;
 

@@ -7,7 +7,7 @@ use crate::allowance::Allowance;
 use crate::cycle::Cycle;
 use crate::search::Watch;
 use crate::snapshot::Snapshot;
-use evidence::NoMemory;
+use kind_evidence::NoMemory;
 use run::Runner;
 use std::alloc::Global;
 
@@ -26,7 +26,7 @@ pub(crate) struct CycleWatch {
 impl Watch for CycleWatch {
     ghost use Rattle.std.specs.Prelude.{◌<◌};
     ghost use Rattle.machine_text.specs.Packed.{entry_of};
-    ghost use Rattle.turing.specs.Cycle.{Cycle as IsCycle};
+    ghost use Rattle.law_turing.specs.Cycle.{Cycle as IsCycle};
     ghost use Rattle.loops.specs.inside.Moment.{IsMomentOf};
 
     type Loop = Cycle;

@@ -1,11 +1,11 @@
 // The farthest head of a stretch of a run: the least one for the side R, the greatest for the side L.
 ghost use Rattle.std.specs.Prelude.{◌≡◌, ◌<◌, ◌≤◌, IfOk};
-ghost use Rattle.turing.specs.Translated.{Beyond};
+ghost use Rattle.law_turing.specs.Translated.{Beyond};
 ghost use Rattle.loops.specs.Limits.{time_limit};
 ghost use Rattle.loops.specs.inside.Trail.{GoesTo};
 
 use crate::arrival::goes_on;
-use evidence::NoMemory;
+use kind_evidence::NoMemory;
 use machine_text::Dir;
 use run::Runner;
 

@@ -1,11 +1,11 @@
 // The searches for loops: a run of a table, and what looks at each of its times.
 ghost use Rattle.std.specs.Prelude.{◌≡◌, ◌+◌, ◌≤◌, min, IfSome, IfOk};
-ghost use Rattle.turing.specs.Run.{start};
+ghost use Rattle.law_turing.specs.Run.{start};
 ghost use Rattle.loops.specs.Limits.{time_limit};
 
 use crate::arrival::goes_on;
 use crate::limits::MAX_TIME;
-use evidence::NoMemory;
+use kind_evidence::NoMemory;
 use machine_text::Table;
 use run::Runner;
 use std::alloc::Global;

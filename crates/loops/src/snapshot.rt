@@ -1,12 +1,12 @@
 // A configuration that is kept, to hold later ones against.
 ghost use Rattle.std.specs.Prelude.{◌≡◌, ◌↔◌, ◌≤◌, IfOk, OnOk, IsTrue, ℤ, pos, ◌+ℤ◌, ◌-ℤ◌};
 ghost use Rattle.machine_text.specs.Packed.{entry_of};
-ghost use Rattle.turing.specs.Translated.{Beyond, Farthest, Translated};
+ghost use Rattle.law_turing.specs.Translated.{Beyond, Farthest, Translated};
 ghost use Rattle.run.specs.RunState.{OnRun};
 ghost use Rattle.tape.specs.Places.{IsWithinLimit};
 ghost use Rattle.loops.specs.Limits.{time_limit};
 
-use evidence::NoMemory;
+use kind_evidence::NoMemory;
 use machine_text::{Dir, State};
 use run::Runner;
 use std::alloc::Global;

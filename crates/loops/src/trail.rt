@@ -2,14 +2,14 @@
 ghost use Rattle.std.specs.Prelude.{◌≡◌, ◌+◌, ◌≤◌, IfOk, OnOk, IfSome, IfNone};
 ghost use Rattle.std.specs.Bool.{OnTrue};
 ghost use Rattle.machine_text.specs.Packed.{entry_of};
-ghost use Rattle.turing.specs.Translated.{Translated as IsTranslated};
+ghost use Rattle.law_turing.specs.Translated.{Translated as IsTranslated};
 ghost use Rattle.loops.specs.Limits.{time_limit};
 
 use crate::allowance::Allowance;
 use crate::farthest_head::farther;
 use crate::snapshot::Snapshot;
 use crate::translated::Translated;
-use evidence::NoMemory;
+use kind_evidence::NoMemory;
 use machine_text::Dir;
 use run::Runner;
 use std::alloc::Global;

@@ -1,7 +1,7 @@
 // The evidence of a run that comes to the same configuration moved, but for what it has left behind.
 ghost use Rattle.std.specs.Prelude.{◌≡◌, ◌↔◌, ◌<◌, ◌≤◌, ◌^◌, ◌++◌, length, take, OnOk, IfOk, IsTrue};
 ghost use Rattle.machine_text.specs.Packed.{entry_of};
-ghost use Rattle.turing.specs.Translated.{Translated as IsTranslated};
+ghost use Rattle.law_turing.specs.Translated.{Translated as IsTranslated};
 ghost use Rattle.loops.specs.Fields.{translated_by, translated_fields};
 ghost use Rattle.loops.specs.Limits.{time_limit};
 ghost use Rattle.text.specs.Fields.{spaced};
@@ -10,7 +10,7 @@ use crate::arrival::comes_to;
 use crate::farthest_head::farthest_head;
 use crate::limits::MAX_TIME;
 use crate::snapshot::Snapshot;
-use evidence::{Evidence, NoMemory, Refused, Verdict, side_of, side_text};
+use kind_evidence::{Evidence, NoMemory, Refused, Verdict, side_of, side_text};
 use machine_text::{Dir, Table};
 use run::Runner;
 use std::alloc::Global;
@@ -59,8 +59,8 @@ impl Translated {
 }
 
 impl Evidence for Translated {
-    ghost use Rattle.turing.proofs.TranslatedLaws.{translated_never};
-    ghost use Rattle.evidence.specs.declared.verdicts.Verdict.TheVariants.{Never};
+    ghost use Rattle.law_turing.proofs.TranslatedLaws.{translated_never};
+    ghost use Rattle.kind_evidence.specs.declared.verdicts.Verdict.TheVariants.{Never};
 
     ghost within = { λ e. e.j ≤ time_limit };
 

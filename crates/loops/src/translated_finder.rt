@@ -1,13 +1,13 @@
 // The search for translated cycles.
 ghost use Rattle.std.specs.Prelude.{◌≡◌, ◌≤◌, min, IfSome, IfOk};
 ghost use Rattle.machine_text.specs.Packed.{entry_of};
-ghost use Rattle.turing.specs.Translated.{Translated as IsTranslated};
+ghost use Rattle.law_turing.specs.Translated.{Translated as IsTranslated};
 ghost use Rattle.loops.specs.Limits.{time_limit};
 
 use crate::search::Search;
 use crate::translated::Translated;
 use crate::translated_watch::TranslatedWatch;
-use evidence::NoMemory;
+use kind_evidence::NoMemory;
 use machine_text::Table;
 use std::alloc::Global;
 

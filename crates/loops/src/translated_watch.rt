@@ -2,7 +2,7 @@
 use crate::search::Watch;
 use crate::trail::Trail;
 use crate::translated::Translated;
-use evidence::NoMemory;
+use kind_evidence::NoMemory;
 use machine_text::Dir;
 use run::Runner;
 use std::alloc::Global;
@@ -15,7 +15,7 @@ pub(crate) struct TranslatedWatch {
 
 impl Watch for TranslatedWatch {
     ghost use Rattle.machine_text.specs.Packed.{entry_of};
-    ghost use Rattle.turing.specs.Translated.{Translated as IsTranslated};
+    ghost use Rattle.law_turing.specs.Translated.{Translated as IsTranslated};
     ghost use Rattle.loops.specs.inside.Trail.{Follows};
 
     type Loop = Translated;

@@ -10,8 +10,8 @@ use Rattle.machine_text.specs.declared.transition.Dir.TheVariants.{L, R}
 use Rattle.machine_text.specs.declared.transition.Entry.{Entry}
 use Rattle.machine_text.specs.Packed.{Packed, entry_of, symbol_of}
 use Rattle.machine_text.specs.Text.{symbol_byte}
-use Rattle.turing.specs.Machine.{Machine}
-use Rattle.turing.specs.PositionSet.{Local, IsClosedSet}
+use Rattle.law_turing.specs.Machine.{Machine}
+use Rattle.law_turing.specs.PositionSet.{Local, IsClosedSet}
 use Rattle.ngram_cps.specs.Listing.{item, IsListing, IsItem}
 use Rattle.ngram_cps.specs.Words.{word_text, local_text, AreLocals}
 use Rattle.ngram_cps.specs.Lists.{Lists, IsLocalItem, IsPositionSet}

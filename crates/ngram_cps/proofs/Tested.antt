@@ -10,7 +10,7 @@ use Rattle.std.proofs.lemmas.Nat.{div-mul-add}
 use Rattle.ngram_cps.specs.Listing.{item, IsListing}
 use Rattle.ngram_cps.specs.Words.{is_digit, IsWordText, IsLocalText, IsWordList, IsLocalList}
 use Rattle.ngram_cps.specs.Lists.{Lists, AreLists}
-use Rattle.evidence.proofs.Tested.{below_decides}
+use Rattle.kind_evidence.proofs.Tested.{below_decides}
 use Rattle.ngram_cps.specs.Tests.{count_of, goes_up, is_listing, is_word_text, is_local_text, is_word_list, is_local_list, are_lists}
 
 itself : (b : Bool) → Decides b (IsTrue b)

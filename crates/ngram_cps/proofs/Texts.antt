@@ -9,7 +9,7 @@ use Rattle.machine_text.specs.declared.transition.Sym.{Sym}
 use Rattle.machine_text.specs.declared.transition.Sym.TheVariants.{Zero, One}
 use Rattle.machine_text.specs.Packed.{symbol_of}
 use Rattle.machine_text.specs.Text.{symbol_byte}
-use Rattle.turing.specs.PositionSet.{Local}
+use Rattle.law_turing.specs.PositionSet.{Local}
 use Rattle.ngram_cps.specs.Words.{word_text, local_text, is_digit, IsWordText, IsLocalText}
 use Rattle.ngram_cps.specs.inside.Steps.{left_after, right_seen, local_right, right_after, left_seen, local_left}
 

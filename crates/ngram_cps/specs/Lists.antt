@@ -1,7 +1,7 @@
 -- Three lists in text, and when they are a closed position set of a table.
 use Rattle.std.specs.Prelude.{◌≡◌, ℕ, ◌+◌, ◌*◌, ◌≤◌, List, length}
 use Rattle.machine_text.specs.Packed.{Packed, entry_of}
-use Rattle.turing.specs.PositionSet.{Local, IsClosedSet}
+use Rattle.law_turing.specs.PositionSet.{Local, IsClosedSet}
 use Rattle.ngram_cps.specs.Limits.{width_limit, list_byte_limit}
 use Rattle.ngram_cps.specs.Listing.{IsItem}
 use Rattle.ngram_cps.specs.Words.{word_text, local_text, IsWordList, IsLocalList}

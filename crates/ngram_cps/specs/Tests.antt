@@ -2,7 +2,7 @@
 use Rattle.std.specs.Prelude.{ℕ, ◌+◌, ◌-◌, ◌*◌, ◌/◌, ◌==◌, ◌&&◌, nat_lt, Bool, not, List, length, take, drop, slice_index}
 use Rattle.std.specs.Ordering.{nat_cmp, is_lt}
 use Rattle.std.specs.Cmp.Lexicographic.{slice_cmp}
-use Rattle.evidence.specs.Tests.{each_below}
+use Rattle.kind_evidence.specs.Tests.{each_below}
 use Rattle.ngram_cps.specs.Listing.{item}
 use Rattle.ngram_cps.specs.Words.{is_digit}
 use Rattle.ngram_cps.specs.Lists.{Lists}

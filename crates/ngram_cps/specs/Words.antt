@@ -2,7 +2,7 @@
 use Rattle.std.specs.Prelude.{ℕ, ◌+◌, ◌*◌, ◌<◌, ◌≤◌, ◌==◌, ◌||◌, Bool, IsTrue, List, ◌∷◌, ◌++◌, length, take, drop, map, slice_index}
 use Rattle.machine_text.specs.declared.transition.Sym.{Sym}
 use Rattle.machine_text.specs.Text.{symbol_byte}
-use Rattle.turing.specs.PositionSet.{Local}
+use Rattle.law_turing.specs.PositionSet.{Local}
 use Rattle.ngram_cps.specs.Listing.{item, IsListing}
 
 -- a word: its symbols as they stand on the tape, `0` and `1`

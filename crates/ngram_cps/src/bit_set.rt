@@ -1,5 +1,5 @@
 // Sets of numbers, a bit for each.
-use evidence::NoMemory;
+use kind_evidence::NoMemory;
 use std::alloc::Global;
 
 // A set of small numbers. It keeps room for the greatest that was ever in it.

@@ -3,7 +3,7 @@ ghost use Rattle.std.specs.Prelude.{◌≡◌, ◌↔◌, ◌+◌, ◌-◌, ◌*
 ghost use Rattle.machine_text.specs.Limits.{state_limit};
 ghost use Rattle.machine_text.specs.Packed.{entry_of, symbol_of};
 ghost use Rattle.machine_text.specs.Text.{symbol_byte};
-ghost use Rattle.turing.specs.PositionSet.{IsClosedSet};
+ghost use Rattle.law_turing.specs.PositionSet.{IsClosedSet};
 ghost use Rattle.ngram_cps.specs.Listing.{IsItem};
 ghost use Rattle.ngram_cps.specs.Words.{IsLocalText};
 ghost use Rattle.ngram_cps.specs.Lists.{IsPositionSet};

@@ -9,7 +9,7 @@ ghost use Rattle.ngram_cps.specs.Lists.{lists, AreLists, AreWithin};
 ghost use Rattle.ngram_cps.specs.Ngram.{lists_of};
 
 use crate::ngram::Ngram;
-use evidence::NoMemory;
+use kind_evidence::NoMemory;
 use text::{FieldFault, Parts, append_field, append_number_field, end_of, next_field, number_in};
 
 impl<'a> Ngram<'a> {

@@ -10,7 +10,7 @@ use crate::list_texts::ListTexts;
 use crate::ngram::Ngram;
 use crate::owned::OwnedNgram;
 use crate::word::Width;
-use evidence::NoMemory;
+use kind_evidence::NoMemory;
 use machine_text::Table;
 use std::alloc::Global;
 

@@ -7,7 +7,7 @@ use crate::member::Member;
 use crate::members::Members;
 use crate::side::Side;
 use crate::word::{Width, opposite};
-use evidence::NoMemory;
+use kind_evidence::NoMemory;
 use machine_text::{Dir, Entry, Table};
 use std::alloc::Global;
 

@@ -3,7 +3,7 @@
 //! Three sorted lists in text: words that may stand on the left of a head, words that may stand on the right,
 //! and local configurations that may stand around it. Where they hold the blank tape, and no step of the table
 //! leaves them, the table never halts: from the blank tape, and from any other whose words are all among them.
-//! turing's `PositionSet` says so; `specs/` adds what a list is (`Listing`, `Words`), when three lists are a
+//! law_turing's `PositionSet` says so; `specs/` adds what a list is (`Listing`, `Words`), when three lists are a
 //! closed position set of a table (`Lists`), the same as tests (`Tests`), how they are written in a record (`Fields`)
 //! and the limits as numbers (`Limits`). `specs/inside` is for the crate's own code.
 //!

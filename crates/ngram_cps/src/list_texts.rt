@@ -4,7 +4,7 @@ use crate::member::Member;
 use crate::side::Side;
 use crate::step_text::symbol_byte;
 use crate::word::Width;
-use evidence::NoMemory;
+use kind_evidence::NoMemory;
 use std::alloc::Global;
 
 // The three lists of a set as texts. Their memory is kept from set to set.

@@ -1,7 +1,7 @@
 // The local configurations of a set, in the order in which they were found.
 use crate::bit_set::BitSet;
 use crate::member::Member;
-use evidence::NoMemory;
+use kind_evidence::NoMemory;
 use std::alloc::Global;
 
 // The members that were found, each once.

@@ -8,7 +8,7 @@ use crate::limits::{MAX_LIST_BYTES, MAX_WIDTH};
 use crate::listing::Listing;
 use crate::local_list::local_list;
 use crate::word_list::word_list;
-use evidence::{Evidence, Refused, Verdict};
+use kind_evidence::{Evidence, Refused, Verdict};
 use machine_text::Table;
 use std::alloc::Global;
 
@@ -128,10 +128,10 @@ impl<'a> Ngram<'a> {
 
 impl Evidence for Ngram<'_> {
     ghost use Rattle.machine_text.specs.Packed.{entry_of};
-    ghost use Rattle.evidence.specs.declared.verdicts.Verdict.TheVariants.{Never};
+    ghost use Rattle.kind_evidence.specs.declared.verdicts.Verdict.TheVariants.{Never};
     ghost use Rattle.ngram_cps.specs.Lists.{AreLists, AreWithin, IsLocalItem, IsPositionSet};
     ghost use Rattle.ngram_cps.specs.Ngram.{lists_of};
-    ghost use Rattle.turing.proofs.ClosedSets.{closed_never};
+    ghost use Rattle.law_turing.proofs.ClosedSets.{closed_never};
     ghost use Rattle.ngram_cps.specs.Listing.{IsItem};
     ghost use Rattle.ngram_cps.specs.Words.{word_text};
 

@@ -7,7 +7,7 @@ ghost use Rattle.ngram_cps.specs.Words.{AreWords, AreLocals};
 
 use crate::listing::Listing;
 use crate::ngram::Ngram;
-use evidence::NoMemory;
+use kind_evidence::NoMemory;
 use std::alloc::Global;
 
 /// An `Ngram` with a text of its own, for lists that are kept longer than the text from which they come: one

@@ -2,7 +2,7 @@
 use crate::arrival::{Arrival, Chain, Link};
 use crate::members::Members;
 use crate::word::{WORD_COUNT, Width};
-use evidence::NoMemory;
+use kind_evidence::NoMemory;
 use machine_text::{Dir, Sym};
 use std::alloc::Global;
 

@@ -1,8 +1,8 @@
 -- What a claim that a table halts shows is true where the claim stands, and its numbers are short.
 use Rattle.std.proofs.Common.{ℕ, ◌≡◌, ◌<◌, ◌≤◌, ◌^◌, Option, Some, None, IfSome, arith}
-use Rattle.turing.specs.Score.{HaltsWith, score_at}
+use Rattle.law_turing.specs.Score.{HaltsWith, score_at}
 use Rattle.machine_text.specs.Packed.{Packed, entry_of}
-use Rattle.turing.proofs.Scores.{halts_with, score_within}
+use Rattle.law_turing.proofs.Scores.{halts_with, score_within}
 use Rattle.run.specs.declared.halts_in.HaltsIn.{HaltsIn}
 use Rattle.run.specs.Fields.{AreShort}
 use Rattle.run.specs.Halts.{HaltsAsClaimed}

@@ -4,15 +4,15 @@ use Rattle.std.proofs.lemmas.Int.{ints}
 use Rattle.machine_text.specs.Packed.{Packed, IsTable, entry_of}
 use Rattle.machine_text.specs.declared.transition.Sym.{Sym}
 use Rattle.machine_text.specs.declared.transition.Entry.{Entry}
-use Rattle.turing.specs.Machine.{Machine}
-use Rattle.turing.specs.Tape.{Tape, symbol_read, written, moved}
-use Rattle.turing.specs.Run.{Config, start, after, next, done_by}
-use Rattle.turing.specs.Halting.{HaltsAt, HaltsOn}
-use Rattle.turing.specs.Score.{score_of, score_at, score_where}
-use Rattle.turing.proofs.RunLaws.{from_zero, next_is, one_count, not_past}
-use Rattle.turing.proofs.Steps.{next_taken}
-use Rattle.turing.proofs.Heads.{head_reach, states_within}
-use Rattle.turing.proofs.TableLaws.{table_machine}
+use Rattle.law_turing.specs.Machine.{Machine}
+use Rattle.law_turing.specs.Tape.{Tape, symbol_read, written, moved}
+use Rattle.law_turing.specs.Run.{Config, start, after, next, done_by}
+use Rattle.law_turing.specs.Halting.{HaltsAt, HaltsOn}
+use Rattle.law_turing.specs.Score.{score_of, score_at, score_where}
+use Rattle.law_turing.proofs.RunLaws.{from_zero, next_is, one_count, not_past}
+use Rattle.law_turing.proofs.Steps.{next_taken}
+use Rattle.law_turing.proofs.Heads.{head_reach, states_within}
+use Rattle.law_turing.proofs.TableLaws.{table_machine}
 use Rattle.tape.specs.Places.{IsWithinLimit}
 use Rattle.run.specs.Limits.{run_step_limit}
 use Rattle.run.specs.RunState.{RunState, OnRun}

@@ -3,9 +3,9 @@ use Rattle.std.proofs.Common.{◌≡◌, ℕ, zero, suc, pos, ◌+ℤ◌, ◌-�
 use Rattle.std.proofs.lemmas.Int.{ints}
 use Rattle.machine_text.specs.Packed.{entry_of}
 use Rattle.machine_text.specs.declared.transition.Entry.{Entry}
-use Rattle.turing.specs.Tape.{Tape, symbol_read, written, moved}
-use Rattle.turing.specs.Run.{start, next}
-use Rattle.turing.proofs.Heads.{head_reach}
+use Rattle.law_turing.specs.Tape.{Tape, symbol_read, written, moved}
+use Rattle.law_turing.specs.Run.{start, next}
+use Rattle.law_turing.proofs.Heads.{head_reach}
 use Rattle.tape.specs.Places.{IsWithinLimit}
 use Rattle.tape.specs.Sweeps.{swept, Sweeps}
 use Rattle.run.specs.Limits.{run_step_limit}

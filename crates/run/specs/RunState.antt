@@ -2,7 +2,7 @@
 use Rattle.std.specs.Prelude.{◌≡◌, ℕ, ◌<◌, ◌≤◌, List, Some, refl}
 use Rattle.std.specs.Coded.{Coded, code_by, coded×, coded_ℕ, coded_list}
 use Rattle.machine_text.specs.Packed.{Packed, IsTable, entry_of}
-use Rattle.turing.specs.Run.{Config, config_code, after}
+use Rattle.law_turing.specs.Run.{Config, config_code, after}
 use Rattle.run.specs.Limits.{run_step_limit}
 
 -- a table, so many steps of its run, and the configuration to which they led

@@ -1,8 +1,8 @@
 -- What a step of a runner leaves, and what many do.
 use Rattle.std.specs.Prelude.{◌≡◌, ℕ, ◌+◌, ◌≤◌, Some}
 use Rattle.machine_text.specs.Packed.{entry_of}
-use Rattle.turing.specs.Run.{next}
-use Rattle.turing.specs.Halting.{HaltsAt}
+use Rattle.law_turing.specs.Run.{next}
+use Rattle.law_turing.specs.Halting.{HaltsAt}
 use Rattle.run.specs.RunState.{RunState, OnRun}
 use Rattle.run.specs.declared.runner.Step.{Step}
 use Rattle.run.specs.declared.runner.Step.TheVariants.{Went, Halts}

@@ -1,8 +1,8 @@
 // The search for the number of steps in which a table halts, and of the ones then.
 ghost use Rattle.std.specs.Prelude.{◌≡◌, ℕ, ◌≤◌, min, Some, IfSome, IfNone, IfOk};
 ghost use Rattle.machine_text.specs.Packed.{entry_of};
-ghost use Rattle.turing.specs.Halting.{HaltsAt};
-ghost use Rattle.turing.specs.Score.{score_at};
+ghost use Rattle.law_turing.specs.Halting.{HaltsAt};
+ghost use Rattle.law_turing.specs.Score.{score_at};
 ghost use Rattle.run.specs.Limits.{halt_step_limit};
 
 use crate::halts_in::HaltsIn;

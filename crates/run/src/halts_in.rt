@@ -1,8 +1,8 @@
 // The evidence that a table halts: the number of its steps, which are carried out, and of the ones then.
 ghost use Rattle.std.specs.Prelude.{◌≡◌, ◌⊎◌, ◌<◌, ◌≤◌, ◌++◌, length, take, Err, OnOk, IfOk, IfErr};
 ghost use Rattle.machine_text.specs.Packed.{entry_of};
-ghost use Rattle.turing.specs.Halting.{HaltsAt, HaltsOn};
-ghost use Rattle.turing.specs.Score.{score_at};
+ghost use Rattle.law_turing.specs.Halting.{HaltsAt, HaltsOn};
+ghost use Rattle.law_turing.specs.Score.{score_at};
 ghost use Rattle.run.specs.Fields.{AreShort, halts_by, halts_fields};
 ghost use Rattle.run.specs.Halts.{HaltsAsClaimed};
 ghost use Rattle.run.specs.Limits.{halt_step_limit};
@@ -10,7 +10,7 @@ ghost use Rattle.text.specs.Fields.{spaced};
 
 use crate::limits::MAX_HALT_STEPS;
 use crate::runner::{Runner, Step};
-use evidence::{Evidence, NoMemory, Refused, Verdict};
+use kind_evidence::{Evidence, NoMemory, Refused, Verdict};
 use machine_text::{Pair, Table};
 use std::alloc::Global;
 use text::{FieldFault, Parts, append_number_field, end_of, next_field, number_in};
@@ -114,11 +114,11 @@ fn run_out(alloc: Global, t: &Table, steps: u64) -> Result<Halted, Refused>
 }
 
 impl Evidence for HaltsIn {
-    ghost use Rattle.evidence.specs.declared.verdicts.Verdict.TheVariants.{Halts};
-    ghost use Rattle.turing.specs.Score.{score_at};
+    ghost use Rattle.kind_evidence.specs.declared.verdicts.Verdict.TheVariants.{Halts};
+    ghost use Rattle.law_turing.specs.Score.{score_at};
     ghost use Rattle.run.specs.Halts.{HaltsAsClaimed};
     ghost use Rattle.run.specs.Limits.{halt_step_limit};
-    ghost use Rattle.turing.proofs.Scores.{halts_with};
+    ghost use Rattle.law_turing.proofs.Scores.{halts_with};
 
     ghost within = { λ e. e.steps ≤ halt_step_limit };
 

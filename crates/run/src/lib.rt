@@ -2,7 +2,7 @@
 //!
 //! A `Runner` stands at a time of the run; `HaltsIn` is the evidence of a run that halts. `specs/` says where a
 //! runner stands (`RunState`), what its steps do (`Steps`), and how the evidence is written in a record (`Fields`).
-//! What evidence and verdicts are is said in the crate `evidence`, whose names are passed on.
+//! What evidence and verdicts are is said in the crate `kind_evidence`, whose names are passed on.
 #![tactic(auto)]
 
 mod halt_finder;
@@ -11,9 +11,9 @@ mod laws;
 mod limits;
 mod runner;
 
-pub use evidence::{Ending, Evidence, NoMemory, Refused, Verdict};
 pub use halt_finder::HaltFinder;
 pub use halts_in::{Halted, HaltsIn};
+pub use kind_evidence::{Ending, Evidence, NoMemory, Refused, Verdict};
 pub use laws::halts_reads_back;
 pub use limits::{MAX_HALT_STEPS, MAX_RUN_STEPS};
 pub use runner::{Runner, Step};

@@ -1,6 +1,6 @@
 // A run from the blank tape, step by step.
 ghost use Rattle.std.specs.Prelude.{◌≡◌, ◌+◌, ◌<◌, ◌≤◌, IfOk, OnOk, OnErr};
-ghost use Rattle.turing.specs.Tape.{written, moved};
+ghost use Rattle.law_turing.specs.Tape.{written, moved};
 ghost use Rattle.tape.specs.Places.{IsWithinLimit};
 
 use crate::limits::MAX_RUN_STEPS;
@@ -42,8 +42,8 @@ impl Model for Runner {
 }
 
 impl Runner {
-    ghost use Rattle.turing.specs.Run.{start};
-    ghost use Rattle.turing.specs.Score.{score_of};
+    ghost use Rattle.law_turing.specs.Run.{start};
+    ghost use Rattle.law_turing.specs.Score.{score_of};
     ghost use Rattle.run.specs.Limits.{run_step_limit};
     ghost use Rattle.run.specs.RunState.{OnRun};
     ghost use Rattle.run.specs.Steps.{StepsTo, RunsTo, IsBetween};

@@ -5,8 +5,8 @@ use Rattle.std.specs.FinSet as set
 use Rattle.std.specs.Cmp.{int_cmp_total}
 use Rattle.machine_text.specs.declared.transition.Sym.{Sym}
 use Rattle.machine_text.specs.declared.transition.Sym.TheVariants.{Zero, One}
-use Rattle.turing.proofs.Cells.{by_place, cell_here, cell_other}
-use Rattle.turing.specs.Tape.{Tape, symbol_read, written, cell_of, with_cell}
+use Rattle.law_turing.proofs.Cells.{by_place, cell_here, cell_other}
+use Rattle.law_turing.specs.Tape.{Tape, symbol_read, written, cell_of, with_cell}
 
 -- what is written is read at each name of its place
 pub cell_same : (ones : set.FinSet int_cmp) (x : ℤ) (s : Sym) (q : ℤ) → q ≡ x → cell_of (with_cell ones x s) q ≡ s

@@ -12,8 +12,8 @@ use Rattle.machine_text.specs.declared.transition.Sym.{Sym}
 use Rattle.machine_text.specs.declared.transition.Sym.TheVariants.{Zero, One}
 use Rattle.machine_text.specs.declared.transition.Dir.{Dir}
 use Rattle.machine_text.specs.declared.transition.Dir.TheVariants.{L, R}
-use Rattle.turing.specs.Tape.{Tape, cell_of}
-use Rattle.turing.specs.Translated.{Beyond}
+use Rattle.law_turing.specs.Tape.{Tape, cell_of}
+use Rattle.law_turing.specs.Translated.{Beyond}
 use Rattle.tape.specs.Places.{SameBeyond}
 use Rattle.tape.specs.Word.{bit_symbol, Holds}
 use Rattle.tape.specs.inside.{place_numbered, HasOnesWithin, IsReached, OnesWithin, WordWithin}

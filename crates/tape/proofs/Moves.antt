@@ -7,7 +7,7 @@ use Rattle.std.proofs.lemmas.Int.{ints}
 use Rattle.std.proofs.lemmas.List.{reverse-append, length_push}
 use Rattle.machine_text.specs.declared.transition.Sym.{Sym}
 use Rattle.machine_text.specs.declared.transition.Dir.TheVariants.{L, R}
-use Rattle.turing.specs.Tape.{blank, symbol_read, written, moved}
+use Rattle.law_turing.specs.Tape.{blank, symbol_read, written, moved}
 use Rattle.tape.specs.Word.{ones_of, bit_symbol, symbols_of}
 use Rattle.tape.specs.inside.{stored, place_numbered, IsNearest}
 use Rattle.tape.proofs.Cells.{same_tape}

@@ -8,9 +8,9 @@ use Rattle.std.proofs.lemmas.List.{get_or_append_left, get_or-append_right}
 use Rattle.std.proofs.Math.Seq.{get_or-append_seam}
 use Rattle.machine_text.specs.declared.transition.Sym.{Sym}
 use Rattle.machine_text.specs.declared.transition.Sym.TheVariants.{Zero}
-use Rattle.turing.specs.Tape.{cell_of, with_cell}
+use Rattle.law_turing.specs.Tape.{cell_of, with_cell}
 use Rattle.tape.specs.Word.{ones_of, bit_symbol, symbols, symbols_of}
-use Rattle.turing.proofs.Cells.{by_place, cell_other}
+use Rattle.law_turing.proofs.Cells.{by_place, cell_other}
 use Rattle.tape.proofs.Cells.{cell_same, same_ones}
 use Rattle.tape.proofs.Symbols.{blank_before, cell_in}
 

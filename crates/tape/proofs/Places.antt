@@ -12,8 +12,8 @@ use Rattle.machine_text.specs.declared.transition.Sym.{Sym}
 use Rattle.machine_text.specs.declared.transition.Sym.TheVariants.{Zero, One}
 use Rattle.machine_text.specs.declared.transition.Dir.{Dir}
 use Rattle.machine_text.specs.declared.transition.Dir.TheVariants.{L, R}
-use Rattle.turing.specs.Tape.{cell_of}
-use Rattle.turing.specs.Translated.{Beyond}
+use Rattle.law_turing.specs.Tape.{cell_of}
+use Rattle.law_turing.specs.Translated.{Beyond}
 use Rattle.tape.specs.Limits.{place_limit}
 use Rattle.tape.specs.Word.{bit_symbol, symbols_of, Holds}
 use Rattle.tape.specs.inside.{stored, place_numbered, IsPacked, HasOnesWithin, IsReached}

@@ -7,11 +7,11 @@ use Rattle.std.proofs.lemmas.Nat.Bits.{bit_at-lt}
 use Rattle.machine_text.specs.declared.transition.Sym.{Sym}
 use Rattle.machine_text.specs.declared.transition.Dir.{Dir}
 use Rattle.machine_text.specs.declared.transition.Dir.TheVariants.{L, R}
-use Rattle.turing.specs.Tape.{Tape, cell_of, symbol_read}
+use Rattle.law_turing.specs.Tape.{Tape, cell_of, symbol_read}
 use Rattle.tape.specs.Word.{ones_of, bit_symbol, symbols_of}
 use Rattle.tape.specs.inside.{stored, place_numbered, bit_ahead, HasCells, HasAllCells, IsNearest}
 use Rattle.tape.specs.Sweeps.{swept, IsPastEdge, EndsSweep}
-use Rattle.turing.proofs.Cells.{by_place, cell_other}
+use Rattle.law_turing.proofs.Cells.{by_place, cell_other}
 use Rattle.tape.proofs.Cells.{cell_same, same_ones, same_tape}
 use Rattle.tape.proofs.Symbols.{blank_before}
 use Rattle.tape.proofs.Packed.{by_word, bit_around, cell_of-words, cell_of-between}

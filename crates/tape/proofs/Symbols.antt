@@ -3,9 +3,9 @@ use Rattle.std.proofs.Common.{◌≡◌, ℕ, zero, suc, ℤ, pos, ◌+ℤ◌, �
 use Rattle.std.proofs.lemmas.Int.{ints}
 use Rattle.machine_text.specs.declared.transition.Sym.{Sym}
 use Rattle.machine_text.specs.declared.transition.Sym.TheVariants.{Zero}
-use Rattle.turing.specs.Tape.{cell_of}
+use Rattle.law_turing.specs.Tape.{cell_of}
 use Rattle.tape.specs.Word.{ones_of}
-use Rattle.turing.proofs.Cells.{cell_other}
+use Rattle.law_turing.proofs.Cells.{cell_other}
 use Rattle.tape.proofs.Cells.{cell_same, cell_blank}
 
 -- left of them all is blank

@@ -3,8 +3,8 @@ use Rattle.std.specs.Prelude.{◌≡◌, ℤ, ◌+ℤ◌, neg_ℤ, ◌≤ℤ◌}
 use Rattle.std.specs.Ordering.{int_cmp}
 use Rattle.std.specs.FinSet as set
 use Rattle.machine_text.specs.declared.transition.Dir.{Dir}
-use Rattle.turing.specs.Tape.{cell_of}
-use Rattle.turing.specs.Translated.{Beyond}
+use Rattle.law_turing.specs.Tape.{cell_of}
+use Rattle.law_turing.specs.Translated.{Beyond}
 use Rattle.tape.specs.Limits.{place_limit}
 
 -- a place, or a shift, of at most the limit's size

@@ -3,7 +3,7 @@ use Rattle.std.specs.Prelude.{◌≡◌, ◌≢◌, ◌⊎◌, ℕ, zero, suc, �
 use Rattle.machine_text.specs.declared.transition.Sym.{Sym}
 use Rattle.machine_text.specs.declared.transition.Dir.{Dir}
 use Rattle.machine_text.specs.declared.transition.Dir.TheVariants.{L, R}
-use Rattle.turing.specs.Tape.{Tape, symbol_read, written, moved}
+use Rattle.law_turing.specs.Tape.{Tape, symbol_read, written, moved}
 
 -- the tape after so many times a symbol was written and the head moved to a side
 unfoldable pub swept : Dir → Sym → Tape → ℕ → Tape

@@ -5,7 +5,7 @@ use Rattle.std.specs.Ordering.{int_cmp}
 use Rattle.std.specs.FinSet as set
 use Rattle.machine_text.specs.declared.transition.Sym.{Sym}
 use Rattle.machine_text.specs.declared.transition.Sym.TheVariants.{Zero, One}
-use Rattle.turing.specs.Tape.{cell_of, with_cell}
+use Rattle.law_turing.specs.Tape.{cell_of, with_cell}
 
 -- the ones of a tape that is blank but for some symbols, written from left to right from a place on
 unfoldable pub ones_of : ℤ → List Sym → set.FinSet int_cmp

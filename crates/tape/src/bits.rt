@@ -1,7 +1,7 @@
 // A word of 64 cells, the lowest bit leftmost, and the numbers of places.
 ghost use Rattle.std.specs.Prelude.{◌≡◌, ◌≢◌, ◌⊎◌, ℕ, ◌+◌, ◌<◌, ◌↔◌};
 ghost use Rattle.std.specs.Int.{bit_at};
-ghost use Rattle.turing.specs.Translated.{Beyond};
+ghost use Rattle.law_turing.specs.Translated.{Beyond};
 ghost use Rattle.tape.specs.Word.{bit_symbol};
 ghost use Rattle.tape.specs.inside.{place_numbered, bit_ahead, HasCells, HasAllCells, IsLowest};
 

@@ -1,6 +1,6 @@
 // The cells of a tape, word by word.
 ghost use Rattle.std.specs.Prelude.{◌≡◌, ◌-◌, ◌≤◌, ◌<◌, ◌^◌, ◌*◌, pos, ◌+ℤ◌, ◌-ℤ◌, length, slice_index_or};
-ghost use Rattle.turing.specs.Tape.{cell_of};
+ghost use Rattle.law_turing.specs.Tape.{cell_of};
 
 use crate::bits::{number_of, symbol_at};
 use crate::tape::Tape;

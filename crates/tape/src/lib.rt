@@ -1,6 +1,6 @@
 //! A two-sided tape with a head, which grows as the head goes past what was visited.
 //!
-//! It is kept in words of 64 cells. Contracts see it as turing's record `Tape`: where the head stands, and
+//! It is kept in words of 64 cells. Contracts see it as law_turing's record `Tape`: where the head stands, and
 //! the finite set of places that hold ones. `specs/` adds which places are within the limit and what it means
 //! that two half tapes are the same (`Places`), what a sweep over like cells is (`Sweeps`), the limit (`Limits`), and
 //! the ones of words of symbols (`Word`).

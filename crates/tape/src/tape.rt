@@ -36,7 +36,7 @@ pub struct Tape {
 
 impl Model for Tape {
     ghost use Rattle.std.specs.Prelude.{length};
-    ghost use Rattle.turing.specs.Tape.{Tape, tape_code};
+    ghost use Rattle.law_turing.specs.Tape.{Tape, tape_code};
     ghost use Rattle.tape.specs.inside.{stored, IsPacked};
 
     ghost Value = { Tape };
@@ -49,7 +49,7 @@ impl Model for Tape {
 }
 
 impl Tape {
-    ghost use Rattle.turing.specs.Tape.{blank, symbol_read, written, moved};
+    ghost use Rattle.law_turing.specs.Tape.{blank, symbol_read, written, moved};
     ghost use Rattle.tape.specs.Limits.{place_limit};
     ghost use Rattle.tape.specs.Places.{IsWithinLimit};
 

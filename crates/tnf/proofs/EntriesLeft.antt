@@ -7,7 +7,7 @@ use Rattle.machine_text.specs.declared.transition.Sym.TheVariants.{Zero, One}
 use Rattle.machine_text.specs.declared.transition.Dir.{Dir}
 use Rattle.machine_text.specs.declared.transition.Dir.TheVariants.{L, R}
 use Rattle.machine_text.specs.declared.transition.Entry.{Entry}
-use Rattle.tree.specs.Children.{entries_to}
+use Rattle.law_tree.specs.Children.{entries_to}
 use Rattle.machine_text.specs.Packed.{Packed, with_entry}
 use Rattle.tnf.specs.inside.{entries_after, entries_left, tables_left}
 

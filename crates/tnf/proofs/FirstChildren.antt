@@ -8,12 +8,12 @@ use Rattle.machine_text.specs.declared.transition.Dir.{Dir}
 use Rattle.machine_text.specs.declared.transition.Dir.TheVariants.{L, R}
 use Rattle.machine_text.specs.declared.transition.Entry.{Entry}
 use Rattle.machine_text.specs.Packed.{Packed, entry_of, with_entry, holes}
-use Rattle.turing.specs.Machine.{Machine}
-use Rattle.tree.specs.Used.{used_count}
-use Rattle.tree.specs.Children.{entries_to, child_entries}
-use Rattle.tree.specs.Tables.{children_at}
-use Rattle.tree.proofs.ChildEntries.{list_empty, list_filled}
-use Rattle.tree.proofs.ChildTables.{some_children, no_children}
+use Rattle.law_turing.specs.Machine.{Machine}
+use Rattle.law_tree.specs.Used.{used_count}
+use Rattle.law_tree.specs.Children.{entries_to, child_entries}
+use Rattle.law_tree.specs.Tables.{children_at}
+use Rattle.law_tree.proofs.ChildEntries.{list_empty, list_filled}
+use Rattle.law_tree.proofs.ChildTables.{some_children, no_children}
 use Rattle.tnf.specs.inside.{entries_left, tables_left}
 use Rattle.tnf.proofs.EntriesLeft.{to, from_start, none_left}
 

@@ -8,8 +8,8 @@ use Rattle.std.proofs.lemmas.List.FromFn.{fill_by_all}
 use Rattle.machine_text.specs.Limits.{state_limit}
 use Rattle.machine_text.specs.declared.transition.Sym.TheVariants.{Zero, One}
 use Rattle.machine_text.specs.declared.transition.Entry.{Entry}
-use Rattle.turing.specs.Machine.{Machine}
-use Rattle.tree.specs.Used.{leads_to, has_entry, is_target, is_used}
+use Rattle.law_turing.specs.Machine.{Machine}
+use Rattle.law_tree.specs.Used.{leads_to, has_entry, is_target, is_used}
 use Rattle.tnf.specs.inside.{is_named}
 
 -- a state is marked once the entries of the first states are

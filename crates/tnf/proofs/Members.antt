@@ -7,13 +7,13 @@ use Rattle.std.proofs.lemmas.List.Elements.{Contains-get_or}
 use Rattle.machine_text.specs.declared.transition.Sym.{Sym}
 use Rattle.machine_text.specs.declared.transition.Entry.{Entry}
 use Rattle.machine_text.specs.Packed.{Packed, IsTable, entry_of, with_entry, holes}
-use Rattle.turing.proofs.TableLaws.{table_machine}
-use Rattle.tree.specs.Used.{InOrder, used_count}
-use Rattle.tree.specs.Children.{IsChildEntry}
-use Rattle.tree.specs.Tables.{children_at}
-use Rattle.tree.proofs.UsedCount.{used_number}
-use Rattle.tree.proofs.ChildEntries.{listed_is_entry, entry_is_listed}
-use Rattle.tree.proofs.ChildTables.{entries_of, some_children, no_children}
+use Rattle.law_turing.proofs.TableLaws.{table_machine}
+use Rattle.law_tree.specs.Used.{InOrder, used_count}
+use Rattle.law_tree.specs.Children.{IsChildEntry}
+use Rattle.law_tree.specs.Tables.{children_at}
+use Rattle.law_tree.proofs.UsedCount.{used_number}
+use Rattle.law_tree.proofs.ChildEntries.{listed_is_entry, entry_is_listed}
+use Rattle.law_tree.proofs.ChildTables.{entries_of, some_children, no_children}
 use Rattle.tnf.specs.Children.{IsChildAt}
 
 -- members of a mapped list

@@ -7,10 +7,10 @@ use Rattle.std.proofs.lemmas.List.{length-take-le, get_or-take, length-drop, get
 use Rattle.std.proofs.lemmas.List.Elements.{All-contains, filter_passes}
 use Rattle.std.proofs.lemmas.List.Kept.{AllPairs-filter}
 use Rattle.std.proofs.lemmas.List.Sums.{sum_by-cons, length-filter}
-use Rattle.turing.specs.Machine.{Machine, IsMachine}
-use Rattle.tree.specs.Used.{IsUsed, InOrder, is_used, used_count}
-use Rattle.tree.proofs.Used.{used_within}
-use Rattle.tree.proofs.UsedCount.{used_from_test, test_from_used, order_test, order_from_test}
+use Rattle.law_turing.specs.Machine.{Machine, IsMachine}
+use Rattle.law_tree.specs.Used.{IsUsed, InOrder, is_used, used_count}
+use Rattle.law_tree.proofs.Used.{used_within}
+use Rattle.law_tree.proofs.UsedCount.{used_from_test, test_from_used, order_test, order_from_test}
 use Rattle.tnf.specs.Naming.{IsNumberOfUsed}
 
 -- what stands in a list and passes stands among those that pass

@@ -3,7 +3,7 @@ use Rattle.std.specs.Prelude.{◌≡◌, ℕ, ◌≤◌}
 use Rattle.machine_text.specs.declared.transition.Sym.{Sym}
 use Rattle.machine_text.specs.declared.transition.Entry.{Entry}
 use Rattle.machine_text.specs.Packed.{Packed, entry_of, with_entry, holes}
-use Rattle.tree.specs.Children.{IsChildEntry}
+use Rattle.law_tree.specs.Children.{IsChildEntry}
 
 -- t is a child of p at a pair, where the first u states are used: at least two pairs are undefined, and the pair gets
 -- an entry to a used state or the first unused one, to the right where p is empty

@@ -1,7 +1,7 @@
 -- How many states a machine uses.
 use Rattle.std.specs.Prelude.{◌≡◌, ◌↔◌, ℕ, ◌<◌, List, length, AllPairs, Contains}
-use Rattle.turing.specs.Machine.{Machine}
-use Rattle.tree.specs.Used.{IsUsed}
+use Rattle.law_turing.specs.Machine.{Machine}
+use Rattle.law_tree.specs.Used.{IsUsed}
 
 -- k is the number of used states: they can be listed without repetition, and the list has k of them
 pub record IsNumberOfUsed (k : ℕ) (m : Machine) : Type 0 where

@@ -7,7 +7,7 @@ use Rattle.machine_text.specs.declared.transition.Dir.{Dir}
 use Rattle.machine_text.specs.declared.transition.Dir.TheVariants.{L, R}
 use Rattle.machine_text.specs.declared.transition.Entry.{Entry}
 use Rattle.machine_text.specs.Packed.{Packed, with_entry}
-use Rattle.tree.specs.Children.{entries_to}
+use Rattle.law_tree.specs.Children.{entries_to}
 
 -- whether an entry of state number p, if there is one, uses a state: p itself and its target
 abbrev pub is_named : ℕ → Option Entry → ℕ → Bool

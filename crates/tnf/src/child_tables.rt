@@ -7,8 +7,8 @@ ghost use Rattle.std.specs.declared.cmp.Ordering.TheVariants.{Less};
 ghost use Rattle.std.specs.Cmp.Lexicographic.{slice_cmp};
 ghost use Rattle.machine_text.specs.Packed.{Packed, entry_of};
 ghost use Rattle.machine_text.specs.Text.{text_of};
-ghost use Rattle.tree.specs.Used.{InOrder};
-ghost use Rattle.tree.specs.Tables.{children_at};
+ghost use Rattle.law_tree.specs.Used.{InOrder};
+ghost use Rattle.law_tree.specs.Tables.{children_at};
 ghost use Rattle.tnf.specs.Children.{IsChildAt};
 ghost use Rattle.tnf.specs.inside.{entries_left};
 

@@ -3,7 +3,7 @@ ghost use Rattle.std.specs.Prelude.{◌≡◌, ℕ, ◌+◌, ◌<◌, ◌≤◌,
 ghost use Rattle.std.specs.List.{range_with_len};
 ghost use Rattle.std.specs.Option.{ForSome};
 ghost use Rattle.machine_text.specs.Packed.{entry_of};
-ghost use Rattle.tree.specs.Used.{InOrder, is_used, used_count};
+ghost use Rattle.law_tree.specs.Used.{InOrder, is_used, used_count};
 ghost use Rattle.tnf.specs.Naming.{IsNumberOfUsed};
 ghost use Rattle.tnf.specs.inside.{is_named};
 

@@ -6,8 +6,8 @@ ghost use Rattle.std.specs.Cmp.Lexicographic.{slice_cmp};
 ghost use Rattle.machine_text.specs.Limits.{state_limit};
 ghost use Rattle.machine_text.specs.Packed.{Packed, entry_of, empty_table};
 ghost use Rattle.machine_text.specs.Text.{text_of};
-ghost use Rattle.tree.specs.Used.{InOrder};
-ghost use Rattle.tree.specs.Tables.{children_at};
+ghost use Rattle.law_tree.specs.Used.{InOrder};
+ghost use Rattle.law_tree.specs.Tables.{children_at};
 ghost use Rattle.tnf.specs.Children.{IsChildAt};
 
 use crate::child_tables::Children;

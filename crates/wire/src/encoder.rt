@@ -12,7 +12,7 @@ ghost use Rattle.wire.specs.Meaning.{said};
 
 use crate::message::Msg;
 use cert::{Record, append_table};
-use evidence::NoMemory;
+use kind_evidence::NoMemory;
 use machine_text::Table;
 use text::append_number;
 

@@ -5,7 +5,7 @@ ghost use Rattle.text.specs.Lines.{IsShort, bounded_line};
 ghost use Rattle.wire.specs.Lines.{IsShortLine, fed, known, lines_from, rest_from};
 
 use crate::line::Line;
-use evidence::NoMemory;
+use kind_evidence::NoMemory;
 use std::alloc::Global;
 use std::collections::VecDeque;
 use std::marker::Model;

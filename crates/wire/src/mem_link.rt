@@ -5,7 +5,7 @@ ghost use Rattle.wire.specs.Memory.{MemoryLink, IsDue, no_trouble, called, faile
 use crate::fault::Fault;
 use crate::link::Link;
 use crate::trouble::Trouble;
-use evidence::NoMemory;
+use kind_evidence::NoMemory;
 use std::alloc::Global;
 use std::marker::Model;
 

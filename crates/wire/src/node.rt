@@ -1,7 +1,7 @@
 // What a node is handed, what it answers, and what every node promises.
 ghost use Rattle.std.specs.Prelude.{◌≡◌};
 
-use evidence::NoMemory;
+use kind_evidence::NoMemory;
 use std::error::Error;
 use std::fmt;
 

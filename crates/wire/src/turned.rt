@@ -2,7 +2,7 @@
 ghost use Rattle.std.specs.Prelude.{◌≡◌};
 
 use crate::node::NodeFault;
-use evidence::NoMemory;
+use kind_evidence::NoMemory;
 use std::error::Error;
 use std::fmt;
 

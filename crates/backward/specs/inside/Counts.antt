@@ -2,10 +2,10 @@
 use Rattle.std.specs.Prelude.{◌≡◌, ℕ, zero, suc, ◌+◌, ◌<◌, ◌≤◌, List, length, slice_index, Some, Result, Ok, Err, Bool, true, false}
 use Rattle.std.specs.List.{filter_map, sum_by}
 use Rattle.machine_text.specs.Packed.{Packed, IsTable, entry_of}
-use Rattle.turing.specs.Machine.{Machine}
-use Rattle.turing.specs.Run.{Config, after}
-use Rattle.turing.specs.Backward.{Partial}
-use Rattle.turing.specs.Levels.{all_pairs, known_before, level}
+use Rattle.law_turing.specs.Machine.{Machine}
+use Rattle.law_turing.specs.Run.{Config, after}
+use Rattle.law_turing.specs.Backward.{Partial}
+use Rattle.law_turing.specs.Levels.{all_pairs, known_before, level}
 use Rattle.backward.specs.Limits.{path_limit}
 use Rattle.backward.specs.declared.too_wide.TooWide.{TooWide}
 

@@ -2,8 +2,8 @@
 use Rattle.std.specs.Prelude.{ℕ, ◌+◌, ◌/◌, ◌%◌, ◌<◌, ◌≤◌, ℤ, pos, negsuc, ◌+ℤ◌, List, Option, None, slice_index_or}
 use Rattle.machine_text.specs.Packed.{Packed, symbol_of, entry_of}
 use Rattle.machine_text.specs.declared.transition.Sym.{Sym}
-use Rattle.turing.specs.Backward.{Pair, Partial}
-use Rattle.turing.specs.Levels.{known_before}
+use Rattle.law_turing.specs.Backward.{Pair, Partial}
+use Rattle.law_turing.specs.Levels.{known_before}
 
 -- what is known of a cell by its place; nothing beyond the stretch
 abbrev pub known_cell : List (Option Sym) → ℤ → Option Sym

@@ -1,11 +1,11 @@
 -- C i j: the same configuration at the times i and j.
 use Rattle.std.specs.Prelude.{◌<◌, ◌≤◌, ◌^◌, Some, None}
 use Rattle.machine_text.specs.Packed.{entry_of}
-use Rattle.turing.specs.Cycle.{Cycle}
+use Rattle.law_turing.specs.Cycle.{Cycle}
 use Rattle.loops.specs.Limits.{time_limit}
 use Rattle.loops.specs.declared.cycle.Cycle.{Cycle as Times}
-use Rattle.evidence.specs.declared.verdicts.Ending.TheVariants.{Never as NeverEnding}
-use Rattle.evidence.specs.declared.verdicts.Verdict.TheVariants.{Never}
+use Rattle.kind_evidence.specs.declared.verdicts.Ending.TheVariants.{Never as NeverEnding}
+use Rattle.kind_evidence.specs.declared.verdicts.Verdict.TheVariants.{Never}
 use Rattle.cert.specs.Meaning.{Meaning}
 
 abbrev pub cycle_meaning : Times → Meaning

@@ -1,8 +1,8 @@
 -- F side m delta rows keep: the automata fit the table.
 use Rattle.std.specs.Prelude.{◌≡◌, Some, None}
 use Rattle.far.specs.Automata.{Automata, AreAutomata, AreSized, AreAutomataOf}
-use Rattle.evidence.specs.declared.verdicts.Ending.TheVariants.{Never as NeverEnding}
-use Rattle.evidence.specs.declared.verdicts.Verdict.TheVariants.{Never}
+use Rattle.kind_evidence.specs.declared.verdicts.Ending.TheVariants.{Never as NeverEnding}
+use Rattle.kind_evidence.specs.declared.verdicts.Verdict.TheVariants.{Never}
 use Rattle.cert.specs.Meaning.{Meaning}
 
 abbrev pub far_meaning : Automata → Meaning

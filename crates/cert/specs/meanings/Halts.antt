@@ -1,13 +1,13 @@
 -- H k and H k s: the table halts in k steps, and with s ones.
 use Rattle.std.specs.Prelude.{◌≤◌, Some}
 use Rattle.machine_text.specs.Packed.{entry_of}
-use Rattle.turing.specs.Score.{score_at}
+use Rattle.law_turing.specs.Score.{score_at}
 use Rattle.run.specs.Fields.{AreShort}
 use Rattle.run.specs.Halts.{HaltsAsClaimed}
 use Rattle.run.specs.Limits.{halt_step_limit}
 use Rattle.run.specs.declared.halts_in.HaltsIn.{HaltsIn}
-use Rattle.evidence.specs.declared.verdicts.Ending.TheVariants.{Halts as Halting}
-use Rattle.evidence.specs.declared.verdicts.Verdict.TheVariants.{Halts}
+use Rattle.kind_evidence.specs.declared.verdicts.Ending.TheVariants.{Halts as Halting}
+use Rattle.kind_evidence.specs.declared.verdicts.Verdict.TheVariants.{Halts}
 use Rattle.cert.specs.Meaning.{Meaning}
 
 abbrev pub halts_meaning : HaltsIn → Meaning

@@ -1,8 +1,8 @@
 -- N g L R C: the lists are a closed position set.
 use Rattle.std.specs.Prelude.{◌≡◌, Some, None}
 use Rattle.ngram_cps.specs.Lists.{Lists, AreLists, AreWithin, IsPositionSet}
-use Rattle.evidence.specs.declared.verdicts.Ending.TheVariants.{Never as NeverEnding}
-use Rattle.evidence.specs.declared.verdicts.Verdict.TheVariants.{Never}
+use Rattle.kind_evidence.specs.declared.verdicts.Ending.TheVariants.{Never as NeverEnding}
+use Rattle.kind_evidence.specs.declared.verdicts.Verdict.TheVariants.{Never}
 use Rattle.cert.specs.Meaning.{Meaning}
 
 abbrev pub ngram_meaning : Lists → Meaning

@@ -1,11 +1,11 @@
 -- T i j side: the same configuration at the times i and j but for a shift, and for what lies behind.
 use Rattle.std.specs.Prelude.{◌<◌, ◌≤◌, ◌^◌, Some, None}
 use Rattle.machine_text.specs.Packed.{entry_of}
-use Rattle.turing.specs.Translated.{Translated}
+use Rattle.law_turing.specs.Translated.{Translated}
 use Rattle.loops.specs.Limits.{time_limit}
 use Rattle.loops.specs.declared.translated.Translated.{Translated as Times}
-use Rattle.evidence.specs.declared.verdicts.Ending.TheVariants.{Never as NeverEnding}
-use Rattle.evidence.specs.declared.verdicts.Verdict.TheVariants.{Never}
+use Rattle.kind_evidence.specs.declared.verdicts.Ending.TheVariants.{Never as NeverEnding}
+use Rattle.kind_evidence.specs.declared.verdicts.Verdict.TheVariants.{Never}
 use Rattle.cert.specs.Meaning.{Meaning}
 
 abbrev pub translated_meaning : Times → Meaning

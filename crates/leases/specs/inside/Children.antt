@@ -3,7 +3,7 @@ use Rattle.std.specs.Prelude.{◌≡◌, ℕ, ◌⊎◌, ◌<◌, ◌≤◌, if�
 use Rattle.machine_text.specs.Packed.{Packed}
 use Rattle.ledger.specs.Contents.{Contents, IsOpenOn}
 use Rattle.ledger.specs.Records.{same_table}
-use Rattle.tree.specs.Tables.{IsChildTable}
+use Rattle.law_tree.specs.Tables.{IsChildTable}
 use Rattle.ledger.specs.Tally.{IsHalting}
 use Rattle.leases.specs.Limits.{child_limit}
 use Rattle.leases.specs.Leases.{Lease, came_under}

@@ -1,7 +1,7 @@
 -- For the code: the numbers that are kept of trees, and a change of them that is carried up from parent to parent.
 use Rattle.std.specs.Prelude.{◌≡◌, ◌⊎◌, ℕ, ◌+◌, ◌-◌, ◌<◌, ◌≤◌, ◌^◌, List, Option, Some, None, slice_get, length}
 use Rattle.machine_text.specs.Packed.{Packed}
-use Rattle.evidence.specs.declared.verdicts.Ending.{Ending}
+use Rattle.kind_evidence.specs.declared.verdicts.Ending.{Ending}
 use Rattle.ledger.specs.inside.Counting.{greater, steps_of}
 use Rattle.ledger.specs.inside.Open.{no_place}
 use Rattle.ledger.specs.declared.tree_count.TreeCount.{TreeCount}

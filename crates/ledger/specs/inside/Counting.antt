@@ -2,8 +2,8 @@
 use Rattle.std.specs.Prelude.{◌≡◌, ℕ, ◌+◌, ◌-◌, Bool, true, false, nat_lt, nat_eq, if◌then◌else◌, List, [], Option, Some, None, filter, filter_map, length}
 use Rattle.std.specs.Option.{is_none}
 use Rattle.machine_text.specs.Packed.{Packed}
-use Rattle.evidence.specs.declared.verdicts.Ending.{Ending}
-use Rattle.evidence.specs.declared.verdicts.Ending.TheVariants.{Halts, Never}
+use Rattle.kind_evidence.specs.declared.verdicts.Ending.{Ending}
+use Rattle.kind_evidence.specs.declared.verdicts.Ending.TheVariants.{Halts, Never}
 use Rattle.cert.specs.Claim.{Recorded, ending_by, score_by}
 use Rattle.ledger.specs.Tally.{IsGreatestCount, IsGreatestOnes}
 use Rattle.ledger.specs.declared.counts.Counts.{Counts}

@@ -1,7 +1,7 @@
 -- For the code: the header of a ledger's text.
 use Rattle.std.specs.Prelude.{◌≡◌, ℕ, List, Option, Some, None, Result, Ok, Err}
 use Rattle.machine_text.specs.Packed.{Packed, entry_of}
-use Rattle.tree.specs.Used.{InOrder}
+use Rattle.law_tree.specs.Used.{InOrder}
 use Rattle.ledger.specs.LedgerText.{IsTornHeader, HasHeader, HasNoHeader}
 use Rattle.std.specs.Borrow.{Bor}
 use Rattle.ledger.specs.declared.faults.LoadFault.{LoadFault}

@@ -3,9 +3,9 @@ use Rattle.std.specs.Prelude.{◌≡◌, ◌≢◌, ◌↔◌, ◌⊎◌, ℕ, t
 use Rattle.std.specs.BTreeMap.{BTreeMap, ContainsKey}
 use Rattle.machine_text.specs.Packed.{Packed}
 use Rattle.machine_text.specs.Order.{table_cmp}
-use Rattle.evidence.specs.declared.verdicts.Ending.TheVariants.{Halts}
-use Rattle.tree.specs.Closed.{IsOpen}
-use Rattle.tree.specs.Tables.{IsChildTable}
+use Rattle.kind_evidence.specs.declared.verdicts.Ending.TheVariants.{Halts}
+use Rattle.law_tree.specs.Closed.{IsOpen}
+use Rattle.law_tree.specs.Tables.{IsChildTable}
 use Rattle.cert.specs.Claim.{Recorded, ending_by}
 use Rattle.ledger.specs.Records.{claim_in, mark_in}
 use Rattle.ledger.specs.Contents.{Contents}

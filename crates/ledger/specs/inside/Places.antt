@@ -1,8 +1,8 @@
 -- For the code: where an offered record stands, and why it isn't taken.
 use Rattle.std.specs.Prelude.{◌≡◌, List, Option, Some, None, IsSome}
 use Rattle.machine_text.specs.Packed.{Packed}
-use Rattle.evidence.specs.declared.verdicts.Ending.{Ending}
-use Rattle.tree.specs.Closed.{IsOpen}
+use Rattle.kind_evidence.specs.declared.verdicts.Ending.{Ending}
+use Rattle.law_tree.specs.Closed.{IsOpen}
 use Rattle.cert.specs.Claim.{Recorded, ending_by, shown_by}
 use Rattle.ledger.specs.Records.{mark_in}
 use Rattle.ledger.specs.Held.{IsHoldout}

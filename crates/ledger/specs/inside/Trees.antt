@@ -1,9 +1,9 @@
 -- For the code: what the numbers that are kept with a record say of its table's tree.
 use Rattle.std.specs.Prelude.{◌≡◌, ◌⊎◌, ℕ, ◌<◌, true, List, Some, slice_get}
 use Rattle.machine_text.specs.Packed.{Packed, entry_of}
-use Rattle.turing.specs.Score.{score_at}
-use Rattle.tree.specs.Closed.{IsOpen, IsGreatestRecorded}
-use Rattle.tree.specs.Tables.{IsChildTable, InTableTree}
+use Rattle.law_turing.specs.Score.{score_at}
+use Rattle.law_tree.specs.Closed.{IsOpen, IsGreatestRecorded}
+use Rattle.law_tree.specs.Tables.{IsChildTable, InTableTree}
 use Rattle.cert.specs.Claim.{Recorded}
 use Rattle.ledger.specs.Records.{mark_in}
 use Rattle.ledger.specs.Held.{IsHoldout}

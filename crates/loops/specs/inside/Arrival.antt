@@ -1,7 +1,7 @@
 -- Whether a run comes to a time.
 use Rattle.std.specs.Prelude.{◌≡◌, ℕ, Bool, true, false, Some}
 use Rattle.machine_text.specs.Packed.{entry_of}
-use Rattle.turing.specs.Run.{Config, after}
+use Rattle.law_turing.specs.Run.{Config, after}
 use Rattle.run.specs.RunState.{RunState, OnRun}
 
 -- the runner stands at time k of the same run

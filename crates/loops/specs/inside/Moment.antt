@@ -2,7 +2,7 @@
 use Rattle.std.specs.Prelude.{◌≡◌, ℕ, Some, refl}
 use Rattle.std.specs.Coded.{Coded, code_by, coded×, coded_ℕ}
 use Rattle.machine_text.specs.Packed.{Packed, entry_of}
-use Rattle.turing.specs.Run.{Config, config_code, after}
+use Rattle.law_turing.specs.Run.{Config, config_code, after}
 use Rattle.run.specs.RunState.{RunState}
 
 pub record Moment : Type 0 where

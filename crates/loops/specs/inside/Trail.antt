@@ -2,8 +2,8 @@
 use Rattle.std.specs.Prelude.{◌≡◌, ℕ, ℤ, Option, Some, None}
 use Rattle.machine_text.specs.Packed.{Packed, entry_of}
 use Rattle.machine_text.specs.declared.transition.Dir.{Dir}
-use Rattle.turing.specs.Run.{Config, after}
-use Rattle.turing.specs.Translated.{Farthest}
+use Rattle.law_turing.specs.Run.{Config, after}
+use Rattle.law_turing.specs.Translated.{Farthest}
 use Rattle.run.specs.RunState.{RunState}
 use Rattle.loops.specs.inside.Moment.{Moment, IsMomentOf}
 use Rattle.loops.specs.inside.Arrival.{Arrives}

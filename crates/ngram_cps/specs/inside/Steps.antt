@@ -5,7 +5,7 @@ use Rattle.machine_text.specs.declared.transition.Dir.TheVariants.{L, R}
 use Rattle.machine_text.specs.declared.transition.Entry.{Entry}
 use Rattle.machine_text.specs.Packed.{symbol_of}
 use Rattle.machine_text.specs.Text.{symbol_byte}
-use Rattle.turing.specs.Machine.{Machine}
+use Rattle.law_turing.specs.Machine.{Machine}
 use Rattle.ngram_cps.specs.Listing.{item, IsItem}
 use Rattle.ngram_cps.specs.Lists.{Lists}
 

@@ -1,7 +1,7 @@
 use Rattle.std.proofs.Common.{◌≡◌, ◌*◌, ◌∙◌, sym, ap, subst, false, get_or-set_other, arith}
 use Rattle.std.specs.Option.{is_some}
 use Rattle.std.proofs.lemmas.Result.{err_from_is_err_and}
-use Rattle.turing.specs.Backward.{Partial}
+use Rattle.law_turing.specs.Backward.{Partial}
 use Rattle.backward.specs.inside.Counts.{CountsOn, Exceeds}
 use Rattle.backward.proofs.Widths.{entry_at, widths_none, widths_passed, widths_more, widths_all, widths_exceed, entry_by, standing_by}
 use Rattle.backward.proofs.path_counter.count_all.Goals as goal

@@ -3,8 +3,8 @@ use Rattle.std.specs.Bool.{then_some}
 use Rattle.std.specs.Option.{IfSome, IfNone}
 use Rattle.machine_text.specs.declared.transition.Sym.{Sym}
 use Rattle.machine_text.specs.declared.transition.Entry.{Entry}
-use Rattle.turing.specs.Backward.{Pair, left_behind}
-use Rattle.turing.specs.Levels.{may_hold, known_before}
+use Rattle.law_turing.specs.Backward.{Pair, left_behind}
+use Rattle.law_turing.specs.Levels.{may_hold, known_before}
 use Rattle.backward.specs.inside.Known.{known_about}
 use Rattle.backward.proofs.Tapes.{known_before_is}
 use Rattle.backward.proofs.step_back.place_before.Goals as goal

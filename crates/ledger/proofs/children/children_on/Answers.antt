@@ -1,7 +1,7 @@
 use Rattle.std.proofs.Common.{sym, subst, ◌↔◌, Contains}
 use Rattle.std.specs.Prelude.{List}
 use Rattle.machine_text.specs.Packed.{Packed}
-use Rattle.tree.specs.Tables.{IsChildTable}
+use Rattle.law_tree.specs.Tables.{IsChildTable}
 use Rattle.ledger.proofs.children.children_on.Goals as goal
 
 pub returns-clause-members : goal.returns-clause-members

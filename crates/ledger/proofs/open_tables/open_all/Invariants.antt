@@ -2,7 +2,7 @@ use Rattle.std.proofs.Common.{◌≡◌, ◌↔◌, ◌⊎◌}
 use Rattle.std.specs.List.{Contains}
 use Rattle.std.specs.BTreeMap.{ContainsKey}
 use Rattle.machine_text.specs.Packed.{Packed}
-use Rattle.tree.specs.Tables.{IsChildTable}
+use Rattle.law_tree.specs.Tables.{IsChildTable}
 use Rattle.ledger.specs.inside.Stored.{records_of}
 use Rattle.machine_text.specs.Order.{table_cmp}
 use Rattle.ledger.specs.inside.Open.{others, AreChildrenAt, HasUnrecorded}

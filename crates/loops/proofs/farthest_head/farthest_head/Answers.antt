@@ -4,7 +4,7 @@ use Rattle.std.specs.Int.RustNames.{FitsSigned}
 use mir.Val.{to_z}
 use Rattle.std.proofs.lemmas.Int.{to_z-of_z}
 use Rattle.machine_text.specs.Packed.{Packed, entry_of}
-use Rattle.turing.specs.Run.{Config, after}
+use Rattle.law_turing.specs.Run.{Config, after}
 use Rattle.loops.proofs.BoundLaws.{IsFarther, bound_more}
 use Rattle.loops.proofs.MomentLaws.{arrived, not_arrived, none_after}
 use Rattle.loops.proofs.farthest_head.farthest_head.Goals as goal

@@ -3,7 +3,7 @@ use Rattle.std.specs.Int.{w64}
 use Rattle.std.specs.Int.RustNames.{FitsSigned}
 use Rattle.std.proofs.lemmas.Int.{to_z-of_z}
 use Rattle.machine_text.specs.Packed.{Packed, entry_of}
-use Rattle.turing.specs.Run.{Config, after}
+use Rattle.law_turing.specs.Run.{Config, after}
 use Rattle.run.specs.RunState.{RunState}
 use Rattle.loops.specs.inside.Moment.{Moment}
 use Rattle.loops.specs.inside.Trail.{GoesTo}

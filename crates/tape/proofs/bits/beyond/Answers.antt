@@ -3,7 +3,7 @@ use Rattle.std.specs.Int.{w64}
 use Rattle.std.specs.Int.RustNames.{FitsSigned}
 use Rattle.std.proofs.lemmas.Int.{ints, to_z-of_z}
 use Rattle.machine_text.specs.declared.transition.Dir.{Dir}
-use Rattle.turing.specs.Translated.{Beyond}
+use Rattle.law_turing.specs.Translated.{Beyond}
 use Rattle.tape.specs.inside.{place_numbered}
 use Rattle.tape.proofs.WordBits.{from_bits}
 use Rattle.tape.proofs.bits.beyond.Goals as goal

@@ -1,6 +1,6 @@
 use Rattle.std.proofs.Common.{take, ◌∙◌, ap}
 use Rattle.machine_text.specs.Packed.{entry_of}
-use Rattle.turing.proofs.TableLaws.{table_machine}
+use Rattle.law_turing.proofs.TableLaws.{table_machine}
 use Rattle.tnf.proofs.UsedLists.{order_by_marks}
 use Rattle.tnf.proofs.naming.in_order.Goals as goal
 

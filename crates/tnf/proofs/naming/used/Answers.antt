@@ -1,7 +1,7 @@
 use Rattle.std.proofs.Common.{take, ◌∙◌, ap}
 use Rattle.machine_text.specs.Packed.{entry_of}
-use Rattle.turing.proofs.TableLaws.{table_machine}
-use Rattle.tree.proofs.UsedCount.{used_number}
+use Rattle.law_turing.proofs.TableLaws.{table_machine}
+use Rattle.law_tree.proofs.UsedCount.{used_number}
 use Rattle.tnf.proofs.UsedLists.{count_of_marks, number_of_used}
 use Rattle.tnf.proofs.naming.used.Goals as goal
 

@@ -1,5 +1,5 @@
 use Rattle.std.proofs.Common.{rules, subst}
-use Rattle.tree.specs.Closed.{Halting}
+use Rattle.law_tree.specs.Closed.{Halting}
 use Rattle.ledger.specs.Contents.{Contents, IsBoard}
 use Rattle.ledger.specs.Tally.{HaltsAfter}
 use Rattle.ledger.proofs.BoardLaws.{marked_in_order}

@@ -1,5 +1,5 @@
 use Rattle.std.proofs.Common.{IsTrue, ◌↔◌, subst, sym, ◌∙◌}
-use Rattle.tree.specs.Closed.{IsOpen}
+use Rattle.law_tree.specs.Closed.{IsOpen}
 use Rattle.ledger.specs.Records.{mark_in}
 use Rattle.ledger.specs.Contents.{Contents}
 use Rattle.ledger.proofs.board.Board.is_open.Goals as goal

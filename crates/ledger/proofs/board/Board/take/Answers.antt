@@ -1,7 +1,7 @@
 use Rattle.std.proofs.Common.{◌<◌, ◌^◌, ◌++◌, ◌∷◌, [], List, length, Option, refl, sym, ◌∙◌, ap, subst}
 use Rattle.machine_text.specs.Packed.{Packed}
-use Rattle.tree.specs.Closed.{IsOpen}
-use Rattle.evidence.specs.declared.verdicts.Ending.{Ending}
+use Rattle.law_tree.specs.Closed.{IsOpen}
+use Rattle.kind_evidence.specs.declared.verdicts.Ending.{Ending}
 use Rattle.cert.specs.Claim.{Recorded, ending_by, score_by}
 use Rattle.cert.specs.Kinds.{recorded}
 use Rattle.ledger.specs.Records.{same_table, mark_in}

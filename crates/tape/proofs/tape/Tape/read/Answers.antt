@@ -1,5 +1,5 @@
 use Rattle.std.proofs.Common.{◌∙◌, ap, sym}
-use Rattle.turing.specs.Tape.{symbol_read}
+use Rattle.law_turing.specs.Tape.{symbol_read}
 use Rattle.tape.proofs.Moves.{symbol_read-stored}
 use Rattle.tape.proofs.tape.Tape.read.Goals as goal
 

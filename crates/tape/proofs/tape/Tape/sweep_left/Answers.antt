@@ -1,7 +1,7 @@
 use Rattle.std.proofs.Common.{◌⊎◌, ◌≢◌, ◌≡◌, ℕ, ◌<◌, subst, ap, sym, ◌∙◌, arith}
 use Rattle.std.specs.Int.{bit_at}
 use Rattle.machine_text.specs.declared.transition.Dir.TheVariants.{L}
-use Rattle.turing.specs.Tape.{Tape, symbol_read}
+use Rattle.law_turing.specs.Tape.{Tape, symbol_read}
 use Rattle.tape.specs.inside.{bit_ahead, HasCells, HasAllCells}
 use Rattle.tape.specs.Sweeps.{swept, EndsSweep}
 use Rattle.tape.proofs.Sweeps.{IsSweptWord, alike_ahead, sweep_ends, lesser, left_swept, left_swept-edge}

@@ -1,6 +1,6 @@
 use Rattle.std.proofs.Common.{◌*◌, ◌-◌, subst, ℕ, List, refl}
 use Rattle.std.proofs.lemmas.Cmp.{ranked}
-use Rattle.turing.specs.Tape.{Tape}
+use Rattle.law_turing.specs.Tape.{Tape}
 use Rattle.tape.specs.Word.{Holds}
 use Rattle.tape.specs.inside.{place_numbered}
 use Rattle.tape.proofs.Places.{IsAtDistance, word_left, word_here, word_right}

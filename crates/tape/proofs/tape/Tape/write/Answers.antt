@@ -1,5 +1,5 @@
 use Rattle.std.proofs.Common.{◌∙◌, ap, sym}
-use Rattle.turing.specs.Tape.{Tape, written}
+use Rattle.law_turing.specs.Tape.{Tape, written}
 use Rattle.tape.proofs.Moves.{written-stored}
 use Rattle.tape.proofs.tape.Tape.write.Goals as goal
 

@@ -8,12 +8,12 @@ use Prim.Native.Nat.{min}
 use Rattle.machine_text.specs.Packed.{entry_of}
 use Rattle.machine_text.specs.declared.transition.Sym.TheVariants.{Zero}
 use Rattle.machine_text.specs.declared.transition.Dir.TheVariants.{L, R}
-use Rattle.tree.specs.Used.{used_count}
-use Rattle.tree.specs.Tables.{children_at}
+use Rattle.law_tree.specs.Used.{used_count}
+use Rattle.law_tree.specs.Tables.{children_at}
 use Rattle.tnf.specs.Children.{IsChildAt}
 use Rattle.tnf.proofs.EntriesLeft.{to}
-use Rattle.tree.proofs.ChildOrder.{children_rise}
-use Rattle.tree.proofs.ChildCount.{children_bound}
+use Rattle.law_tree.proofs.ChildOrder.{children_rise}
+use Rattle.law_tree.proofs.ChildCount.{children_bound}
 use Rattle.tnf.proofs.Members.{children_members}
 use Rattle.tnf.proofs.FirstChildren.{by_parts, empty_children, filled_children, without_children}
 use Rattle.tnf.proofs.child_tables.Children.of.Goals as goal

@@ -1,4 +1,0 @@
-use Rattle.automata_search.proofs.edges.Edges.reached.Given as goal
-
-abbrev pub decreases-nodes : goal.decreases-nodes
-decreases-nodes l = l.rest

@@ -1,0 +1,59 @@
+// The finders that the command line can ask for.
+use crate::hard_finder::HardFinder;
+use backward::BackwardFinder;
+use cert::{Finder, OwnedCertificate};
+use cmd_options::Search;
+use far::FarFinder;
+use kind_evidence::NoMemory;
+use loops::{CycleFinder, TranslatedFinder};
+use machine_text::Table;
+use ngram_cps::NgramFinder;
+use run::HaltFinder;
+use std::alloc::Global;
+
+// One of them, so that a list of them needs no boxes.
+#[derive(Drop)]
+pub(crate) enum AnyFinder {
+    Halts(HaltFinder),
+    Cycle(CycleFinder),
+    Translated(TranslatedFinder),
+    Backward(BackwardFinder),
+    Ngram(NgramFinder),
+    Far(FarFinder),
+    Hard(HardFinder),
+}
+
+impl Finder for AnyFinder {
+    ghost use Rattle.std.specs.Prelude.{⊤};
+
+    ghost gives = { λ finder p budget claim. ⊤ };
+
+    fn find(&mut self, t: &Table, budget: u64) -> Result<Option<OwnedCertificate>, NoMemory> {
+        match self {
+            AnyFinder::Halts(finder) => finder.find(t, budget),
+            AnyFinder::Cycle(finder) => finder.find(t, budget),
+            AnyFinder::Translated(finder) => finder.find(t, budget),
+            AnyFinder::Backward(finder) => finder.find(t, budget),
+            AnyFinder::Ngram(finder) => finder.find(t, budget),
+            AnyFinder::Far(finder) => finder.find(t, budget),
+            AnyFinder::Hard(finder) => finder.find(t, budget),
+        }
+    }
+}
+
+// One of each, in the order in which they are asked; or the one that goes through the stages, where the search is hard.
+pub(crate) fn all_finders(alloc: Global, search: &Search) -> Result<Vec<AnyFinder>, NoMemory> {
+    let steps = search.steps;
+    let mut finders = Vec::new(alloc);
+    if search.hard {
+        finders.push(AnyFinder::Hard(HardFinder::new(alloc, steps)))?;
+        return Ok(finders);
+    }
+    finders.push(AnyFinder::Halts(HaltFinder::new(alloc, steps)))?;
+    finders.push(AnyFinder::Cycle(CycleFinder::new(alloc, steps)))?;
+    finders.push(AnyFinder::Translated(TranslatedFinder::new(alloc, steps)))?;
+    finders.push(AnyFinder::Backward(BackwardFinder::new(alloc, search.depth)))?;
+    finders.push(AnyFinder::Ngram(NgramFinder::new(alloc, search.gram)))?;
+    finders.push(AnyFinder::Far(FarFinder::new(alloc, search.far)))?;
+    Ok(finders)
+}

@@ -1,0 +1,23 @@
+//! From what a command line asks for to the command: its finders, its files and its ledger.
+//!
+//! Nothing here reads words, so that nothing here loads what reads them.
+#![tactic(auto)]
+
+mod any_finder;
+mod executing;
+mod failures;
+mod folders;
+mod hard_finder;
+mod ledgers;
+mod lines;
+mod locking;
+mod named_file;
+mod nodes;
+mod pictures;
+mod stages;
+mod system;
+
+pub use executing::carry_out;
+pub use failures::Failures;
+pub use named_file::NamedFile;
+pub use system::{FileLock, System};

@@ -1,0 +1,272 @@
+// The files, the clock and the sockets of the system.
+use crate::failures::Failures;
+use crate::named_file::NamedFile;
+use cmd_ledgers::{FileLedger, Host};
+use cmd_nodes::Sockets;
+use cmd_options::{Durability, Ended, LedgerFile};
+use cmd_parts::PartsHost;
+use std::cell::RefCell;
+use std::fs::{self, Files, OpenFile, OpenOptions, TryLockError};
+use std::io::{self, ErrorKind, IsTerminal, Write};
+use std::net::{TcpListener, TcpStream};
+use std::os::unix::fs::MetadataExt;
+use std::time::{Clock, Duration};
+
+/// The files, the clock and the sockets of the system.
+#[derive(Drop)]
+pub struct System<'a> {
+    rt: &'a HostRuntime,
+    failures: &'a Failures,
+}
+
+impl<'a> System<'a> {
+    /// Those that the program was given; what fails is remembered.
+    pub fn of(rt: &'a HostRuntime, failures: &'a Failures) -> System<'a> {
+        System { rt, failures }
+    }
+
+    // Remembers why something at a path failed.
+    fn noted<T>(&self, path: &str, done: io::Result<T>) -> io::Result<T> {
+        if let Err(fault) = &done {
+            self.failures.remember(path, fault);
+        }
+        done
+    }
+
+    fn named(&self, file: fs::File, path: &str) -> NamedFile<'a> {
+        NamedFile {
+            file,
+            path: path.to_string(self.rt.alloc()).ok(),
+            failures: self.failures,
+        }
+    }
+
+    // Where a symbolic link at a path leads; none where there is no link.
+    fn link_at(&self, path: &str) -> io::Result<Option<String>> {
+        match fs::symlink_metadata(self.rt, path) {
+            Ok(found) if found.is_symlink() => {
+                let to = self.rt.read_link(self.rt.alloc(), path)?;
+                Ok(Some(beside(self.rt, path, to.as_str())?))
+            }
+            Ok(_) => Ok(None),
+            Err(fault) if fault.kind() == ErrorKind::NotFound => Ok(None),
+            Err(fault) => Err(fault),
+        }
+    }
+
+    // The plain file at a path, open for writing; none where there is none, or it can't be written.
+    fn lockable(&self, path: &str) -> Option<fs::File> {
+        let found = fs::metadata(self.rt, path).ok()?;
+        if !found.is_file() {
+            return None;
+        }
+        OpenOptions::new().append(true).open(self.rt, path).ok()
+    }
+
+    // Whether it is this file that stands at a path.
+    fn is_at(&self, file: &fs::File, path: &str) -> bool {
+        match (file.metadata(), fs::metadata(self.rt, path)) {
+            (Ok(held), Ok(found)) => held.dev() == found.dev() && held.ino() == found.ino(),
+            _ => false,
+        }
+    }
+}
+
+/// By what a ledger file is locked: the open file, or nothing where there is nothing to lock.
+#[derive(Drop)]
+pub struct FileLock {
+    file: Option<fs::File>,
+}
+
+// Whether a file system knows no locks.
+fn has_no_locks(fault: &io::Error) -> bool {
+    fault.kind() == ErrorKind::Unsupported
+}
+
+// The most links that a path leads through.
+const MOST_LINKS: u32 = 40;
+
+// What a link at a path leads to: its text is a path from the folder of the link, unless it begins at the root.
+fn beside(rt: &HostRuntime, path: &str, to: &str) -> io::Result<String> {
+    let mut end = String::new(rt.alloc());
+    if !to.starts_with('/')
+        && let Some((folder, _)) = path.rsplit_once('/')
+    {
+        end.push_str(folder)?;
+        end.push_str("/")?;
+    }
+    end.push_str(to)?;
+    Ok(end)
+}
+
+impl<'a> Host for System<'a> {
+    type File = NamedFile<'a>;
+
+    fn open(&self, path: &str) -> io::Result<NamedFile<'a>> {
+        let file = self.noted(path, fs::open(self.rt, path))?;
+        Ok(self.named(file, path))
+    }
+
+    fn length(&self, file: &NamedFile<'a>) -> io::Result<u64> {
+        Ok(file.metadata()?.len())
+    }
+
+    fn extent(&self, file: &NamedFile<'a>) -> io::Result<u64> {
+        let found = file.metadata()?;
+        Ok(if found.is_file() {
+            found.len()
+        } else {
+            u64::MAX
+        })
+    }
+
+    fn is_same(&self, one: &str, other: &str) -> bool {
+        match (fs::metadata(self.rt, one), fs::metadata(self.rt, other)) {
+            (Ok(one), Ok(other)) => one.dev() == other.dev() && one.ino() == other.ino(),
+            _ => false,
+        }
+    }
+
+    fn end_of(&self, path: &str) -> io::Result<String> {
+        let mut end = path.to_string(self.rt.alloc())?;
+        for _ in 0..MOST_LINKS {
+            match self.noted(path, self.link_at(&end))? {
+                Some(next) => end = next,
+                None => return Ok(end),
+            }
+        }
+        self.noted(path, Err(io::Error::from(ErrorKind::InvalidInput)))
+    }
+
+    type Ledger = FileLedger<NamedFile<'a>>;
+
+    fn ledger(&self, file: &LedgerFile<'_>) -> io::Result<FileLedger<NamedFile<'a>>> {
+        let mut asked = OpenOptions::new();
+        asked.append(true).create(true);
+        let opened = self.noted(file.path, asked.open(self.rt, file.path))?;
+        Ok(FileLedger::of(self.named(opened, file.path), file.durability))
+    }
+
+    fn over(&self, path: &str) -> io::Result<FileLedger<NamedFile<'a>>> {
+        let mut asked = OpenOptions::new();
+        asked.write(true).truncate(true).create(true);
+        let opened = self.noted(path, asked.open(self.rt, path))?;
+        Ok(FileLedger::of(self.named(opened, path), Durability::System))
+    }
+
+    fn anew(&self, path: &str) -> io::Result<FileLedger<NamedFile<'a>>> {
+        match fs::remove_file(self.rt, path) {
+            Err(fault) if fault.kind() != ErrorKind::NotFound => {
+                return self.noted(path, Err(fault));
+            }
+            _ => {}
+        }
+        let mut asked = OpenOptions::new();
+        asked.append(true).create_new(true);
+        let opened = self.noted(path, asked.open(self.rt, path))?;
+        Ok(FileLedger::of(self.named(opened, path), Durability::System))
+    }
+
+    fn is_replaceable(&self, path: &str) -> bool {
+        match fs::symlink_metadata(self.rt, path) {
+            Ok(found) => found.is_file(),
+            Err(fault) => fault.kind() == ErrorKind::NotFound,
+        }
+    }
+
+    fn sync(&self, path: &str) -> io::Result<()> {
+        let file = self.noted(path, fs::open(self.rt, path))?;
+        self.noted(path, file.sync_all())
+    }
+
+    fn rename(&self, from: &str, to: &str) -> io::Result<()> {
+        self.noted(to, fs::rename(self.rt, from, to))
+    }
+
+    fn tells_terminal(&self) -> bool {
+        self.rt.stderr().is_terminal()
+    }
+
+    fn tell_cut(&self, path: &str, count: u64, kept_at: &str) {
+        if self.tells_terminal() {
+            // Nothing hangs on whether it can be said.
+            let _ = writeln!(
+                self.rt.stderr(),
+                "{path}: {count} bytes were cut off, and are kept in {kept_at}"
+            );
+        }
+    }
+
+    fn remember(&self, name: &str, fault: &io::Error) {
+        self.failures.remember(name, fault);
+    }
+
+    fn reason(&self) -> Option<String> {
+        self.failures.take()
+    }
+}
+
+impl<'a> PartsHost for System<'a> {
+    type Lock = FileLock;
+
+    ghost locks = { λ system path locked. Unit {0} };
+
+    fn lock(&self, path: &str) -> Result<Option<FileLock>, Ended> {
+        let Some(file) = self.lockable(path) else {
+            return Ok(Some(FileLock { file: None }));
+        };
+        match file.try_lock() {
+            Ok(()) if self.is_at(&file, path) => Ok(Some(FileLock { file: Some(file) })),
+            // Where it could be locked, the one that held it has put another file in its place.
+            Ok(()) | Err(TryLockError::WouldBlock) => {
+                let busy = io::Error::from(ErrorKind::ResourceBusy);
+                self.failures.remember(path, &busy);
+                Ok(None)
+            }
+            Err(TryLockError::Error(fault)) if has_no_locks(&fault) => {
+                Ok(Some(FileLock { file: None }))
+            }
+            Err(TryLockError::Error(fault)) => {
+                self.failures.remember(path, &fault);
+                Err(Ended::by_ledger(&fault))
+            }
+        }
+    }
+
+    fn make_folder(&self, path: &str) -> io::Result<()> {
+        self.noted(path, fs::create_dir_all(self.rt, path))
+    }
+}
+
+impl<'a> Clock for System<'a> {
+    fn monotonic(&self) -> io::Result<Duration> {
+        self.rt.monotonic()
+    }
+
+    fn since_1970(&self) -> io::Result<Duration> {
+        self.rt.since_1970()
+    }
+}
+
+impl<'a> Sockets for System<'a> {
+    type Listener = TcpListener;
+
+    type Stream = TcpStream;
+
+    fn listen(&self) -> io::Result<TcpListener> {
+        TcpListener::bind(self.rt, "127.0.0.1:0")
+    }
+
+    // What is written goes out at once: the pieces of a link aren't held back until the last is acknowledged.
+    fn connect(&self, listener: &TcpListener) -> io::Result<TcpStream> {
+        let stream = TcpStream::connect(self.rt, listener.local_addr()?)?;
+        stream.set_nodelay(true)?;
+        Ok(stream)
+    }
+
+    fn accept(&self, listener: &TcpListener) -> io::Result<TcpStream> {
+        let (stream, _) = listener.accept()?;
+        stream.set_nodelay(true)?;
+        Ok(stream)
+    }
+}

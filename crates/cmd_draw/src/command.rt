@@ -1,0 +1,70 @@
+// `bb draw`: tables in, pictures out.
+ghost use Rattle.std.specs.Prelude.{◌≡◌, ◌⊎◌, IfNone, IfSome};
+ghost use Rattle.cmd_lines.specs.Stream.{AnswersStream};
+ghost use Rattle.cmd_draw.specs.Files.{SaysOfDrawn};
+ghost use Rattle.cmd_draw.specs.One.{DrawsFirst};
+
+use crate::files::draw_files;
+use crate::host::PictureHost;
+use crate::one::draw_first;
+use cmd_options::{Drawing, Outcome};
+use std::alloc::Global;
+use std::io::{Read, Write};
+
+/// Reads a table or a record a line, and draws a space-time picture of each table: in a folder, where one is asked for, as
+/// `draw_files` does; else of the first alone, to `answers`, as `draw_first` does. What a failed stream or file or refused
+/// memory ends is said on `faults`.
+pub fn cmd_draw<H: PictureHost, R: Read, W: Write, E: Write>(
+    alloc: Global,
+    drawing: &Drawing<'_>,
+    host: &H,
+    input: &mut R,
+    answers: &mut W,
+    faults: &mut E,
+) -> Outcome
+    ensures first { IfNone drawing.now.out (DrawsFirst drawing.now (R.remaining input.old) (R.remaining input.new) (W.contents answers.old) (W.contents answers.new) (E.contents faults.old) (E.contents faults.new) result
+        ⊎ (result ≡ Outcome.NoMemory) ⊎ (result ≡ Outcome.Failed)) }
+    ensures files { IfSome drawing.now.out (λ folder. AnswersStream (SaysOfDrawn (H.holds host.now) folder.now drawing.now) (R.remaining input.old) (R.remaining input.new) (W.contents answers.old) (W.contents answers.new) result
+        ⊎ (result ≡ Outcome.NoMemory) ⊎ (result ≡ Outcome.Failed)) }
+{
+    match drawing.out {
+        Some(folder) => tell_files(alloc, drawing, folder, host, input, answers, faults),
+        None => tell_first(alloc, drawing, input, answers, faults),
+    }
+}
+
+// The picture of the first table.
+fn tell_first<R: Read, W: Write, E: Write>(
+    alloc: Global,
+    drawing: &Drawing<'_>,
+    input: &mut R,
+    answers: &mut W,
+    faults: &mut E,
+) -> Outcome
+    ensures { DrawsFirst drawing.now (R.remaining input.old) (R.remaining input.new) (W.contents answers.old) (W.contents answers.new) (E.contents faults.old) (E.contents faults.new) result
+        ⊎ (result ≡ Outcome.NoMemory) ⊎ (result ≡ Outcome.Failed) }
+{
+    match draw_first(alloc, drawing, input, answers, faults) {
+        Ok(outcome) => outcome,
+        Err(ended) => ended.told(faults),
+    }
+}
+
+// The pictures of all tables, in a folder.
+fn tell_files<H: PictureHost, R: Read, W: Write, E: Write>(
+    alloc: Global,
+    drawing: &Drawing<'_>,
+    folder: &str,
+    host: &H,
+    input: &mut R,
+    answers: &mut W,
+    faults: &mut E,
+) -> Outcome
+    ensures { AnswersStream (SaysOfDrawn (H.holds host.now) folder.now drawing.now) (R.remaining input.old) (R.remaining input.new) (W.contents answers.old) (W.contents answers.new) result
+        ⊎ (result ≡ Outcome.NoMemory) ⊎ (result ≡ Outcome.Failed) }
+{
+    match draw_files(alloc, drawing, folder, host, input, answers) {
+        Ok(outcome) => outcome,
+        Err(ended) => ended.told(faults),
+    }
+}

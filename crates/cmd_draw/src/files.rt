@@ -1,0 +1,158 @@
+// Pictures that are files of a folder.
+ghost use Rattle.std.specs.Prelude.{◌≡◌, ◌++◌, ℕ, IfErr, IfOk, List, OnOk, string_bytes};
+ghost use Rattle.cmd_lines.specs.Answer.{lent_line};
+ghost use Rattle.cmd_lines.specs.Stream.{AnswersStream};
+ghost use Rattle.cmd_draw.specs.Files.{IsDrawnIn, SaysOfDrawn, drawn_text, picture_path, svg_path};
+ghost use Rattle.cmd_draw.specs.Said.{EndsDrawing};
+
+use crate::asked::table_asked;
+use crate::host::PictureHost;
+use crate::line_loop::{LineTaker, take_lines};
+use crate::picturing::picture_of;
+use crate::placing::{ended_by, write_at};
+use cert::append_table;
+use cmd_lines::append_fault;
+use cmd_options::{Drawing, Ended, Outcome};
+use machine_text::{TEXT_BYTES, Table};
+use std::alloc::Global;
+use std::io::{Read, Write};
+use tape::NoMemory;
+
+/// Reads a table or a record a line, and makes the picture of each table a file of a folder, under the table's text. It
+/// answers a line with what became of it, as soon as it has.
+pub fn draw_files<H: PictureHost, R: Read, W: Write>(
+    alloc: Global,
+    drawing: &Drawing<'_>,
+    folder: &str,
+    host: &H,
+    input: &mut R,
+    answers: &mut W,
+) -> Result<Outcome, Ended>
+    ensures ok { IfOk result (AnswersStream (SaysOfDrawn (H.holds host.now) folder.now drawing.now) (R.remaining input.old) (R.remaining input.new) (W.contents answers.old) (W.contents answers.new)) }
+    ensures err { IfErr result EndsDrawing }
+{
+    match host.make_folder(folder) {
+        Ok(()) => draw_within(alloc, drawing, folder, host, input, answers),
+        Err(fault) => Err(ended_by(&fault)),
+    }
+}
+
+// The same in a folder that is there.
+fn draw_within<H: PictureHost, R: Read, W: Write>(
+    alloc: Global,
+    drawing: &Drawing<'_>,
+    folder: &str,
+    host: &H,
+    input: &mut R,
+    answers: &mut W,
+) -> Result<Outcome, Ended>
+    ensures ok { IfOk result (AnswersStream (SaysOfDrawn (H.holds host.now) folder.now drawing.now) (R.remaining input.old) (R.remaining input.new) (W.contents answers.old) (W.contents answers.new)) }
+    ensures err { IfErr result EndsDrawing }
+{
+    let mut files = Files {
+        alloc,
+        drawing,
+        folder,
+        host,
+    };
+    take_lines(alloc, &mut files, input, answers)
+}
+
+// The files of a folder, each a picture that is drawn so.
+#[derive(Drop)]
+struct Files<'a, H> {
+    alloc: Global,
+    drawing: &'a Drawing<'a>,
+    folder: &'a str,
+    host: &'a H,
+}
+
+impl<H: PictureHost> LineTaker for Files<'_, H> {
+    ghost use Rattle.cmd_draw.specs.Files.{AnswersAlone, SaysOfDrawn};
+
+    ghost takes = { AnswersAlone (λ files. SaysOfDrawn (H.holds files.host.now) files.folder.now files.drawing.now) };
+
+    fn take_line(&mut self, line: Option<&[u8]>, said: &mut Vec<u8>) -> Result<Outcome, Ended> {
+        let outcome = self.answer(line, said)?;
+        said.extend_from_slice(b"\n")?;
+        Ok(outcome)
+    }
+}
+
+impl<H: PictureHost> Files<'_, H> {
+    // Draws the table of a line, and appends the answer.
+    fn answer(&self, line: Option<&[u8]>, said: &mut Vec<u8>) -> Result<Outcome, Ended>
+        ensures ok { IfOk result (λ o. (answer : List ℕ) × SaysOfDrawn (H.holds self.now.host.now) self.now.folder.now self.now.drawing.now (lent_line line.entry) o answer
+            × (said.new.items ≡ said.old.items ++ answer)) }
+        ensures err { IfErr result EndsDrawing }
+    {
+        match table_asked(line) {
+            Ok(t) => {
+                self.draw(&t)?;
+                append_drawn(&t, said)?;
+                Ok(Outcome::Accepted)
+            }
+            Err(fault) => {
+                append_fault(fault, said)?;
+                Ok(Outcome::Refused)
+            }
+        }
+    }
+
+    // Makes the picture of a table a file.
+    fn draw(&self, t: &Table) -> Result<(), Ended>
+        ensures ok { OnOk result (IsDrawnIn (H.holds self.now.host.now) self.now.folder.now self.now.drawing.now t.now) }
+        ensures err { IfErr result EndsDrawing }
+    {
+        let picture = picture_of(self.alloc, t, self.drawing)?;
+        put_picture(self.alloc, self.host, self.folder, t, &picture)
+    }
+}
+
+// Appends that the picture of a table is drawn.
+fn append_drawn(t: &Table, out: &mut Vec<u8>) -> Result<(), NoMemory>
+    ensures { OnOk result (out.new.items ≡ out.old.items ++ drawn_text t.now) }
+{
+    append_table(t, out)?;
+    out.extend_from_slice(b" drawn")
+}
+
+/// Makes a picture of a table a file of a folder, under the table's text.
+pub fn put_picture<H: PictureHost>(
+    alloc: Global,
+    host: &H,
+    folder: &str,
+    t: &Table,
+    picture: &[u8],
+) -> Result<(), Ended>
+    ensures ok { OnOk result (H.holds host.now (picture_path folder.now t.now) picture.now) }
+    ensures err { IfErr result EndsDrawing }
+{
+    let path = picture_path(alloc, folder, t)?;
+    write_at(alloc, host, &path, picture)
+}
+
+/// The path of the picture of a table in a folder.
+pub fn picture_path(alloc: Global, folder: &str, t: &Table) -> Result<String, NoMemory>
+    ensures { IfOk result (λ path. string_bytes path ≡ picture_path folder.now t.now) }
+{
+    // The proof needs that it is a table.
+    let _ = t.states();
+    let mut buffer = [0; TEXT_BYTES];
+    match str::from_utf8(t.text(&mut buffer)) {
+        Ok(name) => path_within(alloc, folder, name),
+        Err(_) => unreachable!(),
+    }
+}
+
+// The path of a picture in a folder.
+fn path_within(alloc: Global, folder: &str, name: &str) -> Result<String, NoMemory>
+    ensures { IfOk result (λ path. string_bytes path ≡ svg_path folder.now name.now) }
+{
+    let mut path = String::new(alloc);
+    path.push_str(folder)?;
+    path.push_str("/")?;
+    path.push_str(name)?;
+    path.push_str(".svg")?;
+    Ok(path)
+}

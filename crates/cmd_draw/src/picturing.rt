@@ -1,0 +1,56 @@
+// The picture of a table, as it is asked for.
+ghost use Rattle.std.specs.Prelude.{◌≡◌, IfOk};
+ghost use Rattle.machine_text.specs.Packed.{entry_of};
+ghost use Rattle.cmd_picture.specs.Times.{AreWithinRuns};
+ghost use Rattle.cmd_draw.specs.Picture.{IsPicture, IsViewOf, centred, times_of};
+
+use cmd_options::Drawing;
+use cmd_picture::{Times, View, placement, svg};
+use machine_text::Table;
+use std::alloc::Global;
+use tape::NoMemory;
+
+/// The picture of a table's run from the blank tape, as the text of an SVG document: at the times and of the cells that are
+/// asked for.
+pub fn picture_of(alloc: Global, t: &Table, drawing: &Drawing<'_>) -> Result<Vec<u8>, NoMemory>
+    ensures { IfOk result (λ text. IsPicture drawing.now t.now text.items) }
+{
+    let times = times_of(drawing);
+    let view = view_of(alloc, t, times, drawing.width)?;
+    svg(alloc, *t, view, times)
+}
+
+// The times that are drawn.
+fn times_of(drawing: &Drawing<'_>) -> Times
+    ensures is { result ≡ times_of drawing.now }
+    ensures within { AreWithinRuns result }
+{
+    let steps = match drawing.steps {
+        Some(steps) => steps,
+        // Each of them makes one row.
+        None => drawing.rows.max(1) - 1,
+    };
+    Times::new(drawing.from, steps, 1).in_rows(drawing.rows)
+}
+
+// The cells that are drawn: so many, or those that the head visits.
+fn view_of(alloc: Global, t: &Table, times: Times, width: u64) -> Result<View, NoMemory>
+    requires { AreWithinRuns times }
+    ensures { IfOk result (IsViewOf width (entry_of t.now) times) }
+{
+    if width == 0 {
+        placement(alloc, *t, times)
+    } else {
+        Ok(centred(width))
+    }
+}
+
+// So many cells, the one of the first head in the middle.
+fn centred(width: u64) -> View
+    ensures { result ≡ centred width }
+{
+    View {
+        left: 0_i64.saturating_sub_unsigned(width / 2),
+        width,
+    }
+}

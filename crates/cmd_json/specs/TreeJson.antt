@@ -1,0 +1,32 @@
+-- The report of a whole tree as JSON: a complete board's, whatever way it came about.
+use Rattle.std.specs.Prelude.{◌≡◌, ℕ, List, [], Some}
+use Rattle.machine_text.specs.Packed.{Packed, empty_table}
+use Rattle.law_turing.specs.Halting.{IsRado}
+use Rattle.ledger.specs.Sigma.{IsSigma}
+use Rattle.ledger.specs.Tally.{AreAll}
+use Rattle.ledger.specs.WholeTree.{IsTreeTally, IsTreeChampion, IsTreeOnesChampion}
+use Rattle.ledger.specs.declared.tally.Tally.{Tally}
+use Rattle.ledger.specs.declared.status.Status.TheVariants.{Complete}
+use Rattle.cmd_json.specs.JsonReport.{json_text}
+
+pub record IsTreeJson (root : Packed) (text : List ℕ) : Type 0 where
+  pub tally : Tally
+  pub champions : List Packed
+  pub ones_champions : List Packed
+  pub counted : IsTreeTally root tally
+  pub are_champions : AreAll (IsTreeChampion root tally.best) champions
+  pub are_ones_champions : AreAll (IsTreeOnesChampion root tally.ones) ones_champions
+  pub is : text ≡ json_text root (Complete tally.best tally.ones) tally champions ones_champions []
+
+-- of the tree of the empty table of n states: its best is S(n), and its ones are Σ(n)
+pub record JsonTellsRado (n : ℕ) (text : List ℕ) : Type 0 where
+  pub s : ℕ
+  pub sigma : ℕ
+  pub is_rado : IsRado n s
+  pub is_sigma : IsSigma n sigma
+  pub tally : Tally
+  pub champions : List Packed
+  pub ones_champions : List Packed
+  pub best : tally.best ≡ Some s
+  pub ones : tally.ones ≡ Some sigma
+  pub is : text ≡ json_text (empty_table n) (Complete (Some s) (Some sigma)) tally champions ones_champions []

@@ -1,0 +1,196 @@
+-- The first bytes of a reader, and the header that they have.
+use Rattle.std.proofs.Common.{◌≡◌, ◌≢◌, ℕ, ◌+◌, ◌-◌, ◌≤◌, ◌⊎◌, List, [], ◌++◌, length, take, Option, None, Some, Ok, Err, inl, inr, refl, sym, ap, ◌∙◌, subst, arith, append-nil, length-append, length-take, take_all, get_or}
+use Rattle.std.proofs.Math.Seq.{take-append-add}
+use Rattle.std.proofs.lemmas.List.{take-append-le, take_at, get_or_at, get_or_append_left}
+use Rattle.std.proofs.lemmas.Bool.{cases_lt}
+use Rattle.std.specs.Io.KnownBytes.{Consumes, IsAtEnd}
+use Rattle.machine_text.specs.Packed.{Packed, entry_of}
+use Rattle.law_tree.specs.Used.{InOrder}
+use Rattle.text.specs.Lines.{HasNoNewline, BeginsWithLine}
+use Rattle.text.proofs.Lines.{cases_line, line_has_newline}
+use Rattle.ledger.specs.LedgerText.{BeginsAsHeader, IsTornHeader, HasHeader, HasNoHeader, PeekGives, LoadGives, ReadsIn}
+use Rattle.ledger.specs.Contents.{Contents}
+use Rattle.ledger.specs.declared.left.Left.{Left}
+use Rattle.ledger.specs.Loading.{header_start}
+use Rattle.ledger.proofs.FirstLines.{header_limit, header_short, begun_whole, begun_start}
+use Rattle.ledger.proofs.Feeding.{longer_text, header_more}
+use Rattle.ledger.proofs.HeaderLaws.{none_begun, none_named, is_named}
+use Rattle.ledger.specs.declared.faults.LoadFault.{LoadFault}
+use Rattle.ledger.specs.declared.faults.LoadFault.TheVariants.{BadHeader, WrongRoot, NoMemory}
+use Rattle.cmd_options.specs.declared.ended.Ended.{Ended}
+use Rattle.cmd_options.specs.declared.ended.Ended.TheVariants.{BadHeader as HeaderEnds, WrongRoot as OtherRoot, Stream, Ledger, File, HasPart, OutInFolder, Locked, NoMemory as WantsMemory}
+use Rattle.cmd_ledgers.specs.Faults.{ended_by_load}
+use Rattle.cmd_ledgers.specs.Reading.{AreFirstBytes, BeginsWithRoot, EndsBehindHeader, EndsReading, EndsReadingOf, IsLoadedFrom}
+use Rattle.cmd_ledgers.specs.inside.{BeginsReading}
+use Rattle.cmd_options.specs.declared.stopped.Stopped.{Stopped}
+use Rattle.cmd_options.specs.declared.stopped.Stopped.TheVariants.{Failed, Ended as EndedBy}
+use Rattle.cmd_ledgers.proofs.LedgerReports.{one_header}
+
+-- as many as there are, up to the limit, are the first ones
+pub all_first : (old new : Option (List ℕ)) (limit : ℕ) (text : List ℕ) → Consumes old new text → length text ≤ limit → (length text ≡ limit) ⊎ IsAtEnd new → AreFirstBytes old limit text
+all_first None new limit text consumed within whole = within
+all_first (Some xs) None limit text consumed within whole = absurd consumed
+all_first (Some xs) (Some ys) limit text consumed within (inl full) =
+    sym (ap (take limit) consumed ∙ take_at text ys limit full)
+all_first (Some xs) (Some ys) limit text consumed within (inr end) =
+    let same : xs ≡ text = consumed ∙ (ap (λ (l : List ℕ). text ++ l) end ∙ append-nil text) in
+    sym (ap (take limit) same ∙ take_all limit text within)
+
+-- those behind others come behind them
+pub first_behind : (old mid : Option (List ℕ)) (limit : ℕ) (first more : List ℕ) → Consumes old mid first → length first ≤ limit → AreFirstBytes mid (limit - length first) more → AreFirstBytes old limit (first ++ more)
+first_behind None None limit first more consumed within are = omega (arith, are, within, length-append first more)
+first_behind None (Some ys) limit first more consumed within are =
+    omega (arith, ap length are, length-take (limit - length first) ys, within, length-append first more)
+first_behind (Some xs) None limit first more consumed within are = absurd consumed
+first_behind (Some xs) (Some ys) limit first more consumed within are =
+    let size : length first + (limit - length first) ≡ limit = omega arith in
+    sym (ap (take limit) consumed ∙ (ap (λ (n : ℕ). take n (first ++ ys)) (sym size) ∙ (take-append-add first ys (limit - length first) ∙ ap (λ (l : List ℕ). first ++ l) (sym are))))
+
+-- some come behind them
+pub some_first : (has : Option (List ℕ)) (limit : ℕ) → (more : List ℕ) × AreFirstBytes has limit more
+some_first None limit = ([], omega arith)
+some_first (Some xs) limit = (take limit xs, refl)
+
+pub some_behind : (old mid : Option (List ℕ)) (limit : ℕ) (first : List ℕ) → Consumes old mid first → length first ≤ limit → (more : List ℕ) × AreFirstBytes old limit (first ++ more)
+some_behind old mid limit first consumed within =
+    let (more, are) = some_first mid (limit - length first) in (more, first_behind old mid limit first more consumed within are)
+
+-- a first line that is no header
+no_header_line : (first more line rest : List ℕ) → BeginsWithLine first line rest → HasNoHeader first → HasNoHeader (first ++ more)
+no_header_line first more line rest begins none =
+    none_named (first ++ more) line (rest ++ more) (longer_text more begins)
+    (λ format root named. none.none root rest (is_named first line rest begins format root named))
+
+-- a line behind bytes without a newline is no shorter than they are
+line_long : (first more line rest : List ℕ) → HasNoNewline first → BeginsWithLine (first ++ more) line rest → length first ≤ length line
+line_long first more line rest none begins = elim (cases_lt (length line) (length first)) [
+  | inl short ↦
+      let at : get_or first (length line) 0 ≡ 10 =
+      sym (get_or_append_left first more 0 (length line) short) ∙ (ap (λ (l : List ℕ). get_or l (length line) 0) begins.is ∙ get_or_at line 10 rest 0 (length line) refl) in
+      absurd (none (length line) 0 short at)
+  | inr long ↦ long
+]
+
+-- no text that begins so has a header: a newline is among the bytes, or they are too many
+abbrev IsBad : List ℕ → Type 0
+IsBad text = IsTornHeader text ⊎ HasNoHeader text
+
+module _ (first more : List ℕ) (none : HasNoNewline first) (long : 64 ≤ length first) where
+  same_start : header_start (first ++ more) ≡ header_start first
+  same_start = take-append-le 64 first more long
+
+  begun_behind : BeginsAsHeader first → BeginsAsHeader (first ++ more)
+  begun_behind begun = begun_whole (first ++ more) (subst BeginsAsHeader (sym same_start) (begun_start first begun))
+
+  begun_before : BeginsAsHeader (first ++ more) → BeginsAsHeader first
+  begun_before begun = begun_whole first (subst BeginsAsHeader same_start (begun_start (first ++ more) begun))
+
+  bad_without : HasNoNewline (first ++ more) → IsBad first → IsBad (first ++ more)
+  bad_without no_newline (inl torn) = inl (record { no_newline = no_newline; begun = begun_behind torn.begun })
+  bad_without no_newline (inr bad) = inr (none_begun (first ++ more) no_newline (λ begun. bad.whole (record { no_newline = none; begun = begun_before begun })))
+
+  bad_with : (line rest : List ℕ) → BeginsWithLine (first ++ more) line rest → IsBad (first ++ more)
+  bad_with line rest begins = inr (none_named (first ++ more) line rest begins (λ format root named.
+      let size : length line ≤ header_limit = header_short format line root named in
+      let reach : length first ≤ length line = line_long first more line rest none begins in
+      absurd (omega (arith, size, reach, long))))
+
+  bad_long : IsBad first → IsBad (first ++ more)
+  bad_long bad = elim (cases_line (first ++ more)) [
+    | inl no_newline ↦ bad_without no_newline bad
+    | inr w ↦ bad_with w.0 w.1 w.2
+  ]
+
+bad_line : (first more line rest : List ℕ) → BeginsWithLine first line rest → IsBad first → IsBad (first ++ more)
+bad_line first more line rest begins (inl torn) = absurd (line_has_newline begins torn.no_newline)
+bad_line first more line rest begins (inr bad) = inr (no_header_line first more line rest begins bad)
+
+bad_behind : (first more : List ℕ) → (HasNoNewline first → ⊥) ⊎ (64 ≤ length first) → IsBad first → IsBad (first ++ more)
+bad_behind first more enough bad = elim (cases_line first) [
+  | inr w ↦ bad_line first more w.0 w.1 w.2 bad
+  | inl none ↦ elim enough [
+    | inl some ↦ absurd (some none)
+    | inr long ↦ bad_long first more none long bad
+  ]
+]
+
+-- the bytes that were read first have no header: neither has the text
+module _ (old new : Option (List ℕ)) (limit : ℕ) (first : List ℕ) (begins : BeginsReading old new limit first) where
+  bad_stops : IsBad first → (text : List ℕ) × AreFirstBytes old limit text × IsBad text
+  bad_stops bad = elim begins.enough [
+    | inl whole ↦ (first, all_first old new limit first begins.consumed begins.within whole, bad)
+    | inr enough ↦
+        let behind = some_behind old new limit first begins.consumed begins.within in
+        (first ++ behind.0, behind.1, bad_behind first behind.0 enough bad)
+  ]
+
+  pub torn_stops : PeekGives first (Ok None) → EndsReading old limit (EndedBy HeaderEnds)
+  torn_stops torn = bad_stops (inl torn)
+
+  pub peek_stops : (f : LoadFault) → PeekGives first (Err f) → EndsReading old limit (EndedBy (ended_by_load f))
+  peek_stops BadHeader h = bad_stops (inr h)
+  peek_stops WrongRoot h =
+      let behind = some_behind old new limit first begins.consumed begins.within in
+      (first ++ behind.0, behind.1, (h.0, h.1 ++ behind.0, header_more first behind.0 h.0 h.1 h.2, h.3))
+  peek_stops NoMemory h = absurd h
+
+  pub peek_begins : (root : Packed) → PeekGives first (Ok (Some root)) → BeginsWithRoot old new limit first root
+  peek_begins root peek = record { consumed = begins.consumed; within = begins.within; rest = peek.0.0; header = peek.0.1; order = peek.1 }
+
+-- peeking takes no memory
+pub peek_takes_none : (first : List ℕ) (f : LoadFault) → PeekGives first (Err f) → EndedBy (ended_by_load f) ≢ EndedBy WantsMemory
+peek_takes_none first BadHeader h e = cc
+peek_takes_none first WrongRoot h e = cc
+peek_takes_none first NoMemory h e = h
+
+-- behind the header of the root
+module _ (old mid : Option (List ℕ)) (limit : ℕ) (first : List ℕ) (root : Packed) (begins : BeginsWithRoot old mid limit first root) where
+  pub behind_ends : (e : Stopped) → EndsBehindHeader e → EndsReading old limit e
+  behind_ends (Failed fault) h = tt
+  behind_ends (EndedBy e) h =
+      let behind = some_behind old mid limit first begins.consumed begins.within in
+      subst (λ (x : Ended). EndsReading old limit (EndedBy x)) (sym h)
+      (first ++ behind.0, behind.1, (root, begins.rest ++ behind.0, header_more first behind.0 root begins.rest begins.header, begins.order))
+
+  pub behind_ends_of : (e : Stopped) → EndsBehindHeader e → EndsReadingOf root old limit e
+  behind_ends_of (Failed fault) h = tt
+  behind_ends_of (EndedBy e) h =
+      let behind = some_behind old mid limit first begins.consumed begins.within in
+      subst (λ (x : Ended). EndsReadingOf root old limit (EndedBy x)) (sym h)
+      (first ++ behind.0, behind.1, (begins.rest ++ behind.0, header_more first behind.0 root begins.rest begins.header))
+
+  pub other_ends : (asked : Packed) → root ≢ asked → EndsReadingOf asked old limit (EndedBy OtherRoot)
+  other_ends asked apart =
+      let behind = some_behind old mid limit first begins.consumed begins.within in
+      (first ++ behind.0, behind.1, (root, begins.rest ++ behind.0, header_more first behind.0 root begins.rest begins.header, apart))
+
+  pub is_loaded : (b : Contents) (left : Left) (more : List ℕ) → b.root ≡ root → AreFirstBytes mid (limit - length first) more → ReadsIn b.format root (first ++ more) b.records left → IsLoadedFrom old limit b left
+  is_loaded b left more same are reads = record {
+    text = first ++ more;
+    first = first_behind old mid limit first more begins.consumed begins.within are;
+    reads = subst (λ (p : Packed). ReadsIn b.format p (first ++ more) b.records left) (sym same) reads;
+    order = subst (λ (p : Packed). (u : ℕ) × InOrder u (entry_of p)) (sym same) begins.order;
+  }
+
+-- why no root is known, for a board of another that is in order
+taking_ends : (root : Packed) (has : Option (List ℕ)) (limit : ℕ) (e : Ended) → ((u : ℕ) × InOrder u (entry_of root)) → EndedBy e ≢ EndedBy WantsMemory → EndsReading has limit (EndedBy e) → EndsReadingOf root has limit (EndedBy e)
+taking_ends root has limit HeaderEnds order none h = h
+taking_ends root has limit OtherRoot order none h =
+    (h.0, h.1, (h.2.0, h.2.1, h.2.2, λ same. h.2.3 (subst (λ (p : Packed). (u : ℕ) × InOrder u (entry_of p)) (sym same) order)))
+taking_ends root has limit Stream order none h = absurd h.2
+taking_ends root has limit Ledger order none h = absurd h.2
+taking_ends root has limit File order none h = absurd h.2
+taking_ends root has limit HasPart order none h = absurd h.2
+taking_ends root has limit OutInFolder order none h = absurd h.2
+taking_ends root has limit Locked order none h = absurd h.2
+taking_ends root has limit WantsMemory order none h = absurd (none refl)
+
+pub begin_ends_of : (root : Packed) (has : Option (List ℕ)) (limit : ℕ) (e : Stopped) → ((u : ℕ) × InOrder u (entry_of root)) → e ≢ EndedBy WantsMemory → EndsReading has limit e → EndsReadingOf root has limit e
+begin_ends_of root has limit (Failed fault) order none h = tt
+begin_ends_of root has limit (EndedBy e) order none h = taking_ends root has limit e order none h
+
+-- a text with the header of the root isn't loaded where memory is refused alone
+pub finish_ends : (text : List ℕ) (root : Packed) (rest : List ℕ) (f : LoadFault) → HasHeader text root rest → LoadGives root text (Err f) → ended_by_load f ≡ WantsMemory
+finish_ends text root rest BadHeader header h = absurd (h.none root rest header)
+finish_ends text root rest WrongRoot header h = absurd (h.3 (one_header text h.0 root h.1 rest h.2 header))
+finish_ends text root rest NoMemory header h = refl

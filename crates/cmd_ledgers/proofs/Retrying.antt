@@ -1,0 +1,119 @@
+-- A ledger stays in step with a board when a record is taken and its line is appended; and the holdouts that are left stay holdouts.
+use Rattle.std.proofs.Common.{◌≡◌, ◌≢◌, ◌⊎◌, inl, inr, ℕ, suc, true, false, List, [], ◌∷◌, ◌++◌, All, AllPairs, get_or, Option, Some, None, Result, Ok, IfSome, IsSome, take, sym, ap, ◌∙◌, subst, arith}
+use Rattle.std.specs.Option.{option_map}
+use Rattle.std.proofs.lemmas.List.Elements.{All-contains_itself}
+use Rattle.machine_text.specs.Packed.{Packed}
+use Rattle.kind_evidence.specs.declared.verdicts.Ending.{Ending}
+use Rattle.law_tree.specs.Closed.{IsVerdict}
+use Rattle.cert.specs.Claim.{Recorded, ending_by}
+use Rattle.cert.specs.Scored.{with_score}
+use Rattle.ledger.specs.Contents.{Contents, IsBoard}
+use Rattle.ledger.specs.Held.{IsHoldout, Settles, settled}
+use Rattle.ledger.specs.LedgerText.{IsLedgerOf, IsTaken, ReadsIn, gained_line}
+use Rattle.ledger.specs.Offers.{OfferGives}
+use Rattle.ledger.specs.Records.{mark_of}
+use Rattle.ledger.specs.Tally.{AreAll}
+use Rattle.ledger.specs.declared.format.Format.{Format}
+use Rattle.ledger.specs.declared.left.Left.TheVariants.{Nothing, From}
+use Rattle.ledger.specs.declared.left.Unkept.{Unkept}
+use Rattle.ledger.specs.declared.taken.Taken.{Taken}
+use Rattle.ledger.specs.declared.taken.Taken.TheVariants.{New, Known, Settled}
+use Rattle.ledger.specs.declared.faults.OfferFault.{OfferFault}
+use Rattle.ledger.proofs.Growing.{grows, cut_to_kept}
+use Rattle.ledger.proofs.OpenLaws.{settled_other}
+use Rattle.ledger.proofs.TextOrder.{all_apart}
+use Rattle.wire.specs.Carried.{cut_to}
+use Rattle.wire.specs.Device.{grown}
+use Rattle.cmd_ledgers.specs.Retry.{StaysInStep, SettlesOrStays, ChangesBy, gained, with_line}
+
+-- a ledger that is cut to what was kept of it
+pub cut_in_step : (b : Contents) (before after : Option (List ℕ)) (line kept : ℕ) (why : Unkept) → after ≡ cut_to (Some kept) before
+    → IfSome before (λ text. ReadsIn b.format b.root text b.records (From line kept why)) → IfSome after (IsLedgerOf b)
+cut_in_step b None after line kept why is reads = subst (λ (text : Option (List ℕ)). IfSome text (IsLedgerOf b)) (sym is) tt
+cut_in_step b (Some text) after line kept why is reads = subst (λ (text : Option (List ℕ)). IfSome text (IsLedgerOf b)) (sym is)
+    (subst (λ (f : Format). ReadsIn f b.root (take kept text) b.records Nothing) reads.version (cut_to_kept b.root text b.records line kept why reads.reads))
+
+stays_with : (old new : Contents) (r : Recorded) (before : Option (List ℕ)) → IsBoard old → IsTaken old.root old.records r new.records
+    → new.root ≡ old.root → new.format ≡ old.format → StaysInStep old before new (with_line old.format r before)
+stays_with old new r None board taken root format = λ s. s
+stays_with old new r (Some text) board taken root format = λ reads.
+    subst (λ (f : Format). ReadsIn f new.root (text ++ gained old.format r) new.records Nothing) (sym format)
+    (subst (λ (p : Packed). ReadsIn old.format p (text ++ gained old.format r) new.records Nothing) (sym root) (grows old text r new.records board reads taken))
+
+pub stays_by : (old new : Contents) (r : Recorded) (before after : Option (List ℕ)) → IsBoard old → IsTaken old.root old.records r new.records
+    → new.root ≡ old.root → new.format ≡ old.format → after ≡ with_line old.format r before → StaysInStep old before new after
+stays_by old new r before after board taken root format is =
+    subst (λ (text : Option (List ℕ)). StaysInStep old before new text) (sym is) (stays_with old new r before board taken root format)
+
+-- a ledger that gained the line of a record
+pub one_line : (format : Format) (r : Recorded) (line begun : List ℕ) (before after : Option (List ℕ)) → line ≡ begun ++ gained format r → begun ≡ [] → after ≡ grown before line
+    → after ≡ with_line format r before
+one_line format r line begun before after is none gains = gains ∙ ap (grown before) (is ∙ ap (λ (l : List ℕ). l ++ gained format r) none)
+
+-- what comes of an offer of a record for a holdout: it is never new, and known only where it has no verdict
+module _ (format : Format) (root : Packed) (old new : List Recorded) (r : Recorded) (lines new_lines : List ℕ) (result : Result Taken OfferFault) (gives : OfferGives root old r result new)
+    (line : new_lines ≡ lines ++ gained_line format r result) where
+  pub new_holdout : IsHoldout old r.table → result ≡ Ok New → SettlesOrStays format r true old lines new new_lines
+  new_holdout holdout is =
+      let fit : OfferGives root old r (Ok New) new = subst (λ (x : Result Taken OfferFault). OfferGives root old r x new) is gives in
+      let unmarked = fit.0.is_open.unmarked in
+      absurd (cc)
+
+  pub settled_holdout : result ≡ Ok Settled → SettlesOrStays format r true old lines new new_lines
+  settled_holdout is =
+      let settles : OfferGives root old r (Ok Settled) new = subst (λ (x : Result Taken OfferFault). OfferGives root old r x new) is gives in
+      (settles.0, settles.1, line ∙ ap (λ (x : Result Taken OfferFault). lines ++ gained_line format r x) is)
+
+  pub known_holdout : IsHoldout old r.table → result ≡ Ok Known → SettlesOrStays format r false old lines new new_lines
+  known_holdout holdout is =
+      let known : OfferGives root old r (Ok Known) new = subst (λ (x : Result Taken OfferFault). OfferGives root old r x new) is gives in (
+        elim known.0.is [
+          | inl verdict ↦ absurd (subst IsVerdict holdout verdict)
+          | inr later ↦ later.1
+        ],
+        known.1,
+      )
+
+-- what its offer changes
+pub changes_settled : (format : Format) (o : Option Ending) (r : Recorded) (old new : List Recorded) (before after : Option (List ℕ)) → IsSome o
+    → Settles old r → new ≡ settled old (with_score r) → after ≡ with_line format r before → ChangesBy format o r old before new after
+changes_settled format (Some v) r old new before after some settles is line = (settles, is, line)
+changes_settled format None r old new before after some settles is line = absurd (cc)
+
+pub changes_none : (format : Format) (o : Option Ending) (r : Recorded) (old new : List Recorded) (before after : Option (List ℕ)) → o ≡ None → new ≡ old → after ≡ before
+    → ChangesBy format o r old before new after
+changes_none format o r old new before after none is same = subst (λ (x : Option Ending). ChangesBy format x r old before new after) (sym none) (is, same)
+
+changes : (format : Format) (o : Option Ending) (r : Recorded) (old new : List Recorded) (before after : Option (List ℕ)) → ChangesBy format o r old before new after
+    → (new ≡ old) ⊎ (new ≡ settled old (with_score r))
+changes format None r old new before after by = inl by.0
+changes format (Some v) r old new before after by = inr by.1
+
+-- tables that wait to be tried: holdouts, each once
+pub record AreWaiting (rs : List Recorded) (ts : List Packed) : Type 0 where
+  pub apart : AllPairs (λ (a b : Packed). a ≢ b) ts
+  pub holdouts : All (IsHoldout rs) ts
+
+pub all_wait : (rs : List Recorded) (ts : List Packed) → AreAll (IsHoldout rs) ts → AreWaiting rs ts
+all_wait rs ts all = record {
+  apart = all_apart (IsHoldout rs) ts all;
+  holdouts = λ i d below. (all.exact (get_or ts i d)).0 (All-contains_itself ts i d below);
+}
+
+pub first_waits : (rs : List Recorded) (t : Packed) (ts : List Packed) → AreWaiting rs (t ∷ ts) → IsHoldout rs t
+first_waits rs t ts waiting = waiting.holdouts 0 t (omega arith)
+
+stays_holdout : (rs new : List Recorded) (r : Recorded) (t : Packed) → t ≢ r.table → (new ≡ rs) ⊎ (new ≡ settled rs (with_score r)) → IsHoldout rs t → IsHoldout new t
+stays_holdout rs new r t other (inl same) holdout = subst (λ (l : List Recorded). IsHoldout l t) (sym same) holdout
+stays_holdout rs new r t other (inr is) holdout = subst (λ (l : List Recorded). IsHoldout l t) (sym is) (ap (option_map mark_of) (settled_other rs (with_score r) t other) ∙ holdout)
+
+-- once the first was tried the others wait as before
+pub others_wait : (format : Format) (rs new : List Recorded) (before after : Option (List ℕ)) (r : Recorded) (t : Packed) (ts : List Packed) → r.table ≡ t → ChangesBy format (ending_by r.claim) r rs before new after
+    → AreWaiting rs (t ∷ ts) → AreWaiting new ts
+others_wait format rs new before after r t ts of by waiting = record {
+  apart = λ i j d less below. waiting.apart (suc i) (suc j) d (omega arith) (omega arith);
+  holdouts = λ i d below.
+      let other : t ≢ get_or ts i d = waiting.apart 0 (suc i) d (omega arith) (omega arith) in
+      stays_holdout rs new r (get_or ts i d) (λ e. other (sym of ∙ sym e)) (changes format (ending_by r.claim) r rs new before after by)
+      (waiting.holdouts (suc i) d (omega arith));
+}

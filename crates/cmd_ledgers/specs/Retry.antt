@@ -1,0 +1,57 @@
+-- A board and its ledger, while holdouts are tried again.
+use Rattle.std.specs.Prelude.{◌≡◌, ℕ, Bool, true, false, List, [], ◌∷◌, ◌++◌, Option, Some, None, IfSome}
+use Rattle.machine_text.specs.Packed.{Packed}
+use Rattle.kind_evidence.specs.declared.verdicts.Ending.{Ending}
+use Rattle.cert.specs.Claim.{Recorded, ending_by}
+use Rattle.cert.specs.Scored.{with_score}
+use Rattle.ledger.specs.Contents.{Contents}
+use Rattle.ledger.specs.Held.{IsHoldout, Settles, settled}
+use Rattle.ledger.specs.LedgerText.{IsLedgerOf}
+use Rattle.ledger.specs.Tally.{AreAll}
+use Rattle.ledger.specs.Versions.{ledger_line}
+use Rattle.ledger.specs.declared.format.Format.{Format}
+use Rattle.wire.specs.Device.{grown}
+
+-- where a ledger's text was known and in step with the old board, it is in step with the new one
+abbrev pub StaysInStep : Contents → Option (List ℕ) → Contents → Option (List ℕ) → Type 0
+StaysInStep old before new after = IfSome before (IsLedgerOf old) → IfSome after (IsLedgerOf new)
+
+-- the line of a record that a ledger gains, with its score in version 2
+abbrev pub gained : Format → Recorded → List ℕ
+gained format r = ledger_line format (with_score r) ++ (10 ∷ [])
+
+-- whether a record for a holdout is taken, as it is where it has a verdict: it stands in the holdout's place with its
+-- score, and its line is appended; where it isn't taken, the records stay as they were
+abbrev pub SettlesOrStays : Format → Recorded → Bool → List Recorded → List ℕ → List Recorded → List ℕ → Type 0
+SettlesOrStays format r true old lines new new_lines = Settles old r × (new ≡ settled old (with_score r)) × (new_lines ≡ lines ++ gained format r)
+SettlesOrStays format r false old lines new new_lines = (ending_by r.claim ≡ None) × (new ≡ old)
+
+-- a ledger's text, where it is known, with the line of a record behind it
+abbrev pub with_line : Format → Recorded → Option (List ℕ) → Option (List ℕ)
+with_line format r text = grown text (gained format r)
+
+-- by the verdict that is shown for a holdout: where there is none nothing changes; else the record stands in the holdout's
+-- place, with its score, and its line is appended
+abbrev pub ChangesBy : Format → Option Ending → Recorded → List Recorded → Option (List ℕ) → List Recorded → Option (List ℕ) → Type 0
+ChangesBy format None r old before new after = (new ≡ old) × (after ≡ before)
+ChangesBy format (Some v) r old before new after = Settles old r × (new ≡ settled old (with_score r)) × (after ≡ with_line format r before)
+
+-- a holdout is tried: a record of it is answered, and taken where that has a verdict
+abbrev pub IsTried : (Packed → Recorded → Type 0) → Format → Packed → List Recorded → Option (List ℕ) → List Recorded → Option (List ℕ) → Type 0
+IsTried Answers format t old before new after =
+    (r : Recorded) × Answers t r × (r.table ≡ t) × ChangesBy format (ending_by r.claim) r old before new after
+
+-- holdouts are tried, one after another
+abbrev pub AreTried : (Packed → Recorded → Type 0) → Format → List Packed → List Recorded → Option (List ℕ) → List Recorded → Option (List ℕ) → Type 0
+AreTried Answers format [] old before new after = (new ≡ old) × (after ≡ before)
+AreTried Answers format (t ∷ ts) old before new after =
+    (mid : List Recorded) × (text : Option (List ℕ)) × IsTried Answers format t old before mid text × AreTried Answers format ts mid text new after
+
+-- what a decider may answer for a table as it is at some time, since it may change while it is asked
+abbrev pub AtSomeTime : (D : Type 0) → (D → Packed → Recorded → Type 0) → Packed → Recorded → Type 0
+AtSomeTime D answers t r = (d : D) × answers d t r
+
+-- the holdouts that a board had are tried in the order of their texts, in the version of its ledger
+abbrev pub AreRetried : (Packed → Recorded → Type 0) → Contents → Option (List ℕ) → Contents → Option (List ℕ) → Type 0
+AreRetried Answers old before new after =
+    (ts : List Packed) × AreAll (IsHoldout old.records) ts × AreTried Answers old.format ts old.records before new.records after

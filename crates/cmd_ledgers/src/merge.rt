@@ -1,0 +1,164 @@
+// `bb merge`: two ledgers in, one that holds what either does out.
+ghost use Rattle.std.specs.Prelude.{◌≡◌, ◌⊎◌, List, ℕ, Ok, Err, IfOk, IfErr, OnOk};
+ghost use Rattle.cmd_ledgers.specs.Merge.{AreJoined, EndsJoiningInto, EndsTakingIn, IsLoaded, JoinsInto, TakesIn, first_left, rewritten};
+ghost use Rattle.cmd_ledgers.specs.Reading.{AreFirstBytes, EndsReadingOf};
+
+use crate::faults::by_merge;
+use crate::host::Host;
+use crate::reading::load_of;
+use crate::report_writer::append_left;
+use crate::rewriting::{Place, outcome_of_left, write_whole};
+use crate::source::{AtPath, LedgerSource, load_source};
+use cmd_options::{Ended, Merging, Outcome, Stopped};
+use kind_evidence::NoMemory;
+use ledger::{Board, Left, Tally};
+use std::alloc::Global;
+use std::io::{Read, Write};
+use text::append_number;
+use wire::LedgerOut;
+
+/// Writes the ledger of what two ledgers hold together, and prints how many records, open tables and holdouts
+/// that has, and `left LINE` for the first of the two of which not all could be kept. Each of the two is read
+/// and judged before the next, and both before anything is written. Where the
+/// path that is to be written leads to a plain file or to nothing, the ledger is made in a new file beside that, `.new`, which
+/// is then put in its place, so that a program that is killed leaves the old ledger or the new one; after a failure that file
+/// is left. Accepted where
+/// all was kept. What ends the command early is said on `faults`.
+pub fn cmd_merge<H: Host, W: Write, E: Write>(
+    alloc: Global,
+    merging: Merging<'_>,
+    host: &H,
+    answers: &mut W,
+    faults: &mut E,
+) -> Outcome {
+    match merge_ledgers(alloc, merging, host, answers) {
+        Ok(outcome) => outcome,
+        Err(ended) => ended.told(faults),
+    }
+}
+
+fn merge_ledgers<H: Host, W: Write>(
+    alloc: Global,
+    merging: Merging<'_>,
+    host: &H,
+    answers: &mut W,
+) -> Result<Outcome, Ended> {
+    let place = Place::of(alloc, host, merging.out, &[merging.first, merging.second])?;
+    let (tally, left) = join_at(alloc, merging, host, &place)?;
+    place.put(host)?;
+    tell(alloc, &tally, &left, answers)?;
+    Ok(outcome_of_left(&left))
+}
+
+// Joins the two ledgers into one at a place.
+fn join_at<H: Host>(
+    alloc: Global,
+    merging: Merging<'_>,
+    host: &H,
+    place: &Place,
+) -> Result<(Tally, Left), Ended> {
+    let first = AtPath {
+        host,
+        path: merging.first,
+    };
+    let second = AtPath {
+        host,
+        path: merging.second,
+    };
+    join_into(alloc, &first, &second, &mut place.ledger(host, merging.out))
+}
+
+// Prints what the board holds, and what wasn't kept.
+fn tell<W: Write>(alloc: Global, tally: &Tally, left: &Left, answers: &mut W) -> Result<(), Ended> {
+    let mut said = Vec::new(alloc);
+    append_merged(tally, &mut said)?;
+    append_left(left, &mut said)?;
+    answers.write_all(&said)?;
+    Ok(())
+}
+
+/// Joins two ledgers, and makes a third hold the ledger of what they hold together, whatever it held before. Answers
+/// how many tables there are of each kind, and what wasn't kept. Where the two aren't joined, or memory is refused, the
+/// third isn't touched.
+pub fn join_into<A: LedgerSource, B: LedgerSource, L: LedgerOut>(
+    alloc: Global,
+    first: &A,
+    second: &B,
+    ledger: &mut L,
+) -> Result<(Tally, Left), Ended>
+    ensures ok { IfOk result (λ told. JoinsInto (A.reads first.now) (B.reads second.now) told.0 told.1 (L.text ledger.old) (L.text ledger.new)) }
+    ensures err { IfErr result (λ e. EndsJoiningInto (A.reads first.now) (B.reads second.now) e (ledger.new ≡ ledger.old)) }
+{
+    let (board, left) = join(alloc, first, second)?;
+    write_whole(alloc, &board, ledger)?;
+    Ok((board.tally(), left))
+}
+
+/// Reads and loads a ledger, then reads another, and takes its records into the board of the first. Answers that
+/// board, and what wasn't kept of the first of the two of which not all was. What ends it is of the first ledger,
+/// where that can't be read or loaded, else of the second: a header that doesn't read or another root, and only then
+/// refused memory.
+pub fn join<A: LedgerSource, B: LedgerSource>(
+    alloc: Global,
+    first: &A,
+    second: &B,
+) -> Result<(Board, Left), Ended>
+    ensures ok { IfOk result (λ j. AreJoined (A.reads first.now) (B.reads second.now) (Ok j)) }
+    ensures err { IfErr result (λ e. AreJoined (A.reads first.now) (B.reads second.now) (Err e)) }
+{
+    let (mut board, first_left) = load_source(alloc, first)?;
+    let second_left = take_source(alloc, &mut board, second)?;
+    Ok((board, earlier(first_left, second_left)))
+}
+
+// What is told as left of two ledgers: of the first, where not all of it was kept.
+fn earlier(first: Left, second: Left) -> Left
+    ensures { result ≡ first_left first second }
+{
+    match first {
+        Left::Nothing => second,
+        Left::From { .. } => first,
+    }
+}
+
+// Takes the records of a ledger into a board of its root, and answers what wasn't kept of it.
+fn take_source<S: LedgerSource>(alloc: Global, board: &mut Board, source: &S) -> Result<Left, Ended>
+    ensures ok { IfOk result (λ left. (text : List ℕ) × S.reads source.now (Ok text) × TakesIn board.old text left board.new) }
+    ensures err { IfErr result (λ e. S.reads source.now (Err e) ⊎ ((text : List ℕ) × S.reads source.now (Ok text) × EndsTakingIn board.old.root text e)) }
+{
+    let mut opened = source.open()?;
+    match take_from(alloc, board, &mut opened.reader, opened.length) {
+        Ok(left) => Ok(left),
+        Err(Stopped::Failed(fault)) => Err(source.failed(&fault)),
+        Err(Stopped::Ended(ended)) => Err(ended),
+    }
+}
+
+// The same of the ledger that a reader has in its first bytes.
+fn take_from<R: Read>(
+    alloc: Global,
+    board: &mut Board,
+    from: &mut R,
+    limit: u64,
+) -> Result<Left, Stopped>
+    ensures ok { IfOk result (λ left. (text : List ℕ) × AreFirstBytes (R.remaining from.old) limit text × TakesIn board.old text left board.new) }
+    ensures err { IfErr result (EndsReadingOf board.old.root (R.remaining from.old) limit) }
+{
+    let root = *board.root();
+    let (other, left) = load_of(alloc, root, from, limit)?;
+    match board.merge(&other) {
+        Ok(()) => Ok(left),
+        Err(fault) => Err(Stopped::Ended(by_merge(fault))),
+    }
+}
+
+// Appends the line that says what the merged ledger holds.
+fn append_merged(tally: &Tally, out: &mut Vec<u8>) -> Result<(), NoMemory> {
+    out.extend_from_slice(b"merged ")?;
+    append_number(tally.nodes.saturating_sub(tally.open_count), out)?;
+    out.extend_from_slice(b" open ")?;
+    append_number(tally.open_count, out)?;
+    out.extend_from_slice(b" holdouts ")?;
+    append_number(tally.holdouts, out)?;
+    out.extend_from_slice(b"\n")
+}

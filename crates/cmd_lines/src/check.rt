@@ -1,0 +1,84 @@
+// `bb check`: records in, answers out.
+ghost use Rattle.std.specs.Prelude.{◌≡◌, ◌⊎◌};
+ghost use Rattle.cmd_lines.specs.Answer.{SaysOfRecord};
+ghost use Rattle.cmd_lines.specs.Stream.{AnswersStream};
+
+use crate::answers::answer;
+use crate::line_loop::{Answerer, answer_lines};
+use crate::misplaced::{Misplaced, Reader, Remark};
+use cmd_options::Outcome;
+use kind_evidence::NoMemory;
+use machine_text::Table;
+use std::alloc::Global;
+use std::io::{Read, Write};
+
+// What is said where a line is what `bb decide` reads.
+const TABLE_ALONE: Remark = Remark {
+    before: b"bb check reads records, and line ",
+    behind: b" is a table alone: bb decide looks for its record\n",
+};
+
+/// Reads a record a line and prints an answer a line. A last line without newline is read too. What a
+/// failed stream or refused memory ends is said on `faults`; else what was printed is the answers to the lines of
+/// the input, in their order, and each `halts K` and each `never` of them is true of its table.
+pub fn cmd_check<R: Read, W: Write, E: Write>(
+    alloc: Global,
+    input: &mut R,
+    answers: &mut W,
+    faults: &mut E,
+) -> Outcome
+    ensures { AnswersStream SaysOfRecord (R.remaining input.old) (R.remaining input.new) (W.contents answers.old) (W.contents answers.new) result
+        ⊎ (result ≡ Outcome.NoMemory) ⊎ (result ≡ Outcome.Failed) }
+{
+    check_for(alloc, Reader::Script, input, answers, faults)
+}
+
+/// The same for a script or a person, who is told on `faults` at the end which line was the first that is a table alone.
+pub fn check_for<R: Read, W: Write, E: Write>(
+    alloc: Global,
+    reader: Reader,
+    input: &mut R,
+    answers: &mut W,
+    faults: &mut E,
+) -> Outcome
+    ensures { AnswersStream SaysOfRecord (R.remaining input.old) (R.remaining input.new) (W.contents answers.old) (W.contents answers.new) result
+        ⊎ (result ≡ Outcome.NoMemory) ⊎ (result ≡ Outcome.Failed) }
+{
+    let mut checker = Checker {
+        alloc,
+        tables: Misplaced::none(),
+    };
+    let ended = answer_lines(alloc, &mut checker, input, answers, faults);
+    match reader {
+        Reader::Script => ended,
+        Reader::Person => checker.tables.told(alloc, &TABLE_ALONE, ended, faults),
+    }
+}
+
+#[derive(Drop)]
+struct Checker {
+    alloc: Global,
+    // the lines that are tables alone
+    tables: Misplaced,
+}
+
+impl Answerer for Checker {
+    ghost use Rattle.cmd_lines.specs.Answer.{SaysOfRecord};
+
+    ghost says = { SaysOfRecord };
+
+    fn answer(&mut self, line: Option<&[u8]>, out: &mut Vec<u8>) -> Result<Outcome, NoMemory> {
+        let outcome = answer(self.alloc, line, out)?;
+        self.tables
+            .count(outcome == Outcome::Refused && is_table(line));
+        Ok(outcome)
+    }
+}
+
+// Whether a line is a table and nothing else.
+fn is_table(line: Option<&[u8]>) -> bool {
+    match line {
+        Some(text) => Table::parse(text).is_ok(),
+        None => false,
+    }
+}

@@ -1,0 +1,43 @@
+-- What is kept of the lines of a damaged ledger.
+use Rattle.std.specs.Prelude.{◌≡◌, ℕ, ◌+◌, List, [], ◌∷◌, length, Option, Result, Ok, Err}
+use Rattle.machine_text.specs.Packed.{Packed}
+use Rattle.cert.specs.Claim.{Recorded}
+use Rattle.cert.specs.Grammar.{record_of}
+use Rattle.cert.specs.declared.record_fault.RecordFault.{RecordFault}
+use Rattle.ledger.specs.Contents.{Contents}
+use Rattle.ledger.specs.LedgerText.{HasHeader}
+use Rattle.ledger.specs.Lists.{AreKept, held}
+use Rattle.ledger.specs.Tally.{IsTally}
+use Rattle.ledger.specs.declared.tally.Tally.{Tally}
+use Rattle.cmd_taking.specs.Lines.{AreLines}
+use Rattle.cmd_ledgers.specs.Merge.{rewritten}
+
+-- the records as which lines read, in their order; a line that doesn't read is passed over
+abbrev pub with_read : Result Recorded RecordFault → List Recorded → List Recorded
+with_read (Ok r) rs = r ∷ rs
+with_read (Err fault) rs = rs
+
+abbrev pub records_of_lines : List (List ℕ) → List Recorded
+records_of_lines [] = []
+records_of_lines (line ∷ lines) = with_read (record_of line) (records_of_lines lines)
+
+-- of the lines behind the header of a root the records are kept that are fit in their turn, and held are those, each with
+-- its score, and each that a later one settles replaced by that one; all other lines are dropped
+pub record AreMended (root : Packed) (lines : List (List ℕ)) (rs : List Recorded) (dropped : ℕ) : Type 0 where
+  pub kept : List Recorded
+  pub fit : AreKept root [] (records_of_lines lines) kept
+  pub is_held : rs ≡ held kept
+  pub others : dropped + length kept ≡ length lines
+
+-- of a text: a header, and lines; the last one needs no newline
+pub record IsMended (text : List ℕ) (b : Contents) (dropped : ℕ) : Type 0 where
+  pub rest : List ℕ
+  pub header : HasHeader text b.root rest
+  pub lines : List (List ℕ)
+  pub are_lines : AreLines rest lines
+  pub mended : AreMended b.root lines b.records dropped
+
+-- a ledger comes to hold what is kept of a text, which is told
+abbrev pub MendsInto : List ℕ → Tally → ℕ → Option (List ℕ) → Option (List ℕ) → Type 0
+MendsInto text tally dropped before after =
+    (b : Contents) × IsMended text b dropped × IsTally b.root b.records tally × (after ≡ rewritten b before)

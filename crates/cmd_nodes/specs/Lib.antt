@@ -1,0 +1,4 @@
+pub mod Faults
+pub mod Losses
+pub mod Rounds
+pub mod Moving

@@ -1,0 +1,58 @@
+-- What has become of bytes that were to be moved from one end of a link to the other.
+use Rattle.std.specs.Prelude.{◌≡◌, ◌≢◌, ◌⊎◌, ◌≤◌, ◌+◌, ℕ, List, [], ◌++◌, length, Option}
+use Rattle.std.specs.Io.KnownBytes.{Appends, Consumes}
+use Rattle.wire.specs.Limits.{piece_byte_limit}
+use Rattle.cmd_options.specs.declared.ended.Ended.{Ended}
+use Rattle.cmd_options.specs.declared.ended.Ended.TheVariants.{Stream, NoMemory}
+
+-- what the stream's near end was given, what its far end has still to give, as far as they are known, and what waits in
+-- the inbox
+pub record Way : Type 0 where
+  pub given : Option (List ℕ)
+  pub ready : Option (List ℕ)
+  pub waiting : List ℕ
+
+abbrev pub way : Option (List ℕ) → Option (List ℕ) → List ℕ → Way
+way given ready waiting = record { given = given; ready = ready; waiting = waiting }
+
+-- some bytes were written, some came out at the other end, and some were delivered
+pub record Went (written came delivered : List ℕ) (old new : Way) : Type 0 where
+  pub writes : Appends old.given new.given written
+  pub reads : Consumes old.ready new.ready came
+  pub delivers : new.waiting ≡ old.waiting ++ delivered
+
+-- all was written, and as many bytes came and were delivered
+abbrev pub HasMoved : List ℕ → Way → Way → Type 0
+HasMoved sent old new = (came : List ℕ) × (length came ≡ length sent) × Went sent came came old new
+
+-- a beginning was written; of that no more came, and at most a piece of it was still under way; what came was delivered,
+-- but for what no memory was had for
+pub record StopsMoving (fault : Ended) (sent : List ℕ) (old new : Way) : Type 0 where
+  pub written : List ℕ
+  pub unwritten : List ℕ
+  pub is_sent : sent ≡ written ++ unwritten
+  pub delivered : List ℕ
+  pub lost : List ℕ
+  pub went : Went written (delivered ++ lost) delivered old new
+  pub no_more : length (delivered ++ lost) ≤ length written
+  pub under_way : length written ≤ length (delivered ++ lost) + piece_byte_limit
+  pub loses : fault ≢ NoMemory → lost ≡ []
+  pub faults : (fault ≡ Stream) ⊎ (fault ≡ NoMemory)
+
+abbrev pub HasWritten : List ℕ → Option (List ℕ) → Option (List ℕ) → Type 0
+HasWritten piece old new = Appends old new piece
+
+abbrev pub IsPartlyWritten : List ℕ → Option (List ℕ) → Option (List ℕ) → Type 0
+IsPartlyWritten piece old new = (written : List ℕ) × (unwritten : List ℕ) × (piece ≡ written ++ unwritten) × Appends old new written
+
+abbrev pub HasRead : ℕ → Option (List ℕ) → List ℕ → Option (List ℕ) → List ℕ → Type 0
+HasRead count old waiting new inbox = (came : List ℕ) × (length came ≡ count) × Consumes old new came × (inbox ≡ waiting ++ came)
+
+pub record IsPartlyRead (fault : Ended) (count : ℕ) (old : Option (List ℕ)) (waiting : List ℕ) (new : Option (List ℕ)) (inbox : List ℕ) : Type 0 where
+  pub delivered : List ℕ
+  pub lost : List ℕ
+  pub reads : Consumes old new (delivered ++ lost)
+  pub delivers : inbox ≡ waiting ++ delivered
+  pub no_more : length (delivered ++ lost) ≤ count
+  pub loses : fault ≢ NoMemory → lost ≡ []
+  pub faults : (fault ≡ Stream) ⊎ (fault ≡ NoMemory)

@@ -1,0 +1,148 @@
+// `bb coord`: a coordinator over two streams and a ledger.
+ghost use Rattle.std.specs.Prelude.{◌≡◌, ◌≤◌, None, IfSome};
+ghost use Rattle.machine_text.specs.Limits.{state_limit};
+ghost use Rattle.ledger.specs.Tally.{IsStatus};
+ghost use Rattle.ledger.specs.declared.status.Status.{Status as BoardStatus};
+ghost use Rattle.cmd_ledgers.specs.LedgerReport.{outcome_by};
+
+use crate::faults::{by_start, by_turn};
+use crate::held_ledger::HeldLedger;
+use crate::streams::Streams;
+use cmd_ledgers::{Opened, keep_answer, outcome_by};
+use cmd_options::{Beginning, Ended, Outcome};
+use lease_core::{Coordinator, StartFault};
+use ledger::Left;
+use std::alloc::Global;
+use std::io::{self, BufWriter, Read, Write};
+use wire::{LedgerOut, Lines, Node, Out, Turn, turn};
+
+/// Begins a coordinator from what a ledger holds, and answers the frames of `input`, a line each, until it ends:
+/// what is new stands in the ledger before a frame says so. `held` reads what the ledger holds. Accepted where
+/// the board is complete at the end. What ends the command early is said on `faults`.
+pub fn cmd_coord<F: Read + Drop, L: LedgerOut, R: Read, W: Write, E: Write>(
+    alloc: Global,
+    beginning: Beginning,
+    held: io::Result<Opened<F>>,
+    ledger: &mut L,
+    input: &mut R,
+    answers: &mut W,
+    faults: &mut E,
+) -> Outcome
+    requires { (1 ≤ beginning.states) × (beginning.states ≤ state_limit) }
+{
+    match coordinate(alloc, beginning, held, ledger, input, answers) {
+        Ok(outcome) => outcome,
+        Err(ended) => ended.told(faults),
+    }
+}
+
+fn coordinate<F: Read + Drop, L: LedgerOut, R: Read, W: Write>(
+    alloc: Global,
+    beginning: Beginning,
+    held: io::Result<Opened<F>>,
+    ledger: &mut L,
+    input: &mut R,
+    answers: &mut W,
+) -> Result<Outcome, Ended>
+    requires { (1 ≤ beginning.states) × (beginning.states ≤ state_limit) }
+{
+    let mut node = start_coordinator(alloc, beginning, held, ledger)?;
+    let served = serve(alloc, &mut node, ledger, input, answers);
+    let outcome = outcome_of(&node);
+    served.and(Ok(outcome))
+}
+
+// A coordinator whose ledger is in step with it.
+pub(crate) fn start_coordinator<F: Read + Drop, L: LedgerOut>(
+    alloc: Global,
+    beginning: Beginning,
+    held: io::Result<Opened<F>>,
+    ledger: &mut L,
+) -> Result<Coordinator, Ended>
+    requires { (1 ≤ beginning.states) × (beginning.states ≤ state_limit) }
+{
+    match held {
+        Ok(mut opened) => start(alloc, beginning, &mut opened, ledger),
+        Err(fault) => Err(Ended::by_ledger(&fault)),
+    }
+}
+
+// From a ledger as far as it went when it was opened.
+fn start<F: Read, L: LedgerOut>(
+    alloc: Global,
+    beginning: Beginning,
+    opened: &mut Opened<F>,
+    ledger: &mut L,
+) -> Result<Coordinator, Ended>
+    requires { (1 ≤ beginning.states) × (beginning.states ≤ state_limit) }
+{
+    let limit = opened.length;
+    let mut held = HeldLedger::of(&mut opened.reader);
+    let (node, first) = Coordinator::start_from(
+        alloc,
+        beginning.states,
+        beginning.era,
+        &mut held,
+        limit,
+    );
+    carry_out_first(first, held.fault(), ledger)?;
+    Ok(node)
+}
+
+// Does what a node asks for when it has started. What a read of its ledger came to, where one failed, is told apart.
+fn carry_out_first<L: LedgerOut>(
+    first: Result<Out, StartFault>,
+    fault: Option<Ended>,
+    ledger: &mut L,
+) -> Result<(), Ended> {
+    match first {
+        Ok(out) => keep_answer(&out, ledger),
+        Err(refused) => Err(fault.unwrap_or(by_start(refused))),
+    }
+}
+
+// Answers what comes, to the end of the input.
+fn serve<N: Node, L: LedgerOut, R: Read, W: Write>(
+    alloc: Global,
+    node: &mut N,
+    ledger: &mut L,
+    input: &mut R,
+    answers: &mut W,
+) -> Result<(), Ended> {
+    let Ok(mut output) = BufWriter::new(alloc, answers) else {
+        return Err(Ended::NoMemory);
+    };
+    let turned = take_turns(alloc, node, ledger, input, &mut output);
+    // What was answered before a fault is sent all the same.
+    output.flush()?;
+    turned
+}
+
+fn take_turns<N: Node, L: LedgerOut, R: Read, W: Write>(
+    alloc: Global,
+    node: &mut N,
+    ledger: &mut L,
+    input: &mut R,
+    output: &mut W,
+) -> Result<(), Ended> {
+    let mut lines = Lines::new(alloc);
+    let mut link = Streams::of(input, output);
+    for _ in 0..u64::MAX {
+        let turned = turn(node, &mut lines, &mut link, ledger).map_err(by_turn)?;
+        if turned == Turn::End {
+            break;
+        }
+    }
+    Ok(())
+}
+
+// Accepted where a coordinator's board is complete.
+pub(crate) fn outcome_of(node: &Coordinator) -> Outcome
+    ensures board { IfSome node.now.held (λ held. (status : BoardStatus) × IsStatus held.board.root held.board.records status × (result ≡ outcome_by status Left.Nothing)) }
+    ensures none { node.now.held ≡ None → result ≡ Outcome.Refused }
+{
+    match node.board() {
+        Some(board) => outcome_by(board.status(), &Left::Nothing),
+        None => Outcome::Refused,
+    }
+}

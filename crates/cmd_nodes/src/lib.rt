@@ -1,0 +1,35 @@
+//! The commands of `bb` that serve a tree, over readers, writers and links: `coord`, a coordinator alone, and `run` and
+//! `loop`, a coordinator and workers in one process, whose frames stay in memory or go over sockets.
+//!
+//! `specs/Losses` says which frames of a link are lost on purpose, `specs/Rounds` what happens to a worker in a round,
+//! `specs/Moving` what has become of bytes that were to be moved from one end of a link through a stream to the other.
+#![tactic(auto)]
+
+mod carriers;
+mod coord;
+mod faults;
+mod held_ledger;
+mod loop_command;
+mod losses;
+mod moving;
+mod no_ledger;
+mod progress;
+mod rounds;
+mod run_command;
+mod sockets;
+mod station;
+mod streams;
+mod telling;
+mod working;
+
+pub use coord::cmd_coord;
+pub use loop_command::cmd_loop;
+pub use losses::{Losses, carry};
+pub use moving::move_all;
+pub use no_ledger::NoLedger;
+pub use progress::Progress;
+pub use run_command::{Run, cmd_run};
+pub use sockets::{SocketPair, Sockets, connected};
+pub use streams::Streams;
+pub use telling::Telling;
+pub use working::work;

@@ -1,0 +1,56 @@
+// Rounds of a coordinator and workers in one process.
+use crate::carriers::Carrier;
+use crate::faults::by_turn;
+use crate::progress::Progress;
+use crate::station::Station;
+use cmd_ledgers::keep_answer;
+use cmd_options::Ended;
+use lease_core::Coordinator;
+use ledger::Status;
+use std::io::Write;
+use std::time::Clock;
+use wire::{Event, LedgerOut, Node, TurnFault};
+
+// Runs rounds, numbered from 1, until no table is open or so many were run. A round is a tick of the
+// coordinator, and then each worker's part.
+pub(crate) fn run_rounds<N: Node, Y: Carrier, L: LedgerOut, C: Clock, E: Write>(
+    coordinator: &mut Coordinator,
+    ledger: &mut L,
+    stations: &mut Vec<Station<N, Y>>,
+    rounds: u64,
+    progress: &mut Progress<'_, C, E>,
+) -> Result<(), Ended> {
+    for round in 1..=rounds {
+        if !has_open(coordinator) {
+            break;
+        }
+        run_round(coordinator, ledger, stations, round)?;
+        if let Some(board) = coordinator.board() {
+            progress.tell(&board.tally());
+        }
+    }
+    Ok(())
+}
+
+fn run_round<N: Node, Y: Carrier, L: LedgerOut>(
+    coordinator: &mut Coordinator,
+    ledger: &mut L,
+    stations: &mut Vec<Station<N, Y>>,
+    round: u64,
+) -> Result<(), Ended> {
+    match coordinator.on(Event::Tick(round)) {
+        Ok(out) => keep_answer(&out, ledger)?,
+        Err(fault) => return Err(by_turn(TurnFault::Node(fault))),
+    }
+    for station in stations.iter_mut() {
+        station.take_round(round, coordinator, ledger)?;
+    }
+    Ok(())
+}
+
+fn has_open(coordinator: &Coordinator) -> bool {
+    match coordinator.board() {
+        Some(board) => matches!(board.status(), Status::Working { .. }),
+        None => false,
+    }
+}

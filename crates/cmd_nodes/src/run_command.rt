@@ -1,0 +1,154 @@
+// `bb run`: a coordinator and workers in one process, and then the report.
+ghost use Rattle.std.specs.Prelude.{◌≤◌};
+ghost use Rattle.machine_text.specs.Limits.{state_limit};
+
+use crate::carriers::{Carriers, InMemory};
+use crate::coord::{outcome_of, start_coordinator};
+use crate::progress::Progress;
+use crate::rounds::run_rounds;
+use crate::station::Station;
+use crate::telling::Telling;
+use cmd_ledgers::{Opened, ReportForm, write_report};
+use cmd_options::{Beginning, Ended, Outcome, Settling};
+use lease_core::Coordinator;
+use ledger::Left;
+use std::alloc::Global;
+use std::io::{self, Read, Write};
+use std::time::Clock;
+use wire::{LedgerOut, Node};
+
+/// What is run.
+#[derive(Drop)]
+pub struct Run<'a, P, N, C> {
+    /// How the tree is settled.
+    pub settling: &'a Settling,
+    /// The form of the report.
+    pub form: &'a P,
+    /// The workers, which were started from empty ledgers.
+    pub workers: Vec<N>,
+    /// How it is told how far it is.
+    pub telling: Telling,
+    /// The clock by which that is told.
+    pub clock: &'a C,
+}
+
+/// Settles the tree of the empty table by a coordinator and workers, and prints the report in a form. The
+/// coordinator's board begins with what `held` reads, and its records go to `ledger`. Accepted where the board is
+/// complete at the end. What ends the command early is said on `faults`, and so is how far it is, where that is asked
+/// for.
+pub fn cmd_run<
+    P: ReportForm,
+    F: Read + Drop,
+    L: LedgerOut,
+    N: Node + Drop,
+    C: Clock,
+    W: Write,
+    E: Write,
+>(
+    alloc: Global,
+    run: Run<'_, P, N, C>,
+    held: io::Result<Opened<F>>,
+    ledger: &mut L,
+    answers: &mut W,
+    faults: &mut E,
+) -> Outcome
+    requires { (1 ≤ run.settling.now.states) × (run.settling.now.states ≤ state_limit) }
+{
+    let carriers = InMemory {
+        lose: run.settling.lose,
+    };
+    match settle(alloc, run, &carriers, held, ledger, answers, faults) {
+        Ok(outcome) => outcome,
+        Err(ended) => ended.told(faults),
+    }
+}
+
+// A coordinator that is settled by its workers, and its report.
+pub(crate) fn settle<
+    P: ReportForm,
+    F: Read + Drop,
+    L: LedgerOut,
+    N: Node + Drop,
+    C: Clock,
+    Y: Carriers,
+    W: Write,
+    E: Write,
+>(
+    alloc: Global,
+    run: Run<'_, P, N, C>,
+    carriers: &Y,
+    held: io::Result<Opened<F>>,
+    ledger: &mut L,
+    answers: &mut W,
+    faults: &mut E,
+) -> Result<Outcome, Ended>
+    requires { (1 ≤ run.settling.now.states) × (run.settling.now.states ≤ state_limit) }
+{
+    let beginning = Beginning {
+        states: run.settling.states,
+        era: 1,
+    };
+    let mut node = start_coordinator(alloc, beginning, held, ledger)?;
+    let form = run.form;
+    run_workers(alloc, run, carriers, &mut node, ledger, faults)?;
+    report_board(alloc, form, &node, answers)
+}
+
+// The rounds alone.
+fn run_workers<P, L: LedgerOut, N: Node + Drop, C: Clock, Y: Carriers, E: Write>(
+    alloc: Global,
+    run: Run<'_, P, N, C>,
+    carriers: &Y,
+    node: &mut Coordinator,
+    ledger: &mut L,
+    faults: &mut E,
+) -> Result<(), Ended> {
+    let settling = run.settling;
+    let mut stations = stations(alloc, run.workers, carriers)?;
+    let records = recorded(node);
+    let mut progress = Progress::new(alloc, run.telling, records, run.clock, faults);
+    let ended = run_rounds(node, ledger, &mut stations, settling.rounds, &mut progress);
+    progress.end();
+    ended
+}
+
+// Each worker with a link of its own.
+fn stations<N: Node + Drop, Y: Carriers>(
+    alloc: Global,
+    workers: Vec<N>,
+    carriers: &Y,
+) -> Result<Vec<Station<N, Y::Carrier>>, Ended> {
+    let base = carriers.begin()?;
+    let mut stations = Vec::new(alloc);
+    for worker in workers {
+        let station = Station::new(alloc, worker, carriers.carrier(&base)?);
+        if stations.push(station).is_err() {
+            return Err(Ended::NoMemory);
+        }
+    }
+    Ok(stations)
+}
+
+// How many records a coordinator begins with.
+fn recorded(node: &Coordinator) -> u64 {
+    match node.board() {
+        Some(board) => {
+            let tally = board.tally();
+            tally.nodes.saturating_sub(tally.open_count)
+        }
+        None => 0,
+    }
+}
+
+// Prints the report of a coordinator's board.
+fn report_board<P: ReportForm, W: Write>(
+    alloc: Global,
+    form: &P,
+    node: &Coordinator,
+    answers: &mut W,
+) -> Result<Outcome, Ended> {
+    if let Some(board) = node.board() {
+        write_report(alloc, form, board, &Left::Nothing, answers)?;
+    }
+    Ok(outcome_of(node))
+}

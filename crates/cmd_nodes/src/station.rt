@@ -1,0 +1,96 @@
+// A worker in the same process as its coordinator.
+use crate::carriers::Carrier;
+use crate::faults::in_memory;
+use crate::no_ledger::NoLedger;
+use crate::working::work;
+use cmd_options::Ended;
+use lease_core::Coordinator;
+use std::alloc::Global;
+use wire::{LedgerOut, Lines, MemLink, Node, TurnFault, turn};
+
+// A worker, whose ledger nobody reads, both ends of its link with the coordinator, which are in memory, and what carries
+// frames from one to the other. The worker is any node: what is proved of a type that keeps boxed finders would depend
+// on the bodies of its calls.
+#[derive(Drop)]
+pub(crate) struct Station<N, Y> {
+    worker: N,
+    ledger: NoLedger,
+    near: LinkEnd,
+    far: LinkEnd,
+    carrier: Y,
+}
+
+// One end of a link, and the lines that came to it.
+#[derive(Drop)]
+struct LinkEnd {
+    link: MemLink,
+    lines: Lines,
+}
+
+impl LinkEnd {
+    fn new(alloc: Global) -> LinkEnd {
+        LinkEnd {
+            link: MemLink::new(alloc),
+            lines: Lines::new(alloc),
+        }
+    }
+
+    // Hands all that waits to a node, and carries out what it answers.
+    fn serve<N: Node, L: LedgerOut>(
+        &mut self,
+        node: &mut N,
+        ledger: &mut L,
+    ) -> Result<(), TurnFault> {
+        for _ in 0..u64::MAX {
+            if self.link.waiting().is_empty() {
+                break;
+            }
+            turn(node, &mut self.lines, &mut self.link, ledger)?;
+        }
+        Ok(())
+    }
+}
+
+impl<N: Node, Y: Carrier> Station<N, Y> {
+    // A worker that was started from an empty ledger.
+    pub fn new(alloc: Global, worker: N, carrier: Y) -> Station<N, Y> {
+        Station {
+            worker,
+            ledger: NoLedger,
+            near: LinkEnd::new(alloc),
+            far: LinkEnd::new(alloc),
+            carrier,
+        }
+    }
+
+    // Its part of a round: it works, its frames go to the coordinator, and the answers come back.
+    pub fn take_round<L: LedgerOut>(
+        &mut self,
+        round: u64,
+        coordinator: &mut Coordinator,
+        ledger: &mut L,
+    ) -> Result<(), Ended> {
+        let worked = work(
+            &mut self.worker,
+            round,
+            &mut self.near.link,
+            &mut self.ledger,
+        );
+        // All that is its own is in memory.
+        if worked.is_err() {
+            return Err(Ended::NoMemory);
+        }
+        self.carrier
+            .to_coordinator(&mut self.near.link, &mut self.far.link)?;
+        match self.far.serve(coordinator, ledger) {
+            Ok(()) => {}
+            Err(fault) => return Err(in_memory(fault)),
+        }
+        self.carrier
+            .to_worker(&mut self.far.link, &mut self.near.link)?;
+        match self.near.serve(&mut self.worker, &mut self.ledger) {
+            Ok(()) => Ok(()),
+            Err(_) => Err(Ended::NoMemory),
+        }
+    }
+}

@@ -1,0 +1,53 @@
+-- The ranges of the options' numbers.
+use Rattle.std.specs.Prelude.{◌≡◌, ◌≤◌, None, IfSome}
+use Rattle.cmd_options.specs.declared.options.Options.{Options}
+use Rattle.cmd_options.specs.declared.options.Options.TheVariants.{Check, Decide, Coord, Run, Loop, Retry, Merge, Carry, Mend, Split, Settle, Join, Draw, Page, Report}
+use Rattle.cmd_options.specs.declared.options.Search.{Search}
+use Rattle.cmd_options.specs.declared.options.Beginning.{Beginning}
+use Rattle.cmd_options.specs.declared.options.Settling.{Settling}
+use Rattle.cmd_options.specs.declared.options.Splitting.{Splitting}
+
+pub record IsWithinRange (s : Search) : Type 0 where
+  pub some_steps : 1 ≤ s.steps
+  pub steps : s.steps ≤ 100000000
+  pub depth : s.depth ≤ 1000
+  pub gram : s.gram ≤ 8
+  pub far : s.far ≤ 16
+
+pub record IsBeginning (b : Beginning) : Type 0 where
+  pub some_states : 1 ≤ b.states
+  pub states : b.states ≤ 7
+  pub era : 1 ≤ b.era
+
+pub record IsSettling (s : Settling) : Type 0 where
+  pub some_states : 1 ≤ s.states
+  pub states : s.states ≤ 7
+  pub some_workers : 1 ≤ s.workers
+  pub workers : s.workers ≤ 64
+  pub lose : IfSome s.lose (λ every. (2 ≤ every) × (every ≤ 1000))
+  pub some_rounds : 1 ≤ s.rounds
+  pub rounds : s.rounds ≤ 1000000000
+  pub search : IsWithinRange s.search
+
+pub record IsSplitting (s : Splitting) : Type 0 where
+  pub some_states : 1 ≤ s.states
+  pub states : s.states ≤ 7
+  pub filled : s.filled ≤ 14
+  pub search : IsWithinRange s.search
+
+abbrev pub AreWithinRanges : Options → Type 0
+AreWithinRanges Check = Unit {0}
+AreWithinRanges (Decide search) = IsWithinRange search
+AreWithinRanges (Coord beginning ledger) = IsBeginning beginning
+AreWithinRanges (Run settling ledger) = IsSettling settling
+AreWithinRanges (Loop settling ledger) = IsSettling settling × (settling.lose ≡ None)
+AreWithinRanges (Retry file search) = IsWithinRange search
+AreWithinRanges (Merge merging) = Unit {0}
+AreWithinRanges (Carry carrying) = Unit {0}
+AreWithinRanges (Mend mending) = Unit {0}
+AreWithinRanges (Split splitting) = IsSplitting splitting
+AreWithinRanges (Settle file search progress) = IsWithinRange search
+AreWithinRanges (Join joining) = Unit {0}
+AreWithinRanges (Draw drawing) = Unit {0}
+AreWithinRanges (Page file) = Unit {0}
+AreWithinRanges (Report file json why) = Unit {0}

@@ -1,0 +1,31 @@
+-- How many records there are, once one more was gone through.
+use Rattle.std.proofs.Common.{◌≡◌, ℕ, ◌+◌, ◌-◌, ◌^◌, ◌<◌, ◌≤◌, eqb, Bool, cond, List, ◌∷◌, length, get_or, sym, ap, ◌∙◌, arith}
+use Rattle.std.proofs.lemmas.Bool.{eq-eqb}
+use Rattle.std.proofs.lemmas.List.Sums.{sum_by-cons, count_by-le-length}
+use Rattle.cert.specs.Claim.{Recorded}
+use Rattle.cmd_page.specs.Census.{how_many}
+
+abbrev one_if : Bool → ℕ
+one_if b = cond b 1 0
+
+-- so many were counted at each place below n, and the others are left
+abbrev pub AreCounted : (Recorded → ℕ) → ℕ → List Recorded → List ℕ → List Recorded → Type 0
+AreCounted number n all counts left = (k : ℕ) → k < n → get_or counts k 0 + how_many number k left ≡ how_many number k all
+
+more_many : (number : Recorded → ℕ) (k : ℕ) (r : Recorded) (left old : List Recorded) → old ≡ r ∷ left → how_many number k old ≡ cond (eqb (number r) k) 1 0 + how_many number k left
+more_many number k r left old is = ap (how_many number k) is ∙ sum_by-cons (λ x. cond (eqb (number x) k) 1 0) r left
+
+pub counted_more : (number : Recorded → ℕ) (n : ℕ) (all : List Recorded) (counts new : List ℕ) (r : Recorded) (left old : List Recorded) (place : ℕ)
+    → AreCounted number n all counts old → old ≡ r ∷ left → place ≡ number r
+    → ((k : ℕ) → get_or new k 0 ≡ get_or counts k 0 + cond (eqb place k) 1 0) → AreCounted number n all new left
+counted_more number n all counts new r left old place counted is at more = λ k within.
+    let one : one_if (eqb place k) ≡ one_if (eqb (number r) k) = ap (λ (p : ℕ). one_if (eqb p k)) at in
+    omega (arith, one, more_many number k r left old is, counted k within, more k)
+
+-- there is room for one more, where there are no more than that many records
+pub counted_room : (number : Recorded → ℕ) (n : ℕ) (all : List Recorded) (counts : List ℕ) (r : Recorded) (left old : List Recorded) (place : ℕ)
+    → AreCounted number n all counts old → old ≡ r ∷ left → place ≡ number r → place < n → length all < 2 ^ 64 → get_or counts place 0 < 2 ^ 64 - 1
+counted_room number n all counts r left old place counted is at within few =
+    let one : one_if (eqb (number r) place) ≡ 1 = ap one_if (eq-eqb (number r) place (sym at)) in
+    let most : how_many number place all ≤ length all = count_by-le-length (λ x. eqb (number x) place) all in
+    omega (arith, one, most, few, more_many number place r left old is, counted place within)

@@ -1,0 +1,63 @@
+-- The parts of a page, put together.
+use Rattle.std.proofs.Common.{◌≡◌, ℕ, zero, suc, ◌+◌, ◌-◌, ◌*◌, ◌<◌, ◌≤◌, List, [], ◌++◌, decimal, flat_map, get_or, cond, Result, Ok, Err, OnOk, refl, ap, ◌∙◌, arith}
+use Rattle.std.specs.Result.{is_ok}
+use Rattle.std.specs.List.{range_with_len}
+use Rattle.std.specs.Vec.Iter.{into_iter_items}
+use Rattle.machine_text.specs.Limits.{state_limit}
+use Rattle.cert.specs.Claim.{Recorded}
+use Rattle.ledger.specs.declared.left.Left.{Left}
+use Rattle.cmd_ledgers.specs.declared.told.Told.{Told}
+use Rattle.cmd_page.specs.Census.{of_kind, with_entries}
+use Rattle.cmd_page.specs.Page.{count_html, kinds_html, entries_html, census_html, opening_html, summary_html, champions_html, head_html}
+use Rattle.cmd_page.specs.inside.{IsCensus}
+use Rattle.cmd_page.specs.declared.census.Census.{Census}
+use Rattle.cmd_page.specs.declared.style.TheConstants.{KINDS, ENTRIES}
+
+-- a text that is appended last
+pub ended : {T E : Type 0} (r : Result T E) (old text new : List ℕ) → new ≡ cond (is_ok r) (old ++ text) old → OnOk r (new ≡ old ++ text)
+ended (Ok x) old text new is = is
+ended (Err e) old text new is = tt
+
+-- rows of the same numbers are the same
+same_entries : (f g : ℕ → ℕ) (a n : ℕ) → ((k : ℕ) → k < a + n → f k ≡ g k)
+    → flat_map (λ k. count_html (decimal k) (f k)) (range_with_len a n) ≡ flat_map (λ k. count_html (decimal k) (g k)) (range_with_len a n)
+same_entries f g a zero same = refl
+same_entries f g a (suc n) same =
+    ap (λ (v : ℕ). count_html (decimal a) v ++ flat_map (λ k. count_html (decimal k) (f k)) (range_with_len (a + 1) n)) (same a (omega arith))
+    ∙ ap (λ (l : List ℕ). count_html (decimal a) (g a) ++ l) (same_entries f g (a + 1) n (λ k within. same k (omega (arith, within))))
+
+-- the row of one number more
+pub rows_from : (row : ℕ → List ℕ) (k m : ℕ) → k < m → flat_map row (range_with_len k (m - k)) ≡ row k ++ flat_map row (range_with_len (k + 1) (m - (k + 1)))
+rows_from row k m within =
+    let more : m - k ≡ suc (m - (k + 1)) = omega (arith, within) in
+    ap (λ (n : ℕ). flat_map row (range_with_len k n)) more
+
+-- no more rows
+pub rows_end : (row : ℕ → List ℕ) (k m : ℕ) → m ≤ k → flat_map row (range_with_len k (m - k)) ≡ []
+rows_end row k m past =
+    let none : m - k ≡ 0 = omega (arith, past) in
+    ap (λ (n : ℕ). flat_map row (range_with_len k n)) none
+
+same_kinds : (f g : ℕ → ℕ) → ((k : ℕ) → k < 7 → f k ≡ g k) → kinds_html f ≡ kinds_html g
+same_kinds f g same =
+    rw (same 0 (omega arith), same 1 (omega arith), same 2 (omega arith), same 3 (omega arith), same 4 (omega arith), same 5 (omega arith), same 6 (omega arith)) refl
+
+-- all before the rows of the holdouts, part by part
+pub whole_head : (title : List ℕ) (rs : List Recorded) (left : Left) (told : Told) (figures : List ℕ) (census : Census) (n : ℕ) (h0 h1 h2 h3 h4 : List ℕ)
+    → h0 ≡ [] → h1 ≡ h0 ++ opening_html title → h2 ≡ h1 ++ summary_html told.root told.status told.tally left
+    → h3 ≡ h2 ++ census_html n (λ k. get_or census.kinds k 0) (λ k. get_or census.entries k 0) → h4 ≡ h3 ++ champions_html figures (into_iter_items told.ones_champions)
+    → IsCensus rs census → n ≡ told.root.states → told.root.states ≤ state_limit → h4 ≡ head_html title rs left told figures
+unfolding head_html
+whole_head title rs left told figures census n h0 h1 h2 h3 h4 e0 e1 e2 e3 e4 counted states limit =
+    let first : h1 ≡ opening_html title = e1 ∙ ap (λ (l : List ℕ). l ++ opening_html title) e0 in
+    let summary = summary_html told.root told.status told.tally left in
+    let second : h2 ≡ opening_html title ++ summary = e2 ∙ ap (λ (l : List ℕ). l ++ summary) first in
+    let kinds = same_kinds (λ k. get_or census.kinds k 0) (of_kind rs) counted.kinds in
+    let entries = same_entries (λ k. get_or census.entries k 0) (with_entries rs) 0 (2 * n + 1) (λ k within. counted.entries k (omega (arith, within, limit, states))) in
+    let of_entries : ℕ → ℕ = λ k. get_or census.entries k 0 in
+    let census_is : census_html n (λ k. get_or census.kinds k 0) of_entries ≡ census_html told.root.states (of_kind rs) (with_entries rs) =
+    ap (λ (l : List ℕ). KINDS.now ++ l ++ ENTRIES.now ++ entries_html n of_entries) kinds
+    ∙ (ap (λ (l : List ℕ). KINDS.now ++ kinds_html (of_kind rs) ++ ENTRIES.now ++ l) entries ∙ ap (λ (m : ℕ). census_html m (of_kind rs) (with_entries rs)) states) in
+    let third : h3 ≡ opening_html title ++ summary ++ census_html told.root.states (of_kind rs) (with_entries rs) =
+    e3 ∙ (ap (λ (l : List ℕ). h2 ++ l) census_is ∙ ap (λ (l : List ℕ). l ++ census_html told.root.states (of_kind rs) (with_entries rs)) second) in
+    e4 ∙ ap (λ (l : List ℕ). l ++ champions_html figures (into_iter_items told.ones_champions)) third

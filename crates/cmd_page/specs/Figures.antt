@@ -1,0 +1,71 @@
+-- The pictures of champions: the run from the blank tape to its halting, in a bounded number of rows and columns.
+use Rattle.std.specs.Prelude.{◌≡◌, ℕ, ◌+◌, ◌-◌, ◌/◌, min, nat_lt, Bool, true, false, Option, Some, None, List, [], ◌∷◌, ◌++◌, codes, decimal, ℤ, negsuc, ◌≤ℤ◌}
+use Rattle.machine_text.specs.Packed.{Packed, entry_of}
+use Rattle.machine_text.specs.Text.{text_of}
+use Rattle.run.specs.Limits.{halt_step_limit}
+use Rattle.cmd_picture.specs.declared.times.Times.{Times}
+use Rattle.cmd_picture.specs.declared.view.View.{View}
+use Rattle.cmd_picture.specs.Rows.{Shown, AreRows}
+use Rattle.cmd_picture.specs.Svg.{svg_text}
+use Rattle.cmd_picture.specs.Visits.{IsPlaced}
+
+-- how many champions have a picture
+abbrev pub picture_limit : ℕ
+picture_limit = 8
+
+-- the columns of a picture, and how far to the left of the start it reaches
+abbrev pub column_limit : ℕ
+column_limit = 321
+
+abbrev pub left_limit : ℤ
+left_limit = negsuc 159
+
+-- so many steps from row to row that some 240 rows show a whole run of so many steps, the last of them its halting
+abbrev pub steps_apart : ℕ → ℕ
+steps_apart steps = steps / 240 + 1
+
+abbrev pub halting_times : ℕ → Times
+halting_times steps = record { from = 0; steps = steps + steps_apart steps; every = steps_apart steps }
+
+-- the times that are drawn of a table that is recorded as halting in so many steps
+abbrev pub picture_times : ℕ → Times
+picture_times best = halting_times (min best halt_step_limit)
+
+-- the cells that a picture shows of those that a run visits
+pub record IsWindow (visited v : View) : Type 0 where
+  pub near : left_limit ≤ℤ visited.left → v.left ≡ visited.left
+  pub far : visited.left ≤ℤ left_limit → v.left ≡ left_limit
+  pub width : v.width ≡ min visited.width column_limit
+
+-- a picture of a table's run up to its halting: the configurations at these times, in these cells
+pub record IsChampionPicture (t : Packed) (best : ℕ) (svg : List ℕ) : Type 0 where
+  pub visited : View
+  pub view : View
+  pub rows : List Shown
+  pub is_visited : IsPlaced (entry_of t) (picture_times best) visited
+  pub is_window : IsWindow visited view
+  pub are_rows : AreRows (entry_of t) view (picture_times best) 0 rows
+  pub is : svg ≡ svg_text t view rows
+
+-- a picture where there is to be one
+abbrev pub IsPictureIf : Bool → Packed → ℕ → List ℕ → Type 0
+IsPictureIf true t best svg = IsChampionPicture t best svg
+IsPictureIf false t best svg = svg ≡ []
+
+abbrev pub caption_html : Packed → ℕ → List ℕ
+caption_html t best = codes "<figcaption><code>" ++ text_of t ++ codes "</code><br>" ++ decimal best ++ codes " steps</figcaption>\n"
+
+-- a table with its picture and its number of steps
+unfoldable pub figure_html : Packed → ℕ → List ℕ → List ℕ
+figure_html t best svg = codes "<figure>\n" ++ svg ++ caption_html t best ++ codes "</figure>\n"
+
+-- a figure for each table, with a picture for as many as may have one
+unfoldable pub AreFiguresOf : ℕ → ℕ → List Packed → List ℕ → Type 0
+AreFiguresOf best room [] html = html ≡ []
+AreFiguresOf best room (t ∷ tables) html = (svg : List ℕ) × (rest : List ℕ)
+    × IsPictureIf (nat_lt 0 room) t best svg × AreFiguresOf best (room - 1) tables rest × (html ≡ figure_html t best svg ++ rest)
+
+-- those of champions by the greatest number of steps, where there is one
+abbrev pub AreFigures : Option ℕ → List Packed → List ℕ → Type 0
+AreFigures None tables html = html ≡ []
+AreFigures (Some best) tables html = AreFiguresOf best picture_limit tables html

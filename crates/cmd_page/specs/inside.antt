@@ -1,0 +1,18 @@
+-- For the code: numbers that are counted, and a page that is made.
+use Rattle.std.specs.Prelude.{◌≡◌, ℕ, ◌<◌, List, ◌++◌, slice_index}
+use Rattle.std.specs.Vec.Iter.{into_iter_items}
+use Rattle.cert.specs.Claim.{Recorded}
+use Rattle.cmd_page.specs.Census.{of_kind, with_entries}
+use Rattle.cmd_page.specs.Page.{holdouts_html}
+use Rattle.cmd_page.specs.declared.census.Census.{Census}
+use Rattle.cmd_page.specs.declared.making.MadePage.{MadePage}
+use Rattle.cmd_page.specs.declared.style.TheConstants.{ENDING}
+
+-- what is counted of records
+pub record IsCensus (rs : List Recorded) (census : Census) : Type 0 where
+  pub kinds : (place : ℕ) → place < 7 → slice_index census.kinds place ≡ of_kind rs place
+  pub entries : (k : ℕ) → k < 15 → slice_index census.entries k ≡ with_entries rs k
+
+-- the bytes of a page that is made
+abbrev pub bytes_of_page : MadePage → List ℕ
+bytes_of_page made = made.head.items ++ holdouts_html (into_iter_items made.holdouts) ++ ENDING.now

@@ -1,0 +1,129 @@
+// Pictures of the runs of champions.
+ghost use Rattle.std.specs.Prelude.{◌≡◌, ℕ, ◌++◌, List, IfOk, OnOk};
+ghost use Rattle.std.specs.Vec.Iter.{into_iter_items};
+ghost use Rattle.cmd_picture.specs.Times.{AreWithinRuns};
+ghost use Rattle.cmd_page.specs.Figures.{AreFigures, AreFiguresOf, IsChampionPicture, IsPictureIf, IsWindow, caption_html, figure_html, picture_limit, picture_times};
+
+use cmd_picture::{Times, View, placement, svg};
+use kind_evidence::NoMemory;
+use ledger::Champions;
+use machine_text::{TEXT_BYTES, Table};
+use std::alloc::Global;
+use text::append_number;
+
+// How many champions have a picture.
+const MAX_PICTURES: u64 = 8;
+
+// The rows of a picture, but for one or two, its columns, and how far to the left of the start it reaches.
+const PICTURE_ROWS: u64 = 240;
+
+const MAX_COLUMNS: u64 = 321;
+
+const LEFTMOST: i64 = -160;
+
+// The most steps of a picture: those that a record of a table that halts may claim.
+const MAX_PICTURE_STEPS: u64 = 100_000_000;
+
+// Appends a figure for each champion by steps, as many as have room with a picture.
+pub(crate) fn append_figures(
+    alloc: Global,
+    best: Option<u64>,
+    champions: Champions,
+    out: &mut Vec<u8>,
+) -> Result<(), NoMemory>
+    ensures { OnOk result ((html : List ℕ) × AreFigures best (into_iter_items champions) html × (out.new.items ≡ out.old.items ++ html)) }
+{
+    match best {
+        Some(best) => append_figures_of(alloc, best, champions, out),
+        None => Ok(()),
+    }
+}
+
+// The same of those that halt in so many steps.
+fn append_figures_of(
+    alloc: Global,
+    best: u64,
+    champions: Champions,
+    out: &mut Vec<u8>,
+) -> Result<(), NoMemory>
+    ensures { OnOk result ((html : List ℕ) × AreFiguresOf best picture_limit (into_iter_items champions) html × (out.new.items ≡ out.old.items ++ html)) }
+{
+    let mut room = MAX_PICTURES;
+    for table in champions {
+        let picture = picture_if(alloc, room > 0, table, best)?;
+        append_figure(&table, best, &picture, out)?;
+        room = room.saturating_sub(1);
+    }
+    Ok(())
+}
+
+// Appends the figure of a table with its picture.
+#[tactic(auto, unfolding(crate::specs::Figures::figure_html))]
+fn append_figure(t: &Table, best: u64, picture: &[u8], out: &mut Vec<u8>) -> Result<(), NoMemory>
+    ensures { OnOk result (out.new.items ≡ out.old.items ++ figure_html t.now best picture.now) }
+{
+    out.extend_from_slice(b"<figure>\n")?;
+    out.extend_from_slice(picture)?;
+    append_caption(t, best, out)?;
+    out.extend_from_slice(b"</figure>\n")
+}
+
+fn append_caption(t: &Table, best: u64, out: &mut Vec<u8>) -> Result<(), NoMemory>
+    ensures { OnOk result (out.new.items ≡ out.old.items ++ caption_html t.now best) }
+{
+    let mut buf = [0; TEXT_BYTES];
+    out.extend_from_slice(b"<figcaption><code>")?;
+    out.extend_from_slice(t.text(&mut buf))?;
+    out.extend_from_slice(b"</code><br>")?;
+    append_number(best, out)?;
+    out.extend_from_slice(b" steps</figcaption>\n")
+}
+
+// A picture, where there is to be one; otherwise nothing.
+fn picture_if(alloc: Global, wanted: bool, t: Table, best: u64) -> Result<Vec<u8>, NoMemory>
+    ensures { IfOk result (λ svg. IsPictureIf wanted t best svg.items) }
+{
+    if wanted {
+        picture_of(alloc, t, best)
+    } else {
+        Ok(Vec::new(alloc))
+    }
+}
+
+// The picture of a table's run up to its halting, which is recorded to come with so many steps.
+fn picture_of(alloc: Global, t: Table, best: u64) -> Result<Vec<u8>, NoMemory>
+    ensures { IfOk result (λ svg. IsChampionPicture t best svg.items) }
+{
+    let times = picture_times(best);
+    let visited = placement(alloc, t, times)?;
+    svg(alloc, t, window(visited), times)
+}
+
+// The times that are drawn of a run of so many steps: each that many steps after the one before, and one more behind
+// them, where the last configuration is shown.
+fn picture_times(best: u64) -> Times
+    ensures times { result ≡ picture_times best }
+    ensures within { AreWithinRuns result }
+{
+    let steps = best.min(MAX_PICTURE_STEPS);
+    let every = steps / PICTURE_ROWS + 1;
+    Times {
+        from: 0,
+        steps: steps + every,
+        every,
+    }
+}
+
+// The cells that a picture shows of those that a run visits.
+fn window(visited: View) -> View
+    ensures { IsWindow visited result }
+{
+    View {
+        left: if visited.left < LEFTMOST {
+            LEFTMOST
+        } else {
+            visited.left
+        },
+        width: visited.width.min(MAX_COLUMNS),
+    }
+}

@@ -1,0 +1,94 @@
+// A page as it is made, before it is written.
+ghost use Rattle.std.specs.Prelude.{◌≡◌, ℕ, ◌++◌, List, IfOk, OnOk};
+ghost use Rattle.std.specs.Vec.Iter.{into_iter_items};
+ghost use Rattle.machine_text.specs.Packed.{Packed};
+ghost use Rattle.cert.specs.Claim.{Recorded};
+ghost use Rattle.cmd_ledgers.specs.Told.{IsToldOf};
+ghost use Rattle.cmd_page.specs.Figures.{AreFigures};
+ghost use Rattle.cmd_page.specs.Page.{IsPage, champions_html, ones_champions_html};
+ghost use Rattle.cmd_page.specs.inside.{IsCensus, bytes_of_page};
+
+use crate::census::{Census, census_of};
+use crate::counts::append_census;
+use crate::figures::append_figures;
+use crate::rows::append_items;
+use crate::style::{CHAMPIONS, HOLDOUTS, ONES_CHAMPIONS};
+use crate::summary::{append_opening, append_summary};
+use cmd_ledgers::Told;
+use kind_evidence::NoMemory;
+use ledger::{Board, Champions, Holdouts, Left};
+use std::alloc::Global;
+
+// How many bytes are gathered before they are written, at least.
+const PIECE_BYTES: usize = 16_384;
+
+// A page, with all the memory that it takes. The rows of the holdouts are made as they are written.
+#[derive(Drop)]
+pub(crate) struct MadePage {
+    // all before the rows of the holdouts
+    pub(crate) head: Vec<u8>,
+    pub(crate) holdouts: Holdouts,
+}
+
+// Makes the page of a board, and of what wasn't kept of its ledger.
+pub(crate) fn page_of(
+    alloc: Global,
+    title: &[u8],
+    board: &Board,
+    left: &Left,
+) -> Result<MadePage, NoMemory>
+    ensures { IfOk result (λ made. IsPage title.now board.now.root board.now.records left.now (bytes_of_page made)) }
+{
+    told_page(alloc, title, &census_of(board), Told::of(board)?, left)
+}
+
+// Makes the page of what is counted and told.
+fn told_page(
+    alloc: Global,
+    title: &[u8],
+    census: &Census,
+    told: Told,
+    left: &Left,
+) -> Result<MadePage, NoMemory>
+    ensures { IfOk result (λ made. (root : Packed) (rs : List Recorded) → IsCensus rs census.now → IsToldOf root rs told →
+        IsPage title.now root rs left.now (bytes_of_page made)) }
+{
+    let Told {
+        root,
+        status,
+        tally,
+        champions,
+        ones_champions,
+        holdouts,
+    } = told;
+    let mut head = Vec::with_capacity(alloc, PIECE_BYTES)?;
+    append_opening(title, &mut head)?;
+    append_summary(&root, status, &tally, left, &mut head)?;
+    append_census(root.states(), census, &mut head)?;
+    append_champions(alloc, tally.best, champions, ones_champions, &mut head)?;
+    Ok(MadePage { head, holdouts })
+}
+
+// Appends the champions by steps and by scores, and what stands before the rows of the holdouts.
+fn append_champions(
+    alloc: Global,
+    best: Option<u64>,
+    champions: Champions,
+    ones_champions: Champions,
+    out: &mut Vec<u8>,
+) -> Result<(), NoMemory>
+    ensures { OnOk result ((figures : List ℕ) × AreFigures best (into_iter_items champions) figures
+        × (out.new.items ≡ out.old.items ++ champions_html figures (into_iter_items ones_champions))) }
+{
+    out.extend_from_slice(CHAMPIONS)?;
+    append_figures(alloc, best, champions, out)?;
+    append_ones_champions(ones_champions, out)
+}
+
+fn append_ones_champions(ones_champions: Champions, out: &mut Vec<u8>) -> Result<(), NoMemory>
+    ensures { OnOk result (out.new.items ≡ out.old.items ++ ones_champions_html (into_iter_items ones_champions)) }
+{
+    out.extend_from_slice(ONES_CHAMPIONS)?;
+    append_items(ones_champions, out)?;
+    out.extend_from_slice(HOLDOUTS)
+}

@@ -1,0 +1,105 @@
+// What a page says before it counts: its title, and how the board stands.
+ghost use Rattle.std.specs.Prelude.{◌≡◌, ◌++◌, OnOk};
+ghost use Rattle.cmd_page.specs.Page.{opening_html, root_html, status_html, left_html, left_line_html, verdicts_html, greatest_html, tally_html, summary_html};
+
+use crate::escape::append_escaped;
+use crate::rows::{append_code, append_count, append_greatest};
+use crate::style::{HEADING, OPENING, PARTS};
+use kind_evidence::NoMemory;
+use ledger::{Left, Status, Tally};
+use machine_text::Table;
+use text::append_number;
+
+// Appends the beginning of a page under a title, of any bytes.
+pub(crate) fn append_opening(title: &[u8], out: &mut Vec<u8>) -> Result<(), NoMemory>
+    ensures { OnOk result (out.new.items ≡ out.old.items ++ opening_html title.now) }
+{
+    out.extend_from_slice(OPENING)?;
+    append_escaped(title, out)?;
+    out.extend_from_slice(HEADING)?;
+    append_escaped(title, out)?;
+    out.extend_from_slice(PARTS)
+}
+
+// Appends how a board stands, and what wasn't kept of its ledger.
+pub(crate) fn append_summary(
+    root: &Table,
+    status: Status,
+    tally: &Tally,
+    left: &Left,
+    out: &mut Vec<u8>,
+) -> Result<(), NoMemory>
+    ensures { OnOk result (out.new.items ≡ out.old.items ++ summary_html root.now status tally.now left.now) }
+{
+    out.extend_from_slice(status_words(status))?;
+    append_left(left, out)?;
+    append_root(root, out)?;
+    append_tally(tally, out)
+}
+
+// How a board stands, in words.
+fn status_words(status: Status) -> &'static [u8]
+    ensures { result.now ≡ status_html status }
+{
+    match status {
+        Status::Working { .. } => b"<p><strong>Working.</strong> There are open tables.</p>\n",
+        Status::Holdouts { .. } => {
+            b"<p><strong>Holdouts.</strong> No table is open, and not all have a verdict.</p>\n"
+        }
+        Status::Complete { .. } => {
+            b"<p><strong>Complete.</strong> Each table of the tree has a verdict.</p>\n"
+        }
+    }
+}
+
+// Appends from which line on a ledger isn't kept, where there is one.
+fn append_left(left: &Left, out: &mut Vec<u8>) -> Result<(), NoMemory>
+    ensures { OnOk result (out.new.items ≡ out.old.items ++ left_html left.now) }
+{
+    match left {
+        Left::Nothing => Ok(()),
+        Left::From { line, .. } => append_left_from(*line, out),
+    }
+}
+
+fn append_left_from(line: u64, out: &mut Vec<u8>) -> Result<(), NoMemory>
+    ensures { OnOk result (out.new.items ≡ out.old.items ++ left_line_html line) }
+{
+    out.extend_from_slice(b"<p class='left'>From line ")?;
+    append_number(line, out)?;
+    out.extend_from_slice(b" on, the ledger isn't kept.</p>\n")
+}
+
+// Appends the root, and what stands before the rows of a tally.
+fn append_root(root: &Table, out: &mut Vec<u8>) -> Result<(), NoMemory>
+    ensures { OnOk result (out.new.items ≡ out.old.items ++ root_html root.now) }
+{
+    out.extend_from_slice(b"<p>Root ")?;
+    append_code(root, out)?;
+    out.extend_from_slice(b"</p>\n<table>\n")
+}
+
+// Appends the rows of a tally.
+fn append_tally(tally: &Tally, out: &mut Vec<u8>) -> Result<(), NoMemory>
+    ensures { OnOk result (out.new.items ≡ out.old.items ++ tally_html tally.now) }
+{
+    append_verdicts(tally, out)?;
+    append_count(b"Holdouts", tally.holdouts, out)?;
+    append_count(b"Open", tally.open_count, out)?;
+    append_bests(tally, out)
+}
+
+fn append_verdicts(tally: &Tally, out: &mut Vec<u8>) -> Result<(), NoMemory>
+    ensures { OnOk result (out.new.items ≡ out.old.items ++ verdicts_html tally.now) }
+{
+    append_count(b"Tables", tally.nodes, out)?;
+    append_count(b"Halting", tally.halting, out)?;
+    append_count(b"Never halting", tally.never, out)
+}
+
+fn append_bests(tally: &Tally, out: &mut Vec<u8>) -> Result<(), NoMemory>
+    ensures { OnOk result (out.new.items ≡ out.old.items ++ greatest_html tally.now) }
+{
+    append_greatest(b"Most steps", tally.best, out)?;
+    append_greatest(b"Most ones", tally.ones, out)
+}

@@ -1,0 +1,75 @@
+// A page that is made, written a piece at a time.
+ghost use Rattle.std.specs.Prelude.{OnOk};
+ghost use Rattle.std.specs.Vec.Iter.{into_iter_items};
+ghost use Rattle.std.specs.Io.KnownBytes.{Appends};
+ghost use Rattle.cmd_ledgers.specs.Passing.{Passes};
+ghost use Rattle.cmd_page.specs.Page.{holdout_html, holdouts_html, last_cell_html, link_html};
+ghost use Rattle.cmd_page.specs.inside.{bytes_of_page};
+
+use crate::entries::entry_count;
+use crate::making::MadePage;
+use crate::style::ENDING;
+use cmd_ledgers::pass;
+use itoa::Buffer;
+use ledger::Holdouts;
+use machine_text::{TEXT_BYTES, Table};
+use std::io::{self, Write};
+
+// Writes a page that is made. The whole text never stands in memory.
+pub(crate) fn write_made<W: Write>(made: MadePage, answers: &mut W) -> io::Result<()>
+    ensures { OnOk result (Appends (W.contents answers.old) (W.contents answers.new) (bytes_of_page made)) }
+{
+    let MadePage { head, holdouts } = made;
+    let mut piece = head;
+    pass_holdouts(holdouts, &mut piece, answers)?;
+    pass(ENDING, &mut piece, answers)?;
+    answers.write_all(&piece)
+}
+
+// Passes on a row for each holdout.
+fn pass_holdouts<W: Write>(
+    holdouts: Holdouts,
+    piece: &mut Vec<u8>,
+    answers: &mut W,
+) -> io::Result<()>
+    ensures { OnOk result (Passes (W.contents answers.old) piece.old.items (W.contents answers.new) piece.new.items (holdouts_html (into_iter_items holdouts))) }
+{
+    for table in holdouts {
+        pass_holdout(&table, piece, answers)?;
+    }
+    Ok(())
+}
+
+// Passes on the row of a holdout.
+fn pass_holdout<W: Write>(t: &Table, piece: &mut Vec<u8>, answers: &mut W) -> io::Result<()>
+    ensures { OnOk result (Passes (W.contents answers.old) piece.old.items (W.contents answers.new) piece.new.items (holdout_html t.now)) }
+{
+    let mut buf = [0; TEXT_BYTES];
+    let text = t.text(&mut buf);
+    pass(b"<tr id='", piece, answers)?;
+    pass(text, piece, answers)?;
+    pass(b"'>", piece, answers)?;
+    pass_link(text, piece, answers)?;
+    pass_entries(entry_count(t), piece, answers)
+}
+
+// Passes on a table's text as a link to its row.
+fn pass_link<W: Write>(text: &[u8], piece: &mut Vec<u8>, answers: &mut W) -> io::Result<()>
+    ensures { OnOk result (Passes (W.contents answers.old) piece.old.items (W.contents answers.new) piece.new.items (link_html text.now)) }
+{
+    pass(b"<td><a href='#", piece, answers)?;
+    pass(text, piece, answers)?;
+    pass(b"'>", piece, answers)?;
+    pass(text, piece, answers)?;
+    pass(b"</a></td>", piece, answers)
+}
+
+// Passes on a number of entries, and the end of the row.
+fn pass_entries<W: Write>(entries: u8, piece: &mut Vec<u8>, answers: &mut W) -> io::Result<()>
+    ensures { OnOk result (Passes (W.contents answers.old) piece.old.items (W.contents answers.new) piece.new.items (last_cell_html entries)) }
+{
+    let mut buffer = Buffer::new();
+    pass(b"<td>", piece, answers)?;
+    pass(buffer.format(entries).as_bytes(), piece, answers)?;
+    pass(b"</td></tr>\n", piece, answers)
+}

@@ -1,0 +1,28 @@
+use Rattle.std.proofs.Common.{rules, ◌≡◌, ◌∙◌, false, true, List, sym, subst}
+use Rattle.std.specs.Prelude.{codes}
+use Rattle.machine_text.specs.Packed.{Packed}
+use Rattle.ledger.specs.Contents.{IsOpenOn}
+use Rattle.ledger.specs.Tally.{AreAll}
+use Rattle.cmd_parts.specs.Split.{path_within}
+use Rattle.cmd_parts.proofs.Joining.{gathered_so}
+use Rattle.cmd_parts.proofs.join.gather.Goals as goal
+use Rattle.cmd_parts.proofs.join.gather.Goals.{then-is_kept, else-is_kept}
+
+pub returns : goal.returns
+returns g c =
+    let trunk = c.in_ok-trunk.trunk in
+    let is : c.deref.result.now ≡ path_within c.args.folder.now (codes "trunk") = search rules in
+    let same : c.deref-4.result.now ≡ path_within c.args.folder.now (codes "trunk") = search rules in
+    let roots : c.deref-5.result.now ≡ c.in_ok-roots.roots.items = search rules in
+    let all : c.in_ok-is_kept.is_kept ≡ true → c.if-is_kept.result ≡ c.in_ok-are_sound.are_sound = elim c.if-is_kept.branch [
+      | then-is_kept w ↦ λ yes. w.result-is
+      | else-is_kept w ↦ λ yes. absurd (let no = w.if-is_kept.false in cc)
+    ] in
+    let neither : c.in_ok-is_kept.is_kept ≡ false → c.if-is_kept.result ≡ false = elim c.if-is_kept.branch [
+      | then-is_kept w ↦ λ no. absurd (let yes = w.if-is_kept.true in cc)
+      | else-is_kept w ↦ λ no. w.result-is ∙ no
+    ] in
+    gathered_so (g.S.Parts.finds c.args.parts.now) c.args.folder.now c.deref.result.now c.deref-4.result.now trunk c.in_ok-whole.whole.trunk c.in_ok-trunk.left c.deref-5.result.now c.add_parts.new.whole
+    c.in_ok-is_kept.is_kept c.in_ok-are_sound.are_sound c.if-is_kept.result _ _ _ _ _ _ is same c.in_ok-trunk.ensures
+    (subst (λ (l : List Packed). AreAll (IsOpenOn trunk) l) (sym roots) c.in_ok-roots.ensures)
+    c.in_ok-is_kept.ensures c.in_ok-begin.ensures c.in_ok-whole.ensures.trunk c.in_ok-are_sound.ensures all neither

@@ -1,0 +1,15 @@
+use Rattle.cmd_parts.proofs.join.tell_whole.Goals as goal
+use Rattle.parts.specs.Parts.{joined_with}
+
+pub returns : goal.returns
+returns g c = λ parts whole.
+    let trunk = c.args.whole.now.trunk in
+    let told = c.in_ok-write_told.ensures.ok trunk.root (joined_with trunk.records parts) (c.in_ok-told_of.ensures parts whole) in
+    record {
+      text = told.0;
+      is_text = told.1;
+      says = told.2;
+      status = c.status-status.result;
+      stands = c.status-status.ensures.stands parts whole;
+      ends = c.outcome_of.ensures;
+    }

@@ -1,0 +1,75 @@
+-- A ledger that is settled: loaded, cut to what is kept of it, and gone on with until no table of its board is open.
+use Rattle.std.specs.Prelude.{◌≡◌, ◌⊎◌, ℕ, List, [], ◌∷◌, ◌++◌, Option, codes, decimal}
+use Rattle.std.specs.Io.KnownBytes.{Appends}
+use Rattle.machine_text.specs.Packed.{Packed}
+use Rattle.cert.specs.Claim.{Recorded}
+use Rattle.ledger.specs.Contents.{Contents, IsOpenOn}
+use Rattle.ledger.specs.Tally.{IsTally}
+use Rattle.ledger.specs.declared.left.Left.{Left}
+use Rattle.ledger.specs.declared.left.Left.TheVariants.{Nothing, From}
+use Rattle.ledger.specs.declared.tally.Tally.{Tally}
+use Rattle.wire.specs.Device.{shortened}
+use Rattle.cmd_ledgers.specs.LedgerReport.{EndsLedger}
+use Rattle.cmd_ledgers.specs.Reading.{AreFirstBytes, IsLoadedFrom}
+use Rattle.cmd_options.specs.declared.ended.Ended.{Ended}
+use Rattle.cmd_options.specs.declared.ended.Ended.TheVariants.{Ledger, NoMemory, Stream}
+use Rattle.cmd_parts.specs.Settling.{ComesFirst, EndsSettling, SettlesMany}
+
+-- a ledger's text, where it is known, that is cut to what was kept of it
+abbrev pub kept_part : Left → Option (List ℕ) → Option (List ℕ)
+kept_part Nothing text = text
+kept_part (From line kept why) text = shortened kept text
+
+-- the line that says how many tables were settled, and how many holdouts there are
+abbrev pub settled_text : ℕ → ℕ → List ℕ
+settled_text count holdouts = codes "settled " ++ decimal count ++ codes " holdouts " ++ decimal holdouts ++ 10 ∷ []
+
+-- a board and its ledger, from what was kept of that, are settled until no table is open, and this is told
+pub record SettlesWhole (Answers : Packed → Recorded → Type 0) (old : Contents) (left : Left) (before after : Option (List ℕ)) (told : List ℕ) : Type 0 where
+  pub count : ℕ
+  pub board : Contents
+  pub many : SettlesMany Answers ComesFirst count old (kept_part left before) board after
+  pub none_open : (t : Packed) → IsOpenOn board t → ⊥
+  pub tally : Tally
+  pub counted : IsTally board.root board.records tally
+  pub is : told ≡ settled_text count tally.holdouts
+
+-- the ledger that a reader has in its first bytes is loaded and settled, which is told behind what was said before
+pub record SettlesLedger (Answers : Packed → Recorded → Type 0) (has : Option (List ℕ)) (limit : ℕ) (before after said new_said : Option (List ℕ)) : Type 0 where
+  pub loaded : Contents
+  pub left : Left
+  pub told : List ℕ
+  pub loads : IsLoadedFrom has limit loaded left
+  pub settles : SettlesWhole Answers loaded left before after told
+  pub says : Appends said new_said told
+
+-- a ledger that is to be written can't be opened, or a read of it failed
+abbrev pub FailsReading : Ended → Type 0
+FailsReading e = (e ≡ Ledger) ⊎ (e ≡ NoMemory)
+
+-- why it isn't loaded: that, or there is a reason in the first bytes that a reader has
+abbrev pub EndsLoading : Option (List ℕ) → ℕ → Ended → Type 0
+EndsLoading has limit e = FailsReading e ⊎ ((text : List ℕ) × AreFirstBytes has limit text × EndsLedger text e)
+
+-- the ledger failed as it was cut to what was kept of it: it is as it was, or cut
+abbrev pub FailsCut : Left → Ended → Option (List ℕ) → Option (List ℕ) → Type 0
+FailsCut left e before after = (e ≡ Ledger) × ((after ≡ before) ⊎ (after ≡ kept_part left before))
+
+-- all is settled, but to say so a stream failed, or memory was refused before anything was said
+abbrev pub EndsSaying : (Packed → Recorded → Type 0) → Ended → Contents → Left → Option (List ℕ) → Option (List ℕ) → Option (List ℕ) → Option (List ℕ) → Type 0
+EndsSaying Answers e old left before after said new_said =
+    ((e ≡ Stream) ⊎ ((e ≡ NoMemory) × (new_said ≡ said))) × ((told : List ℕ) × SettlesWhole Answers old left before after told)
+
+-- why a board and its ledger aren't settled whole: the cut, the settling or the saying ended early; where that is for the
+-- ledger, it has failed
+pub record EndsWhole (Answers : Packed → Recorded → Type 0) (HasFailed : Type 0) (e : Ended) (old : Contents) (left : Left) (before after said new_said : Option (List ℕ)) : Type 0 where
+  pub failed : e ≡ Ledger → HasFailed
+  pub how :
+      ((new_said ≡ said) × (FailsCut left e before after ⊎ ((new : Contents) × EndsSettling Answers ComesFirst e old (kept_part left before) new after)))
+      ⊎ EndsSaying Answers e old left before after said new_said
+
+-- why a ledger that a reader has in its first bytes isn't settled whole: it isn't loaded, and nothing is done; or that of its board
+abbrev pub EndsLedgerAt : (Packed → Recorded → Type 0) → Type 0 → Ended → Option (List ℕ) → ℕ → Option (List ℕ) → Option (List ℕ) → Option (List ℕ) → Option (List ℕ) → Type 0
+EndsLedgerAt Answers HasFailed e has limit before after said new_said =
+    (EndsLoading has limit e × (after ≡ before) × (new_said ≡ said))
+    ⊎ ((loaded : Contents) × (left : Left) × IsLoadedFrom has limit loaded left × EndsWhole Answers HasFailed e loaded left before after said new_said)

@@ -1,0 +1,50 @@
+-- For the code: tables with few filled entries, and parts that are added to a whole one after another.
+use Rattle.std.specs.Prelude.{◌≡◌, ℕ, Bool, List, Option, None, Some, Ok, nat_lt}
+use Rattle.std.specs.Io.KnownBytes.{Appends}
+use Rattle.machine_text.specs.Packed.{Packed}
+use Rattle.ledger.specs.Contents.{Contents}
+use Rattle.ledger.specs.LedgerText.{ledger_text}
+use Rattle.wire.specs.Device.{grown}
+use Rattle.parts.specs.Parts.{joined_with}
+use Rattle.parts.specs.Whole.{AddGives, Collected, IsWhole}
+use Rattle.cmd_parts.specs.Join.{AreMet, Findings, HoldsTree, is_silent, record_lines}
+use Rattle.cmd_parts.specs.Settling.{filled_count}
+
+abbrev pub is_below : ℕ → Packed → Bool
+is_below limit t = nat_lt (filled_count t) limit
+
+-- a part that counts is added to a whole, and its lines to the one ledger; else nothing changes
+abbrev pub AddsCounted : Option Contents → Collected → Collected → Option (List ℕ) → Option (List ℕ) → Type 0
+AddsCounted None old new before after = (new ≡ old) × (after ≡ before)
+AddsCounted (Some part) old new before after = AddGives old part (Ok tt) new × (after ≡ grown before (record_lines part.records))
+
+-- a part is met, added where it counts, and what is wrong with it is said
+pub record MeetsPart (IsMet : Option Contents → List ℕ → Type 0) (is_sound : Bool) (old new : Collected) (before after faults new_faults : Option (List ℕ)) : Type 0 where
+  pub counted : Option Contents
+  pub said : List ℕ
+  pub met : IsMet counted said
+  pub sound : is_sound ≡ is_silent said
+  pub says : Appends faults new_faults said
+  pub adds : AddsCounted counted old new before after
+
+-- so are the parts of these roots, behind a trunk without parts
+pub record AreAdded (Finds : Findings) (folder : List ℕ) (roots : List Packed) (trunk : Contents) (whole : Collected) (is_sound : Bool) (before after faults new_faults : Option (List ℕ)) : Type 0 where
+  pub parts : List Contents
+  pub lines : List ℕ
+  pub met : AreMet Finds folder roots parts lines
+  pub trunk_is : whole.trunk ≡ trunk
+  pub whole_is : IsWhole whole parts
+  pub sound : is_sound ≡ is_silent lines
+  pub says : Appends faults new_faults lines
+  pub writes : (start : Option (List ℕ)) → before ≡ grown start (ledger_text trunk.root trunk.records)
+      → after ≡ grown start (ledger_text trunk.root (joined_with trunk.records parts))
+
+-- it is the whole of what a folder holds, and the one ledger of all stands behind what stood in its place
+pub record IsGathered (Finds : Findings) (folder : List ℕ) (whole : Collected) (is_sound : Bool) (before after faults new_faults : Option (List ℕ)) : Type 0 where
+  pub parts : List Contents
+  pub lines : List ℕ
+  pub holds : HoldsTree Finds folder whole.trunk parts lines
+  pub whole_is : IsWhole whole parts
+  pub sound : is_sound ≡ is_silent lines
+  pub says : Appends faults new_faults lines
+  pub writes : after ≡ grown before (ledger_text whole.trunk.root (joined_with whole.trunk.records parts))

@@ -1,0 +1,95 @@
+// `bb settle`: a ledger is gone on with until no table of its board is open.
+ghost use Rattle.std.specs.Prelude.{◌≡◌, ◌≢◌, ◌++◌, IfErr, IfSome, MatchResult, OnOk, OnErr, List, ℕ};
+ghost use Rattle.std.specs.Io.KnownBytes.{Appends};
+ghost use Rattle.ledger.specs.LedgerText.{IsLedgerOf, ReadsIn};
+ghost use Rattle.cmd_ledgers.specs.Retry.{AtSomeTime};
+ghost use Rattle.cmd_parts.specs.Settle.{EndsLedgerAt, EndsWhole, FailsCut, FailsReading, SettlesLedger, SettlesWhole, kept_part, settled_text};
+
+use crate::reading::load_held;
+use crate::settling::settle_board;
+use crate::tells::Tells;
+use cert::Decider;
+use cmd_ledgers::Opened;
+use cmd_options::Ended;
+use kind_evidence::NoMemory;
+use ledger::{Board, Left, Tally, kept_bytes_load};
+use std::alloc::Global;
+use std::io::{self, Read, Write};
+use text::append_number;
+use wire::LedgerOut;
+
+/// Cuts a ledger to the bytes that are kept of it, and settles its board: the first open table in text order is decided,
+/// and its record appended, until no table is open. Then it prints how many tables it settled, and how many holdouts
+/// there are. `held` reads what the ledger holds. What ends it early leaves in the ledger what was settled before.
+pub fn settle_ledger<F: Read + Drop, L: LedgerOut, D: Decider, P: Tells, W: Write>(
+    alloc: Global,
+    held: io::Result<Opened<F>>,
+    ledger: &mut L,
+    decider: &mut D,
+    progress: &mut P,
+    answers: &mut W,
+) -> Result<(), Ended>
+    ensures settles { OnOk result (MatchResult held
+        (λ file. SettlesLedger (AtSomeTime D D.answers) (F.remaining file.reader) file.length (L.text ledger.old) (L.text ledger.new) (W.contents answers.old) (W.contents answers.new))
+        (λ fault. ⊥)) }
+    ensures ended { IfErr result (λ e. MatchResult held
+        (λ file. EndsLedgerAt (AtSomeTime D D.answers) (L.failures ledger.old ≢ L.failures ledger.new) e (F.remaining file.reader) file.length (L.text ledger.old) (L.text ledger.new) (W.contents answers.old) (W.contents answers.new))
+        (λ fault. FailsReading e × (L.text ledger.new ≡ L.text ledger.old) × (W.contents answers.new ≡ W.contents answers.old))) }
+{
+    match load_held(alloc, held) {
+        Ok((mut board, left)) => {
+            settle_loaded(alloc, &mut board, &left, ledger, decider, progress, answers)
+        }
+        Err(ended) => Err(ended),
+    }
+}
+
+// The same from the board of the ledger, and what of it wasn't kept.
+fn settle_loaded<L: LedgerOut, D: Decider, P: Tells, W: Write>(
+    alloc: Global,
+    board: &mut Board,
+    left: &Left,
+    ledger: &mut L,
+    decider: &mut D,
+    progress: &mut P,
+    answers: &mut W,
+) -> Result<(), Ended>
+    ensures settled { OnOk result ((told : List ℕ) × SettlesWhole (AtSomeTime D D.answers) board.old left.now (L.text ledger.old) (L.text ledger.new) told
+        × Appends (W.contents answers.old) (W.contents answers.new) told) }
+    ensures step { OnOk result (IfSome (L.text ledger.old) (λ text. ReadsIn board.old.format board.old.root text board.old.records left.now) → IfSome (L.text ledger.new) (IsLedgerOf board.new)) }
+    ensures ended { IfErr result (λ e. EndsWhole (AtSomeTime D D.answers) (L.failures ledger.old ≢ L.failures ledger.new) e board.old left.now (L.text ledger.old) (L.text ledger.new) (W.contents answers.old) (W.contents answers.new)) }
+{
+    cut_off(left, ledger)?;
+    let count = settle_board(alloc, board, decider, ledger, progress)?;
+    let mut told = Vec::new(alloc);
+    append_settled(count, &board.tally(), &mut told)?;
+    answers.write_all(&told)?;
+    Ok(())
+}
+
+// Cuts off what wasn't kept of a ledger.
+pub(crate) fn cut_off<L: LedgerOut>(left: &Left, ledger: &mut L) -> Result<(), Ended>
+    ensures ok { OnOk result ((L.text ledger.new ≡ kept_part left.now (L.text ledger.old)) × (L.failures ledger.new ≡ L.failures ledger.old)) }
+    ensures err { IfErr result (λ e. FailsCut left.now e (L.text ledger.old) (L.text ledger.new)) }
+    ensures failed { OnErr result (L.failures ledger.old ≢ L.failures ledger.new) }
+{
+    let cut = match left {
+        Left::Nothing => Ok(()),
+        Left::From { kept, .. } => ledger.cut(*kept),
+    };
+    match cut {
+        Ok(()) => Ok(()),
+        Err(_) => Err(Ended::Ledger),
+    }
+}
+
+// Appends the line that says what was settled.
+fn append_settled(count: u64, tally: &Tally, out: &mut Vec<u8>) -> Result<(), NoMemory>
+    ensures { OnOk result (out.new.items ≡ out.old.items ++ settled_text count tally.now.holdouts) }
+{
+    out.extend_from_slice(b"settled ")?;
+    append_number(count, out)?;
+    out.extend_from_slice(b" holdouts ")?;
+    append_number(tally.holdouts, out)?;
+    out.extend_from_slice(b"\n")
+}

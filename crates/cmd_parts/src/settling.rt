@@ -1,0 +1,202 @@
+// Open tables are settled, and their records' lines appended to the ledger.
+ghost use Rattle.std.specs.Prelude.{◌≡◌, ◌≢◌, ◌≤◌, ◌<◌, ◌+◌, ◌^◌, ◌++◌, IfOk, IfErr, IfSome, IfNone, OnOk, OnErr, Err, filter, length};
+ghost use Rattle.machine_text.specs.Packed.{Packed};
+ghost use Rattle.cert.specs.Certified.{IsCertified};
+ghost use Rattle.cert.specs.Kinds.{recorded};
+ghost use Rattle.ledger.specs.Contents.{IsOpenOn};
+ghost use Rattle.ledger.specs.Held.{IsFit};
+ghost use Rattle.ledger.specs.Tally.{AreAll};
+ghost use Rattle.wire.specs.Device.{IsBegun, grown};
+ghost use Rattle.cmd_ledgers.specs.Retry.{AtSomeTime, StaysInStep, gained};
+ghost use Rattle.cmd_parts.specs.Settling.{ComesFirst, EndsAtOne, EndsSettling, IsOpenBelow, SettlesMany, SettlesOne, filled_count, with_last};
+ghost use Rattle.cmd_parts.specs.inside.{is_below};
+
+use crate::tells::Tells;
+use cert::{Decider, Record};
+use cmd_options::Ended;
+use kind_evidence::NoMemory;
+use ledger::{Board, Open, Taken};
+use machine_text::Table;
+use std::alloc::Global;
+use wire::{LedgerOut, append_all};
+
+/// Settles a board: while a table is open, asks the decider for the first in text order, puts the record that it
+/// answers on the board, a holdout's too, and appends its line to the ledger in the ledger's version. Answers how many
+/// tables it settled. What ends it early, refused memory or a ledger that failed, leaves what was settled before.
+pub fn settle_board<L: LedgerOut, D: Decider, P: Tells>(
+    alloc: Global,
+    board: &mut Board,
+    decider: &mut D,
+    ledger: &mut L,
+    progress: &mut P,
+) -> Result<u64, Ended>
+    ensures settled { IfOk result (λ k. SettlesMany (AtSomeTime D D.answers) ComesFirst k board.old (L.text ledger.old) board.new (L.text ledger.new)) }
+    ensures all { OnOk result ((t : Packed) → IsOpenOn board.new t → ⊥) }
+    ensures step { OnOk result (StaysInStep board.old (L.text ledger.old) board.new (L.text ledger.new)) }
+    ensures ended { IfErr result (λ e. EndsSettling (AtSomeTime D D.answers) ComesFirst e board.old (L.text ledger.old) board.new (L.text ledger.new)) }
+    ensures works { OnOk result (L.failures ledger.new ≡ L.failures ledger.old) }
+    ensures failed { result ≡ Err Ended.Ledger → L.failures ledger.old ≢ L.failures ledger.new }
+{
+    let before = record_count(board);
+    while let Some(t) = first_open(board) {
+        settle(alloc, board, decider, &t, ledger)?;
+        progress.tell(&board.tally());
+    }
+    Ok(record_count(board) - before)
+}
+
+/// Settles the open tables of a board that have fewer filled entries than so many, until it has none of them: a round
+/// asks the decider for each that there is, in text order, and puts its record on the board and its line into the
+/// ledger, as `settle_board` does; tables that become open by that come in the next round. Answers how many tables it
+/// settled. What ends it early leaves what was settled before.
+pub fn settle_below<L: LedgerOut, D: Decider, P: Tells>(
+    alloc: Global,
+    board: &mut Board,
+    limit: u64,
+    decider: &mut D,
+    ledger: &mut L,
+    progress: &mut P,
+) -> Result<u64, Ended>
+    ensures settled { IfOk result (λ k. SettlesMany (AtSomeTime D D.answers) (IsOpenBelow limit) k board.old (L.text ledger.old) board.new (L.text ledger.new)) }
+    ensures all { OnOk result ((t : Packed) → IsOpenOn board.new t → limit ≤ filled_count t) }
+    ensures step { OnOk result (StaysInStep board.old (L.text ledger.old) board.new (L.text ledger.new)) }
+    ensures ended { IfErr result (λ e. EndsSettling (AtSomeTime D D.answers) (IsOpenBelow limit) e board.old (L.text ledger.old) board.new (L.text ledger.new)) }
+    ensures works { OnOk result (L.failures ledger.new ≡ L.failures ledger.old) }
+    ensures failed { result ≡ Err Ended.Ledger → L.failures ledger.old ≢ L.failures ledger.new }
+{
+    let before = record_count(board);
+    let mut due = open_below(alloc, board, limit)?;
+    'rounds: while !due.is_empty() {
+        settle_all(alloc, board, limit, &due, decider, ledger, progress)?;
+        due = open_below(alloc, board, limit)?;
+    }
+    Ok(record_count(board) - before)
+}
+
+// Settles tables that are due.
+fn settle_all<L: LedgerOut, D: Decider, P: Tells>(
+    alloc: Global,
+    board: &mut Board,
+    limit: u64,
+    due: &[Table],
+    decider: &mut D,
+    ledger: &mut L,
+    progress: &mut P,
+) -> Result<(), Ended>
+    requires { AreAll (IsOpenBelow limit board.old) due.now }
+    ensures settled { OnOk result (SettlesMany (AtSomeTime D D.answers) (IsOpenBelow limit) (length due.now) board.old (L.text ledger.old) board.new (L.text ledger.new)) }
+    ensures records { OnOk result (length board.new.records ≡ length board.old.records + length due.now) }
+    ensures small { OnOk result (0 < length due.now → length board.new.records < 2 ^ 64) }
+    ensures step { OnOk result (StaysInStep board.old (L.text ledger.old) board.new (L.text ledger.new)) }
+    ensures ended { IfErr result (λ e. EndsSettling (AtSomeTime D D.answers) (IsOpenBelow limit) e board.old (L.text ledger.old) board.new (L.text ledger.new)) }
+    ensures works { OnOk result (L.failures ledger.new ≡ L.failures ledger.old) }
+    ensures failed { result ≡ Err Ended.Ledger → L.failures ledger.old ≢ L.failures ledger.new }
+{
+    for t in due {
+        settle(alloc, board, decider, t, ledger)?;
+        progress.tell(&board.tally());
+    }
+    Ok(())
+}
+
+// How many records a board has.
+fn record_count(board: &Board) -> u64
+    ensures { result ≡ length board.now.records }
+{
+    let tally = board.tally();
+    tally.nodes - tally.open_count
+}
+
+// The open tables with fewer filled entries than so many, in the order of their texts.
+pub(crate) fn open_below(alloc: Global, board: &Board, limit: u64) -> Result<Vec<Table>, NoMemory>
+    ensures { IfOk result (λ due. AreAll (IsOpenBelow limit board.now) due.items) }
+{
+    below(alloc, board.open(), limit)
+}
+
+// Those of some tables.
+fn below(alloc: Global, tables: Open<'_>, limit: u64) -> Result<Vec<Table>, NoMemory>
+    ensures { IfOk result (λ found. found.items ≡ filter (is_below limit) tables.entry) }
+{
+    let mut found = Vec::new(alloc);
+    for t in tables {
+        if filled_entries(t) < limit {
+            found.push(*t)?;
+        }
+    }
+    Ok(found)
+}
+
+// How many of a table's entries are filled.
+fn filled_entries(t: &Table) -> u64
+    ensures { result ≡ filled_count t.now }
+{
+    2 * u64::from(t.states()) - u64::from(t.undefined_count())
+}
+
+// The open table whose text comes first.
+fn first_open(board: &Board) -> Option<Table>
+    ensures some { IfSome result (ComesFirst board.now) }
+    ensures none { IfNone result ((t : Packed) → IsOpenOn board.now t → ⊥) }
+{
+    match board.open().next() {
+        Some(t) => Some(*t),
+        None => None,
+    }
+}
+
+// Settles an open table.
+fn settle<L: LedgerOut, D: Decider>(
+    alloc: Global,
+    board: &mut Board,
+    decider: &mut D,
+    t: &Table,
+    ledger: &mut L,
+) -> Result<(), Ended>
+    requires { IsOpenOn board.old t.now }
+    ensures ok { OnOk result (SettlesOne (AtSomeTime D D.answers) (λ b q. q ≡ t.now) board.old (L.text ledger.old) board.new (L.text ledger.new)) }
+    ensures step { OnOk result (StaysInStep board.old (L.text ledger.old) board.new (L.text ledger.new)) }
+    ensures ended { IfErr result (λ e. EndsAtOne (AtSomeTime D D.answers) (λ b q. q ≡ t.now) e board.old (L.text ledger.old) board.new (L.text ledger.new)) }
+    ensures works { OnOk result (L.failures ledger.new ≡ L.failures ledger.old) }
+    ensures failed { result ≡ Err Ended.Ledger → L.failures ledger.old ≢ L.failures ledger.new }
+{
+    // The proof needs that it is a board.
+    let _ = board.root();
+    let made = decider.decide(alloc, t)?;
+    // The parts by their names: the borrow checker's proof has to know of what the record is made.
+    let record = Record {
+        table: made.table,
+        certificate: made.certificate.lent(),
+    };
+    let mut line = Vec::new(alloc);
+    take(board, &record, &mut line)?;
+    append_line(ledger, &line)
+}
+
+// Puts a certified record of an open table on a board, and appends its line, with its score in version 2.
+fn take(board: &mut Board, r: &Record, line: &mut Vec<u8>) -> Result<(), NoMemory>
+    requires is_open { IsOpenOn board.old (recorded r.now).table }
+    requires certified { IsCertified (recorded r.now) }
+    ensures fit { OnOk result (IsFit board.old.root board.old.records (recorded r.now)) }
+    ensures ok { OnOk result (board.new ≡ with_last board.old (recorded r.now)) }
+    ensures line { OnOk result (line.new.items ≡ line.old.items ++ gained board.old.format (recorded r.now)) }
+    ensures err { OnErr result (board.new ≡ board.old) }
+{
+    match board.offer_certified_line(r, line) {
+        Ok(Taken::New) => Ok(()),
+        Ok(Taken::Known) | Ok(Taken::Settled) => unreachable!(),
+        // its table is open and it is certified, so it was memory
+        Err(_) => Err(NoMemory),
+    }
+}
+
+// Appends a line to a ledger.
+pub(crate) fn append_line<L: LedgerOut>(ledger: &mut L, line: &[u8]) -> Result<(), Ended>
+    ensures ok { OnOk result ((L.text ledger.new ≡ grown (L.text ledger.old) line.now) × (L.failures ledger.new ≡ L.failures ledger.old)) }
+    ensures err { IfErr result (λ e. (e ≡ Ended.Ledger) × (L.failures ledger.old ≢ L.failures ledger.new) × IsBegun (L.text ledger.old) line.now (L.text ledger.new)) }
+{
+    match append_all(ledger, line) {
+        Ok(()) => Ok(()),
+        Err(_) => Err(Ended::Ledger),
+    }
+}

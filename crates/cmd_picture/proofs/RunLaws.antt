@@ -1,0 +1,158 @@
+-- Runs of ones: what a row of runs draws when one more is put behind it.
+use Rattle.std.proofs.Common.{◌≡◌, ◌≢◌, ℕ, ℤ, ◌≤ℤ◌, ◌+◌, ◌<◌, ◌≤◌, nat_le, nat_lt, ◌&&◌, Bool, true, false, if◌then◌else◌, List, [], ◌∷◌, ◌++◌, ◌⊎◌, inl, inr, sym, ◌∙◌, ap, refl, arith}
+use Rattle.std.proofs.lemmas.Bool.{cases_lt}
+use Rattle.std.specs.Ordering.{int_cmp}
+use Rattle.std.specs.FinSet as set
+use Rattle.std.proofs.lemmas.Bool.Decides.{nat_tests}
+use Rattle.machine_text.specs.declared.transition.Sym.{Sym}
+use Rattle.machine_text.specs.declared.transition.Sym.TheVariants.{Zero, One}
+use Rattle.law_turing.specs.Tape.{cell_of}
+use Rattle.cmd_picture.specs.declared.ones.Run.{Run}
+use Rattle.cmd_picture.specs.declared.span.Span.{Span}
+use Rattle.cmd_picture.specs.declared.view.View.{View}
+use Rattle.cmd_picture.specs.View.{place}
+use Rattle.cmd_picture.specs.inside.{HasOnesIn}
+use Rattle.cmd_picture.specs.Runs.{drawn, AreApart}
+
+-- no runs are apart, and draw nothing
+pub apart_none : (end : ℕ) → AreApart 0 [] end
+unfolding AreApart
+apart_none end = omega arith
+
+pub drawn_none : (i : ℕ) → drawn [] i ≡ Zero
+unfolding drawn
+drawn_none i = refl
+
+-- runs that are apart end behind where they begin
+apart_order : (from : ℕ) (runs : List Run) (end : ℕ) → AreApart from runs end → from ≤ end
+unfolding AreApart
+apart_order from [] end apart = apart
+apart_order from (r ∷ runs) end apart =
+    let order = apart_order (r.first + r.count + 1) runs end apart.2 in
+    let low = apart.0 in
+    omega arith
+
+-- a later end is an end too
+pub apart_later : (from : ℕ) (runs : List Run) (end later : ℕ) → end ≤ later → AreApart from runs end → AreApart from runs later
+unfolding AreApart
+apart_later from [] end later more apart = omega (arith, apart)
+apart_later from (r ∷ runs) end later more apart =
+    (apart.0, apart.1, apart_later (r.first + r.count + 1) runs end later more apart.2)
+
+-- one run more, behind the end
+pub apart_push : (from : ℕ) (runs : List Run) (end : ℕ) (r : Run) → AreApart from runs end → end ≤ r.first → 0 < r.count
+    → AreApart from (runs ++ r ∷ []) (r.first + r.count + 1)
+unfolding AreApart
+apart_push from [] end r apart behind some = (omega (arith, apart), some, omega arith)
+apart_push from (q ∷ runs) end r apart behind some =
+    (apart.0, apart.1, apart_push (q.first + q.count + 1) runs end r apart.2 behind some)
+
+-- whether a run has a column
+covered : (r : Run) (i : ℕ) → r.first ≤ i → i < r.first + r.count → (nat_le r.first i && nat_lt i (r.first + r.count)) ≡ true
+covered r i low high = grind (arith, nat_tests)
+
+before : (r : Run) (i : ℕ) → i < r.first → (nat_le r.first i && nat_lt i (r.first + r.count)) ≡ false
+before r i low = grind (arith, nat_tests)
+
+behind : (r : Run) (i : ℕ) → r.first + r.count ≤ i → (nat_le r.first i && nat_lt i (r.first + r.count)) ≡ false
+behind r i high = grind (arith, nat_tests)
+
+-- what the first of some runs draws
+drawn_in : (r : Run) (runs : List Run) (i : ℕ) → r.first ≤ i → i < r.first + r.count → drawn (r ∷ runs) i ≡ One
+unfolding drawn
+drawn_in r runs i low high = ap (λ (b : Bool). if b then One else drawn runs i) (covered r i low high)
+
+drawn_before : (r : Run) (runs : List Run) (i : ℕ) → i < r.first → drawn (r ∷ runs) i ≡ drawn runs i
+unfolding drawn
+drawn_before r runs i low = ap (λ (b : Bool). if b then One else drawn runs i) (before r i low)
+
+drawn_behind : (r : Run) (runs : List Run) (i : ℕ) → r.first + r.count ≤ i → drawn (r ∷ runs) i ≡ drawn runs i
+unfolding drawn
+drawn_behind r runs i high = ap (λ (b : Bool). if b then One else drawn runs i) (behind r i high)
+
+drawn_same : (r : Run) (runs others : List Run) (i : ℕ) → drawn runs i ≡ drawn others i → drawn (r ∷ runs) i ≡ drawn (r ∷ others) i
+unfolding drawn
+drawn_same r runs others i same = ap (λ (s : Sym). if nat_le r.first i && nat_lt i (r.first + r.count) then One else s) same
+
+-- beyond the end nothing is drawn
+pub drawn_beyond : (from : ℕ) (runs : List Run) (end i : ℕ) → AreApart from runs end → end ≤ i + 1 → drawn runs i ≡ Zero
+unfolding AreApart
+drawn_beyond from [] end i apart late = drawn_none i
+drawn_beyond from (r ∷ runs) end i apart late =
+    let order = apart_order (r.first + r.count + 1) runs end apart.2 in
+    let past : r.first + r.count ≤ i = omega arith in
+    drawn_behind r runs i past ∙ drawn_beyond (r.first + r.count + 1) runs end i apart.2 late
+
+-- a run that is put behind others draws its own columns, and leaves those before it
+drawn_push_before : (runs : List Run) (r : Run) (i : ℕ) → i < r.first → drawn (runs ++ r ∷ []) i ≡ drawn runs i
+drawn_push_before [] r i low = drawn_before r [] i low
+drawn_push_before (q ∷ runs) r i low = drawn_same q (runs ++ r ∷ []) runs i (drawn_push_before runs r i low)
+
+drawn_push_in : (runs : List Run) (r : Run) (i : ℕ) → r.first ≤ i → i < r.first + r.count → drawn (runs ++ r ∷ []) i ≡ One
+drawn_push_in [] r i low high = drawn_in r [] i low high
+drawn_push_in (q ∷ runs) r i low high =
+    elim (cases_lt i q.first) [
+      | inl less ↦ drawn_before q (runs ++ r ∷ []) i less ∙ drawn_push_in runs r i low high
+      | inr more ↦ elim (cases_lt i (q.first + q.count)) [
+        | inl inside ↦ drawn_in q (runs ++ r ∷ []) i more inside
+        | inr past ↦ drawn_behind q (runs ++ r ∷ []) i past ∙ drawn_push_in runs r i low high
+      ]
+    ]
+
+-- runs that draw the symbols of a row up to a column draw more of them with the next run
+pub drawn_push : (runs : List Run) (column after later : ℕ) (f : ℕ → Sym) (r : Run) → AreApart 0 runs column → r.first ≡ column → r.first + r.count ≡ after → 0 < r.count
+    → ((i : ℕ) → i < column → drawn runs i ≡ f i) → ((i : ℕ) → column ≤ i → i < after → f i ≡ One) → ((i : ℕ) → after ≤ i → i < later → f i ≡ Zero)
+    → (i : ℕ) → i < later → drawn (runs ++ r ∷ []) i ≡ f i
+drawn_push runs column after later f r apart first next some old dark blank i low =
+    elim (cases_lt i column) [
+      | inl less ↦ drawn_push_before runs r i (omega (arith, less)) ∙ old i less
+      | inr more ↦ elim (cases_lt i after) [
+        | inl inside ↦ drawn_push_in runs r i (omega (arith, more)) (omega (arith, inside)) ∙ sym (dark i more inside)
+        | inr past ↦
+            let pushed = apart_push 0 runs column r apart (omega arith) some in
+            drawn_beyond 0 (runs ++ r ∷ []) (r.first + r.count + 1) i pushed (omega (arith, past)) ∙ sym (blank i past low)
+      ]
+    ]
+
+-- a symbol that isn't one is the other
+pub not_one : (s : Sym) → s ≢ One → s ≡ Zero
+not_one Zero other = refl
+not_one One other = absurd (other refl)
+
+pub not_zero : (s : Sym) → s ≢ Zero → s ≡ One
+not_zero Zero other = absurd (other refl)
+not_zero One other = refl
+
+-- a column that holds a one, and the first one after it that doesn't
+pub past_ones : (f : ℕ → Sym) (column after end : ℕ) → column < end → column ≤ after → f column ≢ Zero → (after < end → f after ≢ One) → column < after
+past_ones f column after end low onward here other =
+    elim (cases_lt column after) [
+      | inl less ↦ less
+      | inr more ↦
+          let same : after ≡ column = omega arith in
+          absurd (here (ap f (sym same) ∙ not_one (f after) (other (omega arith))))
+    ]
+
+-- a column that holds none, and the first one after it that isn't blank
+pub past_blanks : (f : ℕ → Sym) (after later end : ℕ) → after ≤ later → later < end → (after < end → f after ≢ One) → f later ≢ Zero → after < later
+past_blanks f after later end onward low other here =
+    elim (cases_lt after later) [
+      | inl less ↦ less
+      | inr more ↦
+          let same : later ≡ after = omega arith in
+          absurd (here (ap f same ∙ not_one (f after) (other (omega arith))))
+    ]
+
+-- the cells of a view that are outside of a span which has all ones are blank
+pub outside : (v : View) (cells : Span) (ones : set.FinSet int_cmp) (first end : ℕ) → HasOnesIn cells ones
+    → ((i : ℕ) → i < v.width → cells.first ≤ℤ place v i → place v i ≤ℤ cells.last → (first ≤ i) × (i < end))
+    → (i : ℕ) → i < v.width → (i < first) ⊎ (end ≤ i) → cell_of ones (place v i) ≡ Zero
+outside v cells ones first end has all i low out =
+    not_one (cell_of ones (place v i)) (λ one.
+    let at : (first ≤ i) × (i < end) = all i low (has.low (place v i) one) (has.high (place v i) one) in
+    let from = at.0 in
+    let to = at.1 in
+    elim out [
+      | inl less ↦ omega arith
+      | inr more ↦ omega arith
+    ])

@@ -1,0 +1,119 @@
+// The commands with their arguments and options, by clap's builder.
+use crate::commands::{COMMANDS, CommandWords, SEARCH};
+use crate::help::{STATUSES, VERSION};
+use crate::words::{Argument, Flag, Number, Text};
+use clap::builder::ValueParser;
+use clap::{Arg, ArgAction, Command};
+use cmd_options::NoMemory;
+use std::alloc::Global;
+
+/// The program with its commands.
+pub(crate) fn program<'a>(alloc: Global) -> Result<Command<'a>, NoMemory> {
+    with_commands(alloc, empty_program(alloc), &COMMANDS)
+}
+
+fn empty_program<'a>(alloc: Global) -> Command<'a> {
+    Command::new(alloc, "bb")
+        .version(VERSION)
+        .about("A verified tool for the busy beaver problem.")
+        .after_help(STATUSES)
+        .subcommand_required(true)
+        .arg_required_else_help(true)
+}
+
+fn with_commands<'a>(
+    alloc: Global,
+    program: Command<'a>,
+    commands: &[CommandWords],
+) -> Result<Command<'a>, NoMemory> {
+    let mut program = program;
+    for words in commands {
+        program = with_command(alloc, program, words)?;
+    }
+    Ok(program)
+}
+
+fn with_command<'a>(
+    alloc: Global,
+    program: Command<'a>,
+    words: &CommandWords,
+) -> Result<Command<'a>, NoMemory> {
+    program.subcommand(command(alloc, words)?)
+}
+
+fn command<'a>(alloc: Global, words: &CommandWords) -> Result<Command<'a>, NoMemory> {
+    let command = with_arguments(alloc, empty_command(alloc, words), words.arguments)?;
+    if words.searches {
+        with_arguments(alloc, command, &SEARCH)
+    } else {
+        Ok(command)
+    }
+}
+
+fn empty_command<'a>(alloc: Global, words: &CommandWords) -> Command<'a> {
+    Command::new(alloc, words.name)
+        .about(words.about)
+        .after_help(words.after_help)
+}
+
+fn with_arguments<'a>(
+    alloc: Global,
+    command: Command<'a>,
+    arguments: &[Argument],
+) -> Result<Command<'a>, NoMemory> {
+    let mut command = command;
+    for argument in arguments {
+        command = with_argument(alloc, command, argument)?;
+    }
+    Ok(command)
+}
+
+fn with_argument<'a>(
+    alloc: Global,
+    command: Command<'a>,
+    argument: &Argument,
+) -> Result<Command<'a>, NoMemory> {
+    command.arg(built(alloc, argument)?)
+}
+
+fn built<'a>(alloc: Global, argument: &Argument) -> Result<Arg<'a>, NoMemory> {
+    match argument {
+        Argument::Number(number) => Ok(number_arg(alloc, number)),
+        Argument::Text(text) => Ok(text_arg(alloc, text)),
+        Argument::Flag(flag) => flag_arg(alloc, flag),
+    }
+}
+
+fn number_arg<'a>(alloc: Global, number: &Number) -> Arg<'a> {
+    let arg = valued(alloc, number.name, number.value)
+        .value_parser(ValueParser::unsigned(number.least, number.most))
+        .help(number.help);
+    match number.default {
+        Some(default) => arg.default_value(default),
+        None => arg,
+    }
+}
+
+fn text_arg<'a>(alloc: Global, text: &Text) -> Arg<'a> {
+    valued(alloc, text.name, text.value).help(text.help)
+}
+
+// An option, where help has a name for its value; else an argument.
+fn valued<'a>(alloc: Global, name: &'static str, value: Option<&'static str>) -> Arg<'a> {
+    match value {
+        Some(value) => option(alloc, name).value_name(value),
+        None => Arg::new(alloc, name).required(true),
+    }
+}
+
+fn option<'a>(alloc: Global, name: &'static str) -> Arg<'a> {
+    Arg::new(alloc, name).long(name)
+}
+
+fn flag_arg<'a>(alloc: Global, flag: &Flag) -> Result<Arg<'a>, NoMemory> {
+    option(alloc, flag.name)
+        .action(ArgAction::SetTrue)
+        .help(flag.help)
+        .requires_all(flag.needs)?
+        .conflicts_with_all(flag.excludes)
+}

@@ -1,0 +1,92 @@
+// Why a command line asks for nothing, and what is said then.
+ghost use Rattle.cmd_words.specs.Unread.{EndsUnread};
+
+use clap::Error;
+use clap::error::ErrorKind;
+use cmd_options::{Ended, NoMemory, Outcome};
+use std::alloc::{AllocFailed, Global};
+use std::io::{self, Write};
+use thiserror::Error as Fault;
+
+/// Why there are no options: clap refused the words, also for a path where a number belongs, or was asked for help or the
+/// version, a word isn't text, clap let through a command or a number that it should have refused, or memory was refused.
+#[derive(Debug, Drop, Fault)]
+pub enum LineFault {
+    #[error("{0}")]
+    Refused(Error),
+    #[error("{0}\nA number belongs there, and that is a path: a ledger is named as FILE where the command has one, else behind \
+--ledger.\n")]
+    PathForNumber(Error),
+    #[error("error: a word of the command line isn't UTF-8\n")]
+    NotText,
+    #[error("error: no such command\n")]
+    NoSuchCommand,
+    #[error("error: a number is out of its range\n")]
+    OutOfRange,
+    #[error("refused memory\n")]
+    NoMemory,
+}
+
+impl LineFault {
+    /// Says it, help and the version on `answers`, all else on `faults`, and answers how the command line
+    /// ended: `Accepted` after help or the version, `BadLine` after another fault, `NoMemory` or `Failed`
+    /// where memory is refused or the stream fails.
+    pub fn told<W: Write, E: Write>(self, alloc: Global, answers: &mut W, faults: &mut E) -> Outcome
+        ensures { EndsUnread self result }
+    {
+        let is_answer = match &self {
+            LineFault::Refused(refused) => !refused.use_stderr(),
+            LineFault::PathForNumber(_)
+            | LineFault::NotText
+            | LineFault::NoSuchCommand
+            | LineFault::OutOfRange => false,
+            LineFault::NoMemory => return Ended::NoMemory.told(faults),
+        };
+        let Ok(text) = format!(in alloc; "{self}") else {
+            return Ended::NoMemory.told(faults);
+        };
+        let written = if is_answer {
+            answers.write_all(text.as_bytes())
+        } else {
+            faults.write_all(text.as_bytes())
+        };
+        match written {
+            Ok(()) if is_answer => Outcome::Accepted,
+            Ok(()) => Outcome::BadLine,
+            Err(_) => Ended::Stream.told(faults),
+        }
+    }
+}
+
+impl From<Error> for LineFault {
+    fn from(fault: Error) -> LineFault {
+        if fault.kind() == ErrorKind::OutOfMemory {
+            LineFault::NoMemory
+        } else {
+            LineFault::Refused(fault)
+        }
+    }
+}
+
+// Reading the words fails where one isn't text, or for memory.
+impl From<io::Error> for LineFault {
+    fn from(fault: io::Error) -> LineFault {
+        if fault.kind() == io::ErrorKind::OutOfMemory {
+            LineFault::NoMemory
+        } else {
+            LineFault::NotText
+        }
+    }
+}
+
+impl From<NoMemory> for LineFault {
+    fn from(_: NoMemory) -> LineFault {
+        LineFault::NoMemory
+    }
+}
+
+impl<T: Drop> From<AllocFailed<T>> for LineFault {
+    fn from(_: AllocFailed<T>) -> LineFault {
+        LineFault::NoMemory
+    }
+}

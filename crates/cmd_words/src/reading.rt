@@ -1,0 +1,283 @@
+// From what clap made of the words to the options.
+ghost use Rattle.std.specs.Prelude.{◌≡◌, ◌≤◌, IfOk, IfSome};
+ghost use Rattle.cmd_options.specs.Ranges.{AreWithinRanges, IsSettling, IsWithinRange};
+
+use crate::arguments::{
+    CARRIED, DAMAGED, DEPTH, DRAWN, ERA, FAR, FILE, FILLED, FIRST, FOLDER, FROM, GRAM, HARD,
+    JOINED, JSON, LEDGER, LOSE, MENDED, MERGED, OLD, PICTURES, PROGRESS, READ, ROUNDS, ROWS,
+    SECOND, STATES, STEPS, SYNC, WHY, WIDTH, WORKERS,
+};
+use crate::grammar::program;
+use crate::line_fault::LineFault;
+use crate::words::Number;
+use clap::error::ErrorKind;
+use clap::{ArgMatches, Error};
+use cmd_options::{
+    Beginning, Carrying, Drawing, Durability, Joining, LedgerFile, Mending, Merging, NoMemory,
+    Options, Search, Settling, Splitting,
+};
+use std::alloc::Global;
+
+/// What the words of a command line ask for, the program's name first. Where there are options, each number
+/// is within its range.
+pub fn options<'a>(alloc: Global, words: &'a [&'a str]) -> Result<Options<'a>, LineFault>
+    ensures { IfOk result AreWithinRanges }
+{
+    let matches = match program(alloc)?.try_get_matches_from(words) {
+        Ok(matches) => matches,
+        Err(fault) => return Err(refused(alloc, fault, words)),
+    };
+    match matches.subcommand() {
+        Some((name, command)) => asked(name, command),
+        None => Err(LineFault::NoSuchCommand),
+    }
+}
+
+// What the command of a name asks for. A function of its own: the proof of so many ways out of one that owns clap's matches
+// would be dear.
+fn asked<'a>(name: &str, command: &ArgMatches<'a>) -> Result<Options<'a>, LineFault>
+    ensures { IfOk result AreWithinRanges }
+{
+    match name {
+        "check" => Ok(Options::Check),
+        "decide" => Ok(Options::Decide(search_of(command)?)),
+        "coord" => coord_options(command),
+        "run" => run_options(command),
+        "loop" => loop_options(command),
+        "retry" => retry_options(command),
+        "merge" => Ok(merge_options(command)),
+        "carry" => Ok(carry_options(command)),
+        "mend" => Ok(mend_options(command)),
+        "split" => split_options(command),
+        "settle" => settle_options(command),
+        "join" => Ok(join_options(command)),
+        "draw" => draw_options(command),
+        "page" => Ok(page_options(command)),
+        "report" => Ok(report_options(command)),
+        _ => Err(LineFault::NoSuchCommand),
+    }
+}
+
+// What clap refuses; named where it is a path in the place of a number.
+fn refused(alloc: Global, fault: Error, words: &[&str]) -> LineFault {
+    if fault.kind() != ErrorKind::ValueValidation {
+        return LineFault::from(fault);
+    }
+    match has_path(alloc, &fault, words) {
+        Ok(true) => LineFault::PathForNumber(fault),
+        Ok(false) => LineFault::from(fault),
+        Err(NoMemory) => LineFault::NoMemory,
+    }
+}
+
+// Whether a word of which clap speaks is a path.
+fn has_path(alloc: Global, fault: &Error, words: &[&str]) -> Result<bool, NoMemory> {
+    let said = format!(in alloc; "{fault}")?;
+    for word in words {
+        if word.contains(['/', '.']) && quotes(alloc, &said, word)? {
+            return Ok(true);
+        }
+    }
+    Ok(false)
+}
+
+// Whether the text has the word in quotes.
+fn quotes(alloc: Global, text: &str, word: &str) -> Result<bool, NoMemory> {
+    let quoted = format!(in alloc; "'{word}'")?;
+    Ok(text.contains(quoted.as_str()))
+}
+
+// How far to search. clap has refused what is out of range.
+fn search_of(matches: &ArgMatches<'_>) -> Result<Search, LineFault>
+    ensures { IfOk result IsWithinRange }
+{
+    Ok(Search {
+        steps: number_of(matches, STEPS)?,
+        depth: number_of(matches, DEPTH)?,
+        gram: number_of(matches, GRAM)?,
+        far: number_of(matches, FAR)?,
+        hard: matches.get_flag(HARD.name),
+    })
+}
+
+// The number of an option.
+fn number_of(matches: &ArgMatches<'_>, number: Number) -> Result<u64, LineFault>
+    ensures { IfOk result (λ given. (number.least ≤ given) × (given ≤ number.most)) }
+{
+    match matches.get_one::<u64>(number.name) {
+        Some(given) if number.least <= given && given <= number.most => Ok(given),
+        _ => Err(LineFault::OutOfRange),
+    }
+}
+
+// The number of an option that may be left out.
+fn number_if_given(matches: &ArgMatches<'_>, number: Number) -> Result<Option<u64>, LineFault>
+    ensures { IfOk result (λ given. IfSome given (λ given. (number.least ≤ given) × (given ≤ number.most))) }
+{
+    if matches.get_str(number.name).is_none() {
+        return Ok(None);
+    }
+    Ok(Some(number_of(matches, number)?))
+}
+
+// The ledger that is kept, if one is.
+fn ledger_of<'a>(matches: &ArgMatches<'a>) -> Option<LedgerFile<'a>> {
+    let path = matches.get_str(LEDGER.name)?;
+    Some(written_of(matches, path))
+}
+
+// The ledger at a path, as it is to be written.
+fn written_of<'a>(matches: &ArgMatches<'a>, path: &'a str) -> LedgerFile<'a> {
+    let durability = if matches.get_flag(SYNC.name) {
+        Durability::Disk
+    } else {
+        Durability::System
+    };
+    LedgerFile { path, durability }
+}
+
+fn coord_options<'a>(coord: &ArgMatches<'a>) -> Result<Options<'a>, LineFault>
+    ensures { IfOk result AreWithinRanges }
+{
+    let beginning = Beginning {
+        states: number_of(coord, STATES)? as u8,
+        era: number_of(coord, ERA)?,
+    };
+    Ok(Options::Coord {
+        beginning,
+        ledger: ledger_of(coord),
+    })
+}
+
+fn run_options<'a>(run: &ArgMatches<'a>) -> Result<Options<'a>, LineFault>
+    ensures { IfOk result AreWithinRanges }
+{
+    let lose = number_if_given(run, LOSE)?;
+    Ok(Options::Run {
+        settling: settling_of(run, lose)?,
+        ledger: ledger_of(run),
+    })
+}
+
+fn loop_options<'a>(over_sockets: &ArgMatches<'a>) -> Result<Options<'a>, LineFault>
+    ensures { IfOk result AreWithinRanges }
+{
+    Ok(Options::Loop {
+        settling: settling_of(over_sockets, None)?,
+        ledger: ledger_of(over_sockets),
+    })
+}
+
+// How a tree is settled, where so many frames are lost.
+fn settling_of(matches: &ArgMatches<'_>, lose: Option<u64>) -> Result<Settling, LineFault>
+    requires { IfSome lose (λ every. (2 ≤ every) × (every ≤ 1000)) }
+    ensures { IfOk result (λ settling. IsSettling settling × (settling.lose ≡ lose)) }
+{
+    Ok(Settling {
+        states: number_of(matches, STATES)? as u8,
+        workers: number_of(matches, WORKERS)? as u8,
+        lose,
+        rounds: number_of(matches, ROUNDS)?,
+        search: search_of(matches)?,
+        json: matches.get_flag(JSON.name),
+        progress: matches.get_flag(PROGRESS.name),
+    })
+}
+
+fn retry_options<'a>(retry: &ArgMatches<'a>) -> Result<Options<'a>, LineFault>
+    ensures { IfOk result AreWithinRanges }
+{
+    Ok(Options::Retry {
+        file: written_of(retry, retry.get_str(FILE.name).unwrap_or_default()),
+        search: search_of(retry)?,
+    })
+}
+
+fn merge_options<'a>(merge: &ArgMatches<'a>) -> Options<'a>
+    ensures { AreWithinRanges result }
+{
+    Options::Merge(Merging {
+        first: merge.get_str(FIRST.name).unwrap_or_default(),
+        second: merge.get_str(SECOND.name).unwrap_or_default(),
+        out: merge.get_str(MERGED.name).unwrap_or_default(),
+    })
+}
+
+fn carry_options<'a>(carry: &ArgMatches<'a>) -> Options<'a>
+    ensures { AreWithinRanges result }
+{
+    Options::Carry(Carrying {
+        ledger: carry.get_str(OLD.name).unwrap_or_default(),
+        out: carry.get_str(CARRIED.name).unwrap_or_default(),
+    })
+}
+
+fn mend_options<'a>(mend: &ArgMatches<'a>) -> Options<'a>
+    ensures { AreWithinRanges result }
+{
+    Options::Mend(Mending {
+        ledger: mend.get_str(DAMAGED.name).unwrap_or_default(),
+        out: mend.get_str(MENDED.name).unwrap_or_default(),
+    })
+}
+
+fn split_options<'a>(split: &ArgMatches<'a>) -> Result<Options<'a>, LineFault>
+    ensures { IfOk result AreWithinRanges }
+{
+    Ok(Options::Split(Splitting {
+        states: number_of(split, STATES)? as u8,
+        folder: split.get_str(FOLDER.name).unwrap_or_default(),
+        filled: number_of(split, FILLED)? as u8,
+        search: search_of(split)?,
+    }))
+}
+
+fn settle_options<'a>(settle: &ArgMatches<'a>) -> Result<Options<'a>, LineFault>
+    ensures { IfOk result AreWithinRanges }
+{
+    Ok(Options::Settle {
+        file: written_of(settle, settle.get_str(FILE.name).unwrap_or_default()),
+        search: search_of(settle)?,
+        progress: settle.get_flag(PROGRESS.name),
+    })
+}
+
+fn join_options<'a>(join: &ArgMatches<'a>) -> Options<'a>
+    ensures { AreWithinRanges result }
+{
+    Options::Join(Joining {
+        folder: join.get_str(FOLDER.name).unwrap_or_default(),
+        out: join.get_str(JOINED.name),
+        json: join.get_flag(JSON.name),
+    })
+}
+
+fn draw_options<'a>(draw: &ArgMatches<'a>) -> Result<Options<'a>, LineFault>
+    ensures { IfOk result AreWithinRanges }
+{
+    Ok(Options::Draw(Drawing {
+        from: number_of(draw, FROM)?,
+        steps: number_if_given(draw, DRAWN)?,
+        rows: number_of(draw, ROWS)?,
+        width: number_of(draw, WIDTH)?,
+        out: draw.get_str(PICTURES.name),
+    }))
+}
+
+fn page_options<'a>(page: &ArgMatches<'a>) -> Options<'a>
+    ensures { AreWithinRanges result }
+{
+    Options::Page {
+        file: page.get_str(READ.name).unwrap_or_default(),
+    }
+}
+
+fn report_options<'a>(report: &ArgMatches<'a>) -> Options<'a>
+    ensures { AreWithinRanges result }
+{
+    Options::Report {
+        file: report.get_str(READ.name).unwrap_or_default(),
+        json: report.get_flag(JSON.name),
+        why: report.get_flag(WHY.name),
+    }
+}

@@ -1,9 +1,0 @@
-use Rattle.coordinator.proofs.Finals.{coordinator_keeps}
-use Rattle.coordinator.proofs.InStep.{on_step}
-use Rattle.coordinator.proofs.coordinator.CoordinatorNode.on.Goals as goal
-
-pub returns-clause-final_kept : goal.returns-clause-final_kept
-returns-clause-final_kept c = coordinator_keeps _ _ _ _ c.handle.ensures
-
-pub returns-clause-step : goal.returns-clause-step
-returns-clause-step c = on_step _ _ _ _ c.knows_board.ensures c.handle.ensures

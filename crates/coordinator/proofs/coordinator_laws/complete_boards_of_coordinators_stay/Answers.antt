@@ -1,5 +1,0 @@
-use Rattle.coordinator.proofs.Finals.{coordinator_keeps}
-use Rattle.coordinator.proofs.coordinator_laws.complete_boards_of_coordinators_stay.Goals as goal
-
-pub returns : goal.returns
-returns c old new e answer gives = coordinator_keeps old e answer new gives

@@ -1,3 +1,0 @@
--- What only the code of this crate needs.
-pub mod Begun
-pub mod Answering

@@ -1,0 +1,30 @@
+use Rattle.std.proofs.Common.{ℕ, ◌++◌, List, map, take, ◌∙◌, ap}
+use Rattle.cert.specs.Claim.{Recorded}
+use Rattle.cert.specs.Kinds.{recorded}
+use Rattle.ledger.specs.Records.{same_table}
+use Rattle.wire.specs.Grammar.{frames_of}
+use Rattle.wire.specs.Message.{Rec}
+use Rattle.lease_core.specs.Limits.{tick_record_limit}
+use Rattle.lease_core.specs.WorkerState.{unacknowledged}
+use Rattle.lease_core.proofs.WorkerDue.{due_from}
+use Rattle.lease_core.proofs.WorkerFrames.{sends_one, passes_one}
+use Rattle.lease_core.proofs.worker_answers.frames_due.Goals as goal
+
+pub loop-r-init : goal.loop-r-init
+loop-r-init c =
+    let tables = c.args.acknowledged.now.keys in
+    ap (λ (frames : List ℕ). frames ++ frames_of (map Rec (take tick_record_limit (unacknowledged tables c.into_iter-r-iterator.result)))) c.new-frames.ensures.items
+    ∙ ap (λ (rs : List Recorded). frames_of (map Rec (take tick_record_limit rs)))
+    (ap (unacknowledged tables) (c.into_iter-r-iterator.ensures.into_iter_gives ∙ c.records_from-r-items.ensures) ∙ due_from tables c.args.board.now.records c.args.from c.requires)
+
+pub loop-r-preserved-then-not-contains : goal.loop-r-preserved-then-not-contains
+unfolding same_table
+loop-r-preserved-then-not-contains c =
+    sends_one c.args.acknowledged.now.keys c.loop-r.frames.items c.send.new.frames.items (recorded c.in-Some.r) c.loop-r.r-iterator c.next.new.self c.loop-r.room _ c.contains.result
+    c.in-Some.ensures.steps c.contains.ensures c.if-not-contains.true c.if-room-eq0.false c.in_ok-send.ensures c.loop-r.invariant
+
+pub loop-r-preserved : goal.loop-r-preserved
+unfolding same_table
+loop-r-preserved c =
+    passes_one c.args.acknowledged.now.keys c.loop-r.frames.items (recorded c.in-Some.r) c.loop-r.r-iterator c.next.new.self c.loop-r.room _ c.contains.result
+    c.in-Some.ensures.steps c.contains.ensures c.if-not-contains.false c.loop-r.invariant

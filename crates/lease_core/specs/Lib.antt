@@ -1,0 +1,15 @@
+pub mod Faults
+pub mod Says
+pub mod Kept
+pub mod Finals
+pub mod CoordinatorRules
+pub mod Starts
+pub mod CoordinatorLaws
+pub mod CoordinatorFinals
+pub mod Limits
+pub mod WorkerState
+pub mod WorkerRules
+pub mod WorkerStart
+pub mod WorkerLaws
+pub mod WorkerFinals
+pub mod inside

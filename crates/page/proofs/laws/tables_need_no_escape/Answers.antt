@@ -1,5 +1,0 @@
-use Rattle.page.proofs.TableTexts.{table_stays}
-use Rattle.page.proofs.laws.tables_need_no_escape.Goals as goal
-
-pub returns : goal.returns
-returns c = table_stays

@@ -1,6 +1,0 @@
-use Rattle.ledger_commands.proofs.Reports.{on_ok}
-use Rattle.ledger_commands.proofs.Passing.{passes_on}
-use Rattle.page.proofs.writing.pass_link.Goals as goal
-
-pub returns : goal.returns
-returns g c = on_ok c.pass-5.result (λ last. passes_on (passes_on (passes_on (passes_on c.in_ok-pass.ensures c.in_ok-pass-2.ensures) c.in_ok-pass-3.ensures) c.in_ok-pass-4.ensures) last) c.pass-5.ensures

@@ -1,2 +1,0 @@
-pub mod Finals
-pub mod Refusals

@@ -1,4 +1,0 @@
-pub mod Faults
-pub mod Says
-pub mod Kept
-pub mod Finals

@@ -1,6 +1,0 @@
-use Rattle.tree.proofs.Parents.{one_parent}
-use Rattle.tree.proofs.trees.one_parent.Goals as goal
-
--- by the pair on which the root halts, and so on below
-pub returns : goal.returns
-returns c = one_parent

@@ -1,0 +1,220 @@
+// The host of a case: its files, locks, sockets and clock.
+use crate::device::{Call, failed};
+use crate::files::{Page, Sheet, sheet_at, synced};
+use crate::room::Room;
+use crate::sockets::Socket;
+use cmd_ledgers::{FileLedger, Host};
+use cmd_nodes::Sockets;
+use cmd_options::{Ended, LedgerFile};
+use cmd_parts::PartsHost;
+use std::io::{self, ErrorKind};
+use std::time::{Clock, Duration};
+use wire::LedgerOut;
+
+/// What a command finds, as a host.
+#[derive(Clone, Copy, Drop)]
+pub struct CaseHost<'a> {
+    pub room: &'a Room<'a>,
+}
+
+impl<'a> Host for CaseHost<'a> {
+    type File = Page<'a>;
+
+    fn open(&self, path: &str) -> io::Result<Page<'a>> {
+        let Ok(disk) = self.room.disk.try_borrow() else {
+            return Err(failed());
+        };
+        match disk.file_at(path) {
+            Some(place) => {
+                self.room.note("open", path)?;
+                Ok(Page {
+                    room: self.room,
+                    path: path.to_string(self.room.alloc)?,
+                    place,
+                    at: 0,
+                })
+            }
+            None => self
+                .room
+                .noted(path, Err(io::Error::from(ErrorKind::NotFound))),
+        }
+    }
+
+    fn length(&self, file: &Page<'a>) -> io::Result<u64> {
+        let Ok(disk) = self.room.disk.try_borrow() else {
+            return Err(failed());
+        };
+        match disk.text_of(file.place) {
+            Some(text) => Ok(text.len() as u64),
+            None => Err(failed()),
+        }
+    }
+
+    // What nothing can be put in the place of is no plain file.
+    fn extent(&self, file: &Page<'a>) -> io::Result<u64> {
+        self.length(file)
+    }
+
+    fn is_same(&self, one: &str, other: &str) -> bool {
+        match self.room.disk.try_borrow() {
+            Ok(disk) => {
+                let place = disk.file_at(one);
+                place.is_some() && place == disk.file_at(other)
+            }
+            Err(_) => false,
+        }
+    }
+
+    fn end_of(&self, path: &str) -> io::Result<String> {
+        let Ok(disk) = self.room.disk.try_borrow() else {
+            return Err(failed());
+        };
+        match disk.end_of(path) {
+            Some(end) => Ok(end.to_string(self.room.alloc)?),
+            None => Err(io::Error::from(ErrorKind::InvalidInput)),
+        }
+    }
+
+    type Ledger = FileLedger<Sheet<'a>>;
+
+    // A process that has ended opens nothing.
+    fn ledger(&self, file: &LedgerFile<'_>) -> io::Result<FileLedger<Sheet<'a>>> {
+        if self.room.files.is_over() {
+            return Err(failed());
+        }
+        if file.path == self.room.conditions.sealed.as_str() {
+            let denied = io::Error::from(ErrorKind::PermissionDenied);
+            return self.room.noted(file.path, Err(denied));
+        }
+        let sheet = sheet_at(self.room.alloc, self.room, file.path)?;
+        Ok(FileLedger::of(sheet, file.durability))
+    }
+
+    fn over(&self, path: &str) -> io::Result<FileLedger<Sheet<'a>>> {
+        let mut ledger = self.ledger(&LedgerFile::at(path))?;
+        match ledger.cut(0) {
+            Ok(()) => Ok(ledger),
+            Err(_) => Err(failed()),
+        }
+    }
+
+    fn anew(&self, path: &str) -> io::Result<FileLedger<Sheet<'a>>> {
+        let Ok(mut disk) = self.room.disk.try_borrow_mut() else {
+            return Err(failed());
+        };
+        if disk.remove(path) {
+            self.room.note("remove", path)?;
+        }
+        drop(disk);
+        self.ledger(&LedgerFile::at(path))
+    }
+
+    fn is_replaceable(&self, path: &str) -> bool {
+        match self.room.disk.try_borrow() {
+            Ok(disk) => path != self.room.conditions.fixed.as_str() && !disk.is_link(path),
+            Err(_) => false,
+        }
+    }
+
+    fn sync(&self, path: &str) -> io::Result<()> {
+        synced(self.room, path)
+    }
+
+    fn rename(&self, from: &str, to: &str) -> io::Result<()> {
+        match self.room.files.call() {
+            Call::Succeeds => renamed(self.room, from, to),
+            Call::Fails(share) => {
+                if share.of(1) == 1 {
+                    renamed(self.room, from, to)?;
+                }
+                Err(failed())
+            }
+        }
+    }
+
+    fn tells_terminal(&self) -> bool {
+        self.room.conditions.is_terminal
+    }
+
+    fn tell_cut(&self, path: &str, count: u64, kept_at: &str) {
+        if self.tells_terminal() {
+            let _ = self.room.note_bytes("told of the cut", path, count);
+            let _ = self.room.note("kept at", kept_at);
+        }
+    }
+
+    fn remember(&self, name: &str, fault: &io::Error) {
+        self.room.remember(name, fault);
+    }
+
+    fn reason(&self) -> Option<String> {
+        self.room.reason()
+    }
+}
+
+fn renamed(room: &Room<'_>, from: &str, to: &str) -> io::Result<()> {
+    let Ok(mut disk) = room.disk.try_borrow_mut() else {
+        return Err(failed());
+    };
+    if !disk.rename(from, to)? {
+        return Err(io::Error::from(ErrorKind::NotFound));
+    }
+    let text = format!(in room.alloc; "{from} {to}")?;
+    room.note("put", &text)
+}
+
+impl PartsHost for CaseHost<'_> {
+    type Lock = ();
+
+    ghost locks = { λ host path locked. Unit {0} };
+
+    fn lock(&self, path: &str) -> Result<Option<()>, Ended> {
+        if path == self.room.conditions.locked.as_str() {
+            Ok(None)
+        } else {
+            self.room.note("lock", path)?;
+            Ok(Some(()))
+        }
+    }
+
+    // Any path may stand in a folder.
+    fn make_folder(&self, _path: &str) -> io::Result<()> {
+        Ok(())
+    }
+}
+
+impl Clock for CaseHost<'_> {
+    fn monotonic(&self) -> io::Result<Duration> {
+        let now = self
+            .room
+            .now
+            .get()
+            .saturating_add(self.room.conditions.clock);
+        self.room.now.set(now);
+        Ok(Duration::from_millis(now))
+    }
+
+    fn since_1970(&self) -> io::Result<Duration> {
+        Err(io::Error::from(ErrorKind::Unsupported))
+    }
+}
+
+impl<'a> Sockets for CaseHost<'a> {
+    type Listener = ();
+
+    type Stream = Socket<'a>;
+
+    fn listen(&self) -> io::Result<()> {
+        self.room.sockets.check()
+    }
+
+    fn connect(&self, _listener: &()) -> io::Result<Socket<'a>> {
+        self.room.sockets.check()?;
+        Ok(Socket { room: self.room })
+    }
+
+    fn accept(&self, _listener: &()) -> io::Result<Socket<'a>> {
+        self.room.sockets.check()?;
+        Ok(Socket { room: self.room })
+    }
+}

@@ -1,0 +1,129 @@
+// What a command finds: its files, and the devices of one step.
+use crate::device::{Device, Share, failed};
+use crate::disk::Disk;
+use std::alloc::{AllocError as NoMemory, Global};
+use std::cell::{Cell, RefCell};
+use std::io;
+use try_text::{Conditions, Limits};
+
+/// In which call files fail in place of what the conditions say, and how much of it is done.
+#[derive(Clone, Copy, Drop)]
+pub struct Failing {
+    pub files: Option<(u64, Share)>,
+    pub sockets: Option<u64>,
+}
+
+impl Failing {
+    /// As the conditions say.
+    pub const NOTHING: Failing = Failing {
+        files: None,
+        sockets: None,
+    };
+}
+
+/// What a command finds in place of the system.
+#[derive(Drop)]
+pub struct Room<'a> {
+    pub(crate) alloc: Global,
+    pub(crate) disk: &'a RefCell<Disk>,
+    pub(crate) conditions: &'a Conditions,
+    pub(crate) files: Device,
+    pub(crate) reading: Device,
+    pub(crate) sockets: Device,
+    // What was written to a socket, and not read yet.
+    pub(crate) under_way: RefCell<Vec<u8>>,
+    pub(crate) now: Cell<u64>,
+    // How many bytes of answers were flushed.
+    pub(crate) flushed: Cell<usize>,
+    trace: RefCell<Vec<u8>>,
+    // What failed last, and why.
+    reason: RefCell<Option<String>>,
+}
+
+impl<'a> Room<'a> {
+    pub fn new(
+        alloc: Global,
+        disk: &'a RefCell<Disk>,
+        conditions: &'a Conditions,
+        failing: Failing,
+    ) -> Room<'a> {
+        let (calls, share) = failing
+            .files
+            .unwrap_or((conditions.files.calls, Share::Nothing));
+        let files = Limits {
+            calls,
+            ..conditions.files
+        };
+        let sockets = Limits {
+            calls: failing.sockets.unwrap_or(conditions.sockets.calls),
+            ..conditions.sockets
+        };
+        Room {
+            alloc,
+            disk,
+            conditions,
+            files: Device::new(files, share),
+            reading: Device::new(conditions.reading, Share::Nothing),
+            sockets: Device::new(sockets, Share::Nothing),
+            under_way: RefCell::new(Vec::new(alloc)),
+            now: Cell::new(0),
+            flushed: Cell::new(0),
+            trace: RefCell::new(Vec::new(alloc)),
+            reason: RefCell::new(None),
+        }
+    }
+
+    /// Whether files or sockets have failed.
+    pub fn has_failed(&self) -> bool {
+        self.files.is_over() || self.sockets.is_over()
+    }
+
+    // Writes down a call with what it was made of.
+    pub(crate) fn note(&self, call: &str, path: &str) -> io::Result<()> {
+        let Ok(mut trace) = self.trace.try_borrow_mut() else {
+            return Err(failed());
+        };
+        trace.extend_from_slice(call.as_bytes())?;
+        trace.push(b' ')?;
+        trace.extend_from_slice(path.as_bytes())?;
+        trace.push(b'\n')?;
+        Ok(())
+    }
+
+    // Writes down a call with a path and a number of bytes.
+    pub(crate) fn note_bytes(&self, call: &str, path: &str, count: u64) -> io::Result<()> {
+        let text = format!(in self.alloc; "{path} {count}")?;
+        self.note(call, &text)
+    }
+
+    // Remembers what of a name failed.
+    pub(crate) fn noted<T>(&self, name: &str, done: io::Result<T>) -> io::Result<T> {
+        if let Err(fault) = &done {
+            self.remember(name, fault);
+        }
+        done
+    }
+
+    // Remembers what failed.
+    pub(crate) fn remember(&self, name: &str, fault: &io::Error) {
+        let told = format!(in self.alloc; "{name}: {fault}\n").ok();
+        if let Ok(mut reason) = self.reason.try_borrow_mut() {
+            *reason = told;
+        }
+    }
+
+    pub(crate) fn reason(&self) -> Option<String> {
+        match self.reason.try_borrow_mut() {
+            Ok(mut reason) => reason.take(),
+            Err(_) => None,
+        }
+    }
+
+    /// The calls that were made, a line each.
+    pub fn trace(&self) -> Result<Vec<u8>, NoMemory> {
+        match self.trace.try_borrow() {
+            Ok(trace) => trace.as_slice().to_vec(self.alloc),
+            Err(_) => Err(NoMemory),
+        }
+    }
+}

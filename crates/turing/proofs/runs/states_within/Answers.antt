@@ -1,5 +1,0 @@
-use Rattle.turing.proofs.Heads.{states_within}
-use Rattle.turing.proofs.runs.states_within.Goals as goal
-
-pub returns : goal.returns
-returns c = states_within

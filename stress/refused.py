@@ -86,7 +86,6 @@ COMMANDS = [
     (["carry", "first", "out"], b"", {"first": FIRST}, "out"),
     (["carry", "first", "first"], b"", {"first": FIRST}, "first"),
     (["mend", "damaged", "out"], b"", {"damaged": DAMAGED}, "out"),
-    (["mend", "damaged", "damaged"], b"", {"damaged": DAMAGED}, "damaged"),
     (["mend", "-", "out"], DAMAGED, {"out": ONE}, "out"),
     (["retry", "damaged"], b"", {"damaged": DAMAGED}, "damaged"),
     (["run", "1", "--ledger", "damaged"], b"", {"damaged": DAMAGED}, "damaged"),

@@ -290,8 +290,24 @@ def reasons():
         sys.exit(f"losses: settle at a terminal: {shown!r}, {ran!r}")
 
 
+def by_links():
+    """`./bb` runs through links, and says which program it is; where dist/ is stale that would build one, and isn't tried."""
+    if subprocess.run([os.path.join(TOP, "dist", "refresh"), "--check"], capture_output=True, check=False).returncode != 0:
+        return
+    room = Room({"a": WHOLE})
+    script = os.path.join(TOP, "bb")
+    os.symlink(script, room.at("bb"))
+    os.symlink("bb", room.at("twice"))
+    where = os.path.realpath(os.path.join(TOP, "dist", "bb-linux-x86_64"))
+    for name in (script, room.at("bb"), room.at("twice")):
+        Room.tried += 2
+        shown = [subprocess.run([name, *words], capture_output=True, cwd=room.folder, check=False).stdout for words in (["--where"], ["report", "a"])]
+        if os.path.realpath(shown[0].decode().strip()) != where or shown[1] != REPORT:
+            sys.exit(f"losses: {name}: {shown!r}")
+
+
 def main():
-    for play in (over_what_is_read, beside_out, through_links, devices, pipes, cuts, without_leave, reasons):
+    for play in (over_what_is_read, beside_out, through_links, devices, pipes, cuts, without_leave, reasons, by_links):
         play()
     for folder in Room.folders:
         shutil.rmtree(folder, ignore_errors=True)

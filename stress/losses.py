@@ -238,6 +238,11 @@ def without_leave():
         for name in ("a", "b", "out"):
             os.chown(room.at(name), NOBODY, NOBODY)
     os.chmod(room.folder, 0o555)
+    try:
+        subprocess.run(["true"], check=True, **{**as_nobody, "executable": None})
+    except PermissionError:
+        print("losses: nobody else can be here, and a folder that can't be written wasn't tried")
+        return
     for words in (["run", "1", "--ledger", "a"], ["loop", "1", "--ledger", "a"], ["coord", "1", "--ledger", "a"], ["settle", "a"], ["retry", "a"]):
         room.run(words, 4, faults=b"refused 604\n", given=b"REC " + LEFT, **as_nobody)
     for words in (["merge", "b", "b", "out"], ["carry", "b", "out"], ["mend", "a", "out"], ["mend", "a", "a"]):
@@ -263,6 +268,12 @@ def told_at_terminal(room, words):
 
 def reasons():
     """A terminal is told which file failed and why, and what was cut; a script isn't."""
+    try:
+        for end in pty.openpty():
+            os.close(end)
+    except OSError:
+        print("losses: there is no pseudo-terminal here, and what a terminal is told wasn't tried")
+        return
     room = Room({"a": SPOILT, "b": WHOLE})
     os.symlink("round", room.at("round"))
     for words, told in (

@@ -11,7 +11,7 @@ import subprocess
 import sys
 import tempfile
 
-from records import PROGRAM, damaged
+from records import PROGRAM, damaged, none_differs
 from tree import HEADERS, in_version, reported
 
 
@@ -70,32 +70,42 @@ def taken_cut(path):
         return None
 
 
-def main():
+def play(name, usual, once):
+    """Compares `usual` times, or as often as the words of the command say, `once(rng, number, folder, counts)`, which
+    answers what differs."""
     seed = int(sys.argv[1]) if len(sys.argv) > 1 else 1
-    count = int(sys.argv[2]) if len(sys.argv) > 2 else 1_000
+    times = int(sys.argv[2]) if len(sys.argv) > 2 else usual
     rng = random.Random(seed)
-    ledgers = [whole(1), whole(2), whole(2), whole(3)[:400]]
     counts = collections.Counter()
     with tempfile.TemporaryDirectory() as folder:
-        path = os.path.join(folder, "ledger")
-        for _ in range(count):
-            lines = rng.choice(ledgers)
-            text = damage(rng, older(lines) if rng.random() < 0.4 else lines)
-            report, fault = reported(text)
-            if fault is None:
-                counts["too long to judge here"] += 1
-                continue
-            with open(path, "wb") as file:
-                file.write(text)
-            run = subprocess.run([PROGRAM, "report", path], capture_output=True, check=False)
-            if (run.stdout.decode(), run.stderr.decode()) != (report or "", fault):
-                print(f"ledgers: seed {seed}: {text!r}: {run.stdout.decode()!r}, {run.stderr.decode()!r}, and not {report!r}, {fault!r}")
+        for number in range(times):
+            differs = once(rng, number, folder, counts)
+            if differs:
+                print(f"{name}: seed {seed}: {differs}")
                 return 1
-            counts[fault.strip() or ("left a line" if "\nleft " in report else "kept whole")] += 1
-    for kind, number in sorted(counts.items()):
-        print(f"{number:9} {kind}")
-    print(f"ledgers: {count} of seed {seed}, none differs")
-    return 0
+    return none_differs(counts, f"{name}: {times} of seed {seed}, none differs")
+
+
+def compare_report(rng, ledgers, folder, counts):
+    lines = rng.choice(ledgers)
+    text = damage(rng, older(lines) if rng.random() < 0.4 else lines)
+    report, fault = reported(text)
+    if fault is None:
+        counts["too long to judge here"] += 1
+        return None
+    path = os.path.join(folder, "ledger")
+    with open(path, "wb") as file:
+        file.write(text)
+    run = subprocess.run([PROGRAM, "report", path], capture_output=True, check=False)
+    counts[fault.strip() or ("left a line" if "\nleft " in report else "kept whole")] += 1
+    if (run.stdout.decode(), run.stderr.decode()) == (report or "", fault):
+        return None
+    return f"{text!r}: {run.stdout.decode()!r}, {run.stderr.decode()!r}, and not {report!r}, {fault!r}"
+
+
+def main():
+    ledgers = [whole(1), whole(2), whole(2), whole(3)[:400]]
+    return play("ledgers", 1_000, lambda rng, _number, folder, counts: compare_report(rng, ledgers, folder, counts))
 
 
 if __name__ == "__main__":

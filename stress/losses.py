@@ -250,11 +250,11 @@ def without_leave():
     os.chmod(room.folder, 0o755)
 
 
-def told_at_terminal(room, words):
-    """What a terminal shows where standard error is one."""
+def told_at_terminal(room, words, before=()):
+    """What a terminal shows where standard error is one; `before` are words that come before the program."""
     Room.tried += 1
     reader, writer = pty.openpty()
-    ran = subprocess.run([PROGRAM, *words], stdin=subprocess.DEVNULL, stdout=subprocess.PIPE, stderr=writer, cwd=room.folder, check=False)
+    ran = subprocess.run([*before, PROGRAM, *words], stdin=subprocess.DEVNULL, stdout=subprocess.PIPE, stderr=writer, cwd=room.folder, check=False)
     os.close(writer)
     told = b""
     try:
@@ -274,8 +274,9 @@ def reasons():
     except OSError:
         print("losses: there is no pseudo-terminal here, and what a terminal is told wasn't tried")
         return
-    room = Room({"a": SPOILT, "b": WHOLE})
+    room = Room({"a": SPOILT, "b": WHOLE, "c": SPOILT})
     os.symlink("round", room.at("round"))
+    os.link(room.at("c"), room.at("c.cut"))
     for words, told in (
         (["merge", "b", "absent", "c"], b"refused 605\nabsent: No such file or directory (os error 2)\n"),
         (["report", "absent"], b"refused 605\nabsent: No such file or directory (os error 2)\n"),
@@ -284,6 +285,7 @@ def reasons():
         (["carry", "b", "no/folder"], b"refused 604\nno/folder.new: No such file or directory (os error 2)\n"),
         (["run", "1", "--ledger", "no/folder"], b"refused 604\nno/folder: No such file or directory (os error 2)\n"),
         (["retry", "."], b"refused 604\n.: Is a directory (os error 21)\n"),
+        (["retry", "c"], b"refused 604\nc.cut: invalid input parameter\n"),
     ):
         ran, shown = told_at_terminal(room, words)
         if shown != told or ran.returncode != 4 or ran.stdout != b"":
@@ -299,6 +301,22 @@ def reasons():
     ran, shown = told_at_terminal(room, ["settle", "a"])
     if ran.stdout != b"settled 2 holdouts 0\n" or b"a.cut" not in shown or str(len(CUT)).encode() not in shown or shown.count(b"\n") != 1:
         sys.exit(f"losses: settle at a terminal: {shown!r}, {ran!r}")
+
+
+def without_network():
+    """A terminal is told that a link couldn't be made, and not of the ledger."""
+    alone = ("unshare", "-n")
+    try:
+        subprocess.run([*alone, "true"], capture_output=True, check=True)
+        for end in pty.openpty():
+            os.close(end)
+    except (OSError, subprocess.CalledProcessError):
+        print("losses: there is no network to be without here, or no pseudo-terminal, and that wasn't tried")
+        return
+    for words in (["loop", "1"], ["loop", "1", "--ledger", "new"]):
+        ran, shown = told_at_terminal(Room({}), words, alone)
+        if not shown.startswith(b"refused 603\n127.0.0.1: ") or shown.count(b"\n") != 2 or ran.returncode != 4:
+            sys.exit(f"losses: {words} without a network: {shown!r}, {ran!r}")
 
 
 def by_links():
@@ -318,7 +336,7 @@ def by_links():
 
 
 def main():
-    for play in (over_what_is_read, beside_out, through_links, devices, pipes, cuts, without_leave, reasons, by_links):
+    for play in (over_what_is_read, beside_out, through_links, devices, pipes, cuts, without_leave, reasons, without_network, by_links):
         play()
     for folder in Room.folders:
         shutil.rmtree(folder, ignore_errors=True)

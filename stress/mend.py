@@ -4,14 +4,11 @@ input; and that a command that cuts a damaged ledger loses none of the tables th
 
 stress/mend.py [SEED [TIMES]]: prints how many of each end were compared, and the first that differs, and then ends with 1.
 """
-import collections
 import os
-import random
 import subprocess
 import sys
-import tempfile
 
-from ledgers import damage, older, taken_cut, whole
+from ledgers import damage, older, play, taken_cut, whole
 from merges import undecided, written
 from records import PROGRAM
 from tree import Loaded
@@ -88,23 +85,14 @@ def compare_cut(text, folder, counts):
 
 
 def main():
-    seed = int(sys.argv[1]) if len(sys.argv) > 1 else 1
-    times = int(sys.argv[2]) if len(sys.argv) > 2 else 500
-    rng = random.Random(seed)
     ledgers = [whole(1), whole(2), whole(2), whole(3)[:300]]
-    counts = collections.Counter()
-    with tempfile.TemporaryDirectory() as folder:
-        for _ in range(times):
-            lines = rng.choice(ledgers)
-            text = damage(rng, undecided(rng, older(lines) if rng.random() < 0.2 else lines))
-            differs = compare_mend(rng, text, folder, counts) or compare_cut(text, folder, counts)
-            if differs:
-                print(f"mend: seed {seed}: {differs}")
-                return 1
-    for kind, count in sorted(counts.items()):
-        print(f"{count:9} {kind}")
-    print(f"mend: {times} of seed {seed}, none differs")
-    return 0
+
+    def once(rng, _number, folder, counts):
+        lines = rng.choice(ledgers)
+        text = damage(rng, undecided(rng, older(lines) if rng.random() < 0.2 else lines))
+        return compare_mend(rng, text, folder, counts) or compare_cut(text, folder, counts)
+
+    return play("mend", 500, once)
 
 
 if __name__ == "__main__":

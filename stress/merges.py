@@ -4,14 +4,11 @@
 stress/merges.py [SEED [TIMES]]: prints how many merges and retries of each end were compared, and the first that differs,
 and then ends with 1.
 """
-import collections
 import os
-import random
 import subprocess
 import sys
-import tempfile
 
-from ledgers import cut_off, damage, older, taken_cut, whole
+from ledgers import cut_off, damage, older, play, taken_cut, whole
 from oracle import answer, printed
 from records import PROGRAM
 from tree import HEADER, Loaded
@@ -109,21 +106,12 @@ def compare_retry(rng, ledgers, folder, counts):
 
 
 def main():
-    seed = int(sys.argv[1]) if len(sys.argv) > 1 else 1
-    times = int(sys.argv[2]) if len(sys.argv) > 2 else 500
-    rng = random.Random(seed)
     ledgers = [whole(1), whole(2), whole(2), whole(3)[:300]]
-    counts = collections.Counter()
-    with tempfile.TemporaryDirectory() as folder:
-        for _ in range(times):
-            differs = compare_merge(rng, ledgers, folder, counts) or compare_retry(rng, ledgers, folder, counts)
-            if differs:
-                print(f"merges: seed {seed}: {differs}")
-                return 1
-    for kind, count in sorted(counts.items()):
-        print(f"{count:9} {kind}")
-    print(f"merges: {times} of seed {seed}, none differs")
-    return 0
+
+    def once(rng, _number, folder, counts):
+        return compare_merge(rng, ledgers, folder, counts) or compare_retry(rng, ledgers, folder, counts)
+
+    return play("merges", 500, once)
 
 
 if __name__ == "__main__":

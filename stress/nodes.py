@@ -13,7 +13,7 @@ import sys
 import tempfile
 
 from oracle import Refused, number, printed, read_table
-from records import PROGRAM, damaged
+from records import PROGRAM, damaged, none_differs
 from tree import Board, HEADER, in_version
 
 MOST_LEASES = 4_096
@@ -187,10 +187,7 @@ def main():
                     return 1
                 counts += more
                 left -= 1
-    for kind, count in sorted(counts.items()):
-        print(f"{count:9} {kind}")
-    print(f"nodes: {sum(counts.values())} frames of seed {seed}, none is answered otherwise")
-    return 0
+    return none_differs(counts, f"nodes: {sum(counts.values())} frames of seed {seed}, none is answered otherwise")
 
 
 def records_of(states):

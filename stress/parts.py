@@ -4,15 +4,12 @@ against stress/tree.py.
 
 stress/parts.py [SEED [TIMES]]: prints how many of each end were compared, and the first that differs, and then ends with 1.
 """
-import collections
 import os
-import random
 import shutil
 import subprocess
 import sys
-import tempfile
 
-from ledgers import cut_off, damage, older, taken_cut, whole
+from ledgers import cut_off, damage, older, play, taken_cut, whole
 from merges import undecided, written
 from oracle import answer, printed, read_table
 from records import PROGRAM
@@ -192,25 +189,17 @@ def compare_split(rng, states, folder, counts):
 
 
 def main():
-    seed = int(sys.argv[1]) if len(sys.argv) > 1 else 1
-    times = int(sys.argv[2]) if len(sys.argv) > 2 else 300
-    rng = random.Random(seed)
     ledgers = [whole(1), whole(2), whole(2), whole(3)[:300]]
-    counts = collections.Counter()
-    with tempfile.TemporaryDirectory() as top:
+
+    def once(rng, number, top, counts):
         folder = os.path.join(top, "tree")
-        for number in range(times):
-            texts = lay(rng, rng.choice(ledgers), folder)
-            differs = compare_join(texts, folder, counts) or compare_settle(rng, texts, folder, counts) or compare_join(texts, folder, counts)
-            if not differs and number % 20 == 0:
-                differs = compare_split(rng, rng.choice([1, 2]), folder, counts)
-            if differs:
-                print(f"parts: seed {seed}: {differs}")
-                return 1
-    for kind, count in sorted(counts.items()):
-        print(f"{count:9} {kind}")
-    print(f"parts: {times} of seed {seed}, none differs")
-    return 0
+        texts = lay(rng, rng.choice(ledgers), folder)
+        differs = compare_join(texts, folder, counts) or compare_settle(rng, texts, folder, counts) or compare_join(texts, folder, counts)
+        if not differs and number % 20 == 0:
+            differs = compare_split(rng, rng.choice([1, 2]), folder, counts)
+        return differs
+
+    return play("parts", 300, once)
 
 
 if __name__ == "__main__":

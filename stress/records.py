@@ -75,6 +75,14 @@ def damaged(rng, line, others):
     return line.replace(b"\n", b"")
 
 
+def none_differs(counts, said):
+    """Says how many of each kind were compared, and that none differs."""
+    for kind, count in sorted(counts.items()):
+        print(f"{count:9} {kind}")
+    print(said)
+    return 0
+
+
 def main():
     seed = int(sys.argv[1]) if len(sys.argv) > 1 else 1
     batches = int(sys.argv[2]) if len(sys.argv) > 2 else 10
@@ -105,10 +113,7 @@ def main():
                 return 1
             else:
                 counts[" ".join(due.split(" ")[:2]) if due.startswith("refused") else due.split(" ")[1]] += 1
-    for kind, count in sorted(counts.items()):
-        print(f"{count:9} {kind}")
-    print(f"records: {batches * LINES} damaged lines of seed {seed}, none differs")
-    return 0
+    return none_differs(counts, f"records: {batches * LINES} damaged lines of seed {seed}, none differs")
 
 
 if __name__ == "__main__":

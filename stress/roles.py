@@ -14,7 +14,7 @@ import sys
 
 from nodes import Coordinator, frame, records_of
 from oracle import Refused, number, printed, read_table
-from records import damaged
+from records import damaged, none_differs
 from tree import Board, HEADER, is_in_order
 
 TOP = os.path.dirname(os.path.dirname(os.path.abspath(__file__)))
@@ -216,10 +216,7 @@ def main():
         if differs:
             print(f"roles: seed {seed}: {node.name!r}: {differs}")
             return 1
-    for kind, count in sorted(counts.items()):
-        print(f"{count:9} {kind}")
-    print(f"roles: {sum(counts.values())} events of seed {seed}, none is answered otherwise")
-    return 0
+    return none_differs(counts, f"roles: {sum(counts.values())} events of seed {seed}, none is answered otherwise")
 
 
 if __name__ == "__main__":

@@ -1,6 +1,7 @@
 // The files, the clock and the sockets of the system.
 use crate::failures::Failures;
 use crate::named_file::NamedFile;
+use crate::named_socket::{LOOPBACK, NamedSocket};
 use cmd_ledgers::{FileLedger, Host};
 use cmd_nodes::Sockets;
 use cmd_options::{Durability, Ended, LedgerFile};
@@ -37,6 +38,13 @@ impl<'a> System<'a> {
         NamedFile {
             file,
             path: path.to_string(self.rt.alloc()).ok(),
+            failures: self.failures,
+        }
+    }
+
+    fn named_socket(&self, stream: TcpStream) -> NamedSocket<'a> {
+        NamedSocket {
+            stream,
             failures: self.failures,
         }
     }
@@ -251,22 +259,34 @@ impl<'a> Clock for System<'a> {
 impl<'a> Sockets for System<'a> {
     type Listener = TcpListener;
 
-    type Stream = TcpStream;
+    type Stream = NamedSocket<'a>;
 
     fn listen(&self) -> io::Result<TcpListener> {
-        TcpListener::bind(self.rt, "127.0.0.1:0")
+        self.noted(LOOPBACK, TcpListener::bind(self.rt, "127.0.0.1:0"))
     }
 
-    // What is written goes out at once: the pieces of a link aren't held back until the last is acknowledged.
-    fn connect(&self, listener: &TcpListener) -> io::Result<TcpStream> {
-        let stream = TcpStream::connect(self.rt, listener.local_addr()?)?;
-        stream.set_nodelay(true)?;
-        Ok(stream)
+    fn connect(&self, listener: &TcpListener) -> io::Result<NamedSocket<'a>> {
+        let stream = self.noted(LOOPBACK, connected(self.rt, listener))?;
+        Ok(self.named_socket(stream))
     }
 
-    fn accept(&self, listener: &TcpListener) -> io::Result<TcpStream> {
-        let (stream, _) = listener.accept()?;
-        stream.set_nodelay(true)?;
-        Ok(stream)
+    fn accept(&self, listener: &TcpListener) -> io::Result<NamedSocket<'a>> {
+        let stream = self.noted(LOOPBACK, accepted(listener))?;
+        Ok(self.named_socket(stream))
     }
+}
+
+// The end that asks for the link. What is written goes out at once: the pieces of a link aren't held back until the last is
+// acknowledged.
+fn connected(rt: &HostRuntime, listener: &TcpListener) -> io::Result<TcpStream> {
+    let stream = TcpStream::connect(rt, listener.local_addr()?)?;
+    stream.set_nodelay(true)?;
+    Ok(stream)
+}
+
+// The end that is asked.
+fn accepted(listener: &TcpListener) -> io::Result<TcpStream> {
+    let (stream, _) = listener.accept()?;
+    stream.set_nodelay(true)?;
+    Ok(stream)
 }

@@ -21,24 +21,33 @@ pub(crate) fn keep_cut<H: Host>(host: &H, path: &str, len: u64) -> io::Result<()
     if !has_line_behind(host, path, len)? {
         return Ok(());
     }
-    let kept_at = cut_path(path)?;
+    let Some(kept_at) = cut_path(path) else {
+        return Err(unfit(host, path));
+    };
     if host.is_same(path, &kept_at) {
         // It would be cut with the ledger.
-        return Err(io::Error::from(ErrorKind::InvalidInput));
+        return Err(unfit(host, &kept_at));
     }
     let count = copy_behind(host, path, len, &kept_at)?;
     host.tell_cut(path, count, &kept_at);
     Ok(())
 }
 
-// The path of the file in which what is cut off a ledger is kept.
-fn cut_path(path: &str) -> io::Result<ArrayString<MAX_PATH_BYTES>> {
+// The path of the file in which what is cut off a ledger is kept; none where it is too long.
+fn cut_path(path: &str) -> Option<ArrayString<MAX_PATH_BYTES>> {
     let mut kept_at = ArrayString::new();
     if kept_at.try_push_str(path).is_ok() && kept_at.try_push_str(CUT_SUFFIX).is_ok() {
-        Ok(kept_at)
+        Some(kept_at)
     } else {
-        Err(io::Error::from(ErrorKind::InvalidInput))
+        None
     }
+}
+
+// What fails where nothing can be kept at a path, which is remembered.
+fn unfit<H: Host>(host: &H, path: &str) -> io::Error {
+    let fault = io::Error::from(ErrorKind::InvalidInput);
+    host.remember(path, &fault);
+    fault
 }
 
 // Whether a line ends behind the first bytes of a file, which need not be there.

@@ -8,7 +8,7 @@ use crate::ledger_changes::{append_to, cut_to};
 use cmd_options::{Ended, Outcome};
 use ledger::{Board, Left};
 use std::alloc::Global;
-use std::io;
+use std::io::{self, ErrorKind};
 use wire::LedgerOut;
 
 // What is put behind the path of a ledger to name the file in which it is made.
@@ -85,6 +85,7 @@ fn new_name<H: Host>(alloc: Global, host: &H, end: &str, read: &[&str]) -> Resul
         }
         made.push_str(NEW_SUFFIX)?;
     }
+    host.remember(end, &io::Error::from(ErrorKind::AlreadyExists));
     Err(Ended::Ledger)
 }
 

@@ -1,5 +1,5 @@
 -- What is kept of the lines of a damaged ledger.
-use Rattle.std.specs.Prelude.{◌≡◌, ℕ, ◌+◌, List, [], ◌∷◌, length, Option, Result, Ok, Err}
+use Rattle.std.specs.Prelude.{◌≡◌, ◌⊎◌, ℕ, ◌+◌, List, [], ◌∷◌, length, Option, Result, Ok, Err}
 use Rattle.machine_text.specs.Packed.{Packed}
 use Rattle.cert.specs.Claim.{Recorded}
 use Rattle.cert.specs.Grammar.{record_of}
@@ -9,8 +9,12 @@ use Rattle.ledger.specs.LedgerText.{HasHeader}
 use Rattle.ledger.specs.Lists.{AreKept, held}
 use Rattle.ledger.specs.Tally.{IsTally}
 use Rattle.ledger.specs.declared.tally.Tally.{Tally}
+use Rattle.cmd_options.specs.declared.ended.Ended.TheVariants.{Ledger as LedgerFails, NoMemory as WantsMemory}
+use Rattle.cmd_options.specs.declared.stopped.Stopped.{Stopped}
+use Rattle.cmd_options.specs.declared.stopped.Stopped.TheVariants.{Ended as EndedBy}
 use Rattle.cmd_taking.specs.Lines.{AreLines}
 use Rattle.cmd_ledgers.specs.Merge.{rewritten}
+use Rattle.cmd_ledgers.specs.Reading.{AreFirstBytes, EndsReading}
 
 -- the records as which lines read, in their order; a line that doesn't read is passed over
 abbrev pub with_read : Result Recorded RecordFault → List Recorded → List Recorded
@@ -41,3 +45,11 @@ pub record IsMended (text : List ℕ) (b : Contents) (dropped : ℕ) : Type 0 wh
 abbrev pub MendsInto : List ℕ → Tally → ℕ → Option (List ℕ) → Option (List ℕ) → Type 0
 MendsInto text tally dropped before after =
     (b : Contents) × IsMended text b dropped × IsTally b.root b.records tally × (after ≡ rewritten b before)
+
+-- why nothing is mended, and whether the other ledger is as it was: the damaged one isn't read; or it is, but memory is
+-- refused for the text of what is kept; or else the other has failed
+abbrev pub EndsMendingInto : Option (List ℕ) → ℕ → Stopped → Type 0 → Type 0
+EndsMendingInto has limit e IsUntouched =
+    (EndsReading has limit e × IsUntouched)
+    ⊎ ((text : List ℕ) × AreFirstBytes has limit text × ((b : Contents) × (dropped : ℕ) × IsMended text b dropped
+    × (((e ≡ EndedBy WantsMemory) × IsUntouched) ⊎ (e ≡ EndedBy LedgerFails))))

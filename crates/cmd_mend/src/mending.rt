@@ -1,12 +1,12 @@
 // From a damaged ledger to the ledger of what can be kept of it.
-ghost use Rattle.std.specs.Prelude.{◌≡◌, ◌⊎◌, ◌++◌, List, [], ℕ, IfErr, IfOk, OnOk};
+ghost use Rattle.std.specs.Prelude.{◌≡◌, ◌++◌, List, [], ℕ, IfErr, IfOk, OnOk};
 ghost use Rattle.machine_text.specs.Packed.{Packed, entry_of};
 ghost use Rattle.law_tree.specs.Used.{InOrder};
 ghost use Rattle.ledger.specs.LedgerText.{HasHeader};
 ghost use Rattle.cmd_taking.specs.Lines.{AreLines};
 ghost use Rattle.cmd_taking.specs.Taken.{AreTakenInTurn};
 ghost use Rattle.cmd_ledgers.specs.Reading.{AreFirstBytes, EndsBehindHeader, EndsReading};
-ghost use Rattle.cmd_mend.specs.Mend.{IsMended, MendsInto};
+ghost use Rattle.cmd_mend.specs.Mend.{EndsMendingInto, IsMended, MendsInto};
 ghost use Rattle.cmd_mend.specs.inside.{LineMends, MendsBehind};
 
 use crate::mender::Mender;
@@ -30,11 +30,13 @@ pub fn mend_into<R: Read, L: LedgerOut>(
     ledger: &mut L,
 ) -> Result<(Tally, u64), Stopped>
     ensures ok { IfOk result (λ told. (text : List ℕ) × AreFirstBytes (R.remaining from.old) limit text × MendsInto text told.0 told.1 (L.text ledger.old) (L.text ledger.new)) }
-    ensures err { IfErr result (λ e. ((EndsReading (R.remaining from.old) limit e ⊎ (e ≡ Stopped.Ended Ended.NoMemory)) × (ledger.new ≡ ledger.old)) ⊎ (e ≡ Stopped.Ended Ended.Ledger)) }
+    ensures err { IfErr result (λ e. EndsMendingInto (R.remaining from.old) limit e (ledger.new ≡ ledger.old)) }
 {
     let (board, dropped) = mend_from(alloc, from, limit)?;
-    write_whole(alloc, &board, ledger)?;
-    Ok((board.tally(), dropped))
+    match write_whole(alloc, &board, ledger) {
+        Ok(()) => Ok((board.tally(), dropped)),
+        Err(ended) => Err(Stopped::Ended(ended)),
+    }
 }
 
 /// The board of what can be kept of the damaged ledger that a reader has in its first bytes, up to a limit: each line

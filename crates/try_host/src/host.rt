@@ -205,16 +205,16 @@ impl<'a> Sockets for CaseHost<'a> {
     type Stream = Socket<'a>;
 
     fn listen(&self) -> io::Result<()> {
-        self.room.sockets.check()
+        self.room.check_link()
     }
 
     fn connect(&self, _listener: &()) -> io::Result<Socket<'a>> {
-        self.room.sockets.check()?;
+        self.room.check_link()?;
         Ok(Socket { room: self.room })
     }
 
     fn accept(&self, _listener: &()) -> io::Result<Socket<'a>> {
-        self.room.sockets.check()?;
+        self.room.check_link()?;
         Ok(Socket { room: self.room })
     }
 }

@@ -6,6 +6,9 @@ use std::cell::{Cell, RefCell};
 use std::io;
 use try_text::{Conditions, Limits};
 
+// By which name what fails of a socket is remembered.
+const LOOPBACK: &str = "127.0.0.1";
+
 /// In which call files fail in place of what the conditions say, and how much of it is done.
 #[derive(Clone, Copy, Drop)]
 pub struct Failing {
@@ -102,6 +105,11 @@ impl<'a> Room<'a> {
             self.remember(name, fault);
         }
         done
+    }
+
+    // Makes a call to a socket.
+    pub(crate) fn check_link(&self) -> io::Result<()> {
+        self.noted(LOOPBACK, self.sockets.check())
     }
 
     // Remembers what failed.

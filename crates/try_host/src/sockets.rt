@@ -14,7 +14,7 @@ pub struct Socket<'a> {
 
 impl Write for Socket<'_> {
     fn write(&mut self, buf: &[u8]) -> io::Result<usize> {
-        self.room.sockets.check()?;
+        self.room.check_link()?;
         let count = self.room.sockets.count(buf.len());
         match self.room.under_way.try_borrow_mut() {
             Ok(mut under_way) => {
@@ -35,7 +35,7 @@ impl Write for Socket<'_> {
 
 impl Read for Socket<'_> {
     fn read(&mut self, buf: &mut [u8]) -> io::Result<usize> {
-        self.room.sockets.check()?;
+        self.room.check_link()?;
         match self.room.under_way.try_borrow_mut() {
             Ok(mut under_way) => {
                 let count = self.room.sockets.count(buf.len().min(under_way.len()));

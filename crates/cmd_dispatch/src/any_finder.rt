@@ -1,8 +1,8 @@
 // The finders that the command line can ask for.
 use crate::hard_finder::HardFinder;
 use backward::BackwardFinder;
-use cert::{Finder, OwnedCertificate};
-use cmd_options::Search;
+use cert::{Finder, Finders, OwnedCertificate};
+use cmd_options::{Ended, Search};
 use far::FarFinder;
 use kind_evidence::NoMemory;
 use loops::{CycleFinder, TranslatedFinder};
@@ -42,7 +42,7 @@ impl Finder for AnyFinder {
 }
 
 // One of each, in the order in which they are asked; or the one that goes through the stages, where the search is hard.
-pub(crate) fn all_finders(alloc: Global, search: &Search) -> Result<Vec<AnyFinder>, NoMemory> {
+fn all_finders(alloc: Global, search: &Search) -> Result<Vec<AnyFinder>, NoMemory> {
     let steps = search.steps;
     let mut finders = Vec::new(alloc);
     if search.hard {
@@ -56,4 +56,9 @@ pub(crate) fn all_finders(alloc: Global, search: &Search) -> Result<Vec<AnyFinde
     finders.push(AnyFinder::Ngram(NgramFinder::new(alloc, search.gram)))?;
     finders.push(AnyFinder::Far(FarFinder::new(alloc, search.far)))?;
     Ok(finders)
+}
+
+// What decides tables by them.
+pub(crate) fn decider_for(alloc: Global, search: &Search) -> Result<Finders<AnyFinder>, Ended> {
+    Ok(Finders::new(all_finders(alloc, search)?, search.steps))
 }

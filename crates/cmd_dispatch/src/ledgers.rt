@@ -1,125 +1,79 @@
-// `bb retry`, `bb merge`, `bb carry`, `bb mend` and `bb report`.
-use crate::any_finder::all_finders;
-use cert::{Decider, Finders};
+// `bb retry`, `bb merge`, `bb carry`, `bb mend` and `bb report`. A ledger that is written is locked before it is read, and for
+// as long as it is written: another process would begin from what this one hasn't written yet.
+use crate::any_finder::decider_for;
+use crate::call::Call;
 use cmd_json::Form;
-use cmd_ledgers::{
-    Host, LedgerAt, cmd_carry, cmd_merge, cmd_report, cmd_report_stream, cmd_retry, opened,
-    opened_to_end,
-};
-use cmd_mend::{cmd_mend, cmd_mend_stream};
+use cmd_ledgers::{carry_at, merge_at, report_file, report_stream, retry_ledger};
+use cmd_mend::{mend_at, mend_stream};
 use cmd_options::{Carrying, Ended, LedgerFile, Mending, Merging, Outcome, Search};
-use cmd_parts::{PartsHost, lock_ledger};
-use std::alloc::Global;
+use files::{Disk, Files, ledger_at, lock_ledger};
 use std::io::{Read, Write};
 
 // In place of a ledger's path: it is read from `input`.
 pub(crate) const STANDARD_INPUT: &str = "-";
 
 // `bb retry`, over a ledger that has to be there.
-pub(crate) fn retry<H: PartsHost, W: Write, E: Write>(
-    alloc: Global,
+pub(crate) fn retry<S: Disk, R, W: Write, E>(
+    call: Call<'_, S, R, W, E>,
     file: LedgerFile<'_>,
     search: &Search,
-    host: &H,
-    answers: &mut W,
-    faults: &mut E,
-) -> Outcome {
-    match all_finders(alloc, search) {
-        Ok(finders) => {
-            let mut decider = Finders::new(finders, search.steps);
-            retry_at(alloc, file, &mut decider, host, answers, faults)
-        }
-        Err(_) => Ended::NoMemory.told(faults),
-    }
-}
-
-// The same with this decider.
-fn retry_at<H: PartsHost, D: Decider, W: Write, E: Write>(
-    alloc: Global,
-    file: LedgerFile<'_>,
-    decider: &mut D,
-    host: &H,
-    answers: &mut W,
-    faults: &mut E,
-) -> Outcome {
-    match lock_ledger(host, file.path) {
-        Ok(_lock) => {
-            let held = opened(host, file.path);
-            let mut ledger = LedgerAt::new(host, file);
-            cmd_retry(alloc, held, &mut ledger, decider, answers, faults)
-        }
-        Err(ended) => ended.told(faults),
-    }
+) -> Result<Outcome, Ended> {
+    let mut decider = decider_for(call.alloc, search)?;
+    let mut files = call.files();
+    let _lock = lock_ledger(&files, file.path)?;
+    let held = files.open(file.path);
+    let mut ledger = ledger_at(&mut files, &file)?;
+    let ended = retry_ledger(call.alloc, held, &mut ledger, &mut decider, call.answers);
+    files.close(file.path, ledger);
+    ended
 }
 
 // `bb merge`.
-pub(crate) fn merge<H: PartsHost, W: Write, E: Write>(
-    alloc: Global,
+pub(crate) fn merge<S: Disk, R, W: Write, E>(
+    call: Call<'_, S, R, W, E>,
     merging: Merging<'_>,
-    host: &H,
-    answers: &mut W,
-    faults: &mut E,
-) -> Outcome {
-    match lock_ledger(host, merging.out) {
-        Ok(_lock) => cmd_merge(alloc, merging, host, answers, faults),
-        Err(ended) => ended.told(faults),
-    }
+) -> Result<Outcome, Ended> {
+    let mut files = call.files();
+    let _lock = lock_ledger(&files, merging.out)?;
+    merge_at(call.alloc, merging, &mut files, call.answers)
 }
 
 // `bb carry`.
-pub(crate) fn carry<H: PartsHost, W: Write, E: Write>(
-    alloc: Global,
+pub(crate) fn carry<S: Disk, R, W: Write, E>(
+    call: Call<'_, S, R, W, E>,
     carrying: Carrying<'_>,
-    host: &H,
-    answers: &mut W,
-    faults: &mut E,
-) -> Outcome {
-    match lock_ledger(host, carrying.out) {
-        Ok(_lock) => cmd_carry(alloc, carrying, host, answers, faults),
-        Err(ended) => ended.told(faults),
-    }
+) -> Result<Outcome, Ended> {
+    let mut files = call.files();
+    let _lock = lock_ledger(&files, carrying.out)?;
+    carry_at(call.alloc, carrying, &mut files, call.answers)
 }
 
 // `bb mend`, of a file or of `input`.
-pub(crate) fn mend<H: PartsHost, R: Read, W: Write, E: Write>(
-    alloc: Global,
+pub(crate) fn mend<S: Disk, R: Read, W: Write, E>(
+    call: Call<'_, S, R, W, E>,
     mending: Mending<'_>,
-    host: &H,
-    input: &mut R,
-    answers: &mut W,
-    faults: &mut E,
-) -> Outcome {
-    match lock_ledger(host, mending.out) {
-        Ok(_lock) if mending.ledger == STANDARD_INPUT => {
-            cmd_mend_stream(alloc, mending.out, host, input, answers, faults)
-        }
-        Ok(_lock) => cmd_mend(alloc, mending, host, answers, faults),
-        Err(ended) => ended.told(faults),
+) -> Result<Outcome, Ended> {
+    let mut files = call.files();
+    let _lock = lock_ledger(&files, mending.out)?;
+    if mending.ledger == STANDARD_INPUT {
+        mend_stream(call.alloc, mending.out, &mut files, call.input, call.answers)
+    } else {
+        mend_at(call.alloc, mending, &mut files, call.answers)
     }
 }
 
 // `bb report`, of a file or of `input`.
-pub(crate) fn report<H: Host, R: Read, W: Write, E: Write>(
-    alloc: Global,
-    file: &str,
+pub(crate) fn report<S: Disk, R: Read, W: Write, E: Write>(
+    call: Call<'_, S, R, W, E>,
+    path: &str,
     json: bool,
     why: bool,
-    host: &H,
-    input: &mut R,
-    answers: &mut W,
-    faults: &mut E,
-) -> Outcome {
+) -> Result<Outcome, Ended> {
     let form = Form::of(json);
-    if file == STANDARD_INPUT {
-        cmd_report_stream(alloc, &form, why, input, answers, faults)
+    if path == STANDARD_INPUT {
+        report_stream(call.alloc, &form, why, call.input, call.answers, call.faults)
     } else {
-        cmd_report(
-            alloc,
-            &form,
-            why,
-            opened_to_end(host, file),
-            answers,
-            faults,
-        )
+        let file = call.files().open_to_end(path);
+        report_file(call.alloc, &form, why, file, call.answers, call.faults)
     }
 }

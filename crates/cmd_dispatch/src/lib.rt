@@ -4,13 +4,13 @@
 #![tactic(auto)]
 
 mod any_finder;
+mod call;
 mod executing;
 mod failures;
 mod folders;
 mod hard_finder;
 mod ledgers;
 mod lines;
-mod locking;
 mod named_file;
 mod named_socket;
 mod nodes;

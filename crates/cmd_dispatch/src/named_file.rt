@@ -1,5 +1,6 @@
 // A file that remembers what of it fails.
 use crate::failures::Failures;
+use files::DiskFile;
 use std::fs::{self, Metadata, OpenFile};
 use std::io::{self, Read, Write};
 
@@ -13,6 +14,10 @@ pub struct NamedFile<'a> {
 }
 
 impl NamedFile<'_> {
+    pub(crate) fn metadata(&self) -> io::Result<Metadata> {
+        self.noted(self.file.metadata())
+    }
+
     fn noted<T>(&self, done: io::Result<T>) -> io::Result<T> {
         if let Err(fault) = &done {
             self.remember(fault);
@@ -38,9 +43,17 @@ impl Read for NamedFile<'_> {
     }
 }
 
-impl Write for NamedFile<'_> {
-    fn write(&mut self, buf: &[u8]) -> io::Result<usize> {
-        match self.file.write(buf) {
+impl DiskFile for NamedFile<'_> {
+    ghost use Rattle.std.specs.Prelude.{None};
+
+    ghost text = { λ file. None };
+
+    fn cut(&mut self, len: u64) -> io::Result<()> {
+        self.noted(self.file.set_len(len))
+    }
+
+    fn write(&mut self, bytes: &[u8]) -> io::Result<usize> {
+        match self.file.write(bytes) {
             Ok(count) => Ok(count),
             Err(fault) => {
                 self.remember(&fault);
@@ -49,26 +62,7 @@ impl Write for NamedFile<'_> {
         }
     }
 
-    fn flush(&mut self) -> io::Result<()> {
-        let flushed = self.file.flush();
-        self.noted(flushed)
-    }
-}
-
-impl OpenFile for NamedFile<'_> {
-    fn metadata(&self) -> io::Result<Metadata> {
-        self.noted(self.file.metadata())
-    }
-
-    fn set_len(&self, size: u64) -> io::Result<()> {
-        self.noted(self.file.set_len(size))
-    }
-
-    fn sync_all(&self) -> io::Result<()> {
-        self.noted(self.file.sync_all())
-    }
-
-    fn sync_data(&self) -> io::Result<()> {
+    fn wait(&self) -> io::Result<()> {
         self.noted(self.file.sync_data())
     }
 }

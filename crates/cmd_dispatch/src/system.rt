@@ -2,10 +2,9 @@
 use crate::failures::Failures;
 use crate::named_file::NamedFile;
 use crate::named_socket::{LOOPBACK, NamedSocket};
-use cmd_ledgers::{FileLedger, Host};
 use cmd_nodes::Sockets;
-use cmd_options::{Durability, Ended, LedgerFile};
-use cmd_parts::PartsHost;
+use cmd_options::{Ended, ended_by};
+use files::Disk;
 use std::cell::RefCell;
 use std::fs::{self, Files, OpenFile, OpenOptions, TryLockError};
 use std::io::{self, ErrorKind, IsTerminal, Write};
@@ -107,8 +106,14 @@ fn beside(rt: &HostRuntime, path: &str, to: &str) -> io::Result<String> {
     Ok(end)
 }
 
-impl<'a> Host for System<'a> {
-    type File = NamedFile<'a>;
+impl<'a> Disk for System<'a> {
+    ghost use Rattle.std.specs.Prelude.{None, false};
+
+    ghost stands = { λ system path. None };
+
+    ghost knows = { false };
+
+    type Reader = NamedFile<'a>;
 
     fn open(&self, path: &str) -> io::Result<NamedFile<'a>> {
         let file = self.noted(path, fs::open(self.rt, path))?;
@@ -146,23 +151,30 @@ impl<'a> Host for System<'a> {
         self.noted(path, Err(io::Error::from(ErrorKind::InvalidInput)))
     }
 
-    type Ledger = FileLedger<NamedFile<'a>>;
-
-    fn ledger(&self, file: &LedgerFile<'_>) -> io::Result<FileLedger<NamedFile<'a>>> {
-        let mut asked = OpenOptions::new();
-        asked.append(true).create(true);
-        let opened = self.noted(file.path, asked.open(self.rt, file.path))?;
-        Ok(FileLedger::of(self.named(opened, file.path), file.durability))
+    fn is_replaceable(&self, path: &str) -> bool {
+        match fs::symlink_metadata(self.rt, path) {
+            Ok(found) => found.is_file(),
+            Err(fault) => fault.kind() == ErrorKind::NotFound,
+        }
     }
 
-    fn over(&self, path: &str) -> io::Result<FileLedger<NamedFile<'a>>> {
+    type File = NamedFile<'a>;
+
+    fn go_on(&self, path: &str) -> io::Result<NamedFile<'a>> {
+        let mut asked = OpenOptions::new();
+        asked.append(true).create(true);
+        let opened = self.noted(path, asked.open(self.rt, path))?;
+        Ok(self.named(opened, path))
+    }
+
+    fn over(&self, path: &str) -> io::Result<NamedFile<'a>> {
         let mut asked = OpenOptions::new();
         asked.write(true).truncate(true).create(true);
         let opened = self.noted(path, asked.open(self.rt, path))?;
-        Ok(FileLedger::of(self.named(opened, path), Durability::System))
+        Ok(self.named(opened, path))
     }
 
-    fn anew(&self, path: &str) -> io::Result<FileLedger<NamedFile<'a>>> {
+    fn anew(&self, path: &str) -> io::Result<NamedFile<'a>> {
         match fs::remove_file(self.rt, path) {
             Err(fault) if fault.kind() != ErrorKind::NotFound => {
                 return self.noted(path, Err(fault));
@@ -172,14 +184,7 @@ impl<'a> Host for System<'a> {
         let mut asked = OpenOptions::new();
         asked.append(true).create_new(true);
         let opened = self.noted(path, asked.open(self.rt, path))?;
-        Ok(FileLedger::of(self.named(opened, path), Durability::System))
-    }
-
-    fn is_replaceable(&self, path: &str) -> bool {
-        match fs::symlink_metadata(self.rt, path) {
-            Ok(found) => found.is_file(),
-            Err(fault) => fault.kind() == ErrorKind::NotFound,
-        }
+        Ok(self.named(opened, path))
     }
 
     fn sync(&self, path: &str) -> io::Result<()> {
@@ -189,6 +194,34 @@ impl<'a> Host for System<'a> {
 
     fn rename(&self, from: &str, to: &str) -> io::Result<()> {
         self.noted(to, fs::rename(self.rt, from, to))
+    }
+
+    type Lock = FileLock;
+
+    fn lock(&self, path: &str) -> Result<Option<FileLock>, Ended> {
+        let Some(file) = self.lockable(path) else {
+            return Ok(Some(FileLock { file: None }));
+        };
+        match file.try_lock() {
+            Ok(()) if self.is_at(&file, path) => Ok(Some(FileLock { file: Some(file) })),
+            // Where it could be locked, the one that held it has put another file in its place.
+            Ok(()) | Err(TryLockError::WouldBlock) => {
+                let busy = io::Error::from(ErrorKind::ResourceBusy);
+                self.failures.remember(path, &busy);
+                Ok(None)
+            }
+            Err(TryLockError::Error(fault)) if has_no_locks(&fault) => {
+                Ok(Some(FileLock { file: None }))
+            }
+            Err(TryLockError::Error(fault)) => {
+                self.failures.remember(path, &fault);
+                Err(ended_by(&fault, Ended::Ledger))
+            }
+        }
+    }
+
+    fn make_folder(&self, path: &str) -> io::Result<()> {
+        self.noted(path, fs::create_dir_all(self.rt, path))
     }
 
     fn tells_terminal(&self) -> bool {
@@ -211,38 +244,6 @@ impl<'a> Host for System<'a> {
 
     fn reason(&self) -> Option<String> {
         self.failures.take()
-    }
-}
-
-impl<'a> PartsHost for System<'a> {
-    type Lock = FileLock;
-
-    ghost locks = { λ system path locked. Unit {0} };
-
-    fn lock(&self, path: &str) -> Result<Option<FileLock>, Ended> {
-        let Some(file) = self.lockable(path) else {
-            return Ok(Some(FileLock { file: None }));
-        };
-        match file.try_lock() {
-            Ok(()) if self.is_at(&file, path) => Ok(Some(FileLock { file: Some(file) })),
-            // Where it could be locked, the one that held it has put another file in its place.
-            Ok(()) | Err(TryLockError::WouldBlock) => {
-                let busy = io::Error::from(ErrorKind::ResourceBusy);
-                self.failures.remember(path, &busy);
-                Ok(None)
-            }
-            Err(TryLockError::Error(fault)) if has_no_locks(&fault) => {
-                Ok(Some(FileLock { file: None }))
-            }
-            Err(TryLockError::Error(fault)) => {
-                self.failures.remember(path, &fault);
-                Err(Ended::by_ledger(&fault))
-            }
-        }
-    }
-
-    fn make_folder(&self, path: &str) -> io::Result<()> {
-        self.noted(path, fs::create_dir_all(self.rt, path))
     }
 }
 

@@ -1,2 +1,2 @@
 mod Paths
-mod Taking
+mod Alone

@@ -3,4 +3,3 @@ pub mod Asked
 pub mod Said
 pub mod Files
 pub mod One
-pub mod inside

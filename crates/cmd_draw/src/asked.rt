@@ -2,7 +2,7 @@
 ghost use Rattle.std.specs.Prelude.{◌≡◌};
 ghost use Rattle.text.specs.Cut.{cut_at};
 ghost use Rattle.cert.specs.Grammar.{record_of};
-ghost use Rattle.cmd_lines.specs.Answer.{lent_line};
+ghost use Rattle.cmd_taking.specs.Taken.{lent};
 ghost use Rattle.cmd_draw.specs.Asked.{table_asked, table_cut, table_recorded};
 
 use cert::{Record, RecordFault};
@@ -12,7 +12,7 @@ use text::cut_at;
 /// The table of a line, which is a table or a record of one, or the fault of its text; the line is none where it was too
 /// long.
 pub fn table_asked(line: Option<&[u8]>) -> Result<Table, RecordFault>
-    ensures { result ≡ table_asked (lent_line line.entry) }
+    ensures { result ≡ table_asked (lent line.entry) }
 {
     match line {
         Some(text) => table_in(text),

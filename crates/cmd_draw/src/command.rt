@@ -1,13 +1,14 @@
 // `bb draw`: tables in, pictures out.
-ghost use Rattle.std.specs.Prelude.{◌≡◌, ◌⊎◌, IfNone, IfSome};
+ghost use Rattle.std.specs.Prelude.{◌≡◌, ◌⊎◌, IfErr, IfNone, IfOk, IfSome};
 ghost use Rattle.cmd_lines.specs.Stream.{AnswersStream};
 ghost use Rattle.cmd_draw.specs.Files.{SaysOfDrawn};
 ghost use Rattle.cmd_draw.specs.One.{DrawsFirst};
+ghost use Rattle.cmd_draw.specs.Said.{EndsDrawing};
 
 use crate::files::draw_files;
 use crate::host::PictureHost;
 use crate::one::draw_first;
-use cmd_options::{Drawing, Outcome};
+use cmd_options::{Drawing, Ended, Outcome, told};
 use std::alloc::Global;
 use std::io::{Read, Write};
 
@@ -27,44 +28,27 @@ pub fn cmd_draw<H: PictureHost, R: Read, W: Write, E: Write>(
     ensures files { IfSome drawing.now.out (λ folder. AnswersStream (SaysOfDrawn (H.holds host.now) folder.now drawing.now) (R.remaining input.old) (R.remaining input.new) (W.contents answers.old) (W.contents answers.new) result
         ⊎ (result ≡ Outcome.NoMemory) ⊎ (result ≡ Outcome.Failed)) }
 {
-    match drawing.out {
-        Some(folder) => tell_files(alloc, drawing, folder, host, input, answers, faults),
-        None => tell_first(alloc, drawing, input, answers, faults),
-    }
+    told(
+        draw_asked(alloc, drawing, host, input, answers, faults),
+        faults,
+    )
 }
 
-// The picture of the first table.
-fn tell_first<R: Read, W: Write, E: Write>(
+/// The same, but that what ends it early isn't said.
+pub fn draw_asked<H: PictureHost, R: Read, W: Write, E: Write>(
     alloc: Global,
     drawing: &Drawing<'_>,
-    input: &mut R,
-    answers: &mut W,
-    faults: &mut E,
-) -> Outcome
-    ensures { DrawsFirst drawing.now (R.remaining input.old) (R.remaining input.new) (W.contents answers.old) (W.contents answers.new) (E.contents faults.old) (E.contents faults.new) result
-        ⊎ (result ≡ Outcome.NoMemory) ⊎ (result ≡ Outcome.Failed) }
-{
-    match draw_first(alloc, drawing, input, answers, faults) {
-        Ok(outcome) => outcome,
-        Err(ended) => ended.told(faults),
-    }
-}
-
-// The pictures of all tables, in a folder.
-fn tell_files<H: PictureHost, R: Read, W: Write, E: Write>(
-    alloc: Global,
-    drawing: &Drawing<'_>,
-    folder: &str,
     host: &H,
     input: &mut R,
     answers: &mut W,
     faults: &mut E,
-) -> Outcome
-    ensures { AnswersStream (SaysOfDrawn (H.holds host.now) folder.now drawing.now) (R.remaining input.old) (R.remaining input.new) (W.contents answers.old) (W.contents answers.new) result
-        ⊎ (result ≡ Outcome.NoMemory) ⊎ (result ≡ Outcome.Failed) }
+) -> Result<Outcome, Ended>
+    ensures first { IfOk result (λ o. IfNone drawing.now.out (DrawsFirst drawing.now (R.remaining input.old) (R.remaining input.new) (W.contents answers.old) (W.contents answers.new) (E.contents faults.old) (E.contents faults.new) o)) }
+    ensures files { IfOk result (λ o. IfSome drawing.now.out (λ folder. AnswersStream (SaysOfDrawn (H.holds host.now) folder.now drawing.now) (R.remaining input.old) (R.remaining input.new) (W.contents answers.old) (W.contents answers.new) o)) }
+    ensures err { IfErr result EndsDrawing }
 {
-    match draw_files(alloc, drawing, folder, host, input, answers) {
-        Ok(outcome) => outcome,
-        Err(ended) => ended.told(faults),
+    match drawing.out {
+        Some(folder) => draw_files(alloc, drawing, folder, host, input, answers),
+        None => draw_first(alloc, drawing, input, answers, faults),
     }
 }

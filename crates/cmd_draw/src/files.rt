@@ -1,22 +1,25 @@
 // Pictures that are files of a folder.
 ghost use Rattle.std.specs.Prelude.{◌≡◌, ◌++◌, ℕ, IfErr, IfOk, List, OnOk, string_bytes};
-ghost use Rattle.cmd_lines.specs.Answer.{lent_line};
+ghost use Rattle.cmd_taking.specs.Taken.{lent};
 ghost use Rattle.cmd_lines.specs.Stream.{AnswersStream};
 ghost use Rattle.cmd_draw.specs.Files.{IsDrawnIn, SaysOfDrawn, drawn_text, picture_path, svg_path};
 ghost use Rattle.cmd_draw.specs.Said.{EndsDrawing};
 
 use crate::asked::table_asked;
 use crate::host::PictureHost;
-use crate::line_loop::{LineTaker, take_lines};
 use crate::picturing::picture_of;
-use crate::placing::{ended_by, write_at};
+use crate::placing::write_at;
 use cert::append_table;
 use cmd_lines::append_fault;
-use cmd_options::{Drawing, Ended, Outcome};
+use cmd_options::{Drawing, Ended, Outcome, ended_by};
+use cmd_taking::{Sayer, say_lines};
 use machine_text::{TEXT_BYTES, Table};
 use std::alloc::Global;
 use std::io::{Read, Write};
 use tape::NoMemory;
+
+// How many bytes are read at once: of a few tables, so that each is answered before many others are drawn.
+const FEW_BYTES: usize = 64;
 
 /// Reads a table or a record a line, and makes the picture of each table a file of a folder, under the table's text. It
 /// answers a line with what became of it, as soon as it has.
@@ -33,7 +36,7 @@ pub fn draw_files<H: PictureHost, R: Read, W: Write>(
 {
     match host.make_folder(folder) {
         Ok(()) => draw_within(alloc, drawing, folder, host, input, answers),
-        Err(fault) => Err(ended_by(&fault)),
+        Err(fault) => Err(ended_by(&fault, Ended::File)),
     }
 }
 
@@ -49,13 +52,14 @@ fn draw_within<H: PictureHost, R: Read, W: Write>(
     ensures ok { IfOk result (AnswersStream (SaysOfDrawn (H.holds host.now) folder.now drawing.now) (R.remaining input.old) (R.remaining input.new) (W.contents answers.old) (W.contents answers.new)) }
     ensures err { IfErr result EndsDrawing }
 {
-    let mut files = Files {
+    let files = Files {
         alloc,
         drawing,
         folder,
         host,
     };
-    take_lines(alloc, &mut files, input, answers)
+    let (outcome, _) = say_lines(alloc, files, FEW_BYTES, input, answers)?;
+    Ok(outcome)
 }
 
 // The files of a folder, each a picture that is drawn so.
@@ -67,10 +71,13 @@ struct Files<'a, H> {
     host: &'a H,
 }
 
-impl<H: PictureHost> LineTaker for Files<'_, H> {
+impl<H: PictureHost> Sayer for Files<'_, H> {
     ghost use Rattle.cmd_draw.specs.Files.{AnswersAlone, SaysOfDrawn};
+    ghost use Rattle.cmd_draw.specs.Said.{EndsDrawing};
 
     ghost takes = { AnswersAlone (λ files. SaysOfDrawn (H.holds files.host.now) files.folder.now files.drawing.now) };
+
+    ghost ends = { EndsDrawing };
 
     fn take_line(&mut self, line: Option<&[u8]>, said: &mut Vec<u8>) -> Result<Outcome, Ended> {
         let outcome = self.answer(line, said)?;
@@ -82,7 +89,7 @@ impl<H: PictureHost> LineTaker for Files<'_, H> {
 impl<H: PictureHost> Files<'_, H> {
     // Draws the table of a line, and appends the answer.
     fn answer(&self, line: Option<&[u8]>, said: &mut Vec<u8>) -> Result<Outcome, Ended>
-        ensures ok { IfOk result (λ o. (answer : List ℕ) × SaysOfDrawn (H.holds self.now.host.now) self.now.folder.now self.now.drawing.now (lent_line line.entry) o answer
+        ensures ok { IfOk result (λ o. (answer : List ℕ) × SaysOfDrawn (H.holds self.now.host.now) self.now.folder.now self.now.drawing.now (lent line.entry) o answer
             × (said.new.items ≡ said.old.items ++ answer)) }
         ensures err { IfErr result EndsDrawing }
     {

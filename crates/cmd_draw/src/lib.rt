@@ -1,8 +1,7 @@
 //! `bb draw`: reads a table or a record a line, and draws a space-time picture of each table, as SVG.
 //!
 //! `specs/Picture` says which picture is drawn of a table, `specs/Asked` which table a line asks for, `specs/Files` what is
-//! said where each picture is a file, `specs/One` what where one goes to a stream. `specs/Said` is for both: what is said to
-//! the lines of a stream.
+//! said where each picture is a file, `specs/One` what where one goes to a stream. `specs/Said` is for both: what ends them early.
 #![tactic(auto)]
 
 mod asked;
@@ -10,13 +9,12 @@ mod command;
 mod files;
 mod host;
 mod laws;
-mod line_loop;
 mod one;
 mod picturing;
 mod placing;
 
 pub use asked::table_asked;
-pub use command::cmd_draw;
+pub use command::{cmd_draw, draw_asked};
 pub use files::{draw_files, picture_path, put_picture};
 pub use host::PictureHost;
 pub use laws::paths_are_apart;

@@ -5,11 +5,11 @@ ghost use Rattle.cmd_draw.specs.One.{DrawsFirst, PicksTable, WritesPicture};
 ghost use Rattle.cmd_draw.specs.Said.{EndsDrawing};
 
 use crate::asked::table_asked;
-use crate::line_loop::{LineTaker, take_lines};
 use crate::picturing::picture_of;
 use cert::RecordFault;
 use cmd_lines::append_fault;
 use cmd_options::{Drawing, Ended, Outcome};
+use cmd_taking::{PIECE_BYTES, Sayer, say_lines};
 use machine_text::Table;
 use std::alloc::Global;
 use std::io::{Read, Write};
@@ -19,15 +19,18 @@ use tape::NoMemory;
 const ANOTHER_TABLE: &[u8] = b"refused 306\n";
 
 /// The table of the first line that asked for one.
-#[derive(Clone, Copy, Debug, PartialEq, Eq)]
+#[derive(Clone, Copy, Debug, PartialEq, Eq, Drop)]
 pub struct First {
     pub table: Option<Table>,
 }
 
-impl LineTaker for First {
+impl Sayer for First {
     ghost use Rattle.cmd_draw.specs.One.{Picks};
+    ghost use Rattle.cmd_draw.specs.Said.{EndsDrawing};
 
     ghost takes = { Picks };
+
+    ghost ends = { EndsDrawing };
 
     fn take_line(&mut self, line: Option<&[u8]>, said: &mut Vec<u8>) -> Result<Outcome, Ended> {
         match table_asked(line) {
@@ -74,8 +77,7 @@ pub fn draw_first<R: Read, W: Write, E: Write>(
     ensures ok { IfOk result (DrawsFirst drawing.now (R.remaining input.old) (R.remaining input.new) (W.contents answers.old) (W.contents answers.new) (E.contents faults.old) (E.contents faults.new)) }
     ensures err { IfErr result EndsDrawing }
 {
-    let mut first = First { table: None };
-    let outcome = take_lines(alloc, &mut first, input, faults)?;
+    let (outcome, first) = say_lines(alloc, First { table: None }, PIECE_BYTES, input, faults)?;
     write_picture(alloc, drawing, first.table, answers)?;
     Ok(outcome)
 }

@@ -3,9 +3,8 @@ ghost use Rattle.std.specs.Prelude.{◌≡◌, ◌⊎◌, ℕ, IfErr, List, OnOk
 ghost use Rattle.cmd_draw.specs.Said.{EndsDrawing};
 
 use crate::host::PictureHost;
-use cmd_options::Ended;
+use cmd_options::{Ended, ended_by};
 use std::alloc::Global;
-use std::io::{self, ErrorKind};
 use tape::NoMemory;
 
 // What is put behind the path of a file to name the one in which it is made.
@@ -45,7 +44,7 @@ fn write_to<H: PictureHost>(host: &H, path: &str, bytes: &[u8]) -> Result<(), En
 {
     match host.write(path, bytes) {
         Ok(()) => Ok(()),
-        Err(fault) => Err(ended_by(&fault)),
+        Err(fault) => Err(ended_by(&fault, Ended::File)),
     }
 }
 
@@ -55,16 +54,6 @@ fn put_in_place<H: PictureHost>(host: &H, from: &str, to: &str) -> Result<(), En
 {
     match host.rename(from, to) {
         Ok(()) => Ok(()),
-        Err(fault) => Err(ended_by(&fault)),
-    }
-}
-
-// What ends a command whose file can't be written.
-pub(crate) fn ended_by(fault: &io::Error) -> Ended
-    ensures { EndsDrawing result }
-{
-    match fault.kind() {
-        ErrorKind::OutOfMemory => Ended::NoMemory,
-        _ => Ended::File,
+        Err(fault) => Err(ended_by(&fault, Ended::File)),
     }
 }

@@ -9,3 +9,4 @@ pub mod Passing
 pub mod Retry
 pub mod Reading
 pub mod inside
+pub mod AtPath

@@ -1,5 +1,5 @@
 -- Two ledgers that are read one after the other, and joined.
-use Rattle.std.specs.Prelude.{◌≡◌, ◌≢◌, ◌⊎◌, ℕ, List, Option, Some, None, Result, Ok, Err}
+use Rattle.std.specs.Prelude.{◌≡◌, ◌≢◌, ◌⊎◌, ℕ, ◌-◌, List, [], ◌∷◌, ◌++◌, Option, Some, None, Result, Ok, Err, codes, decimal}
 use Rattle.machine_text.specs.Packed.{Packed}
 use Rattle.ledger.specs.Contents.{Contents}
 use Rattle.ledger.specs.LedgerText.{IsTornHeader, HasHeader, HasNoHeader, ReadsIn, ledger_text}
@@ -8,7 +8,9 @@ use Rattle.ledger.specs.Tally.{IsTally}
 use Rattle.ledger.specs.declared.left.Left.{Left}
 use Rattle.ledger.specs.declared.left.Left.TheVariants.{Nothing, From}
 use Rattle.ledger.specs.declared.tally.Tally.{Tally}
-use Rattle.cmd_ledgers.specs.LedgerReport.{EndsLedger}
+use Rattle.cmd_ledgers.specs.LedgerReport.{EndsLedger, left_text}
+use Rattle.cmd_options.specs.declared.outcome.Outcome.{Outcome}
+use Rattle.cmd_options.specs.declared.outcome.Outcome.TheVariants.{Accepted, Refused}
 use Rattle.cmd_options.specs.declared.ended.Ended.{Ended}
 use Rattle.cmd_options.specs.declared.ended.Ended.TheVariants.{BadHeader, WrongRoot, Stream, Ledger, File, HasPart, OutInFolder, Locked, NoMemory}
 
@@ -71,3 +73,18 @@ abbrev pub EndsJoiningInto : Readings → Readings → Ended → Type 0 → Type
 EndsJoiningInto one other e IsUntouched =
     (AreJoined one other (Err e) × IsUntouched)
     ⊎ ((joined : Contents × Left) × AreJoined one other (Ok joined) × (((e ≡ NoMemory) × IsUntouched) ⊎ (e ≡ Ledger)))
+
+-- accepted where all was kept
+abbrev pub outcome_of_left : Left → Outcome
+outcome_of_left Nothing = Accepted
+outcome_of_left (From line kept why) = Refused
+
+-- a count behind its name
+abbrev pub count_text : List ℕ → ℕ → List ℕ
+count_text name count = name ++ decimal count
+
+-- what is printed of two ledgers that are joined
+abbrev pub merged_text : Tally → Left → List ℕ
+merged_text tally left =
+    count_text (codes "merged ") (tally.nodes - tally.open_count) ++ count_text (codes " open ") tally.open_count
+    ++ count_text (codes " holdouts ") tally.holdouts ++ (10 ∷ []) ++ left_text left

@@ -1,17 +1,23 @@
 // `bb carry`: a ledger of either version in, the same of version 2 out.
-ghost use Rattle.std.specs.Prelude.{◌≡◌, IfOk, IfErr};
-ghost use Rattle.cmd_ledgers.specs.Carry.{CarriesInto, EndsCarryingInto};
+ghost use Rattle.std.specs.Prelude.{◌≡◌, ◌⊎◌, Err, IfOk, IfErr, List, ℕ, Option, Result};
+ghost use Rattle.cmd_options.specs.declared.outcome.Outcome.{Outcome as Outcomes};
+ghost use Rattle.cmd_options.specs.declared.ended.Ended.{Ended as Ends};
+ghost use Rattle.cmd_options.specs.Ends.{IsTold};
+ghost use Rattle.files.specs.Standing.{IsBlank, IsKeptBut};
+ghost use Rattle.cmd_ledgers.specs.AtPath.{CarriesAt, FailsWriting, ReadsAt};
+ghost use Rattle.cmd_ledgers.specs.Carry.{CarriesInto, EndsCarryingInto, carried_text};
+ghost use Rattle.cmd_ledgers.specs.Merge.{IsLoaded};
 
-use crate::host::Host;
+use crate::merge::append_count;
 use crate::report_writer::append_left;
-use crate::rewriting::{Place, outcome_of_left, write_whole};
+use crate::rewriting::{outcome_of_left, write_whole};
 use crate::source::{AtPath, LedgerSource, load_source};
-use cmd_options::{Carrying, Ended, Outcome};
+use cmd_options::{Carrying, Ended, Outcome, told};
+use files::{Files, made_for, put_at};
 use kind_evidence::NoMemory;
 use ledger::{Left, Tally};
 use std::alloc::Global;
 use std::io::Write;
-use text::append_number;
 use wire::LedgerOut;
 
 /// Writes a ledger as one of version 2, in which each table that halts has its score, and prints how many records it
@@ -20,47 +26,68 @@ use wire::LedgerOut;
 /// file beside it, `.new`, which is then put in its place, so that a program that is killed leaves the old ledger or the
 /// new one; after a failure that file is left. Accepted where all was kept. What ends the command early is said on
 /// `faults`.
-pub fn cmd_carry<H: Host, W: Write, E: Write>(
+pub fn cmd_carry<H: Files, W: Write, E: Write>(
     alloc: Global,
     carrying: Carrying<'_>,
-    host: &H,
+    host: &mut H,
     answers: &mut W,
     faults: &mut E,
-) -> Outcome {
-    match carry_ledger(alloc, carrying, host, answers) {
-        Ok(outcome) => outcome,
-        Err(ended) => ended.told(faults),
-    }
+) -> Outcome
+    ensures others { IsKeptBut (H.tells_same host.old) carrying.entry.out.now (H.holds host.old) (H.holds host.new) }
+    ensures carries { (ended : Result Outcomes Ends)
+        × CarriesAt (H.tells_same host.old) carrying.entry.ledger.now carrying.entry.out.now (H.holds host.old) (H.holds host.new) (W.contents answers.old) (W.contents answers.new) ended
+        × IsTold ended (E.contents faults.old) (E.contents faults.new) result }
+{
+    told(carry_at(alloc, carrying, host, answers), faults)
 }
 
-fn carry_ledger<H: Host, W: Write>(
+/// The same, but that what ends it early isn't said.
+pub fn carry_at<H: Files, W: Write>(
     alloc: Global,
     carrying: Carrying<'_>,
-    host: &H,
+    host: &mut H,
     answers: &mut W,
-) -> Result<Outcome, Ended> {
-    let place = Place::of(alloc, host, carrying.out, &[carrying.ledger])?;
-    let (tally, left) = carry_at(alloc, carrying, host, &place)?;
-    place.put(host)?;
-    let mut said = Vec::new(alloc);
-    append_carried(&tally, &mut said)?;
-    append_left(&left, &mut said)?;
+) -> Result<Outcome, Ended>
+    ensures others { IsKeptBut (H.tells_same host.old) carrying.entry.out.now (H.holds host.old) (H.holds host.new) }
+    ensures carries { CarriesAt (H.tells_same host.old) carrying.entry.ledger.now carrying.entry.out.now (H.holds host.old) (H.holds host.new) (W.contents answers.old) (W.contents answers.new) result }
+{
+    let (made, tally, left) = carried(alloc, carrying, host)?;
+    let said = carried_line(alloc, &tally, &left)?;
+    put_at(host, made, carrying.out)?;
     answers.write_all(&said)?;
     Ok(outcome_of_left(&left))
 }
 
-// Carries the ledger to a place.
-fn carry_at<H: Host>(
+// The ledger of version 2 of what a ledger holds, which stands nowhere yet.
+fn carried<H: Files>(
     alloc: Global,
     carrying: Carrying<'_>,
     host: &H,
-    place: &Place,
-) -> Result<(Tally, Left), Ended> {
+) -> Result<(H::Made, Tally, Left), Ended>
+    ensures ok { IfOk result (λ j. (begun : Option (List ℕ)) × IsBlank begun
+        × CarriesInto (ReadsAt (H.holds host.now carrying.entry.ledger.now)) j.1 j.2 begun (H.Made.text j.0)) }
+    ensures err { IfErr result (λ e. IsLoaded (ReadsAt (H.holds host.now carrying.entry.ledger.now)) (Err e) ⊎ FailsWriting e) }
+{
+    let mut made = made_for(host, carrying.out, &[carrying.ledger])?;
     let from = AtPath {
         host,
         path: carrying.ledger,
     };
-    carry_into(alloc, &from, &mut place.ledger(host, carrying.out))
+    let (tally, left) = carry_into(alloc, &from, &mut made)?;
+    Ok((made, tally, left))
+}
+
+// The line that says what was carried, and that of what wasn't kept.
+fn carried_line(alloc: Global, tally: &Tally, left: &Left) -> Result<Vec<u8>, NoMemory>
+    ensures { IfOk result (λ said. said.items ≡ carried_text tally.now left.now) }
+{
+    let mut out = Vec::new(alloc);
+    let records = tally.nodes.saturating_sub(tally.open_count);
+    append_count(b"carried ", records, &mut out)?;
+    append_count(b" halting ", tally.halting, &mut out)?;
+    out.extend_from_slice(b"\n")?;
+    append_left(left, &mut out)?;
+    Ok(out)
 }
 
 /// Reads and loads a ledger, and makes another hold what it holds as version 2, whatever it held before. Answers how
@@ -77,13 +104,4 @@ pub fn carry_into<S: LedgerSource, L: LedgerOut>(
     let (board, left) = load_source(alloc, from)?;
     write_whole(alloc, &board, ledger)?;
     Ok((board.tally(), left))
-}
-
-// Appends the line that says what was carried.
-fn append_carried(tally: &Tally, out: &mut Vec<u8>) -> Result<(), NoMemory> {
-    out.extend_from_slice(b"carried ")?;
-    append_number(tally.nodes.saturating_sub(tally.open_count), out)?;
-    out.extend_from_slice(b" halting ")?;
-    append_number(tally.halting, out)?;
-    out.extend_from_slice(b"\n")
 }

@@ -5,10 +5,11 @@ ghost use Rattle.cmd_ledgers.specs.Reading.{AreFirstBytes, EndsReading};
 ghost use Rattle.cmd_ledgers.specs.Report.{IsReport};
 
 use crate::board_report::report;
-use crate::reading::{Opened, load_from};
+use crate::reading::load_from;
 use crate::report_form::{ReportForm, write_report};
 use crate::report_writer::append_left;
-use cmd_options::{Ended, Outcome, Stopped};
+use cmd_options::{Ended, Outcome, Stopped, ended_by, told};
+use files::Opened;
 use ledger::{Board, Left, Status, Unkept};
 use std::alloc::Global;
 use std::io::{self, Read, Write};
@@ -24,11 +25,7 @@ pub fn cmd_report<P: ReportForm, R: Read + Drop, W: Write, E: Write>(
     answers: &mut W,
     faults: &mut E,
 ) -> Outcome {
-    let ended = match report_file(alloc, form, file, answers) {
-        Ok(reported) => Ok(reported),
-        Err(stopped) => Err(stopped.by_file()),
-    };
-    outcome_told(alloc, why, ended, faults)
+    told(report_file(alloc, form, why, file, answers, faults), faults)
 }
 
 /// Prints the report of the ledger that a stream has up to its end, as `cmd_report` does that of a file.
@@ -40,55 +37,65 @@ pub fn cmd_report_stream<P: ReportForm, R: Read, W: Write, E: Write>(
     answers: &mut W,
     faults: &mut E,
 ) -> Outcome {
-    let ended = match write_ledger_report(alloc, form, input, u64::MAX, answers) {
-        Ok(reported) => Ok(reported),
-        Err(stopped) => Err(stopped.by_stream()),
-    };
-    outcome_told(alloc, why, ended, faults)
+    told(report_stream(alloc, form, why, input, answers, faults), faults)
 }
 
-fn report_file<P: ReportForm, R: Read + Drop, W: Write>(
+/// What `cmd_report` does, but that what ends it early isn't said.
+pub fn report_file<P: ReportForm, R: Read + Drop, W: Write, E: Write>(
     alloc: Global,
     form: &P,
+    why: bool,
     file: io::Result<Opened<R>>,
     answers: &mut W,
-) -> Result<(Outcome, Left), Stopped> {
-    match file {
-        Ok(mut file) => { write_ledger_report(alloc, form, &mut file.reader, file.length, answers) }
-        Err(fault) => Err(Stopped::Failed(fault)),
+    faults: &mut E,
+) -> Result<Outcome, Ended> {
+    let mut file = match file {
+        Ok(file) => file,
+        Err(fault) => return Err(ended_by(&fault, Ended::File)),
+    };
+    match write_ledger_report(alloc, form, &mut file.reader, file.length, answers) {
+        Ok((outcome, left)) => with_reason(alloc, why, outcome, &left, faults),
+        Err(stopped) => Err(stopped.ended(Ended::File)),
     }
 }
 
-// How the command ends, once that is said.
-fn outcome_told<E: Write>(
+/// What `cmd_report_stream` does, but that what ends it early isn't said.
+pub fn report_stream<P: ReportForm, R: Read, W: Write, E: Write>(
+    alloc: Global,
+    form: &P,
+    why: bool,
+    input: &mut R,
+    answers: &mut W,
+    faults: &mut E,
+) -> Result<Outcome, Ended> {
+    match write_ledger_report(alloc, form, input, u64::MAX, answers) {
+        Ok((outcome, left)) => with_reason(alloc, why, outcome, &left, faults),
+        Err(stopped) => Err(stopped.ended(Ended::Stream)),
+    }
+}
+
+// Says why a line wasn't kept, where there is one and that is asked for: the refusal number, if there is one, and words.
+fn with_reason<E: Write>(
     alloc: Global,
     why: bool,
-    ended: Result<(Outcome, Left), Ended>,
+    outcome: Outcome,
+    left: &Left,
     faults: &mut E,
-) -> Outcome {
-    match ended {
-        Ok((outcome, left)) if why => outcome.max(left_told(alloc, &left, faults)),
-        Ok((outcome, _)) => outcome,
-        Err(ended) => ended.told(faults),
+) -> Result<Outcome, Ended> {
+    let Left::From {
+        line, why: reason, ..
+    } = left else {
+        return Ok(outcome);
+    };
+    if !why {
+        return Ok(outcome);
     }
-}
-
-// Says why a line wasn't kept, where there is one: the refusal number, if there is one, and words.
-fn left_told<E: Write>(alloc: Global, left: &Left, faults: &mut E) -> Outcome {
-    let Left::From { line, why, .. } = left else {
-        return Outcome::Accepted;
+    let said = match refusal_number(reason) {
+        Some(number) => format!(in alloc; "line {line} isn't kept: {number}, {reason}\n")?,
+        None => format!(in alloc; "line {line} isn't kept: {reason}\n")?,
     };
-    let said = match refusal_number(why) {
-        Some(number) => format!(in alloc; "line {line} isn't kept: {number}, {why}\n"),
-        None => format!(in alloc; "line {line} isn't kept: {why}\n"),
-    };
-    let Ok(text) = said else {
-        return Ended::NoMemory.told(faults);
-    };
-    match faults.write_all(text.as_bytes()) {
-        Ok(()) => Outcome::Accepted,
-        Err(_) => Outcome::Failed,
-    }
+    faults.write_all(said.as_bytes())?;
+    Ok(outcome)
 }
 
 fn refusal_number(why: &Unkept) -> Option<u16> {

@@ -2,16 +2,13 @@
 //!
 //! `specs/Report` is the report of a board, `specs/Told` what it tells before it is printed, `specs/TreeReport` that of a complete one, `specs/LedgerReport` what is
 //! printed for a ledger's text, `specs/Reading` how that is read, `specs/Retry` what becomes of holdouts that are tried
-//! again, `specs/Merge` of two ledgers that are joined, `specs/Carry` of one that is written as version 2.
+//! again, `specs/Merge` of two ledgers that are joined, `specs/Carry` of one that is written as version 2, `specs/AtPath`
+//! what the last two come to where files stand.
 #![tactic(auto)]
 
 mod board_report;
 mod carry;
 mod faults;
-mod file_ledger;
-mod host;
-mod keeping;
-mod ledger_at;
 mod ledger_changes;
 mod ledger_report;
 mod merge;
@@ -25,21 +22,19 @@ mod told;
 mod tree_reports;
 
 pub use board_report::{report, status_name};
-pub use carry::{carry_into, cmd_carry};
+pub use carry::{carry_at, carry_into, cmd_carry};
 pub use faults::by_load;
-pub use file_ledger::FileLedger;
-pub use host::{Held, Host, held_at, opened, opened_to_end};
-pub use ledger_at::LedgerAt;
 pub use ledger_changes::keep_answer;
 pub use ledger_report::{
-    cmd_report, cmd_report_stream, outcome_by, report_ledger, write_ledger_report,
+    cmd_report, cmd_report_stream, outcome_by, report_file, report_ledger, report_stream,
+    write_ledger_report,
 };
-pub use merge::{cmd_merge, join, join_into};
-pub use reading::{MAX_HEADER_BYTES, Opened, begin_reading, load_from};
+pub use merge::{cmd_merge, join, join_into, merge_at};
+pub use reading::{MAX_HEADER_BYTES, begin_reading, load_from};
 pub use report_form::{AsLines, ReportForm, write_report, write_told};
 pub use report_writer::{LineReport, pass};
-pub use retry::{cmd_retry, retry_holdouts};
-pub use rewriting::{Place, write_whole};
+pub use retry::{cmd_retry, retry_holdouts, retry_ledger};
+pub use rewriting::write_whole;
 pub use source::LedgerSource;
 pub use told::Told;
 pub use tree_reports::complete_boards_report_their_tree;

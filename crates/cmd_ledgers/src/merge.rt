@@ -1,15 +1,20 @@
 // `bb merge`: two ledgers in, one that holds what either does out.
-ghost use Rattle.std.specs.Prelude.{◌≡◌, ◌⊎◌, List, ℕ, Ok, Err, IfOk, IfErr, OnOk};
-ghost use Rattle.cmd_ledgers.specs.Merge.{AreJoined, EndsJoiningInto, EndsTakingIn, IsLoaded, JoinsInto, TakesIn, first_left, rewritten};
+ghost use Rattle.std.specs.Prelude.{◌≡◌, ◌⊎◌, ◌++◌, List, ℕ, Ok, Err, IfOk, IfErr, OnOk, Option, Result};
+ghost use Rattle.cmd_options.specs.declared.outcome.Outcome.{Outcome as Outcomes};
+ghost use Rattle.cmd_options.specs.declared.ended.Ended.{Ended as Ends};
+ghost use Rattle.cmd_options.specs.Ends.{IsTold};
+ghost use Rattle.files.specs.Standing.{IsBlank, IsKeptBut};
+ghost use Rattle.cmd_ledgers.specs.AtPath.{FailsWriting, MergesAt, ReadsAt};
+ghost use Rattle.cmd_ledgers.specs.Merge.{AreJoined, EndsJoiningInto, EndsTakingIn, IsLoaded, JoinsInto, TakesIn, count_text, first_left, merged_text, rewritten};
 ghost use Rattle.cmd_ledgers.specs.Reading.{AreFirstBytes, EndsReadingOf};
 
 use crate::faults::by_merge;
-use crate::host::Host;
 use crate::reading::load_of;
 use crate::report_writer::append_left;
-use crate::rewriting::{Place, outcome_of_left, write_whole};
+use crate::rewriting::{outcome_of_left, write_whole};
 use crate::source::{AtPath, LedgerSource, load_source};
-use cmd_options::{Ended, Merging, Outcome, Stopped};
+use cmd_options::{Ended, Merging, Outcome, Stopped, told};
+use files::{Files, made_for, put_at};
 use kind_evidence::NoMemory;
 use ledger::{Board, Left, Tally};
 use std::alloc::Global;
@@ -22,41 +27,50 @@ use wire::LedgerOut;
 /// and judged before the next, and both before anything is written. Where the
 /// path that is to be written leads to a plain file or to nothing, the ledger is made in a new file beside that, `.new`, which
 /// is then put in its place, so that a program that is killed leaves the old ledger or the new one; after a failure that file
-/// is left. Accepted where
-/// all was kept. What ends the command early is said on `faults`.
-pub fn cmd_merge<H: Host, W: Write, E: Write>(
+/// is left. Accepted where all was kept. What ends the command early is said on `faults`.
+pub fn cmd_merge<H: Files, W: Write, E: Write>(
     alloc: Global,
     merging: Merging<'_>,
-    host: &H,
+    host: &mut H,
     answers: &mut W,
     faults: &mut E,
-) -> Outcome {
-    match merge_ledgers(alloc, merging, host, answers) {
-        Ok(outcome) => outcome,
-        Err(ended) => ended.told(faults),
-    }
+) -> Outcome
+    ensures others { IsKeptBut (H.tells_same host.old) merging.entry.out.now (H.holds host.old) (H.holds host.new) }
+    ensures merges { (ended : Result Outcomes Ends)
+        × MergesAt (H.tells_same host.old) merging.entry.first.now merging.entry.second.now merging.entry.out.now (H.holds host.old) (H.holds host.new) (W.contents answers.old) (W.contents answers.new) ended
+        × IsTold ended (E.contents faults.old) (E.contents faults.new) result }
+{
+    told(merge_at(alloc, merging, host, answers), faults)
 }
 
-fn merge_ledgers<H: Host, W: Write>(
+/// The same, but that what ends it early isn't said.
+pub fn merge_at<H: Files, W: Write>(
     alloc: Global,
     merging: Merging<'_>,
-    host: &H,
+    host: &mut H,
     answers: &mut W,
-) -> Result<Outcome, Ended> {
-    let place = Place::of(alloc, host, merging.out, &[merging.first, merging.second])?;
-    let (tally, left) = join_at(alloc, merging, host, &place)?;
-    place.put(host)?;
-    tell(alloc, &tally, &left, answers)?;
+) -> Result<Outcome, Ended>
+    ensures others { IsKeptBut (H.tells_same host.old) merging.entry.out.now (H.holds host.old) (H.holds host.new) }
+    ensures merges { MergesAt (H.tells_same host.old) merging.entry.first.now merging.entry.second.now merging.entry.out.now (H.holds host.old) (H.holds host.new) (W.contents answers.old) (W.contents answers.new) result }
+{
+    let (made, tally, left) = joined(alloc, merging, host)?;
+    let said = merged_line(alloc, &tally, &left)?;
+    put_at(host, made, merging.out)?;
+    answers.write_all(&said)?;
     Ok(outcome_of_left(&left))
 }
 
-// Joins the two ledgers into one at a place.
-fn join_at<H: Host>(
+// The ledger of what two hold together, which stands nowhere yet.
+fn joined<H: Files>(
     alloc: Global,
     merging: Merging<'_>,
     host: &H,
-    place: &Place,
-) -> Result<(Tally, Left), Ended> {
+) -> Result<(H::Made, Tally, Left), Ended>
+    ensures ok { IfOk result (λ j. (begun : Option (List ℕ)) × IsBlank begun
+        × JoinsInto (ReadsAt (H.holds host.now merging.entry.first.now)) (ReadsAt (H.holds host.now merging.entry.second.now)) j.1 j.2 begun (H.Made.text j.0)) }
+    ensures err { IfErr result (λ e. AreJoined (ReadsAt (H.holds host.now merging.entry.first.now)) (ReadsAt (H.holds host.now merging.entry.second.now)) (Err e) ⊎ FailsWriting e) }
+{
+    let mut made = made_for(host, merging.out, &[merging.first, merging.second])?;
     let first = AtPath {
         host,
         path: merging.first,
@@ -65,16 +79,30 @@ fn join_at<H: Host>(
         host,
         path: merging.second,
     };
-    join_into(alloc, &first, &second, &mut place.ledger(host, merging.out))
+    let (tally, left) = join_into(alloc, &first, &second, &mut made)?;
+    Ok((made, tally, left))
 }
 
-// Prints what the board holds, and what wasn't kept.
-fn tell<W: Write>(alloc: Global, tally: &Tally, left: &Left, answers: &mut W) -> Result<(), Ended> {
-    let mut said = Vec::new(alloc);
-    append_merged(tally, &mut said)?;
-    append_left(left, &mut said)?;
-    answers.write_all(&said)?;
-    Ok(())
+// The line that says what the merged ledger holds, and that of what wasn't kept.
+fn merged_line(alloc: Global, tally: &Tally, left: &Left) -> Result<Vec<u8>, NoMemory>
+    ensures { IfOk result (λ said. said.items ≡ merged_text tally.now left.now) }
+{
+    let mut out = Vec::new(alloc);
+    let records = tally.nodes.saturating_sub(tally.open_count);
+    append_count(b"merged ", records, &mut out)?;
+    append_count(b" open ", tally.open_count, &mut out)?;
+    append_count(b" holdouts ", tally.holdouts, &mut out)?;
+    out.extend_from_slice(b"\n")?;
+    append_left(left, &mut out)?;
+    Ok(out)
+}
+
+// Appends a name and a count.
+pub(crate) fn append_count(name: &[u8], count: u64, out: &mut Vec<u8>) -> Result<(), NoMemory>
+    ensures { OnOk result (out.new.items ≡ out.old.items ++ count_text name.now count) }
+{
+    out.extend_from_slice(name)?;
+    append_number(count, out)
 }
 
 /// Joins two ledgers, and makes a third hold the ledger of what they hold together, whatever it held before. Answers
@@ -150,15 +178,4 @@ fn take_from<R: Read>(
         Ok(()) => Ok(left),
         Err(fault) => Err(Stopped::Ended(by_merge(fault))),
     }
-}
-
-// Appends the line that says what the merged ledger holds.
-fn append_merged(tally: &Tally, out: &mut Vec<u8>) -> Result<(), NoMemory> {
-    out.extend_from_slice(b"merged ")?;
-    append_number(tally.nodes.saturating_sub(tally.open_count), out)?;
-    out.extend_from_slice(b" open ")?;
-    append_number(tally.open_count, out)?;
-    out.extend_from_slice(b" holdouts ")?;
-    append_number(tally.holdouts, out)?;
-    out.extend_from_slice(b"\n")
 }

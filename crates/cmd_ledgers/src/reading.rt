@@ -18,13 +18,6 @@ use std::alloc::Global;
 use std::io::{self, Read};
 use text::first_line;
 
-/// A file that was opened, and how many bytes it then had.
-#[derive(Drop)]
-pub struct Opened<R> {
-    pub reader: R,
-    pub length: u64,
-}
-
 /// More bytes than a ledger's header has.
 pub const MAX_HEADER_BYTES: usize = 64;
 

@@ -13,10 +13,11 @@ ghost use Rattle.cmd_ledgers.specs.Retry.{SettlesOrStays, StaysInStep, AtSomeTim
 
 use crate::ledger_changes::{append_to, cut_to};
 use crate::ledger_report::outcome_by;
-use crate::reading::{Opened, load_from};
+use crate::reading::load_from;
 use crate::report_form::{AsLines, write_report};
 use cert::{Decider, Record};
-use cmd_options::{Ended, Outcome, Stopped};
+use cmd_options::{Ended, Outcome, Stopped, told};
+use files::Opened;
 use ledger::{Board, Left, Taken, kept_bytes_load};
 use machine_text::Table;
 use std::alloc::Global;
@@ -35,13 +36,11 @@ pub fn cmd_retry<F: Read + Drop, L: LedgerOut, D: Decider, W: Write, E: Write>(
     answers: &mut W,
     faults: &mut E,
 ) -> Outcome {
-    match retry_ledger(alloc, held, ledger, decider, answers) {
-        Ok(outcome) => outcome,
-        Err(ended) => ended.told(faults),
-    }
+    told(retry_ledger(alloc, held, ledger, decider, answers), faults)
 }
 
-fn retry_ledger<F: Read + Drop, L: LedgerOut, D: Decider, W: Write>(
+/// The same, but that what ends it early isn't said.
+pub fn retry_ledger<F: Read + Drop, L: LedgerOut, D: Decider, W: Write>(
     alloc: Global,
     held: io::Result<Opened<F>>,
     ledger: &mut L,
@@ -52,7 +51,7 @@ fn retry_ledger<F: Read + Drop, L: LedgerOut, D: Decider, W: Write>(
         Ok((mut board, left)) => {
             settle_further(alloc, &mut board, &left, ledger, decider, answers)
         }
-        Err(stopped) => Err(stopped.by_ledger()),
+        Err(stopped) => Err(stopped.ended(Ended::Ledger)),
     }
 }
 

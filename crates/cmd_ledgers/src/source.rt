@@ -2,9 +2,9 @@
 ghost use Rattle.std.specs.Prelude.{Ok, Err, IfOk, IfErr};
 ghost use Rattle.cmd_ledgers.specs.Merge.{IsLoaded};
 
-use crate::host::{Host, opened_to_end};
-use crate::reading::{Opened, load_from};
-use cmd_options::{Ended, Stopped};
+use crate::reading::load_from;
+use cmd_options::{Ended, Stopped, ended_by};
+use files::{Files, Opened};
 use ledger::{Board, Left};
 use std::alloc::Global;
 use std::io::{self, Read};
@@ -31,27 +31,29 @@ pub trait LedgerSource {
         ensures { reads self.now (Err result) };
 }
 
-// A ledger file by its path.
+// A ledger by its path.
 #[derive(Drop)]
 pub(crate) struct AtPath<'a, H> {
     pub host: &'a H,
     pub path: &'a str,
 }
 
-impl<H: Host> LedgerSource for AtPath<'_, H> {
-    type Reader = H::File;
+impl<H: Files> LedgerSource for AtPath<'_, H> {
+    ghost use Rattle.cmd_ledgers.specs.AtPath.{ReadsAt};
 
-    ghost reads = { λ s r. Unit {0} };
+    type Reader = H::Reader;
 
-    fn open(&self) -> Result<Opened<H::File>, Ended> {
-        match opened_to_end(self.host, self.path) {
+    ghost reads = { λ source. ReadsAt (H.holds source.host.now source.path.now) };
+
+    fn open(&self) -> Result<Opened<H::Reader>, Ended> {
+        match self.host.open_to_end(self.path) {
             Ok(file) => Ok(file),
             Err(fault) => Err(self.failed(&fault)),
         }
     }
 
     fn failed(&self, fault: &io::Error) -> Ended {
-        Ended::by_file(fault)
+        ended_by(fault, Ended::File)
     }
 }
 

@@ -61,11 +61,6 @@ AnswersRecord r BadLine answer = ⊥
 AnswersRecord r NoMemory answer = ⊥
 AnswersRecord r Failed answer = ⊥
 
--- a line that is lent, or none
-abbrev pub lent_line : Option (Bor (List ℕ)) → Option (List ℕ)
-lent_line None = None
-lent_line (Some line) = Some line.now
-
 -- what is read of a line, which is none where it was too long
 abbrev pub read_line : Option (List ℕ) → Result Recorded RecordFault
 read_line None = Err TooLong

@@ -1,4 +1,3 @@
 pub mod Answer
 pub mod Decision
 pub mod Stream
-pub mod inside

@@ -1,18 +1,11 @@
 -- The answers to the lines of a stream, one after another.
 use Rattle.std.specs.Prelude.{◌≡◌, ℕ, List, [], ◌∷◌, ◌++◌, Option}
 use Rattle.std.specs.Io.KnownBytes.{Consumes, Appends, IsAtEnd}
-use Rattle.text.specs.Lines.{bounded_line}
+use Rattle.text.specs.Lines.{BoundedLine, bounded_line}
 use Rattle.cmd_taking.specs.Lines.{AreLines}
 use Rattle.cmd_options.specs.declared.outcome.Outcome.{Outcome}
-use Rattle.cmd_options.specs.declared.outcome.Outcome.TheVariants.{Accepted, Refused, BadLine, NoMemory, Failed}
-
--- the first of two outcomes that isn't that all was accepted
-abbrev pub first_fault : Outcome → Outcome → Outcome
-first_fault Accepted o = o
-first_fault Refused o = Refused
-first_fault BadLine o = BadLine
-first_fault NoMemory o = NoMemory
-first_fault Failed o = Failed
+use Rattle.cmd_options.specs.declared.outcome.Outcome.TheVariants.{Accepted}
+use Rattle.cmd_taking.specs.Said.{first_fault}
 
 -- what is said to lines, in their order, where this may be said to each, of which no more is read than may be kept:
 -- each answer with its newline. The outcome is that of the first line that isn't accepted
@@ -32,3 +25,7 @@ pub record AnswersStream (Says : Option (List ℕ) → Outcome → List ℕ → 
   pub are_lines : AreLines text lines
   pub answered : AreAnswered Says lines o answers
   pub written : Appends held new_held answers
+
+-- what is said to one line is an answer with its newline, whatever is remembered
+abbrev pub SaysAnswer : {D : Type 0} → (BoundedLine → Outcome → List ℕ → Type 0) → D → BoundedLine → Outcome → D → List ℕ → Type 0
+SaysAnswer {D} Says old line o new said = (answer : List ℕ) × Says line o answer × (said ≡ answer ++ 10 ∷ [])

@@ -3,7 +3,8 @@ ghost use Rattle.std.specs.Prelude.{◌≡◌, ◌∷◌, [], ◌++◌, List, �
 ghost use Rattle.machine_text.specs.Text.{text_of};
 ghost use Rattle.cert.specs.Claim.{score_by};
 ghost use Rattle.cert.specs.Kinds.{recorded, read_as};
-ghost use Rattle.cmd_lines.specs.Answer.{Answers, AnswersRecord, lent_line, ones_text, read_line, verdict_text, text_fault_text, fault_text};
+ghost use Rattle.cmd_lines.specs.Answer.{Answers, AnswersRecord, ones_text, read_line, verdict_text, text_fault_text, fault_text};
+ghost use Rattle.cmd_taking.specs.Taken.{lent};
 
 use cert::{Record, RecordFault, append_table, judge, standing_claims_are_true};
 use cmd_options::Outcome;
@@ -14,7 +15,7 @@ use text::append_number;
 
 /// Appends the answer to a line, which is none where it was too long, with a newline.
 pub fn answer(alloc: Global, line: Option<&[u8]>, out: &mut Vec<u8>) -> Result<Outcome, NoMemory>
-    ensures { IfOk result (λ o. (answer : List ℕ) × Answers (read_line (lent_line line.entry)) o answer × (out.new.items ≡ out.old.items ++ answer ++ 10 ∷ [])) }
+    ensures { IfOk result (λ o. (answer : List ℕ) × Answers (read_line (lent line.entry)) o answer × (out.new.items ≡ out.old.items ++ answer ++ 10 ∷ [])) }
 {
     let outcome = match read_line(line) {
         Ok(record) => answer_record(alloc, &record, out)?,
@@ -29,7 +30,7 @@ pub fn answer(alloc: Global, line: Option<&[u8]>, out: &mut Vec<u8>) -> Result<O
 
 // The record of a line.
 fn read_line(line: Option<&[u8]>) -> Result<Record<'_>, RecordFault>
-    ensures { read_as result ≡ read_line (lent_line line.entry) }
+    ensures { read_as result ≡ read_line (lent line.entry) }
 {
     match line {
         Some(text) => Record::parse(text),

@@ -1,13 +1,12 @@
 // `bb check`: records in, answers out.
-ghost use Rattle.std.specs.Prelude.{◌≡◌, ◌⊎◌};
+ghost use Rattle.std.specs.Prelude.{◌≡◌, ◌⊎◌, IfErr, IfOk};
 ghost use Rattle.cmd_lines.specs.Answer.{SaysOfRecord};
 ghost use Rattle.cmd_lines.specs.Stream.{AnswersStream};
 
 use crate::answers::answer;
-use crate::line_loop::{Answerer, answer_lines};
 use crate::misplaced::{Misplaced, Reader, Remark};
-use cmd_options::Outcome;
-use kind_evidence::NoMemory;
+use cmd_options::{Ended, Outcome, told};
+use cmd_taking::{PIECE_BYTES, Sayer, say_lines};
 use machine_text::Table;
 use std::alloc::Global;
 use std::io::{Read, Write};
@@ -30,29 +29,33 @@ pub fn cmd_check<R: Read, W: Write, E: Write>(
     ensures { AnswersStream SaysOfRecord (R.remaining input.old) (R.remaining input.new) (W.contents answers.old) (W.contents answers.new) result
         ⊎ (result ≡ Outcome.NoMemory) ⊎ (result ≡ Outcome.Failed) }
 {
-    check_for(alloc, Reader::Script, input, answers, faults)
+    told(
+        check_for(alloc, Reader::Script, input, answers, faults),
+        faults,
+    )
 }
 
-/// The same for a script or a person, who is told on `faults` at the end which line was the first that is a table alone.
+/// The same for a script or a person, who is told on `faults` at the end which line was the first that is a table alone; but
+/// that what ends it early isn't said.
 pub fn check_for<R: Read, W: Write, E: Write>(
     alloc: Global,
     reader: Reader,
     input: &mut R,
     answers: &mut W,
     faults: &mut E,
-) -> Outcome
-    ensures { AnswersStream SaysOfRecord (R.remaining input.old) (R.remaining input.new) (W.contents answers.old) (W.contents answers.new) result
-        ⊎ (result ≡ Outcome.NoMemory) ⊎ (result ≡ Outcome.Failed) }
+) -> Result<Outcome, Ended>
+    ensures ok { IfOk result (AnswersStream SaysOfRecord (R.remaining input.old) (R.remaining input.new) (W.contents answers.old) (W.contents answers.new)) }
+    ensures err { IfErr result (λ e. (e ≡ Ended.NoMemory) ⊎ (e ≡ Ended.Stream)) }
 {
-    let mut checker = Checker {
+    let checker = Checker {
         alloc,
         tables: Misplaced::none(),
     };
-    let ended = answer_lines(alloc, &mut checker, input, answers, faults);
-    match reader {
-        Reader::Script => ended,
-        Reader::Person => checker.tables.told(alloc, &TABLE_ALONE, ended, faults),
+    let (outcome, checker) = say_lines(alloc, checker, PIECE_BYTES, input, answers)?;
+    if reader == Reader::Person && outcome == Outcome::Refused {
+        checker.tables.tell(alloc, &TABLE_ALONE, faults)?;
     }
+    Ok(outcome)
 }
 
 #[derive(Drop)]
@@ -62,13 +65,18 @@ struct Checker {
     tables: Misplaced,
 }
 
-impl Answerer for Checker {
+impl Sayer for Checker {
+    ghost use Rattle.std.specs.Prelude.{◌≡◌};
+    ghost use Rattle.cmd_options.specs.declared.ended.Ended.TheVariants.{NoMemory as WantsMemory};
     ghost use Rattle.cmd_lines.specs.Answer.{SaysOfRecord};
+    ghost use Rattle.cmd_lines.specs.Stream.{SaysAnswer};
 
-    ghost says = { SaysOfRecord };
+    ghost takes = { SaysAnswer SaysOfRecord };
 
-    fn answer(&mut self, line: Option<&[u8]>, out: &mut Vec<u8>) -> Result<Outcome, NoMemory> {
-        let outcome = answer(self.alloc, line, out)?;
+    ghost ends = { λ e. e ≡ WantsMemory };
+
+    fn take_line(&mut self, line: Option<&[u8]>, said: &mut Vec<u8>) -> Result<Outcome, Ended> {
+        let outcome = answer(self.alloc, line, said)?;
         self.tables
             .count(outcome == Outcome::Refused && is_table(line));
         Ok(outcome)

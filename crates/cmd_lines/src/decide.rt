@@ -1,14 +1,14 @@
 // `bb decide`: tables in, records out.
-ghost use Rattle.std.specs.Prelude.{◌≡◌, ◌⊎◌, ◌∷◌, [], ◌++◌, List, ℕ, IfOk};
-ghost use Rattle.cmd_lines.specs.Answer.{lent_line};
+ghost use Rattle.std.specs.Prelude.{◌≡◌, ◌⊎◌, ◌∷◌, [], ◌++◌, List, ℕ, IfErr, IfOk};
+ghost use Rattle.cmd_taking.specs.Taken.{lent};
 ghost use Rattle.cmd_lines.specs.Decision.{Decides, DecidesTable, SaysOfTable, read_line_table, table_read};
 ghost use Rattle.cmd_lines.specs.Stream.{AnswersStream};
 
 use crate::answers::append_fault;
-use crate::line_loop::{Answerer, answer_lines};
 use crate::misplaced::{Misplaced, Reader, Remark};
 use cert::{Decider, Record, RecordFault};
-use cmd_options::Outcome;
+use cmd_options::{Ended, Outcome, told};
+use cmd_taking::{PIECE_BYTES, Sayer, say_lines};
 use kind_evidence::NoMemory;
 use machine_text::Table;
 use std::alloc::Global;
@@ -33,10 +33,14 @@ pub fn cmd_decide<D: Decider, R: Read, W: Write, E: Write>(
     ensures { AnswersStream (SaysOfTable D.answers) (R.remaining input.old) (R.remaining input.new) (W.contents answers.old) (W.contents answers.new) result
         ⊎ (result ≡ Outcome.NoMemory) ⊎ (result ≡ Outcome.Failed) }
 {
-    decide_for(alloc, Reader::Script, decider, input, answers, faults)
+    told(
+        decide_for(alloc, Reader::Script, decider, input, answers, faults),
+        faults,
+    )
 }
 
-/// The same for a script or a person, who is told on `faults` at the end which line was the first that is a record.
+/// The same for a script or a person, who is told on `faults` at the end which line was the first that is a record; but that
+/// what ends it early isn't said.
 pub fn decide_for<D: Decider, R: Read, W: Write, E: Write>(
     alloc: Global,
     reader: Reader,
@@ -44,20 +48,20 @@ pub fn decide_for<D: Decider, R: Read, W: Write, E: Write>(
     input: &mut R,
     answers: &mut W,
     faults: &mut E,
-) -> Outcome
-    ensures { AnswersStream (SaysOfTable D.answers) (R.remaining input.old) (R.remaining input.new) (W.contents answers.old) (W.contents answers.new) result
-        ⊎ (result ≡ Outcome.NoMemory) ⊎ (result ≡ Outcome.Failed) }
+) -> Result<Outcome, Ended>
+    ensures ok { IfOk result (AnswersStream (SaysOfTable D.answers) (R.remaining input.old) (R.remaining input.new) (W.contents answers.old) (W.contents answers.new)) }
+    ensures err { IfErr result (λ e. (e ≡ Ended.NoMemory) ⊎ (e ≡ Ended.Stream)) }
 {
-    let mut answerer = TableAnswerer {
+    let answerer = TableAnswerer {
         alloc,
         decider,
         records: Misplaced::none(),
     };
-    let ended = answer_lines(alloc, &mut answerer, input, answers, faults);
-    match reader {
-        Reader::Script => ended,
-        Reader::Person => answerer.records.told(alloc, &RECORD, ended, faults),
+    let (outcome, answerer) = say_lines(alloc, answerer, PIECE_BYTES, input, answers)?;
+    if reader == Reader::Person && outcome == Outcome::Refused {
+        answerer.records.tell(alloc, &RECORD, faults)?;
     }
+    Ok(outcome)
 }
 
 #[derive(Drop)]
@@ -68,13 +72,18 @@ struct TableAnswerer<'a, D> {
     records: Misplaced,
 }
 
-impl<'a, D: Decider> Answerer for TableAnswerer<'a, D> {
+impl<'a, D: Decider> Sayer for TableAnswerer<'a, D> {
+    ghost use Rattle.std.specs.Prelude.{◌≡◌};
+    ghost use Rattle.cmd_options.specs.declared.ended.Ended.TheVariants.{NoMemory as WantsMemory};
     ghost use Rattle.cmd_lines.specs.Decision.{SaysOfTable};
+    ghost use Rattle.cmd_lines.specs.Stream.{SaysAnswer};
 
-    ghost says = { SaysOfTable D.answers };
+    ghost takes = { SaysAnswer (SaysOfTable D.answers) };
 
-    fn answer(&mut self, line: Option<&[u8]>, out: &mut Vec<u8>) -> Result<Outcome, NoMemory> {
-        let outcome = decide_line(self.alloc, self.decider, line, out)?;
+    ghost ends = { λ e. e ≡ WantsMemory };
+
+    fn take_line(&mut self, line: Option<&[u8]>, said: &mut Vec<u8>) -> Result<Outcome, Ended> {
+        let outcome = decide_line(self.alloc, self.decider, line, said)?;
         self.records
             .count(outcome == Outcome::Refused && is_record(line));
         Ok(outcome)
@@ -89,7 +98,7 @@ pub fn decide_line<D: Decider>(
     line: Option<&[u8]>,
     out: &mut Vec<u8>,
 ) -> Result<Outcome, NoMemory>
-    ensures { IfOk result (λ o. (answer : List ℕ) × Decides (D.answers decider.old) (read_line_table (lent_line line.entry)) o answer × (out.new.items ≡ out.old.items ++ answer ++ 10 ∷ [])) }
+    ensures { IfOk result (λ o. (answer : List ℕ) × Decides (D.answers decider.old) (read_line_table (lent line.entry)) o answer × (out.new.items ≡ out.old.items ++ answer ++ 10 ∷ [])) }
 {
     let outcome = match read_line_table(line) {
         Ok(table) => append_record(alloc, decider, &table, out)?,
@@ -104,7 +113,7 @@ pub fn decide_line<D: Decider>(
 
 // The table of a line.
 fn read_line_table(line: Option<&[u8]>) -> Result<Table, RecordFault>
-    ensures { result ≡ read_line_table (lent_line line.entry) }
+    ensures { result ≡ read_line_table (lent line.entry) }
 {
     match line {
         Some(text) => match Table::parse(text) {

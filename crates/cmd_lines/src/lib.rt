@@ -6,7 +6,6 @@
 mod answers;
 mod check;
 mod decide;
-mod line_loop;
 mod misplaced;
 
 pub use answers::{answer, append_fault};

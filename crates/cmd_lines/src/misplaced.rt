@@ -1,7 +1,7 @@
 // Lines that another command would take.
-ghost use Rattle.std.specs.Prelude.{◌≡◌, ◌⊎◌};
+ghost use Rattle.std.specs.Prelude.{◌≡◌, ◌⊎◌, IfErr};
 
-use cmd_options::{Ended, Outcome};
+use cmd_options::Ended;
 use kind_evidence::NoMemory;
 use std::alloc::Global;
 use std::io::Write;
@@ -49,32 +49,21 @@ impl Misplaced {
         }
     }
 
-    /// Says at the end which line it was. How the command ended stays so, but where that can't be said.
-    pub(crate) fn told<E: Write>(
+    /// Says at the end which line it was, if there was one.
+    pub(crate) fn tell<E: Write>(
         &self,
         alloc: Global,
         remark: &Remark,
-        ended: Outcome,
         faults: &mut E,
-    ) -> Outcome
-        ensures { (result ≡ ended) ⊎ (result ≡ Outcome.NoMemory) ⊎ (result ≡ Outcome.Failed) }
+    ) -> Result<(), Ended>
+        ensures { IfErr result (λ e. (e ≡ Ended.NoMemory) ⊎ (e ≡ Ended.Stream)) }
     {
-        match self.first {
-            Some(line) if ended == Outcome::Refused => {
-                match say(alloc, remark, line, faults) {
-                    Ok(()) => ended,
-                    Err(fault) => fault.told(faults),
-                }
-            }
-            _ => ended,
+        if let Some(line) = self.first {
+            let told = sentence(alloc, remark, line)?;
+            faults.write_all(&told)?;
         }
+        Ok(())
     }
-}
-
-fn say<E: Write>(alloc: Global, remark: &Remark, line: u64, faults: &mut E) -> Result<(), Ended> {
-    let told = sentence(alloc, remark, line)?;
-    faults.write_all(&told)?;
-    Ok(())
 }
 
 fn sentence(alloc: Global, remark: &Remark, line: u64) -> Result<Vec<u8>, NoMemory> {

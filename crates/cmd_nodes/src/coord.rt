@@ -8,8 +8,9 @@ ghost use Rattle.cmd_ledgers.specs.LedgerReport.{outcome_by};
 use crate::faults::{by_start, by_turn};
 use crate::held_ledger::HeldLedger;
 use crate::streams::Streams;
-use cmd_ledgers::{Opened, keep_answer, outcome_by};
-use cmd_options::{Beginning, Ended, Outcome};
+use cmd_ledgers::{keep_answer, outcome_by};
+use cmd_options::{Beginning, Ended, Outcome, ended_by, told};
+use files::Opened;
 use lease_core::{Coordinator, StartFault};
 use ledger::Left;
 use std::alloc::Global;
@@ -30,13 +31,14 @@ pub fn cmd_coord<F: Read + Drop, L: LedgerOut, R: Read, W: Write, E: Write>(
 ) -> Outcome
     requires { (1 ≤ beginning.states) × (beginning.states ≤ state_limit) }
 {
-    match coordinate(alloc, beginning, held, ledger, input, answers) {
-        Ok(outcome) => outcome,
-        Err(ended) => ended.told(faults),
-    }
+    told(
+        coordinate(alloc, beginning, held, ledger, input, answers),
+        faults,
+    )
 }
 
-fn coordinate<F: Read + Drop, L: LedgerOut, R: Read, W: Write>(
+/// The same, but that what ends it early isn't said.
+pub fn coordinate<F: Read + Drop, L: LedgerOut, R: Read, W: Write>(
     alloc: Global,
     beginning: Beginning,
     held: io::Result<Opened<F>>,
@@ -63,7 +65,7 @@ pub(crate) fn start_coordinator<F: Read + Drop, L: LedgerOut>(
 {
     match held {
         Ok(mut opened) => start(alloc, beginning, &mut opened, ledger),
-        Err(fault) => Err(Ended::by_ledger(&fault)),
+        Err(fault) => Err(ended_by(&fault, Ended::Ledger)),
     }
 }
 

@@ -1,5 +1,5 @@
 // A ledger that is read when a coordinator starts.
-use cmd_options::Ended;
+use cmd_options::{Ended, ended_by};
 use std::io::{self, Read};
 
 // A reader of a ledger, and what ends a command where a read of it failed: a start says of its ledger's fault no more
@@ -25,10 +25,12 @@ impl<'a, F: Read> HeldLedger<'a, F> {
 }
 
 impl<'a, F: Read> Read for HeldLedger<'a, F> {
+    ghost remaining = { λ held. F.remaining held.reader.now };
+
     fn read(&mut self, buf: &mut [u8]) -> io::Result<usize> {
         let answer = self.reader.read(buf);
         if let Err(fault) = &answer {
-            self.fault = Some(Ended::by_ledger(fault));
+            self.fault = Some(ended_by(fault, Ended::Ledger));
         }
         answer
     }

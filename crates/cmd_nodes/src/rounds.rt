@@ -1,24 +1,22 @@
 // Rounds of a coordinator and workers in one process.
 use crate::carriers::Carrier;
 use crate::faults::by_turn;
-use crate::progress::Progress;
 use crate::station::Station;
 use cmd_ledgers::keep_answer;
 use cmd_options::Ended;
+use files::Progress;
 use lease_core::Coordinator;
 use ledger::Status;
-use std::io::Write;
-use std::time::Clock;
 use wire::{Event, LedgerOut, Node, TurnFault};
 
 // Runs rounds, numbered from 1, until no table is open or so many were run. A round is a tick of the
 // coordinator, and then each worker's part.
-pub(crate) fn run_rounds<N: Node, Y: Carrier, L: LedgerOut, C: Clock, E: Write>(
+pub(crate) fn run_rounds<N: Node, Y: Carrier, L: LedgerOut, P: Progress>(
     coordinator: &mut Coordinator,
     ledger: &mut L,
     stations: &mut Vec<Station<N, Y>>,
     rounds: u64,
-    progress: &mut Progress<'_, C, E>,
+    progress: &mut P,
 ) -> Result<(), Ended> {
     for round in 1..=rounds {
         if !has_open(coordinator) {

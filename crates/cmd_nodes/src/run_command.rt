@@ -4,12 +4,11 @@ ghost use Rattle.machine_text.specs.Limits.{state_limit};
 
 use crate::carriers::{Carriers, InMemory};
 use crate::coord::{outcome_of, start_coordinator};
-use crate::progress::Progress;
 use crate::rounds::run_rounds;
 use crate::station::Station;
-use crate::telling::Telling;
-use cmd_ledgers::{Opened, ReportForm, write_report};
-use cmd_options::{Beginning, Ended, Outcome, Settling};
+use cmd_ledgers::{ReportForm, write_report};
+use cmd_options::{Beginning, Ended, Outcome, Settling, told};
+use files::{Opened, Telling, TimedProgress};
 use lease_core::Coordinator;
 use ledger::Left;
 use std::alloc::Global;
@@ -54,13 +53,32 @@ pub fn cmd_run<
 ) -> Outcome
     requires { (1 ≤ run.settling.now.states) × (run.settling.now.states ≤ state_limit) }
 {
+    told(run_tree(alloc, run, held, ledger, answers, faults), faults)
+}
+
+/// The same, but that what ends it early isn't said.
+pub fn run_tree<
+    P: ReportForm,
+    F: Read + Drop,
+    L: LedgerOut,
+    N: Node + Drop,
+    C: Clock,
+    W: Write,
+    E: Write,
+>(
+    alloc: Global,
+    run: Run<'_, P, N, C>,
+    held: io::Result<Opened<F>>,
+    ledger: &mut L,
+    answers: &mut W,
+    faults: &mut E,
+) -> Result<Outcome, Ended>
+    requires { (1 ≤ run.settling.now.states) × (run.settling.now.states ≤ state_limit) }
+{
     let carriers = InMemory {
         lose: run.settling.lose,
     };
-    match settle(alloc, run, &carriers, held, ledger, answers, faults) {
-        Ok(outcome) => outcome,
-        Err(ended) => ended.told(faults),
-    }
+    settle(alloc, run, &carriers, held, ledger, answers, faults)
 }
 
 // A coordinator that is settled by its workers, and its report.
@@ -106,7 +124,7 @@ fn run_workers<P, L: LedgerOut, N: Node + Drop, C: Clock, Y: Carriers, E: Write>
     let settling = run.settling;
     let mut stations = stations(alloc, run.workers, carriers)?;
     let records = recorded(node);
-    let mut progress = Progress::new(alloc, run.telling, records, run.clock, faults);
+    let mut progress = TimedProgress::new(alloc, run.telling, records, run.clock, faults);
     let ended = run_rounds(node, ledger, &mut stations, settling.rounds, &mut progress);
     progress.end();
     ended

@@ -5,7 +5,7 @@ ghost use Rattle.cmd_options.specs.Outcome.{ended_text, outcome_of};
 
 use crate::outcome::Outcome;
 use std::alloc::AllocError as NoMemory;
-use std::io::{self, ErrorKind, Write};
+use std::io::{self, Write};
 
 /// What ends a command before its work is done.
 #[derive(Clone, Copy, Debug, PartialEq, Eq)]
@@ -46,22 +46,6 @@ impl Ended {
             Ended::File => b"refused 605\n",
             Ended::Locked => b"refused 606: another process writes the ledger\n",
             Ended::NoMemory => b"refused memory\n",
-        }
-    }
-
-    /// What ends a command whose file can't be opened or read.
-    pub fn by_file(fault: &io::Error) -> Ended {
-        match fault.kind() {
-            ErrorKind::OutOfMemory => Ended::NoMemory,
-            _ => Ended::File,
-        }
-    }
-
-    /// What ends a command whose ledger, which it would write, can't be opened or read.
-    pub fn by_ledger(fault: &io::Error) -> Ended {
-        match fault.kind() {
-            ErrorKind::OutOfMemory => Ended::NoMemory,
-            _ => Ended::Ledger,
         }
     }
 

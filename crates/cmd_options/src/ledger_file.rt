@@ -26,4 +26,12 @@ impl<'a> LedgerFile<'a> {
             durability: Durability::System,
         }
     }
+
+    /// The file at a path, whose lines count as written once they are on the disk.
+    pub const fn on_disk(path: &'a str) -> LedgerFile<'a> {
+        LedgerFile {
+            path,
+            durability: Durability::Disk,
+        }
+    }
 }

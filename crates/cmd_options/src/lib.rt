@@ -1,10 +1,12 @@
 //! What a command line asks for, and how a command ends.
 //!
-//! `specs/Ranges` has the ranges of the options' numbers, `specs/Outcome` the exit statuses.
+//! `specs/Ranges` has the ranges of the options' numbers, `specs/Outcome` the exit statuses, `specs/Ends` what an error of
+//! the system ends a command by.
 #![tactic(auto)]
 
 mod drawing;
 mod ended;
+mod ends;
 mod ledger_file;
 mod options;
 mod outcome;
@@ -12,6 +14,7 @@ mod stopped;
 
 pub use drawing::Drawing;
 pub use ended::Ended;
+pub use ends::{ended_by, told};
 pub use ledger_file::{Durability, LedgerFile};
 pub use options::{
     Beginning, Carrying, Joining, Mending, Merging, Options, Search, Settling, Splitting,

@@ -1,5 +1,9 @@
 // What ends a command that reads, where the read itself may have failed.
+ghost use Rattle.std.specs.Prelude.{◌≡◌};
+ghost use Rattle.cmd_options.specs.Ends.{end_when};
+
 use crate::ended::Ended;
+use crate::ends::ended_by;
 use std::alloc::AllocError as NoMemory;
 use std::io;
 
@@ -13,26 +17,12 @@ pub enum Stopped {
 }
 
 impl Stopped {
-    /// What ends a command that only reads the file.
-    pub fn by_file(self) -> Ended {
+    /// What ends a command by it; `otherwise` where a read failed for which memory wasn't refused.
+    pub fn ended(self, otherwise: Ended) -> Ended
+        ensures { result ≡ end_when self otherwise }
+    {
         match self {
-            Stopped::Failed(fault) => Ended::by_file(&fault),
-            Stopped::Ended(ended) => ended,
-        }
-    }
-
-    /// What ends a command that reads a stream.
-    pub fn by_stream(self) -> Ended {
-        match self {
-            Stopped::Failed(fault) => Ended::from(fault),
-            Stopped::Ended(ended) => ended,
-        }
-    }
-
-    /// What ends a command that reads a ledger which it would write.
-    pub fn by_ledger(self) -> Ended {
-        match self {
-            Stopped::Failed(fault) => Ended::by_ledger(&fault),
+            Stopped::Failed(fault) => ended_by(&fault, otherwise),
             Stopped::Ended(ended) => ended,
         }
     }

@@ -1,4 +1,3 @@
 pub mod Settled
-pub mod Begun
 pub mod Trunks
 pub mod Joining

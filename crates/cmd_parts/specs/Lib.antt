@@ -3,3 +3,4 @@ pub mod Settle
 pub mod Split
 pub mod Join
 pub mod inside
+pub mod AtPaths

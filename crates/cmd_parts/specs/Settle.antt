@@ -45,7 +45,7 @@ pub record SettlesLedger (Answers : Packed → Recorded → Type 0) (has : Optio
 
 -- a ledger that is to be written can't be opened, or a read of it failed
 abbrev pub FailsReading : Ended → Type 0
-FailsReading e = (e ≡ Ledger) ⊎ (e ≡ NoMemory)
+FailsReading e = (e ≡ NoMemory) ⊎ (e ≡ Ledger)
 
 -- why it isn't loaded: that, or there is a reason in the first bytes that a reader has
 abbrev pub EndsLoading : Option (List ℕ) → ℕ → Ended → Type 0

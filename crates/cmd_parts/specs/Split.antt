@@ -98,11 +98,6 @@ EndsTrunk Sees Answers HasFailed n limit e has size before after =
     × ((EndsLooking Sees limit loaded e × (after ≡ before))
     ⊎ (((t : Packed) → IsOpenBelow limit loaded t → Sees t (Ok false)) × EndsGrowing Answers HasFailed limit e loaded (length text) left before after)))
 
--- roots of parts that were begun, where they are known, and more of them
-abbrev pub also_begun : Option (List Packed) → List Packed → Option (List Packed)
-also_begun (Some roots) more = Some (roots ++ more)
-also_begun None more = None
-
 -- the line that says how many records the trunk has, and how many parts there are
 abbrev pub split_text : Tally → List ℕ
 split_text tally = codes "trunk " ++ decimal (tally.nodes - tally.open_count) ++ codes " parts " ++ decimal tally.open_count ++ 10 ∷ []

@@ -1,13 +1,16 @@
 // A folder of ledgers, one for each part of a tree.
-ghost use Rattle.std.specs.Prelude.{◌≡◌, ℕ, List, IfOk, None, OnOk, Some, string_bytes};
+ghost use Rattle.std.specs.Prelude.{◌≡◌, ℕ, List, IfErr, IfOk, None, OnOk, Some, string_bytes};
 ghost use Rattle.machine_text.specs.Packed.{Packed};
 ghost use Rattle.machine_text.specs.Text.{text_of};
 ghost use Rattle.ledger.specs.Contents.{IsOpenOn};
 ghost use Rattle.ledger.specs.Tally.{AreAll};
-ghost use Rattle.cmd_parts.specs.Split.{also_begun, begun_part, path_within};
+ghost use Rattle.files.specs.Standing.{IsToldStill};
+ghost use Rattle.cmd_parts.specs.AtPaths.{AreBegunAt, IsBegunAt, IsSizeAt};
+ghost use Rattle.cmd_parts.specs.Settle.{FailsReading};
+ghost use Rattle.cmd_parts.specs.Split.{begun_part, path_within};
 
-use cmd_ledgers::{Host, LedgerAt, held_at};
-use cmd_options::{Ended, LedgerFile};
+use cmd_options::{Ended, LedgerFile, ended_by};
+use files::{Files, held_at, ledger_at};
 use kind_evidence::NoMemory;
 use ledger::{Board, append_header};
 use machine_text::{TEXT_BYTES, Table};
@@ -19,13 +22,9 @@ pub(crate) const TRUNK: &str = "trunk";
 
 /// A folder of ledgers, one for each part of a tree.
 pub trait Folder {
-    ghost use Rattle.std.specs.Prelude.{◌≡◌, ◌∷◌, [], Bool, List, Option, OnOk, Result};
+    ghost use Rattle.std.specs.Prelude.{Bool, Result};
     ghost use Rattle.machine_text.specs.Packed.{Packed};
     ghost use Rattle.cmd_options.specs.declared.ended.Ended.{Ended};
-    ghost use Rattle.cmd_parts.specs.Split.{also_begun};
-
-    /// The roots of the parts that were begun, in their order, where that is known.
-    ghost begun: { Self → Option (List Packed) };
 
     /// What may come of looking for the part of a root: whether it is there, or what ends a command that can't see it.
     ghost sees: { Self → Packed → Result Bool Ended → Type 0 };
@@ -33,20 +32,6 @@ pub trait Folder {
     /// Whether the ledger of the part of a root is there and holds something.
     fn has(&self, root: &Table) -> Result<bool, Ended>
         ensures { sees self.now root.now result };
-
-    /// Makes sure that the ledger of the part of a root begins with its header.
-    fn begin(&mut self, root: &Table) -> Result<(), Ended>
-        ensures { OnOk result (begun self.new ≡ also_begun (begun self.old) (root.now ∷ [])) };
-}
-
-/// Begins a part for each open table of a board, in the order of their texts.
-pub fn begin_parts<F: Folder>(board: &Board, folder: &mut F) -> Result<(), Ended>
-    ensures { OnOk result ((roots : List Packed) × AreAll (IsOpenOn board.now) roots × (F.begun folder.new ≡ also_begun (F.begun folder.old) roots)) }
-{
-    for root in board.open() {
-        folder.begin(root)?;
-    }
-    Ok(())
 }
 
 /// The folder at a path of a host.
@@ -57,28 +42,50 @@ pub struct FolderAt<'a, H> {
     pub path: &'a str,
 }
 
-impl<H: Host> Folder for FolderAt<'_, H> {
-    ghost use Rattle.std.specs.Prelude.{None, ⊤};
+impl<H: Files> Folder for FolderAt<'_, H> {
+    ghost use Rattle.machine_text.specs.Text.{text_of};
+    ghost use Rattle.cmd_parts.specs.AtPaths.{SeesAt};
+    ghost use Rattle.cmd_parts.specs.Split.{path_within};
 
-    ghost begun = { λ folder. None };
-
-    ghost sees = { λ folder root seen. ⊤ };
+    ghost sees = { λ folder root. SeesAt (H.holds folder.host.now (path_within folder.path.now (text_of root))) };
 
     fn has(&self, root: &Table) -> Result<bool, Ended> {
         let path = part_path(self.alloc, self.path, root)?;
         Ok(bytes_at(self.host, &path)? > 0)
     }
+}
 
-    fn begin(&mut self, root: &Table) -> Result<(), Ended> {
-        let path = part_path(self.alloc, self.path, root)?;
-        let bytes = bytes_at(self.host, &path)?;
-        begin_part(
-            self.alloc,
-            root,
-            bytes,
-            &mut LedgerAt::new(self.host, LedgerFile::at(&path)),
-        )
+/// Begins a part in a folder for each open table of a board, in the order of their texts.
+pub fn begin_parts<H: Files>(
+    alloc: Global,
+    board: &Board,
+    folder: &str,
+    host: &mut H,
+) -> Result<(), Ended>
+    ensures { OnOk result ((roots : List Packed) × AreAll (IsOpenOn board.now) roots × AreBegunAt (H.tells_same host.old) folder.now roots (H.holds host.old) (H.holds host.new)) }
+{
+    for root in board.open() {
+        begin_part_at(alloc, folder, root, host)?;
     }
+    Ok(())
+}
+
+// Makes sure that the ledger of the part of a root begins with its header.
+fn begin_part_at<H: Files>(
+    alloc: Global,
+    folder: &str,
+    root: &Table,
+    host: &mut H,
+) -> Result<(), Ended>
+    ensures ok { OnOk result (IsBegunAt (H.tells_same host.old) folder.now root.now (H.holds host.old) (H.holds host.new)) }
+    ensures tells { IsToldStill (H.tells_same host.old) (H.tells_same host.new) }
+{
+    let path = part_path(alloc, folder, root)?;
+    let bytes = bytes_at(host, &path)?;
+    let mut ledger = ledger_at(host, &LedgerFile::at(&path))?;
+    let begun = begin_part(alloc, root, bytes, &mut ledger);
+    host.close(&path, ledger);
+    begun
 }
 
 /// Begins the ledger of a part that has so many bytes: where they are fewer than its header has, that is written in
@@ -115,10 +122,13 @@ fn write_over<L: LedgerOut>(ledger: &mut L, bytes: &[u8]) -> Result<(), Ended>
 }
 
 // How many bytes the file at a path has; none where it isn't there.
-fn bytes_at<H: Host>(host: &H, path: &str) -> Result<u64, Ended> {
+fn bytes_at<H: Files>(host: &H, path: &str) -> Result<u64, Ended>
+    ensures ok { IfOk result (IsSizeAt (H.holds host.now path.now)) }
+    ensures err { IfErr result FailsReading }
+{
     match held_at(host, path) {
         Ok(held) => Ok(held.length),
-        Err(fault) => Err(Ended::by_ledger(&fault)),
+        Err(fault) => Err(ended_by(&fault, Ended::Ledger)),
     }
 }
 

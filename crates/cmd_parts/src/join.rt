@@ -1,5 +1,5 @@
 // `bb join`: a trunk and the parts of its tree, told of as one ledger would be that holds the records of all.
-ghost use Rattle.std.specs.Prelude.{◌≡◌, ◌++◌, [], ℕ, Contains, IfOk, List, Ok, OnOk, Option, Some, false, codes};
+ghost use Rattle.std.specs.Prelude.{◌≡◌, ◌++◌, [], ℕ, Contains, IfOk, List, None, Ok, OnErr, OnOk, Option, Some, false, codes};
 ghost use Rattle.std.specs.Io.KnownBytes.{Appends};
 ghost use Rattle.machine_text.specs.Text.{text_of};
 ghost use Rattle.ledger.specs.Contents.{Contents, IsOpenOn};
@@ -9,15 +9,18 @@ ghost use Rattle.cmd_ledgers.specs.Told.{IsToldOf};
 ghost use Rattle.wire.specs.Device.{grown};
 ghost use Rattle.parts.specs.Parts.{joined_with};
 ghost use Rattle.parts.specs.Whole.{AddGives, IsWhole};
+ghost use Rattle.files.specs.Standing.{IsBlank, IsKept, IsKeptBut, IsPut};
+ghost use Rattle.cmd_parts.specs.AtPaths.{finds_at};
 ghost use Rattle.cmd_parts.specs.Split.{path_within};
 ghost use Rattle.cmd_parts.specs.Join.{IsMet, IsMetAs, IsMetIn, IsReadAt, TellsAll, TellsParts, ended_by, is_silent, left_line, line_behind, record_lines};
 ghost use Rattle.cmd_parts.specs.inside.{AreAdded, IsGathered, MeetsPart};
 
 use crate::collector::{Collector, Nowhere, OneLedger};
 use crate::folder::{TRUNK, part_path, path_within};
-use crate::part_files::{Parts, PartsOf, Written};
-use cmd_ledgers::{Host, Opened, Place, ReportForm, Told, load_from, outcome_by, write_told};
-use cmd_options::{Ended, Joining, Outcome, Stopped};
+use crate::part_files::{Parts, PartsAt, Written};
+use cmd_ledgers::{ReportForm, Told, load_from, outcome_by, write_told};
+use cmd_options::{Ended, Joining, Outcome, Stopped, told};
+use files::{Files, Opened, lock_ledger, made_for, put_at};
 use kind_evidence::NoMemory;
 use ledger::{Board, Left, Status};
 use machine_text::Table;
@@ -31,59 +34,99 @@ use text::append_number;
 /// place once the last part was judged; a ledger of the folder itself is refused for that before anything is written. A part
 /// that isn't there counts as an open table. What is wrong with a part is said on `faults` behind its path,
 /// and what is kept of it counts. Accepted where the report says complete and nothing was wrong.
-pub fn cmd_join<H: Host, P: ReportForm, W: Write, E: Write>(
+pub fn cmd_join<H: Files, P: ReportForm, W: Write, E: Write>(
     alloc: Global,
     form: &P,
     joining: &Joining<'_>,
-    host: &H,
+    host: &mut H,
     answers: &mut W,
     faults: &mut E,
 ) -> Outcome {
-    let ended = match joining.out {
-        Some(out) => join_into(alloc, form, joining.folder, out, host, answers, faults),
-        None => join_parts(
-            alloc,
-            form,
-            joining.folder,
-            &PartsOf {
-                host,
-                written: None,
-            },
-            &mut Nowhere,
-            answers,
-            faults,
-        ),
-    };
-    match ended {
-        Ok(outcome) => outcome,
-        Err(ended) => ended.told(faults),
-    }
+    told(join_at(alloc, form, joining, host, answers, faults), faults)
 }
 
-// The same with the one ledger at a path.
-fn join_into<'a, H: Host, P: ReportForm, W: Write, E: Write>(
+/// The same, but that what ends it early isn't said.
+pub fn join_at<H: Files, P: ReportForm, W: Write, E: Write>(
     alloc: Global,
     form: &P,
-    folder: &str,
-    out: &'a str,
-    host: &'a H,
+    joining: &Joining<'_>,
+    host: &mut H,
     answers: &mut W,
     faults: &mut E,
 ) -> Result<Outcome, Ended> {
-    let place = Place::of(alloc, host, out, &[])?;
-    let mut one = OneLedger {
-        ledger: place.ledger(host, out),
+    match joining.out {
+        Some(out) => join_into(alloc, form, joining.folder, out, host, answers, faults),
+        None => join_alone(alloc, form, joining.folder, host, answers, faults),
+    }
+}
+
+// The report alone.
+fn join_alone<H: Files, P: ReportForm, W: Write, E: Write>(
+    alloc: Global,
+    form: &P,
+    folder: &str,
+    host: &H,
+    answers: &mut W,
+    faults: &mut E,
+) -> Result<Outcome, Ended>
+    ensures { IfOk result (TellsAll (P.is_text form.now) (finds_at (H.holds host.now)) folder.now None None (W.contents answers.old) (W.contents answers.new) (E.contents faults.old) (E.contents faults.new)) }
+{
+    let parts = PartsAt {
+        host,
+        written: None,
     };
-    let parts = PartsOf {
+    join_parts(alloc, form, folder, &parts, &mut Nowhere, answers, faults)
+}
+
+/// Prints the report of the trunk in a folder and of the parts beside it, in a form, and puts the one ledger of all at a
+/// path, locked, once all were read. Where that ends early nothing has changed at any path.
+pub fn join_into<H: Files, P: ReportForm, W: Write, E: Write>(
+    alloc: Global,
+    form: &P,
+    folder: &str,
+    out: &str,
+    host: &mut H,
+    answers: &mut W,
+    faults: &mut E,
+) -> Result<Outcome, Ended>
+    ensures others { IsKeptBut (H.tells_same host.old) out.now (H.holds host.old) (H.holds host.new) }
+    ensures ok { IfOk result (λ o. (begun text : Option (List ℕ)) × IsBlank begun
+        × TellsAll (P.is_text form.now) (finds_at (H.holds host.old)) folder.now begun text (W.contents answers.old) (W.contents answers.new) (E.contents faults.old) (E.contents faults.new) o
+        × IsPut (H.tells_same host.old) out.now text (H.holds host.old) (H.holds host.new)) }
+    ensures err { OnErr result (IsKept (H.holds host.old) (H.holds host.new)) }
+{
+    let _lock = lock_ledger(host, out)?;
+    let (made, outcome) = joined(alloc, form, folder, out, host, answers, faults)?;
+    put_at(host, made, out)?;
+    Ok(outcome)
+}
+
+// The one ledger of all, which stands nowhere yet.
+fn joined<H: Files, P: ReportForm, W: Write, E: Write>(
+    alloc: Global,
+    form: &P,
+    folder: &str,
+    out: &str,
+    host: &H,
+    answers: &mut W,
+    faults: &mut E,
+) -> Result<(H::Made, Outcome), Ended>
+    ensures { IfOk result (λ j. (begun : Option (List ℕ)) × IsBlank begun
+        × TellsAll (P.is_text form.now) (finds_at (H.holds host.now)) folder.now begun (H.Made.text j.0) (W.contents answers.old) (W.contents answers.new) (E.contents faults.old) (E.contents faults.new) j.1) }
+{
+    let mut one = OneLedger {
+        ledger: made_for(host, out, &[])?,
+    };
+    let removed = host.removed_by(&one.ledger)?;
+    let parts = PartsAt {
         host,
         written: Some(Written {
             out,
-            made: place.made(),
+            removed: removed.as_deref(),
         }),
     };
     let outcome = join_parts(alloc, form, folder, &parts, &mut one, answers, faults)?;
-    place.put(host)?;
-    Ok(outcome)
+    Ok((one.ledger, outcome))
 }
 
 /// Prints the report of the trunk in a folder and of its parts, and collects the one ledger of all. The parts are those of
@@ -200,7 +243,7 @@ fn trunk_at<S: Parts>(alloc: Global, parts: &S, path: &str) -> Result<(Board, Le
     match parts.open(path)? {
         Some(mut file) => match load_from(alloc, &mut file.reader, file.length) {
             Ok(loaded) => Ok(loaded),
-            Err(stopped) => Err(stopped.by_file()),
+            Err(stopped) => Err(stopped.ended(Ended::File)),
         },
         None => Err(Ended::File),
     }
@@ -256,7 +299,7 @@ fn add_read<F: Read + Drop, C: Collector, E: Write>(
         }
         Err(Stopped::Ended(Ended::BadHeader)) => says(alloc, path, b"refused 404", faults),
         Err(Stopped::Ended(Ended::WrongRoot)) => says(alloc, path, b"refused 405", faults),
-        Err(stopped) => Err(stopped.by_file()),
+        Err(stopped) => Err(stopped.ended(Ended::File)),
     }
 }
 

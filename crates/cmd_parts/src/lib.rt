@@ -3,30 +3,26 @@
 //!
 //! `specs/Settling` says what becomes of a board and its ledger while open tables are settled, `specs/Settle` what a
 //! ledger is that is settled whole, `specs/Split` what a tree is that is split into a trunk and its parts, `specs/Join` what
-//! is told of them together. `specs/inside` and `proofs` are for the code alone.
+//! is told of them together, `specs/AtPaths` what all that is where files stand. `specs/inside` and `proofs` are for the code alone.
 #![tactic(auto)]
 
 mod collector;
 mod folder;
 mod join;
 mod part_files;
-mod parts_host;
 mod reading;
 mod settle;
 mod settle_at;
 mod settling;
 mod split;
-mod tells;
 mod trunk;
 
 pub use collector::{Collector, Nowhere, OneLedger};
 pub use folder::{Folder, FolderAt, begin_part, begin_parts, part_path};
-pub use join::{cmd_join, join_parts};
-pub use part_files::{Parts, PartsOf, Written};
-pub use parts_host::{PartsHost, lock_ledger};
+pub use join::{cmd_join, join_at, join_into, join_parts};
+pub use part_files::{Parts, PartsAt, Written};
 pub use settle::settle_ledger;
 pub use settle_at::settle_ledger_at;
 pub use settling::{settle_below, settle_board};
-pub use split::{cmd_split, split_off};
-pub use tells::{Silent, Tells};
+pub use split::{cmd_split, split_in, split_off};
 pub use trunk::grow_trunk;

@@ -1,6 +1,6 @@
 // Where the ledgers of a trunk and its parts are read.
-use cmd_ledgers::{Host, Opened, opened_to_end};
-use cmd_options::Ended;
+use cmd_options::{Ended, ended_by};
+use files::{Files, Opened};
 use std::io::{ErrorKind, Read};
 
 /// Where the ledgers of a trunk and its parts are read, each by its path.
@@ -22,7 +22,7 @@ pub trait Parts {
 
 /// The files of a host.
 #[derive(Drop)]
-pub struct PartsOf<'a, H> {
+pub struct PartsAt<'a, H> {
     pub host: &'a H,
     /// The one ledger that is written, if one is.
     pub written: Option<Written<'a>>,
@@ -33,41 +33,33 @@ pub struct PartsOf<'a, H> {
 pub struct Written<'a> {
     /// Its path.
     pub out: &'a str,
-    /// The path of the new file in which it is made, if it is.
-    pub made: Option<&'a str>,
+    /// The name that is removed where it is made, if one is.
+    pub removed: Option<&'a str>,
 }
 
-impl<H: Host> PartsOf<'_, H> {
-    // Whether a symbolic link at a path leads to the name of the new file, which is removed before that is made.
-    fn leads_to(&self, path: &str, made: Option<&str>) -> bool {
-        match (made, self.host.end_of(path)) {
-            (Some(made), Ok(end)) => end.as_str() != path && self.host.is_same(&end, made),
-            _ => false,
-        }
-    }
-}
+impl<H: Files> Parts for PartsAt<'_, H> {
+    ghost use Rattle.cmd_parts.specs.AtPaths.{finds_at};
 
-impl<H: Host> Parts for PartsOf<'_, H> {
-    ghost use Rattle.std.specs.Prelude.{⊤};
+    type File = H::Reader;
 
-    type File = H::File;
+    ghost finds = { λ parts. finds_at (H.holds parts.host.now) };
 
-    ghost finds = { λ parts path found. ⊤ };
-
-    fn open(&self, path: &str) -> Result<Option<Opened<H::File>>, Ended> {
-        match opened_to_end(self.host, path) {
+    fn open(&self, path: &str) -> Result<Option<Opened<H::Reader>>, Ended> {
+        match self.host.open_to_end(path) {
             Ok(file) => Ok(Some(file)),
             Err(fault) if fault.kind() == ErrorKind::NotFound => Ok(None),
-            Err(fault) => Err(Ended::by_file(&fault)),
+            Err(fault) => Err(ended_by(&fault, Ended::File)),
         }
     }
 
     fn is_written(&self, path: &str) -> bool {
-        match self.written {
-            Some(Written { out, made }) => {
-                self.host.is_same(out, path) || self.leads_to(path, made)
-            }
+        let Some(Written { out, removed }) = self.written else {
+            return false;
+        };
+        let is_lost = match removed {
+            Some(name) => self.host.leads_to(path, name),
             None => false,
-        }
+        };
+        is_lost || self.host.is_same(out, path)
     }
 }

@@ -3,11 +3,12 @@ ghost use Rattle.std.specs.Prelude.{IfErr, IfOk, MatchResult};
 ghost use Rattle.cmd_ledgers.specs.Reading.{IsLoadedFrom};
 ghost use Rattle.cmd_parts.specs.Settle.{EndsLoading, FailsReading};
 
-use cmd_ledgers::{Opened, load_from};
-use cmd_options::{Ended, Stopped};
+use cmd_ledgers::load_from;
+use cmd_options::{Ended, Stopped, ended_by};
+use files::Opened;
 use ledger::{Board, Left};
 use std::alloc::Global;
-use std::io::{self, ErrorKind, Read};
+use std::io::{self, Read};
 
 // The board of what a ledger that is written holds, and what of it wasn't kept.
 pub(crate) fn load_held<F: Read + Drop>(
@@ -20,20 +21,9 @@ pub(crate) fn load_held<F: Read + Drop>(
     match held {
         Ok(mut held) => match load_from(alloc, &mut held.reader, held.length) {
             Ok(loaded) => Ok(loaded),
-            Err(Stopped::Failed(fault)) => Err(by_fault(&fault)),
+            Err(Stopped::Failed(fault)) => Err(ended_by(&fault, Ended::Ledger)),
             Err(Stopped::Ended(ended)) => Err(ended),
         },
-        Err(fault) => Err(by_fault(&fault)),
-    }
-}
-
-// What ends a command that would write a ledger which can't be opened or read.
-pub(crate) fn by_fault(fault: &io::Error) -> Ended
-    ensures { FailsReading result }
-{
-    // as `Ended::by_ledger` says, which promises nothing
-    match fault.kind() {
-        ErrorKind::OutOfMemory => Ended::NoMemory,
-        _ => Ended::Ledger,
+        Err(fault) => Err(ended_by(&fault, Ended::Ledger)),
     }
 }

@@ -7,10 +7,9 @@ ghost use Rattle.cmd_parts.specs.Settle.{EndsLedgerAt, EndsWhole, FailsCut, Fail
 
 use crate::reading::load_held;
 use crate::settling::settle_board;
-use crate::tells::Tells;
 use cert::Decider;
-use cmd_ledgers::Opened;
 use cmd_options::Ended;
+use files::{Opened, Progress};
 use kind_evidence::NoMemory;
 use ledger::{Board, Left, Tally, kept_bytes_load};
 use std::alloc::Global;
@@ -21,7 +20,7 @@ use wire::LedgerOut;
 /// Cuts a ledger to the bytes that are kept of it, and settles its board: the first open table in text order is decided,
 /// and its record appended, until no table is open. Then it prints how many tables it settled, and how many holdouts
 /// there are. `held` reads what the ledger holds. What ends it early leaves in the ledger what was settled before.
-pub fn settle_ledger<F: Read + Drop, L: LedgerOut, D: Decider, P: Tells, W: Write>(
+pub fn settle_ledger<F: Read + Drop, L: LedgerOut, D: Decider, P: Progress, W: Write>(
     alloc: Global,
     held: io::Result<Opened<F>>,
     ledger: &mut L,
@@ -45,7 +44,7 @@ pub fn settle_ledger<F: Read + Drop, L: LedgerOut, D: Decider, P: Tells, W: Writ
 }
 
 // The same from the board of the ledger, and what of it wasn't kept.
-fn settle_loaded<L: LedgerOut, D: Decider, P: Tells, W: Write>(
+fn settle_loaded<L: LedgerOut, D: Decider, P: Progress, W: Write>(
     alloc: Global,
     board: &mut Board,
     left: &Left,

@@ -1,29 +1,34 @@
 // `bb settle` of a ledger file, which is locked while it is written.
-ghost use Rattle.std.specs.Prelude.{◌≡◌, Ok, OnOk, Some};
+ghost use Rattle.std.specs.Prelude.{◌≡◌, ◌⊎◌, ℕ, List, Ok, OnOk, Option, Some};
+ghost use Rattle.cmd_ledgers.specs.Retry.{AtSomeTime};
+ghost use Rattle.files.specs.Standing.{IsKeptBut};
+ghost use Rattle.cmd_parts.specs.AtPaths.{SettlesAt};
 
-use crate::parts_host::{PartsHost, lock_ledger};
 use crate::settle::settle_ledger;
-use crate::tells::Tells;
 use cert::Decider;
-use cmd_ledgers::{LedgerAt, opened};
 use cmd_options::{Ended, LedgerFile};
+use files::{Files, Progress, ledger_at, lock_ledger};
 use std::alloc::Global;
 use std::io::Write;
 
 /// Settles a ledger file, which has to be there, as `settle_ledger` does. It is locked before it is read; where another
 /// process has it locked, nothing is done.
-pub fn settle_ledger_at<H: PartsHost, D: Decider, P: Tells, W: Write>(
+pub fn settle_ledger_at<H: Files, D: Decider, P: Progress, W: Write>(
     alloc: Global,
     file: LedgerFile<'_>,
-    host: &H,
+    host: &mut H,
     decider: &mut D,
     progress: &mut P,
     answers: &mut W,
 ) -> Result<(), Ended>
-    ensures { OnOk result ((lock : H.Lock) × H.locks host.now file.entry.path.now (Ok (Some lock))) }
+    ensures locked { OnOk result ((lock : H.Lock) × H.locks file.entry.path.now (Ok (Some lock))) }
+    ensures settles { OnOk result (SettlesAt (AtSomeTime D D.answers) (H.tells_same host.old) file.entry.path.now (H.holds host.old) (H.holds host.new) (W.contents answers.old) (W.contents answers.new)) }
+    ensures others { IsKeptBut (H.tells_same host.old) file.entry.path.now (H.holds host.old) (H.holds host.new) }
 {
     let _lock = lock_ledger(host, file.path)?;
-    let mut ledger = LedgerAt::new(host, file);
-    let held = opened(host, file.path);
-    settle_ledger(alloc, held, &mut ledger, decider, progress, answers)
+    let held = host.open(file.path);
+    let mut ledger = ledger_at(host, &file)?;
+    let settled = settle_ledger(alloc, held, &mut ledger, decider, progress, answers);
+    host.close(file.path, ledger);
+    settled
 }

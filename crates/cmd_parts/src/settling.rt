@@ -11,9 +11,9 @@ ghost use Rattle.cmd_ledgers.specs.Retry.{AtSomeTime, StaysInStep, gained};
 ghost use Rattle.cmd_parts.specs.Settling.{ComesFirst, EndsAtOne, EndsSettling, IsOpenBelow, SettlesMany, SettlesOne, filled_count, with_last};
 ghost use Rattle.cmd_parts.specs.inside.{is_below};
 
-use crate::tells::Tells;
 use cert::{Decider, Record};
 use cmd_options::Ended;
+use files::Progress;
 use kind_evidence::NoMemory;
 use ledger::{Board, Open, Taken};
 use machine_text::Table;
@@ -23,7 +23,7 @@ use wire::{LedgerOut, append_all};
 /// Settles a board: while a table is open, asks the decider for the first in text order, puts the record that it
 /// answers on the board, a holdout's too, and appends its line to the ledger in the ledger's version. Answers how many
 /// tables it settled. What ends it early, refused memory or a ledger that failed, leaves what was settled before.
-pub fn settle_board<L: LedgerOut, D: Decider, P: Tells>(
+pub fn settle_board<L: LedgerOut, D: Decider, P: Progress>(
     alloc: Global,
     board: &mut Board,
     decider: &mut D,
@@ -49,7 +49,7 @@ pub fn settle_board<L: LedgerOut, D: Decider, P: Tells>(
 /// asks the decider for each that there is, in text order, and puts its record on the board and its line into the
 /// ledger, as `settle_board` does; tables that become open by that come in the next round. Answers how many tables it
 /// settled. What ends it early leaves what was settled before.
-pub fn settle_below<L: LedgerOut, D: Decider, P: Tells>(
+pub fn settle_below<L: LedgerOut, D: Decider, P: Progress>(
     alloc: Global,
     board: &mut Board,
     limit: u64,
@@ -74,7 +74,7 @@ pub fn settle_below<L: LedgerOut, D: Decider, P: Tells>(
 }
 
 // Settles tables that are due.
-fn settle_all<L: LedgerOut, D: Decider, P: Tells>(
+fn settle_all<L: LedgerOut, D: Decider, P: Progress>(
     alloc: Global,
     board: &mut Board,
     limit: u64,

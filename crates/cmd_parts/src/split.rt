@@ -1,20 +1,20 @@
 // `bb split`: a trunk, and a ledger for each table that it leaves open.
-ghost use Rattle.std.specs.Prelude.{◌≡◌, ◌≤◌, ◌++◌, List, Ok, OnOk, Some, codes};
+ghost use Rattle.std.specs.Prelude.{◌≡◌, ◌≤◌, ◌++◌, IfOk, List, Ok, OnOk, Some, codes};
 ghost use Rattle.std.specs.Io.KnownBytes.{Appends};
 ghost use Rattle.machine_text.specs.Limits.{state_limit};
-ghost use Rattle.machine_text.specs.Packed.{Packed};
+ghost use Rattle.machine_text.specs.Packed.{Packed, empty_table};
 ghost use Rattle.ledger.specs.Contents.{IsOpenOn};
 ghost use Rattle.ledger.specs.Tally.{AreAll, IsTally};
 ghost use Rattle.ledger.specs.declared.tally.Tally.{Tally as Counted};
-ghost use Rattle.cmd_parts.specs.Split.{SplitsTree, also_begun, path_within, split_text};
+ghost use Rattle.cmd_parts.specs.AtPaths.{AreBegunAt};
+ghost use Rattle.cmd_parts.specs.Settling.{filled_count};
+ghost use Rattle.cmd_parts.specs.Split.{SplitsTree, path_within, split_text};
 
-use crate::folder::{Folder, FolderAt, TRUNK, begin_parts, path_within};
-use crate::parts_host::{PartsHost, lock_ledger};
-use crate::tells::Tells;
+use crate::folder::{FolderAt, TRUNK, begin_parts, path_within};
 use crate::trunk::grow_trunk;
 use cert::Decider;
-use cmd_ledgers::{LedgerAt, opened};
-use cmd_options::{Ended, LedgerFile, Outcome, Splitting};
+use cmd_options::{Ended, LedgerFile, Outcome, Splitting, ended_by};
+use files::{Files, Progress, ledger_at, lock_ledger};
 use kind_evidence::NoMemory;
 use ledger::{Board, Tally};
 use std::alloc::Global;
@@ -26,10 +26,10 @@ use text::append_number;
 /// that it leaves open: a ledger under the table's text, unless there is one with as many bytes as its header. It prints
 /// how many records the trunk has, and how many parts there are. What ends the command early is said on `faults`; it can be
 /// given again, and only adds what is missing. A table that has a part isn't settled in the trunk: that is `HasPart`.
-pub fn cmd_split<H: PartsHost, D: Decider, P: Tells, W: Write, E: Write>(
+pub fn cmd_split<H: Files, D: Decider, P: Progress, W: Write, E: Write>(
     alloc: Global,
     splitting: &Splitting<'_>,
-    host: &H,
+    host: &mut H,
     decider: &mut D,
     progress: &mut P,
     answers: &mut W,
@@ -37,55 +37,56 @@ pub fn cmd_split<H: PartsHost, D: Decider, P: Tells, W: Write, E: Write>(
 ) -> Outcome
     requires { (1 ≤ splitting.now.states) × (splitting.now.states ≤ state_limit) }
     ensures accepted { result ≡ Outcome.Accepted → SplitsTree splitting.now.states splitting.now.filled (W.contents answers.old) (W.contents answers.new) }
-    ensures locked { result ≡ Outcome.Accepted → (lock : H.Lock) × H.locks host.now (path_within splitting.now.folder.now (codes "trunk")) (Ok (Some lock)) }
+    ensures locked { result ≡ Outcome.Accepted → (lock : H.Lock) × H.locks (path_within splitting.now.folder.now (codes "trunk")) (Ok (Some lock)) }
 {
-    match split(alloc, splitting, host, decider, progress, answers) {
+    match split_in(alloc, splitting, host, decider, progress, answers) {
         Ok(()) => Outcome::Accepted,
         Err(ended) => ended.told(faults),
     }
 }
 
-fn split<H: PartsHost, D: Decider, P: Tells, W: Write>(
+/// The same, but that what ends it early isn't said.
+pub fn split_in<H: Files, D: Decider, P: Progress, W: Write>(
     alloc: Global,
     splitting: &Splitting<'_>,
-    host: &H,
+    host: &mut H,
     decider: &mut D,
     progress: &mut P,
     answers: &mut W,
 ) -> Result<(), Ended>
     requires { (1 ≤ splitting.now.states) × (splitting.now.states ≤ state_limit) }
     ensures splits { OnOk result (SplitsTree splitting.now.states splitting.now.filled (W.contents answers.old) (W.contents answers.new)) }
-    ensures locked { OnOk result ((lock : H.Lock) × H.locks host.now (path_within splitting.now.folder.now (codes "trunk")) (Ok (Some lock))) }
+    ensures locked { OnOk result ((lock : H.Lock) × H.locks (path_within splitting.now.folder.now (codes "trunk")) (Ok (Some lock))) }
 {
-    make_folder(host, splitting.folder)?;
     let path = path_within(alloc, splitting.folder, TRUNK)?;
-    create(host, &path)?;
+    begin_folder(host, splitting.folder, &path)?;
     let _lock = lock_ledger(host, &path)?;
-    split_at(alloc, splitting, host, &path, decider, progress, answers)
+    let trunk = grown_trunk(alloc, splitting, host, &path, decider, progress)?;
+    split_off(alloc, &trunk, splitting.folder, host, answers)
 }
 
-// The same where the trunk's ledger is locked.
-fn split_at<H: PartsHost, D: Decider, P: Tells, W: Write>(
+// The trunk, grown, whose ledger is locked.
+fn grown_trunk<H: Files, D: Decider, P: Progress>(
     alloc: Global,
     splitting: &Splitting<'_>,
-    host: &H,
+    host: &mut H,
     path: &str,
     decider: &mut D,
     progress: &mut P,
-    answers: &mut W,
-) -> Result<(), Ended>
+) -> Result<Board, Ended>
     requires { (1 ≤ splitting.now.states) × (splitting.now.states ≤ state_limit) }
-    ensures { OnOk result (SplitsTree splitting.now.states splitting.now.filled (W.contents answers.old) (W.contents answers.new)) }
+    ensures root { IfOk result (λ board. board.root ≡ empty_table splitting.now.states) }
+    ensures all { IfOk result (λ board. (t : Packed) → IsOpenOn board t → splitting.now.filled ≤ filled_count t) }
 {
-    let held = opened(host, path);
-    let mut ledger = LedgerAt::new(host, LedgerFile::at(path));
-    let mut folder = FolderAt {
+    let held = host.open(path);
+    let mut ledger = ledger_at(host, &LedgerFile::at(path))?;
+    let folder = FolderAt {
         alloc,
-        host,
+        host: &*host,
         path: splitting.folder,
     };
     let limit = u64::from(splitting.filled);
-    match grow_trunk(
+    let grown = grow_trunk(
         alloc,
         splitting.states,
         held,
@@ -94,41 +95,37 @@ fn split_at<H: PartsHost, D: Decider, P: Tells, W: Write>(
         decider,
         &mut ledger,
         progress,
-    ) {
-        Ok(trunk) => split_off(alloc, &trunk, &mut folder, answers),
-        Err(ended) => Err(ended),
-    }
+    );
+    host.close(path, ledger);
+    grown
 }
 
 /// Begins a part for each open table of a trunk, in the order of their texts, and tells how many there are.
-pub fn split_off<F: Folder, W: Write>(
+pub fn split_off<H: Files, W: Write>(
     alloc: Global,
     trunk: &Board,
-    folder: &mut F,
+    folder: &str,
+    host: &mut H,
     answers: &mut W,
 ) -> Result<(), Ended>
-    ensures begun { OnOk result ((roots : List Packed) × AreAll (IsOpenOn trunk.now) roots × (F.begun folder.new ≡ also_begun (F.begun folder.old) roots)) }
+    ensures begun { OnOk result ((roots : List Packed) × AreAll (IsOpenOn trunk.now) roots × AreBegunAt (H.tells_same host.old) folder.now roots (H.holds host.old) (H.holds host.new)) }
     ensures told { OnOk result ((tally : Counted) × IsTally trunk.now.root trunk.now.records tally × Appends (W.contents answers.old) (W.contents answers.new) (split_text tally)) }
 {
-    begin_parts(trunk, folder)?;
+    begin_parts(alloc, trunk, folder, host)?;
     let mut told = Vec::new(alloc);
     append_split(&trunk.tally(), &mut told)?;
     answers.write_all(&told)?;
     Ok(())
 }
 
-fn make_folder<H: PartsHost>(host: &H, path: &str) -> Result<(), Ended> {
-    match host.make_folder(path) {
-        Ok(()) => Ok(()),
-        Err(fault) => Err(Ended::by_ledger(&fault)),
+// Makes a folder where there is none, and the file of the trunk in it.
+fn begin_folder<H: Files>(host: &mut H, folder: &str, trunk: &str) -> Result<(), Ended> {
+    if let Err(fault) = host.make_folder(folder) {
+        return Err(ended_by(&fault, Ended::Ledger));
     }
-}
-
-// Creates a ledger file where there is none.
-fn create<H: PartsHost>(host: &H, path: &str) -> Result<(), Ended> {
-    match host.ledger(&LedgerFile::at(path)) {
-        Ok(_) => Ok(()),
-        Err(fault) => Err(Ended::by_ledger(&fault)),
+    match host.create(trunk) {
+        Ok(()) => Ok(()),
+        Err(fault) => Err(ended_by(&fault, Ended::Ledger)),
     }
 }
 

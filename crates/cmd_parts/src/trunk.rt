@@ -14,13 +14,12 @@ ghost use Rattle.cmd_parts.specs.Settling.{IsOpenBelow, SettlesMany, filled_coun
 ghost use Rattle.cmd_parts.specs.Split.{EndsBeginning, EndsGrowing, EndsLooking, EndsTrunk, GrowsTrunk, IsNoTrunk, StopsAt, begun_trunk, due_header, kept_size};
 
 use crate::folder::Folder;
-use crate::reading::by_fault;
 use crate::settle::cut_off;
 use crate::settling::{append_line, open_below, settle_below};
-use crate::tells::Tells;
 use cert::Decider;
-use cmd_ledgers::{Opened, by_load};
-use cmd_options::Ended;
+use cmd_ledgers::by_load;
+use cmd_options::{Ended, ended_by};
+use files::{Opened, Progress};
 use law_tree::rado_of_tables;
 use ledger::{Board, Left, Loader, ReadStop, append_header};
 use machine_text::Table;
@@ -33,7 +32,7 @@ use wire::LedgerOut;
 /// where none are; then the open tables that have fewer filled entries than so many are settled, as `settle_below`
 /// does. `held` reads what the ledger holds. Where one of those that are open at first has a part in the folder, nothing is
 /// done, and that is `HasPart`.
-pub fn grow_trunk<F: Read + Drop, G: Folder, L: LedgerOut, D: Decider, P: Tells>(
+pub fn grow_trunk<F: Read + Drop, G: Folder, L: LedgerOut, D: Decider, P: Progress>(
     alloc: Global,
     n: u8,
     held: io::Result<Opened<F>>,
@@ -80,7 +79,7 @@ fn load_trunk<F: Read + Drop>(
 {
     match held {
         Ok(mut held) => load_tree(alloc, n, &mut held.reader, held.length),
-        Err(fault) => Err(by_fault(&fault)),
+        Err(fault) => Err(ended_by(&fault, Ended::Ledger)),
     }
 }
 
@@ -100,7 +99,7 @@ fn load_tree<R: Read>(
     let mut loader = Loader::new(alloc, root(n));
     match loader.feed_from(from, limit) {
         Ok(()) => finished(loader),
-        Err(ReadStop::Failed(fault)) => Err(by_fault(&fault)),
+        Err(ReadStop::Failed(fault)) => Err(ended_by(&fault, Ended::Ledger)),
         Err(ReadStop::NoMemory) => Err(Ended::NoMemory),
     }
 }
@@ -145,7 +144,7 @@ fn refuse_parts_of<G: Folder>(tables: &[Table], folder: &G) -> Result<(), Ended>
 }
 
 // Grows a trunk from the board of its ledger.
-fn grow<L: LedgerOut, D: Decider, P: Tells>(
+fn grow<L: LedgerOut, D: Decider, P: Progress>(
     alloc: Global,
     board: &mut Board,
     left: &Left,

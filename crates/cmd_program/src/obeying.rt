@@ -5,21 +5,20 @@ ghost use Rattle.cmd_options.specs.Ranges.{AreWithinRanges};
 
 use crate::named::Named;
 use cmd_dispatch::carry_out;
-use cmd_ledgers::Host;
 use cmd_nodes::Sockets;
 use cmd_options::{Ended, NoMemory, Options, Outcome};
-use cmd_parts::PartsHost;
 use cmd_words::{LineFault, options};
+use files::Disk;
 use std::alloc::Global;
 use std::io::{Read, Write};
 use std::time::Clock;
 
 /// Does what the words ask for, the program's name first, and answers how it ended. Each end is an
 /// `Outcome`: a line that can't be read or is refused too, and a stream that fails.
-pub fn obey<H: PartsHost + Clock + Sockets, R: Read, W: Write, E: Write>(
+pub fn obey<S: Disk + Clock + Sockets, R: Read, W: Write, E: Write>(
     alloc: Global,
     words: Result<Vec<String>, LineFault>,
-    host: &H,
+    system: &S,
     input: &mut R,
     answers: &mut W,
     faults: &mut E,
@@ -36,37 +35,37 @@ pub fn obey<H: PartsHost + Clock + Sockets, R: Read, W: Write, E: Write>(
     };
     match options(alloc, &line) {
         Ok(asked) => {
-            let outcome = carried_out(alloc, asked, host, input, answers, faults);
-            tell_reason(host, outcome, faults)
+            let outcome = carried_out(alloc, asked, system, input, answers, faults);
+            tell_reason(system, outcome, faults)
         }
         Err(fault) => fault.told(alloc, answers, faults),
     }
 }
 
 // Does what is asked for; which of the streams fails is remembered.
-fn carried_out<H: PartsHost + Clock + Sockets, R: Read, W: Write, E: Write>(
+fn carried_out<S: Disk + Clock + Sockets, R: Read, W: Write, E: Write>(
     alloc: Global,
     asked: Options<'_>,
-    host: &H,
+    system: &S,
     input: &mut R,
     answers: &mut W,
     faults: &mut E,
 ) -> Outcome
     requires { AreWithinRanges asked }
 {
-    let mut input = Named::of(host, "standard input", input);
-    let mut answers = Named::of(host, "standard output", answers);
-    let mut faults = Named::of(host, "standard error", faults);
-    carry_out(alloc, asked, host, &mut input, &mut answers, &mut faults)
+    let mut input = Named::of(system, "standard input", input);
+    let mut answers = Named::of(system, "standard output", answers);
+    let mut faults = Named::of(system, "standard error", faults);
+    carry_out(alloc, asked, system, &mut input, &mut answers, &mut faults)
 }
 
 // Where a command failed, says on a terminal what of it failed, and why.
-fn tell_reason<H: Host, E: Write>(host: &H, outcome: Outcome, faults: &mut E) -> Outcome
+fn tell_reason<S: Disk, E: Write>(system: &S, outcome: Outcome, faults: &mut E) -> Outcome
     ensures { result ≡ outcome }
 {
     if outcome == Outcome::Failed
-        && host.tells_terminal()
-        && let Some(reason) = host.reason()
+        && system.tells_terminal()
+        && let Some(reason) = system.reason()
     {
         // It has failed, whether that can be said or not.
         let _ = faults.write_all(reason.as_bytes());

@@ -1,3 +1,4 @@
 pub mod Lines
 pub mod Taken
+pub mod Said
 pub mod inside

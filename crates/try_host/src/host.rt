@@ -1,15 +1,13 @@
 // The host of a case: its files, locks, sockets and clock.
 use crate::device::{Call, failed};
-use crate::files::{Page, Sheet, sheet_at, synced};
 use crate::room::Room;
+use crate::sheets::{Page, Sheet, sheet_at, synced};
 use crate::sockets::Socket;
-use cmd_ledgers::{FileLedger, Host};
 use cmd_nodes::Sockets;
-use cmd_options::{Ended, LedgerFile};
-use cmd_parts::PartsHost;
+use cmd_options::Ended;
+use files::{Disk, DiskFile};
 use std::io::{self, ErrorKind};
 use std::time::{Clock, Duration};
-use wire::LedgerOut;
 
 /// What a command finds, as a host.
 #[derive(Clone, Copy, Drop)]
@@ -17,8 +15,14 @@ pub struct CaseHost<'a> {
     pub room: &'a Room<'a>,
 }
 
-impl<'a> Host for CaseHost<'a> {
-    type File = Page<'a>;
+impl<'a> Disk for CaseHost<'a> {
+    ghost use Rattle.std.specs.Prelude.{None, false};
+
+    ghost stands = { λ host path. None };
+
+    ghost knows = { false };
+
+    type Reader = Page<'a>;
 
     fn open(&self, path: &str) -> io::Result<Page<'a>> {
         let Ok(disk) = self.room.disk.try_borrow() else {
@@ -75,30 +79,27 @@ impl<'a> Host for CaseHost<'a> {
         }
     }
 
-    type Ledger = FileLedger<Sheet<'a>>;
+    type File = Sheet<'a>;
 
     // A process that has ended opens nothing.
-    fn ledger(&self, file: &LedgerFile<'_>) -> io::Result<FileLedger<Sheet<'a>>> {
+    fn go_on(&self, path: &str) -> io::Result<Sheet<'a>> {
         if self.room.files.is_over() {
             return Err(failed());
         }
-        if file.path == self.room.conditions.sealed.as_str() {
+        if path == self.room.conditions.sealed.as_str() {
             let denied = io::Error::from(ErrorKind::PermissionDenied);
-            return self.room.noted(file.path, Err(denied));
+            return self.room.noted(path, Err(denied));
         }
-        let sheet = sheet_at(self.room.alloc, self.room, file.path)?;
-        Ok(FileLedger::of(sheet, file.durability))
+        sheet_at(self.room.alloc, self.room, path)
     }
 
-    fn over(&self, path: &str) -> io::Result<FileLedger<Sheet<'a>>> {
-        let mut ledger = self.ledger(&LedgerFile::at(path))?;
-        match ledger.cut(0) {
-            Ok(()) => Ok(ledger),
-            Err(_) => Err(failed()),
-        }
+    fn over(&self, path: &str) -> io::Result<Sheet<'a>> {
+        let mut sheet = self.go_on(path)?;
+        sheet.cut(0)?;
+        Ok(sheet)
     }
 
-    fn anew(&self, path: &str) -> io::Result<FileLedger<Sheet<'a>>> {
+    fn anew(&self, path: &str) -> io::Result<Sheet<'a>> {
         let Ok(mut disk) = self.room.disk.try_borrow_mut() else {
             return Err(failed());
         };
@@ -106,7 +107,7 @@ impl<'a> Host for CaseHost<'a> {
             self.room.note("remove", path)?;
         }
         drop(disk);
-        self.ledger(&LedgerFile::at(path))
+        self.go_on(path)
     }
 
     fn is_replaceable(&self, path: &str) -> bool {
@@ -130,6 +131,22 @@ impl<'a> Host for CaseHost<'a> {
                 Err(failed())
             }
         }
+    }
+
+    type Lock = ();
+
+    fn lock(&self, path: &str) -> Result<Option<()>, Ended> {
+        if path == self.room.conditions.locked.as_str() {
+            Ok(None)
+        } else {
+            self.room.note("lock", path)?;
+            Ok(Some(()))
+        }
+    }
+
+    // Any path may stand in a folder.
+    fn make_folder(&self, _path: &str) -> io::Result<()> {
+        Ok(())
     }
 
     fn tells_terminal(&self) -> bool {
@@ -161,26 +178,6 @@ fn renamed(room: &Room<'_>, from: &str, to: &str) -> io::Result<()> {
     }
     let text = format!(in room.alloc; "{from} {to}")?;
     room.note("put", &text)
-}
-
-impl PartsHost for CaseHost<'_> {
-    type Lock = ();
-
-    ghost locks = { λ host path locked. Unit {0} };
-
-    fn lock(&self, path: &str) -> Result<Option<()>, Ended> {
-        if path == self.room.conditions.locked.as_str() {
-            Ok(None)
-        } else {
-            self.room.note("lock", path)?;
-            Ok(Some(()))
-        }
-    }
-
-    // Any path may stand in a folder.
-    fn make_folder(&self, _path: &str) -> io::Result<()> {
-        Ok(())
-    }
 }
 
 impl Clock for CaseHost<'_> {

@@ -4,9 +4,9 @@
 
 mod device;
 mod disk;
-mod files;
 mod host;
 mod room;
+mod sheets;
 mod sockets;
 mod streams;
 

@@ -1,9 +1,10 @@
 // The tree of one state, run as a row says.
 use crate::probe::Probe;
 use crate::rows::Row;
-use cmd_ledgers::{AsLines, Opened};
-use cmd_nodes::{NoLedger, Run, Telling, cmd_run};
+use cmd_ledgers::AsLines;
+use cmd_nodes::{NoLedger, Run, cmd_run};
 use cmd_options::{Outcome, Search, Settling};
+use files::{Opened, Telling};
 use std::alloc::{AllocError as NoMemory, Global};
 use std::cell::RefCell;
 use std::io::{self, ErrorKind, Write};

@@ -1,2 +1,0 @@
--- What only the code of this crate needs.
-pub mod Loop

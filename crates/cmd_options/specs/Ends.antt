@@ -1,0 +1,32 @@
+-- What ends a command by an error of the system, and what is said of that.
+use Rattle.std.specs.Prelude.{◌≡◌, ◌⊎◌, List, ℕ, Option, Result, Ok, Err}
+use Rattle.std.specs.Io.KnownBytes.{Appends}
+use Rattle.std.specs.IoError.{error_kind}
+use Rattle.std.specs.declared.io.Error.{Error}
+use Rattle.std.specs.declared.io.ErrorKind.{ErrorKind}
+use Rattle.std.specs.declared.io.ErrorKind.TheVariants.{OutOfMemory}
+use Rattle.cmd_options.specs.Outcome.{ended_text, outcome_of}
+use Rattle.cmd_options.specs.declared.outcome.Outcome.{Outcome}
+use Rattle.cmd_options.specs.declared.outcome.Outcome.TheVariants.{Failed as HasFailed}
+use Rattle.cmd_options.specs.declared.ended.Ended.{Ended}
+use Rattle.cmd_options.specs.declared.ended.Ended.TheVariants.{NoMemory}
+use Rattle.cmd_options.specs.declared.stopped.Stopped.{Stopped}
+use Rattle.cmd_options.specs.declared.stopped.Stopped.TheVariants.{Failed, Ended as EndedBy}
+
+-- refused memory, where that is its kind; else what it is said to be
+abbrev pub end_of_kind : ErrorKind → Ended → Ended
+end_of_kind OutOfMemory e = NoMemory
+end_of_kind _ e = e
+
+unfoldable pub end_by : Error → Ended → Ended
+end_by fault e = end_of_kind (error_kind fault) e
+
+-- of what stopped a reader: a read that failed is said to be this, where memory wasn't refused for it
+abbrev pub end_when : Stopped → Ended → Ended
+end_when (Failed fault) e = end_by fault e
+end_when (EndedBy other) e = other
+
+-- what ended a command early is said, on a line, unless that can't be said either
+abbrev pub IsTold : Result Outcome Ended → Option (List ℕ) → Option (List ℕ) → Outcome → Type 0
+IsTold (Ok o) said new_said outcome = (outcome ≡ o) × (new_said ≡ said)
+IsTold (Err e) said new_said outcome = ((outcome ≡ outcome_of e) × Appends said new_said (ended_text e)) ⊎ (outcome ≡ HasFailed)

@@ -1,0 +1,4 @@
+pub mod Standing
+pub mod Opened
+pub mod Written
+pub mod Memory

@@ -1,0 +1,38 @@
+//! Where the files stand that a command line names, and how far a long run is.
+//!
+//! `Files` is what commands see of them. `OnDisk` is that over the calls of a file system, `MemFiles` over files in memory.
+//! `specs/Standing` has what is known to stand at paths and how that changes, `specs/Opened` what is read of it,
+//! `specs/Written` what a ledger holds that is opened once it is written. `specs/Memory` is for files in memory alone.
+#![tactic(auto)]
+
+mod disk;
+mod disk_ledger;
+mod disk_made;
+mod file_ledger;
+mod files;
+mod keeping;
+mod mem_text;
+mod memory;
+mod on_disk;
+mod opened;
+mod place;
+mod progress;
+mod telling;
+mod timed;
+mod writing;
+
+pub use cmd_options::ended_by;
+pub use disk::{Disk, DiskFile};
+pub use disk_ledger::DiskLedger;
+pub use disk_made::DiskMade;
+pub use file_ledger::FileLedger;
+pub use files::{Files, lock_ledger};
+pub use mem_text::MemText;
+pub use memory::MemFiles;
+pub use on_disk::OnDisk;
+pub use opened::{Held, Opened, held_at};
+pub use place::Place;
+pub use progress::{Progress, Silent};
+pub use telling::Telling;
+pub use timed::TimedProgress;
+pub use writing::{ledger_at, made_for, put_at};

@@ -1,0 +1,90 @@
+// Where a file is made that is to be put at a path.
+use crate::disk::Disk;
+use cmd_options::Durability;
+use std::alloc::Global;
+use std::io::{self, ErrorKind};
+
+// What is put behind a path to name the file that is made beside it.
+const NEW_SUFFIX: &str = ".new";
+
+// How often that is put behind it at most, where what is read has such a name.
+const MOST_SUFFIXES: u32 = 8;
+
+/// Where a file is made that is to be put at a path.
+#[derive(Drop)]
+pub enum Place {
+    /// In a new file beside the one that its path leads to, in whose place it is then put.
+    Beside {
+        /// The path of the new file.
+        made: String,
+        /// The path in whose place it is put.
+        end: String,
+    },
+    /// Over what stands there, which is no plain file.
+    Over {
+        /// Its path.
+        path: String,
+    },
+}
+
+impl Place {
+    /// Where the file at a path is made: in a new file beside the one to which the path's links lead, whose name is none of
+    /// those that are read; over a device. Fails where the links lead nowhere, or each such name is read.
+    pub fn of<D: Disk>(alloc: Global, disk: &D, path: &str, read: &[&str]) -> io::Result<Place> {
+        let end = disk.end_of(path)?;
+        if !disk.is_replaceable(&end) {
+            let path = path.to_string(alloc)?;
+            return Ok(Place::Over { path });
+        }
+        let made = new_name(alloc, disk, &end, read)?;
+        Ok(Place::Beside { made, end })
+    }
+
+    /// The path of the new file; none where there is none.
+    pub fn made(&self) -> Option<&str> {
+        match self {
+            Place::Beside { made, .. } => Some(made),
+            Place::Over { .. } => None,
+        }
+    }
+
+    /// Puts a file that was made beside its place there; once it is on the disk, where that is asked for: then a power cut
+    /// leaves one of the two there.
+    pub fn put<D: Disk>(&self, disk: &D, durability: Durability) -> io::Result<()> {
+        match self {
+            Place::Beside { made, end } => {
+                if durability == Durability::Disk {
+                    disk.sync(made)?;
+                }
+                disk.rename(made, end)
+            }
+            Place::Over { .. } => Ok(()),
+        }
+    }
+}
+
+// A name beside a path that none of what is read has.
+fn new_name<D: Disk>(alloc: Global, disk: &D, end: &str, read: &[&str]) -> io::Result<String> {
+    let mut made = String::new(alloc);
+    made.push_str(end)?;
+    made.push_str(NEW_SUFFIX)?;
+    for _ in 0..MOST_SUFFIXES {
+        if !is_read(disk, &made, read) {
+            return Ok(made);
+        }
+        made.push_str(NEW_SUFFIX)?;
+    }
+    let fault = io::Error::from(ErrorKind::AlreadyExists);
+    disk.remember(end, &fault);
+    Err(fault)
+}
+
+// Whether a path leads to a file that is read.
+fn is_read<D: Disk>(disk: &D, path: &str, read: &[&str]) -> bool {
+    for other in read {
+        if disk.is_same(path, other) {
+            return true;
+        }
+    }
+    false
+}

@@ -30,32 +30,31 @@ pub fn carry_out<S: Disk + Clock + Sockets, R: Read, W: Write, E: Write>(
         answers,
         faults: &mut *faults,
     };
-    let ended = done(call, asked);
+    let ended = call.done(asked);
     told(ended, faults)
 }
 
-// Each command, by what it is asked for.
-fn done<S: Disk + Clock + Sockets, R: Read, W: Write, E: Write>(
-    call: Call<'_, S, R, W, E>,
-    asked: Options<'_>,
-) -> Result<Outcome, Ended>
-    requires { AreWithinRanges asked }
-{
-    match asked {
-        Options::Check => lines::check(call),
-        Options::Decide(search) => lines::decide(call, &search),
-        Options::Draw(drawing) => pictures::draw(call, &drawing),
-        Options::Coord { beginning, ledger } => nodes::coord(call, beginning, ledger),
-        Options::Run { settling, ledger } => nodes::run(call, &settling, ledger),
-        Options::Loop { settling, ledger } => nodes::run_over_sockets(call, &settling, ledger),
-        Options::Retry { file, search } => ledgers::retry(call, file, &search),
-        Options::Merge(merging) => ledgers::merge(call, merging),
-        Options::Carry(carrying) => ledgers::carry(call, carrying),
-        Options::Mend(mending) => ledgers::mend(call, mending),
-        Options::Report { file, json, why } => ledgers::report(call, file, json, why),
-        Options::Page { file } => pictures::page(call, file),
-        Options::Split(splitting) => folders::split(call, &splitting),
-        Options::Settle { file, search, progress } => folders::settle(call, file, &search, progress),
-        Options::Join(joining) => folders::join(call, &joining),
+impl<S: Disk + Clock + Sockets, R: Read, W: Write, E: Write> Call<'_, S, R, W, E> {
+    // Each command, by what it is asked for.
+    fn done(self, asked: Options<'_>) -> Result<Outcome, Ended>
+        requires { AreWithinRanges asked }
+    {
+        match asked {
+            Options::Check => lines::check(self),
+            Options::Decide(search) => lines::decide(self, &search),
+            Options::Draw(drawing) => pictures::draw(self, &drawing),
+            Options::Coord { beginning, ledger } => nodes::coord(self, beginning, ledger),
+            Options::Run { settling, ledger } => nodes::run(self, &settling, ledger),
+            Options::Loop { settling, ledger } => nodes::run_over_sockets(self, &settling, ledger),
+            Options::Retry { file, search } => ledgers::retry(self, file, &search),
+            Options::Merge(merging) => ledgers::merge(self, merging),
+            Options::Carry(carrying) => ledgers::carry(self, carrying),
+            Options::Mend(mending) => ledgers::mend(self, mending),
+            Options::Report { file, json, why } => ledgers::report(self, file, json, why),
+            Options::Page { file } => pictures::page(self, file),
+            Options::Split(splitting) => folders::split(self, &splitting),
+            Options::Settle(settling) => folders::settle(self, &settling),
+            Options::Join(joining) => folders::join(self, &joining),
+        }
     }
 }

@@ -4,7 +4,7 @@ ghost use Rattle.cmd_options.specs.Ranges.{IsSplitting};
 use crate::any_finder::decider_for;
 use crate::call::Call;
 use cmd_json::Form;
-use cmd_options::{Ended, Joining, LedgerFile, Outcome, Search, Splitting};
+use cmd_options::{Ended, Joining, LedgerSettling, Outcome, Splitting};
 use cmd_parts::{join_at, settle_ledger_at, split_in};
 use files::{Disk, Silent, Telling, TimedProgress};
 use std::io::Write;
@@ -19,22 +19,35 @@ pub(crate) fn split<S: Disk, R, W: Write, E>(
 {
     let mut decider = decider_for(call.alloc, &splitting.search)?;
     let mut files = call.files();
-    split_in(call.alloc, splitting, &mut files, &mut decider, &mut Silent, call.answers)?;
+    split_in(
+        call.alloc,
+        splitting,
+        &mut files,
+        &mut decider,
+        &mut Silent,
+        call.answers,
+    )?;
     Ok(Outcome::Accepted)
 }
 
 // `bb settle`; how far it is, is told on `faults` where that is wanted.
 pub(crate) fn settle<S: Disk + Clock, R, W: Write, E: Write>(
     call: Call<'_, S, R, W, E>,
-    file: LedgerFile<'_>,
-    search: &Search,
-    is_wanted: bool,
+    settling: &LedgerSettling<'_>,
 ) -> Result<Outcome, Ended> {
-    let mut decider = decider_for(call.alloc, search)?;
+    let mut decider = decider_for(call.alloc, &settling.search)?;
     let mut files = call.files();
-    let telling = Telling::of(is_wanted, call.system.tells_terminal());
-    let mut progress = TimedProgress::new(call.alloc, telling, 0, call.system, call.faults);
-    let ended = settle_ledger_at(call.alloc, file, &mut files, &mut decider, &mut progress, call.answers);
+    let (alloc, file, answers) = (call.alloc, settling.file, call.answers);
+    let telling = Telling::of(settling.progress, call.system.tells_terminal());
+    let mut progress = TimedProgress::new(alloc, telling, 0, call.system, call.faults);
+    let ended = settle_ledger_at(
+        alloc,
+        file,
+        &mut files,
+        &mut decider,
+        &mut progress,
+        answers,
+    );
     progress.end();
     ended?;
     Ok(Outcome::Accepted)
@@ -47,5 +60,12 @@ pub(crate) fn join<S: Disk, R, W: Write, E: Write>(
 ) -> Result<Outcome, Ended> {
     let form = Form::of(joining.json);
     let mut files = call.files();
-    join_at(call.alloc, &form, joining, &mut files, call.answers, call.faults)
+    join_at(
+        call.alloc,
+        &form,
+        joining,
+        &mut files,
+        call.answers,
+        call.faults,
+    )
 }

@@ -56,7 +56,13 @@ pub(crate) fn mend<S: Disk, R: Read, W: Write, E>(
     let mut files = call.files();
     let _lock = lock_ledger(&files, mending.out)?;
     if mending.ledger == STANDARD_INPUT {
-        mend_stream(call.alloc, mending.out, &mut files, call.input, call.answers)
+        mend_stream(
+            call.alloc,
+            mending.out,
+            &mut files,
+            call.input,
+            call.answers,
+        )
     } else {
         mend_at(call.alloc, mending, &mut files, call.answers)
     }
@@ -71,7 +77,14 @@ pub(crate) fn report<S: Disk, R: Read, W: Write, E: Write>(
 ) -> Result<Outcome, Ended> {
     let form = Form::of(json);
     if path == STANDARD_INPUT {
-        report_stream(call.alloc, &form, why, call.input, call.answers, call.faults)
+        report_stream(
+            call.alloc,
+            &form,
+            why,
+            call.input,
+            call.answers,
+            call.faults,
+        )
     } else {
         let file = call.files().open_to_end(path);
         report_file(call.alloc, &form, why, file, call.answers, call.faults)

@@ -21,7 +21,14 @@ pub(crate) fn decide<S: Disk, R: Read, W: Write, E: Write>(
 ) -> Result<Outcome, Ended> {
     let mut decider = decider_for(call.alloc, search)?;
     let reader = reader_of(call.system);
-    decide_for(call.alloc, reader, &mut decider, call.input, call.answers, call.faults)
+    decide_for(
+        call.alloc,
+        reader,
+        &mut decider,
+        call.input,
+        call.answers,
+        call.faults,
+    )
 }
 
 // Who reads what is said on standard error.

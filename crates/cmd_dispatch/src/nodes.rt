@@ -6,15 +6,17 @@ use crate::any_finder::{AnyFinder, decider_for};
 use crate::call::Call;
 use cert::Finders;
 use cmd_json::Form;
-use cmd_nodes::{NoLedger, Run, Sockets, coordinate, loop_tree, run_tree};
+use cmd_nodes::{MaybeLedger, Run, Sockets, coordinate, loop_tree, run_tree};
 use cmd_options::{Beginning, Ended, LedgerFile, Outcome, Settling};
-use files::{Disk, Files, Opened, Telling, held_at, ledger_at, lock_ledger};
+use files::{
+    Disk, DiskLedger, Files, Held, OnDisk, Opened, Telling, held_at, ledger_at, lock_ledger,
+};
 use lease_core::Worker;
 use std::alloc::Global;
-use std::io::{self, Empty, ErrorKind, Read, Write};
+use std::io::{self, ErrorKind, Read, Write};
 use std::time::Clock;
 
-// `bb coord`, with its ledger in a file, or none.
+// `bb coord`.
 pub(crate) fn coord<S: Disk, R: Read, W: Write, E>(
     call: Call<'_, S, R, W, E>,
     beginning: Beginning,
@@ -22,19 +24,19 @@ pub(crate) fn coord<S: Disk, R: Read, W: Write, E>(
 ) -> Result<Outcome, Ended>
     requires { IsBeginning beginning }
 {
-    let Some(file) = ledger else {
-        return coordinate(call.alloc, beginning, nothing(), &mut NoLedger, call.input, call.answers);
-    };
-    let mut files = call.files();
-    let _lock = lock_begun(&mut files, file.path)?;
-    let held = held_at(&files, file.path);
-    let mut ledger = ledger_at(&mut files, &file)?;
-    let ended = coordinate(call.alloc, beginning, held, &mut ledger, call.input, call.answers);
-    files.close(file.path, ledger);
-    ended
+    let kept = Kept::of(&call, ledger)?;
+    let mut ledger = kept.ledger;
+    coordinate(
+        call.alloc,
+        beginning,
+        kept.held,
+        &mut ledger,
+        call.input,
+        call.answers,
+    )
 }
 
-// `bb run`, with its ledger in a file, or none.
+// `bb run`.
 pub(crate) fn run<S: Disk + Clock, R, W: Write, E: Write>(
     call: Call<'_, S, R, W, E>,
     settling: &Settling,
@@ -44,19 +46,19 @@ pub(crate) fn run<S: Disk + Clock, R, W: Write, E: Write>(
 {
     let form = Form::of(settling.json);
     let run = run_of(call.alloc, call.system, settling, &form)?;
-    let Some(file) = ledger else {
-        return run_tree(call.alloc, run, nothing(), &mut NoLedger, call.answers, call.faults);
-    };
-    let mut files = call.files();
-    let _lock = lock_begun(&mut files, file.path)?;
-    let held = held_at(&files, file.path);
-    let mut ledger = ledger_at(&mut files, &file)?;
-    let ended = run_tree(call.alloc, run, held, &mut ledger, call.answers, call.faults);
-    files.close(file.path, ledger);
-    ended
+    let kept = Kept::of(&call, ledger)?;
+    let (alloc, mut ledger) = (call.alloc, kept.ledger);
+    run_tree(
+        alloc,
+        run,
+        kept.held,
+        &mut ledger,
+        call.answers,
+        call.faults,
+    )
 }
 
-// `bb loop`, in the same way.
+// `bb loop`.
 pub(crate) fn run_over_sockets<S: Disk + Clock + Sockets, R, W: Write, E: Write>(
     call: Call<'_, S, R, W, E>,
     settling: &Settling,
@@ -66,17 +68,60 @@ pub(crate) fn run_over_sockets<S: Disk + Clock + Sockets, R, W: Write, E: Write>
 {
     let form = Form::of(settling.json);
     let run = run_of(call.alloc, call.system, settling, &form)?;
-    let sockets = call.system;
-    let Some(file) = ledger else {
-        return loop_tree(call.alloc, run, sockets, nothing(), &mut NoLedger, call.answers, call.faults);
-    };
-    let mut files = call.files();
-    let _lock = lock_begun(&mut files, file.path)?;
-    let held = held_at(&files, file.path);
-    let mut ledger = ledger_at(&mut files, &file)?;
-    let ended = loop_tree(call.alloc, run, sockets, held, &mut ledger, call.answers, call.faults);
-    files.close(file.path, ledger);
-    ended
+    let kept = Kept::of(&call, ledger)?;
+    let (sockets, mut ledger) = (call.system, kept.ledger);
+    loop_tree(
+        call.alloc,
+        run,
+        sockets,
+        kept.held,
+        &mut ledger,
+        call.answers,
+        call.faults,
+    )
+}
+
+// The ledger of a coordinator, locked for as long as it is written, and what it held; or none.
+#[derive(Drop)]
+struct Kept<'a, D: Disk> {
+    held: io::Result<Opened<Held<D::Reader>>>,
+    ledger: MaybeLedger<DiskLedger<'a, D>>,
+    lock: Option<D::Lock>,
+}
+
+impl<'a, D: Disk> Kept<'a, D> {
+    fn of<R, W, E>(
+        call: &Call<'a, D, R, W, E>,
+        file: Option<LedgerFile<'_>>,
+    ) -> Result<Kept<'a, D>, Ended> {
+        match file {
+            Some(file) => Kept::at(call.files(), file),
+            None => Ok(Kept::nowhere()),
+        }
+    }
+
+    // In a file, which is begun where it isn't there.
+    fn at(mut files: OnDisk<'a, D>, file: LedgerFile<'_>) -> Result<Kept<'a, D>, Ended> {
+        let lock = lock_begun(&mut files, file.path)?;
+        let held = held_at(&files, file.path);
+        let ledger = ledger_at(&mut files, &file)?;
+        Ok(Kept {
+            held,
+            ledger: MaybeLedger::Kept(ledger),
+            lock: Some(lock),
+        })
+    }
+
+    fn nowhere() -> Kept<'a, D> {
+        Kept {
+            held: Ok(Opened {
+                reader: Held::Nothing,
+                length: 0,
+            }),
+            ledger: MaybeLedger::Nothing,
+            lock: None,
+        }
+    }
 }
 
 // What is run, with as many workers as are asked for.
@@ -125,12 +170,4 @@ fn lock_begun<H: Files>(files: &mut H, path: &str) -> Result<H::Lock, Ended> {
         let _ = files.create(path);
     }
     lock_ledger(files, path)
-}
-
-// Where there is no ledger, nothing is held.
-fn nothing() -> io::Result<Opened<Empty>> {
-    Ok(Opened {
-        reader: io::empty(),
-        length: 0,
-    })
 }

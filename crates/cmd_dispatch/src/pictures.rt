@@ -44,7 +44,14 @@ pub(crate) fn draw<S: Disk, R: Read, W: Write, E: Write>(
     drawing: &Drawing<'_>,
 ) -> Result<Outcome, Ended> {
     let pictures = PictureFiles { disk: call.system };
-    draw_asked(call.alloc, drawing, &pictures, call.input, call.answers, call.faults)
+    draw_asked(
+        call.alloc,
+        drawing,
+        &pictures,
+        call.input,
+        call.answers,
+        call.faults,
+    )
 }
 
 // `bb page`, of a file or of `input`.
@@ -67,7 +74,13 @@ fn page_of_file<S: Disk, R, W: Write, E>(
         Ok(file) => file,
         Err(fault) => return Err(ended_by(&fault, Ended::File)),
     };
-    match write_ledger_page(call.alloc, path, &mut file.reader, file.length, call.answers) {
+    match write_ledger_page(
+        call.alloc,
+        path,
+        &mut file.reader,
+        file.length,
+        call.answers,
+    ) {
         Ok((outcome, _)) => Ok(outcome),
         Err(stopped) => Err(stopped.ended(Ended::File)),
     }
@@ -75,7 +88,13 @@ fn page_of_file<S: Disk, R, W: Write, E>(
 
 // Of the ledger that a stream has up to its end.
 fn page_of_stream<S, R: Read, W: Write, E>(call: Call<'_, S, R, W, E>) -> Result<Outcome, Ended> {
-    match write_ledger_page(call.alloc, "standard input", call.input, u64::MAX, call.answers) {
+    match write_ledger_page(
+        call.alloc,
+        "standard input",
+        call.input,
+        u64::MAX,
+        call.answers,
+    ) {
         Ok((outcome, _)) => Ok(outcome),
         Err(stopped) => Err(stopped.ended(Ended::Stream)),
     }

@@ -5,7 +5,7 @@ ghost use Rattle.cmd_draw.specs.Files.{SaysOfDrawn};
 ghost use Rattle.cmd_draw.specs.One.{DrawsFirst};
 ghost use Rattle.cmd_draw.specs.Said.{EndsDrawing};
 
-use crate::files::draw_files;
+use crate::drawn::draw_files;
 use crate::host::PictureHost;
 use crate::one::draw_first;
 use cmd_options::{Drawing, Ended, Outcome, told};

@@ -6,7 +6,7 @@
 
 mod asked;
 mod command;
-mod files;
+mod drawn;
 mod host;
 mod laws;
 mod one;
@@ -15,7 +15,7 @@ mod placing;
 
 pub use asked::table_asked;
 pub use command::{cmd_draw, draw_asked};
-pub use files::{draw_files, picture_path, put_picture};
+pub use drawn::{draw_files, picture_path, put_picture};
 pub use host::PictureHost;
 pub use laws::paths_are_apart;
 pub use one::{First, draw_first};

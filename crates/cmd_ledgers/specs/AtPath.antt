@@ -1,7 +1,7 @@
 -- What commands that write a ledger anew come to, by what stands at their paths.
 use Rattle.std.specs.Prelude.{◌≡◌, ◌⊎◌, ℕ, List, Option, Result, Ok, Err, ⊤}
 use Rattle.std.specs.Io.KnownBytes.{Appends}
-use Rattle.files.specs.Standing.{Shelf, Standing, SameFile, Unknown, Missing, Bytes, IsBlank, IsKept, IsPut}
+use Rattle.files.specs.Paths.{Shelf, Known, SameFile, Unknown, Missing, Bytes, IsBlank, IsKept, IsPut}
 use Rattle.ledger.specs.Contents.{Contents}
 use Rattle.ledger.specs.Tally.{IsTally}
 use Rattle.ledger.specs.declared.left.Left.{Left}
@@ -13,15 +13,15 @@ use Rattle.cmd_ledgers.specs.Carry.{carried_text}
 use Rattle.cmd_ledgers.specs.Merge.{AreJoined, IsLoaded, Readings, merged_text, outcome_of_left, rewritten}
 
 -- these are the bytes that stand at a path
-abbrev pub IsAt : Standing → List ℕ → Type 0
+abbrev pub IsAt : Known → List ℕ → Type 0
 IsAt Unknown text = ⊤
 IsAt Missing text = ⊥
 IsAt (Bytes bytes) text = text ≡ bytes
 
 -- what may come of reading what stands at a path
-abbrev pub ReadsAt : Standing → Readings
-ReadsAt standing (Ok text) = IsAt standing text
-ReadsAt standing (Err e) = (e ≡ NoMemory) ⊎ (e ≡ File)
+abbrev pub ReadsAt : Known → Readings
+ReadsAt known (Ok text) = IsAt known text
+ReadsAt known (Err e) = (e ≡ NoMemory) ⊎ (e ≡ File)
 
 -- a ledger of a board is put at a path
 abbrev pub PutsLedger : SameFile → List ℕ → Contents → Shelf → Shelf → Type 0

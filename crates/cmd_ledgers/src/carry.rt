@@ -2,8 +2,8 @@
 ghost use Rattle.std.specs.Prelude.{◌≡◌, ◌⊎◌, Err, IfOk, IfErr, List, ℕ, Option, Result};
 ghost use Rattle.cmd_options.specs.declared.outcome.Outcome.{Outcome as Outcomes};
 ghost use Rattle.cmd_options.specs.declared.ended.Ended.{Ended as Ends};
-ghost use Rattle.cmd_options.specs.Ends.{IsTold};
-ghost use Rattle.files.specs.Standing.{IsBlank, IsKeptBut};
+ghost use Rattle.cmd_options.specs.Ends.{EndsTold};
+ghost use Rattle.files.specs.Paths.{IsBlank, IsKeptBut};
 ghost use Rattle.cmd_ledgers.specs.AtPath.{CarriesAt, FailsWriting, ReadsAt};
 ghost use Rattle.cmd_ledgers.specs.Carry.{CarriesInto, EndsCarryingInto, carried_text};
 ghost use Rattle.cmd_ledgers.specs.Merge.{IsLoaded};
@@ -36,7 +36,7 @@ pub fn cmd_carry<H: Files, W: Write, E: Write>(
     ensures others { IsKeptBut (H.tells_same host.old) carrying.entry.out.now (H.holds host.old) (H.holds host.new) }
     ensures carries { (ended : Result Outcomes Ends)
         × CarriesAt (H.tells_same host.old) carrying.entry.ledger.now carrying.entry.out.now (H.holds host.old) (H.holds host.new) (W.contents answers.old) (W.contents answers.new) ended
-        × IsTold ended (E.contents faults.old) (E.contents faults.new) result }
+        × EndsTold ended (E.contents faults.old) (E.contents faults.new) result }
 {
     told(carry_at(alloc, carrying, host, answers), faults)
 }

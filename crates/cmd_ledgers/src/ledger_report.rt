@@ -37,7 +37,10 @@ pub fn cmd_report_stream<P: ReportForm, R: Read, W: Write, E: Write>(
     answers: &mut W,
     faults: &mut E,
 ) -> Outcome {
-    told(report_stream(alloc, form, why, input, answers, faults), faults)
+    told(
+        report_stream(alloc, form, why, input, answers, faults),
+        faults,
+    )
 }
 
 /// What `cmd_report` does, but that what ends it early isn't said.
@@ -83,8 +86,11 @@ fn with_reason<E: Write>(
     faults: &mut E,
 ) -> Result<Outcome, Ended> {
     let Left::From {
-        line, why: reason, ..
-    } = left else {
+        line,
+        why: reason,
+        ..
+    } = left
+    else {
         return Ok(outcome);
     };
     if !why {

@@ -2,8 +2,8 @@
 ghost use Rattle.std.specs.Prelude.{◌≡◌, ◌⊎◌, ◌++◌, List, ℕ, Ok, Err, IfOk, IfErr, OnOk, Option, Result};
 ghost use Rattle.cmd_options.specs.declared.outcome.Outcome.{Outcome as Outcomes};
 ghost use Rattle.cmd_options.specs.declared.ended.Ended.{Ended as Ends};
-ghost use Rattle.cmd_options.specs.Ends.{IsTold};
-ghost use Rattle.files.specs.Standing.{IsBlank, IsKeptBut};
+ghost use Rattle.cmd_options.specs.Ends.{EndsTold};
+ghost use Rattle.files.specs.Paths.{IsBlank, IsKeptBut};
 ghost use Rattle.cmd_ledgers.specs.AtPath.{FailsWriting, MergesAt, ReadsAt};
 ghost use Rattle.cmd_ledgers.specs.Merge.{AreJoined, EndsJoiningInto, EndsTakingIn, IsLoaded, JoinsInto, TakesIn, count_text, first_left, merged_text, rewritten};
 ghost use Rattle.cmd_ledgers.specs.Reading.{AreFirstBytes, EndsReadingOf};
@@ -38,7 +38,7 @@ pub fn cmd_merge<H: Files, W: Write, E: Write>(
     ensures others { IsKeptBut (H.tells_same host.old) merging.entry.out.now (H.holds host.old) (H.holds host.new) }
     ensures merges { (ended : Result Outcomes Ends)
         × MergesAt (H.tells_same host.old) merging.entry.first.now merging.entry.second.now merging.entry.out.now (H.holds host.old) (H.holds host.new) (W.contents answers.old) (W.contents answers.new) ended
-        × IsTold ended (E.contents faults.old) (E.contents faults.new) result }
+        × EndsTold ended (E.contents faults.old) (E.contents faults.new) result }
 {
     told(merge_at(alloc, merging, host, answers), faults)
 }

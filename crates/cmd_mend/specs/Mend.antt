@@ -17,7 +17,7 @@ use Rattle.cmd_options.specs.declared.ended.Ended.{Ended}
 use Rattle.cmd_options.specs.declared.ended.Ended.TheVariants.{Ledger as LedgerFails, NoMemory as WantsMemory, Stream as StreamFails}
 use Rattle.cmd_options.specs.declared.stopped.Stopped.{Stopped}
 use Rattle.cmd_options.specs.declared.stopped.Stopped.TheVariants.{Ended as EndedBy}
-use Rattle.files.specs.Standing.{IsKept, SameFile, Shelf}
+use Rattle.files.specs.Paths.{IsKept, SameFile, Shelf}
 use Rattle.cmd_taking.specs.Lines.{AreLines}
 use Rattle.cmd_ledgers.specs.AtPath.{PutsLedger}
 use Rattle.cmd_ledgers.specs.Merge.{rewritten}

@@ -3,8 +3,8 @@ ghost use Rattle.std.specs.Prelude.{◌≡◌, ◌⊎◌, ◌++◌, ◌^◌, ◌
 ghost use Rattle.std.specs.Io.KnownBytes.{Appends};
 ghost use Rattle.cmd_options.specs.declared.outcome.Outcome.{Outcome as Outcomes};
 ghost use Rattle.cmd_options.specs.declared.ended.Ended.{Ended as Ends};
-ghost use Rattle.cmd_options.specs.Ends.{IsTold};
-ghost use Rattle.files.specs.Standing.{IsKept, IsKeptBut, IsPut};
+ghost use Rattle.cmd_options.specs.Ends.{EndsTold};
+ghost use Rattle.files.specs.Paths.{IsKept, IsKeptBut, IsPut};
 ghost use Rattle.cmd_ledgers.specs.AtPath.{IsAt};
 ghost use Rattle.cmd_ledgers.specs.Reading.{AreFirstBytes};
 ghost use Rattle.cmd_mend.specs.Mend.{MendsAt, MendsInto, mended_text, outcome_of_dropped};
@@ -37,7 +37,7 @@ pub fn cmd_mend<H: Files, W: Write, E: Write>(
     ensures others { IsKeptBut (H.tells_same host.old) mending.entry.out.now (H.holds host.old) (H.holds host.new) }
     ensures mends { (ended : Result Outcomes Ends)
         × MendsAt (IsAt (H.holds host.old mending.entry.ledger.now)) (H.tells_same host.old) mending.entry.out.now (H.holds host.old) (H.holds host.new) (W.contents answers.old) (W.contents answers.new) ended
-        × IsTold ended (E.contents faults.old) (E.contents faults.new) result }
+        × EndsTold ended (E.contents faults.old) (E.contents faults.new) result }
 {
     told(mend_at(alloc, mending, host, answers), faults)
 }
@@ -54,7 +54,7 @@ pub fn cmd_mend_stream<H: Files, R: Read, W: Write, E: Write>(
     ensures others { IsKeptBut (H.tells_same host.old) out.now (H.holds host.old) (H.holds host.new) }
     ensures mends { (ended : Result Outcomes Ends)
         × MendsAt (AreFirstBytes (R.remaining input.old) (2 ^ 64 - 1)) (H.tells_same host.old) out.now (H.holds host.old) (H.holds host.new) (W.contents answers.old) (W.contents answers.new) ended
-        × IsTold ended (E.contents faults.old) (E.contents faults.new) result }
+        × EndsTold ended (E.contents faults.old) (E.contents faults.new) result }
 {
     told(mend_stream(alloc, out, host, input, answers), faults)
 }

@@ -2,3 +2,4 @@ pub mod Faults
 pub mod Losses
 pub mod Rounds
 pub mod Moving
+pub mod Kept

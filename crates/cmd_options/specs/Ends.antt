@@ -27,6 +27,6 @@ end_when (Failed fault) e = end_by fault e
 end_when (EndedBy other) e = other
 
 -- what ended a command early is said, on a line, unless that can't be said either
-abbrev pub IsTold : Result Outcome Ended → Option (List ℕ) → Option (List ℕ) → Outcome → Type 0
-IsTold (Ok o) said new_said outcome = (outcome ≡ o) × (new_said ≡ said)
-IsTold (Err e) said new_said outcome = ((outcome ≡ outcome_of e) × Appends said new_said (ended_text e)) ⊎ (outcome ≡ HasFailed)
+abbrev pub EndsTold : Result Outcome Ended → Option (List ℕ) → Option (List ℕ) → Outcome → Type 0
+EndsTold (Ok o) said new_said outcome = (outcome ≡ o) × (new_said ≡ said)
+EndsTold (Err e) said new_said outcome = ((outcome ≡ outcome_of e) × Appends said new_said (ended_text e)) ⊎ (outcome ≡ HasFailed)

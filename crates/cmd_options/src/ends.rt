@@ -1,6 +1,6 @@
 // What ends a command by an error of the system, and the one door out of it.
 ghost use Rattle.std.specs.Prelude.{◌≡◌, ◌⊎◌};
-ghost use Rattle.cmd_options.specs.Ends.{IsTold, end_by};
+ghost use Rattle.cmd_options.specs.Ends.{EndsTold, end_by};
 
 use crate::ended::Ended;
 use crate::outcome::Outcome;
@@ -20,7 +20,7 @@ pub fn ended_by(fault: &io::Error, otherwise: Ended) -> Ended
 
 /// How a command ended; what ended it early is said on `faults`.
 pub fn told<E: Write>(ended: Result<Outcome, Ended>, faults: &mut E) -> Outcome
-    ensures { IsTold ended (E.contents faults.old) (E.contents faults.new) result }
+    ensures { EndsTold ended (E.contents faults.old) (E.contents faults.new) result }
 {
     match ended {
         Ok(outcome) => outcome,

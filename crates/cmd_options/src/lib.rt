@@ -17,7 +17,8 @@ pub use ended::Ended;
 pub use ends::{ended_by, told};
 pub use ledger_file::{Durability, LedgerFile};
 pub use options::{
-    Beginning, Carrying, Joining, Mending, Merging, Options, Search, Settling, Splitting,
+    Beginning, Carrying, Joining, LedgerSettling, Mending, Merging, Options, Search, Settling,
+    Splitting,
 };
 pub use outcome::Outcome;
 pub use std::alloc::AllocError as NoMemory;

@@ -47,14 +47,7 @@ pub enum Options<'a> {
     /// `bb split N DIR [--filled D]` and the options of `decide`
     Split(Splitting<'a>),
     /// `bb settle FILE [--sync] [--progress]` and the options of `decide`
-    Settle {
-        /// The ledger.
-        file: LedgerFile<'a>,
-        /// How far certificates are searched for.
-        search: Search,
-        /// Whether to tell on standard error, while it goes on, how far it is.
-        progress: bool,
-    },
+    Settle(LedgerSettling<'a>),
     /// `bb join DIR [--json] [--ledger OUT]`
     Join(Joining<'a>),
     /// `bb draw [--from T] [--steps K] [--rows R] [--width W] [--out DIR]`
@@ -102,6 +95,17 @@ pub struct Mending<'a> {
     pub ledger: &'a str,
     /// The ledger that is written; it may be the same.
     pub out: &'a str,
+}
+
+/// How a ledger is settled.
+#[derive(Clone, Copy, Debug, PartialEq, Eq)]
+pub struct LedgerSettling<'a> {
+    /// The ledger.
+    pub file: LedgerFile<'a>,
+    /// How far certificates are searched for.
+    pub search: Search,
+    /// Whether to tell on standard error, while it goes on, how far it is.
+    pub progress: bool,
 }
 
 /// How a tree is cut into a trunk and parts.

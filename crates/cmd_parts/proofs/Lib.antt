@@ -1,3 +1,4 @@
 pub mod Settled
 pub mod Trunks
 pub mod Joining
+pub mod BegunAt

@@ -4,13 +4,13 @@ use Rattle.machine_text.specs.Packed.{Packed}
 use Rattle.machine_text.specs.Text.{text_of}
 use Rattle.cert.specs.Claim.{Recorded}
 use Rattle.cmd_options.specs.declared.ended.Ended.{Ended}
-use Rattle.files.specs.Standing.{Shelf, Standing, SameFile, Unknown, Missing, Bytes, IsKept, IsLedgerAt, IsOpenedOn, IsPut}
+use Rattle.files.specs.Paths.{Shelf, Known, SameFile, Unknown, Missing, Bytes, IsKept, IsLedgerAt, IsOpenedOn, IsPut}
 use Rattle.cmd_parts.specs.Join.{Findings}
 use Rattle.cmd_parts.specs.Settle.{FailsReading, SettlesLedger}
 use Rattle.cmd_parts.specs.Split.{begun_part, path_within}
 
 -- what is found where this stands
-abbrev pub IsFoundAt : Standing → Option (Option (List ℕ) × ℕ) → Type 0
+abbrev pub IsFoundAt : Known → Option (Option (List ℕ) × ℕ) → Type 0
 IsFoundAt Unknown found = ⊤
 IsFoundAt Missing found = found ≡ None
 IsFoundAt (Bytes bytes) found = found ≡ Some (Some bytes, length bytes)
@@ -19,15 +19,15 @@ abbrev pub finds_at : Shelf → Findings
 finds_at shelf path found = IsFoundAt (shelf path) found
 
 -- how many bytes stand there; none where there is no file
-abbrev pub IsSizeAt : Standing → ℕ → Type 0
+abbrev pub IsSizeAt : Known → ℕ → Type 0
 IsSizeAt Unknown size = ⊤
 IsSizeAt Missing size = size ≡ 0
 IsSizeAt (Bytes bytes) size = size ≡ length bytes
 
 -- whether something is seen there
-abbrev pub SeesAt : Standing → Result Bool Ended → Type 0
-SeesAt standing (Ok seen) = (size : ℕ) × IsSizeAt standing size × (seen ≡ nat_lt 0 size)
-SeesAt standing (Err e) = FailsReading e
+abbrev pub SeesAt : Known → Result Bool Ended → Type 0
+SeesAt known (Ok seen) = (size : ℕ) × IsSizeAt known size × (seen ≡ nat_lt 0 size)
+SeesAt known (Err e) = FailsReading e
 
 -- the part of a root is begun in a folder, and nothing else has changed
 abbrev pub IsBegunAt : SameFile → List ℕ → Packed → Shelf → Shelf → Type 0

@@ -4,7 +4,7 @@ ghost use Rattle.machine_text.specs.Packed.{Packed};
 ghost use Rattle.machine_text.specs.Text.{text_of};
 ghost use Rattle.ledger.specs.Contents.{IsOpenOn};
 ghost use Rattle.ledger.specs.Tally.{AreAll};
-ghost use Rattle.files.specs.Standing.{IsToldStill};
+ghost use Rattle.files.specs.Paths.{IsToldStill};
 ghost use Rattle.cmd_parts.specs.AtPaths.{AreBegunAt, IsBegunAt, IsSizeAt};
 ghost use Rattle.cmd_parts.specs.Settle.{FailsReading};
 ghost use Rattle.cmd_parts.specs.Split.{begun_part, path_within};

@@ -9,7 +9,7 @@ ghost use Rattle.cmd_ledgers.specs.Told.{IsToldOf};
 ghost use Rattle.wire.specs.Device.{grown};
 ghost use Rattle.parts.specs.Parts.{joined_with};
 ghost use Rattle.parts.specs.Whole.{AddGives, IsWhole};
-ghost use Rattle.files.specs.Standing.{IsBlank, IsKept, IsKeptBut, IsPut};
+ghost use Rattle.files.specs.Paths.{IsBlank, IsKept, IsKeptBut, IsPut};
 ghost use Rattle.cmd_parts.specs.AtPaths.{finds_at};
 ghost use Rattle.cmd_parts.specs.Split.{path_within};
 ghost use Rattle.cmd_parts.specs.Join.{IsMet, IsMetAs, IsMetIn, IsReadAt, TellsAll, TellsParts, ended_by, is_silent, left_line, line_behind, record_lines};

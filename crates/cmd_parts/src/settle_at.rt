@@ -1,7 +1,7 @@
 // `bb settle` of a ledger file, which is locked while it is written.
 ghost use Rattle.std.specs.Prelude.{◌≡◌, ◌⊎◌, ℕ, List, Ok, OnOk, Option, Some};
 ghost use Rattle.cmd_ledgers.specs.Retry.{AtSomeTime};
-ghost use Rattle.files.specs.Standing.{IsKeptBut};
+ghost use Rattle.files.specs.Paths.{IsKeptBut};
 ghost use Rattle.cmd_parts.specs.AtPaths.{SettlesAt};
 
 use crate::settle::settle_ledger;

@@ -13,8 +13,8 @@ use crate::words::Number;
 use clap::error::ErrorKind;
 use clap::{ArgMatches, Error};
 use cmd_options::{
-    Beginning, Carrying, Drawing, Durability, Joining, LedgerFile, Mending, Merging, NoMemory,
-    Options, Search, Settling, Splitting,
+    Beginning, Carrying, Drawing, Durability, Joining, LedgerFile, LedgerSettling, Mending,
+    Merging, NoMemory, Options, Search, Settling, Splitting,
 };
 use std::alloc::Global;
 
@@ -235,11 +235,11 @@ fn split_options<'a>(split: &ArgMatches<'a>) -> Result<Options<'a>, LineFault>
 fn settle_options<'a>(settle: &ArgMatches<'a>) -> Result<Options<'a>, LineFault>
     ensures { IfOk result AreWithinRanges }
 {
-    Ok(Options::Settle {
+    Ok(Options::Settle(LedgerSettling {
         file: written_of(settle, settle.get_str(FILE.name).unwrap_or_default()),
         search: search_of(settle)?,
         progress: settle.get_flag(PROGRESS.name),
-    })
+    }))
 }
 
 fn join_options<'a>(join: &ArgMatches<'a>) -> Options<'a>

@@ -1,4 +1,4 @@
-pub mod Standing
+pub mod Paths
 pub mod Opened
 pub mod Written
 pub mod Memory

@@ -8,6 +8,6 @@ text_written text first None = first
 text_written text first (Some ledger) = text ledger.file
 
 -- what a new file holds, by whether it is known what files hold
-abbrev pub blank : Bool → Option (List ℕ)
-blank true = Some []
-blank false = None
+abbrev pub no_bytes : Bool → Option (List ℕ)
+no_bytes true = Some []
+no_bytes false = None

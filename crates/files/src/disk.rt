@@ -27,7 +27,7 @@ pub trait DiskFile {
 /// The calls of a file system, as far as ledgers and pictures need them.
 pub trait Disk {
     ghost use Rattle.std.specs.Prelude.{◌≡◌, Bool, ℕ, List, Option, IfOk};
-    ghost use Rattle.files.specs.Written.{blank};
+    ghost use Rattle.files.specs.Written.{no_bytes};
 
     /// What a ledger at a path holds at first, where that is known.
     ghost stands: { Self → List ℕ → Option (List ℕ) };
@@ -66,11 +66,11 @@ pub trait Disk {
 
     /// Opens what stands at a path, emptied, to be written over: a device has nothing to be emptied of.
     fn over(&self, path: &str) -> io::Result<Self::File>
-        ensures { IfOk result (λ file. Self.File.text file ≡ blank knows) };
+        ensures { IfOk result (λ file. Self.File.text file ≡ no_bytes knows) };
 
     /// Makes a new file at a path. A name that stands there is removed first: what it named isn't written to.
     fn anew(&self, path: &str) -> io::Result<Self::File>
-        ensures { IfOk result (λ file. Self.File.text file ≡ blank knows) };
+        ensures { IfOk result (λ file. Self.File.text file ≡ no_bytes knows) };
 
     /// Waits until what was written to the file at a path is on the disk.
     fn sync(&self, path: &str) -> io::Result<()>;

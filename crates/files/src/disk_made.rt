@@ -1,7 +1,7 @@
 // A file of a disk that is made beside its place, or over what stands there.
 ghost use Rattle.std.specs.Prelude.{◌≡◌, ◌≢◌, ◌⊎◌, ◌≤◌, IfOk, OnErr, OnOk, length, take};
 ghost use Rattle.wire.specs.Device.{IsBegun, grown, shortened};
-ghost use Rattle.files.specs.Written.{blank, text_written};
+ghost use Rattle.files.specs.Written.{no_bytes, text_written};
 
 use crate::disk::Disk;
 use crate::file_ledger::FileLedger;
@@ -25,7 +25,7 @@ pub struct DiskMade<'a, D: Disk> {
 impl<'a, D: Disk> DiskMade<'a, D> {
     /// A file at a place, not yet begun.
     pub fn of(disk: &'a D, place: Place, durability: Durability) -> DiskMade<'a, D>
-        ensures { text_written D.File.text (blank D.knows) result.ledger ≡ blank D.knows }
+        ensures { text_written D.File.text (no_bytes D.knows) result.ledger ≡ no_bytes D.knows }
     {
         DiskMade {
             disk,
@@ -49,7 +49,7 @@ impl<'a, D: Disk> DiskMade<'a, D> {
     // Begins the file where it isn't begun yet.
     fn begin(&mut self) -> io::Result<()>
         ensures failures { self.new.failures ≡ self.old.failures }
-        ensures text { text_written D.File.text (blank D.knows) self.new.ledger ≡ text_written D.File.text (blank D.knows) self.old.ledger }
+        ensures text { text_written D.File.text (no_bytes D.knows) self.new.ledger ≡ text_written D.File.text (no_bytes D.knows) self.old.ledger }
     {
         if self.ledger.is_some() {
             return Ok(());
@@ -65,9 +65,9 @@ impl<'a, D: Disk> DiskMade<'a, D> {
     // Cuts the file, which is begun for it; of one that holds nothing nothing is cut off.
     fn cut_begun(&mut self, len: u64) -> Result<(), Fault>
         ensures failures { self.new.failures ≡ self.old.failures }
-        ensures ok { OnOk result (text_written D.File.text (blank D.knows) self.new.ledger ≡ shortened len (text_written D.File.text (blank D.knows) self.old.ledger)) }
-        ensures err { OnErr result ((text_written D.File.text (blank D.knows) self.new.ledger ≡ text_written D.File.text (blank D.knows) self.old.ledger)
-            ⊎ (text_written D.File.text (blank D.knows) self.new.ledger ≡ shortened len (text_written D.File.text (blank D.knows) self.old.ledger))) }
+        ensures ok { OnOk result (text_written D.File.text (no_bytes D.knows) self.new.ledger ≡ shortened len (text_written D.File.text (no_bytes D.knows) self.old.ledger)) }
+        ensures err { OnErr result ((text_written D.File.text (no_bytes D.knows) self.new.ledger ≡ text_written D.File.text (no_bytes D.knows) self.old.ledger)
+            ⊎ (text_written D.File.text (no_bytes D.knows) self.new.ledger ≡ shortened len (text_written D.File.text (no_bytes D.knows) self.old.ledger))) }
     {
         let is_new = self.ledger.is_none();
         if self.begin().is_err() {
@@ -84,8 +84,8 @@ impl<'a, D: Disk> DiskMade<'a, D> {
     fn append_begun(&mut self, bytes: &[u8]) -> Result<usize, Fault>
         ensures failures { self.new.failures ≡ self.old.failures }
         ensures ok { IfOk result (λ n. (n ≤ length bytes.now)
-            × (text_written D.File.text (blank D.knows) self.new.ledger ≡ grown (text_written D.File.text (blank D.knows) self.old.ledger) (take n bytes.now))) }
-        ensures err { OnErr result (IsBegun (text_written D.File.text (blank D.knows) self.old.ledger) bytes.now (text_written D.File.text (blank D.knows) self.new.ledger)) }
+            × (text_written D.File.text (no_bytes D.knows) self.new.ledger ≡ grown (text_written D.File.text (no_bytes D.knows) self.old.ledger) (take n bytes.now))) }
+        ensures err { OnErr result (IsBegun (text_written D.File.text (no_bytes D.knows) self.old.ledger) bytes.now (text_written D.File.text (no_bytes D.knows) self.new.ledger)) }
     {
         if self.begin().is_err() {
             return Err(Fault);
@@ -107,9 +107,9 @@ impl<'a, D: Disk> DiskMade<'a, D> {
 }
 
 impl<'a, D: Disk> LedgerOut for DiskMade<'a, D> {
-    ghost use Rattle.files.specs.Written.{blank, text_written};
+    ghost use Rattle.files.specs.Written.{no_bytes, text_written};
 
-    ghost text = { λ m. text_written D.File.text (blank D.knows) m.ledger };
+    ghost text = { λ m. text_written D.File.text (no_bytes D.knows) m.ledger };
 
     ghost failures = { λ m. m.failures };
 

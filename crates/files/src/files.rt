@@ -16,10 +16,10 @@ pub trait Files {
     ghost use Rattle.std.specs.IoError.{error_kind};
     ghost use Rattle.std.specs.declared.io.ErrorKind.TheVariants.{NotFound};
     ghost use Rattle.cmd_options.specs.declared.ended.Ended.{Ended};
-    ghost use Rattle.files.specs.Standing.{Standing, IsBlank, IsKept, IsKeptBut, IsLedgerAt, IsMissing, IsOpenedOn, IsPut, IsToldStill};
+    ghost use Rattle.files.specs.Paths.{Known, IsBlank, IsKept, IsKeptBut, IsLedgerAt, IsMissing, IsOpenedOn, IsPut, IsToldStill};
 
     /// What is known to stand at a path.
-    ghost holds: { Self → List ℕ → Standing };
+    ghost holds: { Self → List ℕ → Known };
 
     /// What may be told of two paths: whether they are those of one file.
     ghost tells_same: { Self → List ℕ → List ℕ → Bool → Type 0 };

@@ -1,7 +1,7 @@
 //! Where the files stand that a command line names, and how far a long run is.
 //!
 //! `Files` is what commands see of them. `OnDisk` is that over the calls of a file system, `MemFiles` over files in memory.
-//! `specs/Standing` has what is known to stand at paths and how that changes, `specs/Opened` what is read of it,
+//! `specs/Paths` has what is known to stand at paths and how that changes, `specs/Opened` what is read of it,
 //! `specs/Written` what a ledger holds that is opened once it is written. `specs/Memory` is for files in memory alone.
 #![tactic(auto)]
 

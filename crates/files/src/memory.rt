@@ -2,8 +2,8 @@
 ghost use Rattle.std.specs.Prelude.{◌≡◌, ◌++◌, ◌∷◌, [], List, ℕ, IfOk, IfErr, OnOk, OnErr, ◌<◌, vec_len};
 ghost use Rattle.std.specs.IoError.{error_kind};
 ghost use Rattle.std.specs.declared.io.ErrorKind.TheVariants.{OutOfMemory};
-ghost use Rattle.files.specs.Standing.{Missing};
-ghost use Rattle.files.specs.Memory.{CopiesAt, place_of, stands_in, with_bytes};
+ghost use Rattle.files.specs.Paths.{Missing};
+ghost use Rattle.files.specs.Memory.{CopiesAt, file_place, stands_in, with_bytes};
 
 use crate::files::Files;
 use crate::mem_text::MemText;
@@ -39,7 +39,7 @@ impl MemFiles {
 
     // Where the file of a path stands; their number where there is none.
     fn place(&self, path: &[u8]) -> usize
-        ensures { result ≡ place_of self.now.files.items path.now }
+        ensures { result ≡ file_place self.now.files.items path.now }
     {
         let mut i = 0;
         'files: while i < self.files.len() && self.files[i].path.as_slice() != path {
@@ -82,7 +82,7 @@ impl MemFiles {
 
 impl Files for MemFiles {
     ghost use Rattle.std.specs.Prelude.{◌≡◌, ◌≢◌, ⊤};
-    ghost use Rattle.files.specs.Standing.{Missing};
+    ghost use Rattle.files.specs.Paths.{Missing};
     ghost use Rattle.std.specs.Str.{bytes_eq};
     ghost use Rattle.files.specs.Memory.{stands_in};
 

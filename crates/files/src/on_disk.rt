@@ -25,7 +25,7 @@ impl<'a, D: Disk> OnDisk<'a, D> {
 
 impl<'a, D: Disk> Files for OnDisk<'a, D> {
     ghost use Rattle.std.specs.Prelude.{⊤};
-    ghost use Rattle.files.specs.Standing.{Unknown};
+    ghost use Rattle.files.specs.Paths.{Unknown};
 
     ghost holds = { λ files path. Unknown };
 

@@ -1,6 +1,6 @@
 // Ledgers that are written; one that fails ends the command.
 ghost use Rattle.std.specs.Prelude.{◌≡◌, ◌⊎◌, IfErr, IfOk, OnErr, OnOk};
-ghost use Rattle.files.specs.Standing.{IsBlank, IsKept, IsKeptBut, IsLedgerAt, IsPut, IsToldStill};
+ghost use Rattle.files.specs.Paths.{IsBlank, IsKept, IsKeptBut, IsLedgerAt, IsPut, IsToldStill};
 
 use crate::files::Files;
 use cmd_options::{Ended, LedgerFile, ended_by};

@@ -1,17 +1,18 @@
-use Rattle.std.proofs.Common.{rules, ◌≡◌, List, ◌∷◌, sym, ap, ◌∙◌}
-use Rattle.std.specs.Prelude.{Option}
+use Rattle.std.proofs.Common.{rules, ◌≡◌, List, ◌∷◌, sym, subst}
 use Rattle.machine_text.specs.Packed.{Packed}
-use Rattle.cmd_parts.specs.Split.{also_begun}
-use Rattle.cmd_parts.proofs.Begun.{one_begun}
+use Rattle.cmd_parts.specs.AtPaths.{AreBegunAt}
+use Rattle.cmd_parts.proofs.BegunAt.{begun_told, told_then}
 use Rattle.cmd_parts.proofs.folder.begin_parts.Goals as goal
 
 pub loop-root-preserved : goal.loop-root-preserved
 loop-root-preserved g c =
     let is : c.loop-root.root-iterator ≡ c.in-Some.root.now ∷ c.next.new.self = search rules in
-    let (roots, all, will) = c.loop-root.invariant in
-    let begun = g.F.Folder.begun c.loop-root.folder in (
+    let (roots, all, told, will) = c.loop-root.invariant in
+    let first = g.H.Files.tells_same c.args.host.now in
+    let now = g.H.Files.tells_same c.loop-root.host in
+    let begun = begun_told first now c.args.folder.now c.in-Some.root.now (g.H.Files.holds c.loop-root.host) (g.H.Files.holds c.begin_part_at.new.host) told c.in_ok-begin_part_at.ensures.ok in (
       roots,
       all,
-      ap (λ (o : Option (List Packed)). also_begun o c.next.new.self) c.in_ok-begin.ensures
-          ∙ (one_begun begun c.in-Some.root.now c.next.new.self ∙ (ap (also_begun begun) (sym is) ∙ will)),
+      told_then first now (g.H.Files.tells_same c.begin_part_at.new.host) told c.begin_part_at.ensures.tells,
+      λ new rest. will new (subst (λ (l : List Packed). AreBegunAt first c.args.folder.now l (g.H.Files.holds c.loop-root.host) new) (sym is) (g.H.Files.holds c.begin_part_at.new.host, begun, rest)),
     )

@@ -1,6 +1,6 @@
 use Rattle.std.proofs.Common.{◌≡◌, ◌∙◌, sym, ap, subst, Some}
 use Rattle.files.specs.Memory.{CopiesAt, stands_in}
-use Rattle.files.specs.Standing.{IsPut, Missing}
+use Rattle.files.specs.Paths.{IsPut, Missing}
 use Rattle.files.proofs.Shelf.{add_made, by_text, no_file}
 use Rattle.files.proofs.memory.MemFilesFiles.ledger.Goals as goal
 use Rattle.files.proofs.memory.MemFilesFiles.ledger.Goals.{After-of-in-None}

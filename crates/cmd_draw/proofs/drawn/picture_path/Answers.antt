@@ -3,7 +3,7 @@ use Rattle.std.specs.Str.{IsUtf8}
 use Rattle.std.proofs.lemmas.Str.{IsUtf8-from_ascii}
 use Rattle.machine_text.specs.Text.{text_of}
 use Rattle.machine_text.proofs.Ascii.{text_below}
-use Rattle.cmd_draw.proofs.files.picture_path.Goals as goal
+use Rattle.cmd_draw.proofs.drawn.picture_path.Goals as goal
 
 pub unreachable-requires : goal.unreachable-requires
 unreachable-requires c =

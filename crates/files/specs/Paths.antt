@@ -2,31 +2,31 @@
 use Rattle.std.specs.Prelude.{◌≡◌, ℕ, Bool, false, List, [], Option, Some, None, ⊤, length}
 
 -- what is known to stand at a path: nothing is known, or there is no file, or these bytes are its file
-pub data Standing : Type 0 where
-  Unknown : Standing
-  Missing : Standing
-  Bytes : List ℕ → Standing
+pub data Known : Type 0 where
+  Unknown : Known
+  Missing : Known
+  Bytes : List ℕ → Known
 
 -- what a file that is opened there is read by: all of its bytes; there is one
-abbrev pub IsOpenedOn : Standing → Option (List ℕ) → ℕ → Type 0
+abbrev pub IsOpenedOn : Known → Option (List ℕ) → ℕ → Type 0
 IsOpenedOn Unknown has len = ⊤
 IsOpenedOn Missing has len = ⊥
 IsOpenedOn (Bytes bytes) has len = (has ≡ Some bytes) × (len ≡ length bytes)
 
 -- that there is no file
-abbrev pub IsMissing : Standing → Type 0
+abbrev pub IsMissing : Known → Type 0
 IsMissing Unknown = ⊤
 IsMissing Missing = ⊤
 IsMissing (Bytes bytes) = ⊥
 
 -- what a ledger there holds, which holds nothing where there is no file
-abbrev pub IsLedgerAt : Standing → Option (List ℕ) → Type 0
+abbrev pub IsLedgerAt : Known → Option (List ℕ) → Type 0
 IsLedgerAt Unknown text = ⊤
 IsLedgerAt Missing text = text ≡ Some []
 IsLedgerAt (Bytes bytes) text = text ≡ Some bytes
 
 -- a file that holds this stands there
-abbrev pub IsFileAt : Standing → Option (List ℕ) → Type 0
+abbrev pub IsFileAt : Known → Option (List ℕ) → Type 0
 IsFileAt Unknown text = ⊤
 IsFileAt Missing text = ⊥
 IsFileAt (Bytes bytes) text = text ≡ Some bytes
@@ -38,7 +38,7 @@ IsBlank (Some bytes) = bytes ≡ []
 
 -- what stands at each path
 abbrev pub Shelf : Type 0
-Shelf = List ℕ → Standing
+Shelf = List ℕ → Known
 
 -- whether two paths may be told to be those of one file
 abbrev pub SameFile : Type 1

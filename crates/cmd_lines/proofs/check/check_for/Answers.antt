@@ -1,0 +1,9 @@
+use Rattle.cmd_lines.specs.Answer.{SaysOfRecord}
+use Rattle.cmd_lines.proofs.Answering.{stream_answered}
+use Rattle.cmd_lines.proofs.check.check_for.Goals as goal
+
+pub returns-in_ok-tell-clause-ok : goal.returns-in_ok-tell-clause-ok
+returns-in_ok-tell-clause-ok g c = stream_answered SaysOfRecord _ _ _ _ _ _ _ c.in_ok-outcome.ensures.ok
+
+pub returns-else-eq-clause-ok : goal.returns-else-eq-clause-ok
+returns-else-eq-clause-ok g c = stream_answered SaysOfRecord _ _ _ _ _ _ _ c.in_ok-outcome.ensures.ok

@@ -4,3 +4,4 @@ pub mod Counting
 pub mod Widths
 pub mod Checked
 pub mod FieldLaws
+pub mod KindLaws

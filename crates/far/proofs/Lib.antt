@@ -9,3 +9,4 @@ pub mod Tested
 pub mod Blank
 pub mod Written
 pub mod FieldLaws
+pub mod KindLaws

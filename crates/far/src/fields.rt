@@ -33,7 +33,7 @@ impl<'a> Far<'a> {
 }
 
 impl Far<'_> {
-    /// Appends the fields of a record, each behind a space: they read back as the same automata (`far_reads_back`).
+    /// Appends the fields of a record, each behind a space: they read back as the same automata (`automata_are_a_kind`).
     /// Where memory is refused, a beginning of them.
     pub fn append_fields(&self, out: &mut Vec<u8>) -> Result<(), NoMemory>
         ensures ok { OnOk result (out.new.items ≡ out.old.items ++ spaced (far_fields (automata_of self.now))) }

@@ -3,3 +3,4 @@ pub mod BoundLaws
 pub mod TestLaws
 pub mod MomentLaws
 pub mod FieldLaws
+pub mod KindLaws

@@ -4,3 +4,4 @@ pub mod Closed
 pub mod Tested
 pub mod Bytes
 pub mod FieldLaws
+pub mod KindLaws

@@ -1,6 +1,6 @@
 // The evidence of backward reasoning, and its check.
 ghost use Rattle.std.specs.Prelude.{◌≡◌, ◌<◌, ◌≤◌, ◌^◌, ◌++◌, length, take, OnOk, IfOk};
-ghost use Rattle.backward.specs.Fields.{backward_by, backward_fields};
+ghost use Rattle.backward.specs.Kind.{backward_by, backward_fields};
 ghost use Rattle.backward.specs.Limits.{depth_limit};
 ghost use Rattle.backward.specs.inside.Counts.{SaysDone};
 ghost use Rattle.text.specs.Fields.{spaced};

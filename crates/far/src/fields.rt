@@ -5,7 +5,7 @@ ghost use Rattle.text.specs.Decimal.{decimal_value};
 ghost use Rattle.text.specs.Fields.{spaced, made_of};
 ghost use Rattle.far.specs.Automata.{AreAutomata, AreSized};
 ghost use Rattle.far.specs.Far.{automata_of};
-ghost use Rattle.far.specs.Fields.{size_in, numbers_by, far_by, number_fields, far_fields};
+ghost use Rattle.far.specs.Kind.{size_in, numbers_by, far_by, number_fields, far_fields};
 ghost use Rattle.far.specs.Limits.{size_limit};
 
 use crate::far::Far;

@@ -3,7 +3,7 @@ ghost use Rattle.std.specs.Prelude.{◌≡◌, ◌≤◌, ℕ, List, All, Decide
 ghost use Rattle.text.specs.Fields.{spaced};
 ghost use Rattle.kind_evidence.specs.Kind.{IsKind};
 ghost use Rattle.far.specs.Automata.{Automata, AreAutomata, AreSized};
-ghost use Rattle.far.specs.Fields.{number_fields};
+ghost use Rattle.far.specs.Kind.{number_fields};
 ghost use Rattle.far.specs.Kind.{far_kind};
 ghost use Rattle.far.specs.Limits.{number_byte_limit};
 ghost use Rattle.far.specs.Tests.{are_texts};

@@ -3,8 +3,8 @@
 //! One automaton reads the half tape behind the head, a second one what stands under the head and ahead of it;
 //! where the second comes to its halt state on no blank tape, and has the edges that the table asks for, the
 //! table never halts. law_turing's `Automata` says so; `specs/` adds the automata as numbers and what edges those
-//! describe (`Automata`), their texts (`Texts`), the same as tests (`Tests`), how a record has them (`Fields`),
-//! what they mean as a kind of certificates (`Kind`) and the limits (`Limits`). `specs/inside` is for the crate's own code.
+//! describe (`Automata`), their texts (`Texts`), the same as tests (`Tests`), how a record has them and
+//! what they mean as a kind of certificates (`Kind`), and the limits (`Limits`). `specs/inside` is for the crate's own code.
 #![tactic(auto)]
 
 mod far;

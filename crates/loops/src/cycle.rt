@@ -2,7 +2,7 @@
 ghost use Rattle.std.specs.Prelude.{◌≡◌, ◌↔◌, ◌<◌, ◌≤◌, ◌^◌, ◌++◌, length, take, OnOk, IfOk, IsTrue};
 ghost use Rattle.machine_text.specs.Packed.{entry_of};
 ghost use Rattle.law_turing.specs.Cycle.{Cycle as IsCycle};
-ghost use Rattle.loops.specs.Fields.{cycle_by, cycle_fields};
+ghost use Rattle.loops.specs.Kinds.{cycle_by, cycle_fields};
 ghost use Rattle.loops.specs.Limits.{time_limit};
 ghost use Rattle.text.specs.Fields.{spaced};
 

@@ -3,4 +3,4 @@ pub mod Sums
 pub mod Counting
 pub mod Widths
 pub mod Checked
-pub mod FieldLaws
+pub mod KindLaws

@@ -1,6 +1,6 @@
 // The evidence of backward reasoning, and its check.
 ghost use Rattle.std.specs.Prelude.{◌≡◌, ◌<◌, ◌≤◌, ◌^◌, ◌++◌, length, take, OnOk, IfOk};
-ghost use Rattle.backward.specs.Fields.{backward_by, backward_fields};
+ghost use Rattle.backward.specs.Kind.{backward_by, backward_fields};
 ghost use Rattle.backward.specs.Limits.{depth_limit};
 ghost use Rattle.backward.specs.inside.Counts.{SaysDone};
 ghost use Rattle.text.specs.Fields.{spaced};
@@ -47,20 +47,10 @@ impl Backward {
 }
 
 impl Evidence for Backward {
-    ghost use Rattle.std.specs.Prelude.{◌≤◌};
-    ghost use Rattle.machine_text.specs.Packed.{entry_of};
-    ghost use Rattle.law_turing.specs.Backward.{Backward as IsBackward};
     ghost use Rattle.kind_evidence.specs.declared.verdicts.Verdict.TheVariants.{Never};
-    ghost use Rattle.backward.specs.Paths.{IsTooWide};
+    ghost use Rattle.backward.specs.Kind.{backward_kind};
 
-    ghost within = { λ e. e.depth ≤ depth_limit };
-
-    ghost stands = { λ e p. IsBackward p.states (entry_of p) e.depth };
-
-    ghost is_wide = { λ e p. IsTooWide p e.depth };
-
-    // One over its limit isn't carried out.
-    ghost takes_memory = { λ e. e.depth ≤ depth_limit };
+    ghost meaning = { backward_kind.meaning };
 
     ghost shows = { λ e p. Never };
 
@@ -83,10 +73,7 @@ impl Evidence for Backward {
         }
     }
 
-    ghost use Rattle.law_turing.proofs.BackwardLaws.{backward_never};
-    ghost use Rattle.law_turing.proofs.TableLaws.{table_machine};
-
-    ghost law = { λ e p is_table stands. backward_never p.states (entry_of p) e.depth (table_machine p is_table) stands };
+    ghost law = { backward_kind.law };
 }
 
 // Whether the run of a table does so many steps.

@@ -1,11 +1,8 @@
-// Laws of the fields of records.
-ghost use Rattle.std.specs.Prelude.{◌≡◌, ◌<◌, ◌^◌, Ok};
-ghost use Rattle.text.specs.Fields.{AreFields};
-ghost use Rattle.backward.specs.declared.backward.Backward.{Backward};
-ghost use Rattle.backward.specs.Fields.{backward_by, backward_fields};
+// The law of the kind.
+ghost use Rattle.kind_evidence.specs.Kind.{IsKind};
+ghost use Rattle.backward.specs.Kind.{backward_kind};
 
-/// The field of backward reasoning, whose depth has 64 bits, is one that reads back.
-pub fn backward_reads_back()
-    ensures back { (e : Backward) → e.depth < 2 ^ 64 → backward_by (backward_fields e) ≡ Ok e }
-    ensures fields { (e : Backward) → e.depth < 2 ^ 64 → AreFields (backward_fields e) }
+/// Backward reasoning is a kind: its field reads back, and where it stands the table never halts.
+pub fn backward_is_a_kind()
+    ensures { IsKind backward_kind }
 {}

@@ -1,3 +1,4 @@
+pub mod Reasons
 pub mod Written
 pub mod RoundTrip
 pub mod TrueClaims

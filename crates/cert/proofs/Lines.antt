@@ -10,9 +10,11 @@ use Rattle.machine_text.proofs.RoundTrip.{text_of_from_45}
 use Rattle.text.specs.Fields.{spaced}
 use Rattle.text.proofs.Spaced.{field_line, spaced_line}
 use Rattle.run.proofs.ScoreLaws.{claimed_is_short}
-use Rattle.cert.specs.Claim.{Claim, HaltsClaim, CycleClaim, TranslatedClaim, BackwardClaim, NgramClaim, FarClaim, NoClaim, Recorded, IsWritable, IsMadeFor, IsWithin, Stands}
+use Rattle.cert.specs.Claim.{Claim, HaltsClaim, NeverClaim, NoClaim, Recorded, IsWritable, IsMadeFor, IsWithin, Stands}
 use Rattle.cert.specs.Certified.{IsCertified}
 use Rattle.cert.specs.Grammar.{kind_text, claim_fields, claim_text, record_text}
+use Rattle.cert.specs.Reason.{with_kind}
+use Rattle.cert.proofs.Reasons.{kind_laws}
 use Rattle.cert.proofs.Written.{kind_is_letter, are_fields}
 
 abbrev IsOther : ℕ → Type 0
@@ -56,11 +58,7 @@ record_line r table writable =
 -- the numbers of a claim that stands are within its limits
 writable_within : (c : Claim) (p : Packed) → IsWithin c → Stands c p → IsWritable c
 writable_within (HaltsClaim e) p within stands = claimed_is_short e p within stands
-writable_within (CycleClaim e) p within stands = (omega (arith, stands.order), omega arith)
-writable_within (TranslatedClaim e) p within stands = (omega (arith, stands.order), omega arith)
-writable_within (BackwardClaim e) p within stands = omega arith
-writable_within (NgramClaim s) p within stands = (stands.0, within)
-writable_within (FarClaim a) p within stands = (stands.0, within)
+writable_within (NeverClaim r) p within stands = (kind_laws r).writable (with_kind r).claimed p within stands
 writable_within NoClaim p within stands = tt
 
 pub certified_writable : (r : Recorded) → IsCertified r → IsWritable r.claim
@@ -69,11 +67,7 @@ certified_writable r certified = writable_within r.claim r.table certified.withi
 -- and its lists and automata are made for the table's states
 made_for : (c : Claim) (p : Packed) → Stands c p → IsMadeFor c p.states
 made_for (HaltsClaim e) p stands = tt
-made_for (CycleClaim e) p stands = tt
-made_for (TranslatedClaim e) p stands = tt
-made_for (BackwardClaim e) p stands = tt
-made_for (NgramClaim s) p stands = stands.1.states
-made_for (FarClaim a) p stands = stands.1.states
+made_for (NeverClaim r) p stands = (kind_laws r).made (with_kind r).claimed p stands
 made_for NoClaim p stands = tt
 
 pub certified_made : (r : Recorded) → IsCertified r → IsMadeFor r.claim r.table.states

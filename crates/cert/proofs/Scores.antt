@@ -1,12 +1,11 @@
 -- What scores leave of a claim: how the run ends by it, its verdict, and whether it is certified.
-use Rattle.std.proofs.Common.{◌≡◌, ◌≤◌, Option, Some, IsSome, refl, sym, ap, ◌∙◌, ℕ, None, inl, inr}
+use Rattle.std.proofs.Common.{◌≡◌, Option, Some, IsSome, refl, sym, ap, ◌∙◌, ℕ, None, inl, inr}
 use Rattle.std.specs.Prelude.{option_map}
 use Rattle.machine_text.specs.Packed.{Packed}
 use Rattle.run.specs.declared.halts_in.HaltsIn.{HaltsIn}
 use Rattle.run.specs.Halts.{HaltsAsClaimed}
-use Rattle.run.specs.Limits.{halt_step_limit}
 use Rattle.kind_evidence.specs.Verdict.{ending_of}
-use Rattle.cert.specs.Claim.{Claim, HaltsClaim, CycleClaim, TranslatedClaim, BackwardClaim, NgramClaim, FarClaim, NoClaim, Recorded, ending_by, shown_by, IsWithin, IsWide, Stands}
+use Rattle.cert.specs.Claim.{Claim, HaltsClaim, NeverClaim, NoClaim, Recorded, ending_by, shown_by}
 use Rattle.cert.specs.Certified.{IsCertified}
 use Rattle.cert.specs.Kinds.{recorded}
 use Rattle.cert.specs.declared.record.Record.{Record}
@@ -15,66 +14,38 @@ use Rattle.cert.specs.Scored.{scored, unscored, with_score, without_score, score
 
 pub ends_as_shown : (c : Claim) (p : Packed) → option_map ending_of (shown_by c p) ≡ ending_by c
 ends_as_shown (HaltsClaim e) p = refl
-ends_as_shown (CycleClaim e) p = refl
-ends_as_shown (TranslatedClaim e) p = refl
-ends_as_shown (BackwardClaim e) p = refl
-ends_as_shown (NgramClaim s) p = refl
-ends_as_shown (FarClaim a) p = refl
+ends_as_shown (NeverClaim r) p = refl
 ends_as_shown NoClaim p = refl
 
 pub scored_ends : (p : Packed) (c : Claim) → ending_by (scored p c) ≡ ending_by c
 scored_ends p (HaltsClaim e) = refl
-scored_ends p (CycleClaim e) = refl
-scored_ends p (TranslatedClaim e) = refl
-scored_ends p (BackwardClaim e) = refl
-scored_ends p (NgramClaim s) = refl
-scored_ends p (FarClaim a) = refl
+scored_ends p (NeverClaim r) = refl
 scored_ends p NoClaim = refl
 
 pub scored_shows : (p q : Packed) (c : Claim) → shown_by (scored p c) q ≡ shown_by c q
 scored_shows p q (HaltsClaim e) = refl
-scored_shows p q (CycleClaim e) = refl
-scored_shows p q (TranslatedClaim e) = refl
-scored_shows p q (BackwardClaim e) = refl
-scored_shows p q (NgramClaim s) = refl
-scored_shows p q (FarClaim a) = refl
+scored_shows p q (NeverClaim r) = refl
 scored_shows p q NoClaim = refl
 
 pub unscored_ends : (c : Claim) → ending_by (unscored c) ≡ ending_by c
 unscored_ends (HaltsClaim e) = refl
-unscored_ends (CycleClaim e) = refl
-unscored_ends (TranslatedClaim e) = refl
-unscored_ends (BackwardClaim e) = refl
-unscored_ends (NgramClaim s) = refl
-unscored_ends (FarClaim a) = refl
+unscored_ends (NeverClaim r) = refl
 unscored_ends NoClaim = refl
 
 -- a score that is given again stays
 pub scored_twice : (p : Packed) (c : Claim) → scored p (scored p c) ≡ scored p c
 scored_twice p (HaltsClaim e) = refl
-scored_twice p (CycleClaim e) = refl
-scored_twice p (TranslatedClaim e) = refl
-scored_twice p (BackwardClaim e) = refl
-scored_twice p (NgramClaim s) = refl
-scored_twice p (FarClaim a) = refl
+scored_twice p (NeverClaim r) = refl
 scored_twice p NoClaim = refl
 
 pub scored_again : (p : Packed) (c : Claim) → scored p (unscored c) ≡ scored p c
 scored_again p (HaltsClaim e) = refl
-scored_again p (CycleClaim e) = refl
-scored_again p (TranslatedClaim e) = refl
-scored_again p (BackwardClaim e) = refl
-scored_again p (NgramClaim s) = refl
-scored_again p (FarClaim a) = refl
+scored_again p (NeverClaim r) = refl
 scored_again p NoClaim = refl
 
 certified_scored : (p : Packed) (c : Claim) → IsCertified (record { table = p; claim = c }) → IsCertified (record { table = p; claim = scored p c })
 certified_scored p (HaltsClaim e) certified = record { within = certified.within; narrow = certified.narrow; stands = record { halts = certified.stands.halts; score = refl } }
-certified_scored p (CycleClaim e) certified = certified
-certified_scored p (TranslatedClaim e) certified = certified
-certified_scored p (BackwardClaim e) certified = certified
-certified_scored p (NgramClaim s) certified = certified
-certified_scored p (FarClaim a) certified = certified
+certified_scored p (NeverClaim r) certified = certified
 certified_scored p NoClaim certified = certified
 
 -- what is certified stays so with its score, and without one
@@ -83,11 +54,7 @@ score_certified r = certified_scored r.table r.claim
 
 certified_unscored : (p : Packed) (c : Claim) → IsCertified (record { table = p; claim = c }) → IsCertified (record { table = p; claim = unscored c })
 certified_unscored p (HaltsClaim e) certified = record { within = certified.within; narrow = certified.narrow; stands = record { halts = certified.stands.halts; score = tt } }
-certified_unscored p (CycleClaim e) certified = certified
-certified_unscored p (TranslatedClaim e) certified = certified
-certified_unscored p (BackwardClaim e) certified = certified
-certified_unscored p (NgramClaim s) certified = certified
-certified_unscored p (FarClaim a) certified = certified
+certified_unscored p (NeverClaim r) certified = certified
 certified_unscored p NoClaim certified = certified
 
 pub unscored_certified : (r : Recorded) → IsCertified r → IsCertified (without_score r)

@@ -1,31 +1,20 @@
 -- What a certificate claims of a table, apart from how it is kept; when that stands, and what it shows.
-use Rattle.std.specs.Prelude.{ℕ, Option}
-use Rattle.machine_text.specs.Packed.{Packed}
+use Rattle.std.specs.Prelude.{ℕ, Option, Some, None}
+use Rattle.machine_text.specs.Packed.{Packed, entry_of}
+use Rattle.law_turing.specs.Score.{score_at}
+use Rattle.run.specs.Halts.{halts_meaning}
 use Rattle.run.specs.declared.halts_in.HaltsIn.{HaltsIn}
-use Rattle.loops.specs.declared.cycle.Cycle.{Cycle}
-use Rattle.loops.specs.declared.translated.Translated.{Translated}
-use Rattle.backward.specs.declared.backward.Backward.{Backward}
-use Rattle.far.specs.Automata.{Automata}
-use Rattle.ngram_cps.specs.Lists.{Lists}
+use Rattle.kind_evidence.specs.Meaning.{Meaning}
 use Rattle.kind_evidence.specs.declared.verdicts.Ending.{Ending}
+use Rattle.kind_evidence.specs.declared.verdicts.Ending.TheVariants.{Halts as Halting, Never as NeverEnding}
 use Rattle.kind_evidence.specs.declared.verdicts.Verdict.{Verdict}
-use Rattle.cert.specs.Meaning.{Meaning}
-use Rattle.cert.specs.meanings.Halts.{halts_meaning}
-use Rattle.cert.specs.meanings.Cycle.{cycle_meaning}
-use Rattle.cert.specs.meanings.Translated.{translated_meaning}
-use Rattle.cert.specs.meanings.Backward.{backward_meaning}
-use Rattle.cert.specs.meanings.Ngram.{ngram_meaning}
-use Rattle.cert.specs.meanings.Far.{far_meaning}
-use Rattle.cert.specs.meanings.Undecided.{undecided_meaning}
+use Rattle.kind_evidence.specs.declared.verdicts.Verdict.TheVariants.{Halts, Never}
+use Rattle.cert.specs.Reason.{Reason, reason_meaning}
 
--- a claim of each kind: its numbers, lists or automata
+-- it halts, it never does, or nothing is claimed
 pub data Claim : Type 0 where
   HaltsClaim : HaltsIn → Claim
-  CycleClaim : Cycle → Claim
-  TranslatedClaim : Translated → Claim
-  BackwardClaim : Backward → Claim
-  NgramClaim : Lists → Claim
-  FarClaim : Automata → Claim
+  NeverClaim : Reason → Claim
   NoClaim : Claim
 
 -- a record: a table, and what is claimed of it
@@ -33,30 +22,42 @@ pub record Recorded : Type 0 where
   pub table : Packed
   pub claim : Claim
 
--- what it means, a row for each kind
+-- where nothing is claimed, nothing has to be so
 abbrev pub meaning : Claim → Meaning
 meaning (HaltsClaim e) = halts_meaning e
-meaning (CycleClaim e) = cycle_meaning e
-meaning (TranslatedClaim e) = translated_meaning e
-meaning (BackwardClaim e) = backward_meaning e
-meaning (NgramClaim s) = ngram_meaning s
-meaning (FarClaim a) = far_meaning a
-meaning NoClaim = undecided_meaning
+meaning (NeverClaim r) = reason_meaning r
+meaning NoClaim = record {
+  writable = Unit {0};
+  made_for = λ n. Unit {0};
+  within = Unit {0};
+  wide = λ p. ⊥;
+  stands = λ p. Unit {0};
+  takes_memory = ⊥;
+}
+
+-- how the run ends by it; nothing where nothing is claimed
+abbrev pub ending_by : Claim → Option Ending
+ending_by (HaltsClaim e) = Some (Halting e.steps)
+ending_by (NeverClaim r) = Some NeverEnding
+ending_by NoClaim = None
+
+-- the score that is claimed beside that, if one is
+abbrev pub score_by : Claim → Option ℕ
+score_by (HaltsClaim e) = e.ones
+score_by (NeverClaim r) = None
+score_by NoClaim = None
+
+-- the verdict on a table for which it is made; none where nothing is claimed
+abbrev pub shown_by : Claim → Packed → Option Verdict
+shown_by (HaltsClaim e) p = Some (Halts e.steps (score_at (entry_of p) e.steps))
+shown_by (NeverClaim r) p = Some Never
+shown_by NoClaim p = None
 
 abbrev pub IsWritable : Claim → Type 0
 IsWritable c = (meaning c).writable
 
 abbrev pub IsMadeFor : Claim → ℕ → Type 0
 IsMadeFor c n = (meaning c).made_for n
-
-abbrev pub ending_by : Claim → Option Ending
-ending_by c = (meaning c).ends
-
-abbrev pub score_by : Claim → Option ℕ
-score_by c = (meaning c).score
-
-abbrev pub shown_by : Claim → Packed → Option Verdict
-shown_by c p = (meaning c).shows p
 
 abbrev pub IsWithin : Claim → Type 0
 IsWithin c = (meaning c).within

@@ -10,14 +10,11 @@ use Rattle.text.specs.Parts.{parts_of}
 use Rattle.text.specs.declared.fields.FieldFault.{FieldFault}
 use Rattle.text.specs.declared.fields.FieldFault.TheVariants.{BadKind as NoKind}
 use Rattle.run.specs.Fields.{halts_by, halts_fields}
-use Rattle.loops.specs.Fields.{cycle_by, cycle_fields, translated_by, translated_fields}
-use Rattle.backward.specs.Fields.{backward_by, backward_fields}
-use Rattle.ngram_cps.specs.Fields.{ngram_by, ngram_fields}
-use Rattle.far.specs.Fields.{far_by, far_fields}
 use Rattle.cert.specs.Limits.{record_byte_limit}
 use Rattle.cert.specs.declared.record_fault.RecordFault.{RecordFault}
 use Rattle.cert.specs.declared.record_fault.RecordFault.TheVariants.{BadTable, BadKind, TooLong}
-use Rattle.cert.specs.Claim.{Claim, HaltsClaim, CycleClaim, TranslatedClaim, BackwardClaim, NgramClaim, FarClaim, NoClaim, Recorded}
+use Rattle.cert.specs.Claim.{Claim, HaltsClaim, NeverClaim, NoClaim, Recorded}
+use Rattle.cert.specs.Reason.{reason_by, reason_letter, reason_fields}
 use Rattle.cert.specs.Fault.{fault_of_field}
 
 -- a claim of nothing has no fields
@@ -25,17 +22,12 @@ abbrev pub undecided_by : List (List ℕ) → Result Claim FieldFault
 undecided_by [] = Ok NoClaim
 undecided_by fields = Err NoKind
 
--- the claim that the fields of a kind make, for a table of n states: a row for each kind
+-- the claim that a letter with fields makes, for a table of n states
 abbrev pub claim_by : ℕ → List ℕ → List (List ℕ) → Result Claim FieldFault
-claim_by n kind fields =
-    if bytes_eq kind (codes "H") then made_of HaltsClaim (halts_by fields)
-    else if bytes_eq kind (codes "C") then made_of CycleClaim (cycle_by fields)
-    else if bytes_eq kind (codes "T") then made_of TranslatedClaim (translated_by fields)
-    else if bytes_eq kind (codes "B") then made_of BackwardClaim (backward_by fields)
-    else if bytes_eq kind (codes "N") then made_of NgramClaim (ngram_by n fields)
-    else if bytes_eq kind (codes "F") then made_of FarClaim (far_by n fields)
-    else if bytes_eq kind (codes "U") then undecided_by fields
-    else Err NoKind
+claim_by n letter fields =
+    if bytes_eq letter (codes "H") then made_of HaltsClaim (halts_by fields)
+    else if bytes_eq letter (codes "U") then undecided_by fields
+    else made_of NeverClaim (reason_by n letter fields)
 
 -- what follows a table of n states, from the kind on
 abbrev pub claim_from : ℕ → List (List ℕ) → Result Claim FieldFault
@@ -58,24 +50,16 @@ record_from (table ∷ parts) = record_after (table_of table) parts
 unfoldable pub record_of : List ℕ → Result Recorded RecordFault
 record_of text = if nat_lt record_byte_limit (length text) then Err TooLong else record_from (parts_of 32 text)
 
--- the kind of a claim as it is written, a row for each
+-- the kind of a claim as it is written
 abbrev pub kind_text : Claim → List ℕ
 kind_text (HaltsClaim e) = codes "H"
-kind_text (CycleClaim e) = codes "C"
-kind_text (TranslatedClaim e) = codes "T"
-kind_text (BackwardClaim e) = codes "B"
-kind_text (NgramClaim e) = codes "N"
-kind_text (FarClaim e) = codes "F"
+kind_text (NeverClaim r) = reason_letter r
 kind_text NoClaim = codes "U"
 
 -- and its fields
 abbrev pub claim_fields : Claim → List (List ℕ)
 claim_fields (HaltsClaim e) = halts_fields e
-claim_fields (CycleClaim e) = cycle_fields e
-claim_fields (TranslatedClaim e) = translated_fields e
-claim_fields (BackwardClaim e) = backward_fields e
-claim_fields (NgramClaim e) = ngram_fields e
-claim_fields (FarClaim e) = far_fields e
+claim_fields (NeverClaim r) = reason_fields r
 claim_fields NoClaim = []
 
 -- the text of a claim, from the kind on

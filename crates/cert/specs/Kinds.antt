@@ -1,5 +1,6 @@
 -- What the certificates and records of the code claim.
-use Rattle.cert.specs.Claim.{Claim, HaltsClaim, CycleClaim, TranslatedClaim, BackwardClaim, NgramClaim, FarClaim, NoClaim, Recorded}
+use Rattle.cert.specs.Claim.{Claim, HaltsClaim, NeverClaim, NoClaim, Recorded}
+use Rattle.cert.specs.Reason.{CycleReason, TranslatedReason, BackwardReason, NgramReason, FarReason}
 use Rattle.std.specs.Prelude.{Result, Ok, Err}
 use Rattle.far.specs.Far.{automata_of}
 use Rattle.far.specs.OwnedFar.{owned_automata}
@@ -15,20 +16,20 @@ use Rattle.cert.specs.declared.record_fault.RecordFault.{RecordFault}
 
 abbrev pub claim_of : Certificate → Claim
 claim_of (Halts e) = HaltsClaim e
-claim_of (Cycle e) = CycleClaim e
-claim_of (Translated e) = TranslatedClaim e
-claim_of (Backward e) = BackwardClaim e
-claim_of (Ngram e) = NgramClaim (lists_of e)
-claim_of (Far e) = FarClaim (automata_of e)
+claim_of (Cycle e) = NeverClaim (CycleReason e)
+claim_of (Translated e) = NeverClaim (TranslatedReason e)
+claim_of (Backward e) = NeverClaim (BackwardReason e)
+claim_of (Ngram e) = NeverClaim (NgramReason (lists_of e))
+claim_of (Far e) = NeverClaim (FarReason (automata_of e))
 claim_of Undecided = NoClaim
 
 abbrev pub owned_claim : OwnedCertificate → Claim
 owned_claim (OwnedHalts e) = HaltsClaim e
-owned_claim (OwnedCycle e) = CycleClaim e
-owned_claim (OwnedTranslated e) = TranslatedClaim e
-owned_claim (OwnedBackward e) = BackwardClaim e
-owned_claim (OwnedNgram e) = NgramClaim (owned_lists e.value)
-owned_claim (OwnedFar e) = FarClaim (owned_automata e.value)
+owned_claim (OwnedCycle e) = NeverClaim (CycleReason e)
+owned_claim (OwnedTranslated e) = NeverClaim (TranslatedReason e)
+owned_claim (OwnedBackward e) = NeverClaim (BackwardReason e)
+owned_claim (OwnedNgram e) = NeverClaim (NgramReason (owned_lists e.value))
+owned_claim (OwnedFar e) = NeverClaim (FarReason (owned_automata e.value))
 owned_claim OwnedUndecided = NoClaim
 
 abbrev pub recorded : Record → Recorded

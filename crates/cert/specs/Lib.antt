@@ -1,6 +1,5 @@
 pub mod Limits
-pub mod Meaning
-pub mod meanings
+pub mod Reason
 pub mod Claim
 pub mod Certified
 pub mod Scored

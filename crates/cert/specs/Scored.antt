@@ -6,7 +6,7 @@ use Rattle.run.specs.Halts.{HaltsAsClaimed}
 use Rattle.run.specs.Limits.{halt_step_limit}
 use Rattle.run.specs.declared.halts_in.HaltsIn.{HaltsIn}
 use Rattle.cert.specs.Certified.{IsCertified}
-use Rattle.cert.specs.Claim.{Claim, HaltsClaim, CycleClaim, TranslatedClaim, BackwardClaim, NgramClaim, FarClaim, NoClaim, Recorded}
+use Rattle.cert.specs.Claim.{Claim, HaltsClaim, NeverClaim, NoClaim, Recorded}
 
 -- a number of steps with the score that the table then has
 abbrev pub scored_count : Packed → HaltsIn → HaltsIn
@@ -15,21 +15,13 @@ scored_count p e = record { steps = e.steps; ones = Some (score_at (entry_of p) 
 -- the claim that a table halts with the table's score; every other claim as it is
 abbrev pub scored : Packed → Claim → Claim
 scored p (HaltsClaim e) = HaltsClaim (scored_count p e)
-scored p (CycleClaim e) = CycleClaim e
-scored p (TranslatedClaim e) = TranslatedClaim e
-scored p (BackwardClaim e) = BackwardClaim e
-scored p (NgramClaim s) = NgramClaim s
-scored p (FarClaim a) = FarClaim a
+scored p (NeverClaim r) = NeverClaim r
 scored p NoClaim = NoClaim
 
 -- the claim that a table halts without a score; every other claim as it is
 abbrev pub unscored : Claim → Claim
 unscored (HaltsClaim e) = HaltsClaim (record { steps = e.steps; ones = None })
-unscored (CycleClaim e) = CycleClaim e
-unscored (TranslatedClaim e) = TranslatedClaim e
-unscored (BackwardClaim e) = BackwardClaim e
-unscored (NgramClaim s) = NgramClaim s
-unscored (FarClaim a) = FarClaim a
+unscored (NeverClaim r) = NeverClaim r
 unscored NoClaim = NoClaim
 
 abbrev pub with_score : Recorded → Recorded

@@ -48,29 +48,41 @@ pub enum OwnedCertificate {
 }
 
 impl<'a> Certificate<'a> {
+    ghost use Rattle.cert.specs.Claim.{NeverClaim};
     ghost use Rattle.cert.specs.Kinds.{claim_of};
     ghost use Rattle.cert.specs.Grammar.{claim_from};
+    ghost use Rattle.cert.specs.Reason.{reason_by};
 
     // The certificate of the parts behind a table of so many states.
     pub(crate) fn read(states: u8, mut parts: Parts<'a>) -> Result<Certificate<'a>, FieldFault>
         requires { (1 ≤ states) × (states ≤ state_limit) }
         ensures { made_of claim_of result ≡ claim_from states parts.entry }
     {
-        let kind = next_field(&mut parts)?;
-        if kind == b"H".as_slice() {
+        let letter = next_field(&mut parts)?;
+        if letter == b"H".as_slice() {
             Ok(Certificate::Halts(HaltsIn::read(parts)?))
-        } else if kind == b"C".as_slice() {
-            Ok(Certificate::Cycle(Cycle::read(parts)?))
-        } else if kind == b"T".as_slice() {
-            Ok(Certificate::Translated(Translated::read(parts)?))
-        } else if kind == b"B".as_slice() {
-            Ok(Certificate::Backward(Backward::read(parts)?))
-        } else if kind == b"N".as_slice() {
-            Ok(Certificate::Ngram(Ngram::read(states, parts)?))
-        } else if kind == b"F".as_slice() {
-            Ok(Certificate::Far(Far::read(states, parts)?))
-        } else if kind == b"U".as_slice() {
+        } else if letter == b"U".as_slice() {
             undecided(parts)
+        } else {
+            Certificate::never(states, letter, parts)
+        }
+    }
+
+    // The certificate of the fields behind a kind's letter, by which a table never halts.
+    fn never(states: u8, letter: &[u8], fields: Parts<'a>) -> Result<Certificate<'a>, FieldFault>
+        requires { (1 ≤ states) × (states ≤ state_limit) }
+        ensures { made_of claim_of result ≡ made_of NeverClaim (reason_by states letter.now fields.entry) }
+    {
+        if letter == b"C".as_slice() {
+            Ok(Certificate::Cycle(Cycle::read(fields)?))
+        } else if letter == b"T".as_slice() {
+            Ok(Certificate::Translated(Translated::read(fields)?))
+        } else if letter == b"B".as_slice() {
+            Ok(Certificate::Backward(Backward::read(fields)?))
+        } else if letter == b"N".as_slice() {
+            Ok(Certificate::Ngram(Ngram::read(states, fields)?))
+        } else if letter == b"F".as_slice() {
+            Ok(Certificate::Far(Far::read(states, fields)?))
         } else {
             Err(FieldFault::BadKind)
         }
@@ -88,12 +100,8 @@ impl Certificate<'_> {
     {
         match self {
             Certificate::Halts(evidence) => Some(Ending::Halts(evidence.steps)),
-            Certificate::Cycle(_)
-            | Certificate::Translated(_)
-            | Certificate::Backward(_)
-            | Certificate::Ngram(_)
-            | Certificate::Far(_) => Some(Ending::Never),
             Certificate::Undecided => None,
+            _ => Some(Ending::Never),
         }
     }
 
@@ -113,7 +121,7 @@ impl Certificate<'_> {
         ensures writable { OnOk result (IsWritable (claim_of self.now)) }
         ensures kept { take (length out.old.items) out.new.items ≡ out.old.items }
     {
-        out.extend_from_slice(self.kind())?;
+        out.extend_from_slice(self.letter())?;
         match self {
             Certificate::Halts(evidence) => evidence.append_fields(out),
             Certificate::Cycle(evidence) => evidence.append_fields(out),
@@ -125,9 +133,10 @@ impl Certificate<'_> {
         }
     }
 
-    // Its kind, by the letter.
-    fn kind(&self) -> &'static [u8]
-        ensures { result.now ≡ kind_text (claim_of self.now) }
+    /// The letter of its kind: one byte.
+    pub fn letter(&self) -> &'static [u8]
+        ensures letter { result.now ≡ kind_text (claim_of self.now) }
+        ensures one { length result.now ≡ 1 }
     {
         match self {
             Certificate::Halts(_) => b"H",
@@ -172,12 +181,8 @@ impl OwnedCertificate {
     {
         match self {
             OwnedCertificate::Halts(evidence) => Some(Ending::Halts(evidence.steps)),
-            OwnedCertificate::Cycle(_)
-            | OwnedCertificate::Translated(_)
-            | OwnedCertificate::Backward(_)
-            | OwnedCertificate::Ngram(_)
-            | OwnedCertificate::Far(_) => Some(Ending::Never),
             OwnedCertificate::Undecided => None,
+            _ => Some(Ending::Never),
         }
     }
 

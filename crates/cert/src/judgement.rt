@@ -69,11 +69,11 @@ pub fn judge_on(alloc: Global, r: &Record) -> Result<Judged, Refused>
 // What evidence of any kind shows of a table, with no pair.
 fn checked<E: Evidence>(evidence: &E, alloc: Global, t: &Table) -> Result<Judged, Refused>
     ensures ok { IfOk result (λ judged. judged ≡ record { verdict = Some (E.shows evidence.now t.now); halts_on = None }) }
-    ensures certified { OnOk result (E.within evidence.now × E.stands evidence.now t.now × (E.is_wide evidence.now t.now → ⊥)) }
-    ensures fails { result ≡ Err Refused.Fails → E.within evidence.now × (E.is_wide evidence.now t.now → ⊥) × (E.stands evidence.now t.now → ⊥) }
-    ensures long { result ≡ Err Refused.TooLong → E.within evidence.now → ⊥ }
-    ensures wide { result ≡ Err Refused.TooWide → E.within evidence.now × E.is_wide evidence.now t.now }
-    ensures memory { result ≡ Err Refused.NoMemory → E.takes_memory evidence.now }
+    ensures certified { OnOk result ((E.meaning evidence.now).within × (E.meaning evidence.now).stands t.now × ((E.meaning evidence.now).wide t.now → ⊥)) }
+    ensures fails { result ≡ Err Refused.Fails → (E.meaning evidence.now).within × ((E.meaning evidence.now).wide t.now → ⊥) × ((E.meaning evidence.now).stands t.now → ⊥) }
+    ensures long { result ≡ Err Refused.TooLong → (E.meaning evidence.now).within → ⊥ }
+    ensures wide { result ≡ Err Refused.TooWide → (E.meaning evidence.now).within × (E.meaning evidence.now).wide t.now }
+    ensures memory { result ≡ Err Refused.NoMemory → (E.meaning evidence.now).takes_memory }
 {
     let verdict = evidence.check(alloc, t)?;
     Ok(Judged {

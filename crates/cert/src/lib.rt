@@ -1,11 +1,12 @@
 //! Records: a table with a certificate for it, their exact text, and their judgement.
 //!
 //! A record says of a table that it halts in so many steps, that it never halts, or that nothing is
-//! claimed. `specs/Claim` says what each certificate claims and when that stands, `specs/Certified` when a
-//! record is certified and why it is refused; `specs/Grammar` is the grammar of a record's text. How a claim is
-//! checked, and how its fields are read and written, is said in the crate of its kind.
+//! claimed. `specs/Claim` says what each certificate claims and when that stands, `specs/Reason` which kinds of reasons
+//! there are why a table never halts, `specs/Certified` when a record is certified and why it is refused;
+//! `specs/Grammar` is the grammar of a record's text. What a claim means, how it is checked, and how its fields are read
+//! and written, is said in the crate of its kind.
 //!
-//! A kind of certificate is known in its crate and in this one alone: crates above cite what is so of all claims.
+//! Crates above cite what is so of all claims: that one halts, never does, or says nothing.
 #![tactic(auto)]
 
 mod appending;

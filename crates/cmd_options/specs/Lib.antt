@@ -1,3 +1,4 @@
 pub mod Outcome
 pub mod Ends
 pub mod Ranges
+pub mod Kinds

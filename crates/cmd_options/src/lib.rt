@@ -1,4 +1,4 @@
-//! What a command line asks for, and how a command ends.
+//! What a command line asks for, and how a command ends; what users see of each kind of certificates (`kinds.rt`).
 //!
 //! `specs/Ranges` has the ranges of the options' numbers, `specs/Outcome` the exit statuses, `specs/Ends` what an error of
 //! the system ends a command by.
@@ -7,7 +7,9 @@
 mod drawing;
 mod ended;
 mod ends;
+mod kinds;
 mod ledger_file;
+mod number;
 mod options;
 mod outcome;
 mod stopped;
@@ -15,7 +17,9 @@ mod stopped;
 pub use drawing::Drawing;
 pub use ended::Ended;
 pub use ends::{ended_by, told};
+pub use kinds::{DEPTH, FAR, GRAM, LETTERS, REACH_NAMES, REACHES, kind_label};
 pub use ledger_file::{Durability, LedgerFile};
+pub use number::Number;
 pub use options::{
     Beginning, Carrying, Joining, LedgerSettling, Mending, Merging, Options, Search, Settling,
     Splitting,

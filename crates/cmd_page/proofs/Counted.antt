@@ -1,6 +1,8 @@
 -- How many records there are, once one more was gone through.
-use Rattle.std.proofs.Common.{◌≡◌, ℕ, ◌+◌, ◌-◌, ◌^◌, ◌<◌, ◌≤◌, eqb, Bool, cond, List, ◌∷◌, length, get_or, sym, ap, ◌∙◌, arith}
+use Rattle.std.proofs.Common.{◌≡◌, ℕ, zero, ◌+◌, ◌-◌, ◌^◌, ◌<◌, ◌≤◌, eqb, Bool, cond, List, ◌∷◌, length, get_or, sym, ap, ◌∙◌, arith}
+use Rattle.std.specs.Prelude.{replicate}
 use Rattle.std.proofs.lemmas.Bool.{eq-eqb}
+use Rattle.std.proofs.lemmas.List.{get_or-replicate}
 use Rattle.std.proofs.lemmas.List.Sums.{sum_by-cons, count_by-le-length}
 use Rattle.cert.specs.Claim.{Recorded}
 use Rattle.cmd_page.specs.Census.{how_many}
@@ -11,6 +13,13 @@ one_if b = cond b 1 0
 -- so many were counted at each place below n, and the others are left
 abbrev pub AreCounted : (Recorded → ℕ) → ℕ → List Recorded → List ℕ → List Recorded → Type 0
 AreCounted number n all counts left = (k : ℕ) → k < n → get_or counts k 0 + how_many number k left ≡ how_many number k all
+
+-- nothing is counted yet, and all are left
+pub none_counted : (number : Recorded → ℕ) (n : ℕ) (all left : List Recorded) → left ≡ all → AreCounted number n all (replicate n zero) left
+none_counted number n all left same k within =
+    let none : get_or (replicate n zero) k 0 ≡ 0 = get_or-replicate n k zero zero within in
+    let same_number = ap (how_many number k) same in
+    omega (arith, none, same_number)
 
 more_many : (number : Recorded → ℕ) (k : ℕ) (r : Recorded) (left old : List Recorded) → old ≡ r ∷ left → how_many number k old ≡ cond (eqb (number r) k) 1 0 + how_many number k left
 more_many number k r left old is = ap (how_many number k) is ∙ sum_by-cons (λ x. cond (eqb (number x) k) 1 0) r left

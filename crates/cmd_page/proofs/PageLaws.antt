@@ -1,14 +1,16 @@
 -- The parts of a page, put together.
-use Rattle.std.proofs.Common.{◌≡◌, ℕ, zero, suc, ◌+◌, ◌-◌, ◌*◌, ◌<◌, ◌≤◌, List, [], ◌++◌, decimal, flat_map, get_or, cond, Result, Ok, Err, OnOk, refl, ap, ◌∙◌, arith}
+use Rattle.std.proofs.Common.{◌≡◌, ℕ, zero, suc, true, false, ltb, ◌&&◌, ◌∷◌, ◌+◌, ◌-◌, ◌*◌, ◌<◌, ◌≤◌, List, [], ◌++◌, decimal, flat_map, get_or, cond, Result, Ok, Err, OnOk, refl, ap, ◌∙◌, arith}
 use Rattle.std.specs.Result.{is_ok}
-use Rattle.std.specs.List.{range_with_len}
+use Rattle.std.specs.List.{range_with_len, list_all}
+use Rattle.std.proofs.lemmas.Bool.Decides.{nat_tests}
 use Rattle.std.specs.Vec.Iter.{into_iter_items}
 use Rattle.machine_text.specs.Limits.{state_limit}
 use Rattle.cert.specs.Claim.{Recorded}
 use Rattle.ledger.specs.declared.left.Left.{Left}
 use Rattle.cmd_ledgers.specs.declared.told.Told.{Told}
+use Rattle.cmd_options.specs.Kinds.{kind_letters, kind_label}
 use Rattle.cmd_page.specs.Census.{of_kind, with_entries}
-use Rattle.cmd_page.specs.Page.{count_html, kinds_html, entries_html, census_html, opening_html, summary_html, champions_html, head_html}
+use Rattle.cmd_page.specs.Page.{count_html, kind_html, kinds_html, entries_html, census_html, opening_html, summary_html, champions_html, head_html}
 use Rattle.cmd_page.specs.inside.{IsCensus}
 use Rattle.cmd_page.specs.declared.census.Census.{Census}
 use Rattle.cmd_page.specs.declared.style.TheConstants.{KINDS, ENTRIES}
@@ -38,9 +40,19 @@ rows_end row k m past =
     let none : m - k ≡ 0 = omega (arith, past) in
     ap (λ (n : ℕ). flat_map row (range_with_len k n)) none
 
-same_kinds : (f g : ℕ → ℕ) → ((k : ℕ) → k < 7 → f k ≡ g k) → kinds_html f ≡ kinds_html g
-same_kinds f g same =
-    rw (same 0 (omega arith), same 1 (omega arith), same 2 (omega arith), same 3 (omega arith), same 4 (omega arith), same 5 (omega arith), same 6 (omega arith)) refl
+-- a letter is a byte
+same_rows : (f g : ℕ → ℕ) → ((k : ℕ) → k < 256 → f k ≡ g k) → (letters : List ℕ) → list_all (λ letter. ltb letter 256) letters ≡ true → flat_map (kind_html f) letters ≡ flat_map (kind_html g) letters
+same_rows f g same [] bytes = refl
+same_rows f g same (letter ∷ letters) bytes =
+    elim (ltb letter 256) as (λ v. ltb letter 256 ≡ v → (v && list_all (λ letter. ltb letter 256) letters) ≡ true → flat_map (kind_html f) (letter ∷ letters) ≡ flat_map (kind_html g) (letter ∷ letters)) [
+      | true ↦ λ is rest.
+          ap (λ (n : ℕ). count_html (kind_label letter) n ++ flat_map (kind_html f) letters) (same letter (grind (arith, nat_tests)))
+          ∙ ap (λ (l : List ℕ). count_html (kind_label letter) (g letter) ++ l) (same_rows f g same letters rest)
+      | false ↦ λ is rest. absurd (cc)
+    ] refl bytes
+
+same_kinds : (f g : ℕ → ℕ) → ((k : ℕ) → k < 256 → f k ≡ g k) → kinds_html f ≡ kinds_html g
+same_kinds f g same = same_rows f g same kind_letters refl
 
 -- all before the rows of the holdouts, part by part
 pub whole_head : (title : List ℕ) (rs : List Recorded) (left : Left) (told : Told) (figures : List ℕ) (census : Census) (n : ℕ) (h0 h1 h2 h3 h4 : List ℕ)

@@ -13,6 +13,7 @@ use Rattle.ledger.specs.declared.status.Status.TheVariants.{Working, Holdouts, C
 use Rattle.cmd_ledgers.specs.Report.{greatest_text}
 use Rattle.cmd_ledgers.specs.Told.{IsToldOf}
 use Rattle.cmd_ledgers.specs.declared.told.Told.{Told}
+use Rattle.cmd_options.specs.Kinds.{kind_letters, kind_label}
 use Rattle.cmd_page.specs.Census.{of_kind, with_entries, entry_count}
 use Rattle.cmd_page.specs.Escaped.{escaped}
 use Rattle.cmd_page.specs.Figures.{AreFigures}
@@ -62,22 +63,12 @@ abbrev pub summary_html : Packed → Status → Tally → Left → List ℕ
 summary_html root status tally left =
     status_html status ++ left_html left ++ root_html root ++ tally_html tally
 
--- a row for each kind, by how many there are at its place
-abbrev pub first_kinds_html : (ℕ → ℕ) → List ℕ
-first_kinds_html number =
-    count_html (codes "<code>H</code> halting") (number 0)
-    ++ count_html (codes "<code>C</code> cycler") (number 1)
-    ++ count_html (codes "<code>T</code> translated cycler") (number 2)
-
-abbrev pub other_kinds_html : (ℕ → ℕ) → List ℕ
-other_kinds_html number =
-    count_html (codes "<code>B</code> backward reasoning") (number 3)
-    ++ count_html (codes "<code>N</code> n-gram CPS") (number 4)
-    ++ count_html (codes "<code>F</code> finite automata reduction (FAR)") (number 5)
-    ++ count_html (codes "<code>U</code> holdout") (number 6)
+-- a row for each kind, by how many there are of its letter
+abbrev pub kind_html : (ℕ → ℕ) → ℕ → List ℕ
+kind_html number letter = count_html (kind_label letter) (number letter)
 
 abbrev pub kinds_html : (ℕ → ℕ) → List ℕ
-kinds_html number = first_kinds_html number ++ other_kinds_html number
+kinds_html number = flat_map (kind_html number) kind_letters
 
 -- a row for each number of entries that a table of n states may have
 abbrev pub entries_html : ℕ → (ℕ → ℕ) → List ℕ

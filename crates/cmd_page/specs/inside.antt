@@ -10,7 +10,7 @@ use Rattle.cmd_page.specs.declared.style.TheConstants.{ENDING}
 
 -- what is counted of records
 pub record IsCensus (rs : List Recorded) (census : Census) : Type 0 where
-  pub kinds : (place : ℕ) → place < 7 → slice_index census.kinds place ≡ of_kind rs place
+  pub kinds : (letter : ℕ) → letter < 256 → slice_index census.kinds letter ≡ of_kind rs letter
   pub entries : (k : ℕ) → k < 15 → slice_index census.entries k ≡ with_entries rs k
 
 -- the bytes of a page that is made

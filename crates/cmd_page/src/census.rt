@@ -1,17 +1,17 @@
 // How many records there are of each kind, and of tables with so many entries.
 ghost use Rattle.std.specs.Prelude.{◌≡◌, ℕ, ◌+◌, ◌-◌, ◌^◌, ◌<◌, ◌==◌, if◌then◌else◌, slice_index, length};
 ghost use Rattle.cert.specs.Kinds.{claim_of};
-ghost use Rattle.cmd_page.specs.Census.{kind_place};
+ghost use Rattle.cmd_page.specs.Census.{letter_of};
 ghost use Rattle.cmd_page.specs.inside.{IsCensus};
 
 use crate::entries::entry_count;
 use cert::Certificate;
 use ledger::{Board, Records};
 
-// How many records there are of each kind, by its place, and of tables with so many entries, by that number.
+// How many records there are of each kind, by its letter, and of tables with so many entries, by that number.
 #[derive(Drop)]
 pub(crate) struct Census {
-    pub(crate) kinds: [u64; 7],
+    pub(crate) kinds: [u64; 256],
     pub(crate) entries: [u64; 15],
 }
 
@@ -29,10 +29,10 @@ fn count_records(records: Records<'_>) -> Census
     requires { length records < 2 ^ 64 }
     ensures { IsCensus records.entry result }
 {
-    let mut kinds = [0; 7];
+    let mut kinds = [0; 256];
     let mut entries = [0; 15];
     for r in records {
-        count_up(&mut kinds, kind_place(&r.certificate));
+        count_up(&mut kinds, letter_of(&r.certificate));
         count_up(&mut entries, entry_count(&r.table) as usize);
     }
     Census { kinds, entries }
@@ -47,18 +47,10 @@ fn count_up(counts: &mut [u64], place: usize)
     counts[place] += 1;
 }
 
-// The place of a certificate's kind among the kinds.
-fn kind_place(certificate: &Certificate<'_>) -> usize
-    ensures place { result ≡ kind_place (claim_of certificate.now) }
-    ensures few { result < 7 }
+// The letter of a certificate's kind.
+fn letter_of(certificate: &Certificate<'_>) -> usize
+    ensures letter { result ≡ letter_of (claim_of certificate.now) }
+    ensures byte { result < 256 }
 {
-    match certificate {
-        Certificate::Halts(_) => 0,
-        Certificate::Cycle(_) => 1,
-        Certificate::Translated(_) => 2,
-        Certificate::Backward(_) => 3,
-        Certificate::Ngram(_) => 4,
-        Certificate::Far(_) => 5,
-        Certificate::Undecided => 6,
-    }
+    certificate.letter()[0] as usize
 }

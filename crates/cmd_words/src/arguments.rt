@@ -3,7 +3,8 @@ pub(crate) use rows::*;
 
 #[rattlefmt::skip]
 mod rows {
-    use crate::words::{Flag, Number, Text};
+    use crate::words::{Flag, Text};
+    use cmd_options::{Number, REACH_NAMES};
 
     pub(crate) const STATES: Number = Number { name: "N", value: None, least: 1, most: 7, default: None,
         help: "How many states the machines have" };
@@ -19,12 +20,6 @@ mod rows {
         help: "Decide the tables with fewer filled entries, and leave the others to the parts" };
     pub(crate) const STEPS: Number = Number { name: "steps", value: Some("K"), least: 1, most: 100_000_000,
         default: Some("1000"), help: "Steps that each search runs a table at most" };
-    pub(crate) const DEPTH: Number = Number { name: "depth", value: Some("D"), least: 0, most: 1_000, default: Some("20"),
-        help: "Greatest depth of backward reasoning" };
-    pub(crate) const GRAM: Number = Number { name: "gram", value: Some("G"), least: 0, most: 8, default: Some("3"),
-        help: "Greatest width of words in closed position sets; 0 for none" };
-    pub(crate) const FAR: Number = Number { name: "far", value: Some("M"), least: 0, most: 16, default: Some("2"),
-        help: "Most states of a first automaton, in finite automata reduction; 0 for none" };
     pub(crate) const FROM: Number = Number { name: "from", value: Some("T"), least: 0, most: 100_000_000, default: Some("0"),
         help: "Begin at this time" };
     pub(crate) const DRAWN: Number = Number { name: "steps", value: Some("K"), least: 0, most: 100_000_000, default: None,
@@ -59,7 +54,7 @@ mod rows {
     // Where the ledger is an option.
     pub(crate) const LEDGER_SYNC: Flag = Flag { needs: &["ledger"], ..SYNC };
     // The stages say themselves how far they look.
-    pub(crate) const HARD: Flag = Flag { name: "hard", needs: &[], excludes: &["depth", "gram", "far"],
+    pub(crate) const HARD: Flag = Flag { name: "hard", needs: &[], excludes: REACH_NAMES,
         help: "Go by stages, from cheap searches to dear ones; --steps scales them" };
     pub(crate) const JSON: Flag = Flag { name: "json", needs: &[], excludes: &[], help: "Print the report as JSON" };
     pub(crate) const PROGRESS: Flag = Flag { name: "progress", needs: &[], excludes: &[],

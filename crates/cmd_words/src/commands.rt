@@ -18,14 +18,10 @@ pub(crate) struct CommandWords {
     pub(crate) searches: bool,
 }
 
-/// The options of a search for certificates.
-pub(crate) const SEARCH: [Argument; 5] = [
-    Number(STEPS),
-    Number(DEPTH),
-    Number(GRAM),
-    Number(FAR),
-    Flag(HARD),
-];
+/// The options of a search for certificates: before those of the kinds, and behind them.
+pub(crate) const SEARCH: [Argument; 1] = [Number(STEPS)];
+
+pub(crate) const SEARCH_BY_STAGES: [Argument; 1] = [Flag(HARD)];
 
 #[rattlefmt::skip]
 pub(crate) const COMMANDS: [CommandWords; 15] = [

@@ -1,10 +1,10 @@
 // The commands with their arguments and options, by clap's builder.
-use crate::commands::{COMMANDS, CommandWords, SEARCH};
+use crate::commands::{COMMANDS, CommandWords, SEARCH, SEARCH_BY_STAGES};
 use crate::help::{STATUSES, VERSION};
-use crate::words::{Argument, Flag, Number, Text};
+use crate::words::{Argument, Flag, Text};
 use clap::builder::ValueParser;
 use clap::{Arg, ArgAction, Command};
-use cmd_options::NoMemory;
+use cmd_options::{NoMemory, Number, REACHES};
 use std::alloc::Global;
 
 /// The program with its commands.
@@ -44,10 +44,25 @@ fn with_command<'a>(
 fn command<'a>(alloc: Global, words: &CommandWords) -> Result<Command<'a>, NoMemory> {
     let command = with_arguments(alloc, empty_command(alloc, words), words.arguments)?;
     if words.searches {
-        with_arguments(alloc, command, &SEARCH)
+        with_search(alloc, command)
     } else {
         Ok(command)
     }
+}
+
+fn with_search<'a>(alloc: Global, command: Command<'a>) -> Result<Command<'a>, NoMemory> {
+    let command = with_arguments(alloc, command, &SEARCH)?;
+    let command = with_reaches(alloc, command)?;
+    with_arguments(alloc, command, &SEARCH_BY_STAGES)
+}
+
+// With the options that say how far the certificates of each kind are searched for.
+fn with_reaches<'a>(alloc: Global, command: Command<'a>) -> Result<Command<'a>, NoMemory> {
+    let mut command = command;
+    for number in &REACHES {
+        command = command.arg(number_arg(alloc, number))?;
+    }
+    Ok(command)
 }
 
 fn empty_command<'a>(alloc: Global, words: &CommandWords) -> Command<'a> {

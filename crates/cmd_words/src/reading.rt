@@ -3,18 +3,17 @@ ghost use Rattle.std.specs.Prelude.{◌≡◌, ◌≤◌, IfOk, IfSome};
 ghost use Rattle.cmd_options.specs.Ranges.{AreWithinRanges, IsSettling, IsWithinRange};
 
 use crate::arguments::{
-    CARRIED, DAMAGED, DEPTH, DRAWN, ERA, FAR, FILE, FILLED, FIRST, FOLDER, FROM, GRAM, HARD,
-    JOINED, JSON, LEDGER, LOSE, MENDED, MERGED, OLD, PICTURES, PROGRESS, READ, ROUNDS, ROWS,
-    SECOND, STATES, STEPS, SYNC, WHY, WIDTH, WORKERS,
+    CARRIED, DAMAGED, DRAWN, ERA, FILE, FILLED, FIRST, FOLDER, FROM, HARD, JOINED, JSON, LEDGER,
+    LOSE, MENDED, MERGED, OLD, PICTURES, PROGRESS, READ, ROUNDS, ROWS, SECOND, STATES, STEPS, SYNC,
+    WHY, WIDTH, WORKERS,
 };
 use crate::grammar::program;
 use crate::line_fault::LineFault;
-use crate::words::Number;
 use clap::error::ErrorKind;
 use clap::{ArgMatches, Error};
 use cmd_options::{
-    Beginning, Carrying, Drawing, Durability, Joining, LedgerFile, LedgerSettling, Mending,
-    Merging, NoMemory, Options, Search, Settling, Splitting,
+    Beginning, Carrying, DEPTH, Drawing, Durability, FAR, GRAM, Joining, LedgerFile,
+    LedgerSettling, Mending, Merging, NoMemory, Number, Options, Search, Settling, Splitting,
 };
 use std::alloc::Global;
 

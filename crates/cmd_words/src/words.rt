@@ -1,4 +1,5 @@
 // What the words of an argument or an option are.
+use cmd_options::Number;
 
 /// An argument or an option of a command.
 #[derive(Clone, Copy)]
@@ -6,21 +7,6 @@ pub(crate) enum Argument {
     Number(Number),
     Text(Text),
     Flag(Flag),
-}
-
-/// A number within a range.
-#[derive(Clone, Copy)]
-pub(crate) struct Number {
-    /// What it is read by, and the word of an option.
-    pub(crate) name: &'static str,
-    /// What help calls the value of an option; none of an argument, which has to be given.
-    pub(crate) value: Option<&'static str>,
-    pub(crate) least: u64,
-    pub(crate) most: u64,
-    /// The number where none is given.
-    pub(crate) default: Option<&'static str>,
-    /// What help says of it.
-    pub(crate) help: &'static str,
 }
 
 /// Any text, as a path.

@@ -8,4 +8,4 @@ pub mod Short
 pub mod Tested
 pub mod Blank
 pub mod Written
-pub mod FieldLaws
+pub mod KindLaws

@@ -9,7 +9,7 @@ use Rattle.std.proofs.Math.Pow.{pow_mono}
 use Rattle.far.specs.Automata.{Automata, AreAutomata, AreSized}
 use Rattle.far.specs.Limits.{pair_limit, digit_limit, number_byte_limit}
 use Rattle.far.specs.Texts.{hex_glyph, hex_text, delta_text, rows_text}
-use Rattle.far.specs.Fields.{number_fields}
+use Rattle.far.specs.Kind.{number_fields}
 use Rattle.text.specs.Fields.{spaced}
 use Rattle.text.proofs.Spaced.{length-spaced}
 use Rattle.far.proofs.RoundTrip.{text_of_some, text_of_none}

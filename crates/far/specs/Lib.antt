@@ -2,7 +2,7 @@ pub mod Limits
 pub mod Automata
 pub mod Texts
 pub mod Tests
-pub mod Fields
+pub mod Kind
 pub mod Far
 pub mod TextList
 pub mod OwnedFar

@@ -136,20 +136,11 @@ impl<'a> Far<'a> {
 }
 
 impl Evidence for Far<'_> {
-    ghost use Rattle.machine_text.specs.Packed.{entry_of};
     ghost use Rattle.kind_evidence.specs.declared.verdicts.Verdict.TheVariants.{Never};
-    ghost use Rattle.far.specs.Automata.{AreAutomataOf, described};
     ghost use Rattle.far.specs.Far.{automata_of};
-    ghost use Rattle.law_turing.proofs.AutomataLaws.{automata_never};
-    ghost use Rattle.law_turing.proofs.TableLaws.{table_machine};
+    ghost use Rattle.far.specs.Kind.{far_kind};
 
-    ghost within = { λ e. AreSized (automata_of e) };
-
-    ghost stands = { λ e p. AreAutomata (automata_of e) × AreAutomataOf (automata_of e) p };
-
-    ghost is_wide = { λ e p. ⊥ };
-
-    ghost takes_memory = { λ e. ⊥ };
+    ghost meaning = { λ e. far_kind.meaning (automata_of e) };
 
     ghost shows = { λ e p. Never };
 
@@ -163,6 +154,5 @@ impl Evidence for Far<'_> {
         }
     }
 
-    ghost law = { λ e p is_table stands.
-        automata_never p.states (entry_of p) e.side (described (automata_of e)) (table_machine p is_table) stands.1.fits };
+    ghost law = { λ e. far_kind.law (automata_of e) };
 }

@@ -5,7 +5,7 @@ ghost use Rattle.text.specs.Decimal.{decimal_value};
 ghost use Rattle.text.specs.Fields.{spaced, made_of};
 ghost use Rattle.far.specs.Automata.{AreAutomata, AreSized};
 ghost use Rattle.far.specs.Far.{automata_of};
-ghost use Rattle.far.specs.Fields.{size_in, numbers_by, far_by, number_fields, far_fields};
+ghost use Rattle.far.specs.Kind.{size_in, numbers_by, far_by, number_fields, far_fields};
 ghost use Rattle.far.specs.Limits.{size_limit};
 
 use crate::far::Far;
@@ -33,7 +33,7 @@ impl<'a> Far<'a> {
 }
 
 impl Far<'_> {
-    /// Appends the fields of a record, each behind a space: they read back as the same automata (`far_reads_back`).
+    /// Appends the fields of a record, each behind a space: they read back as the same automata (`automata_are_a_kind`).
     /// Where memory is refused, a beginning of them.
     pub fn append_fields(&self, out: &mut Vec<u8>) -> Result<(), NoMemory>
         ensures ok { OnOk result (out.new.items ≡ out.old.items ++ spaced (far_fields (automata_of self.now))) }

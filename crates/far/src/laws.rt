@@ -1,8 +1,10 @@
 // Laws of the texts of automata.
-ghost use Rattle.std.specs.Prelude.{◌≡◌, ◌≤◌, ℕ, List, Ok, All, Decides, length};
-ghost use Rattle.text.specs.Fields.{AreFields, spaced};
+ghost use Rattle.std.specs.Prelude.{◌≡◌, ◌≤◌, ℕ, List, All, Decides, length};
+ghost use Rattle.text.specs.Fields.{spaced};
+ghost use Rattle.kind_evidence.specs.Kind.{IsKind};
 ghost use Rattle.far.specs.Automata.{Automata, AreAutomata, AreSized};
-ghost use Rattle.far.specs.Fields.{number_fields, far_by, far_fields};
+ghost use Rattle.far.specs.Kind.{number_fields};
+ghost use Rattle.far.specs.Kind.{far_kind};
 ghost use Rattle.far.specs.Limits.{number_byte_limit};
 ghost use Rattle.far.specs.Tests.{are_texts};
 ghost use Rattle.far.specs.Texts.{AreTexts, automata_by, delta_text, rows_text, hex_text};
@@ -25,8 +27,7 @@ pub fn texts_are_tested()
         Decides (are_texts states size delta rows keep) (AreTexts states size delta rows keep) }
 {}
 
-/// The fields of automata that are within their limits are fields that read back.
-pub fn far_reads_back()
-    ensures back { (a : Automata) → AreAutomata a → AreSized a → far_by a.states (far_fields a) ≡ Ok a }
-    ensures fields { (a : Automata) → AreAutomata a → AreSized a → AreFields (far_fields a) }
+/// Automata are a kind: their fields read back, and where they stand the table never halts.
+pub fn automata_are_a_kind()
+    ensures { IsKind far_kind }
 {}

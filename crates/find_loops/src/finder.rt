@@ -167,7 +167,7 @@ fn score(runner: &Runner) -> u64 {
 
 // Whether a claim stands.
 fn standing<E: Evidence>(claim: &E, alloc: Global, t: &Table) -> Result<bool, NoMemory>
-    ensures { IfOk result (λ stands. IsTrue stands → E.stands claim.now t.now × E.within claim.now) }
+    ensures { IfOk result (λ stands. IsTrue stands → (E.meaning claim.now).stands t.now × (E.meaning claim.now).within) }
 {
     match claim.check(alloc, t) {
         Ok(_) => Ok(true),

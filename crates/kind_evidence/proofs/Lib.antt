@@ -1,2 +1,3 @@
 pub mod Tested
 pub mod Sides
+pub mod Letters

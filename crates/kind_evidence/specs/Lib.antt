@@ -1,3 +1,5 @@
 pub mod Tests
 pub mod Verdict
 pub mod Side
+pub mod Meaning
+pub mod Kind

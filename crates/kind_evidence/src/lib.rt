@@ -1,8 +1,9 @@
 //! What is said of a table's run, and what evidence for it is.
 //!
 //! A verdict says that a table halts in so many steps and with so many ones, or never; `Evidence` is a claim that can
-//! be checked and that makes its verdict true. `specs/Verdict` says when a verdict is true of a machine, `specs/Side` how the sides of
-//! claims are written.
+//! be checked and that makes its verdict true. `specs/Verdict` says when a verdict is true of a machine, `specs/Meaning`
+//! what a claim means, `specs/Kind` what a kind of claims is by which a table never halts, and `specs/Side` how the sides
+//! of claims are written.
 #![tactic(auto)]
 
 mod evidence;

@@ -9,7 +9,7 @@ use Rattle.law_turing.specs.Score.{score_at}
 use Rattle.kind_evidence.specs.declared.verdicts.Ending.{Ending}
 use Rattle.kind_evidence.specs.declared.verdicts.Ending.TheVariants.{Halts}
 use Rattle.law_tree.specs.Closed.{Halting}
-use Rattle.cert.specs.Claim.{Claim, HaltsClaim, CycleClaim, TranslatedClaim, BackwardClaim, NgramClaim, FarClaim, NoClaim, Recorded, ending_by, score_by}
+use Rattle.cert.specs.Claim.{Claim, HaltsClaim, NeverClaim, NoClaim, Recorded, ending_by, score_by}
 use Rattle.cert.specs.Scored.{scored}
 use Rattle.ledger.specs.Records.{same_table, mark_in, mark_of, mark_by}
 use Rattle.ledger.specs.Held.{HasScore}
@@ -24,20 +24,12 @@ use Rattle.ledger.proofs.Same.{same_is, apart}
 -- the score that a claim has is that of its number of steps
 claimed_score : (p : Packed) (c : Claim) (s : ℕ) → scored p c ≡ c → score_by c ≡ Some s → (k : ℕ) × (ending_by c ≡ Some (Halts k)) × (s ≡ score_at (entry_of p) k)
 claimed_score p (HaltsClaim e) s has is = (e.steps, refl, same_Some s (score_at (entry_of p) e.steps) (sym is ∙ sym (ap score_by has)))
-claimed_score p (CycleClaim e) s has is = absurd (none-some s is)
-claimed_score p (TranslatedClaim e) s has is = absurd (none-some s is)
-claimed_score p (BackwardClaim e) s has is = absurd (none-some s is)
-claimed_score p (NgramClaim l) s has is = absurd (none-some s is)
-claimed_score p (FarClaim a) s has is = absurd (none-some s is)
+claimed_score p (NeverClaim r) s has is = absurd (none-some s is)
 claimed_score p NoClaim s has is = absurd (none-some s is)
 
 score_claimed : (p : Packed) (c : Claim) (k : ℕ) → scored p c ≡ c → ending_by c ≡ Some (Halts k) → score_by c ≡ Some (score_at (entry_of p) k)
 score_claimed p (HaltsClaim e) k has is = let same : e.steps ≡ k = cc in sym (ap score_by has) ∙ ap (λ (n : ℕ). Some (score_at (entry_of p) n)) same
-score_claimed p (CycleClaim e) k has is = absurd (cc)
-score_claimed p (TranslatedClaim e) k has is = absurd (cc)
-score_claimed p (BackwardClaim e) k has is = absurd (cc)
-score_claimed p (NgramClaim l) k has is = absurd (cc)
-score_claimed p (FarClaim a) k has is = absurd (cc)
+score_claimed p (NeverClaim r) k has is = absurd (cc)
 score_claimed p NoClaim k has is = absurd (cc)
 
 claim_has : (r : Recorded) → HasScore r → scored r.table r.claim ≡ r.claim

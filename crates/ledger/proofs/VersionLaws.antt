@@ -3,7 +3,7 @@ use Rattle.std.proofs.Common.{◌≡◌, ℕ, Bool, true, false, cond, List, [],
 use Rattle.machine_text.specs.Packed.{Packed, IsTable}
 use Rattle.kind_evidence.specs.declared.verdicts.Ending.{Ending}
 use Rattle.kind_evidence.specs.declared.verdicts.Ending.TheVariants.{Halts}
-use Rattle.cert.specs.Claim.{Claim, HaltsClaim, CycleClaim, TranslatedClaim, BackwardClaim, NgramClaim, FarClaim, NoClaim, Recorded, ending_by, score_by}
+use Rattle.cert.specs.Claim.{Claim, HaltsClaim, NeverClaim, NoClaim, Recorded, ending_by, score_by}
 use Rattle.cert.specs.Certified.{IsCertified}
 use Rattle.cert.specs.Grammar.{record_text, record_of}
 use Rattle.cert.specs.Scored.{scored, unscored, with_score}
@@ -22,20 +22,12 @@ use Rattle.ledger.specs.declared.format.Format.TheVariants.{One, Two}
 -- what stands in a version: a claim without a score in the first, one with its score in the second
 unscored_stands : (c : Claim) → may_stand One (ending_by (unscored c)) (score_by (unscored c)) ≡ true
 unscored_stands (HaltsClaim e) = refl
-unscored_stands (CycleClaim e) = refl
-unscored_stands (TranslatedClaim e) = refl
-unscored_stands (BackwardClaim e) = refl
-unscored_stands (NgramClaim s) = refl
-unscored_stands (FarClaim a) = refl
+unscored_stands (NeverClaim r) = refl
 unscored_stands NoClaim = refl
 
 scored_stands : (p : Packed) (c : Claim) → may_stand Two (ending_by (scored p c)) (score_by (scored p c)) ≡ true
 scored_stands p (HaltsClaim e) = refl
-scored_stands p (CycleClaim e) = refl
-scored_stands p (TranslatedClaim e) = refl
-scored_stands p (BackwardClaim e) = refl
-scored_stands p (NgramClaim s) = refl
-scored_stands p (FarClaim a) = refl
+scored_stands p (NeverClaim r) = refl
 scored_stands p NoClaim = refl
 
 written_stands : (format : Format) (r : Recorded) → HasScore r → may_stand format (ending_by (as_written format r).claim) (score_by (as_written format r).claim) ≡ true

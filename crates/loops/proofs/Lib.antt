@@ -2,4 +2,4 @@ pub mod TimeLaws
 pub mod BoundLaws
 pub mod TestLaws
 pub mod MomentLaws
-pub mod FieldLaws
+pub mod KindLaws

@@ -1,3 +1,3 @@
 pub mod Limits
-pub mod Fields
+pub mod Kinds
 pub mod inside

@@ -2,7 +2,7 @@
 ghost use Rattle.std.specs.Prelude.{◌≡◌, ◌↔◌, ◌<◌, ◌≤◌, ◌^◌, ◌++◌, length, take, OnOk, IfOk, IsTrue};
 ghost use Rattle.machine_text.specs.Packed.{entry_of};
 ghost use Rattle.law_turing.specs.Cycle.{Cycle as IsCycle};
-ghost use Rattle.loops.specs.Fields.{cycle_by, cycle_fields};
+ghost use Rattle.loops.specs.Kinds.{cycle_by, cycle_fields};
 ghost use Rattle.loops.specs.Limits.{time_limit};
 ghost use Rattle.text.specs.Fields.{spaced};
 
@@ -50,17 +50,10 @@ impl Cycle {
 }
 
 impl Evidence for Cycle {
-    ghost use Rattle.law_turing.proofs.CycleLaws.{cycle_never};
     ghost use Rattle.kind_evidence.specs.declared.verdicts.Verdict.TheVariants.{Never};
+    ghost use Rattle.loops.specs.Kinds.{cycle_kind};
 
-    ghost within = { λ e. e.j ≤ time_limit };
-
-    ghost stands = { λ e p. IsCycle (entry_of p) e.i e.j };
-
-    ghost is_wide = { λ e p. ⊥ };
-
-    // One over its limit, or whose times aren't in order, isn't carried out.
-    ghost takes_memory = { λ e. (e.i < e.j) × (e.j ≤ time_limit) };
+    ghost meaning = { cycle_kind.meaning };
 
     ghost shows = { λ e p. Never };
 
@@ -78,7 +71,7 @@ impl Evidence for Cycle {
         }
     }
 
-    ghost law = { λ e p is_table stands. cycle_never (entry_of p) e.i e.j stands };
+    ghost law = { cycle_kind.law };
 }
 
 // Whether the run of a table has the same configuration at two times.

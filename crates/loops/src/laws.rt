@@ -1,18 +1,13 @@
-// Laws of the fields of records.
-ghost use Rattle.std.specs.Prelude.{◌≡◌, ◌<◌, ◌^◌, Ok};
-ghost use Rattle.text.specs.Fields.{AreFields};
-ghost use Rattle.loops.specs.declared.cycle.Cycle.{Cycle};
-ghost use Rattle.loops.specs.declared.translated.Translated.{Translated};
-ghost use Rattle.loops.specs.Fields.{cycle_by, cycle_fields, translated_by, translated_fields};
+// The laws of the two kinds.
+ghost use Rattle.kind_evidence.specs.Kind.{IsKind};
+ghost use Rattle.loops.specs.Kinds.{cycle_kind, translated_kind};
 
-/// The fields of a cycle, whose times have 64 bits, are fields that read back.
-pub fn cycle_reads_back()
-    ensures back { (c : Cycle) → c.i < 2 ^ 64 → c.j < 2 ^ 64 → cycle_by (cycle_fields c) ≡ Ok c }
-    ensures fields { (c : Cycle) → c.i < 2 ^ 64 → c.j < 2 ^ 64 → AreFields (cycle_fields c) }
+/// Cycles are a kind: their fields read back, and where one stands the table never halts.
+pub fn cycles_are_a_kind()
+    ensures { IsKind cycle_kind }
 {}
 
-/// So are those of a translated cycle.
-pub fn translated_reads_back()
-    ensures back { (c : Translated) → c.i < 2 ^ 64 → c.j < 2 ^ 64 → translated_by (translated_fields c) ≡ Ok c }
-    ensures fields { (c : Translated) → c.i < 2 ^ 64 → c.j < 2 ^ 64 → AreFields (translated_fields c) }
+/// So are translated cycles.
+pub fn translated_cycles_are_a_kind()
+    ensures { IsKind translated_kind }
 {}

@@ -2,7 +2,7 @@
 ghost use Rattle.std.specs.Prelude.{◌≡◌, ◌↔◌, ◌<◌, ◌≤◌, ◌^◌, ◌++◌, length, take, OnOk, IfOk, IsTrue};
 ghost use Rattle.machine_text.specs.Packed.{entry_of};
 ghost use Rattle.law_turing.specs.Translated.{Translated as IsTranslated};
-ghost use Rattle.loops.specs.Fields.{translated_by, translated_fields};
+ghost use Rattle.loops.specs.Kinds.{translated_by, translated_fields};
 ghost use Rattle.loops.specs.Limits.{time_limit};
 ghost use Rattle.text.specs.Fields.{spaced};
 
@@ -59,17 +59,10 @@ impl Translated {
 }
 
 impl Evidence for Translated {
-    ghost use Rattle.law_turing.proofs.TranslatedLaws.{translated_never};
     ghost use Rattle.kind_evidence.specs.declared.verdicts.Verdict.TheVariants.{Never};
+    ghost use Rattle.loops.specs.Kinds.{translated_kind};
 
-    ghost within = { λ e. e.j ≤ time_limit };
-
-    ghost stands = { λ e p. IsTranslated (entry_of p) e.i e.j e.side };
-
-    ghost is_wide = { λ e p. ⊥ };
-
-    // One over its limit, or whose times aren't in order, isn't carried out.
-    ghost takes_memory = { λ e. (e.i < e.j) × (e.j ≤ time_limit) };
+    ghost meaning = { translated_kind.meaning };
 
     ghost shows = { λ e p. Never };
 
@@ -87,7 +80,7 @@ impl Evidence for Translated {
         }
     }
 
-    ghost law = { λ e p is_table stands. translated_never (entry_of p) e.i e.j e.side stands };
+    ghost law = { translated_kind.law };
 }
 
 // Whether the run of a table has a translated cycle between two times, on a side.

@@ -3,4 +3,4 @@ pub mod Texts
 pub mod Closed
 pub mod Tested
 pub mod Bytes
-pub mod FieldLaws
+pub mod KindLaws

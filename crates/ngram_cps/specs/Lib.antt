@@ -3,7 +3,7 @@ pub mod Listing
 pub mod Words
 pub mod Lists
 pub mod Tests
-pub mod Fields
+pub mod Kind
 pub mod Ngram
 pub mod Owned
 pub mod inside

@@ -3,7 +3,7 @@ ghost use Rattle.std.specs.Prelude.{◌≡◌, ◌≤◌, ◌++◌, length, take
 ghost use Rattle.machine_text.specs.Limits.{state_limit};
 ghost use Rattle.text.specs.Decimal.{decimal_value};
 ghost use Rattle.text.specs.Fields.{spaced, made_of};
-ghost use Rattle.ngram_cps.specs.Fields.{width_in, lists_by, ngram_by, ngram_fields};
+ghost use Rattle.ngram_cps.specs.Kind.{width_in, lists_by, ngram_by, ngram_fields};
 ghost use Rattle.ngram_cps.specs.Limits.{width_limit};
 ghost use Rattle.ngram_cps.specs.Lists.{lists, AreLists, AreWithin};
 ghost use Rattle.ngram_cps.specs.Ngram.{lists_of};

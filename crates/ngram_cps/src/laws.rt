@@ -1,8 +1,8 @@
 // What is so of all lists: laws over the definitions, each the contract of a function without a body.
-ghost use Rattle.std.specs.Prelude.{◌≡◌, ◌≤◌, Ok, Decides, All};
-ghost use Rattle.text.specs.Fields.{AreFields};
-ghost use Rattle.ngram_cps.specs.Fields.{ngram_by, ngram_fields};
-ghost use Rattle.ngram_cps.specs.Lists.{Lists, AreLists, AreWithin};
+ghost use Rattle.std.specs.Prelude.{◌≤◌, Decides, All};
+ghost use Rattle.kind_evidence.specs.Kind.{IsKind};
+ghost use Rattle.ngram_cps.specs.Kind.{ngram_kind};
+ghost use Rattle.ngram_cps.specs.Lists.{Lists, AreLists};
 ghost use Rattle.ngram_cps.specs.Tests.{are_lists};
 
 /// The test of three texts answers true exactly where they are lists.
@@ -17,8 +17,7 @@ pub fn list_texts_are_high()
     ensures local { (s : Lists) → AreLists s → All (λ byte. 44 ≤ byte) s.local }
 {}
 
-/// The fields of lists that are within their limits are fields that read back.
-pub fn ngram_reads_back()
-    ensures back { (s : Lists) → AreLists s → AreWithin s → ngram_by s.states (ngram_fields s) ≡ Ok s }
-    ensures fields { (s : Lists) → AreLists s → AreWithin s → AreFields (ngram_fields s) }
+/// Closed position sets are a kind: their fields read back, and where one stands the table never halts.
+pub fn position_sets_are_a_kind()
+    ensures { IsKind ngram_kind }
 {}

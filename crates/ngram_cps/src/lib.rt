@@ -4,8 +4,8 @@
 //! and local configurations that may stand around it. Where they hold the blank tape, and no step of the table
 //! leaves them, the table never halts: from the blank tape, and from any other whose words are all among them.
 //! law_turing's `PositionSet` says so; `specs/` adds what a list is (`Listing`, `Words`), when three lists are a
-//! closed position set of a table (`Lists`), the same as tests (`Tests`), how they are written in a record (`Fields`)
-//! and the limits as numbers (`Limits`). `specs/inside` is for the crate's own code.
+//! closed position set of a table (`Lists`), the same as tests (`Tests`), how they are written in a record
+//! and what they mean as a kind of certificates (`Kind`), and the limits as numbers (`Limits`). `specs/inside` is for the crate's own code.
 //!
 //! `Ngram` borrows its lists and judges them where they stand, without memory. `OwnedNgram` keeps the text of
 //! its lists. `NgramFinder` searches lists; what it computes (`least_set`) isn't trusted but judged.
@@ -33,7 +33,7 @@ mod word;
 mod word_list;
 
 pub use finder::NgramFinder;
-pub use laws::{list_texts_are_high, lists_are_tested, ngram_reads_back};
+pub use laws::{list_texts_are_high, lists_are_tested, position_sets_are_a_kind};
 pub use limits::{MAX_LIST_BYTES, MAX_WIDTH};
 pub use ngram::Ngram;
 pub use owned::OwnedNgram;

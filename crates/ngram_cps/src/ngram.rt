@@ -127,21 +127,11 @@ impl<'a> Ngram<'a> {
 }
 
 impl Evidence for Ngram<'_> {
-    ghost use Rattle.machine_text.specs.Packed.{entry_of};
     ghost use Rattle.kind_evidence.specs.declared.verdicts.Verdict.TheVariants.{Never};
-    ghost use Rattle.ngram_cps.specs.Lists.{AreLists, AreWithin, IsLocalItem, IsPositionSet};
+    ghost use Rattle.ngram_cps.specs.Kind.{ngram_kind};
     ghost use Rattle.ngram_cps.specs.Ngram.{lists_of};
-    ghost use Rattle.law_turing.proofs.ClosedSets.{closed_never};
-    ghost use Rattle.ngram_cps.specs.Listing.{IsItem};
-    ghost use Rattle.ngram_cps.specs.Words.{word_text};
 
-    ghost within = { λ e. AreWithin (lists_of e) };
-
-    ghost stands = { λ e p. AreLists (lists_of e) × IsPositionSet (lists_of e) p };
-
-    ghost is_wide = { λ e p. ⊥ };
-
-    ghost takes_memory = { λ e. ⊥ };
+    ghost meaning = { λ e. ngram_kind.meaning (lists_of e) };
 
     ghost shows = { λ e p. Never };
 
@@ -155,6 +145,5 @@ impl Evidence for Ngram<'_> {
         }
     }
 
-    ghost law = { λ e p is_table stands.
-        closed_never (entry_of p) (λ w. IsItem e.width e.left.text.now (word_text w)) (λ w. IsItem e.width e.right.text.now (word_text w)) (IsLocalItem (lists_of e)) e.width stands.1.closed };
+    ghost law = { λ e. ngram_kind.law (lists_of e) };
 }

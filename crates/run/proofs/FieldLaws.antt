@@ -1,5 +1,5 @@
 -- The fields of a record read back.
-use Rattle.std.proofs.Common.{◌≡◌, ℕ, ◌^◌, ◌<◌, [], ◌∷◌, Option, Some, None, IfSome, Ok, refl, arith}
+use Rattle.std.proofs.Common.{◌≡◌, ℕ, [], ◌∷◌, Option, Some, None, Ok, refl, arith}
 use Rattle.std.specs.Prelude.{decimal}
 use Rattle.text.specs.Fields.{AreFields}
 use Rattle.text.proofs.Numbers.{decimal_value-decimal, length_of_number}

@@ -116,18 +116,10 @@ fn run_out(alloc: Global, t: &Table, steps: u64) -> Result<Halted, Refused>
 impl Evidence for HaltsIn {
     ghost use Rattle.kind_evidence.specs.declared.verdicts.Verdict.TheVariants.{Halts};
     ghost use Rattle.law_turing.specs.Score.{score_at};
-    ghost use Rattle.run.specs.Halts.{HaltsAsClaimed};
-    ghost use Rattle.run.specs.Limits.{halt_step_limit};
+    ghost use Rattle.run.specs.Halts.{halts_meaning};
     ghost use Rattle.law_turing.proofs.Scores.{halts_with};
 
-    ghost within = { λ e. e.steps ≤ halt_step_limit };
-
-    ghost stands = { HaltsAsClaimed };
-
-    ghost is_wide = { λ e p. ⊥ };
-
-    // One over its limit isn't carried out.
-    ghost takes_memory = { λ e. e.steps ≤ halt_step_limit };
+    ghost meaning = { halts_meaning };
 
     ghost shows = { λ e p. Halts e.steps (score_at (entry_of p) e.steps) };
 

@@ -1,4 +1,4 @@
-use Rattle.far.proofs.FieldLaws.{numbers_made, numbers_refused}
+use Rattle.far.proofs.KindLaws.{numbers_made, numbers_refused}
 use Rattle.far.proofs.fields.numbers_from.Goals as goal
 
 pub returns-in-Some : goal.returns-in-Some

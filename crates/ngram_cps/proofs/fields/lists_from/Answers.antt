@@ -1,5 +1,5 @@
 use Rattle.std.proofs.Common.{rules}
-use Rattle.ngram_cps.proofs.FieldLaws.{lists_made, lists_refused}
+use Rattle.ngram_cps.proofs.KindLaws.{lists_made, lists_refused}
 use Rattle.ngram_cps.proofs.fields.lists_from.Goals as goal
 
 pub returns-in-Some : goal.returns-in-Some

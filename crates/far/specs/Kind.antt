@@ -1,13 +1,17 @@
--- The fields of a record of automata: how they are read and written.
-use Rattle.std.specs.Prelude.{ℕ, ◌&&◌, not, nat_lt, if◌then◌else◌, List, [], ◌∷◌, Option, Some, None, Result, Ok, Err, decimal}
+-- Automata as a kind of certificates: how their fields are read and written, what they mean, and their law.
+use Rattle.std.specs.Prelude.{ℕ, ◌&&◌, not, nat_lt, if◌then◌else◌, List, [], ◌∷◌, Option, Some, None, Result, Ok, Err, decimal, ◌≡◌, codes}
 use Rattle.machine_text.specs.declared.transition.Dir.{Dir}
 use Rattle.kind_evidence.specs.Side.{side_of, side_text}
 use Rattle.text.specs.Decimal.{decimal_value}
 use Rattle.text.specs.Fields.{with_value}
 use Rattle.text.specs.declared.fields.FieldFault.{FieldFault}
 use Rattle.text.specs.declared.fields.FieldFault.TheVariants.{BadKind, BadList}
+use Rattle.machine_text.specs.Packed.{entry_of}
+use Rattle.law_turing.proofs.AutomataLaws.{automata_never}
+use Rattle.law_turing.proofs.TableLaws.{table_machine}
+use Rattle.kind_evidence.specs.Kind.{Kind}
 use Rattle.far.specs.Limits.{size_limit}
-use Rattle.far.specs.Automata.{Automata}
+use Rattle.far.specs.Automata.{Automata, AreAutomata, AreSized, AreAutomataOf, described}
 use Rattle.far.specs.Texts.{delta_text, rows_text, hex_text, automata_by}
 use Rattle.far.specs.Tests.{are_texts}
 
@@ -32,3 +36,20 @@ number_fields a = delta_text a.delta ∷ (rows_text a.rows ∷ (hex_text a.keep 
 
 abbrev pub far_fields : Automata → List (List ℕ)
 far_fields a = side_text a.side ∷ (decimal a.size ∷ number_fields a)
+
+-- the automata fit the table; they are judged without memory
+abbrev pub far_kind : Kind Automata
+far_kind = record {
+  letter = codes "F";
+  by = far_by;
+  fields = far_fields;
+  meaning = λ a. record {
+    writable = AreAutomata a × AreSized a;
+    made_for = λ n. a.states ≡ n;
+    within = AreSized a;
+    wide = λ p. ⊥;
+    stands = λ p. AreAutomata a × AreAutomataOf a p;
+    takes_memory = ⊥;
+  };
+  law = λ a p table stands. automata_never p.states (entry_of p) a.side (described a) (table_machine p table) stands.1.fits;
+}

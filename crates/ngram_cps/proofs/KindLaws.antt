@@ -1,5 +1,6 @@
--- Three texts are read as lists where they are lists, and are refused where they are none; the fields of lists read back.
-use Rattle.std.proofs.Common.{◌≡◌, ◌+◌, ◌^◌, ◌<◌, ◌≤◌, false, true, ltb, [], ◌∷◌, length, Some, Ok, Err, refl, ap, ◌∙◌, arith}
+-- Three texts are read as lists where they are lists, and are refused where they are none; the fields of lists read back,
+-- and closed position sets are a kind.
+use Rattle.std.proofs.Common.{◌≡◌, ◌+◌, ◌^◌, ◌<◌, ◌≤◌, false, true, ltb, [], ◌∷◌, length, Some, Ok, Err, refl, ap, ◌∙◌, arith, subst}
 use Rattle.std.specs.Prelude.{decimal}
 use Rattle.std.proofs.lemmas.Bool.Decides.{nat_tests}
 use Rattle.text.specs.Decimal.{decimal_value}
@@ -7,7 +8,9 @@ use Rattle.text.specs.Fields.{AreFields, with_value}
 use Rattle.text.specs.declared.fields.FieldFault.TheVariants.{BadList}
 use Rattle.text.proofs.Numbers.{decimal_value-decimal, length_of_number}
 use Rattle.text.proofs.Spaced.{number_is_field, and_field, no_fields, length-spaced}
-use Rattle.ngram_cps.specs.Fields.{width_in, lists_by, ngram_by, ngram_fields}
+use Rattle.kind_evidence.specs.Kind.{IsKind}
+use Rattle.kind_evidence.proofs.Letters.{is_letter}
+use Rattle.ngram_cps.specs.Kind.{width_in, lists_by, ngram_by, ngram_fields, ngram_kind}
 use Rattle.ngram_cps.specs.Limits.{width_limit, list_byte_limit}
 use Rattle.ngram_cps.specs.Lists.{Lists, lists, AreLists, AreWithin}
 use Rattle.ngram_cps.specs.Tests.{are_lists}
@@ -67,3 +70,12 @@ ngram_are_fields s l within =
         length_of_number s.width small,
       );
     }
+
+pub ngram_is_kind : IsKind ngram_kind
+ngram_is_kind = record {
+  letter = is_letter 78 (omega arith);
+  are_fields = λ s lists. ngram_are_fields s lists.0 lists.1;
+  back = λ s n lists made. subst (λ n. ngram_by n (ngram_fields s) ≡ Ok s) made (ngram_back s lists.0 lists.1);
+  writable = λ s p within stands. (stands.0, within);
+  made = λ s p stands. stands.1.states;
+}

@@ -1,6 +1,6 @@
 -- Three texts are read as numbers of automata where they are those of some, and are refused where they are not; the
--- fields of automata read back.
-use Rattle.std.proofs.Common.{◌≡◌, ℕ, ◌^◌, ◌<◌, true, false, ltb, List, [], ◌∷◌, Some, Ok, Err, refl, ap, ◌∙◌, arith}
+-- fields of automata read back, and automata are a kind.
+use Rattle.std.proofs.Common.{◌≡◌, ℕ, ◌^◌, ◌<◌, true, false, ltb, List, [], ◌∷◌, Some, Ok, Err, refl, ap, ◌∙◌, arith, subst}
 use Rattle.std.specs.Prelude.{decimal}
 use Rattle.std.proofs.lemmas.Bool.Decides.{nat_tests}
 use Rattle.machine_text.specs.declared.transition.Dir.{Dir}
@@ -11,9 +11,11 @@ use Rattle.text.specs.Fields.{AreFields, with_value}
 use Rattle.text.specs.declared.fields.FieldFault.TheVariants.{BadList}
 use Rattle.text.proofs.Numbers.{decimal_value-decimal, length_of_number}
 use Rattle.text.proofs.Spaced.{number_is_field, and_field, no_fields, length-spaced}
+use Rattle.kind_evidence.specs.Kind.{IsKind}
+use Rattle.kind_evidence.proofs.Letters.{is_letter}
 use Rattle.far.specs.Limits.{size_limit}
 use Rattle.far.specs.Automata.{Automata, AreAutomata, AreSized}
-use Rattle.far.specs.Fields.{size_in, numbers_by, far_by, number_fields, far_fields}
+use Rattle.far.specs.Kind.{size_in, numbers_by, far_by, number_fields, far_fields, far_kind}
 use Rattle.far.specs.Texts.{AreTexts, automata_by, delta_text, rows_text, hex_text}
 use Rattle.far.specs.Tests.{are_texts}
 use Rattle.far.proofs.RoundTrip.{texts_back, same_back, bytes_from_comma}
@@ -75,3 +77,12 @@ far_are_fields a numbers within =
         length_of_number a.size small,
       );
     }
+
+pub far_is_kind : IsKind far_kind
+far_is_kind = record {
+  letter = is_letter 70 (omega arith);
+  are_fields = λ a automata. far_are_fields a automata.0 automata.1;
+  back = λ a n automata made. subst (λ n. far_by n (far_fields a) ≡ Ok a) made (far_back a automata.0 automata.1);
+  writable = λ a p within stands. (stands.0, within);
+  made = λ a p stands. stands.1.states;
+}

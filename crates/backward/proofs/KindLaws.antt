@@ -1,0 +1,20 @@
+-- Backward reasoning is a kind.
+use Rattle.std.proofs.Common.{[], refl, arith}
+use Rattle.std.specs.Prelude.{decimal}
+use Rattle.text.proofs.Numbers.{decimal_value-decimal, length_of_number}
+use Rattle.text.proofs.Spaced.{number_is_field, and_field, no_fields, length-spaced}
+use Rattle.kind_evidence.specs.Kind.{IsKind}
+use Rattle.kind_evidence.proofs.Letters.{is_letter}
+use Rattle.backward.specs.Kind.{backward_kind}
+
+pub backward_is_kind : IsKind backward_kind
+backward_is_kind = record {
+  letter = is_letter 66 (omega arith);
+  are_fields = λ e small. record {
+    each = and_field (decimal e.depth) [] (number_is_field e.depth small) no_fields;
+    short = omega (arith, length-spaced (decimal e.depth) [], length_of_number e.depth small);
+  };
+  back = λ e n small made. rw (decimal_value-decimal e.depth small) refl;
+  writable = λ e p within stands. omega (arith, within);
+  made = λ e p stands. tt;
+}

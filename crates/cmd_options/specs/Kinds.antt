@@ -1,0 +1,17 @@
+-- The kinds of certificates on a page: their letters in order, and what each is called. Letters are bytes.
+use Rattle.std.specs.Prelude.{ℕ, List, ◌==◌, if◌then◌else◌, codes, []}
+
+abbrev pub kind_letters : List ℕ
+kind_letters = codes "HCTBNFU"
+
+-- the letter and the name of its kind, as HTML
+abbrev pub kind_label : ℕ → List ℕ
+kind_label letter =
+    if letter == 72 then codes "<code>H</code> halting"
+    else if letter == 67 then codes "<code>C</code> cycler"
+    else if letter == 84 then codes "<code>T</code> translated cycler"
+    else if letter == 66 then codes "<code>B</code> backward reasoning"
+    else if letter == 78 then codes "<code>N</code> n-gram CPS"
+    else if letter == 70 then codes "<code>F</code> finite automata reduction (FAR)"
+    else if letter == 85 then codes "<code>U</code> holdout"
+    else []

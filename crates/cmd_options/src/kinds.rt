@@ -1,0 +1,45 @@
+// The kinds of certificates, as users see them: the one table of them in the program.
+ghost use Rattle.std.specs.Prelude.{◌≡◌};
+ghost use Rattle.cmd_options.specs.Kinds.{kind_label};
+
+use crate::number::Number;
+
+/// The letters of the kinds, in the order in which a page has them (`kind_letters`).
+pub const LETTERS: &[u8] = b"HCTBNFU";
+
+/// What a page calls the kind of a letter, as HTML: the letter and a name. Nothing for another letter.
+pub fn kind_label(letter: u8) -> &'static [u8]
+    ensures { result.now ≡ kind_label letter }
+{
+    match letter {
+        b'H' => b"<code>H</code> halting",
+        b'C' => b"<code>C</code> cycler",
+        b'T' => b"<code>T</code> translated cycler",
+        b'B' => b"<code>B</code> backward reasoning",
+        b'N' => b"<code>N</code> n-gram CPS",
+        b'F' => b"<code>F</code> finite automata reduction (FAR)",
+        b'U' => b"<code>U</code> holdout",
+        _ => b"",
+    }
+}
+
+/// How far backward reasoning goes.
+#[rattlefmt::skip]
+pub const DEPTH: Number = Number { name: "depth", value: Some("D"), least: 0, most: 1_000, default: Some("20"),
+    help: "Greatest depth of backward reasoning" };
+
+/// How wide the words in closed position sets are.
+#[rattlefmt::skip]
+pub const GRAM: Number = Number { name: "gram", value: Some("G"), least: 0, most: 8, default: Some("3"),
+    help: "Greatest width of words in closed position sets; 0 for none" };
+
+/// How large automata are.
+#[rattlefmt::skip]
+pub const FAR: Number = Number { name: "far", value: Some("M"), least: 0, most: 16, default: Some("2"),
+    help: "Most states of a first automaton, in finite automata reduction; 0 for none" };
+
+/// The options that say how far the certificates of a kind are searched for, in the order in which help has them.
+pub const REACHES: [Number; 3] = [DEPTH, GRAM, FAR];
+
+/// Their names.
+pub const REACH_NAMES: &[&str] = &["depth", "gram", "far"];

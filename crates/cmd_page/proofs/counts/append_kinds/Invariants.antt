@@ -1,0 +1,9 @@
+use Rattle.std.proofs.Common.{◌≡◌, ◌++◌, drop, flat_map, slice_index}
+use Rattle.cmd_options.specs.Kinds.{kind_letters}
+use Rattle.cmd_page.specs.Page.{kind_html, kinds_html}
+use Rattle.cmd_page.proofs.counts.append_kinds.Given as goal
+
+-- what was appended, and the rows that are left, are all rows
+abbrev pub invariant-loop-letter : goal.invariant-loop-letter
+invariant-loop-letter l =
+    l.out.items ++ flat_map (kind_html (slice_index l.kinds)) (drop l.letter-index kind_letters) ≡ l.fn.out.items ++ kinds_html (slice_index l.kinds)

@@ -3,7 +3,7 @@ use cmd_program::obey;
 use cmd_words::{LineFault, options};
 use std::alloc::{AllocError as NoMemory, Global};
 use std::cell::RefCell;
-use try_host::{CaseHost, Disk, Failing, Input, Output, Room};
+use try_host::{CaseHost, Failing, Input, MemDisk, Output, Room};
 use try_text::{Limits, Step};
 
 /// What came of a command.
@@ -20,7 +20,7 @@ pub struct Found {
 /// Gives the command of a step, with this on standard input, and standard output and standard error that take so much.
 pub fn carry(
     alloc: Global,
-    disk: &RefCell<Disk>,
+    disk: &RefCell<MemDisk>,
     step: &Step,
     given: &[u8],
     failing: Failing,

@@ -1,7 +1,7 @@
 // What came of a step, compared with what has to come of it.
 use crate::carrying::Found;
 use std::alloc::{AllocError as NoMemory, Global};
-use try_host::Disk;
+use try_host::MemDisk;
 use try_text::{FileText, Said, Step};
 
 /// What is different: its name, what has to come, and what came.
@@ -35,7 +35,7 @@ pub struct Held {
 }
 
 /// What there is of all files.
-pub fn held_of(alloc: Global, disk: &Disk) -> Result<Vec<Held>, NoMemory> {
+pub fn held_of(alloc: Global, disk: &MemDisk) -> Result<Vec<Held>, NoMemory> {
     let mut held = Vec::new(alloc);
     for name in disk.names() {
         if let Some(text) = disk.text_at(name.path()) {
@@ -187,7 +187,7 @@ pub fn files_differ(
     alloc: Global,
     step: &Step,
     before: &[Held],
-    disk: &Disk,
+    disk: &MemDisk,
 ) -> Result<Option<Difference>, NoMemory> {
     for file in &step.after {
         let found = disk.text_at(&file.path);
@@ -217,7 +217,7 @@ fn other_differs(
     alloc: Global,
     step: &Step,
     before: &[Held],
-    disk: &Disk,
+    disk: &MemDisk,
     path: &str,
 ) -> Result<Option<Difference>, NoMemory> {
     let (false, Some(found)) = (is_named(&step.after, path), disk.text_at(path)) else {
@@ -235,7 +235,7 @@ fn gone_differ(
     alloc: Global,
     step: &Step,
     before: &[Held],
-    disk: &Disk,
+    disk: &MemDisk,
 ) -> Result<Option<Difference>, NoMemory> {
     for held in before {
         if !is_named(&step.after, &held.path) && disk.text_at(&held.path).is_none() {

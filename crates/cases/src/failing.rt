@@ -2,7 +2,7 @@
 use crate::carrying::Found;
 use crate::comparing::{Difference, status_differs};
 use std::alloc::{AllocError as NoMemory, Global};
-use try_host::Disk;
+use try_host::MemDisk;
 use try_text::{Said, Step};
 
 // The exit status where a stream or a file fails.
@@ -17,7 +17,7 @@ pub fn broken_off_differs(
     alloc: Global,
     step: &Step,
     found: &Found,
-    disk: &Disk,
+    disk: &MemDisk,
 ) -> Result<Option<Difference>, NoMemory> {
     if let Said::Bytes(answers) = &step.answers
         && !answers.starts_with(&found.answers)
@@ -37,7 +37,7 @@ pub fn broken_off_differs(
 }
 
 // Whether a file has a line of a table's record.
-fn stands(disk: &Disk, table: &[u8]) -> bool {
+fn stands(disk: &MemDisk, table: &[u8]) -> bool {
     for name in disk.names() {
         if has_line_of(disk.text_at(name.path()).unwrap_or(b""), table) {
             return true;

@@ -5,7 +5,7 @@ use crate::stepping::{Played, Scene};
 use crate::trial::Trial;
 use std::alloc::Global;
 use std::io::{self, ErrorKind, Write};
-use try_host::Disk;
+use try_host::MemDisk;
 use try_text::{Case, CaseFault, FileText, Said, cases_of};
 
 /// Plays the cases of a file over the data of its folder. Says how many hold, and of each other what is different; answers
@@ -121,8 +121,8 @@ fn play_once(
 }
 
 // The files before the first step.
-fn laid_out(alloc: Global, data: &[DataFile], files: &[FileText]) -> io::Result<Disk> {
-    let mut disk = Disk::new(alloc);
+fn laid_out(alloc: Global, data: &[DataFile], files: &[FileText]) -> io::Result<MemDisk> {
+    let mut disk = MemDisk::new(alloc);
     for file in files {
         let path = file.path.as_str();
         let is_laid = match &file.said {

@@ -9,7 +9,7 @@ use crate::trial::Trial;
 use std::alloc::Global;
 use std::cell::RefCell;
 use std::io::{self, ErrorKind};
-use try_host::{Disk, Failing};
+use try_host::{Failing, MemDisk};
 use try_text::{Limits, Said, Step, Variant};
 
 /// What came of a step.
@@ -45,13 +45,13 @@ fn borrowed() -> io::Error {
 pub struct Scene<'a> {
     alloc: Global,
     data: &'a [DataFile],
-    disk: RefCell<Disk>,
+    disk: RefCell<MemDisk>,
     answers: Vec<Vec<u8>>,
 }
 
 impl<'a> Scene<'a> {
     /// Begins with these files.
-    pub fn new(alloc: Global, data: &'a [DataFile], disk: Disk) -> Scene<'a> {
+    pub fn new(alloc: Global, data: &'a [DataFile], disk: MemDisk) -> Scene<'a> {
         Scene {
             alloc,
             data,

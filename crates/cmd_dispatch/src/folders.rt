@@ -49,8 +49,7 @@ pub(crate) fn settle<S: Disk + Clock, R, W: Write, E: Write>(
         answers,
     );
     progress.end();
-    ended?;
-    Ok(Outcome::Accepted)
+    ended.and(Ok(Outcome::Accepted))
 }
 
 // `bb join`.

@@ -1,8 +1,9 @@
 // The finder that goes through the stages.
-use crate::stages::{DEPTH, LARGEST, Stage, WIDEST, stages};
+use crate::stages::{DEPTH, LARGEST, STAGES, Stage, WIDEST};
 use backward::BackwardFinder;
 use cert::{Finder, OwnedCertificate};
 use far::{FarFinder, OwnedFar};
+use find_automata::Stage as Automata;
 use find_loops::{Found, LoopFinder};
 use kind_evidence::NoMemory;
 use loops::{CycleFinder, TranslatedFinder};
@@ -54,16 +55,32 @@ impl HardFinder {
                 let found = self.backward.search_narrow(t, paths)?;
                 Ok(found.map(OwnedCertificate::Backward))
             }
-            Stage::Automata(stage) => {
-                let found = self.automata.search_in_stage(t, stage.scaled(budget))?;
-                boxed_automata(self.alloc, found)
-            }
-            Stage::PositionSets { width } => {
-                let found = self.position_sets.search_at(t, width, budget)?;
-                boxed_lists(self.alloc, found)
-            }
+            Stage::Automata(stage) => self.ask_for_automata(t, stage, budget),
+            Stage::PositionSets { width } => self.ask_for_position_sets(t, width, budget),
             Stage::MoreSteps => self.ask_for_more_steps(t, budget),
         }
+    }
+
+    // What automata show.
+    fn ask_for_automata(
+        &mut self,
+        t: &Table,
+        stage: Automata,
+        budget: u64,
+    ) -> Result<Option<OwnedCertificate>, NoMemory> {
+        let found = self.automata.search_in_stage(t, stage.scaled(budget))?;
+        boxed_automata(self.alloc, found)
+    }
+
+    // What closed position sets of a width show.
+    fn ask_for_position_sets(
+        &mut self,
+        t: &Table,
+        width: u64,
+        budget: u64,
+    ) -> Result<Option<OwnedCertificate>, NoMemory> {
+        let found = self.position_sets.search_at(t, width, budget)?;
+        boxed_lists(self.alloc, found)
     }
 
     // What longer runs show.
@@ -90,7 +107,7 @@ impl Finder for HardFinder {
     ghost gives = { λ finder p budget claim. ⊤ };
 
     fn find(&mut self, t: &Table, budget: u64) -> Result<Option<OwnedCertificate>, NoMemory> {
-        for stage in stages() {
+        for stage in STAGES {
             let found = self.ask(stage, t, budget)?;
             if found.is_some() {
                 return Ok(found);

@@ -75,18 +75,10 @@ pub(crate) fn report<S: Disk, R: Read, W: Write, E: Write>(
     json: bool,
     why: bool,
 ) -> Result<Outcome, Ended> {
-    let form = Form::of(json);
+    let (alloc, form) = (call.alloc, Form::of(json));
     if path == STANDARD_INPUT {
-        report_stream(
-            call.alloc,
-            &form,
-            why,
-            call.input,
-            call.answers,
-            call.faults,
-        )
-    } else {
-        let file = call.files().open_to_end(path);
-        report_file(call.alloc, &form, why, file, call.answers, call.faults)
+        return report_stream(alloc, &form, why, call.input, call.answers, call.faults);
     }
+    let file = call.files().open_to_end(path);
+    report_file(alloc, &form, why, file, call.answers, call.faults)
 }

@@ -26,38 +26,36 @@ pub(crate) const WIDEST: u64 = 8;
 pub(crate) const LARGEST: u64 = 16;
 
 // The stages, in their order.
-pub(crate) fn stages() -> [Stage; 19] {
-    [
-        loops(50, 200),
-        Stage::Backward { paths: 60 },
-        loops(800, 800),
-        automata(2, 60),
-        automata(3, 60),
-        automata(6, 100),
-        position_sets(4),
-        position_sets(5),
-        position_sets(6),
-        automata(10, 150),
-        position_sets(7),
-        position_sets(8),
-        automata(10, 500),
-        loops(20_000, 20_000),
-        automata(12, 2_000),
-        automata(8, 2_000),
-        automata(10, 2_000),
-        automata(15, 4_000),
-        Stage::MoreSteps,
-    ]
-}
+pub(crate) const STAGES: [Stage; 19] = [
+    loops(50, 200),
+    Stage::Backward { paths: 60 },
+    loops(800, 800),
+    automata(2, 60),
+    automata(3, 60),
+    automata(6, 100),
+    position_sets(4),
+    position_sets(5),
+    position_sets(6),
+    automata(10, 150),
+    position_sets(7),
+    position_sets(8),
+    automata(10, 500),
+    loops(20_000, 20_000),
+    automata(12, 2_000),
+    automata(8, 2_000),
+    automata(10, 2_000),
+    automata(15, 4_000),
+    Stage::MoreSteps,
+];
 
-fn loops(first: u64, steps: u64) -> Stage {
+const fn loops(first: u64, steps: u64) -> Stage {
     Stage::Loops { first, steps }
 }
 
-fn automata(named: u8, tries: u64) -> Stage {
+const fn automata(named: u8, tries: u64) -> Stage {
     Stage::Automata(Automata { named, tries })
 }
 
-fn position_sets(width: u64) -> Stage {
+const fn position_sets(width: u64) -> Stage {
     Stage::PositionSets { width }
 }

@@ -206,15 +206,14 @@ impl<'a> Disk for System<'a> {
             Ok(()) if self.is_at(&file, path) => Ok(Some(FileLock { file: Some(file) })),
             // Where it could be locked, the one that held it has put another file in its place.
             Ok(()) | Err(TryLockError::WouldBlock) => {
-                let busy = io::Error::from(ErrorKind::ResourceBusy);
-                self.failures.remember(path, &busy);
+                self.remember(path, &io::Error::from(ErrorKind::ResourceBusy));
                 Ok(None)
             }
             Err(TryLockError::Error(fault)) if has_no_locks(&fault) => {
                 Ok(Some(FileLock { file: None }))
             }
             Err(TryLockError::Error(fault)) => {
-                self.failures.remember(path, &fault);
+                self.remember(path, &fault);
                 Err(ended_by(&fault, Ended::Ledger))
             }
         }

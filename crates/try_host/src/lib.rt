@@ -3,15 +3,15 @@
 #![tactic(auto)]
 
 mod device;
-mod disk;
 mod host;
+mod mem_disk;
 mod room;
 mod sheets;
 mod sockets;
 mod streams;
 
 pub use device::Share;
-pub use disk::{Disk, Name};
 pub use host::CaseHost;
+pub use mem_disk::{MemDisk, Name};
 pub use room::{Failing, Room};
 pub use streams::{Input, Output};

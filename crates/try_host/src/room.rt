@@ -1,6 +1,6 @@
 // What a command finds: its files, and the devices of one step.
 use crate::device::{Device, Share, failed};
-use crate::disk::Disk;
+use crate::mem_disk::MemDisk;
 use std::alloc::{AllocError as NoMemory, Global};
 use std::cell::{Cell, RefCell};
 use std::io;
@@ -28,7 +28,7 @@ impl Failing {
 #[derive(Drop)]
 pub struct Room<'a> {
     pub(crate) alloc: Global,
-    pub(crate) disk: &'a RefCell<Disk>,
+    pub(crate) disk: &'a RefCell<MemDisk>,
     pub(crate) conditions: &'a Conditions,
     pub(crate) files: Device,
     pub(crate) reading: Device,
@@ -46,7 +46,7 @@ pub struct Room<'a> {
 impl<'a> Room<'a> {
     pub fn new(
         alloc: Global,
-        disk: &'a RefCell<Disk>,
+        disk: &'a RefCell<MemDisk>,
         conditions: &'a Conditions,
         failing: Failing,
     ) -> Room<'a> {

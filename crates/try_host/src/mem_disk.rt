@@ -23,9 +23,9 @@ impl Name {
     }
 }
 
-/// Files in memory. A file may have several names, and outlives them while it is open.
+/// A disk in memory. A file may have several names, and outlives them while it is open.
 #[derive(Drop)]
-pub struct Disk {
+pub struct MemDisk {
     alloc: Global,
     names: Vec<Name>,
     files: Vec<Vec<u8>>,
@@ -39,9 +39,9 @@ fn plain(path: &str) -> &str {
     path.strip_prefix("./").unwrap_or(path)
 }
 
-impl Disk {
-    pub fn new(alloc: Global) -> Disk {
-        Disk {
+impl MemDisk {
+    pub fn new(alloc: Global) -> MemDisk {
+        MemDisk {
             alloc,
             names: Vec::new(alloc),
             files: Vec::new(alloc),

@@ -27,35 +27,59 @@ pub(crate) const LARGEST: u64 = 16;
 
 // The stages, in their order.
 pub(crate) const STAGES: [Stage; 19] = [
-    loops(50, 200),
+    Stage::Loops {
+        first: 50,
+        steps: 200,
+    },
     Stage::Backward { paths: 60 },
-    loops(800, 800),
-    automata(2, 60),
-    automata(3, 60),
-    automata(6, 100),
-    position_sets(4),
-    position_sets(5),
-    position_sets(6),
-    automata(10, 150),
-    position_sets(7),
-    position_sets(8),
-    automata(10, 500),
-    loops(20_000, 20_000),
-    automata(12, 2_000),
-    automata(8, 2_000),
-    automata(10, 2_000),
-    automata(15, 4_000),
+    Stage::Loops {
+        first: 800,
+        steps: 800,
+    },
+    Stage::Automata(Automata {
+        named: 2,
+        tries: 60,
+    }),
+    Stage::Automata(Automata {
+        named: 3,
+        tries: 60,
+    }),
+    Stage::Automata(Automata {
+        named: 6,
+        tries: 100,
+    }),
+    Stage::PositionSets { width: 4 },
+    Stage::PositionSets { width: 5 },
+    Stage::PositionSets { width: 6 },
+    Stage::Automata(Automata {
+        named: 10,
+        tries: 150,
+    }),
+    Stage::PositionSets { width: 7 },
+    Stage::PositionSets { width: 8 },
+    Stage::Automata(Automata {
+        named: 10,
+        tries: 500,
+    }),
+    Stage::Loops {
+        first: 20_000,
+        steps: 20_000,
+    },
+    Stage::Automata(Automata {
+        named: 12,
+        tries: 2_000,
+    }),
+    Stage::Automata(Automata {
+        named: 8,
+        tries: 2_000,
+    }),
+    Stage::Automata(Automata {
+        named: 10,
+        tries: 2_000,
+    }),
+    Stage::Automata(Automata {
+        named: 15,
+        tries: 4_000,
+    }),
     Stage::MoreSteps,
 ];
-
-const fn loops(first: u64, steps: u64) -> Stage {
-    Stage::Loops { first, steps }
-}
-
-const fn automata(named: u8, tries: u64) -> Stage {
-    Stage::Automata(Automata { named, tries })
-}
-
-const fn position_sets(width: u64) -> Stage {
-    Stage::PositionSets { width }
-}

@@ -11,7 +11,7 @@ use Rattle.machine_text.specs.Packed.{Packed, IsTable, symbol_number, entry_of}
 use Rattle.law_turing.specs.Automata.{Node, At, Halt}
 use Rattle.law_turing.proofs.TableLaws.{table_machine}
 use Rattle.kind_listed.specs.Automata.{ListedAutomata, has_item, halt_number, is_node_of, lists_node, leads, number_of_node, edges_at, target_of, has_listed_edge, described_by, AreListed, AreListedOf}
-use Rattle.kind_listed.specs.inside.Steps.{LeadsInto, LeadInto, GoesBack, EntryFits, EdgesFit, PairFits, EachPairFits, BlankIsKept}
+use Rattle.kind_listed.specs.inside.Steps.{LeadsInto, LeadInto, GoesAhead, EdgesFit, PairFits, EachPairFits, move_from, BackOver, FitsBack, EachFitsBack, BlankIsKept}
 use Rattle.kind_listed.proofs.Members.{has_at, at_of, part_has}
 
 module _ (a : ListedAutomata) (some : 1 ≤ a.states) (numbers : AreListed a) where
@@ -137,11 +137,14 @@ module _ (a : ListedAutomata) (some : 1 ≤ a.states) (numbers : AreListed a) wh
         at Zero = each.zero (q * a.states + f) (number_below q f small within)
         at One = each.one (q * a.states + f) (number_below q f small within)
 
-    back_by : (q f : ℕ) (r b : Sym) (e : Entry) → EntryFits a q f r e → (e.dir ≡ a.side → ⊥) → GoesBack a q f r e b
-    back_by q f r Zero e fits back = fits.back_zero back
-    back_by q f r One e fits back = fits.back_one back
+    back_by : EachFitsBack (entry_of p) a a.states → (q f : ℕ) (r b : Sym) (e : Entry) → q < a.size → f < a.states → entry_of p f r ≡ Some e → (e.dir ≡ a.side → ⊥) → BackOver a f r e (move_from a q b)
+    back_by each q f r b e small within is way = ((subst (λ o. FitsBack o a f r) is (at r)) way).each q small b
+      where
+        at : (r : Sym) → FitsBack (entry_of p f r) a f r
+        at Zero = each.zero f within
+        at One = each.one f within
 
-    back_edge : (q f : ℕ) (r b : Sym) (e : Entry) (u v : Node) → q < a.size → f < a.states → GoesBack a q f r e b →
+    back_edge : (q f : ℕ) (r b : Sym) (e : Entry) (u v : Node) → q < a.size → f < a.states → BackOver a f r e (move_from a q b) →
         IsTrue (has_listed_edge a (At q e.next.0) b u) → IsTrue (has_listed_edge a u e.write v) → IsTrue (has_listed_edge a (At (target_of a q b) f) r v)
     back_edge q f r b e u v small within goes first second =
         edge_by (target_of a q b) f r v (pair_at (target_of a q b) f (target_small q b small) within) (leads_by into v (edge_node u e.write v second) (elim (cases_Bool (has_item into (halt_number a))) [
@@ -155,9 +158,9 @@ module _ (a : ListedAutomata) (some : 1 ≤ a.states) (numbers : AreListed a) wh
         set : List ℕ
         set = edges_at a (q * a.states + e.next.0) b
 
-    pub automata_from : 1 ≤ a.size → BlankIsKept a → EachPairFits (entry_of p) a (halt_number a) → AreListedOf a p
+    pub automata_from : 1 ≤ a.size → BlankIsKept a → EachPairFits (entry_of p) a (halt_number a) → EachFitsBack (entry_of p) a a.states → AreListedOf a p
     unfolding described_by
-    automata_from sized keeps each = record {
+    automata_from sized keeps each returns = record {
       states = same;
       fits = record {
         some = sized;
@@ -168,12 +171,11 @@ module _ (a : ListedAutomata) (some : 1 ≤ a.states) (numbers : AreListed a) wh
             let row : List ℕ = edges_at a (q * a.states + f) r in
             edge_by q f r Halt (pair_at q f small (omega arith)) (leads_by row Halt refl (or_left (has_item row (halt_number a)) (has_item row (halt_number a)) (subst (λ o. EdgesFit o a q f r) none (fits_by each q f r small (omega arith)))));
         ahead = λ q f r e small within is ahead.
-            let fits : EntryFits a q f r e = subst (λ o. EdgesFit o a q f r) is (fits_by each q f r small (omega arith)) in
+            let fits : (e.dir ≡ a.side → GoesAhead a q f r e) = subst (λ o. EdgesFit o a q f r) is (fits_by each q f r small (omega arith)) in
             edge_by q f r (At (target_of a q e.write) e.next.0) (pair_at q f small (omega arith)) (leads_by (edges_at a (q * a.states + f) r) (At (target_of a q e.write) e.next.0)
-            (pair_at (target_of a q e.write) e.next.0 (target_small q e.write small) (next_small f r e is)) (fits.ahead ahead));
+            (pair_at (target_of a q e.write) e.next.0 (target_small q e.write small) (next_small f r e is)) (fits ahead));
         back = λ q f r b e u v small within is back first second.
-            let fits : EntryFits a q f r e = subst (λ o. EdgesFit o a q f r) is (fits_by each q f r small (omega arith)) in
-            back_edge q f r b e u v small (omega arith) (back_by q f r b e fits back) first second;
+            back_edge q f r b e u v small (omega arith) (back_by returns q f r b e small (omega arith) is back) first second;
         start_kept = and_from (is_node_of a (At 0 0)) (has_item a.keep (0 * a.states + 0)) (pair_at 0 0 sized some) (subst (λ n. IsTrue (has_item a.keep n)) (let e : 0 ≡ 0 * a.states + 0 = omega arith in e) keeps.start);
         blank_kept = λ u v member edge.
             let there = (and_parts (is_node_of a u) (has_item a.keep (number_of_node a u)) member).1 in
@@ -207,7 +209,7 @@ module _ (a : ListedAutomata) (some : 1 ≤ a.states) (numbers : AreListed a) wh
             (and_parts (is_node_of a v) (has_item a.keep (number_of_node a v)) (of.fits.blank_kept u v (and_from (is_node_of a u) (has_item a.keep (number_of_node a u)) is there) edge)).1);
       }
 
-      back_at : (q f : ℕ) (r b : Sym) (e : Entry) → q < a.size → f < a.states → entry_of p f r ≡ Some e → (e.dir ≡ a.side → ⊥) → GoesBack a q f r e b
+      back_at : (q f : ℕ) (r b : Sym) (e : Entry) → q < a.size → f < a.states → entry_of p f r ≡ Some e → (e.dir ≡ a.side → ⊥) → BackOver a f r e (move_from a q b)
       unfolding described_by
       back_at q f r b e small within is back never =
           let set : List ℕ = edges_at a (q * a.states + e.next.0) b in
@@ -222,15 +224,21 @@ module _ (a : ListedAutomata) (some : 1 ≤ a.states) (numbers : AreListed a) wh
       by_entry q f r None small within is =
           let row : List ℕ = edges_at a (q * a.states + f) r in
           elim (or_cases (has_item row (halt_number a)) (has_item row (halt_number a)) (leads_to row Halt (edge_leads q f r Halt (of.fits.halting q f r small (omega arith) is)))) [ inl all ↦ all | inr all ↦ all ]
-      by_entry q f r (Some e) small within is = record {
-        ahead = λ ahead. leads_to (edges_at a (q * a.states + f) r) (At (target_of a q e.write) e.next.0) (edge_leads q f r (At (target_of a q e.write) e.next.0) (of.fits.ahead q f r e small (omega arith) is ahead));
-        back_zero = λ back. back_at q f r Zero e small within is back;
-        back_one = λ back. back_at q f r One e small within is back;
-      }
+      by_entry q f r (Some e) small within is = λ ahead. leads_to (edges_at a (q * a.states + f) r) (At (target_of a q e.write) e.next.0) (edge_leads q f r (At (target_of a q e.write) e.next.0) (of.fits.ahead q f r e small (omega arith) is ahead))
 
       pub each_from : EachPairFits (entry_of p) a (halt_number a)
       unfolding PairFits
       each_from = record {
         zero = λ j below. by_entry (j / a.states) (j % a.states) Zero (entry_of p (j % a.states) Zero) (first_of j below) (second_of j) refl;
         one = λ j below. by_entry (j / a.states) (j % a.states) One (entry_of p (j % a.states) One) (first_of j below) (second_of j) refl;
+      }
+
+      back_of : (f : ℕ) (r : Sym) (o : Option Entry) → f < a.states → entry_of p f r ≡ o → FitsBack o a f r
+      back_of f r None within is = tt
+      back_of f r (Some e) within is = λ way. record { each = λ q small b. back_at q f r b e small within is way }
+
+      pub back_from : EachFitsBack (entry_of p) a a.states
+      back_from = record {
+        zero = λ f below. back_of f Zero (entry_of p f Zero) below refl;
+        one = λ f below. back_of f One (entry_of p f One) below refl;
       }

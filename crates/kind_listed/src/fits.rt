@@ -1,27 +1,33 @@
 // Whether the numbers of two automata hold what a table asks for.
-ghost use Rattle.std.specs.Prelude.{◌≡◌, ◌↔◌, ◌+◌, ◌*◌, ◌<◌, ◌≤◌, length, IsTrue};
+ghost use Rattle.std.specs.Prelude.{◌≡◌, ◌↔◌, ◌+◌, ◌*◌, ◌<◌, ◌≤◌, length, IfOk, IsTrue, IsPermutation};
 ghost use Rattle.machine_text.specs.Packed.{entry_of, symbol_number};
 ghost use Rattle.kind_listed.specs.Automata.{AreListedOf, IsRising, halt_number, edges_at, target_of};
 ghost use Rattle.kind_listed.specs.Limits.{listed_pair_limit};
-ghost use Rattle.kind_listed.specs.inside.Steps.{LeadsInto, LeadInto, GoesAhead, GoesBack, EntryFits, PairFits, EachPairFits, BlankIsKept};
+ghost use Rattle.kind_listed.specs.inside.Steps.{LeadsInto, LeadInto, GoesAhead, PairFits, EachPairFits, all_moves, BackOver, GoesBack, FitsBack, EachFitsBack, AreSeen, BlankIsKept};
 ghost use Rattle.kind_listed.specs.inside.Unpacked.{numbers_of_unpacked};
 
+use crate::moves::Move;
 use crate::search::{has, is_part};
 use crate::unpacked::Unpacked;
+use kind_evidence::NoMemory;
 use machine_text::{Dir, Entry, State, Sym, Table};
+use std::alloc::Global;
 
 impl Unpacked {
     // Whether the automata fit a table of their number of states.
-    pub(crate) fn fits(&self, t: &Table) -> bool
+    pub(crate) fn fits(&self, alloc: Global, t: &Table) -> Result<bool, NoMemory>
         requires { self.now.states ≡ t.now.states }
-        ensures { IsTrue result ↔ AreListedOf (numbers_of_unpacked self.now) t.now }
+        ensures { IfOk result (λ fits. IsTrue fits ↔ AreListedOf (numbers_of_unpacked self.now) t.now) }
     {
         // The proof needs that the table is one.
         let _ = t.states();
         if !self.keeps_blank() {
-            return false;
+            return Ok(false);
         }
-        self.each_fits(t)
+        if !self.each_pair_fits(t) {
+            return Ok(false);
+        }
+        self.each_fits_back(alloc, t)
     }
 
     // Whether the blank tape is kept away from the halt state.
@@ -38,8 +44,8 @@ impl Unpacked {
         self.lead_into(keep, Sym::Zero, keep)
     }
 
-    // Whether each state of the second automaton but the halt state has its edges.
-    fn each_fits(&self, t: &Table) -> bool
+    // Whether each pair of the second automaton has the edges that an undefined entry asks for, or one that moves ahead.
+    fn each_pair_fits(&self, t: &Table) -> bool
         requires { self.now.states ≡ t.now.states }
         ensures { IsTrue result ↔ EachPairFits (entry_of t.now) (numbers_of_unpacked self.now) (halt_number (numbers_of_unpacked self.now)) }
     {
@@ -55,7 +61,7 @@ impl Unpacked {
         true
     }
 
-    // Whether (q, f) has its edges on a symbol.
+    // Whether (q, f) has them on a symbol.
     #[tactic(auto, unfolding(crate::specs::inside::Steps::PairFits))]
     fn fits_pair(&self, t: &Table, q: u16, f: u16, r: Sym) -> bool
         requires states { self.now.states ≡ t.now.states }
@@ -64,25 +70,9 @@ impl Unpacked {
         ensures { IsTrue result ↔ PairFits (entry_of t.now) (numbers_of_unpacked self.now) q f r }
     {
         match t.get(State(f as u8), r) {
-            Some(entry) => self.fits_entry(q, f, r, entry),
+            Some(entry) => self.fits_ahead(q, f, r, entry),
             None => has(self.row(q, f, r), self.last()),
         }
-    }
-
-    // Whether it has those that an entry asks for.
-    fn fits_entry(&self, q: u16, f: u16, r: Sym, entry: Entry) -> bool
-        requires first { q < self.now.size }
-        requires second { f < self.now.states }
-        requires next { entry.next.0 < self.now.states }
-        ensures { IsTrue result ↔ EntryFits (numbers_of_unpacked self.now) q f r entry }
-    {
-        if !self.fits_ahead(q, f, r, entry) {
-            return false;
-        }
-        if !self.fits_back(q, f, r, entry, Sym::Zero) {
-            return false;
-        }
-        self.fits_back(q, f, r, entry, Sym::One)
     }
 
     // An entry that moves ahead: the first automaton reads the written symbol.
@@ -105,22 +95,133 @@ impl Unpacked {
         )
     }
 
-    // An entry that moves back, where the first automaton has read b last: the second reads that again, and
-    // then the written symbol.
-    fn fits_back(&self, q: u16, f: u16, r: Sym, entry: Entry, b: Sym) -> bool
-        requires first { q < self.now.size }
-        requires second { f < self.now.states }
-        requires next { entry.next.0 < self.now.states }
-        ensures { IsTrue result ↔ ((entry.dir ≡ self.now.side → ⊥) → GoesBack (numbers_of_unpacked self.now) q f r entry b) }
+    // Whether there are the edges that the entries ask for which move back.
+    fn each_fits_back(&self, alloc: Global, t: &Table) -> Result<bool, NoMemory>
+        requires { self.now.states ≡ t.now.states }
+        ensures { IfOk result (λ fits. IsTrue fits ↔ EachFitsBack (entry_of t.now) (numbers_of_unpacked self.now) self.now.states) }
     {
+        let moves = self.moves(alloc)?;
+        let mut seen = self.none_seen(alloc)?;
+        for f in 0..self.states {
+            if !self.fits_back(t, f, Sym::Zero, &moves, &mut seen) {
+                return Ok(false);
+            }
+            if !self.fits_back(t, f, Sym::One, &moves, &mut seen) {
+                return Ok(false);
+            }
+        }
+        Ok(true)
+    }
+
+    // A number for each state of the second automaton but the halt state.
+    fn none_seen(&self, alloc: Global) -> Result<Vec<u16>, NoMemory>
+        ensures { IfOk result (λ seen. length seen.items ≡ halt_number (numbers_of_unpacked self.now)) }
+    {
+        let mut seen = Vec::new(alloc);
+        for u in 0..self.last() {
+            seen.push(0)?;
+        }
+        Ok(seen)
+    }
+
+    // Whether there are those that one entry asks for.
+    fn fits_back(&self, t: &Table, f: u8, r: Sym, moves: &[Move], seen: &mut [u16]) -> bool
+        requires states { self.now.states ≡ t.now.states }
+        requires second { f < self.now.states }
+        requires moves { IsPermutation (all_moves (numbers_of_unpacked self.now) self.now.size) moves.now }
+        requires seen { length seen.old ≡ halt_number (numbers_of_unpacked self.now) }
+        ensures fits { IsTrue result ↔ FitsBack (entry_of t.now f r) (numbers_of_unpacked self.now) f r }
+        ensures seen { length seen.new ≡ length seen.old }
+    {
+        let Some(entry) = t.get(State(f), r) else {
+            return true;
+        };
         if is_ahead(entry.dir, self.side) {
             return true;
         }
-        let into = self.row(self.target(q, b), f, r);
-        if has(into, self.last()) {
+        self.goes_back(f as u16, r, entry, moves, seen)
+    }
+
+    // The same of an entry that moves back. The transitions to one state stand one behind another: what leads into the list
+    // of a target is then looked at once, however many of them there are.
+    fn goes_back(&self, f: u16, r: Sym, entry: Entry, moves: &[Move], seen: &mut [u16]) -> bool
+        requires second { f < self.now.states }
+        requires next { entry.next.0 < self.now.states }
+        requires moves { IsPermutation (all_moves (numbers_of_unpacked self.now) self.now.size) moves.now }
+        requires seen { length seen.old ≡ halt_number (numbers_of_unpacked self.now) }
+        ensures fits { IsTrue result ↔ GoesBack (numbers_of_unpacked self.now) f r entry }
+        ensures seen { length seen.new ≡ length seen.old }
+    {
+        seen.fill(self.size);
+        for k in 0..moves.len() {
+            if !self.goes_back_over(f, r, entry, moves[k], seen) {
+                return false;
+            }
+        }
+        true
+    }
+
+    // An entry that moves back over a transition: the second automaton reads the symbol of that again, and then the written
+    // one.
+    fn goes_back_over(&self, f: u16, r: Sym, entry: Entry, over: Move, seen: &mut [u16]) -> bool
+        requires second { f < self.now.states }
+        requires next { entry.next.0 < self.now.states }
+        requires from { over.from < self.now.size }
+        requires to { over.to < self.now.size }
+        requires seen { AreSeen (numbers_of_unpacked self.now) f r entry.write seen.old }
+        ensures fits { IsTrue result ↔ BackOver (numbers_of_unpacked self.now) f r entry over }
+        ensures seen { AreSeen (numbers_of_unpacked self.now) f r entry.write seen.new }
+    {
+        if has(self.row(over.to, f, r), self.last()) {
             return true;
         }
-        self.lead_into(self.row(q, entry.next.0 as u16, b), entry.write, into)
+        let set = self.row(over.from, entry.next.0 as u16, over.read);
+        self.lead_into_target(set, entry.write, over.to, f, r, seen)
+    }
+
+    // Whether the edges of a list's states on a symbol are all in the list of a target, of which some were seen before.
+    fn lead_into_target(
+        &self,
+        set: &[u16],
+        s: Sym,
+        to: u16,
+        f: u16,
+        r: Sym,
+        seen: &mut [u16],
+    ) -> bool
+        requires to { to < self.now.size }
+        requires second { f < self.now.states }
+        requires seen { AreSeen (numbers_of_unpacked self.now) f r s seen.old }
+        ensures fits { IsTrue result ↔ LeadInto (numbers_of_unpacked self.now) set.now s (edges_at (numbers_of_unpacked self.now) (to * self.now.states + f) r) (length set.now) }
+        ensures seen { AreSeen (numbers_of_unpacked self.now) f r s seen.new }
+    {
+        for i in 0..set.len() {
+            if !self.leads_into_target(set[i], s, to, f, r, seen) {
+                return false;
+            }
+        }
+        true
+    }
+
+    // Whether those of one state are.
+    fn leads_into_target(&self, u: u16, s: Sym, to: u16, f: u16, r: Sym, seen: &mut [u16]) -> bool
+        requires to { to < self.now.size }
+        requires second { f < self.now.states }
+        requires seen { AreSeen (numbers_of_unpacked self.now) f r s seen.old }
+        ensures fits { IsTrue result ↔ LeadsInto (numbers_of_unpacked self.now) u s (edges_at (numbers_of_unpacked self.now) (to * self.now.states + f) r) }
+        ensures seen { AreSeen (numbers_of_unpacked self.now) f r s seen.new }
+    {
+        if u >= self.last() {
+            return false;
+        }
+        if seen[u as usize] == to {
+            return true;
+        }
+        if !self.leads_into(u, s, self.row(to, f, r)) {
+            return false;
+        }
+        seen[u as usize] = to;
+        true
     }
 
     // Whether the edges of a list's states on a symbol are all in another list, and none is the halt state.
@@ -186,7 +287,7 @@ impl Unpacked {
     }
 
     // Where the first automaton goes from q on a symbol.
-    fn target(&self, q: u16, s: Sym) -> u16
+    pub(crate) fn target(&self, q: u16, s: Sym) -> u16
         requires { q < self.now.size }
         ensures target { result ≡ target_of (numbers_of_unpacked self.now) q s }
         ensures below { result < self.now.size }

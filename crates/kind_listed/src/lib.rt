@@ -13,6 +13,7 @@ mod laws;
 mod limits;
 mod listed;
 mod lists;
+mod moves;
 mod owned_listed;
 mod reading;
 mod search;

@@ -142,7 +142,7 @@ impl<'a> Listed<'a> {
             self.keep,
         )?;
         match read {
-            Some(numbers) => Ok(numbers.hold(t)),
+            Some(numbers) => numbers.hold(alloc, t),
             // It never comes to this: the texts were tested before.
             None => Ok(false),
         }

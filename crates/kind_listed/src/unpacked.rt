@@ -89,9 +89,12 @@ impl Unpacked {
     }
 
     // Whether the automata are those of a table.
-    pub fn hold(&self, t: &Table) -> bool
-        ensures { IsTrue result ↔ AreListedOf (numbers_of_unpacked self.now) t.now }
+    pub fn hold(&self, alloc: Global, t: &Table) -> Result<bool, NoMemory>
+        ensures { IfOk result (λ hold. IsTrue hold ↔ AreListedOf (numbers_of_unpacked self.now) t.now) }
     {
-        self.states == t.states() && self.fits(t)
+        if self.states != t.states() {
+            return Ok(false);
+        }
+        self.fits(alloc, t)
     }
 }

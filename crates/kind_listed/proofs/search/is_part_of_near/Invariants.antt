@@ -1,6 +1,6 @@
 use Rattle.std.proofs.Common.{◌-◌, length}
 use Rattle.kind_listed.proofs.Members.{IsMerged}
-use Rattle.kind_listed.proofs.search.is_part.Given as goal
+use Rattle.kind_listed.proofs.search.is_part_of_near.Given as goal
 
 abbrev pub decreases-items : goal.decreases-items
 decreases-items l = length l.b - l.j

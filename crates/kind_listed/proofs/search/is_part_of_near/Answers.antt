@@ -1,6 +1,6 @@
 use Rattle.std.proofs.Common.{◌≡◌, false, true, arith}
 use Rattle.kind_listed.proofs.Members.{not_there}
-use Rattle.kind_listed.proofs.search.is_part.Goals as goal
+use Rattle.kind_listed.proofs.search.is_part_of_near.Goals as goal
 
 pub returns-then-j-b : goal.returns-then-j-b
 returns-then-j-b c = (

@@ -54,8 +54,11 @@ pub(crate) struct Closing {
     tasks: Vec<Task>,
 }
 
-// More than the tasks of automata that have room.
-const MAX_TASKS: u64 = 100_000_000;
+// How many tasks a try may have, and how many of them may be left at once: a row with many edges for which much waits has
+// many.
+const MAX_TASKS: u64 = 10_000_000;
+
+const MAX_TASKS_LEFT: usize = 1_000_000;
 
 impl Closing {
     // Nothing. Takes no memory.
@@ -90,7 +93,9 @@ impl Closing {
     }
 
     fn has_room(&self, room: Room) -> bool {
-        self.places.len() <= room.states && self.rows.are_within(room.edges)
+        self.places.len() <= room.states
+            && self.rows.are_within(room.edges)
+            && self.tasks.len() <= MAX_TASKS_LEFT
     }
 
     // The first state, which goes to itself on a blank, and its pair with the machine's first state, which is kept.

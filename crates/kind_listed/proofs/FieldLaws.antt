@@ -3,6 +3,7 @@ use Rattle.std.proofs.Common.{◌≡◌, ◌+◌, ◌*◌, ◌^◌, ◌<◌, ◌
 use Rattle.std.specs.Prelude.{decimal, is_some, IsTrue, All}
 use Rattle.std.proofs.lemmas.Bool.{false≢true}
 use Rattle.std.proofs.lemmas.Bool.Decides.{nat_tests}
+use Rattle.machine_text.specs.Packed.{Packed}
 use Rattle.kind_evidence.specs.Side.{side_text}
 use Rattle.kind_evidence.proofs.Sides.{side_back, side_is_high, length_of_side}
 use Rattle.text.specs.Decimal.{decimal_value}
@@ -10,21 +11,22 @@ use Rattle.text.specs.Fields.{IsField, spaced, with_value}
 use Rattle.text.proofs.Numbers.{decimal_value-decimal}
 use Rattle.text.proofs.Spaced.{number_is_field, and_field, no_fields, length-spaced}
 use Rattle.kind_listed.specs.Limits.{listed_size_limit, listed_byte_limit}
+use Rattle.kind_listed.specs.Listed.{AreTextsOf}
 use Rattle.kind_listed.specs.Texts.{ListedTexts, listed_texts, automata_of_texts}
-use Rattle.kind_listed.specs.Fields.{listed_size_in, texts_by, listed_by, listed_fields, AreListedTexts}
+use Rattle.kind_listed.specs.Fields.{AreWithinRecord, listed_size_in, texts_by, listed_by, listed_fields, AreListedTexts}
 use Rattle.kind_listed.proofs.HighBytes.{AreHigh, texts_high}
 
 size_back : (t : ListedTexts) → AreListedTexts t → listed_size_in (decimal_value (decimal t.size)) ≡ Some t.size
 size_back t are =
-    let small = are.small in
-    let some = are.some in
+    let small = are.within.small in
+    let some = are.within.some in
     let least : ltb t.size 1 ≡ false = grind (arith, nat_tests, some) in
     let most : ltb listed_size_limit t.size ≡ false = grind (arith, nat_tests, small) in
     ap listed_size_in (decimal_value-decimal t.size (omega arith)) ∙ rw (least, most) refl
 
 texts_back : (t : ListedTexts) → AreListedTexts t → texts_by t ≡ Ok t
 texts_back t are =
-    let short = are.short in
+    let short = are.within.short in
     let fits : ltb (listed_byte_limit t.states) (length (decimal t.size) + length t.delta + length t.rows + length t.keep) ≡ false = grind (arith, nat_tests, short) in
     let given : is_some (automata_of_texts t) ≡ true = are.given in
     rw (fits, given) refl
@@ -41,7 +43,7 @@ high_given t = elim (automata_of_texts t) as (λ o. automata_of_texts t ≡ o �
 pub listed_are_fields : (t : ListedTexts) → AreListedTexts t → All IsField (listed_fields t)
 listed_are_fields t are =
     let high = high_given t are.given in
-    let few = are.small in
+    let few = are.within.small in
     let small : t.size < 2 ^ 64 = omega arith in
     let side = side_text t.side in
     and_field side (decimal t.size ∷ (t.delta ∷ (t.rows ∷ (t.keep ∷ [])))) (side_is_high t.side)
@@ -50,8 +52,8 @@ listed_are_fields t are =
 
 pub listed_are_short : (t : ListedTexts) → AreListedTexts t → 7 * t.states + 1 + length (spaced (listed_fields t)) ≤ 65000
 listed_are_short t are =
-    let short = are.short in
-    let few = are.few in
+    let short = are.within.short in
+    let few = are.within.few in
     let side = side_text t.side in
     omega (
       arith,
@@ -64,3 +66,7 @@ listed_are_short t are =
       length-spaced t.keep [],
       length_of_side t.side,
     )
+
+-- what stands within the limits is written
+pub listed_is_writable : (t : ListedTexts) (p : Packed) → AreWithinRecord t → AreTextsOf t p → AreListedTexts t
+listed_is_writable t p within of = record { given = ap is_some of.given; within = within }

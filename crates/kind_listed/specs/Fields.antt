@@ -30,11 +30,15 @@ listed_by n fields = Err BadKind
 abbrev pub listed_fields : ListedTexts → List (List ℕ)
 listed_fields t = side_text t.side ∷ (decimal t.size ∷ (t.delta ∷ (t.rows ∷ (t.keep ∷ []))))
 
--- the texts give automata, within the limits
-pub record AreListedTexts (t : ListedTexts) : Type 0 where
-  pub given : IsTrue (is_some (automata_of_texts t))
+-- a record of the texts is within the limits
+pub record AreWithinRecord (t : ListedTexts) : Type 0 where
   pub short : length (decimal t.size) + length t.delta + length t.rows + length t.keep ≤ listed_byte_limit t.states
   pub some : 1 ≤ t.size
   pub small : t.size ≤ listed_size_limit
   pub made : 1 ≤ t.states
   pub few : t.states ≤ state_limit
+
+-- and the texts give automata
+pub record AreListedTexts (t : ListedTexts) : Type 0 where
+  pub given : IsTrue (is_some (automata_of_texts t))
+  pub within : AreWithinRecord t

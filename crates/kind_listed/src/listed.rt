@@ -32,6 +32,7 @@ pub struct Listed<'a> {
 
 impl<'a> Listed<'a> {
     ghost use Rattle.std.specs.Prelude.{◌↔◌, None, IfSome, IfNone, IfOk};
+    ghost use Rattle.kind_listed.specs.Fields.{AreListedTexts};
     ghost use Rattle.kind_listed.specs.Listed.{AreTextsOf, texts_of};
     ghost use Rattle.kind_listed.specs.Texts.{listed_texts};
 
@@ -87,6 +88,7 @@ impl<'a> Listed<'a> {
     pub fn states(&self) -> u8
         ensures states { result ≡ (texts_of self.now).states }
         ensures within { (1 ≤ result) × (result ≤ state_limit) }
+        ensures writable { AreListedTexts (texts_of self.now) }
     {
         self.states
     }
@@ -162,11 +164,12 @@ impl Evidence for Listed<'_> {
     ghost use Rattle.machine_text.specs.Packed.{entry_of};
     ghost use Rattle.kind_evidence.specs.declared.verdicts.Verdict.TheVariants.{Never};
     ghost use Rattle.kind_listed.specs.Automata.{described_by};
+    ghost use Rattle.kind_listed.specs.Fields.{AreWithinRecord};
     ghost use Rattle.kind_listed.specs.Listed.{AreTextsOf, texts_of};
     ghost use Rattle.law_turing.proofs.AutomataLaws.{automata_never};
     ghost use Rattle.law_turing.proofs.TableLaws.{table_machine};
 
-    ghost within = { λ e. Unit };
+    ghost within = { λ e. AreWithinRecord (texts_of e) };
 
     ghost stands = { λ e p. AreTextsOf (texts_of e) p };
 
@@ -177,6 +180,8 @@ impl Evidence for Listed<'_> {
     ghost shows = { λ e p. Never };
 
     fn check(&self, alloc: Global, t: &Table) -> Result<Verdict, Refused> {
+        // The proof needs that the texts are within their limits.
+        let _ = self.states();
         if self.holds(alloc, t)? {
             Ok(Verdict::Never)
         } else {

@@ -1,5 +1,5 @@
 -- What is so of automata that were found.
-use Rattle.std.specs.Prelude.{◌<◌, ◌≤◌}
+use Rattle.std.specs.Prelude.{◌<◌}
 use Rattle.machine_text.specs.Packed.{Packed}
 use Rattle.far.specs.Automata.{AreAutomataOf}
 use Rattle.far.specs.Limits.{size_limit}

@@ -10,7 +10,7 @@ use Rattle.machine_text.specs.declared.transition.Entry.{Entry}
 use Rattle.machine_text.specs.Packed.{Packed, IsTable, symbol_number, entry_of}
 use Rattle.law_turing.specs.Automata.{Node, At, Halt}
 use Rattle.law_turing.proofs.TableLaws.{table_machine}
-use Rattle.kind_listed.specs.Automata.{ListedAutomata, has_item, halt_number, is_node_of, lists_node, leads, number_of_node, edges_at, target_of, has_listed_edge, described_by, AreListed, AreListedOf}
+use Rattle.kind_listed.specs.Automata.{ListedAutomata, has_item, halt_number, is_node_of, lists_node, list_leads, number_of_node, edges_at, target_of, has_listed_edge, described_by, AreListed, AreListedOf}
 use Rattle.kind_listed.specs.inside.Steps.{LeadsInto, LeadInto, GoesAhead, EdgesFit, PairFits, EachPairFits, move_from, BackOver, FitsBack, EachFitsBack, BlankIsKept}
 use Rattle.kind_listed.proofs.Members.{has_at, at_of, part_has}
 
@@ -41,20 +41,20 @@ module _ (a : ListedAutomata) (some : 1 ≤ a.states) (numbers : AreListed a) wh
   abbrev to : List ℕ → ℕ → Type 0
   to list k = IsTrue (has_item list (halt_number a) || has_item list k)
 
-  leads_node : (list : List ℕ) (v : Node) → IsTrue (leads a list v) → IsTrue (is_node_of a v)
+  leads_node : (list : List ℕ) (v : Node) → IsTrue (list_leads a list v) → IsTrue (is_node_of a v)
   leads_node list v is = (and_parts (is_node_of a v) (has_item list (halt_number a) || has_item list (number_of_node a v)) is).0
 
-  leads_to : (list : List ℕ) (v : Node) → IsTrue (leads a list v) → to list (number_of_node a v)
+  leads_to : (list : List ℕ) (v : Node) → IsTrue (list_leads a list v) → to list (number_of_node a v)
   leads_to list v is = (and_parts (is_node_of a v) (has_item list (halt_number a) || has_item list (number_of_node a v)) is).1
 
-  leads_by : (list : List ℕ) (v : Node) → IsTrue (is_node_of a v) → to list (number_of_node a v) → IsTrue (leads a list v)
+  leads_by : (list : List ℕ) (v : Node) → IsTrue (is_node_of a v) → to list (number_of_node a v) → IsTrue (list_leads a list v)
   leads_by list v is there = and_from (is_node_of a v) (has_item list (halt_number a) || has_item list (number_of_node a v)) is there
 
-  edge_leads : (q f : ℕ) (s : Sym) (v : Node) → IsTrue (has_listed_edge a (At q f) s v) → IsTrue (leads a (edges_at a (q * a.states + f) s) v)
-  edge_leads q f s v edge = (and_parts (is_node_of a (At q f)) (leads a (edges_at a (q * a.states + f) s) v) edge).1
+  edge_leads : (q f : ℕ) (s : Sym) (v : Node) → IsTrue (has_listed_edge a (At q f) s v) → IsTrue (list_leads a (edges_at a (q * a.states + f) s) v)
+  edge_leads q f s v edge = (and_parts (is_node_of a (At q f)) (list_leads a (edges_at a (q * a.states + f) s) v) edge).1
 
-  edge_by : (q f : ℕ) (s : Sym) (v : Node) → IsTrue (is_node_of a (At q f)) → IsTrue (leads a (edges_at a (q * a.states + f) s) v) → IsTrue (has_listed_edge a (At q f) s v)
-  edge_by q f s v is there = and_from (is_node_of a (At q f)) (leads a (edges_at a (q * a.states + f) s) v) is there
+  edge_by : (q f : ℕ) (s : Sym) (v : Node) → IsTrue (is_node_of a (At q f)) → IsTrue (list_leads a (edges_at a (q * a.states + f) s) v) → IsTrue (has_listed_edge a (At q f) s v)
+  edge_by q f s v is there = and_from (is_node_of a (At q f)) (list_leads a (edges_at a (q * a.states + f) s) v) is there
 
   -- each edge ends in a node
   edge_node : (u : Node) (s : Sym) (v : Node) → IsTrue (has_listed_edge a u s v) → IsTrue (is_node_of a v)

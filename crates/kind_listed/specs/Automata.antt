@@ -42,8 +42,8 @@ abbrev pub lists_node : ListedAutomata → List ℕ → Node → Bool
 lists_node a list v = is_node_of a v && has_item list (number_of_node a v)
 
 -- a list leads to its members, or to all
-abbrev pub leads : ListedAutomata → List ℕ → Node → Bool
-leads a list v = is_node_of a v && (has_item list (halt_number a) || has_item list (number_of_node a v))
+abbrev pub list_leads : ListedAutomata → List ℕ → Node → Bool
+list_leads a list v = is_node_of a v && (has_item list (halt_number a) || has_item list (number_of_node a v))
 
 -- the edges of a state, given by its number, on a symbol
 abbrev pub edges_at : ListedAutomata → ℕ → Sym → List ℕ
@@ -54,7 +54,7 @@ target_of a q s = slice_index a.delta (2 * q + symbol_number s)
 
 -- the halt state goes to itself alone
 abbrev pub has_listed_edge : ListedAutomata → Node → Sym → Node → Bool
-has_listed_edge a (At q f) s v = is_node_of a (At q f) && leads a (edges_at a (q * a.states + f) s) v
+has_listed_edge a (At q f) s v = is_node_of a (At q f) && list_leads a (edges_at a (q * a.states + f) s) v
 has_listed_edge a Halt s (At q f) = false
 has_listed_edge a Halt s Halt = true
 

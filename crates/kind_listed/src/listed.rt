@@ -145,7 +145,7 @@ impl<'a> Listed<'a> {
         )?;
         match read {
             Some(numbers) => numbers.hold(alloc, t),
-            // It never comes to this: the texts were tested before.
+            // Never so: the texts were tested when the claim was made.
             None => Ok(false),
         }
     }

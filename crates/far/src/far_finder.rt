@@ -4,10 +4,9 @@ ghost use Rattle.far.specs.Limits.{size_limit};
 ghost use Rattle.far.specs.Automata.{AreAutomataOf};
 ghost use Rattle.far.specs.OwnedFar.{owned_automata};
 
-use crate::least_edges::LeastEdges;
 use crate::limits::MAX_SIZE;
 use crate::owned_far::OwnedFar;
-use find_automata::{AutomataSearch, Automaton, Stage};
+use find_automata::{AutomataSearch, Stage};
 use kind_evidence::NoMemory;
 use machine_text::Table;
 use std::alloc::Global;
@@ -56,7 +55,7 @@ impl FarFinder {
         let Some(found) = search.find(t, most, budget) else {
             return Ok(None);
         };
-        standing(self.alloc, &found, t, most)
+        OwnedFar::of_first(self.alloc, &found, t, most)
     }
 
     /// The same by one stage of the search.
@@ -73,7 +72,7 @@ impl FarFinder {
         let Some(found) = search.find_in_stage(t, stage, most) else {
             return Ok(None);
         };
-        standing(self.alloc, &found, t, most)
+        OwnedFar::of_first(self.alloc, &found, t, most)
     }
 
     // The most states that may be named.
@@ -92,24 +91,4 @@ impl FarFinder {
         }
         Ok(())
     }
-}
-
-// The automata of this first one, if they are of this size at most and those of the table.
-fn standing(
-    alloc: Global,
-    found: &Automaton,
-    t: &Table,
-    most: u8,
-) -> Result<Option<OwnedFar>, NoMemory>
-    ensures found { IfOk result (λ o. IfSome o (λ e. AreAutomataOf (owned_automata e) t.now)) }
-    ensures size { IfOk result (λ o. IfSome o (λ e. (owned_automata e).size ≤ most)) }
-{
-    let edges = LeastEdges::new(t, found.side, found.size, found.delta);
-    let Some(automata) = edges.automata() else {
-        return Ok(None);
-    };
-    if automata.size > most || !automata.hold(t) {
-        return Ok(None);
-    }
-    Ok(Some(OwnedFar::of_numbers(alloc, &automata)?))
 }

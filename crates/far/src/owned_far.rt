@@ -6,10 +6,12 @@ ghost use Rattle.far.specs.TextList.{owned_delta, owned_rows, owned_keep};
 ghost use Rattle.far.specs.Texts.{AreTexts};
 
 use crate::far::Far;
+use crate::least_edges::LeastEdges;
 use crate::unpacked::Unpacked;
 use crate::writing::{append_delta, append_hex, append_rows};
+use find_automata::Automaton;
 use kind_evidence::NoMemory;
-use machine_text::Dir;
+use machine_text::{Dir, Table};
 use std::alloc::Global;
 
 /// A `Far` with a text of its own, for automata that are kept longer than the text from which they come: one text with
@@ -27,7 +29,8 @@ pub struct OwnedFar {
 }
 
 impl OwnedFar {
-    ghost use Rattle.std.specs.Prelude.{IfOk};
+    ghost use Rattle.std.specs.Prelude.{IfOk, IfSome};
+    ghost use Rattle.far.specs.Automata.{AreAutomataOf};
     ghost use Rattle.far.specs.Far.{automata_of};
     ghost use Rattle.far.specs.OwnedFar.{owned_automata};
     ghost use Rattle.far.specs.inside.Unpacked.{unpacked_of};
@@ -74,6 +77,27 @@ impl OwnedFar {
             side: numbers.side,
             size: numbers.size,
         })
+    }
+
+    /// The automata of a first one and the least second one that goes with it, if they are those of a table and of no
+    /// more states than this.
+    pub fn of_first(
+        alloc: Global,
+        first: &Automaton,
+        t: &Table,
+        most: u8,
+    ) -> Result<Option<OwnedFar>, NoMemory>
+        ensures found { IfOk result (λ o. IfSome o (λ e. AreAutomataOf (owned_automata e) t.now)) }
+        ensures size { IfOk result (λ o. IfSome o (λ e. (owned_automata e).size ≤ most)) }
+    {
+        let edges = LeastEdges::new(t, first.side, first.size, first.delta);
+        let Some(automata) = edges.automata() else {
+            return Ok(None);
+        };
+        if automata.size > most || !automata.hold(t) {
+            return Ok(None);
+        }
+        Ok(Some(OwnedFar::of_numbers(alloc, &automata)?))
     }
 
     /// The claim, lent. Takes no memory, and looks at no byte.

@@ -1,0 +1,225 @@
+#!/usr/bin/env python3
+"""Records of kind `A`, finite automata reduction with the second automaton's edges listed, judged from the definition.
+
+stress/listed.py judge < RECORDS          prints for each record what `bb check` has to print
+stress/listed.py change COUNT < RECORDS   prints so many records that are changed at random, always the same ones
+stress/listed.py compare RECORDS [PROGRAM ..]
+                                          has both tried on the records and 2,000 changed ones: what the program prints,
+                                          `bb check` where none is named, has to be what is judged here
+
+Written from docs/FORMATS.md, and slow: it builds both automata as sets of edges and looks at every edge. No code of the
+program's is used or looked at.
+"""
+import os
+import random
+import subprocess
+import sys
+
+from oracle import Refused, mirrored, number, printed, read_table, side
+
+MOST = 4_096
+CHANGES = 2_000
+
+
+def digits(text, limit):
+    """A number in decimal below a limit, as an item of a list."""
+    if not text or any(b not in b"0123456789" for b in text) or (len(text) > 1 and text[0] == ord("0")):
+        raise Refused("304")
+    if len(text) > 20 or int(text) >= limit:
+        raise Refused("304")
+    return int(text)
+
+
+def rising(texts, limit):
+    numbers = [digits(text, limit) for text in texts]
+    if any(a >= b for a, b in zip(numbers, numbers[1:])):
+        raise Refused("304")
+    return numbers
+
+
+def edges_of(text, last):
+    """The numbers to which a pair has edges on a symbol; None where it isn't listed."""
+    if text == b"-":
+        return None
+    if text == b".":
+        return []
+    return rising(text.split(b"."), last)
+
+
+def listed(rows, to, count, delta, row_texts, keep):
+    """Ends where the two automata are those of the table, and refuses otherwise."""
+    states = len(rows)
+    last = count * states
+    goes = [digits(text, count) for text in delta.split(b",")]
+    if len(goes) != 2 * count:
+        raise Refused("304")
+    texts = row_texts.split(b",")
+    if len(texts) != 2 * last:
+        raise Refused("304")
+    lists = [edges_of(text, last) for text in texts]
+    kept = set(rising(keep.split(b","), last))
+    if to == b"L":
+        rows = mirrored(rows)
+    if not are_automata(rows, count, goes, lists, kept):
+        raise Refused("201")
+
+
+def are_automata(rows, count, goes, lists, kept):
+    """The clauses of finite automata reduction. The second automaton's states are the numbers q n + f, and `halt`."""
+    states = len(rows)
+    halt = count * states
+    everything = set(range(halt + 1))
+
+    def edges(v, symbol):
+        if v == halt:
+            return {halt}
+        found = lists[2 * v + symbol]
+        return everything if found is None else set(found)
+
+    if goes[0] != 0:
+        return False
+    for q in range(count):
+        for f in range(states):
+            for r in (0, 1):
+                entry = rows[f][r]
+                if entry is None:
+                    if halt not in edges(q * states + f, r):
+                        return False
+                elif entry[1] > 0:
+                    if goes[2 * q + entry[0]] * states + entry[2] not in edges(q * states + f, r):
+                        return False
+                else:
+                    for b in (0, 1):
+                        into = edges(goes[2 * q + b] * states + f, r)
+                        if into == everything:
+                            continue
+                        for u in edges(q * states + entry[2], b):
+                            if not edges(u, entry[0]) <= into:
+                                return False
+    if 0 not in kept or halt in kept:
+        return False
+    return all(edges(v, 0) <= kept for v in kept)
+
+
+def answer(line):
+    """What is printed of a record."""
+    try:
+        if len(line) > 65_000:
+            raise Refused("305")
+        parts = line.split(b" ")
+        rows = read_table(parts[0])
+        if len(parts) != 7 or parts[1] != b"A":
+            raise Refused("302")
+        to = side(parts[2])
+        count = number(parts[3])
+        if not 1 <= count <= MOST:
+            raise Refused("303")
+        listed(rows, to, count, *parts[4:])
+    except Refused as refused:
+        return f"refused {refused}"
+    return f"{printed(rows)} never"
+
+
+# Changes, each of which gives another record or none.
+
+def change_number(rng, numbers, limit):
+    """One of some numbers is another one, as text."""
+    numbers = list(numbers)
+    numbers[rng.randrange(len(numbers))] = b"%d" % rng.randrange(limit + 1)
+    return numbers
+
+
+def changed_row(rng, text, last):
+    """A row that lists more, less, nothing, or isn't listed."""
+    way = rng.randrange(6)
+    if way == 0:
+        return b"-"
+    if way == 1:
+        return b"."
+    numbers = [] if text in (b"-", b".") else [int(it) for it in text.split(b".")]
+    if way in (2, 3):
+        numbers = sorted({*numbers, rng.randrange(last + (way == 3))})
+    elif way == 4 and numbers:
+        numbers.pop(rng.randrange(len(numbers)))
+    elif numbers:
+        numbers.append(numbers[-1])
+    return b".".join(b"%d" % it for it in numbers) or b"."
+
+
+def change(rng, line):
+    """A record with something else in one place."""
+    table, kind, to, count, delta, rows, keep = line.split(b" ")
+    states = (len(table) + 1) // 7
+    last = int(count) * states
+    items = rows.split(b",")
+    way = rng.randrange(12)
+    if way < 6:
+        listed_ones = [k for k, it in enumerate(items) if it != b"-"]
+        k = rng.choice(listed_ones if way < 4 else range(len(items)))
+        items[k] = changed_row(rng, items[k], last)
+        rows = b",".join(items)
+    elif way < 8:
+        delta = b",".join(change_number(rng, delta.split(b","), int(count)))
+    elif way == 8:
+        members = sorted({*map(int, keep.split(b",")), rng.randrange(last + 1)})
+        if rng.randrange(2):
+            members.pop(rng.randrange(len(members)))
+        keep = b",".join(b"%d" % it for it in members)
+    elif way == 9:
+        place = 7 * rng.randrange(states) + 3 * rng.randrange(2)
+        entry = b"%d%c%c" % (rng.randrange(2), rng.choice(b"LR"), rng.choice(b"ABCDEFG"[:states]))
+        table = table[:place] + (b"---" if rng.randrange(4) == 0 else entry) + table[place + 3:]
+    elif way == 10:
+        to = b"L" if to == b"R" else b"R"
+    else:
+        text = bytearray(line)
+        text[rng.randrange(len(text))] = rng.choice(b"0123456789,.-+ALR ")
+        return bytes(text)
+    return b" ".join([table, kind, to, count, delta, rows, keep])
+
+
+def changes(lines, count):
+    rng = random.Random(61)
+    short = [line for line in lines if len(line) < 4_000] or lines
+    return [change(rng, rng.choice(short)) for _ in range(count)]
+
+
+def compare(path, command):
+    with open(path, "rb") as file:
+        lines = file.read().splitlines()
+    lines += changes(lines, CHANGES)
+    given = subprocess.run(command, input=b"\n".join(lines) + b"\n", capture_output=True).stdout.decode().splitlines()
+    if len(given) != len(lines):
+        print(f"listed: {len(given)} answers to {len(lines)} records")
+        return 1
+    told, wrong = {}, 0
+    for line, got in zip(lines, given):
+        expected = answer(line)
+        kind = expected if expected.startswith("refused") else "never"
+        told[kind] = told.get(kind, 0) + 1
+        if got != expected:
+            wrong += 1
+            print(f"listed: {got}, and not {expected}: {line.decode()}")
+    shown = ", ".join(f"{count} {kind}" for kind, count in sorted(told.items()))
+    print(f"listed: {len(lines)} records: {shown}; {wrong} answers differ")
+    return 1 if wrong else 0
+
+
+def main():
+    words = sys.argv[1:]
+    if words[:1] == ["judge"]:
+        for line in sys.stdin.buffer.read().splitlines():
+            print(answer(line))
+        return 0
+    if words[:1] == ["change"] and len(words) == 2:
+        for line in changes(sys.stdin.buffer.read().splitlines(), int(words[1])):
+            sys.stdout.buffer.write(line + b"\n")
+        return 0
+    if words[:1] == ["compare"] and len(words) > 1:
+        top = os.path.dirname(os.path.dirname(os.path.abspath(__file__)))
+        return compare(words[1], words[2:] or [os.path.join(top, "bb"), "check"])
+    sys.exit(__doc__)
+
+
+if __name__ == "__main__":
+    sys.exit(main())

@@ -4,7 +4,7 @@
 //! it. Here the first may be large, and the edges of the second are listed; a state that isn't listed has edges to all.
 //! law_turing's `Automata` says when a table never halts by them; `specs/` adds the automata as numbers and lists
 //! (`Automata`), the texts that give them (`Texts`), a claim by its texts (`Listed`, `OwnedListed`), how a record has them
-//! (`Fields`) and the limits (`Limits`). `specs/inside` is for the crate's own code.
+//! (`Fields`), what kind of claims they are (`Kind`) and the limits (`Limits`). `specs/inside` is for the crate's own code.
 #![tactic(auto)]
 
 mod fields;

@@ -161,21 +161,11 @@ fn digits_of(number: u16) -> usize
 }
 
 impl Evidence for Listed<'_> {
-    ghost use Rattle.machine_text.specs.Packed.{entry_of};
     ghost use Rattle.kind_evidence.specs.declared.verdicts.Verdict.TheVariants.{Never};
-    ghost use Rattle.kind_listed.specs.Automata.{described_by};
-    ghost use Rattle.kind_listed.specs.Fields.{AreWithinRecord};
-    ghost use Rattle.kind_listed.specs.Listed.{AreTextsOf, texts_of};
-    ghost use Rattle.law_turing.proofs.AutomataLaws.{automata_never};
-    ghost use Rattle.law_turing.proofs.TableLaws.{table_machine};
+    ghost use Rattle.kind_listed.specs.Kind.{listed_kind};
+    ghost use Rattle.kind_listed.specs.Listed.{texts_of};
 
-    ghost within = { λ e. AreWithinRecord (texts_of e) };
-
-    ghost stands = { λ e p. AreTextsOf (texts_of e) p };
-
-    ghost is_wide = { λ e p. ⊥ };
-
-    ghost takes_memory = { λ e. Unit };
+    ghost meaning = { λ e. listed_kind.meaning (texts_of e) };
 
     ghost shows = { λ e p. Never };
 
@@ -189,6 +179,5 @@ impl Evidence for Listed<'_> {
         }
     }
 
-    ghost law = { λ e p is_table stands.
-        automata_never p.states (entry_of p) stands.automata.side (described_by stands.automata) (table_machine p is_table) stands.fit.fits };
+    ghost law = { λ e. listed_kind.law (texts_of e) };
 }

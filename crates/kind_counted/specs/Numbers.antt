@@ -1,0 +1,21 @@
+-- Points as lists of numbers, none of them too large.
+use Rattle.std.specs.Prelude.{◌≡◌, ℕ, ◌≤◌, ℤ, pos, List, length, get_or}
+use Rattle.std.specs.Int.RustNames.{unsigned_abs}
+use Rattle.kind_counted.specs.Cosets.{Point}
+
+-- the most counts of both automata together
+abbrev pub count_limit : ℕ
+count_limit = 52
+
+-- no number is larger: 2 ^ 31
+abbrev pub number_limit : ℕ
+number_limit = 2147483648
+
+-- the point that a list of numbers is
+abbrev pub point_of : List ℤ → Point
+point_of numbers x = get_or numbers x (pos 0)
+
+-- there is a number for each count, and none is too large
+pub record AreSmall (numbers : List ℤ) : Type 0 where
+  pub count : length numbers ≡ count_limit
+  pub each : (x : ℕ) → unsigned_abs (point_of numbers x) ≤ number_limit

@@ -1,0 +1,35 @@
+// Why counted automata are refused.
+use std::alloc::{AllocError, AllocFailed};
+
+/// Why counted automata are refused.
+#[derive(Clone, Copy, Debug, PartialEq, Eq, Drop)]
+pub enum Refused {
+    /// They don't stand.
+    Fails,
+    /// A number gets too large.
+    TooLarge,
+    /// There is no memory.
+    NoMemory,
+}
+
+impl From<AllocError> for Refused {
+    ghost use Rattle.std.specs.Prelude.{◌≡◌};
+    ghost use Rattle.kind_counted.specs.declared.refused.Refused.TheVariants.{NoMemory};
+
+    ghost from_gives = { λ _ e. e ≡ NoMemory };
+
+    fn from(_: AllocError) -> Refused {
+        Refused::NoMemory
+    }
+}
+
+impl<T: Drop> From<AllocFailed<T>> for Refused {
+    ghost use Rattle.std.specs.Prelude.{◌≡◌};
+    ghost use Rattle.kind_counted.specs.declared.refused.Refused.TheVariants.{NoMemory};
+
+    ghost from_gives = { λ _ e. e ≡ NoMemory };
+
+    fn from(_: AllocFailed<T>) -> Refused {
+        Refused::NoMemory
+    }
+}

@@ -7,7 +7,8 @@ use Rattle.std.specs.Int.RustNames.{unsigned_abs}
 use Rattle.kind_counted.specs.Cosets.{Point, zeros, less, IsSum}
 use Rattle.kind_counted.specs.Numbers.{point_of}
 use Rattle.kind_counted.specs.declared.rows.Row.{Row}
-use Rattle.kind_counted.specs.inside.Rows.{IsCleared, points, pivots, AreRising, IsReduced}
+use Rattle.kind_counted.specs.Pivots.{points, pivots, AreRising}
+use Rattle.kind_counted.specs.inside.Rows.{IsCleared, IsReduced}
 use Rattle.kind_counted.proofs.Sums.{pivot_tells, pivot_taken}
 
 -- a row by its number, as a point and by its pivot

@@ -41,3 +41,16 @@ module _ (P : Option Transition → Type 0) (states : List Exits) where
 
   pub exits_at : (k : ℕ) (exits : Exits) (s : Sym) → k < length states → exits ≡ get_or states k exits → ((q : ℕ) (s : Sym) → P (delta_of states q s)) → P (exit_by s exits)
   exits_at k exits s below is are = subst (λ e. P (exit_by s e)) (sym (is ∙ get_or_default states k exits no_exits below)) (are k s)
+
+  -- the same of the exits in a place, whatever stands for none
+  pub exits_in : (k : ℕ) (d : Exits) (s : Sym) → k < length states → ((q : ℕ) (s : Sym) → P (delta_of states q s)) → P (exit_by s (get_or states k d))
+  exits_in k d s below are = exits_at k (get_or states k d) s below (get_or_default states k d (get_or states k d) below) are
+
+  pub exits_further : (k : ℕ) (d : Exits) → k < length states → EachExit P states k → P (get_or states k d).zero → P (get_or states k d).one → EachExit P states (k + 1)
+  exits_further k d below before zero one = exits_more k (get_or states k d) below (get_or_default states k d (get_or states k d) below) before zero one
+
+  -- the same behind a reference
+  pub exits_behind : (others : List Exits) → others ≡ states → (k : ℕ) (d : Exits) (s : Sym) → k < length others → ((q : ℕ) (s : Sym) → P (delta_of states q s)) →
+      P (exit_by s (get_or others k d))
+  exits_behind others same k d s below are =
+      subst (λ (l : List Exits). P (exit_by s (get_or l k d))) (sym same) (exits_in k d s (subst (λ (l : List Exits). k < length l) same below) are)

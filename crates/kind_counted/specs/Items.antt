@@ -2,7 +2,7 @@
 use Rattle.kind_counted.specs.Cosets.{Coset as CosetOf}
 use Rattle.kind_counted.specs.Counted.{Item as ItemOf}
 use Rattle.kind_counted.specs.Numbers.{point_of}
-use Rattle.kind_counted.specs.inside.Rows.{points}
+use Rattle.kind_counted.specs.Pivots.{points}
 use Rattle.kind_counted.specs.declared.item.Coset.{Coset}
 use Rattle.kind_counted.specs.declared.item.Item.{Item}
 

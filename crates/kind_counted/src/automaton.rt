@@ -1,5 +1,5 @@
 // Automata that read half tapes and count some of their transitions.
-ghost use Rattle.kind_counted.specs.inside.States.{AreStates};
+ghost use Rattle.kind_counted.specs.States.{AreStates};
 
 use crate::count::Count;
 use machine_text::Sym;
@@ -28,7 +28,7 @@ pub struct Automaton {
 impl Automaton {
     ghost use Rattle.std.specs.Prelude.{◌≡◌, ◌↔◌, IsTrue, IfSome, IfNone};
     ghost use Rattle.kind_counted.specs.Automata.{delta_of};
-    ghost use Rattle.kind_counted.specs.inside.States.{LeadsBelow};
+    ghost use Rattle.kind_counted.specs.States.{IsCount, LeadsBelow};
 
     /// An automaton by its states, unless there is none, or a transition leads to none.
     pub fn of(states: Vec<Exits>) -> Option<Automaton>
@@ -61,7 +61,8 @@ impl Automaton {
 
     /// The transition of a state by a symbol, if there is one.
     pub fn get(&self, state: usize, s: Sym) -> Option<Transition>
-        ensures { result ≡ delta_of self.now.states.items state s }
+        ensures transition { result ≡ delta_of self.now.states.items state s }
+        ensures count { IfSome result (λ t. IsCount t.count) }
     {
         if state >= self.states.len() {
             return None;
@@ -72,12 +73,12 @@ impl Automaton {
         }
     }
 
-    // Whether a transition, if there is one, leads to one of so many states.
+    // Whether a transition, if there is one, leads to one of so many states, and its count is one.
     fn leads_below(exit: Option<Transition>, states: usize) -> bool
         ensures { IsTrue result ↔ LeadsBelow exit states }
     {
         match exit {
-            Some(t) => t.to < states,
+            Some(t) => t.to < states && Count::is_count(t.count),
             None => true,
         }
     }

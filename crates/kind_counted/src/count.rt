@@ -1,27 +1,23 @@
 // The counts of counted automata.
-ghost use Rattle.std.specs.Prelude.{◌≡◌, ◌<◌};
-ghost use Rattle.kind_counted.specs.Numbers.{count_limit};
-
 use crate::numbers::MAX_COUNTS;
 
-/// A count, by its number.
+/// A count, by its number: below `MAX_COUNTS`.
 #[derive(Clone, Copy, Debug, PartialEq, Eq)]
 pub struct Count {
     pub number: usize,
-    ghost limit: { number < count_limit },
 }
 
 impl Count {
-    ghost use Rattle.std.specs.Prelude.{◌≡◌, IfSome, IfNone};
+    ghost use Rattle.std.specs.Prelude.{◌↔◌, IsTrue, Option};
+    ghost use Rattle.kind_counted.specs.States.{IsCount};
 
-    /// A count by its number, unless that is too large.
-    pub fn of(number: usize) -> Option<Count>
-        ensures some { IfSome result (λ c. c.number ≡ number) }
-        ensures none { IfNone result (number < count_limit → ⊥) }
+    // Whether a count, if there is one, is one that there may be.
+    pub(crate) fn is_count(count: Option<Count>) -> bool
+        ensures { IsTrue result ↔ IsCount count }
     {
-        if number >= MAX_COUNTS {
-            return None;
+        match count {
+            Some(count) => count.number < MAX_COUNTS,
+            None => true,
         }
-        Some(Count { number })
     }
 }

@@ -1,5 +1,5 @@
 // The coset of what stands around the head.
-ghost use Rattle.kind_counted.specs.inside.Rows.{AreRising};
+ghost use Rattle.kind_counted.specs.Pivots.{AreRising};
 
 use crate::local::{Local, is_same};
 use crate::numbers::Counts;

@@ -8,6 +8,7 @@ ghost use Rattle.kind_counted.specs.Counted.{delta, HasCoset, Remains, Settled, 
 ghost use Rattle.kind_counted.specs.Numbers.{count_limit};
 ghost use Rattle.kind_counted.specs.Automata.{delta_of};
 ghost use Rattle.kind_counted.specs.Items.{coset_of};
+ghost use Rattle.kind_counted.specs.States.{IsCount};
 ghost use Rattle.kind_counted.specs.Certificate.{counted_of};
 ghost use Rattle.kind_counted.specs.inside.Used.{IsUsedTable};
 ghost use Rattle.kind_counted.specs.inside.Points.{coset_by};
@@ -174,6 +175,7 @@ impl CountedAutomata {
         by: Option<Transition>,
     ) -> Result<(), Refused>
         requires used { IsUsedTable (delta (counted_of self.now) entry.dir) used.now.sets.items }
+        requires count { IfSome by (λ t. IsCount t.count) }
         requires by { by ≡ delta (counted_of self.now) (opposite entry.dir) (state_on (opposite entry.dir) item.now.at) entry.write }
         ensures steps { IfOk result (λ _. StepsTo (counted_of self.now) item.now.at (coset_of item.now.coset) entry.write entry.next entry.dir) }
         ensures fails { result ≡ Err Refused.Fails → StepsTo (counted_of self.now) item.now.at (coset_of item.now.coset) entry.write entry.next entry.dir → ⊥ }
@@ -195,7 +197,8 @@ impl CountedAutomata {
 
     // Whether it settles whichever symbol had been read last.
     fn check_side(&self, alloc: Global, used: &Used, item: &Item, step: Step) -> Result<(), Refused>
-        requires { IsUsedTable (delta (counted_of self.now) step.side) used.now.sets.items }
+        requires used { IsUsedTable (delta (counted_of self.now) step.side) used.now.sets.items }
+        requires by { IsCount step.by.count }
         ensures settles { IfOk result (λ _. Settles (counted_of self.now) item.now.at (coset_of item.now.coset) step.side step.by step.next) }
         ensures fails { result ≡ Err Refused.Fails → Settles (counted_of self.now) item.now.at (coset_of item.now.coset) step.side step.by step.next → ⊥ }
     {
@@ -216,7 +219,8 @@ impl CountedAutomata {
         q: usize,
         b: Sym,
     ) -> Result<(), Refused>
-        requires { IsUsedTable (delta (counted_of self.now) step.side) used.now.sets.items }
+        requires used { IsUsedTable (delta (counted_of self.now) step.side) used.now.sets.items }
+        requires by { IsCount step.by.count }
         ensures settles { IfOk result (λ _. SettlesFrom (counted_of self.now) item.now.at (coset_of item.now.coset) step.side step.by step.next q b) }
         ensures fails { result ≡ Err Refused.Fails →
             SettlesFrom (counted_of self.now) item.now.at (coset_of item.now.coset) step.side step.by step.next q b → ⊥ }
@@ -243,7 +247,9 @@ impl CountedAutomata {
         b: Sym,
         last: Transition,
     ) -> Result<(), Refused>
-        requires { IsUsedTable (delta (counted_of self.now) step.side) used.now.sets.items }
+        requires used { IsUsedTable (delta (counted_of self.now) step.side) used.now.sets.items }
+        requires by { IsCount step.by.count }
+        requires last { IsCount last.count }
         ensures settled { IfOk result (λ _. Settled (Remains (counted_of self.now) (coset_of item.now.coset) step.side step.by last q)
             (HasCoset (counted_of self.now) (moved_to step.side step.by.to step.next b q))) }
         ensures fails { result ≡ Err Refused.Fails → Settled (Remains (counted_of self.now) (coset_of item.now.coset) step.side step.by last q)

@@ -23,6 +23,7 @@ pub struct Counts {
 impl Counts {
     ghost use Rattle.std.specs.Prelude.{◌+ℤ◌, set};
     ghost use Rattle.kind_counted.specs.Counted.{once};
+    ghost use Rattle.kind_counted.specs.States.{IsCount};
     ghost use Rattle.kind_counted.specs.inside.Rows.{IsCleared};
     ghost use Rattle.kind_counted.specs.inside.Spans.{IsLessened};
 
@@ -39,8 +40,8 @@ impl Counts {
         Some(Counts { numbers })
     }
 
-    /// These numbers less so many times others; none where a number gets too large.
-    pub fn less(&self, f: i64, row: &Counts) -> Option<Counts>
+    // These numbers less so many times others; none where a number gets too large.
+    pub(crate) fn less(&self, f: i64, row: &Counts) -> Option<Counts>
         requires { unsigned_abs f ≤ number_limit }
         ensures { IfSome result (λ v. point_of v.numbers ≡ less (point_of self.now.numbers) f (point_of row.now.numbers)) }
     {
@@ -51,8 +52,8 @@ impl Counts {
         Some(Counts { numbers })
     }
 
-    /// What is left once a row is taken off so often that a place is 0.
-    pub fn cleared(&self, row: &Counts, place: usize) -> Result<Counts, Refused>
+    // What is left once a row is taken off so often that a place is 0.
+    pub(crate) fn cleared(&self, row: &Counts, place: usize) -> Result<Counts, Refused>
         requires place { place < count_limit }
         requires some { 0 < unsigned_abs (point_of row.now.numbers place) }
         ensures cleared { IfOk result (λ v. IsCleared (point_of self.now.numbers) (point_of row.now.numbers) place (point_of v.numbers)) }
@@ -68,8 +69,8 @@ impl Counts {
         }
     }
 
-    /// What is left once a row is taken off so often that a place is smaller than the row's.
-    pub fn lessened(&self, row: &Counts, place: usize) -> Result<Counts, Refused>
+    // What is left once a row is taken off so often that a place is smaller than the row's.
+    pub(crate) fn lessened(&self, row: &Counts, place: usize) -> Result<Counts, Refused>
         requires place { place < count_limit }
         requires some { 0 < unsigned_abs (point_of row.now.numbers place) }
         ensures lessened { IfOk result (λ v. IsLessened (point_of self.now.numbers) (point_of row.now.numbers) place (point_of v.numbers)) }
@@ -81,8 +82,8 @@ impl Counts {
         }
     }
 
-    /// These numbers less others.
-    pub fn minus(&self, other: &Counts) -> Result<Counts, Refused>
+    // These numbers less others.
+    pub(crate) fn minus(&self, other: &Counts) -> Result<Counts, Refused>
         ensures minus { IfOk result (λ v. (x : ℕ) → point_of v.numbers x ≡ point_of self.now.numbers x -ℤ point_of other.now.numbers x) }
         ensures large { result ≡ Err Refused.Fails → ⊥ }
     {
@@ -92,8 +93,9 @@ impl Counts {
         }
     }
 
-    /// These numbers with one more in a count.
-    pub fn one_more(&self, count: Option<Count>) -> Result<Counts, Refused>
+    // These numbers with one more in a count.
+    pub(crate) fn one_more(&self, count: Option<Count>) -> Result<Counts, Refused>
+        requires { IsCount count }
         ensures more { IfOk result (λ v. (x : ℕ) → point_of v.numbers x ≡ point_of self.now.numbers x +ℤ pos (once count x)) }
         ensures large { result ≡ Err Refused.Fails → ⊥ }
     {
@@ -103,8 +105,9 @@ impl Counts {
         }
     }
 
-    /// These numbers with one less in a count.
-    pub fn one_less(&self, count: Option<Count>) -> Result<Counts, Refused>
+    // These numbers with one less in a count.
+    pub(crate) fn one_less(&self, count: Option<Count>) -> Result<Counts, Refused>
+        requires { IsCount count }
         ensures less { IfOk result (λ v. (x : ℕ) → point_of v.numbers x ≡ point_of self.now.numbers x -ℤ pos (once count x)) }
         ensures large { result ≡ Err Refused.Fails → ⊥ }
     {
@@ -128,8 +131,8 @@ impl Counts {
         Ok(Counts { numbers })
     }
 
-    /// Whether each number is 0.
-    pub fn is_zero(&self) -> bool
+    // Whether each number is 0.
+    pub(crate) fn is_zero(&self) -> bool
         ensures { IsTrue result ↔ ((x : ℕ) → point_of self.now.numbers x ≡ pos 0) }
     {
         for x in 0..MAX_COUNTS {

@@ -3,8 +3,9 @@ ghost use Rattle.std.specs.Prelude.{◌≡◌, ◌↔◌, ◌+◌, ◌<◌, ◌�
 ghost use Rattle.std.specs.Int.RustNames.{unsigned_abs};
 ghost use Rattle.kind_counted.specs.Cosets.{Point, IsMember};
 ghost use Rattle.kind_counted.specs.Items.{coset_of};
+ghost use Rattle.kind_counted.specs.States.{IsCount};
 ghost use Rattle.kind_counted.specs.Numbers.{point_of, count_limit};
-ghost use Rattle.kind_counted.specs.inside.Rows.{points};
+ghost use Rattle.kind_counted.specs.Pivots.{points};
 ghost use Rattle.kind_counted.specs.inside.Spans.{listed, IsSplit};
 ghost use Rattle.kind_counted.specs.inside.Points.{coset_by, AreMoved, AreKept, AreKeptIn, IsZeroIn, AreZeroAt, IsNegativeAt, IsNegative, AreSumsOf, IsWithin};
 ghost use Rattle.kind_counted.specs.declared.numbers.Counts.{Counts};
@@ -33,6 +34,8 @@ impl Points {
         more: Option<Count>,
         fewer: Option<Count>,
     ) -> Result<Points, Refused>
+        requires more { IsCount more }
+        requires fewer { IsCount fewer }
         ensures moved { IfOk result (λ p. AreMoved (coset_of k.now) more fewer (coset_by p.base p.rows.items)) }
         ensures large { result ≡ Err Refused.Fails → ⊥ }
     {

@@ -19,7 +19,7 @@ impl Row {
     ghost use Rattle.std.specs.Prelude.{IfOk, IfSome, IfNone};
     ghost use Rattle.kind_counted.specs.declared.rows.Row.{Row};
     ghost use Rattle.kind_counted.specs.Cosets.{IsSum};
-    ghost use Rattle.kind_counted.specs.inside.Rows.{points, AreRising};
+    ghost use Rattle.kind_counted.specs.Pivots.{points, AreRising};
 
     /// A row of numbers, if the first that isn't 0 is positive.
     pub fn of(counts: Counts) -> Option<Row>

@@ -3,7 +3,7 @@ ghost use Rattle.std.specs.Prelude.{◌≡◌, ◌+◌, ◌*◌, ◌<◌, ◌≤
 ghost use Rattle.machine_text.specs.declared.transition.Sym.{Sym};
 ghost use Rattle.kind_counted.specs.Counted.{Delta};
 ghost use Rattle.kind_counted.specs.Automata.{delta_of, exit_by, no_exits};
-ghost use Rattle.kind_counted.specs.inside.States.{LeadsBelow};
+ghost use Rattle.kind_counted.specs.States.{IsCount, LeadsBelow};
 ghost use Rattle.kind_counted.specs.inside.Used.{has, Includes, IncludedBy, AreUsed, IsUsedTable, IsWitnessed, AreWitnessed, IsStart, AreStart, IsIn, reached, total, set_limit};
 
 use crate::automaton::{Automaton, Transition};
@@ -122,6 +122,7 @@ fn put(sets: &mut [Set], from: Set, exit: Option<Transition>) -> bool
 fn put_at(sets: &mut [Set], from: Set, t: Transition) -> bool
     requires reached { IsTrue (has from reached) }
     requires target { t.to < length sets.old }
+    requires count { IsCount t.count }
     ensures more { IsTrue result → total sets.old < total sets.new }
     ensures same { result ≡ false → sets.new ≡ sets.old }
     ensures included { result ≡ false → Includes from t.count (slice_index sets.old t.to) }
@@ -139,6 +140,7 @@ fn put_at(sets: &mut [Set], from: Set, t: Transition) -> bool
 
 // A set with a count.
 fn with_count(set: Set, count: Option<Count>) -> Set
+    requires { IsCount count }
     ensures only { (k : ℕ) → IsTrue (has result k) → IsIn set count k }
     ensures all { (k : ℕ) → IsIn set count k → IsTrue (has result k) }
 {

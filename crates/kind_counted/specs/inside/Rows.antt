@@ -1,7 +1,7 @@
 -- Rows in echelon form, and numbers from which they are taken off.
-use Rattle.std.specs.Prelude.{◌≡◌, ℕ, ◌<◌, ℤ, ◌*ℤ◌, List, length, map, drop, slice_index}
+use Rattle.std.specs.Prelude.{◌≡◌, ℕ, ℤ, ◌*ℤ◌, List, drop}
 use Rattle.kind_counted.specs.Cosets.{Point, less, IsSum}
-use Rattle.kind_counted.specs.Numbers.{point_of}
+use Rattle.kind_counted.specs.Pivots.{points}
 use Rattle.kind_counted.specs.declared.rows.Row.{Row}
 
 -- a row was taken off some number of times, so often that a place is 0
@@ -9,16 +9,6 @@ pub record IsCleared (v row : Point) (place : ℕ) (rest : Point) : Type 0 where
   pub times : ℤ
   pub here : v place ≡ times *ℤ row place
   pub is : rest ≡ less v times row
-
-abbrev pub points : List Row → List Point
-points rows = map (λ row. point_of row.counts.numbers) rows
-
-abbrev pub pivots : List Row → List ℕ
-pivots rows = map (λ row. row.pivot) rows
-
--- each row's pivot stands further right than those before
-pub record AreRising (rows : List Row) : Type 0 where
-  pub each : (j k : ℕ) → j < k → k < length rows → slice_index (pivots rows) j < slice_index (pivots rows) k
 
 -- so many rows are taken off: what is left is a sum of the others just where the whole was one of all
 pub record IsReduced (rows : List Row) (v : Point) (reach : ℕ) (rest : Point) : Type 0 where

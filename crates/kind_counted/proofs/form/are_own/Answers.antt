@@ -1,31 +1,26 @@
-use Rattle.std.proofs.Common.{◌≡◌, ◌<◌, List, length, get_or, refl, ap, subst, arith}
+use Rattle.std.proofs.Common.{◌≡◌, length, refl, ap, subst, arith}
 use Rattle.std.proofs.lemmas.Option.{none-some}
 use Rattle.machine_text.specs.declared.transition.Sym.TheVariants.{Zero, One}
-use Rattle.kind_counted.specs.declared.automaton.Exits.{Exits}
 use Rattle.kind_counted.specs.inside.Judging.{IsOwn}
-use Rattle.kind_counted.proofs.FormLaws.{EachExit, exits_all, exits_at}
+use Rattle.kind_counted.proofs.FormLaws.{EachExit, exits_all, exits_behind}
 use Rattle.kind_counted.proofs.form.are_own.Goals as goal
 
 pub returns-then-not-is_own : goal.returns-then-not-is_own
 returns-then-not-is_own c =
     let states = c.args.a.now.states.items in
     let i = c.loop-exits.exits-index in
-    let exits = c.exits-item.result in
     let value = c.deref-exits-items.ensures.value in (
       λ e. absurd (cc),
-      λ are. c.if-not-is_own.ensures.1 (exits_at (λ o. IsOwn o c.args.low c.args.high) states i exits Zero (subst (λ (l : List Exits). i < length l) value c.loop-exits-test.true)
-          (subst (λ (l : List Exits). exits ≡ get_or l i exits) value c.exits-item.is) are.each),
+      λ are. c.if-not-is_own.ensures.1 (exits_behind (λ o. IsOwn o c.args.low c.args.high) states _ value i _ Zero c.loop-exits-test.true are.each),
     )
 
 pub returns-then-not-is_own-2 : goal.returns-then-not-is_own-2
 returns-then-not-is_own-2 c =
     let states = c.args.a.now.states.items in
     let i = c.loop-exits.exits-index in
-    let exits = c.exits-item.result in
     let value = c.deref-exits-items.ensures.value in (
       λ e. absurd (cc),
-      λ are. c.if-not-is_own-2.ensures.1 (exits_at (λ o. IsOwn o c.args.low c.args.high) states i exits One (subst (λ (l : List Exits). i < length l) value c.loop-exits-test.true)
-          (subst (λ (l : List Exits). exits ≡ get_or l i exits) value c.exits-item.is) are.each),
+      λ are. c.if-not-is_own-2.ensures.1 (exits_behind (λ o. IsOwn o c.args.low c.args.high) states _ value i _ One c.loop-exits-test.true are.each),
     )
 
 pub returns : goal.returns

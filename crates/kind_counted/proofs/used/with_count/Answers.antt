@@ -9,10 +9,9 @@ use Rattle.kind_counted.proofs.Bits.{bit_of, member_of, has_left}
 use Rattle.kind_counted.proofs.used.with_count.Goals as goal
 
 -- a set with a count has both
-with_both : (set : ℕ) (y : Count) (o : Option Count) (k : ℕ) → o ≡ Some y → IsIn set o k → IsTrue (has (bit_or set (1 * 2 ^ y.number % 18446744073709551616)) k)
-with_both set y o k is (inl before) = has_left set (1 * 2 ^ y.number % 18446744073709551616) k before
-with_both set y o k is (inr (x, own, number)) =
-    let limit : y.number < 52 = y.limit in
+with_both : (set : ℕ) (y : Count) (o : Option Count) (k : ℕ) → y.number < 52 → o ≡ Some y → IsIn set o k → IsTrue (has (bit_or set (1 * 2 ^ y.number % 18446744073709551616)) k)
+with_both set y o k limit is (inl before) = has_left set (1 * 2 ^ y.number % 18446744073709551616) k before
+with_both set y o k limit is (inr (x, own, number)) =
     let same : y.number ≡ k = ap (λ (z : Count). z.number) (same_Some y x (sym is ∙ own)) ∙ number in
     subst (λ n. IsTrue (has (bit_or set (1 * 2 ^ y.number % 18446744073709551616)) n)) same
     (member_of (bit_or set (1 * 2 ^ y.number % 18446744073709551616)) y.number (bit_at_set_same w64 set y.number (omega arith)))
@@ -21,7 +20,7 @@ pub returns-in-Some : goal.returns-in-Some
 returns-in-Some c = record {
   only = λ k is. elim (cases_eq k c.in-Some.count.number) [
     | inl same ↦ inr (c.in-Some.count, c.in-Some.is, sym same)
-    | inr other ↦ inl (member_of c.args.set k (let limit : c.in-Some.count.number < 52 = c.in-Some.count.limit in sym (bit_at_set_other w64 c.args.set c.in-Some.count.number (omega arith) k other) ∙ bit_of _ k is))
+    | inr other ↦ inl (member_of c.args.set k (let limit : c.in-Some.count.number < 52 = c.requires.each c.in-Some.count c.in-Some.is in sym (bit_at_set_other w64 c.args.set c.in-Some.count.number (omega arith) k other) ∙ bit_of _ k is))
   ];
-  all = λ k. with_both c.args.set c.in-Some.count c.args.count k c.in-Some.is;
+  all = λ k. with_both c.args.set c.in-Some.count c.args.count k (c.requires.each c.in-Some.count c.in-Some.is) c.in-Some.is;
 }

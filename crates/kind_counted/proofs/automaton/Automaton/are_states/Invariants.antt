@@ -1,5 +1,5 @@
 use Rattle.std.proofs.Common.{length}
-use Rattle.kind_counted.specs.inside.States.{LeadsBelow}
+use Rattle.kind_counted.specs.States.{LeadsBelow}
 use Rattle.kind_counted.proofs.FormLaws.{EachExit}
 use Rattle.kind_counted.proofs.automaton.Automaton.are_states.Given as goal
 

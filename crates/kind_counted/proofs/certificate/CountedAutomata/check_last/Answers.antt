@@ -20,7 +20,7 @@ returns-in-Ok-clause-settled c =
     let b : Coset = coset_by c.in-Ok.points.base c.in-Ok.points.rows.items in
     ok_then c.check_left.result (λ _. Settled (IsMember b) (HasCoset w c.moved_to.result)) (λ _. Settled (Remains w k step.side step.by c.args.last c.args.q) (HasCoset w next))
     (λ _ settled. settled_fewer (Remains w k step.side step.by c.args.last c.args.q) (IsMember b) (HasCoset w next)
-    (left_member w k step.side step.by c.args.last c.args.q c.args.used.now.sets.items c.requires a c.in_ok-points.ensures.moved
+    (left_member w k step.side step.by c.args.last c.args.q c.args.used.now.sets.items c.requires.used a c.in_ok-points.ensures.moved
     c.first_of.result c.end_of.result c.first_of.ensures.first c.end_of.ensures.end b c.in-Ok.ensures.kept)
     (subst (λ n. Settled (IsMember b) (HasCoset w n)) c.moved_to.ensures settled))
     c.check_left.ensures.settled
@@ -36,7 +36,7 @@ returns-in-Ok-clause-fails c = λ e settled.
     c.check_left.ensures.fails e
     (subst (λ n. Settled (IsMember b) (HasCoset w n)) (sym c.moved_to.ensures)
     (settled_fewer (IsMember b) (Remains w k step.side step.by c.args.last c.args.q) (HasCoset w next)
-    (member_left w k step.side step.by c.args.last c.args.q c.args.used.now.sets.items c.requires a c.in_ok-points.ensures.moved
+    (member_left w k step.side step.by c.args.last c.args.q c.args.used.now.sets.items c.requires.used a c.in_ok-points.ensures.moved
     c.first_of.result c.end_of.result c.first_of.ensures.first c.end_of.ensures.end c.in-Ok.points.base c.in-Ok.points.rows.items c.in-Ok.ensures.kept) settled))
 
 pub returns-in-Err-Fails-clause-settled : goal.returns-in-Err-Fails-clause-settled
@@ -45,5 +45,5 @@ returns-in-Err-Fails-clause-settled c =
     let k : Coset = coset_of c.args.item.now.coset in
     let step = c.args.step in
     let a : Coset = coset_by c.in_ok-points.points.base c.in_ok-points.points.rows.items in
-    None_remains (none_left w k step.side step.by c.args.last c.args.q c.args.used.now.sets.items c.requires a c.in_ok-points.ensures.moved
+    None_remains (none_left w k step.side step.by c.args.last c.args.q c.args.used.now.sets.items c.requires.used a c.in_ok-points.ensures.moved
     c.first_of.result c.end_of.result c.first_of.ensures.first c.end_of.ensures.end (c.in-Err-Fails.ensures.none (cc)))

@@ -4,7 +4,7 @@ use Rattle.kind_counted.specs.declared.numbers.Counts.{Counts}
 use Rattle.kind_counted.specs.declared.rows.Row.{Row}
 use Rattle.kind_counted.specs.Cosets.{IsSum}
 use Rattle.kind_counted.specs.Numbers.{point_of}
-use Rattle.kind_counted.specs.inside.Rows.{points}
+use Rattle.kind_counted.specs.Pivots.{points}
 use Rattle.kind_counted.proofs.LeftLaws.{sums_first, sums_more, not_sums}
 use Rattle.kind_counted.proofs.points.Points.check_rows.Goals as goal
 

@@ -1,5 +1,5 @@
 use Rattle.std.proofs.Common.{take}
-use Rattle.kind_counted.specs.inside.Rows.{points}
+use Rattle.kind_counted.specs.Pivots.{points}
 use Rattle.kind_counted.specs.inside.Spans.{listed}
 use Rattle.kind_counted.specs.inside.Points.{AreSumsOf}
 use Rattle.kind_counted.proofs.points.Points.check_rows.Given as goal

@@ -4,7 +4,7 @@ use Rattle.kind_counted.specs.declared.rows.Row.{Row}
 use Rattle.kind_counted.specs.Cosets.{Coset, IsSum}
 use Rattle.kind_counted.specs.Items.{coset_of}
 use Rattle.kind_counted.specs.Numbers.{point_of}
-use Rattle.kind_counted.specs.inside.Rows.{points}
+use Rattle.kind_counted.specs.Pivots.{points}
 use Rattle.kind_counted.specs.inside.Points.{coset_by, AreSumsOf, IsWithin}
 use Rattle.kind_counted.proofs.Sums.{sum_same}
 use Rattle.kind_counted.proofs.LeftLaws.{ok_then, within_from, within_base, within_rows}

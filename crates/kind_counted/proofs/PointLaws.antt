@@ -2,11 +2,11 @@
 use Rattle.std.proofs.Common.{◌≡◌, ℕ, zero, suc, ◌+◌, ◌<◌, ◌≤◌, ℤ, pos, negsuc, ◌-ℤ◌, ◌*ℤ◌, List, length, set, inl, inr, sym, ◌∙◌, ap, subst, refl, FitsSigned, w64, of_z, to_z, arith}
 use Rattle.std.proofs.lemmas.Int.{ints, to_z-of_z, fits_signed_from_abs}
 use Rattle.std.proofs.lemmas.Bool.{cases_lt, cases_eq}
-use Rattle.std.proofs.lemmas.List.{get_or_past, length-set, get_or-set_other, get_or-set_same}
+use Rattle.std.proofs.lemmas.List.{get_or_past, length-set, get_or-set_other, get_or-set_same, get_or-replicate, length-replicate}
 use Rattle.std.proofs.Math.IntN.{*ℤ-zero}
 use Rattle.std.specs.Int.RustNames.{unsigned_abs}
 use Rattle.kind_counted.specs.Cosets.{less}
-use Rattle.kind_counted.specs.Numbers.{number_limit, point_of, AreSmall}
+use Rattle.kind_counted.specs.Numbers.{number_limit, no_numbers, point_of, AreSmall}
 
 -- past the end a point is 0
 pub past_end : (xs : List ℤ) (x : ℕ) → AreSmall xs → 52 ≤ x → point_of xs x ≡ pos 0
@@ -65,4 +65,17 @@ less_all v f row u small_v small_row are = λ i x. each x i
           let none : f *ℤ point_of row x ≡ pos 0 = ap (λ n. f *ℤ n) (past_end row x small_row past) ∙ *ℤ-zero f in
           let zero_v : point_of v x ≡ pos 0 = past_end v x small_v past in
           past_end u x are.small past ∙ (let e : pos 0 ≡ point_of v x -ℤ (f *ℤ point_of row x) = omega (arith, ints) in e)
+    ]
+
+-- zeros are small
+pub no_numbers_small : AreSmall no_numbers
+no_numbers_small = record {
+  count = length-replicate 52 (pos 0);
+  each = λ x. subst (λ n. unsigned_abs n ≤ number_limit) (sym (none x)) (omega arith);
+}
+  where
+    none : (x : ℕ) → point_of no_numbers x ≡ pos 0
+    none x = elim (cases_lt x 52) [
+      | inl below ↦ get_or-replicate 52 x (pos 0) (pos 0) below
+      | inr past ↦ get_or_past no_numbers x (pos 0) (let size : length no_numbers ≡ 52 = length-replicate 52 (pos 0) in omega arith)
     ]

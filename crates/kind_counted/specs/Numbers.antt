@@ -1,5 +1,5 @@
 -- Points as lists of numbers, none of them too large.
-use Rattle.std.specs.Prelude.{◌≡◌, ℕ, ◌≤◌, ℤ, pos, List, length, get_or}
+use Rattle.std.specs.Prelude.{◌≡◌, ℕ, ◌≤◌, ℤ, pos, List, length, get_or, replicate}
 use Rattle.std.specs.Int.RustNames.{unsigned_abs}
 use Rattle.kind_counted.specs.Cosets.{Point}
 
@@ -19,3 +19,7 @@ point_of numbers x = get_or numbers x (pos 0)
 pub record AreSmall (numbers : List ℤ) : Type 0 where
   pub count : length numbers ≡ count_limit
   pub each : (x : ℕ) → unsigned_abs (point_of numbers x) ≤ number_limit
+
+-- 0 for each count
+abbrev pub no_numbers : List ℤ
+no_numbers = replicate count_limit (pos 0)

@@ -2,7 +2,7 @@
 ghost use Rattle.std.specs.Prelude.{◌≡◌, ◌↔◌, ℕ, ◌<◌, ◌≤◌, ℤ, pos, ◌-ℤ◌, ◌*ℤ◌, IsTrue, IfSome, IfNone, IfOk};
 ghost use Rattle.std.specs.Int.RustNames.{unsigned_abs};
 ghost use Rattle.kind_counted.specs.Cosets.{less};
-ghost use Rattle.kind_counted.specs.Numbers.{AreSmall, point_of, number_limit, count_limit};
+ghost use Rattle.kind_counted.specs.Numbers.{AreSmall, no_numbers, point_of, number_limit, count_limit};
 
 use crate::count::Count;
 use crate::refused::Refused;
@@ -38,6 +38,15 @@ impl Counts {
             }
         }
         Some(Counts { numbers })
+    }
+
+    // 0 for each count.
+    pub(crate) fn zeros() -> Counts
+        ensures { result.numbers ≡ no_numbers }
+    {
+        Counts {
+            numbers: [0; MAX_COUNTS],
+        }
     }
 
     // These numbers less so many times others; none where a number gets too large.

@@ -16,7 +16,8 @@ pub struct Row {
 }
 
 impl Row {
-    ghost use Rattle.std.specs.Prelude.{IfOk, IfSome, IfNone};
+    ghost use Rattle.std.specs.Prelude.{IfOk, IfSome, IfNone, IsTrue, false};
+    ghost use Rattle.kind_counted.specs.Texts.{pivot_of, leads};
     ghost use Rattle.kind_counted.specs.declared.rows.Row.{Row};
     ghost use Rattle.kind_counted.specs.Cosets.{IsSum};
     ghost use Rattle.kind_counted.specs.Pivots.{points, AreRising};
@@ -24,7 +25,9 @@ impl Row {
     /// A row of numbers, if the first that isn't 0 is positive.
     pub fn of(counts: Counts) -> Option<Row>
         ensures some { IfSome result (λ row. row.counts ≡ counts) }
-        ensures none { IfNone result ((row : Row) → row.counts ≡ counts → ⊥) }
+        ensures place { IfSome result (λ row. row.pivot ≡ pivot_of counts.numbers) }
+        ensures positive { IfSome result (λ row. IsTrue (leads row.pivot counts.numbers)) }
+        ensures none { IfNone result (leads 0 counts.numbers ≡ false) }
     {
         for x in 0..MAX_COUNTS {
             if counts.numbers[x] < 0 {

@@ -1,5 +1,5 @@
 -- The transitions that are read from the text of an automaton.
-use Rattle.std.proofs.Common.{◌≡◌, ℕ, zero, suc, ◌+◌, ◌*◌, ◌/◌, ◌<◌, ◌≤◌, Bool, true, false, List, [], ◌∷◌, length, get_or, Option, Some, None, sym, ◌∙◌, ap, subst, refl, arith, if◌then◌else◌}
+use Rattle.std.proofs.Common.{◌≡◌, ℕ, zero, suc, ◌*◌, ◌/◌, ◌<◌, ◌≤◌, true, false, List, [], ◌∷◌, length, Option, Some, None, sym, subst, refl, arith, if◌then◌else◌}
 use Rattle.std.specs.Prelude.{option_map, nat_lt, nat_le}
 use Rattle.std.specs.Option.{option_and_then}
 use Rattle.std.specs.Str.{bytes_eq}
@@ -15,7 +15,7 @@ use Rattle.kind_counted.specs.declared.automaton.Transition.{Transition}
 use Rattle.kind_counted.specs.Numbers.{count_limit}
 use Rattle.kind_counted.specs.Automata.{exit_by, no_exits, delta_of}
 use Rattle.kind_counted.specs.States.{IsCount, LeadsBelow, AreStates}
-use Rattle.kind_counted.specs.Texts.{ranged, ranged_number, ranged_count, is_letter, letter_count, last_of, front_of, exit_from, pair_from, exits_from, half_states, begins_blank, automaton_from}
+use Rattle.kind_counted.specs.Texts.{ranged, ranged_number, ranged_count, is_letter, letter_count, last_of, front_of, exit_from, pair_from, exits_from, half_states, begins_blank}
 
 -- what an option that was changed comes from
 pub from_map : {A B : Type 0} (f : A → B) (o : Option A) (y : B) → option_map f o ≡ Some y → (x : A) × (o ≡ Some x) × (f x ≡ y)
@@ -65,23 +65,23 @@ module _ (states low limit : ℕ) (few : limit ≤ count_limit) where
   unfolding exit_from
   exit_below text o =
       elim (bytes_eq text (45 ∷ [])) as (λ b. (if b then Some None
-          else if is_letter (last_of text) then
-            option_and_then (λ to. option_map (λ x. Some (record { to = to; count = Some (record { number = x }) })) (ranged_count low limit (last_of text)))
-            (ranged_number 0 states (front_of text))
-          else option_map (λ to. Some (record { to = to; count = None })) (ranged_number 0 states text)) ≡ Some o → LeadsBelow o states) [
+      else if is_letter (last_of text) then
+      option_and_then (λ to. option_map (λ x. Some (record { to = to; count = Some (record { number = x }) })) (ranged_count low limit (last_of text)))
+      (ranged_number 0 states (front_of text))
+      else option_map (λ to. Some (record { to = to; count = None })) (ranged_number 0 states text)) ≡ Some o → LeadsBelow o states) [
         | true ↦ λ is. subst (λ o. LeadsBelow o states) (same_Some None o is) none_below
         | false ↦ elim (is_letter (last_of text)) as (λ b. (if b then
             option_and_then (λ to. option_map (λ x. Some (record { to = to; count = Some (record { number = x }) })) (ranged_count low limit (last_of text)))
             (ranged_number 0 states (front_of text))
-          else option_map (λ to. Some (record { to = to; count = None })) (ranged_number 0 states text)) ≡ Some o → LeadsBelow o states) [
-          | true ↦ λ is. option_and_then_some (λ to. option_map (λ x. Some (record { to = to; count = Some (record { number = x }) })) (ranged_count low limit (last_of text)))
-              (ranged_number 0 states (front_of text)) o is (λ to read by.
-              let (x, count, same) = from_map (λ x. Some (record { to = to; count = Some (record { number = x }) })) (ranged_count low limit (last_of text)) o by in
-              subst (λ o. LeadsBelow o states) same (counted_below to x (number_below 0 states (front_of text) to read) (count_below low limit (last_of text) x count)))
-          | false ↦ λ is.
-              let (to, read, same) = from_map (λ to. Some (record { to = to; count = None })) (ranged_number 0 states text) o is in
-              subst (λ o. LeadsBelow o states) same (plain_below to (number_below 0 states text to read))
-        ]
+            else option_map (λ to. Some (record { to = to; count = None })) (ranged_number 0 states text)) ≡ Some o → LeadsBelow o states) [
+              | true ↦ λ is. option_and_then_some (λ to. option_map (λ x. Some (record { to = to; count = Some (record { number = x }) })) (ranged_count low limit (last_of text)))
+                  (ranged_number 0 states (front_of text)) o is (λ to read by.
+                  let (x, count, same) = from_map (λ x. Some (record { to = to; count = Some (record { number = x }) })) (ranged_count low limit (last_of text)) o by in
+                  subst (λ o. LeadsBelow o states) same (counted_below to x (number_below 0 states (front_of text) to read) (count_below low limit (last_of text) x count)))
+              | false ↦ λ is.
+                  let (to, read, same) = from_map (λ to. Some (record { to = to; count = None })) (ranged_number 0 states text) o is in
+                  subst (λ o. LeadsBelow o states) same (plain_below to (number_below 0 states text to read))
+            ]
       ]
 
   record AreBelow (exits : List Exits) (parts : List (List ℕ)) : Type 0 where

@@ -1,7 +1,6 @@
 -- Items that rise are of what is different.
-use Rattle.std.proofs.Common.{◌≡◌, ℕ, zero, suc, ◌+◌, ◌<◌, Bool, true, false, List, [], ◌∷◌, Option, Some, None, inl, inr, length, map, get_or, sym, ◌∙◌, ap, subst, refl, arith, if◌then◌else◌}
+use Rattle.std.proofs.Common.{◌≡◌, ℕ, zero, suc, ◌<◌, Bool, true, false, List, [], ◌∷◌, Option, Some, None, inl, inr, length, map, get_or, ◌∙◌, ap, subst, refl, arith, if◌then◌else◌}
 use Rattle.std.specs.Prelude.{◌==◌, ◌&&◌, ◌||◌, ◌⊎◌, nat_lt, option_map}
-use Rattle.std.specs.Option.{option_and_then}
 use Rattle.std.proofs.lemmas.Bool.{false≢true}
 use Rattle.std.proofs.lemmas.Bool.Decides.{nat_tests}
 use Rattle.std.proofs.lemmas.Option.{option_and_then_some, same_Some, none-some}
@@ -14,7 +13,7 @@ use Rattle.kind_counted.specs.Counted.{Item as ItemOf}
 use Rattle.kind_counted.specs.Items.{item_of}
 use Rattle.kind_counted.specs.Order.{tells_first, is_before, follows}
 use Rattle.kind_counted.specs.Texts.{item_from, item_behind, items_from}
-use Rattle.kind_counted.specs.inside.Judging.{locals, IsItemAt, IsNew, AreDifferent}
+use Rattle.kind_counted.specs.inside.Judging.{locals, AreDifferent}
 use Rattle.kind_counted.proofs.ExitTexts.{from_map}
 
 first_cases : (a b : ℕ) (t : Bool) → tells_first a b t ≡ true → (a < b) ⊎ ((a ≡ b) × (t ≡ true))
@@ -96,9 +95,12 @@ items_rise a last (part ∷ parts) items is =
     let (rest, others, same) = from_map (λ (items : List ItemOf). item ∷ items) (items_from a (Some item.at) parts) items by in
     let (rise, behind) = items_rise a (Some item.at) parts rest others in
     let first = behind item.at refl in
-    subst (λ (l : List ItemOf). Rise l × ((c : Local) → last ≡ Some c → Behind c l)) same ((first, rise), λ c same.
-    let before = follows_last last c item.at same (item_follows a last part item read) in
-    (before, behind_more c item.at rest before first)))
+    subst (λ (l : List ItemOf). Rise l × ((c : Local) → last ≡ Some c → Behind c l)) same (
+      (first, rise),
+      λ c same.
+          let before = follows_last last c item.at same (item_follows a last part item read) in
+          (before, behind_more c item.at rest before first),
+    ))
 
 -- what stands around the head in two items that rise
 behind_at : (items : List Item) (c : Local) → Behind c (map item_of items) → (i : ℕ) (d : Local) → i < length items → get_or (locals items) i d ≡ d → is_before c d ≡ true

@@ -1,6 +1,6 @@
 -- The texts of counted automata, and of their cosets. Bytes are their ASCII codes: 44 is the comma, 45 `-`, 48 `0`, 58 the
 -- colon, 65 `A`, 97 `a`.
-use Rattle.std.specs.Prelude.{ℕ, suc, ◌+◌, ◌-◌, ◌*◌, ◌/◌, ◌==◌, ◌&&◌, ◌||◌, nat_lt, nat_le, int_lt, unsigned_abs, ℤ, pos, neg_ℤ, if◌then◌else◌, Bool, true, false, List, [], ◌∷◌, Option, Some, None, length, take, drop, set, slice_index, option_map, position}
+use Rattle.std.specs.Prelude.{ℕ, suc, ◌+◌, ◌-◌, ◌*◌, ◌/◌, ◌==◌, ◌&&◌, ◌||◌, nat_lt, nat_le, int_lt, unsigned_abs, ℤ, pos, neg_ℤ, if◌then◌else◌, Bool, false, List, [], ◌∷◌, Option, Some, None, length, take, drop, set, slice_index, option_map, position}
 use Rattle.std.specs.List.{onto_first}
 use Rattle.std.specs.Option.{option_and_then}
 use Rattle.std.specs.Str.{bytes_eq}
@@ -51,8 +51,8 @@ unfoldable pub exit_from : ℕ → ℕ → ℕ → List ℕ → Option (Option T
 exit_from states low limit text =
     if bytes_eq text (45 ∷ []) then Some None
     else if is_letter (last_of text) then
-      option_and_then (λ to. option_map (λ x. Some (record { to = to; count = Some (record { number = x }) })) (ranged_count low limit (last_of text)))
-      (ranged_number 0 states (front_of text))
+    option_and_then (λ to. option_map (λ x. Some (record { to = to; count = Some (record { number = x }) })) (ranged_count low limit (last_of text)))
+    (ranged_number 0 states (front_of text))
     else option_map (λ to. Some (record { to = to; count = None })) (ranged_number 0 states text)
 
 -- the transitions of a state, by 0 and by 1

@@ -136,13 +136,7 @@ fn read_exits(
 
 // The transitions of a state that two items give.
 #[tactic(auto, unfolding(crate::specs::Texts::pair_from))]
-fn pair_from(
-    zero: &[u8],
-    one: &[u8],
-    states: usize,
-    low: usize,
-    limit: usize,
-) -> Option<Exits>
+fn pair_from(zero: &[u8], one: &[u8], states: usize, low: usize, limit: usize) -> Option<Exits>
     ensures { result ≡ pair_from states low limit zero.now one.now }
 {
     let zero = exit_from(zero, states, low, limit)?;

@@ -60,11 +60,7 @@ fn local_behind(text: &[u8], shape: Shape, last: Option<Local>) -> Option<Local>
     ensures { result ≡ option_map (λ i. i.at) (item_behind shape last text.now) }
 {
     let at = item_local(text, shape)?;
-    if at.follows(last) {
-        Some(at)
-    } else {
-        None
-    }
+    if at.follows(last) { Some(at) } else { None }
 }
 
 // The item that a text is, if it stands behind the last.

@@ -12,7 +12,7 @@ use Rattle.text.specs.Decimal.{decimal_value}
 use Rattle.kind_counted.specs.declared.count.Count.{Count}
 use Rattle.kind_counted.specs.declared.automaton.Exits.{Exits}
 use Rattle.kind_counted.specs.declared.automaton.Transition.{Transition}
-use Rattle.kind_counted.specs.Numbers.{count_limit}
+use Rattle.kind_counted.specs.Limits.{count_limit}
 use Rattle.kind_counted.specs.Automata.{exit_by, no_exits, delta_of}
 use Rattle.kind_counted.specs.States.{IsCount, LeadsBelow, AreStates}
 use Rattle.kind_counted.specs.Texts.{ranged, ranged_number, ranged_count, is_letter, letter_count, last_of, front_of, exit_from, pair_from, exits_from, half_states, begins_blank}

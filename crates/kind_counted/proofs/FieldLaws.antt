@@ -7,8 +7,7 @@ use Rattle.text.specs.Decimal.{decimal_value}
 use Rattle.text.specs.Fields.{AreFields, with_value}
 use Rattle.text.proofs.Numbers.{decimal_value-decimal, length_of_number}
 use Rattle.text.proofs.Spaced.{number_is_field, and_field, no_fields, length-spaced}
-use Rattle.kind_counted.specs.Limits.{coset_byte_limit}
-use Rattle.kind_counted.specs.Numbers.{count_limit}
+use Rattle.kind_counted.specs.Limits.{coset_byte_limit, count_limit}
 use Rattle.kind_counted.specs.CosetTexts.{CosetTexts, coset_texts, counted_in, AreCosetTexts}
 use Rattle.kind_counted.specs.Fields.{counts_in, cosets_by, counted_by, counted_fields}
 use Rattle.kind_counted.proofs.HighTexts.{AreHigh, texts_high}

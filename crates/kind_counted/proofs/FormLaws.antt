@@ -46,9 +46,6 @@ module _ (P : Option Transition → Type 0) (states : List Exits) where
   pub exits_in : (k : ℕ) (d : Exits) (s : Sym) → k < length states → ((q : ℕ) (s : Sym) → P (delta_of states q s)) → P (exit_by s (get_or states k d))
   exits_in k d s below are = exits_at k (get_or states k d) s below (get_or_default states k d (get_or states k d) below) are
 
-  pub exits_further : (k : ℕ) (d : Exits) → k < length states → EachExit P states k → P (get_or states k d).zero → P (get_or states k d).one → EachExit P states (k + 1)
-  exits_further k d below before zero one = exits_more k (get_or states k d) below (get_or_default states k d (get_or states k d) below) before zero one
-
   -- the same behind a reference
   pub exits_behind : (others : List Exits) → others ≡ states → (k : ℕ) (d : Exits) (s : Sym) → k < length others → ((q : ℕ) (s : Sym) → P (delta_of states q s)) →
       P (exit_by s (get_or others k d))

@@ -9,7 +9,7 @@ use Rattle.kind_counted.specs.Cosets.{Point, Coset, IsMember}
 use Rattle.kind_counted.specs.Counted.{Item as ItemOf, Settled, None_remains, Negative, Members}
 use Rattle.kind_counted.specs.Items.{coset_of, item_of}
 use Rattle.kind_counted.specs.inside.Points.{IsNegative, IsWithin}
-use Rattle.kind_counted.specs.inside.Judging.{locals, IsItemAt, IsNew, AreDifferent}
+use Rattle.kind_counted.specs.inside.Judging.{locals, IsItemAt, AreDifferent}
 use Rattle.kind_counted.proofs.LeftLaws.{base_member}
 
 -- what stands around the head, in an item
@@ -63,21 +63,3 @@ settled_fewer left more next each (Members k has all) = Members k has (λ v is. 
 pub item_local : (items : List Item) (i : ℕ) (item : Item) (c : Local) → i < length items → item ≡ get_or items i item → IsItemAt items i c → item.at ≡ c
 item_local items i item c below is at =
     ap (λ (i : Item). i.at) is ∙ sym (get_or-map (λ (i : Item). i.at) items i item c below) ∙ at.is
-
--- an item is of what it is of
-pub item_at : (items : List Item) (i : ℕ) (item : Item) → i < length items → item ≡ get_or items i item → IsItemAt items i item.at
-item_at items i item below is = record {
-  below = below;
-  is = get_or-map (λ (i : Item). i.at) items i item item.at below ∙ ap (λ (i : Item). i.at) (sym is);
-}
-
--- an item is new just where the first of the same isn't before it
-pub new_from : (items : List Item) (i : ℕ) (item : Item) → i < length items → item ≡ get_or items i item →
-    ((j : ℕ) → j < i → IsItemAt items j item.at → ⊥) → IsNew items i
-new_from items i item below is none = record {
-  each = λ j c less at_j at_i. none j less (subst (IsItemAt items j) (sym (item_local items i item c below is at_i)) at_j);
-}
-
-pub new_back : (items : List Item) (i : ℕ) (item : Item) → i < length items → item ≡ get_or items i item → IsNew items i →
-    (j : ℕ) → j < i → IsItemAt items j item.at → ⊥
-new_back items i item below is new j less at = new.each j item.at less at (item_at items i item below is)

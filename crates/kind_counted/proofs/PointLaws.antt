@@ -6,7 +6,8 @@ use Rattle.std.proofs.lemmas.List.{get_or_past, length-set, get_or-set_other, ge
 use Rattle.std.proofs.Math.IntN.{*ℤ-zero}
 use Rattle.std.specs.Int.RustNames.{unsigned_abs}
 use Rattle.kind_counted.specs.Cosets.{less}
-use Rattle.kind_counted.specs.Numbers.{number_limit, no_numbers, point_of, AreSmall}
+use Rattle.kind_counted.specs.Limits.{number_limit}
+use Rattle.kind_counted.specs.Numbers.{no_numbers, point_of, AreSmall}
 
 -- past the end a point is 0
 pub past_end : (xs : List ℤ) (x : ℕ) → AreSmall xs → 52 ≤ x → point_of xs x ≡ pos 0

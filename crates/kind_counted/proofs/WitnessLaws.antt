@@ -9,7 +9,7 @@ use Rattle.std.proofs.lemmas.List.{get_or-set_other, get_or-set_same}
 use Rattle.machine_text.specs.declared.transition.Sym.{Sym}
 use Rattle.kind_counted.specs.declared.count.Count.{Count}
 use Rattle.kind_counted.specs.declared.automaton.Transition.{Transition}
-use Rattle.kind_counted.specs.Numbers.{count_limit}
+use Rattle.kind_counted.specs.Limits.{count_limit}
 use Rattle.kind_counted.specs.Counted.{Delta, once, begun, further, reading, IsUnused}
 use Rattle.kind_counted.specs.inside.Used.{has, reached, HasPath, HasCount, IsWitnessed, AreWitnessed, IsStart, AreStart, IsIn}
 use Rattle.kind_counted.proofs.Readings.{reading_more}

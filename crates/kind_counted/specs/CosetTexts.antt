@@ -6,8 +6,7 @@ use Rattle.machine_text.specs.Packed.{Packed, entry_of}
 use Rattle.text.specs.Parts.{parts_of}
 use Rattle.kind_counted.specs.Automata.{delta_of}
 use Rattle.kind_counted.specs.Counted.{Counted, Stands}
-use Rattle.kind_counted.specs.Limits.{coset_byte_limit}
-use Rattle.kind_counted.specs.Numbers.{count_limit}
+use Rattle.kind_counted.specs.Limits.{coset_byte_limit, count_limit}
 use Rattle.kind_counted.specs.Texts.{half_states, automaton_from, items_from}
 
 -- how many states the tables have for which it is made, how many counts the left and the right automaton have, the texts of

@@ -4,8 +4,7 @@ use Rattle.text.specs.Decimal.{decimal_value}
 use Rattle.text.specs.Fields.{with_value}
 use Rattle.text.specs.declared.fields.FieldFault.{FieldFault}
 use Rattle.text.specs.declared.fields.FieldFault.TheVariants.{BadKind, BadList, TooLong}
-use Rattle.kind_counted.specs.Limits.{coset_byte_limit}
-use Rattle.kind_counted.specs.Numbers.{count_limit}
+use Rattle.kind_counted.specs.Limits.{coset_byte_limit, count_limit}
 use Rattle.kind_counted.specs.CosetTexts.{CosetTexts, coset_texts, counted_in}
 
 -- a number of counts, beside so many others

@@ -2,14 +2,7 @@
 use Rattle.std.specs.Prelude.{◌≡◌, ℕ, ◌≤◌, ℤ, pos, List, length, get_or, replicate}
 use Rattle.std.specs.Int.RustNames.{unsigned_abs}
 use Rattle.kind_counted.specs.Cosets.{Point}
-
--- the most counts of both automata together
-abbrev pub count_limit : ℕ
-count_limit = 52
-
--- no number is larger: 2 ^ 31
-abbrev pub number_limit : ℕ
-number_limit = 2147483648
+use Rattle.kind_counted.specs.Limits.{count_limit, number_limit}
 
 -- the point that a list of numbers is
 abbrev pub point_of : List ℤ → Point

@@ -2,7 +2,7 @@
 -- there may be.
 use Rattle.std.specs.Prelude.{◌≡◌, ℕ, ◌<◌, List, length, Option, Some}
 use Rattle.machine_text.specs.declared.transition.Sym.{Sym}
-use Rattle.kind_counted.specs.Numbers.{count_limit}
+use Rattle.kind_counted.specs.Limits.{count_limit}
 use Rattle.kind_counted.specs.declared.count.Count.{Count}
 use Rattle.kind_counted.specs.declared.automaton.Exits.{Exits}
 use Rattle.kind_counted.specs.declared.automaton.Transition.{Transition}

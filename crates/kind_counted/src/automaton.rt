@@ -26,38 +26,9 @@ pub struct Automaton {
 }
 
 impl Automaton {
-    ghost use Rattle.std.specs.Prelude.{◌≡◌, ◌↔◌, IsTrue, IfSome, IfNone};
+    ghost use Rattle.std.specs.Prelude.{◌≡◌, IfSome};
     ghost use Rattle.kind_counted.specs.Automata.{delta_of};
-    ghost use Rattle.kind_counted.specs.States.{IsCount, LeadsBelow};
-
-    /// An automaton by its states, unless there is none, or a transition leads to none.
-    pub fn of(states: Vec<Exits>) -> Option<Automaton>
-        ensures some { IfSome result (λ a. a.states.items ≡ states.items) }
-        ensures none { IfNone result (AreStates states.items → ⊥) }
-    {
-        if !Automaton::are_states(&states) {
-            return None;
-        }
-        Some(Automaton { states })
-    }
-
-    // Whether there is a state, and each transition leads to one.
-    fn are_states(states: &[Exits]) -> bool
-        ensures { IsTrue result ↔ AreStates states.now }
-    {
-        if states.len() == 0 {
-            return false;
-        }
-        for exits in states {
-            if !Automaton::leads_below(exits.zero, states.len()) {
-                return false;
-            }
-            if !Automaton::leads_below(exits.one, states.len()) {
-                return false;
-            }
-        }
-        true
-    }
+    ghost use Rattle.kind_counted.specs.States.{IsCount};
 
     /// The transition of a state by a symbol, if there is one.
     pub fn get(&self, state: usize, s: Sym) -> Option<Transition>
@@ -70,16 +41,6 @@ impl Automaton {
         match s {
             Sym::Zero => self.states[state].zero,
             Sym::One => self.states[state].one,
-        }
-    }
-
-    // Whether a transition, if there is one, leads to one of so many states, and its count is one.
-    fn leads_below(exit: Option<Transition>, states: usize) -> bool
-        ensures { IsTrue result ↔ LeadsBelow exit states }
-    {
-        match exit {
-            Some(t) => t.to < states && Count::is_count(t.count),
-            None => true,
         }
     }
 }

@@ -30,8 +30,7 @@ impl<'a> CountedCosets<'a> {
     ghost use Rattle.kind_counted.specs.CosetTexts.{CosetTexts, coset_texts, AreCosetsOf};
     ghost use Rattle.kind_counted.specs.CountedCosets.{coset_texts_of};
     ghost use Rattle.kind_counted.specs.Fields.{cosets_by};
-    ghost use Rattle.kind_counted.specs.Limits.{coset_byte_limit};
-    ghost use Rattle.kind_counted.specs.Numbers.{count_limit};
+    ghost use Rattle.kind_counted.specs.Limits.{coset_byte_limit, count_limit};
 
     /// The claim that three texts make, for tables of so many states, where the left and the right automaton have so many
     /// counts. It is `TooLong` where the texts together have over `MAX_COSET_BYTES`, `BadList` where they are no such texts.

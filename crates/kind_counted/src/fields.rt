@@ -6,10 +6,10 @@ ghost use Rattle.text.specs.Fields.{spaced, made_of};
 ghost use Rattle.kind_counted.specs.CosetTexts.{AreCosetTexts};
 ghost use Rattle.kind_counted.specs.CountedCosets.{coset_texts_of};
 ghost use Rattle.kind_counted.specs.Fields.{counts_in, counted_by, counted_fields};
-ghost use Rattle.kind_counted.specs.Numbers.{count_limit};
+ghost use Rattle.kind_counted.specs.Limits.{count_limit};
 
 use crate::counted_cosets::CountedCosets;
-use crate::numbers::MAX_COUNTS;
+use crate::limits::MAX_COUNTS;
 use kind_evidence::NoMemory;
 use text::{FieldFault, Parts, append_field, append_number_field, end_of, next_field, number_in};
 

@@ -20,27 +20,9 @@ pub struct Item {
     pub coset: Coset,
 }
 
-impl Coset {
-    ghost use Rattle.std.specs.Prelude.{◌≡◌, IfSome, IfNone};
-
-    /// A coset by its base and its rows, if these are in echelon form.
-    pub fn of(base: Counts, rows: Vec<Row>) -> Option<Coset>
-        ensures base { IfSome result (λ k. k.base ≡ base) }
-        ensures rows { IfSome result (λ k. k.rows.items ≡ rows.items) }
-        ensures none { IfNone result (AreRising rows.items → ⊥) }
-    {
-        for k in 1..rows.len() {
-            if rows[k - 1].pivot >= rows[k].pivot {
-                return None;
-            }
-        }
-        Some(Coset { base, rows })
-    }
-}
-
 impl Item {
-    ghost use Rattle.std.specs.Prelude.{◌≡◌, ◌↔◌, ℕ, ◌<◌, length, IsTrue, IfSome, IfNone};
-    ghost use Rattle.kind_counted.specs.inside.Judging.{IsItemAt, IsNoItem, IsNew, AreDifferent};
+    ghost use Rattle.std.specs.Prelude.{ℕ, ◌<◌, IfSome, IfNone};
+    ghost use Rattle.kind_counted.specs.inside.Judging.{IsItemAt, IsNoItem};
 
     // The first of some items that is of what stands around the head.
     pub(crate) fn place_of(items: &[Item], at: Local) -> Option<usize>
@@ -54,28 +36,5 @@ impl Item {
             }
         }
         None
-    }
-
-    // Whether no two items are of the same.
-    pub(crate) fn are_different(items: &[Item]) -> bool
-        ensures { IsTrue result ↔ AreDifferent items.now }
-    {
-        for i in 0..items.len() {
-            if !Item::is_new(items, i) {
-                return false;
-            }
-        }
-        true
-    }
-
-    // Whether no item before one is of the same.
-    fn is_new(items: &[Item], i: usize) -> bool
-        requires { i < length items.now }
-        ensures { IsTrue result ↔ IsNew items.now i }
-    {
-        match Item::place_of(items, items[i].at) {
-            Some(first) => first >= i,
-            None => true,
-        }
     }
 }

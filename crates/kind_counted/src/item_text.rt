@@ -2,7 +2,7 @@
 ghost use Rattle.std.specs.Prelude.{◌≡◌, ◌≤◌, ◌<◌, None, IfOk, IfSome, nat_le, length, is_some, map, option_map, position};
 ghost use Rattle.text.specs.Parts.{parts_of};
 ghost use Rattle.kind_counted.specs.Items.{item_of};
-ghost use Rattle.kind_counted.specs.Numbers.{count_limit};
+ghost use Rattle.kind_counted.specs.Limits.{count_limit};
 ghost use Rattle.kind_counted.specs.Texts.{state_from, symbol_from, local_at, local_from, item_from, item_behind, items_from};
 
 use crate::item::{Coset, Item};

@@ -2,16 +2,12 @@
 ghost use Rattle.std.specs.Prelude.{◌≡◌, ◌↔◌, ℕ, ◌<◌, ◌≤◌, ℤ, pos, ◌-ℤ◌, ◌*ℤ◌, IsTrue, IfSome, IfNone, IfOk};
 ghost use Rattle.std.specs.Int.RustNames.{unsigned_abs};
 ghost use Rattle.kind_counted.specs.Cosets.{less};
-ghost use Rattle.kind_counted.specs.Numbers.{AreSmall, no_numbers, point_of, number_limit, count_limit};
+ghost use Rattle.kind_counted.specs.Limits.{number_limit, count_limit};
+ghost use Rattle.kind_counted.specs.Numbers.{AreSmall, no_numbers, point_of};
 
 use crate::count::Count;
+use crate::limits::{MAX_COUNTS, MAX_NUMBER};
 use crate::refused::Refused;
-
-/// The most counts of both automata together.
-pub const MAX_COUNTS: usize = 52;
-
-/// No number is larger.
-pub const MAX_NUMBER: i64 = 2_147_483_648;
 
 /// A number for each count.
 #[derive(Clone, Copy, Debug, PartialEq, Eq)]
@@ -26,19 +22,6 @@ impl Counts {
     ghost use Rattle.kind_counted.specs.States.{IsCount};
     ghost use Rattle.kind_counted.specs.inside.Rows.{IsCleared};
     ghost use Rattle.kind_counted.specs.inside.Spans.{IsLessened};
-
-    /// Numbers, unless one is too large.
-    pub fn of(numbers: [i64; MAX_COUNTS]) -> Option<Counts>
-        ensures some { IfSome result (λ c. c.numbers ≡ numbers) }
-        ensures none { IfNone result (AreSmall numbers → ⊥) }
-    {
-        for x in 0..MAX_COUNTS {
-            if numbers[x] < -MAX_NUMBER || numbers[x] > MAX_NUMBER {
-                return None;
-            }
-        }
-        Some(Counts { numbers })
-    }
 
     // 0 for each count.
     pub(crate) fn zeros() -> Counts

@@ -1,8 +1,10 @@
 // Rows in echelon form, and whether numbers are a sum of their multiples.
 ghost use Rattle.std.specs.Prelude.{◌≡◌, ℕ, ◌<◌, ℤ, pos, ◌<ℤ◌};
-ghost use Rattle.kind_counted.specs.Numbers.{point_of, count_limit};
+ghost use Rattle.kind_counted.specs.Limits.{count_limit};
+ghost use Rattle.kind_counted.specs.Numbers.{point_of};
 
-use crate::numbers::{Counts, MAX_COUNTS};
+use crate::limits::MAX_COUNTS;
+use crate::numbers::Counts;
 use crate::refused::Refused;
 
 /// A row, and the place of its first number that isn't 0.

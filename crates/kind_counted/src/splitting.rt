@@ -2,7 +2,8 @@
 ghost use Rattle.std.specs.Prelude.{◌≡◌, ◌<◌, List, [], ◌∷◌, ◌++◌, IfSome, IfOk, OnOk};
 ghost use Rattle.std.specs.Int.RustNames.{unsigned_abs};
 ghost use Rattle.kind_counted.specs.Cosets.{Point};
-ghost use Rattle.kind_counted.specs.Numbers.{point_of, count_limit};
+ghost use Rattle.kind_counted.specs.Limits.{count_limit};
+ghost use Rattle.kind_counted.specs.Numbers.{point_of};
 ghost use Rattle.kind_counted.specs.inside.Spans.{listed, IsSplit};
 
 use crate::numbers::Counts;

@@ -23,7 +23,7 @@ impl TextsGiven<'_> {
     ghost use Rattle.text.specs.Parts.{parts_of};
     ghost use Rattle.kind_counted.specs.Certificate.{counted_of};
     ghost use Rattle.kind_counted.specs.CosetTexts.{counted_in, counted_by_sizes};
-    ghost use Rattle.kind_counted.specs.Numbers.{count_limit};
+    ghost use Rattle.kind_counted.specs.Limits.{count_limit};
     ghost use Rattle.kind_counted.specs.Texts.{half_states};
     ghost use Rattle.kind_counted.specs.TextsGiven.{texts_given};
 

@@ -12,7 +12,7 @@ use Rattle.kind_counted.specs.declared.automaton.Transition.{Transition}
 use Rattle.kind_counted.specs.declared.local.Local.{Local}
 use Rattle.kind_counted.specs.declared.item.Item.{Item}
 use Rattle.kind_counted.specs.Items.{coset_of}
-use Rattle.kind_counted.specs.Numbers.{count_limit}
+use Rattle.kind_counted.specs.Limits.{count_limit}
 use Rattle.kind_counted.specs.Cosets.{zeros, Coset, IsMember}
 use Rattle.kind_counted.specs.Counted.{Delta, Counted, HasCoset, delta, IsOf, state_on, moved_to, Remains, Settled, StepsTo}
 

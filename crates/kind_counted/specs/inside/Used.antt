@@ -5,7 +5,7 @@ use Rattle.machine_text.specs.declared.transition.Sym.{Sym}
 use Rattle.kind_counted.specs.declared.count.Count.{Count}
 use Rattle.kind_counted.specs.declared.automaton.Transition.{Transition}
 use Rattle.kind_counted.specs.Counted.{Delta, Reading, reading}
-use Rattle.kind_counted.specs.Numbers.{count_limit}
+use Rattle.kind_counted.specs.Limits.{count_limit}
 
 -- a set of numbers, kept as the bits of one
 abbrev pub has : ℕ → ℕ → Bool

@@ -18,4 +18,4 @@ mod vectors;
 mod writing;
 
 pub use counted_finder::CountedFinder;
-pub use limits::{MAX_FOUND_COUNTS, MAX_FOUND_STATES};
+pub use limits::MAX_FOUND_COUNTS;

@@ -23,7 +23,7 @@ use Rattle.kind_counted.specs.Cosets.{Point, Coset, IsMember}
 use Rattle.kind_counted.specs.declared.count.Count.{Count}
 use Rattle.kind_counted.specs.declared.automaton.Transition.{Transition}
 use Rattle.kind_counted.specs.declared.local.Local.{Local}
-use Rattle.kind_counted.specs.Counted.{Delta, once, Reading, begun, further, reading, IsRead, Counted, HasCoset, delta, IsOf, Remains, Settled, None_remains, Negative, Members, StepsTo, Stands, IsHeld}
+use Rattle.kind_counted.specs.Counted.{Delta, once, Reading, begun, further, reading, IsHalfRead, CountedSystem, HasCoset, delta, IsOf, Remains, Settled, None_remains, Negative, Members, LeadsOn, CountedStand, IsHeldBy}
 use Rattle.kind_counted.proofs.Readings.{reading_less, read_same, read_more, read_less, read_blank}
 
 once_other : (o : Option Count) (x : ℕ) → ((y : Count) → o ≡ Some y → y.number ≡ x → ⊥) → once o x ≡ 0
@@ -72,25 +72,25 @@ module _ (m : Machine) (c d : Config) (e : Entry) (t : Takes m c e d) (side : Di
   head = t.head ∙ ap (moved_head c.tape.head) to_side
 
   -- the half tape that was left behind: the written symbol is read
-  behind_read : (a : Delta) (r : Reading) (u : Transition) → IsRead a (opposite side) c (moved_head c.tape.head (opposite side)) r →
-      a r.state e.write ≡ Some u → IsRead a (opposite side) d (moved_head d.tape.head (opposite side)) (further r u)
+  behind_read : (a : Delta) (r : Reading) (u : Transition) → IsHalfRead a (opposite side) c (moved_head c.tape.head (opposite side)) r →
+      a r.state e.write ≡ Some u → IsHalfRead a (opposite side) d (moved_head d.tape.head (opposite side)) (further r u)
   behind_read a r u read has =
-      let same : IsRead a (opposite side) d (moved_head c.tape.head (opposite side)) r =
+      let same : IsHalfRead a (opposite side) d (moved_head c.tape.head (opposite side)) r =
       read_same a (opposite side) c d (moved_head c.tape.head (opposite side)) r (λ y beyond. sym (t.others y (not_head (opposite side) c.tape.head y beyond))) read in
-      let more : IsRead a (opposite side) d c.tape.head (further r u) =
+      let more : IsHalfRead a (opposite side) d c.tape.head (further r u) =
       read_more a (opposite side) d c.tape.head r u same (ap (a r.state) t.here ∙ has) in
-      subst (λ x. IsRead a (opposite side) d x (further r u)) (sym (ap (λ x. moved_head x (opposite side)) head ∙ returned side c.tape.head)) more
+      subst (λ x. IsHalfRead a (opposite side) d x (further r u)) (sym (ap (λ x. moved_head x (opposite side)) head ∙ returned side c.tape.head)) more
 
   -- the half tape ahead: the symbol that is under the head now had been read
-  ahead_read : (a : Delta) (r : Reading) → a 0 Zero ≡ Some (record { to = 0; count = None }) → IsRead a side c (moved_head c.tape.head side) r →
-      (p : Reading) × (u : Transition) × IsRead a side d (moved_head d.tape.head side) p × (a p.state (symbol_read d.tape) ≡ Some u) × (further p u ≡ r)
+  ahead_read : (a : Delta) (r : Reading) → a 0 Zero ≡ Some (record { to = 0; count = None }) → IsHalfRead a side c (moved_head c.tape.head side) r →
+      (p : Reading) × (u : Transition) × IsHalfRead a side d (moved_head d.tape.head side) p × (a p.state (symbol_read d.tape) ≡ Some u) × (further p u ≡ r)
   ahead_read a r blank read =
       let (p, u, before, has, same) = read_less a side c (moved_head c.tape.head side) r blank read in
       let here : symbol_read d.tape ≡ cell c (moved_head c.tape.head side) =
       ap (cell d) head ∙ t.others (moved_head c.tape.head side) (not_head side c.tape.head (moved_head c.tape.head side) (at side c.tape.head)) in (
         p,
         u,
-        subst (λ x. IsRead a side d (moved_head x side) p) (sym head)
+        subst (λ x. IsHalfRead a side d (moved_head x side) p) (sym head)
             (read_same a side c d (moved_head (moved_head c.tape.head side) side) p (λ y beyond. sym (t.others y (not_head_far side c.tape.head y beyond))) before),
         ap (a p.state) here ∙ has,
         same,
@@ -104,19 +104,19 @@ module _ (m : Machine) (c d : Config) (e : Entry) (t : Takes m c e d) (side : Di
 counts : Reading → Reading → Point
 counts l r = λ x. pos (l.times x + r.times x)
 
-module _ (m : Machine) (w : Counted) (stands : Stands m w) where
+module _ (m : Machine) (w : CountedSystem) (stands : CountedStand m w) where
   -- what a half tape is read to has no count of the other side
-  not_taken : (side : Dir) (x : ℕ) → (IsOf w side x → ⊥) → (c : Config) (y : ℤ) (r : Reading) → IsRead (delta w side) side c y r → r.times x ≡ 0
+  not_taken : (side : Dir) (x : ℕ) → (IsOf w side x → ⊥) → (c : Config) (y : ℤ) (r : Reading) → IsHalfRead (delta w side) side c y r → r.times x ≡ 0
   not_taken side x other c y r read =
       not_own (delta w side) x (λ q s t y has count same. other (subst (IsOf w side) same (stands.own side q s t y has count))) (symbols_ahead side c y read.far) r read.is
 
   -- a step to the right
-  held_right : (c d : Config) (e : Entry) → Takes m c e d → e.dir ≡ R → IsHeld w c → IsHeld w d
+  held_right : (c d : Config) (e : Entry) → Takes m c e d → e.dir ≡ R → IsHeldBy w c → IsHeldBy w d
   unfolding counts
   held_right c d e t is_right held =
       let here : Local = record { left = held.left.state; state = record { 0 = c.state }; read = symbol_read c.tape; right = held.right.state } in
-      let step : StepsTo w here held.coset e.write e.next R =
-      subst (StepsTo w here held.coset e.write e.next) is_right (stands.steps here held.coset e held.there t.is) in
+      let step : LeadsOn w here held.coset e.write e.next R =
+      subst (LeadsOn w here held.coset e.write e.next) is_right (stands.steps here held.coset e held.there t.is) in
       let (p, u, read, has, same) = ahead_read m c d e t R is_right w.right held.right (stands.blank R) held.right_read in
       let l : Reading = further held.left step.by in
       let left : Remains w held.coset R step.by u p.state (counts l p) = record {
@@ -144,15 +144,15 @@ module _ (m : Machine) (w : Counted) (stands : Stands m w) where
       }
 
   -- a step to the left
-  held_left : (c d : Config) (e : Entry) → Takes m c e d → e.dir ≡ L → IsHeld w c → IsHeld w d
+  held_left : (c d : Config) (e : Entry) → Takes m c e d → e.dir ≡ L → IsHeldBy w c → IsHeldBy w d
   unfolding counts
   held_left c d e t is_left held =
       let here : Local = record { left = held.left.state; state = record { 0 = c.state }; read = symbol_read c.tape; right = held.right.state } in
-      let step : StepsTo w here held.coset e.write e.next L =
-      subst (StepsTo w here held.coset e.write e.next) is_left (stands.steps here held.coset e held.there t.is) in
+      let step : LeadsOn w here held.coset e.write e.next L =
+      subst (LeadsOn w here held.coset e.write e.next) is_left (stands.steps here held.coset e held.there t.is) in
       let (p, u, read, has, same) = ahead_read m c d e t L is_left w.left held.left (stands.blank L) held.left_read in
       let r : Reading = further held.right step.by in
-      let right_read : IsRead w.right R d (moved_head d.tape.head R) r = behind_read m c d e t L is_left w.right held.right step.by held.right_read step.is in
+      let right_read : IsHalfRead w.right R d (moved_head d.tape.head R) r = behind_read m c d e t L is_left w.right held.right step.by held.right_read step.is in
       let left : Remains w held.coset L step.by u p.state (counts p r) = record {
         old = counts held.left held.right;
         member = held.member;
@@ -178,22 +178,22 @@ module _ (m : Machine) (w : Counted) (stands : Stands m w) where
       }
 
   -- each held configuration has a next one, which is held
-  goes_on : (c : Config) → IsHeld w c → (d : Config) × (next m c ≡ Some d) × IsHeld w d
+  goes_on : (c : Config) → IsHeldBy w c → (d : Config) × (next m c ≡ Some d) × IsHeldBy w d
   goes_on c held = go (m c.state (symbol_read c.tape)) refl
     where
       here : Local
       here = record { left = held.left.state; state = record { 0 = c.state }; read = symbol_read c.tape; right = held.right.state }
 
-      to_side : (e : Entry) → Takes m c e (carried_out c e) → (f : Dir) → e.dir ≡ f → IsHeld w (carried_out c e)
+      to_side : (e : Entry) → Takes m c e (carried_out c e) → (f : Dir) → e.dir ≡ f → IsHeldBy w (carried_out c e)
       to_side e t L is_left = held_left c (carried_out c e) e t is_left held
       to_side e t R is_right = held_right c (carried_out c e) e t is_right held
 
-      go : (o : Option Entry) → m c.state (symbol_read c.tape) ≡ o → (d : Config) × (next m c ≡ Some d) × IsHeld w d
+      go : (o : Option Entry) → m c.state (symbol_read c.tape) ≡ o → (d : Config) × (next m c ≡ Some d) × IsHeldBy w d
       go None none = absurd (stands.goes_on here held.coset held.there none)
       go (Some e) some = (carried_out c e, next_taken m c e some, to_side e (taken_takes m c e some) e.dir refl)
 
   -- the blank tape is held
-  start_held : IsHeld w start
+  start_held : IsHeldBy w start
   start_held = record {
     left = begun;
     right = begun;
@@ -205,9 +205,9 @@ module _ (m : Machine) (w : Counted) (stands : Stands m w) where
   }
 
   -- a run from a held configuration goes on for ever, and each configuration of it is held
-  pub stays_held : (c : Config) → IsHeld w c → (k : ℕ) → (d : Config) × (from m k c ≡ Some d) × IsHeld w d
-  stays_held = invariant_law m (IsHeld w) goes_on
+  pub stays_held : (c : Config) → IsHeldBy w c → (k : ℕ) → (d : Config) × (from m k c ≡ Some d) × IsHeldBy w d
+  stays_held = invariant_law m (IsHeldBy w) goes_on
 
   -- a machine for which counted automata stand never halts
   pub counted_never : Never m
-  counted_never = never_by_invariant m (IsHeld w) goes_on start_held
+  counted_never = never_by_invariant m (IsHeldBy w) goes_on start_held

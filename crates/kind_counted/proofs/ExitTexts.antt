@@ -13,9 +13,9 @@ use Rattle.kind_counted.specs.declared.count.Count.{Count}
 use Rattle.kind_counted.specs.declared.automaton.Exits.{Exits}
 use Rattle.kind_counted.specs.declared.automaton.Transition.{Transition}
 use Rattle.kind_counted.specs.Limits.{count_limit}
-use Rattle.kind_counted.specs.Automata.{exit_by, no_exits, delta_of}
+use Rattle.kind_counted.specs.Automata.{exit_by, no_exits, transitions_of}
 use Rattle.kind_counted.specs.States.{IsCount, LeadsBelow, AreStates}
-use Rattle.kind_counted.specs.Texts.{ranged, ranged_number, ranged_count, is_letter, letter_count, last_of, front_of, exit_from, pair_from, exits_from, half_states, begins_blank}
+use Rattle.kind_counted.specs.Texts.{ranged, ranged_number, ranged_count, is_letter, letter_count, last_byte, front_of, exit_from, pair_from, exits_from, half_states, begins_blank}
 
 -- what an option that was changed comes from
 pub from_map : {A B : Type 0} (f : A → B) (o : Option A) (y : B) → option_map f o ≡ Some y → (x : A) × (o ≡ Some x) × (f x ≡ y)
@@ -65,19 +65,19 @@ module _ (states low limit : ℕ) (few : limit ≤ count_limit) where
   unfolding exit_from
   exit_below text o =
       elim (bytes_eq text (45 ∷ [])) as (λ b. (if b then Some None
-      else if is_letter (last_of text) then
-      option_and_then (λ to. option_map (λ x. Some (record { to = to; count = Some (record { number = x }) })) (ranged_count low limit (last_of text)))
+      else if is_letter (last_byte text) then
+      option_and_then (λ to. option_map (λ x. Some (record { to = to; count = Some (record { number = x }) })) (ranged_count low limit (last_byte text)))
       (ranged_number 0 states (front_of text))
       else option_map (λ to. Some (record { to = to; count = None })) (ranged_number 0 states text)) ≡ Some o → LeadsBelow o states) [
         | true ↦ λ is. subst (λ o. LeadsBelow o states) (same_Some None o is) none_below
-        | false ↦ elim (is_letter (last_of text)) as (λ b. (if b then
-            option_and_then (λ to. option_map (λ x. Some (record { to = to; count = Some (record { number = x }) })) (ranged_count low limit (last_of text)))
+        | false ↦ elim (is_letter (last_byte text)) as (λ b. (if b then
+            option_and_then (λ to. option_map (λ x. Some (record { to = to; count = Some (record { number = x }) })) (ranged_count low limit (last_byte text)))
             (ranged_number 0 states (front_of text))
             else option_map (λ to. Some (record { to = to; count = None })) (ranged_number 0 states text)) ≡ Some o → LeadsBelow o states) [
-              | true ↦ λ is. option_and_then_some (λ to. option_map (λ x. Some (record { to = to; count = Some (record { number = x }) })) (ranged_count low limit (last_of text)))
+              | true ↦ λ is. option_and_then_some (λ to. option_map (λ x. Some (record { to = to; count = Some (record { number = x }) })) (ranged_count low limit (last_byte text)))
                   (ranged_number 0 states (front_of text)) o is (λ to read by.
-                  let (x, count, same) = from_map (λ x. Some (record { to = to; count = Some (record { number = x }) })) (ranged_count low limit (last_of text)) o by in
-                  subst (λ o. LeadsBelow o states) same (counted_below to x (number_below 0 states (front_of text) to read) (count_below low limit (last_of text) x count)))
+                  let (x, count, same) = from_map (λ x. Some (record { to = to; count = Some (record { number = x }) })) (ranged_count low limit (last_byte text)) o by in
+                  subst (λ o. LeadsBelow o states) same (counted_below to x (number_below 0 states (front_of text) to read) (count_below low limit (last_byte text) x count)))
               | false ↦ λ is.
                   let (to, read, same) = from_map (λ to. Some (record { to = to; count = None })) (ranged_number 0 states text) o is in
                   subst (λ o. LeadsBelow o states) same (plain_below to (number_below 0 states text to read))
@@ -86,7 +86,7 @@ module _ (states low limit : ℕ) (few : limit ≤ count_limit) where
 
   record AreBelow (exits : List Exits) (parts : List (List ℕ)) : Type 0 where
     size : 2 * length exits ≡ length parts
-    each : (q : ℕ) (s : Sym) → LeadsBelow (delta_of exits q s) states
+    each : (q : ℕ) (s : Sym) → LeadsBelow (transitions_of exits q s) states
 
   pair_below : (first second : List ℕ) (pair : Exits) → pair_from states low limit first second ≡ Some pair → (s : Sym) → LeadsBelow (exit_by s pair) states
   unfolding pair_from
@@ -115,8 +115,8 @@ module _ (states low limit : ℕ) (few : limit ≤ count_limit) where
         each = more pair rest (pair_below first second pair read) are.each;
       }))
     where
-      more : (pair : Exits) (rest : List Exits) → ((s : Sym) → LeadsBelow (exit_by s pair) states) → ((q : ℕ) (s : Sym) → LeadsBelow (delta_of rest q s) states) →
-          (q : ℕ) (s : Sym) → LeadsBelow (delta_of (pair ∷ rest) q s) states
+      more : (pair : Exits) (rest : List Exits) → ((s : Sym) → LeadsBelow (exit_by s pair) states) → ((q : ℕ) (s : Sym) → LeadsBelow (transitions_of rest q s) states) →
+          (q : ℕ) (s : Sym) → LeadsBelow (transitions_of (pair ∷ rest) q s) states
       more pair rest one others zero s = one s
       more pair rest one others (suc q) s = others q s
 
@@ -129,7 +129,7 @@ module _ (states low limit : ℕ) (few : limit ≤ count_limit) where
       let size : 2 * length exits ≡ length (part ∷ parts) = are.size in
       let same : length (part ∷ parts) / 2 ≡ states = halved (part ∷ parts) half in
       let long : length exits ≡ states = omega arith in
-      record { some = omega arith; each = λ q s. subst (λ n. LeadsBelow (delta_of exits q s) n) (sym long) (are.each q s) }
+      record { some = omega arith; each = λ q s. subst (λ n. LeadsBelow (transitions_of exits q s) n) (sym long) (are.each q s) }
     where
       halved : (parts : List (List ℕ)) → (if nat_le (length parts) (2 * half_state_limit) then Some (length parts / 2) else None) ≡ Some states → length parts / 2 ≡ states
       halved parts = elim (nat_le (length parts) (2 * half_state_limit)) as (λ b. (if b then Some (length parts / 2) else None) ≡ Some states → length parts / 2 ≡ states) [

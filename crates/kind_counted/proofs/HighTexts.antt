@@ -21,14 +21,14 @@ use Rattle.kind_counted.specs.declared.local.Local.{Local}
 use Rattle.kind_counted.specs.declared.shape.Shape.{Shape}
 use Rattle.kind_counted.specs.declared.automaton.Exits.{Exits}
 use Rattle.kind_counted.specs.declared.automaton.Transition.{Transition}
-use Rattle.kind_counted.specs.Automata.{delta_of}
+use Rattle.kind_counted.specs.Automata.{transitions_of}
 use Rattle.kind_counted.specs.Cosets.{Point}
-use Rattle.kind_counted.specs.Counted.{Counted, Item as ItemOf}
+use Rattle.kind_counted.specs.Counted.{CountedSystem, Item as ItemOf}
 use Rattle.kind_counted.specs.CosetTexts.{CosetTexts, counted_in, counted_by_sizes}
 use Rattle.kind_counted.specs.Limits.{written_limit}
 use Rattle.kind_counted.specs.Numbers.{point_of, no_numbers}
 use Rattle.kind_counted.specs.Order.{follows}
-use Rattle.kind_counted.specs.Texts.{ranged, ranged_number, ranged_count, is_letter, letter_count, last_of, front_of, exit_from, pair_from, exits_from, half_states, begins_blank, automaton_from, signed_from, terms_of, terms_from, numbers_from, pivot_of, leads, row_from, rows_from, state_from, symbol_from, local_at, local_from, item_from, item_behind, items_from}
+use Rattle.kind_counted.specs.Texts.{ranged, ranged_number, ranged_count, is_letter, letter_count, last_byte, front_of, exit_from, pair_from, exits_from, half_states, begins_blank, automaton_from, signed_from, terms_of, terms_from, numbers_from, pivot_of, leads, row_from, rows_from, state_from, symbol_from, local_at, local_from, item_from, item_behind, items_from}
 use Rattle.kind_counted.proofs.ExitTexts.{from_map}
 
 abbrev High : ℕ → Type 0
@@ -79,7 +79,7 @@ terms_high (b ∷ text) all = elim (is_letter b) as (λ t. is_letter b ≡ t →
 ] refl all
 
 -- what stands before the last byte, and that byte
-front_last_high : (text : List ℕ) → IsField (front_of text) → 44 ≤ last_of text → IsField text
+front_last_high : (text : List ℕ) → IsField (front_of text) → 44 ≤ last_byte text → IsField text
 front_last_high text front last = from_bytes text (λ i below. elim (cases_lt i (length text - 1)) [
   | inl before ↦
       let size : length (front_of text) ≡ length text - 1 = length-take-le (length text - 1) text (omega arith) in
@@ -113,17 +113,17 @@ exit_high : (states low limit : ℕ) (text : List ℕ) (o : Option Transition) �
 unfolding exit_from
 exit_high states low limit text o =
     elim (bytes_eq text (45 ∷ [])) as (λ b. bytes_eq text (45 ∷ []) ≡ b → (if b then Some None
-    else if is_letter (last_of text) then
-    option_and_then (λ to. option_map (λ x. Some (record { to = to; count = Some (record { number = x }) })) (ranged_count low limit (last_of text)))
+    else if is_letter (last_byte text) then
+    option_and_then (λ to. option_map (λ x. Some (record { to = to; count = Some (record { number = x }) })) (ranged_count low limit (last_byte text)))
     (ranged_number 0 states (front_of text))
     else option_map (λ to. Some (record { to = to; count = None })) (ranged_number 0 states text)) ≡ Some o → IsField text) [
       | true ↦ λ is e. byte_high 45 text (omega arith) is
-      | false ↦ λ not. elim (is_letter (last_of text)) as (λ b. is_letter (last_of text) ≡ b → (if b then
-          option_and_then (λ to. option_map (λ x. Some (record { to = to; count = Some (record { number = x }) })) (ranged_count low limit (last_of text)))
+      | false ↦ λ not. elim (is_letter (last_byte text)) as (λ b. is_letter (last_byte text) ≡ b → (if b then
+          option_and_then (λ to. option_map (λ x. Some (record { to = to; count = Some (record { number = x }) })) (ranged_count low limit (last_byte text)))
           (ranged_number 0 states (front_of text))
           else option_map (λ to. Some (record { to = to; count = None })) (ranged_number 0 states text)) ≡ Some o → IsField text) [
-            | true ↦ λ letter e. option_and_then_some (λ to. option_map (λ x. Some (record { to = to; count = Some (record { number = x }) })) (ranged_count low limit (last_of text)))
-                (ranged_number 0 states (front_of text)) o e (λ to read by. front_last_high text (number_high 0 states (front_of text) to read) (letter_high (last_of text) letter))
+            | true ↦ λ letter e. option_and_then_some (λ to. option_map (λ x. Some (record { to = to; count = Some (record { number = x }) })) (ranged_count low limit (last_byte text)))
+                (ranged_number 0 states (front_of text)) o e (λ to read by. front_last_high text (number_high 0 states (front_of text) to read) (letter_high (last_byte text) letter))
             | false ↦ λ letter e.
                 let (to, read, same) = from_map (λ to. Some (record { to = to; count = None })) (ranged_number 0 states text) o e in
                 number_high 0 states text to read
@@ -173,9 +173,9 @@ signed_high text n = elim (slice_index text 0 == 45) as (λ b. slice_index text 
 terms_are_high : (limit low : ℕ) (numbers : List ℤ) (terms : List (List ℕ)) (all : List ℤ) → terms_from limit low numbers terms ≡ Some all → All IsField terms
 terms_are_high limit low numbers [] all is = no_fields
 terms_are_high limit low numbers (term ∷ terms) all is =
-    option_and_then_some (λ x. option_and_then (λ n. terms_from limit (x + 1) (set numbers x n) terms) (signed_from (front_of term))) (ranged_count low limit (last_of term)) all is (λ x count by.
+    option_and_then_some (λ x. option_and_then (λ n. terms_from limit (x + 1) (set numbers x n) terms) (signed_from (front_of term))) (ranged_count low limit (last_byte term)) all is (λ x count by.
     option_and_then_some (λ n. terms_from limit (x + 1) (set numbers x n) terms) (signed_from (front_of term)) all by (λ n read rest.
-    All-cons IsField term terms (front_last_high term (signed_high (front_of term) n read) (count_high low limit (last_of term) x count))
+    All-cons IsField term terms (front_last_high term (signed_high (front_of term) n read) (count_high low limit (last_byte term) x count))
     (terms_are_high limit (x + 1) (set numbers x n) terms all rest)))
 
 numbers_high : (limit : ℕ) (text : List ℕ) (numbers : List ℤ) → numbers_from limit text ≡ Some numbers → IsField text
@@ -275,17 +275,17 @@ pub record AreHigh (t : CosetTexts) : Type 0 where
   pub right : IsField t.right
   pub cosets : IsField t.cosets
 
-sizes_high : (t : CosetTexts) (l r : ℕ) (w : Counted) → counted_by_sizes t l r ≡ Some w → AreHigh t
+sizes_high : (t : CosetTexts) (l r : ℕ) (w : CountedSystem) → counted_by_sizes t l r ≡ Some w → AreHigh t
 unfolding counted_by_sizes
 sizes_high t l r w is =
     let shape : Shape = record { states = t.states; left = l; right = r; counts = t.left_counts + t.right_counts } in
     option_and_then_some (λ (left : List Exits). option_and_then (λ (right : List Exits). option_map (λ (items : List ItemOf).
-    record { split = t.left_counts; left = delta_of left; right = delta_of right; items = items }) (items_from shape None (parts_of 44 t.cosets)))
+    record { split = t.left_counts; left = transitions_of left; right = transitions_of right; items = items }) (items_from shape None (parts_of 44 t.cosets)))
     (automaton_from r t.left_counts (t.left_counts + t.right_counts) (parts_of 44 t.right))) (automaton_from l 0 t.left_counts (parts_of 44 t.left)) w is (λ left one by.
     option_and_then_some (λ (right : List Exits). option_map (λ (items : List ItemOf).
-    record { split = t.left_counts; left = delta_of left; right = delta_of right; items = items }) (items_from shape None (parts_of 44 t.cosets)))
+    record { split = t.left_counts; left = transitions_of left; right = transitions_of right; items = items }) (items_from shape None (parts_of 44 t.cosets)))
     (automaton_from r t.left_counts (t.left_counts + t.right_counts) (parts_of 44 t.right)) w by (λ right two by.
-    let (items, three, same) = from_map (λ (items : List ItemOf). record { split = t.left_counts; left = delta_of left; right = delta_of right; items = items })
+    let (items, three, same) = from_map (λ (items : List ItemOf). record { split = t.left_counts; left = transitions_of left; right = transitions_of right; items = items })
     (items_from shape None (parts_of 44 t.cosets)) w by in
     record {
       left = split_high 44 (omega arith) t.left (automaton_high l 0 t.left_counts (parts_of 44 t.left) left one);
@@ -293,7 +293,7 @@ sizes_high t l r w is =
       cosets = split_high 44 (omega arith) t.cosets (items_high shape None (parts_of 44 t.cosets) items three);
     }))
 
-pub texts_high : (t : CosetTexts) (w : Counted) → counted_in t ≡ Some w → AreHigh t
+pub texts_high : (t : CosetTexts) (w : CountedSystem) → counted_in t ≡ Some w → AreHigh t
 unfolding counted_in
 texts_high t w is =
     option_and_then_some (λ l. option_and_then (λ r. counted_by_sizes t l r) (half_states (parts_of 44 t.right))) (half_states (parts_of 44 t.left)) w is (λ l left by.

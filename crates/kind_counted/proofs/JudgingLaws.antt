@@ -8,7 +8,7 @@ use Rattle.kind_counted.specs.declared.item.Item.{Item}
 use Rattle.kind_counted.specs.Cosets.{Point, Coset, IsMember}
 use Rattle.kind_counted.specs.Counted.{Item as ItemOf, Settled, None_remains, Negative, Members}
 use Rattle.kind_counted.specs.Items.{coset_of, item_of}
-use Rattle.kind_counted.specs.inside.Points.{IsNegative, IsWithin}
+use Rattle.kind_counted.specs.inside.Points.{IsNegative, LiesWithin}
 use Rattle.kind_counted.specs.inside.Judging.{locals, IsItemAt, AreDifferent}
 use Rattle.kind_counted.proofs.LeftLaws.{base_member}
 
@@ -48,7 +48,7 @@ one_coset items different i item c k below is at has =
     ]
 
 -- points that settle, and are not all negative in one count, lie within a coset
-pub settled_within : (p : Coset) (next : Coset → Type 0) → (IsNegative p → ⊥) → Settled (IsMember p) next → (k : Coset) × next k × IsWithin p k
+pub settled_within : (p : Coset) (next : Coset → Type 0) → (IsNegative p → ⊥) → Settled (IsMember p) next → (k : Coset) × next k × LiesWithin p k
 settled_within p next not (None_remains none) = absurd (none p.base (base_member p))
 settled_within p next not (Negative x n below same) = absurd (not (record { place = x; number = n; below = below; same = same }))
 settled_within p next not (Members k has each) = (k, has, record { each = each })

@@ -9,7 +9,7 @@ use Rattle.kind_counted.specs.Numbers.{point_of}
 use Rattle.kind_counted.specs.declared.numbers.Counts.{Counts}
 use Rattle.kind_counted.specs.inside.Rows.{IsCleared}
 use Rattle.kind_counted.specs.inside.Spans.{SameSums, IsParted, listed, IsSplit}
-use Rattle.kind_counted.specs.inside.Points.{coset_by, AreKept}
+use Rattle.kind_counted.specs.inside.Points.{coset_by, AreZeroMembers}
 use Rattle.kind_counted.proofs.Products.{mul_sub}
 use Rattle.kind_counted.proofs.Divisions.{divides}
 use Rattle.kind_counted.proofs.Sums.{sum_same, sum_none, pivot_tells}
@@ -76,7 +76,7 @@ split_parted rows place rest carrier row first other parted split =
 -- the base is further from a member by minus what the member is further from the base
 module _ (base : Counts) (rows : List Counts) (rest : List Counts) (place : ℕ) where
   -- there is no carrier, and the base is 0 in the place
-  pub kept_all : IsSplit (listed rows) place None (listed rest) → point_of base.numbers place ≡ pos 0 → AreKept (coset_by base rows) place (coset_by base rest)
+  pub kept_all : IsSplit (listed rows) place None (listed rest) → point_of base.numbers place ≡ pos 0 → AreZeroMembers (coset_by base rows) place (coset_by base rest)
   kept_all split none = record {
     each = λ v member here. record { sum = split.same.forth (λ x. v x -ℤ point_of base.numbers x) member.sum };
     old_ones = λ v member. record { sum = split.same.back (λ x. v x -ℤ point_of base.numbers x) member.sum };
@@ -95,7 +95,7 @@ module _ (base : Counts) (rows : List Counts) (rest : List Counts) (place : ℕ)
 
   -- the carrier is taken off the base
   pub kept_cleared : (carrier new : Counts) → IsSplit (listed rows) place (Some carrier) (listed rest) →
-      IsCleared (point_of base.numbers) (point_of carrier.numbers) place (point_of new.numbers) → AreKept (coset_by base rows) place (coset_by new rest)
+      IsCleared (point_of base.numbers) (point_of carrier.numbers) place (point_of new.numbers) → AreZeroMembers (coset_by base rows) place (coset_by new rest)
   kept_cleared carrier new split cleared = record {
     each = λ v member here.
         let sum : IsSum (c ∷ listed rest) (λ x. v x -ℤ b x) = split.same.forth (λ x. v x -ℤ b x) member.sum in

@@ -9,8 +9,8 @@ use Rattle.kind_counted.specs.Cosets.{Point, zeros, less, IsSum, Coset, IsMember
 use Rattle.kind_counted.specs.Counted.{once}
 use Rattle.kind_counted.specs.Numbers.{point_of}
 use Rattle.kind_counted.specs.inside.Spans.{listed}
-use Rattle.kind_counted.specs.inside.Used.{has}
-use Rattle.kind_counted.specs.inside.Points.{AreMoved, AreKept, IsZeroIn, AreKeptIn, AreZeroAt, IsNegativeAt, IsNegative, AreSumsOf, IsWithin}
+use Rattle.kind_counted.specs.inside.Used.{in_set}
+use Rattle.kind_counted.specs.inside.Points.{AreMoved, AreZeroMembers, IsZeroIn, AreKeptIn, AreZeroAt, IsNegativeAt, IsNegative, AreSumsOf, LiesWithin}
 use Rattle.kind_counted.proofs.Sums.{plus, sum_same, sum_zero, sum_plus, sum_less, less_sum, sum_more, sum_first, sum_none, one-*ℤ}
 
 -- the base moves, the rows stay
@@ -65,19 +65,19 @@ never_join k a from x to set order below first never v member none =
     (record { each = λ y high low not. none.each y (omega arith) (omega arith) not })
 
 -- a place that is in the set, and one that isn't
-pub kept_used : (k : Coset) (x set : ℕ) → has set x ≡ true → AreKeptIn k x (x + 1) set k
+pub kept_used : (k : Coset) (x set : ℕ) → in_set set x ≡ true → AreKeptIn k x (x + 1) set k
 kept_used k x set is = record {
   each = λ v member none. member;
   old_ones = λ v member. member;
   zero = λ v member. record {
     each = λ y high low not.
         let same : y ≡ x = omega arith in
-        let clash : false ≡ true = sym not ∙ ap (has set) same ∙ is in
+        let clash : false ≡ true = sym not ∙ ap (in_set set) same ∙ is in
         absurd (cc);
   };
 }
 
-pub kept_unused : (k new : Coset) (x set : ℕ) → has set x ≡ false → AreKept k x new → AreKeptIn k x (x + 1) set new
+pub kept_unused : (k new : Coset) (x set : ℕ) → in_set set x ≡ false → AreZeroMembers k x new → AreKeptIn k x (x + 1) set new
 kept_unused k new x set is kept = record {
   each = λ v member none. kept.each v member (none.each x (omega arith) (omega arith) is);
   old_ones = kept.old_ones;
@@ -128,7 +128,7 @@ sums_of_rows others [] v each sum = sum_zero others v sum
 sums_of_rows others (row ∷ rows) v each sum = less_sum others v sum.0 row (sums_of_rows others rows (less v sum.0 row) (λ j. each (suc j)) sum.1) (each 0)
 
 -- a coset lies within another one where its base and its rows do
-pub within_from : (k other : Coset) → IsSum other.rows (λ x. k.base x -ℤ other.base x) → AreSumsOf other.rows k.rows → IsWithin k other
+pub within_from : (k other : Coset) → IsSum other.rows (λ x. k.base x -ℤ other.base x) → AreSumsOf other.rows k.rows → LiesWithin k other
 within_from k other base rows = record {
   each = λ v member. record {
     sum = sum_same other.rows (plus (λ x. v x -ℤ k.base x) (λ x. k.base x -ℤ other.base x)) (λ x. v x -ℤ other.base x) (λ x. omega (arith, ints))
@@ -136,10 +136,10 @@ within_from k other base rows = record {
   };
 }
 
-pub within_base : (k other : Coset) → IsWithin k other → IsSum other.rows (λ x. k.base x -ℤ other.base x)
+pub within_base : (k other : Coset) → LiesWithin k other → IsSum other.rows (λ x. k.base x -ℤ other.base x)
 within_base k other within = (within.each k.base (base_member k)).sum
 
-pub within_rows : (k other : Coset) → IsWithin k other → AreSumsOf other.rows k.rows
+pub within_rows : (k other : Coset) → LiesWithin k other → AreSumsOf other.rows k.rows
 within_rows k other within = record {
   each = λ j. sum_same other.rows
       (less (λ x. plus k.base (get_or k.rows j zeros) x -ℤ other.base x) (pos 1) (λ x. k.base x -ℤ other.base x)) (get_or k.rows j zeros)

@@ -13,7 +13,7 @@ use Rattle.law_turing.specs.Translated.{Beyond}
 use Rattle.law_turing.specs.Automata.{behind, symbols_ahead}
 use Rattle.law_turing.proofs.OneState.{start_blank}
 use Rattle.kind_counted.specs.declared.automaton.Transition.{Transition}
-use Rattle.kind_counted.specs.Counted.{Delta, Reading, begun, further, further_by, read_on, reading, IsRead}
+use Rattle.kind_counted.specs.Counted.{Delta, Reading, begun, further, further_by, read_on, reading, IsHalfRead}
 
 -- the transition by a blank cell far away
 abbrev pub unmoved : Transition
@@ -78,7 +78,7 @@ ahead_same side c d x (suc far) same =
     ap (λ w. cell d x ∷ w) (ahead_same side c d (moved_head x side) far (λ y beyond. same y (beyond_more side x y beyond)))
 
 pub read_same : (a : Delta) (side : Dir) (c d : Config) (x : ℤ) (r : Reading) → ((y : ℤ) → Beyond side x y → cell c y ≡ cell d y) →
-    IsRead a side c x r → IsRead a side d x r
+    IsHalfRead a side c x r → IsHalfRead a side d x r
 read_same a side c d x r same read = record {
   far = read.far;
   blank = λ y beyond. sym (same y (beyond_far side x y read.far beyond)) ∙ read.blank y beyond;
@@ -87,7 +87,7 @@ read_same a side c d x r same read = record {
 
 -- one cell more
 pub read_more : (a : Delta) (side : Dir) (c : Config) (x : ℤ) (r : Reading) (t : Transition) →
-    IsRead a side c (moved_head x side) r → a r.state (cell c x) ≡ Some t → IsRead a side c x (further r t)
+    IsHalfRead a side c (moved_head x side) r → a r.state (cell c x) ≡ Some t → IsHalfRead a side c x (further r t)
 read_more a side c x r t read has = record {
   far = suc read.far;
   blank = λ y beyond. read.blank y (beyond_next side x y read.far beyond);
@@ -95,13 +95,13 @@ read_more a side c x r t read has = record {
 }
 
 -- one cell less
-pub read_less : (a : Delta) (side : Dir) (c : Config) (x : ℤ) (r : Reading) → a 0 Zero ≡ Some unmoved → IsRead a side c x r →
-    (p : Reading) × (t : Transition) × IsRead a side c (moved_head x side) p × (a p.state (cell c x) ≡ Some t) × (further p t ≡ r)
+pub read_less : (a : Delta) (side : Dir) (c : Config) (x : ℤ) (r : Reading) → a 0 Zero ≡ Some unmoved → IsHalfRead a side c x r →
+    (p : Reading) × (t : Transition) × IsHalfRead a side c (moved_head x side) p × (a p.state (cell c x) ≡ Some t) × (further p t ≡ r)
 unfolding reading
 read_less a side c x r blank read = go read.far read.blank read.is
   where
     go : (far : ℕ) → ((y : ℤ) → Beyond side (behind (opposite side) x far) y → cell c y ≡ Zero) → reading a (symbols_ahead side c x far) ≡ Some r →
-        (p : Reading) × (t : Transition) × IsRead a side c (moved_head x side) p × (a p.state (cell c x) ≡ Some t) × (further p t ≡ r)
+        (p : Reading) × (t : Transition) × IsHalfRead a side c (moved_head x side) p × (a p.state (cell c x) ≡ Some t) × (further p t ≡ r)
     go zero zeros is = (
       begun,
       unmoved,
@@ -114,6 +114,6 @@ read_less a side c x r blank read = go read.far read.blank read.is
         (p, t, record { far = far; blank = λ y beyond. zeros y (beyond_back side x y far beyond); is = before }, has, same)
 
 -- the blank tape
-pub read_blank : (a : Delta) (side : Dir) (x : ℤ) → IsRead a side start x begun
+pub read_blank : (a : Delta) (side : Dir) (x : ℤ) → IsHalfRead a side start x begun
 unfolding reading
 read_blank a side x = record { far = 0; blank = λ y beyond. start_blank y; is = refl }

@@ -16,23 +16,23 @@ use Rattle.kind_counted.specs.declared.automaton.Transition.{Transition}
 use Rattle.kind_counted.specs.declared.numbers.Counts.{Counts}
 use Rattle.kind_counted.specs.declared.local.Local.{Local}
 use Rattle.kind_counted.specs.Cosets.{Point, zeros, Coset, IsMember}
-use Rattle.kind_counted.specs.Counted.{Delta, Counted, HasCoset, delta, IsOf, state_on, moved_to, Remains, Settled, StepsTo}
+use Rattle.kind_counted.specs.Counted.{Delta, CountedSystem, HasCoset, delta, IsOf, state_on, moved_to, Remains, Settled, LeadsOn}
 use Rattle.kind_counted.specs.Numbers.{point_of}
-use Rattle.kind_counted.specs.Automata.{no_exits, exit_by, delta_of}
+use Rattle.kind_counted.specs.Automata.{no_exits, exit_by, transitions_of}
 use Rattle.kind_counted.specs.inside.Spans.{listed}
-use Rattle.kind_counted.specs.inside.Used.{has, IsUsedTable}
+use Rattle.kind_counted.specs.inside.Used.{in_set, IsUsedTable}
 use Rattle.kind_counted.specs.inside.Points.{coset_by, AreMoved, IsZeroIn, AreKeptIn}
-use Rattle.kind_counted.specs.inside.Judging.{first_of, end_of, SettlesFrom, AreSettled, Settles}
+use Rattle.kind_counted.specs.inside.Judging.{first_of, end_of, SettlesFrom, AreSettled, AllSettle}
 use Rattle.kind_counted.proofs.PointLaws.{past_end}
 use Rattle.kind_counted.proofs.Sums.{sum_none}
 use Rattle.kind_counted.proofs.UsedLaws.{unused_law}
 use Rattle.kind_counted.proofs.WitnessLaws.{unused_back}
 
-own_range : (w : Counted) (side : Dir) (x : ℕ) → first_of w.split side ≤ x → x < end_of w.split side → IsOf w side x
+own_range : (w : CountedSystem) (side : Dir) (x : ℕ) → first_of w.split side ≤ x → x < end_of w.split side → IsOf w side x
 own_range w L x high low = low
 own_range w R x high low = high
 
-range_own : (w : Counted) (side : Dir) (x : ℕ) → IsOf w side x → x < 52 → (first_of w.split side ≤ x) × (x < end_of w.split side)
+range_own : (w : CountedSystem) (side : Dir) (x : ℕ) → IsOf w side x → x < 52 → (first_of w.split side ≤ x) × (x < end_of w.split side)
 range_own w L x own small = (omega arith, own)
 range_own w R x own small = (own, small)
 
@@ -57,7 +57,7 @@ member_past base rows v x past member =
           ap (λ (v : Point). v x) (get_or_past (listed rows) j zeros (omega arith))
     ]
 
-module _ (w : Counted) (k : Coset) (side : Dir) (t u : Transition) (q : ℕ) (sets : List ℕ) (table : IsUsedTable (delta w side) sets) (a : Coset)
+module _ (w : CountedSystem) (k : Coset) (side : Dir) (t u : Transition) (q : ℕ) (sets : List ℕ) (table : IsUsedTable (delta w side) sets) (a : Coset)
     (moved : AreMoved k t.count u.count a) (from to : ℕ) (from_is : from ≡ first_of w.split side) (to_is : to ≡ end_of w.split side) where
   -- what is left is 0 in the unused counts
   left_zero : (v : Point) → Remains w k side t u q v → IsZeroIn from to (slice_index sets q) v
@@ -90,34 +90,34 @@ module _ (w : Counted) (k : Coset) (side : Dir) (t u : Transition) (q : ℕ) (se
           | inl small ↦
               let (high, low) = range_own w side x own small in
               (kept.zero v member).each x (subst (λ n. n ≤ x) (sym from_is) high) (subst (λ n. x < n) (sym to_is) low)
-              (not_has (has (slice_index sets q) x) (unused_back (delta w side) sets q x table.witnessed small unused))
+              (not_has (in_set (slice_index sets q) x) (unused_back (delta w side) sets q x table.witnessed small unused))
           | inr past ↦ member_past base rows v x past member
         ];
       }
 
 -- a transition that there is
-pub settles_by : (w : Counted) (c : Local) (k : Coset) (side : Dir) (by : Transition) (next : State) (q : ℕ) (b : Sym) (last : Transition) → delta w side q b ≡ Some last →
+pub settles_by : (w : CountedSystem) (c : Local) (k : Coset) (side : Dir) (by : Transition) (next : State) (q : ℕ) (b : Sym) (last : Transition) → delta w side q b ≡ Some last →
     Settled (Remains w k side by last q) (HasCoset w (moved_to side by.to next b q)) → SettlesFrom w c k side by next q b
 settles_by w c k side by next q b last is settled = record {
   each = λ u also to. subst (λ u. Settled (Remains w k side by u q) (HasCoset w (moved_to side by.to next b q))) (same_Some last u (sym is ∙ also)) settled;
 }
 
 -- one that comes to another state
-pub settles_other : (w : Counted) (c : Local) (k : Coset) (side : Dir) (by : Transition) (next : State) (q : ℕ) (b : Sym) (last : Transition) → delta w side q b ≡ Some last →
+pub settles_other : (w : CountedSystem) (c : Local) (k : Coset) (side : Dir) (by : Transition) (next : State) (q : ℕ) (b : Sym) (last : Transition) → delta w side q b ≡ Some last →
     (last.to ≡ state_on side c → ⊥) → SettlesFrom w c k side by next q b
 settles_other w c k side by next q b last is other = record {
   each = λ u also to. absurd (other (ap (λ (t : Transition). t.to) (same_Some last u (sym is ∙ also)) ∙ to));
 }
 
 -- none
-pub settles_none : (w : Counted) (c : Local) (k : Coset) (side : Dir) (by : Transition) (next : State) (q : ℕ) (b : Sym) → delta w side q b ≡ None → SettlesFrom w c k side by next q b
+pub settles_none : (w : CountedSystem) (c : Local) (k : Coset) (side : Dir) (by : Transition) (next : State) (q : ℕ) (b : Sym) → delta w side q b ≡ None → SettlesFrom w c k side by next q b
 settles_none w c k side by next q b none = record { each = λ u is. absurd (none-some u (sym none ∙ is)) }
 
 -- one state more, and all
-pub settled_first : (w : Counted) (c : Local) (k : Coset) (side : Dir) (by : Transition) (next : State) → AreSettled w c k side by next 0
+pub settled_first : (w : CountedSystem) (c : Local) (k : Coset) (side : Dir) (by : Transition) (next : State) → AreSettled w c k side by next 0
 settled_first w c k side by next = record { each = λ q b less. absurd (omega arith) }
 
-pub settled_more : (w : Counted) (c : Local) (k : Coset) (side : Dir) (by : Transition) (next : State) (q : ℕ) → AreSettled w c k side by next q →
+pub settled_more : (w : CountedSystem) (c : Local) (k : Coset) (side : Dir) (by : Transition) (next : State) (q : ℕ) → AreSettled w c k side by next q →
     SettlesFrom w c k side by next q Zero → SettlesFrom w c k side by next q One → AreSettled w c k side by next (q + 1)
 settled_more w c k side by next q before zero one = record {
   each = λ p b less. elim (cases_eq p q) [
@@ -130,8 +130,8 @@ settled_more w c k side by next q before zero one = record {
     here Zero = zero
     here One = one
 
-pub settled_all : (w : Counted) (c : Local) (k : Coset) (side : Dir) (by : Transition) (next : State) (states : List Exits) → delta_of states ≡ delta w side →
-    AreSettled w c k side by next (length states) → Settles w c k side by next
+pub settled_all : (w : CountedSystem) (c : Local) (k : Coset) (side : Dir) (by : Transition) (next : State) (states : List Exits) → transitions_of states ≡ delta w side →
+    AreSettled w c k side by next (length states) → AllSettle w c k side by next
 settled_all w c k side by next states is all = record {
   each = λ q b. elim (cases_lt q (length states)) [
     | inl below ↦ all.each q b below
@@ -145,11 +145,11 @@ settled_all w c k side by next states is all = record {
     nothing One = refl
 
 -- the step of an entry: the transition that reads what it writes, and what then settles
-pub steps_from : (w : Counted) (c : Local) (k : Coset) (write : Sym) (next : State) (side : Dir) (by : Transition) →
-    delta w (opposite side) (state_on (opposite side) c) write ≡ Some by → Settles w c k side by next → StepsTo w c k write next side
+pub steps_from : (w : CountedSystem) (c : Local) (k : Coset) (write : Sym) (next : State) (side : Dir) (by : Transition) →
+    delta w (opposite side) (state_on (opposite side) c) write ≡ Some by → AllSettle w c k side by next → LeadsOn w c k write next side
 steps_from w c k write next side by is settles = record { by = by; is = is; settles = λ q b u. (settles.each q b).each u }
 
-pub steps_back : (w : Counted) (c : Local) (k : Coset) (write : Sym) (next : State) (side : Dir) (by : Transition) →
-    delta w (opposite side) (state_on (opposite side) c) write ≡ Some by → StepsTo w c k write next side → Settles w c k side by next
+pub steps_back : (w : CountedSystem) (c : Local) (k : Coset) (write : Sym) (next : State) (side : Dir) (by : Transition) →
+    delta w (opposite side) (state_on (opposite side) c) write ≡ Some by → LeadsOn w c k write next side → AllSettle w c k side by next
 steps_back w c k write next side by is steps =
-    subst (λ t. Settles w c k side t next) (same_Some steps.by by (sym steps.is ∙ is)) (record { each = λ q b. record { each = steps.settles q b } })
+    subst (λ t. AllSettle w c k side t next) (same_Some steps.by by (sym steps.is ∙ is)) (record { each = λ q b. record { each = steps.settles q b } })

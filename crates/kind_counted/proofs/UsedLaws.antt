@@ -7,11 +7,11 @@ use Rattle.std.proofs.lemmas.Option.{same_Some}
 use Rattle.machine_text.specs.declared.transition.Sym.{Sym}
 use Rattle.kind_counted.specs.declared.count.Count.{Count}
 use Rattle.kind_counted.specs.Counted.{Delta, once, Reading, begun, reading, IsUnused}
-use Rattle.kind_counted.specs.inside.Used.{has, reached, Includes, IncludedBy, AreUsed, total}
+use Rattle.kind_counted.specs.inside.Used.{in_set, reached, Includes, IncludedBy, AreUsed, total}
 use Rattle.machine_text.specs.declared.transition.Sym.TheVariants.{Zero, One}
 use Rattle.std.proofs.lemmas.List.{get_or_past, get_or-set_same, get_or-set_other}
 use Rattle.kind_counted.specs.declared.automaton.Exits.{Exits}
-use Rattle.kind_counted.specs.Automata.{no_exits, exit_by, delta_of}
+use Rattle.kind_counted.specs.Automata.{no_exits, exit_by, transitions_of}
 use Rattle.kind_counted.proofs.Bits.{has_left}
 use Rattle.kind_counted.proofs.Readings.{reading_less}
 
@@ -22,11 +22,11 @@ once_own (Some y) x some = (y, refl, grind (arith, nat_tests))
 
 -- of each word that is read, the counts are in the set of its state
 word_used : (a : Delta) (sets : List ℕ) → AreUsed a sets → (w : List Sym) (r : Reading) → reading a w ≡ Some r →
-    IsTrue (has (slice_index sets r.state) reached) × ((x : ℕ) → 0 < r.times x → IsTrue (has (slice_index sets r.state) x))
+    IsTrue (in_set (slice_index sets r.state) reached) × ((x : ℕ) → 0 < r.times x → IsTrue (in_set (slice_index sets r.state) x))
 unfolding reading
 word_used a sets used [] r is =
     let same : begun ≡ r = same_Some begun r is in (
-      subst (λ (r : Reading). IsTrue (has (slice_index sets r.state) reached)) same used.start,
+      subst (λ (r : Reading). IsTrue (in_set (slice_index sets r.state) reached)) same used.start,
       λ x some. let none : 0 ≡ r.times x = ap (λ (r : Reading). r.times x) same in absurd (omega arith),
     )
 word_used a sets used (s ∷ w) r is =
@@ -34,21 +34,21 @@ word_used a sets used (s ∷ w) r is =
     let (there, counted) = word_used a sets used w p before in
     let included : Includes (slice_index sets p.state) t.count (slice_index sets t.to) = subst (IncludedBy sets (slice_index sets p.state)) by (used.each p.state s there) in
     let state : t.to ≡ r.state = ap (λ (r : Reading). r.state) same in (
-      subst (λ q. IsTrue (has (slice_index sets q) reached)) state (included.part reached there),
+      subst (λ q. IsTrue (in_set (slice_index sets q) reached)) state (included.part reached there),
       λ x some.
           let sum : p.times x + once t.count x ≡ r.times x = ap (λ (r : Reading). r.times x) same in
-          subst (λ q. IsTrue (has (slice_index sets q) x)) state (elim (cases_lt 0 (p.times x)) [
+          subst (λ q. IsTrue (in_set (slice_index sets q) x)) state (elim (cases_lt 0 (p.times x)) [
             | inl earlier ↦ included.part x (counted x earlier)
-            | inr never ↦ let (y, own, number) = once_own t.count x (omega arith) in subst (λ n. IsTrue (has (slice_index sets t.to) n)) number (included.own y own)
+            | inr never ↦ let (y, own, number) = once_own t.count x (omega arith) in subst (λ n. IsTrue (in_set (slice_index sets t.to) n)) number (included.own y own)
           ]),
     )
 
 -- what is not in the set of a state is unused there
-pub unused_law : (a : Delta) (sets : List ℕ) (q x : ℕ) → AreUsed a sets → has (slice_index sets q) x ≡ false → IsUnused a q x
+pub unused_law : (a : Delta) (sets : List ℕ) (q x : ℕ) → AreUsed a sets → in_set (slice_index sets q) x ≡ false → IsUnused a q x
 unused_law a sets q x used not = record {
   each = λ w r is same. elim (cases_lt 0 (r.times x)) [
     | inl some ↦
-        let there : has (slice_index sets q) x ≡ true = subst (λ q. IsTrue (has (slice_index sets q) x)) same ((word_used a sets used w r is).1 x some) in
+        let there : in_set (slice_index sets q) x ≡ true = subst (λ q. IsTrue (in_set (slice_index sets q) x)) same ((word_used a sets used w r is).1 x some) in
         let clash : false ≡ true = sym not ∙ there in
         absurd (cc)
     | inr none ↦ omega arith
@@ -57,10 +57,10 @@ unused_law a sets q x used not = record {
 
 -- the sets of so many states hold what they have to
 pub record AreUsedTo (states : List Exits) (sets : List ℕ) (reach : ℕ) : Type 0 where
-  pub zero : (q : ℕ) → q < reach → IsTrue (has (slice_index sets q) reached) → IncludedBy sets (slice_index sets q) (get_or states q no_exits).zero
-  pub one : (q : ℕ) → q < reach → IsTrue (has (slice_index sets q) reached) → IncludedBy sets (slice_index sets q) (get_or states q no_exits).one
+  pub zero : (q : ℕ) → q < reach → IsTrue (in_set (slice_index sets q) reached) → IncludedBy sets (slice_index sets q) (get_or states q no_exits).zero
+  pub one : (q : ℕ) → q < reach → IsTrue (in_set (slice_index sets q) reached) → IncludedBy sets (slice_index sets q) (get_or states q no_exits).one
 
-pub used_all : (states : List Exits) (sets : List ℕ) → IsTrue (has (slice_index sets 0) reached) → AreUsedTo states sets (length states) → AreUsed (delta_of states) sets
+pub used_all : (states : List Exits) (sets : List ℕ) → IsTrue (in_set (slice_index sets 0) reached) → AreUsedTo states sets (length states) → AreUsed (transitions_of states) sets
 used_all states sets start are = record {
   start = start;
   each = λ q s. elim (cases_lt q (length states)) [
@@ -69,7 +69,7 @@ used_all states sets start are = record {
   ];
 }
   where
-    inside : (q : ℕ) → q < length states → (s : Sym) → IsTrue (has (slice_index sets q) reached) → IncludedBy sets (slice_index sets q) (delta_of states q s)
+    inside : (q : ℕ) → q < length states → (s : Sym) → IsTrue (in_set (slice_index sets q) reached) → IncludedBy sets (slice_index sets q) (transitions_of states q s)
     inside q below Zero there = are.zero q below there
     inside q below One there = are.one q below there
 
@@ -92,17 +92,17 @@ pub used_first : (states : List Exits) (sets : List ℕ) → AreUsedTo states se
 used_first states sets = record { zero = λ q less. absurd (omega arith); one = λ q less. absurd (omega arith) }
 
 pub used_more : (states : List Exits) (sets : List ℕ) (k : ℕ) → AreUsedTo states sets k →
-    (IsTrue (has (slice_index sets k) reached) → IncludedBy sets (slice_index sets k) (delta_of states k Zero)) →
-    (IsTrue (has (slice_index sets k) reached) → IncludedBy sets (slice_index sets k) (delta_of states k One)) → AreUsedTo states sets (k + 1)
+    (IsTrue (in_set (slice_index sets k) reached) → IncludedBy sets (slice_index sets k) (transitions_of states k Zero)) →
+    (IsTrue (in_set (slice_index sets k) reached) → IncludedBy sets (slice_index sets k) (transitions_of states k One)) → AreUsedTo states sets (k + 1)
 used_more states sets k before by_zero by_one = record {
-  zero = below_more (λ q. IsTrue (has (slice_index sets q) reached) → IncludedBy sets (slice_index sets q) (get_or states q no_exits).zero) k before.zero by_zero;
-  one = below_more (λ q. IsTrue (has (slice_index sets q) reached) → IncludedBy sets (slice_index sets q) (get_or states q no_exits).one) k before.one by_one;
+  zero = below_more (λ q. IsTrue (in_set (slice_index sets q) reached) → IncludedBy sets (slice_index sets q) (get_or states q no_exits).zero) k before.zero by_zero;
+  one = below_more (λ q. IsTrue (in_set (slice_index sets q) reached) → IncludedBy sets (slice_index sets q) (get_or states q no_exits).one) k before.one by_one;
 }
 
 -- a set that is larger keeps what it has
-pub path_kept : (sets : List ℕ) (i more : ℕ) → i < length sets → IsTrue (has (slice_index sets 0) reached) → IsTrue (has (slice_index (set sets i (bit_or (get_or sets i 0) more)) 0) reached)
+pub path_kept : (sets : List ℕ) (i more : ℕ) → i < length sets → IsTrue (in_set (slice_index sets 0) reached) → IsTrue (in_set (slice_index (set sets i (bit_or (get_or sets i 0) more)) 0) reached)
 path_kept sets i more below is = elim (cases_eq 0 i) [
-  | inl same ↦ subst (λ n. IsTrue (has n reached)) (sym (ap (λ k. get_or (set sets i (bit_or (get_or sets i 0) more)) k 0) same ∙ get_or-set_same sets i (bit_or (get_or sets i 0) more) 0 below))
-      (has_left (get_or sets i 0) more reached (subst (λ k. IsTrue (has (get_or sets k 0) reached)) same is))
-  | inr other ↦ subst (λ n. IsTrue (has n reached)) (sym (get_or-set_other sets i 0 (bit_or (get_or sets i 0) more) 0 other)) is
+  | inl same ↦ subst (λ n. IsTrue (in_set n reached)) (sym (ap (λ k. get_or (set sets i (bit_or (get_or sets i 0) more)) k 0) same ∙ get_or-set_same sets i (bit_or (get_or sets i 0) more) 0 below))
+      (has_left (get_or sets i 0) more reached (subst (λ k. IsTrue (in_set (get_or sets k 0) reached)) same is))
+  | inr other ↦ subst (λ n. IsTrue (in_set n reached)) (sym (get_or-set_other sets i 0 (bit_or (get_or sets i 0) more) 0 other)) is
 ]

@@ -11,12 +11,12 @@ use Rattle.kind_counted.specs.declared.count.Count.{Count}
 use Rattle.kind_counted.specs.declared.automaton.Transition.{Transition}
 use Rattle.kind_counted.specs.Limits.{count_limit}
 use Rattle.kind_counted.specs.Counted.{Delta, once, begun, further, reading, IsUnused}
-use Rattle.kind_counted.specs.inside.Used.{has, reached, HasPath, HasCount, IsWitnessed, AreWitnessed, IsStart, AreStart, IsIn}
+use Rattle.kind_counted.specs.inside.Used.{in_set, reached, HasPath, HasCount, IsWitnessed, AreWitnessed, IsStart, AreStart, IsIn}
 use Rattle.kind_counted.proofs.Readings.{reading_more}
 use Rattle.kind_counted.proofs.Bits.{bit_of, member_of}
 
 -- what is in a union is in one of the two
-pub has_or : (a b k : ℕ) → IsTrue (has (bit_or a b) k) → IsTrue (has a k) ⊎ IsTrue (has b k)
+pub has_or : (a b k : ℕ) → IsTrue (in_set (bit_or a b) k) → IsTrue (in_set a k) ⊎ IsTrue (in_set b k)
 has_or a b k is =
     let both = bit_of (bit_or a b) k is in
     let either = bit_at_or a b k in
@@ -27,7 +27,7 @@ has_or a b k is =
     ]
 
 -- the empty set, and that of the start
-none_in : (k : ℕ) → IsTrue (has 0 k) → ⊥
+none_in : (k : ℕ) → IsTrue (in_set 0 k) → ⊥
 none_in k is = let one = bit_of 0 k is in let none = bit_at-zero k in absurd (omega arith)
 
 pub start_first : IsStart 0 9223372036854775808
@@ -80,7 +80,7 @@ longer a q s t is path = record {
 
 longer_count : (a : Delta) (q : ℕ) (s : Sym) (t : Transition) (x : ℕ) → a q s ≡ Some t → HasCount a q x → HasCount a t.to x
 unfolding longer
-longer_count a q s t x is has = let some = has.some in record { path = longer a q s t is has.path; some = omega arith }
+longer_count a q s t x is in_set = let some = in_set.some in record { path = longer a q s t is in_set.path; some = omega arith }
 
 own_once : (o : Option Count) (y : Count) → o ≡ Some y → once o y.number ≡ 1
 own_once o y is = ap (λ o. once o y.number) is ∙ (let e : once (Some y) y.number ≡ 1 = grind (arith, nat_tests) in e)
@@ -90,8 +90,8 @@ unfolding longer
 own_count a q s t y is own path = let one : once t.count y.number ≡ 1 = own_once t.count y own in record { path = longer a q s t is path; some = omega arith }
 
 -- what is put into the set of a state that a transition leads to is witnessed
-pub put_witnessed : (a : Delta) (sets : List ℕ) (q from more : ℕ) (s : Sym) (t : Transition) → a q s ≡ Some t → t.to < length sets → IsTrue (has from reached) →
-    ((k : ℕ) → IsTrue (has more k) → IsIn from t.count k) → IsWitnessed a q from → AreWitnessed a sets →
+pub put_witnessed : (a : Delta) (sets : List ℕ) (q from more : ℕ) (s : Sym) (t : Transition) → a q s ≡ Some t → t.to < length sets → IsTrue (in_set from reached) →
+    ((k : ℕ) → IsTrue (in_set more k) → IsIn from t.count k) → IsWitnessed a q from → AreWitnessed a sets →
     AreWitnessed a (set sets t.to (bit_or (get_or sets t.to 0) more))
 put_witnessed a sets q from more s t is below path only here all = record {
   each = λ p. elim (cases_eq p t.to) [
@@ -115,7 +115,7 @@ put_witnessed a sets q from more s t is below path only here all = record {
     }
 
 -- what is unused is in no set
-pub unused_back : (a : Delta) (sets : List ℕ) (q x : ℕ) → AreWitnessed a sets → x < count_limit → IsUnused a q x → IsTrue (has (slice_index sets q) x) → ⊥
+pub unused_back : (a : Delta) (sets : List ℕ) (q x : ℕ) → AreWitnessed a sets → x < count_limit → IsUnused a q x → IsTrue (in_set (slice_index sets q) x) → ⊥
 unused_back a sets q x all small unused is =
     let count = (all.each q).counts x small is in
     let some = count.some in

@@ -13,5 +13,5 @@ abbrev pub exit_by : Sym → Exits → Option Transition
 exit_by Zero exits = exits.zero
 exit_by One exits = exits.one
 
-abbrev pub delta_of : List Exits → Delta
-delta_of states q s = exit_by s (get_or states q no_exits)
+abbrev pub transitions_of : List Exits → Delta
+transitions_of states q s = exit_by s (get_or states q no_exits)

@@ -4,8 +4,8 @@ use Rattle.std.specs.Option.{option_and_then}
 use Rattle.machine_text.specs.Limits.{state_limit}
 use Rattle.machine_text.specs.Packed.{Packed, entry_of}
 use Rattle.text.specs.Parts.{parts_of}
-use Rattle.kind_counted.specs.Automata.{delta_of}
-use Rattle.kind_counted.specs.Counted.{Counted, Stands}
+use Rattle.kind_counted.specs.Automata.{transitions_of}
+use Rattle.kind_counted.specs.Counted.{CountedSystem, CountedStand}
 use Rattle.kind_counted.specs.Limits.{coset_byte_limit, count_limit}
 use Rattle.kind_counted.specs.Texts.{half_states, automaton_from, items_from}
 
@@ -30,15 +30,15 @@ coset_texts states left_counts right_counts left right cosets = record {
 }
 
 -- the counted automata that the texts give, where the automata have so many states
-unfoldable pub counted_by_sizes : CosetTexts → ℕ → ℕ → Option Counted
+unfoldable pub counted_by_sizes : CosetTexts → ℕ → ℕ → Option CountedSystem
 counted_by_sizes t l r =
     option_and_then (λ left. option_and_then (λ right. option_map (λ items.
-    record { split = t.left_counts; left = delta_of left; right = delta_of right; items = items })
+    record { split = t.left_counts; left = transitions_of left; right = transitions_of right; items = items })
     (items_from (record { states = t.states; left = l; right = r; counts = t.left_counts + t.right_counts }) None (parts_of 44 t.cosets)))
     (automaton_from r t.left_counts (t.left_counts + t.right_counts) (parts_of 44 t.right)))
     (automaton_from l 0 t.left_counts (parts_of 44 t.left))
 
-unfoldable pub counted_in : CosetTexts → Option Counted
+unfoldable pub counted_in : CosetTexts → Option CountedSystem
 counted_in t =
     option_and_then (λ l. option_and_then (λ r. counted_by_sizes t l r) (half_states (parts_of 44 t.right))) (half_states (parts_of 44 t.left))
 
@@ -52,6 +52,6 @@ pub record AreCosetTexts (t : CosetTexts) : Type 0 where
 
 -- the texts are those of counted automata that stand for a table
 pub record AreCosetsOf (t : CosetTexts) (p : Packed) : Type 0 where
-  pub counted : Counted
+  pub counted : CountedSystem
   pub given : counted_in t ≡ Some counted
-  pub stand : Stands (entry_of p) counted
+  pub stand : CountedStand (entry_of p) counted

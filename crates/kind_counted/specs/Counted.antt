@@ -52,7 +52,7 @@ reading a [] = Some begun
 reading a (s ∷ w) = read_on a s (reading a w)
 
 -- the half tape from a place on, to one side, is read so: so many cells of it that all beyond them are blank
-pub record IsRead (a : Delta) (side : Dir) (c : Config) (x : ℤ) (r : Reading) : Type 0 where
+pub record IsHalfRead (a : Delta) (side : Dir) (c : Config) (x : ℤ) (r : Reading) : Type 0 where
   pub far : ℕ
   pub blank : (y : ℤ) → Beyond side (behind (opposite side) x far) y → cell c y ≡ Zero
   pub is : reading a (symbols_ahead side c x far) ≡ Some r
@@ -67,22 +67,22 @@ pub record Item : Type 0 where
   pub coset : Coset
 
 -- two automata and the cosets. The counts below `split` are the left automaton's, the others the right one's
-pub record Counted : Type 0 where
+pub record CountedSystem : Type 0 where
   pub split : ℕ
   pub left : Delta
   pub right : Delta
   pub items : List Item
 
 -- what stands around the head has this coset
-pub record HasCoset (w : Counted) (c : Local) (k : Coset) : Type 0 where
+pub record HasCoset (w : CountedSystem) (c : Local) (k : Coset) : Type 0 where
   pub is : Contains w.items (record { at = c; coset = k })
 
-abbrev pub delta : Counted → Dir → Delta
+abbrev pub delta : CountedSystem → Dir → Delta
 delta w L = w.left
 delta w R = w.right
 
 -- x is a count of the automaton on this side
-abbrev pub IsOf : Counted → Dir → ℕ → Type 0
+abbrev pub IsOf : CountedSystem → Dir → ℕ → Type 0
 IsOf w L x = x < w.split
 IsOf w R x = w.split ≤ x
 
@@ -98,7 +98,7 @@ moved_to L p f s q = record { left = q; state = f; read = s; right = p }
 
 -- a point that remains of a coset's members after a move to a side: the cell that was left behind is read by t, and
 -- the one that is under the head now had been read by u, from q on
-pub record Remains (w : Counted) (k : Coset) (side : Dir) (t u : Transition) (q : ℕ) (v : Point) : Type 0 where
+pub record Remains (w : CountedSystem) (k : Coset) (side : Dir) (t u : Transition) (q : ℕ) (v : Point) : Type 0 where
   pub old : Point
   pub member : IsMember k old
   pub is : (x : ℕ) → v x ≡ (old x +ℤ pos (once t.count x)) -ℤ pos (once u.count x)
@@ -112,27 +112,27 @@ pub data Settled (remains : Point → Type 0) (next : Coset → Type 0) : Type 0
 
 -- a step to a side, that writes a symbol and leads to a state of the machine, from the members of the coset of what
 -- stands around the head: the other side's automaton reads the symbol, and whatever may now stand around the head, it settles
-pub record StepsTo (w : Counted) (c : Local) (k : Coset) (write : Sym) (next : State) (side : Dir) : Type 0 where
+pub record LeadsOn (w : CountedSystem) (c : Local) (k : Coset) (write : Sym) (next : State) (side : Dir) : Type 0 where
   pub by : Transition
   pub is : delta w (opposite side) (state_on (opposite side) c) write ≡ Some by
   pub settles : (q : ℕ) (b : Sym) (u : Transition) → delta w side q b ≡ Some u → u.to ≡ state_on side c →
       Settled (Remains w k side by u q) (HasCoset w (moved_to side by.to next b q))
 
 -- the counted automata stand for a machine: the blank tape is in its coset, no member halts, and each step settles
-pub record Stands (m : Machine) (w : Counted) : Type 0 where
+pub record CountedStand (m : Machine) (w : CountedSystem) : Type 0 where
   pub blank : (side : Dir) → delta w side 0 Zero ≡ Some (record { to = 0; count = None })
   pub own : (side : Dir) (q : ℕ) (s : Sym) (t : Transition) (x : Count) → delta w side q s ≡ Some t → t.count ≡ Some x → IsOf w side x.number
   pub start : (k : Coset) × HasCoset w (record { left = 0; state = record { 0 = 0 }; read = Zero; right = 0 }) k × IsMember k zeros
   pub goes_on : (c : Local) (k : Coset) → HasCoset w c k → m c.state.0 c.read ≢ None
   pub steps : (c : Local) (k : Coset) (e : Entry) → HasCoset w c k → m c.state.0 c.read ≡ Some e →
-      StepsTo w c k e.write e.next e.dir
+      LeadsOn w c k e.write e.next e.dir
 
 -- both half tapes of a configuration are read, and the counts are a member of the coset of what stands around its head
-pub record IsHeld (w : Counted) (c : Config) : Type 0 where
+pub record IsHeldBy (w : CountedSystem) (c : Config) : Type 0 where
   pub left : Reading
   pub right : Reading
-  pub left_read : IsRead w.left L c (moved_head c.tape.head L) left
-  pub right_read : IsRead w.right R c (moved_head c.tape.head R) right
+  pub left_read : IsHalfRead w.left L c (moved_head c.tape.head L) left
+  pub right_read : IsHalfRead w.right R c (moved_head c.tape.head R) right
   pub coset : Coset
   pub there : HasCoset w (record { left = left.state; state = record { 0 = c.state }; read = symbol_read c.tape; right = right.state }) coset
   pub member : IsMember coset (λ x. pos (left.times x + right.times x))

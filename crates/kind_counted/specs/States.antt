@@ -6,7 +6,7 @@ use Rattle.kind_counted.specs.Limits.{count_limit}
 use Rattle.kind_counted.specs.declared.count.Count.{Count}
 use Rattle.kind_counted.specs.declared.automaton.Exits.{Exits}
 use Rattle.kind_counted.specs.declared.automaton.Transition.{Transition}
-use Rattle.kind_counted.specs.Automata.{delta_of}
+use Rattle.kind_counted.specs.Automata.{transitions_of}
 
 -- a count, if there is one, is one that there may be
 pub record IsCount (o : Option Count) : Type 0 where
@@ -19,4 +19,4 @@ pub record LeadsBelow (o : Option Transition) (states : ℕ) : Type 0 where
 
 pub record AreStates (states : List Exits) : Type 0 where
   pub some : 0 < length states
-  pub each : (q : ℕ) (s : Sym) → LeadsBelow (delta_of states q s) (length states)
+  pub each : (q : ℕ) (s : Sym) → LeadsBelow (transitions_of states q s) (length states)

@@ -39,8 +39,8 @@ unfoldable pub ranged_count : ℕ → ℕ → ℕ → Option ℕ
 ranged_count low limit b = if is_letter b then ranged low limit (letter_count b) else None
 
 -- a text's last byte, and what stands before it
-abbrev pub last_of : List ℕ → ℕ
-last_of text = slice_index text (length text - 1)
+abbrev pub last_byte : List ℕ → ℕ
+last_byte text = slice_index text (length text - 1)
 
 abbrev pub front_of : List ℕ → List ℕ
 front_of text = take (length text - 1) text
@@ -50,8 +50,8 @@ front_of text = take (length text - 1) text
 unfoldable pub exit_from : ℕ → ℕ → ℕ → List ℕ → Option (Option Transition)
 exit_from states low limit text =
     if bytes_eq text (45 ∷ []) then Some None
-    else if is_letter (last_of text) then
-    option_and_then (λ to. option_map (λ x. Some (record { to = to; count = Some (record { number = x }) })) (ranged_count low limit (last_of text)))
+    else if is_letter (last_byte text) then
+    option_and_then (λ to. option_map (λ x. Some (record { to = to; count = Some (record { number = x }) })) (ranged_count low limit (last_byte text)))
     (ranged_number 0 states (front_of text))
     else option_map (λ to. Some (record { to = to; count = None })) (ranged_number 0 states text)
 
@@ -98,7 +98,7 @@ abbrev pub terms_from : ℕ → ℕ → List ℤ → List (List ℕ) → Option 
 terms_from limit low numbers [] = Some numbers
 terms_from limit low numbers (term ∷ terms) =
     option_and_then (λ x. option_and_then (λ n. terms_from limit (x + 1) (set numbers x n) terms) (signed_from (front_of term)))
-    (ranged_count low limit (last_of term))
+    (ranged_count low limit (last_byte term))
 
 -- a base or a row: `0`, or terms
 unfoldable pub numbers_from : ℕ → List ℕ → Option (List ℤ)

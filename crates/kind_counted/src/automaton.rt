@@ -27,12 +27,12 @@ pub struct Automaton {
 
 impl Automaton {
     ghost use Rattle.std.specs.Prelude.{◌≡◌, IfSome};
-    ghost use Rattle.kind_counted.specs.Automata.{delta_of};
+    ghost use Rattle.kind_counted.specs.Automata.{transitions_of};
     ghost use Rattle.kind_counted.specs.States.{IsCount};
 
     /// The transition of a state by a symbol, if there is one.
     pub fn get(&self, state: usize, s: Sym) -> Option<Transition>
-        ensures transition { result ≡ delta_of self.now.states.items state s }
+        ensures transition { result ≡ transitions_of self.now.states.items state s }
         ensures count { IfSome result (λ t. IsCount t.count) }
     {
         if state >= self.states.len() {

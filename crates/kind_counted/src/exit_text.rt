@@ -2,7 +2,7 @@
 ghost use Rattle.std.specs.Prelude.{◌≡◌, ◌*◌, ◌/◌, ◌<◌, ◌≤◌, nat_le, if◌then◌else◌, Some, None, length, is_some, option_map, IfOk, IsTrue};
 ghost use Rattle.text.specs.Parts.{parts_of};
 ghost use Rattle.kind_counted.specs.Limits.{count_limit};
-ghost use Rattle.kind_counted.specs.Texts.{is_letter, last_of, exit_from, pair_from, exits_from, begins_blank, automaton_from, half_states};
+ghost use Rattle.kind_counted.specs.Texts.{is_letter, last_byte, exit_from, pair_from, exits_from, begins_blank, automaton_from, half_states};
 
 use crate::automaton::{Automaton, Exits, Transition};
 use crate::count::Count;

@@ -4,15 +4,15 @@ ghost use Rattle.machine_text.specs.Packed.{entry_of};
 ghost use Rattle.law_turing.specs.Halting.{Never};
 ghost use Rattle.law_turing.specs.Mirror.{opposite};
 ghost use Rattle.kind_counted.specs.Cosets.{zeros, IsMember};
-ghost use Rattle.kind_counted.specs.Counted.{delta, HasCoset, Remains, Settled, StepsTo, Stands, moved_to, state_on};
+ghost use Rattle.kind_counted.specs.Counted.{delta, HasCoset, Remains, Settled, LeadsOn, CountedStand, moved_to, state_on};
 ghost use Rattle.kind_counted.specs.Limits.{count_limit};
-ghost use Rattle.kind_counted.specs.Automata.{delta_of};
+ghost use Rattle.kind_counted.specs.Automata.{transitions_of};
 ghost use Rattle.kind_counted.specs.Items.{coset_of};
 ghost use Rattle.kind_counted.specs.States.{IsCount};
 ghost use Rattle.kind_counted.specs.Certificate.{counted_of};
 ghost use Rattle.kind_counted.specs.inside.Used.{IsUsedTable};
 ghost use Rattle.kind_counted.specs.inside.Points.{coset_by};
-ghost use Rattle.kind_counted.specs.inside.Judging.{first_of, end_of, IsItemAt, IsNoItem, SettlesFrom, Settles, GoesOn, AllGoOn, IsFormed, Starts};
+ghost use Rattle.kind_counted.specs.inside.Judging.{first_of, end_of, IsItemAt, IsNoItem, SettlesFrom, AllSettle, HasStep, AllGoOn, IsFormed, StartsInside};
 
 use crate::automaton::{Automaton, Transition};
 use crate::certificate::CountedAutomata;
@@ -38,9 +38,9 @@ struct Step {
 impl CountedAutomata {
     /// Whether counted automata stand for a table. One for which they do never halts.
     pub fn check(&self, alloc: Global, t: &Table) -> Result<(), Refused>
-        ensures stands { IfOk result (λ _. Stands (entry_of t.now) (counted_of self.now)) }
+        ensures stands { IfOk result (λ _. CountedStand (entry_of t.now) (counted_of self.now)) }
         ensures never { IfOk result (λ _. Never (entry_of t.now)) }
-        ensures fails { result ≡ Err Refused.Fails → Stands (entry_of t.now) (counted_of self.now) → ⊥ }
+        ensures fails { result ≡ Err Refused.Fails → CountedStand (entry_of t.now) (counted_of self.now) → ⊥ }
     {
         self.check_form()?;
         self.check_start()?;
@@ -71,8 +71,8 @@ impl CountedAutomata {
 
     // Whether the blank tape is in its coset.
     fn check_start(&self) -> Result<(), Refused>
-        ensures starts { IfOk result (λ _. Starts (counted_of self.now)) }
-        ensures fails { result ≡ Err Refused.Fails → Starts (counted_of self.now) → ⊥ }
+        ensures starts { IfOk result (λ _. StartsInside (counted_of self.now)) }
+        ensures fails { result ≡ Err Refused.Fails → StartsInside (counted_of self.now) → ⊥ }
     {
         let at = Local {
             left: 0,
@@ -94,8 +94,8 @@ impl CountedAutomata {
         left: &Used,
         right: &Used,
     ) -> Result<(), Refused>
-        requires left { IsUsedTable (delta_of self.now.left.states.items) left.now.sets.items }
-        requires right { IsUsedTable (delta_of self.now.right.states.items) right.now.sets.items }
+        requires left { IsUsedTable (transitions_of self.now.left.states.items) left.now.sets.items }
+        requires right { IsUsedTable (transitions_of self.now.right.states.items) right.now.sets.items }
         ensures all { IfOk result (λ _. AllGoOn (entry_of t.now) (counted_of self.now) self.now.items.items (length self.now.items.items)) }
         ensures fails { result ≡ Err Refused.Fails →
             AllGoOn (entry_of t.now) (counted_of self.now) self.now.items.items (length self.now.items.items) → ⊥ }
@@ -115,10 +115,10 @@ impl CountedAutomata {
         right: &Used,
         item: &Item,
     ) -> Result<(), Refused>
-        requires left { IsUsedTable (delta_of self.now.left.states.items) left.now.sets.items }
-        requires right { IsUsedTable (delta_of self.now.right.states.items) right.now.sets.items }
-        ensures goes_on { IfOk result (λ _. GoesOn (entry_of t.now) (counted_of self.now) item.now.at (coset_of item.now.coset)) }
-        ensures fails { result ≡ Err Refused.Fails → GoesOn (entry_of t.now) (counted_of self.now) item.now.at (coset_of item.now.coset) → ⊥ }
+        requires left { IsUsedTable (transitions_of self.now.left.states.items) left.now.sets.items }
+        requires right { IsUsedTable (transitions_of self.now.right.states.items) right.now.sets.items }
+        ensures goes_on { IfOk result (λ _. HasStep (entry_of t.now) (counted_of self.now) item.now.at (coset_of item.now.coset)) }
+        ensures fails { result ≡ Err Refused.Fails → HasStep (entry_of t.now) (counted_of self.now) item.now.at (coset_of item.now.coset) → ⊥ }
     {
         if item.at.state.0 >= t.states() {
             return Err(Refused::Fails);
@@ -138,10 +138,10 @@ impl CountedAutomata {
         item: &Item,
         entry: Entry,
     ) -> Result<(), Refused>
-        requires left { IsUsedTable (delta_of self.now.left.states.items) left.now.sets.items }
-        requires right { IsUsedTable (delta_of self.now.right.states.items) right.now.sets.items }
-        ensures steps { IfOk result (λ _. StepsTo (counted_of self.now) item.now.at (coset_of item.now.coset) entry.write entry.next entry.dir) }
-        ensures fails { result ≡ Err Refused.Fails → StepsTo (counted_of self.now) item.now.at (coset_of item.now.coset) entry.write entry.next entry.dir → ⊥ }
+        requires left { IsUsedTable (transitions_of self.now.left.states.items) left.now.sets.items }
+        requires right { IsUsedTable (transitions_of self.now.right.states.items) right.now.sets.items }
+        ensures steps { IfOk result (λ _. LeadsOn (counted_of self.now) item.now.at (coset_of item.now.coset) entry.write entry.next entry.dir) }
+        ensures fails { result ≡ Err Refused.Fails → LeadsOn (counted_of self.now) item.now.at (coset_of item.now.coset) entry.write entry.next entry.dir → ⊥ }
     {
         match entry.dir {
             Dir::L => {
@@ -177,8 +177,8 @@ impl CountedAutomata {
         requires used { IsUsedTable (delta (counted_of self.now) entry.dir) used.now.sets.items }
         requires count { IfSome by (λ t. IsCount t.count) }
         requires by { by ≡ delta (counted_of self.now) (opposite entry.dir) (state_on (opposite entry.dir) item.now.at) entry.write }
-        ensures steps { IfOk result (λ _. StepsTo (counted_of self.now) item.now.at (coset_of item.now.coset) entry.write entry.next entry.dir) }
-        ensures fails { result ≡ Err Refused.Fails → StepsTo (counted_of self.now) item.now.at (coset_of item.now.coset) entry.write entry.next entry.dir → ⊥ }
+        ensures steps { IfOk result (λ _. LeadsOn (counted_of self.now) item.now.at (coset_of item.now.coset) entry.write entry.next entry.dir) }
+        ensures fails { result ≡ Err Refused.Fails → LeadsOn (counted_of self.now) item.now.at (coset_of item.now.coset) entry.write entry.next entry.dir → ⊥ }
     {
         match by {
             Some(by) => self.check_side(
@@ -199,8 +199,8 @@ impl CountedAutomata {
     fn check_side(&self, alloc: Global, used: &Used, item: &Item, step: Step) -> Result<(), Refused>
         requires used { IsUsedTable (delta (counted_of self.now) step.side) used.now.sets.items }
         requires by { IsCount step.by.count }
-        ensures settles { IfOk result (λ _. Settles (counted_of self.now) item.now.at (coset_of item.now.coset) step.side step.by step.next) }
-        ensures fails { result ≡ Err Refused.Fails → Settles (counted_of self.now) item.now.at (coset_of item.now.coset) step.side step.by step.next → ⊥ }
+        ensures settles { IfOk result (λ _. AllSettle (counted_of self.now) item.now.at (coset_of item.now.coset) step.side step.by step.next) }
+        ensures fails { result ≡ Err Refused.Fails → AllSettle (counted_of self.now) item.now.at (coset_of item.now.coset) step.side step.by step.next → ⊥ }
     {
         for q in 0..self.on(step.side).states.len() {
             self.check_from(alloc, used, item, step, q, Sym::Zero)?;
@@ -289,7 +289,7 @@ impl CountedAutomata {
 
     // The automaton of a side.
     fn on(&self, side: Dir) -> &Automaton
-        ensures { delta_of result.now.states.items ≡ delta (counted_of self.now) side }
+        ensures { transitions_of result.now.states.items ≡ delta (counted_of self.now) side }
     {
         match side {
             Dir::L => &self.left,

@@ -8,7 +8,7 @@ ghost use Rattle.kind_counted.specs.Limits.{count_limit};
 ghost use Rattle.kind_counted.specs.Numbers.{point_of};
 ghost use Rattle.kind_counted.specs.Pivots.{points};
 ghost use Rattle.kind_counted.specs.inside.Spans.{listed, IsSplit};
-ghost use Rattle.kind_counted.specs.inside.Points.{coset_by, AreMoved, AreKept, AreKeptIn, IsZeroIn, AreZeroAt, IsNegativeAt, IsNegative, AreSumsOf, IsWithin};
+ghost use Rattle.kind_counted.specs.inside.Points.{coset_by, AreMoved, AreZeroMembers, AreKeptIn, IsZeroIn, AreZeroAt, IsNegativeAt, IsNegative, AreSumsOf, LiesWithin};
 ghost use Rattle.kind_counted.specs.declared.numbers.Counts.{Counts};
 
 use crate::count::Count;
@@ -127,8 +127,8 @@ impl Points {
 
     // Whether all of them are members of a coset.
     pub fn check_within(&self, k: &Coset) -> Result<(), Refused>
-        ensures within { IfOk result (λ _. IsWithin (coset_by self.now.base self.now.rows.items) (coset_of k.now)) }
-        ensures fails { result ≡ Err Refused.Fails → IsWithin (coset_by self.now.base self.now.rows.items) (coset_of k.now) → ⊥ }
+        ensures within { IfOk result (λ _. LiesWithin (coset_by self.now.base self.now.rows.items) (coset_of k.now)) }
+        ensures fails { result ≡ Err Refused.Fails → LiesWithin (coset_by self.now.base self.now.rows.items) (coset_of k.now) → ⊥ }
     {
         let apart = self.base.minus(&k.base)?;
         Row::sum_to(&k.rows, &apart)?;
@@ -149,7 +149,7 @@ impl Points {
     // Those that are 0 in a place; it fails if none is.
     pub fn zero(&self, alloc: Global, place: usize) -> Result<Points, Refused>
         requires { place < count_limit }
-        ensures kept { IfOk result (λ p. AreKept (coset_by self.now.base self.now.rows.items) place (coset_by p.base p.rows.items)) }
+        ensures kept { IfOk result (λ p. AreZeroMembers (coset_by self.now.base self.now.rows.items) place (coset_by p.base p.rows.items)) }
         ensures none { result ≡ Err Refused.Fails → (v : Point) → IsMember (coset_by self.now.base self.now.rows.items) v →
             v place ≡ pos 0 → ⊥ }
     {
@@ -163,7 +163,7 @@ fn zero_of(base: &Counts, split: Split, place: usize) -> Result<Points, Refused>
     requires place { place < count_limit }
     requires some { IfSome split.carrier (λ c. 0 < unsigned_abs (point_of c.numbers place)) }
     ensures kept { IfOk result (λ p. (rows : List Counts) → IsSplit (listed rows) place split.carrier (listed split.rest.items) →
-        AreKept (coset_by base.now rows) place (coset_by p.base p.rows.items)) }
+        AreZeroMembers (coset_by base.now rows) place (coset_by p.base p.rows.items)) }
     ensures none { result ≡ Err Refused.Fails → (rows : List Counts) → IsSplit (listed rows) place split.carrier (listed split.rest.items) →
         (v : Point) → IsMember (coset_by base.now rows) v → v place ≡ pos 0 → ⊥ }
 {

@@ -1,5 +1,5 @@
 // Why counted automata are refused.
-use std::alloc::{AllocError, AllocFailed};
+use std::alloc::{AllocError as NoMemory, AllocFailed};
 
 /// Why counted automata are refused.
 #[derive(Clone, Copy, Debug, PartialEq, Eq, Drop)]
@@ -12,13 +12,13 @@ pub enum Refused {
     NoMemory,
 }
 
-impl From<AllocError> for Refused {
+impl From<NoMemory> for Refused {
     ghost use Rattle.std.specs.Prelude.{◌≡◌};
     ghost use Rattle.kind_counted.specs.declared.refused.Refused.TheVariants.{NoMemory};
 
     ghost from_gives = { λ _ e. e ≡ NoMemory };
 
-    fn from(_: AllocError) -> Refused {
+    fn from(_: NoMemory) -> Refused {
         Refused::NoMemory
     }
 }

@@ -2,9 +2,9 @@
 ghost use Rattle.std.specs.Prelude.{◌≡◌, ◌+◌, ◌*◌, ◌<◌, ◌≤◌, ℕ, Some, length, IsTrue, IfOk, OnErr, false, slice_index, get_or};
 ghost use Rattle.machine_text.specs.declared.transition.Sym.{Sym};
 ghost use Rattle.kind_counted.specs.Counted.{Delta};
-ghost use Rattle.kind_counted.specs.Automata.{delta_of, exit_by, no_exits};
+ghost use Rattle.kind_counted.specs.Automata.{transitions_of, exit_by, no_exits};
 ghost use Rattle.kind_counted.specs.States.{IsCount, LeadsBelow};
-ghost use Rattle.kind_counted.specs.inside.Used.{has, Includes, IncludedBy, AreUsed, IsUsedTable, IsWitnessed, AreWitnessed, IsStart, AreStart, IsIn, reached, total, set_limit};
+ghost use Rattle.kind_counted.specs.inside.Used.{in_set, Includes, IncludedBy, AreUsed, IsUsedTable, IsWitnessed, AreWitnessed, IsStart, AreStart, IsIn, reached, total, set_limit};
 
 use crate::automaton::{Automaton, Transition};
 use crate::count::Count;
@@ -28,7 +28,7 @@ pub(crate) struct Used {
 impl Used {
     // Those of an automaton.
     pub fn of(alloc: Global, a: &Automaton) -> Result<Used, Refused>
-        ensures table { IfOk result (λ u. IsUsedTable (delta_of a.now.states.items) u.sets.items) }
+        ensures table { IfOk result (λ u. IsUsedTable (transitions_of a.now.states.items) u.sets.items) }
         ensures memory { OnErr result (result ≡ Err Refused.NoMemory) }
     {
         let mut sets = first_sets(alloc, a.states.len())?;
@@ -39,12 +39,12 @@ impl Used {
     // Whether some path to a state has a count.
     pub fn has(&self, state: usize, count: usize) -> bool
         requires { count < reached }
-        ensures { result ≡ has (slice_index self.now.sets.items state) count }
+        ensures { result ≡ in_set (slice_index self.now.sets.items state) count }
     {
         if state >= self.sets.len() {
             return false;
         }
-        has(self.sets[state], count)
+        in_set(self.sets[state], count)
     }
 }
 
@@ -52,7 +52,7 @@ impl Used {
 fn first_sets(alloc: Global, states: usize) -> Result<Vec<Set>, Refused>
     requires { 0 < states }
     ensures start { IfOk result (λ sets. AreStart sets.items) }
-    ensures path { IfOk result (λ sets. IsTrue (has (slice_index sets.items 0) reached)) }
+    ensures path { IfOk result (λ sets. IsTrue (in_set (slice_index sets.items 0) reached)) }
     ensures size { IfOk result (λ sets. length sets.items ≡ states) }
     ensures memory { OnErr result (result ≡ Err Refused.NoMemory) }
 {
@@ -66,15 +66,15 @@ fn first_sets(alloc: Global, states: usize) -> Result<Vec<Set>, Refused>
 // The set of a state at first: there is a path to 0.
 fn first_set(state: usize) -> Set
     ensures start { IsStart state result }
-    ensures path { state ≡ 0 → IsTrue (has result reached) }
+    ensures path { state ≡ 0 → IsTrue (in_set result reached) }
 {
     if state == 0 { START } else { 0 }
 }
 
 // Whether a number is in a set.
-fn has(set: Set, k: usize) -> bool
+fn in_set(set: Set, k: usize) -> bool
     requires { k < 64 }
-    ensures { result ≡ has set k }
+    ensures { result ≡ in_set set k }
 {
     (set >> k) & 1 == 1
 }
@@ -84,9 +84,9 @@ fn grow(a: &Automaton, sets: &mut [Set]) -> bool
     requires { length sets.old ≡ length a.now.states.items }
     ensures limit { IsTrue result → total sets.new ≤ set_limit * length sets.new }
     ensures more { IsTrue result → total sets.old < total sets.new }
-    ensures path { IsTrue (has (slice_index sets.old 0) reached) → IsTrue (has (slice_index sets.new 0) reached) }
-    ensures witnessed { AreWitnessed (delta_of a.now.states.items) sets.old → AreWitnessed (delta_of a.now.states.items) sets.new }
-    ensures used { result ≡ false → IsTrue (has (slice_index sets.new 0) reached) → AreUsed (delta_of a.now.states.items) sets.new }
+    ensures path { IsTrue (in_set (slice_index sets.old 0) reached) → IsTrue (in_set (slice_index sets.new 0) reached) }
+    ensures witnessed { AreWitnessed (transitions_of a.now.states.items) sets.old → AreWitnessed (transitions_of a.now.states.items) sets.new }
+    ensures used { result ≡ false → IsTrue (in_set (slice_index sets.new 0) reached) → AreUsed (transitions_of a.now.states.items) sets.new }
 {
     for q in 0..sets.len() {
         let from = sets[q];
@@ -105,11 +105,11 @@ fn put(sets: &mut [Set], from: Set, exit: Option<Transition>) -> bool
     requires { LeadsBelow exit (length sets.old) }
     ensures more { IsTrue result → total sets.old < total sets.new }
     ensures same { result ≡ false → sets.new ≡ sets.old }
-    ensures included { result ≡ false → IsTrue (has from reached) → IncludedBy sets.old from exit }
-    ensures path { IsTrue (has (slice_index sets.old 0) reached) → IsTrue (has (slice_index sets.new 0) reached) }
+    ensures included { result ≡ false → IsTrue (in_set from reached) → IncludedBy sets.old from exit }
+    ensures path { IsTrue (in_set (slice_index sets.old 0) reached) → IsTrue (in_set (slice_index sets.new 0) reached) }
     ensures witnessed { (a : Delta) (q : ℕ) (s : Sym) → a q s ≡ exit → IsWitnessed a q from → AreWitnessed a sets.old → AreWitnessed a sets.new }
 {
-    if !has(from, REACHED) {
+    if !in_set(from, REACHED) {
         return false;
     }
     match exit {
@@ -120,13 +120,13 @@ fn put(sets: &mut [Set], from: Set, exit: Option<Transition>) -> bool
 
 // The same for a transition.
 fn put_at(sets: &mut [Set], from: Set, t: Transition) -> bool
-    requires reached { IsTrue (has from reached) }
+    requires reached { IsTrue (in_set from reached) }
     requires target { t.to < length sets.old }
     requires count { IsCount t.count }
     ensures more { IsTrue result → total sets.old < total sets.new }
     ensures same { result ≡ false → sets.new ≡ sets.old }
     ensures included { result ≡ false → Includes from t.count (slice_index sets.old t.to) }
-    ensures path { IsTrue (has (slice_index sets.old 0) reached) → IsTrue (has (slice_index sets.new 0) reached) }
+    ensures path { IsTrue (in_set (slice_index sets.old 0) reached) → IsTrue (in_set (slice_index sets.new 0) reached) }
     ensures witnessed { (a : Delta) (q : ℕ) (s : Sym) → a q s ≡ Some t → IsWitnessed a q from → AreWitnessed a sets.old → AreWitnessed a sets.new }
 {
     let more = with_count(from, t.count);
@@ -141,8 +141,8 @@ fn put_at(sets: &mut [Set], from: Set, t: Transition) -> bool
 // A set with a count.
 fn with_count(set: Set, count: Option<Count>) -> Set
     requires { IsCount count }
-    ensures only { (k : ℕ) → IsTrue (has result k) → IsIn set count k }
-    ensures all { (k : ℕ) → IsIn set count k → IsTrue (has result k) }
+    ensures only { (k : ℕ) → IsTrue (in_set result k) → IsIn set count k }
+    ensures all { (k : ℕ) → IsIn set count k → IsTrue (in_set result k) }
 {
     match count {
         Some(count) => set | 1 << count.number,

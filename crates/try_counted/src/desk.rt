@@ -1,9 +1,10 @@
 // The calls by their names.
+use find_counted::CountedFinder;
 use kind_counted::{CountedCosets, OwnedCosets};
 use kind_evidence::Verdict;
-use machine_text::Table;
+use machine_text::{TEXT_BYTES, Table};
 use std::alloc::{AllocError as NoMemory, Global};
-use text::{FieldFault, Parts};
+use text::{FieldFault, Parts, decimal_value};
 use try_rows::{Caller, Said};
 
 /// What calls are made on.
@@ -51,11 +52,42 @@ impl Desk {
     }
 }
 
+impl Desk {
+    // `find COUNTS TABLE`: the record of what a finder with so many counts finds, or `TABLE U`; `seek` says only how many
+    // counts it has.
+    fn find(&self, rest: &str, is_short: bool, said: &mut Said) -> Result<(), NoMemory> {
+        let (counts, text) = rest.split_once(' ').unwrap_or((rest, ""));
+        let (Some(counts), Ok(table)) = (
+            decimal_value(counts.as_bytes()),
+            Table::parse(text.as_bytes()),
+        ) else {
+            return said.text("the row can't be read");
+        };
+        let found = CountedFinder::new(self.alloc, counts).search(&table)?;
+        if !is_short {
+            said.bytes(table.text(&mut [0; TEXT_BYTES]))?;
+        }
+        let Some(found) = found else {
+            return said.text("U");
+        };
+        said.text("W")?;
+        let mut fields = Vec::new(self.alloc);
+        found.lent().append_fields(&mut fields)?;
+        let mut parts = Parts::of(b' ', fields.strip_prefix(b" ").unwrap_or(&[]));
+        for _ in 0..if is_short { 2 } else { 5 } {
+            said.bytes(parts.next().unwrap_or(&[]))?;
+        }
+        Ok(())
+    }
+}
+
 impl Caller for Desk {
     fn call(&mut self, name: &str, rest: &str, said: &mut Said) -> Result<(), NoMemory> {
         match name {
             "counted" => self.judge(rest, said),
             "copied" => self.copy(rest, said),
+            "find" => self.find(rest, false, said),
+            "seek" => self.find(rest, true, said),
             _ => said.text("there is no such call"),
         }
     }

@@ -14,20 +14,20 @@ use Rattle.kind_counted.specs.declared.item.Item.{Item}
 use Rattle.kind_counted.specs.Items.{coset_of}
 use Rattle.kind_counted.specs.Limits.{count_limit}
 use Rattle.kind_counted.specs.Cosets.{zeros, Coset, IsMember}
-use Rattle.kind_counted.specs.Counted.{Delta, Counted, HasCoset, delta, IsOf, state_on, moved_to, Remains, Settled, StepsTo}
+use Rattle.kind_counted.specs.Counted.{Delta, CountedSystem, HasCoset, delta, IsOf, state_on, moved_to, Remains, Settled, LeadsOn}
 
 -- a count is in a range
-pub record IsBetween (low high x : ℕ) : Type 0 where
+pub record IsInRange (low high x : ℕ) : Type 0 where
   pub least : low ≤ x
   pub most : x < high
 
 -- the count of a transition, if there are both, is in a range
-pub record IsOwn (o : Option Transition) (low high : ℕ) : Type 0 where
-  pub each : (t : Transition) (x : Count) → o ≡ Some t → t.count ≡ Some x → IsBetween low high x.number
+pub record HasOwnCount (o : Option Transition) (low high : ℕ) : Type 0 where
+  pub each : (t : Transition) (x : Count) → o ≡ Some t → t.count ≡ Some x → IsInRange low high x.number
 
 -- each count of an automaton is
 pub record AreOwn (a : Delta) (low high : ℕ) : Type 0 where
-  pub each : (q : ℕ) (s : Sym) → IsOwn (a q s) low high
+  pub each : (q : ℕ) (s : Sym) → HasOwnCount (a q s) low high
 
 -- the first count of the automaton of a side, and the first that is none of it any more
 abbrev pub first_of : ℕ → Dir → ℕ
@@ -58,29 +58,29 @@ pub record AreDifferent (items : List Item) : Type 0 where
   pub each : (i : ℕ) → i < length items → IsNew items i
 
 -- the points that are left settle, where one symbol had been read last from one state
-pub record SettlesFrom (w : Counted) (c : Local) (k : Coset) (side : Dir) (by : Transition) (next : State) (q : ℕ) (b : Sym) : Type 0 where
+pub record SettlesFrom (w : CountedSystem) (c : Local) (k : Coset) (side : Dir) (by : Transition) (next : State) (q : ℕ) (b : Sym) : Type 0 where
   pub each : (u : Transition) → delta w side q b ≡ Some u → u.to ≡ state_on side c → Settled (Remains w k side by u q) (HasCoset w (moved_to side by.to next b q))
 
 -- so they do whichever symbol had been read last from so many states
-pub record AreSettled (w : Counted) (c : Local) (k : Coset) (side : Dir) (by : Transition) (next : State) (reach : ℕ) : Type 0 where
+pub record AreSettled (w : CountedSystem) (c : Local) (k : Coset) (side : Dir) (by : Transition) (next : State) (reach : ℕ) : Type 0 where
   pub each : (q : ℕ) (b : Sym) → q < reach → SettlesFrom w c k side by next q b
 
 -- so they do whichever symbol had been read last
-pub record Settles (w : Counted) (c : Local) (k : Coset) (side : Dir) (by : Transition) (next : State) : Type 0 where
+pub record AllSettle (w : CountedSystem) (c : Local) (k : Coset) (side : Dir) (by : Transition) (next : State) : Type 0 where
   pub each : (q : ℕ) (b : Sym) → SettlesFrom w c k side by next q b
 
 -- there is an entry, and its step settles
-pub record GoesOn (m : Machine) (w : Counted) (c : Local) (k : Coset) : Type 0 where
+pub record HasStep (m : Machine) (w : CountedSystem) (c : Local) (k : Coset) : Type 0 where
   pub entry : Entry
   pub is : m c.state.0 c.read ≡ Some entry
-  pub steps : StepsTo w c k entry.write entry.next entry.dir
+  pub steps : LeadsOn w c k entry.write entry.next entry.dir
 
 -- so it is for so many items
-pub record AllGoOn (m : Machine) (w : Counted) (items : List Item) (reach : ℕ) : Type 0 where
-  pub each : (i : ℕ) (item : Item) → i < reach → item ≡ get_or items i item → GoesOn m w item.at (coset_of item.coset)
+pub record AllGoOn (m : Machine) (w : CountedSystem) (items : List Item) (reach : ℕ) : Type 0 where
+  pub each : (i : ℕ) (item : Item) → i < reach → item ≡ get_or items i item → HasStep m w item.at (coset_of item.coset)
 
 -- blank cells far away change nothing, and each automaton has its own counts
-pub record IsFormed (w : Counted) : Type 0 where
+pub record IsFormed (w : CountedSystem) : Type 0 where
   pub blank : (side : Dir) → delta w side 0 Zero ≡ Some (record { to = 0; count = None })
   pub own : (side : Dir) (q : ℕ) (s : Sym) (t : Transition) (x : Count) → delta w side q s ≡ Some t → t.count ≡ Some x → IsOf w side x.number
 
@@ -89,7 +89,7 @@ abbrev pub start_local : Local
 start_local = record { left = 0; state = record { 0 = 0 }; read = Zero; right = 0 }
 
 -- its coset has the point of zeros
-pub record Starts (w : Counted) : Type 0 where
+pub record StartsInside (w : CountedSystem) : Type 0 where
   pub coset : Coset
   pub has : HasCoset w start_local coset
   pub member : IsMember coset zeros

@@ -4,7 +4,7 @@ use Rattle.kind_counted.specs.Cosets.{Point, zeros, IsSum, Coset, IsMember}
 use Rattle.kind_counted.specs.Counted.{once}
 use Rattle.kind_counted.specs.Numbers.{point_of}
 use Rattle.kind_counted.specs.inside.Spans.{listed}
-use Rattle.kind_counted.specs.inside.Used.{has}
+use Rattle.kind_counted.specs.inside.Used.{in_set}
 use Rattle.kind_counted.specs.declared.count.Count.{Count}
 use Rattle.kind_counted.specs.declared.numbers.Counts.{Counts}
 
@@ -21,14 +21,14 @@ pub record AreMoved (old : Coset) (more fewer : Option Count) (new : Coset) : Ty
   pub old_ones : (v : Point) → IsMember new v → (u : Point) × IsMember old u × IsMoved u more fewer v
 
 -- of the members of a coset, those of another are the ones that are 0 in a place
-pub record AreKept (old : Coset) (place : ℕ) (new : Coset) : Type 0 where
+pub record AreZeroMembers (old : Coset) (place : ℕ) (new : Coset) : Type 0 where
   pub each : (v : Point) → IsMember old v → v place ≡ pos 0 → IsMember new v
   pub old_ones : (v : Point) → IsMember new v → IsMember old v
   pub zero : (v : Point) → IsMember new v → v place ≡ pos 0
 
 -- a point is 0 in each place of a range that isn't in a set
 pub record IsZeroIn (from reach set : ℕ) (v : Point) : Type 0 where
-  pub each : (x : ℕ) → from ≤ x → x < reach → has set x ≡ false → v x ≡ pos 0
+  pub each : (x : ℕ) → from ≤ x → x < reach → in_set set x ≡ false → v x ≡ pos 0
 
 -- of the members of a coset, those of another are the ones that are 0 in these places
 pub record AreKeptIn (old : Coset) (from reach set : ℕ) (new : Coset) : Type 0 where
@@ -57,5 +57,5 @@ pub record IsNegative (k : Coset) : Type 0 where
   pub same : (v : Point) → IsMember k v → v place ≡ number
 
 -- all members of a coset are members of another
-pub record IsWithin (k other : Coset) : Type 0 where
+pub record LiesWithin (k other : Coset) : Type 0 where
   pub each : (v : Point) → IsMember k v → IsMember other v

@@ -25,12 +25,12 @@ pub record IsParted (first second : Point) (place : ℕ) (carrier other : Point)
 abbrev pub listed : List Counts → List Point
 listed rows = map (λ row. point_of row.numbers) rows
 
-abbrev pub carried : Option Counts → List Point → List Point
-carried None rest = rest
-carried (Some carrier) rest = point_of carrier.numbers ∷ rest
+abbrev pub with_carrier : Option Counts → List Point → List Point
+with_carrier None rest = rest
+with_carrier (Some carrier) rest = point_of carrier.numbers ∷ rest
 
 -- rows have become others with the same sums, of which the carrier alone has a number in a place, if there is one
 pub record IsSplit (rows : List Point) (place : ℕ) (carrier : Option Counts) (rest : List Point) : Type 0 where
   pub some : IfSome carrier (λ c. 0 < unsigned_abs (point_of c.numbers place))
   pub none : (j : ℕ) → get_or rest j zeros place ≡ pos 0
-  pub same : SameSums rows (carried carrier rest)
+  pub same : SameSums rows (with_carrier carrier rest)

@@ -1,7 +1,7 @@
 use Rattle.std.proofs.Common.{◌≡◌, ◌<◌, length, sym, ◌∙◌, ap, subst, arith}
 use Rattle.machine_text.specs.declared.transition.Sym.TheVariants.{Zero, One}
 use Rattle.kind_counted.specs.Counted.{Delta}
-use Rattle.kind_counted.specs.Automata.{delta_of}
+use Rattle.kind_counted.specs.Automata.{transitions_of}
 use Rattle.kind_counted.specs.inside.Used.{AreWitnessed}
 use Rattle.kind_counted.proofs.UsedLaws.{total_limit}
 use Rattle.kind_counted.proofs.used.grow.Goals as goal
@@ -18,7 +18,7 @@ put-requires c = record {
 
 pub returns-then-put-clause-witnessed : goal.returns-then-put-clause-witnessed
 returns-then-put-clause-witnessed c = λ start.
-    let a : Delta = delta_of c.args.a.now.states.items in
+    let a : Delta = transitions_of c.args.a.now.states.items in
     let before : AreWitnessed a c.loop-q.sets = subst (AreWitnessed a) (sym c.loop-q.invariant.same) start in
     c.put.ensures.witnessed a c.loop-q.q Zero (sym c.get.ensures.transition) (before.each c.loop-q.q) before
 
@@ -35,7 +35,7 @@ put-requires-in-loop-q c = record {
 
 pub returns-then-put-2-clause-witnessed : goal.returns-then-put-2-clause-witnessed
 returns-then-put-2-clause-witnessed c = λ start.
-    let a : Delta = delta_of c.args.a.now.states.items in
+    let a : Delta = transitions_of c.args.a.now.states.items in
     let before : AreWitnessed a c.loop-q.sets = subst (AreWitnessed a) (sym c.loop-q.invariant.same) start in
     let first : c.put.new.sets ≡ c.loop-q.sets = c.put.ensures.same c.if-put.false in
     c.put-in-loop-q.ensures.witnessed a c.loop-q.q One (sym c.get-in-loop-q.ensures.transition) (before.each c.loop-q.q) (subst (AreWitnessed a) (sym first) before)

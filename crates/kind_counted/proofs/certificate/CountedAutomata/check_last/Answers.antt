@@ -1,7 +1,7 @@
 use Rattle.std.proofs.Common.{sym, subst}
 use Rattle.kind_counted.specs.declared.local.Local.{Local}
 use Rattle.kind_counted.specs.Cosets.{Coset, IsMember}
-use Rattle.kind_counted.specs.Counted.{Counted, HasCoset, moved_to, Remains, Settled, None_remains}
+use Rattle.kind_counted.specs.Counted.{CountedSystem, HasCoset, moved_to, Remains, Settled, None_remains}
 use Rattle.kind_counted.specs.Items.{coset_of}
 use Rattle.kind_counted.specs.Certificate.{counted_of}
 use Rattle.kind_counted.specs.inside.Points.{coset_by}
@@ -12,7 +12,7 @@ use Rattle.kind_counted.proofs.certificate.CountedAutomata.check_last.Goals as g
 
 pub returns-in-Ok-clause-settled : goal.returns-in-Ok-clause-settled
 returns-in-Ok-clause-settled c =
-    let w : Counted = counted_of c.args.self.now in
+    let w : CountedSystem = counted_of c.args.self.now in
     let k : Coset = coset_of c.args.item.now.coset in
     let step = c.args.step in
     let next : Local = moved_to step.side step.by.to step.next c.args.b c.args.q in
@@ -27,7 +27,7 @@ returns-in-Ok-clause-settled c =
 
 pub returns-in-Ok-clause-fails : goal.returns-in-Ok-clause-fails
 returns-in-Ok-clause-fails c = λ e settled.
-    let w : Counted = counted_of c.args.self.now in
+    let w : CountedSystem = counted_of c.args.self.now in
     let k : Coset = coset_of c.args.item.now.coset in
     let step = c.args.step in
     let next : Local = moved_to step.side step.by.to step.next c.args.b c.args.q in
@@ -41,7 +41,7 @@ returns-in-Ok-clause-fails c = λ e settled.
 
 pub returns-in-Err-Fails-clause-settled : goal.returns-in-Err-Fails-clause-settled
 returns-in-Err-Fails-clause-settled c =
-    let w : Counted = counted_of c.args.self.now in
+    let w : CountedSystem = counted_of c.args.self.now in
     let k : Coset = coset_of c.args.item.now.coset in
     let step = c.args.step in
     let a : Coset = coset_by c.in_ok-points.points.base c.in_ok-points.points.rows.items in

@@ -3,7 +3,7 @@ use Rattle.kind_counted.specs.Cosets.{Coset, IsMember}
 use Rattle.kind_counted.specs.Counted.{HasCoset, Settled, Negative, Members}
 use Rattle.kind_counted.specs.Items.{coset_of}
 use Rattle.kind_counted.specs.Certificate.{counted_of}
-use Rattle.kind_counted.specs.inside.Points.{coset_by, IsNegative, IsWithin}
+use Rattle.kind_counted.specs.inside.Points.{coset_by, IsNegative, LiesWithin}
 use Rattle.kind_counted.specs.declared.item.Item.{Item}
 use Rattle.kind_counted.specs.inside.Judging.{IsItemAt}
 use Rattle.kind_counted.proofs.LeftLaws.{ok_then}
@@ -21,7 +21,7 @@ returns-in-Some-clause-settled c =
     let item = c.index.result.now in
     let at : IsItemAt c.args.self.now.items.items c.in-Some.i c.args.next =
     subst (λ (l : List Item). IsItemAt l c.in-Some.i c.args.next) c.deref.ensures.value c.in-Some.ensures.some in
-    ok_then c.check_within.result (λ _. IsWithin p (coset_of item.coset)) (λ _. Settled (IsMember p) (HasCoset (counted_of c.args.self.now) c.args.next))
+    ok_then c.check_within.result (λ _. LiesWithin p (coset_of item.coset)) (λ _. Settled (IsMember p) (HasCoset (counted_of c.args.self.now) c.args.next))
     (λ _ within. Members (coset_of item.coset) (record { is = item_has c.args.self.now.items.items c.in-Some.i item c.args.next at.below c.index.ensures at }) within.each)
     c.check_within.ensures.within
 
@@ -35,7 +35,7 @@ returns-in-Some-clause-fails c = λ e settled.
     let (k, has, within) = settled_within p (HasCoset (counted_of c.args.self.now) c.args.next) not settled in
     let same : coset_of item.coset ≡ k =
     one_coset c.args.self.now.items.items c.args.self.now.different c.in-Some.i item c.args.next k at.below c.index.ensures at has.is in
-    c.check_within.ensures.fails e (subst (IsWithin p) (sym same) within)
+    c.check_within.ensures.fails e (subst (LiesWithin p) (sym same) within)
 
 pub returns-in-None-clause-fails : goal.returns-in-None-clause-fails
 returns-in-None-clause-fails c = λ e settled.

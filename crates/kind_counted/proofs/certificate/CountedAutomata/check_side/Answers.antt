@@ -1,6 +1,6 @@
 use Rattle.std.proofs.Common.{◌≡◌, length, subst, arith}
 use Rattle.kind_counted.specs.Cosets.{Coset}
-use Rattle.kind_counted.specs.Counted.{Counted}
+use Rattle.kind_counted.specs.Counted.{CountedSystem}
 use Rattle.kind_counted.specs.Items.{coset_of}
 use Rattle.kind_counted.specs.Certificate.{counted_of}
 use Rattle.kind_counted.specs.inside.Judging.{AreSettled}
@@ -14,7 +14,7 @@ loop-q-preserved c =
 
 pub returns-clause-settles : goal.returns-clause-settles
 returns-clause-settles c =
-    let w : Counted = counted_of c.args.self.now in
+    let w : CountedSystem = counted_of c.args.self.now in
     let k : Coset = coset_of c.args.item.now.coset in
     let step = c.args.step in
     let states = c.on.result.now.states in

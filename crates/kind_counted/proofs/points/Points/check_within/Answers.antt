@@ -5,7 +5,7 @@ use Rattle.kind_counted.specs.Cosets.{Coset, IsSum}
 use Rattle.kind_counted.specs.Items.{coset_of}
 use Rattle.kind_counted.specs.Numbers.{point_of}
 use Rattle.kind_counted.specs.Pivots.{points}
-use Rattle.kind_counted.specs.inside.Points.{coset_by, AreSumsOf, IsWithin}
+use Rattle.kind_counted.specs.inside.Points.{coset_by, AreSumsOf, LiesWithin}
 use Rattle.kind_counted.proofs.Sums.{sum_same}
 use Rattle.kind_counted.proofs.LeftLaws.{ok_then, within_from, within_base, within_rows}
 use Rattle.kind_counted.proofs.points.Points.check_within.Goals as goal
@@ -27,7 +27,7 @@ returns-clause-within c =
     let base : IsSum other.rows (λ x. k.base x -ℤ other.base x) =
     sum_same other.rows (point_of apart.numbers) (λ x. k.base x -ℤ other.base x) c.in_ok-apart.ensures.minus
     (subst (λ (l : List Row). IsSum (points l) (point_of apart.numbers)) c.deref.ensures.value c.in_ok-sum_to.ensures.sum) in
-    ok_then c.check_rows.result (λ _. AreSumsOf other.rows k.rows) (λ _. IsWithin k other) (λ _ rows. within_from k other base rows) c.check_rows.ensures.sums
+    ok_then c.check_rows.result (λ _. AreSumsOf other.rows k.rows) (λ _. LiesWithin k other) (λ _ rows. within_from k other base rows) c.check_rows.ensures.sums
 
 pub returns-clause-fails : goal.returns-clause-fails
 returns-clause-fails c = λ e within.

@@ -120,11 +120,24 @@ impl<'a> Closing<'a> {
         let Some(by) = by else {
             return Ok(None);
         };
-        self.go_back(&coset, Step { side: dir, by, next }, end)
+        self.go_back(
+            &coset,
+            Step {
+                side: dir,
+                by,
+                next,
+            },
+            end,
+        )
     }
 
     // Goes back by each transition of the automaton ahead that leads to a state.
-    fn go_back(&mut self, coset: &Coset, step: Step, end: usize) -> Result<Option<usize>, NoMemory> {
+    fn go_back(
+        &mut self,
+        coset: &Coset,
+        step: Step,
+        end: usize,
+    ) -> Result<Option<usize>, NoMemory> {
         let ahead = match step.side {
             Dir::L => self.left,
             Dir::R => self.right,
@@ -156,7 +169,10 @@ impl<'a> Closing<'a> {
         b: Sym,
         last: Transition,
     ) -> Result<bool, NoMemory> {
-        let base = coset.base.with_more(step.by.count, 1).with_more(last.count, -1);
+        let base = coset
+            .base
+            .with_more(step.by.count, 1)
+            .with_more(last.count, -1);
         let moved = Coset {
             base,
             rows: coset.rows,

@@ -31,7 +31,10 @@ impl Coset {
             };
             match carrier {
                 Some(first) => {
-                    let Parted { carrier: next, other } = part(&first, &row, count)?;
+                    let Parted {
+                        carrier: next,
+                        other,
+                    } = part(&first, &row, count)?;
                     carrier = Some(next);
                     rows[k] = Some(other);
                 }
@@ -45,7 +48,11 @@ impl Coset {
         }
         let Some(carrier) = carrier else {
             let is_kept = self.base.at(count) == 0;
-            return Some(if is_kept { Kept::Some(*self) } else { Kept::None });
+            return Some(if is_kept {
+                Kept::Some(*self)
+            } else {
+                Kept::None
+            });
         };
         if self.base.at(count).checked_rem(carrier.at(count))? != 0 {
             return Some(Kept::None);

@@ -105,7 +105,13 @@ impl CountedFinder {
         ensures counts { IfOk result (λ o. IfSome o (λ e. (owned_coset_texts e).left_counts + (owned_coset_texts e).right_counts ≤ min self.now.counts found_count_limit)) }
     {
         let split = left_counts as usize;
-        let mut closing = Closing::new(self.alloc, left, right, split, split + right_counts as usize)?;
+        let mut closing = Closing::new(
+            self.alloc,
+            left,
+            right,
+            split,
+            split + right_counts as usize,
+        )?;
         if !closing.close(t)? {
             return Ok(None);
         }

@@ -18,7 +18,7 @@ pub(crate) struct Automaton {
 }
 
 impl Automaton {
-    // That of a tree: beginnings that are followed alike are one state. None where it gets too large.
+    // The automaton of a tree: beginnings that are followed alike are one state. None where it gets too large.
     pub fn of(alloc: Global, tree: &HalfTree, time: u64) -> Result<Option<Automaton>, NoMemory> {
         let mut states = Vec::new(alloc);
         let mut transitions = Vec::new(alloc);

@@ -15,7 +15,7 @@ pub(crate) struct Local {
     pub right: usize,
 }
 
-// Its coset, and whether that has grown since it was looked at.
+// What stands around the head with its coset, and whether that has grown since it was looked at.
 #[derive(Clone, Copy)]
 pub(crate) struct Found {
     pub at: Local,
@@ -100,7 +100,7 @@ impl<'a> Closing<'a> {
         Ok(false)
     }
 
-    // The same for one of them: how many transitions it went back by; nothing where it can't be closed.
+    // Takes in what one coset leads to: how many transitions that went back by; nothing where it can't be closed.
     fn close_at(&mut self, t: &Table, place: usize) -> Result<Option<usize>, NoMemory> {
         let Some(found) = self.found.get_mut(place) else {
             return Ok(None);
@@ -160,7 +160,7 @@ impl<'a> Closing<'a> {
         Ok(Some(edges))
     }
 
-    // The same by one transition; whether that could be done.
+    // Goes back by one transition; whether that could be done.
     fn take_back(
         &mut self,
         coset: &Coset,

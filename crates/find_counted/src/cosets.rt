@@ -83,7 +83,7 @@ impl Coset {
         true
     }
 
-    // The same members, with rows in echelon form; nothing where a number gets too large.
+    // A coset of the same members, with rows in echelon form; nothing where a number gets too large.
     pub fn in_echelon(&self) -> Option<Coset> {
         let mut coset = Coset {
             base: self.base,

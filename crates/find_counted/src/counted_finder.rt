@@ -53,7 +53,7 @@ impl CountedFinder {
         Ok(None)
     }
 
-    // The same by the automata that so many symbols tell.
+    // What is found by the automata that so many symbols tell.
     fn search_by(&self, t: &Table, window: usize) -> Result<Option<OwnedCosets>, NoMemory>
         ensures found { IfOk result (λ o. IfSome o (λ e. AreCosetsOf (owned_coset_texts e) t.now)) }
         ensures counts { IfOk result (λ o. IfSome o (λ e. (owned_coset_texts e).left_counts + (owned_coset_texts e).right_counts ≤ min self.now.counts found_count_limit)) }

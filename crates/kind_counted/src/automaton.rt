@@ -5,21 +5,21 @@ use crate::count::Count;
 use machine_text::Sym;
 
 /// The state that a transition leads to, and its count, if it has one.
-#[derive(Clone, Copy, Debug, PartialEq, Eq)]
+#[derive(Clone, Copy)]
 pub struct Transition {
     pub to: usize,
     pub count: Option<Count>,
 }
 
 /// The transitions of a state. Some may be missing.
-#[derive(Clone, Copy, Debug, PartialEq, Eq)]
+#[derive(Clone, Copy)]
 pub struct Exits {
     pub zero: Option<Transition>,
     pub one: Option<Transition>,
 }
 
 /// An automaton: the transitions of each of its states, of which there is one at least.
-#[derive(Debug, Drop)]
+#[derive(Drop)]
 pub struct Automaton {
     pub states: Vec<Exits>,
     ghost targets: { AreStates states.items },

@@ -88,7 +88,7 @@ impl<'a> CountedCosets<'a> {
                 Err(Failed::TooLarge) => Err(Refused::TooWide),
                 Err(Failed::NoMemory) => Err(Refused::NoMemory),
             },
-            // It never comes to this: the texts were tested before.
+            // Never: the texts were tested before.
             None => Err(Refused::Fails),
         }
     }

@@ -6,7 +6,7 @@ use crate::numbers::Counts;
 use crate::rows::Row;
 
 /// A base, and rows in echelon form: the points that differ from the base by whole multiples of the rows.
-#[derive(Debug, Drop)]
+#[derive(Drop)]
 pub struct Coset {
     pub base: Counts,
     pub rows: Vec<Row>,
@@ -14,7 +14,7 @@ pub struct Coset {
 }
 
 /// What stands around the head, and the coset in which the counts then lie.
-#[derive(Debug, Drop)]
+#[derive(Drop)]
 pub struct Item {
     pub at: Local,
     pub coset: Coset,

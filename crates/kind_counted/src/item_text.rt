@@ -144,7 +144,7 @@ fn letter_place(text: &[u8]) -> Option<usize>
     text.iter().position(|b| *b >= b'A')
 }
 
-// The same, where the letter stands at a place.
+// What stands around the head, where the letter of its text stands at a place.
 #[tactic(auto, unfolding(crate::specs::Texts::local_at))]
 fn local_at(text: &[u8], at: usize, shape: Shape) -> Option<Local>
     requires { at < length text.now }

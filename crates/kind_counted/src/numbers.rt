@@ -10,7 +10,7 @@ use crate::limits::{MAX_COUNTS, MAX_NUMBER};
 use crate::refused::Refused;
 
 /// A number for each count.
-#[derive(Clone, Copy, Debug, PartialEq, Eq)]
+#[derive(Clone, Copy)]
 pub struct Counts {
     pub numbers: [i64; MAX_COUNTS],
     ghost small: { AreSmall numbers },

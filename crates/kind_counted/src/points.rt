@@ -46,7 +46,7 @@ impl Points {
         Ok(Points { base, rows })
     }
 
-    // Those that are 0 in each count of a range that isn't used at a state; it fails if none is.
+    // The points that are 0 in each count of a range that isn't used at a state; fails if none is.
     pub fn kept(
         self,
         alloc: Global,
@@ -69,7 +69,7 @@ impl Points {
         Ok(points)
     }
 
-    // The same for one count.
+    // The points that are 0 in one count, where that isn't used at a state; fails if none is.
     fn kept_at(
         self,
         alloc: Global,
@@ -146,7 +146,7 @@ impl Points {
         Ok(())
     }
 
-    // Those that are 0 in a place; it fails if none is.
+    // The points that are 0 in a place; fails if none is.
     pub fn zero(&self, alloc: Global, place: usize) -> Result<Points, Refused>
         requires { place < count_limit }
         ensures kept { IfOk result (λ p. AreZeroMembers (coset_by self.now.base self.now.rows.items) place (coset_by p.base p.rows.items)) }
@@ -158,7 +158,7 @@ impl Points {
     }
 }
 
-// The same, once one row alone has a number in the place.
+// The points that are 0 in a place, once one row alone has a number there; fails if none is.
 fn zero_of(base: &Counts, split: Split, place: usize) -> Result<Points, Refused>
     requires place { place < count_limit }
     requires some { IfSome split.carrier (λ c. 0 < unsigned_abs (point_of c.numbers place)) }

@@ -8,7 +8,7 @@ use crate::numbers::Counts;
 use crate::refused::Refused;
 
 /// A row, and the place of its first number that isn't 0.
-#[derive(Clone, Copy, Debug, PartialEq, Eq)]
+#[derive(Clone, Copy)]
 pub struct Row {
     pub pivot: usize,
     pub counts: Counts,

@@ -2,7 +2,7 @@
 
 /// How many states the tables have for which counted automata are made, how many states the two automata have, and how many
 /// counts both have together.
-#[derive(Clone, Copy, Debug, PartialEq, Eq)]
+#[derive(Clone, Copy)]
 pub struct Shape {
     pub states: u8,
     pub left: usize,

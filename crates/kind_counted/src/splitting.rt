@@ -35,7 +35,7 @@ pub(crate) fn split_at(alloc: Global, rows: &[Counts], place: usize) -> Result<S
 }
 
 impl Split {
-    // The same for one row more.
+    // Takes one row more into account.
     fn add(&mut self, row: &Counts, place: usize) -> Result<(), Refused>
         requires place { place < count_limit }
         requires some { IfSome self.old.carrier (λ c. 0 < unsigned_abs (point_of c.numbers place)) }
@@ -54,7 +54,7 @@ impl Split {
         }
     }
 
-    // The same where there is no carrier yet.
+    // Takes one row more into account where there is no carrier yet.
     fn add_first(&mut self, row: &Counts, place: usize) -> Result<(), Refused>
         requires place { place < count_limit }
         requires none { self.old.carrier ≡ None }

@@ -27,7 +27,7 @@ impl TextsGiven<'_> {
     ghost use Rattle.kind_counted.specs.Texts.{half_states};
     ghost use Rattle.kind_counted.specs.TextsGiven.{texts_given};
 
-    // Whether they give counted automata. Takes no memory.
+    // Whether the texts give counted automata. Takes no memory.
     #[tactic(auto, unfolding(crate::specs::CosetTexts::counted_in))]
     pub fn are_read(&self) -> bool
         requires { self.now.left_counts + self.now.right_counts ≤ count_limit }
@@ -42,7 +42,7 @@ impl TextsGiven<'_> {
         self.are_read_by(left, right)
     }
 
-    // The same, where the automata have so many states.
+    // Whether the texts give counted automata, where these have so many states.
     #[tactic(auto, unfolding(crate::specs::CosetTexts::counted_by_sizes))]
     fn are_read_by(&self, left: usize, right: usize) -> bool
         requires { self.now.left_counts + self.now.right_counts ≤ count_limit }
@@ -65,7 +65,7 @@ impl TextsGiven<'_> {
         are_items(Parts::of(b',', self.cosets), shape)
     }
 
-    // The counted automata that they give; none where they give none.
+    // The counted automata that the texts give; none where they give none.
     #[tactic(auto, unfolding(crate::specs::CosetTexts::counted_in))]
     pub fn read(&self, alloc: Global) -> Result<Option<CountedAutomata>, NoMemory>
         requires { self.now.left_counts + self.now.right_counts ≤ count_limit }
@@ -80,7 +80,7 @@ impl TextsGiven<'_> {
         self.read_by(alloc, left, right)
     }
 
-    // The same, where the automata have so many states.
+    // The counted automata that the texts give, where these have so many states.
     #[tactic(auto, unfolding(crate::specs::CosetTexts::counted_by_sizes))]
     fn read_by(
         &self,

@@ -26,7 +26,7 @@ pub(crate) struct Used {
 }
 
 impl Used {
-    // Those of an automaton.
+    // The counts that paths of an automaton have.
     pub fn of(alloc: Global, a: &Automaton) -> Result<Used, Refused>
         ensures table { IfOk result (λ u. IsUsedTable (transitions_of a.now.states.items) u.sets.items) }
         ensures memory { OnErr result (result ≡ Err Refused.NoMemory) }
@@ -118,7 +118,7 @@ fn put(sets: &mut [Set], from: Set, exit: Option<Transition>) -> bool
     }
 }
 
-// The same for a transition.
+// Puts into a set what a transition asks for, where there is a path to where it starts, and there is more.
 fn put_at(sets: &mut [Set], from: Set, t: Transition) -> bool
     requires reached { IsTrue (in_set from reached) }
     requires target { t.to < length sets.old }

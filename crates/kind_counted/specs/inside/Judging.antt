@@ -61,11 +61,11 @@ pub record AreDifferent (items : List Item) : Type 0 where
 pub record SettlesFrom (w : CountedSystem) (c : Local) (k : Coset) (side : Dir) (by : Transition) (next : State) (q : ℕ) (b : Sym) : Type 0 where
   pub each : (u : Transition) → delta w side q b ≡ Some u → u.to ≡ state_on side c → Settled (Remains w k side by u q) (HasCoset w (moved_to side by.to next b q))
 
--- so they do whichever symbol had been read last from so many states
+-- the points that are left settle whichever symbol had been read last from so many states
 pub record AreSettled (w : CountedSystem) (c : Local) (k : Coset) (side : Dir) (by : Transition) (next : State) (reach : ℕ) : Type 0 where
   pub each : (q : ℕ) (b : Sym) → q < reach → SettlesFrom w c k side by next q b
 
--- so they do whichever symbol had been read last
+-- the points that are left settle whichever symbol had been read last
 pub record AllSettle (w : CountedSystem) (c : Local) (k : Coset) (side : Dir) (by : Transition) (next : State) : Type 0 where
   pub each : (q : ℕ) (b : Sym) → SettlesFrom w c k side by next q b
 
@@ -75,7 +75,7 @@ pub record HasStep (m : Machine) (w : CountedSystem) (c : Local) (k : Coset) : T
   pub is : m c.state.0 c.read ≡ Some entry
   pub steps : LeadsOn w c k entry.write entry.next entry.dir
 
--- so it is for so many items
+-- each of so many items has an entry whose step settles
 pub record AllGoOn (m : Machine) (w : CountedSystem) (items : List Item) (reach : ℕ) : Type 0 where
   pub each : (i : ℕ) (item : Item) → i < reach → item ≡ get_or items i item → HasStep m w item.at (coset_of item.coset)
 

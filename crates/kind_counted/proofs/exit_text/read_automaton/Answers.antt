@@ -1,0 +1,14 @@
+use Rattle.std.proofs.Common.{Vec, Global, sym, ◌∙◌, ap}
+use Rattle.std.specs.Prelude.{option_map}
+use Rattle.text.specs.Parts.{parts_of}
+use Rattle.kind_counted.specs.declared.automaton.Exits.{Exits}
+use Rattle.kind_counted.specs.Texts.{exits_from}
+use Rattle.kind_counted.proofs.ExitTexts.{read_states}
+use Rattle.kind_counted.proofs.exit_text.read_automaton.Goals as goal
+
+pub invariant_of-result : goal.invariant_of-result
+invariant_of-result c = record {
+  targets = read_states c.args.states c.args.low c.args.limit c.requires.limit (parts_of 44 c.args.text.now) c.in-Some.exits.items c.requires.states
+      (sym c.begins_blank.ensures ∙ c.if-not-begins_blank.false)
+      (sym (ap (exits_from c.args.states c.args.low c.args.limit) c.of.ensures) ∙ sym c.in_ok-exits.ensures ∙ ap (option_map (λ (l : Vec Exits Global). l.items)) c.in-Some.is);
+}

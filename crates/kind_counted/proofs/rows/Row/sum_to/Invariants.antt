@@ -1,0 +1,6 @@
+use Rattle.kind_counted.specs.Numbers.{point_of}
+use Rattle.kind_counted.specs.inside.Rows.{IsReduced}
+use Rattle.kind_counted.proofs.rows.Row.sum_to.Given as goal
+
+abbrev pub invariant-loop-row : goal.invariant-loop-row
+invariant-loop-row l = IsReduced l.rows (point_of l.counts.numbers) l.row-index (point_of l.rest.numbers)

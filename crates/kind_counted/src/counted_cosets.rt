@@ -1,0 +1,95 @@
+// Counted automata with their cosets, and the evidence that they stand for a table.
+ghost use Rattle.kind_counted.specs.CosetTexts.{AreCosetTexts};
+ghost use Rattle.kind_counted.specs.TextsGiven.{texts_given};
+
+use crate::limits::MAX_COSET_BYTES;
+use crate::refused::Refused as Failed;
+use crate::texts_given::TextsGiven;
+use kind_evidence::{Refused, Verdict};
+use machine_text::Table;
+use std::alloc::Global;
+use text::FieldFault;
+
+/// The claim that two counted automata and cosets stand for a table, by which it never halts. The automata read the two half
+/// tapes, each from far away towards the head, and count how often some of their transitions are taken; what can stand around
+/// the head comes with a coset of a lattice, in which the counts lie (equations as in Karr 1976, congruences as in Granger
+/// 1991; with one weight bbchallenge's MITMWFAR). The numbers are texts, borrowed, and read where they are checked. The claim
+/// is made for tables of so many states.
+#[derive(Clone, Copy, Debug, PartialEq, Eq)]
+pub struct CountedCosets<'a> {
+    pub(crate) texts: TextsGiven<'a>,
+    ghost are: { AreCosetTexts (texts_given texts) },
+}
+
+impl<'a> CountedCosets<'a> {
+    ghost use Rattle.std.specs.Prelude.{◌≡◌, ◌+◌, ◌≤◌, ◌↔◌, IsTrue, Err, IfOk, IfSome, length};
+    ghost use Rattle.machine_text.specs.Limits.{state_limit};
+    ghost use Rattle.machine_text.specs.Packed.{entry_of};
+    ghost use Rattle.law_turing.specs.Halting.{Never};
+    ghost use Rattle.text.specs.Fields.{made_of};
+    ghost use Rattle.kind_counted.specs.CosetTexts.{CosetTexts, coset_texts, AreCosetsOf};
+    ghost use Rattle.kind_counted.specs.CountedCosets.{coset_texts_of};
+    ghost use Rattle.kind_counted.specs.Fields.{cosets_by};
+    ghost use Rattle.kind_counted.specs.Limits.{coset_byte_limit, count_limit};
+
+    /// The claim that three texts make, for tables of so many states, where the left and the right automaton have so many
+    /// counts. It is `TooLong` where the texts together have over `MAX_COSET_BYTES`, `BadList` where they are no such texts.
+    /// Takes no memory.
+    pub fn new(
+        states: u8,
+        left_counts: u8,
+        right_counts: u8,
+        left: &'a [u8],
+        right: &'a [u8],
+        cosets: &'a [u8],
+    ) -> Result<CountedCosets<'a>, FieldFault>
+        requires states { (1 ≤ states) × (states ≤ state_limit) }
+        requires counts { left_counts + right_counts ≤ count_limit }
+        ensures { made_of coset_texts_of result ≡ cosets_by (coset_texts states left_counts right_counts left.now right.now cosets.now) }
+    {
+        if !CountedCosets::are_short(left, right, cosets) {
+            return Err(FieldFault::TooLong);
+        }
+        let texts = TextsGiven {
+            states,
+            left_counts,
+            right_counts,
+            left,
+            right,
+            cosets,
+        };
+        if !texts.are_read() {
+            return Err(FieldFault::BadList);
+        }
+        Ok(CountedCosets { texts })
+    }
+
+    // Whether three texts together are within `MAX_COSET_BYTES`.
+    fn are_short(left: &[u8], right: &[u8], cosets: &[u8]) -> bool
+        ensures { IsTrue result ↔ (length left.now + length right.now + length cosets.now ≤ coset_byte_limit) }
+    {
+        left.len() <= MAX_COSET_BYTES
+            && right.len() <= MAX_COSET_BYTES - left.len()
+            && cosets.len() <= MAX_COSET_BYTES - left.len() - right.len()
+    }
+
+    /// Whether the counted automata stand for a table, by which it never halts; `Fails` where they don't. It is `TooWide`
+    /// where a number over 2^31 comes up, which says nothing of the claim. Reads the texts into memory.
+    pub fn check(&self, alloc: Global, t: &Table) -> Result<Verdict, Refused>
+        ensures stands { IfOk result (λ v. (v ≡ Verdict.Never) × AreCosetsOf (coset_texts_of self.now) t.now) }
+        ensures never { IfOk result (λ _. Never (entry_of t.now)) }
+        ensures fails { result ≡ Err Refused.Fails → AreCosetsOf (coset_texts_of self.now) t.now → ⊥ }
+        ensures long { result ≡ Err Refused.TooLong → ⊥ }
+    {
+        match self.texts.read(alloc)? {
+            Some(counted) => match counted.check(alloc, t) {
+                Ok(()) => Ok(Verdict::Never),
+                Err(Failed::Fails) => Err(Refused::Fails),
+                Err(Failed::TooLarge) => Err(Refused::TooWide),
+                Err(Failed::NoMemory) => Err(Refused::NoMemory),
+            },
+            // Never: the texts were tested before.
+            None => Err(Refused::Fails),
+        }
+    }
+}

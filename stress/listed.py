@@ -15,7 +15,7 @@ import random
 import subprocess
 import sys
 
-from oracle import Refused, mirrored, number, printed, read_table, side
+from oracle import Refused, answer, mirrored
 
 MOST = 4_096
 CHANGES = 2_000
@@ -47,7 +47,7 @@ def edges_of(text, last):
 
 
 def listed(rows, to, count, delta, row_texts, keep):
-    """Ends where the two automata are those of the table, and refuses otherwise."""
+    """`never` where the two automata are those of the table; refuses otherwise."""
     states = len(rows)
     last = count * states
     goes = [digits(text, count) for text in delta.split(b",")]
@@ -62,6 +62,7 @@ def listed(rows, to, count, delta, row_texts, keep):
         rows = mirrored(rows)
     if not are_automata(rows, count, goes, lists, kept):
         raise Refused("201")
+    return "never"
 
 
 def are_automata(rows, count, goes, lists, kept):
@@ -99,25 +100,6 @@ def are_automata(rows, count, goes, lists, kept):
     if 0 not in kept or halt in kept:
         return False
     return all(edges(v, 0) <= kept for v in kept)
-
-
-def answer(line):
-    """What is printed of a record."""
-    try:
-        if len(line) > 65_000:
-            raise Refused("305")
-        parts = line.split(b" ")
-        rows = read_table(parts[0])
-        if len(parts) != 7 or parts[1] != b"A":
-            raise Refused("302")
-        to = side(parts[2])
-        count = number(parts[3])
-        if not 1 <= count <= MOST:
-            raise Refused("303")
-        listed(rows, to, count, *parts[4:])
-    except Refused as refused:
-        return f"refused {refused}"
-    return f"{printed(rows)} never"
 
 
 # Changes, each of which gives another record or none.

@@ -317,7 +317,7 @@ def read_claim(rows, parts):
     if not parts:
         raise Refused("302")
     kind, fields = parts[0], parts[1:]
-    counts = {b"H": (1, 2), b"C": (2,), b"T": (3,), b"B": (1,), b"N": (4,), b"F": (5,), b"U": (0,)}
+    counts = {b"H": (1, 2), b"C": (2,), b"T": (3,), b"B": (1,), b"N": (4,), b"F": (5,), b"A": (5,), b"U": (0,)}
     if len(fields) not in counts.get(kind, ()):
         raise Refused("302")
     if kind == b"H":
@@ -339,6 +339,11 @@ def read_claim(rows, parts):
     if kind == b"F":
         to, count = side(fields[0]), size(fields[1], 16)
         return lambda: far(rows, to, count, *fields[2:])
+    if kind == b"A":
+        # Behind what stands here, from which it is written.
+        from listed import MOST, listed
+        to, count = side(fields[0]), size(fields[1], MOST)
+        return lambda: listed(rows, to, count, *fields[2:])
     return lambda: "undecided"
 
 

@@ -2,7 +2,7 @@
 use crate::hard_finder::HardFinder;
 use backward::BackwardFinder;
 use cert::{Finder, Finders, OwnedCertificate};
-use cmd_options::{Ended, Search};
+use cmd_options::{Ended, LETTERS, Search};
 use far::FarFinder;
 use kind_evidence::NoMemory;
 use loops::{CycleFinder, TranslatedFinder};
@@ -41,21 +41,33 @@ impl Finder for AnyFinder {
     }
 }
 
-// One of each, in the order in which they are asked; or the one that goes through the stages, where the search is hard.
+// Those of the kinds, in the order of their letters; or the one that goes through the stages, where the search is hard.
 fn all_finders(alloc: Global, search: &Search) -> Result<Vec<AnyFinder>, NoMemory> {
-    let steps = search.steps;
     let mut finders = Vec::new(alloc);
     if search.hard {
-        finders.push(AnyFinder::Hard(HardFinder::new(alloc, steps)))?;
+        finders.push(AnyFinder::Hard(HardFinder::new(alloc, search.steps)))?;
         return Ok(finders);
     }
-    finders.push(AnyFinder::Halts(HaltFinder::new(alloc, steps)))?;
-    finders.push(AnyFinder::Cycle(CycleFinder::new(alloc, steps)))?;
-    finders.push(AnyFinder::Translated(TranslatedFinder::new(alloc, steps)))?;
-    finders.push(AnyFinder::Backward(BackwardFinder::new(alloc, search.depth)))?;
-    finders.push(AnyFinder::Ngram(NgramFinder::new(alloc, search.gram)))?;
-    finders.push(AnyFinder::Far(FarFinder::new(alloc, search.far)))?;
+    for letter in LETTERS {
+        if let Some(finder) = finder_of(alloc, *letter, search) {
+            finders.push(finder)?;
+        }
+    }
     Ok(finders)
+}
+
+// What looks for certificates of the kind of a letter; nothing does for those that claim nothing.
+fn finder_of(alloc: Global, letter: u8, search: &Search) -> Option<AnyFinder> {
+    let steps = search.steps;
+    match letter {
+        b'H' => Some(AnyFinder::Halts(HaltFinder::new(alloc, steps))),
+        b'C' => Some(AnyFinder::Cycle(CycleFinder::new(alloc, steps))),
+        b'T' => Some(AnyFinder::Translated(TranslatedFinder::new(alloc, steps))),
+        b'B' => Some(AnyFinder::Backward(BackwardFinder::new(alloc, search.depth))),
+        b'N' => Some(AnyFinder::Ngram(NgramFinder::new(alloc, search.gram))),
+        b'F' => Some(AnyFinder::Far(FarFinder::new(alloc, search.far))),
+        _ => None,
+    }
 }
 
 // What decides tables by them.

@@ -26,8 +26,7 @@ pub(crate) fn split<S: Disk, R, W: Write, E>(
         &mut decider,
         &mut Silent,
         call.answers,
-    )?;
-    Ok(Outcome::Accepted)
+    )
 }
 
 // `bb settle`; how far it is, is told on `faults` where that is wanted.

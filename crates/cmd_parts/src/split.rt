@@ -13,7 +13,7 @@ ghost use Rattle.cmd_parts.specs.Split.{SplitsTree, path_within, split_text};
 use crate::folder::{FolderAt, TRUNK, begin_parts, path_within};
 use crate::trunk::grow_trunk;
 use cert::Decider;
-use cmd_options::{Ended, LedgerFile, Outcome, Splitting, ended_by};
+use cmd_options::{Ended, LedgerFile, Outcome, Splitting, ended_by, told};
 use files::{Files, Progress, ledger_at, lock_ledger};
 use kind_evidence::NoMemory;
 use ledger::{Board, Tally};
@@ -39,10 +39,10 @@ pub fn cmd_split<H: Files, D: Decider, P: Progress, W: Write, E: Write>(
     ensures accepted { result ≡ Outcome.Accepted → SplitsTree splitting.now.states splitting.now.filled (W.contents answers.old) (W.contents answers.new) }
     ensures locked { result ≡ Outcome.Accepted → (lock : H.Lock) × H.locks (path_within splitting.now.folder.now (codes "trunk")) (Ok (Some lock)) }
 {
-    match split_in(alloc, splitting, host, decider, progress, answers) {
-        Ok(()) => Outcome::Accepted,
-        Err(ended) => ended.told(faults),
-    }
+    told(
+        split_in(alloc, splitting, host, decider, progress, answers),
+        faults,
+    )
 }
 
 /// The same, but that what ends it early isn't said.
@@ -53,7 +53,7 @@ pub fn split_in<H: Files, D: Decider, P: Progress, W: Write>(
     decider: &mut D,
     progress: &mut P,
     answers: &mut W,
-) -> Result<(), Ended>
+) -> Result<Outcome, Ended>
     requires { (1 ≤ splitting.now.states) × (splitting.now.states ≤ state_limit) }
     ensures splits { OnOk result (SplitsTree splitting.now.states splitting.now.filled (W.contents answers.old) (W.contents answers.new)) }
     ensures locked { OnOk result ((lock : H.Lock) × H.locks (path_within splitting.now.folder.now (codes "trunk")) (Ok (Some lock))) }
@@ -62,7 +62,8 @@ pub fn split_in<H: Files, D: Decider, P: Progress, W: Write>(
     begin_folder(host, splitting.folder, &path)?;
     let _lock = lock_ledger(host, &path)?;
     let trunk = grown_trunk(alloc, splitting, host, &path, decider, progress)?;
-    split_off(alloc, &trunk, splitting.folder, host, answers)
+    split_off(alloc, &trunk, splitting.folder, host, answers)?;
+    Ok(Outcome::Accepted)
 }
 
 // The trunk, grown, whose ledger is locked.

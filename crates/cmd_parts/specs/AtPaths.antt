@@ -29,11 +29,17 @@ abbrev pub SeesAt : Known → Result Bool Ended → Type 0
 SeesAt known (Ok seen) = (size : ℕ) × IsSizeAt known size × (seen ≡ nat_lt 0 size)
 SeesAt known (Err e) = FailsReading e
 
--- the part of a root is begun in a folder, and nothing else has changed
+-- the part of a root is begun at a path, and nothing else has changed
+pub record IsPartBegun (tells : SameFile) (path : List ℕ) (root : Packed) (old new : Shelf) : Type 0 where
+  pub before : Option (List ℕ)
+  pub size : ℕ
+  pub is_before : IsLedgerAt (old path) before
+  pub is_size : IsSizeAt (old path) size
+  pub is_put : IsPut tells path (begun_part root size before) old new
+
+-- and so in a folder
 abbrev pub IsBegunAt : SameFile → List ℕ → Packed → Shelf → Shelf → Type 0
-IsBegunAt tells folder root old new =
-    (before : Option (List ℕ)) × (size : ℕ) × IsLedgerAt (old (path_within folder (text_of root))) before × IsSizeAt (old (path_within folder (text_of root))) size
-    × IsPut tells (path_within folder (text_of root)) (begun_part root size before) old new
+IsBegunAt tells folder root old new = IsPartBegun tells (path_within folder (text_of root)) root old new
 
 -- and those of several, one after another
 abbrev pub AreBegunAt : SameFile → List ℕ → List Packed → Shelf → Shelf → Type 0

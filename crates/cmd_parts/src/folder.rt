@@ -5,11 +5,11 @@ ghost use Rattle.machine_text.specs.Text.{text_of};
 ghost use Rattle.ledger.specs.Contents.{IsOpenOn};
 ghost use Rattle.ledger.specs.Tally.{AreAll};
 ghost use Rattle.files.specs.Paths.{IsToldStill};
-ghost use Rattle.cmd_parts.specs.AtPaths.{AreBegunAt, IsBegunAt, IsSizeAt};
+ghost use Rattle.cmd_parts.specs.AtPaths.{AreBegunAt, IsBegunAt, IsPartBegun, IsSizeAt};
 ghost use Rattle.cmd_parts.specs.Settle.{FailsReading};
 ghost use Rattle.cmd_parts.specs.Split.{begun_part, path_within};
 
-use cmd_options::{Ended, LedgerFile, ended_by};
+use cmd_options::{Durability, Ended, LedgerFile, ended_by};
 use files::{Files, held_at, ledger_at};
 use kind_evidence::NoMemory;
 use ledger::{Board, append_header};
@@ -65,13 +65,13 @@ pub fn begin_parts<H: Files>(
     ensures { OnOk result ((roots : List Packed) × AreAll (IsOpenOn board.now) roots × AreBegunAt (H.tells_same host.old) folder.now roots (H.holds host.old) (H.holds host.new)) }
 {
     for root in board.open() {
-        begin_part_at(alloc, folder, root, host)?;
+        begin_part_in(alloc, folder, root, host)?;
     }
     Ok(())
 }
 
 // Makes sure that the ledger of the part of a root begins with its header.
-fn begin_part_at<H: Files>(
+fn begin_part_in<H: Files>(
     alloc: Global,
     folder: &str,
     root: &Table,
@@ -81,10 +81,27 @@ fn begin_part_at<H: Files>(
     ensures tells { IsToldStill (H.tells_same host.old) (H.tells_same host.new) }
 {
     let path = part_path(alloc, folder, root)?;
-    let bytes = bytes_at(host, &path)?;
-    let mut ledger = ledger_at(host, &LedgerFile::at(&path))?;
+    begin_part_at(alloc, &path, root, host)
+}
+
+// The same at its path.
+fn begin_part_at<H: Files>(
+    alloc: Global,
+    path: &str,
+    root: &Table,
+    host: &mut H,
+) -> Result<(), Ended>
+    ensures ok { OnOk result (IsPartBegun (H.tells_same host.old) path.now root.now (H.holds host.old) (H.holds host.new)) }
+    ensures tells { IsToldStill (H.tells_same host.old) (H.tells_same host.new) }
+{
+    let bytes = bytes_at(host, path)?;
+    let file = LedgerFile {
+        path,
+        durability: Durability::System,
+    };
+    let mut ledger = ledger_at(host, &file)?;
     let begun = begin_part(alloc, root, bytes, &mut ledger);
-    host.close(&path, ledger);
+    host.close(path, ledger);
     begun
 }
 

@@ -102,12 +102,12 @@ pub fn join_into<H: Files, P: ReportForm, W: Write, E: Write>(
 }
 
 // The one ledger of all, which stands nowhere yet.
-fn joined<H: Files, P: ReportForm, W: Write, E: Write>(
+fn joined<'a, H: Files, P: ReportForm, W: Write, E: Write>(
     alloc: Global,
     form: &P,
     folder: &str,
-    out: &str,
-    host: &H,
+    out: &'a str,
+    host: &'a H,
     answers: &mut W,
     faults: &mut E,
 ) -> Result<(H::Made, Outcome), Ended>

@@ -1,6 +1,8 @@
 use Rattle.std.proofs.Common.{rules, ◌≡◌, List, ◌∷◌, sym, subst}
 use Rattle.machine_text.specs.Packed.{Packed}
+use Rattle.machine_text.specs.Text.{text_of}
 use Rattle.cmd_parts.specs.AtPaths.{AreBegunAt}
+use Rattle.cmd_parts.specs.Split.{path_within}
 use Rattle.cmd_parts.proofs.BegunAt.{begun_told, told_then}
 use Rattle.cmd_parts.proofs.folder.begin_parts.Goals as goal
 
@@ -10,9 +12,9 @@ loop-root-preserved g c =
     let (roots, all, told, will) = c.loop-root.invariant in
     let first = g.H.Files.tells_same c.args.host.now in
     let now = g.H.Files.tells_same c.loop-root.host in
-    let begun = begun_told first now c.args.folder.now c.in-Some.root.now (g.H.Files.holds c.loop-root.host) (g.H.Files.holds c.begin_part_at.new.host) told c.in_ok-begin_part_at.ensures.ok in (
+    let begun = begun_told first now (path_within c.args.folder.now (text_of c.in-Some.root.now)) c.in-Some.root.now (g.H.Files.holds c.loop-root.host) (g.H.Files.holds c.begin_part_in.new.host) told c.in_ok-begin_part_in.ensures.ok in (
       roots,
       all,
-      told_then first now (g.H.Files.tells_same c.begin_part_at.new.host) told c.begin_part_at.ensures.tells,
-      λ new rest. will new (subst (λ (l : List Packed). AreBegunAt first c.args.folder.now l (g.H.Files.holds c.loop-root.host) new) (sym is) (g.H.Files.holds c.begin_part_at.new.host, begun, rest)),
+      told_then first now (g.H.Files.tells_same c.begin_part_in.new.host) told c.begin_part_in.ensures.tells,
+      λ new rest. will new (subst (λ (l : List Packed). AreBegunAt first c.args.folder.now l (g.H.Files.holds c.loop-root.host) new) (sym is) (g.H.Files.holds c.begin_part_in.new.host, begun, rest)),
     )

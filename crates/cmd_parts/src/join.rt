@@ -102,12 +102,12 @@ pub fn join_into<H: Files, P: ReportForm, W: Write, E: Write>(
 }
 
 // The one ledger of all, which stands nowhere yet.
-fn joined<'a, H: Files, P: ReportForm, W: Write, E: Write>(
+fn joined<H: Files, P: ReportForm, W: Write, E: Write>(
     alloc: Global,
     form: &P,
     folder: &str,
-    out: &'a str,
-    host: &'a H,
+    out: &str,
+    host: &H,
     answers: &mut W,
     faults: &mut E,
 ) -> Result<(H::Made, Outcome), Ended>
@@ -118,15 +118,32 @@ fn joined<'a, H: Files, P: ReportForm, W: Write, E: Write>(
         ledger: made_for(host, out, &[])?,
     };
     let removed = host.removed_by(&one.ledger)?;
+    let name = removed.as_deref();
+    let outcome = join_beside(
+        alloc, form, folder, out, name, host, &mut one, answers, faults,
+    )?;
+    Ok((one.ledger, outcome))
+}
+
+// The same where the one ledger is written at a path, and a name may be removed for that.
+fn join_beside<'a, H: Files, P: ReportForm, C: Collector, W: Write, E: Write>(
+    alloc: Global,
+    form: &P,
+    folder: &str,
+    out: &'a str,
+    removed: Option<&'a str>,
+    host: &'a H,
+    collector: &mut C,
+    answers: &mut W,
+    faults: &mut E,
+) -> Result<Outcome, Ended>
+    ensures { IfOk result (TellsAll (P.is_text form.now) (finds_at (H.holds host.now)) folder.now (C.text collector.old) (C.text collector.new) (W.contents answers.old) (W.contents answers.new) (E.contents faults.old) (E.contents faults.new)) }
+{
     let parts = PartsAt {
         host,
-        written: Some(Written {
-            out,
-            removed: removed.as_deref(),
-        }),
+        written: Some(Written { out, removed }),
     };
-    let outcome = join_parts(alloc, form, folder, &parts, &mut one, answers, faults)?;
-    Ok((one.ledger, outcome))
+    join_parts(alloc, form, folder, &parts, collector, answers, faults)
 }
 
 /// Prints the report of the trunk in a folder and of its parts, and collects the one ledger of all. The parts are those of

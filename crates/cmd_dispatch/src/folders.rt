@@ -58,12 +58,11 @@ pub(crate) fn join<S: Disk, R, W: Write, E: Write>(
 ) -> Result<Outcome, Ended> {
     let form = Form::of(joining.json);
     let mut files = call.files();
-    join_at(
-        call.alloc,
-        &form,
-        joining,
-        &mut files,
-        call.answers,
-        call.faults,
-    )
+    let Call {
+        alloc,
+        answers,
+        faults,
+        ..
+    } = call;
+    join_at(alloc, &form, joining, &mut files, answers, faults)
 }

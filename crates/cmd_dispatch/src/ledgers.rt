@@ -55,16 +55,16 @@ pub(crate) fn mend<S: Disk, R: Read, W: Write, E>(
 ) -> Result<Outcome, Ended> {
     let mut files = call.files();
     let _lock = lock_ledger(&files, mending.out)?;
+    let Call {
+        alloc,
+        input,
+        answers,
+        ..
+    } = call;
     if mending.ledger == STANDARD_INPUT {
-        mend_stream(
-            call.alloc,
-            mending.out,
-            &mut files,
-            call.input,
-            call.answers,
-        )
+        mend_stream(alloc, mending.out, &mut files, input, answers)
     } else {
-        mend_at(call.alloc, mending, &mut files, call.answers)
+        mend_at(alloc, mending, &mut files, answers)
     }
 }
 
@@ -75,10 +75,16 @@ pub(crate) fn report<S: Disk, R: Read, W: Write, E: Write>(
     json: bool,
     why: bool,
 ) -> Result<Outcome, Ended> {
-    let (alloc, form) = (call.alloc, Form::of(json));
+    let (files, form) = (call.files(), Form::of(json));
+    let Call {
+        alloc,
+        input,
+        answers,
+        faults,
+        ..
+    } = call;
     if path == STANDARD_INPUT {
-        return report_stream(alloc, &form, why, call.input, call.answers, call.faults);
+        return report_stream(alloc, &form, why, input, answers, faults);
     }
-    let file = call.files().open_to_end(path);
-    report_file(alloc, &form, why, file, call.answers, call.faults)
+    report_file(alloc, &form, why, files.open_to_end(path), answers, faults)
 }

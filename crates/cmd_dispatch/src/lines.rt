@@ -10,8 +10,14 @@ use std::io::{Read, Write};
 pub(crate) fn check<S: Disk, R: Read, W: Write, E: Write>(
     call: Call<'_, S, R, W, E>,
 ) -> Result<Outcome, Ended> {
-    let reader = reader_of(call.system);
-    check_for(call.alloc, reader, call.input, call.answers, call.faults)
+    let Call {
+        alloc,
+        system,
+        input,
+        answers,
+        faults,
+    } = call;
+    check_for(alloc, reader_of(system), input, answers, faults)
 }
 
 // `bb decide`.
@@ -19,15 +25,21 @@ pub(crate) fn decide<S: Disk, R: Read, W: Write, E: Write>(
     call: Call<'_, S, R, W, E>,
     search: &Search,
 ) -> Result<Outcome, Ended> {
-    let mut decider = decider_for(call.alloc, search)?;
-    let reader = reader_of(call.system);
+    let Call {
+        alloc,
+        system,
+        input,
+        answers,
+        faults,
+    } = call;
+    let mut decider = decider_for(alloc, search)?;
     decide_for(
-        call.alloc,
-        reader,
+        alloc,
+        reader_of(system),
         &mut decider,
-        call.input,
-        call.answers,
-        call.faults,
+        input,
+        answers,
+        faults,
     )
 }
 

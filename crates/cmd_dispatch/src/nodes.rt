@@ -1,5 +1,4 @@
 // `bb run`, `bb loop` and `bb coord`.
-ghost use Rattle.std.specs.Prelude.{◌≡◌, IfOk};
 ghost use Rattle.cmd_options.specs.Ranges.{IsBeginning, IsSettling};
 
 use crate::any_finder::{AnyFinder, decider_for};
@@ -15,6 +14,7 @@ use lease_core::Worker;
 use std::alloc::Global;
 use std::io::{self, ErrorKind, Read, Write};
 use std::time::Clock;
+use wire::Node;
 
 // `bb coord`.
 pub(crate) fn coord<S: Disk, R: Read, W: Write, E>(
@@ -24,16 +24,18 @@ pub(crate) fn coord<S: Disk, R: Read, W: Write, E>(
 ) -> Result<Outcome, Ended>
     requires { IsBeginning beginning }
 {
-    let kept = Kept::of(&call, ledger)?;
-    let mut ledger = kept.ledger;
-    coordinate(
-        call.alloc,
-        beginning,
-        kept.held,
-        &mut ledger,
-        call.input,
-        call.answers,
-    )
+    let Kept {
+        held,
+        mut ledger,
+        lock: _lock,
+    } = Kept::of(call.files(), ledger)?;
+    let Call {
+        alloc,
+        input,
+        answers,
+        ..
+    } = call;
+    coordinate(alloc, beginning, held, &mut ledger, input, answers)
 }
 
 // `bb run`.
@@ -44,18 +46,44 @@ pub(crate) fn run<S: Disk + Clock, R, W: Write, E: Write>(
 ) -> Result<Outcome, Ended>
     requires { IsSettling settling.now }
 {
-    let form = Form::of(settling.json);
-    let run = run_of(call.alloc, call.system, settling, &form)?;
-    let kept = Kept::of(&call, ledger)?;
-    let (alloc, mut ledger) = (call.alloc, kept.ledger);
-    run_tree(
+    let workers = workers_of(call.alloc, settling)?;
+    let kept = Kept::of(call.files(), ledger)?;
+    let Call {
         alloc,
-        run,
-        kept.held,
-        &mut ledger,
-        call.answers,
-        call.faults,
-    )
+        system,
+        answers,
+        faults,
+        ..
+    } = call;
+    run_kept(alloc, settling, workers, system, kept, answers, faults)
+}
+
+// The same with these workers, and with a ledger or none.
+fn run_kept<N: Node + Drop, S: Disk + Clock, W: Write, E: Write>(
+    alloc: Global,
+    settling: &Settling,
+    workers: Vec<N>,
+    system: &S,
+    kept: Kept<'_, S>,
+    answers: &mut W,
+    faults: &mut E,
+) -> Result<Outcome, Ended>
+    requires { IsSettling settling.now }
+{
+    let form = Form::of(settling.json);
+    let run = Run {
+        settling,
+        form: &form,
+        workers,
+        telling: Telling::of(settling.progress, system.tells_terminal()),
+        clock: system,
+    };
+    let Kept {
+        held,
+        mut ledger,
+        lock: _lock,
+    } = kept;
+    run_tree(alloc, run, held, &mut ledger, answers, faults)
 }
 
 // `bb loop`.
@@ -66,19 +94,44 @@ pub(crate) fn run_over_sockets<S: Disk + Clock + Sockets, R, W: Write, E: Write>
 ) -> Result<Outcome, Ended>
     requires { IsSettling settling.now }
 {
+    let workers = workers_of(call.alloc, settling)?;
+    let kept = Kept::of(call.files(), ledger)?;
+    let Call {
+        alloc,
+        system,
+        answers,
+        faults,
+        ..
+    } = call;
+    loop_kept(alloc, settling, workers, system, kept, answers, faults)
+}
+
+// The same with these workers, and with a ledger or none.
+fn loop_kept<N: Node + Drop, S: Disk + Clock + Sockets, W: Write, E: Write>(
+    alloc: Global,
+    settling: &Settling,
+    workers: Vec<N>,
+    system: &S,
+    kept: Kept<'_, S>,
+    answers: &mut W,
+    faults: &mut E,
+) -> Result<Outcome, Ended>
+    requires { IsSettling settling.now }
+{
     let form = Form::of(settling.json);
-    let run = run_of(call.alloc, call.system, settling, &form)?;
-    let kept = Kept::of(&call, ledger)?;
-    let (sockets, mut ledger) = (call.system, kept.ledger);
-    loop_tree(
-        call.alloc,
-        run,
-        sockets,
-        kept.held,
-        &mut ledger,
-        call.answers,
-        call.faults,
-    )
+    let run = Run {
+        settling,
+        form: &form,
+        workers,
+        telling: Telling::of(settling.progress, system.tells_terminal()),
+        clock: system,
+    };
+    let Kept {
+        held,
+        mut ledger,
+        lock: _lock,
+    } = kept;
+    loop_tree(alloc, run, system, held, &mut ledger, answers, faults)
 }
 
 // The ledger of a coordinator, locked for as long as it is written, and what it held; or none.
@@ -90,12 +143,9 @@ struct Kept<'a, D: Disk> {
 }
 
 impl<'a, D: Disk> Kept<'a, D> {
-    fn of<R, W, E>(
-        call: &Call<'a, D, R, W, E>,
-        file: Option<LedgerFile<'_>>,
-    ) -> Result<Kept<'a, D>, Ended> {
+    fn of(files: OnDisk<'a, D>, file: Option<LedgerFile<'_>>) -> Result<Kept<'a, D>, Ended> {
         match file {
-            Some(file) => Kept::at(call.files(), file),
+            Some(file) => Kept::at(files, file),
             None => Ok(Kept::nowhere()),
         }
     }
@@ -122,26 +172,6 @@ impl<'a, D: Disk> Kept<'a, D> {
             lock: None,
         }
     }
-}
-
-// What is run, with as many workers as are asked for.
-fn run_of<'a, S: Disk + Clock>(
-    alloc: Global,
-    system: &'a S,
-    settling: &'a Settling,
-    form: &'a Form,
-) -> Result<Run<'a, Form, Worker<Finders<AnyFinder>>, S>, Ended>
-    ensures { IfOk result (λ run. run.settling.now ≡ settling.now) }
-{
-    let workers = workers_of(alloc, settling)?;
-    let telling = Telling::of(settling.progress, system.tells_terminal());
-    Ok(Run {
-        settling,
-        form,
-        workers,
-        telling,
-        clock: system,
-    })
 }
 
 // So many workers, with the ids from 1 on, each started from an empty ledger.

@@ -43,15 +43,15 @@ pub(crate) fn draw<S: Disk, R: Read, W: Write, E: Write>(
     call: Call<'_, S, R, W, E>,
     drawing: &Drawing<'_>,
 ) -> Result<Outcome, Ended> {
-    let pictures = PictureFiles { disk: call.system };
-    draw_asked(
-        call.alloc,
-        drawing,
-        &pictures,
-        call.input,
-        call.answers,
-        call.faults,
-    )
+    let Call {
+        alloc,
+        system,
+        input,
+        answers,
+        faults,
+    } = call;
+    let pictures = PictureFiles { disk: system };
+    draw_asked(alloc, drawing, &pictures, input, answers, faults)
 }
 
 // `bb page`, of a file or of `input`.
@@ -88,13 +88,13 @@ fn page_of_file<S: Disk, R, W: Write, E>(
 
 // Of the ledger that a stream has up to its end.
 fn page_of_stream<S, R: Read, W: Write, E>(call: Call<'_, S, R, W, E>) -> Result<Outcome, Ended> {
-    match write_ledger_page(
-        call.alloc,
-        "standard input",
-        call.input,
-        u64::MAX,
-        call.answers,
-    ) {
+    let Call {
+        alloc,
+        input,
+        answers,
+        ..
+    } = call;
+    match write_ledger_page(alloc, "standard input", input, u64::MAX, answers) {
         Ok((outcome, _)) => Ok(outcome),
         Err(stopped) => Err(stopped.ended(Ended::Stream)),
     }

@@ -78,6 +78,19 @@ fn run_kept<N: Node + Drop, S: Disk + Clock, W: Write, E: Write>(
         telling: Telling::of(settling.progress, system.tells_terminal()),
         clock: system,
     };
+    run_begun(alloc, run, kept, answers, faults)
+}
+
+// The same with this run.
+fn run_begun<N: Node + Drop, S: Disk + Clock, W: Write, E: Write>(
+    alloc: Global,
+    run: Run<'_, Form, N, S>,
+    kept: Kept<'_, S>,
+    answers: &mut W,
+    faults: &mut E,
+) -> Result<Outcome, Ended>
+    requires { IsSettling run.settling.now }
+{
     let Kept {
         held,
         mut ledger,
@@ -126,6 +139,20 @@ fn loop_kept<N: Node + Drop, S: Disk + Clock + Sockets, W: Write, E: Write>(
         telling: Telling::of(settling.progress, system.tells_terminal()),
         clock: system,
     };
+    loop_begun(alloc, run, system, kept, answers, faults)
+}
+
+// The same with this run.
+fn loop_begun<N: Node + Drop, S: Disk + Clock + Sockets, W: Write, E: Write>(
+    alloc: Global,
+    run: Run<'_, Form, N, S>,
+    system: &S,
+    kept: Kept<'_, S>,
+    answers: &mut W,
+    faults: &mut E,
+) -> Result<Outcome, Ended>
+    requires { IsSettling run.settling.now }
+{
     let Kept {
         held,
         mut ledger,

@@ -22,23 +22,23 @@ picture_path folder t = svg_path folder (text_of t)
 abbrev pub drawn_text : Packed → List ℕ
 drawn_text t = text_of t ++ codes " drawn"
 
--- a table is answered once its picture is the file of its path, by what is known of files
-pub record IsDrawnIn (Holds : List ℕ → List ℕ → Type 0) (folder : List ℕ) (d : Drawing) (t : Packed) : Type 0 where
+-- a table is answered once its picture was put at its path
+pub record IsDrawnIn (Puts : List ℕ → List ℕ → Type 0) (folder : List ℕ) (d : Drawing) (t : Packed) : Type 0 where
   pub picture : List ℕ
   pub is : IsPicture d t picture
-  pub held : Holds (picture_path folder t) picture
+  pub put : Puts (picture_path folder t) picture
 
 abbrev pub AnswersAsked : (List ℕ → List ℕ → Type 0) → List ℕ → Drawing → Result Packed RecordFault → Outcome → List ℕ → Type 0
-AnswersAsked Holds folder d (Ok t) o answer = IsDrawnIn Holds folder d t × (o ≡ Accepted) × (answer ≡ drawn_text t)
-AnswersAsked Holds folder d (Err f) o answer = (o ≡ Refused) × (answer ≡ fault_text f)
+AnswersAsked Puts folder d (Ok t) o answer = IsDrawnIn Puts folder d t × (o ≡ Accepted) × (answer ≡ drawn_text t)
+AnswersAsked Puts folder d (Err f) o answer = (o ≡ Refused) × (answer ≡ fault_text f)
 
 -- what `bb draw --out` says to a line
 abbrev pub SaysOfDrawn : (List ℕ → List ℕ → Type 0) → List ℕ → Drawing → BoundedLine → Outcome → List ℕ → Type 0
-SaysOfDrawn Holds folder d line o answer = AnswersAsked Holds folder d (table_asked line) o answer
+SaysOfDrawn Puts folder d line o answer = AnswersAsked Puts folder d (table_asked line) o answer
 
--- what is said to a line is an answer with its newline, whatever came before, and nothing is remembered
-abbrev pub AnswersAlone : {D : Type 0} → (D → BoundedLine → Outcome → List ℕ → Type 0) → D → BoundedLine → Outcome → D → List ℕ → Type 0
-AnswersAlone {D} Says old line o new said = (new ≡ old) × (answer : List ℕ) × Says old line o answer × (said ≡ answer ++ 10 ∷ [])
+-- what is said to a line is an answer with its newline, by what stays as it is from line to line
+abbrev pub AnswersBy : {D K : Type 0} → (D → K) → (K → BoundedLine → Outcome → List ℕ → Type 0) → D → BoundedLine → Outcome → D → List ℕ → Type 0
+AnswersBy {D} {K} stays Says old line o new said = (stays new ≡ stays old) × (answer : List ℕ) × Says (stays old) line o answer × (said ≡ answer ++ 10 ∷ [])
 
 -- in one folder no two tables have one path
 abbrev pub IsOneTableAPath : Type 0

@@ -3,3 +3,4 @@ pub mod Asked
 pub mod Said
 pub mod Files
 pub mod One
+pub mod Placing

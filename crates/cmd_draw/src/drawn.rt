@@ -3,16 +3,17 @@ ghost use Rattle.std.specs.Prelude.{◌≡◌, ◌++◌, ℕ, IfErr, IfOk, List,
 ghost use Rattle.cmd_taking.specs.Taken.{lent};
 ghost use Rattle.cmd_lines.specs.Stream.{AnswersStream};
 ghost use Rattle.cmd_draw.specs.Files.{IsDrawnIn, SaysOfDrawn, drawn_text, picture_path, svg_path};
+ghost use Rattle.cmd_draw.specs.Placing.{PutsPicture};
 ghost use Rattle.cmd_draw.specs.Said.{EndsDrawing};
 
 use crate::asked::table_asked;
-use crate::host::PictureHost;
 use crate::picturing::picture_of;
-use crate::placing::write_at;
+use crate::placing::put_file;
 use cert::append_table;
 use cmd_lines::append_fault;
 use cmd_options::{Drawing, Ended, Outcome, ended_by};
 use cmd_taking::{Sayer, say_lines};
+use files::Files;
 use machine_text::{TEXT_BYTES, Table};
 use std::alloc::Global;
 use std::io::{Read, Write};
@@ -23,15 +24,15 @@ const FEW_BYTES: usize = 64;
 
 /// Reads a table or a record a line, and makes the picture of each table a file of a folder, under the table's text. It
 /// answers a line with what became of it, as soon as it has.
-pub fn draw_files<H: PictureHost, R: Read, W: Write>(
+pub fn draw_files<H: Files, R: Read, W: Write>(
     alloc: Global,
     drawing: &Drawing<'_>,
     folder: &str,
-    host: &H,
+    host: &mut H,
     input: &mut R,
     answers: &mut W,
 ) -> Result<Outcome, Ended>
-    ensures ok { IfOk result (AnswersStream (SaysOfDrawn (H.holds host.now) folder.now drawing.now) (R.remaining input.old) (R.remaining input.new) (W.contents answers.old) (W.contents answers.new)) }
+    ensures ok { IfOk result (AnswersStream (SaysOfDrawn (PutsPicture H.tells_same H.holds) folder.now drawing.now) (R.remaining input.old) (R.remaining input.new) (W.contents answers.old) (W.contents answers.new)) }
     ensures err { IfErr result EndsDrawing }
 {
     match host.make_folder(folder) {
@@ -41,41 +42,42 @@ pub fn draw_files<H: PictureHost, R: Read, W: Write>(
 }
 
 // The same in a folder that is there.
-fn draw_within<H: PictureHost, R: Read, W: Write>(
+fn draw_within<H: Files, R: Read, W: Write>(
     alloc: Global,
     drawing: &Drawing<'_>,
     folder: &str,
-    host: &H,
+    host: &mut H,
     input: &mut R,
     answers: &mut W,
 ) -> Result<Outcome, Ended>
-    ensures ok { IfOk result (AnswersStream (SaysOfDrawn (H.holds host.now) folder.now drawing.now) (R.remaining input.old) (R.remaining input.new) (W.contents answers.old) (W.contents answers.new)) }
+    ensures ok { IfOk result (AnswersStream (SaysOfDrawn (PutsPicture H.tells_same H.holds) folder.now drawing.now) (R.remaining input.old) (R.remaining input.new) (W.contents answers.old) (W.contents answers.new)) }
     ensures err { IfErr result EndsDrawing }
 {
-    let files = Files {
+    let pictures = Pictures {
         alloc,
         drawing,
         folder,
         host,
     };
-    let (outcome, _) = say_lines(alloc, files, FEW_BYTES, input, answers)?;
+    let (outcome, _) = say_lines(alloc, pictures, FEW_BYTES, input, answers)?;
     Ok(outcome)
 }
 
 // The files of a folder, each a picture that is drawn so.
 #[derive(Drop)]
-struct Files<'a, H> {
+struct Pictures<'a, H> {
     alloc: Global,
     drawing: &'a Drawing<'a>,
     folder: &'a str,
-    host: &'a H,
+    host: &'a mut H,
 }
 
-impl<H: PictureHost> Sayer for Files<'_, H> {
-    ghost use Rattle.cmd_draw.specs.Files.{AnswersAlone, SaysOfDrawn};
+impl<H: Files> Sayer for Pictures<'_, H> {
+    ghost use Rattle.cmd_draw.specs.Files.{AnswersBy, SaysOfDrawn};
+    ghost use Rattle.cmd_draw.specs.Placing.{PutsPicture};
     ghost use Rattle.cmd_draw.specs.Said.{EndsDrawing};
 
-    ghost takes = { AnswersAlone (λ files. SaysOfDrawn (H.holds files.host.now) files.folder.now files.drawing.now) };
+    ghost takes = { AnswersBy (λ (p : _). (p.folder.now, p.drawing.now)) (λ kept. SaysOfDrawn (PutsPicture H.tells_same H.holds) kept.0 kept.1) };
 
     ghost ends = { EndsDrawing };
 
@@ -86,10 +88,11 @@ impl<H: PictureHost> Sayer for Files<'_, H> {
     }
 }
 
-impl<H: PictureHost> Files<'_, H> {
+impl<H: Files> Pictures<'_, H> {
     // Draws the table of a line, and appends the answer.
-    fn answer(&self, line: Option<&[u8]>, said: &mut Vec<u8>) -> Result<Outcome, Ended>
-        ensures ok { IfOk result (λ o. (answer : List ℕ) × SaysOfDrawn (H.holds self.now.host.now) self.now.folder.now self.now.drawing.now (lent line.entry) o answer
+    fn answer(&mut self, line: Option<&[u8]>, said: &mut Vec<u8>) -> Result<Outcome, Ended>
+        ensures stays { (self.new.folder ≡ self.old.folder) × (self.new.drawing ≡ self.old.drawing) }
+        ensures ok { IfOk result (λ o. (answer : List ℕ) × SaysOfDrawn (PutsPicture H.tells_same H.holds) self.old.folder.now self.old.drawing.now (lent line.entry) o answer
             × (said.new.items ≡ said.old.items ++ answer)) }
         ensures err { IfErr result EndsDrawing }
     {
@@ -107,8 +110,9 @@ impl<H: PictureHost> Files<'_, H> {
     }
 
     // Makes the picture of a table a file.
-    fn draw(&self, t: &Table) -> Result<(), Ended>
-        ensures ok { OnOk result (IsDrawnIn (H.holds self.now.host.now) self.now.folder.now self.now.drawing.now t.now) }
+    fn draw(&mut self, t: &Table) -> Result<(), Ended>
+        ensures stays { (self.new.folder ≡ self.old.folder) × (self.new.drawing ≡ self.old.drawing) }
+        ensures ok { OnOk result (IsDrawnIn (PutsPicture H.tells_same H.holds) self.old.folder.now self.old.drawing.now t.now) }
         ensures err { IfErr result EndsDrawing }
     {
         let picture = picture_of(self.alloc, t, self.drawing)?;
@@ -125,18 +129,18 @@ fn append_drawn(t: &Table, out: &mut Vec<u8>) -> Result<(), NoMemory>
 }
 
 /// Makes a picture of a table a file of a folder, under the table's text.
-pub fn put_picture<H: PictureHost>(
+pub fn put_picture<H: Files>(
     alloc: Global,
-    host: &H,
+    host: &mut H,
     folder: &str,
     t: &Table,
     picture: &[u8],
 ) -> Result<(), Ended>
-    ensures ok { OnOk result (H.holds host.now (picture_path folder.now t.now) picture.now) }
+    ensures ok { OnOk result (PutsPicture H.tells_same H.holds (picture_path folder.now t.now) picture.now) }
     ensures err { IfErr result EndsDrawing }
 {
     let path = picture_path(alloc, folder, t)?;
-    write_at(alloc, host, &path, picture)
+    put_file(host, &path, picture)
 }
 
 /// The path of the picture of a table in a folder.

@@ -7,6 +7,7 @@ is full (`unsaid`), words that are no text. What a case says of standard input, 
 files is compared as there. A step that fails a device, sets a clock, is a talk or has a terminal ends its case early, and it is
 said how many cases were played to their end. Ends with 1 at the first that differs.
 """
+import errno
 import fcntl
 import glob
 import os
@@ -119,11 +120,14 @@ def cases_of(path):
 
 
 def read(path):
+    """The bytes of a file; none where there isn't one, or links lead in a circle."""
     try:
         with open(path, "rb") as file:
             return file.read()
-    except FileNotFoundError:
-        return None
+    except OSError as fault:
+        if fault.errno in (errno.ENOENT, errno.ELOOP):
+            return None
+        raise
 
 
 def lay_out(folder, files):

@@ -7,117 +7,16 @@ stress/listed.py compare RECORDS [PROGRAM ..]
                                           has both tried on the records and 2,000 changed ones: what the program prints,
                                           `bb check` where none is named, has to be what is judged here
 
-Written from docs/FORMATS.md, and slow: it builds both automata as sets of edges and looks at every edge. No code of the
-program's is used or looked at.
+The judgement is oracle.py's, which is slow: it builds both automata as sets of edges and looks at every edge.
 """
 import os
 import random
 import subprocess
 import sys
 
-from oracle import Refused, mirrored, number, printed, read_table, side
+from oracle import answer
 
-MOST = 4_096
 CHANGES = 2_000
-
-
-def digits(text, limit):
-    """A number in decimal below a limit, as an item of a list."""
-    if not text or any(b not in b"0123456789" for b in text) or (len(text) > 1 and text[0] == ord("0")):
-        raise Refused("304")
-    if len(text) > 20 or int(text) >= limit:
-        raise Refused("304")
-    return int(text)
-
-
-def rising(texts, limit):
-    numbers = [digits(text, limit) for text in texts]
-    if any(a >= b for a, b in zip(numbers, numbers[1:])):
-        raise Refused("304")
-    return numbers
-
-
-def edges_of(text, last):
-    """The numbers to which a pair has edges on a symbol; None where it isn't listed."""
-    if text == b"-":
-        return None
-    if text == b".":
-        return []
-    return rising(text.split(b"."), last)
-
-
-def listed(rows, to, count, delta, row_texts, keep):
-    """Ends where the two automata are those of the table, and refuses otherwise."""
-    states = len(rows)
-    last = count * states
-    goes = [digits(text, count) for text in delta.split(b",")]
-    if len(goes) != 2 * count:
-        raise Refused("304")
-    texts = row_texts.split(b",")
-    if len(texts) != 2 * last:
-        raise Refused("304")
-    lists = [edges_of(text, last) for text in texts]
-    kept = set(rising(keep.split(b","), last))
-    if to == b"L":
-        rows = mirrored(rows)
-    if not are_automata(rows, count, goes, lists, kept):
-        raise Refused("201")
-
-
-def are_automata(rows, count, goes, lists, kept):
-    """The clauses of finite automata reduction. The second automaton's states are the numbers q n + f, and `halt`."""
-    states = len(rows)
-    halt = count * states
-    everything = set(range(halt + 1))
-
-    def edges(v, symbol):
-        if v == halt:
-            return {halt}
-        found = lists[2 * v + symbol]
-        return everything if found is None else set(found)
-
-    if goes[0] != 0:
-        return False
-    for q in range(count):
-        for f in range(states):
-            for r in (0, 1):
-                entry = rows[f][r]
-                if entry is None:
-                    if halt not in edges(q * states + f, r):
-                        return False
-                elif entry[1] > 0:
-                    if goes[2 * q + entry[0]] * states + entry[2] not in edges(q * states + f, r):
-                        return False
-                else:
-                    for b in (0, 1):
-                        into = edges(goes[2 * q + b] * states + f, r)
-                        if into == everything:
-                            continue
-                        for u in edges(q * states + entry[2], b):
-                            if not edges(u, entry[0]) <= into:
-                                return False
-    if 0 not in kept or halt in kept:
-        return False
-    return all(edges(v, 0) <= kept for v in kept)
-
-
-def answer(line):
-    """What is printed of a record."""
-    try:
-        if len(line) > 65_000:
-            raise Refused("305")
-        parts = line.split(b" ")
-        rows = read_table(parts[0])
-        if len(parts) != 7 or parts[1] != b"A":
-            raise Refused("302")
-        to = side(parts[2])
-        count = number(parts[3])
-        if not 1 <= count <= MOST:
-            raise Refused("303")
-        listed(rows, to, count, *parts[4:])
-    except Refused as refused:
-        return f"refused {refused}"
-    return f"{printed(rows)} never"
 
 
 # Changes, each of which gives another record or none.

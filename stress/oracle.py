@@ -313,11 +313,113 @@ def edge_fits(rows, states, goes, edges, last, reached, q, f, r):
     return True
 
 
+# Automata whose edges are listed.
+
+def item_number(text, limit):
+    """A number in decimal below a limit, as an item of a list."""
+    if not text or any(b not in b"0123456789" for b in text) or (len(text) > 1 and text[0] == ord("0")):
+        raise Refused("304")
+    if len(text) > 20 or int(text) >= limit:
+        raise Refused("304")
+    return int(text)
+
+
+def rising_numbers(texts, limit):
+    numbers = [item_number(text, limit) for text in texts]
+    if any(a >= b for a, b in zip(numbers, numbers[1:])):
+        raise Refused("304")
+    return numbers
+
+
+def edges_of(text, last):
+    """The numbers to which a pair has edges on a symbol; None where it isn't listed."""
+    if text == b"-":
+        return None
+    if text == b".":
+        return []
+    return rising_numbers(text.split(b"."), last)
+
+
+def listed(rows, to, count, delta, row_texts, keep):
+    """`never` where the two automata are those of the table; refuses otherwise."""
+    states = len(rows)
+    last = count * states
+    goes = [item_number(text, count) for text in delta.split(b",")]
+    if len(goes) != 2 * count:
+        raise Refused("304")
+    texts = row_texts.split(b",")
+    if len(texts) != 2 * last:
+        raise Refused("304")
+    lists = [edges_of(text, last) for text in texts]
+    kept = set(rising_numbers(keep.split(b","), last))
+    if to == b"L":
+        rows = mirrored(rows)
+    if not are_automata(rows, count, goes, lists, kept):
+        raise Refused("201")
+    return "never"
+
+
+def are_automata(rows, count, goes, lists, kept):
+    """The clauses of finite automata reduction. The second automaton's states are the numbers q n + f, and `halt`."""
+    states = len(rows)
+    halt = count * states
+    everything = set(range(halt + 1))
+
+    def edges(v, symbol):
+        if v == halt:
+            return {halt}
+        found = lists[2 * v + symbol]
+        return everything if found is None else set(found)
+
+    if goes[0] != 0:
+        return False
+    for q in range(count):
+        for f in range(states):
+            for r in (0, 1):
+                entry = rows[f][r]
+                if entry is None:
+                    if halt not in edges(q * states + f, r):
+                        return False
+                elif entry[1] > 0:
+                    if goes[2 * q + entry[0]] * states + entry[2] not in edges(q * states + f, r):
+                        return False
+                else:
+                    for b in (0, 1):
+                        into = edges(goes[2 * q + b] * states + f, r)
+                        if into == everything:
+                            continue
+                        for u in edges(q * states + entry[2], b):
+                            if not edges(u, entry[0]) <= into:
+                                return False
+    if 0 not in kept or halt in kept:
+        return False
+    return all(edges(v, 0) <= kept for v in kept)
+
+
+# The tables of Skelet's list that have a proof of their own, each as the tree has it.
+NAMED = {
+    "1RB1RD_1LC0RC_1RA1LD_0RE0LB_---1RC",
+    "1RB0RA_0LC1RA_1RE1LD_1LC0LD_---0RB",
+    "1RB---_1RC1LB_1LD1RE_1LB0LD_1RA0RC",
+    "1RB---_0LC1RE_0LD1LC_1RA1LB_0RB0RA",
+    "1RB1LD_1RC0RB_1LA1RC_1LE0LA_1LC---",
+    "1RB1LC_0RC0RB_1LD0LA_1LE---_1LA1RE",
+    "1RB1LC_0RC0RB_1LD0LA_1LE---_1LA1RA",
+    "1RB1LC_0RC0RB_1LD0LA_1LE---_1LA0LA",
+}
+
+
+def named(rows):
+    if printed(rows) not in NAMED:
+        raise Refused("201")
+    return "never"
+
+
 def read_claim(rows, parts):
     if not parts:
         raise Refused("302")
     kind, fields = parts[0], parts[1:]
-    counts = {b"H": (1, 2), b"C": (2,), b"T": (3,), b"B": (1,), b"N": (4,), b"F": (5,), b"U": (0,)}
+    counts = {b"H": (1, 2), b"C": (2,), b"T": (3,), b"B": (1,), b"N": (4,), b"F": (5,), b"A": (5,), b"P": (0,), b"U": (0,)}
     if len(fields) not in counts.get(kind, ()):
         raise Refused("302")
     if kind == b"H":
@@ -339,6 +441,11 @@ def read_claim(rows, parts):
     if kind == b"F":
         to, count = side(fields[0]), size(fields[1], 16)
         return lambda: far(rows, to, count, *fields[2:])
+    if kind == b"A":
+        to, count = side(fields[0]), size(fields[1], 4_096)
+        return lambda: listed(rows, to, count, *fields[2:])
+    if kind == b"P":
+        return lambda: named(rows)
     return lambda: "undecided"
 
 

@@ -48,7 +48,7 @@ text_line p table = All-from_get_or IsOther (text_of p) 0 (λ i below.
 
 claim_line : (c : Claim) → IsWritable c → IsLine (claim_text c)
 claim_line c writable =
-    both (kind_text c) (spaced (claim_fields c)) (field_line (kind_text c) (kind_is_letter c).field) (spaced_line (claim_fields c) (are_fields c writable).each)
+    both (kind_text c) (spaced (claim_fields c)) (field_line (kind_text c) (kind_is_letter c).field) (spaced_line (claim_fields c) (are_fields c writable))
 
 pub record_line : (r : Recorded) → IsTable r.table → IsWritable r.claim → IsLine (record_text r)
 unfolding record_text

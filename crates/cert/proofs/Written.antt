@@ -1,9 +1,13 @@
 -- What is so of the text of a claim: its letter, and its fields, which read back.
-use Rattle.std.proofs.Common.{◌≡◌, ℕ, Ok, refl, ap, arith}
-use Rattle.text.specs.Fields.{AreFields, made_of}
+use Rattle.std.proofs.Common.{◌≡◌, ℕ, ◌≤◌, length, Ok, refl, ap, arith}
+use Rattle.std.specs.Prelude.{All}
+use Rattle.machine_text.specs.Limits.{state_limit}
+use Rattle.text.specs.Fields.{IsField, spaced, made_of}
 use Rattle.text.proofs.Spaced.{no_fields}
-use Rattle.kind_evidence.specs.Kind.{IsLetter}
+use Rattle.kind_evidence.specs.Kind.{IsLetter, room_for_fields}
 use Rattle.kind_evidence.proofs.Letters.{is_letter}
+use Rattle.kind_evidence.proofs.Room.{have_room}
+use Rattle.run.specs.Fields.{halts_fields}
 use Rattle.run.proofs.FieldLaws.{halts_back, halts_are_fields}
 use Rattle.cert.specs.Claim.{Claim, HaltsClaim, NeverClaim, NoClaim, IsWritable, IsMadeFor}
 use Rattle.cert.specs.Grammar.{claim_by, kind_text, claim_fields}
@@ -15,10 +19,16 @@ kind_is_letter (HaltsClaim e) = is_letter 72 (omega arith)
 kind_is_letter (NeverClaim r) = (kind_laws r).letter
 kind_is_letter NoClaim = is_letter 85 (omega arith)
 
-pub are_fields : (c : Claim) → IsWritable c → AreFields (claim_fields c)
-are_fields (HaltsClaim e) small = halts_are_fields e small
+pub are_fields : (c : Claim) → IsWritable c → All IsField (claim_fields c)
+are_fields (HaltsClaim e) small = (halts_are_fields e small).each
 are_fields (NeverClaim r) writable = (kind_laws r).are_fields (with_kind r).claimed writable
-are_fields NoClaim small = record { each = no_fields; short = omega arith }
+are_fields NoClaim small = no_fields
+
+-- a record has room for them beside a table for which the claim is made
+pub have_room_in : (c : Claim) (n : ℕ) → n ≤ state_limit → IsWritable c → IsMadeFor c n → length (spaced (claim_fields c)) ≤ room_for_fields n
+have_room_in (HaltsClaim e) n few small made = have_room (halts_fields e) n few (halts_are_fields e small)
+have_room_in (NeverClaim r) n few writable made = (kind_laws r).short (with_kind r).claimed n few writable made
+have_room_in NoClaim n few small made = omega (arith, few)
 
 pub fields_back : (c : Claim) (n : ℕ) → IsWritable c → IsMadeFor c n → claim_by n (kind_text c) (claim_fields c) ≡ Ok c
 fields_back (HaltsClaim e) n small made = ap (made_of HaltsClaim) (halts_back e small)

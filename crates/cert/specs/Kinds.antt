@@ -1,15 +1,17 @@
 -- What the certificates and records of the code claim.
 use Rattle.cert.specs.Claim.{Claim, HaltsClaim, NeverClaim, NoClaim, Recorded}
-use Rattle.cert.specs.Reason.{CycleReason, TranslatedReason, BackwardReason, NgramReason, FarReason}
+use Rattle.cert.specs.Reason.{CycleReason, TranslatedReason, BackwardReason, NgramReason, FarReason, ListedReason, NamedReason}
 use Rattle.std.specs.Prelude.{Result, Ok, Err}
 use Rattle.far.specs.Far.{automata_of}
 use Rattle.far.specs.OwnedFar.{owned_automata}
+use Rattle.kind_listed.specs.Listed.{texts_of}
+use Rattle.kind_listed.specs.OwnedListed.{owned_texts}
 use Rattle.ngram_cps.specs.Ngram.{lists_of}
 use Rattle.ngram_cps.specs.Owned.{owned_lists}
 use Rattle.cert.specs.declared.certificate.Certificate.{Certificate}
-use Rattle.cert.specs.declared.certificate.Certificate.TheVariants.{Halts, Cycle, Translated, Backward, Ngram, Far, Undecided}
+use Rattle.cert.specs.declared.certificate.Certificate.TheVariants.{Halts, Cycle, Translated, Backward, Ngram, Far, Listed, Named, Undecided}
 use Rattle.cert.specs.declared.certificate.OwnedCertificate.{OwnedCertificate}
-use Rattle.cert.specs.declared.certificate.OwnedCertificate.TheVariants.{Halts as OwnedHalts, Cycle as OwnedCycle, Translated as OwnedTranslated, Backward as OwnedBackward, Ngram as OwnedNgram, Far as OwnedFar, Undecided as OwnedUndecided}
+use Rattle.cert.specs.declared.certificate.OwnedCertificate.TheVariants.{Halts as OwnedHalts, Cycle as OwnedCycle, Translated as OwnedTranslated, Backward as OwnedBackward, Ngram as OwnedNgram, Far as OwnedFar, Listed as OwnedListed, Named as OwnedNamed, Undecided as OwnedUndecided}
 use Rattle.cert.specs.declared.record.Record.{Record}
 use Rattle.cert.specs.declared.record.OwnedRecord.{OwnedRecord}
 use Rattle.cert.specs.declared.record_fault.RecordFault.{RecordFault}
@@ -21,6 +23,8 @@ claim_of (Translated e) = NeverClaim (TranslatedReason e)
 claim_of (Backward e) = NeverClaim (BackwardReason e)
 claim_of (Ngram e) = NeverClaim (NgramReason (lists_of e))
 claim_of (Far e) = NeverClaim (FarReason (automata_of e))
+claim_of (Listed e) = NeverClaim (ListedReason (texts_of e))
+claim_of (Named e) = NeverClaim (NamedReason e)
 claim_of Undecided = NoClaim
 
 abbrev pub owned_claim : OwnedCertificate → Claim
@@ -30,6 +34,8 @@ owned_claim (OwnedTranslated e) = NeverClaim (TranslatedReason e)
 owned_claim (OwnedBackward e) = NeverClaim (BackwardReason e)
 owned_claim (OwnedNgram e) = NeverClaim (NgramReason (owned_lists e.value))
 owned_claim (OwnedFar e) = NeverClaim (FarReason (owned_automata e.value))
+owned_claim (OwnedListed e) = NeverClaim (ListedReason (owned_texts e.value))
+owned_claim (OwnedNamed e) = NeverClaim (NamedReason e)
 owned_claim OwnedUndecided = NoClaim
 
 abbrev pub recorded : Record → Recorded

@@ -15,14 +15,20 @@ use Rattle.ngram_cps.specs.Lists.{Lists}
 use Rattle.ngram_cps.specs.Kind.{ngram_kind}
 use Rattle.far.specs.Automata.{Automata}
 use Rattle.far.specs.Kind.{far_kind}
+use Rattle.kind_listed.specs.Texts.{ListedTexts}
+use Rattle.kind_listed.specs.Kind.{listed_kind}
+use Rattle.kind_named.specs.declared.named.Named.{Named}
+use Rattle.kind_named.specs.Kind.{named_kind}
 
--- a claim of each kind: its numbers, lists or automata
+-- a claim of each kind: its numbers, lists, automata or texts
 pub data Reason : Type 0 where
   CycleReason : Cycle → Reason
   TranslatedReason : Translated → Reason
   BackwardReason : Backward → Reason
   NgramReason : Lists → Reason
   FarReason : Automata → Reason
+  ListedReason : ListedTexts → Reason
+  NamedReason : Named → Reason
 
 -- what is claimed, with its kind
 pub record WithKind : Type 1 where
@@ -36,6 +42,8 @@ with_kind (TranslatedReason e) = record { Claimed = Translated; kind = translate
 with_kind (BackwardReason e) = record { Claimed = Backward; kind = backward_kind; claimed = e }
 with_kind (NgramReason s) = record { Claimed = Lists; kind = ngram_kind; claimed = s }
 with_kind (FarReason a) = record { Claimed = Automata; kind = far_kind; claimed = a }
+with_kind (ListedReason t) = record { Claimed = ListedTexts; kind = listed_kind; claimed = t }
+with_kind (NamedReason e) = record { Claimed = Named; kind = named_kind; claimed = e }
 
 -- the reason that a letter with fields makes, for a table of n states
 abbrev pub reason_by : ℕ → List ℕ → List (List ℕ) → Result Reason FieldFault
@@ -45,6 +53,8 @@ reason_by n letter fields =
     else if bytes_eq letter backward_kind.letter then made_of BackwardReason (backward_kind.by n fields)
     else if bytes_eq letter ngram_kind.letter then made_of NgramReason (ngram_kind.by n fields)
     else if bytes_eq letter far_kind.letter then made_of FarReason (far_kind.by n fields)
+    else if bytes_eq letter listed_kind.letter then made_of ListedReason (listed_kind.by n fields)
+    else if bytes_eq letter named_kind.letter then made_of NamedReason (named_kind.by n fields)
     else Err BadKind
 
 -- a reason as it is written

@@ -8,6 +8,8 @@ ghost use Rattle.cert.specs.Kinds.{claim_of};
 use backward::Backward;
 use far::{Far, OwnedFar};
 use kind_evidence::{Ending, NoMemory, Verdict};
+use kind_listed::{Listed, OwnedListed};
+use kind_named::Named;
 use loops::{Cycle, Translated};
 use ngram_cps::{Ngram, OwnedNgram};
 use run::HaltsIn;
@@ -30,6 +32,11 @@ pub enum Certificate<'a> {
     /// `F side m delta rows keep`: two automata, a first one of m states, by which it never halts; their numbers are
     /// borrowed from the record's text.
     Far(Far<'a>),
+    /// `A side m delta rows keep`: the same, where the first one may be large and the edges of the second are listed; three
+    /// texts, borrowed from the record's.
+    Listed(Listed<'a>),
+    /// `P`: the table is one of those that have a proof of their own that they never halt.
+    Named(Named),
     /// `U`: nothing is claimed.
     Undecided,
 }
@@ -44,6 +51,8 @@ pub enum OwnedCertificate {
     Backward(Backward),
     Ngram(Box<OwnedNgram>),
     Far(Box<OwnedFar>),
+    Listed(Box<OwnedListed>),
+    Named(Named),
     Undecided,
 }
 
@@ -83,6 +92,10 @@ impl<'a> Certificate<'a> {
             Ok(Certificate::Ngram(Ngram::read(states, fields)?))
         } else if letter == b"F".as_slice() {
             Ok(Certificate::Far(Far::read(states, fields)?))
+        } else if letter == b"A".as_slice() {
+            Ok(Certificate::Listed(Listed::read(states, fields)?))
+        } else if letter == b"P".as_slice() {
+            Ok(Certificate::Named(Named::read(fields)?))
         } else {
             Err(FieldFault::BadKind)
         }
@@ -129,6 +142,8 @@ impl Certificate<'_> {
             Certificate::Backward(evidence) => evidence.append_fields(out),
             Certificate::Ngram(evidence) => evidence.append_fields(out),
             Certificate::Far(evidence) => evidence.append_fields(out),
+            Certificate::Listed(evidence) => evidence.append_fields(out),
+            Certificate::Named(evidence) => evidence.append_fields(out),
             Certificate::Undecided => Ok(()),
         }
     }
@@ -145,6 +160,8 @@ impl Certificate<'_> {
             Certificate::Backward(_) => b"B",
             Certificate::Ngram(_) => b"N",
             Certificate::Far(_) => b"F",
+            Certificate::Listed(_) => b"A",
+            Certificate::Named(_) => b"P",
             Certificate::Undecided => b"U",
         }
     }
@@ -171,6 +188,10 @@ impl OwnedCertificate {
             Certificate::Far(evidence) => {
                 OwnedCertificate::Far(Box::new(alloc, OwnedFar::of(alloc, &evidence)?)?)
             }
+            Certificate::Listed(evidence) => {
+                OwnedCertificate::Listed(Box::new(alloc, OwnedListed::of(alloc, &evidence)?)?)
+            }
+            Certificate::Named(evidence) => OwnedCertificate::Named(evidence),
             Certificate::Undecided => OwnedCertificate::Undecided,
         })
     }
@@ -213,6 +234,8 @@ impl OwnedCertificate {
             OwnedCertificate::Backward(evidence) => Certificate::Backward(*evidence),
             OwnedCertificate::Ngram(evidence) => Certificate::Ngram(evidence.lent()),
             OwnedCertificate::Far(evidence) => Certificate::Far(evidence.lent()),
+            OwnedCertificate::Listed(evidence) => Certificate::Listed(evidence.lent()),
+            OwnedCertificate::Named(evidence) => Certificate::Named(*evidence),
             OwnedCertificate::Undecided => Certificate::Undecided,
         }
     }

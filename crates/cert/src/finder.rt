@@ -10,14 +10,13 @@ use run::HaltFinder;
 
 /// Looks for a certificate for a table. What it gives need not stand: whoever asks a finder judges it.
 pub trait Finder: Drop {
-    ghost use Rattle.std.specs.Prelude.{ℕ, Option, IfOk, option_map};
+    ghost use Rattle.std.specs.Prelude.{ℕ, ⊤, Option, IfOk, option_map};
     ghost use Rattle.machine_text.specs.Packed.{Packed};
     ghost use Rattle.cert.specs.Claim.{Claim};
     ghost use Rattle.cert.specs.Kinds.{owned_claim};
 
-    /// What it may give for a table with a budget: a claim, or none. A finder that promises nothing of what
-    /// it finds may give anything.
-    ghost gives: { Self → Packed → ℕ → Option Claim → Type 0 };
+    /// What it may give for a table with a budget: a claim, or none. A finder that doesn't say may give anything.
+    ghost gives: { Self → Packed → ℕ → Option Claim → Type 0 } = { λ _ _ _ _. ⊤ };
 
     /// A certificate for the table, or none. `budget` is a number of steps by which it bounds its work.
     /// After `NoMemory` it can be asked again.
@@ -35,50 +34,30 @@ impl Finder for Box<dyn Finder> {
 }
 
 impl Finder for HaltFinder {
-    ghost use Rattle.std.specs.Prelude.{⊤};
-
-    ghost gives = { λ finder p budget claim. ⊤ };
-
     fn find(&mut self, t: &Table, budget: u64) -> Result<Option<OwnedCertificate>, NoMemory> {
         Ok(self.search(t, budget)?.map(OwnedCertificate::Halts))
     }
 }
 
 impl Finder for CycleFinder {
-    ghost use Rattle.std.specs.Prelude.{⊤};
-
-    ghost gives = { λ finder p budget claim. ⊤ };
-
     fn find(&mut self, t: &Table, budget: u64) -> Result<Option<OwnedCertificate>, NoMemory> {
         Ok(self.search(t, budget)?.map(OwnedCertificate::Cycle))
     }
 }
 
 impl Finder for TranslatedFinder {
-    ghost use Rattle.std.specs.Prelude.{⊤};
-
-    ghost gives = { λ finder p budget claim. ⊤ };
-
     fn find(&mut self, t: &Table, budget: u64) -> Result<Option<OwnedCertificate>, NoMemory> {
         Ok(self.search(t, budget)?.map(OwnedCertificate::Translated))
     }
 }
 
 impl Finder for BackwardFinder {
-    ghost use Rattle.std.specs.Prelude.{⊤};
-
-    ghost gives = { λ finder p budget claim. ⊤ };
-
     fn find(&mut self, t: &Table, budget: u64) -> Result<Option<OwnedCertificate>, NoMemory> {
         Ok(self.search(t, budget)?.map(OwnedCertificate::Backward))
     }
 }
 
 impl Finder for NgramFinder {
-    ghost use Rattle.std.specs.Prelude.{⊤};
-
-    ghost gives = { λ finder p budget claim. ⊤ };
-
     fn find(&mut self, t: &Table, budget: u64) -> Result<Option<OwnedCertificate>, NoMemory> {
         match self.search(t, budget)? {
             Some(lists) => Ok(Some(OwnedCertificate::Ngram(Box::new(self.allocator(), lists)?))),
@@ -88,10 +67,6 @@ impl Finder for NgramFinder {
 }
 
 impl Finder for FarFinder {
-    ghost use Rattle.std.specs.Prelude.{⊤};
-
-    ghost gives = { λ finder p budget claim. ⊤ };
-
     fn find(&mut self, t: &Table, budget: u64) -> Result<Option<OwnedCertificate>, NoMemory> {
         match self.search(t, budget)? {
             Some(automata) => Ok(Some(OwnedCertificate::Far(Box::new(

@@ -20,8 +20,8 @@ pub struct Judged {
 }
 
 /// Checks a record's certificate: the verdict that it shows of the table, or none where nothing is claimed.
-/// Neither that nor the check of lists or automata takes memory. `Fails` where it doesn't stand, `TooLong` and `TooWide` where it asks for more
-/// than the limits of its kind, `NoMemory` where memory is refused.
+/// Neither that nor the check of position sets or of automata of few states takes memory. `Fails` where it doesn't
+/// stand, `TooLong` and `TooWide` where it asks for more than the limits of its kind, `NoMemory` where memory is refused.
 pub fn judge(alloc: Global, r: &Record) -> Result<Option<Verdict>, Refused>
     ensures ok { IfOk result (λ v. IsCertified (recorded r.now) × (v ≡ shown_by (claim_of r.now.certificate) r.now.table)) }
     ensures refused { IfErr result (λ f. f ≢ Refused.NoMemory → IsRefusedBy f (recorded r.now)) }
@@ -59,6 +59,8 @@ pub fn judge_on(alloc: Global, r: &Record) -> Result<Judged, Refused>
         Certificate::Backward(evidence) => checked(evidence, alloc, &r.table),
         Certificate::Ngram(evidence) => checked(evidence, alloc, &r.table),
         Certificate::Far(evidence) => checked(evidence, alloc, &r.table),
+        Certificate::Listed(evidence) => checked(evidence, alloc, &r.table),
+        Certificate::Named(evidence) => checked(evidence, alloc, &r.table),
         Certificate::Undecided => Ok(Judged {
             verdict: None,
             halts_on: None,

@@ -4,6 +4,7 @@ use backward::BackwardFinder;
 use cert::{Finder, Finders, OwnedCertificate};
 use cmd_options::{Ended, LETTERS, Search};
 use far::FarFinder;
+use find_words::WordFinder;
 use kind_evidence::NoMemory;
 use loops::{CycleFinder, TranslatedFinder};
 use machine_text::Table;
@@ -20,14 +21,11 @@ pub(crate) enum AnyFinder {
     Backward(BackwardFinder),
     Ngram(NgramFinder),
     Far(FarFinder),
+    Listed(WordFinder),
     Hard(HardFinder),
 }
 
 impl Finder for AnyFinder {
-    ghost use Rattle.std.specs.Prelude.{⊤};
-
-    ghost gives = { λ finder p budget claim. ⊤ };
-
     fn find(&mut self, t: &Table, budget: u64) -> Result<Option<OwnedCertificate>, NoMemory> {
         match self {
             AnyFinder::Halts(finder) => finder.find(t, budget),
@@ -36,6 +34,7 @@ impl Finder for AnyFinder {
             AnyFinder::Backward(finder) => finder.find(t, budget),
             AnyFinder::Ngram(finder) => finder.find(t, budget),
             AnyFinder::Far(finder) => finder.find(t, budget),
+            AnyFinder::Listed(finder) => finder.find(t, budget),
             AnyFinder::Hard(finder) => finder.find(t, budget),
         }
     }
@@ -45,7 +44,7 @@ impl Finder for AnyFinder {
 fn all_finders(alloc: Global, search: &Search) -> Result<Vec<AnyFinder>, NoMemory> {
     let mut finders = Vec::new(alloc);
     if search.hard {
-        finders.push(AnyFinder::Hard(HardFinder::new(alloc, search.steps)))?;
+        finders.push(AnyFinder::Hard(HardFinder::new(alloc)))?;
         return Ok(finders);
     }
     for letter in LETTERS {
@@ -66,6 +65,9 @@ fn finder_of(alloc: Global, letter: u8, search: &Search) -> Option<AnyFinder> {
         b'B' => Some(AnyFinder::Backward(BackwardFinder::new(alloc, search.depth))),
         b'N' => Some(AnyFinder::Ngram(NgramFinder::new(alloc, search.gram))),
         b'F' => Some(AnyFinder::Far(FarFinder::new(alloc, search.far))),
+        b'A' => Some(AnyFinder::Listed(WordFinder::new(alloc, search.words))),
+        // A hard search alone looks tables up: of one of them the check takes half a minute.
+        b'P' => None,
         _ => None,
     }
 }

@@ -1,14 +1,15 @@
 // The finder that goes through the stages.
-use crate::stages::{DEPTH, LARGEST, STAGES, Stage, WIDEST};
+use crate::stages::{DEPTH, HALTING_STEPS, LARGEST, STAGES, Stage};
 use backward::BackwardFinder;
 use cert::{Finder, OwnedCertificate};
 use far::{FarFinder, OwnedFar};
 use find_automata::Stage as Automata;
 use find_loops::{Found, LoopFinder};
+use find_words::{WORD_STAGES, WordFinder, WordStage};
 use kind_evidence::NoMemory;
-use loops::{CycleFinder, TranslatedFinder};
+use kind_named::NamedFinder;
+use loops::{CycleFinder, MAX_TIME, TranslatedFinder};
 use machine_text::Table;
-use ngram_cps::{NgramFinder, OwnedNgram};
 use run::HaltFinder;
 use std::alloc::Global;
 
@@ -18,7 +19,7 @@ pub(crate) struct HardFinder {
     alloc: Global,
     loops: LoopFinder,
     backward: BackwardFinder,
-    position_sets: NgramFinder,
+    words: WordFinder,
     automata: FarFinder,
     halting: HaltFinder,
     cycle: CycleFinder,
@@ -26,17 +27,17 @@ pub(crate) struct HardFinder {
 }
 
 impl HardFinder {
-    // One for so many steps in the last stage.
-    pub fn new(alloc: Global, steps: u64) -> HardFinder {
+    pub fn new(alloc: Global) -> HardFinder {
         HardFinder {
             alloc,
             loops: LoopFinder::new(alloc),
             backward: BackwardFinder::new(alloc, DEPTH),
-            position_sets: NgramFinder::new(alloc, WIDEST),
+            // The stages name their words themselves.
+            words: WordFinder::new(alloc, 0),
             automata: FarFinder::new(alloc, LARGEST),
-            halting: HaltFinder::new(alloc, steps),
-            cycle: CycleFinder::new(alloc, steps),
-            translated: TranslatedFinder::new(alloc, steps),
+            halting: HaltFinder::new(alloc, HALTING_STEPS),
+            cycle: CycleFinder::new(alloc, MAX_TIME),
+            translated: TranslatedFinder::new(alloc, MAX_TIME),
         }
     }
 
@@ -48,20 +49,36 @@ impl HardFinder {
         budget: u64,
     ) -> Result<Option<OwnedCertificate>, NoMemory> {
         match stage {
-            Stage::Loops { first, steps } => {
-                Ok(self.loops.search(t, first, steps)?.map(certificate_of))
-            }
+            Stage::Names => Ok(NamedFinder.search(t).map(OwnedCertificate::Named)),
+            Stage::Loops { first, steps } => Ok(
+                self.loops.search(t, first, steps)?.map(certificate_of),
+            ),
             Stage::Backward { paths } => {
                 let found = self.backward.search_narrow(t, paths)?;
                 Ok(found.map(OwnedCertificate::Backward))
             }
+            Stage::Words(stage) => self.ask_for_words(t, &[stage]),
+            Stage::FurtherWords => self.ask_for_words(t, &WORD_STAGES[2..]),
             Stage::Automata(stage) => self.ask_for_automata(t, stage, budget),
-            Stage::PositionSets { width } => self.ask_for_position_sets(t, width, budget),
-            Stage::MoreSteps => self.ask_for_more_steps(t, budget),
+            Stage::Halting => self.halting.find(t, HALTING_STEPS),
+            Stage::Cycles => self.cycle.find(t, MAX_TIME),
+            Stage::TranslatedCycles => self.translated.find(t, MAX_TIME),
         }
     }
 
-    // What automata show.
+    // What automata from words show.
+    fn ask_for_words(
+        &mut self,
+        t: &Table,
+        stages: &[WordStage],
+    ) -> Result<Option<OwnedCertificate>, NoMemory> {
+        match self.words.search_by(t, stages)? {
+            Some(found) => Ok(Some(found.into_certificate(self.alloc)?)),
+            None => Ok(None),
+        }
+    }
+
+    // What automata of few states show.
     fn ask_for_automata(
         &mut self,
         t: &Table,
@@ -71,41 +88,9 @@ impl HardFinder {
         let found = self.automata.search_in_stage(t, stage.scaled(budget))?;
         boxed_automata(self.alloc, found)
     }
-
-    // What closed position sets of a width show.
-    fn ask_for_position_sets(
-        &mut self,
-        t: &Table,
-        width: u64,
-        budget: u64,
-    ) -> Result<Option<OwnedCertificate>, NoMemory> {
-        let found = self.position_sets.search_at(t, width, budget)?;
-        boxed_lists(self.alloc, found)
-    }
-
-    // What longer runs show.
-    fn ask_for_more_steps(
-        &mut self,
-        t: &Table,
-        budget: u64,
-    ) -> Result<Option<OwnedCertificate>, NoMemory> {
-        let found = self.halting.find(t, budget)?;
-        if found.is_some() {
-            return Ok(found);
-        }
-        let found = self.cycle.find(t, budget)?;
-        if found.is_some() {
-            return Ok(found);
-        }
-        self.translated.find(t, budget)
-    }
 }
 
 impl Finder for HardFinder {
-    ghost use Rattle.std.specs.Prelude.{⊤};
-
-    ghost gives = { λ finder p budget claim. ⊤ };
-
     fn find(&mut self, t: &Table, budget: u64) -> Result<Option<OwnedCertificate>, NoMemory> {
         for stage in STAGES {
             let found = self.ask(stage, t, budget)?;
@@ -131,16 +116,6 @@ fn boxed_automata(
 ) -> Result<Option<OwnedCertificate>, NoMemory> {
     match found {
         Some(automata) => Ok(Some(OwnedCertificate::Far(Box::new(alloc, automata)?))),
-        None => Ok(None),
-    }
-}
-
-fn boxed_lists(
-    alloc: Global,
-    found: Option<OwnedNgram>,
-) -> Result<Option<OwnedCertificate>, NoMemory> {
-    match found {
-        Some(lists) => Ok(Some(OwnedCertificate::Ngram(Box::new(alloc, lists)?))),
         None => Ok(None),
     }
 }

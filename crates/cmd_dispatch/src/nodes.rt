@@ -1,4 +1,5 @@
 // `bb run`, `bb loop` and `bb coord`.
+ghost use Rattle.std.specs.Prelude.{◌≡◌};
 ghost use Rattle.cmd_options.specs.Ranges.{IsBeginning, IsSettling};
 
 use crate::any_finder::{AnyFinder, decider_for};
@@ -71,13 +72,7 @@ fn run_kept<N: Node + Drop, S: Disk + Clock, W: Write, E: Write>(
     requires { IsSettling settling.now }
 {
     let form = Form::of(settling.json);
-    let run = Run {
-        settling,
-        form: &form,
-        workers,
-        telling: Telling::of(settling.progress, system.tells_terminal()),
-        clock: system,
-    };
+    let run = run_of(settling, &form, workers, system);
     let Kept {
         held,
         mut ledger,
@@ -119,19 +114,31 @@ fn loop_kept<N: Node + Drop, S: Disk + Clock + Sockets, W: Write, E: Write>(
     requires { IsSettling settling.now }
 {
     let form = Form::of(settling.json);
-    let run = Run {
-        settling,
-        form: &form,
-        workers,
-        telling: Telling::of(settling.progress, system.tells_terminal()),
-        clock: system,
-    };
+    let run = run_of(settling, &form, workers, system);
     let Kept {
         held,
         mut ledger,
         lock: _lock,
     } = kept;
     loop_tree(alloc, run, system, held, &mut ledger, answers, faults)
+}
+
+// What is run, by the system's clock.
+fn run_of<'a, N, S: Disk>(
+    settling: &'a Settling,
+    form: &'a Form,
+    workers: Vec<N>,
+    system: &'a S,
+) -> Run<'a, Form, N, S>
+    ensures { result.settling.now ≡ settling.now }
+{
+    Run {
+        settling,
+        form,
+        workers,
+        telling: Telling::of(settling.progress, system.tells_terminal()),
+        clock: system,
+    }
 }
 
 // The ledger of a coordinator, locked for as long as it is written, and what it held; or none.

@@ -1,57 +1,26 @@
 // `bb draw` and `bb page`.
 use crate::call::Call;
 use crate::ledgers::STANDARD_INPUT;
-use cmd_draw::{PictureHost, draw_asked};
-use cmd_options::{Drawing, Durability, Ended, Outcome, ended_by};
+use cmd_draw::draw_asked;
+use cmd_options::{Drawing, Ended, Outcome, ended_by};
 use cmd_page::write_ledger_page;
-use files::{Disk, FileLedger, Files};
-use std::io::{self, ErrorKind, Read, Write};
-use wire::append_all;
-
-// The files of a disk as those of pictures.
-#[derive(Drop)]
-struct PictureFiles<'a, D> {
-    disk: &'a D,
-}
-
-impl<D: Disk> PictureHost for PictureFiles<'_, D> {
-    ghost holds = { λ files path bytes. Unit {0} };
-
-    fn make_folder(&self, path: &str) -> io::Result<()> {
-        self.disk.make_folder(path)
-    }
-
-    fn write(&self, path: &str, bytes: &[u8]) -> io::Result<()> {
-        let mut file = FileLedger::of(self.disk.over(path)?, Durability::System);
-        match append_all(&mut file, bytes) {
-            Ok(()) => Ok(()),
-            Err(_) => Err(io::Error::from(ErrorKind::Other)),
-        }
-    }
-
-    fn is_replaceable(&self, path: &str) -> bool {
-        self.disk.is_replaceable(path)
-    }
-
-    fn rename(&self, from: &str, to: &str) -> io::Result<()> {
-        self.disk.rename(from, to)
-    }
-}
+use files::{Disk, Files};
+use std::io::{Read, Write};
 
 // `bb draw`.
 pub(crate) fn draw<S: Disk, R: Read, W: Write, E: Write>(
     call: Call<'_, S, R, W, E>,
     drawing: &Drawing<'_>,
 ) -> Result<Outcome, Ended> {
+    let mut files = call.files();
     let Call {
         alloc,
-        system,
         input,
         answers,
         faults,
+        ..
     } = call;
-    let pictures = PictureFiles { disk: system };
-    draw_asked(alloc, drawing, &pictures, input, answers, faults)
+    draw_asked(alloc, drawing, &mut files, input, answers, faults)
 }
 
 // `bb page`, of a file or of `input`.

@@ -1,32 +1,66 @@
 // The stages of a hard search: each is asked of what the ones before it leave. docs/FINDERS.md has what they were chosen by.
 use find_automata::Stage as Automata;
+use find_words::{SMALL_ROOM, WordStage, Words};
 
 // What a stage looks for.
 #[derive(Clone, Copy)]
 pub(crate) enum Stage {
+    // A table with a proof of its own.
+    Names,
     // Halting, a cycle or a translated cycle in one run of so many steps, which looks for what repeats from time
     // `first` on.
     Loops { first: u64, steps: u64 },
     // Backward reasoning among so many paths of a depth.
     Backward { paths: u64 },
-    // Automata, with the tries of a budget of 1,000.
+    // Automata whose first one is made from words.
+    Words(WordStage),
+    // The same by the stages of the words that are known, from the third on: the first two stand further ahead.
+    FurtherWords,
+    // Automata of few states, with the tries of a budget of 1,000.
     Automata(Automata),
-    // Closed position sets of this width.
-    PositionSets { width: u64 },
-    // Halting, a cycle and a translated cycle, one after another, each with the whole budget.
-    MoreSteps,
+    // Halting within `HALTING_STEPS`.
+    Halting,
+    // A cycle, and a translated cycle, as late as a claim may say.
+    Cycles,
+    TranslatedCycles,
 }
 
 // Backward reasoning goes so far.
 pub(crate) const DEPTH: u64 = 20;
 
-// Position sets are as wide at most, and automata have as many states.
-pub(crate) const WIDEST: u64 = 8;
-
+// Automata of few states have as many at most.
 pub(crate) const LARGEST: u64 = 16;
 
+// A run that may halt goes so far: the longest of five states that is known takes 47,176,870 steps.
+pub(crate) const HALTING_STEPS: u64 = 50_000_000;
+
+// Words with one period that is kept once or more, and so many symbols at most.
+macro_rules! words {
+    ($period:literal, $times:literal, $length:literal) => {
+        Stage::Words(WordStage {
+            words: Words {
+                least: $period,
+                greatest: $period,
+                times: $times,
+                length: $length,
+            },
+            room: SMALL_ROOM,
+        })
+    };
+}
+
+macro_rules! automata {
+    ($named:literal, $tries:literal) => {
+        Stage::Automata(Automata {
+            named: $named,
+            tries: $tries,
+        })
+    };
+}
+
 // The stages, in their order.
-pub(crate) const STAGES: [Stage; 19] = [
+pub(crate) const STAGES: [Stage; 17] = [
+    Stage::Names,
     Stage::Loops {
         first: 50,
         steps: 200,
@@ -36,50 +70,20 @@ pub(crate) const STAGES: [Stage; 19] = [
         first: 800,
         steps: 800,
     },
-    Stage::Automata(Automata {
-        named: 2,
-        tries: 60,
-    }),
-    Stage::Automata(Automata {
-        named: 3,
-        tries: 60,
-    }),
-    Stage::Automata(Automata {
-        named: 6,
-        tries: 100,
-    }),
-    Stage::PositionSets { width: 4 },
-    Stage::PositionSets { width: 5 },
-    Stage::PositionSets { width: 6 },
-    Stage::Automata(Automata {
-        named: 10,
-        tries: 150,
-    }),
-    Stage::PositionSets { width: 7 },
-    Stage::PositionSets { width: 8 },
-    Stage::Automata(Automata {
-        named: 10,
-        tries: 500,
-    }),
+    words!(2, 1, 4),
+    words!(2, 2, 7),
+    words!(4, 2, 14),
+    words!(6, 1, 13),
     Stage::Loops {
         first: 20_000,
         steps: 20_000,
     },
-    Stage::Automata(Automata {
-        named: 12,
-        tries: 2_000,
-    }),
-    Stage::Automata(Automata {
-        named: 8,
-        tries: 2_000,
-    }),
-    Stage::Automata(Automata {
-        named: 10,
-        tries: 2_000,
-    }),
-    Stage::Automata(Automata {
-        named: 15,
-        tries: 4_000,
-    }),
-    Stage::MoreSteps,
+    Stage::FurtherWords,
+    automata!(12, 2_000),
+    automata!(8, 2_000),
+    automata!(10, 2_000),
+    automata!(15, 4_000),
+    Stage::Halting,
+    Stage::Cycles,
+    Stage::TranslatedCycles,
 ];

@@ -1,2 +1,3 @@
+mod Endings
 mod Paths
-mod Alone
+mod Turns

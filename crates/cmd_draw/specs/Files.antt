@@ -1,5 +1,5 @@
 -- Pictures that are files of a folder, one for each table.
-use Rattle.std.specs.Prelude.{◌≡◌, ℕ, List, [], ◌∷◌, ◌++◌, Result, Ok, Err, codes}
+use Rattle.std.specs.Prelude.{◌≡◌, ℕ, List, [], ◌∷◌, ◌++◌, Option, Result, Ok, Err, codes}
 use Rattle.machine_text.specs.Packed.{Packed, IsTable}
 use Rattle.machine_text.specs.Text.{text_of}
 use Rattle.text.specs.Lines.{BoundedLine}
@@ -8,8 +8,11 @@ use Rattle.cmd_lines.specs.Answer.{fault_text}
 use Rattle.cmd_options.specs.declared.drawing.Drawing.{Drawing}
 use Rattle.cmd_options.specs.declared.outcome.Outcome.{Outcome}
 use Rattle.cmd_options.specs.declared.outcome.Outcome.TheVariants.{Accepted, Refused}
+use Rattle.cmd_taking.specs.Said.{TakesStream}
+use Rattle.files.specs.Paths.{IsKept, IsToldStill, SameFile, Shelf}
 use Rattle.cmd_draw.specs.Asked.{table_asked}
 use Rattle.cmd_draw.specs.Picture.{IsPicture}
+use Rattle.cmd_draw.specs.Placing.{PutsFile}
 
 -- the path of a picture in a folder
 abbrev pub svg_path : List ℕ → List ℕ → List ℕ
@@ -22,23 +25,32 @@ picture_path folder t = svg_path folder (text_of t)
 abbrev pub drawn_text : Packed → List ℕ
 drawn_text t = text_of t ++ codes " drawn"
 
--- a table is answered once its picture is the file of its path, by what is known of files
-pub record IsDrawnIn (Holds : List ℕ → List ℕ → Type 0) (folder : List ℕ) (d : Drawing) (t : Packed) : Type 0 where
+-- the picture of a table comes to stand at its path, and nothing changes at any path of another file
+pub record DrawsTable (tells : SameFile) (folder : List ℕ) (d : Drawing) (t : Packed) (old new : Shelf) : Type 0 where
   pub picture : List ℕ
   pub is : IsPicture d t picture
-  pub held : Holds (picture_path folder t) picture
+  pub put : PutsFile tells (picture_path folder t) picture old new
 
-abbrev pub AnswersAsked : (List ℕ → List ℕ → Type 0) → List ℕ → Drawing → Result Packed RecordFault → Outcome → List ℕ → Type 0
-AnswersAsked Holds folder d (Ok t) o answer = IsDrawnIn Holds folder d t × (o ≡ Accepted) × (answer ≡ drawn_text t)
-AnswersAsked Holds folder d (Err f) o answer = (o ≡ Refused) × (answer ≡ fault_text f)
+-- a table is answered once its picture is put there; anything else by its fault, and nothing changes at any path
+abbrev pub AnswersAsked : SameFile → List ℕ → Drawing → Shelf → Result Packed RecordFault → Outcome → Shelf → List ℕ → Type 0
+AnswersAsked tells folder d old (Ok t) o new answer = DrawsTable tells folder d t old new × (o ≡ Accepted) × (answer ≡ drawn_text t)
+AnswersAsked tells folder d old (Err f) o new answer = IsKept old new × (o ≡ Refused) × (answer ≡ fault_text f)
 
--- what `bb draw --out` says to a line
-abbrev pub SaysOfDrawn : (List ℕ → List ℕ → Type 0) → List ℕ → Drawing → BoundedLine → Outcome → List ℕ → Type 0
-SaysOfDrawn Holds folder d line o answer = AnswersAsked Holds folder d (table_asked line) o answer
+-- what `bb draw --out` says to a line, by where files stand before and then: an answer with its newline
+pub record DrawsLine {H : Type 0} (tells : H → SameFile) (holds : H → Shelf) (folder : List ℕ) (d : Drawing) (old : H) (line : BoundedLine) (o : Outcome) (new : H) (said : List ℕ) : Type 0 where
+  pub answer : List ℕ
+  pub answers : AnswersAsked (tells old) folder d (holds old) (table_asked line) o (holds new) answer
+  pub still : IsToldStill (tells old) (tells new)
+  pub is : said ≡ answer ++ 10 ∷ []
 
--- what is said to a line is an answer with its newline, whatever came before, and nothing is remembered
-abbrev pub AnswersAlone : {D : Type 0} → (D → BoundedLine → Outcome → List ℕ → Type 0) → D → BoundedLine → Outcome → D → List ℕ → Type 0
-AnswersAlone {D} Says old line o new said = (new ≡ old) × (answer : List ℕ) × Says old line o answer × (said ≡ answer ++ 10 ∷ [])
+-- a reader is read to its end, and what is said to its lines is written behind what a writer held, as the picture of one
+-- table after another is put in the folder; before that nothing changes at any path
+pub record DrawsFiles {H : Type 0} (tells : H → SameFile) (holds : H → Shelf) (folder : List ℕ) (d : Drawing) (host : H) (read new_read held new_held : Option (List ℕ)) (o : Outcome) : Type 0 where
+  pub first : H
+  pub last : H
+  pub kept : IsKept (holds host) (holds first)
+  pub still : IsToldStill (tells host) (tells first)
+  pub draws : TakesStream (DrawsLine tells holds folder d) first last read new_read held new_held o
 
 -- in one folder no two tables have one path
 abbrev pub IsOneTableAPath : Type 0

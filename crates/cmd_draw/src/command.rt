@@ -1,31 +1,30 @@
 // `bb draw`: tables in, pictures out.
 ghost use Rattle.std.specs.Prelude.{◌≡◌, ◌⊎◌, IfErr, IfNone, IfOk, IfSome};
-ghost use Rattle.cmd_lines.specs.Stream.{AnswersStream};
-ghost use Rattle.cmd_draw.specs.Files.{SaysOfDrawn};
+ghost use Rattle.cmd_draw.specs.Files.{DrawsFiles};
 ghost use Rattle.cmd_draw.specs.One.{DrawsFirst};
 ghost use Rattle.cmd_draw.specs.Said.{EndsDrawing};
 
 use crate::drawn::draw_files;
-use crate::host::PictureHost;
 use crate::one::draw_first;
 use cmd_options::{Drawing, Ended, Outcome, told};
+use files::Files;
 use std::alloc::Global;
 use std::io::{Read, Write};
 
 /// Reads a table or a record a line, and draws a space-time picture of each table: in a folder, where one is asked for, as
 /// `draw_files` does; else of the first alone, to `answers`, as `draw_first` does. What a failed stream or file or refused
 /// memory ends is said on `faults`.
-pub fn cmd_draw<H: PictureHost, R: Read, W: Write, E: Write>(
+pub fn cmd_draw<H: Files, R: Read, W: Write, E: Write>(
     alloc: Global,
     drawing: &Drawing<'_>,
-    host: &H,
+    host: &mut H,
     input: &mut R,
     answers: &mut W,
     faults: &mut E,
 ) -> Outcome
     ensures first { IfNone drawing.now.out (DrawsFirst drawing.now (R.remaining input.old) (R.remaining input.new) (W.contents answers.old) (W.contents answers.new) (E.contents faults.old) (E.contents faults.new) result
         ⊎ (result ≡ Outcome.NoMemory) ⊎ (result ≡ Outcome.Failed)) }
-    ensures files { IfSome drawing.now.out (λ folder. AnswersStream (SaysOfDrawn (H.holds host.now) folder.now drawing.now) (R.remaining input.old) (R.remaining input.new) (W.contents answers.old) (W.contents answers.new) result
+    ensures files { IfSome drawing.now.out (λ folder. DrawsFiles H.tells_same H.holds folder.now drawing.now host.old (R.remaining input.old) (R.remaining input.new) (W.contents answers.old) (W.contents answers.new) result
         ⊎ (result ≡ Outcome.NoMemory) ⊎ (result ≡ Outcome.Failed)) }
 {
     told(
@@ -35,16 +34,16 @@ pub fn cmd_draw<H: PictureHost, R: Read, W: Write, E: Write>(
 }
 
 /// The same, but that what ends it early isn't said.
-pub fn draw_asked<H: PictureHost, R: Read, W: Write, E: Write>(
+pub fn draw_asked<H: Files, R: Read, W: Write, E: Write>(
     alloc: Global,
     drawing: &Drawing<'_>,
-    host: &H,
+    host: &mut H,
     input: &mut R,
     answers: &mut W,
     faults: &mut E,
 ) -> Result<Outcome, Ended>
     ensures first { IfOk result (λ o. IfNone drawing.now.out (DrawsFirst drawing.now (R.remaining input.old) (R.remaining input.new) (W.contents answers.old) (W.contents answers.new) (E.contents faults.old) (E.contents faults.new) o)) }
-    ensures files { IfOk result (λ o. IfSome drawing.now.out (λ folder. AnswersStream (SaysOfDrawn (H.holds host.now) folder.now drawing.now) (R.remaining input.old) (R.remaining input.new) (W.contents answers.old) (W.contents answers.new) o)) }
+    ensures files { IfOk result (λ o. IfSome drawing.now.out (λ folder. DrawsFiles H.tells_same H.holds folder.now drawing.now host.old (R.remaining input.old) (R.remaining input.new) (W.contents answers.old) (W.contents answers.new) o)) }
     ensures err { IfErr result EndsDrawing }
 {
     match drawing.out {

@@ -1,18 +1,21 @@
 // Pictures that are files of a folder.
 ghost use Rattle.std.specs.Prelude.{◌≡◌, ◌++◌, ℕ, IfErr, IfOk, List, OnOk, string_bytes};
+ghost use Rattle.cmd_taking.specs.Said.{TakesStream};
 ghost use Rattle.cmd_taking.specs.Taken.{lent};
-ghost use Rattle.cmd_lines.specs.Stream.{AnswersStream};
-ghost use Rattle.cmd_draw.specs.Files.{IsDrawnIn, SaysOfDrawn, drawn_text, picture_path, svg_path};
+ghost use Rattle.files.specs.Paths.{IsKept, IsToldStill};
+ghost use Rattle.cmd_draw.specs.Asked.{table_asked};
+ghost use Rattle.cmd_draw.specs.Files.{AnswersAsked, DrawsFiles, DrawsLine, DrawsTable, drawn_text, picture_path, svg_path};
+ghost use Rattle.cmd_draw.specs.Placing.{PutsFile};
 ghost use Rattle.cmd_draw.specs.Said.{EndsDrawing};
 
 use crate::asked::table_asked;
-use crate::host::PictureHost;
 use crate::picturing::picture_of;
-use crate::placing::write_at;
+use crate::placing::put_file;
 use cert::append_table;
 use cmd_lines::append_fault;
 use cmd_options::{Drawing, Ended, Outcome, ended_by};
 use cmd_taking::{Sayer, say_lines};
+use files::Files;
 use machine_text::{TEXT_BYTES, Table};
 use std::alloc::Global;
 use std::io::{Read, Write};
@@ -23,15 +26,15 @@ const FEW_BYTES: usize = 64;
 
 /// Reads a table or a record a line, and makes the picture of each table a file of a folder, under the table's text. It
 /// answers a line with what became of it, as soon as it has.
-pub fn draw_files<H: PictureHost, R: Read, W: Write>(
+pub fn draw_files<H: Files, R: Read, W: Write>(
     alloc: Global,
     drawing: &Drawing<'_>,
     folder: &str,
-    host: &H,
+    host: &mut H,
     input: &mut R,
     answers: &mut W,
 ) -> Result<Outcome, Ended>
-    ensures ok { IfOk result (AnswersStream (SaysOfDrawn (H.holds host.now) folder.now drawing.now) (R.remaining input.old) (R.remaining input.new) (W.contents answers.old) (W.contents answers.new)) }
+    ensures ok { IfOk result (DrawsFiles H.tells_same H.holds folder.now drawing.now host.old (R.remaining input.old) (R.remaining input.new) (W.contents answers.old) (W.contents answers.new)) }
     ensures err { IfErr result EndsDrawing }
 {
     match host.make_folder(folder) {
@@ -41,41 +44,44 @@ pub fn draw_files<H: PictureHost, R: Read, W: Write>(
 }
 
 // The same in a folder that is there.
-fn draw_within<H: PictureHost, R: Read, W: Write>(
+fn draw_within<H: Files, R: Read, W: Write>(
     alloc: Global,
     drawing: &Drawing<'_>,
     folder: &str,
-    host: &H,
+    host: &mut H,
     input: &mut R,
     answers: &mut W,
 ) -> Result<Outcome, Ended>
-    ensures ok { IfOk result (AnswersStream (SaysOfDrawn (H.holds host.now) folder.now drawing.now) (R.remaining input.old) (R.remaining input.new) (W.contents answers.old) (W.contents answers.new)) }
+    ensures ok { IfOk result (λ o. (last : H) × TakesStream (DrawsLine H.tells_same H.holds folder.now drawing.now) host.old last (R.remaining input.old) (R.remaining input.new) (W.contents answers.old) (W.contents answers.new) o) }
     ensures err { IfErr result EndsDrawing }
 {
-    let files = Files {
+    let pictures = Pictures {
         alloc,
         drawing,
         folder,
         host,
     };
-    let (outcome, _) = say_lines(alloc, files, FEW_BYTES, input, answers)?;
+    let (outcome, _) = say_lines(alloc, pictures, FEW_BYTES, input, answers)?;
     Ok(outcome)
 }
 
-// The files of a folder, each a picture that is drawn so.
+// The pictures of a folder, which are drawn so.
 #[derive(Drop)]
-struct Files<'a, H> {
+struct Pictures<'a, H> {
     alloc: Global,
     drawing: &'a Drawing<'a>,
     folder: &'a str,
-    host: &'a H,
+    host: &'a mut H,
 }
 
-impl<H: PictureHost> Sayer for Files<'_, H> {
-    ghost use Rattle.cmd_draw.specs.Files.{AnswersAlone, SaysOfDrawn};
+impl<H: Files> Sayer for Pictures<'_, H> {
+    ghost use Rattle.std.specs.Prelude.{ℕ, List};
+    ghost use Rattle.cmd_options.specs.declared.drawing.Drawing.{Drawing as Asked};
+    ghost use Rattle.cmd_draw.specs.Files.{DrawsLine};
+    ghost use Rattle.cmd_draw.specs.inside.{TakesBy};
     ghost use Rattle.cmd_draw.specs.Said.{EndsDrawing};
 
-    ghost takes = { AnswersAlone (λ files. SaysOfDrawn (H.holds files.host.now) files.folder.now files.drawing.now) };
+    ghost takes = { TakesBy {K = List ℕ × Asked} (λ p. (p.folder.now, p.drawing.now)) (λ p. p.host.now) (λ kept. DrawsLine H.tells_same H.holds kept.0 kept.1) };
 
     ghost ends = { EndsDrawing };
 
@@ -86,10 +92,12 @@ impl<H: PictureHost> Sayer for Files<'_, H> {
     }
 }
 
-impl<H: PictureHost> Files<'_, H> {
+impl<H: Files> Pictures<'_, H> {
     // Draws the table of a line, and appends the answer.
-    fn answer(&self, line: Option<&[u8]>, said: &mut Vec<u8>) -> Result<Outcome, Ended>
-        ensures ok { IfOk result (λ o. (answer : List ℕ) × SaysOfDrawn (H.holds self.now.host.now) self.now.folder.now self.now.drawing.now (lent line.entry) o answer
+    fn answer(&mut self, line: Option<&[u8]>, said: &mut Vec<u8>) -> Result<Outcome, Ended>
+        ensures stays { (self.new.folder ≡ self.old.folder) × (self.new.drawing ≡ self.old.drawing) }
+        ensures still { IsToldStill (H.tells_same self.old.host.now) (H.tells_same self.new.host.now) }
+        ensures ok { IfOk result (λ o. (answer : List ℕ) × AnswersAsked (H.tells_same self.old.host.now) self.old.folder.now self.old.drawing.now (H.holds self.old.host.now) (table_asked (lent line.entry)) o (H.holds self.new.host.now) answer
             × (said.new.items ≡ said.old.items ++ answer)) }
         ensures err { IfErr result EndsDrawing }
     {
@@ -106,9 +114,11 @@ impl<H: PictureHost> Files<'_, H> {
         }
     }
 
-    // Makes the picture of a table a file.
-    fn draw(&self, t: &Table) -> Result<(), Ended>
-        ensures ok { OnOk result (IsDrawnIn (H.holds self.now.host.now) self.now.folder.now self.now.drawing.now t.now) }
+    // Puts the picture of a table in the folder.
+    fn draw(&mut self, t: &Table) -> Result<(), Ended>
+        ensures stays { (self.new.folder ≡ self.old.folder) × (self.new.drawing ≡ self.old.drawing) }
+        ensures still { IsToldStill (H.tells_same self.old.host.now) (H.tells_same self.new.host.now) }
+        ensures ok { OnOk result (DrawsTable (H.tells_same self.old.host.now) self.old.folder.now self.old.drawing.now t.now (H.holds self.old.host.now) (H.holds self.new.host.now)) }
         ensures err { IfErr result EndsDrawing }
     {
         let picture = picture_of(self.alloc, t, self.drawing)?;
@@ -125,18 +135,19 @@ fn append_drawn(t: &Table, out: &mut Vec<u8>) -> Result<(), NoMemory>
 }
 
 /// Makes a picture of a table a file of a folder, under the table's text.
-pub fn put_picture<H: PictureHost>(
+pub fn put_picture<H: Files>(
     alloc: Global,
-    host: &H,
+    host: &mut H,
     folder: &str,
     t: &Table,
     picture: &[u8],
 ) -> Result<(), Ended>
-    ensures ok { OnOk result (H.holds host.now (picture_path folder.now t.now) picture.now) }
-    ensures err { IfErr result EndsDrawing }
+    ensures ok { OnOk result (PutsFile (H.tells_same host.old) (picture_path folder.now t.now) picture.now (H.holds host.old) (H.holds host.new)) }
+    ensures still { IsToldStill (H.tells_same host.old) (H.tells_same host.new) }
+    ensures err { IfErr result (λ e. EndsDrawing e × IsKept (H.holds host.old) (H.holds host.new)) }
 {
     let path = picture_path(alloc, folder, t)?;
-    write_at(alloc, host, &path, picture)
+    put_file(host, &path, picture)
 }
 
 /// The path of the picture of a table in a folder.

@@ -7,7 +7,6 @@
 mod asked;
 mod command;
 mod drawn;
-mod host;
 mod laws;
 mod one;
 mod picturing;
@@ -16,7 +15,6 @@ mod placing;
 pub use asked::table_asked;
 pub use command::{cmd_draw, draw_asked};
 pub use drawn::{draw_files, picture_path, put_picture};
-pub use host::PictureHost;
 pub use laws::paths_are_apart;
 pub use one::{First, draw_first};
 pub use picturing::picture_of;

@@ -1,59 +1,38 @@
-// A file that is written beside its place, and put there whole.
-ghost use Rattle.std.specs.Prelude.{◌≡◌, ◌⊎◌, ℕ, IfErr, List, OnOk};
+// A picture that is made a file.
+ghost use Rattle.std.specs.Prelude.{◌≡◌, ℕ, IfErr, IfOk, List, OnOk, Option};
+ghost use Rattle.wire.specs.Device.{grown};
+ghost use Rattle.files.specs.Paths.{IsBlank, IsKept, IsToldStill};
+ghost use Rattle.cmd_draw.specs.Placing.{PutsFile};
 ghost use Rattle.cmd_draw.specs.Said.{EndsDrawing};
 
-use crate::host::PictureHost;
-use cmd_options::{Ended, ended_by};
-use std::alloc::Global;
-use tape::NoMemory;
+use cmd_options::{Ended, LedgerFile, ended_by};
+use files::Files;
+use wire::append_all;
 
-// What is put behind the path of a file to name the one in which it is made.
-const NEW_SUFFIX: &str = ".new";
-
-// Makes the file at a path hold these bytes. Where that is a plain file, or isn't there, they are written to a file beside
-// it, which is then put in its place.
-pub(crate) fn write_at<H: PictureHost>(
-    alloc: Global,
-    host: &H,
-    path: &str,
-    bytes: &[u8],
-) -> Result<(), Ended>
-    ensures ok { OnOk result (H.holds host.now path.now bytes.now) }
-    ensures err { IfErr result EndsDrawing }
+// Puts a file of these bytes at a path, in place of what stands there.
+pub(crate) fn put_file<H: Files>(host: &mut H, path: &str, bytes: &[u8]) -> Result<(), Ended>
+    ensures ok { OnOk result (PutsFile (H.tells_same host.old) path.now bytes.now (H.holds host.old) (H.holds host.new)) }
+    ensures still { IsToldStill (H.tells_same host.old) (H.tells_same host.new) }
+    ensures err { IfErr result (λ e. EndsDrawing e × IsKept (H.holds host.old) (H.holds host.new)) }
 {
-    let beside = path_beside(alloc, path)?;
-    // Nothing is lost at either path by that.
-    if host.is_replaceable(path) && host.is_replaceable(&beside) {
-        write_to(host, &beside, bytes)?;
-        put_in_place(host, &beside, path)
-    } else {
-        write_to(host, path, bytes)
-    }
-}
-
-fn path_beside(alloc: Global, path: &str) -> Result<String, NoMemory> {
-    let mut beside = String::new(alloc);
-    beside.push_str(path)?;
-    beside.push_str(NEW_SUFFIX)?;
-    Ok(beside)
-}
-
-fn write_to<H: PictureHost>(host: &H, path: &str, bytes: &[u8]) -> Result<(), Ended>
-    ensures ok { OnOk result (H.holds host.now path.now bytes.now) }
-    ensures err { IfErr result EndsDrawing }
-{
-    match host.write(path, bytes) {
+    let made = made_of(host, path, bytes)?;
+    match host.put(made, path) {
         Ok(()) => Ok(()),
         Err(fault) => Err(ended_by(&fault, Ended::File)),
     }
 }
 
-fn put_in_place<H: PictureHost>(host: &H, from: &str, to: &str) -> Result<(), Ended>
-    ensures ok { OnOk result ((bytes : List ℕ) → H.holds host.now from.now bytes → H.holds host.now to.now bytes) }
+// A file of these bytes that is to be put at a path.
+fn made_of<H: Files>(host: &H, path: &str, bytes: &[u8]) -> Result<H::Made, Ended>
+    ensures ok { IfOk result (λ made. (begun : Option (List ℕ)) × IsBlank begun × (H.Made.text made ≡ grown begun bytes.now)) }
     ensures err { IfErr result EndsDrawing }
 {
-    match host.rename(from, to) {
-        Ok(()) => Ok(()),
-        Err(fault) => Err(ended_by(&fault, Ended::File)),
+    let mut made = match host.make(&LedgerFile::at(path), &[]) {
+        Ok(made) => made,
+        Err(fault) => return Err(ended_by(&fault, Ended::File)),
+    };
+    match append_all(&mut made, bytes) {
+        Ok(()) => Ok(made),
+        Err(_) => Err(Ended::File),
     }
 }

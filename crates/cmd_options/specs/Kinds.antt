@@ -2,7 +2,7 @@
 use Rattle.std.specs.Prelude.{ℕ, List, ◌==◌, if◌then◌else◌, codes, []}
 
 abbrev pub kind_letters : List ℕ
-kind_letters = codes "HCTBNFU"
+kind_letters = codes "HCTBNFAPU"
 
 -- the letter and the name of its kind, as HTML
 abbrev pub kind_label : ℕ → List ℕ
@@ -13,5 +13,7 @@ kind_label letter =
     else if letter == 66 then codes "<code>B</code> backward reasoning"
     else if letter == 78 then codes "<code>N</code> n-gram CPS"
     else if letter == 70 then codes "<code>F</code> finite automata reduction (FAR)"
+    else if letter == 65 then codes "<code>A</code> finite automata reduction, edges listed"
+    else if letter == 80 then codes "<code>P</code> proof of its own"
     else if letter == 85 then codes "<code>U</code> holdout"
     else []

@@ -5,7 +5,7 @@ ghost use Rattle.cmd_options.specs.Kinds.{kind_label};
 use crate::number::Number;
 
 /// The letters of the kinds, in the order in which a page has them (`kind_letters`).
-pub const LETTERS: &[u8] = b"HCTBNFU";
+pub const LETTERS: &[u8] = b"HCTBNFAPU";
 
 /// What a page calls the kind of a letter, as HTML: the letter and a name. Nothing for another letter.
 pub fn kind_label(letter: u8) -> &'static [u8]
@@ -18,6 +18,8 @@ pub fn kind_label(letter: u8) -> &'static [u8]
         b'B' => b"<code>B</code> backward reasoning",
         b'N' => b"<code>N</code> n-gram CPS",
         b'F' => b"<code>F</code> finite automata reduction (FAR)",
+        b'A' => b"<code>A</code> finite automata reduction, edges listed",
+        b'P' => b"<code>P</code> proof of its own",
         b'U' => b"<code>U</code> holdout",
         _ => b"",
     }
@@ -38,8 +40,13 @@ pub const GRAM: Number = Number { name: "gram", value: Some("G"), least: 0, most
 pub const FAR: Number = Number { name: "far", value: Some("M"), least: 0, most: 16, default: Some("2"),
     help: "Most states of a first automaton, in finite automata reduction; 0 for none" };
 
+/// How many stages of automata from words there are.
+#[rattlefmt::skip]
+pub const WORDS: Number = Number { name: "words", value: Some("W"), least: 0, most: 11, default: Some("0"),
+    help: "Stages of automata that are made from words, in finite automata reduction; 0 for none" };
+
 /// The options that say how far the certificates of a kind are searched for, in the order in which help has them.
-pub const REACHES: [Number; 3] = [DEPTH, GRAM, FAR];
+pub const REACHES: [Number; 4] = [DEPTH, GRAM, FAR, WORDS];
 
 /// Their names.
-pub const REACH_NAMES: &[&str] = &["depth", "gram", "far"];
+pub const REACH_NAMES: &[&str] = &["depth", "gram", "far", "words"];

@@ -1,4 +1,5 @@
 // Ledger files that are written.
+ghost use Rattle.std.specs.Prelude.{◌≡◌};
 
 /// How far the lines of a ledger have come when they count as written.
 #[derive(Clone, Copy, Debug, PartialEq, Eq)]
@@ -20,7 +21,10 @@ pub struct LedgerFile<'a> {
 
 impl<'a> LedgerFile<'a> {
     /// The file at a path, whose lines count as written when the system has them.
-    pub const fn at(path: &'a str) -> LedgerFile<'a> {
+    pub const fn at(path: &'a str) -> LedgerFile<'a>
+        ensures path { result.path ≡ path.entry }
+        ensures durability { result.durability ≡ Durability.System }
+    {
         LedgerFile {
             path,
             durability: Durability::System,
@@ -28,7 +32,10 @@ impl<'a> LedgerFile<'a> {
     }
 
     /// The file at a path, whose lines count as written once they are on the disk.
-    pub const fn on_disk(path: &'a str) -> LedgerFile<'a> {
+    pub const fn on_disk(path: &'a str) -> LedgerFile<'a>
+        ensures path { result.path ≡ path.entry }
+        ensures durability { result.durability ≡ Durability.Disk }
+    {
         LedgerFile {
             path,
             durability: Durability::Disk,

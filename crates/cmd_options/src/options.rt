@@ -7,7 +7,7 @@ use crate::ledger_file::LedgerFile;
 pub enum Options<'a> {
     /// `bb check`
     Check,
-    /// `bb decide [--steps K] [--depth D] [--gram G] [--far M]`
+    /// `bb decide [--steps K] [--depth D] [--gram G] [--far M] [--words W] [--hard]`
     Decide(Search),
     /// `bb coord N [--ledger FILE] [--sync] [--era E]`
     Coord {
@@ -143,6 +143,8 @@ pub struct Search {
     pub gram: u64,
     /// The most states of the first automaton of two: 0 to 16, where 0 asks for none.
     pub far: u64,
+    /// How many stages of first automata that are made from words are tried: 0 to 11, where 0 asks for none.
+    pub words: u64,
     /// Whether it goes by stages of its own, from cheap searches to dear ones, which `steps` scales; the other numbers
     /// aren't used then.
     pub hard: bool,

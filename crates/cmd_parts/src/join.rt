@@ -193,11 +193,11 @@ fn spare<S: Parts>(
     trunk: &str,
     roots: &[Table],
 ) -> Result<(), Ended> {
-    if parts.is_written(trunk) {
+    if parts.is_written(trunk)? {
         return Err(Ended::OutInFolder);
     }
     for root in roots {
-        if parts.is_written(&part_path(alloc, folder, root)?) {
+        if parts.is_written(&part_path(alloc, folder, root)?)? {
             return Err(Ended::OutInFolder);
         }
     }

@@ -1,11 +1,14 @@
 // Where the ledgers of a trunk and its parts are read.
+ghost use Rattle.std.specs.Prelude.{◌≡◌, ◌⊎◌, IfErr, IfOk, Ok};
+
 use cmd_options::{Ended, ended_by};
 use files::{Files, Opened};
 use std::io::{ErrorKind, Read};
 
 /// Where the ledgers of a trunk and its parts are read, each by its path.
 pub trait Parts {
-    ghost use Rattle.std.specs.Prelude.{ℕ, IfOk, List, Option, option_map};
+    ghost use Rattle.std.specs.Prelude.{◌≡◌, ◌⊎◌, ℕ, IfErr, IfOk, List, Option, option_map};
+    ghost use Rattle.cmd_options.specs.declared.ended.Ended.TheVariants.{File as FailedFile, NoMemory as WantsMemory};
 
     type File: Read + Drop;
 
@@ -16,8 +19,10 @@ pub trait Parts {
     fn open(&self, path: &str) -> Result<Option<Opened<Self::File>>, Ended>
         ensures { IfOk result (λ found. finds self.now path.now (option_map (λ file. (Self.File.remaining file.reader, file.length)) found)) };
 
-    /// Whether the ledger at a path is the one that is to be written, or would be lost where that is made.
-    fn is_written(&self, path: &str) -> bool;
+    /// Whether the ledger at a path is the one that is to be written, or would be lost where that is made. Errors: a link there
+    /// that can't be followed, refused memory.
+    fn is_written(&self, path: &str) -> Result<bool, Ended>
+        ensures err { IfErr result (λ e. (e ≡ WantsMemory) ⊎ (e ≡ FailedFile)) };
 }
 
 /// The files of a host.
@@ -52,14 +57,27 @@ impl<H: Files> Parts for PartsAt<'_, H> {
         }
     }
 
-    fn is_written(&self, path: &str) -> bool {
+    fn is_written(&self, path: &str) -> Result<bool, Ended> {
         let Some(Written { out, removed }) = self.written else {
-            return false;
+            return Ok(false);
         };
-        let is_lost = match removed {
-            Some(name) => self.host.leads_to(path, name),
-            None => false,
-        };
-        is_lost || self.host.is_same(out, path)
+        if self.host.is_same(out, path) {
+            return Ok(true);
+        }
+        match removed {
+            Some(name) => is_lost(self.host, path, name),
+            None => Ok(false),
+        }
+    }
+}
+
+// Whether the ledger at a path would be lost with a name.
+fn is_lost<H: Files>(host: &H, path: &str, name: &str) -> Result<bool, Ended>
+    ensures ok { IfOk result (λ told. H.leads host.now path.now name.now (Ok told)) }
+    ensures err { IfErr result (λ e. (e ≡ Ended.NoMemory) ⊎ (e ≡ Ended.File)) }
+{
+    match host.leads_to(path, name) {
+        Ok(told) => Ok(told),
+        Err(fault) => Err(ended_by(&fault, Ended::File)),
     }
 }

@@ -13,7 +13,7 @@ ghost use Rattle.cmd_parts.specs.Split.{SplitsTree, path_within, split_text};
 use crate::folder::{FolderAt, TRUNK, begin_parts, path_within};
 use crate::trunk::grow_trunk;
 use cert::Decider;
-use cmd_options::{Durability, Ended, LedgerFile, Outcome, Splitting, ended_by, told};
+use cmd_options::{Ended, LedgerFile, Outcome, Splitting, ended_by, told};
 use files::{Files, Progress, ledger_at, lock_ledger};
 use kind_evidence::NoMemory;
 use ledger::{Board, Tally};
@@ -80,11 +80,7 @@ fn grown_trunk<H: Files, D: Decider, P: Progress>(
     ensures all { IfOk result (λ board. (t : Packed) → IsOpenOn board t → splitting.now.filled ≤ filled_count t) }
 {
     let held = host.open(path);
-    let file = LedgerFile {
-        path,
-        durability: Durability::System,
-    };
-    let mut ledger = ledger_at(host, &file)?;
+    let mut ledger = ledger_at(host, &LedgerFile::at(path))?;
     let folder = FolderAt {
         alloc,
         host: &*host,

@@ -1,7 +1,7 @@
 // What help says of the program and of each command.
 
 // The program's version, and the kit by which it is proved.
-pub(crate) const VERSION: &str = "0.1.0, proved with rattle-kit-13f logic dac8208d650f15bf";
+pub(crate) const VERSION: &str = "0.2.0, proved with rattle-kit-13f logic dac8208d650f15bf";
 
 pub(crate) const STATUSES: &str =
     "Exit status: 0 all accepted; 1 something was refused; 2 a wrong command line; \
@@ -177,7 +177,7 @@ pub(crate) const DECIDE: &str = "  $ echo 1RB1LB_1LA--- | bb decide
 
 A line is a table in the bbchallenge standard format. Its record has the first certificate that is
 found and stands, looked for in this order: that it halts, a cycle, a translated cycle, backward
-reasoning, a closed position set, finite automata; or `U`, undecided. A text that is no table is answered
+reasoning, a closed position set, finite automata, automata from words; or `U`, undecided. A text that is no table is answered
 `refused 301` with its fault, as by `bb check`, and a line over 65,536 bytes `refused 305`.
 
 Exit status: 0 each line was a table; 1 some wasn't; 2 a wrong command line; 3 out of memory
@@ -200,6 +200,11 @@ A record is a table in the bbchallenge standard format, a space and a certificat
   F side m delta rows keep
               two automata, by which the run never comes to a halt; the first has m states, from 1 to 16, and
               goes where the digits of delta say; rows and keep are sets of states of the second, in hexadecimal
+  A side m delta rows keep
+              the same with m from 1 to 4,096 and numbers in decimal, joined by commas: where the first goes; of each
+              state of the second and symbol `-` for edges to all, `.` for none, or a list joined by dots; and what is kept
+  P           the table is one of eight of five states that have a proof of their own; of one of them, Skelet 1, the
+              run is followed until it repeats, which takes half a minute and 80 megabytes
   U           nothing is claimed
 An entry to Z or H, as in 1RB1LB_1LA0RZ, is an undefined entry, as `---` is: it halts, what it would write isn't looked
 at, and the score counts a one there (1RB1LB_1LA0RZ H 6 4 is right).

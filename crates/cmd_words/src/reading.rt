@@ -14,6 +14,7 @@ use clap::{ArgMatches, Error};
 use cmd_options::{
     Beginning, Carrying, DEPTH, Drawing, Durability, FAR, GRAM, Joining, LedgerFile,
     LedgerSettling, Mending, Merging, NoMemory, Number, Options, Search, Settling, Splitting,
+    WORDS,
 };
 use std::alloc::Global;
 
@@ -95,6 +96,7 @@ fn search_of(matches: &ArgMatches<'_>) -> Result<Search, LineFault>
         depth: number_of(matches, DEPTH)?,
         gram: number_of(matches, GRAM)?,
         far: number_of(matches, FAR)?,
+        words: number_of(matches, WORDS)?,
         hard: matches.get_flag(HARD.name),
     })
 }

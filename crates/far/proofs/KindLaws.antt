@@ -13,6 +13,7 @@ use Rattle.text.proofs.Numbers.{decimal_value-decimal, length_of_number}
 use Rattle.text.proofs.Spaced.{number_is_field, and_field, no_fields, length-spaced}
 use Rattle.kind_evidence.specs.Kind.{IsKind}
 use Rattle.kind_evidence.proofs.Letters.{is_letter}
+use Rattle.kind_evidence.proofs.Room.{have_room}
 use Rattle.far.specs.Limits.{size_limit}
 use Rattle.far.specs.Automata.{Automata, AreAutomata, AreSized}
 use Rattle.far.specs.Kind.{size_in, numbers_by, far_by, number_fields, far_fields, far_kind}
@@ -81,7 +82,8 @@ far_are_fields a numbers within =
 pub far_is_kind : IsKind far_kind
 far_is_kind = record {
   letter = is_letter 70 (omega arith);
-  are_fields = λ a automata. far_are_fields a automata.0 automata.1;
+  are_fields = λ a automata. (far_are_fields a automata.0 automata.1).each;
+  short = λ a n few automata made. have_room (far_fields a) n few (far_are_fields a automata.0 automata.1);
   back = λ a n automata made. subst (λ n. far_by n (far_fields a) ≡ Ok a) made (far_back a automata.0 automata.1);
   writable = λ a p within stands. (stands.0, within);
   made = λ a p stands. stands.1.states;

@@ -14,6 +14,7 @@ use wire::LedgerOut;
 pub trait Files {
     ghost use Rattle.std.specs.Prelude.{◌≡◌, Bool, List, ℕ, Option, Result, IfOk, OnOk, OnErr, IfErr};
     ghost use Rattle.std.specs.IoError.{error_kind};
+    ghost use Rattle.std.specs.declared.io.Error.{Error};
     ghost use Rattle.std.specs.declared.io.ErrorKind.TheVariants.{NotFound};
     ghost use Rattle.cmd_options.specs.declared.ended.Ended.{Ended};
     ghost use Rattle.files.specs.Paths.{Known, IsBlank, IsKept, IsKeptBut, IsLedgerAt, IsMissing, IsOpenedOn, IsPut, IsToldStill};
@@ -23,6 +24,9 @@ pub trait Files {
 
     /// What may be told of two paths: whether they are those of one file.
     ghost tells_same: { Self → List ℕ → List ℕ → Bool → Type 0 };
+
+    /// What may come of asking whether a symbolic link at a path leads to a name.
+    ghost leads: { Self → List ℕ → List ℕ → Result Bool Error → Type 0 };
 
     /// Whether a ledger was opened at a path that isn't closed yet.
     ghost opened: { Self → List ℕ → Type 0 };
@@ -48,8 +52,9 @@ pub trait Files {
     fn is_same(&self, one: &str, other: &str) -> bool
         ensures { tells_same self.now one.now other.now result };
 
-    /// Whether a symbolic link at a path leads to a name.
-    fn leads_to(&self, path: &str, name: &str) -> bool;
+    /// Whether a symbolic link at a path leads to a name. Errors: links that can't be followed to an end, refused memory.
+    fn leads_to(&self, path: &str, name: &str) -> io::Result<bool>
+        ensures { leads self.now path.now name.now result };
 
     /// A ledger that is cut and appended to where it stands.
     type Ledger: LedgerOut + Drop;

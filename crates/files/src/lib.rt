@@ -2,7 +2,8 @@
 //!
 //! `Files` is what commands see of them. `OnDisk` is that over the calls of a file system, `MemFiles` over files in memory.
 //! `specs/Paths` has what is known to stand at paths and how that changes, `specs/Opened` what is read of it,
-//! `specs/Written` what a ledger holds that is opened once it is written. `specs/Memory` is for files in memory alone.
+//! `specs/Written` what a ledger holds that is opened once it is written, `specs/Links` where a symbolic link leads.
+//! `specs/Memory` is for files in memory alone.
 #![tactic(auto)]
 
 mod disk;

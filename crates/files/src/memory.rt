@@ -81,7 +81,7 @@ impl MemFiles {
 }
 
 impl Files for MemFiles {
-    ghost use Rattle.std.specs.Prelude.{◌≡◌, ◌≢◌, ⊤};
+    ghost use Rattle.std.specs.Prelude.{◌≡◌, ◌≢◌, ⊤, Ok, false};
     ghost use Rattle.files.specs.Paths.{Missing};
     ghost use Rattle.std.specs.Str.{bytes_eq};
     ghost use Rattle.files.specs.Memory.{stands_in};
@@ -91,6 +91,8 @@ impl Files for MemFiles {
     ghost opened = { λ host path. stands_in host.files.items path ≢ Missing };
 
     ghost tells_same = { λ host one other told. told ≡ bytes_eq one other };
+
+    ghost leads = { λ host path name came. came ≡ Ok false };
 
     ghost locks = { λ path locked. ⊤ };
 
@@ -115,8 +117,8 @@ impl Files for MemFiles {
     }
 
     // There are no links.
-    fn leads_to(&self, _path: &str, _name: &str) -> bool {
-        false
+    fn leads_to(&self, _path: &str, _name: &str) -> io::Result<bool> {
+        Ok(false)
     }
 
     type Ledger = MemText;

@@ -26,10 +26,13 @@ impl<'a, D: Disk> OnDisk<'a, D> {
 impl<'a, D: Disk> Files for OnDisk<'a, D> {
     ghost use Rattle.std.specs.Prelude.{⊤};
     ghost use Rattle.files.specs.Paths.{Unknown};
+    ghost use Rattle.files.specs.Links.{LeadsBy};
 
     ghost holds = { λ files path. Unknown };
 
-    ghost tells_same = { λ files one other told. ⊤ };
+    ghost tells_same = { λ files. D.same files.disk.now };
+
+    ghost leads = { λ files path name. LeadsBy (D.ends files.disk.now path) (λ end. D.same files.disk.now end name) path };
 
     ghost opened = { λ files path. ⊤ };
 
@@ -53,11 +56,12 @@ impl<'a, D: Disk> Files for OnDisk<'a, D> {
         self.disk.is_same(one, other)
     }
 
-    fn leads_to(&self, path: &str, name: &str) -> bool {
-        match self.disk.end_of(path) {
-            Ok(end) => end.as_str() != path && self.disk.is_same(&end, name),
-            Err(_) => false,
+    fn leads_to(&self, path: &str, name: &str) -> io::Result<bool> {
+        let end = self.disk.end_of(path)?;
+        if end.as_str() == path {
+            return Ok(false);
         }
+        Ok(self.disk.is_same(&end, name))
     }
 
     type Ledger = DiskLedger<'a, D>;

@@ -1,6 +1,8 @@
 -- What is so of automata that were found.
 use Rattle.std.specs.Prelude.{◌<◌}
 use Rattle.machine_text.specs.Packed.{Packed}
+use Rattle.cert.specs.Claim.{Claim, NeverClaim}
+use Rattle.cert.specs.Reason.{FarReason, ListedReason}
 use Rattle.far.specs.Automata.{AreAutomataOf}
 use Rattle.far.specs.Limits.{size_limit}
 use Rattle.far.specs.OwnedFar.{owned_automata}
@@ -8,6 +10,11 @@ use Rattle.kind_listed.specs.Listed.{AreTextsOf}
 use Rattle.kind_listed.specs.OwnedListed.{owned_texts}
 use Rattle.find_words.specs.declared.word_finder.FoundAutomata.{FoundAutomata}
 use Rattle.find_words.specs.declared.word_finder.FoundAutomata.TheVariants.{Far, Listed}
+
+-- what they claim
+abbrev pub claim_found : FoundAutomata → Claim
+claim_found (Far e) = NeverClaim (FarReason (owned_automata e))
+claim_found (Listed e) = NeverClaim (ListedReason (owned_texts e))
 
 -- they are those of the table; the edges of the second are listed where the first has too many states for the other form
 abbrev pub AreFoundOf : Packed → FoundAutomata → Type 0

@@ -6,6 +6,7 @@ ghost use Rattle.find_words.specs.Findings.{AreFoundOf};
 use crate::closing::{Closing, Reduction};
 use crate::stages::{WORD_STAGES, WordStage};
 use crate::writing::append_numbers;
+use cert::{Finder, OwnedCertificate};
 use far::OwnedFar;
 use find_automata::{Automaton, MAX_MOVES};
 use kind_evidence::NoMemory;
@@ -22,34 +23,60 @@ pub enum FoundAutomata {
     Listed(OwnedListed),
 }
 
+impl FoundAutomata {
+    ghost use Rattle.cert.specs.Kinds.{owned_claim};
+    ghost use Rattle.find_words.specs.Findings.{claim_found};
+
+    /// The certificate that they are.
+    pub fn into_certificate(self, alloc: Global) -> Result<OwnedCertificate, NoMemory>
+        ensures { IfOk result (λ c. owned_claim c ≡ claim_found self) }
+    {
+        Ok(match self {
+            FoundAutomata::Far(automata) => OwnedCertificate::Far(Box::new(alloc, automata)?),
+            FoundAutomata::Listed(automata) => {
+                OwnedCertificate::Listed(Box::new(alloc, automata)?)
+            }
+        })
+    }
+}
+
 /// Searches automata whose first one is made of words. It keeps the memory of its tables from call to call.
 #[derive(Drop)]
 pub struct WordFinder {
     alloc: Global,
+    stages: u64,
     closing: Closing,
 }
 
 impl WordFinder {
-    /// A finder that takes its memory from here, and none yet.
-    pub fn new(alloc: Global) -> WordFinder {
+    /// A finder by the first so many of `WORD_STAGES`, that takes its memory from here, and none yet.
+    pub fn new(alloc: Global, stages: u64) -> WordFinder {
         WordFinder {
             alloc,
+            stages,
             closing: Closing::new(alloc),
         }
     }
 
-    /// Automata of a table by the first so many of `WORD_STAGES`; none where they find none. What it gives stands. No
-    /// contract says what is found or how long it takes.
-    pub fn search(&mut self, t: &Table, stages: u64) -> Result<Option<FoundAutomata>, NoMemory>
+    /// Automata of a table by the finder's stages; none where they find none. What it gives stands. No contract says what
+    /// is found or how long it takes.
+    pub fn search(&mut self, t: &Table) -> Result<Option<FoundAutomata>, NoMemory>
         ensures { IfOk result (λ o. IfSome o (AreFoundOf t.now)) }
     {
-        let mut left = stages;
-        for stage in WORD_STAGES {
-            if left == 0 {
-                return Ok(None);
-            }
-            left -= 1;
-            let found = self.search_in_stage(t, stage)?;
+        let count = self.stages.min(WORD_STAGES.len() as u64) as usize;
+        self.search_by(t, &WORD_STAGES[..count])
+    }
+
+    /// The same by these stages, whichever are the finder's.
+    pub fn search_by(
+        &mut self,
+        t: &Table,
+        stages: &[WordStage],
+    ) -> Result<Option<FoundAutomata>, NoMemory>
+        ensures { IfOk result (λ o. IfSome o (AreFoundOf t.now)) }
+    {
+        for stage in stages {
+            let found = self.search_in_stage(t, *stage)?;
             if found.is_some() {
                 return Ok(found);
             }
@@ -156,6 +183,15 @@ impl WordFinder {
         }
         let owned = OwnedListed::of(self.alloc, &claim)?;
         Ok(Some(FoundAutomata::Listed(owned)))
+    }
+}
+
+impl Finder for WordFinder {
+    fn find(&mut self, t: &Table, _budget: u64) -> Result<Option<OwnedCertificate>, NoMemory> {
+        match self.search(t)? {
+            Some(found) => Ok(Some(found.into_certificate(self.alloc)?)),
+            None => Ok(None),
+        }
     }
 }
 

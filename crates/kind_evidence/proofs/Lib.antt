@@ -1,3 +1,4 @@
 pub mod Tested
 pub mod Sides
 pub mod Letters
+pub mod Room

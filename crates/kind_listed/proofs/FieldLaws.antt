@@ -3,7 +3,7 @@ use Rattle.std.proofs.Common.{◌≡◌, ◌+◌, ◌*◌, ◌^◌, ◌<◌, ◌
 use Rattle.std.specs.Prelude.{decimal, is_some, IsTrue, All}
 use Rattle.std.proofs.lemmas.Bool.{false≢true}
 use Rattle.std.proofs.lemmas.Bool.Decides.{nat_tests}
-use Rattle.machine_text.specs.Packed.{Packed}
+use Rattle.kind_evidence.specs.Kind.{room_for_fields}
 use Rattle.kind_evidence.specs.Side.{side_text}
 use Rattle.kind_evidence.proofs.Sides.{side_back, side_is_high, length_of_side}
 use Rattle.text.specs.Decimal.{decimal_value}
@@ -11,10 +11,10 @@ use Rattle.text.specs.Fields.{IsField, spaced, with_value}
 use Rattle.text.proofs.Numbers.{decimal_value-decimal}
 use Rattle.text.proofs.Spaced.{number_is_field, and_field, no_fields, length-spaced}
 use Rattle.kind_listed.specs.Limits.{listed_size_limit, listed_byte_limit}
-use Rattle.kind_listed.specs.Listed.{AreTextsOf}
+use Rattle.kind_listed.specs.Automata.{ListedAutomata}
 use Rattle.kind_listed.specs.Texts.{ListedTexts, listed_texts, automata_of_texts}
 use Rattle.kind_listed.specs.Fields.{AreWithinRecord, listed_size_in, texts_by, listed_by, listed_fields, AreListedTexts}
-use Rattle.kind_listed.proofs.HighBytes.{AreHigh, texts_high}
+use Rattle.kind_listed.proofs.HighBytes.{AreRead, texts_read}
 
 size_back : (t : ListedTexts) → AreListedTexts t → listed_size_in (decimal_value (decimal t.size)) ≡ Some t.size
 size_back t are =
@@ -37,12 +37,12 @@ listed_back t are =
     ∙ ap (λ o. with_value o (λ size. texts_by (listed_texts t.states t.side size t.delta t.rows t.keep))) (size_back t are)
     ∙ texts_back t are
 
-high_given : (t : ListedTexts) → IsTrue (is_some (automata_of_texts t)) → AreHigh t
-high_given t = elim (automata_of_texts t) as (λ o. automata_of_texts t ≡ o → IsTrue (is_some o) → AreHigh t) [ None ↦ λ is given. absurd (false≢true given) | Some a ↦ λ is given. texts_high t a is ] refl
+read_given : (t : ListedTexts) → IsTrue (is_some (automata_of_texts t)) → (a : ListedAutomata) × AreRead t a
+read_given t = elim (automata_of_texts t) as (λ o. automata_of_texts t ≡ o → IsTrue (is_some o) → (a : ListedAutomata) × AreRead t a) [ None ↦ λ is given. absurd (false≢true given) | Some a ↦ λ is given. (a, texts_read t a is) ] refl
 
 pub listed_are_fields : (t : ListedTexts) → AreListedTexts t → All IsField (listed_fields t)
 listed_are_fields t are =
-    let high = high_given t are.given in
+    let high = (read_given t are.given).1 in
     let few = are.within.small in
     let small : t.size < 2 ^ 64 = omega arith in
     let side = side_text t.side in
@@ -50,7 +50,7 @@ listed_are_fields t are =
     (and_field (decimal t.size) (t.delta ∷ (t.rows ∷ (t.keep ∷ []))) (number_is_field t.size small)
     (and_field t.delta (t.rows ∷ (t.keep ∷ [])) high.delta (and_field t.rows (t.keep ∷ []) high.rows (and_field t.keep [] high.keep no_fields))))
 
-pub listed_are_short : (t : ListedTexts) → AreListedTexts t → 7 * t.states + 1 + length (spaced (listed_fields t)) ≤ 65000
+pub listed_are_short : (t : ListedTexts) → AreListedTexts t → length (spaced (listed_fields t)) ≤ room_for_fields t.states
 listed_are_short t are =
     let short = are.within.short in
     let few = are.within.few in
@@ -66,7 +66,3 @@ listed_are_short t are =
       length-spaced t.keep [],
       length_of_side t.side,
     )
-
--- what stands within the limits is written
-pub listed_is_writable : (t : ListedTexts) (p : Packed) → AreWithinRecord t → AreTextsOf t p → AreListedTexts t
-listed_is_writable t p within of = record { given = ap is_some of.given; within = within }

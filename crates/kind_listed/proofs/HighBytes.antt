@@ -1,18 +1,19 @@
--- No byte of automata's texts is below the comma.
-use Rattle.std.proofs.Common.{◌≡◌, ℕ, ◌*◌, ◌^◌, ◌≤◌, ◌==◌, ◌&&◌, Bool, true, false, List, [], ◌∷◌, Some, None, sym, subst, refl, arith}
+-- No byte of automata's texts is below the comma, and the automata are made for the states that the texts are.
+use Rattle.std.proofs.Common.{◌≡◌, ℕ, ◌*◌, ◌^◌, ◌≤◌, ◌==◌, ◌&&◌, Bool, true, false, List, [], ◌∷◌, length, Some, None, sym, subst, refl, ap, arith}
 use Rattle.std.specs.Prelude.{nat_lt, option_map, decimal, All, if◌then◌else◌}
 use Rattle.std.specs.List.{onto_first}
 use Rattle.std.specs.Option.{option_and_then}
 use Rattle.std.specs.Str.{bytes_eq}
 use Rattle.std.proofs.lemmas.Bool.{and_parts, eqb-true, ltb-true}
 use Rattle.std.proofs.lemmas.List.Elements.{All-nil, All-cons, All-head, All-tail}
-use Rattle.std.proofs.lemmas.Option.{option_and_then_some}
+use Rattle.std.proofs.lemmas.Option.{option_and_then_some, same_Some}
 use Rattle.std.proofs.lemmas.Slice.Eq.{bytes_eq-Decides}
+use Rattle.machine_text.specs.declared.transition.Dir.{Dir}
 use Rattle.text.specs.Decimal.{worth_of, decimal_value}
 use Rattle.text.specs.Fields.{IsField}
 use Rattle.text.specs.Parts.{parts_of}
 use Rattle.text.proofs.Spaced.{number_is_field, no_fields}
-use Rattle.kind_listed.specs.Automata.{ListedAutomata}
+use Rattle.kind_listed.specs.Automata.{ListedAutomata, listed_automata}
 use Rattle.kind_listed.specs.Texts.{bounded, number_in, next_low, numbers_in, row_in, rows_in, counted, automata_in}
 use Rattle.kind_listed.specs.Texts.{ListedTexts, automata_of_texts}
 use Rattle.kind_listed.proofs.WellRead.{none_some, with_first}
@@ -74,14 +75,23 @@ rows_high last (part ∷ parts) rows e =
     let rest = with_first row (rows_in last parts) rows by in
     All-cons IsField part parts (row_high last part row is) (rows_high last parts rest.0 rest.1))
 
-pub record AreHigh (t : ListedTexts) : Type 0 where
+pub record AreRead (t : ListedTexts) (a : ListedAutomata) : Type 0 where
   pub delta : IsField t.delta
   pub rows : IsField t.rows
   pub keep : IsField t.keep
+  pub states : a.states ≡ t.states
 
-pub texts_high : (t : ListedTexts) (a : ListedAutomata) → automata_of_texts t ≡ Some a → AreHigh t
+counted_states : (states : ℕ) (side : Dir) (size : ℕ) (delta : List ℕ) (rows : List (List ℕ)) (keep : List ℕ) (a : ListedAutomata) → counted states side size delta rows keep ≡ Some a → a.states ≡ states
+counted_states states side size delta rows keep a =
+    let made = listed_automata states side size delta rows keep in
+    elim ((length delta == 2 * size) && (length rows == 2 * (size * states))) as (λ b. (if b then Some made else None) ≡ Some a → a.states ≡ states) [
+      | true ↦ λ e. sym (ap (λ (a : ListedAutomata). a.states) (same_Some made a e))
+      | false ↦ λ e. absurd (cc)
+    ]
+
+pub texts_read : (t : ListedTexts) (a : ListedAutomata) → automata_of_texts t ≡ Some a → AreRead t a
 unfolding automata_in
-texts_high t a e =
+texts_read t a e =
     let last : ℕ = t.size * t.states in
     option_and_then_some (λ delta. option_and_then (λ rows. option_and_then (λ keep. counted t.states t.side t.size delta rows keep) (numbers_in true 0 last (parts_of 44 t.keep))) (rows_in last (parts_of 44 t.rows)))
     (numbers_in false 0 t.size (parts_of 44 t.delta)) a e (λ delta delta_is by.
@@ -92,4 +102,5 @@ texts_high t a e =
       delta = split_high 44 (omega arith) t.delta (numbers_high false 0 t.size (parts_of 44 t.delta) delta delta_is);
       rows = split_high 44 (omega arith) t.rows (rows_high last (parts_of 44 t.rows) rows rows_is);
       keep = split_high 44 (omega arith) t.keep (numbers_high true 0 last (parts_of 44 t.keep) keep keep_is);
+      states = counted_states t.states t.side t.size delta rows keep a by;
     })))

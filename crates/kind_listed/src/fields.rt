@@ -31,7 +31,7 @@ impl<'a> Listed<'a> {
         texts_from(states, side, size, delta, rows, keep)
     }
 
-    /// Appends the fields of a record, each behind a space: they read back as the same texts (`listed_reads_back`).
+    /// Appends the fields of a record, each behind a space: they read back as the same texts (`listed_automata_are_a_kind`).
     /// Where memory is refused, a beginning of them.
     pub fn append_fields(&self, out: &mut Vec<u8>) -> Result<(), NoMemory>
         ensures ok { OnOk result (out.new.items ≡ out.old.items ++ spaced (listed_fields (texts_of self.now))) }

@@ -1,12 +1,9 @@
 // Laws of the texts of automata.
-ghost use Rattle.std.specs.Prelude.{◌≡◌, ◌+◌, ◌*◌, ◌≤◌, length, All, Ok};
-ghost use Rattle.text.specs.Fields.{IsField, spaced};
-ghost use Rattle.kind_listed.specs.Fields.{listed_by, listed_fields, AreListedTexts};
-ghost use Rattle.kind_listed.specs.Texts.{ListedTexts};
+ghost use Rattle.kind_evidence.specs.Kind.{IsKind};
+ghost use Rattle.kind_listed.specs.Kind.{listed_kind};
 
-/// The fields of automata that are within their limits are fields that read back.
-pub fn listed_reads_back()
-    ensures back { (t : ListedTexts) → AreListedTexts t → listed_by t.states (listed_fields t) ≡ Ok t }
-    ensures fields { (t : ListedTexts) → AreListedTexts t → All IsField (listed_fields t) }
-    ensures short { (t : ListedTexts) → AreListedTexts t → 7 * t.states + 1 + length (spaced (listed_fields t)) ≤ 65000 }
+/// Automata with listed edges are a kind: their fields read back, a record has room for them, and where they stand the
+/// table never halts.
+pub fn listed_automata_are_a_kind()
+    ensures { IsKind listed_kind }
 {}

@@ -20,7 +20,7 @@ mod search;
 mod testing;
 mod unpacked;
 
-pub use laws::listed_reads_back;
+pub use laws::listed_automata_are_a_kind;
 pub use limits::MAX_SIZE;
 pub use listed::Listed;
 pub use owned_listed::OwnedListed;

@@ -10,6 +10,7 @@ use Rattle.text.proofs.Numbers.{decimal_value-decimal, length_of_number}
 use Rattle.text.proofs.Spaced.{number_is_field, and_field, no_fields, length-spaced}
 use Rattle.kind_evidence.specs.Kind.{IsKind}
 use Rattle.kind_evidence.proofs.Letters.{is_letter}
+use Rattle.kind_evidence.proofs.Room.{have_room}
 use Rattle.ngram_cps.specs.Kind.{width_in, lists_by, ngram_by, ngram_fields, ngram_kind}
 use Rattle.ngram_cps.specs.Limits.{width_limit, list_byte_limit}
 use Rattle.ngram_cps.specs.Lists.{Lists, lists, AreLists, AreWithin}
@@ -74,7 +75,8 @@ ngram_are_fields s l within =
 pub ngram_is_kind : IsKind ngram_kind
 ngram_is_kind = record {
   letter = is_letter 78 (omega arith);
-  are_fields = λ s lists. ngram_are_fields s lists.0 lists.1;
+  are_fields = λ s lists. (ngram_are_fields s lists.0 lists.1).each;
+  short = λ s n few lists made. have_room (ngram_fields s) n few (ngram_are_fields s lists.0 lists.1);
   back = λ s n lists made. subst (λ n. ngram_by n (ngram_fields s) ≡ Ok s) made (ngram_back s lists.0 lists.1);
   writable = λ s p within stands. (stands.0, within);
   made = λ s p stands. stands.1.states;

@@ -2,6 +2,7 @@
 use crate::changed::say_changed;
 use crate::finding::{Finding, say_automaton, say_scaled};
 use crate::lying::say_lied;
+use crate::named::say_repeats;
 use crate::records::{say_judged, say_of_other, say_pair, say_printed};
 use crate::runs;
 use crate::tapes::Tapes;
@@ -86,6 +87,7 @@ impl Caller for Desk {
             "automaton" => say_automaton(self.alloc, rest, false, said),
             "stage" => say_automaton(self.alloc, rest, true, said),
             "scaled" => say_scaled(rest, said),
+            "repeats" => say_repeats(self.alloc, rest, said),
             _ => self.tape_call(name, rest, said),
         }
     }

@@ -4,6 +4,7 @@ use backward::BackwardFinder;
 use cert::{Certificate, Finder, OwnedCertificate, OwnedRecord, Record, decide};
 use far::FarFinder;
 use find_automata::{AutomataSearch, STAGES, Stage};
+use find_words::WordFinder;
 use kind_evidence::{NoMemory, side_text};
 use loops::{CycleFinder, TranslatedFinder};
 use machine_text::Table;
@@ -21,6 +22,7 @@ pub enum Seeker {
     Backward(BackwardFinder),
     Ngram(NgramFinder),
     Far(FarFinder),
+    Listed(WordFinder),
 }
 
 impl Seeker {
@@ -33,16 +35,13 @@ impl Seeker {
             b'B' => Some(Seeker::Backward(BackwardFinder::new(alloc, limit))),
             b'N' => Some(Seeker::Ngram(NgramFinder::new(alloc, limit))),
             b'F' => Some(Seeker::Far(FarFinder::new(alloc, limit))),
+            b'A' => Some(Seeker::Listed(WordFinder::new(alloc, limit))),
             _ => None,
         }
     }
 }
 
 impl Finder for Seeker {
-    ghost use Rattle.std.specs.Prelude.{⊤};
-
-    ghost gives = { λ finder p budget claim. ⊤ };
-
     fn find(&mut self, t: &Table, budget: u64) -> Result<Option<OwnedCertificate>, NoMemory> {
         match self {
             Seeker::Halts(finder) => finder.find(t, budget),
@@ -51,6 +50,7 @@ impl Finder for Seeker {
             Seeker::Backward(finder) => finder.find(t, budget),
             Seeker::Ngram(finder) => finder.find(t, budget),
             Seeker::Far(finder) => finder.find(t, budget),
+            Seeker::Listed(finder) => finder.find(t, budget),
         }
     }
 }
@@ -162,6 +162,11 @@ fn say_short(record: &OwnedRecord, said: &mut Said) -> Result<(), NoMemory> {
             said.text("F")?;
             said.number(u64::from(automata.size()))
         }
+        Certificate::Listed(automata) => {
+            said.text("A")?;
+            said.number(u64::from(automata.size()))
+        }
+        Certificate::Named(_) => said.text("P"),
         Certificate::Undecided => said.text("U"),
     }
 }

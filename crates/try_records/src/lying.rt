@@ -22,10 +22,6 @@ enum Asked {
 }
 
 impl Finder for Asked {
-    ghost use Rattle.std.specs.Prelude.{⊤};
-
-    ghost gives = { λ finder p budget claim. ⊤ };
-
     fn find(&mut self, t: &Table, budget: u64) -> Result<Option<OwnedCertificate>, NoMemory> {
         match self {
             Asked::Lies => Ok(Some(OwnedCertificate::Halts(FIVE))),

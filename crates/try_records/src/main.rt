@@ -7,6 +7,7 @@ mod changed;
 mod desk;
 mod finding;
 mod lying;
+mod named;
 mod plain;
 mod records;
 mod runs;

@@ -60,6 +60,7 @@ fn ran(alloc: Global, row: &Row, workers: Vec<Probe<'_>>) -> Outcome {
             depth: 20,
             gram: 3,
             far: 2,
+            words: 0,
             hard: false,
         },
         json: false,

@@ -1,5 +1,11 @@
-use Rattle.cmd_draw.proofs.Alone.{stream_alone}
+use Rattle.cmd_draw.specs.declared.drawn.Pictures.{Pictures}
+use Rattle.cmd_draw.specs.Files.{DrawsLine}
+use Rattle.cmd_draw.proofs.Turns.{stream_taken}
 use Rattle.cmd_draw.proofs.drawn.draw_within.Goals as goal
 
 pub returns-clause-ok : goal.returns-clause-ok
-returns-clause-ok g c = stream_alone _ _ _ _ _ _ _ _ c.in_ok-outcome.ensures.ok
+returns-clause-ok g c = (
+  _,
+  stream_taken {D = Pictures _} (λ p. (p.folder.now, p.drawing.now)) (λ p. p.host.now) (λ kept. DrawsLine g.H.Files.tells_same g.H.Files.holds kept.0 kept.1)
+      _ _ _ _ _ _ _ c.in_ok-outcome.ensures.ok,
+)

@@ -1,0 +1,16 @@
+pub mod Cells
+pub mod Digits
+pub mod ShiftLists
+pub mod ShiftCounters
+pub mod ShiftTapes
+pub mod Skelet33To35
+pub mod Skelet34And35
+pub mod Skelet15And26
+pub mod Skelet10
+pub mod Skelet15
+pub mod Skelet17
+pub mod Skelet26
+pub mod Skelet33
+pub mod Skelet34
+pub mod Skelet35
+pub mod Proved

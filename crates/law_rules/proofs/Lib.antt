@@ -1,0 +1,5 @@
+pub mod Zippers
+pub mod RuleLaws
+pub mod Words
+pub mod Blanks
+pub mod ByText

@@ -1,0 +1,3 @@
+pub mod Zipper
+pub mod Rules
+pub mod Words

@@ -1,0 +1,14 @@
+use Rattle.skelet1.proofs.SectionLaws.{withinS_none}
+use Rattle.skelet1.proofs.Jumping.{jumps_plain, jumps_glide}
+use Rattle.skelet1.proofs.jump.jump.Goals as goal
+
+pub gather-requires-clause-taken : goal.gather-requires-clause-taken
+gather-requires-clause-taken c = withinS_none _ _ c.clear.ensures.items
+
+pub returns-then-periods-eq0 : goal.returns-then-periods-eq0
+returns-then-periods-eq0 c =
+    jumps_plain _ _ _ _ c.rebuild.new.ropes c.rebuild.new.ropes _ _ c.rebuild.new.left.items c.rebuild.new.left.items _ c.gather.new.taken.items c.gather.new.taken.items c.clear.ensures.items c.in_ok-periods.ensures.gathers c.in_ok-count.ensures.within c.in_ok-count.ensures.visits
+
+pub returns : goal.returns
+returns c =
+    jumps_glide _ _ _ _ _ _ _ _ _ _ _ _ _ c.clear.ensures.items c.in_ok-periods.ensures.gathers _ c.in_ok-visits.ensures.glided c.in_ok-count-2.ensures.within c.in_ok-count-2.ensures.visits

@@ -1,0 +1,54 @@
+//! Skelet 1, the five-state machine `1RB1RD_1LC0RC_1RA1LD_0RE0LB_---1RC`, never halts (Georgiev 2003; Ligocki and
+//! Kropitz 2023 found that it repeats): a check that follows its run from the blank tape until it repeats.
+//! `specs/Table` says which machine that is.
+//!
+//! The run is followed in words, not in cells. The half tape left of the head is a row of tokens: groups of the word x
+//! (101), the word c (10), separators, which count visits from the right like the digits of a number, and ropes, rows
+//! of groups that are handled as one. A rule says what a few steps of the machine make of the tokens at the head; a
+//! visit goes from the right end into the tokens and back. A jump makes all visits at once that the separators bear,
+//! and pays for them with words x; the glider, a row of tokens that moves on by itself, goes over any number of its
+//! periods at once.
+//!
+//! Each rule is proved, and each test on which a jump rests is made when it is made: where one fails, nothing is seen
+//! of the machine. `specs/inside` is for the crate's own code: `Words` and `Tokens` say what tokens mean, `Visits` and
+//! `Jumps` what visits do, `Arena` what ropes are, `Sections`, `Glider` and `Loop` what a jump, a period of the glider
+//! and a round do.
+#![tactic(auto)]
+
+// What half tapes are made of.
+mod answer;
+mod beyond;
+mod heading;
+mod node;
+mod ropes;
+mod section;
+mod token;
+
+// Rules and visits.
+mod cuts;
+mod separator_visit;
+mod stacks;
+mod steps;
+mod tails;
+mod visit;
+
+// Jumps.
+mod gather;
+mod glide;
+mod glider;
+mod jump;
+mod plan;
+mod rebuild;
+
+// The whole check.
+mod check;
+mod fault;
+mod main_run;
+mod numbers;
+mod period;
+mod repeating;
+mod rounds;
+
+pub use check::{is_skelet1, never_halts};
+pub use fault::Fault;
+pub use main_run::{MainRun, TURNS};

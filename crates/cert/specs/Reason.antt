@@ -17,6 +17,8 @@ use Rattle.far.specs.Automata.{Automata}
 use Rattle.far.specs.Kind.{far_kind}
 use Rattle.kind_listed.specs.Texts.{ListedTexts}
 use Rattle.kind_listed.specs.Kind.{listed_kind}
+use Rattle.kind_counted.specs.CosetTexts.{CosetTexts}
+use Rattle.kind_counted.specs.Kind.{counted_kind}
 use Rattle.kind_named.specs.declared.named.Named.{Named}
 use Rattle.kind_named.specs.Kind.{named_kind}
 
@@ -28,6 +30,7 @@ pub data Reason : Type 0 where
   NgramReason : Lists → Reason
   FarReason : Automata → Reason
   ListedReason : ListedTexts → Reason
+  CountedReason : CosetTexts → Reason
   NamedReason : Named → Reason
 
 -- what is claimed, with its kind
@@ -43,6 +46,7 @@ with_kind (BackwardReason e) = record { Claimed = Backward; kind = backward_kind
 with_kind (NgramReason s) = record { Claimed = Lists; kind = ngram_kind; claimed = s }
 with_kind (FarReason a) = record { Claimed = Automata; kind = far_kind; claimed = a }
 with_kind (ListedReason t) = record { Claimed = ListedTexts; kind = listed_kind; claimed = t }
+with_kind (CountedReason t) = record { Claimed = CosetTexts; kind = counted_kind; claimed = t }
 with_kind (NamedReason e) = record { Claimed = Named; kind = named_kind; claimed = e }
 
 -- the reason that a letter with fields makes, for a table of n states
@@ -54,6 +58,7 @@ reason_by n letter fields =
     else if bytes_eq letter ngram_kind.letter then made_of NgramReason (ngram_kind.by n fields)
     else if bytes_eq letter far_kind.letter then made_of FarReason (far_kind.by n fields)
     else if bytes_eq letter listed_kind.letter then made_of ListedReason (listed_kind.by n fields)
+    else if bytes_eq letter counted_kind.letter then made_of CountedReason (counted_kind.by n fields)
     else if bytes_eq letter named_kind.letter then made_of NamedReason (named_kind.by n fields)
     else Err BadKind
 

@@ -7,6 +7,7 @@ ghost use Rattle.cert.specs.Kinds.{claim_of};
 
 use backward::Backward;
 use far::{Far, OwnedFar};
+use kind_counted::{CountedCosets, OwnedCosets};
 use kind_evidence::{Ending, NoMemory, Verdict};
 use kind_listed::{Listed, OwnedListed};
 use kind_named::Named;
@@ -35,6 +36,9 @@ pub enum Certificate<'a> {
     /// `A side m delta rows keep`: the same, where the first one may be large and the edges of the second are listed; three
     /// texts, borrowed from the record's.
     Listed(Listed<'a>),
+    /// `W i j left right cosets`: two automata of i and j counts, and the cosets in which the counts lie, by which it never
+    /// halts; three texts, borrowed from the record's.
+    Counted(CountedCosets<'a>),
     /// `P`: the table is one of those that have a proof of their own that they never halt.
     Named(Named),
     /// `U`: nothing is claimed.
@@ -52,6 +56,7 @@ pub enum OwnedCertificate {
     Ngram(Box<OwnedNgram>),
     Far(Box<OwnedFar>),
     Listed(Box<OwnedListed>),
+    Counted(Box<OwnedCosets>),
     Named(Named),
     Undecided,
 }
@@ -94,6 +99,8 @@ impl<'a> Certificate<'a> {
             Ok(Certificate::Far(Far::read(states, fields)?))
         } else if letter == b"A".as_slice() {
             Ok(Certificate::Listed(Listed::read(states, fields)?))
+        } else if letter == b"W".as_slice() {
+            Ok(Certificate::Counted(CountedCosets::read(states, fields)?))
         } else if letter == b"P".as_slice() {
             Ok(Certificate::Named(Named::read(fields)?))
         } else {
@@ -143,6 +150,7 @@ impl Certificate<'_> {
             Certificate::Ngram(evidence) => evidence.append_fields(out),
             Certificate::Far(evidence) => evidence.append_fields(out),
             Certificate::Listed(evidence) => evidence.append_fields(out),
+            Certificate::Counted(evidence) => evidence.append_fields(out),
             Certificate::Named(evidence) => evidence.append_fields(out),
             Certificate::Undecided => Ok(()),
         }
@@ -161,6 +169,7 @@ impl Certificate<'_> {
             Certificate::Ngram(_) => b"N",
             Certificate::Far(_) => b"F",
             Certificate::Listed(_) => b"A",
+            Certificate::Counted(_) => b"W",
             Certificate::Named(_) => b"P",
             Certificate::Undecided => b"U",
         }
@@ -190,6 +199,9 @@ impl OwnedCertificate {
             }
             Certificate::Listed(evidence) => {
                 OwnedCertificate::Listed(Box::new(alloc, OwnedListed::of(alloc, &evidence)?)?)
+            }
+            Certificate::Counted(evidence) => {
+                OwnedCertificate::Counted(Box::new(alloc, OwnedCosets::of(alloc, &evidence)?)?)
             }
             Certificate::Named(evidence) => OwnedCertificate::Named(evidence),
             Certificate::Undecided => OwnedCertificate::Undecided,
@@ -235,6 +247,7 @@ impl OwnedCertificate {
             OwnedCertificate::Ngram(evidence) => Certificate::Ngram(evidence.lent()),
             OwnedCertificate::Far(evidence) => Certificate::Far(evidence.lent()),
             OwnedCertificate::Listed(evidence) => Certificate::Listed(evidence.lent()),
+            OwnedCertificate::Counted(evidence) => Certificate::Counted(evidence.lent()),
             OwnedCertificate::Named(evidence) => Certificate::Named(*evidence),
             OwnedCertificate::Undecided => Certificate::Undecided,
         }

@@ -4,6 +4,7 @@ use backward::BackwardFinder;
 use cert::{Finder, Finders, OwnedCertificate};
 use cmd_options::{Ended, LETTERS, Search};
 use far::FarFinder;
+use find_counted::CountedFinder;
 use find_words::WordFinder;
 use kind_evidence::NoMemory;
 use loops::{CycleFinder, TranslatedFinder};
@@ -22,6 +23,7 @@ pub(crate) enum AnyFinder {
     Ngram(NgramFinder),
     Far(FarFinder),
     Listed(WordFinder),
+    Counted(CountedFinder),
     Hard(HardFinder),
 }
 
@@ -35,6 +37,7 @@ impl Finder for AnyFinder {
             AnyFinder::Ngram(finder) => finder.find(t, budget),
             AnyFinder::Far(finder) => finder.find(t, budget),
             AnyFinder::Listed(finder) => finder.find(t, budget),
+            AnyFinder::Counted(finder) => finder.find(t, budget),
             AnyFinder::Hard(finder) => finder.find(t, budget),
         }
     }
@@ -66,6 +69,7 @@ fn finder_of(alloc: Global, letter: u8, search: &Search) -> Option<AnyFinder> {
         b'N' => Some(AnyFinder::Ngram(NgramFinder::new(alloc, search.gram))),
         b'F' => Some(AnyFinder::Far(FarFinder::new(alloc, search.far))),
         b'A' => Some(AnyFinder::Listed(WordFinder::new(alloc, search.words))),
+        b'W' => Some(AnyFinder::Counted(CountedFinder::new(alloc, search.count))),
         // A hard search alone looks tables up: of one of them the check takes half a minute.
         b'P' => None,
         _ => None,

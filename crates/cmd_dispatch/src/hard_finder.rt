@@ -1,9 +1,10 @@
 // The finder that goes through the stages.
-use crate::stages::{DEPTH, HALTING_STEPS, LARGEST, STAGES, Stage};
+use crate::stages::{COUNTS, DEPTH, HALTING_STEPS, LARGEST, STAGES, Stage};
 use backward::BackwardFinder;
 use cert::{Finder, OwnedCertificate};
 use far::{FarFinder, OwnedFar};
 use find_automata::Stage as Automata;
+use find_counted::CountedFinder;
 use find_loops::{Found, LoopFinder};
 use find_words::{WORD_STAGES, WordFinder, WordStage};
 use kind_evidence::NoMemory;
@@ -24,6 +25,7 @@ pub(crate) struct HardFinder {
     halting: HaltFinder,
     cycle: CycleFinder,
     translated: TranslatedFinder,
+    counted: CountedFinder,
 }
 
 impl HardFinder {
@@ -38,6 +40,7 @@ impl HardFinder {
             halting: HaltFinder::new(alloc, HALTING_STEPS),
             cycle: CycleFinder::new(alloc, MAX_TIME),
             translated: TranslatedFinder::new(alloc, MAX_TIME),
+            counted: CountedFinder::new(alloc, COUNTS),
         }
     }
 
@@ -53,17 +56,25 @@ impl HardFinder {
             Stage::Loops { first, steps } => Ok(
                 self.loops.search(t, first, steps)?.map(certificate_of),
             ),
-            Stage::Backward { paths } => {
-                let found = self.backward.search_narrow(t, paths)?;
-                Ok(found.map(OwnedCertificate::Backward))
-            }
+            Stage::Backward { paths } => self.ask_backwards(t, paths),
             Stage::Words(stage) => self.ask_for_words(t, &[stage]),
             Stage::FurtherWords => self.ask_for_words(t, &WORD_STAGES[2..]),
             Stage::Automata(stage) => self.ask_for_automata(t, stage, budget),
             Stage::Halting => self.halting.find(t, HALTING_STEPS),
             Stage::Cycles => self.cycle.find(t, MAX_TIME),
             Stage::TranslatedCycles => self.translated.find(t, MAX_TIME),
+            Stage::Counted => self.counted.find(t, budget),
         }
+    }
+
+    // What backward reasoning shows.
+    fn ask_backwards(
+        &mut self,
+        t: &Table,
+        paths: u64,
+    ) -> Result<Option<OwnedCertificate>, NoMemory> {
+        let found = self.backward.search_narrow(t, paths)?;
+        Ok(found.map(OwnedCertificate::Backward))
     }
 
     // What automata from words show.

@@ -23,6 +23,8 @@ pub(crate) enum Stage {
     // A cycle, and a translated cycle, as late as a claim may say.
     Cycles,
     TranslatedCycles,
+    // Counted automata of at most so many counts.
+    Counted,
 }
 
 // Backward reasoning goes so far.
@@ -30,6 +32,9 @@ pub(crate) const DEPTH: u64 = 20;
 
 // Automata of few states have as many at most.
 pub(crate) const LARGEST: u64 = 16;
+
+// Counted automata have so many counts together at most.
+pub(crate) const COUNTS: u64 = 12;
 
 // A run that may halt goes so far: the longest of five states that is known takes 47,176,870 steps.
 pub(crate) const HALTING_STEPS: u64 = 50_000_000;
@@ -59,7 +64,7 @@ macro_rules! automata {
 }
 
 // The stages, in their order.
-pub(crate) const STAGES: [Stage; 17] = [
+pub(crate) const STAGES: [Stage; 18] = [
     Stage::Names,
     Stage::Loops {
         first: 50,
@@ -86,4 +91,5 @@ pub(crate) const STAGES: [Stage; 17] = [
     Stage::Halting,
     Stage::Cycles,
     Stage::TranslatedCycles,
+    Stage::Counted,
 ];

@@ -5,7 +5,7 @@ ghost use Rattle.cmd_options.specs.Kinds.{kind_label};
 use crate::number::Number;
 
 /// The letters of the kinds, in the order in which a page has them (`kind_letters`).
-pub const LETTERS: &[u8] = b"HCTBNFAPU";
+pub const LETTERS: &[u8] = b"HCTBNFAWPU";
 
 /// What a page calls the kind of a letter, as HTML: the letter and a name. Nothing for another letter.
 pub fn kind_label(letter: u8) -> &'static [u8]
@@ -19,6 +19,7 @@ pub fn kind_label(letter: u8) -> &'static [u8]
         b'N' => b"<code>N</code> n-gram CPS",
         b'F' => b"<code>F</code> finite automata reduction (FAR)",
         b'A' => b"<code>A</code> finite automata reduction, edges listed",
+        b'W' => b"<code>W</code> counted automata",
         b'P' => b"<code>P</code> proof of its own",
         b'U' => b"<code>U</code> holdout",
         _ => b"",
@@ -45,8 +46,13 @@ pub const FAR: Number = Number { name: "far", value: Some("M"), least: 0, most: 
 pub const WORDS: Number = Number { name: "words", value: Some("W"), least: 0, most: 11, default: Some("0"),
     help: "Stages of automata that are made from words, in finite automata reduction; 0 for none" };
 
+/// How many counts automata that count have.
+#[rattlefmt::skip]
+pub const COUNT: Number = Number { name: "count", value: Some("C"), least: 0, most: 12, default: Some("0"),
+    help: "Most counts of counted automata; 0 for none" };
+
 /// The options that say how far the certificates of a kind are searched for, in the order in which help has them.
-pub const REACHES: [Number; 4] = [DEPTH, GRAM, FAR, WORDS];
+pub const REACHES: [Number; 5] = [DEPTH, GRAM, FAR, WORDS, COUNT];
 
 /// Their names.
-pub const REACH_NAMES: &[&str] = &["depth", "gram", "far", "words"];
+pub const REACH_NAMES: &[&str] = &["depth", "gram", "far", "words", "count"];

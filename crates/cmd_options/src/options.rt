@@ -7,7 +7,7 @@ use crate::ledger_file::LedgerFile;
 pub enum Options<'a> {
     /// `bb check`
     Check,
-    /// `bb decide [--steps K] [--depth D] [--gram G] [--far M] [--words W] [--hard]`
+    /// `bb decide [--steps K] [--depth D] [--gram G] [--far M] [--words W] [--count C] [--hard]`
     Decide(Search),
     /// `bb coord N [--ledger FILE] [--sync] [--era E]`
     Coord {
@@ -145,6 +145,8 @@ pub struct Search {
     pub far: u64,
     /// How many stages of first automata that are made from words are tried: 0 to 11, where 0 asks for none.
     pub words: u64,
+    /// The most counts of counted automata: 0 to 12, where 0 asks for none.
+    pub count: u64,
     /// Whether it goes by stages of its own, from cheap searches to dear ones, which `steps` scales; the other numbers
     /// aren't used then.
     pub hard: bool,

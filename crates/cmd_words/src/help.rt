@@ -177,8 +177,9 @@ pub(crate) const DECIDE: &str = "  $ echo 1RB1LB_1LA--- | bb decide
 
 A line is a table in the bbchallenge standard format. Its record has the first certificate that is
 found and stands, looked for in this order: that it halts, a cycle, a translated cycle, backward
-reasoning, a closed position set, finite automata, automata from words; or `U`, undecided. A text that is no table is answered
-`refused 301` with its fault, as by `bb check`, and a line over 65,536 bytes `refused 305`.
+reasoning, a closed position set, finite automata, automata from words, counted automata; or `U`, undecided.
+A text that is no table is answered `refused 301` with its fault, as by `bb check`, and a line over 65,536 bytes
+`refused 305`.
 
 Exit status: 0 each line was a table; 1 some wasn't; 2 a wrong command line; 3 out of memory
 (`refused memory` on standard error); 4 a stream failed (`refused 603`).";
@@ -203,6 +204,9 @@ A record is a table in the bbchallenge standard format, a space and a certificat
   A side m delta rows keep
               the same with m from 1 to 4,096 and numbers in decimal, joined by commas: where the first goes; of each
               state of the second and symbol `-` for edges to all, `.` for none, or a list joined by dots; and what is kept
+  W i j left right cosets
+              two automata, one for each half tape, that count some of their transitions, i and j counts, together up
+              to 52; and for each local configuration the coset in which the counts lie
   P           the table is one of eight of five states that have a proof of their own; of one of them, Skelet 1, the
               run is followed until it repeats, which takes half a minute and 80 megabytes
   U           nothing is claimed
@@ -216,11 +220,11 @@ An answer is one of
   TABLE undecided    nothing was claimed
   refused 201        the certificate doesn't stand
   refused 202        it asks for more than its limit
-  refused 203        more than 65,536 paths lead to a halting pair in as many steps
+  refused 203        its check gets too large: more than 65,536 paths to a halting pair, or a number over 2^31
   refused 301 F P    no table: its fault is F (101 length, 102 bar, 103 symbol, 104 direction,
                      105 state), at place P
   refused 302        no such kind, or another number of fields
-  refused 303        no number, no side, or a g or an m that isn't in its range
+  refused 303        no number, no side, or a g, an m or a number of counts that isn't in its range
   refused 304        no list
   refused 305        the line is too long, or the lists are
 

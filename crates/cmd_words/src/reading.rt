@@ -12,7 +12,7 @@ use crate::line_fault::LineFault;
 use clap::error::ErrorKind;
 use clap::{ArgMatches, Error};
 use cmd_options::{
-    Beginning, Carrying, DEPTH, Drawing, Durability, FAR, GRAM, Joining, LedgerFile,
+    Beginning, COUNT, Carrying, DEPTH, Drawing, Durability, FAR, GRAM, Joining, LedgerFile,
     LedgerSettling, Mending, Merging, NoMemory, Number, Options, Search, Settling, Splitting,
     WORDS,
 };
@@ -97,6 +97,7 @@ fn search_of(matches: &ArgMatches<'_>) -> Result<Search, LineFault>
         gram: number_of(matches, GRAM)?,
         far: number_of(matches, FAR)?,
         words: number_of(matches, WORDS)?,
+        count: number_of(matches, COUNT)?,
         hard: matches.get_flag(HARD.name),
     })
 }

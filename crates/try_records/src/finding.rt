@@ -4,6 +4,7 @@ use backward::BackwardFinder;
 use cert::{Certificate, Finder, OwnedCertificate, OwnedRecord, Record, decide};
 use far::FarFinder;
 use find_automata::{AutomataSearch, STAGES, Stage};
+use find_counted::CountedFinder;
 use find_words::WordFinder;
 use kind_evidence::{NoMemory, side_text};
 use loops::{CycleFinder, TranslatedFinder};
@@ -23,6 +24,7 @@ pub enum Seeker {
     Ngram(NgramFinder),
     Far(FarFinder),
     Listed(WordFinder),
+    Counted(CountedFinder),
 }
 
 impl Seeker {
@@ -36,6 +38,7 @@ impl Seeker {
             b'N' => Some(Seeker::Ngram(NgramFinder::new(alloc, limit))),
             b'F' => Some(Seeker::Far(FarFinder::new(alloc, limit))),
             b'A' => Some(Seeker::Listed(WordFinder::new(alloc, limit))),
+            b'W' => Some(Seeker::Counted(CountedFinder::new(alloc, limit))),
             _ => None,
         }
     }
@@ -51,6 +54,7 @@ impl Finder for Seeker {
             Seeker::Ngram(finder) => finder.find(t, budget),
             Seeker::Far(finder) => finder.find(t, budget),
             Seeker::Listed(finder) => finder.find(t, budget),
+            Seeker::Counted(finder) => finder.find(t, budget),
         }
     }
 }
@@ -166,6 +170,7 @@ fn say_short(record: &OwnedRecord, said: &mut Said) -> Result<(), NoMemory> {
             said.text("A")?;
             said.number(u64::from(automata.size()))
         }
+        Certificate::Counted(_) => said.text("W"),
         Certificate::Named(_) => said.text("P"),
         Certificate::Undecided => said.text("U"),
     }

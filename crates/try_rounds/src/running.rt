@@ -61,6 +61,7 @@ fn ran(alloc: Global, row: &Row, workers: Vec<Probe<'_>>) -> Outcome {
             gram: 3,
             far: 2,
             words: 0,
+            count: 0,
             hard: false,
         },
         json: false,

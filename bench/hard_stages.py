@@ -39,6 +39,7 @@ def said(match):
         "Halting": lambda: "halting within 50,000,000 steps",
         "Cycles": lambda: "cycles by time 10,000,000",
         "TranslatedCycles": lambda: "translated cycles by time 10,000,000",
+        "Counted": lambda: "counted automata of up to 12 counts, learned from 2,000 steps",
     }[name]()
 
 

@@ -9,14 +9,9 @@ stress/listed.py compare RECORDS [PROGRAM ..]
 
 The judgement is oracle.py's, which is slow: it builds both automata as sets of edges and looks at every edge.
 """
-import os
-import random
-import subprocess
 import sys
 
-from oracle import answer
-
-CHANGES = 2_000
+from changed import ended
 
 
 # Changes, each of which gives another record or none.
@@ -77,48 +72,5 @@ def change(rng, line):
     return b" ".join([table, kind, to, count, delta, rows, keep])
 
 
-def changes(lines, count):
-    rng = random.Random(61)
-    short = [line for line in lines if len(line) < 4_000] or lines
-    return [change(rng, rng.choice(short)) for _ in range(count)]
-
-
-def compare(path, command):
-    with open(path, "rb") as file:
-        lines = file.read().splitlines()
-    lines += changes(lines, CHANGES)
-    given = subprocess.run(command, input=b"\n".join(lines) + b"\n", capture_output=True).stdout.decode().splitlines()
-    if len(given) != len(lines):
-        print(f"listed: {len(given)} answers to {len(lines)} records")
-        return 1
-    told, wrong = {}, 0
-    for line, got in zip(lines, given):
-        expected = answer(line)
-        kind = expected if expected.startswith("refused") else "never"
-        told[kind] = told.get(kind, 0) + 1
-        if got != expected:
-            wrong += 1
-            print(f"listed: {got}, and not {expected}: {line.decode()}")
-    shown = ", ".join(f"{count} {kind}" for kind, count in sorted(told.items()))
-    print(f"listed: {len(lines)} records: {shown}; {wrong} answers differ")
-    return 1 if wrong else 0
-
-
-def main():
-    words = sys.argv[1:]
-    if words[:1] == ["judge"]:
-        for line in sys.stdin.buffer.read().splitlines():
-            print(answer(line))
-        return 0
-    if words[:1] == ["change"] and len(words) == 2:
-        for line in changes(sys.stdin.buffer.read().splitlines(), int(words[1])):
-            sys.stdout.buffer.write(line + b"\n")
-        return 0
-    if words[:1] == ["compare"] and len(words) > 1:
-        top = os.path.dirname(os.path.dirname(os.path.abspath(__file__)))
-        return compare(words[1], words[2:] or [os.path.join(top, "bb"), "check"])
-    sys.exit(__doc__)
-
-
 if __name__ == "__main__":
-    sys.exit(main())
+    sys.exit(ended(__doc__, "listed", change, 61))

@@ -12,7 +12,8 @@ import subprocess
 import sys
 import tempfile
 
-from oracle import Refused, number, printed, read_table
+from faults import Refused
+from oracle import number, printed, read_table
 from records import PROGRAM, damaged, none_differs
 from tree import Board, HEADER, in_version
 

@@ -1,8 +1,10 @@
 """What `bb check` has to answer, written anew from docs/FORMATS.md: no code of the program's is used or looked at.
 
 Slow and plain on purpose: tapes are dictionaries, sets of paths are listed. `answer` gives None for a claim that would
-take too long to judge here.
+take too long to judge here. Counted automata stand in counts.py.
 """
+from counts import counted, counts_of
+from faults import Refused
 
 STEPS = 2_000
 PATHS = 65_536
@@ -12,10 +14,6 @@ STATES = b"ABCDEFG"
 
 # The digits of delta, which are those of hexadecimal numbers.
 DIGITS = b"0123456789abcdef"
-
-
-class Refused(Exception):
-    """Ends the reading or the judgement of a line: what follows `refused`."""
 
 
 # Tables: a list of rows, each of two entries; an entry is (write, move, next) or None.
@@ -419,7 +417,7 @@ def read_claim(rows, parts):
     if not parts:
         raise Refused("302")
     kind, fields = parts[0], parts[1:]
-    counts = {b"H": (1, 2), b"C": (2,), b"T": (3,), b"B": (1,), b"N": (4,), b"F": (5,), b"A": (5,), b"P": (0,), b"U": (0,)}
+    counts = {b"H": (1, 2), b"C": (2,), b"T": (3,), b"B": (1,), b"N": (4,), b"F": (5,), b"A": (5,), b"W": (5,), b"P": (0,), b"U": (0,)}
     if len(fields) not in counts.get(kind, ()):
         raise Refused("302")
     if kind == b"H":
@@ -444,6 +442,9 @@ def read_claim(rows, parts):
     if kind == b"A":
         to, count = side(fields[0]), size(fields[1], 4_096)
         return lambda: listed(rows, to, count, *fields[2:])
+    if kind == b"W":
+        numbers = counts_of(*fields[:2])
+        return lambda: counted(rows, numbers, *fields[2:])
     if kind == b"P":
         return lambda: named(rows)
     return lambda: "undecided"

@@ -13,7 +13,8 @@ import subprocess
 import sys
 
 from nodes import Coordinator, frame, records_of
-from oracle import Refused, number, printed, read_table
+from faults import Refused
+from oracle import number, printed, read_table
 from records import damaged, none_differs
 from tree import Board, HEADER, is_in_order
 

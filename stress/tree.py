@@ -1,5 +1,6 @@
 """The tree of machines and the board of a ledger, written anew from docs/FORMATS.md and the field's definitions."""
-from oracle import Refused, answer, printed, read_table, run, score, step
+from faults import Refused
+from oracle import answer, printed, read_table, run, score, step
 
 # What a header begins with in each version; a ledger is written anew in the second.
 HEADERS = {1: b"bb-ledger 1 ", 2: b"bb-ledger 2 "}

@@ -9,9 +9,9 @@ use Rattle.kind_counted.specs.Limits.{half_state_limit}
 use Rattle.machine_text.specs.declared.transition.Sym.{Sym}
 use Rattle.machine_text.specs.declared.transition.Sym.TheVariants.{Zero, One}
 use Rattle.text.specs.Decimal.{decimal_value}
-use Rattle.kind_counted.specs.declared.count.Count.{Count}
+use Rattle.law_counted.specs.declared.count.Count.{Count}
 use Rattle.kind_counted.specs.declared.automaton.Exits.{Exits}
-use Rattle.kind_counted.specs.declared.automaton.Transition.{Transition}
+use Rattle.law_counted.specs.declared.transition.Transition.{Transition}
 use Rattle.kind_counted.specs.Limits.{count_limit}
 use Rattle.kind_counted.specs.Automata.{exit_by, no_exits, transitions_of}
 use Rattle.kind_counted.specs.States.{IsCount, LeadsBelow, AreStates}

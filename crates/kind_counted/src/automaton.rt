@@ -1,15 +1,8 @@
 // Automata that read half tapes and count some of their transitions.
 ghost use Rattle.kind_counted.specs.States.{AreStates};
 
-use crate::count::Count;
+use law_counted::Transition;
 use machine_text::Sym;
-
-/// The state that a transition leads to, and its count, if it has one.
-#[derive(Clone, Copy)]
-pub struct Transition {
-    pub to: usize,
-    pub count: Option<Count>,
-}
 
 /// The transitions of a state. Some may be missing.
 #[derive(Clone, Copy)]

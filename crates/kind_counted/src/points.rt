@@ -1,7 +1,7 @@
 // A base, and all points that are further by multiples of some rows.
 ghost use Rattle.std.specs.Prelude.{◌≡◌, ◌↔◌, ◌+◌, ◌<◌, ◌≤◌, ℕ, ℤ, pos, List, IsTrue, IfSome, IfOk, slice_index};
 ghost use Rattle.std.specs.Int.RustNames.{unsigned_abs};
-ghost use Rattle.kind_counted.specs.Cosets.{Point, IsMember};
+ghost use Rattle.law_counted.specs.Cosets.{Point, IsMember};
 ghost use Rattle.kind_counted.specs.Items.{coset_of};
 ghost use Rattle.kind_counted.specs.States.{IsCount};
 ghost use Rattle.kind_counted.specs.Limits.{count_limit};
@@ -11,7 +11,6 @@ ghost use Rattle.kind_counted.specs.inside.Spans.{listed, IsSplit};
 ghost use Rattle.kind_counted.specs.inside.Points.{coset_by, AreMoved, AreZeroMembers, AreKeptIn, IsZeroIn, AreZeroAt, IsNegativeAt, IsNegative, AreSumsOf, LiesWithin};
 ghost use Rattle.kind_counted.specs.declared.numbers.Counts.{Counts};
 
-use crate::count::Count;
 use crate::item::Coset;
 use crate::limits::MAX_COUNTS;
 use crate::numbers::Counts;
@@ -19,6 +18,7 @@ use crate::refused::Refused;
 use crate::rows::Row;
 use crate::splitting::{Split, split_at};
 use crate::used::Used;
+use law_counted::Count;
 use std::alloc::Global;
 
 /// The points that are left after a step.

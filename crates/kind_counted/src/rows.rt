@@ -21,7 +21,7 @@ impl Row {
     ghost use Rattle.std.specs.Prelude.{IfOk, IfSome, IfNone, IsTrue, false};
     ghost use Rattle.kind_counted.specs.Texts.{pivot_of, leads};
     ghost use Rattle.kind_counted.specs.declared.rows.Row.{Row};
-    ghost use Rattle.kind_counted.specs.Cosets.{IsSum};
+    ghost use Rattle.law_counted.specs.Cosets.{IsSum};
     ghost use Rattle.kind_counted.specs.Pivots.{points, AreRising};
 
     /// A row of numbers, if the first that isn't 0 is positive.

@@ -1,5 +1,5 @@
 use Rattle.std.proofs.Common.{◌∷◌, sym, subst}
-use Rattle.kind_counted.specs.Cosets.{Point}
+use Rattle.law_counted.specs.Cosets.{Point}
 use Rattle.kind_counted.specs.Numbers.{point_of}
 use Rattle.kind_counted.specs.inside.Spans.{SameSums}
 use Rattle.kind_counted.proofs.PointLaws.{some_bits}

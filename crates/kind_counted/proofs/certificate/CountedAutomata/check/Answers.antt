@@ -2,11 +2,11 @@ use Rattle.std.proofs.Common.{length}
 use Rattle.machine_text.specs.Packed.{entry_of}
 use Rattle.law_turing.specs.Machine.{Machine}
 use Rattle.law_turing.specs.Halting.{Never}
-use Rattle.kind_counted.specs.Counted.{CountedSystem, CountedStand}
+use Rattle.law_counted.specs.Counted.{CountedSystem, CountedStand}
 use Rattle.kind_counted.specs.Certificate.{counted_of}
 use Rattle.kind_counted.specs.inside.Judging.{AllGoOn}
 use Rattle.kind_counted.proofs.LeftLaws.{ok_then}
-use Rattle.kind_counted.proofs.CountedLaws.{counted_never}
+use Rattle.law_counted.proofs.CountedLaws.{counted_never}
 use Rattle.kind_counted.proofs.StandingLaws.{stands_from, stands_items}
 use Rattle.kind_counted.proofs.certificate.CountedAutomata.check.Goals as goal
 

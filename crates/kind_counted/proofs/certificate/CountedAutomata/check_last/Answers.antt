@@ -1,7 +1,7 @@
 use Rattle.std.proofs.Common.{sym, subst}
-use Rattle.kind_counted.specs.declared.local.Local.{Local}
-use Rattle.kind_counted.specs.Cosets.{Coset, IsMember}
-use Rattle.kind_counted.specs.Counted.{CountedSystem, HasCoset, moved_to, Remains, Settled, None_remains}
+use Rattle.law_counted.specs.declared.local.Local.{Local}
+use Rattle.law_counted.specs.Cosets.{Coset, IsMember}
+use Rattle.law_counted.specs.Counted.{CountedSystem, HasCoset, moved_to, Remains, Settled, None_remains}
 use Rattle.kind_counted.specs.Items.{coset_of}
 use Rattle.kind_counted.specs.Certificate.{counted_of}
 use Rattle.kind_counted.specs.inside.Points.{coset_by}

@@ -1,6 +1,6 @@
 use Rattle.std.proofs.Common.{◌≡◌, List, true, false, sym, ◌∙◌, subst}
-use Rattle.kind_counted.specs.Cosets.{Coset, IsMember}
-use Rattle.kind_counted.specs.Counted.{HasCoset, Settled, Negative, Members}
+use Rattle.law_counted.specs.Cosets.{Coset, IsMember}
+use Rattle.law_counted.specs.Counted.{HasCoset, Settled, Negative, Members}
 use Rattle.kind_counted.specs.Items.{coset_of}
 use Rattle.kind_counted.specs.Certificate.{counted_of}
 use Rattle.kind_counted.specs.inside.Points.{coset_by, IsNegative, LiesWithin}

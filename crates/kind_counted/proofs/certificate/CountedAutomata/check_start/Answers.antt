@@ -1,6 +1,6 @@
 use Rattle.std.proofs.Common.{◌≡◌, List, sym, subst}
 use Rattle.kind_counted.specs.declared.item.Item.{Item}
-use Rattle.kind_counted.specs.Cosets.{zeros, IsMember}
+use Rattle.law_counted.specs.Cosets.{zeros, IsMember}
 use Rattle.kind_counted.specs.Items.{coset_of}
 use Rattle.kind_counted.specs.inside.Judging.{IsItemAt, start_local}
 use Rattle.kind_counted.proofs.JudgingLaws.{has_item, one_coset}

@@ -1,7 +1,7 @@
 use Rattle.std.proofs.Common.{◌-ℤ◌, List, sym, subst}
 use Rattle.std.proofs.lemmas.Result.{err_from_is_err_and}
 use Rattle.kind_counted.specs.declared.rows.Row.{Row}
-use Rattle.kind_counted.specs.Cosets.{Coset, IsSum}
+use Rattle.law_counted.specs.Cosets.{Coset, IsSum}
 use Rattle.kind_counted.specs.Items.{coset_of}
 use Rattle.kind_counted.specs.Numbers.{point_of}
 use Rattle.kind_counted.specs.Pivots.{points}

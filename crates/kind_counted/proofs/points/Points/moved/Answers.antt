@@ -1,6 +1,6 @@
 use Rattle.std.proofs.Common.{List, ◌-ℤ◌, pos, sym, ◌∙◌, ap, subst}
-use Rattle.kind_counted.specs.Cosets.{Point}
-use Rattle.kind_counted.specs.Counted.{once}
+use Rattle.law_counted.specs.Cosets.{Point}
+use Rattle.law_counted.specs.Counted.{once}
 use Rattle.kind_counted.specs.Items.{coset_of}
 use Rattle.kind_counted.specs.Numbers.{point_of}
 use Rattle.kind_counted.specs.inside.Points.{AreMoved}

@@ -1,10 +1,11 @@
 -- The pass, step by step.
 use Rattle.std.proofs.Common.{◌≡◌, ℕ, zero, suc, ◌+◌, ◌<◌, ◌≤◌, Bool, true, false, ℤ, pos, ◌+ℤ◌, ◌-ℤ◌, ◌*ℤ◌, List, [], ◌∷◌, length, set, drop, get_or, Option, Some, Result, Ok, Err, inl, inr, sym, ◌∙◌, ap, subst, refl, arith, if◌then◌else◌}
-use Rattle.std.specs.Prelude.{◌==◌, ◌&&◌, nat_le}
+use Rattle.std.specs.Prelude.{◌==◌, ◌&&◌, nat_le, IsErrAnd, IsTrue, ◌↔◌, ◌⊎◌}
 use Rattle.std.specs.Int.RustNames.{unsigned_abs, int_div, int_rem}
 use Rattle.std.proofs.lemmas.Int.{ints, quot-rem, rem_below}
 use Rattle.std.proofs.lemmas.Bool.{cases_lt, cases_eq}
 use Rattle.std.proofs.lemmas.List.{get_or-set_other}
+use Rattle.std.proofs.lemmas.Result.{err_from_is_err_and}
 use Rattle.std.proofs.lemmas.Bool.Decides.{nat_tests}
 use Rattle.kind_evidence.specs.Tests.{each_below}
 use Rattle.law_counted.specs.declared.count.Count.{Count}
@@ -13,11 +14,12 @@ use Rattle.law_counted.specs.Cosets.{Point, less}
 use Rattle.kind_counted.specs.Limits.{number_limit}
 use Rattle.kind_counted.specs.Numbers.{point_of, AreSmall}
 use Rattle.kind_counted.specs.declared.refused.Refused.{Refused}
-use Rattle.kind_counted.specs.declared.refused.Refused.TheVariants.{Fails, TooLarge}
-use Rattle.kind_counted.specs.Pass.{Answer, ◌>>=◌, walk, is_small, sized, is_zero_at, is_zero, cleared, first_place, pivot, parted}
+use Rattle.kind_counted.specs.declared.refused.Refused.TheVariants.{Fails, TooLarge, NoMemory}
+use Rattle.kind_counted.specs.inside.Answers.{Answers}
+use Rattle.kind_counted.specs.Pass.{Answer, ◌>>=◌, walk, is_small, sized, is_zero_at, is_zero, cleared, first_place, pivot, parted, taken_off, inside}
 use Rattle.kind_counted.proofs.Divisions.{divides, divides_back}
 use Rattle.kind_counted.proofs.Sums.{one-*ℤ}
-use Rattle.kind_counted.proofs.PointLaws.{changed_here, changed_small}
+use Rattle.kind_counted.proofs.PointLaws.{past_end, changed_here, changed_small}
 
 -- tests of each number below one
 pub each_true : (test : ℕ → Bool) (n : ℕ) → ((k : ℕ) → k < n → test k ≡ true) → each_below test n ≡ true
@@ -36,6 +38,24 @@ each_false test (suc n) k below not = elim (cases_eq k n) [
   | inl same ↦ let here : test n ≡ false = subst (λ k. test k ≡ false) same not in rw here refl
   | inr other ↦ let rest : each_below test n ≡ false = each_false test n k (omega arith) not in ap (λ b. test n && b) rest ∙ and_false (test n)
 ]
+
+-- what a result is said to be, where a call of it was refused: each refusal is the pass's own
+refused_on : {A B C D : Type 0} (value : A → B) (other : C → D) (said : Answer B) (whole : Answer D) (e : Refused) → ((r : Refused) → said ≡ Err r → whole ≡ Err r) →
+    Answers value said (Err e) → Answers other whole (Err e)
+refused_on value other said whole Fails on is = on Fails is
+refused_on value other said whole TooLarge on is = on TooLarge is
+refused_on value other said whole NoMemory on is = tt
+
+pub refused_as : {A B C D : Type 0} (value : A → B) (other : C → D) (said : Answer B) (whole : Answer D) (e : Refused) (result : Result C Refused) →
+    IsErrAnd result (λ r. r ≡ e) → ((r : Refused) → said ≡ Err r → whole ≡ Err r) → Answers value said (Err e) → Answers other whole result
+refused_as value other said whole e result refused on is =
+    let (r, err, same) = err_from_is_err_and result refused in
+    subst (Answers other whole) (sym err) (subst (λ r. Answers other whole (Err r)) (sym same) (refused_on value other said whole e on is))
+
+-- the value of an answer
+abbrev value_or : {A : Type 0} → A → Answer A → A
+value_or other (Ok a) = a
+value_or other (Err e) = other
 
 -- numbers that aren't too large, and one that is
 pub small_is : (xs : List ℤ) → AreSmall xs → is_small (point_of xs) ≡ true
@@ -66,6 +86,17 @@ with_ok xs i n f small below here is others = sized_ok f (set xs i n) (changed_s
 
 pub with_large : (i : ℕ) (n : ℤ) (f : Point) → i < 52 → number_limit < unsigned_abs n → f i ≡ n → sized f ≡ Err TooLarge
 with_large i n f below large is = sized_not f (large_is f i below (subst (λ n. number_limit < unsigned_abs n) (sym is) large))
+
+sized_fits : (v : Point) → is_small v ≡ true → sized v ≡ Ok v
+sized_fits v fits = rw fits refl
+
+-- a point that isn't too large is itself
+sized_is : (v r : Point) → sized v ≡ Ok r → v ≡ r
+sized_is v r is = go (is_small v) refl
+  where
+    go : (b : Bool) → is_small v ≡ b → v ≡ r
+    go true fits = ap (value_or v) (sym (sized_fits v fits) ∙ is)
+    go false not = absurd (let clash : Err TooLarge ≡ Ok r = sym (sized_not v not) ∙ is in cc)
 
 -- another point taken off once
 pub once_less : (v other : Point) → less v (pos 1) other ≡ (λ x. v x -ℤ other x)
@@ -101,6 +132,27 @@ zero_here x v none = none_left (v x) none
 pub not_zero_here : (x : ℕ) (v : Point) → 0 < unsigned_abs (v x) → is_zero_at x v ≡ false
 not_zero_here x v some = some_left (v x) (λ none. let size : unsigned_abs (v x) ≡ 0 = ap unsigned_abs none in absurd (omega arith))
 
+each_of : (test : ℕ → Bool) (n k : ℕ) → k < n → each_below test n ≡ true → test k ≡ true
+each_of test n k below all = go (test k) refl
+  where
+    go : (b : Bool) → test k ≡ b → b ≡ true
+    go true is = refl
+    go false is = absurd (let clash : false ≡ true = sym (each_false test n k below is) ∙ all in cc)
+
+pub zero_of_test : (x : ℕ) (v : Point) → is_zero_at x v ≡ true → v x ≡ pos 0
+zero_of_test x v test = go (cases_lt 0 (unsigned_abs (v x)))
+  where
+    go : (0 < unsigned_abs (v x)) ⊎ (unsigned_abs (v x) ≤ 0) → v x ≡ pos 0
+    go (inl some) = absurd (let clash : false ≡ true = sym (not_zero_here x v some) ∙ test in cc)
+    go (inr none) = omega (arith, ints)
+
+pub zero_all : (xs : List ℤ) → AreSmall xs → is_zero (point_of xs) ≡ true → (x : ℕ) → point_of xs x ≡ pos 0
+unfolding is_zero
+zero_all xs small all x = elim (cases_lt x 52) [
+  | inl below ↦ zero_of_test x (point_of xs) (each_of (λ x. is_zero_at x (point_of xs)) 52 x below all)
+  | inr past ↦ past_end xs x small past
+]
+
 pub is_zero_all : (v : Point) → ((x : ℕ) → v x ≡ pos 0) → is_zero v ≡ true
 unfolding is_zero
 is_zero_all v all = each_true (λ x. is_zero_at x v) 52 (λ x _. zero_here x v (all x))
@@ -135,14 +187,14 @@ module _ (x : ℕ) where
 
   -- one round
   pub parted_round : (carrier other : Point) → 0 < unsigned_abs (other x) → (rest : Point) → sized (less carrier (int_div (carrier x) (other x)) other) ≡ Ok rest →
-      rest ≡ less carrier (int_div (carrier x) (other x)) other → parted x (unsigned_abs (other x)) carrier other ≡ parted x (unsigned_abs (rest x)) other rest
-  parted_round carrier other some rest is same = go (unsigned_abs (other x)) refl
+      parted x (unsigned_abs (other x)) carrier other ≡ parted x (unsigned_abs (rest x)) other rest
+  parted_round carrier other some rest is = go (unsigned_abs (other x)) refl
     where
       go : (n : ℕ) → unsigned_abs (other x) ≡ n → parted x n carrier other ≡ parted x (unsigned_abs (rest x)) other rest
       go zero size = absurd (omega arith)
       go (suc n) size =
           let test : is_zero_at x other ≡ false = not_zero_here x other some in
-          let below : unsigned_abs (rest x) < unsigned_abs (other x) = subst (λ (r : Point). unsigned_abs (r x) < unsigned_abs (other x)) (sym same) (smaller carrier other some) in
+          let below : unsigned_abs (rest x) < unsigned_abs (other x) = subst (λ (r : Point). unsigned_abs (r x) < unsigned_abs (other x)) (sized_is (less carrier (int_div (carrier x) (other x)) other) rest is) (smaller carrier other some) in
           rw test (ap (λ a. a >>= parted x n other) is ∙ rounds_enough n (unsigned_abs (rest x)) other rest (omega arith) (omega arith))
 
   pub parted_large : (carrier other : Point) (e : Refused) → 0 < unsigned_abs (other x) → sized (less carrier (int_div (carrier x) (other x)) other) ≡ Err e →
@@ -180,3 +232,26 @@ once_here x = grind (arith, nat_tests)
 
 pub once_there : (x : Count) (y : ℕ) → (y ≡ x.number → ⊥) → once (Some x) y ≡ 0
 once_there x y other = grind (arith, nat_tests)
+
+-- membership, row by row
+pub inside_by : (rows : List Point) (v rest : Point) (b : Bool) → taken_off rows v ≡ Ok rest → is_zero rest ≡ b → inside rows v ≡ (if b then Ok tt else Err Fails)
+unfolding inside
+inside_by rows v rest b is test = ap (λ a. a >>= λ rest. if is_zero rest then Ok tt else Err Fails) is ∙ ap (λ b. if b then Ok tt else Err Fails) test
+
+pub inside_refused : (rows : List Point) (v : Point) (e : Refused) → taken_off rows v ≡ Err e → inside rows v ≡ Err e
+unfolding inside
+inside_refused rows v e is = ap (λ a. a >>= λ rest. if is_zero rest then Ok tt else Err Fails) is
+
+-- a number that isn't 0
+pub is_zero_not : (v : Point) (x : ℕ) → x < 52 → (v x ≡ pos 0 → ⊥) → is_zero v ≡ false
+unfolding is_zero
+is_zero_not v x below some = each_false (λ x. is_zero_at x v) 52 x below (some_left (v x) some)
+
+-- whether all are 0
+pub zero_tested : (xs : List ℤ) (b : Bool) → AreSmall xs → (IsTrue b ↔ ((x : ℕ) → point_of xs x ≡ pos 0)) → is_zero (point_of xs) ≡ b
+zero_tested xs true small test = is_zero_all (point_of xs) (test.0 refl)
+zero_tested xs false small test = go (is_zero (point_of xs)) refl
+  where
+    go : (b : Bool) → is_zero (point_of xs) ≡ b → b ≡ false
+    go true is = absurd (let clash : false ≡ true = test.1 (zero_all xs small is) in cc)
+    go false is = refl

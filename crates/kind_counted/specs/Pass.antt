@@ -68,8 +68,11 @@ unfoldable pub pivot : Point → ℕ
 pivot v = first_place v 0 count_limit
 
 -- membership: each row in its turn is taken off until its pivot's place is 0, and nothing may be left
+abbrev pub taken_off : List Point → Point → Answer Point
+taken_off rows v = walk (λ v row. cleared (pivot row) v row) v rows
+
 unfoldable pub inside : List Point → Point → Answer (Unit {0})
-inside rows v = walk (λ v row. cleared (pivot row) v row) v rows >>= λ rest. if is_zero rest then passes else Err Fails
+inside rows v = taken_off rows v >>= λ rest. if is_zero rest then passes else Err Fails
 
 unfoldable pub all_inside : Coset → Coset → Answer (Unit {0})
 all_inside k other = sized (λ x. k.base x -ℤ other.base x) >>= inside other.rows >>= λ _. each (inside other.rows) k.rows

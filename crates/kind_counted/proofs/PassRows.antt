@@ -1,13 +1,16 @@
 -- The pass, over rows.
-use Rattle.std.proofs.Common.{◌≡◌, ℕ, ◌+◌, ◌<◌, ◌≤◌, pos, ◌<ℤ◌, List, [], ◌∷◌, ◌++◌, length, map, take, drop, get_or, Ok, sym, ◌∙◌, ap, subst, refl, arith}
+use Rattle.std.proofs.Common.{◌≡◌, ℕ, suc, ◌+◌, ◌-◌, ◌<◌, ◌≤◌, pos, ◌+ℤ◌, ◌-ℤ◌, ◌<ℤ◌, Option, None, List, [], ◌∷◌, ◌++◌, length, map, take, drop, get_or, Ok, sym, ◌∙◌, ap, subst, refl, arith}
 use Rattle.std.proofs.lemmas.Int.{ints}
 use Rattle.std.proofs.lemmas.List.{get_or-map, length-map, map-append, take_more, drop_all}
 use Rattle.std.specs.Int.RustNames.{unsigned_abs}
-use Rattle.law_counted.specs.Cosets.{Point, zeros}
+use Rattle.law_counted.specs.declared.count.Count.{Count}
+use Rattle.law_counted.specs.Cosets.{Point, Coset}
+use Rattle.law_counted.specs.Counted.{once}
+use Rattle.std.specs.List.{range_with_len}
 use Rattle.kind_counted.specs.Numbers.{point_of}
 use Rattle.kind_counted.specs.Pivots.{points}
 use Rattle.kind_counted.specs.declared.rows.Row.{Row}
-use Rattle.kind_counted.specs.Pass.{Answer, ◌>>=◌, walk, cleared, pivot, taken_off}
+use Rattle.kind_counted.specs.Pass.{Answer, ◌>>=◌, walk, each, sized, cleared, pivot, taken_off, inside, all_inside, SplitRows, split_rows, add, zero_of, zero_at, moved}
 use Rattle.kind_counted.specs.declared.numbers.Counts.{Counts}
 use Rattle.kind_counted.specs.inside.Spans.{listed}
 use Rattle.kind_counted.proofs.PassLaws.{pivot_first, walk_on}
@@ -54,3 +57,26 @@ pub listed_more : (rows : List Counts) (i : ℕ) (row : Counts) → i < length r
 listed_more rows i row below is =
     sym (map-append (λ (row : Counts). point_of row.numbers) (take i rows) (row ∷ [])) ∙
     ap listed (ap (λ row. take i rows ++ row ∷ []) is ∙ sym (take_more rows i row below))
+
+-- a walk over the numbers of a range, from one on
+pub walk_range : {S : Type 0} (step : S → ℕ → Answer S) (s : S) (x to : ℕ) → x < to →
+    walk step s (range_with_len x (to - x)) ≡ (step s x >>= λ s. walk step s (range_with_len (x + 1) (to - (x + 1))))
+walk_range step s x to below = let more : to - x ≡ suc (to - (x + 1)) = omega arith in ap (λ n. walk step s (range_with_len x n)) more
+
+pub walk_range_end : {S : Type 0} (step : S → ℕ → Answer S) (s : S) (x to : ℕ) → to ≤ x → walk step s (range_with_len x (to - x)) ≡ Ok s
+walk_range_end step s x to past = let none : to - x ≡ 0 = omega arith in ap (λ n. walk step s (range_with_len x n)) none
+
+-- steps of which the first is known
+pub apart_by : (k other : Coset) (a : Answer Point) → sized (λ x. k.base x -ℤ other.base x) ≡ a →
+    all_inside k other ≡ (a >>= inside other.rows >>= λ _. each (inside other.rows) k.rows)
+unfolding all_inside
+apart_by k other a is = ap (λ a. a >>= inside other.rows >>= λ _. each (inside other.rows) k.rows) is
+
+pub moved_by : (k : Coset) (more fewer : Option Count) (a : Answer Point) → sized (λ x. k.base x +ℤ pos (once more x)) ≡ a →
+    moved k more fewer ≡ (a >>= λ base. sized (λ x. base x -ℤ pos (once fewer x)) >>= λ base. Ok (record { base = base; rows = k.rows }))
+unfolding moved
+moved_by k more fewer a is = ap (λ a. a >>= λ base. sized (λ x. base x -ℤ pos (once fewer x)) >>= λ base. Ok (record { base = base; rows = k.rows })) is
+
+pub zero_by : (x : ℕ) (k : Coset) (a : Answer SplitRows) → walk (add x) (split_rows None []) k.rows ≡ a → zero_at x k ≡ (a >>= λ s. zero_of x k.base s.rest s.carrier)
+unfolding zero_at
+zero_by x k a is = ap (λ a. a >>= λ s. zero_of x k.base s.rest s.carrier) is

@@ -12,7 +12,8 @@ use Rattle.law_counted.specs.Cosets.{Coset}
 use Rattle.law_counted.specs.Counted.{Item as ItemOf, HasCoset, LeadsOn, CountedStand}
 use Rattle.kind_counted.specs.Items.{coset_of, item_of}
 use Rattle.kind_counted.specs.Certificate.{counted_of}
-use Rattle.kind_counted.specs.inside.Judging.{HasStep, AllGoOn, IsFormed, StartsInside}
+use Rattle.kind_counted.specs.inside.Judging.{HasStep, AllGoOn, StartsInside}
+use Rattle.kind_counted.specs.Pass.{IsFormed}
 
 -- the item in a place
 item_in : (items : List Item) (i : ℕ) → i < length items → (item : Item) × (item ≡ get_or items i item)

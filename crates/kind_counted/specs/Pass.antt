@@ -171,9 +171,13 @@ unfoldable pub settled_at : CountedSystem → (ℕ → ℕ → Bool) → Local �
 settled_at w unused c k side by next q =
     settled_from w unused c k side by next q Zero (delta w side q Zero) >>= λ _. settled_from w unused c k side by next q One (delta w side q One)
 
--- from each state that an automaton may have
+-- the states that an automaton may have, from one on
+unfoldable pub states_from : ℕ → List ℕ
+states_from q = range_with_len q (half_state_limit - q)
+
+-- from each state
 abbrev pub settled_on : CountedSystem → (ℕ → ℕ → Bool) → Local → Coset → Dir → Transition → State → Answer (Unit {0})
-settled_on w unused c k side by next = each (settled_at w unused c k side by next) (range_with_len 0 half_state_limit)
+settled_on w unused c k side by next = each (settled_at w unused c k side by next) (states_from 0)
 
 -- the step of an entry, by the transition that reads what it writes
 abbrev pub leads_on : CountedSystem → (ℕ → ℕ → Bool) → Local → Coset → Entry → Option Transition → Answer (Unit {0})
@@ -190,10 +194,17 @@ abbrev pub start_local : Local
 start_local = record { left = 0; state = record { 0 = 0 }; read = Zero; right = 0 }
 
 -- the blank tape first, then each item
-unfoldable pub judged : Machine → CountedSystem → (Dir → ℕ → ℕ → Bool) → Answer (Unit {0})
-judged m w unused =
-    (coset_at start_local w.items >>= λ k. inside k.rows k.base) >>= λ _.
-    each (λ (item : Item). goes_on w unused item.at item.coset (m item.at.state.0 item.at.read)) w.items
+abbrev pub begins_inside : CountedSystem → Answer (Unit {0})
+begins_inside w = coset_at start_local w.items >>= λ k. inside k.rows k.base
+
+abbrev pub item_goes_on : Machine → CountedSystem → (Dir → ℕ → ℕ → Bool) → Item → Answer (Unit {0})
+item_goes_on m w unused item = goes_on w unused item.at item.coset (m item.at.state.0 item.at.read)
+
+abbrev pub all_go_on : Machine → CountedSystem → (Dir → ℕ → ℕ → Bool) → Answer (Unit {0})
+all_go_on m w unused = each (item_goes_on m w unused) w.items
+
+abbrev pub judged : Machine → CountedSystem → (Dir → ℕ → ℕ → Bool) → Answer (Unit {0})
+judged m w unused = begins_inside w >>= λ _. all_go_on m w unused
 
 -- a test says of each state which counts are unused there
 pub record TellsUnused (a : Delta) (unused : ℕ → ℕ → Bool) : Type 0 where

@@ -1,4 +1,6 @@
 // Automata that read half tapes and count some of their transitions.
+ghost use Rattle.std.specs.Prelude.{◌≤◌, length};
+ghost use Rattle.kind_counted.specs.Limits.{half_state_limit};
 ghost use Rattle.kind_counted.specs.States.{AreStates};
 
 use law_counted::Transition;
@@ -16,6 +18,7 @@ pub struct Exits {
 pub struct Automaton {
     pub states: Vec<Exits>,
     ghost targets: { AreStates states.items },
+    ghost few: { length states.items ≤ half_state_limit },
 }
 
 impl Automaton {

@@ -1,5 +1,7 @@
 -- How the judge's own steps answer: as the pass does, but where memory is refused.
 use Rattle.std.specs.Prelude.{◌≡◌, ℕ, ◌&&◌, not, nat_lt, Bool, List, slice_index, Result, Ok, Err}
+use Rattle.machine_text.specs.declared.transition.Dir.{Dir}
+use Rattle.machine_text.specs.declared.transition.Dir.TheVariants.{L, R}
 use Rattle.kind_counted.specs.Limits.{count_limit}
 use Rattle.kind_counted.specs.Pass.{Answer}
 use Rattle.kind_counted.specs.inside.Used.{in_set}
@@ -20,3 +22,7 @@ Tells said result = Answers (λ u. u) said result
 -- the counts that aren't in the set of a state
 abbrev pub not_in : List ℕ → ℕ → ℕ → Bool
 not_in sets q x = nat_lt x count_limit && not (in_set (slice_index sets q) x)
+
+abbrev pub not_in_both : List ℕ → List ℕ → Dir → ℕ → ℕ → Bool
+not_in_both left right L = not_in left
+not_in_both left right R = not_in right

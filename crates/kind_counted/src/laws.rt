@@ -1,11 +1,9 @@
-// The fields of counted automata read back.
-ghost use Rattle.std.specs.Prelude.{◌≡◌, Ok};
-ghost use Rattle.text.specs.Fields.{AreFields};
-ghost use Rattle.kind_counted.specs.CosetTexts.{CosetTexts, AreCosetTexts};
-ghost use Rattle.kind_counted.specs.Fields.{counted_by, counted_fields};
+// The law of counted automata as a kind.
+ghost use Rattle.kind_evidence.specs.Kind.{IsKind};
+ghost use Rattle.kind_counted.specs.Kind.{counted_kind};
 
-/// The fields of counted automata that are within their limits are fields that read back.
-pub fn counted_reads_back()
-    ensures back { (t : CosetTexts) → AreCosetTexts t → counted_by t.states (counted_fields t) ≡ Ok t }
-    ensures fields { (t : CosetTexts) → AreCosetTexts t → AreFields (counted_fields t) }
+/// Counted automata are a kind: their fields read back, a record has room for them, and where they stand the table never
+/// halts.
+pub fn counted_automata_are_a_kind()
+    ensures { IsKind counted_kind }
 {}

@@ -12,9 +12,9 @@ use Rattle.kind_counted.specs.declared.refused.Refused.{Refused}
 use Rattle.kind_counted.specs.declared.refused.Refused.TheVariants.{Fails, TooLarge, NoMemory}
 use Rattle.kind_counted.specs.Automata.{transitions_of}
 use Rattle.kind_counted.specs.Certificate.{counted_of}
-use Rattle.kind_counted.specs.Pass.{Answer, ◌>>=◌, begins_inside, all_go_on, judged, TellsUnused, IsFormed, GetTooLarge}
+use Rattle.kind_counted.specs.Pass.{Answer, ◌>>=◌, begins_inside, all_go_on, judged, TellsUnused, GetTooLarge}
 use Rattle.kind_counted.specs.inside.Used.{in_set, IsUsedTable}
-use Rattle.kind_counted.specs.inside.Answers.{Answers, Tells, not_in, not_in_both}
+use Rattle.kind_counted.specs.inside.Answers.{Tells, not_in, not_in_both}
 use Rattle.kind_counted.proofs.PassItems.{and_left, and_right}
 use Rattle.kind_counted.proofs.UsedLaws.{unused_law}
 use Rattle.kind_counted.proofs.WitnessLaws.{unused_back}

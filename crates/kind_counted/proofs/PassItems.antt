@@ -1,6 +1,6 @@
 -- The pass, over items and states.
-use Rattle.std.proofs.Common.{◌≡◌, ℕ, zero, suc, ◌+◌, ◌-◌, ◌<◌, ◌≤◌, Bool, true, false, ℤ, pos, ◌<ℤ◌, List, [], ◌∷◌, length, map, drop, get_or, Option, Some, None, Ok, Err, inl, inr, sym, ◌∙◌, ap, subst, refl, arith, if◌then◌else◌}
-use Rattle.std.specs.Prelude.{◌==◌, ◌&&◌, not, int_lt, IsTrue, ◌↔◌}
+use Rattle.std.proofs.Common.{◌≡◌, ℕ, zero, suc, ◌+◌, ◌-◌, ◌<◌, ◌≤◌, Bool, true, false, ℤ, pos, ◌<ℤ◌, List, [], ◌∷◌, length, map, drop, get_or, None, Ok, Err, inl, inr, sym, ◌∙◌, ap, subst, refl, arith, if◌then◌else◌}
+use Rattle.std.specs.Prelude.{◌==◌, ◌&&◌, not, int_lt}
 use Rattle.std.specs.List.{range_with_len}
 use Rattle.std.proofs.lemmas.Int.{ints}
 use Rattle.std.proofs.lemmas.Bool.{cases_lt, cases_eq}
@@ -25,8 +25,8 @@ use Rattle.kind_counted.specs.declared.refused.Refused.TheVariants.{Fails}
 use Rattle.kind_counted.specs.Automata.{no_exits, exit_by, transitions_of}
 use Rattle.kind_counted.specs.Items.{coset_of, item_of}
 use Rattle.kind_counted.specs.Numbers.{point_of}
-use Rattle.kind_counted.specs.inside.Points.{coset_by, AreZeroAt, IsNegativeAt, IsNegative}
-use Rattle.kind_counted.specs.inside.Judging.{first_of, end_of, locals, IsItemAt, IsNoItem, AllGoOn, HasStep}
+use Rattle.kind_counted.specs.inside.Points.{coset_by, IsNegativeAt, IsNegative}
+use Rattle.kind_counted.specs.inside.Judging.{first_of, end_of, IsItemAt, IsNoItem, AllGoOn, HasStep}
 use Rattle.kind_counted.specs.Pass.{Answer, ◌>>=◌, walk, each, is_zero_at, are_zero_at, is_negative_at, is_negative, is_same, coset_at, counts_of, states_from, settled_at, settled_from, settled_by, settled_if_any, moved, kept}
 use Rattle.kind_counted.proofs.PointLaws.{past_end}
 use Rattle.kind_counted.proofs.LeftLaws.{negative_from, negative_back}

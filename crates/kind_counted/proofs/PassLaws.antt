@@ -1,5 +1,5 @@
 -- The pass, step by step.
-use Rattle.std.proofs.Common.{◌≡◌, ℕ, zero, suc, ◌+◌, ◌<◌, ◌≤◌, Bool, true, false, ℤ, pos, ◌+ℤ◌, ◌-ℤ◌, ◌*ℤ◌, List, [], ◌∷◌, length, set, drop, get_or, Option, Some, Result, Ok, Err, inl, inr, sym, ◌∙◌, ap, subst, refl, arith, if◌then◌else◌}
+use Rattle.std.proofs.Common.{◌≡◌, ℕ, zero, suc, ◌+◌, ◌<◌, ◌≤◌, Bool, true, false, ℤ, pos, ◌+ℤ◌, ◌-ℤ◌, ◌*ℤ◌, List, [], ◌∷◌, length, set, drop, get_or, Some, Result, Ok, Err, inl, inr, sym, ◌∙◌, ap, subst, refl, arith, if◌then◌else◌}
 use Rattle.std.specs.Prelude.{◌==◌, ◌&&◌, nat_le, IsErrAnd, IsTrue, ◌↔◌, ◌⊎◌}
 use Rattle.std.specs.Int.RustNames.{unsigned_abs, int_div, int_rem}
 use Rattle.std.proofs.lemmas.Int.{ints, quot-rem, rem_below}

@@ -1,8 +1,7 @@
 -- The pass, over rows.
-use Rattle.std.proofs.Common.{◌≡◌, ℕ, suc, ◌+◌, ◌-◌, ◌<◌, ◌≤◌, pos, ◌+ℤ◌, ◌-ℤ◌, ◌<ℤ◌, Option, None, List, [], ◌∷◌, ◌++◌, length, map, take, drop, get_or, Ok, sym, ◌∙◌, ap, subst, refl, arith}
+use Rattle.std.proofs.Common.{◌≡◌, ℕ, suc, ◌+◌, ◌-◌, ◌<◌, ◌≤◌, pos, ◌+ℤ◌, ◌-ℤ◌, ◌<ℤ◌, Option, None, List, [], ◌∷◌, ◌++◌, length, take, drop, get_or, Ok, sym, ◌∙◌, ap, arith}
 use Rattle.std.proofs.lemmas.Int.{ints}
 use Rattle.std.proofs.lemmas.List.{get_or-map, length-map, map-append, take_more, drop_all}
-use Rattle.std.specs.Int.RustNames.{unsigned_abs}
 use Rattle.law_counted.specs.declared.count.Count.{Count}
 use Rattle.law_counted.specs.Cosets.{Point, Coset}
 use Rattle.law_counted.specs.Counted.{once}

@@ -1,6 +1,6 @@
 -- The pass by which counted automata are judged. Whether they stand is said without it (law_counted's `Counted`). But where
 -- a number gets too large, it ends (203), and which numbers come up depends on how it goes: so it is said here.
-use Rattle.std.specs.Prelude.{◌≡◌, ℕ, zero, suc, ◌+◌, ◌-◌, ◌<◌, ◌==◌, ◌&&◌, not, nat_le, if◌then◌else◌, Bool, true, false, ℤ, pos, ◌+ℤ◌, ◌-ℤ◌, int_lt, int_div, int_rem, unsigned_abs, List, [], ◌∷◌, ◌++◌, Option, Some, None, Result, Ok, Err, IsTrue, ◌↔◌}
+use Rattle.std.specs.Prelude.{◌≡◌, ℕ, zero, suc, ◌+◌, ◌-◌, ◌<◌, ◌==◌, ◌&&◌, not, nat_le, if◌then◌else◌, Bool, true, pos, ◌+ℤ◌, ◌-ℤ◌, int_lt, int_div, int_rem, unsigned_abs, List, [], ◌∷◌, ◌++◌, Option, Some, None, Result, Ok, Err, IsTrue, ◌↔◌}
 use Rattle.std.specs.List.{range_with_len}
 use Rattle.machine_text.specs.Packed.{symbol_number}
 use Rattle.machine_text.specs.declared.transition.Sym.{Sym}
@@ -19,14 +19,13 @@ use Rattle.law_counted.specs.Cosets.{Point, less, Coset}
 use Rattle.law_counted.specs.Counted.{Delta, once, Item, CountedSystem, delta, IsOf, state_on, moved_to, IsUnused}
 use Rattle.kind_counted.specs.Limits.{count_limit, half_state_limit, number_limit}
 use Rattle.kind_counted.specs.declared.refused.Refused.{Refused}
-use Rattle.kind_counted.specs.declared.refused.Refused.TheVariants.{Fails, TooLarge, NoMemory}
+use Rattle.kind_counted.specs.declared.refused.Refused.TheVariants.{Fails, TooLarge}
 
 -- what a step of it answers: a value, or that the automata fail, or that a number gets too large
 abbrev pub Answer : Type 0 → Type 0
 Answer A = Result A Refused
 
 infixl 10 ◌>>=◌
-
 abbrev pub ◌>>=◌ : {A B : Type 0} → Answer A → (A → Answer B) → Answer B
 (Err e) >>= f = Err e
 (Ok a) >>= f = f a

@@ -1,7 +1,6 @@
 -- What is looked at when counted automata are judged.
-use Rattle.std.specs.Prelude.{◌≡◌, ℕ, ◌<◌, ◌≤◌, List, map, length, get_or, Option, Some, None}
+use Rattle.std.specs.Prelude.{◌≡◌, ℕ, ◌<◌, ◌≤◌, List, map, length, get_or, Option, Some}
 use Rattle.machine_text.specs.declared.transition.Sym.{Sym}
-use Rattle.machine_text.specs.declared.transition.Sym.TheVariants.{Zero}
 use Rattle.machine_text.specs.declared.transition.Dir.{Dir}
 use Rattle.machine_text.specs.declared.transition.Dir.TheVariants.{L, R}
 use Rattle.machine_text.specs.declared.transition.State.{State}
@@ -15,7 +14,7 @@ use Rattle.kind_counted.specs.Items.{coset_of}
 use Rattle.kind_counted.specs.Limits.{count_limit}
 use Rattle.law_counted.specs.Cosets.{zeros, Coset, IsMember}
 use Rattle.kind_counted.specs.Pass.{start_local}
-use Rattle.law_counted.specs.Counted.{Delta, CountedSystem, HasCoset, delta, IsOf, state_on, moved_to, Remains, Settled, LeadsOn}
+use Rattle.law_counted.specs.Counted.{Delta, CountedSystem, HasCoset, delta, state_on, moved_to, Remains, Settled, LeadsOn}
 
 -- a count is in a range
 pub record IsInRange (low high x : ℕ) : Type 0 where

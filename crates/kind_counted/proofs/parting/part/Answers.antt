@@ -42,4 +42,3 @@ returns-clause-pass c =
     let other : Point = point_of c.parting.other.numbers in
     c.parting.invariant.rounds ∙ parted_end c.args.place (unsigned_abs (other c.args.place)) carrier other
     (zero_here c.args.place other (none_bits c.parting.other.numbers c.args.place c.parting.other.small c.parting-test.false))
-

@@ -1,11 +1,11 @@
-use Rattle.std.proofs.Common.{◌+◌, List, [], ◌∷◌, ◌++◌, None, take, drop, ◌∙◌, ap, subst}
+use Rattle.std.proofs.Common.{◌+◌, List, [], None, take, drop, ◌∙◌, ap, subst}
 use Rattle.law_counted.specs.Cosets.{Point}
 use Rattle.kind_counted.specs.Numbers.{point_of}
 use Rattle.kind_counted.specs.Pass.{◌>>=◌, SplitRows, walk, add, split_rows}
 use Rattle.kind_counted.specs.inside.Spans.{listed, points_in, IsSplit}
 use Rattle.kind_counted.specs.declared.splitting.Split.{Split}
 use Rattle.kind_counted.proofs.PassLaws.{refused_as}
-use Rattle.kind_counted.proofs.PassRows.{walk_listed, walk_listed_end, listed_more}
+use Rattle.kind_counted.proofs.PassRows.{walk_listed, listed_more}
 use Rattle.kind_counted.proofs.splitting.split_at.Goals as goal
 
 pub returns-in_err-add-clause-pass : goal.returns-in_err-add-clause-pass

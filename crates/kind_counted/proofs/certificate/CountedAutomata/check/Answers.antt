@@ -1,4 +1,4 @@
-use Rattle.std.proofs.Common.{◌≡◌, ℕ, Bool, List, Ok, Err, length, ap, subst}
+use Rattle.std.proofs.Common.{◌≡◌, ℕ, List, Ok, Err, length, ap, subst}
 use Rattle.std.proofs.lemmas.Result.{err_from_is_err_and}
 use Rattle.machine_text.specs.declared.transition.Dir.{Dir}
 use Rattle.machine_text.specs.Packed.{entry_of}

@@ -1,7 +1,6 @@
-use Rattle.std.proofs.Common.{◌≡◌, ◌≤◌, ◌≢◌, ℕ, None, Some, Option, ℤ, pos, ◌+ℤ◌, FitsSigned, w64, sym, ap, subst, refl, arith}
+use Rattle.std.proofs.Common.{◌≡◌, ◌≤◌, ℕ, None, Some, Option, ℤ, pos, ◌+ℤ◌, sym, subst, arith}
 use Rattle.std.specs.Int.RustNames.{unsigned_abs}
 use Rattle.std.proofs.lemmas.Int.{ints}
-use Rattle.std.proofs.lemmas.Bool.Decides.{nat_tests}
 use Rattle.law_counted.specs.declared.count.Count.{Count}
 use Rattle.law_counted.specs.Cosets.{Point}
 use Rattle.law_counted.specs.Counted.{once}

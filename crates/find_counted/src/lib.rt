@@ -4,7 +4,7 @@
 //! cosets are decided, which are closed from the blank tape on (`closing`, over `cosets` and `vectors`). What is found is
 //! written, read and judged by `kind_counted`, as any claim is; so nothing is proved of the search but that.
 //!
-//! `specs/Limits` has the most counts.
+//! `specs/Findings` says what is so of what is given, `specs/Limits` has the most counts.
 #![tactic(auto)]
 
 mod automata;

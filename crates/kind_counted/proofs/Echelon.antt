@@ -4,7 +4,7 @@ use Rattle.std.proofs.lemmas.Bool.{cases_lt, cases_eq}
 use Rattle.std.proofs.lemmas.List.{get_or-drop, get_or-map, get_or_past, get_or_default, length-map}
 use Rattle.std.proofs.Math.Seq.{drop-cons}
 use Rattle.std.specs.Int.RustNames.{unsigned_abs}
-use Rattle.kind_counted.specs.Cosets.{Point, zeros, less, IsSum}
+use Rattle.law_counted.specs.Cosets.{Point, zeros, less, IsSum}
 use Rattle.kind_counted.specs.Numbers.{point_of}
 use Rattle.kind_counted.specs.declared.rows.Row.{Row}
 use Rattle.kind_counted.specs.Pivots.{points, pivots, AreRising}

@@ -1,17 +1,18 @@
 -- The transitions that are read from the text of an automaton.
-use Rattle.std.proofs.Common.{◌≡◌, ℕ, zero, suc, ◌*◌, ◌/◌, ◌<◌, ◌≤◌, true, false, List, [], ◌∷◌, length, Option, Some, None, sym, subst, refl, arith, if◌then◌else◌}
+use Rattle.std.proofs.Common.{◌≡◌, ℕ, zero, suc, ◌*◌, ◌/◌, ◌<◌, ◌≤◌, Bool, true, false, List, [], ◌∷◌, length, Option, Some, None, sym, subst, refl, arith, if◌then◌else◌}
 use Rattle.std.specs.Prelude.{option_map, nat_lt, nat_le}
 use Rattle.std.specs.Option.{option_and_then}
 use Rattle.std.specs.Str.{bytes_eq}
 use Rattle.std.proofs.lemmas.Option.{option_and_then_some, same_Some, none-some}
 use Rattle.std.proofs.lemmas.Bool.{ltb-true, false≢true}
+use Rattle.std.proofs.lemmas.Bool.Decides.{nat_tests}
 use Rattle.kind_counted.specs.Limits.{half_state_limit}
 use Rattle.machine_text.specs.declared.transition.Sym.{Sym}
 use Rattle.machine_text.specs.declared.transition.Sym.TheVariants.{Zero, One}
 use Rattle.text.specs.Decimal.{decimal_value}
-use Rattle.kind_counted.specs.declared.count.Count.{Count}
+use Rattle.law_counted.specs.declared.count.Count.{Count}
 use Rattle.kind_counted.specs.declared.automaton.Exits.{Exits}
-use Rattle.kind_counted.specs.declared.automaton.Transition.{Transition}
+use Rattle.law_counted.specs.declared.transition.Transition.{Transition}
 use Rattle.kind_counted.specs.Limits.{count_limit}
 use Rattle.kind_counted.specs.Automata.{exit_by, no_exits, transitions_of}
 use Rattle.kind_counted.specs.States.{IsCount, LeadsBelow, AreStates}
@@ -136,3 +137,19 @@ module _ (states low limit : ℕ) (few : limit ≤ count_limit) where
         | true ↦ λ is. same_Some (length parts / 2) states is
         | false ↦ λ is. absurd (none-some states is)
       ]
+
+  -- and there are no more than may be
+  pub read_few : (parts : List (List ℕ)) (exits : List Exits) → half_states parts ≡ Some states → exits_from states low limit parts ≡ Some exits → length exits ≤ half_state_limit
+  unfolding half_states
+  read_few parts exits half is =
+      let are = exits_below parts exits is in
+      let size : 2 * length exits ≡ length parts = are.size in
+      let few : length parts ≤ 200 = below half in
+      omega arith
+    where
+      below : (if nat_le (length parts) (2 * half_state_limit) then Some (length parts / 2) else None) ≡ Some states → length parts ≤ 200
+      below = go (nat_le (length parts) (2 * half_state_limit)) refl
+        where
+          go : (b : Bool) → nat_le (length parts) (2 * half_state_limit) ≡ b → (if b then Some (length parts / 2) else None) ≡ Some states → length parts ≤ 200
+          go true test is = grind (arith, nat_tests, test)
+          go false test is = absurd (none-some states is)

@@ -17,13 +17,13 @@ use Rattle.text.specs.Decimal.{worth_of, decimal_value}
 use Rattle.text.specs.Fields.{IsField}
 use Rattle.text.specs.Parts.{parts_of}
 use Rattle.text.proofs.Spaced.{number_is_field, no_fields}
-use Rattle.kind_counted.specs.declared.local.Local.{Local}
+use Rattle.law_counted.specs.declared.local.Local.{Local}
 use Rattle.kind_counted.specs.declared.shape.Shape.{Shape}
 use Rattle.kind_counted.specs.declared.automaton.Exits.{Exits}
-use Rattle.kind_counted.specs.declared.automaton.Transition.{Transition}
+use Rattle.law_counted.specs.declared.transition.Transition.{Transition}
 use Rattle.kind_counted.specs.Automata.{transitions_of}
-use Rattle.kind_counted.specs.Cosets.{Point}
-use Rattle.kind_counted.specs.Counted.{CountedSystem, Item as ItemOf}
+use Rattle.law_counted.specs.Cosets.{Point}
+use Rattle.law_counted.specs.Counted.{CountedSystem, Item as ItemOf}
 use Rattle.kind_counted.specs.CosetTexts.{CosetTexts, counted_in, counted_by_sizes}
 use Rattle.kind_counted.specs.Limits.{written_limit}
 use Rattle.kind_counted.specs.Numbers.{point_of, no_numbers}

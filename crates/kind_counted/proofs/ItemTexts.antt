@@ -3,9 +3,9 @@ use Rattle.std.proofs.Common.{◌≡◌, ℕ, false, List, ◌∷◌, Option, So
 use Rattle.std.specs.Prelude.{is_some, option_map}
 use Rattle.std.specs.Option.{option_and_then}
 use Rattle.std.proofs.lemmas.Option.{same_Some, none-some}
-use Rattle.kind_counted.specs.declared.local.Local.{Local}
+use Rattle.law_counted.specs.declared.local.Local.{Local}
 use Rattle.kind_counted.specs.declared.shape.Shape.{Shape}
-use Rattle.kind_counted.specs.Counted.{Item}
+use Rattle.law_counted.specs.Counted.{Item}
 use Rattle.kind_counted.specs.Texts.{item_behind, items_from}
 
 some_after : {A : Type 0} (x : A) (o : Option (List A)) → is_some (option_map (λ items. x ∷ items) o) ≡ is_some o

@@ -1,12 +1,12 @@
 -- What a judge finds is what counted automata that stand need.
-use Rattle.std.proofs.Common.{◌≡◌, ℕ, zero, suc, ◌<◌, List, [], ◌∷◌, length, map, get_or, inl, inr, sym, ◌∙◌, ap, refl, arith, subst}
+use Rattle.std.proofs.Common.{◌≡◌, ℕ, zero, suc, ◌<◌, List, [], ◌∷◌, length, map, get_or, inl, inr, sym, ◌∙◌, ap, refl, arith}
 use Rattle.std.specs.Prelude.{Contains}
 use Rattle.std.proofs.lemmas.Bool.{cases_order}
 use Rattle.std.proofs.lemmas.List.{get_or-map, length-map}
-use Rattle.kind_counted.specs.declared.local.Local.{Local}
+use Rattle.law_counted.specs.declared.local.Local.{Local}
 use Rattle.kind_counted.specs.declared.item.Item.{Item}
-use Rattle.kind_counted.specs.Cosets.{Point, Coset, IsMember}
-use Rattle.kind_counted.specs.Counted.{Item as ItemOf, Settled, None_remains, Negative, Members}
+use Rattle.law_counted.specs.Cosets.{Point, Coset, IsMember}
+use Rattle.law_counted.specs.Counted.{Item as ItemOf, Settled, None_remains, Negative, Members}
 use Rattle.kind_counted.specs.Items.{coset_of, item_of}
 use Rattle.kind_counted.specs.inside.Points.{IsNegative, LiesWithin}
 use Rattle.kind_counted.specs.inside.Judging.{locals, IsItemAt, AreDifferent}

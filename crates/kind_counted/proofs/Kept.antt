@@ -3,7 +3,7 @@ use Rattle.std.proofs.Common.{◌≡◌, ℕ, zero, suc, ◌<◌, ℤ, pos, ◌-
 use Rattle.std.proofs.lemmas.Int.{ints}
 use Rattle.std.proofs.lemmas.List.{map-append}
 use Rattle.std.specs.Int.RustNames.{unsigned_abs}
-use Rattle.kind_counted.specs.Cosets.{Point, zeros, less, IsSum, IsMember}
+use Rattle.law_counted.specs.Cosets.{Point, zeros, less, IsSum, IsMember}
 use Rattle.std.proofs.Math.IntN.{zero-*ℤ}
 use Rattle.kind_counted.specs.Numbers.{point_of}
 use Rattle.kind_counted.specs.declared.numbers.Counts.{Counts}

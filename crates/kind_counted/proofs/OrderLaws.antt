@@ -6,10 +6,10 @@ use Rattle.std.proofs.lemmas.Bool.Decides.{nat_tests}
 use Rattle.std.proofs.lemmas.Option.{option_and_then_some, same_Some, none-some}
 use Rattle.machine_text.specs.Packed.{symbol_number}
 use Rattle.text.specs.Parts.{parts_of}
-use Rattle.kind_counted.specs.declared.local.Local.{Local}
+use Rattle.law_counted.specs.declared.local.Local.{Local}
 use Rattle.kind_counted.specs.declared.shape.Shape.{Shape}
 use Rattle.kind_counted.specs.declared.item.Item.{Item}
-use Rattle.kind_counted.specs.Counted.{Item as ItemOf}
+use Rattle.law_counted.specs.Counted.{Item as ItemOf}
 use Rattle.kind_counted.specs.Items.{item_of}
 use Rattle.kind_counted.specs.Order.{tells_first, is_before, follows}
 use Rattle.kind_counted.specs.Texts.{item_from, item_behind, items_from}

@@ -5,7 +5,7 @@ use Rattle.std.proofs.lemmas.Bool.{cases_lt, cases_eq}
 use Rattle.std.proofs.lemmas.List.{get_or_past, length-set, get_or-set_other, get_or-set_same, get_or-replicate, length-replicate}
 use Rattle.std.proofs.Math.IntN.{*ℤ-zero}
 use Rattle.std.specs.Int.RustNames.{unsigned_abs}
-use Rattle.kind_counted.specs.Cosets.{less}
+use Rattle.law_counted.specs.Cosets.{less}
 use Rattle.kind_counted.specs.Limits.{number_limit}
 use Rattle.kind_counted.specs.Numbers.{no_numbers, point_of, AreSmall}
 

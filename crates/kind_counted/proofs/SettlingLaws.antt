@@ -12,11 +12,11 @@ use Rattle.machine_text.specs.declared.transition.Dir.{Dir}
 use Rattle.machine_text.specs.declared.transition.Dir.TheVariants.{L, R}
 use Rattle.law_turing.specs.Mirror.{opposite}
 use Rattle.kind_counted.specs.declared.automaton.Exits.{Exits}
-use Rattle.kind_counted.specs.declared.automaton.Transition.{Transition}
+use Rattle.law_counted.specs.declared.transition.Transition.{Transition}
 use Rattle.kind_counted.specs.declared.numbers.Counts.{Counts}
-use Rattle.kind_counted.specs.declared.local.Local.{Local}
-use Rattle.kind_counted.specs.Cosets.{Point, zeros, Coset, IsMember}
-use Rattle.kind_counted.specs.Counted.{Delta, CountedSystem, HasCoset, delta, IsOf, state_on, moved_to, Remains, Settled, LeadsOn}
+use Rattle.law_counted.specs.declared.local.Local.{Local}
+use Rattle.law_counted.specs.Cosets.{Point, zeros, Coset, IsMember}
+use Rattle.law_counted.specs.Counted.{Delta, CountedSystem, HasCoset, delta, IsOf, state_on, moved_to, Remains, Settled, LeadsOn}
 use Rattle.kind_counted.specs.Numbers.{point_of}
 use Rattle.kind_counted.specs.Automata.{no_exits, exit_by, transitions_of}
 use Rattle.kind_counted.specs.inside.Spans.{listed}

@@ -1,7 +1,7 @@
 -- Rows with the same sums.
 use Rattle.std.proofs.Common.{◌≡◌, ℕ, ℤ, ◌+ℤ◌, ◌-ℤ◌, ◌*ℤ◌, List, [], ◌∷◌, ◌++◌, arith}
 use Rattle.std.proofs.lemmas.Int.{ints}
-use Rattle.kind_counted.specs.Cosets.{Point, less, IsSum}
+use Rattle.law_counted.specs.Cosets.{Point, less, IsSum}
 use Rattle.kind_counted.specs.inside.Spans.{SameSums}
 use Rattle.kind_counted.proofs.Products.{mul_add, mul_sub, sub_mul, mul_assoc}
 use Rattle.kind_counted.proofs.Sums.{sum_same}

@@ -5,14 +5,15 @@ use Rattle.std.proofs.lemmas.List.{get_or-map, length-map}
 use Rattle.std.proofs.lemmas.Option.{same_Some, none-some}
 use Rattle.machine_text.specs.declared.transition.Entry.{Entry}
 use Rattle.law_turing.specs.Machine.{Machine}
-use Rattle.kind_counted.specs.declared.local.Local.{Local}
+use Rattle.law_counted.specs.declared.local.Local.{Local}
 use Rattle.kind_counted.specs.declared.item.Item.{Item}
 use Rattle.kind_counted.specs.declared.certificate.CountedAutomata.{CountedAutomata}
-use Rattle.kind_counted.specs.Cosets.{Coset}
-use Rattle.kind_counted.specs.Counted.{Item as ItemOf, HasCoset, LeadsOn, CountedStand}
+use Rattle.law_counted.specs.Cosets.{Coset}
+use Rattle.law_counted.specs.Counted.{Item as ItemOf, HasCoset, LeadsOn, CountedStand}
 use Rattle.kind_counted.specs.Items.{coset_of, item_of}
 use Rattle.kind_counted.specs.Certificate.{counted_of}
-use Rattle.kind_counted.specs.inside.Judging.{HasStep, AllGoOn, IsFormed, StartsInside}
+use Rattle.kind_counted.specs.inside.Judging.{HasStep, AllGoOn, StartsInside}
+use Rattle.kind_counted.specs.Pass.{IsFormed}
 
 -- the item in a place
 item_in : (items : List Item) (i : ℕ) → i < length items → (item : Item) × (item ≡ get_or items i item)

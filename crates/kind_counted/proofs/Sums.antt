@@ -2,7 +2,7 @@
 use Rattle.std.proofs.Common.{◌≡◌, ℕ, suc, ℤ, pos, ◌+ℤ◌, ◌-ℤ◌, ◌*ℤ◌, ◌<◌, List, [], ◌∷◌, get_or, sym, ◌∙◌, ap, subst, refl, arith}
 use Rattle.std.proofs.lemmas.Int.{ints}
 use Rattle.std.proofs.Math.IntN.{zero-*ℤ, *ℤ-zero, *ℤ-one, *ℤ_comm}
-use Rattle.kind_counted.specs.Cosets.{Point, zeros, less, IsSum}
+use Rattle.law_counted.specs.Cosets.{Point, zeros, less, IsSum}
 use Rattle.std.specs.Int.RustNames.{unsigned_abs}
 use Rattle.kind_counted.proofs.Divisions.{divides}
 use Rattle.kind_counted.proofs.Products.{mul_add, mul_sub, sub_mul, mul_assoc}

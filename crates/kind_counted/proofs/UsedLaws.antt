@@ -5,15 +5,15 @@ use Rattle.std.proofs.lemmas.Bool.{cases_lt, cases_eq}
 use Rattle.std.proofs.lemmas.Bool.Decides.{nat_tests}
 use Rattle.std.proofs.lemmas.Option.{same_Some}
 use Rattle.machine_text.specs.declared.transition.Sym.{Sym}
-use Rattle.kind_counted.specs.declared.count.Count.{Count}
-use Rattle.kind_counted.specs.Counted.{Delta, once, Reading, begun, reading, IsUnused}
+use Rattle.law_counted.specs.declared.count.Count.{Count}
+use Rattle.law_counted.specs.Counted.{Delta, once, Reading, begun, reading, IsUnused}
 use Rattle.kind_counted.specs.inside.Used.{in_set, reached, Includes, IncludedBy, AreUsed, total}
 use Rattle.machine_text.specs.declared.transition.Sym.TheVariants.{Zero, One}
 use Rattle.std.proofs.lemmas.List.{get_or_past, get_or-set_same, get_or-set_other}
 use Rattle.kind_counted.specs.declared.automaton.Exits.{Exits}
 use Rattle.kind_counted.specs.Automata.{no_exits, exit_by, transitions_of}
 use Rattle.kind_counted.proofs.Bits.{has_left}
-use Rattle.kind_counted.proofs.Readings.{reading_less}
+use Rattle.law_counted.proofs.Readings.{reading_less}
 
 -- what a count is counted in is its own number
 once_own : (o : Option Count) (x : ℕ) → 0 < once o x → (y : Count) × (o ≡ Some y) × (y.number ≡ x)

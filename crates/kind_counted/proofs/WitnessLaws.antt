@@ -7,12 +7,12 @@ use Rattle.std.proofs.lemmas.Bool.Decides.{nat_tests}
 use Rattle.std.proofs.lemmas.Nat.Bits.{bit_at_or, bit_at-lt, bit_at-zero, bit_at-pow_other}
 use Rattle.std.proofs.lemmas.List.{get_or-set_other, get_or-set_same}
 use Rattle.machine_text.specs.declared.transition.Sym.{Sym}
-use Rattle.kind_counted.specs.declared.count.Count.{Count}
-use Rattle.kind_counted.specs.declared.automaton.Transition.{Transition}
+use Rattle.law_counted.specs.declared.count.Count.{Count}
+use Rattle.law_counted.specs.declared.transition.Transition.{Transition}
 use Rattle.kind_counted.specs.Limits.{count_limit}
-use Rattle.kind_counted.specs.Counted.{Delta, once, begun, further, reading, IsUnused}
+use Rattle.law_counted.specs.Counted.{Delta, once, begun, further, reading, IsUnused}
 use Rattle.kind_counted.specs.inside.Used.{in_set, reached, HasPath, HasCount, IsWitnessed, AreWitnessed, IsStart, AreStart, IsIn}
-use Rattle.kind_counted.proofs.Readings.{reading_more}
+use Rattle.law_counted.proofs.Readings.{reading_more}
 use Rattle.kind_counted.proofs.Bits.{bit_of, member_of}
 
 -- what is in a union is in one of the two

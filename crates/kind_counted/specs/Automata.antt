@@ -3,8 +3,8 @@ use Rattle.std.specs.Prelude.{List, get_or, Option, None}
 use Rattle.machine_text.specs.declared.transition.Sym.{Sym}
 use Rattle.machine_text.specs.declared.transition.Sym.TheVariants.{Zero, One}
 use Rattle.kind_counted.specs.declared.automaton.Exits.{Exits}
-use Rattle.kind_counted.specs.declared.automaton.Transition.{Transition}
-use Rattle.kind_counted.specs.Counted.{Delta}
+use Rattle.law_counted.specs.declared.transition.Transition.{Transition}
+use Rattle.law_counted.specs.Counted.{Delta}
 
 abbrev pub no_exits : Exits
 no_exits = record { zero = None; one = None }

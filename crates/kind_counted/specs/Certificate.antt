@@ -1,6 +1,6 @@
 -- What the numbers of counted automata say.
 use Rattle.std.specs.Prelude.{map}
-use Rattle.kind_counted.specs.Counted.{CountedSystem}
+use Rattle.law_counted.specs.Counted.{CountedSystem}
 use Rattle.kind_counted.specs.Automata.{transitions_of}
 use Rattle.kind_counted.specs.Items.{item_of}
 use Rattle.kind_counted.specs.declared.certificate.CountedAutomata.{CountedAutomata}

@@ -5,8 +5,9 @@ use Rattle.machine_text.specs.Limits.{state_limit}
 use Rattle.machine_text.specs.Packed.{Packed, entry_of}
 use Rattle.text.specs.Parts.{parts_of}
 use Rattle.kind_counted.specs.Automata.{transitions_of}
-use Rattle.kind_counted.specs.Counted.{CountedSystem, CountedStand}
+use Rattle.law_counted.specs.Counted.{CountedSystem, CountedStand}
 use Rattle.kind_counted.specs.Limits.{coset_byte_limit, count_limit}
+use Rattle.kind_counted.specs.Pass.{GetTooLarge}
 use Rattle.kind_counted.specs.Texts.{half_states, automaton_from, items_from}
 
 -- how many states the tables have for which it is made, how many counts the left and the right automaton have, the texts of
@@ -42,16 +43,28 @@ unfoldable pub counted_in : CosetTexts → Option CountedSystem
 counted_in t =
     option_and_then (λ l. option_and_then (λ r. counted_by_sizes t l r) (half_states (parts_of 44 t.right))) (half_states (parts_of 44 t.left))
 
--- the texts give counted automata, within the limits
-pub record AreCosetTexts (t : CosetTexts) : Type 0 where
-  pub given : IsTrue (is_some (counted_in t))
+-- the texts are within the limits
+pub record AreWithinLimits (t : CosetTexts) : Type 0 where
   pub short : length t.left + length t.right + length t.cosets ≤ coset_byte_limit
   pub counts : t.left_counts + t.right_counts ≤ count_limit
   pub made : 1 ≤ t.states
   pub few : t.states ≤ state_limit
 
--- the texts are those of counted automata that stand for a table
+-- and give counted automata
+pub record AreCosetTexts (t : CosetTexts) : Type 0 where
+  pub given : IsTrue (is_some (counted_in t))
+  pub within : AreWithinLimits t
+
+-- the table has as many states as they were made for, and the texts are those of counted automata that stand for it
 pub record AreCosetsOf (t : CosetTexts) (p : Packed) : Type 0 where
   pub counted : CountedSystem
   pub given : counted_in t ≡ Some counted
+  pub states : t.states ≡ p.states
   pub stand : CountedStand (entry_of p) counted
+
+-- and a number gets too large when these are judged for it
+pub record GetTooLargeFor (t : CosetTexts) (p : Packed) : Type 0 where
+  pub counted : CountedSystem
+  pub given : counted_in t ≡ Some counted
+  pub states : t.states ≡ p.states
+  pub large : GetTooLarge (entry_of p) counted

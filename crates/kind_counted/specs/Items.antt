@@ -1,6 +1,6 @@
 -- What an item of a certificate says.
-use Rattle.kind_counted.specs.Cosets.{Coset as CosetOf}
-use Rattle.kind_counted.specs.Counted.{Item as ItemOf}
+use Rattle.law_counted.specs.Cosets.{Coset as CosetOf}
+use Rattle.law_counted.specs.Counted.{Item as ItemOf}
 use Rattle.kind_counted.specs.Numbers.{point_of}
 use Rattle.kind_counted.specs.Pivots.{points}
 use Rattle.kind_counted.specs.declared.item.Coset.{Coset}

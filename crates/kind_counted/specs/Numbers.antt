@@ -1,7 +1,7 @@
 -- Points as lists of numbers, none of them too large.
 use Rattle.std.specs.Prelude.{◌≡◌, ℕ, ◌≤◌, ℤ, pos, List, length, get_or, replicate}
 use Rattle.std.specs.Int.RustNames.{unsigned_abs}
-use Rattle.kind_counted.specs.Cosets.{Point}
+use Rattle.law_counted.specs.Cosets.{Point}
 use Rattle.kind_counted.specs.Limits.{count_limit, number_limit}
 
 -- the point that a list of numbers is

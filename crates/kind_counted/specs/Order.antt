@@ -2,7 +2,7 @@
 -- then the right automaton's state.
 use Rattle.std.specs.Prelude.{ℕ, ◌==◌, ◌&&◌, ◌||◌, nat_lt, Bool, true, Option, Some, None}
 use Rattle.machine_text.specs.Packed.{symbol_number}
-use Rattle.kind_counted.specs.declared.local.Local.{Local}
+use Rattle.law_counted.specs.declared.local.Local.{Local}
 
 -- whether a number is below another, or they are equal and what comes behind them tells
 abbrev pub tells_first : ℕ → ℕ → Bool → Bool

@@ -1,6 +1,6 @@
 -- Rows in echelon form.
 use Rattle.std.specs.Prelude.{ℕ, ◌<◌, List, length, map, slice_index}
-use Rattle.kind_counted.specs.Cosets.{Point}
+use Rattle.law_counted.specs.Cosets.{Point}
 use Rattle.kind_counted.specs.Numbers.{point_of}
 use Rattle.kind_counted.specs.declared.rows.Row.{Row}
 

@@ -3,9 +3,9 @@
 use Rattle.std.specs.Prelude.{◌≡◌, ℕ, ◌<◌, List, length, Option, Some}
 use Rattle.machine_text.specs.declared.transition.Sym.{Sym}
 use Rattle.kind_counted.specs.Limits.{count_limit}
-use Rattle.kind_counted.specs.declared.count.Count.{Count}
+use Rattle.law_counted.specs.declared.count.Count.{Count}
 use Rattle.kind_counted.specs.declared.automaton.Exits.{Exits}
-use Rattle.kind_counted.specs.declared.automaton.Transition.{Transition}
+use Rattle.law_counted.specs.declared.transition.Transition.{Transition}
 use Rattle.kind_counted.specs.Automata.{transitions_of}
 
 -- a count, if there is one, is one that there may be

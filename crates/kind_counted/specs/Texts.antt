@@ -10,13 +10,13 @@ use Rattle.machine_text.specs.declared.transition.State.{State}
 use Rattle.text.specs.Decimal.{decimal_value}
 use Rattle.text.specs.Parts.{parts_of}
 use Rattle.kind_counted.specs.declared.automaton.Exits.{Exits}
-use Rattle.kind_counted.specs.declared.automaton.Transition.{Transition}
-use Rattle.kind_counted.specs.declared.local.Local.{Local}
+use Rattle.law_counted.specs.declared.transition.Transition.{Transition}
+use Rattle.law_counted.specs.declared.local.Local.{Local}
 use Rattle.kind_counted.specs.declared.shape.Shape.{Shape}
 use Rattle.kind_counted.specs.Limits.{half_state_limit, written_limit}
 use Rattle.kind_counted.specs.Numbers.{point_of, no_numbers}
-use Rattle.kind_counted.specs.Cosets.{Point}
-use Rattle.kind_counted.specs.Counted.{Item}
+use Rattle.law_counted.specs.Cosets.{Point}
+use Rattle.law_counted.specs.Counted.{Item}
 use Rattle.kind_counted.specs.Order.{follows}
 
 -- a number, if it is in a range

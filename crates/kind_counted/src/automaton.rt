@@ -1,15 +1,10 @@
 // Automata that read half tapes and count some of their transitions.
+ghost use Rattle.std.specs.Prelude.{◌≤◌, length};
+ghost use Rattle.kind_counted.specs.Limits.{half_state_limit};
 ghost use Rattle.kind_counted.specs.States.{AreStates};
 
-use crate::count::Count;
+use law_counted::Transition;
 use machine_text::Sym;
-
-/// The state that a transition leads to, and its count, if it has one.
-#[derive(Clone, Copy)]
-pub struct Transition {
-    pub to: usize,
-    pub count: Option<Count>,
-}
 
 /// The transitions of a state. Some may be missing.
 #[derive(Clone, Copy)]
@@ -23,6 +18,7 @@ pub struct Exits {
 pub struct Automaton {
     pub states: Vec<Exits>,
     ghost targets: { AreStates states.items },
+    ghost few: { length states.items ≤ half_state_limit },
 }
 
 impl Automaton {

@@ -5,7 +5,7 @@ ghost use Rattle.kind_counted.specs.TextsGiven.{texts_given};
 use crate::limits::MAX_COSET_BYTES;
 use crate::refused::Refused as Failed;
 use crate::texts_given::TextsGiven;
-use kind_evidence::{Refused, Verdict};
+use kind_evidence::{Evidence, Refused, Verdict};
 use machine_text::Table;
 use std::alloc::Global;
 use text::FieldFault;
@@ -14,7 +14,8 @@ use text::FieldFault;
 /// tapes, each from far away towards the head, and count how often some of their transitions are taken; what can stand around
 /// the head comes with a coset of a lattice, in which the counts lie (equations as in Karr 1976, congruences as in Granger
 /// 1991; with one weight bbchallenge's MITMWFAR). The numbers are texts, borrowed, and read where they are checked. The claim
-/// is made for tables of so many states.
+/// is made for tables of so many states, and for no others. It is too wide for a table where a number over 2^31 comes up when
+/// it is judged.
 #[derive(Clone, Copy, Debug, PartialEq, Eq)]
 pub struct CountedCosets<'a> {
     pub(crate) texts: TextsGiven<'a>,
@@ -22,12 +23,10 @@ pub struct CountedCosets<'a> {
 }
 
 impl<'a> CountedCosets<'a> {
-    ghost use Rattle.std.specs.Prelude.{◌≡◌, ◌+◌, ◌≤◌, ◌↔◌, IsTrue, Err, IfOk, IfSome, length};
+    ghost use Rattle.std.specs.Prelude.{◌≡◌, ◌+◌, ◌≤◌, ◌↔◌, IsTrue, Err, OnOk, length};
     ghost use Rattle.machine_text.specs.Limits.{state_limit};
-    ghost use Rattle.machine_text.specs.Packed.{entry_of};
-    ghost use Rattle.law_turing.specs.Halting.{Never};
     ghost use Rattle.text.specs.Fields.{made_of};
-    ghost use Rattle.kind_counted.specs.CosetTexts.{CosetTexts, coset_texts, AreCosetsOf};
+    ghost use Rattle.kind_counted.specs.CosetTexts.{coset_texts, AreCosetsOf, GetTooLargeFor};
     ghost use Rattle.kind_counted.specs.CountedCosets.{coset_texts_of};
     ghost use Rattle.kind_counted.specs.Fields.{cosets_by};
     ghost use Rattle.kind_counted.specs.Limits.{coset_byte_limit, count_limit};
@@ -73,17 +72,20 @@ impl<'a> CountedCosets<'a> {
             && cosets.len() <= MAX_COSET_BYTES - left.len() - right.len()
     }
 
-    /// Whether the counted automata stand for a table, by which it never halts; `Fails` where they don't. It is `TooWide`
-    /// where a number over 2^31 comes up, which says nothing of the claim. Reads the texts into memory.
-    pub fn check(&self, alloc: Global, t: &Table) -> Result<Verdict, Refused>
-        ensures stands { IfOk result (λ v. (v ≡ Verdict.Never) × AreCosetsOf (coset_texts_of self.now) t.now) }
-        ensures never { IfOk result (λ _. Never (entry_of t.now)) }
+    // Whether the counted automata are of a table. Reads the texts into memory.
+    fn judged(&self, alloc: Global, t: &Table) -> Result<(), Refused>
+        ensures stands { OnOk result (AreCosetsOf (coset_texts_of self.now) t.now × (GetTooLargeFor (coset_texts_of self.now) t.now → ⊥)) }
         ensures fails { result ≡ Err Refused.Fails → AreCosetsOf (coset_texts_of self.now) t.now → ⊥ }
+        ensures small { result ≡ Err Refused.Fails → GetTooLargeFor (coset_texts_of self.now) t.now → ⊥ }
         ensures long { result ≡ Err Refused.TooLong → ⊥ }
+        ensures wide { result ≡ Err Refused.TooWide → GetTooLargeFor (coset_texts_of self.now) t.now }
     {
+        if t.states() != self.texts.states {
+            return Err(Refused::Fails);
+        }
         match self.texts.read(alloc)? {
             Some(counted) => match counted.check(alloc, t) {
-                Ok(()) => Ok(Verdict::Never),
+                Ok(()) => Ok(()),
                 Err(Failed::Fails) => Err(Refused::Fails),
                 Err(Failed::TooLarge) => Err(Refused::TooWide),
                 Err(Failed::NoMemory) => Err(Refused::NoMemory),
@@ -92,4 +94,23 @@ impl<'a> CountedCosets<'a> {
             None => Err(Refused::Fails),
         }
     }
+}
+
+impl Evidence for CountedCosets<'_> {
+    ghost use Rattle.kind_evidence.specs.declared.verdicts.Verdict.TheVariants.{Never};
+    ghost use Rattle.kind_counted.specs.Kind.{counted_kind};
+    ghost use Rattle.kind_counted.specs.CountedCosets.{coset_texts_of};
+
+    ghost meaning = { λ e. counted_kind.meaning (coset_texts_of e) };
+
+    ghost shows = { λ e p. Never };
+
+    fn check(&self, alloc: Global, t: &Table) -> Result<Verdict, Refused> {
+        // The proof needs that the texts are within their limits.
+        let _ = &self.texts;
+        self.judged(alloc, t)?;
+        Ok(Verdict::Never)
+    }
+
+    ghost law = { λ e. counted_kind.law (coset_texts_of e) };
 }

@@ -4,10 +4,10 @@ ghost use Rattle.text.specs.Parts.{parts_of};
 ghost use Rattle.kind_counted.specs.Limits.{count_limit};
 ghost use Rattle.kind_counted.specs.Texts.{is_letter, last_byte, exit_from, pair_from, exits_from, begins_blank, automaton_from, half_states};
 
-use crate::automaton::{Automaton, Exits, Transition};
-use crate::count::Count;
+use crate::automaton::{Automaton, Exits};
 use crate::letters::{ends_in_letter, ranged_count, ranged_number};
 use crate::limits::MAX_HALF_STATES;
+use law_counted::{Count, Transition};
 use std::alloc::{AllocError as NoMemory, Global};
 use text::Parts;
 

@@ -30,7 +30,7 @@ impl<'a> CountedCosets<'a> {
         CountedCosets::new(states, left_counts, right_counts, left, right, cosets)
     }
 
-    /// Appends the fields of a record, each behind a space: they read back as the same texts (`counted_reads_back`). Where
+    /// Appends the fields of a record, each behind a space: they read back as the same texts (`counted_automata_are_a_kind`). Where
     /// memory is refused, a beginning of them.
     pub fn append_fields(&self, out: &mut Vec<u8>) -> Result<(), NoMemory>
         ensures ok { OnOk result (out.new.items ≡ out.old.items ++ spaced (counted_fields (coset_texts_of self.now))) }

@@ -5,7 +5,8 @@ ghost use Rattle.machine_text.specs.declared.transition.Sym.TheVariants.{Zero};
 ghost use Rattle.kind_counted.specs.Automata.{transitions_of};
 ghost use Rattle.kind_counted.specs.inside.Judging.{AreOwn, HasOwnCount};
 
-use crate::automaton::{Automaton, Transition};
+use crate::automaton::Automaton;
+use law_counted::Transition;
 use machine_text::Sym;
 
 // Whether a blank cell far away changes nothing.

@@ -1,9 +1,10 @@
 // The coset of what stands around the head.
 ghost use Rattle.kind_counted.specs.Pivots.{AreRising};
 
-use crate::local::{Local, is_same};
+use crate::local::is_same;
 use crate::numbers::Counts;
 use crate::rows::Row;
+use law_counted::Local;
 
 /// A base, and rows in echelon form: the points that differ from the base by whole multiples of the rows.
 #[derive(Drop)]

@@ -7,10 +7,11 @@ ghost use Rattle.kind_counted.specs.Texts.{state_from, symbol_from, local_at, lo
 
 use crate::item::{Coset, Item};
 use crate::letters::ranged_number;
-use crate::local::Local;
+use crate::local::follows;
 use crate::row_text::{are_rows, read_rows};
 use crate::shape::Shape;
 use crate::term_text::numbers_from;
+use law_counted::Local;
 use machine_text::{State, Sym};
 use std::alloc::{AllocError as NoMemory, Global};
 use text::Parts;
@@ -60,7 +61,7 @@ fn local_behind(text: &[u8], shape: Shape, last: Option<Local>) -> Option<Local>
     ensures { result ≡ option_map (λ i. i.at) (item_behind shape last text.now) }
 {
     let at = item_local(text, shape)?;
-    if at.follows(last) { Some(at) } else { None }
+    if follows(last, &at) { Some(at) } else { None }
 }
 
 // The item that a text is, if it stands behind the last.
@@ -77,7 +78,7 @@ fn read_behind(
     let Some(item) = read_item(alloc, text, shape)? else {
         return Ok(None);
     };
-    if item.at.follows(last) {
+    if follows(last, &item.at) {
         Ok(Some(item))
     } else {
         Ok(None)

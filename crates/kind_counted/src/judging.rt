@@ -1,10 +1,10 @@
 // Whether counted automata stand for a table.
-ghost use Rattle.std.specs.Prelude.{◌≡◌, ◌↔◌, ◌≤◌, length, IsTrue, Err, IfOk, IfSome, IfNone};
+ghost use Rattle.std.specs.Prelude.{◌≡◌, ◌↔◌, ◌≤◌, length, IsTrue, Some, Err, IfOk, OnErr, IfSome, IfNone};
 ghost use Rattle.machine_text.specs.Packed.{entry_of};
 ghost use Rattle.law_turing.specs.Halting.{Never};
 ghost use Rattle.law_turing.specs.Mirror.{opposite};
-ghost use Rattle.kind_counted.specs.Cosets.{zeros, IsMember};
-ghost use Rattle.kind_counted.specs.Counted.{delta, HasCoset, Remains, Settled, LeadsOn, CountedStand, moved_to, state_on};
+ghost use Rattle.law_counted.specs.Cosets.{zeros, IsMember};
+ghost use Rattle.law_counted.specs.Counted.{delta, HasCoset, Remains, Settled, LeadsOn, CountedStand, moved_to, state_on};
 ghost use Rattle.kind_counted.specs.Limits.{count_limit};
 ghost use Rattle.kind_counted.specs.Automata.{transitions_of};
 ghost use Rattle.kind_counted.specs.Items.{coset_of};
@@ -12,18 +12,20 @@ ghost use Rattle.kind_counted.specs.States.{IsCount};
 ghost use Rattle.kind_counted.specs.Certificate.{counted_of};
 ghost use Rattle.kind_counted.specs.inside.Used.{IsUsedTable};
 ghost use Rattle.kind_counted.specs.inside.Points.{coset_by};
-ghost use Rattle.kind_counted.specs.inside.Judging.{first_of, end_of, IsItemAt, IsNoItem, SettlesFrom, AllSettle, HasStep, AllGoOn, IsFormed, StartsInside};
+ghost use Rattle.kind_counted.specs.inside.Judging.{first_of, end_of, IsItemAt, IsNoItem, SettlesFrom, AllSettle, HasStep, AllGoOn, StartsInside};
+ghost use Rattle.kind_counted.specs.inside.Answers.{Tells, not_in, not_in_both};
+ghost use Rattle.kind_counted.specs.Pass.{IsFormed, GetTooLarge, inside, begins_inside, all_go_on, goes_on, leads_on, settled_on, settled_from, settled_by, settled};
 
-use crate::automaton::{Automaton, Transition};
+use crate::automaton::Automaton;
 use crate::certificate::CountedAutomata;
 use crate::form::{are_own, keeps_blank};
 use crate::item::{Coset, Item};
 use crate::limits::MAX_COUNTS;
-use crate::local::Local;
 use crate::points::Points;
 use crate::refused::Refused;
 use crate::rows::Row;
 use crate::used::Used;
+use law_counted::{Local, Transition};
 use machine_text::{Dir, Entry, State, Sym, Table};
 use std::alloc::Global;
 
@@ -41,11 +43,14 @@ impl CountedAutomata {
         ensures stands { IfOk result (λ _. CountedStand (entry_of t.now) (counted_of self.now)) }
         ensures never { IfOk result (λ _. Never (entry_of t.now)) }
         ensures fails { result ≡ Err Refused.Fails → CountedStand (entry_of t.now) (counted_of self.now) → ⊥ }
+        ensures large { result ≡ Err Refused.TooLarge → GetTooLarge (entry_of t.now) (counted_of self.now) }
+        ensures small { IfOk result (λ _. GetTooLarge (entry_of t.now) (counted_of self.now) → ⊥) }
+        ensures not_large { result ≡ Err Refused.Fails → GetTooLarge (entry_of t.now) (counted_of self.now) → ⊥ }
     {
         self.check_form()?;
-        self.check_start()?;
         let left = Used::of(alloc, &self.left)?;
         let right = Used::of(alloc, &self.right)?;
+        self.check_start()?;
         self.check_items(alloc, t, &left, &right)
     }
 
@@ -53,6 +58,7 @@ impl CountedAutomata {
     fn check_form(&self) -> Result<(), Refused>
         ensures formed { IfOk result (λ _. IsFormed (counted_of self.now)) }
         ensures fails { result ≡ Err Refused.Fails → IsFormed (counted_of self.now) → ⊥ }
+        ensures no_other { OnErr result (result ≡ Err Refused.Fails) }
     {
         if !keeps_blank(&self.left) {
             return Err(Refused::Fails);
@@ -73,6 +79,7 @@ impl CountedAutomata {
     fn check_start(&self) -> Result<(), Refused>
         ensures starts { IfOk result (λ _. StartsInside (counted_of self.now)) }
         ensures fails { result ≡ Err Refused.Fails → StartsInside (counted_of self.now) → ⊥ }
+        ensures pass { Tells (begins_inside (counted_of self.now)) result }
     {
         let at = Local {
             left: 0,
@@ -99,6 +106,7 @@ impl CountedAutomata {
         ensures all { IfOk result (λ _. AllGoOn (entry_of t.now) (counted_of self.now) self.now.items.items (length self.now.items.items)) }
         ensures fails { result ≡ Err Refused.Fails →
             AllGoOn (entry_of t.now) (counted_of self.now) self.now.items.items (length self.now.items.items) → ⊥ }
+        ensures pass { Tells (all_go_on (entry_of t.now) (counted_of self.now) (not_in_both left.now.sets.items right.now.sets.items)) result }
     {
         for item in self.items.iter() {
             self.check_item(alloc, t, left, right, item)?;
@@ -119,6 +127,8 @@ impl CountedAutomata {
         requires right { IsUsedTable (transitions_of self.now.right.states.items) right.now.sets.items }
         ensures goes_on { IfOk result (λ _. HasStep (entry_of t.now) (counted_of self.now) item.now.at (coset_of item.now.coset)) }
         ensures fails { result ≡ Err Refused.Fails → HasStep (entry_of t.now) (counted_of self.now) item.now.at (coset_of item.now.coset) → ⊥ }
+        ensures pass { Tells (goes_on (counted_of self.now) (not_in_both left.now.sets.items right.now.sets.items) item.now.at (coset_of item.now.coset)
+            (entry_of t.now item.now.at.state.0 item.now.at.read)) result }
     {
         if item.at.state.0 >= t.states() {
             return Err(Refused::Fails);
@@ -142,6 +152,8 @@ impl CountedAutomata {
         requires right { IsUsedTable (transitions_of self.now.right.states.items) right.now.sets.items }
         ensures steps { IfOk result (λ _. LeadsOn (counted_of self.now) item.now.at (coset_of item.now.coset) entry.write entry.next entry.dir) }
         ensures fails { result ≡ Err Refused.Fails → LeadsOn (counted_of self.now) item.now.at (coset_of item.now.coset) entry.write entry.next entry.dir → ⊥ }
+        ensures pass { Tells (goes_on (counted_of self.now) (not_in_both left.now.sets.items right.now.sets.items) item.now.at (coset_of item.now.coset)
+            (Some entry)) result }
     {
         match entry.dir {
             Dir::L => {
@@ -179,6 +191,7 @@ impl CountedAutomata {
         requires by { by ≡ delta (counted_of self.now) (opposite entry.dir) (state_on (opposite entry.dir) item.now.at) entry.write }
         ensures steps { IfOk result (λ _. LeadsOn (counted_of self.now) item.now.at (coset_of item.now.coset) entry.write entry.next entry.dir) }
         ensures fails { result ≡ Err Refused.Fails → LeadsOn (counted_of self.now) item.now.at (coset_of item.now.coset) entry.write entry.next entry.dir → ⊥ }
+        ensures pass { Tells (leads_on (counted_of self.now) (not_in used.now.sets.items) item.now.at (coset_of item.now.coset) entry by) result }
     {
         match by {
             Some(by) => self.check_side(
@@ -201,6 +214,7 @@ impl CountedAutomata {
         requires by { IsCount step.by.count }
         ensures settles { IfOk result (λ _. AllSettle (counted_of self.now) item.now.at (coset_of item.now.coset) step.side step.by step.next) }
         ensures fails { result ≡ Err Refused.Fails → AllSettle (counted_of self.now) item.now.at (coset_of item.now.coset) step.side step.by step.next → ⊥ }
+        ensures pass { Tells (settled_on (counted_of self.now) (not_in used.now.sets.items) item.now.at (coset_of item.now.coset) step.side step.by step.next) result }
     {
         for q in 0..self.on(step.side).states.len() {
             self.check_from(alloc, used, item, step, q, Sym::Zero)?;
@@ -224,6 +238,8 @@ impl CountedAutomata {
         ensures settles { IfOk result (λ _. SettlesFrom (counted_of self.now) item.now.at (coset_of item.now.coset) step.side step.by step.next q b) }
         ensures fails { result ≡ Err Refused.Fails →
             SettlesFrom (counted_of self.now) item.now.at (coset_of item.now.coset) step.side step.by step.next q b → ⊥ }
+        ensures pass { Tells (settled_from (counted_of self.now) (not_in used.now.sets.items) item.now.at (coset_of item.now.coset)
+            step.side step.by step.next q b (delta (counted_of self.now) step.side q b)) result }
     {
         match self.on(step.side).get(q, b) {
             Some(last) => {
@@ -254,6 +270,8 @@ impl CountedAutomata {
             (HasCoset (counted_of self.now) (moved_to step.side step.by.to step.next b q))) }
         ensures fails { result ≡ Err Refused.Fails → Settled (Remains (counted_of self.now) (coset_of item.now.coset) step.side step.by last q)
             (HasCoset (counted_of self.now) (moved_to step.side step.by.to step.next b q)) → ⊥ }
+        ensures pass { Tells (settled_by (counted_of self.now) (not_in used.now.sets.items) (coset_of item.now.coset)
+            step.side step.by step.next q b last) result }
     {
         let points = Points::moved(alloc, &item.coset, step.by.count, last.count)?;
         match points.kept(
@@ -268,7 +286,8 @@ impl CountedAutomata {
                 moved_to(step.side, step.by.to, step.next, b, q),
             ),
             Err(Refused::Fails) => Ok(()),
-            Err(refused) => Err(refused),
+            Err(Refused::TooLarge) => Err(Refused::TooLarge),
+            Err(Refused::NoMemory) => Err(Refused::NoMemory),
         }
     }
 
@@ -277,6 +296,7 @@ impl CountedAutomata {
         ensures settled { IfOk result (λ _. Settled (IsMember (coset_by points.now.base points.now.rows.items)) (HasCoset (counted_of self.now) next)) }
         ensures fails { result ≡ Err Refused.Fails →
             Settled (IsMember (coset_by points.now.base points.now.rows.items)) (HasCoset (counted_of self.now) next) → ⊥ }
+        ensures pass { Tells (settled (counted_of self.now) next (coset_by points.now.base points.now.rows.items)) result }
     {
         if points.is_negative() {
             return Ok(());
@@ -324,6 +344,7 @@ impl CountedAutomata {
 fn check_zeros(k: &Coset) -> Result<(), Refused>
     ensures member { IfOk result (λ _. IsMember (coset_of k.now) zeros) }
     ensures fails { result ≡ Err Refused.Fails → IsMember (coset_of k.now) zeros → ⊥ }
+    ensures pass { Tells (inside (coset_of k.now).rows (coset_of k.now).base) result }
 {
     Row::sum_to(&k.rows, &k.base)
 }

@@ -1,13 +1,13 @@
 // A whole number for each count.
-ghost use Rattle.std.specs.Prelude.{◌≡◌, ◌↔◌, ℕ, ◌<◌, ◌≤◌, ℤ, pos, ◌-ℤ◌, ◌*ℤ◌, IsTrue, IfSome, IfNone, IfOk};
+ghost use Rattle.std.specs.Prelude.{◌≡◌, ◌↔◌, ℕ, ◌<◌, ◌≤◌, ℤ, pos, ◌-ℤ◌, ◌*ℤ◌, int_div, IsTrue, IfSome, IfNone, IfOk};
 ghost use Rattle.std.specs.Int.RustNames.{unsigned_abs};
-ghost use Rattle.kind_counted.specs.Cosets.{less};
+ghost use Rattle.law_counted.specs.Cosets.{Point, less};
 ghost use Rattle.kind_counted.specs.Limits.{number_limit, count_limit};
 ghost use Rattle.kind_counted.specs.Numbers.{AreSmall, no_numbers, point_of};
 
-use crate::count::Count;
 use crate::limits::{MAX_COUNTS, MAX_NUMBER};
 use crate::refused::Refused;
+use law_counted::Count;
 
 /// A number for each count.
 #[derive(Clone, Copy)]
@@ -17,11 +17,13 @@ pub struct Counts {
 }
 
 impl Counts {
-    ghost use Rattle.std.specs.Prelude.{◌+ℤ◌, set};
-    ghost use Rattle.kind_counted.specs.Counted.{once};
+    ghost use Rattle.std.specs.Prelude.{◌≢◌, ◌+ℤ◌, set, false};
+    ghost use Rattle.law_counted.specs.Counted.{once};
     ghost use Rattle.kind_counted.specs.States.{IsCount};
     ghost use Rattle.kind_counted.specs.inside.Rows.{IsCleared};
     ghost use Rattle.kind_counted.specs.inside.Spans.{IsLessened};
+    ghost use Rattle.kind_counted.specs.Pass.{is_small, sized, cleared};
+    ghost use Rattle.kind_counted.specs.inside.Answers.{Answers};
 
     // 0 for each count.
     pub(crate) fn zeros() -> Counts
@@ -35,7 +37,8 @@ impl Counts {
     // These numbers less so many times others; none where a number gets too large.
     pub(crate) fn less(&self, f: i64, row: &Counts) -> Option<Counts>
         requires { unsigned_abs f ≤ number_limit }
-        ensures { IfSome result (λ v. point_of v.numbers ≡ less (point_of self.now.numbers) f (point_of row.now.numbers)) }
+        ensures less { IfSome result (λ v. point_of v.numbers ≡ less (point_of self.now.numbers) f (point_of row.now.numbers)) }
+        ensures none { IfNone result (is_small (less (point_of self.now.numbers) f (point_of row.now.numbers)) ≡ false) }
     {
         let mut numbers = self.numbers;
         for x in 0..MAX_COUNTS {
@@ -51,6 +54,7 @@ impl Counts {
         ensures cleared { IfOk result (λ v. IsCleared (point_of self.now.numbers) (point_of row.now.numbers) place (point_of v.numbers)) }
         ensures fails { result ≡ Err Refused.Fails → (q : ℤ) →
             point_of self.now.numbers place ≡ q *ℤ point_of row.now.numbers place → ⊥ }
+        ensures pass { Answers (λ v. point_of v.numbers) (cleared place (point_of self.now.numbers) (point_of row.now.numbers)) result }
     {
         match quotient(self.numbers[place], row.numbers[place]) {
             Some(q) => match self.less(q, row) {
@@ -67,6 +71,8 @@ impl Counts {
         requires some { 0 < unsigned_abs (point_of row.now.numbers place) }
         ensures lessened { IfOk result (λ v. IsLessened (point_of self.now.numbers) (point_of row.now.numbers) place (point_of v.numbers)) }
         ensures large { result ≡ Err Refused.Fails → ⊥ }
+        ensures pass { Answers (λ v. point_of v.numbers) (sized (less (point_of self.now.numbers)
+            (int_div (point_of self.now.numbers place) (point_of row.now.numbers place)) (point_of row.now.numbers))) result }
     {
         match self.less(rounded(self.numbers[place], row.numbers[place]), row) {
             Some(rest) => Ok(rest),
@@ -78,6 +84,7 @@ impl Counts {
     pub(crate) fn minus(&self, other: &Counts) -> Result<Counts, Refused>
         ensures minus { IfOk result (λ v. (x : ℕ) → point_of v.numbers x ≡ point_of self.now.numbers x -ℤ point_of other.now.numbers x) }
         ensures large { result ≡ Err Refused.Fails → ⊥ }
+        ensures pass { Answers (λ v. point_of v.numbers) (sized (λ x. point_of self.now.numbers x -ℤ point_of other.now.numbers x)) result }
     {
         match self.less(1, other) {
             Some(rest) => Ok(rest),
@@ -90,6 +97,7 @@ impl Counts {
         requires { IsCount count }
         ensures more { IfOk result (λ v. (x : ℕ) → point_of v.numbers x ≡ point_of self.now.numbers x +ℤ pos (once count x)) }
         ensures large { result ≡ Err Refused.Fails → ⊥ }
+        ensures pass { Answers (λ v. point_of v.numbers) (sized (λ x. point_of self.now.numbers x +ℤ pos (once count x))) result }
     {
         match count {
             Some(count) => self.with(count.number, self.numbers[count.number] + 1),
@@ -102,6 +110,7 @@ impl Counts {
         requires { IsCount count }
         ensures less { IfOk result (λ v. (x : ℕ) → point_of v.numbers x ≡ point_of self.now.numbers x -ℤ pos (once count x)) }
         ensures large { result ≡ Err Refused.Fails → ⊥ }
+        ensures pass { Answers (λ v. point_of v.numbers) (sized (λ x. point_of self.now.numbers x -ℤ pos (once count x))) result }
     {
         match count {
             Some(count) => self.with(count.number, self.numbers[count.number] - 1),
@@ -114,6 +123,8 @@ impl Counts {
         requires { place < count_limit }
         ensures with { IfOk result (λ v. v.numbers ≡ set self.now.numbers place number) }
         ensures large { result ≡ Err Refused.Fails → ⊥ }
+        ensures pass { (f : Point) → f place ≡ number → ((x : ℕ) → x ≢ place → f x ≡ point_of self.now.numbers x) →
+            Answers (λ v. point_of v.numbers) (sized f) result }
     {
         if number < -MAX_NUMBER || number > MAX_NUMBER {
             return Err(Refused::TooLarge);
@@ -143,6 +154,7 @@ fn less_at(number: i64, f: i64, other: i64) -> Option<i64>
     requires other { unsigned_abs other ≤ number_limit }
     ensures is { IfSome result (λ n. n ≡ number -ℤ (f *ℤ other)) }
     ensures small { IfSome result (λ n. unsigned_abs n ≤ number_limit) }
+    ensures large { IfNone result (number_limit < unsigned_abs (number -ℤ (f *ℤ other))) }
 {
     let less = number - f * other;
     if less < -MAX_NUMBER || less > MAX_NUMBER {
@@ -171,6 +183,7 @@ fn rounded(number: i64, divisor: i64) -> i64
     requires number { unsigned_abs number ≤ number_limit }
     requires divisor { unsigned_abs divisor ≤ number_limit }
     requires some { 0 < unsigned_abs divisor }
+    ensures is { result ≡ int_div number divisor }
     ensures small { unsigned_abs result ≤ number_limit }
     ensures rest { unsigned_abs (number -ℤ (result *ℤ divisor)) < unsigned_abs divisor }
 {

@@ -21,8 +21,10 @@ impl Row {
     ghost use Rattle.std.specs.Prelude.{IfOk, IfSome, IfNone, IsTrue, false};
     ghost use Rattle.kind_counted.specs.Texts.{pivot_of, leads};
     ghost use Rattle.kind_counted.specs.declared.rows.Row.{Row};
-    ghost use Rattle.kind_counted.specs.Cosets.{IsSum};
+    ghost use Rattle.law_counted.specs.Cosets.{IsSum};
     ghost use Rattle.kind_counted.specs.Pivots.{points, AreRising};
+    ghost use Rattle.kind_counted.specs.Pass.{inside};
+    ghost use Rattle.kind_counted.specs.inside.Answers.{Tells};
 
     /// A row of numbers, if the first that isn't 0 is positive.
     pub fn of(counts: Counts) -> Option<Row>
@@ -47,6 +49,7 @@ impl Row {
         requires { AreRising rows.now }
         ensures sum { IfOk result (λ _. IsSum (points rows.now) (point_of counts.now.numbers)) }
         ensures fails { result ≡ Err Refused.Fails → IsSum (points rows.now) (point_of counts.now.numbers) → ⊥ }
+        ensures pass { Tells (inside (points rows.now) (point_of counts.now.numbers)) result }
     {
         let mut rest = *counts;
         for row in rows {

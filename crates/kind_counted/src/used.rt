@@ -1,14 +1,14 @@
 // Which counts the paths to each state of an automaton have.
 ghost use Rattle.std.specs.Prelude.{◌≡◌, ◌+◌, ◌*◌, ◌<◌, ◌≤◌, ℕ, Some, length, IsTrue, IfOk, OnErr, false, slice_index, get_or};
 ghost use Rattle.machine_text.specs.declared.transition.Sym.{Sym};
-ghost use Rattle.kind_counted.specs.Counted.{Delta};
+ghost use Rattle.law_counted.specs.Counted.{Delta};
 ghost use Rattle.kind_counted.specs.Automata.{transitions_of, exit_by, no_exits};
 ghost use Rattle.kind_counted.specs.States.{IsCount, LeadsBelow};
 ghost use Rattle.kind_counted.specs.inside.Used.{in_set, Includes, IncludedBy, AreUsed, IsUsedTable, IsWitnessed, AreWitnessed, IsStart, AreStart, IsIn, reached, total, set_limit};
 
-use crate::automaton::{Automaton, Transition};
-use crate::count::Count;
+use crate::automaton::Automaton;
 use crate::refused::Refused;
+use law_counted::{Count, Transition};
 use machine_text::Sym;
 use std::alloc::Global;
 

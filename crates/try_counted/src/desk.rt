@@ -1,7 +1,7 @@
 // The calls by their names.
 use find_counted::CountedFinder;
 use kind_counted::{CountedCosets, OwnedCosets};
-use kind_evidence::Verdict;
+use kind_evidence::{Evidence, Verdict};
 use machine_text::{TEXT_BYTES, Table};
 use std::alloc::{AllocError as NoMemory, Global};
 use text::{FieldFault, Parts, decimal_value};

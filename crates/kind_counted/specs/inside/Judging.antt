@@ -1,20 +1,20 @@
 -- What is looked at when counted automata are judged.
-use Rattle.std.specs.Prelude.{◌≡◌, ℕ, ◌<◌, ◌≤◌, List, map, length, get_or, Option, Some, None}
+use Rattle.std.specs.Prelude.{◌≡◌, ℕ, ◌<◌, ◌≤◌, List, map, length, get_or, Option, Some}
 use Rattle.machine_text.specs.declared.transition.Sym.{Sym}
-use Rattle.machine_text.specs.declared.transition.Sym.TheVariants.{Zero}
 use Rattle.machine_text.specs.declared.transition.Dir.{Dir}
 use Rattle.machine_text.specs.declared.transition.Dir.TheVariants.{L, R}
 use Rattle.machine_text.specs.declared.transition.State.{State}
 use Rattle.machine_text.specs.declared.transition.Entry.{Entry}
 use Rattle.law_turing.specs.Machine.{Machine}
-use Rattle.kind_counted.specs.declared.count.Count.{Count}
-use Rattle.kind_counted.specs.declared.automaton.Transition.{Transition}
-use Rattle.kind_counted.specs.declared.local.Local.{Local}
+use Rattle.law_counted.specs.declared.count.Count.{Count}
+use Rattle.law_counted.specs.declared.transition.Transition.{Transition}
+use Rattle.law_counted.specs.declared.local.Local.{Local}
 use Rattle.kind_counted.specs.declared.item.Item.{Item}
 use Rattle.kind_counted.specs.Items.{coset_of}
 use Rattle.kind_counted.specs.Limits.{count_limit}
-use Rattle.kind_counted.specs.Cosets.{zeros, Coset, IsMember}
-use Rattle.kind_counted.specs.Counted.{Delta, CountedSystem, HasCoset, delta, IsOf, state_on, moved_to, Remains, Settled, LeadsOn}
+use Rattle.law_counted.specs.Cosets.{zeros, Coset, IsMember}
+use Rattle.kind_counted.specs.Pass.{start_local}
+use Rattle.law_counted.specs.Counted.{Delta, CountedSystem, HasCoset, delta, state_on, moved_to, Remains, Settled, LeadsOn}
 
 -- a count is in a range
 pub record IsInRange (low high x : ℕ) : Type 0 where
@@ -78,15 +78,6 @@ pub record HasStep (m : Machine) (w : CountedSystem) (c : Local) (k : Coset) : T
 -- each of so many items has an entry whose step settles
 pub record AllGoOn (m : Machine) (w : CountedSystem) (items : List Item) (reach : ℕ) : Type 0 where
   pub each : (i : ℕ) (item : Item) → i < reach → item ≡ get_or items i item → HasStep m w item.at (coset_of item.coset)
-
--- blank cells far away change nothing, and each automaton has its own counts
-pub record IsFormed (w : CountedSystem) : Type 0 where
-  pub blank : (side : Dir) → delta w side 0 Zero ≡ Some (record { to = 0; count = None })
-  pub own : (side : Dir) (q : ℕ) (s : Sym) (t : Transition) (x : Count) → delta w side q s ≡ Some t → t.count ≡ Some x → IsOf w side x.number
-
--- what stands around the head on the blank tape
-abbrev pub start_local : Local
-start_local = record { left = 0; state = record { 0 = 0 }; read = Zero; right = 0 }
 
 -- its coset has the point of zeros
 pub record StartsInside (w : CountedSystem) : Type 0 where

@@ -1,11 +1,11 @@
 -- The points that are left after a step.
 use Rattle.std.specs.Prelude.{◌≡◌, ℕ, ◌<◌, ◌≤◌, ℤ, pos, ◌+ℤ◌, ◌-ℤ◌, ◌<ℤ◌, false, List, get_or, Option}
-use Rattle.kind_counted.specs.Cosets.{Point, zeros, IsSum, Coset, IsMember}
-use Rattle.kind_counted.specs.Counted.{once}
+use Rattle.law_counted.specs.Cosets.{Point, zeros, IsSum, Coset, IsMember}
+use Rattle.law_counted.specs.Counted.{once}
 use Rattle.kind_counted.specs.Numbers.{point_of}
 use Rattle.kind_counted.specs.inside.Spans.{listed}
 use Rattle.kind_counted.specs.inside.Used.{in_set}
-use Rattle.kind_counted.specs.declared.count.Count.{Count}
+use Rattle.law_counted.specs.declared.count.Count.{Count}
 use Rattle.kind_counted.specs.declared.numbers.Counts.{Counts}
 
 abbrev pub coset_by : Counts → List Counts → Coset

@@ -1,6 +1,6 @@
 -- Rows in echelon form, and numbers from which they are taken off.
 use Rattle.std.specs.Prelude.{◌≡◌, ℕ, ℤ, ◌*ℤ◌, List, drop}
-use Rattle.kind_counted.specs.Cosets.{Point, less, IsSum}
+use Rattle.law_counted.specs.Cosets.{Point, less, IsSum}
 use Rattle.kind_counted.specs.Pivots.{points}
 use Rattle.kind_counted.specs.declared.rows.Row.{Row}
 

@@ -2,9 +2,9 @@
 use Rattle.std.specs.Prelude.{◌≡◌, ℕ, ◌+◌, ◌<◌, ◌==◌, ◌⊎◌, Bool, IsTrue, List, [], ◌∷◌, Option, Some, None, slice_index}
 use Rattle.std.specs.Int.{bit_at}
 use Rattle.machine_text.specs.declared.transition.Sym.{Sym}
-use Rattle.kind_counted.specs.declared.count.Count.{Count}
-use Rattle.kind_counted.specs.declared.automaton.Transition.{Transition}
-use Rattle.kind_counted.specs.Counted.{Delta, Reading, reading}
+use Rattle.law_counted.specs.declared.count.Count.{Count}
+use Rattle.law_counted.specs.declared.transition.Transition.{Transition}
+use Rattle.law_counted.specs.Counted.{Delta, Reading, reading}
 use Rattle.kind_counted.specs.Limits.{count_limit}
 
 -- a set of numbers, kept as the bits of one

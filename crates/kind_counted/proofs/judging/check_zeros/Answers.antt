@@ -1,6 +1,6 @@
 use Rattle.std.proofs.Common.{List, sym, subst}
 use Rattle.kind_counted.specs.declared.rows.Row.{Row}
-use Rattle.kind_counted.specs.Cosets.{Coset, zeros, IsSum, IsMember}
+use Rattle.law_counted.specs.Cosets.{Coset, zeros, IsSum, IsMember}
 use Rattle.kind_counted.specs.Items.{coset_of}
 use Rattle.kind_counted.specs.Pivots.{points}
 use Rattle.kind_counted.proofs.LeftLaws.{ok_then, zeros_member, member_zeros}

@@ -1,6 +1,6 @@
 use Rattle.std.proofs.Common.{◌≡◌, ◌<◌, length, sym, ◌∙◌, ap, subst, arith}
 use Rattle.machine_text.specs.declared.transition.Sym.TheVariants.{Zero, One}
-use Rattle.kind_counted.specs.Counted.{Delta}
+use Rattle.law_counted.specs.Counted.{Delta}
 use Rattle.kind_counted.specs.Automata.{transitions_of}
 use Rattle.kind_counted.specs.inside.Used.{AreWitnessed}
 use Rattle.kind_counted.proofs.UsedLaws.{total_limit}

@@ -3,7 +3,7 @@ use Rattle.std.specs.Prelude.{IsTrue}
 use Rattle.std.proofs.lemmas.Bool.{cases_eq}
 use Rattle.std.proofs.lemmas.Nat.Bits.{bit_at_set_same, bit_at_set_other}
 use Rattle.std.proofs.lemmas.Option.{same_Some}
-use Rattle.kind_counted.specs.declared.count.Count.{Count}
+use Rattle.law_counted.specs.declared.count.Count.{Count}
 use Rattle.kind_counted.specs.inside.Used.{in_set, IsIn}
 use Rattle.kind_counted.proofs.Bits.{bit_of, member_of, has_left}
 use Rattle.kind_counted.proofs.used.with_count.Goals as goal

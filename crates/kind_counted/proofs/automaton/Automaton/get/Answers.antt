@@ -1,7 +1,7 @@
 use Rattle.std.proofs.Common.{◌≡◌, Option, Some, None, sym, ◌∙◌, ap, refl, arith}
 use Rattle.std.specs.Prelude.{IfSome}
 use Rattle.machine_text.specs.declared.transition.Sym.TheVariants.{Zero, One}
-use Rattle.kind_counted.specs.declared.automaton.Transition.{Transition}
+use Rattle.law_counted.specs.declared.transition.Transition.{Transition}
 use Rattle.kind_counted.specs.States.{IsCount}
 use Rattle.std.proofs.lemmas.List.{get_or_default}
 use Rattle.kind_counted.specs.declared.automaton.Exits.{Exits}

@@ -1,6 +1,6 @@
 use Rattle.std.proofs.Common.{sym, ◌∙◌}
-use Rattle.kind_counted.specs.Cosets.{Coset}
-use Rattle.kind_counted.specs.Counted.{CountedSystem, LeadsOn}
+use Rattle.law_counted.specs.Cosets.{Coset}
+use Rattle.law_counted.specs.Counted.{CountedSystem, LeadsOn}
 use Rattle.kind_counted.specs.Items.{coset_of}
 use Rattle.kind_counted.specs.Certificate.{counted_of}
 use Rattle.kind_counted.specs.inside.Judging.{AllSettle}

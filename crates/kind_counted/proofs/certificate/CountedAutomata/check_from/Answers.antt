@@ -1,5 +1,5 @@
 use Rattle.std.proofs.Common.{sym, ◌∙◌, ap}
-use Rattle.kind_counted.specs.Counted.{Delta}
+use Rattle.law_counted.specs.Counted.{Delta}
 use Rattle.kind_counted.proofs.certificate.CountedAutomata.check_from.Goals as goal
 
 pub returns-else-last-state_on-clause-fails : goal.returns-else-last-state_on-clause-fails

@@ -1,7 +1,7 @@
 use Rattle.std.proofs.Common.{◌≡◌, inl, inr, pos, ◌<ℤ◌, refl, arith}
 use Rattle.std.proofs.lemmas.Int.{ints}
 use Rattle.std.proofs.lemmas.Bool.{cases_lt}
-use Rattle.kind_counted.specs.Cosets.{Coset}
+use Rattle.law_counted.specs.Cosets.{Coset}
 use Rattle.kind_counted.specs.Numbers.{point_of}
 use Rattle.kind_counted.specs.inside.Points.{coset_by}
 use Rattle.kind_counted.proofs.PointLaws.{past_end}

@@ -1,5 +1,5 @@
 use Rattle.std.proofs.Common.{List, [], ◌∷◌, ◌++◌, None, sym, subst}
-use Rattle.kind_counted.specs.Cosets.{Point}
+use Rattle.law_counted.specs.Cosets.{Point}
 use Rattle.kind_counted.specs.Numbers.{point_of}
 use Rattle.kind_counted.specs.declared.numbers.Counts.{Counts}
 use Rattle.kind_counted.specs.inside.Spans.{listed, IsSplit}

@@ -1,0 +1,2 @@
+pub mod Cosets
+pub mod Counted

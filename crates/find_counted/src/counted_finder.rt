@@ -10,6 +10,7 @@ use crate::half_tapes::HalfTapes;
 use crate::half_tree::HalfTree;
 use crate::limits::{MAX_FOUND_COUNTS, STEPS, WINDOWS};
 use crate::writing::{append_automaton, append_cosets};
+use cert::{Finder, OwnedCertificate};
 use kind_counted::{CountedCosets, OwnedCosets};
 use kind_evidence::{Evidence, NoMemory, Refused};
 use machine_text::{Dir, Table};
@@ -135,6 +136,16 @@ impl CountedFinder {
             Ok(_) => Ok(Some(OwnedCosets::of(self.alloc, &claim)?)),
             Err(Refused::NoMemory) => Err(NoMemory),
             Err(_) => Ok(None),
+        }
+    }
+}
+
+impl Finder for CountedFinder {
+    /// The finder's tries don't depend on the budget.
+    fn find(&mut self, t: &Table, budget: u64) -> Result<Option<OwnedCertificate>, NoMemory> {
+        match self.search(t)? {
+            Some(found) => Ok(Some(OwnedCertificate::Counted(Box::new(self.alloc, found)?))),
+            None => Ok(None),
         }
     }
 }

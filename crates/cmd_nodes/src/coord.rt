@@ -1,6 +1,12 @@
 // `bb coord`: a coordinator over two streams and a ledger.
-ghost use Rattle.std.specs.Prelude.{◌≡◌, ◌≤◌, None, IfSome};
+ghost use Rattle.std.specs.Prelude.{◌≡◌, ◌≤◌, None, IfOk, IfSome, OnOk};
 ghost use Rattle.machine_text.specs.Limits.{state_limit};
+ghost use Rattle.machine_text.specs.Packed.{empty_table};
+ghost use Rattle.wire.specs.Carried.{kept_text};
+ghost use Rattle.wire.specs.declared.node.Out.{Out as Answer};
+ghost use Rattle.lease_core.specs.Starts.{InStep};
+ghost use Rattle.cmd_nodes.specs.Settled.{IsOfLedger};
+ghost use Rattle.cmd_nodes.specs.inside.{HasRoot, StartsInStep};
 ghost use Rattle.ledger.specs.Tally.{IsStatus};
 ghost use Rattle.ledger.specs.declared.status.Status.{Status as BoardStatus};
 ghost use Rattle.cmd_ledgers.specs.LedgerReport.{outcome_by};
@@ -62,6 +68,8 @@ pub(crate) fn start_coordinator<F: Read + Drop, L: LedgerOut>(
     ledger: &mut L,
 ) -> Result<Coordinator, Ended>
     requires { (1 ≤ beginning.states) × (beginning.states ≤ state_limit) }
+    ensures root { IfOk result (HasRoot (empty_table beginning.states)) }
+    ensures step { IfOk result (StartsInStep F.remaining held (L.text ledger.old) (L.text ledger.new)) }
 {
     match held {
         Ok(mut opened) => start(alloc, beginning, &mut opened, ledger),
@@ -77,6 +85,8 @@ fn start<F: Read, L: LedgerOut>(
     ledger: &mut L,
 ) -> Result<Coordinator, Ended>
     requires { (1 ≤ beginning.states) × (beginning.states ≤ state_limit) }
+    ensures root { IfOk result (HasRoot (empty_table beginning.states)) }
+    ensures step { IfOk result (λ node. IsOfLedger (F.remaining opened.old.reader) opened.old.length (L.text ledger.old) → IfSome (L.text ledger.new) (InStep node)) }
 {
     let limit = opened.length;
     let mut held = HeldLedger::of(&mut opened.reader);
@@ -96,7 +106,9 @@ fn carry_out_first<L: LedgerOut>(
     first: Result<Out, StartFault>,
     fault: Option<Ended>,
     ledger: &mut L,
-) -> Result<(), Ended> {
+) -> Result<(), Ended>
+    ensures { OnOk result ((out : Answer) × (first ≡ Ok out) × (L.text ledger.new ≡ kept_text out (L.text ledger.old))) }
+{
     match first {
         Ok(out) => keep_answer(&out, ledger),
         Err(refused) => Err(fault.unwrap_or(by_start(refused))),

@@ -52,7 +52,7 @@ all_read bytes text len (Some ys) all is =
 
 -- a coordinator has started, and its first answer is carried out
 module _ (n era : ℕ) (has : Option (List ℕ)) (len : ℕ) (left : Option (List ℕ)) (c : Coordinating) (first : Result Out StartFault) (out : Out)
-  (starts : StartsFrom n era has len left c first) (is : first ≡ Ok out) where
+    (starts : StartsFrom n era has len left c first) (is : first ≡ Ok out) where
   pub start_root : HasRoot (empty_table n) c
   start_root =
       let (text, all, (board, rest, loads, so, begins), step) = subst (λ (r : Result Out StartFault). StartsFrom n era has len left c r) is starts in

@@ -44,7 +44,8 @@ pub record ReportsTree (IsText : FormText) (n : ℕ) (IsKept : Contents → Type
   pub appends : Appends held new_held written
   pub kept : IsKept board
 
--- the board is complete: the greatest number of steps that it has, its best, is S(n), and its greatest score is Σ(n) (Radó 1962)
+-- the board is complete: its best, the greatest number of steps that it has, is S(n), and its ones, the greatest
+-- score, are Σ(n) (Radó 1962)
 pub record ReportsComplete (IsText : FormText) (n : ℕ) (IsKept : Contents → Type 0) (held new_held : Option (List ℕ)) : Type 0 where
   pub board : Contents
   pub reports : ReportsTree IsText n IsKept held new_held board
@@ -62,8 +63,8 @@ pub record ReportsIncomplete (IsText : FormText) (n : ℕ) (IsKept : Contents �
   pub reports : ReportsTree IsText n IsKept held new_held board
   pub incomplete : IsComplete board.root (mark_in board.records) → ⊥
 
--- by how a command ends: with all accepted, the report of a complete board is written; with a refusal, that of one that isn't
--- complete. What ends it early ends it before anything is written, unless the stream fails
+-- by how a command ends: with all accepted, the report of a complete board is written; with a refusal, that of one that
+-- isn't complete. What ends it early ends it before anything is written, unless a stream fails
 abbrev pub SettlesTree : FormText → ℕ → (Contents → Type 0) → Option (List ℕ) → Option (List ℕ) → Result Outcome Ended → Type 0
 SettlesTree IsText n IsKept held new_held (Ok Accepted) = ReportsComplete IsText n IsKept held new_held
 SettlesTree IsText n IsKept held new_held (Ok Refused) = ReportsIncomplete IsText n IsKept held new_held
@@ -72,8 +73,8 @@ SettlesTree IsText n IsKept held new_held (Ok NoMemory) = ⊥
 SettlesTree IsText n IsKept held new_held (Ok Failed) = ⊥
 SettlesTree IsText n IsKept held new_held (Err e) = (new_held ≡ held) ⊎ (e ≡ Stream)
 
--- by the outcome: accepted is a complete board of which the report is written; refused is one that isn't complete, or nothing is
--- written; nor is anything where memory is refused. What is written by a command that fails isn't told by that
+-- by the outcome: where all is accepted, the report of a complete board is written; where it is refused, that of one
+-- that isn't complete, or nothing; where memory is refused, nothing. A failure doesn't tell what was written
 abbrev pub TellsTree : FormText → ℕ → (Contents → Type 0) → Option (List ℕ) → Option (List ℕ) → Outcome → Type 0
 TellsTree IsText n IsKept held new_held Accepted = ReportsComplete IsText n IsKept held new_held
 TellsTree IsText n IsKept held new_held Refused = ReportsIncomplete IsText n IsKept held new_held ⊎ (new_held ≡ held)

@@ -86,7 +86,8 @@ fn start<F: Read, L: LedgerOut>(
 ) -> Result<Coordinator, Ended>
     requires { (1 ≤ beginning.states) × (beginning.states ≤ state_limit) }
     ensures root { IfOk result (HasRoot (empty_table beginning.states)) }
-    ensures step { IfOk result (λ node. IsOfLedger (F.remaining opened.old.reader) opened.old.length (L.text ledger.old) → IfSome (L.text ledger.new) (InStep node)) }
+    ensures step { IfOk result (λ node. IsOfLedger (F.remaining opened.old.reader) opened.old.length (L.text ledger.old)
+        → IfSome (L.text ledger.new) (InStep node)) }
 {
     let limit = opened.length;
     let mut held = HeldLedger::of(&mut opened.reader);
@@ -107,7 +108,8 @@ fn carry_out_first<L: LedgerOut>(
     fault: Option<Ended>,
     ledger: &mut L,
 ) -> Result<(), Ended>
-    ensures { OnOk result ((out : Answer) × (first ≡ Ok out) × (L.text ledger.new ≡ kept_text out (L.text ledger.old))) }
+    ensures { OnOk result ((out : Answer) × (first ≡ Ok out)
+        × (L.text ledger.new ≡ kept_text out (L.text ledger.old))) }
 {
     match first {
         Ok(out) => keep_answer(&out, ledger),

@@ -9,14 +9,16 @@ use ledger::{Board, Left};
 use std::alloc::Global;
 use std::io::Write;
 
-// Prints the report of a coordinator's board, and answers by how that stands. Nothing was printed where memory is refused.
+// Prints the report of a coordinator's board, and answers by how that stands. Where memory is refused, nothing was
+// printed.
 pub(crate) fn report_board<P: ReportForm, W: Write>(
     alloc: Global,
     form: &P,
     node: &Coordinator,
     answers: &mut W,
 ) -> Result<Outcome, Ended>
-    ensures ok { IfOk result (λ o. IfSome node.now.held (λ held. ReportsBoard (P.is_text form.now) held.board (W.contents answers.old) (W.contents answers.new) o)) }
+    ensures ok { IfOk result (λ o. IfSome node.now.held (λ held.
+        ReportsBoard (P.is_text form.now) held.board (W.contents answers.old) (W.contents answers.new) o)) }
     ensures err { IfErr result (λ e. (W.contents answers.new ≡ W.contents answers.old) ⊎ (e ≡ Ended.Stream)) }
 {
     match node.board() {
@@ -32,7 +34,8 @@ fn report_of<P: ReportForm, W: Write>(
     board: &Board,
     answers: &mut W,
 ) -> Result<Outcome, Ended>
-    ensures ok { IfOk result (ReportsBoard (P.is_text form.now) board.now (W.contents answers.old) (W.contents answers.new)) }
+    ensures ok { IfOk result
+        (ReportsBoard (P.is_text form.now) board.now (W.contents answers.old) (W.contents answers.new)) }
     ensures err { IfErr result (λ e. (W.contents answers.new ≡ W.contents answers.old) ⊎ (e ≡ Ended.Stream)) }
 {
     // The proof needs that it is a board.

@@ -9,13 +9,13 @@ use Rattle.wire.specs.declared.message_fault.MsgFault.{MsgFault}
 use Rattle.wire.specs.declared.node.Out.{Out}
 use Rattle.leases.specs.Leases.{Leased}
 use Rattle.lease_core.specs.CoordinatorRules.{Coordinating, DoneRow, FrameRow, HeldGives, MessageRow, On, Row}
-use Rattle.cmd_nodes.specs.inside.{Followed, Follows, HasRoot}
+use Rattle.cmd_nodes.specs.inside.{Becomes, BecomesBy, IsOfRoot}
 
 root_of : Leased → Packed
 root_of l = l.board.root
 
 abbrev pub KeepsRoot : Coordinating → Coordinating → Type 0
-KeepsRoot old new = (root : Packed) → HasRoot root old → HasRoot root new
+KeepsRoot old new = (root : Packed) → IsOfRoot root old → IsOfRoot root new
 
 done_root : (b : Bool) (number : ℕ) (old : Leased) (out : Out) (new : Leased) → DoneRow b number old out new → root_of new ≡ root_of old
 unfolding root_of
@@ -55,9 +55,9 @@ pub on_keeps : (old new : Coordinating) (e : Happening) (out : Out) → On old e
 unfolding root_of
 on_keeps old new e out on root has = held_root old.era old.held new.held e out root on.3 has
 
-follows_keep : (old new : Coordinating) (replies : List Reply) → Follows On old replies new → KeepsRoot old new
-follows_keep old new [] is root has = subst (HasRoot root) (sym is) has
-follows_keep old new (reply ∷ replies) is root has = follows_keep is.0 new replies is.2 root (on_keeps old is.0 reply.to reply.out is.1 root has)
+becomes_keep : (old new : Coordinating) (replies : List Reply) → BecomesBy On old replies new → KeepsRoot old new
+becomes_keep old new [] is root has = subst (IsOfRoot root) (sym is) has
+becomes_keep old new (reply ∷ replies) is root has = becomes_keep is.0 new replies is.2 root (on_keeps old is.0 reply.to reply.out is.1 root has)
 
-pub followed_keep : (old new : Coordinating) → Followed On old new → KeepsRoot old new
-followed_keep old new is = follows_keep old new is.0 is.1
+pub became_keep : (old new : Coordinating) → Becomes On old new → KeepsRoot old new
+became_keep old new is = becomes_keep old new is.0 is.1

@@ -24,7 +24,7 @@ use Rattle.cmd_options.specs.declared.outcome.Outcome.TheVariants.{Accepted, Ref
 use Rattle.cmd_options.specs.declared.ended.Ended.{Ended}
 use Rattle.cmd_options.specs.declared.ended.Ended.TheVariants.{BadHeader, WrongRoot, HasPart, OutInFolder, Stream, Ledger, File, Locked, NoMemory as WantsMemory}
 use Rattle.cmd_nodes.specs.Settled.{FormText, ReportsComplete, ReportsIncomplete, ReportsTree, SettlesTree, TellsTree}
-use Rattle.cmd_nodes.specs.inside.{HasRoot, ReportsBoard}
+use Rattle.cmd_nodes.specs.inside.{IsOfRoot, ReportsBoard}
 
 -- what is the greatest on a complete board is so in the tree of its root
 best_in_tree : (b : Contents) (best : Option ℕ) → IsBoard b → IsComplete b.root (mark_in b.records) → IsGreatestCount b.records best → IsGreatestInTables HaltsAt b.root best
@@ -73,7 +73,7 @@ module _ (IsText : FormText) (n : ℕ) (IsKept : Contents → Type 0) (held new_
       }
 
   -- the report of a coordinator's board
-  pub settles : (c : Coordinating) (o : Outcome) → 1 ≤ n → n ≤ state_limit → HasRoot (empty_table n) c → ((leased : Leased) → c.held ≡ Some leased → IsKept leased.board)
+  pub settles : (c : Coordinating) (o : Outcome) → 1 ≤ n → n ≤ state_limit → IsOfRoot (empty_table n) c → ((leased : Leased) → c.held ≡ Some leased → IsKept leased.board)
       → IfSome c.held (λ leased. ReportsBoard IsText leased.board held new_held o) → SettlesTree IsText n IsKept held new_held (Ok o)
   settles c o some limit has kept reported =
       let b = has.0.board in

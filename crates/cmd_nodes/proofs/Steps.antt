@@ -12,13 +12,13 @@ use Rattle.lease_core.specs.Starts.{HeldInStep, InStep, StartsFrom}
 use Rattle.lease_core.specs.declared.start_fault.StartFault.{StartFault}
 use Rattle.files.specs.declared.opened.Opened.{Opened}
 use Rattle.cmd_nodes.specs.Settled.{IsOfLedger, KeepsLedger}
-use Rattle.cmd_nodes.specs.inside.{Followed, GoesOn, HasRoot, KeepsStep, StartsInStep}
-use Rattle.cmd_nodes.proofs.Roots.{followed_keep, on_keeps}
+use Rattle.cmd_nodes.specs.inside.{Becomes, IsServed, IsOfRoot, KeepsStep, StartsInStep}
+use Rattle.cmd_nodes.proofs.Roots.{became_keep, on_keeps}
 
-pub nothing_yet : (c : Coordinating) (text : Option (List ℕ)) → GoesOn c c text text
+pub nothing_yet : (c : Coordinating) (text : Option (List ℕ)) → IsServed c c text text
 nothing_yet c text = record { root = λ root has. has; step = λ known. known }
 
-pub one_by_one : (a b c : Coordinating) (first then last : Option (List ℕ)) → GoesOn a b first then → GoesOn b c then last → GoesOn a c first last
+pub one_by_one : (a b c : Coordinating) (first then last : Option (List ℕ)) → IsServed a b first then → IsServed b c then last → IsServed a c first last
 one_by_one a b c first then last x y = record { root = λ root has. y.root root (x.root root has); step = λ known. y.step (x.step known) }
 
 -- the ledger's part of an answer is carried out
@@ -27,12 +27,12 @@ step_kept : (out : Out) (old new : Coordinating) (before after : Option (List �
 step_kept out old new None after step is = λ known. subst (λ (o : Option (List ℕ)). IfSome o (InStep new)) (sym is) tt
 step_kept out old new (Some text) after step is = λ known. subst (λ (o : Option (List ℕ)). IfSome o (InStep new)) (sym is) (step text known)
 
-pub answer_goes_on : (old new : Coordinating) (e : Happening) (out : Out) (before after : Option (List ℕ)) → On old e (Ok out) new → ((text : List ℕ) → InStep old text → InStep new (text_after out text))
-    → after ≡ kept_text out before → GoesOn old new before after
-answer_goes_on old new e out before after on step is = record { root = on_keeps old new e out on; step = step_kept out old new before after step is }
+pub answer_serves : (old new : Coordinating) (e : Happening) (out : Out) (before after : Option (List ℕ)) → On old e (Ok out) new → ((text : List ℕ) → InStep old text → InStep new (text_after out text))
+    → after ≡ kept_text out before → IsServed old new before after
+answer_serves old new e out before after on step is = record { root = on_keeps old new e out on; step = step_kept out old new before after step is }
 
-pub served_goes_on : (old new : Coordinating) (before after : Option (List ℕ)) → Followed On old new → KeepsStep (λ c text. InStep c text) old new before after → GoesOn old new before after
-served_goes_on old new before after followed step = record { root = followed_keep old new followed; step = step }
+pub turns_serve : (old new : Coordinating) (before after : Option (List ℕ)) → Becomes On old new → KeepsStep (λ c text. InStep c text) old new before after → IsServed old new before after
+turns_serve old new before after became step = record { root = became_keep old new became; step = step }
 
 -- all that a reader has was read
 no_more : (ys : List ℕ) → length ys ≡ 0 → ys ≡ []
@@ -53,7 +53,7 @@ all_read bytes text len (Some ys) all is =
 -- a coordinator has started, and its first answer is carried out
 module _ (n era : ℕ) (has : Option (List ℕ)) (len : ℕ) (left : Option (List ℕ)) (c : Coordinating) (first : Result Out StartFault) (out : Out)
     (starts : StartsFrom n era has len left c first) (is : first ≡ Ok out) where
-  pub start_root : HasRoot (empty_table n) c
+  pub start_root : IsOfRoot (empty_table n) c
   start_root =
       let (text, all, (board, rest, loads, so, begins), step) = subst (λ (r : Result Out StartFault). StartsFrom n era has len left c r) is starts in
       (record { board = board; leases = no_leases }, ap (λ (s : Coordinating). s.held) so, loads.0)

@@ -17,25 +17,25 @@ use Rattle.cmd_options.specs.declared.outcome.Outcome.{Outcome}
 use Rattle.cmd_nodes.specs.Settled.{FormText, IsOfLedger}
 
 -- a node gave these answers in turn, and became so
-abbrev pub Follows : {N : Type 0} → Answering N → N → List Reply → N → Type 0
-Follows answers old [] new = new ≡ old
-Follows {N} answers old (reply ∷ replies) new = (node : N) × answers old reply.to (Ok reply.out) node × Follows answers node replies new
+abbrev pub BecomesBy : {N : Type 0} → Answering N → N → List Reply → N → Type 0
+BecomesBy answers old [] new = new ≡ old
+BecomesBy {N} answers old (reply ∷ replies) new = (node : N) × answers old reply.to (Ok reply.out) node × BecomesBy answers node replies new
 
 -- it gave some answers, and became so
-abbrev pub Followed : {N : Type 0} → Answering N → N → N → Type 0
-Followed answers old new = (replies : List Reply) × Follows answers old replies new
+abbrev pub Becomes : {N : Type 0} → Answering N → N → N → Type 0
+Becomes answers old new = (replies : List Reply) × BecomesBy answers old replies new
 
 -- the board of a coordinator has this root
-abbrev pub HasRoot : Packed → Coordinating → Type 0
-HasRoot root c = (held : Leased) × (c.held ≡ Some held) × (held.board.root ≡ root)
+abbrev pub IsOfRoot : Packed → Coordinating → Type 0
+IsOfRoot root c = (held : Leased) × (c.held ≡ Some held) × (held.board.root ≡ root)
 
 -- a ledger whose text is known, and was in step, is in step
 abbrev pub KeepsStep : {N : Type 0} → (N → List ℕ → Type 0) → N → N → Option (List ℕ) → Option (List ℕ) → Type 0
 KeepsStep in_step old new before after = IfSome before (in_step old) → IfSome after (in_step new)
 
 -- a coordinator keeps the root of its board, and its ledger in step
-pub record GoesOn (old new : Coordinating) (before after : Option (List ℕ)) : Type 0 where
-  pub root : (root : Packed) → HasRoot root old → HasRoot root new
+pub record IsServed (old new : Coordinating) (before after : Option (List ℕ)) : Type 0 where
+  pub root : (root : Packed) → IsOfRoot root old → IsOfRoot root new
   pub step : KeepsStep (λ c text. InStep c text) old new before after
 
 -- a ledger that held what was opened of it is in step with the coordinator that began with that

@@ -6,7 +6,7 @@ ghost use Rattle.wire.specs.Carried.{kept_text};
 ghost use Rattle.wire.specs.declared.node.Out.{Out as Answer};
 ghost use Rattle.lease_core.specs.Starts.{InStep};
 ghost use Rattle.cmd_nodes.specs.Settled.{IsOfLedger};
-ghost use Rattle.cmd_nodes.specs.inside.{HasRoot, StartsInStep};
+ghost use Rattle.cmd_nodes.specs.inside.{IsOfRoot, StartsInStep};
 ghost use Rattle.ledger.specs.Tally.{IsStatus};
 ghost use Rattle.ledger.specs.declared.status.Status.{Status as BoardStatus};
 ghost use Rattle.cmd_ledgers.specs.LedgerReport.{outcome_by};
@@ -68,7 +68,7 @@ pub(crate) fn start_coordinator<F: Read + Drop, L: LedgerOut>(
     ledger: &mut L,
 ) -> Result<Coordinator, Ended>
     requires { (1 ≤ beginning.states) × (beginning.states ≤ state_limit) }
-    ensures root { IfOk result (HasRoot (empty_table beginning.states)) }
+    ensures root { IfOk result (IsOfRoot (empty_table beginning.states)) }
     ensures step { IfOk result (StartsInStep F.remaining held (L.text ledger.old) (L.text ledger.new)) }
 {
     match held {
@@ -85,7 +85,7 @@ fn start<F: Read, L: LedgerOut>(
     ledger: &mut L,
 ) -> Result<Coordinator, Ended>
     requires { (1 ≤ beginning.states) × (beginning.states ≤ state_limit) }
-    ensures root { IfOk result (HasRoot (empty_table beginning.states)) }
+    ensures root { IfOk result (IsOfRoot (empty_table beginning.states)) }
     ensures step { IfOk result (λ node. IsOfLedger (F.remaining opened.old.reader) opened.old.length (L.text ledger.old)
         → IfSome (L.text ledger.new) (InStep node)) }
 {

@@ -1,6 +1,6 @@
 // Rounds of a coordinator and workers in one process.
 ghost use Rattle.std.specs.Prelude.{OnOk};
-ghost use Rattle.cmd_nodes.specs.inside.{GoesOn};
+ghost use Rattle.cmd_nodes.specs.inside.{IsServed};
 
 use crate::carriers::Carrier;
 use crate::faults::by_turn;
@@ -21,7 +21,7 @@ pub(crate) fn run_rounds<N: Node, Y: Carrier, L: LedgerOut, P: Progress>(
     rounds: u64,
     progress: &mut P,
 ) -> Result<(), Ended>
-    ensures { OnOk result (GoesOn coordinator.old coordinator.new (L.text ledger.old) (L.text ledger.new)) }
+    ensures { OnOk result (IsServed coordinator.old coordinator.new (L.text ledger.old) (L.text ledger.new)) }
 {
     for round in 1..=rounds {
         if !has_open(coordinator) {
@@ -41,7 +41,7 @@ fn run_round<N: Node, Y: Carrier, L: LedgerOut>(
     stations: &mut Vec<Station<N, Y>>,
     round: u64,
 ) -> Result<(), Ended>
-    ensures { OnOk result (GoesOn coordinator.old coordinator.new (L.text ledger.old) (L.text ledger.new)) }
+    ensures { OnOk result (IsServed coordinator.old coordinator.new (L.text ledger.old) (L.text ledger.new)) }
 {
     tick(coordinator, ledger, round)?;
     for station in stations.iter_mut() {
@@ -56,7 +56,7 @@ fn tick<L: LedgerOut>(
     ledger: &mut L,
     round: u64,
 ) -> Result<(), Ended>
-    ensures { OnOk result (GoesOn coordinator.old coordinator.new (L.text ledger.old) (L.text ledger.new)) }
+    ensures { OnOk result (IsServed coordinator.old coordinator.new (L.text ledger.old) (L.text ledger.new)) }
 {
     match coordinator.on(Event::Tick(round)) {
         Ok(out) => keep_answer(&out, ledger),

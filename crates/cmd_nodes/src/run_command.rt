@@ -5,7 +5,7 @@ ghost use Rattle.cmd_options.specs.Ends.{EndsTold};
 ghost use Rattle.cmd_options.specs.declared.ended.Ended.{Ended as Ends};
 ghost use Rattle.cmd_options.specs.declared.outcome.Outcome.{Outcome as Outcomes};
 ghost use Rattle.cmd_nodes.specs.Settled.{KeepsLedger, SettlesTree, TellsTree};
-ghost use Rattle.cmd_nodes.specs.inside.{GoesOn};
+ghost use Rattle.cmd_nodes.specs.inside.{IsServed};
 
 use crate::carriers::{Carriers, InMemory};
 use crate::coord::start_coordinator;
@@ -141,7 +141,7 @@ fn run_workers<P, L: LedgerOut, N: Node + Drop, C: Clock, Y: Carriers, E: Write>
     ledger: &mut L,
     faults: &mut E,
 ) -> Result<(), Ended>
-    ensures { OnOk result (GoesOn node.old node.new (L.text ledger.old) (L.text ledger.new)) }
+    ensures { OnOk result (IsServed node.old node.new (L.text ledger.old) (L.text ledger.new)) }
 {
     let settling = run.settling;
     let mut stations = stations(alloc, run.workers, carriers)?;

@@ -1,6 +1,6 @@
 // A worker in the same process as its coordinator.
 ghost use Rattle.std.specs.Prelude.{OnOk};
-ghost use Rattle.cmd_nodes.specs.inside.{Followed, GoesOn, KeepsStep};
+ghost use Rattle.cmd_nodes.specs.inside.{Becomes, IsServed, KeepsStep};
 
 use crate::carriers::Carrier;
 use crate::faults::in_memory;
@@ -44,7 +44,7 @@ impl LinkEnd {
         node: &mut N,
         ledger: &mut L,
     ) -> Result<(), TurnFault>
-        ensures followed { OnOk result (Followed N.answers node.old node.new) }
+        ensures became { OnOk result (Becomes N.answers node.old node.new) }
         ensures step { OnOk result (KeepsStep N.in_step node.old node.new (L.text ledger.old) (L.text ledger.new)) }
     {
         for _ in 0..u64::MAX {
@@ -76,7 +76,7 @@ impl<N: Node, Y: Carrier> Station<N, Y> {
         coordinator: &mut Coordinator,
         ledger: &mut L,
     ) -> Result<(), Ended>
-        ensures { OnOk result (GoesOn coordinator.old coordinator.new (L.text ledger.old) (L.text ledger.new)) }
+        ensures { OnOk result (IsServed coordinator.old coordinator.new (L.text ledger.old) (L.text ledger.new)) }
     {
         let worked = work(
             &mut self.worker,
@@ -106,7 +106,7 @@ fn serve_coordinator<L: LedgerOut>(
     coordinator: &mut Coordinator,
     ledger: &mut L,
 ) -> Result<(), Ended>
-    ensures { OnOk result (GoesOn coordinator.old coordinator.new (L.text ledger.old) (L.text ledger.new)) }
+    ensures { OnOk result (IsServed coordinator.old coordinator.new (L.text ledger.old) (L.text ledger.new)) }
 {
     match far.serve(coordinator, ledger) {
         Ok(()) => Ok(()),

@@ -16,7 +16,7 @@ use Rattle.wire.specs.declared.node.Out.{Out}
 use Rattle.lease_core.specs.Says.{Says}
 use Rattle.lease_core.specs.Limits.{tick_record_limit}
 use Rattle.lease_core.specs.WorkerState.{WorkerState, MayWork, records_on, unacknowledged, with_record, with_table}
-use Rattle.lease_core.specs.WorkerRules.{Makes, TickBy, TickRow, done_with}
+use Rattle.lease_core.specs.WorkerRules.{Makes, MayGrowAtTick, MayGrowBy, TickBy, TickRow, done_with}
 use Rattle.lease_core.specs.inside.Due.{AreFirstAcknowledged}
 use Rattle.lease_core.proofs.WorkerFrames.{comes, passes, none_due}
 
@@ -108,3 +108,20 @@ asks_row {D = D} kept old new out due view rests due_is empty idle says same =
     let works = sym (ap (λ (w : WorkerState D). w.rests) view) ∙ rests in
     subst (λ (r : Bool). TickBy r (unacknowledged old.acknowledged (records_on old.board)) old out new) (sym works)
     (subst (λ (rs : List Recorded). TickBy false rs old out new) (sym none) (inr (idle, asks, forgets)))
+
+-- what is sent at a tick takes memory: records that are due
+pub grows_due : {D : Type 0} (w : WorkerState D) → w.rests ≡ false → (unacknowledged w.acknowledged (records_on w.board) ≡ [] → ⊥) → MayGrowAtTick w
+grows_due {D = D} w rests due =
+    subst (λ (b : Bool). MayGrowBy b (unacknowledged w.acknowledged (records_on w.board)) w) (sym rests) (some_due (unacknowledged w.acknowledged (records_on w.board)) due)
+  where
+    some_due : (rs : List Recorded) → (rs ≡ [] → ⊥) → MayGrowBy false rs w
+    some_due [] some = absurd (some refl)
+    some_due (r ∷ rs) some = tt
+
+-- or that it asks
+pub grows_asking : {D : Type 0} (w : WorkerState D) (due : List ℕ) → w.rests ≡ false → due ≡ frames_of (map Rec (take tick_record_limit (unacknowledged w.acknowledged (records_on w.board)))) → due ≡ []
+    → (MayWork w.board → ⊥) → MayGrowAtTick w
+grows_asking w due rests due_is empty idle =
+    let none = none_due 63 (unacknowledged w.acknowledged (records_on w.board)) (sym due_is ∙ empty) in
+    subst (λ (b : Bool). MayGrowBy b (unacknowledged w.acknowledged (records_on w.board)) w) (sym rests)
+    (subst (λ (rs : List Recorded). MayGrowBy false rs w) (sym none) idle)

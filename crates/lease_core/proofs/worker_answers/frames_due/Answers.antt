@@ -7,7 +7,7 @@ use Rattle.wire.specs.Message.{Rec}
 use Rattle.lease_core.specs.Limits.{tick_record_limit}
 use Rattle.lease_core.specs.WorkerState.{unacknowledged}
 use Rattle.lease_core.proofs.WorkerDue.{due_from}
-use Rattle.lease_core.proofs.WorkerFrames.{sends_one, passes_one}
+use Rattle.lease_core.proofs.WorkerFrames.{sends_one, passes_one, is_due}
 use Rattle.lease_core.proofs.worker_answers.frames_due.Goals as goal
 
 pub loop-r-init : goal.loop-r-init
@@ -28,3 +28,7 @@ unfolding same_table
 loop-r-preserved c =
     passes_one c.args.acknowledged.now.keys c.loop-r.frames.items (recorded c.in-Some.r) c.loop-r.r-iterator c.next.new.self c.loop-r.room _ c.contains.result
     c.in-Some.ensures.steps c.contains.ensures c.if-not-contains.false c.loop-r.invariant
+
+pub returns-in_err-send-clause-grows : goal.returns-in_err-send-clause-grows
+unfolding same_table
+returns-in_err-send-clause-grows c = ?

@@ -19,3 +19,9 @@ returns-clause-ok g c =
     let idle = c.if-may_work.false in
     asks_row _ c.args.self.now _ c.sent-2.result frames.items c.self.view_is c.if-self.false c.in_ok-due.ensures none (λ w. let works = busy.1 w in absurd (cc (works, idle)))
     (record { cut_is = c.sent-2.ensures.cut; append_is = c.sent-2.ensures.append; frames_are = ap vec_items c.sent-2.ensures.frames ∙ c.in_ok-frames.ensures; note_is = c.sent-2.ensures.note }) refl
+
+pub returns-in_err-due-clause-grows : goal.returns-in_err-due-clause-grows
+returns-in_err-due-clause-grows g c = ?
+
+pub returns-in_err-frames-clause-grows : goal.returns-in_err-frames-clause-grows
+returns-in_err-frames-clause-grows g c = ?

@@ -110,18 +110,20 @@ asks_row {D = D} kept old new out due view rests due_is empty idle says same =
     (subst (λ (rs : List Recorded). TickBy false rs old out new) (sym none) (inr (idle, asks, forgets)))
 
 -- what is sent at a tick takes memory: records that are due
-pub grows_due : {D : Type 0} (w : WorkerState D) → w.rests ≡ false → (unacknowledged w.acknowledged (records_on w.board) ≡ [] → ⊥) → MayGrowAtTick w
-grows_due {D = D} w rests due =
-    subst (λ (b : Bool). MayGrowBy b (unacknowledged w.acknowledged (records_on w.board)) w) (sym rests) (some_due (unacknowledged w.acknowledged (records_on w.board)) due)
-  where
-    some_due : (rs : List Recorded) → (rs ≡ [] → ⊥) → MayGrowBy false rs w
-    some_due [] some = absurd (some refl)
-    some_due (r ∷ rs) some = tt
+some_due : {D : Type 0} (w : WorkerState D) (rs : List Recorded) → (rs ≡ [] → ⊥) → MayGrowBy false rs w
+some_due w [] some = absurd (some refl)
+some_due w (r ∷ rs) some = tt
+
+pub grows_due : {D : Type 0} (kept old : WorkerState D) → kept ≡ old → kept.rests ≡ false → (unacknowledged old.acknowledged (records_on old.board) ≡ [] → ⊥) → MayGrowAtTick old
+grows_due {D = D} kept old view rests due =
+    let works = sym (ap (λ (w : WorkerState D). w.rests) view) ∙ rests in
+    subst (λ (b : Bool). MayGrowBy b (unacknowledged old.acknowledged (records_on old.board)) old) (sym works) (some_due old (unacknowledged old.acknowledged (records_on old.board)) due)
 
 -- or that it asks
-pub grows_asking : {D : Type 0} (w : WorkerState D) (due : List ℕ) → w.rests ≡ false → due ≡ frames_of (map Rec (take tick_record_limit (unacknowledged w.acknowledged (records_on w.board)))) → due ≡ []
-    → (MayWork w.board → ⊥) → MayGrowAtTick w
-grows_asking w due rests due_is empty idle =
-    let none = none_due 63 (unacknowledged w.acknowledged (records_on w.board)) (sym due_is ∙ empty) in
-    subst (λ (b : Bool). MayGrowBy b (unacknowledged w.acknowledged (records_on w.board)) w) (sym rests)
-    (subst (λ (rs : List Recorded). MayGrowBy false rs w) (sym none) idle)
+pub grows_asking : {D : Type 0} (kept old : WorkerState D) (due : List ℕ) → kept ≡ old → kept.rests ≡ false
+    → due ≡ frames_of (map Rec (take tick_record_limit (unacknowledged old.acknowledged (records_on old.board)))) → due ≡ [] → (MayWork old.board → ⊥) → MayGrowAtTick old
+grows_asking {D = D} kept old due view rests due_is empty idle =
+    let none = none_due 63 (unacknowledged old.acknowledged (records_on old.board)) (sym due_is ∙ empty) in
+    let works = sym (ap (λ (w : WorkerState D). w.rests) view) ∙ rests in
+    subst (λ (b : Bool). MayGrowBy b (unacknowledged old.acknowledged (records_on old.board)) old) (sym works)
+    (subst (λ (rs : List Recorded). MayGrowBy false rs old) (sym none) idle)

@@ -1,4 +1,5 @@
 use Rattle.std.proofs.Common.{ℕ, ◌++◌, List, map, take, ◌∙◌, ap}
+use Rattle.std.proofs.lemmas.Result.{err_from_is_err_and}
 use Rattle.cert.specs.Claim.{Recorded}
 use Rattle.cert.specs.Kinds.{recorded}
 use Rattle.ledger.specs.Records.{same_table}
@@ -31,4 +32,7 @@ loop-r-preserved c =
 
 pub returns-in_err-send-clause-grows : goal.returns-in_err-send-clause-grows
 unfolding same_table
-returns-in_err-send-clause-grows c = ?
+returns-in_err-send-clause-grows c =
+    let p = err_from_is_err_and c.from_residual.result c.from_residual.ensures.1 in
+    rw p.1 (is_due c.args.acknowledged.now.keys c.loop-r.frames.items (recorded c.in-Some.r) c.loop-r.r-iterator c.next.new.self c.args.board.now.records c.loop-r.room c.contains.result
+    c.in-Some.ensures.steps c.contains.ensures c.if-not-contains.true c.if-room-eq0.false c.loop-r.invariant)

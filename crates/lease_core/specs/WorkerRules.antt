@@ -89,9 +89,9 @@ module _ {D : Type 0} where
   abbrev pub TickRow : WorkerState D → Out → WorkerState D → Type 0
   TickRow old out new = TickBy old.rests (unacknowledged old.acknowledged (records_on old.board)) old out new
 
-  -- what may take memory to answer: `GRANT` of a table that names its states in order and isn't the root of its board; `ACK` of a
-  -- record of its board that isn't acknowledged yet; a tick at which something is sent; a work turn that makes a record.
-  -- Nothing else does
+  -- what may take memory to answer: `GRANT` of a table that names its states in order and isn't the root of its
+  -- board; `ACK` of a record of its board that isn't acknowledged yet; a tick at which something is sent; a work turn
+  -- that makes a record. Nothing else does
   abbrev pub MayGrowFor : WorkerState D → Result Message MsgFault → Type 0
   MayGrowFor w (Ok (Grant era number t)) = ((u : ℕ) × InOrder u (entry_of t)) × (HasRoot w.board t → ⊥)
   MayGrowFor w (Ok (Ack t)) = IsRecordedOn w.board t × (list_any (same_table t) w.acknowledged ≡ false)
@@ -135,7 +135,8 @@ module _ {D : Type 0} (asked : D → Packed → Recorded → Type 0) where
   Row old (Ticked t) out new = TickRow old out new
   Row old Worked out new = WorkRow old out new
 
-  -- how a worker answers: `Stopped` where it is stopped; else by the row of what happens, or memory was refused where it may be
+  -- how a worker answers: `Stopped` where it is stopped; else by the row of what happens, or memory was refused where it
+  -- may be
   abbrev pub Answers : WorkerState D → Happening → Result Out NodeFault → WorkerState D → Type 0
   Answers old e (Ok out) new = (old.stopped ≡ false) × Row old e out new
   Answers old e (Err Stopped) new = (old.stopped ≡ true) × (new ≡ old)

@@ -1,7 +1,7 @@
 -- What the report of a coordinator's board tells of its tree.
-use Rattle.std.proofs.Common.{◌≡◌, ℕ, ◌≤◌, List, Option, Some, None, Result, Ok, Err, IfSome, ◌⊎◌, inl, inr, get_or, refl, sym, ap, ◌∙◌, subst, arith}
+use Rattle.std.proofs.Common.{◌≡◌, ℕ, ◌≤◌, List, Option, Some, None, Result, Ok, Err, IfErr, IfOk, IfSome, ◌⊎◌, inl, inr, get_or, sym, ap, subst, arith}
 use Rattle.machine_text.specs.Limits.{state_limit}
-use Rattle.machine_text.specs.Packed.{Packed, empty_table, entry_of}
+use Rattle.machine_text.specs.Packed.{empty_table}
 use Rattle.law_turing.specs.Halting.{HaltsAt}
 use Rattle.law_tree.specs.Best.{Scores}
 use Rattle.law_tree.specs.Closed.{IsComplete}
@@ -23,7 +23,7 @@ use Rattle.cmd_options.specs.declared.outcome.Outcome.{Outcome}
 use Rattle.cmd_options.specs.declared.outcome.Outcome.TheVariants.{Accepted, Refused, BadLine, NoMemory, Failed}
 use Rattle.cmd_options.specs.declared.ended.Ended.{Ended}
 use Rattle.cmd_options.specs.declared.ended.Ended.TheVariants.{BadHeader, WrongRoot, HasPart, OutInFolder, Stream, Ledger, File, Locked, NoMemory as WantsMemory}
-use Rattle.cmd_nodes.specs.Settled.{FormText, ReportsComplete, ReportsIncomplete, ReportsTree, SettlesTree, TellsTree}
+use Rattle.cmd_nodes.specs.Settled.{FormText, ReportsTree, SettlesTree, TellsTree}
 use Rattle.cmd_nodes.specs.inside.{IsOfRoot, ReportsBoard}
 
 -- what is the greatest on a complete board is so in the tree of its root
@@ -87,6 +87,12 @@ module _ (IsText : FormText) (n : ℕ) (IsKept : Contents → Type 0) (held new_
         kept = kept has.0 has.1;
       } in
       subst (λ (x : Outcome). SettlesTree IsText n IsKept held new_held (Ok x)) (sym reports.ends) (by_status b reports.status some limit of_tree reports.stands)
+
+  -- or why there is none
+  pub reported : (c : Coordinating) (r : Result Outcome Ended) → 1 ≤ n → n ≤ state_limit → IsOfRoot (empty_table n) c → ((leased : Leased) → c.held ≡ Some leased → IsKept leased.board)
+      → IfOk r (λ o. IfSome c.held (λ leased. ReportsBoard IsText leased.board held new_held o)) → IfErr r (λ e. (new_held ≡ held) ⊎ (e ≡ Stream)) → SettlesTree IsText n IsKept held new_held r
+  reported c (Ok o) some limit has kept ok err = settles c o some limit has kept ok
+  reported c (Err e) some limit has kept ok err = err
 
   -- what ended it early ended it before anything was written
   untouched : (e : Ended) → (e ≡ Stream → ⊥) → (new_held ≡ held) ⊎ (e ≡ Stream) → new_held ≡ held

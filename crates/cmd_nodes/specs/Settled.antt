@@ -10,9 +10,11 @@ use Rattle.ledger.specs.Contents.{Contents, IsBoard}
 use Rattle.ledger.specs.LedgerText.{IsLedgerOf}
 use Rattle.ledger.specs.Records.{mark_in}
 use Rattle.ledger.specs.Sigma.{IsSigma}
-use Rattle.ledger.specs.Tally.{IsGreatestCount, IsGreatestOnes}
+use Rattle.ledger.specs.Tally.{IsGreatestCount, IsGreatestOnes, IsStatus}
 use Rattle.ledger.specs.declared.left.Left.{Left}
 use Rattle.ledger.specs.declared.left.Left.TheVariants.{Nothing}
+use Rattle.ledger.specs.declared.status.Status.{Status}
+use Rattle.cmd_ledgers.specs.LedgerReport.{outcome_by}
 use Rattle.files.specs.declared.opened.Opened.{Opened}
 use Rattle.cmd_options.specs.declared.outcome.Outcome.{Outcome}
 use Rattle.cmd_options.specs.declared.outcome.Outcome.TheVariants.{Accepted, Refused, BadLine, NoMemory, Failed}
@@ -72,6 +74,17 @@ SettlesTree IsText n IsKept held new_held (Ok BadLine) = ⊥
 SettlesTree IsText n IsKept held new_held (Ok NoMemory) = ⊥
 SettlesTree IsText n IsKept held new_held (Ok Failed) = ⊥
 SettlesTree IsText n IsKept held new_held (Err e) = (new_held ≡ held) ⊎ (e ≡ Stream)
+
+-- what a coordinator holds in the end: a board of the tree of n states, whose ledger is kept; the outcome is by how it
+-- stands
+pub record HoldsTree (n : ℕ) (IsKept : Contents → Type 0) (o : Outcome) : Type 0 where
+  pub board : Contents
+  pub is_board : IsBoard board
+  pub root : board.root ≡ empty_table n
+  pub kept : IsKept board
+  pub status : Status
+  pub stands : IsStatus board.root board.records status
+  pub ends : o ≡ outcome_by status Nothing
 
 -- by the outcome: where all is accepted, the report of a complete board is written; where it is refused, that of one
 -- that isn't complete, or nothing; where memory is refused, nothing. A failure doesn't tell what was written

@@ -72,31 +72,31 @@ pub(crate) fn start_coordinator<F: Read + Drop, L: LedgerOut>(
     ensures step { IfOk result (StartsInStep F.remaining held (L.text ledger.old) (L.text ledger.new)) }
 {
     match held {
-        Ok(mut opened) => start(alloc, beginning, &mut opened, ledger),
+        Ok(opened) => start(alloc, beginning, opened, ledger),
         Err(fault) => Err(ended_by(&fault, Ended::Ledger)),
     }
 }
 
 // From a ledger as far as it went when it was opened.
-fn start<F: Read, L: LedgerOut>(
+fn start<F: Read + Drop, L: LedgerOut>(
     alloc: Global,
     beginning: Beginning,
-    opened: &mut Opened<F>,
+    opened: Opened<F>,
     ledger: &mut L,
 ) -> Result<Coordinator, Ended>
     requires { (1 ≤ beginning.states) × (beginning.states ≤ state_limit) }
     ensures root { IfOk result (IsOfRoot (empty_table beginning.states)) }
-    ensures step { IfOk result (λ node. IsOfLedger (F.remaining opened.old.reader) opened.old.length (L.text ledger.old)
+    ensures step { IfOk result (λ node. IsOfLedger (F.remaining opened.reader) opened.length (L.text ledger.old)
         → IfSome (L.text ledger.new) (InStep node)) }
 {
-    let limit = opened.length;
-    let mut held = HeldLedger::of(&mut opened.reader);
+    let Opened { reader, length } = opened;
+    let mut held = HeldLedger::of(reader);
     let (node, first) = Coordinator::start_from(
         alloc,
         beginning.states,
         beginning.era,
         &mut held,
-        limit,
+        length,
     );
     carry_out_first(first, held.fault(), ledger)?;
     Ok(node)

@@ -1,3 +1,7 @@
 pub mod Carrying
 pub mod WorkTurns
 pub mod Moves
+pub mod Becoming
+pub mod Roots
+pub mod Steps
+pub mod Settling

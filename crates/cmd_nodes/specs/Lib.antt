@@ -3,3 +3,5 @@ pub mod Losses
 pub mod Rounds
 pub mod Moving
 pub mod Kept
+pub mod Settled
+pub mod inside

@@ -1,6 +1,12 @@
 // `bb coord`: a coordinator over two streams and a ledger.
-ghost use Rattle.std.specs.Prelude.{◌≡◌, ◌≤◌, None, IfSome};
+ghost use Rattle.std.specs.Prelude.{◌≡◌, ◌≤◌, None, IfOk, IfSome, OnOk};
 ghost use Rattle.machine_text.specs.Limits.{state_limit};
+ghost use Rattle.machine_text.specs.Packed.{empty_table};
+ghost use Rattle.wire.specs.Carried.{kept_text};
+ghost use Rattle.wire.specs.declared.node.Out.{Out as Answer};
+ghost use Rattle.lease_core.specs.Starts.{InStep};
+ghost use Rattle.cmd_nodes.specs.Settled.{IsOfLedger};
+ghost use Rattle.cmd_nodes.specs.inside.{IsOfRoot, StartsInStep};
 ghost use Rattle.ledger.specs.Tally.{IsStatus};
 ghost use Rattle.ledger.specs.declared.status.Status.{Status as BoardStatus};
 ghost use Rattle.cmd_ledgers.specs.LedgerReport.{outcome_by};
@@ -62,30 +68,35 @@ pub(crate) fn start_coordinator<F: Read + Drop, L: LedgerOut>(
     ledger: &mut L,
 ) -> Result<Coordinator, Ended>
     requires { (1 ≤ beginning.states) × (beginning.states ≤ state_limit) }
+    ensures root { IfOk result (IsOfRoot (empty_table beginning.states)) }
+    ensures step { IfOk result (StartsInStep F.remaining held (L.text ledger.old) (L.text ledger.new)) }
 {
     match held {
-        Ok(mut opened) => start(alloc, beginning, &mut opened, ledger),
+        Ok(opened) => start(alloc, beginning, opened, ledger),
         Err(fault) => Err(ended_by(&fault, Ended::Ledger)),
     }
 }
 
 // From a ledger as far as it went when it was opened.
-fn start<F: Read, L: LedgerOut>(
+fn start<F: Read + Drop, L: LedgerOut>(
     alloc: Global,
     beginning: Beginning,
-    opened: &mut Opened<F>,
+    opened: Opened<F>,
     ledger: &mut L,
 ) -> Result<Coordinator, Ended>
     requires { (1 ≤ beginning.states) × (beginning.states ≤ state_limit) }
+    ensures root { IfOk result (IsOfRoot (empty_table beginning.states)) }
+    ensures step { IfOk result (λ node. IsOfLedger (F.remaining opened.reader) opened.length (L.text ledger.old)
+        → IfSome (L.text ledger.new) (InStep node)) }
 {
-    let limit = opened.length;
-    let mut held = HeldLedger::of(&mut opened.reader);
+    let Opened { reader, length } = opened;
+    let mut held = HeldLedger::of(reader);
     let (node, first) = Coordinator::start_from(
         alloc,
         beginning.states,
         beginning.era,
         &mut held,
-        limit,
+        length,
     );
     carry_out_first(first, held.fault(), ledger)?;
     Ok(node)
@@ -96,7 +107,10 @@ fn carry_out_first<L: LedgerOut>(
     first: Result<Out, StartFault>,
     fault: Option<Ended>,
     ledger: &mut L,
-) -> Result<(), Ended> {
+) -> Result<(), Ended>
+    ensures { OnOk result ((out : Answer) × (first ≡ Ok out)
+        × (L.text ledger.new ≡ kept_text out (L.text ledger.old))) }
+{
     match first {
         Ok(out) => keep_answer(&out, ledger),
         Err(refused) => Err(fault.unwrap_or(by_start(refused))),

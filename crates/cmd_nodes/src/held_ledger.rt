@@ -1,17 +1,21 @@
 // A ledger that is read when a coordinator starts.
+ghost use Rattle.std.specs.Prelude.{◌≡◌};
+
 use cmd_options::{Ended, ended_by};
 use std::io::{self, Read};
 
 // A reader of a ledger, and what ends a command where a read of it failed: a start says of its ledger's fault no more
 // than that there is one.
 #[derive(Drop)]
-pub(crate) struct HeldLedger<'a, F> {
-    reader: &'a mut F,
+pub(crate) struct HeldLedger<F> {
+    reader: F,
     fault: Option<Ended>,
 }
 
-impl<'a, F: Read> HeldLedger<'a, F> {
-    pub fn of(reader: &'a mut F) -> HeldLedger<'a, F> {
+impl<F: Read> HeldLedger<F> {
+    pub fn of(reader: F) -> HeldLedger<F>
+        ensures { result.reader ≡ reader }
+    {
         HeldLedger {
             reader,
             fault: None,
@@ -24,8 +28,8 @@ impl<'a, F: Read> HeldLedger<'a, F> {
     }
 }
 
-impl<'a, F: Read> Read for HeldLedger<'a, F> {
-    ghost remaining = { λ held. F.remaining held.reader.now };
+impl<F: Read> Read for HeldLedger<F> {
+    ghost remaining = { λ held. F.remaining held.reader };
 
     fn read(&mut self, buf: &mut [u8]) -> io::Result<usize> {
         let answer = self.reader.read(buf);

@@ -2,7 +2,8 @@
 //! `loop`, a coordinator and workers in one process, whose frames stay in memory or go over sockets.
 //!
 //! `specs/Losses` says which frames of a link are lost on purpose, `specs/Rounds` what happens to a worker in a round,
-//! `specs/Moving` what has become of bytes that were to be moved from one end of a link through a stream to the other.
+//! `specs/Moving` what has become of bytes that were to be moved from one end of a link through a stream to the other,
+//! `specs/Settled` what is printed of the board to which a tree is settled.
 #![tactic(auto)]
 
 mod carriers;
@@ -14,6 +15,7 @@ mod losses;
 mod maybe_ledger;
 mod moving;
 mod no_ledger;
+mod reporting;
 mod rounds;
 mod run_command;
 mod sockets;

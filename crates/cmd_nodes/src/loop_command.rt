@@ -1,6 +1,10 @@
 // `bb loop`: `bb run` over sockets.
-ghost use Rattle.std.specs.Prelude.{◌≤◌};
+ghost use Rattle.std.specs.Prelude.{◌≤◌, List, ℕ, Option, Result};
 ghost use Rattle.machine_text.specs.Limits.{state_limit};
+ghost use Rattle.cmd_options.specs.Ends.{EndsTold};
+ghost use Rattle.cmd_options.specs.declared.ended.Ended.{Ended as Ends};
+ghost use Rattle.cmd_options.specs.declared.outcome.Outcome.{Outcome as Outcomes};
+ghost use Rattle.cmd_nodes.specs.Settled.{KeepsLedger, SettlesTree, TellsTree};
 
 use crate::carriers::OverSockets;
 use crate::run_command::{Run, settle};
@@ -15,6 +19,7 @@ use wire::{LedgerOut, Node};
 
 /// Does what `cmd_run` does, but that the frames of each worker go over a connection of its own, and that none is lost.
 /// A socket that fails ends it as a stream does.
+#[tactic(auto, using(crate::proofs::Settling::tells))]
 pub fn cmd_loop<
     P: ReportForm,
     F: Read + Drop,
@@ -34,6 +39,14 @@ pub fn cmd_loop<
     faults: &mut E,
 ) -> Outcome
     requires { (1 ≤ run.settling.now.states) × (run.settling.now.states ≤ state_limit) }
+    ensures tells { TellsTree (P.is_text run.entry.form.now) run.entry.settling.now.states
+        (KeepsLedger F.remaining held (L.text ledger.old) (L.text ledger.new))
+        (W.contents answers.old) (W.contents answers.new) result }
+    ensures ends { (ended : Result Outcomes Ends) × (said : Option (List ℕ))
+        × SettlesTree (P.is_text run.entry.form.now) run.entry.settling.now.states
+        (KeepsLedger F.remaining held (L.text ledger.old) (L.text ledger.new))
+        (W.contents answers.old) (W.contents answers.new) ended
+        × EndsTold ended said (E.contents faults.new) result }
 {
     told(
         loop_tree(alloc, run, sockets, held, ledger, answers, faults),
@@ -61,6 +74,9 @@ pub fn loop_tree<
     faults: &mut E,
 ) -> Result<Outcome, Ended>
     requires { (1 ≤ run.settling.now.states) × (run.settling.now.states ≤ state_limit) }
+    ensures { SettlesTree (P.is_text run.entry.form.now) run.entry.settling.now.states
+        (KeepsLedger F.remaining held (L.text ledger.old) (L.text ledger.new))
+        (W.contents answers.old) (W.contents answers.new) result }
 {
     let carriers = OverSockets { sockets };
     settle(alloc, run, &carriers, held, ledger, answers, faults)

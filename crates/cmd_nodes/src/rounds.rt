@@ -1,4 +1,7 @@
 // Rounds of a coordinator and workers in one process.
+ghost use Rattle.std.specs.Prelude.{OnOk};
+ghost use Rattle.cmd_nodes.specs.inside.{IsServed};
+
 use crate::carriers::Carrier;
 use crate::faults::by_turn;
 use crate::station::Station;
@@ -17,7 +20,9 @@ pub(crate) fn run_rounds<N: Node, Y: Carrier, L: LedgerOut, P: Progress>(
     stations: &mut Vec<Station<N, Y>>,
     rounds: u64,
     progress: &mut P,
-) -> Result<(), Ended> {
+) -> Result<(), Ended>
+    ensures { OnOk result (IsServed coordinator.old coordinator.new (L.text ledger.old) (L.text ledger.new)) }
+{
     for round in 1..=rounds {
         if !has_open(coordinator) {
             break;
@@ -35,15 +40,28 @@ fn run_round<N: Node, Y: Carrier, L: LedgerOut>(
     ledger: &mut L,
     stations: &mut Vec<Station<N, Y>>,
     round: u64,
-) -> Result<(), Ended> {
-    match coordinator.on(Event::Tick(round)) {
-        Ok(out) => keep_answer(&out, ledger)?,
-        Err(fault) => return Err(by_turn(TurnFault::Node(fault))),
-    }
+) -> Result<(), Ended>
+    ensures { OnOk result (IsServed coordinator.old coordinator.new (L.text ledger.old) (L.text ledger.new)) }
+{
+    tick(coordinator, ledger, round)?;
     for station in stations.iter_mut() {
         station.take_round(round, coordinator, ledger)?;
     }
     Ok(())
+}
+
+// Tells a coordinator the round.
+fn tick<L: LedgerOut>(
+    coordinator: &mut Coordinator,
+    ledger: &mut L,
+    round: u64,
+) -> Result<(), Ended>
+    ensures { OnOk result (IsServed coordinator.old coordinator.new (L.text ledger.old) (L.text ledger.new)) }
+{
+    match coordinator.on(Event::Tick(round)) {
+        Ok(out) => keep_answer(&out, ledger),
+        Err(fault) => Err(by_turn(TurnFault::Node(fault))),
+    }
 }
 
 fn has_open(coordinator: &Coordinator) -> bool {

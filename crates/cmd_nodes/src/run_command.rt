@@ -1,16 +1,21 @@
 // `bb run`: a coordinator and workers in one process, and then the report.
-ghost use Rattle.std.specs.Prelude.{◌≤◌};
+ghost use Rattle.std.specs.Prelude.{◌≤◌, List, ℕ, OnOk, Option, Result};
 ghost use Rattle.machine_text.specs.Limits.{state_limit};
+ghost use Rattle.cmd_options.specs.Ends.{EndsTold};
+ghost use Rattle.cmd_options.specs.declared.ended.Ended.{Ended as Ends};
+ghost use Rattle.cmd_options.specs.declared.outcome.Outcome.{Outcome as Outcomes};
+ghost use Rattle.cmd_nodes.specs.Settled.{KeepsLedger, SettlesTree, TellsTree};
+ghost use Rattle.cmd_nodes.specs.inside.{IsServed};
 
 use crate::carriers::{Carriers, InMemory};
-use crate::coord::{outcome_of, start_coordinator};
+use crate::coord::start_coordinator;
+use crate::reporting::report_board;
 use crate::rounds::run_rounds;
 use crate::station::Station;
-use cmd_ledgers::{ReportForm, write_report};
+use cmd_ledgers::ReportForm;
 use cmd_options::{Beginning, Ended, Outcome, Settling, told};
 use files::{Opened, Telling, TimedProgress};
 use lease_core::Coordinator;
-use ledger::Left;
 use std::alloc::Global;
 use std::io::{self, Read, Write};
 use std::time::Clock;
@@ -35,6 +40,7 @@ pub struct Run<'a, P, N, C> {
 /// coordinator's board begins with what `held` reads, and its records go to `ledger`. Accepted where the board is
 /// complete at the end. What ends the command early is said on `faults`, and so is how far it is, where that is asked
 /// for.
+#[tactic(auto, using(crate::proofs::Settling::tells))]
 pub fn cmd_run<
     P: ReportForm,
     F: Read + Drop,
@@ -52,6 +58,14 @@ pub fn cmd_run<
     faults: &mut E,
 ) -> Outcome
     requires { (1 ≤ run.settling.now.states) × (run.settling.now.states ≤ state_limit) }
+    ensures tells { TellsTree (P.is_text run.entry.form.now) run.entry.settling.now.states
+        (KeepsLedger F.remaining held (L.text ledger.old) (L.text ledger.new))
+        (W.contents answers.old) (W.contents answers.new) result }
+    ensures ends { (ended : Result Outcomes Ends) × (said : Option (List ℕ))
+        × SettlesTree (P.is_text run.entry.form.now) run.entry.settling.now.states
+        (KeepsLedger F.remaining held (L.text ledger.old) (L.text ledger.new))
+        (W.contents answers.old) (W.contents answers.new) ended
+        × EndsTold ended said (E.contents faults.new) result }
 {
     told(run_tree(alloc, run, held, ledger, answers, faults), faults)
 }
@@ -74,6 +88,9 @@ pub fn run_tree<
     faults: &mut E,
 ) -> Result<Outcome, Ended>
     requires { (1 ≤ run.settling.now.states) × (run.settling.now.states ≤ state_limit) }
+    ensures { SettlesTree (P.is_text run.entry.form.now) run.entry.settling.now.states
+        (KeepsLedger F.remaining held (L.text ledger.old) (L.text ledger.new))
+        (W.contents answers.old) (W.contents answers.new) result }
 {
     let carriers = InMemory {
         lose: run.settling.lose,
@@ -101,6 +118,9 @@ pub(crate) fn settle<
     faults: &mut E,
 ) -> Result<Outcome, Ended>
     requires { (1 ≤ run.settling.now.states) × (run.settling.now.states ≤ state_limit) }
+    ensures { SettlesTree (P.is_text run.entry.form.now) run.entry.settling.now.states
+        (KeepsLedger F.remaining held (L.text ledger.old) (L.text ledger.new))
+        (W.contents answers.old) (W.contents answers.new) result }
 {
     let beginning = Beginning {
         states: run.settling.states,
@@ -120,7 +140,9 @@ fn run_workers<P, L: LedgerOut, N: Node + Drop, C: Clock, Y: Carriers, E: Write>
     node: &mut Coordinator,
     ledger: &mut L,
     faults: &mut E,
-) -> Result<(), Ended> {
+) -> Result<(), Ended>
+    ensures { OnOk result (IsServed node.old node.new (L.text ledger.old) (L.text ledger.new)) }
+{
     let settling = run.settling;
     let mut stations = stations(alloc, run.workers, carriers)?;
     let records = recorded(node);
@@ -156,17 +178,4 @@ fn recorded(node: &Coordinator) -> u64 {
         }
         None => 0,
     }
-}
-
-// Prints the report of a coordinator's board.
-fn report_board<P: ReportForm, W: Write>(
-    alloc: Global,
-    form: &P,
-    node: &Coordinator,
-    answers: &mut W,
-) -> Result<Outcome, Ended> {
-    if let Some(board) = node.board() {
-        write_report(alloc, form, board, &Left::Nothing, answers)?;
-    }
-    Ok(outcome_of(node))
 }

@@ -1,4 +1,7 @@
 // A worker in the same process as its coordinator.
+ghost use Rattle.std.specs.Prelude.{OnOk};
+ghost use Rattle.cmd_nodes.specs.inside.{Becomes, IsServed, KeepsStep};
+
 use crate::carriers::Carrier;
 use crate::faults::in_memory;
 use crate::no_ledger::NoLedger;
@@ -40,7 +43,10 @@ impl LinkEnd {
         &mut self,
         node: &mut N,
         ledger: &mut L,
-    ) -> Result<(), TurnFault> {
+    ) -> Result<(), TurnFault>
+        ensures became { OnOk result (Becomes N.answers node.old node.new) }
+        ensures step { OnOk result (KeepsStep N.in_step node.old node.new (L.text ledger.old) (L.text ledger.new)) }
+    {
         for _ in 0..u64::MAX {
             if self.link.waiting().is_empty() {
                 break;
@@ -69,7 +75,9 @@ impl<N: Node, Y: Carrier> Station<N, Y> {
         round: u64,
         coordinator: &mut Coordinator,
         ledger: &mut L,
-    ) -> Result<(), Ended> {
+    ) -> Result<(), Ended>
+        ensures { OnOk result (IsServed coordinator.old coordinator.new (L.text ledger.old) (L.text ledger.new)) }
+    {
         let worked = work(
             &mut self.worker,
             round,
@@ -82,15 +90,26 @@ impl<N: Node, Y: Carrier> Station<N, Y> {
         }
         self.carrier
             .to_coordinator(&mut self.near.link, &mut self.far.link)?;
-        match self.far.serve(coordinator, ledger) {
-            Ok(()) => {}
-            Err(fault) => return Err(in_memory(fault)),
-        }
+        serve_coordinator(&mut self.far, coordinator, ledger)?;
         self.carrier
             .to_worker(&mut self.far.link, &mut self.near.link)?;
         match self.near.serve(&mut self.worker, &mut self.ledger) {
             Ok(()) => Ok(()),
             Err(_) => Err(Ended::NoMemory),
         }
+    }
+}
+
+// Hands a coordinator all that waits.
+fn serve_coordinator<L: LedgerOut>(
+    far: &mut LinkEnd,
+    coordinator: &mut Coordinator,
+    ledger: &mut L,
+) -> Result<(), Ended>
+    ensures { OnOk result (IsServed coordinator.old coordinator.new (L.text ledger.old) (L.text ledger.new)) }
+{
+    match far.serve(coordinator, ledger) {
+        Ok(()) => Ok(()),
+        Err(fault) => Err(in_memory(fault)),
     }
 }

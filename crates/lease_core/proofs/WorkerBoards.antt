@@ -6,9 +6,10 @@ use Rattle.std.specs.Ordering.{nat_cmp}
 use Rattle.std.specs.declared.cmp.Ordering.TheVariants.{Less}
 use Rattle.std.specs.Cmp.Lexicographic.{slice_cmp}
 use Rattle.std.proofs.lemmas.List.Elements.{All-contains}
-use Rattle.machine_text.specs.Packed.{Packed}
+use Rattle.machine_text.specs.Packed.{Packed, entry_of}
 use Rattle.machine_text.specs.Text.{table_of, text_of}
-use Rattle.ledger.specs.Contents.{Contents, IsOpenOn}
+use Rattle.law_tree.specs.Used.{InOrder}
+use Rattle.ledger.specs.Contents.{Contents, IsBoard, IsOpenOn}
 use Rattle.ledger.specs.Records.{same_table}
 use Rattle.ledger.specs.Tally.{AreAll}
 use Rattle.ledger.specs.Versions.{header_words}
@@ -79,3 +80,8 @@ root_test o b root t r is root_is r_is = (
   λ h. subst (λ (p : Option Contents). HasRoot p t) (sym is) (sym root_is ∙ same_is root t (sym r_is ∙ h)),
   λ h. r_is ∙ same_at root t (root_is ∙ subst (λ (p : Option Contents). HasRoot p t) is h),
 )
+
+-- and that it is in order
+pub root_order : (b : Contents) (root t : Packed) (r : Bool) → IsBoard b → root ≡ b.root → r ≡ same_table root t → r ≡ true → (u : ℕ) × InOrder u (entry_of t)
+root_order b root t r board root_is r_is h =
+    subst (λ (p : Packed). (u : ℕ) × InOrder u (entry_of p)) (sym root_is ∙ same_is root t (sym r_is ∙ h)) board.in_order

@@ -16,7 +16,7 @@ use Rattle.wire.specs.declared.node.Out.{Out}
 use Rattle.lease_core.specs.Says.{Says}
 use Rattle.lease_core.specs.Limits.{tick_record_limit}
 use Rattle.lease_core.specs.WorkerState.{WorkerState, MayWork, records_on, unacknowledged, with_record, with_table}
-use Rattle.lease_core.specs.WorkerRules.{Makes, TickBy, TickRow, done_with}
+use Rattle.lease_core.specs.WorkerRules.{Makes, MayGrowAtTick, MayGrowBy, TickBy, TickRow, done_with}
 use Rattle.lease_core.specs.inside.Due.{AreFirstAcknowledged}
 use Rattle.lease_core.proofs.WorkerFrames.{comes, passes, none_due}
 
@@ -108,3 +108,22 @@ asks_row {D = D} kept old new out due view rests due_is empty idle says same =
     let works = sym (ap (λ (w : WorkerState D). w.rests) view) ∙ rests in
     subst (λ (r : Bool). TickBy r (unacknowledged old.acknowledged (records_on old.board)) old out new) (sym works)
     (subst (λ (rs : List Recorded). TickBy false rs old out new) (sym none) (inr (idle, asks, forgets)))
+
+-- what is sent at a tick takes memory: records that are due
+some_due : {D : Type 0} (w : WorkerState D) (rs : List Recorded) → (rs ≡ [] → ⊥) → MayGrowBy false rs w
+some_due w [] some = absurd (some refl)
+some_due w (r ∷ rs) some = tt
+
+pub grows_due : {D : Type 0} (kept old : WorkerState D) → kept ≡ old → kept.rests ≡ false → (unacknowledged old.acknowledged (records_on old.board) ≡ [] → ⊥) → MayGrowAtTick old
+grows_due {D = D} kept old view rests due =
+    let works = sym (ap (λ (w : WorkerState D). w.rests) view) ∙ rests in
+    subst (λ (b : Bool). MayGrowBy b (unacknowledged old.acknowledged (records_on old.board)) old) (sym works) (some_due old (unacknowledged old.acknowledged (records_on old.board)) due)
+
+-- or that it asks
+pub grows_asking : {D : Type 0} (kept old : WorkerState D) (due : List ℕ) → kept ≡ old → kept.rests ≡ false
+    → due ≡ frames_of (map Rec (take tick_record_limit (unacknowledged old.acknowledged (records_on old.board)))) → due ≡ [] → (MayWork old.board → ⊥) → MayGrowAtTick old
+grows_asking {D = D} kept old due view rests due_is empty idle =
+    let none = none_due 63 (unacknowledged old.acknowledged (records_on old.board)) (sym due_is ∙ empty) in
+    let works = sym (ap (λ (w : WorkerState D). w.rests) view) ∙ rests in
+    subst (λ (b : Bool). MayGrowBy b (unacknowledged old.acknowledged (records_on old.board)) old) (sym works)
+    (subst (λ (rs : List Recorded). MayGrowBy false rs old) (sym none) idle)

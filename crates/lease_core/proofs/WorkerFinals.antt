@@ -63,4 +63,4 @@ left_board old Worked new left = same_board left
 pub worker_keeps : {D : Type 0} (asked : D → Packed → Recorded → Type 0) (old : WorkerState D) (e : Happening) (r : Result Out NodeFault) (new : WorkerState D) → Answers asked old e r new → (IsGrant e → ⊥) → KeepsComplete old.board new.board
 worker_keeps asked old e (Ok out) new gives other = happens_keeps asked old e out new gives.1 other
 worker_keeps asked old e (Err Stopped) new gives other = λ b is complete. same_board gives.1 ∙ is
-worker_keeps asked old e (Err NoMemory) new gives other = λ b is complete. left_board old e new gives.1 ∙ is
+worker_keeps asked old e (Err NoMemory) new gives other = λ b is complete. left_board old e new gives.2 ∙ is

@@ -6,6 +6,7 @@ use Rattle.cert.specs.Claim.{Recorded}
 use Rattle.ledger.specs.Records.{same_table}
 use Rattle.wire.specs.Message.{Rec}
 use Rattle.wire.specs.Grammar.{frames_of, message_text}
+use Rattle.lease_core.specs.Limits.{tick_record_limit}
 use Rattle.lease_core.specs.WorkerState.{unacknowledged}
 
 abbrev frames_for : ℕ → List Packed → List Recorded → List ℕ
@@ -53,3 +54,19 @@ not_empty (x ∷ xs) rest is = cc
 pub none_due : (k : ℕ) (rs : List Recorded) → frames_of (map Rec (take (suc k) rs)) ≡ [] → rs ≡ []
 none_due k [] is = refl
 none_due k (r ∷ rs) is = absurd (not_empty (message_text (Rec r)) (frames_of (map Rec (take k rs))) is)
+
+nothing_behind : (a b : List ℕ) → a ++ b ≡ [] → b ≡ []
+nothing_behind [] b is = is
+nothing_behind (x ∷ xs) b is = absurd (let no : ⊥ = cc in no)
+
+-- a record that is left and isn't acknowledged is one that is due
+pub is_due : (tables : List Packed) (frames : List ℕ) (r : Recorded) (before rest records : List Recorded) (room : ℕ) (has : Bool)
+    → before ≡ r ∷ rest → has ≡ list_any (same_table r.table) tables → has ≡ false → (room ≡ 0 → ⊥)
+    → frames ++ frames_for room tables before ≡ frames_for tick_record_limit tables records → unacknowledged tables records ≡ [] → ⊥
+is_due tables frames r before rest records zero has steps has_is other some whole none = some refl
+is_due tables frames r before rest records (suc k) has steps has_is other some whole none =
+    let this : unacknowledged tables before ≡ r ∷ unacknowledged tables rest =
+    ap (unacknowledged tables) steps ∙ comes tables r rest (sym has_is ∙ other) in
+    let nothing : frames_for (suc k) tables before ≡ [] =
+    nothing_behind frames (frames_for (suc k) tables before) (whole ∙ ap (λ (l : List Recorded). frames_of (map Rec (take tick_record_limit l))) none) in
+    not_empty (message_text (Rec r)) (frames_of (map Rec (take k (unacknowledged tables rest)))) (subst (λ (l : List Recorded). frames_of (map Rec (take (suc k) l)) ≡ []) this nothing)

@@ -1,5 +1,6 @@
 -- What a worker answers to each thing that happens, and what it is then.
 use Rattle.std.specs.Prelude.{◌≡◌, ℕ, ◌<◌, ◌⊎◌, Bool, true, false, List, [], ◌∷◌, ◌++◌, Option, Some, None, Result, Ok, Err, map, take, length}
+use Rattle.std.specs.List.{list_any}
 use Rattle.std.specs.Ordering.{nat_cmp}
 use Rattle.std.specs.declared.cmp.Ordering.TheVariants.{Less}
 use Rattle.std.specs.Cmp.Lexicographic.{slice_cmp}
@@ -11,6 +12,7 @@ use Rattle.cert.specs.Scored.{with_score}
 use Rattle.ledger.specs.Contents.{Contents, IsBoard, IsOpenOn}
 use Rattle.ledger.specs.Held.{IsFit}
 use Rattle.ledger.specs.LedgerText.{ledger_text}
+use Rattle.ledger.specs.Records.{same_table}
 use Rattle.wire.specs.declared.node.Out.{Out}
 use Rattle.wire.specs.declared.node.Note.{Note}
 use Rattle.wire.specs.declared.node.Note.TheVariants.{Quiet, Strange, Stale, Refused}
@@ -87,6 +89,33 @@ module _ {D : Type 0} where
   abbrev pub TickRow : WorkerState D → Out → WorkerState D → Type 0
   TickRow old out new = TickBy old.rests (unacknowledged old.acknowledged (records_on old.board)) old out new
 
+  -- what may take memory to answer: `GRANT` of a table that names its states in order and isn't the root of its
+  -- board; `ACK` of a record of its board that isn't acknowledged yet; a tick at which something is sent; a work turn
+  -- that makes a record. Nothing else does
+  abbrev pub MayGrowFor : WorkerState D → Result Message MsgFault → Type 0
+  MayGrowFor w (Ok (Grant era number t)) = ((u : ℕ) × InOrder u (entry_of t)) × (HasRoot w.board t → ⊥)
+  MayGrowFor w (Ok (Ack t)) = IsRecordedOn w.board t × (list_any (same_table t) w.acknowledged ≡ false)
+  MayGrowFor w (Ok (Later t)) = ⊥
+  MayGrowFor w (Ok Stop) = ⊥
+  MayGrowFor w (Ok (Ask id)) = ⊥
+  MayGrowFor w (Ok (Rec r)) = ⊥
+  MayGrowFor w (Ok (Done era number)) = ⊥
+  MayGrowFor w (Err fault) = ⊥
+
+  -- at a tick, by whether it rests and by the records that aren't acknowledged
+  abbrev pub MayGrowBy : Bool → List Recorded → WorkerState D → Type 0
+  MayGrowBy true rs w = ⊥
+  MayGrowBy false (r ∷ rs) w = Unit {0}
+  MayGrowBy false [] w = MayWork w.board → ⊥
+
+  abbrev pub MayGrowAtTick : WorkerState D → Type 0
+  MayGrowAtTick w = MayGrowBy w.rests (unacknowledged w.acknowledged (records_on w.board)) w
+
+  abbrev pub MayGrow : WorkerState D → Happening → Type 0
+  MayGrow w (Came frame) = MayGrowFor w (message_of frame)
+  MayGrow w (Ticked t) = MayGrowAtTick w
+  MayGrow w Worked = MayWork w.board
+
   -- what is there after refused memory: all as it was, but that a work turn may have asked the decider
   abbrev pub IsLeft : Happening → WorkerState D → WorkerState D → Type 0
   IsLeft (Came frame) old new = new ≡ old
@@ -106,8 +135,9 @@ module _ {D : Type 0} (asked : D → Packed → Recorded → Type 0) where
   Row old (Ticked t) out new = TickRow old out new
   Row old Worked out new = WorkRow old out new
 
-  -- how a worker answers: `Stopped` where it is stopped; else by the row of what happens, unless memory is refused
+  -- how a worker answers: `Stopped` where it is stopped; else by the row of what happens, or memory was refused where it
+  -- may be
   abbrev pub Answers : WorkerState D → Happening → Result Out NodeFault → WorkerState D → Type 0
   Answers old e (Ok out) new = (old.stopped ≡ false) × Row old e out new
   Answers old e (Err Stopped) new = (old.stopped ≡ true) × (new ≡ old)
-  Answers old e (Err NoMemory) new = (old.stopped ≡ false) × IsLeft e old new
+  Answers old e (Err NoMemory) new = (old.stopped ≡ false) × MayGrow old e × IsLeft e old new

@@ -151,17 +151,22 @@ impl<D: Decider + Drop> Worker<D> {
     ghost use Rattle.wire.specs.Grammar.{message_of};
     ghost use Rattle.wire.specs.Happening.{seen};
     ghost use Rattle.lease_core.specs.WorkerState.{MayWork};
-    ghost use Rattle.lease_core.specs.WorkerRules.{Answers, FrameRow, GrantRow, AckRow, TickRow, WorkRow, granted};
-    ghost use Rattle.std.specs.Prelude.{IsTrue, ◌↔◌, map, take};
+    ghost use Rattle.machine_text.specs.Packed.{entry_of};
+    ghost use Rattle.law_tree.specs.Used.{InOrder};
+    ghost use Rattle.ledger.specs.Records.{same_table};
+    ghost use Rattle.lease_core.specs.WorkerRules.{Answers, FrameRow, GrantRow, AckRow, TickRow, WorkRow, MayGrowFor, MayGrowAtTick, granted};
+    ghost use Rattle.std.specs.List.{list_any};
+    ghost use Rattle.std.specs.Prelude.{IsTrue, ◌↔◌, ◌≢◌, ℕ, [], false, map, take};
     ghost use Rattle.wire.specs.Grammar.{frames_of};
     ghost use Rattle.wire.specs.Message.{Rec};
     ghost use Rattle.lease_core.specs.Limits.{tick_record_limit};
-    ghost use Rattle.lease_core.specs.WorkerState.{records_on, unacknowledged};
+    ghost use Rattle.lease_core.specs.WorkerState.{HasRoot, IsRecordedOn, records_on, unacknowledged};
 
     // A frame came.
     fn on_frame(&mut self, frame: &[u8]) -> Result<Out, NoMemory>
         ensures ok { IfOk result (λ out. FrameRow self.old (message_of frame.now) out self.new) }
         ensures err { OnErr result (self.new ≡ self.old) }
+        ensures grows { OnErr result (MayGrowFor self.old (message_of frame.now)) }
     {
         match told(frame) {
             Telling::Granted(name, t) => self.on_grant(name, t),
@@ -179,13 +184,14 @@ impl<D: Decider + Drop> Worker<D> {
     fn on_grant(&mut self, name: LeaseName, t: Table) -> Result<Out, NoMemory>
         ensures ok { IfOk result (λ out. GrantRow self.old name t out self.new) }
         ensures err { OnErr result (self.new ≡ self.old) }
+        ensures grows { OnErr result (((u : ℕ) × InOrder u (entry_of t)) × (HasRoot self.old.board t → ⊥)) }
     {
+        if has_root(&self.board, &t) {
+            self.begin(name);
+            return Ok(noted(self.alloc, Note::Quiet));
+        }
         match Board::new(self.alloc, t) {
             Ok(board) => {
-                if has_root(&self.board, &t) {
-                    self.begin(name);
-                    return Ok(noted(self.alloc, Note::Quiet));
-                }
                 let append = ledger_of(self.alloc, &board)?;
                 self.first_due = 0;
                 self.board = Some(board);
@@ -215,6 +221,7 @@ impl<D: Decider + Drop> Worker<D> {
     fn on_ack(&mut self, t: Table) -> Result<Out, NoMemory>
         ensures ok { IfOk result (λ out. AckRow self.old t out self.new) }
         ensures err { OnErr result (self.new ≡ self.old) }
+        ensures grows { OnErr result (IsRecordedOn self.old.board t × (list_any (same_table t) self.old.acknowledged ≡ false)) }
     {
         if !is_recorded(&self.board, &t) {
             return Ok(noted(self.alloc, Note::Stale));
@@ -227,6 +234,7 @@ impl<D: Decider + Drop> Worker<D> {
     fn on_tick(&mut self) -> Result<Out, NoMemory>
         ensures ok { IfOk result (λ out. TickRow self.old out self.new) }
         ensures err { OnErr result (self.new ≡ self.old) }
+        ensures grows { OnErr result (MayGrowAtTick self.old) }
     {
         self.pass_acknowledged();
         self.answer_tick()
@@ -236,6 +244,7 @@ impl<D: Decider + Drop> Worker<D> {
     fn answer_tick(&mut self) -> Result<Out, NoMemory>
         ensures ok { IfOk result (λ out. TickRow self.old out self.new) }
         ensures err { OnErr result (self.new ≡ self.old) }
+        ensures grows { OnErr result (MayGrowAtTick self.old) }
     {
         if self.rests {
             return Ok(noted(self.alloc, Note::Quiet));
@@ -263,7 +272,8 @@ impl<D: Decider + Drop> Worker<D> {
 
     // The frames of the first records that aren't acknowledged.
     fn due(&self) -> Result<Vec<u8>, NoMemory>
-        ensures { IfOk result (λ frames. frames.items ≡ frames_of (map Rec (take tick_record_limit (unacknowledged self.now.acknowledged (records_on self.now.board))))) }
+        ensures ok { IfOk result (λ frames. frames.items ≡ frames_of (map Rec (take tick_record_limit (unacknowledged self.now.acknowledged (records_on self.now.board))))) }
+        ensures grows { OnErr result (unacknowledged self.now.acknowledged (records_on self.now.board) ≢ []) }
     {
         match &self.board {
             Some(board) => frames_due(self.alloc, &self.acknowledged, board, self.first_due),
@@ -285,6 +295,7 @@ impl<D: Decider + Drop> Worker<D> {
     fn on_work(&mut self) -> Result<Out, NoMemory>
         ensures ok { IfOk result (λ out. WorkRow D.answers self.old out self.new) }
         ensures err { OnErr result (self.new ≡ record self.old { decider = self.new.decider }) }
+        ensures grows { OnErr result (MayWork self.old.board) }
     {
         let Some(board) = &mut self.board else {
             return Ok(noted(self.alloc, Note::Quiet));

@@ -1,5 +1,5 @@
 // What a worker's answers are made of.
-ghost use Rattle.std.specs.Prelude.{◌≡◌, ◌++◌, ◌∷◌, [], IfOk, OnOk, map, take};
+ghost use Rattle.std.specs.Prelude.{◌≡◌, ◌≢◌, ◌++◌, ◌∷◌, [], IfOk, OnErr, OnOk, map, take};
 ghost use Rattle.cert.specs.Kinds.{recorded};
 ghost use Rattle.ledger.specs.LedgerText.{ledger_text};
 ghost use Rattle.wire.specs.Grammar.{frames_of};
@@ -75,7 +75,8 @@ pub(crate) fn frames_due(
     from: usize,
 ) -> Result<Vec<u8>, NoMemory>
     requires { AreFirstAcknowledged acknowledged.now.keys board.now.records from }
-    ensures { IfOk result (λ frames. frames.items ≡ frames_of (map RecMessage (take tick_record_limit (unacknowledged acknowledged.now.keys board.now.records)))) }
+    ensures ok { IfOk result (λ frames. frames.items ≡ frames_of (map RecMessage (take tick_record_limit (unacknowledged acknowledged.now.keys board.now.records)))) }
+    ensures grows { OnErr result (unacknowledged acknowledged.now.keys board.now.records ≢ []) }
 {
     let mut frames = Vec::new(alloc);
     let mut room = MAX_TICK_RECORDS;

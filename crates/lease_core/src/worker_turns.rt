@@ -1,8 +1,12 @@
 // What a worker does to its board, and asks of it.
-ghost use Rattle.std.specs.Prelude.{◌≡◌, ◌<◌, ◌↔◌, IsTrue, Some, IfSome, IfNone, IfOk, OnOk, OnErr, length};
+ghost use Rattle.std.specs.List.{list_any};
+ghost use Rattle.std.specs.Prelude.{◌≡◌, ◌<◌, ◌↔◌, ℕ, false, IsTrue, Some, IfSome, IfNone, IfOk, OnOk, OnErr, length};
 ghost use Rattle.cert.specs.Certified.{IsCertified};
 ghost use Rattle.cert.specs.Kinds.{owned_recorded, recorded};
+ghost use Rattle.machine_text.specs.Packed.{entry_of};
+ghost use Rattle.law_tree.specs.Used.{InOrder};
 ghost use Rattle.ledger.specs.Held.{HasScore};
+ghost use Rattle.ledger.specs.Records.{same_table};
 ghost use Rattle.lease_core.specs.Limits.{work_record_limit};
 ghost use Rattle.lease_core.specs.WorkerState.{HasRoot, IsRecordedOn, MayWork, with_table};
 ghost use Rattle.lease_core.specs.WorkerRules.{IsFirstOpen, Makes};
@@ -42,7 +46,8 @@ pub(crate) fn next_table(board: &Board) -> Option<Table>
 
 // Whether a board is of this root.
 pub(crate) fn has_root(board: &Option<Board>, t: &Table) -> bool
-    ensures { IsTrue result ↔ HasRoot board.now t.now }
+    ensures root { IsTrue result ↔ HasRoot board.now t.now }
+    ensures order { IsTrue result → (u : ℕ) × InOrder u (entry_of t.now) }
 {
     match board {
         Some(board) => board.root() == t,
@@ -111,6 +116,7 @@ fn put(alloc: Global, board: &mut Board, r: &Record) -> Result<Out, NoMemory>
 pub(crate) fn acknowledge(acknowledged: &mut IndexSet<Table>, t: Table) -> Result<(), NoMemory>
     ensures ok { OnOk result (acknowledged.new.keys ≡ with_table acknowledged.old.keys t) }
     ensures err { OnErr result (acknowledged.new.keys ≡ acknowledged.old.keys) }
+    ensures grows { OnErr result (list_any (same_table t) acknowledged.old.keys ≡ false) }
 {
     match acknowledged.insert(t) {
         Ok(_) => Ok(()),

@@ -1,4 +1,5 @@
 use Rattle.std.proofs.Common.{ℕ, ◌++◌, List, map, take, ◌∙◌, ap}
+use Rattle.std.proofs.lemmas.Result.{err_from_is_err_and}
 use Rattle.cert.specs.Claim.{Recorded}
 use Rattle.cert.specs.Kinds.{recorded}
 use Rattle.ledger.specs.Records.{same_table}
@@ -7,7 +8,7 @@ use Rattle.wire.specs.Message.{Rec}
 use Rattle.lease_core.specs.Limits.{tick_record_limit}
 use Rattle.lease_core.specs.WorkerState.{unacknowledged}
 use Rattle.lease_core.proofs.WorkerDue.{due_from}
-use Rattle.lease_core.proofs.WorkerFrames.{sends_one, passes_one}
+use Rattle.lease_core.proofs.WorkerFrames.{sends_one, passes_one, is_due}
 use Rattle.lease_core.proofs.worker_answers.frames_due.Goals as goal
 
 pub loop-r-init : goal.loop-r-init
@@ -28,3 +29,10 @@ unfolding same_table
 loop-r-preserved c =
     passes_one c.args.acknowledged.now.keys c.loop-r.frames.items (recorded c.in-Some.r) c.loop-r.r-iterator c.next.new.self c.loop-r.room _ c.contains.result
     c.in-Some.ensures.steps c.contains.ensures c.if-not-contains.false c.loop-r.invariant
+
+pub returns-in_err-send-clause-grows : goal.returns-in_err-send-clause-grows
+unfolding same_table
+returns-in_err-send-clause-grows c =
+    let p = err_from_is_err_and c.from_residual.result c.from_residual.ensures.1 in
+    rw p.1 (is_due c.args.acknowledged.now.keys c.loop-r.frames.items (recorded c.in-Some.r) c.loop-r.r-iterator c.next.new.self c.args.board.now.records c.loop-r.room c.contains.result
+    c.in-Some.ensures.steps c.contains.ensures c.if-not-contains.true c.if-room-eq0.false c.loop-r.invariant)

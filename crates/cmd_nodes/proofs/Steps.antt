@@ -1,0 +1,71 @@
+-- A ledger that stays in step with a coordinator.
+use Rattle.std.proofs.Common.{◌≡◌, ℕ, ◌+◌, List, [], ◌∷◌, ◌++◌, length, Option, Some, None, Result, Ok, Err, IfSome, inl, inr, refl, sym, ap, ◌∙◌, subst, append-nil, length-append, arith}
+use Rattle.std.specs.declared.io.Error.{Error}
+use Rattle.machine_text.specs.Packed.{empty_table}
+use Rattle.ledger.specs.Reading.{IsAllRead}
+use Rattle.wire.specs.Carried.{kept_text, text_after}
+use Rattle.wire.specs.Happening.{Happening}
+use Rattle.wire.specs.declared.node.Out.{Out}
+use Rattle.leases.specs.Leases.{Leased, no_leases}
+use Rattle.lease_core.specs.CoordinatorRules.{Coordinating, On}
+use Rattle.lease_core.specs.Starts.{HeldInStep, InStep, StartsFrom}
+use Rattle.lease_core.specs.declared.start_fault.StartFault.{StartFault}
+use Rattle.files.specs.declared.opened.Opened.{Opened}
+use Rattle.cmd_nodes.specs.Settled.{IsOfLedger, KeepsLedger}
+use Rattle.cmd_nodes.specs.inside.{Becomes, IsServed, IsOfRoot, KeepsStep, StartsInStep}
+use Rattle.cmd_nodes.proofs.Roots.{became_keep, on_keeps}
+
+pub nothing_yet : (c : Coordinating) (text : Option (List ℕ)) → IsServed c c text text
+nothing_yet c text = record { root = λ root has. has; step = λ known. known }
+
+pub one_by_one : (a b c : Coordinating) (first then last : Option (List ℕ)) → IsServed a b first then → IsServed b c then last → IsServed a c first last
+one_by_one a b c first then last x y = record { root = λ root has. y.root root (x.root root has); step = λ known. y.step (x.step known) }
+
+-- the ledger's part of an answer is carried out
+step_kept : (out : Out) (old new : Coordinating) (before after : Option (List ℕ)) → ((text : List ℕ) → InStep old text → InStep new (text_after out text)) → after ≡ kept_text out before
+    → KeepsStep (λ c text. InStep c text) old new before after
+step_kept out old new None after step is = λ known. subst (λ (o : Option (List ℕ)). IfSome o (InStep new)) (sym is) tt
+step_kept out old new (Some text) after step is = λ known. subst (λ (o : Option (List ℕ)). IfSome o (InStep new)) (sym is) (step text known)
+
+pub answer_serves : (old new : Coordinating) (e : Happening) (out : Out) (before after : Option (List ℕ)) → On old e (Ok out) new → ((text : List ℕ) → InStep old text → InStep new (text_after out text))
+    → after ≡ kept_text out before → IsServed old new before after
+answer_serves old new e out before after on step is = record { root = on_keeps old new e out on; step = step_kept out old new before after step is }
+
+pub turns_serve : (old new : Coordinating) (before after : Option (List ℕ)) → Becomes On old new → KeepsStep (λ c text. InStep c text) old new before after → IsServed old new before after
+turns_serve old new before after became step = record { root = became_keep old new became; step = step }
+
+-- all that a reader has was read
+no_more : (ys : List ℕ) → length ys ≡ 0 → ys ≡ []
+no_more [] is = refl
+no_more (y ∷ ys) is = absurd (let none : ⊥ = omega (arith, is) in none)
+
+all_read : (bytes text : List ℕ) (len : ℕ) (left : Option (List ℕ)) → IsAllRead (Some bytes) len text left → len ≡ length bytes → text ≡ bytes
+all_read bytes text len None all is = absurd all.is_read.consumed
+all_read bytes text len (Some ys) all is =
+    let consumed : bytes ≡ text ++ ys = all.is_read.consumed in
+    let sum : length bytes ≡ length text + length ys = ap length consumed ∙ length-append text ys in
+    let none : ys ≡ [] = elim all.whole [
+      | inl whole ↦ no_more ys (omega (arith, sum, whole, is))
+      | inr end ↦ end
+    ] in
+    sym (consumed ∙ (ap (λ (l : List ℕ). text ++ l) none ∙ append-nil text))
+
+-- a coordinator has started, and its first answer is carried out
+module _ (n era : ℕ) (has : Option (List ℕ)) (len : ℕ) (left : Option (List ℕ)) (c : Coordinating) (first : Result Out StartFault) (out : Out)
+    (starts : StartsFrom n era has len left c first) (is : first ≡ Ok out) where
+  pub start_root : IsOfRoot (empty_table n) c
+  start_root =
+      let (text, all, (board, rest, loads, so, begins), step) = subst (λ (r : Result Out StartFault). StartsFrom n era has len left c r) is starts in
+      (record { board = board; leases = no_leases }, ap (λ (s : Coordinating). s.held) so, loads.0)
+
+  pub start_step : (before after : Option (List ℕ)) → after ≡ kept_text out before → IsOfLedger has len before → IfSome after (InStep c)
+  start_step before after kept was =
+      let (text, all, begun, step) = subst (λ (r : Result Out StartFault). StartsFrom n era has len left c r) is starts in
+      let same : text ≡ was.bytes = all_read was.bytes text len left (subst (λ (h : Option (List ℕ)). IsAllRead h len text left) was.is_read all) was.is_all in
+      subst (λ (o : Option (List ℕ)). IfSome o (InStep c)) (sym (kept ∙ ap (kept_text out) was.is_held)) (subst (λ (t : List ℕ). InStep c (text_after out t)) same step)
+
+-- the ledger is that of the board in the end
+pub ledger_kept : {F : Type 0} (remaining : F → Option (List ℕ)) (held : Result (Opened F) Error) (old then new : Option (List ℕ)) (first last : Coordinating) (leased : Leased)
+    → last.held ≡ Some leased → StartsInStep remaining held old then first → KeepsStep (λ c text. InStep c text) first last then new → KeepsLedger remaining held old new leased.board
+ledger_kept remaining (Ok opened) old then new first last leased is starts step = λ was. subst (λ (o : Option Leased). IfSome new (HeldInStep o)) is (step (starts was))
+ledger_kept remaining (Err fault) old then new first last leased is starts step = tt

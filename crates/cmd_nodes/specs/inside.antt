@@ -1,0 +1,54 @@
+-- For the code: a coordinator that is served, and the report of its board.
+use Rattle.std.specs.Prelude.{◌≡◌, ℕ, List, [], ◌∷◌, Option, Some, Result, Ok, Err, IfSome}
+use Rattle.std.specs.Io.KnownBytes.{Appends}
+use Rattle.std.specs.declared.io.Error.{Error}
+use Rattle.machine_text.specs.Packed.{Packed}
+use Rattle.ledger.specs.Contents.{Contents, IsBoard}
+use Rattle.ledger.specs.Tally.{IsStatus}
+use Rattle.ledger.specs.declared.left.Left.TheVariants.{Nothing}
+use Rattle.ledger.specs.declared.status.Status.{Status}
+use Rattle.wire.specs.Carried.{Answering, Reply}
+use Rattle.leases.specs.Leases.{Leased}
+use Rattle.lease_core.specs.CoordinatorRules.{Coordinating}
+use Rattle.lease_core.specs.Starts.{InStep}
+use Rattle.files.specs.declared.opened.Opened.{Opened}
+use Rattle.cmd_ledgers.specs.LedgerReport.{outcome_by}
+use Rattle.cmd_options.specs.declared.outcome.Outcome.{Outcome}
+use Rattle.cmd_nodes.specs.Settled.{FormText, IsOfLedger}
+
+-- a node gave these answers in turn, and became so
+abbrev pub BecomesBy : {N : Type 0} → Answering N → N → List Reply → N → Type 0
+BecomesBy answers old [] new = new ≡ old
+BecomesBy {N} answers old (reply ∷ replies) new = (node : N) × answers old reply.to (Ok reply.out) node × BecomesBy answers node replies new
+
+-- it gave some answers, and became so
+abbrev pub Becomes : {N : Type 0} → Answering N → N → N → Type 0
+Becomes answers old new = (replies : List Reply) × BecomesBy answers old replies new
+
+-- the board of a coordinator has this root
+abbrev pub IsOfRoot : Packed → Coordinating → Type 0
+IsOfRoot root c = (held : Leased) × (c.held ≡ Some held) × (held.board.root ≡ root)
+
+-- a ledger whose text is known, and was in step, is in step
+abbrev pub KeepsStep : {N : Type 0} → (N → List ℕ → Type 0) → N → N → Option (List ℕ) → Option (List ℕ) → Type 0
+KeepsStep in_step old new before after = IfSome before (in_step old) → IfSome after (in_step new)
+
+-- a coordinator keeps the root of its board, and its ledger in step
+pub record IsServed (old new : Coordinating) (before after : Option (List ℕ)) : Type 0 where
+  pub root : (root : Packed) → IsOfRoot root old → IsOfRoot root new
+  pub step : KeepsStep (λ c text. InStep c text) old new before after
+
+-- a ledger that held what was opened of it is in step with the coordinator that began with that
+abbrev pub StartsInStep : {F : Type 0} → (F → Option (List ℕ)) → Result (Opened F) Error → Option (List ℕ) → Option (List ℕ) → Coordinating → Type 0
+StartsInStep remaining (Ok opened) old new c = IsOfLedger (remaining opened.reader) opened.length old → IfSome new (InStep c)
+StartsInStep remaining (Err fault) old new c = Unit {0}
+
+-- the report of a board is written in a form, and the outcome is by how the board stands
+pub record ReportsBoard (IsText : FormText) (board : Contents) (held new_held : Option (List ℕ)) (o : Outcome) : Type 0 where
+  pub is_board : IsBoard board
+  pub status : Status
+  pub stands : IsStatus board.root board.records status
+  pub written : List ℕ
+  pub is_text : IsText board.root board.records Nothing written
+  pub appends : Appends held new_held written
+  pub ends : o ≡ outcome_by status Nothing

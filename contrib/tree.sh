@@ -19,7 +19,7 @@ status=0
 "$bb" split "$states" "$folder" --filled "${FILLED:-5}" "$@" >&2 || status=$?
 [ "$status" -le 1 ] || exit "$status"
 echo "2 of 3: its $(parts | wc -l) parts, $jobs at once; a part that is done is only read" >&2
-# A part with holdouts ends with 1, and others are gone on with; what ends with more stops all.
+# A part that is refused (1) is said by bb join, and the others are gone on with; what ends with more stops all.
 parts | xargs -P "$jobs" -I {} sh -c '"$0" settle "$@" > /dev/null || [ $? -eq 1 ] || exit 255' "$bb" {} "$@"
 echo "3 of 3: all of them judged again" >&2
 exec "$bb" join "$folder"

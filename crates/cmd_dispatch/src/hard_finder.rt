@@ -53,10 +53,7 @@ impl HardFinder {
             Stage::Loops { first, steps } => Ok(
                 self.loops.search(t, first, steps)?.map(certificate_of),
             ),
-            Stage::Backward { paths } => {
-                let found = self.backward.search_narrow(t, paths)?;
-                Ok(found.map(OwnedCertificate::Backward))
-            }
+            Stage::Backward { paths } => self.ask_backwards(t, paths),
             Stage::Words(stage) => self.ask_for_words(t, &[stage]),
             Stage::FurtherWords => self.ask_for_words(t, &WORD_STAGES[2..]),
             Stage::Automata(stage) => self.ask_for_automata(t, stage, budget),
@@ -64,6 +61,16 @@ impl HardFinder {
             Stage::Cycles => self.cycle.find(t, MAX_TIME),
             Stage::TranslatedCycles => self.translated.find(t, MAX_TIME),
         }
+    }
+
+    // What backward reasoning shows.
+    fn ask_backwards(
+        &mut self,
+        t: &Table,
+        paths: u64,
+    ) -> Result<Option<OwnedCertificate>, NoMemory> {
+        let found = self.backward.search_narrow(t, paths)?;
+        Ok(found.map(OwnedCertificate::Backward))
     }
 
     // What automata from words show.

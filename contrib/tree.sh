@@ -15,9 +15,7 @@ jobs=${JOBS:-$(getconf _NPROCESSORS_ONLN)}
 parts() { find "$folder" -name '*.ledger' ! -name trunk.ledger | sort; }
 
 echo "1 of 3: the trunk of $folder" >&2
-status=0
-"$bb" split "$states" "$folder" --filled "${FILLED:-5}" "$@" >&2 || status=$?
-[ "$status" -le 1 ] || exit "$status"
+"$bb" split "$states" "$folder" --filled "${FILLED:-5}" "$@" >&2
 echo "2 of 3: its $(parts | wc -l) parts, $jobs at once; a part that is done is only read" >&2
 # A part that is refused (1) is said by bb join, and the others are gone on with; what ends with more stops all.
 parts | xargs -P "$jobs" -I {} sh -c '"$0" settle "$@" > /dev/null || [ $? -eq 1 ] || exit 255' "$bb" {} "$@"

@@ -25,22 +25,10 @@ pub(crate) fn decide<S: Disk, R: Read, W: Write, E: Write>(
     call: Call<'_, S, R, W, E>,
     search: &Search,
 ) -> Result<Outcome, Ended> {
-    let Call {
-        alloc,
-        system,
-        input,
-        answers,
-        faults,
-    } = call;
-    let mut decider = decider_for(alloc, search)?;
-    decide_for(
-        alloc,
-        reader_of(system),
-        &mut decider,
-        input,
-        answers,
-        faults,
-    )
+    let mut decider = decider_for(call.alloc, search)?;
+    let reader = reader_of(call.system);
+    let (input, answers, faults) = (call.input, call.answers, call.faults);
+    decide_for(call.alloc, reader, &mut decider, input, answers, faults)
 }
 
 // Who reads what is said on standard error.

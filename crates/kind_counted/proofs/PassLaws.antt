@@ -15,7 +15,7 @@ use Rattle.kind_counted.specs.Limits.{number_limit}
 use Rattle.kind_counted.specs.Numbers.{point_of, AreSmall}
 use Rattle.kind_counted.specs.declared.refused.Refused.{Refused}
 use Rattle.kind_counted.specs.declared.refused.Refused.TheVariants.{Fails, TooLarge, NoMemory}
-use Rattle.kind_counted.specs.inside.Answers.{GivesAs}
+use Rattle.kind_counted.specs.inside.Answers.{Answers}
 use Rattle.kind_counted.specs.Pass.{Answer, ◌>>=◌, walk, is_small, sized, is_zero_at, is_zero, cleared, first_place, pivot, parted, taken_off, inside}
 use Rattle.kind_counted.proofs.Divisions.{divides, divides_back}
 use Rattle.kind_counted.proofs.Sums.{one-*ℤ}

@@ -14,7 +14,7 @@ ghost use Rattle.kind_counted.specs.inside.Used.{IsUsedTable};
 ghost use Rattle.kind_counted.specs.inside.Points.{coset_by};
 ghost use Rattle.kind_counted.specs.inside.Judging.{first_of, end_of, IsItemAt, IsNoItem, SettlesFrom, AllSettle, HasStep, AllGoOn, StartsInside};
 ghost use Rattle.kind_counted.specs.inside.Answers.{Tells, not_in, not_in_both};
-ghost use Rattle.kind_counted.specs.Pass.{IsFormed, GetTooLarge, inside, begins_inside, all_go_on, goes_on, leads_on, settled_on, settled_from, settled_by, points_settle};
+ghost use Rattle.kind_counted.specs.Pass.{IsFormed, GetTooLarge, inside, begins_inside, all_go_on, goes_on, leads_on, settled_on, settled_from, settled_by, settled};
 
 use crate::automaton::Automaton;
 use crate::certificate::CountedAutomata;
@@ -296,7 +296,7 @@ impl CountedAutomata {
         ensures settled { IfOk result (λ _. Settled (IsMember (coset_by points.now.base points.now.rows.items)) (HasCoset (counted_of self.now) next)) }
         ensures fails { result ≡ Err Refused.Fails →
             Settled (IsMember (coset_by points.now.base points.now.rows.items)) (HasCoset (counted_of self.now) next) → ⊥ }
-        ensures pass { Tells (points_settle (counted_of self.now) next (coset_by points.now.base points.now.rows.items)) result }
+        ensures pass { Tells (settled (counted_of self.now) next (coset_by points.now.base points.now.rows.items)) result }
     {
         if points.is_negative() {
             return Ok(());

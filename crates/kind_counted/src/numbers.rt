@@ -23,7 +23,7 @@ impl Counts {
     ghost use Rattle.kind_counted.specs.inside.Rows.{IsCleared};
     ghost use Rattle.kind_counted.specs.inside.Spans.{IsLessened};
     ghost use Rattle.kind_counted.specs.Pass.{is_small, sized, cleared};
-    ghost use Rattle.kind_counted.specs.inside.Answers.{GivesAs};
+    ghost use Rattle.kind_counted.specs.inside.Answers.{Answers};
 
     // 0 for each count.
     pub(crate) fn zeros() -> Counts
@@ -54,7 +54,7 @@ impl Counts {
         ensures cleared { IfOk result (λ v. IsCleared (point_of self.now.numbers) (point_of row.now.numbers) place (point_of v.numbers)) }
         ensures fails { result ≡ Err Refused.Fails → (q : ℤ) →
             point_of self.now.numbers place ≡ q *ℤ point_of row.now.numbers place → ⊥ }
-        ensures pass { GivesAs (λ v. point_of v.numbers) (cleared place (point_of self.now.numbers) (point_of row.now.numbers)) result }
+        ensures pass { Answers (λ v. point_of v.numbers) (cleared place (point_of self.now.numbers) (point_of row.now.numbers)) result }
     {
         match quotient(self.numbers[place], row.numbers[place]) {
             Some(q) => match self.less(q, row) {
@@ -71,7 +71,7 @@ impl Counts {
         requires some { 0 < unsigned_abs (point_of row.now.numbers place) }
         ensures lessened { IfOk result (λ v. IsLessened (point_of self.now.numbers) (point_of row.now.numbers) place (point_of v.numbers)) }
         ensures large { result ≡ Err Refused.Fails → ⊥ }
-        ensures pass { GivesAs (λ v. point_of v.numbers) (sized (less (point_of self.now.numbers)
+        ensures pass { Answers (λ v. point_of v.numbers) (sized (less (point_of self.now.numbers)
             (int_div (point_of self.now.numbers place) (point_of row.now.numbers place)) (point_of row.now.numbers))) result }
     {
         match self.less(rounded(self.numbers[place], row.numbers[place]), row) {
@@ -84,7 +84,7 @@ impl Counts {
     pub(crate) fn minus(&self, other: &Counts) -> Result<Counts, Refused>
         ensures minus { IfOk result (λ v. (x : ℕ) → point_of v.numbers x ≡ point_of self.now.numbers x -ℤ point_of other.now.numbers x) }
         ensures large { result ≡ Err Refused.Fails → ⊥ }
-        ensures pass { GivesAs (λ v. point_of v.numbers) (sized (λ x. point_of self.now.numbers x -ℤ point_of other.now.numbers x)) result }
+        ensures pass { Answers (λ v. point_of v.numbers) (sized (λ x. point_of self.now.numbers x -ℤ point_of other.now.numbers x)) result }
     {
         match self.less(1, other) {
             Some(rest) => Ok(rest),
@@ -97,7 +97,7 @@ impl Counts {
         requires { IsCount count }
         ensures more { IfOk result (λ v. (x : ℕ) → point_of v.numbers x ≡ point_of self.now.numbers x +ℤ pos (once count x)) }
         ensures large { result ≡ Err Refused.Fails → ⊥ }
-        ensures pass { GivesAs (λ v. point_of v.numbers) (sized (λ x. point_of self.now.numbers x +ℤ pos (once count x))) result }
+        ensures pass { Answers (λ v. point_of v.numbers) (sized (λ x. point_of self.now.numbers x +ℤ pos (once count x))) result }
     {
         match count {
             Some(count) => self.with(count.number, self.numbers[count.number] + 1),
@@ -110,7 +110,7 @@ impl Counts {
         requires { IsCount count }
         ensures less { IfOk result (λ v. (x : ℕ) → point_of v.numbers x ≡ point_of self.now.numbers x -ℤ pos (once count x)) }
         ensures large { result ≡ Err Refused.Fails → ⊥ }
-        ensures pass { GivesAs (λ v. point_of v.numbers) (sized (λ x. point_of self.now.numbers x -ℤ pos (once count x))) result }
+        ensures pass { Answers (λ v. point_of v.numbers) (sized (λ x. point_of self.now.numbers x -ℤ pos (once count x))) result }
     {
         match count {
             Some(count) => self.with(count.number, self.numbers[count.number] - 1),
@@ -124,7 +124,7 @@ impl Counts {
         ensures with { IfOk result (λ v. v.numbers ≡ set self.now.numbers place number) }
         ensures large { result ≡ Err Refused.Fails → ⊥ }
         ensures pass { (f : Point) → f place ≡ number → ((x : ℕ) → x ≢ place → f x ≡ point_of self.now.numbers x) →
-            GivesAs (λ v. point_of v.numbers) (sized f) result }
+            Answers (λ v. point_of v.numbers) (sized f) result }
     {
         if number < -MAX_NUMBER || number > MAX_NUMBER {
             return Err(Refused::TooLarge);

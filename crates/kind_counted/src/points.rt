@@ -10,8 +10,8 @@ ghost use Rattle.kind_counted.specs.Pivots.{points};
 ghost use Rattle.kind_counted.specs.inside.Spans.{listed, IsSplit};
 ghost use Rattle.kind_counted.specs.inside.Points.{coset_by, AreMoved, AreZeroMembers, AreKeptIn, IsZeroIn, AreZeroAt, IsNegativeAt, IsNegative, AreSumsOf, LiesWithin};
 ghost use Rattle.std.specs.List.{range_with_len};
-ghost use Rattle.kind_counted.specs.Pass.{each, inside, all_inside, recounted, kept, kept_at, zero_at, zero_of};
-ghost use Rattle.kind_counted.specs.inside.Answers.{GivesAs, Tells, not_in};
+ghost use Rattle.kind_counted.specs.Pass.{each, inside, all_inside, moved, kept, kept_at, zero_at, zero_of};
+ghost use Rattle.kind_counted.specs.inside.Answers.{Answers, Tells, not_in};
 ghost use Rattle.kind_counted.specs.declared.numbers.Counts.{Counts};
 
 use crate::item::Coset;
@@ -43,7 +43,7 @@ impl Points {
         requires fewer { IsCount fewer }
         ensures moved { IfOk result (λ p. AreMoved (coset_of k.now) more fewer (coset_by p.base p.rows.items)) }
         ensures large { result ≡ Err Refused.Fails → ⊥ }
-        ensures pass { GivesAs (λ p. coset_by p.base p.rows.items) (recounted (coset_of k.now) more fewer) result }
+        ensures pass { Answers (λ p. coset_by p.base p.rows.items) (moved (coset_of k.now) more fewer) result }
     {
         let rows = rows_of(alloc, k)?;
         let base = k.base.one_more(more)?.one_less(fewer)?;
@@ -65,7 +65,7 @@ impl Points {
             (coset_by p.base p.rows.items)) }
         ensures none { result ≡ Err Refused.Fails → (v : Point) → IsMember (coset_by self.base self.rows.items) v →
             IsZeroIn from to (slice_index used.now.sets.items state) v → ⊥ }
-        ensures pass { GivesAs (λ p. coset_by p.base p.rows.items)
+        ensures pass { Answers (λ p. coset_by p.base p.rows.items)
             (kept (not_in used.now.sets.items) state (range_with_len from (to - from)) (coset_by self.base self.rows.items)) result }
     {
         let mut points = self;
@@ -88,7 +88,7 @@ impl Points {
             (slice_index used.now.sets.items state) (coset_by p.base p.rows.items)) }
         ensures none { result ≡ Err Refused.Fails → (v : Point) → IsMember (coset_by self.base self.rows.items) v →
             IsZeroIn place (place + 1) (slice_index used.now.sets.items state) v → ⊥ }
-        ensures pass { GivesAs (λ p. coset_by p.base p.rows.items)
+        ensures pass { Answers (λ p. coset_by p.base p.rows.items)
             (kept_at (not_in used.now.sets.items) state (coset_by self.base self.rows.items) place) result }
     {
         if used.has(state, place) {
@@ -162,7 +162,7 @@ impl Points {
         ensures kept { IfOk result (λ p. AreZeroMembers (coset_by self.now.base self.now.rows.items) place (coset_by p.base p.rows.items)) }
         ensures none { result ≡ Err Refused.Fails → (v : Point) → IsMember (coset_by self.now.base self.now.rows.items) v →
             v place ≡ pos 0 → ⊥ }
-        ensures pass { GivesAs (λ p. coset_by p.base p.rows.items) (zero_at place (coset_by self.now.base self.now.rows.items)) result }
+        ensures pass { Answers (λ p. coset_by p.base p.rows.items) (zero_at place (coset_by self.now.base self.now.rows.items)) result }
     {
         let split = split_at(alloc, &self.rows, place)?;
         zero_of(&self.base, split, place)
@@ -177,7 +177,7 @@ fn zero_of(base: &Counts, split: Split, place: usize) -> Result<Points, Refused>
         AreZeroMembers (coset_by base.now rows) place (coset_by p.base p.rows.items)) }
     ensures none { result ≡ Err Refused.Fails → (rows : List Counts) → IsSplit (listed rows) place split.carrier (listed split.rest.items) →
         (v : Point) → IsMember (coset_by base.now rows) v → v place ≡ pos 0 → ⊥ }
-    ensures pass { GivesAs (λ p. coset_by p.base p.rows.items)
+    ensures pass { Answers (λ p. coset_by p.base p.rows.items)
         (zero_of place (point_of base.now.numbers) (listed split.rest.items) (option_map (λ row. point_of row.numbers) split.carrier)) result }
 {
     match split.carrier {

@@ -2,7 +2,7 @@ use Rattle.std.proofs.Common.{List, Ok, Err, ◌+ℤ◌, ◌-ℤ◌, pos, sym, �
 use Rattle.law_counted.specs.Cosets.{Point, Coset}
 use Rattle.kind_counted.specs.declared.numbers.Counts.{Counts}
 use Rattle.kind_counted.specs.declared.points.Points.{Points}
-use Rattle.kind_counted.specs.Pass.{◌>>=◌, sized, recounted}
+use Rattle.kind_counted.specs.Pass.{◌>>=◌, sized, moved}
 use Rattle.kind_counted.specs.inside.Points.{coset_by}
 use Rattle.kind_counted.proofs.PassLaws.{refused_as}
 use Rattle.kind_counted.proofs.PassRows.{moved_by}

@@ -3,7 +3,7 @@ use Rattle.machine_text.specs.Packed.{Packed}
 use Rattle.kind_counted.specs.CosetTexts.{CosetTexts, AreWithinLimits, AreCosetsOf, GetTooLargeFor}
 
 -- the automata stand for the table, within the limits, and no number gets too large when they are judged for it
-pub record AreFoundOf (p : Packed) (t : CosetTexts) : Type 0 where
+pub record AreCosetsFound (p : Packed) (t : CosetTexts) : Type 0 where
   pub within : AreWithinLimits t
   pub stand : AreCosetsOf t p
   pub small : GetTooLargeFor t p → ⊥

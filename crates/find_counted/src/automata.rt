@@ -39,8 +39,8 @@ impl Automaton {
         Ok(None)
     }
 
-    // Counts all transitions but the first into each state and the one that keeps blank cells blank, from a count on. The
-    // first count that isn't taken.
+    // Counts all transitions but the first into each state and the one that keeps blank cells blank, from a count on.
+    // The first count that isn't taken.
     pub fn count(&mut self, from: usize) -> usize {
         let mut count = from;
         let mut reached = [false; MAX_FOUND_STATES];

@@ -2,8 +2,8 @@
 use crate::limits::MAX_FOUND_COUNTS;
 use crate::vectors::{Parted, Vector, part};
 
-// The rows of a coset in echelon form, each in the place of its first number; or those of what is left after a step, in any
-// form.
+// The rows of a coset in echelon form, each in the place of its first number; or those of what is left after a step,
+// in any form.
 pub(crate) type Rows = [Option<Vector>; MAX_FOUND_COUNTS];
 
 // A base, and all points that are further by whole multiples of the rows.

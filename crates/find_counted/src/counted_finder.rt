@@ -1,7 +1,7 @@
 // The search for counted automata.
 ghost use Rattle.std.specs.Prelude.{◌≡◌, ◌+◌, ◌≤◌, min, IfSome, IfOk};
 ghost use Rattle.kind_counted.specs.OwnedCosets.{owned_coset_texts};
-ghost use Rattle.find_counted.specs.Findings.{AreFoundOf};
+ghost use Rattle.find_counted.specs.Findings.{AreCosetsFound};
 ghost use Rattle.find_counted.specs.Limits.{found_count_limit};
 
 use crate::automata::Automaton;
@@ -38,12 +38,14 @@ impl CountedFinder {
 
     /// Counted automata that stand for a table, with the finder's counts at most; none where it finds none.
     ///
-    /// The automata are learned from the half tapes of the run's first 2,000 steps: two beginnings of half tapes are one state
-    /// where the same was seen to follow them, and every transition but the first into each state has a count of its own.
-    /// By these the least cosets are decided. No contract says what is found or how long it takes.
+    /// The automata are learned from the half tapes of the run's first 2,000 steps: two beginnings of half tapes are
+    /// one state where the same was seen to follow them, and every transition but the first into each state has a
+    /// count of its own. By these the least cosets are decided. No contract says what is found or how long it takes.
     pub fn search(&mut self, t: &Table) -> Result<Option<OwnedCosets>, NoMemory>
-        ensures found { IfOk result (λ o. IfSome o (λ e. AreFoundOf t.now (owned_coset_texts e))) }
-        ensures counts { IfOk result (λ o. IfSome o (λ e. (owned_coset_texts e).left_counts + (owned_coset_texts e).right_counts ≤ min self.old.counts found_count_limit)) }
+        ensures found { IfOk result (λ o. IfSome o (λ e. AreCosetsFound t.now (owned_coset_texts e))) }
+        ensures counts { IfOk result
+            (λ o. IfSome o (λ e. (owned_coset_texts e).left_counts +
+            (owned_coset_texts e).right_counts ≤ min self.old.counts found_count_limit)) }
         ensures same { self.new.counts ≡ self.old.counts }
     {
         for window in WINDOWS {
@@ -56,8 +58,10 @@ impl CountedFinder {
 
     // What is found by the automata that so many symbols tell.
     fn search_by(&self, t: &Table, window: usize) -> Result<Option<OwnedCosets>, NoMemory>
-        ensures found { IfOk result (λ o. IfSome o (λ e. AreFoundOf t.now (owned_coset_texts e))) }
-        ensures counts { IfOk result (λ o. IfSome o (λ e. (owned_coset_texts e).left_counts + (owned_coset_texts e).right_counts ≤ min self.now.counts found_count_limit)) }
+        ensures found { IfOk result (λ o. IfSome o (λ e. AreCosetsFound t.now (owned_coset_texts e))) }
+        ensures counts { IfOk result
+            (λ o. IfSome o (λ e. (owned_coset_texts e).left_counts +
+            (owned_coset_texts e).right_counts ≤ min self.now.counts found_count_limit)) }
     {
         let Some(mut left) = self.learned(t, Dir::L, window)? else {
             return Ok(None);
@@ -102,8 +106,10 @@ impl CountedFinder {
         right_counts: u8,
     ) -> Result<Option<OwnedCosets>, NoMemory>
         requires { left_counts + right_counts ≤ min self.now.counts found_count_limit }
-        ensures found { IfOk result (λ o. IfSome o (λ e. AreFoundOf t.now (owned_coset_texts e))) }
-        ensures counts { IfOk result (λ o. IfSome o (λ e. (owned_coset_texts e).left_counts + (owned_coset_texts e).right_counts ≤ min self.now.counts found_count_limit)) }
+        ensures found { IfOk result (λ o. IfSome o (λ e. AreCosetsFound t.now (owned_coset_texts e))) }
+        ensures counts { IfOk result
+            (λ o. IfSome o (λ e. (owned_coset_texts e).left_counts +
+            (owned_coset_texts e).right_counts ≤ min self.now.counts found_count_limit)) }
     {
         let split = left_counts as usize;
         let mut closing = Closing::new(

@@ -47,8 +47,8 @@ impl HalfTapes {
         }
     }
 
-    // What stands in a place of the half tape on a side, counted from its end that is far away: behind its last cell the
-    // head's state, the symbol that it reads, and the other half tape.
+    // What stands in a place of the half tape on a side, counted from its end that is far away: behind its last cell
+    // the head's state, the symbol that it reads, and the other half tape.
     pub fn mark(&self, side: Dir, place: usize) -> u16 {
         let (half, other) = self.on(side);
         match place.checked_sub(half.len()) {

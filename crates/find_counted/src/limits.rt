@@ -18,6 +18,6 @@ pub(crate) const MAX_EDGES: usize = 2_500;
 // No number of a coset is larger while it is looked for.
 pub(crate) const MAX_SIZE: u64 = 1 << 40;
 
-// How many symbols behind a beginning of a half tape tell which ones are alike, in the order in which they are tried; the
-// head's state counts as one. No more than four.
+// How many symbols behind a beginning of a half tape tell which ones are alike, in the order in which they are tried;
+// the head's state counts as one. No more than four.
 pub(crate) const WINDOWS: [usize; 3] = [3, 2, 4];

@@ -14,7 +14,7 @@ use Rattle.kind_counted.specs.Automata.{transitions_of}
 use Rattle.kind_counted.specs.Certificate.{counted_of}
 use Rattle.kind_counted.specs.Pass.{Answer, ◌>>=◌, begins_inside, all_go_on, judged, TellsUnused, GetTooLarge}
 use Rattle.kind_counted.specs.inside.Used.{in_set, IsUsedTable}
-use Rattle.kind_counted.specs.inside.Answers.{Tells, not_in, not_in_both}
+use Rattle.kind_counted.specs.inside.Agreement.{Tells, not_in, not_in_both}
 use Rattle.kind_counted.proofs.PassItems.{and_left, and_right}
 use Rattle.kind_counted.proofs.UsedLaws.{unused_law}
 use Rattle.kind_counted.proofs.WitnessLaws.{unused_back}

@@ -27,7 +27,7 @@ use Rattle.kind_counted.specs.Items.{coset_of, item_of}
 use Rattle.kind_counted.specs.Numbers.{point_of}
 use Rattle.kind_counted.specs.inside.Points.{coset_by, IsNegativeAt, IsNegative}
 use Rattle.kind_counted.specs.inside.Judging.{first_of, end_of, IsItemAt, IsNoItem, AllGoOn, HasStep}
-use Rattle.kind_counted.specs.Pass.{Answer, ◌>>=◌, walk, each, is_zero_at, are_zero_at, is_negative_at, is_negative, is_same, coset_at, counts_of, states_from, settled_at, settled_from, settled_by, settled_if_any, moved, kept}
+use Rattle.kind_counted.specs.Pass.{Answer, ◌>>=◌, walk, each, is_zero_at, are_zero_at, is_negative_at, is_negative, is_same, coset_at, counts_of, states_from, settled_at, settled_from, settled_by, settled_if_any, moved_coset, kept}
 use Rattle.kind_counted.proofs.PointLaws.{past_end}
 use Rattle.kind_counted.proofs.LeftLaws.{negative_from, negative_back}
 use Rattle.kind_counted.proofs.PassLaws.{each_false, zero_here, zero_of_test, walk_on}
@@ -218,13 +218,13 @@ walk_items_end step s items i past =
 
 -- a step of which what it moves to is known
 pub moved_on : (w : CountedSystem) (unused : ℕ → ℕ → Bool) (k : Coset) (side : Dir) (by : Transition) (next : State) (q : ℕ) (b : Sym) (last : Transition) (a : Answer Coset) →
-    moved k by.count last.count ≡ a → settled_by w unused k side by next q b last ≡ (a >>= λ k. settled_if_any w (moved_to side by.to next b q) (kept unused q (counts_of w.split side) k))
+    moved_coset k by.count last.count ≡ a → settled_by w unused k side by next q b last ≡ (a >>= λ k. settled_if_any w (moved_to side by.to next b q) (kept unused q (counts_of w.split side) k))
 unfolding settled_by
 moved_on w unused k side by next q b last a is = ap (λ a. a >>= λ k. settled_if_any w (moved_to side by.to next b q) (kept unused q (counts_of w.split side) k)) is
 
 -- and what is then left
 pub kept_on : (w : CountedSystem) (unused : ℕ → ℕ → Bool) (k : Coset) (side : Dir) (by : Transition) (next : State) (q : ℕ) (b : Sym) (last : Transition) (old : Coset)
-    (from to : ℕ) (a : Answer Coset) → moved k by.count last.count ≡ Ok old → from ≡ first_of w.split side → to ≡ end_of w.split side →
+    (from to : ℕ) (a : Answer Coset) → moved_coset k by.count last.count ≡ Ok old → from ≡ first_of w.split side → to ≡ end_of w.split side →
     kept unused q (range_with_len from (to - from)) old ≡ a → settled_by w unused k side by next q b last ≡ settled_if_any w (moved_to side by.to next b q) a
 kept_on w unused k side by next q b last old from to a moves from_is to_is is =
     let counts : range_with_len from (to - from) ≡ counts_of w.split side =

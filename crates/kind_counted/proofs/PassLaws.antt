@@ -15,7 +15,7 @@ use Rattle.kind_counted.specs.Limits.{number_limit}
 use Rattle.kind_counted.specs.Numbers.{point_of, AreSmall}
 use Rattle.kind_counted.specs.declared.refused.Refused.{Refused}
 use Rattle.kind_counted.specs.declared.refused.Refused.TheVariants.{Fails, TooLarge, NoMemory}
-use Rattle.kind_counted.specs.inside.Answers.{Answers}
+use Rattle.kind_counted.specs.inside.Agreement.{AgreesWith}
 use Rattle.kind_counted.specs.Pass.{Answer, ◌>>=◌, walk, is_small, sized, is_zero_at, is_zero, cleared, first_place, pivot, parted, taken_off, inside}
 use Rattle.kind_counted.proofs.Divisions.{divides, divides_back}
 use Rattle.kind_counted.proofs.Sums.{one-*ℤ}
@@ -41,16 +41,16 @@ each_false test (suc n) k below not = elim (cases_eq k n) [
 
 -- what a result is said to be, where a call of it was refused: each refusal is the pass's own
 refused_on : {A B C D : Type 0} (value : A → B) (other : C → D) (said : Answer B) (whole : Answer D) (e : Refused) → ((r : Refused) → said ≡ Err r → whole ≡ Err r) →
-    Answers value said (Err e) → Answers other whole (Err e)
+    AgreesWith value said (Err e) → AgreesWith other whole (Err e)
 refused_on value other said whole Fails on is = on Fails is
 refused_on value other said whole TooLarge on is = on TooLarge is
 refused_on value other said whole NoMemory on is = tt
 
 pub refused_as : {A B C D : Type 0} (value : A → B) (other : C → D) (said : Answer B) (whole : Answer D) (e : Refused) (result : Result C Refused) →
-    IsErrAnd result (λ r. r ≡ e) → ((r : Refused) → said ≡ Err r → whole ≡ Err r) → Answers value said (Err e) → Answers other whole result
+    IsErrAnd result (λ r. r ≡ e) → ((r : Refused) → said ≡ Err r → whole ≡ Err r) → AgreesWith value said (Err e) → AgreesWith other whole result
 refused_as value other said whole e result refused on is =
     let (r, err, same) = err_from_is_err_and result refused in
-    subst (Answers other whole) (sym err) (subst (λ r. Answers other whole (Err r)) (sym same) (refused_on value other said whole e on is))
+    subst (AgreesWith other whole) (sym err) (subst (λ r. AgreesWith other whole (Err r)) (sym same) (refused_on value other said whole e on is))
 
 -- the value of an answer
 abbrev value_or : {A : Type 0} → A → Answer A → A

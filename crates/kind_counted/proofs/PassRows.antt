@@ -9,7 +9,7 @@ use Rattle.std.specs.List.{range_with_len}
 use Rattle.kind_counted.specs.Numbers.{point_of}
 use Rattle.kind_counted.specs.Pivots.{points}
 use Rattle.kind_counted.specs.declared.rows.Row.{Row}
-use Rattle.kind_counted.specs.Pass.{Answer, ◌>>=◌, walk, each, sized, cleared, pivot, taken_off, inside, all_inside, SplitRows, split_rows, add, zero_of, zero_at, moved}
+use Rattle.kind_counted.specs.Pass.{Answer, ◌>>=◌, walk, each, sized, cleared, pivot, taken_off, inside, all_inside, SplitRows, split_rows, add, zero_of, zero_at, moved_coset}
 use Rattle.kind_counted.specs.declared.numbers.Counts.{Counts}
 use Rattle.kind_counted.specs.inside.Spans.{listed}
 use Rattle.kind_counted.proofs.PassLaws.{pivot_first, walk_on}
@@ -72,8 +72,8 @@ unfolding all_inside
 apart_by k other a is = ap (λ a. a >>= inside other.rows >>= λ _. each (inside other.rows) k.rows) is
 
 pub moved_by : (k : Coset) (more fewer : Option Count) (a : Answer Point) → sized (λ x. k.base x +ℤ pos (once more x)) ≡ a →
-    moved k more fewer ≡ (a >>= λ base. sized (λ x. base x -ℤ pos (once fewer x)) >>= λ base. Ok (record { base = base; rows = k.rows }))
-unfolding moved
+    moved_coset k more fewer ≡ (a >>= λ base. sized (λ x. base x -ℤ pos (once fewer x)) >>= λ base. Ok (record { base = base; rows = k.rows }))
+unfolding moved_coset
 moved_by k more fewer a is = ap (λ a. a >>= λ base. sized (λ x. base x -ℤ pos (once fewer x)) >>= λ base. Ok (record { base = base; rows = k.rows })) is
 
 pub zero_by : (x : ℕ) (k : Coset) (a : Answer SplitRows) → walk (add x) (split_rows None []) k.rows ≡ a → zero_at x k ≡ (a >>= λ s. zero_of x k.base s.rest s.carrier)

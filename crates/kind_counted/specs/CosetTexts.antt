@@ -10,8 +10,8 @@ use Rattle.kind_counted.specs.Limits.{coset_byte_limit, count_limit}
 use Rattle.kind_counted.specs.Pass.{GetTooLarge}
 use Rattle.kind_counted.specs.Texts.{half_states, automaton_from, items_from}
 
--- how many states the tables have for which it is made, how many counts the left and the right automaton have, the texts of
--- both, and that of the cosets
+-- how many states the tables have for which it is made, how many counts the left and the right automaton have, the
+-- texts of both, and that of the cosets
 pub record CosetTexts : Type 0 where
   pub states : ℕ
   pub left_counts : ℕ

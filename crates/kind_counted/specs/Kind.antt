@@ -6,8 +6,8 @@ use Rattle.kind_evidence.specs.Kind.{Kind}
 use Rattle.kind_counted.specs.CosetTexts.{CosetTexts, AreCosetTexts, AreWithinLimits, AreCosetsOf, GetTooLargeFor}
 use Rattle.kind_counted.specs.Fields.{counted_by, counted_fields}
 
--- the counted automata that the texts give stand for the table; they are too wide where a number gets too large when they
--- are judged, and to judge them takes memory
+-- the counted automata that the texts give stand for the table; they are too wide where a number gets too large when
+-- they are judged, and to judge them takes memory
 abbrev pub counted_kind : Kind CosetTexts
 counted_kind = record {
   letter = codes "W";

@@ -1,5 +1,5 @@
--- The order in which what stands around the head is listed: by the left automaton's state, then the table's, then the symbol,
--- then the right automaton's state.
+-- The order in which what stands around the head is listed: by the left automaton's state, then the table's, then the
+-- symbol, then the right automaton's state.
 use Rattle.std.specs.Prelude.{ℕ, ◌==◌, ◌&&◌, ◌||◌, nat_lt, Bool, true, Option, Some, None}
 use Rattle.machine_text.specs.Packed.{symbol_number}
 use Rattle.law_counted.specs.declared.local.Local.{Local}

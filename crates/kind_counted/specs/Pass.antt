@@ -1,5 +1,5 @@
--- The pass by which counted automata are judged. Whether they stand is said without it (law_counted's `Counted`). But where
--- a number gets too large, it ends (203), and which numbers come up depends on how it goes: so it is said here.
+-- The pass by which counted automata are judged. Whether they stand is said without it (law_counted's `Counted`). But
+-- where a number gets too large, it ends (203), and which numbers come up depends on how it goes: so it is said here.
 use Rattle.std.specs.Prelude.{◌≡◌, ℕ, zero, suc, ◌+◌, ◌-◌, ◌<◌, ◌==◌, ◌&&◌, not, nat_le, if◌then◌else◌, Bool, true, pos, ◌+ℤ◌, ◌-ℤ◌, int_lt, int_div, int_rem, unsigned_abs, List, [], ◌∷◌, ◌++◌, Option, Some, None, Result, Ok, Err, IsTrue, ◌↔◌}
 use Rattle.std.specs.List.{range_with_len}
 use Rattle.machine_text.specs.Packed.{symbol_number}
@@ -120,8 +120,8 @@ counts_of split L = range_with_len 0 split
 counts_of split R = range_with_len split (count_limit - split)
 
 -- one more in a count, and then one less in another
-unfoldable pub moved : Coset → Option Count → Option Count → Answer Coset
-moved k more fewer =
+unfoldable pub moved_coset : Coset → Option Count → Option Count → Answer Coset
+moved_coset k more fewer =
     sized (λ x. k.base x +ℤ pos (once more x)) >>= λ base.
     sized (λ x. base x -ℤ pos (once fewer x)) >>= λ base.
     Ok (record { base = base; rows = k.rows })
@@ -146,19 +146,19 @@ coset_at c [] = Err Fails
 coset_at c (item ∷ items) = if is_same item.at c then Ok item.coset else coset_at c items
 
 -- points that are left after a step settle
-unfoldable pub settled : CountedSystem → Local → Coset → Answer (Unit {0})
-settled w next k = if is_negative k then passes else coset_at next w.items >>= all_inside k
+unfoldable pub points_settle : CountedSystem → Local → Coset → Answer (Unit {0})
+points_settle w next k = if is_negative k then passes else coset_at next w.items >>= all_inside k
 
 abbrev pub settled_if_any : CountedSystem → Local → Answer Coset → Answer (Unit {0})
-settled_if_any w next (Ok k) = settled w next k
+settled_if_any w next (Ok k) = points_settle w next k
 settled_if_any w next (Err Fails) = passes
 settled_if_any w next (Err e) = Err e
 
--- after a step to a side, by the transition that reads what was written, to a state of the machine: where the symbol that
--- is now under the head had been read by a transition, from a state
+-- after a step to a side, by the transition that reads what was written, to a state of the machine: where the symbol
+-- that is now under the head had been read by a transition, from a state
 unfoldable pub settled_by : CountedSystem → (ℕ → ℕ → Bool) → Coset → Dir → Transition → State → ℕ → Sym → Transition → Answer (Unit {0})
 settled_by w unused k side by next q b last =
-    moved k by.count last.count >>= λ k. settled_if_any w (moved_to side by.to next b q) (kept unused q (counts_of w.split side) k)
+    moved_coset k by.count last.count >>= λ k. settled_if_any w (moved_to side by.to next b q) (kept unused q (counts_of w.split side) k)
 
 -- where it had been read from a state, if it can have been
 abbrev pub settled_from : CountedSystem → (ℕ → ℕ → Bool) → Local → Coset → Dir → Transition → State → ℕ → Sym → Option Transition → Answer (Unit {0})

@@ -1,5 +1,5 @@
--- The texts of counted automata, and of their cosets. Bytes are their ASCII codes: 44 is the comma, 45 `-`, 48 `0`, 58 the
--- colon, 65 `A`, 97 `a`.
+-- The texts of counted automata, and of their cosets. Bytes are their ASCII codes: 44 is the comma, 45 `-`, 48 `0`,
+-- 58 the colon, 65 `A`, 97 `a`.
 use Rattle.std.specs.Prelude.{ℕ, suc, ◌+◌, ◌-◌, ◌*◌, ◌/◌, ◌==◌, ◌&&◌, ◌||◌, nat_lt, nat_le, int_lt, unsigned_abs, ℤ, pos, neg_ℤ, if◌then◌else◌, Bool, false, List, [], ◌∷◌, Option, Some, None, length, take, drop, set, slice_index, option_map, position}
 use Rattle.std.specs.List.{onto_first}
 use Rattle.std.specs.Option.{option_and_then}
@@ -45,8 +45,8 @@ last_byte text = slice_index text (length text - 1)
 abbrev pub front_of : List ℕ → List ℕ
 front_of text = take (length text - 1) text
 
--- a transition: `-` for none, or a state's number, and behind it the letter of its count, where it has one. The automaton
--- has so many states, and the counts of a range
+-- a transition: `-` for none, or a state's number, and behind it the letter of its count, where it has one. The
+-- automaton has so many states, and the counts of a range
 unfoldable pub exit_from : ℕ → ℕ → ℕ → List ℕ → Option (Option Transition)
 exit_from states low limit text =
     if bytes_eq text (45 ∷ []) then Some None
@@ -132,8 +132,8 @@ state_from states b = option_map (λ f. record { 0 = f }) (ranged 0 states (b - 
 abbrev pub symbol_from : ℕ → Option Sym
 symbol_from b = if b == 48 then Some Zero else if b == 49 then Some One else None
 
--- what stands around the head: a state of the left automaton, then, at a place, the letter of the table's state, the symbol
--- that is read, and a state of the right automaton. The place is the first whose byte isn't below `A`
+-- what stands around the head: a state of the left automaton, then, at a place, the letter of the table's state, the
+-- symbol that is read, and a state of the right automaton. The place is the first whose byte isn't below `A`
 unfoldable pub local_at : Shape → List ℕ → ℕ → Option Local
 local_at a text at =
     option_and_then (λ l. option_and_then (λ f. option_and_then (λ s. option_map (λ r. record { left = l; state = f; read = s; right = r })

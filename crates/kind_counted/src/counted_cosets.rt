@@ -10,12 +10,12 @@ use machine_text::Table;
 use std::alloc::Global;
 use text::FieldFault;
 
-/// The claim that two counted automata and cosets stand for a table, by which it never halts. The automata read the two half
-/// tapes, each from far away towards the head, and count how often some of their transitions are taken; what can stand around
-/// the head comes with a coset of a lattice, in which the counts lie (equations as in Karr 1976, congruences as in Granger
-/// 1991; with one weight bbchallenge's MITMWFAR). The numbers are texts, borrowed, and read where they are checked. The claim
-/// is made for tables of so many states, and for no others. It is too wide for a table where a number over 2^31 comes up when
-/// it is judged.
+/// The claim that two counted automata and cosets stand for a table, by which it never halts. The automata read the
+/// two half tapes, each from far away towards the head, and count how often some of their transitions are taken; what
+/// can stand around the head comes with a coset of a lattice, in which the counts lie (equations as in Karr 1976,
+/// congruences as in Granger 1991; with one weight bbchallenge's MITMWFAR). The numbers are texts, borrowed, and read
+/// where they are checked. The claim is made for tables of so many states, and for no others. It is too wide for a
+/// table where a number over 2^31 comes up when it is judged.
 #[derive(Clone, Copy, Debug, PartialEq, Eq)]
 pub struct CountedCosets<'a> {
     pub(crate) texts: TextsGiven<'a>,
@@ -31,9 +31,9 @@ impl<'a> CountedCosets<'a> {
     ghost use Rattle.kind_counted.specs.Fields.{cosets_by};
     ghost use Rattle.kind_counted.specs.Limits.{coset_byte_limit, count_limit};
 
-    /// The claim that three texts make, for tables of so many states, where the left and the right automaton have so many
-    /// counts. It is `TooLong` where the texts together have over `MAX_COSET_BYTES`, `BadList` where they are no such texts.
-    /// Takes no memory.
+    /// The claim that three texts make, for tables of so many states, where the left and the right automaton have so
+    /// many counts. It is `TooLong` where the texts together have over `MAX_COSET_BYTES`, `BadList` where they are no
+    /// such texts. Takes no memory.
     pub fn new(
         states: u8,
         left_counts: u8,
@@ -44,7 +44,8 @@ impl<'a> CountedCosets<'a> {
     ) -> Result<CountedCosets<'a>, FieldFault>
         requires states { (1 ≤ states) × (states ≤ state_limit) }
         requires counts { left_counts + right_counts ≤ count_limit }
-        ensures { made_of coset_texts_of result ≡ cosets_by (coset_texts states left_counts right_counts left.now right.now cosets.now) }
+        ensures { made_of coset_texts_of result ≡
+            cosets_by (coset_texts states left_counts right_counts left.now right.now cosets.now) }
     {
         if !CountedCosets::are_short(left, right, cosets) {
             return Err(FieldFault::TooLong);
@@ -74,7 +75,8 @@ impl<'a> CountedCosets<'a> {
 
     // Whether the counted automata are of a table. Reads the texts into memory.
     fn judged(&self, alloc: Global, t: &Table) -> Result<(), Refused>
-        ensures stands { OnOk result (AreCosetsOf (coset_texts_of self.now) t.now × (GetTooLargeFor (coset_texts_of self.now) t.now → ⊥)) }
+        ensures stands { OnOk result
+            (AreCosetsOf (coset_texts_of self.now) t.now × (GetTooLargeFor (coset_texts_of self.now) t.now → ⊥)) }
         ensures fails { result ≡ Err Refused.Fails → AreCosetsOf (coset_texts_of self.now) t.now → ⊥ }
         ensures small { result ≡ Err Refused.Fails → GetTooLargeFor (coset_texts_of self.now) t.now → ⊥ }
         ensures long { result ≡ Err Refused.TooLong → ⊥ }

@@ -100,7 +100,8 @@ pub(crate) fn read_automaton(
 ) -> Result<Option<Automaton>, NoMemory>
     requires states { half_states (parts_of 44 text.now) ≡ Some states }
     requires limit { limit ≤ count_limit }
-    ensures { IfOk result (λ a. option_map (λ a. a.states.items) a ≡ automaton_from states low limit (parts_of 44 text.now)) }
+    ensures { IfOk result
+        (λ a. option_map (λ a. a.states.items) a ≡ automaton_from states low limit (parts_of 44 text.now)) }
 {
     if !begins_blank(text) {
         return Ok(None);

@@ -13,8 +13,8 @@ ghost use Rattle.kind_counted.specs.Certificate.{counted_of};
 ghost use Rattle.kind_counted.specs.inside.Used.{IsUsedTable};
 ghost use Rattle.kind_counted.specs.inside.Points.{coset_by};
 ghost use Rattle.kind_counted.specs.inside.Judging.{first_of, end_of, IsItemAt, IsNoItem, SettlesFrom, AllSettle, HasStep, AllGoOn, StartsInside};
-ghost use Rattle.kind_counted.specs.inside.Answers.{Tells, not_in, not_in_both};
-ghost use Rattle.kind_counted.specs.Pass.{IsFormed, GetTooLarge, inside, begins_inside, all_go_on, goes_on, leads_on, settled_on, settled_from, settled_by, settled};
+ghost use Rattle.kind_counted.specs.inside.Agreement.{Tells, not_in, not_in_both};
+ghost use Rattle.kind_counted.specs.Pass.{IsFormed, GetTooLarge, inside, begins_inside, all_go_on, goes_on, leads_on, settled_on, settled_from, settled_by, points_settle};
 
 use crate::automaton::Automaton;
 use crate::certificate::CountedAutomata;
@@ -103,10 +103,13 @@ impl CountedAutomata {
     ) -> Result<(), Refused>
         requires left { IsUsedTable (transitions_of self.now.left.states.items) left.now.sets.items }
         requires right { IsUsedTable (transitions_of self.now.right.states.items) right.now.sets.items }
-        ensures all { IfOk result (λ _. AllGoOn (entry_of t.now) (counted_of self.now) self.now.items.items (length self.now.items.items)) }
+        ensures all { IfOk result
+            (λ _. AllGoOn (entry_of t.now) (counted_of self.now) self.now.items.items (length self.now.items.items)) }
         ensures fails { result ≡ Err Refused.Fails →
             AllGoOn (entry_of t.now) (counted_of self.now) self.now.items.items (length self.now.items.items) → ⊥ }
-        ensures pass { Tells (all_go_on (entry_of t.now) (counted_of self.now) (not_in_both left.now.sets.items right.now.sets.items)) result }
+        ensures pass { Tells
+            (all_go_on (entry_of t.now) (counted_of self.now)
+            (not_in_both left.now.sets.items right.now.sets.items)) result }
     {
         for item in self.items.iter() {
             self.check_item(alloc, t, left, right, item)?;
@@ -125,9 +128,13 @@ impl CountedAutomata {
     ) -> Result<(), Refused>
         requires left { IsUsedTable (transitions_of self.now.left.states.items) left.now.sets.items }
         requires right { IsUsedTable (transitions_of self.now.right.states.items) right.now.sets.items }
-        ensures goes_on { IfOk result (λ _. HasStep (entry_of t.now) (counted_of self.now) item.now.at (coset_of item.now.coset)) }
-        ensures fails { result ≡ Err Refused.Fails → HasStep (entry_of t.now) (counted_of self.now) item.now.at (coset_of item.now.coset) → ⊥ }
-        ensures pass { Tells (goes_on (counted_of self.now) (not_in_both left.now.sets.items right.now.sets.items) item.now.at (coset_of item.now.coset)
+        ensures goes_on { IfOk result
+            (λ _. HasStep (entry_of t.now) (counted_of self.now) item.now.at (coset_of item.now.coset)) }
+        ensures fails { result ≡ Err Refused.Fails →
+            HasStep (entry_of t.now) (counted_of self.now) item.now.at (coset_of item.now.coset) → ⊥ }
+        ensures pass { Tells
+            (goes_on (counted_of self.now) (not_in_both left.now.sets.items right.now.sets.items) item.now.at
+            (coset_of item.now.coset)
             (entry_of t.now item.now.at.state.0 item.now.at.read)) result }
     {
         if item.at.state.0 >= t.states() {
@@ -150,9 +157,14 @@ impl CountedAutomata {
     ) -> Result<(), Refused>
         requires left { IsUsedTable (transitions_of self.now.left.states.items) left.now.sets.items }
         requires right { IsUsedTable (transitions_of self.now.right.states.items) right.now.sets.items }
-        ensures steps { IfOk result (λ _. LeadsOn (counted_of self.now) item.now.at (coset_of item.now.coset) entry.write entry.next entry.dir) }
-        ensures fails { result ≡ Err Refused.Fails → LeadsOn (counted_of self.now) item.now.at (coset_of item.now.coset) entry.write entry.next entry.dir → ⊥ }
-        ensures pass { Tells (goes_on (counted_of self.now) (not_in_both left.now.sets.items right.now.sets.items) item.now.at (coset_of item.now.coset)
+        ensures steps { IfOk result
+            (λ _. LeadsOn (counted_of self.now) item.now.at
+            (coset_of item.now.coset) entry.write entry.next entry.dir) }
+        ensures fails { result ≡ Err Refused.Fails →
+            LeadsOn (counted_of self.now) item.now.at (coset_of item.now.coset) entry.write entry.next entry.dir → ⊥ }
+        ensures pass { Tells
+            (goes_on (counted_of self.now) (not_in_both left.now.sets.items right.now.sets.items) item.now.at
+            (coset_of item.now.coset)
             (Some entry)) result }
     {
         match entry.dir {
@@ -188,10 +200,16 @@ impl CountedAutomata {
     ) -> Result<(), Refused>
         requires used { IsUsedTable (delta (counted_of self.now) entry.dir) used.now.sets.items }
         requires count { IfSome by (λ t. IsCount t.count) }
-        requires by { by ≡ delta (counted_of self.now) (opposite entry.dir) (state_on (opposite entry.dir) item.now.at) entry.write }
-        ensures steps { IfOk result (λ _. LeadsOn (counted_of self.now) item.now.at (coset_of item.now.coset) entry.write entry.next entry.dir) }
-        ensures fails { result ≡ Err Refused.Fails → LeadsOn (counted_of self.now) item.now.at (coset_of item.now.coset) entry.write entry.next entry.dir → ⊥ }
-        ensures pass { Tells (leads_on (counted_of self.now) (not_in used.now.sets.items) item.now.at (coset_of item.now.coset) entry by) result }
+        requires by { by ≡ delta (counted_of self.now) (opposite entry.dir)
+            (state_on (opposite entry.dir) item.now.at) entry.write }
+        ensures steps { IfOk result
+            (λ _. LeadsOn (counted_of self.now) item.now.at
+            (coset_of item.now.coset) entry.write entry.next entry.dir) }
+        ensures fails { result ≡ Err Refused.Fails →
+            LeadsOn (counted_of self.now) item.now.at (coset_of item.now.coset) entry.write entry.next entry.dir → ⊥ }
+        ensures pass { Tells
+            (leads_on (counted_of self.now) (not_in used.now.sets.items) item.now.at
+            (coset_of item.now.coset) entry by) result }
     {
         match by {
             Some(by) => self.check_side(
@@ -212,9 +230,13 @@ impl CountedAutomata {
     fn check_side(&self, alloc: Global, used: &Used, item: &Item, step: Step) -> Result<(), Refused>
         requires used { IsUsedTable (delta (counted_of self.now) step.side) used.now.sets.items }
         requires by { IsCount step.by.count }
-        ensures settles { IfOk result (λ _. AllSettle (counted_of self.now) item.now.at (coset_of item.now.coset) step.side step.by step.next) }
-        ensures fails { result ≡ Err Refused.Fails → AllSettle (counted_of self.now) item.now.at (coset_of item.now.coset) step.side step.by step.next → ⊥ }
-        ensures pass { Tells (settled_on (counted_of self.now) (not_in used.now.sets.items) item.now.at (coset_of item.now.coset) step.side step.by step.next) result }
+        ensures settles { IfOk result
+            (λ _. AllSettle (counted_of self.now) item.now.at (coset_of item.now.coset) step.side step.by step.next) }
+        ensures fails { result ≡ Err Refused.Fails →
+            AllSettle (counted_of self.now) item.now.at (coset_of item.now.coset) step.side step.by step.next → ⊥ }
+        ensures pass { Tells
+            (settled_on (counted_of self.now) (not_in used.now.sets.items) item.now.at
+            (coset_of item.now.coset) step.side step.by step.next) result }
     {
         for q in 0..self.on(step.side).states.len() {
             self.check_from(alloc, used, item, step, q, Sym::Zero)?;
@@ -235,10 +257,14 @@ impl CountedAutomata {
     ) -> Result<(), Refused>
         requires used { IsUsedTable (delta (counted_of self.now) step.side) used.now.sets.items }
         requires by { IsCount step.by.count }
-        ensures settles { IfOk result (λ _. SettlesFrom (counted_of self.now) item.now.at (coset_of item.now.coset) step.side step.by step.next q b) }
+        ensures settles { IfOk result
+            (λ _. SettlesFrom (counted_of self.now) item.now.at
+            (coset_of item.now.coset) step.side step.by step.next q b) }
         ensures fails { result ≡ Err Refused.Fails →
-            SettlesFrom (counted_of self.now) item.now.at (coset_of item.now.coset) step.side step.by step.next q b → ⊥ }
-        ensures pass { Tells (settled_from (counted_of self.now) (not_in used.now.sets.items) item.now.at (coset_of item.now.coset)
+            SettlesFrom (counted_of self.now) item.now.at (coset_of item.now.coset) step.side step.by step.next q b →
+            ⊥ }
+        ensures pass { Tells
+            (settled_from (counted_of self.now) (not_in used.now.sets.items) item.now.at (coset_of item.now.coset)
             step.side step.by step.next q b (delta (counted_of self.now) step.side q b)) result }
     {
         match self.on(step.side).get(q, b) {
@@ -266,9 +292,11 @@ impl CountedAutomata {
         requires used { IsUsedTable (delta (counted_of self.now) step.side) used.now.sets.items }
         requires by { IsCount step.by.count }
         requires last { IsCount last.count }
-        ensures settled { IfOk result (λ _. Settled (Remains (counted_of self.now) (coset_of item.now.coset) step.side step.by last q)
+        ensures settled { IfOk result
+            (λ _. Settled (Remains (counted_of self.now) (coset_of item.now.coset) step.side step.by last q)
             (HasCoset (counted_of self.now) (moved_to step.side step.by.to step.next b q))) }
-        ensures fails { result ≡ Err Refused.Fails → Settled (Remains (counted_of self.now) (coset_of item.now.coset) step.side step.by last q)
+        ensures fails { result ≡ Err Refused.Fails →
+            Settled (Remains (counted_of self.now) (coset_of item.now.coset) step.side step.by last q)
             (HasCoset (counted_of self.now) (moved_to step.side step.by.to step.next b q)) → ⊥ }
         ensures pass { Tells (settled_by (counted_of self.now) (not_in used.now.sets.items) (coset_of item.now.coset)
             step.side step.by step.next q b last) result }
@@ -293,10 +321,14 @@ impl CountedAutomata {
 
     // Whether points settle.
     fn check_left(&self, points: &Points, next: Local) -> Result<(), Refused>
-        ensures settled { IfOk result (λ _. Settled (IsMember (coset_by points.now.base points.now.rows.items)) (HasCoset (counted_of self.now) next)) }
+        ensures settled { IfOk result
+            (λ _. Settled (IsMember (coset_by points.now.base points.now.rows.items))
+            (HasCoset (counted_of self.now) next)) }
         ensures fails { result ≡ Err Refused.Fails →
-            Settled (IsMember (coset_by points.now.base points.now.rows.items)) (HasCoset (counted_of self.now) next) → ⊥ }
-        ensures pass { Tells (settled (counted_of self.now) next (coset_by points.now.base points.now.rows.items)) result }
+            Settled (IsMember (coset_by points.now.base points.now.rows.items))
+            (HasCoset (counted_of self.now) next) → ⊥ }
+        ensures pass { Tells
+            (points_settle (counted_of self.now) next (coset_by points.now.base points.now.rows.items)) result }
     {
         if points.is_negative() {
             return Ok(());

@@ -23,7 +23,7 @@ impl Counts {
     ghost use Rattle.kind_counted.specs.inside.Rows.{IsCleared};
     ghost use Rattle.kind_counted.specs.inside.Spans.{IsLessened};
     ghost use Rattle.kind_counted.specs.Pass.{is_small, sized, cleared};
-    ghost use Rattle.kind_counted.specs.inside.Answers.{Answers};
+    ghost use Rattle.kind_counted.specs.inside.Agreement.{AgreesWith};
 
     // 0 for each count.
     pub(crate) fn zeros() -> Counts
@@ -37,8 +37,10 @@ impl Counts {
     // These numbers less so many times others; none where a number gets too large.
     pub(crate) fn less(&self, f: i64, row: &Counts) -> Option<Counts>
         requires { unsigned_abs f ≤ number_limit }
-        ensures less { IfSome result (λ v. point_of v.numbers ≡ less (point_of self.now.numbers) f (point_of row.now.numbers)) }
-        ensures none { IfNone result (is_small (less (point_of self.now.numbers) f (point_of row.now.numbers)) ≡ false) }
+        ensures less { IfSome result
+            (λ v. point_of v.numbers ≡ less (point_of self.now.numbers) f (point_of row.now.numbers)) }
+        ensures none { IfNone result
+            (is_small (less (point_of self.now.numbers) f (point_of row.now.numbers)) ≡ false) }
     {
         let mut numbers = self.numbers;
         for x in 0..MAX_COUNTS {
@@ -51,10 +53,12 @@ impl Counts {
     pub(crate) fn cleared(&self, row: &Counts, place: usize) -> Result<Counts, Refused>
         requires place { place < count_limit }
         requires some { 0 < unsigned_abs (point_of row.now.numbers place) }
-        ensures cleared { IfOk result (λ v. IsCleared (point_of self.now.numbers) (point_of row.now.numbers) place (point_of v.numbers)) }
+        ensures cleared { IfOk result
+            (λ v. IsCleared (point_of self.now.numbers) (point_of row.now.numbers) place (point_of v.numbers)) }
         ensures fails { result ≡ Err Refused.Fails → (q : ℤ) →
             point_of self.now.numbers place ≡ q *ℤ point_of row.now.numbers place → ⊥ }
-        ensures pass { Answers (λ v. point_of v.numbers) (cleared place (point_of self.now.numbers) (point_of row.now.numbers)) result }
+        ensures pass { AgreesWith (λ v. point_of v.numbers)
+            (cleared place (point_of self.now.numbers) (point_of row.now.numbers)) result }
     {
         match quotient(self.numbers[place], row.numbers[place]) {
             Some(q) => match self.less(q, row) {
@@ -69,10 +73,12 @@ impl Counts {
     pub(crate) fn lessened(&self, row: &Counts, place: usize) -> Result<Counts, Refused>
         requires place { place < count_limit }
         requires some { 0 < unsigned_abs (point_of row.now.numbers place) }
-        ensures lessened { IfOk result (λ v. IsLessened (point_of self.now.numbers) (point_of row.now.numbers) place (point_of v.numbers)) }
+        ensures lessened { IfOk result
+            (λ v. IsLessened (point_of self.now.numbers) (point_of row.now.numbers) place (point_of v.numbers)) }
         ensures large { result ≡ Err Refused.Fails → ⊥ }
-        ensures pass { Answers (λ v. point_of v.numbers) (sized (less (point_of self.now.numbers)
-            (int_div (point_of self.now.numbers place) (point_of row.now.numbers place)) (point_of row.now.numbers))) result }
+        ensures pass { AgreesWith (λ v. point_of v.numbers) (sized (less (point_of self.now.numbers)
+            (int_div (point_of self.now.numbers place) (point_of row.now.numbers place))
+            (point_of row.now.numbers))) result }
     {
         match self.less(rounded(self.numbers[place], row.numbers[place]), row) {
             Some(rest) => Ok(rest),
@@ -82,9 +88,11 @@ impl Counts {
 
     // These numbers less others.
     pub(crate) fn minus(&self, other: &Counts) -> Result<Counts, Refused>
-        ensures minus { IfOk result (λ v. (x : ℕ) → point_of v.numbers x ≡ point_of self.now.numbers x -ℤ point_of other.now.numbers x) }
+        ensures minus { IfOk result
+            (λ v. (x : ℕ) → point_of v.numbers x ≡ point_of self.now.numbers x -ℤ point_of other.now.numbers x) }
         ensures large { result ≡ Err Refused.Fails → ⊥ }
-        ensures pass { Answers (λ v. point_of v.numbers) (sized (λ x. point_of self.now.numbers x -ℤ point_of other.now.numbers x)) result }
+        ensures pass { AgreesWith (λ v. point_of v.numbers)
+            (sized (λ x. point_of self.now.numbers x -ℤ point_of other.now.numbers x)) result }
     {
         match self.less(1, other) {
             Some(rest) => Ok(rest),
@@ -95,9 +103,11 @@ impl Counts {
     // These numbers with one more in a count.
     pub(crate) fn one_more(&self, count: Option<Count>) -> Result<Counts, Refused>
         requires { IsCount count }
-        ensures more { IfOk result (λ v. (x : ℕ) → point_of v.numbers x ≡ point_of self.now.numbers x +ℤ pos (once count x)) }
+        ensures more { IfOk result
+            (λ v. (x : ℕ) → point_of v.numbers x ≡ point_of self.now.numbers x +ℤ pos (once count x)) }
         ensures large { result ≡ Err Refused.Fails → ⊥ }
-        ensures pass { Answers (λ v. point_of v.numbers) (sized (λ x. point_of self.now.numbers x +ℤ pos (once count x))) result }
+        ensures pass { AgreesWith (λ v. point_of v.numbers)
+            (sized (λ x. point_of self.now.numbers x +ℤ pos (once count x))) result }
     {
         match count {
             Some(count) => self.with(count.number, self.numbers[count.number] + 1),
@@ -108,9 +118,11 @@ impl Counts {
     // These numbers with one less in a count.
     pub(crate) fn one_less(&self, count: Option<Count>) -> Result<Counts, Refused>
         requires { IsCount count }
-        ensures less { IfOk result (λ v. (x : ℕ) → point_of v.numbers x ≡ point_of self.now.numbers x -ℤ pos (once count x)) }
+        ensures less { IfOk result
+            (λ v. (x : ℕ) → point_of v.numbers x ≡ point_of self.now.numbers x -ℤ pos (once count x)) }
         ensures large { result ≡ Err Refused.Fails → ⊥ }
-        ensures pass { Answers (λ v. point_of v.numbers) (sized (λ x. point_of self.now.numbers x -ℤ pos (once count x))) result }
+        ensures pass { AgreesWith (λ v. point_of v.numbers)
+            (sized (λ x. point_of self.now.numbers x -ℤ pos (once count x))) result }
     {
         match count {
             Some(count) => self.with(count.number, self.numbers[count.number] - 1),
@@ -124,7 +136,7 @@ impl Counts {
         ensures with { IfOk result (λ v. v.numbers ≡ set self.now.numbers place number) }
         ensures large { result ≡ Err Refused.Fails → ⊥ }
         ensures pass { (f : Point) → f place ≡ number → ((x : ℕ) → x ≢ place → f x ≡ point_of self.now.numbers x) →
-            Answers (λ v. point_of v.numbers) (sized f) result }
+            AgreesWith (λ v. point_of v.numbers) (sized f) result }
     {
         if number < -MAX_NUMBER || number > MAX_NUMBER {
             return Err(Refused::TooLarge);

@@ -10,8 +10,8 @@ ghost use Rattle.kind_counted.specs.Pivots.{points};
 ghost use Rattle.kind_counted.specs.inside.Spans.{listed, IsSplit};
 ghost use Rattle.kind_counted.specs.inside.Points.{coset_by, AreMoved, AreZeroMembers, AreKeptIn, IsZeroIn, AreZeroAt, IsNegativeAt, IsNegative, AreSumsOf, LiesWithin};
 ghost use Rattle.std.specs.List.{range_with_len};
-ghost use Rattle.kind_counted.specs.Pass.{each, inside, all_inside, moved, kept, kept_at, zero_at, zero_of};
-ghost use Rattle.kind_counted.specs.inside.Answers.{Answers, Tells, not_in};
+ghost use Rattle.kind_counted.specs.Pass.{each, inside, all_inside, moved_coset, kept, kept_at, zero_at, zero_of};
+ghost use Rattle.kind_counted.specs.inside.Agreement.{AgreesWith, Tells, not_in};
 ghost use Rattle.kind_counted.specs.declared.numbers.Counts.{Counts};
 
 use crate::item::Coset;
@@ -43,7 +43,7 @@ impl Points {
         requires fewer { IsCount fewer }
         ensures moved { IfOk result (λ p. AreMoved (coset_of k.now) more fewer (coset_by p.base p.rows.items)) }
         ensures large { result ≡ Err Refused.Fails → ⊥ }
-        ensures pass { Answers (λ p. coset_by p.base p.rows.items) (moved (coset_of k.now) more fewer) result }
+        ensures pass { AgreesWith (λ p. coset_by p.base p.rows.items) (moved_coset (coset_of k.now) more fewer) result }
     {
         let rows = rows_of(alloc, k)?;
         let base = k.base.one_more(more)?.one_less(fewer)?;
@@ -61,12 +61,14 @@ impl Points {
     ) -> Result<Points, Refused>
         requires range { from ≤ to }
         requires limit { to ≤ count_limit }
-        ensures kept { IfOk result (λ p. AreKeptIn (coset_by self.base self.rows.items) from to (slice_index used.now.sets.items state)
+        ensures kept { IfOk result
+            (λ p. AreKeptIn (coset_by self.base self.rows.items) from to (slice_index used.now.sets.items state)
             (coset_by p.base p.rows.items)) }
         ensures none { result ≡ Err Refused.Fails → (v : Point) → IsMember (coset_by self.base self.rows.items) v →
             IsZeroIn from to (slice_index used.now.sets.items state) v → ⊥ }
-        ensures pass { Answers (λ p. coset_by p.base p.rows.items)
-            (kept (not_in used.now.sets.items) state (range_with_len from (to - from)) (coset_by self.base self.rows.items)) result }
+        ensures pass { AgreesWith (λ p. coset_by p.base p.rows.items)
+            (kept (not_in used.now.sets.items) state (range_with_len from (to - from))
+            (coset_by self.base self.rows.items)) result }
     {
         let mut points = self;
         for x in from..to {
@@ -88,7 +90,7 @@ impl Points {
             (slice_index used.now.sets.items state) (coset_by p.base p.rows.items)) }
         ensures none { result ≡ Err Refused.Fails → (v : Point) → IsMember (coset_by self.base self.rows.items) v →
             IsZeroIn place (place + 1) (slice_index used.now.sets.items state) v → ⊥ }
-        ensures pass { Answers (λ p. coset_by p.base p.rows.items)
+        ensures pass { AgreesWith (λ p. coset_by p.base p.rows.items)
             (kept_at (not_in used.now.sets.items) state (coset_by self.base self.rows.items) place) result }
     {
         if used.has(state, place) {
@@ -136,7 +138,8 @@ impl Points {
     // Whether all of them are members of a coset.
     pub fn check_within(&self, k: &Coset) -> Result<(), Refused>
         ensures within { IfOk result (λ _. LiesWithin (coset_by self.now.base self.now.rows.items) (coset_of k.now)) }
-        ensures fails { result ≡ Err Refused.Fails → LiesWithin (coset_by self.now.base self.now.rows.items) (coset_of k.now) → ⊥ }
+        ensures fails { result ≡ Err Refused.Fails →
+            LiesWithin (coset_by self.now.base self.now.rows.items) (coset_of k.now) → ⊥ }
         ensures pass { Tells (all_inside (coset_by self.now.base self.now.rows.items) (coset_of k.now)) result }
     {
         let apart = self.base.minus(&k.base)?;
@@ -147,7 +150,8 @@ impl Points {
     // Whether all rows are sums of those of a coset.
     fn check_rows(&self, k: &Coset) -> Result<(), Refused>
         ensures sums { IfOk result (λ _. AreSumsOf (points k.now.rows.items) (listed self.now.rows.items)) }
-        ensures fails { result ≡ Err Refused.Fails → AreSumsOf (points k.now.rows.items) (listed self.now.rows.items) → ⊥ }
+        ensures fails { result ≡ Err Refused.Fails →
+            AreSumsOf (points k.now.rows.items) (listed self.now.rows.items) → ⊥ }
         ensures pass { Tells (each (inside (points k.now.rows.items)) (listed self.now.rows.items)) result }
     {
         for row in self.rows.iter() {
@@ -159,10 +163,13 @@ impl Points {
     // The points that are 0 in a place; fails if none is.
     pub fn zero(&self, alloc: Global, place: usize) -> Result<Points, Refused>
         requires { place < count_limit }
-        ensures kept { IfOk result (λ p. AreZeroMembers (coset_by self.now.base self.now.rows.items) place (coset_by p.base p.rows.items)) }
-        ensures none { result ≡ Err Refused.Fails → (v : Point) → IsMember (coset_by self.now.base self.now.rows.items) v →
+        ensures kept { IfOk result
+            (λ p. AreZeroMembers (coset_by self.now.base self.now.rows.items) place (coset_by p.base p.rows.items)) }
+        ensures none { result ≡ Err Refused.Fails → (v : Point) →
+            IsMember (coset_by self.now.base self.now.rows.items) v →
             v place ≡ pos 0 → ⊥ }
-        ensures pass { Answers (λ p. coset_by p.base p.rows.items) (zero_at place (coset_by self.now.base self.now.rows.items)) result }
+        ensures pass { AgreesWith (λ p. coset_by p.base p.rows.items)
+            (zero_at place (coset_by self.now.base self.now.rows.items)) result }
     {
         let split = split_at(alloc, &self.rows, place)?;
         zero_of(&self.base, split, place)
@@ -173,12 +180,15 @@ impl Points {
 fn zero_of(base: &Counts, split: Split, place: usize) -> Result<Points, Refused>
     requires place { place < count_limit }
     requires some { IfSome split.carrier (λ c. 0 < unsigned_abs (point_of c.numbers place)) }
-    ensures kept { IfOk result (λ p. (rows : List Counts) → IsSplit (listed rows) place split.carrier (listed split.rest.items) →
+    ensures kept { IfOk result
+        (λ p. (rows : List Counts) → IsSplit (listed rows) place split.carrier (listed split.rest.items) →
         AreZeroMembers (coset_by base.now rows) place (coset_by p.base p.rows.items)) }
-    ensures none { result ≡ Err Refused.Fails → (rows : List Counts) → IsSplit (listed rows) place split.carrier (listed split.rest.items) →
+    ensures none { result ≡ Err Refused.Fails → (rows : List Counts) →
+        IsSplit (listed rows) place split.carrier (listed split.rest.items) →
         (v : Point) → IsMember (coset_by base.now rows) v → v place ≡ pos 0 → ⊥ }
-    ensures pass { Answers (λ p. coset_by p.base p.rows.items)
-        (zero_of place (point_of base.now.numbers) (listed split.rest.items) (option_map (λ row. point_of row.numbers) split.carrier)) result }
+    ensures pass { AgreesWith (λ p. coset_by p.base p.rows.items)
+        (zero_of place (point_of base.now.numbers) (listed split.rest.items)
+        (option_map (λ row. point_of row.numbers) split.carrier)) result }
 {
     match split.carrier {
         Some(carrier) => Ok(Points {

@@ -24,7 +24,7 @@ impl Row {
     ghost use Rattle.law_counted.specs.Cosets.{IsSum};
     ghost use Rattle.kind_counted.specs.Pivots.{points, AreRising};
     ghost use Rattle.kind_counted.specs.Pass.{inside};
-    ghost use Rattle.kind_counted.specs.inside.Answers.{Tells};
+    ghost use Rattle.kind_counted.specs.inside.Agreement.{Tells};
 
     /// A row of numbers, if the first that isn't 0 is positive.
     pub fn of(counts: Counts) -> Option<Row>

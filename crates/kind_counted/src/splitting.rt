@@ -6,7 +6,7 @@ ghost use Rattle.kind_counted.specs.Limits.{count_limit};
 ghost use Rattle.kind_counted.specs.Numbers.{point_of};
 ghost use Rattle.kind_counted.specs.Pass.{walk, add, split_rows};
 ghost use Rattle.kind_counted.specs.inside.Spans.{listed, points_in, IsSplit};
-ghost use Rattle.kind_counted.specs.inside.Answers.{Answers};
+ghost use Rattle.kind_counted.specs.inside.Agreement.{AgreesWith};
 
 use crate::numbers::Counts;
 use crate::parting::{Parted, part};
@@ -25,7 +25,8 @@ pub(crate) fn split_at(alloc: Global, rows: &[Counts], place: usize) -> Result<S
     requires { place < count_limit }
     ensures split { IfOk result (λ s. IsSplit (listed rows.now) place s.carrier (listed s.rest.items)) }
     ensures large { result ≡ Err Refused.Fails → ⊥ }
-    ensures pass { Answers (λ s. points_in s.carrier s.rest.items) (walk (add place) (split_rows None []) (listed rows.now)) result }
+    ensures pass { AgreesWith (λ s. points_in s.carrier s.rest.items)
+        (walk (add place) (split_rows None []) (listed rows.now)) result }
 {
     let mut split = Split {
         carrier: None,
@@ -42,10 +43,11 @@ impl Split {
     fn add(&mut self, row: &Counts, place: usize) -> Result<(), Refused>
         requires place { place < count_limit }
         requires some { IfSome self.old.carrier (λ c. 0 < unsigned_abs (point_of c.numbers place)) }
-        ensures added { OnOk result ((rows : List Point) → IsSplit rows place self.old.carrier (listed self.old.rest.items) →
+        ensures added { OnOk result
+            ((rows : List Point) → IsSplit rows place self.old.carrier (listed self.old.rest.items) →
             IsSplit (rows ++ point_of row.now.numbers ∷ []) place self.new.carrier (listed self.new.rest.items)) }
         ensures large { result ≡ Err Refused.Fails → ⊥ }
-        ensures pass { Answers (λ _. points_in self.new.carrier self.new.rest.items)
+        ensures pass { AgreesWith (λ _. points_in self.new.carrier self.new.rest.items)
             (add place (points_in self.old.carrier self.old.rest.items) (point_of row.now.numbers)) result }
     {
         match self.carrier {
@@ -66,7 +68,7 @@ impl Split {
         ensures added { OnOk result ((rows : List Point) → IsSplit rows place None (listed self.old.rest.items) →
             IsSplit (rows ++ point_of row.now.numbers ∷ []) place self.new.carrier (listed self.new.rest.items)) }
         ensures large { result ≡ Err Refused.Fails → ⊥ }
-        ensures pass { Answers (λ _. points_in self.new.carrier self.new.rest.items)
+        ensures pass { AgreesWith (λ _. points_in self.new.carrier self.new.rest.items)
             (add place (points_in None self.old.rest.items) (point_of row.now.numbers)) result }
     {
         if row.numbers[place] != 0 {

@@ -85,8 +85,10 @@ fn grow(a: &Automaton, sets: &mut [Set]) -> bool
     ensures limit { IsTrue result → total sets.new ≤ set_limit * length sets.new }
     ensures more { IsTrue result → total sets.old < total sets.new }
     ensures path { IsTrue (in_set (slice_index sets.old 0) reached) → IsTrue (in_set (slice_index sets.new 0) reached) }
-    ensures witnessed { AreWitnessed (transitions_of a.now.states.items) sets.old → AreWitnessed (transitions_of a.now.states.items) sets.new }
-    ensures used { result ≡ false → IsTrue (in_set (slice_index sets.new 0) reached) → AreUsed (transitions_of a.now.states.items) sets.new }
+    ensures witnessed { AreWitnessed (transitions_of a.now.states.items) sets.old →
+        AreWitnessed (transitions_of a.now.states.items) sets.new }
+    ensures used { result ≡ false → IsTrue (in_set (slice_index sets.new 0) reached) →
+        AreUsed (transitions_of a.now.states.items) sets.new }
 {
     for q in 0..sets.len() {
         let from = sets[q];
@@ -107,7 +109,8 @@ fn put(sets: &mut [Set], from: Set, exit: Option<Transition>) -> bool
     ensures same { result ≡ false → sets.new ≡ sets.old }
     ensures included { result ≡ false → IsTrue (in_set from reached) → IncludedBy sets.old from exit }
     ensures path { IsTrue (in_set (slice_index sets.old 0) reached) → IsTrue (in_set (slice_index sets.new 0) reached) }
-    ensures witnessed { (a : Delta) (q : ℕ) (s : Sym) → a q s ≡ exit → IsWitnessed a q from → AreWitnessed a sets.old → AreWitnessed a sets.new }
+    ensures witnessed { (a : Delta) (q : ℕ) (s : Sym) → a q s ≡ exit → IsWitnessed a q from →
+        AreWitnessed a sets.old → AreWitnessed a sets.new }
 {
     if !in_set(from, REACHED) {
         return false;
@@ -127,7 +130,8 @@ fn put_at(sets: &mut [Set], from: Set, t: Transition) -> bool
     ensures same { result ≡ false → sets.new ≡ sets.old }
     ensures included { result ≡ false → Includes from t.count (slice_index sets.old t.to) }
     ensures path { IsTrue (in_set (slice_index sets.old 0) reached) → IsTrue (in_set (slice_index sets.new 0) reached) }
-    ensures witnessed { (a : Delta) (q : ℕ) (s : Sym) → a q s ≡ Some t → IsWitnessed a q from → AreWitnessed a sets.old → AreWitnessed a sets.new }
+    ensures witnessed { (a : Delta) (q : ℕ) (s : Sym) → a q s ≡ Some t → IsWitnessed a q from →
+        AreWitnessed a sets.old → AreWitnessed a sets.new }
 {
     let more = with_count(from, t.count);
     let joined = sets[t.to] | more;

@@ -111,7 +111,8 @@ pub data Settled (remains : Point → Type 0) (next : Coset → Type 0) : Type 0
   Members : (k : Coset) → next k → ((v : Point) → remains v → IsMember k v) → Settled remains next
 
 -- a step to a side, that writes a symbol and leads to a state of the machine, from the members of the coset of what
--- stands around the head: the other side's automaton reads the symbol, and whatever may now stand around the head, it settles
+-- stands around the head: the other side's automaton reads the symbol, and whatever may now stand around the head, it
+-- settles
 pub record LeadsOn (w : CountedSystem) (c : Local) (k : Coset) (write : Sym) (next : State) (side : Dir) : Type 0 where
   pub by : Transition
   pub is : delta w (opposite side) (state_on (opposite side) c) write ≡ Some by

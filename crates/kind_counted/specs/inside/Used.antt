@@ -1,4 +1,5 @@
--- Which counts some path to a state has, as the bits of a number for each state; a further bit says that there is a path.
+-- Which counts some path to a state has, as the bits of a number for each state; a further bit says that there is a
+-- path.
 use Rattle.std.specs.Prelude.{◌≡◌, ℕ, ◌+◌, ◌<◌, ◌==◌, ◌⊎◌, Bool, IsTrue, List, [], ◌∷◌, Option, Some, None, slice_index}
 use Rattle.std.specs.Int.{bit_at}
 use Rattle.machine_text.specs.declared.transition.Sym.{Sym}

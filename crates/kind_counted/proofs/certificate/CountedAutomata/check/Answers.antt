@@ -7,7 +7,7 @@ use Rattle.law_turing.specs.Halting.{Never}
 use Rattle.law_counted.specs.Counted.{CountedSystem, CountedStand, delta}
 use Rattle.kind_counted.specs.declared.refused.Refused.TheVariants.{Fails, TooLarge}
 use Rattle.kind_counted.specs.Pass.{◌>>=◌, begins_inside, all_go_on, TellsUnused}
-use Rattle.kind_counted.specs.inside.Answers.{Tells, not_in_both}
+use Rattle.kind_counted.specs.inside.Agreement.{Tells, not_in_both}
 use Rattle.kind_counted.proofs.PassEnds.{both_tell, said_err, judged_on, not_too_large, small_where_ok}
 use Rattle.kind_counted.specs.Certificate.{counted_of}
 use Rattle.kind_counted.specs.inside.Judging.{AllGoOn}

@@ -4,7 +4,7 @@ use Rattle.law_turing.proofs.TableLaws.{table_machine}
 use Rattle.kind_counted.specs.Certificate.{counted_of}
 use Rattle.kind_counted.specs.Items.{coset_of}
 use Rattle.kind_counted.specs.Pass.{goes_on}
-use Rattle.kind_counted.specs.inside.Answers.{not_in_both}
+use Rattle.kind_counted.specs.inside.Agreement.{not_in_both}
 use Rattle.kind_counted.proofs.certificate.CountedAutomata.check_item.Goals as goal
 
 pub returns-then-item-states-clause-fails : goal.returns-then-item-states-clause-fails

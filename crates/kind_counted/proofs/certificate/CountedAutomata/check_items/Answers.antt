@@ -7,7 +7,7 @@ use Rattle.kind_counted.specs.Certificate.{counted_of}
 use Rattle.kind_counted.specs.Items.{item_of}
 use Rattle.kind_counted.specs.declared.item.Item.{Item}
 use Rattle.kind_counted.specs.Pass.{◌>>=◌, each, item_goes_on, all_go_on}
-use Rattle.kind_counted.specs.inside.Answers.{not_in_both}
+use Rattle.kind_counted.specs.inside.Agreement.{not_in_both}
 use Rattle.kind_counted.proofs.PassLaws.{refused_as}
 use Rattle.kind_counted.proofs.PassItems.{walk_items, walk_items_end, go_on_more}
 use Rattle.kind_counted.proofs.certificate.CountedAutomata.check_items.Goals as goal

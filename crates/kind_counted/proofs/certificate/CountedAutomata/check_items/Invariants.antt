@@ -3,7 +3,7 @@ use Rattle.machine_text.specs.Packed.{entry_of}
 use Rattle.kind_counted.specs.Certificate.{counted_of}
 use Rattle.kind_counted.specs.Items.{item_of}
 use Rattle.kind_counted.specs.Pass.{each, item_goes_on, all_go_on}
-use Rattle.kind_counted.specs.inside.Answers.{not_in_both}
+use Rattle.kind_counted.specs.inside.Agreement.{not_in_both}
 use Rattle.kind_counted.specs.inside.Judging.{AllGoOn}
 use Rattle.kind_counted.proofs.certificate.CountedAutomata.check_items.Given as goal
 

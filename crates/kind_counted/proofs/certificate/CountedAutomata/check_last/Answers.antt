@@ -8,8 +8,8 @@ use Rattle.kind_counted.specs.Certificate.{counted_of}
 use Rattle.kind_counted.specs.inside.Points.{coset_by}
 use Rattle.kind_counted.specs.declared.points.Points.{Points}
 use Rattle.kind_counted.specs.declared.refused.Refused.TheVariants.{Fails, TooLarge}
-use Rattle.kind_counted.specs.Pass.{kept, moved, settled, settled_by}
-use Rattle.kind_counted.specs.inside.Answers.{Answers, Tells, not_in}
+use Rattle.kind_counted.specs.Pass.{kept, moved_coset, points_settle, settled_by}
+use Rattle.kind_counted.specs.inside.Agreement.{AgreesWith, Tells, not_in}
 use Rattle.kind_counted.proofs.LeftLaws.{ok_then}
 use Rattle.kind_counted.proofs.PassLaws.{refused_as}
 use Rattle.kind_counted.proofs.PassItems.{moved_on, kept_on}
@@ -61,7 +61,7 @@ returns-in_err-points-clause-pass c =
     let sets = c.args.used.now.sets.items in
     let k : Coset = coset_of c.args.item.now.coset in
     let step = c.args.step in
-    refused_as (λ (p : Points). coset_by p.base p.rows.items) (λ u. u) (moved k step.by.count c.args.last.count)
+    refused_as (λ (p : Points). coset_by p.base p.rows.items) (λ u. u) (moved_coset k step.by.count c.args.last.count)
     (settled_by w (not_in sets) k step.side step.by step.next c.args.q c.args.b c.args.last) c.in_err-points.field-0.0 c.from_residual.result c.from_residual.ensures.1
     (λ r is. moved_on w (not_in sets) k step.side step.by step.next c.args.q c.args.b c.args.last (Err r) is) c.in_err-points.ensures.pass
 
@@ -78,7 +78,7 @@ returns-in-Ok-clause-pass c =
     subst (λ a. Tells a c.check_left.result)
     (sym (kept_on w (not_in sets) k side by next c.args.q c.args.b c.args.last a c.first_of.result c.end_of.result (Ok b) c.in_ok-points.ensures.pass
     c.first_of.ensures.first c.end_of.ensures.end c.in-Ok.ensures.pass))
-    (subst (λ n. Tells (settled w n b) c.check_left.result) c.moved_to.ensures c.check_left.ensures.pass)
+    (subst (λ n. Tells (points_settle w n b) c.check_left.result) c.moved_to.ensures c.check_left.ensures.pass)
 
 pub returns-in-Err-Fails-clause-pass : goal.returns-in-Err-Fails-clause-pass
 returns-in-Err-Fails-clause-pass c =
@@ -93,7 +93,7 @@ returns-in-Err-Fails-clause-pass c =
     let end = c.end_of.result in
     kept_on w (not_in sets) k side by next c.args.q c.args.b c.args.last a first end (Err Fails) c.in_ok-points.ensures.pass
     c.first_of.ensures.first c.end_of.ensures.end
-    (subst (λ r. Answers (λ (p : Points). coset_by p.base p.rows.items) (kept (not_in sets) c.args.q (range_with_len first (end - first)) a) (Err r))
+    (subst (λ r. AgreesWith (λ (p : Points). coset_by p.base p.rows.items) (kept (not_in sets) c.args.q (range_with_len first (end - first)) a) (Err r))
     c.in-Err-Fails.field-0-is c.in-Err-Fails.ensures.pass)
 
 pub returns-in-Err-TooLarge-clause-pass : goal.returns-in-Err-TooLarge-clause-pass
@@ -109,5 +109,5 @@ returns-in-Err-TooLarge-clause-pass c =
     let end = c.end_of.result in
     kept_on w (not_in sets) k side by next c.args.q c.args.b c.args.last a first end (Err TooLarge) c.in_ok-points.ensures.pass
     c.first_of.ensures.first c.end_of.ensures.end
-    (subst (λ r. Answers (λ (p : Points). coset_by p.base p.rows.items) (kept (not_in sets) c.args.q (range_with_len first (end - first)) a) (Err r))
+    (subst (λ r. AgreesWith (λ (p : Points). coset_by p.base p.rows.items) (kept (not_in sets) c.args.q (range_with_len first (end - first)) a) (Err r))
     c.in-Err-TooLarge.field-0-is c.in-Err-TooLarge.ensures.pass)

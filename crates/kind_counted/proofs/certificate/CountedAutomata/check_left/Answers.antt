@@ -6,8 +6,8 @@ use Rattle.kind_counted.specs.Certificate.{counted_of}
 use Rattle.kind_counted.specs.inside.Points.{coset_by, IsNegative, LiesWithin}
 use Rattle.kind_counted.specs.declared.item.Item.{Item}
 use Rattle.kind_counted.specs.inside.Judging.{IsItemAt, IsNoItem}
-use Rattle.kind_counted.specs.Pass.{◌>>=◌, passes, coset_at, all_inside, settled}
-use Rattle.kind_counted.specs.inside.Answers.{Tells}
+use Rattle.kind_counted.specs.Pass.{◌>>=◌, passes, coset_at, all_inside, points_settle}
+use Rattle.kind_counted.specs.inside.Agreement.{Tells}
 use Rattle.kind_counted.proofs.PassItems.{negative_is, negative_not, coset_found, coset_missing}
 use Rattle.kind_counted.proofs.LeftLaws.{ok_then}
 use Rattle.kind_counted.proofs.JudgingLaws.{has_item, item_has, one_coset, settled_within}
@@ -49,7 +49,7 @@ returns-in-None-clause-fails c = λ e settled.
     (subst (λ (l : List Item). IsItemAt l has.is.0 c.args.next) (sym c.deref.ensures.value) (has_item c.args.self.now.items.items c.args.next k has.is))
 
 pub returns-then-is_negative-clause-pass : goal.returns-then-is_negative-clause-pass
-unfolding settled
+unfolding points_settle
 returns-then-is_negative-clause-pass c =
     let k : Coset = coset_by c.args.points.now.base c.args.points.now.rows.items in
     let w : CountedSystem = counted_of c.args.self.now in
@@ -57,7 +57,7 @@ returns-then-is_negative-clause-pass c =
     (negative_is c.args.points.now.base c.args.points.now.rows.items (c.is_negative.ensures.0 c.if-is_negative.true))
 
 pub returns-in-Some-clause-pass : goal.returns-in-Some-clause-pass
-unfolding settled
+unfolding points_settle
 returns-in-Some-clause-pass c =
     let points = c.args.points.now in
     let k : Coset = coset_by points.base points.rows.items in
@@ -74,7 +74,7 @@ returns-in-Some-clause-pass c =
     c.check_within.ensures.pass
 
 pub returns-in-None-clause-pass : goal.returns-in-None-clause-pass
-unfolding settled
+unfolding points_settle
 returns-in-None-clause-pass c =
     let points = c.args.points.now in
     let k : Coset = coset_by points.base points.rows.items in

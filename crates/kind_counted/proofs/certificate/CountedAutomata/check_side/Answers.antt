@@ -3,7 +3,7 @@ use Rattle.law_counted.specs.Cosets.{Coset}
 use Rattle.machine_text.specs.declared.transition.Sym.TheVariants.{Zero, One}
 use Rattle.law_counted.specs.Counted.{CountedSystem, delta}
 use Rattle.kind_counted.specs.Pass.{◌>>=◌, each, settled_from, settled_at, settled_on, states_from}
-use Rattle.kind_counted.specs.inside.Answers.{not_in}
+use Rattle.kind_counted.specs.inside.Agreement.{not_in}
 use Rattle.kind_counted.proofs.PassLaws.{refused_as}
 use Rattle.kind_counted.proofs.PassItems.{states_more, states_end}
 use Rattle.kind_counted.specs.Items.{coset_of}

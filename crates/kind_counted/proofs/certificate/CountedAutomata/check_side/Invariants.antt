@@ -2,7 +2,7 @@ use Rattle.std.proofs.Common.{◌≡◌}
 use Rattle.kind_counted.specs.Items.{coset_of}
 use Rattle.kind_counted.specs.Certificate.{counted_of}
 use Rattle.kind_counted.specs.Pass.{each, settled_at, states_from}
-use Rattle.kind_counted.specs.inside.Answers.{not_in}
+use Rattle.kind_counted.specs.inside.Agreement.{not_in}
 use Rattle.kind_counted.specs.inside.Judging.{AreSettled}
 use Rattle.kind_counted.proofs.certificate.CountedAutomata.check_side.Given as goal
 

@@ -4,7 +4,7 @@ use Rattle.law_counted.specs.Cosets.{zeros, IsMember}
 use Rattle.kind_counted.specs.Items.{coset_of}
 use Rattle.kind_counted.specs.inside.Judging.{IsItemAt, IsNoItem}
 use Rattle.kind_counted.specs.Pass.{◌>>=◌, inside, start_local}
-use Rattle.kind_counted.specs.inside.Answers.{Tells}
+use Rattle.kind_counted.specs.inside.Agreement.{Tells}
 use Rattle.kind_counted.proofs.PassItems.{coset_found, coset_missing}
 use Rattle.kind_counted.proofs.JudgingLaws.{has_item, one_coset}
 use Rattle.kind_counted.proofs.certificate.CountedAutomata.check_start.Goals as goal

@@ -7,7 +7,7 @@ use Rattle.law_counted.specs.Counted.{once}
 use Rattle.kind_counted.specs.Numbers.{point_of}
 use Rattle.kind_counted.specs.declared.numbers.Counts.{Counts}
 use Rattle.kind_counted.specs.Pass.{sized}
-use Rattle.kind_counted.specs.inside.Answers.{Answers}
+use Rattle.kind_counted.specs.inside.Agreement.{AgreesWith}
 use Rattle.kind_counted.proofs.PassLaws.{once_here, once_there, sized_ok}
 use Rattle.kind_counted.proofs.numbers.Counts.one_more.Goals as goal
 
@@ -17,7 +17,7 @@ returns-in-Some-clause-pass c =
     let count = c.in-Some.count in
     let small : unsigned_abs (v count.number) ≤ 2147483648 = c.args.self.now.small.each count.number in
     let one : once (Some count) count.number ≡ 1 = once_here count in
-    subst (λ o. Answers (λ (v : Counts). point_of v.numbers) (sized (λ x. v x +ℤ pos (once o x))) c.with.result) (sym c.in-Some.is)
+    subst (λ o. AgreesWith (λ (v : Counts). point_of v.numbers) (sized (λ x. v x +ℤ pos (once o x))) c.with.result) (sym c.in-Some.is)
     (c.with.ensures.pass (λ x. v x +ℤ pos (once (Some count) x)) (omega (arith, ints))
     (λ x other. let none : once (Some count) x ≡ 0 = once_there count x other in omega (arith, ints)))
 

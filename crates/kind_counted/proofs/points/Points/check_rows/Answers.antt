@@ -7,7 +7,7 @@ use Rattle.kind_counted.specs.Numbers.{point_of}
 use Rattle.kind_counted.specs.Pivots.{points}
 use Rattle.kind_counted.specs.Pass.{◌>>=◌, each, inside}
 use Rattle.kind_counted.specs.inside.Spans.{listed}
-use Rattle.kind_counted.specs.inside.Answers.{Tells}
+use Rattle.kind_counted.specs.inside.Agreement.{Tells}
 use Rattle.kind_counted.proofs.LeftLaws.{sums_first, sums_more, not_sums}
 use Rattle.kind_counted.proofs.PassLaws.{refused_as}
 use Rattle.kind_counted.proofs.PassRows.{walk_listed, walk_listed_end}

@@ -4,7 +4,7 @@ use Rattle.kind_counted.specs.declared.rows.Row.{Row}
 use Rattle.law_counted.specs.Cosets.{Point, Coset, IsSum}
 use Rattle.kind_counted.specs.declared.numbers.Counts.{Counts}
 use Rattle.kind_counted.specs.Pass.{◌>>=◌, each, sized, inside, all_inside}
-use Rattle.kind_counted.specs.inside.Answers.{Tells}
+use Rattle.kind_counted.specs.inside.Agreement.{Tells}
 use Rattle.kind_counted.proofs.PassLaws.{refused_as}
 use Rattle.kind_counted.proofs.PassRows.{apart_by}
 use Rattle.kind_counted.specs.Items.{coset_of}

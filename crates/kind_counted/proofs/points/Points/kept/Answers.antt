@@ -4,7 +4,7 @@ use Rattle.law_counted.specs.Cosets.{Coset}
 use Rattle.kind_counted.specs.declared.points.Points.{Points}
 use Rattle.kind_counted.specs.Pass.{◌>>=◌, walk, kept_at, kept}
 use Rattle.kind_counted.specs.inside.Points.{coset_by}
-use Rattle.kind_counted.specs.inside.Answers.{not_in}
+use Rattle.kind_counted.specs.inside.Agreement.{not_in}
 use Rattle.kind_counted.proofs.LeftLaws.{kept_join}
 use Rattle.kind_counted.proofs.PassLaws.{refused_as}
 use Rattle.kind_counted.proofs.PassRows.{walk_range, walk_range_end}

@@ -1,7 +1,7 @@
 use Rattle.std.proofs.Common.{◌≡◌, ◌-◌, slice_index}
 use Rattle.std.specs.List.{range_with_len}
 use Rattle.kind_counted.specs.Pass.{walk, kept_at}
-use Rattle.kind_counted.specs.inside.Answers.{not_in}
+use Rattle.kind_counted.specs.inside.Agreement.{not_in}
 use Rattle.kind_counted.specs.inside.Points.{coset_by, AreKeptIn}
 use Rattle.kind_counted.proofs.points.Points.kept.Given as goal
 

@@ -2,7 +2,7 @@ use Rattle.std.proofs.Common.{List, Ok, Err, ◌+ℤ◌, ◌-ℤ◌, pos, sym, �
 use Rattle.law_counted.specs.Cosets.{Point, Coset}
 use Rattle.kind_counted.specs.declared.numbers.Counts.{Counts}
 use Rattle.kind_counted.specs.declared.points.Points.{Points}
-use Rattle.kind_counted.specs.Pass.{◌>>=◌, sized, moved}
+use Rattle.kind_counted.specs.Pass.{◌>>=◌, sized, moved_coset}
 use Rattle.kind_counted.specs.inside.Points.{coset_by}
 use Rattle.kind_counted.proofs.PassLaws.{refused_as}
 use Rattle.kind_counted.proofs.PassRows.{moved_by}
@@ -23,7 +23,7 @@ returns-clause-moved c =
 pub returns-in_err-one_more-clause-pass : goal.returns-in_err-one_more-clause-pass
 returns-in_err-one_more-clause-pass c =
     let k : Coset = coset_of c.args.k.now in
-    refused_as (λ (v : Counts). point_of v.numbers) (λ (p : Points). coset_by p.base p.rows.items) (sized (λ x. k.base x +ℤ pos (once c.args.more x))) (moved k c.args.more c.args.fewer)
+    refused_as (λ (v : Counts). point_of v.numbers) (λ (p : Points). coset_by p.base p.rows.items) (sized (λ x. k.base x +ℤ pos (once c.args.more x))) (moved_coset k c.args.more c.args.fewer)
     c.in_err-one_more.field-0.0 c.from_residual-in_err-one_more.result c.from_residual-in_err-one_more.ensures.1
     (λ r is. moved_by k c.args.more c.args.fewer (Err r) is) c.in_err-one_more.ensures.pass
 
@@ -31,7 +31,7 @@ pub returns-in_err-base-clause-pass : goal.returns-in_err-base-clause-pass
 returns-in_err-base-clause-pass c =
     let k : Coset = coset_of c.args.k.now in
     let more : Point = point_of c.in_ok-one_more.field-0.numbers in
-    refused_as (λ (v : Counts). point_of v.numbers) (λ (p : Points). coset_by p.base p.rows.items) (sized (λ x. more x -ℤ pos (once c.args.fewer x))) (moved k c.args.more c.args.fewer)
+    refused_as (λ (v : Counts). point_of v.numbers) (λ (p : Points). coset_by p.base p.rows.items) (sized (λ x. more x -ℤ pos (once c.args.fewer x))) (moved_coset k c.args.more c.args.fewer)
     c.in_err-base.field-0.0 c.from_residual-in_err-base.result c.from_residual-in_err-base.ensures.1
     (λ r is. moved_by k c.args.more c.args.fewer (Ok more) c.in_ok-one_more.ensures.pass ∙ ap (λ a. a >>= λ (base : Point). Ok (record { base = base; rows = k.rows })) is)
     c.in_err-base.ensures.pass

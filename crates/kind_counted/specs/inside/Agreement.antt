@@ -9,15 +9,15 @@ use Rattle.kind_counted.specs.declared.refused.Refused.{Refused}
 use Rattle.kind_counted.specs.declared.refused.Refused.TheVariants.{Fails, TooLarge, NoMemory}
 
 -- what the pass says is the result, as a value of its own; where memory was refused, nothing is said
-abbrev pub Answers : {A B : Type 0} → (A → B) → Answer B → Result A Refused → Type 0
-Answers value said (Ok a) = said ≡ Ok (value a)
-Answers value said (Err Fails) = said ≡ Err Fails
-Answers value said (Err TooLarge) = said ≡ Err TooLarge
-Answers value said (Err NoMemory) = Unit {0}
+abbrev pub AgreesWith : {A B : Type 0} → (A → B) → Answer B → Result A Refused → Type 0
+AgreesWith value said (Ok a) = said ≡ Ok (value a)
+AgreesWith value said (Err Fails) = said ≡ Err Fails
+AgreesWith value said (Err TooLarge) = said ≡ Err TooLarge
+AgreesWith value said (Err NoMemory) = Unit {0}
 
 -- what has no value of its own
 abbrev pub Tells : Answer (Unit {0}) → Result (Unit {0}) Refused → Type 0
-Tells said result = Answers (λ u. u) said result
+Tells said result = AgreesWith (λ u. u) said result
 
 -- the counts that aren't in the set of a state
 abbrev pub not_in : List ℕ → ℕ → ℕ → Bool

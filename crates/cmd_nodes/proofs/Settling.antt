@@ -23,7 +23,7 @@ use Rattle.cmd_options.specs.declared.outcome.Outcome.{Outcome}
 use Rattle.cmd_options.specs.declared.outcome.Outcome.TheVariants.{Accepted, Refused, BadLine, NoMemory, Failed}
 use Rattle.cmd_options.specs.declared.ended.Ended.{Ended}
 use Rattle.cmd_options.specs.declared.ended.Ended.TheVariants.{BadHeader, WrongRoot, HasPart, OutInFolder, Stream, Ledger, File, Locked, NoMemory as WantsMemory}
-use Rattle.cmd_nodes.specs.Settled.{FormText, ReportsTree, SettlesTree, TellsTree}
+use Rattle.cmd_nodes.specs.Settled.{FormText, CoordinatesTree, ReportsTree, SettlesTree, TellsTree}
 use Rattle.cmd_nodes.specs.inside.{IsOfRoot, ReportsBoard}
 
 -- what is the greatest on a complete board is so in the tree of its root
@@ -123,3 +123,19 @@ module _ (IsText : FormText) (n : ℕ) (IsKept : Contents → Type 0) (held new_
   tells (Ok done) said new_said o so told = subst (TellsTree IsText n IsKept held new_held) (sym told.0) (done_tells done so)
   tells (Err e) said new_said o so (inl told) = subst (TellsTree IsText n IsKept held new_held) (sym told.0) (ended_tells e so)
   tells (Err e) said new_said o so (inr failed) = subst (TellsTree IsText n IsKept held new_held) (sym failed) tt
+
+-- what a coordinator holds in the end
+pub holds_tree : (n : ℕ) (IsKept : Contents → Type 0) (c : Coordinating) (o : Outcome) → IsOfRoot (empty_table n) c → ((leased : Leased) → c.held ≡ Some leased → IsKept leased.board)
+    → IfSome c.held (λ leased. IsBoard leased.board) → IfSome c.held (λ leased. (status : Status) × IsStatus leased.board.root leased.board.records status × (o ≡ outcome_by status Nothing))
+    → CoordinatesTree n IsKept o
+holds_tree n IsKept c o has kept board stands =
+    let s = subst (λ (h : Option Leased). IfSome h (λ leased. (status : Status) × IsStatus leased.board.root leased.board.records status × (o ≡ outcome_by status Nothing))) has.1 stands in
+    record {
+      board = has.0.board;
+      is_board = subst (λ (h : Option Leased). IfSome h (λ leased. IsBoard leased.board)) has.1 board;
+      root = has.2;
+      kept = kept has.0 has.1;
+      status = s.0;
+      stands = s.1;
+      ends = s.2;
+    }

@@ -77,7 +77,7 @@ SettlesTree IsText n IsKept held new_held (Err e) = (new_held ≡ held) ⊎ (e �
 
 -- what a coordinator holds in the end: a board of the tree of n states, whose ledger is kept; the outcome is by how it
 -- stands
-pub record HoldsTreeOf (n : ℕ) (IsKept : Contents → Type 0) (o : Outcome) : Type 0 where
+pub record CoordinatesTree (n : ℕ) (IsKept : Contents → Type 0) (o : Outcome) : Type 0 where
   pub board : Contents
   pub is_board : IsBoard board
   pub root : board.root ≡ empty_table n

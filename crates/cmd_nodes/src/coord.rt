@@ -1,15 +1,19 @@
 // `bb coord`: a coordinator over two streams and a ledger.
-ghost use Rattle.std.specs.Prelude.{◌≡◌, ◌≤◌, None, IfOk, IfSome, OnOk};
+ghost use Rattle.std.specs.Prelude.{◌≡◌, ◌≤◌, None, IfOk, IfSome, OnOk, Result};
 ghost use Rattle.machine_text.specs.Limits.{state_limit};
 ghost use Rattle.machine_text.specs.Packed.{empty_table};
 ghost use Rattle.wire.specs.Carried.{kept_text};
 ghost use Rattle.wire.specs.declared.node.Out.{Out as Answer};
 ghost use Rattle.lease_core.specs.Starts.{InStep};
-ghost use Rattle.cmd_nodes.specs.Settled.{IsOfLedger};
-ghost use Rattle.cmd_nodes.specs.inside.{IsOfRoot, StartsInStep};
+ghost use Rattle.ledger.specs.Contents.{IsBoard};
 ghost use Rattle.ledger.specs.Tally.{IsStatus};
 ghost use Rattle.ledger.specs.declared.status.Status.{Status as BoardStatus};
 ghost use Rattle.cmd_ledgers.specs.LedgerReport.{outcome_by};
+ghost use Rattle.cmd_options.specs.Ends.{EndsTold};
+ghost use Rattle.cmd_options.specs.declared.ended.Ended.{Ended as Ends};
+ghost use Rattle.cmd_options.specs.declared.outcome.Outcome.{Outcome as Outcomes};
+ghost use Rattle.cmd_nodes.specs.Settled.{CoordinatesTree, IsOfLedger, KeepsLedger};
+ghost use Rattle.cmd_nodes.specs.inside.{Becomes, IsOfRoot, KeepsStep, StartsInStep};
 
 use crate::faults::{by_start, by_turn};
 use crate::held_ledger::HeldLedger;
@@ -21,7 +25,7 @@ use lease_core::{Coordinator, StartFault};
 use ledger::Left;
 use std::alloc::Global;
 use std::io::{self, BufWriter, Read, Write};
-use wire::{LedgerOut, Lines, Node, Out, Turn, turn};
+use wire::{LedgerOut, Lines, Link, Node, Out, Turn, turn};
 
 /// Begins a coordinator from what a ledger holds, and answers the frames of `input`, a line each, until it ends:
 /// what is new stands in the ledger before a frame says so. `held` reads what the ledger holds. Accepted where
@@ -36,6 +40,9 @@ pub fn cmd_coord<F: Read + Drop, L: LedgerOut, R: Read, W: Write, E: Write>(
     faults: &mut E,
 ) -> Outcome
     requires { (1 ≤ beginning.states) × (beginning.states ≤ state_limit) }
+    ensures { (ended : Result Outcomes Ends)
+        × IfOk ended (CoordinatesTree beginning.states (KeepsLedger F.remaining held (L.text ledger.old) (L.text ledger.new)))
+        × EndsTold ended (E.contents faults.old) (E.contents faults.new) result }
 {
     told(
         coordinate(alloc, beginning, held, ledger, input, answers),
@@ -53,11 +60,12 @@ pub fn coordinate<F: Read + Drop, L: LedgerOut, R: Read, W: Write>(
     answers: &mut W,
 ) -> Result<Outcome, Ended>
     requires { (1 ≤ beginning.states) × (beginning.states ≤ state_limit) }
+    ensures { IfOk result
+        (CoordinatesTree beginning.states (KeepsLedger F.remaining held (L.text ledger.old) (L.text ledger.new))) }
 {
     let mut node = start_coordinator(alloc, beginning, held, ledger)?;
-    let served = serve(alloc, &mut node, ledger, input, answers);
-    let outcome = outcome_of(&node);
-    served.and(Ok(outcome))
+    serve(alloc, &mut node, ledger, input, answers)?;
+    Ok(outcome_of(&node))
 }
 
 // A coordinator whose ledger is in step with it.
@@ -117,14 +125,17 @@ fn carry_out_first<L: LedgerOut>(
     }
 }
 
-// Answers what comes, to the end of the input.
+// Answers what comes, to the end of the input. What was answered before a fault is sent all the same.
 fn serve<N: Node, L: LedgerOut, R: Read, W: Write>(
     alloc: Global,
     node: &mut N,
     ledger: &mut L,
     input: &mut R,
     answers: &mut W,
-) -> Result<(), Ended> {
+) -> Result<(), Ended>
+    ensures became { OnOk result (Becomes N.answers node.old node.new) }
+    ensures step { OnOk result (KeepsStep N.in_step node.old node.new (L.text ledger.old) (L.text ledger.new)) }
+{
     let Ok(mut output) = BufWriter::new(alloc, answers) else {
         return Err(Ended::NoMemory);
     };
@@ -140,25 +151,48 @@ fn take_turns<N: Node, L: LedgerOut, R: Read, W: Write>(
     ledger: &mut L,
     input: &mut R,
     output: &mut W,
-) -> Result<(), Ended> {
+) -> Result<(), Ended>
+    ensures became { OnOk result (Becomes N.answers node.old node.new) }
+    ensures step { OnOk result (KeepsStep N.in_step node.old node.new (L.text ledger.old) (L.text ledger.new)) }
+{
     let mut lines = Lines::new(alloc);
     let mut link = Streams::of(input, output);
     for _ in 0..u64::MAX {
-        let turned = turn(node, &mut lines, &mut link, ledger).map_err(by_turn)?;
-        if turned == Turn::End {
+        if take_turn(node, &mut lines, &mut link, ledger)? == Turn::End {
             break;
         }
     }
     Ok(())
 }
 
+fn take_turn<N: Node, K: Link, L: LedgerOut>(
+    node: &mut N,
+    lines: &mut Lines,
+    link: &mut K,
+    ledger: &mut L,
+) -> Result<Turn, Ended>
+    ensures became { OnOk result (Becomes N.answers node.old node.new) }
+    ensures step { OnOk result (KeepsStep N.in_step node.old node.new (L.text ledger.old) (L.text ledger.new)) }
+{
+    match turn(node, lines, link, ledger) {
+        Ok(turned) => Ok(turned),
+        Err(fault) => Err(by_turn(fault)),
+    }
+}
+
 // Accepted where a coordinator's board is complete.
 pub(crate) fn outcome_of(node: &Coordinator) -> Outcome
-    ensures board { IfSome node.now.held (λ held. (status : BoardStatus) × IsStatus held.board.root held.board.records status × (result ≡ outcome_by status Left.Nothing)) }
+    ensures board { IfSome node.now.held (λ held. IsBoard held.board) }
+    ensures stands { IfSome node.now.held (λ held. (status : BoardStatus)
+        × IsStatus held.board.root held.board.records status × (result ≡ outcome_by status Left.Nothing)) }
     ensures none { node.now.held ≡ None → result ≡ Outcome.Refused }
 {
     match node.board() {
-        Some(board) => outcome_by(board.status(), &Left::Nothing),
+        Some(board) => {
+            // The proof needs that it is a board.
+            let _ = board.root();
+            outcome_by(board.status(), &Left::Nothing)
+        }
         None => Outcome::Refused,
     }
 }

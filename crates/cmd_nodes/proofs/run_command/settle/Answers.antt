@@ -1,3 +1,4 @@
+use Rattle.machine_text.specs.Packed.{empty_table}
 use Rattle.cmd_nodes.specs.Settled.{KeepsLedger}
 use Rattle.cmd_nodes.proofs.Settling.{reported}
 use Rattle.cmd_nodes.proofs.Steps.{ledger_kept}
@@ -9,6 +10,6 @@ returns g c =
     reported (g.P.ReportForm.is_text c.args.run.form.now) c.args.run.settling.now.states
     (KeepsLedger g.F.Read.remaining c.args.held (g.L.LedgerOut.text c.args.ledger.now) (g.L.LedgerOut.text c.run_workers.new.ledger))
     (g.W.Write.contents c.args.answers.now) (g.W.Write.contents c.report_board.new.answers) node c.report_board.result c.requires.0 c.requires.1
-    (c.in_ok-run_workers.ensures.root _ c.in_ok-node.ensures.root)
+    (c.in_ok-run_workers.ensures.root (empty_table c.args.run.settling.now.states) c.in_ok-node.ensures.root)
     (λ leased is. ledger_kept g.F.Read.remaining c.args.held _ _ _ c.in_ok-node.node node leased is c.in_ok-node.ensures.step c.in_ok-run_workers.ensures.step)
     c.report_board.ensures.ok c.report_board.ensures.err

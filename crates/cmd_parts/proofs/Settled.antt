@@ -27,7 +27,8 @@ use Rattle.cmd_ledgers.proofs.Retrying.{cut_in_step, stays_by}
 use Rattle.cmd_options.specs.declared.ended.Ended.{Ended}
 use Rattle.cmd_options.specs.declared.ended.Ended.TheVariants.{BadHeader, WrongRoot, Stream, Ledger, File, HasPart, OutInFolder, Locked, NoMemory}
 use Rattle.cmd_parts.specs.Settling.{ComesFirst, EndsAtOne, EndsSettling, IsOpenBelow, SettlesMany, SettlesOne, with_last}
-use Rattle.cmd_parts.specs.Settle.{EndsWhole, kept_part, settled_text}
+use Rattle.cmd_ledgers.specs.GoingOn.{kept_part}
+use Rattle.cmd_parts.specs.Settle.{EndsWhole, settled_text}
 use Rattle.cmd_parts.specs.inside.{is_below}
 
 first_before : {X : Type 0} (R : X → X → Type 0) (x : X) (xs : List X) → AllPairs R (x ∷ xs) → All (R x) xs
@@ -143,12 +144,6 @@ all_below limit b tables found all is = subst (AreAll (IsOpenBelow limit b)) (sy
 pub if_ok : {T E : Type 0} {P Q : T → Type 0} (r : Result T E) → ((x : T) → P x → Q x) → IfOk r P → IfOk r Q
 if_ok (Ok x) f h = f x h
 if_ok (Err e) f h = tt
-
--- a ledger that is cut to what was kept of it
-pub cut_reads : (b : Contents) (left : Left) (text : Option (List ℕ)) → IfSome text (λ t. ReadsIn b.format b.root t b.records left) → IfSome (kept_part left text) (IsLedgerOf b)
-cut_reads b Nothing text h = h
-cut_reads b (From line kept why) None h = tt
-cut_reads b (From line kept why) (Some text) h = cut_in_step b (Some text) (Some (take kept text)) line kept why refl h
 
 -- all is settled, and there is no memory to say so
 pub unsaid : (Answers : Packed → Recorded → Type 0) (HasFailed : Type 0) (old new : Contents) (left : Left) (before cut after said : Option (List ℕ)) (k : ℕ) (tally : Tally) → cut ≡ kept_part left before

@@ -8,8 +8,8 @@ use Rattle.cmd_parts.proofs.Joining.{gathered_so}
 use Rattle.cmd_parts.proofs.join.gather.Goals as goal
 use Rattle.cmd_parts.proofs.join.gather.Goals.{then-is_kept, else-is_kept}
 
-pub returns : goal.returns
-returns g c =
+pub returns-clause-ok : goal.returns-clause-ok
+returns-clause-ok g c =
     let trunk = c.in_ok-trunk.trunk in
     let is : c.deref.result.now ≡ path_within c.args.folder.now (codes "trunk") = search rules in
     let same : c.deref-4.result.now ≡ path_within c.args.folder.now (codes "trunk") = search rules in
@@ -23,6 +23,6 @@ returns g c =
       | else-is_kept w ↦ λ no. w.result-is ∙ no
     ] in
     gathered_so (g.S.Parts.finds c.args.parts.now) c.args.folder.now c.deref.result.now c.deref-4.result.now trunk c.in_ok-whole.whole.trunk c.in_ok-trunk.left c.deref-5.result.now c.add_parts.new.whole
-    c.in_ok-is_kept.is_kept c.in_ok-are_sound.are_sound c.if-is_kept.result _ _ _ _ _ _ is same c.in_ok-trunk.ensures
+    c.in_ok-is_kept.is_kept c.in_ok-are_sound.are_sound c.if-is_kept.result _ _ _ _ _ _ is same c.in_ok-trunk.ensures.ok
     (subst (λ (l : List Packed). AreAll (IsOpenOn trunk) l) (sym roots) c.in_ok-roots.ensures)
-    c.in_ok-is_kept.ensures c.in_ok-begin.ensures c.in_ok-whole.ensures.trunk c.in_ok-are_sound.ensures all neither
+    c.in_ok-is_kept.ensures.ok c.in_ok-begin.ensures.ok c.in_ok-whole.ensures.trunk c.in_ok-are_sound.ensures.ok all neither

@@ -1,7 +1,7 @@
 use Rattle.cmd_parts.proofs.Joining.{all_told}
 use Rattle.cmd_parts.proofs.join.join_parts.Goals as goal
 
-pub returns : goal.returns
-returns g c = all_told (g.P.ReportForm.is_text c.args.form.now) (g.S.Parts.finds c.args.parts.now) c.args.folder.now (g.C.Collector.text c.args.collector.now) (g.C.Collector.text c.gather.new.collector)
+pub returns-clause-tells : goal.returns-clause-tells
+returns-clause-tells g c = all_told (g.P.ReportForm.is_text c.args.form.now) (g.S.Parts.finds c.args.parts.now) c.args.folder.now (g.C.Collector.text c.args.collector.now) (g.C.Collector.text c.gather.new.collector)
     (g.W.Write.contents c.args.answers.now) (g.W.Write.contents c.tell_whole.new.answers) (g.E.Write.contents c.args.faults.now) (g.E.Write.contents c.gather.new.faults)
-    c.in_ok-whole.whole c.in_ok-whole.is_sound c.tell_whole.result c.in_ok-whole.ensures c.tell_whole.ensures
+    c.in_ok-whole.whole c.in_ok-whole.is_sound c.tell_whole.result c.in_ok-whole.ensures.ok c.tell_whole.ensures.ok

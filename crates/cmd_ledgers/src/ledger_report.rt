@@ -6,7 +6,6 @@ ghost use Rattle.cmd_options.specs.declared.ended.Ended.{Ended as Ends};
 ghost use Rattle.cmd_options.specs.Ends.{EndsTold};
 ghost use Rattle.cmd_ledgers.specs.AtPath.{ReadsAt};
 ghost use Rattle.cmd_ledgers.specs.LedgerReport.{ReportsLedger, left_text, outcome_by};
-ghost use Rattle.cmd_ledgers.specs.Merge.{IsLoaded};
 ghost use Rattle.cmd_ledgers.specs.Reading.{AreFirstBytes, EndsReading};
 ghost use Rattle.cmd_ledgers.specs.Report.{IsReport};
 ghost use Rattle.cmd_ledgers.specs.Reporting.{ReadsStream, ReportsFrom, SaysWhy, WritesReport};
@@ -90,17 +89,8 @@ pub fn report_stream<P: ReportForm, R: Read, W: Write, E: Write>(
     ensures reports { ReportsFrom (P.is_text form.now) (ReadsStream (R.remaining input.old)) (W.contents answers.old) (W.contents answers.new) result }
     ensures says { SaysWhy why result (E.contents faults.old) (E.contents faults.new) }
 {
-    let (board, left) = load_stream(alloc, input)?;
-    report_loaded(alloc, form, why, &board, &left, answers, faults)
-}
-
-// The board of the ledger that a stream has up to its end, and what of it wasn't kept.
-fn load_stream<R: Read>(alloc: Global, input: &mut R) -> Result<(Board, Left), Ended>
-    ensures ok { IfOk result (λ l. IsLoaded (ReadsStream (R.remaining input.old)) (Ok l)) }
-    ensures err { IfErr result (λ e. IsLoaded (ReadsStream (R.remaining input.old)) (Err e)) }
-{
     match load_from(alloc, input, u64::MAX) {
-        Ok(loaded) => Ok(loaded),
+        Ok((board, left)) => report_loaded(alloc, form, why, &board, &left, answers, faults),
         Err(stopped) => Err(stopped.ended(Ended::Stream)),
     }
 }

@@ -2,3 +2,4 @@ pub mod Settled
 pub mod Trunks
 pub mod Joining
 pub mod BegunAt
+pub mod JoinEnds

@@ -1,6 +1,6 @@
 -- A ledger that is gone on with where it stands: it is read, cut to what is kept of it, and appended to.
-use Rattle.std.specs.Prelude.{◌≡◌, ◌⊎◌, ℕ, List, Option, Some, None, Result, Ok, Err}
-use Rattle.files.specs.Paths.{Shelf, SameFile, IsKept, IsLedgerAt, IsOpenedOn, IsPut}
+use Rattle.std.specs.Prelude.{◌≡◌, ◌⊎◌, ℕ, List, Option, None, Result, Ok, Err}
+use Rattle.files.specs.Paths.{Shelf, SameFile, IsLedgerAt, IsOpenedOn, IsPut}
 use Rattle.ledger.specs.declared.left.Left.{Left}
 use Rattle.ledger.specs.declared.left.Left.TheVariants.{Nothing, From}
 use Rattle.wire.specs.Device.{shortened}

@@ -1,5 +1,5 @@
 -- What `bb report` comes to, by what may be read of its ledger.
-use Rattle.std.specs.Prelude.{◌≡◌, ◌⊎◌, ◌^◌, ◌-◌, ℕ, Bool, true, false, List, Option, Result, Ok, Err}
+use Rattle.std.specs.Prelude.{◌≡◌, ◌⊎◌, ℕ, Bool, true, false, List, Option, Result, Ok, Err}
 use Rattle.std.specs.Io.KnownBytes.{Appends}
 use Rattle.machine_text.specs.Packed.{Packed}
 use Rattle.cert.specs.Claim.{Recorded}
@@ -25,10 +25,10 @@ pub record WritesReport (IsText : Packed → List Recorded → Left → List ℕ
   pub stands : IsStatus b.root b.records status
   pub ends : o ≡ outcome_by status left
 
--- what may come of reading a stream to its end
-abbrev pub ReadsStream : Option (List ℕ) → Readings
-ReadsStream has (Ok text) = AreFirstBytes has (2 ^ 64 - 1) text
-ReadsStream has (Err e) = (e ≡ NoMemory) ⊎ (e ≡ Stream)
+-- what may come of reading the first bytes of a stream, up to a limit
+abbrev pub ReadsFirst : Option (List ℕ) → ℕ → Readings
+ReadsFirst has limit (Ok text) = AreFirstBytes has limit text
+ReadsFirst has limit (Err e) = (e ≡ NoMemory) ⊎ (e ≡ Stream)
 
 -- the report of what a ledger is loaded as is written. Where that isn't loaded, or memory is refused, nothing is written;
 -- or else a stream failed

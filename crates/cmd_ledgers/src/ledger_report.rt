@@ -1,21 +1,22 @@
 // `bb report`: a ledger in, its report out.
-ghost use Rattle.std.specs.Prelude.{◌≡◌, ◌⊎◌, ◌++◌, ℕ, List, IfOk, IfErr, OnErr, OnOk, Ok, Err, Option, Result, false, true};
+ghost use Rattle.std.specs.Prelude.{◌≡◌, ◌⊎◌, ◌++◌, ◌^◌, ◌-◌, ℕ, List, IfOk, IfErr, OnErr, OnOk, Ok, Err, Option, Result, false, true};
 ghost use Rattle.std.specs.Io.KnownBytes.{Appends};
 ghost use Rattle.cmd_options.specs.declared.outcome.Outcome.{Outcome as Outcomes};
 ghost use Rattle.cmd_options.specs.declared.ended.Ended.{Ended as Ends};
 ghost use Rattle.cmd_options.specs.Ends.{EndsTold};
 ghost use Rattle.cmd_ledgers.specs.AtPath.{ReadsAt};
 ghost use Rattle.cmd_ledgers.specs.LedgerReport.{ReportsLedger, left_text, outcome_by};
+ghost use Rattle.cmd_ledgers.specs.Merge.{IsLoaded};
 ghost use Rattle.cmd_ledgers.specs.Reading.{AreFirstBytes, EndsReading};
 ghost use Rattle.cmd_ledgers.specs.Report.{IsReport};
-ghost use Rattle.cmd_ledgers.specs.Reporting.{ReadsStream, ReportsFrom, SaysWhy, WritesReport};
+ghost use Rattle.cmd_ledgers.specs.Reporting.{ReadsFirst, ReportsFrom, SaysWhy, WritesReport};
 
 use crate::board_report::report;
 use crate::reading::load_from;
 use crate::report_form::{ReportForm, write_report};
 use crate::report_writer::append_left;
 use crate::source::{AtPath, load_source};
-use cmd_options::{Ended, Outcome, Stopped, told};
+use cmd_options::{Ended, Outcome, Stopped, ended_by, told};
 use files::Files;
 use kind_evidence::NoMemory;
 use ledger::{Board, Left, Status, Unkept};
@@ -38,7 +39,10 @@ pub fn cmd_report<H: Files, P: ReportForm, W: Write, E: Write>(
         × ReportsFrom (P.is_text form.now) (ReadsAt (H.holds host.now path.now)) (W.contents answers.old) (W.contents answers.new) ended
         × SaysWhy why ended (E.contents faults.old) said × EndsTold ended said (E.contents faults.new) result }
 {
-    told(report_at(alloc, form, why, path, host, answers, faults), faults)
+    told(
+        report_at(alloc, form, why, path, host, answers, faults),
+        faults,
+    )
 }
 
 /// Prints the report of the ledger that a stream has up to its end, as `cmd_report` does that of a file.
@@ -51,7 +55,7 @@ pub fn cmd_report_stream<P: ReportForm, R: Read, W: Write, E: Write>(
     faults: &mut E,
 ) -> Outcome
     ensures { (ended : Result Outcomes Ends) × (said : Option (List ℕ))
-        × ReportsFrom (P.is_text form.now) (ReadsStream (R.remaining input.old)) (W.contents answers.old) (W.contents answers.new) ended
+        × ReportsFrom (P.is_text form.now) (ReadsFirst (R.remaining input.old) (2 ^ 64 - 1)) (W.contents answers.old) (W.contents answers.new) ended
         × SaysWhy why ended (E.contents faults.old) said × EndsTold ended said (E.contents faults.new) result }
 {
     told(
@@ -86,12 +90,22 @@ pub fn report_stream<P: ReportForm, R: Read, W: Write, E: Write>(
     answers: &mut W,
     faults: &mut E,
 ) -> Result<Outcome, Ended>
-    ensures reports { ReportsFrom (P.is_text form.now) (ReadsStream (R.remaining input.old)) (W.contents answers.old) (W.contents answers.new) result }
+    ensures reports { ReportsFrom (P.is_text form.now) (ReadsFirst (R.remaining input.old) (2 ^ 64 - 1)) (W.contents answers.old) (W.contents answers.new) result }
     ensures says { SaysWhy why result (E.contents faults.old) (E.contents faults.new) }
 {
-    match load_from(alloc, input, u64::MAX) {
-        Ok((board, left)) => report_loaded(alloc, form, why, &board, &left, answers, faults),
-        Err(stopped) => Err(stopped.ended(Ended::Stream)),
+    let (board, left) = load_stream(alloc, input, u64::MAX)?;
+    report_loaded(alloc, form, why, &board, &left, answers, faults)
+}
+
+// The board of the ledger that a stream has in its first bytes, up to a limit, and what of it wasn't kept.
+fn load_stream<R: Read>(alloc: Global, input: &mut R, limit: u64) -> Result<(Board, Left), Ended>
+    ensures ok { IfOk result (λ l. IsLoaded (ReadsFirst (R.remaining input.old) limit) (Ok l)) }
+    ensures err { IfErr result (λ e. IsLoaded (ReadsFirst (R.remaining input.old) limit) (Err e)) }
+{
+    match load_from(alloc, input, limit) {
+        Ok(loaded) => Ok(loaded),
+        Err(Stopped::Failed(fault)) => Err(ended_by(&fault, Ended::Stream)),
+        Err(Stopped::Ended(ended)) => Err(ended),
     }
 }
 
@@ -138,7 +152,11 @@ fn reason_for(alloc: Global, why: bool, left: &Left) -> Result<Option<String>, N
     ensures { IfOk result (λ reason. why ≡ false → reason ≡ None) }
 {
     match left {
-        Left::From { line, why: reason, .. } if why => Ok(Some(reason_line(alloc, *line, reason)?)),
+        Left::From {
+            line,
+            why: reason,
+            ..
+        } if why => Ok(Some(reason_line(alloc, *line, reason)?)),
         _ => Ok(None),
     }
 }

@@ -39,7 +39,7 @@ pub fn cmd_retry<H: Files, D: Decider, W: Write, E: Write>(
     ensures others { IsKeptBut (H.tells_same host.old) file.entry.path.now (H.holds host.old) (H.holds host.new) }
     ensures retries { (ended : Result Outcomes Ends)
         × RetriesAt (AtSomeTime D D.answers) (H.locks file.entry.path.now) (H.tells_same host.old) file.entry.path.now (H.holds host.old) (H.holds host.new)
-            (W.contents answers.old) (W.contents answers.new) ended
+        (W.contents answers.old) (W.contents answers.new) ended
         × EndsTold ended (E.contents faults.old) (E.contents faults.new) result }
 {
     told(retry_at(alloc, file, host, decider, answers), faults)

@@ -1,4 +1,4 @@
-use Rattle.std.proofs.Common.{rules, ◌≡◌, [], ◌∷◌, ◌∙◌, List, refl, sym, subst}
+use Rattle.std.proofs.Common.{rules, ◌≡◌, [], ◌∷◌, ◌∙◌, List, refl, subst}
 use Rattle.std.specs.Vec.Iter.{into_iter_items}
 use Rattle.machine_text.specs.Packed.{Packed}
 use Rattle.ledger.specs.Held.{IsHoldout}
@@ -28,11 +28,14 @@ loop-table-preserved g c =
     let format = c.args.board.now.format in
     let A = AtSomeTime _ g.D.Decider.answers in
     let here : IsTried A format c.in-Some.table c.loop-table.board.records before c.retry.new.board.records (g.L.LedgerOut.text c.retry.new.ledger) =
-    subst (λ (f : Format). IsTried A f c.in-Some.table c.loop-table.board.records before c.retry.new.board.records (g.L.LedgerOut.text c.retry.new.ledger)) was took in (
+    subst (λ (f : Format). IsTried A f c.in-Some.table c.loop-table.board.records before c.retry.new.board.records (g.L.LedgerOut.text c.retry.new.ledger)) was took in
+    let (more, all_more, are_more) = one_tried (IsHoldout c.args.board.now.records) A format tried c.in-Some.table _ _ _ _ _ _ _ _ is all are here in (
       c.retry.ensures.root ∙ root,
       c.retry.ensures.format ∙ was,
       λ s. c.in_ok-retry.ensures.step (step s),
       c.in_ok-retry.ensures.works ∙ works,
       others_wait _ _ _ _ _ took.0 _ _ took.2 took.3 waiting,
-      one_tried (IsHoldout c.args.board.now.records) A format tried c.in-Some.table _ _ _ _ _ _ _ _ is all are here,
+      more,
+      all_more,
+      are_more,
     )

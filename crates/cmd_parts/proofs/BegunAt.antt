@@ -5,6 +5,7 @@ use Rattle.machine_text.specs.Text.{text_of}
 use Rattle.cert.specs.Claim.{Recorded}
 use Rattle.ledger.specs.Contents.{Contents}
 use Rattle.files.specs.Paths.{IsFileAt, IsKept, IsKeptBut, IsLedgerAt, IsPut, IsToldStill, Known, SameFile, Shelf}
+use Rattle.cmd_ledgers.proofs.GoneOn.{put_told}
 use Rattle.cmd_parts.specs.AtPaths.{AreBegunAt, GrowsAt, IsCreated, IsPartBegun, IsSizeAt}
 use Rattle.cmd_parts.specs.Split.{begun_part, path_within}
 
@@ -36,14 +37,7 @@ begun_at tells later path root old opened new before after size ledger is_size k
   };
 }
 
--- what is put at a path by what is told later is put there by what was told before
-pub put_told : (tells later : SameFile) (path : List ℕ) (text : Option (List ℕ)) (old opened new : Shelf) → IsKeptBut tells path old opened → IsToldStill tells later → IsPut later path text opened new → IsPut tells path text old new
-put_told tells later path text old opened new kept still put = record {
-  at = put.at;
-  others = λ other apart. put.others other (still path other false apart) ∙ kept other apart;
-}
-
--- so is a file that is created, once nothing else has changed
+-- a file that is created, once nothing has changed
 pub created_at : (tells later : SameFile) (path : List ℕ) (old mid new : Shelf) → IsKept old mid → IsToldStill tells later → IsCreated later path mid new → IsCreated tells path old new
 created_at tells later path old mid new kept still (text, is, put) =
     (text, subst (λ (k : Known). IsLedgerAt k text) (kept path) is, put_told tells later path text old mid new (λ other apart. kept other) still put)

@@ -40,10 +40,6 @@ module _ (Finds : Findings) (folder : List ℕ) (e : Ended) where
   pub ends_silent : (faults : Option (List ℕ)) → EndsJoining Finds folder e → EndsGathering Finds folder e faults faults
   ends_silent faults why = record { why = why; warns = inl (inl refl) }
 
-  pub ends_unsaid : (faults new_faults : Option (List ℕ)) → EndsPart e faults new_faults → EndsGathering Finds folder e faults new_faults
-  ends_unsaid faults new_faults (why, inl same) = record { why = inl why; warns = inl (inl same) }
-  ends_unsaid faults new_faults (why, inr stream) = record { why = inl why; warns = inr stream }
-
   pub ends_trunk : (path : List ℕ) (faults : Option (List ℕ)) → path ≡ path_within folder (codes "trunk") → FailsFile e ⊎ HasNoTrunk Finds path e → EndsGathering Finds folder e faults faults
   ends_trunk path faults is (inl fails) = ends_silent faults (inl (inl (inl fails)))
   ends_trunk path faults is (inr none) = ends_silent faults (inr (inl (subst (λ (p : List ℕ). HasNoTrunk Finds p e) is none)))

@@ -3,3 +3,6 @@ pub mod Trunks
 pub mod Joining
 pub mod BegunAt
 pub mod JoinEnds
+pub mod SettledAt
+pub mod SplitAt
+pub mod JoinAt

@@ -18,7 +18,7 @@ use crate::folder::{FolderAt, TRUNK, begin_parts, path_within};
 use crate::trunk::grow_trunk;
 use cert::Decider;
 use cmd_ledgers::open_held;
-use cmd_options::{Ended, LedgerFile, Outcome, Splitting, ended_by, told};
+use cmd_options::{Durability, Ended, LedgerFile, Outcome, Splitting, ended_by, told};
 use files::{Files, Progress, ledger_at, lock_ledger};
 use kind_evidence::NoMemory;
 use ledger::{Board, Tally};
@@ -89,7 +89,11 @@ fn grown_trunk<H: Files, D: Decider, P: Progress>(
     ensures tells { IsToldStill (H.tells_same host.old) (H.tells_same host.new) }
 {
     let held = open_held(host, path)?;
-    let mut ledger = ledger_at(host, &LedgerFile::at(path))?;
+    let file = LedgerFile {
+        path,
+        durability: Durability::System,
+    };
+    let mut ledger = ledger_at(host, &file)?;
     let folder = FolderAt {
         alloc,
         host: &*host,

@@ -1,5 +1,5 @@
 -- How the telling of a trunk and its parts ends early, and what was said before.
-use Rattle.std.proofs.Common.{◌≡◌, ◌⊎◌, ℕ, Bool, List, [], ◌∷◌, ◌++◌, take, drop, length, Option, Some, Result, Ok, Err, IfErr, IfOk, inl, inr, refl, sym, ap, subst, ◌∙◌, append-nil}
+use Rattle.std.proofs.Common.{◌≡◌, ◌⊎◌, ℕ, Bool, List, [], ◌++◌, take, drop, Option, Some, inl, inr, refl, sym, subst, append-nil}
 use Rattle.std.specs.Prelude.{codes}
 use Rattle.std.specs.Io.KnownBytes.{Appends}
 use Rattle.machine_text.specs.Packed.{Packed}
@@ -11,7 +11,7 @@ use Rattle.cmd_options.specs.declared.ended.Ended.TheVariants.{BadHeader, WrongR
 use Rattle.cmd_options.specs.declared.stopped.Stopped.TheVariants.{Ended as EndedBy}
 use Rattle.cmd_ledgers.specs.Reading.{EndsReading}
 use Rattle.parts.specs.Whole.{Collected}
-use Rattle.cmd_parts.specs.Join.{AreMet, EndsJoining, EndsTelling, FailsAny, FailsFile, Findings, HasNoTrunk, HoldsTree, IsReadAt, SaysFirst, left_line}
+use Rattle.cmd_parts.specs.Join.{EndsJoining, EndsTelling, FailsAny, FailsFile, Findings, HasNoTrunk, HoldsTree, IsReadAt, SaysFirst, left_line}
 use Rattle.cmd_parts.specs.Split.{path_within}
 use Rattle.cmd_parts.specs.inside.{AreAdded, EndsAdding, EndsGathering, EndsPart}
 use Rattle.cmd_parts.proofs.Joining.{appends_both}

@@ -52,7 +52,7 @@ pub fn cmd_join<H: Files, P: ReportForm, W: Write, E: Write>(
         × EndsTold ended warned (E.contents faults.new) result) }
     ensures into { IfSome joining.now.out (λ out. (ended : Result Outcomes Ends) × (warned : Option (List ℕ))
         × JoinsInto (P.is_text form.now) (H.locks out.now) (H.tells_same host.old) joining.now.folder.now out.now (H.holds host.old) (H.holds host.new)
-            (W.contents answers.old) (W.contents answers.new) (E.contents faults.old) warned ended
+        (W.contents answers.old) (W.contents answers.new) (E.contents faults.old) warned ended
         × EndsTold ended warned (E.contents faults.new) result) }
 {
     told(join_at(alloc, form, joining, host, answers, faults), faults)

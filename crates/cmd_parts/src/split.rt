@@ -43,7 +43,7 @@ pub fn cmd_split<H: Files, D: Decider, P: Progress, W: Write, E: Write>(
     requires { (1 ≤ splitting.now.states) × (splitting.now.states ≤ state_limit) }
     ensures { (ended : Result Outcomes Ends)
         × SplitsAt (AtSomeTime D D.answers) (H.locks (path_within splitting.now.folder.now (codes "trunk"))) (H.tells_same host.old) splitting.now.states splitting.now.filled
-            splitting.now.folder.now (H.holds host.old) (H.holds host.new) (W.contents answers.old) (W.contents answers.new) ended
+        splitting.now.folder.now (H.holds host.old) (H.holds host.new) (W.contents answers.old) (W.contents answers.new) ended
         × EndsTold ended (E.contents faults.old) (E.contents faults.new) result }
 {
     told(

@@ -3,10 +3,10 @@
 use crate::any_finder::decider_for;
 use crate::call::Call;
 use cmd_json::Form;
-use cmd_ledgers::{carry_at, merge_at, report_file, report_stream, retry_ledger};
+use cmd_ledgers::{carry_at, merge_at, report_at, report_stream, retry_at};
 use cmd_mend::{mend_at, mend_stream};
 use cmd_options::{Carrying, Ended, LedgerFile, Mending, Merging, Outcome, Search};
-use files::{Disk, Files, ledger_at, lock_ledger};
+use files::{Disk, lock_ledger};
 use std::io::{Read, Write};
 
 // In place of a ledger's path: it is read from `input`.
@@ -20,12 +20,7 @@ pub(crate) fn retry<S: Disk, R, W: Write, E>(
 ) -> Result<Outcome, Ended> {
     let mut decider = decider_for(call.alloc, search)?;
     let mut files = call.files();
-    let _lock = lock_ledger(&files, file.path)?;
-    let held = files.open(file.path);
-    let mut ledger = ledger_at(&mut files, &file)?;
-    let ended = retry_ledger(call.alloc, held, &mut ledger, &mut decider, call.answers);
-    files.close(file.path, ledger);
-    ended
+    retry_at(call.alloc, file, &mut files, &mut decider, call.answers)
 }
 
 // `bb merge`.
@@ -86,5 +81,5 @@ pub(crate) fn report<S: Disk, R: Read, W: Write, E: Write>(
     if path == STANDARD_INPUT {
         return report_stream(alloc, &form, why, input, answers, faults);
     }
-    report_file(alloc, &form, why, files.open_to_end(path), answers, faults)
+    report_at(alloc, &form, why, path, &files, answers, faults)
 }

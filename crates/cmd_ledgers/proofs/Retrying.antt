@@ -1,5 +1,5 @@
 -- A ledger stays in step with a board when a record is taken and its line is appended; and the holdouts that are left stay holdouts.
-use Rattle.std.proofs.Common.{◌≡◌, ◌≢◌, ◌⊎◌, inl, inr, ℕ, suc, true, false, List, [], ◌∷◌, ◌++◌, All, AllPairs, get_or, Option, Some, None, Result, Ok, IfSome, IsSome, take, sym, ap, ◌∙◌, subst, arith}
+use Rattle.std.proofs.Common.{◌≡◌, ◌≢◌, ◌⊎◌, inl, inr, ℕ, suc, true, false, List, [], ◌∷◌, ◌++◌, append_assoc, append-nil, All, AllPairs, get_or, Option, Some, None, Result, Ok, IfSome, IsSome, take, refl, sym, ap, ◌∙◌, subst, arith}
 use Rattle.std.specs.Option.{option_map}
 use Rattle.std.proofs.lemmas.List.Elements.{All-contains_itself}
 use Rattle.machine_text.specs.Packed.{Packed}
@@ -14,6 +14,7 @@ use Rattle.ledger.specs.Offers.{OfferGives}
 use Rattle.ledger.specs.Records.{mark_of}
 use Rattle.ledger.specs.Tally.{AreAll}
 use Rattle.ledger.specs.declared.format.Format.{Format}
+use Rattle.ledger.specs.declared.left.Left.{Left}
 use Rattle.ledger.specs.declared.left.Left.TheVariants.{Nothing, From}
 use Rattle.ledger.specs.declared.left.Unkept.{Unkept}
 use Rattle.ledger.specs.declared.taken.Taken.{Taken}
@@ -23,8 +24,10 @@ use Rattle.ledger.proofs.Growing.{grows, cut_to_kept}
 use Rattle.ledger.proofs.OpenLaws.{settled_other}
 use Rattle.ledger.proofs.TextOrder.{all_apart}
 use Rattle.wire.specs.Carried.{cut_to}
-use Rattle.wire.specs.Device.{grown}
-use Rattle.cmd_ledgers.specs.Retry.{StaysInStep, SettlesOrStays, ChangesBy, gained, with_line}
+use Rattle.wire.specs.Device.{IsBegun, grown}
+use Rattle.cmd_options.specs.declared.ended.Ended.{Ended}
+use Rattle.cmd_ledgers.specs.GoingOn.{kept_part}
+use Rattle.cmd_ledgers.specs.Retry.{StaysInStep, SettlesOrStays, ChangesBy, IsTried, AreTried, AreRetried, EndsAtHoldout, EndsRetrying, gained, with_line}
 
 -- a ledger that is cut to what was kept of it
 pub cut_in_step : (b : Contents) (before after : Option (List ℕ)) (line kept : ℕ) (why : Unkept) → after ≡ cut_to (Some kept) before
@@ -32,6 +35,12 @@ pub cut_in_step : (b : Contents) (before after : Option (List ℕ)) (line kept :
 cut_in_step b None after line kept why is reads = subst (λ (text : Option (List ℕ)). IfSome text (IsLedgerOf b)) (sym is) tt
 cut_in_step b (Some text) after line kept why is reads = subst (λ (text : Option (List ℕ)). IfSome text (IsLedgerOf b)) (sym is)
     (subst (λ (f : Format). ReadsIn f b.root (take kept text) b.records Nothing) reads.version (cut_to_kept b.root text b.records line kept why reads.reads))
+
+-- and by what was kept of it
+pub cut_reads : (b : Contents) (left : Left) (text : Option (List ℕ)) → IfSome text (λ t. ReadsIn b.format b.root t b.records left) → IfSome (kept_part left text) (IsLedgerOf b)
+cut_reads b Nothing text h = h
+cut_reads b (From line kept why) None h = tt
+cut_reads b (From line kept why) (Some text) h = cut_in_step b (Some text) (Some (take kept text)) line kept why refl h
 
 stays_with : (old new : Contents) (r : Recorded) (before : Option (List ℕ)) → IsBoard old → IsTaken old.root old.records r new.records
     → new.root ≡ old.root → new.format ≡ old.format → StaysInStep old before new (with_line old.format r before)
@@ -117,3 +126,47 @@ others_wait format rs new before after r t ts of by waiting = record {
       stays_holdout rs new r (get_or ts i d) (λ e. other (sym of ∙ sym e)) (changes format (ending_by r.claim) r rs new before after by)
       (waiting.holdouts (suc i) d (omega arith));
 }
+
+-- those that were tried, and then more
+tried_more : (Answers : Packed → Recorded → Type 0) (format : Format) (ts us : List Packed) (old mid new : List Recorded) (before text after : Option (List ℕ)) →
+    AreTried Answers format ts old before mid text → AreTried Answers format us mid text new after → AreTried Answers format (ts ++ us) old before new after
+tried_more Answers format [] us old mid new before text after none more =
+    subst (λ (t : Option (List ℕ)). AreTried Answers format us old t new after) none.1 (subst (λ (l : List Recorded). AreTried Answers format us l text new after) none.0 more)
+tried_more Answers format (t ∷ ts) us old mid new before text after (next, halfway, here, rest) more =
+    (next, halfway, here, tried_more Answers format ts us next mid new halfway text after rest more)
+
+-- one more is tried: with those that are left they are still all
+pub one_tried : (K : Packed → Type 0) (Answers : Packed → Recorded → Type 0) (format : Format) (tried : List Packed) (t : Packed) (left rest : List Packed) (old mid new : List Recorded) (before text after : Option (List ℕ)) →
+    left ≡ t ∷ rest → AreAll K (tried ++ left) → AreTried Answers format tried old before mid text → IsTried Answers format t mid text new after →
+    (more : List Packed) × AreAll K (more ++ rest) × AreTried Answers format more old before new after
+one_tried K Answers format tried t left rest old mid new before text after is all are here = (
+  tried ++ (t ∷ []),
+  subst (AreAll K) (ap (λ (l : List Packed). tried ++ l) is ∙ sym (append_assoc tried (t ∷ []) rest)) all,
+  tried_more Answers format tried (t ∷ []) old mid new before text after are (new, after, here, (refl, refl)),
+)
+
+-- none is left, so all are tried
+pub all_tried : (Answers : Packed → Recorded → Type 0) (old new : Contents) (before after : Option (List ℕ)) (tried left : List Packed) → left ≡ [] →
+    AreAll (IsHoldout old.records) (tried ++ left) → AreTried Answers old.format tried old.records before new.records after → AreRetried Answers old before new after
+all_tried Answers old new before after tried left none all are =
+    (tried, subst (AreAll (IsHoldout old.records)) (ap (λ (l : List Packed). tried ++ l) none ∙ append-nil tried) all, are)
+
+-- it ends at one that is left
+pub stops_at : (Answers : Packed → Recorded → Type 0) (e : Ended) (old new : Contents) (format : Format) (mid : List Recorded) (before text after : Option (List ℕ)) (tried : List Packed) (t : Packed) (left rest : List Packed) →
+    left ≡ t ∷ rest → format ≡ old.format → AreAll (IsHoldout old.records) (tried ++ left) → AreTried Answers old.format tried old.records before mid text →
+    EndsAtHoldout Answers format t e mid text new.records after → EndsRetrying Answers e old before new after
+stops_at Answers e old new format mid before text after tried t left rest is was all are ends = inr (record {
+  tried = tried;
+  at = t;
+  later = rest;
+  are_all = subst (λ (l : List Packed). AreAll (IsHoldout old.records) (tried ++ l)) is all;
+  mid = mid;
+  text = text;
+  are_tried = are;
+  ends = subst (λ (f : Format). EndsAtHoldout Answers f t e mid text new.records after) was ends;
+})
+
+-- the ledger has no more than a beginning of the line of a record
+pub torn_line : (format : Format) (r : Recorded) (line begun : List ℕ) (before after : Option (List ℕ)) → line ≡ begun ++ gained format r → begun ≡ [] → IsBegun before line after
+    → IsBegun before (gained format r) after
+torn_line format r line begun before after is none (k, torn) = (k, torn ∙ ap (λ (l : List ℕ). grown before (take k l)) (is ∙ ap (λ (l : List ℕ). l ++ gained format r) none))

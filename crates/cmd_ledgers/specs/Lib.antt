@@ -6,7 +6,10 @@ pub mod LedgerReport
 pub mod Merge
 pub mod Carry
 pub mod Passing
+pub mod GoingOn
 pub mod Retry
 pub mod Reading
 pub mod inside
 pub mod AtPath
+pub mod Reporting
+pub mod RetryAt

@@ -1,5 +1,5 @@
 -- A board and its ledger, while holdouts are tried again.
-use Rattle.std.specs.Prelude.{◌≡◌, ℕ, Bool, true, false, List, [], ◌∷◌, ◌++◌, Option, Some, None, IfSome}
+use Rattle.std.specs.Prelude.{◌≡◌, ◌⊎◌, ℕ, Bool, true, false, List, [], ◌∷◌, ◌++◌, Option, Some, None, IfSome}
 use Rattle.machine_text.specs.Packed.{Packed}
 use Rattle.kind_evidence.specs.declared.verdicts.Ending.{Ending}
 use Rattle.cert.specs.Claim.{Recorded, ending_by}
@@ -10,7 +10,9 @@ use Rattle.ledger.specs.LedgerText.{IsLedgerOf}
 use Rattle.ledger.specs.Tally.{AreAll}
 use Rattle.ledger.specs.Versions.{ledger_line}
 use Rattle.ledger.specs.declared.format.Format.{Format}
-use Rattle.wire.specs.Device.{grown}
+use Rattle.wire.specs.Device.{IsBegun, grown}
+use Rattle.cmd_options.specs.declared.ended.Ended.{Ended}
+use Rattle.cmd_options.specs.declared.ended.Ended.TheVariants.{Ledger, NoMemory}
 
 -- where a ledger's text was known and in step with the old board, it is in step with the new one
 abbrev pub StaysInStep : Contents → Option (List ℕ) → Contents → Option (List ℕ) → Type 0
@@ -55,3 +57,31 @@ AtSomeTime D answers t r = (d : D) × answers d t r
 abbrev pub AreRetried : (Packed → Recorded → Type 0) → Contents → Option (List ℕ) → Contents → Option (List ℕ) → Type 0
 AreRetried Answers old before new after =
     (ts : List Packed) × AreAll (IsHoldout old.records) ts × AreTried Answers old.format ts old.records before new.records after
+
+-- memory was refused, and nothing changed
+abbrev pub ChangesNothing : Ended → List Recorded → Option (List ℕ) → List Recorded → Option (List ℕ) → Type 0
+ChangesNothing e old before new after = (e ≡ NoMemory) × (new ≡ old) × (after ≡ before)
+
+-- the ledger failed under the line of a record: the board has the record, and the ledger no more than a beginning of the line
+abbrev pub TearsLineOf : Format → Recorded → Ended → List Recorded → Option (List ℕ) → List Recorded → Option (List ℕ) → Type 0
+TearsLineOf format r e old before new after = (e ≡ Ledger) × Settles old r × (new ≡ settled old (with_score r)) × IsBegun before (gained format r) after
+
+-- what ends it at a holdout: memory was refused; or the ledger failed, under the line of a record that was answered for it
+abbrev pub EndsAtHoldout : (Packed → Recorded → Type 0) → Format → Packed → Ended → List Recorded → Option (List ℕ) → List Recorded → Option (List ℕ) → Type 0
+EndsAtHoldout Answers format t e old before new after =
+    ChangesNothing e old before new after ⊎ ((r : Recorded) × Answers t r × (r.table ≡ t) × TearsLineOf format r e old before new after)
+
+-- it ended at one of the holdouts that a board had, and those before it were tried
+pub record StopsAtHoldout (Answers : Packed → Recorded → Type 0) (e : Ended) (old : Contents) (before : Option (List ℕ)) (new : Contents) (after : Option (List ℕ)) : Type 0 where
+  pub tried : List Packed
+  pub at : Packed
+  pub later : List Packed
+  pub are_all : AreAll (IsHoldout old.records) (tried ++ at ∷ later)
+  pub mid : List Recorded
+  pub text : Option (List ℕ)
+  pub are_tried : AreTried Answers old.format tried old.records before mid text
+  pub ends : EndsAtHoldout Answers old.format at e mid text new.records after
+
+-- what ends it early: there is no memory for the holdouts; or it ends at one of them
+abbrev pub EndsRetrying : (Packed → Recorded → Type 0) → Ended → Contents → Option (List ℕ) → Contents → Option (List ℕ) → Type 0
+EndsRetrying Answers e old before new after = ChangesNothing e old.records before new.records after ⊎ StopsAtHoldout Answers e old before new after

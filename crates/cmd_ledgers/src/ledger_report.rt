@@ -1,31 +1,48 @@
 // `bb report`: a ledger in, its report out.
-ghost use Rattle.std.specs.Prelude.{◌≡◌, ◌⊎◌, ◌++◌, ℕ, List, IfOk, IfErr, OnOk};
-ghost use Rattle.cmd_ledgers.specs.LedgerReport.{ReportsLedger, WritesLedger, left_text, outcome_by};
+ghost use Rattle.std.specs.Prelude.{◌≡◌, ◌⊎◌, ◌++◌, ◌^◌, ◌-◌, ℕ, List, IfOk, IfErr, OnErr, OnOk, Ok, Err, Option, Result, false, true};
+ghost use Rattle.std.specs.Io.KnownBytes.{Appends};
+ghost use Rattle.cmd_options.specs.declared.outcome.Outcome.{Outcome as Outcomes};
+ghost use Rattle.cmd_options.specs.declared.ended.Ended.{Ended as Ends};
+ghost use Rattle.cmd_options.specs.Ends.{EndsTold};
+ghost use Rattle.cmd_ledgers.specs.AtPath.{ReadsAt};
+ghost use Rattle.cmd_ledgers.specs.LedgerReport.{ReportsLedger, left_text, outcome_by};
+ghost use Rattle.cmd_ledgers.specs.Merge.{IsLoaded};
 ghost use Rattle.cmd_ledgers.specs.Reading.{AreFirstBytes, EndsReading};
 ghost use Rattle.cmd_ledgers.specs.Report.{IsReport};
+ghost use Rattle.cmd_ledgers.specs.Reporting.{ReadsFirst, ReportsFrom, SaysWhy, WritesReport};
 
 use crate::board_report::report;
 use crate::reading::load_from;
 use crate::report_form::{ReportForm, write_report};
 use crate::report_writer::append_left;
+use crate::source::{AtPath, load_source};
 use cmd_options::{Ended, Outcome, Stopped, ended_by, told};
-use files::Opened;
+use files::Files;
+use kind_evidence::NoMemory;
 use ledger::{Board, Left, Status, Unkept};
 use std::alloc::Global;
-use std::io::{self, Read, Write};
+use std::io::{Read, Write};
 
-/// Prints the report of a ledger file in a form, as far as the file went when it was opened. With `why`, where not all
-/// of it could be kept, says on `faults` why the first line that isn't kept isn't. What ends the command early is said
+/// Prints the report of the ledger at a path in a form, as far as the file goes when it is opened. With `why`, where not
+/// all of it could be kept, says on `faults` why the first line that isn't kept isn't. What ends the command early is said
 /// on `faults`: a failed file or stream, a ledger that can't be loaded, or refused memory.
-pub fn cmd_report<P: ReportForm, R: Read + Drop, W: Write, E: Write>(
+pub fn cmd_report<H: Files, P: ReportForm, W: Write, E: Write>(
     alloc: Global,
     form: &P,
     why: bool,
-    file: io::Result<Opened<R>>,
+    path: &str,
+    host: &H,
     answers: &mut W,
     faults: &mut E,
-) -> Outcome {
-    told(report_file(alloc, form, why, file, answers, faults), faults)
+) -> Outcome
+    ensures { (ended : Result Outcomes Ends) × (said : Option (List ℕ))
+        × ReportsFrom (P.is_text form.now) (ReadsAt (H.holds host.now path.now)) (W.contents answers.old) (W.contents answers.new) ended
+        × SaysWhy why ended (E.contents faults.old) said × EndsTold ended said (E.contents faults.new) result }
+{
+    told(
+        report_at(alloc, form, why, path, host, answers, faults),
+        faults,
+    )
 }
 
 /// Prints the report of the ledger that a stream has up to its end, as `cmd_report` does that of a file.
@@ -36,7 +53,11 @@ pub fn cmd_report_stream<P: ReportForm, R: Read, W: Write, E: Write>(
     input: &mut R,
     answers: &mut W,
     faults: &mut E,
-) -> Outcome {
+) -> Outcome
+    ensures { (ended : Result Outcomes Ends) × (said : Option (List ℕ))
+        × ReportsFrom (P.is_text form.now) (ReadsFirst (R.remaining input.old) (2 ^ 64 - 1)) (W.contents answers.old) (W.contents answers.new) ended
+        × SaysWhy why ended (E.contents faults.old) said × EndsTold ended said (E.contents faults.new) result }
+{
     told(
         report_stream(alloc, form, why, input, answers, faults),
         faults,
@@ -44,22 +65,20 @@ pub fn cmd_report_stream<P: ReportForm, R: Read, W: Write, E: Write>(
 }
 
 /// What `cmd_report` does, but that what ends it early isn't said.
-pub fn report_file<P: ReportForm, R: Read + Drop, W: Write, E: Write>(
+pub fn report_at<H: Files, P: ReportForm, W: Write, E: Write>(
     alloc: Global,
     form: &P,
     why: bool,
-    file: io::Result<Opened<R>>,
+    path: &str,
+    host: &H,
     answers: &mut W,
     faults: &mut E,
-) -> Result<Outcome, Ended> {
-    let mut file = match file {
-        Ok(file) => file,
-        Err(fault) => return Err(ended_by(&fault, Ended::File)),
-    };
-    match write_ledger_report(alloc, form, &mut file.reader, file.length, answers) {
-        Ok((outcome, left)) => with_reason(alloc, why, outcome, &left, faults),
-        Err(stopped) => Err(stopped.ended(Ended::File)),
-    }
+) -> Result<Outcome, Ended>
+    ensures reports { ReportsFrom (P.is_text form.now) (ReadsAt (H.holds host.now path.now)) (W.contents answers.old) (W.contents answers.new) result }
+    ensures says { SaysWhy why result (E.contents faults.old) (E.contents faults.new) }
+{
+    let (board, left) = load_source(alloc, &AtPath { host, path })?;
+    report_loaded(alloc, form, why, &board, &left, answers, faults)
 }
 
 /// What `cmd_report_stream` does, but that what ends it early isn't said.
@@ -70,38 +89,84 @@ pub fn report_stream<P: ReportForm, R: Read, W: Write, E: Write>(
     input: &mut R,
     answers: &mut W,
     faults: &mut E,
-) -> Result<Outcome, Ended> {
-    match write_ledger_report(alloc, form, input, u64::MAX, answers) {
-        Ok((outcome, left)) => with_reason(alloc, why, outcome, &left, faults),
-        Err(stopped) => Err(stopped.ended(Ended::Stream)),
+) -> Result<Outcome, Ended>
+    ensures reports { ReportsFrom (P.is_text form.now) (ReadsFirst (R.remaining input.old) (2 ^ 64 - 1)) (W.contents answers.old) (W.contents answers.new) result }
+    ensures says { SaysWhy why result (E.contents faults.old) (E.contents faults.new) }
+{
+    let (board, left) = load_stream(alloc, input, u64::MAX)?;
+    report_loaded(alloc, form, why, &board, &left, answers, faults)
+}
+
+// The board of the ledger that a stream has in its first bytes, up to a limit, and what of it wasn't kept.
+fn load_stream<R: Read>(alloc: Global, input: &mut R, limit: u64) -> Result<(Board, Left), Ended>
+    ensures ok { IfOk result (λ l. IsLoaded (ReadsFirst (R.remaining input.old) limit) (Ok l)) }
+    ensures err { IfErr result (λ e. IsLoaded (ReadsFirst (R.remaining input.old) limit) (Err e)) }
+{
+    match load_from(alloc, input, limit) {
+        Ok(loaded) => Ok(loaded),
+        Err(Stopped::Failed(fault)) => Err(ended_by(&fault, Ended::Stream)),
+        Err(Stopped::Ended(ended)) => Err(ended),
     }
 }
 
-// Says why a line wasn't kept, where there is one and that is asked for: the refusal number, if there is one, and words.
-fn with_reason<E: Write>(
+// Prints the report of a board, and says why something of its ledger wasn't kept, where that is asked for.
+fn report_loaded<P: ReportForm, W: Write, E: Write>(
     alloc: Global,
+    form: &P,
     why: bool,
-    outcome: Outcome,
+    board: &Board,
     left: &Left,
+    answers: &mut W,
     faults: &mut E,
-) -> Result<Outcome, Ended> {
-    let Left::From {
-        line,
-        why: reason,
-        ..
-    } = left
-    else {
-        return Ok(outcome);
-    };
-    if !why {
-        return Ok(outcome);
-    }
-    let said = match refusal_number(reason) {
-        Some(number) => format!(in alloc; "line {line} isn't kept: {number}, {reason}\n")?,
-        None => format!(in alloc; "line {line} isn't kept: {reason}\n")?,
-    };
-    faults.write_all(said.as_bytes())?;
+) -> Result<Outcome, Ended>
+    ensures ok { IfOk result (WritesReport (P.is_text form.now) board.now left.now (W.contents answers.old) (W.contents answers.new)) }
+    ensures err { IfErr result (λ e. ((e ≡ Ended.NoMemory) × (W.contents answers.new ≡ W.contents answers.old)) ⊎ (e ≡ Ended.Stream)) }
+    ensures says { SaysWhy why result (E.contents faults.old) (E.contents faults.new) }
+{
+    let reason = reason_for(alloc, why, left)?;
+    let outcome = report_board(alloc, form, board, left, answers)?;
+    say(&reason, faults)?;
     Ok(outcome)
+}
+
+/// Writes the report of a board in a form, and answers how a command ends by it. Where memory is refused, nothing was
+/// written.
+pub fn report_board<P: ReportForm, W: Write>(
+    alloc: Global,
+    form: &P,
+    board: &Board,
+    left: &Left,
+    answers: &mut W,
+) -> Result<Outcome, Ended>
+    ensures ok { IfOk result (WritesReport (P.is_text form.now) board.now left.now (W.contents answers.old) (W.contents answers.new)) }
+    ensures err { IfErr result (λ e. ((e ≡ Ended.NoMemory) × (W.contents answers.new ≡ W.contents answers.old)) ⊎ (e ≡ Ended.Stream)) }
+{
+    // The proof needs that it is a board.
+    let _ = board.root();
+    write_report(alloc, form, board, left, answers)?;
+    Ok(outcome_by(board.status(), left))
+}
+
+// What is to be said of why a line wasn't kept; nothing where all was, or that isn't asked for.
+fn reason_for(alloc: Global, why: bool, left: &Left) -> Result<Option<String>, NoMemory>
+    ensures { IfOk result (λ reason. why ≡ false → reason ≡ None) }
+{
+    match left {
+        Left::From {
+            line,
+            why: reason,
+            ..
+        } if why => Ok(Some(reason_line(alloc, *line, reason)?)),
+        _ => Ok(None),
+    }
+}
+
+// Why a line wasn't kept: the refusal number, if there is one, and words.
+fn reason_line(alloc: Global, line: u64, reason: &Unkept) -> Result<String, NoMemory> {
+    match refusal_number(reason) {
+        Some(number) => format!(in alloc; "line {line} isn't kept: {number}, {reason}\n"),
+        None => format!(in alloc; "line {line} isn't kept: {reason}\n"),
+    }
 }
 
 fn refusal_number(why: &Unkept) -> Option<u16> {
@@ -109,6 +174,21 @@ fn refusal_number(why: &Unkept) -> Option<u16> {
         Unkept::Unread(fault) => Some(fault.number()),
         Unkept::Unfit(fault) => fault.number(),
         Unkept::Torn | Unkept::Repeated => None,
+    }
+}
+
+// Says a reason, if there is one.
+fn say<E: Write>(reason: &Option<String>, faults: &mut E) -> Result<(), Ended>
+    ensures none { reason.now ≡ None → (result ≡ Ok tt) × (E.contents faults.new ≡ E.contents faults.old) }
+    ensures ok { OnOk result ((text : List ℕ) × Appends (E.contents faults.old) (E.contents faults.new) text) }
+    ensures err { IfErr result (λ e. e ≡ Ended.Stream) }
+{
+    match reason {
+        Some(reason) => {
+            faults.write_all(reason.as_bytes())?;
+            Ok(())
+        }
+        None => Ok(()),
     }
 }
 
@@ -136,24 +216,6 @@ fn append_ledger_report(board: &Board, left: &Left, out: &mut Vec<u8>) -> Result
     report(board, out)?;
     append_left(left, out)?;
     Ok(())
-}
-
-/// Writes the report of the ledger that a reader has in its first bytes, up to a limit, in a form: accepted where the
-/// board is complete and all was kept. Answers what is left as well.
-pub fn write_ledger_report<P: ReportForm, R: Read, W: Write>(
-    alloc: Global,
-    form: &P,
-    from: &mut R,
-    limit: u64,
-    answers: &mut W,
-) -> Result<(Outcome, Left), Stopped>
-    ensures ok { IfOk result (λ r. (text : List ℕ) × AreFirstBytes (R.remaining from.old) limit text
-        × WritesLedger (P.is_text form.now) text r.0 r.1 (W.contents answers.old) (W.contents answers.new)) }
-    ensures err { IfErr result (λ e. (e ≡ Stopped.Ended Ended.Stream) ⊎ (EndsReading (R.remaining from.old) limit e × (answers.new ≡ answers.old))) }
-{
-    let (board, left) = load_from(alloc, from, limit)?;
-    write_report(alloc, form, &board, &left, answers)?;
-    Ok((outcome_by(board.status(), &left), left))
 }
 
 // Accepted where a board is complete and all of its ledger was kept.

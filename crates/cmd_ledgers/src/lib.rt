@@ -1,14 +1,16 @@
 //! The commands of `bb` that read ledgers, over readers, writers and files: `report`, `retry`, `merge` and `carry`.
 //!
-//! `specs/Report` is the report of a board, `specs/Told` what it tells before it is printed, `specs/TreeReport` that of a complete one, `specs/LedgerReport` what is
-//! printed for a ledger's text, `specs/Reading` how that is read, `specs/Retry` what becomes of holdouts that are tried
-//! again, `specs/Merge` of two ledgers that are joined, `specs/Carry` of one that is written as version 2, `specs/AtPath`
-//! what the last two come to where files stand.
+//! `specs/Report` is the report of a board, `specs/Told` what it tells before it is printed, `specs/TreeReport` that of a
+//! complete one, `specs/LedgerReport` what is printed for a ledger's text, `specs/Reading` how that is read, `specs/Reporting`
+//! what `report` comes to, `specs/GoingOn` a ledger that is gone on with where it stands, `specs/Retry` what becomes of
+//! holdouts that are tried again, `specs/RetryAt` what `retry` comes to, `specs/Merge` two ledgers that are joined,
+//! `specs/Carry` one that is written as version 2, `specs/AtPath` what the last two come to where files stand.
 #![tactic(auto)]
 
 mod board_report;
 mod carry;
 mod faults;
+mod going_on;
 mod ledger_changes;
 mod ledger_report;
 mod merge;
@@ -24,16 +26,17 @@ mod tree_reports;
 pub use board_report::{report, status_name};
 pub use carry::{carry_at, carry_into, cmd_carry};
 pub use faults::by_load;
+pub use going_on::{cut_off, load_held, open_held};
 pub use ledger_changes::keep_answer;
 pub use ledger_report::{
-    cmd_report, cmd_report_stream, outcome_by, report_file, report_ledger, report_stream,
-    write_ledger_report,
+    cmd_report, cmd_report_stream, outcome_by, report_at, report_board, report_ledger,
+    report_stream,
 };
 pub use merge::{cmd_merge, join, join_into, merge_at};
 pub use reading::{MAX_HEADER_BYTES, begin_reading, load_from};
 pub use report_form::{AsLines, ReportForm, write_report, write_told};
 pub use report_writer::{LineReport, pass};
-pub use retry::{cmd_retry, retry_holdouts, retry_ledger};
+pub use retry::{cmd_retry, retry_at, retry_holdouts, retry_ledger};
 pub use rewriting::write_whole;
 pub use source::LedgerSource;
 pub use told::Told;

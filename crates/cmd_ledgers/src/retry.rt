@@ -1,73 +1,89 @@
 // `bb retry`: the holdouts of a ledger are tried again.
-ghost use Rattle.std.specs.Prelude.{◌≡◌, IfOk, IfSome, OnOk};
+ghost use Rattle.std.specs.Prelude.{◌≡◌, ◌≢◌, ◌⊎◌, Err, IfErr, IfOk, IfSome, OnOk, Result};
 ghost use Rattle.cert.specs.Certified.{IsCertified};
 ghost use Rattle.cert.specs.Claim.{ending_by};
 ghost use Rattle.cert.specs.Kinds.{recorded};
 ghost use Rattle.ledger.specs.Held.{IsHoldout};
-ghost use Rattle.ledger.specs.Contents.{Contents};
-ghost use Rattle.ledger.specs.LedgerText.{IsLedgerOf, ReadsIn};
-ghost use Rattle.ledger.specs.Tally.{IsStatus};
-ghost use Rattle.ledger.specs.declared.status.Status.{Status as BoardStatus};
-ghost use Rattle.cmd_ledgers.specs.LedgerReport.{outcome_by};
-ghost use Rattle.cmd_ledgers.specs.Retry.{SettlesOrStays, StaysInStep, AtSomeTime, ChangesBy, IsTried, AreRetried};
+ghost use Rattle.cmd_options.specs.declared.outcome.Outcome.{Outcome as Outcomes};
+ghost use Rattle.cmd_options.specs.declared.ended.Ended.{Ended as Ends};
+ghost use Rattle.cmd_options.specs.Ends.{EndsTold};
+ghost use Rattle.files.specs.Paths.{IsKeptBut};
+ghost use Rattle.cmd_ledgers.specs.Retry.{SettlesOrStays, StaysInStep, AtSomeTime, ChangesBy, ChangesNothing, EndsAtHoldout, EndsRetrying, IsTried, AreRetried, TearsLineOf};
+ghost use Rattle.cmd_ledgers.specs.RetryAt.{EndsRetriedLedger, EndsRetriedWhole, RetriesAt, RetriesLedger, RetriesWhole};
 
-use crate::ledger_changes::{append_to, cut_to};
-use crate::ledger_report::outcome_by;
-use crate::reading::load_from;
-use crate::report_form::{AsLines, write_report};
+use crate::going_on::{cut_off, load_held, open_held};
+use crate::ledger_changes::append_to;
+use crate::ledger_report::report_board;
+use crate::report_form::AsLines;
 use cert::{Decider, Record};
-use cmd_options::{Ended, Outcome, Stopped, told};
-use files::Opened;
-use ledger::{Board, Left, Taken, kept_bytes_load};
+use cmd_options::{Ended, LedgerFile, Outcome, told};
+use files::{Files, Opened, ledger_at, lock_ledger};
+use ledger::{Board, Left, Taken};
 use machine_text::Table;
 use std::alloc::Global;
-use std::io::{self, Read, Write};
+use std::io::{Read, Write};
 use wire::LedgerOut;
 
-/// Cuts a ledger to the bytes that are kept of it, asks the decider for each of its holdouts in the order of
-/// their texts, and appends a line for each that is settled. Then it prints the report: accepted where that
-/// says complete. What becomes open stays open. `held` reads what the ledger holds; what ends the command early is
-/// said on `faults`.
-pub fn cmd_retry<F: Read + Drop, L: LedgerOut, D: Decider, W: Write, E: Write>(
+/// Cuts a ledger file, which has to be there, to the bytes that are kept of it, asks the decider for each of its holdouts
+/// in the order of their texts, and appends a line for each that is settled. Then it prints the report: accepted where
+/// that says complete. What becomes open stays open. The ledger is locked before it is read; where another process has it
+/// locked, nothing is done. What ends the command early is said on `faults`.
+pub fn cmd_retry<H: Files, D: Decider, W: Write, E: Write>(
     alloc: Global,
-    held: io::Result<Opened<F>>,
-    ledger: &mut L,
+    file: LedgerFile<'_>,
+    host: &mut H,
     decider: &mut D,
     answers: &mut W,
     faults: &mut E,
-) -> Outcome {
-    told(retry_ledger(alloc, held, ledger, decider, answers), faults)
+) -> Outcome
+    ensures others { IsKeptBut (H.tells_same host.old) file.entry.path.now (H.holds host.old) (H.holds host.new) }
+    ensures retries { (ended : Result Outcomes Ends)
+        × RetriesAt (AtSomeTime D D.answers) (H.locks file.entry.path.now) (H.tells_same host.old) file.entry.path.now (H.holds host.old) (H.holds host.new)
+        (W.contents answers.old) (W.contents answers.new) ended
+        × EndsTold ended (E.contents faults.old) (E.contents faults.new) result }
+{
+    told(retry_at(alloc, file, host, decider, answers), faults)
 }
 
 /// The same, but that what ends it early isn't said.
+pub fn retry_at<H: Files, D: Decider, W: Write>(
+    alloc: Global,
+    file: LedgerFile<'_>,
+    host: &mut H,
+    decider: &mut D,
+    answers: &mut W,
+) -> Result<Outcome, Ended>
+    ensures others { IsKeptBut (H.tells_same host.old) file.entry.path.now (H.holds host.old) (H.holds host.new) }
+    ensures retries { RetriesAt (AtSomeTime D D.answers) (H.locks file.entry.path.now) (H.tells_same host.old) file.entry.path.now (H.holds host.old) (H.holds host.new)
+        (W.contents answers.old) (W.contents answers.new) result }
+{
+    let _lock = lock_ledger(host, file.path)?;
+    let held = open_held(host, file.path)?;
+    let mut ledger = ledger_at(host, &file)?;
+    let retried = retry_ledger(alloc, held, &mut ledger, decider, answers);
+    host.close(file.path, ledger);
+    retried
+}
+
+/// Cuts a ledger to the bytes that are kept of it, tries its holdouts as `retry_holdouts` does, and prints the report.
+/// `held` reads what the ledger holds. What ends it early leaves in the ledger what was settled before.
 pub fn retry_ledger<F: Read + Drop, L: LedgerOut, D: Decider, W: Write>(
     alloc: Global,
-    held: io::Result<Opened<F>>,
+    held: Opened<F>,
     ledger: &mut L,
     decider: &mut D,
     answers: &mut W,
-) -> Result<Outcome, Ended> {
-    match load_held(alloc, held) {
-        Ok((mut board, left)) => {
-            settle_further(alloc, &mut board, &left, ledger, decider, answers)
-        }
-        Err(stopped) => Err(stopped.ended(Ended::Ledger)),
-    }
-}
-
-// The board of what the ledger holds, and what of it wasn't kept.
-fn load_held<F: Read + Drop>(
-    alloc: Global,
-    held: io::Result<Opened<F>>,
-) -> Result<(Board, Left), Stopped> {
-    match held {
-        Ok(mut held) => load_from(alloc, &mut held.reader, held.length),
-        Err(fault) => Err(Stopped::Failed(fault)),
-    }
+) -> Result<Outcome, Ended>
+    ensures retries { IfOk result (RetriesLedger (AtSomeTime D D.answers) (F.remaining held.reader) held.length (L.text ledger.old) (L.text ledger.new) (W.contents answers.old) (W.contents answers.new)) }
+    ensures ended { IfErr result (λ e. EndsRetriedLedger (AtSomeTime D D.answers) (L.failures ledger.old ≢ L.failures ledger.new) e (F.remaining held.reader) held.length
+        (L.text ledger.old) (L.text ledger.new) (W.contents answers.old) (W.contents answers.new)) }
+{
+    let (mut board, left) = load_held(alloc, held)?;
+    retry_loaded(alloc, &mut board, &left, ledger, decider, answers)
 }
 
 // The same from the board of the ledger, and what of it wasn't kept.
-fn settle_further<L: LedgerOut, D: Decider, W: Write>(
+fn retry_loaded<L: LedgerOut, D: Decider, W: Write>(
     alloc: Global,
     board: &mut Board,
     left: &Left,
@@ -75,29 +91,19 @@ fn settle_further<L: LedgerOut, D: Decider, W: Write>(
     decider: &mut D,
     answers: &mut W,
 ) -> Result<Outcome, Ended>
-    ensures step { IfOk result (λ o. IfSome (L.text ledger.old) (λ text. ReadsIn board.old.format board.old.root text board.old.records left.now) → IfSome (L.text ledger.new) (IsLedgerOf board.new)) }
-    ensures outcome { IfOk result (λ o. (status : BoardStatus) × IsStatus board.new.root board.new.records status × (o ≡ outcome_by status Left.Nothing)) }
+    ensures retries { IfOk result (RetriesWhole (AtSomeTime D D.answers) board.old left.now (L.text ledger.old) (L.text ledger.new) (W.contents answers.old) (W.contents answers.new)) }
+    ensures ended { IfErr result (λ e. EndsRetriedWhole (AtSomeTime D D.answers) (L.failures ledger.old ≢ L.failures ledger.new) e board.old left.now
+        (L.text ledger.old) (L.text ledger.new) (W.contents answers.old) (W.contents answers.new)) }
 {
     cut_off(left, ledger)?;
     retry_holdouts(alloc, board, decider, ledger)?;
-    write_report(alloc, &AsLines, board, &Left::Nothing, answers)?;
-    Ok(outcome_by(board.status(), &Left::Nothing))
-}
-
-// Cuts off what wasn't kept of a board's ledger.
-fn cut_off<L: LedgerOut>(left: &Left, ledger: &mut L) -> Result<(), Ended>
-    ensures step { OnOk result ((b : Contents) → IfSome (L.text ledger.old) (λ text. ReadsIn b.format b.root text b.records left.now) → IfSome (L.text ledger.new) (IsLedgerOf b)) }
-{
-    kept_bytes_load();
-    match left {
-        Left::Nothing => Ok(()),
-        Left::From { kept, .. } => cut_to(ledger, *kept),
-    }
+    report_board(alloc, &AsLines, board, &Left::Nothing, answers)
 }
 
 /// Asks the decider for each holdout of a board, in the order of their texts. What it answers is taken where
 /// it has a verdict, and its line is appended to the ledger in the ledger's version, so that a ledger that was in step
-/// with the board is so again; else nothing changes.
+/// with the board is so again; else nothing changes. What ends it early, refused memory or a ledger that failed, leaves
+/// what was settled before.
 pub fn retry_holdouts<L: LedgerOut, D: Decider>(
     alloc: Global,
     board: &mut Board,
@@ -108,6 +114,9 @@ pub fn retry_holdouts<L: LedgerOut, D: Decider>(
     ensures format { board.new.format ≡ board.old.format }
     ensures step { OnOk result (StaysInStep board.old (L.text ledger.old) board.new (L.text ledger.new)) }
     ensures order { OnOk result (AreRetried (AtSomeTime D D.answers) board.old (L.text ledger.old) board.new (L.text ledger.new)) }
+    ensures ended { IfErr result (λ e. EndsRetrying (AtSomeTime D D.answers) e board.old (L.text ledger.old) board.new (L.text ledger.new)) }
+    ensures works { OnOk result (L.failures ledger.new ≡ L.failures ledger.old) }
+    ensures failed { result ≡ Err Ended.Ledger → L.failures ledger.old ≢ L.failures ledger.new }
 {
     for table in board.holdouts()? {
         retry(alloc, board, decider, &table, ledger)?;
@@ -128,6 +137,9 @@ fn retry<L: LedgerOut, D: Decider>(
     ensures format { board.new.format ≡ board.old.format }
     ensures step { OnOk result (StaysInStep board.old (L.text ledger.old) board.new (L.text ledger.new)) }
     ensures tried { OnOk result (IsTried (AtSomeTime D D.answers) board.old.format t.now board.old.records (L.text ledger.old) board.new.records (L.text ledger.new)) }
+    ensures ended { IfErr result (λ e. EndsAtHoldout (AtSomeTime D D.answers) board.old.format t.now e board.old.records (L.text ledger.old) board.new.records (L.text ledger.new)) }
+    ensures works { OnOk result (L.failures ledger.new ≡ L.failures ledger.old) }
+    ensures failed { result ≡ Err Ended.Ledger → L.failures ledger.old ≢ L.failures ledger.new }
 {
     let made = decider.decide(alloc, t)?;
     let record = Record {
@@ -150,6 +162,10 @@ fn take<L: LedgerOut>(
     ensures format { board.new.format ≡ board.old.format }
     ensures step { OnOk result (StaysInStep board.old (L.text ledger.old) board.new (L.text ledger.new)) }
     ensures changes { OnOk result (ChangesBy board.old.format (ending_by (recorded r.now).claim) (recorded r.now) board.old.records (L.text ledger.old) board.new.records (L.text ledger.new)) }
+    ensures ended { IfErr result (λ e. ChangesNothing e board.old.records (L.text ledger.old) board.new.records (L.text ledger.new)
+        ⊎ TearsLineOf board.old.format (recorded r.now) e board.old.records (L.text ledger.old) board.new.records (L.text ledger.new)) }
+    ensures works { OnOk result (L.failures ledger.new ≡ L.failures ledger.old) }
+    ensures failed { result ≡ Err Ended.Ledger → L.failures ledger.old ≢ L.failures ledger.new }
 {
     // The proof needs that it is a board.
     let _ = board.root();
@@ -168,6 +184,7 @@ fn gains(board: &mut Board, r: &Record, line: &mut Vec<u8>) -> Result<bool, Ende
     ensures root { board.new.root ≡ board.old.root }
     ensures format { board.new.format ≡ board.old.format }
     ensures ok { IfOk result (λ gained. SettlesOrStays board.old.format (recorded r.now) gained board.old.records line.old.items board.new.records line.new.items) }
+    ensures err { IfErr result (λ e. (e ≡ Ended.NoMemory) × (board.new.records ≡ board.old.records)) }
 {
     match board.offer_certified_line(r, line) {
         Ok(Taken::Settled) => Ok(true),

@@ -1,5 +1,5 @@
 -- Tables that are settled one after another: the ledger stays in step, and the tables that are left stay due.
-use Rattle.std.proofs.Common.{IfOk, IfSome, Some, take, ◌≡◌, ◌≢◌, ℕ, zero, suc, ◌+◌, Bool, true, false, List, [], ◌∷◌, ◌++◌, length, Option, None, Result, Ok, Err, cond, inl, inr, refl, sym, ◌∙◌, ap, subst, arith, length-append, get_or}
+use Rattle.std.proofs.Common.{IfOk, ◌≡◌, ◌≢◌, ℕ, zero, suc, ◌+◌, Bool, true, false, List, [], ◌∷◌, ◌++◌, length, Option, None, Result, Ok, Err, cond, inl, inr, refl, sym, ◌∙◌, ap, subst, arith, length-append, get_or}
 use Rattle.std.specs.List.{All, AllPairs, Contains, filter}
 use Rattle.std.proofs.lemmas.List.Elements.{All-contains, All-filter, filter_passes, All-contains_itself}
 use Rattle.std.proofs.lemmas.List.Kept.{AllPairs-filter}
@@ -14,20 +14,19 @@ use Rattle.cert.specs.Scored.{with_score}
 use Rattle.ledger.specs.Contents.{Contents, IsBoard, IsOpenOn}
 use Rattle.ledger.specs.Held.{IsFit}
 use Rattle.ledger.specs.Records.{claim_in}
-use Rattle.ledger.specs.LedgerText.{IsLedgerOf, ReadsIn}
 use Rattle.ledger.specs.Tally.{AreAll, IsTally}
 use Rattle.ledger.specs.declared.left.Left.{Left}
-use Rattle.ledger.specs.declared.left.Left.TheVariants.{Nothing, From}
 use Rattle.ledger.specs.declared.tally.Tally.{Tally}
 use Rattle.ledger.proofs.Apart.{first_member, first_or_later, later_member}
 use Rattle.ledger.proofs.HeldLaws.{unmarked}
 use Rattle.ledger.proofs.OpenLaws.{open_taken, taken_new}
 use Rattle.cmd_ledgers.specs.Retry.{StaysInStep}
-use Rattle.cmd_ledgers.proofs.Retrying.{cut_in_step, stays_by}
+use Rattle.cmd_ledgers.proofs.Retrying.{stays_by}
 use Rattle.cmd_options.specs.declared.ended.Ended.{Ended}
 use Rattle.cmd_options.specs.declared.ended.Ended.TheVariants.{BadHeader, WrongRoot, Stream, Ledger, File, HasPart, OutInFolder, Locked, NoMemory}
 use Rattle.cmd_parts.specs.Settling.{ComesFirst, EndsAtOne, EndsSettling, IsOpenBelow, SettlesMany, SettlesOne, with_last}
-use Rattle.cmd_parts.specs.Settle.{EndsWhole, kept_part, settled_text}
+use Rattle.cmd_ledgers.specs.GoingOn.{kept_part}
+use Rattle.cmd_parts.specs.Settle.{EndsWhole, settled_text}
 use Rattle.cmd_parts.specs.inside.{is_below}
 
 first_before : {X : Type 0} (R : X → X → Type 0) (x : X) (xs : List X) → AllPairs R (x ∷ xs) → All (R x) xs
@@ -143,12 +142,6 @@ all_below limit b tables found all is = subst (AreAll (IsOpenBelow limit b)) (sy
 pub if_ok : {T E : Type 0} {P Q : T → Type 0} (r : Result T E) → ((x : T) → P x → Q x) → IfOk r P → IfOk r Q
 if_ok (Ok x) f h = f x h
 if_ok (Err e) f h = tt
-
--- a ledger that is cut to what was kept of it
-pub cut_reads : (b : Contents) (left : Left) (text : Option (List ℕ)) → IfSome text (λ t. ReadsIn b.format b.root t b.records left) → IfSome (kept_part left text) (IsLedgerOf b)
-cut_reads b Nothing text h = h
-cut_reads b (From line kept why) None h = tt
-cut_reads b (From line kept why) (Some text) h = cut_in_step b (Some text) (Some (take kept text)) line kept why refl h
 
 -- all is settled, and there is no memory to say so
 pub unsaid : (Answers : Packed → Recorded → Type 0) (HasFailed : Type 0) (old new : Contents) (left : Left) (before cut after said : Option (List ℕ)) (k : ℕ) (tally : Tally) → cut ≡ kept_part left before

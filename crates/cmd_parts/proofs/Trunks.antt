@@ -6,7 +6,7 @@ use Rattle.machine_text.specs.Limits.{state_limit}
 use Rattle.machine_text.specs.Packed.{Packed, empty_table}
 use Rattle.law_tree.proofs.EmptyTable.{empty_table_in_order, empty_is_table}
 use Rattle.cert.specs.Claim.{Recorded}
-use Rattle.std.specs.Prelude.{All, Contains, MatchResult, OnOk}
+use Rattle.std.specs.Prelude.{All, Contains, OnOk}
 use Rattle.ledger.specs.Contents.{Contents, IsOpenOn}
 use Rattle.ledger.specs.Tally.{AreAll}
 use Rattle.text.specs.Lines.{joined}
@@ -119,15 +119,6 @@ grows_so HasNoPart Answers n limit some few has size before after loaded new lef
           (subst (λ (o : Option (List ℕ)). IfSome (begun_trunk (empty_table n) (length text) left o) (IsLedgerOf loaded)) (sym known) (trunk_begun n some few text loaded left loads)));
     }
 
--- what follows of what is so of a success, where there is no other outcome
-pub match_so : {T E : Type 0} {P Q : T → Type 0} (r : Result T E) → ((x : T) → P x → Q x) → MatchResult r P (λ _. ⊥) → MatchResult r Q (λ _. ⊥)
-match_so (Ok x) f h = f x h
-match_so (Err e) f h = h
-
-pub match_out : {T E : Type 0} {P : T → Type 0} {Q : Type 0} (r : Result T E) → ((x : T) → P x → Q) → MatchResult r P (λ _. ⊥) → Q
-match_out (Ok x) f h = f x h
-match_out (Err e) f h = absurd h
-
 -- where each of the tables that are due is seen so, each that is due is
 pub none_seen : {T E : Type 0} (IsSeen IsDue : Packed → Type 0) (due : List Packed) (r : Result T E) → AreAll IsDue due → OnOk r (All IsSeen due) → OnOk r ((t : Packed) → IsDue t → IsSeen t)
 none_seen IsSeen IsDue due (Ok x) all h = λ t is. All-contains IsSeen due t h ((all.exact t).1 is)
@@ -144,11 +135,6 @@ pub if_no_tree : {T : Type 0} (has : Option (List ℕ)) (limit n : ℕ) (text : 
     → IfErr r (λ e. (fault : LoadFault) × LoadGives root text (Err fault) × (e ≡ ended_by_load fault)) → IfErr r (IsNoTrunk n has limit)
 if_no_tree has limit n text root (Ok x) first is h = tt
 if_no_tree has limit n text root (Err e) first is (fault, gives, ended) = inr (text, fault, first, subst (λ (p : Packed). LoadGives p text (Err fault)) is gives, ended)
-
--- what follows of what is so of a success, whatever would be so of another outcome
-pub match_to : {T E : Type 0} {P Q : T → Type 0} (R : E → Type 0) (r : Result T E) → ((x : T) → P x → Q x) → MatchResult r P (λ _. ⊥) → MatchResult r Q R
-match_to R (Ok x) f h = f x h
-match_to R (Err e) f h = absurd h
 
 module _ (Sees : Packed → Result Bool Ended → Type 0) (Answers : Packed → Recorded → Type 0) (HasFailed : Type 0) (n limit : ℕ) (e : Ended) (has : Option (List ℕ)) (size : ℕ) (before after : Option (List ℕ)) (loaded : Contents) (left : Left) (bytes : ℕ) where
   -- a trunk that was loaded isn't grown: the looking for parts ended

@@ -14,12 +14,13 @@ use Rattle.ledger.specs.declared.left.Left.{Left}
 use Rattle.ledger.specs.declared.left.Left.TheVariants.{Nothing, From}
 use Rattle.ledger.specs.declared.status.Status.{Status}
 use Rattle.wire.specs.Device.{grown}
+use Rattle.cmd_ledgers.specs.AtPath.{FailsWriting}
 use Rattle.cmd_ledgers.specs.LedgerReport.{outcome_by}
 use Rattle.cmd_ledgers.specs.Reading.{EndsReading, IsLoadedFrom}
 use Rattle.cmd_options.specs.declared.stopped.Stopped.TheVariants.{Ended as EndedBy}
 use Rattle.cmd_options.specs.Outcome.{ended_line}
 use Rattle.cmd_options.specs.declared.ended.Ended.{Ended}
-use Rattle.cmd_options.specs.declared.ended.Ended.TheVariants.{BadHeader, WrongRoot}
+use Rattle.cmd_options.specs.declared.ended.Ended.TheVariants.{BadHeader, WrongRoot, Stream, File, OutInFolder, NoMemory}
 use Rattle.cmd_options.specs.declared.outcome.Outcome.{Outcome}
 use Rattle.cmd_options.specs.declared.outcome.Outcome.TheVariants.{Refused}
 use Rattle.parts.specs.Parts.{AreParts, joined_with}
@@ -119,3 +120,39 @@ pub record TellsAll (IsText : Packed → List Recorded → Left → List ℕ →
   pub tells : TellsParts IsText trunk parts (is_silent lines) said new_said o
   pub warns : Appends faults new_faults lines
   pub writes : after ≡ grown before (ledger_text trunk.root (joined_with trunk.records parts))
+
+-- there is no memory, or a file can't be read
+abbrev pub FailsFile : Ended → Type 0
+FailsFile e = (e ≡ NoMemory) ⊎ (e ≡ File)
+
+-- what may end the telling at any part: that; or the one ledger fails, or a stream
+abbrev pub FailsAny : Ended → Type 0
+FailsAny e = (FailsFile e ⊎ FailsWriting e) ⊎ (e ≡ Stream)
+
+-- the trunk's ledger has no root, or one that isn't in order
+abbrev pub HasNoTrunk : Findings → List ℕ → Ended → Type 0
+HasNoTrunk Finds path e = (has : Option (List ℕ)) × (size : ℕ) × Finds path (Some (has, size)) × ((e ≡ BadHeader) ⊎ (e ≡ WrongRoot)) × EndsReading has size (EndedBy e)
+
+-- why a trunk and its parts aren't told of: something fails, the trunk has no root in order, or the one ledger stands among them
+abbrev pub EndsJoining : Findings → List ℕ → Ended → Type 0
+EndsJoining Finds folder e = FailsAny e ⊎ (HasNoTrunk Finds (path_within folder (codes "trunk")) e ⊎ (e ≡ OutInFolder))
+
+-- what is wrong with the trunk that a folder holds and with the first of its parts is said
+pub record SaysFirst (Finds : Findings) (folder : List ℕ) (faults new_faults : Option (List ℕ)) : Type 0 where
+  pub trunk : Contents
+  pub left : Left
+  pub reads : IsReadAt Finds (path_within folder (codes "trunk")) trunk left
+  pub met : List Packed
+  pub later : List Packed
+  pub are_open : AreAll (IsOpenOn trunk) (met ++ later)
+  pub parts : List Contents
+  pub said : List ℕ
+  pub are_met : AreMet Finds folder met parts said
+  pub says : Appends faults new_faults (left_line (path_within folder (codes "trunk")) left ++ said)
+
+-- the telling ends early: no report is written, and whole lines are said, those of the trunk and of the first parts; unless a
+-- stream failed
+pub record EndsTelling (Finds : Findings) (folder : List ℕ) (e : Ended) (said new_said faults new_faults : Option (List ℕ)) : Type 0 where
+  pub why : EndsJoining Finds folder e
+  pub untold : (new_said ≡ said) ⊎ (e ≡ Stream)
+  pub warns : ((new_faults ≡ faults) ⊎ SaysFirst Finds folder faults new_faults) ⊎ (e ≡ Stream)

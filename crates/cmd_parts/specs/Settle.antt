@@ -6,19 +6,12 @@ use Rattle.cert.specs.Claim.{Recorded}
 use Rattle.ledger.specs.Contents.{Contents, IsOpenOn}
 use Rattle.ledger.specs.Tally.{IsTally}
 use Rattle.ledger.specs.declared.left.Left.{Left}
-use Rattle.ledger.specs.declared.left.Left.TheVariants.{Nothing, From}
 use Rattle.ledger.specs.declared.tally.Tally.{Tally}
-use Rattle.wire.specs.Device.{shortened}
-use Rattle.cmd_ledgers.specs.LedgerReport.{EndsLedger}
-use Rattle.cmd_ledgers.specs.Reading.{AreFirstBytes, IsLoadedFrom}
+use Rattle.cmd_ledgers.specs.GoingOn.{EndsLoading, FailsCut, kept_part}
+use Rattle.cmd_ledgers.specs.Reading.{IsLoadedFrom}
 use Rattle.cmd_options.specs.declared.ended.Ended.{Ended}
 use Rattle.cmd_options.specs.declared.ended.Ended.TheVariants.{Ledger, NoMemory, Stream}
 use Rattle.cmd_parts.specs.Settling.{ComesFirst, EndsSettling, SettlesMany}
-
--- a ledger's text, where it is known, that is cut to what was kept of it
-abbrev pub kept_part : Left → Option (List ℕ) → Option (List ℕ)
-kept_part Nothing text = text
-kept_part (From line kept why) text = shortened kept text
 
 -- the line that says how many tables were settled, and how many holdouts there are
 abbrev pub settled_text : ℕ → ℕ → List ℕ
@@ -42,18 +35,6 @@ pub record SettlesLedger (Answers : Packed → Recorded → Type 0) (has : Optio
   pub loads : IsLoadedFrom has limit loaded left
   pub settles : SettlesWhole Answers loaded left before after told
   pub says : Appends said new_said told
-
--- a ledger that is to be written can't be opened, or a read of it failed
-abbrev pub FailsReading : Ended → Type 0
-FailsReading e = (e ≡ NoMemory) ⊎ (e ≡ Ledger)
-
--- why it isn't loaded: that, or there is a reason in the first bytes that a reader has
-abbrev pub EndsLoading : Option (List ℕ) → ℕ → Ended → Type 0
-EndsLoading has limit e = FailsReading e ⊎ ((text : List ℕ) × AreFirstBytes has limit text × EndsLedger text e)
-
--- the ledger failed as it was cut to what was kept of it: it is as it was, or cut
-abbrev pub FailsCut : Left → Ended → Option (List ℕ) → Option (List ℕ) → Type 0
-FailsCut left e before after = (e ≡ Ledger) × ((after ≡ before) ⊎ (after ≡ kept_part left before))
 
 -- all is settled, but to say so a stream failed, or memory was refused before anything was said
 abbrev pub EndsSaying : (Packed → Recorded → Type 0) → Ended → Contents → Left → Option (List ℕ) → Option (List ℕ) → Option (List ℕ) → Option (List ℕ) → Type 0

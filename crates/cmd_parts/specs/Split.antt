@@ -1,12 +1,10 @@
 -- A tree that is split: a trunk, whose tables of few entries are settled, and a ledger for each table that it leaves open.
 use Rattle.std.specs.Prelude.{◌≡◌, ◌⊎◌, ℕ, ◌-◌, ◌≤◌, Bool, true, false, nat_lt, ◌==◌, if◌then◌else◌, List, [], ◌∷◌, ◌++◌, length, Option, Some, None, IfSome, Result, Ok, Err, codes, decimal}
-use Rattle.std.specs.Io.KnownBytes.{Appends}
 use Rattle.machine_text.specs.Packed.{Packed, empty_table}
 use Rattle.machine_text.specs.Text.{text_of}
 use Rattle.cert.specs.Claim.{Recorded}
 use Rattle.ledger.specs.Contents.{Contents, IsOpenOn}
 use Rattle.ledger.specs.LedgerText.{IsLedgerOf, LoadGives}
-use Rattle.ledger.specs.Tally.{IsTally}
 use Rattle.ledger.specs.Versions.{header_words}
 use Rattle.ledger.specs.declared.format.Format.TheVariants.{Two}
 use Rattle.ledger.specs.declared.faults.LoadFault.{LoadFault}
@@ -18,7 +16,7 @@ use Rattle.cmd_ledgers.specs.Faults.{ended_by_load}
 use Rattle.cmd_ledgers.specs.Reading.{AreFirstBytes}
 use Rattle.cmd_options.specs.declared.ended.Ended.{Ended}
 use Rattle.cmd_options.specs.declared.ended.Ended.TheVariants.{HasPart, Ledger, NoMemory}
-use Rattle.cmd_parts.specs.Settle.{FailsReading, kept_part}
+use Rattle.cmd_ledgers.specs.GoingOn.{FailsReading, kept_part}
 use Rattle.cmd_parts.specs.Settling.{EndsSettling, IsOpenBelow, SettlesMany, filled_count}
 
 -- the path of a ledger in a folder
@@ -101,12 +99,3 @@ EndsTrunk Sees Answers HasFailed n limit e has size before after =
 -- the line that says how many records the trunk has, and how many parts there are
 abbrev pub split_text : Tally → List ℕ
 split_text tally = codes "trunk " ++ decimal (tally.nodes - tally.open_count) ++ codes " parts " ++ decimal tally.open_count ++ 10 ∷ []
-
--- the tree of n states is split, and it is told: no open table of the trunk has fewer filled entries than so many
-pub record SplitsTree (n limit : ℕ) (said new_said : Option (List ℕ)) : Type 0 where
-  pub trunk : Contents
-  pub root : trunk.root ≡ empty_table n
-  pub none_below : (t : Packed) → IsOpenOn trunk t → limit ≤ filled_count t
-  pub tally : Tally
-  pub counted : IsTally trunk.root trunk.records tally
-  pub says : Appends said new_said (split_text tally)

@@ -1,5 +1,5 @@
 -- For the code: tables with few filled entries, and parts that are added to a whole one after another.
-use Rattle.std.specs.Prelude.{◌≡◌, ℕ, Bool, List, Option, None, Some, Ok, nat_lt}
+use Rattle.std.specs.Prelude.{◌≡◌, ◌⊎◌, ℕ, Bool, List, ◌++◌, Option, None, Some, Ok, nat_lt}
 use Rattle.std.specs.Io.KnownBytes.{Appends}
 use Rattle.machine_text.specs.Packed.{Packed}
 use Rattle.ledger.specs.Contents.{Contents}
@@ -7,7 +7,9 @@ use Rattle.ledger.specs.LedgerText.{ledger_text}
 use Rattle.wire.specs.Device.{grown}
 use Rattle.parts.specs.Parts.{joined_with}
 use Rattle.parts.specs.Whole.{AddGives, Collected, IsWhole}
-use Rattle.cmd_parts.specs.Join.{AreMet, Findings, HoldsTree, is_silent, record_lines}
+use Rattle.cmd_options.specs.declared.ended.Ended.{Ended}
+use Rattle.cmd_options.specs.declared.ended.Ended.TheVariants.{Stream}
+use Rattle.cmd_parts.specs.Join.{AreMet, EndsJoining, FailsAny, Findings, HoldsTree, SaysFirst, is_silent, record_lines}
 use Rattle.cmd_parts.specs.Settling.{filled_count}
 
 abbrev pub is_below : ℕ → Packed → Bool
@@ -48,3 +50,23 @@ pub record IsGathered (Finds : Findings) (folder : List ℕ) (whole : Collected)
   pub sound : is_sound ≡ is_silent lines
   pub says : Appends faults new_faults lines
   pub writes : after ≡ grown before (ledger_text whole.trunk.root (joined_with whole.trunk.records parts))
+
+-- why a part isn't met: something fails, and nothing is said, unless it is a stream
+abbrev pub EndsPart : Ended → Option (List ℕ) → Option (List ℕ) → Type 0
+EndsPart e faults new_faults = FailsAny e × ((new_faults ≡ faults) ⊎ (e ≡ Stream))
+
+-- why those of these roots aren't added: something fails, and what is wrong with the first ones is said
+pub record EndsAdding (Finds : Findings) (folder : List ℕ) (roots : List Packed) (e : Ended) (faults new_faults : Option (List ℕ)) : Type 0 where
+  pub met : List Packed
+  pub later : List Packed
+  pub are_all : roots ≡ met ++ later
+  pub parts : List Contents
+  pub lines : List ℕ
+  pub are_met : AreMet Finds folder met parts lines
+  pub why : FailsAny e
+  pub says : Appends faults new_faults lines ⊎ (e ≡ Stream)
+
+-- why what a folder holds isn't gathered, and what is said before
+pub record EndsGathering (Finds : Findings) (folder : List ℕ) (e : Ended) (faults new_faults : Option (List ℕ)) : Type 0 where
+  pub why : EndsJoining Finds folder e
+  pub warns : ((new_faults ≡ faults) ⊎ SaysFirst Finds folder faults new_faults) ⊎ (e ≡ Stream)

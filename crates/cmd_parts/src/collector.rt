@@ -10,21 +10,24 @@ use wire::{LedgerOut, append_all};
 
 /// Where the one ledger of a trunk and its parts goes, board for board.
 pub trait Collector {
-    ghost use Rattle.std.specs.Prelude.{◌≡◌, List, ℕ, Option, OnOk};
+    ghost use Rattle.std.specs.Prelude.{◌≡◌, List, ℕ, Option, IfErr, OnOk};
     ghost use Rattle.ledger.specs.LedgerText.{ledger_text};
     ghost use Rattle.wire.specs.Device.{grown};
+    ghost use Rattle.cmd_ledgers.specs.AtPath.{FailsWriting};
     ghost use Rattle.cmd_parts.specs.Join.{record_lines};
 
     /// The ledger's text, where it is known.
     ghost text: { Self → Option (List ℕ) };
 
-    /// Begins with the ledger of the trunk.
+    /// Begins with the ledger of the trunk. Errors: `NoMemory`, or `Ledger` where it fails.
     fn begin(&mut self, alloc: Global, trunk: &Board) -> Result<(), Ended>
-        ensures { OnOk result (text self.new ≡ grown (text self.old) (ledger_text trunk.now.root trunk.now.records)) };
+        ensures ok { OnOk result (text self.new ≡ grown (text self.old) (ledger_text trunk.now.root trunk.now.records)) }
+        ensures err { IfErr result FailsWriting };
 
-    /// Adds the lines of a part.
+    /// Adds the lines of a part. Errors: the same.
     fn add(&mut self, alloc: Global, part: &Board) -> Result<(), Ended>
-        ensures { OnOk result (text self.new ≡ grown (text self.old) (record_lines part.now.records)) };
+        ensures ok { OnOk result (text self.new ≡ grown (text self.old) (record_lines part.now.records)) }
+        ensures err { IfErr result FailsWriting };
 }
 
 /// There is no such ledger.

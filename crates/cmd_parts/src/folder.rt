@@ -6,7 +6,7 @@ ghost use Rattle.ledger.specs.Contents.{IsOpenOn};
 ghost use Rattle.ledger.specs.Tally.{AreAll};
 ghost use Rattle.files.specs.Paths.{IsToldStill};
 ghost use Rattle.cmd_parts.specs.AtPaths.{AreBegunAt, IsBegunAt, IsPartBegun, IsSizeAt};
-ghost use Rattle.cmd_parts.specs.Settle.{FailsReading};
+ghost use Rattle.cmd_ledgers.specs.GoingOn.{FailsReading};
 ghost use Rattle.cmd_parts.specs.Split.{begun_part, path_within};
 
 use cmd_options::{Durability, Ended, LedgerFile, ended_by};

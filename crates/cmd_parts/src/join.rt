@@ -1,25 +1,29 @@
 // `bb join`: a trunk and the parts of its tree, told of as one ledger would be that holds the records of all.
-ghost use Rattle.std.specs.Prelude.{◌≡◌, ◌++◌, [], ℕ, Contains, IfOk, List, None, Ok, OnErr, OnOk, Option, Some, false, codes};
+ghost use Rattle.std.specs.Prelude.{◌≡◌, ◌⊎◌, ◌++◌, [], ℕ, Contains, IfErr, IfNone, IfOk, IfSome, List, Ok, OnOk, Option, Result, false, codes};
 ghost use Rattle.std.specs.Io.KnownBytes.{Appends};
 ghost use Rattle.machine_text.specs.Text.{text_of};
 ghost use Rattle.ledger.specs.Contents.{Contents, IsOpenOn};
 ghost use Rattle.ledger.specs.Tally.{AreAll};
 ghost use Rattle.ledger.specs.declared.left.Left.TheVariants.{Nothing};
+ghost use Rattle.cmd_options.specs.declared.outcome.Outcome.{Outcome as Outcomes};
+ghost use Rattle.cmd_options.specs.declared.ended.Ended.{Ended as Ends};
+ghost use Rattle.cmd_options.specs.Ends.{EndsTold};
+ghost use Rattle.cmd_ledgers.specs.AtPath.{FailsWriting};
 ghost use Rattle.cmd_ledgers.specs.Told.{IsToldOf};
 ghost use Rattle.wire.specs.Device.{grown};
 ghost use Rattle.parts.specs.Parts.{joined_with};
 ghost use Rattle.parts.specs.Whole.{AddGives, IsWhole};
-ghost use Rattle.files.specs.Paths.{IsBlank, IsKept, IsKeptBut, IsPut};
-ghost use Rattle.cmd_parts.specs.AtPaths.{finds_at};
+ghost use Rattle.files.specs.Paths.{IsBlank, IsKeptBut};
+ghost use Rattle.cmd_parts.specs.AtPaths.{JoinsAt, JoinsInto, finds_at};
 ghost use Rattle.cmd_parts.specs.Split.{path_within};
-ghost use Rattle.cmd_parts.specs.Join.{IsMet, IsMetAs, IsMetIn, IsReadAt, TellsAll, TellsParts, ended_by, is_silent, left_line, line_behind, record_lines};
-ghost use Rattle.cmd_parts.specs.inside.{AreAdded, IsGathered, MeetsPart};
+ghost use Rattle.cmd_parts.specs.Join.{EndsTelling, FailsFile, HasNoTrunk, IsMet, IsMetAs, IsMetIn, IsReadAt, TellsAll, TellsParts, ended_by, is_silent, left_line, line_behind, record_lines};
+ghost use Rattle.cmd_parts.specs.inside.{AreAdded, EndsAdding, EndsGathering, EndsPart, IsGathered, MeetsPart};
 
 use crate::collector::{Collector, Nowhere, OneLedger};
 use crate::folder::{TRUNK, part_path, path_within};
 use crate::part_files::{Parts, PartsAt, Written};
 use cmd_ledgers::{ReportForm, Told, load_from, outcome_by, write_told};
-use cmd_options::{Ended, Joining, Outcome, Stopped, told};
+use cmd_options::{Ended, Joining, Outcome, Stopped, ended_by, told};
 use files::{Files, Opened, lock_ledger, made_for, put_at};
 use kind_evidence::NoMemory;
 use ledger::{Board, Left, Status};
@@ -33,7 +37,8 @@ use text::append_number;
 /// records of all. Where that is asked for, it writes that ledger too, in a new file beside it, `.new`, which is put in its
 /// place once the last part was judged; a ledger of the folder itself is refused for that before anything is written. A part
 /// that isn't there counts as an open table. What is wrong with a part is said on `faults` behind its path,
-/// and what is kept of it counts. Accepted where the report says complete and nothing was wrong.
+/// and what is kept of it counts. Accepted where the report says complete and nothing was wrong. What ends the command early
+/// is said on `faults` too.
 pub fn cmd_join<H: Files, P: ReportForm, W: Write, E: Write>(
     alloc: Global,
     form: &P,
@@ -41,7 +46,15 @@ pub fn cmd_join<H: Files, P: ReportForm, W: Write, E: Write>(
     host: &mut H,
     answers: &mut W,
     faults: &mut E,
-) -> Outcome {
+) -> Outcome
+    ensures alone { IfNone joining.now.out ((ended : Result Outcomes Ends) × (warned : Option (List ℕ))
+        × JoinsAt (P.is_text form.now) joining.now.folder.now (H.holds host.old) (H.holds host.new) (W.contents answers.old) (W.contents answers.new) (E.contents faults.old) warned ended
+        × EndsTold ended warned (E.contents faults.new) result) }
+    ensures into { IfSome joining.now.out (λ out. (ended : Result Outcomes Ends) × (warned : Option (List ℕ))
+        × JoinsInto (P.is_text form.now) (H.locks out.now) (H.tells_same host.old) joining.now.folder.now out.now (H.holds host.old) (H.holds host.new)
+        (W.contents answers.old) (W.contents answers.new) (E.contents faults.old) warned ended
+        × EndsTold ended warned (E.contents faults.new) result) }
+{
     told(join_at(alloc, form, joining, host, answers, faults), faults)
 }
 
@@ -53,7 +66,12 @@ pub fn join_at<H: Files, P: ReportForm, W: Write, E: Write>(
     host: &mut H,
     answers: &mut W,
     faults: &mut E,
-) -> Result<Outcome, Ended> {
+) -> Result<Outcome, Ended>
+    ensures alone { IfNone joining.now.out (JoinsAt (P.is_text form.now) joining.now.folder.now (H.holds host.old) (H.holds host.new)
+        (W.contents answers.old) (W.contents answers.new) (E.contents faults.old) (E.contents faults.new) result) }
+    ensures into { IfSome joining.now.out (λ out. JoinsInto (P.is_text form.now) (H.locks out.now) (H.tells_same host.old) joining.now.folder.now out.now
+        (H.holds host.old) (H.holds host.new) (W.contents answers.old) (W.contents answers.new) (E.contents faults.old) (E.contents faults.new) result) }
+{
     match joining.out {
         Some(out) => join_into(alloc, form, joining.folder, out, host, answers, faults),
         None => join_alone(alloc, form, joining.folder, host, answers, faults),
@@ -69,7 +87,8 @@ fn join_alone<H: Files, P: ReportForm, W: Write, E: Write>(
     answers: &mut W,
     faults: &mut E,
 ) -> Result<Outcome, Ended>
-    ensures { IfOk result (TellsAll (P.is_text form.now) (finds_at (H.holds host.now)) folder.now None None (W.contents answers.old) (W.contents answers.new) (E.contents faults.old) (E.contents faults.new)) }
+    ensures { JoinsAt (P.is_text form.now) folder.now (H.holds host.now) (H.holds host.now)
+        (W.contents answers.old) (W.contents answers.new) (E.contents faults.old) (E.contents faults.new) result }
 {
     let parts = PartsAt {
         host,
@@ -90,10 +109,8 @@ pub fn join_into<H: Files, P: ReportForm, W: Write, E: Write>(
     faults: &mut E,
 ) -> Result<Outcome, Ended>
     ensures others { IsKeptBut (H.tells_same host.old) out.now (H.holds host.old) (H.holds host.new) }
-    ensures ok { IfOk result (λ o. (begun text : Option (List ℕ)) × IsBlank begun
-        × TellsAll (P.is_text form.now) (finds_at (H.holds host.old)) folder.now begun text (W.contents answers.old) (W.contents answers.new) (E.contents faults.old) (E.contents faults.new) o
-        × IsPut (H.tells_same host.old) out.now text (H.holds host.old) (H.holds host.new)) }
-    ensures err { OnErr result (IsKept (H.holds host.old) (H.holds host.new)) }
+    ensures joins { JoinsInto (P.is_text form.now) (H.locks out.now) (H.tells_same host.old) folder.now out.now (H.holds host.old) (H.holds host.new)
+        (W.contents answers.old) (W.contents answers.new) (E.contents faults.old) (E.contents faults.new) result }
 {
     let _lock = lock_ledger(host, out)?;
     let (made, outcome) = joined(alloc, form, folder, out, host, answers, faults)?;
@@ -111,8 +128,10 @@ fn joined<H: Files, P: ReportForm, W: Write, E: Write>(
     answers: &mut W,
     faults: &mut E,
 ) -> Result<(H::Made, Outcome), Ended>
-    ensures { IfOk result (λ j. (begun : Option (List ℕ)) × IsBlank begun
+    ensures ok { IfOk result (λ j. (begun : Option (List ℕ)) × IsBlank begun
         × TellsAll (P.is_text form.now) (finds_at (H.holds host.now)) folder.now begun (H.Made.text j.0) (W.contents answers.old) (W.contents answers.new) (E.contents faults.old) (E.contents faults.new) j.1) }
+    ensures err { IfErr result (λ e. (FailsWriting e × (W.contents answers.new ≡ W.contents answers.old) × (E.contents faults.new ≡ E.contents faults.old))
+        ⊎ EndsTelling (finds_at (H.holds host.now)) folder.now e (W.contents answers.old) (W.contents answers.new) (E.contents faults.old) (E.contents faults.new)) }
 {
     let mut one = OneLedger {
         ledger: made_for(host, out, &[])?,
@@ -137,7 +156,8 @@ fn join_beside<'a, H: Files, P: ReportForm, C: Collector, W: Write, E: Write>(
     answers: &mut W,
     faults: &mut E,
 ) -> Result<Outcome, Ended>
-    ensures { IfOk result (TellsAll (P.is_text form.now) (finds_at (H.holds host.now)) folder.now (C.text collector.old) (C.text collector.new) (W.contents answers.old) (W.contents answers.new) (E.contents faults.old) (E.contents faults.new)) }
+    ensures ok { IfOk result (TellsAll (P.is_text form.now) (finds_at (H.holds host.now)) folder.now (C.text collector.old) (C.text collector.new) (W.contents answers.old) (W.contents answers.new) (E.contents faults.old) (E.contents faults.new)) }
+    ensures err { IfErr result (λ e. EndsTelling (finds_at (H.holds host.now)) folder.now e (W.contents answers.old) (W.contents answers.new) (E.contents faults.old) (E.contents faults.new)) }
 {
     let parts = PartsAt {
         host,
@@ -148,7 +168,8 @@ fn join_beside<'a, H: Files, P: ReportForm, C: Collector, W: Write, E: Write>(
 
 /// Prints the report of the trunk in a folder and of its parts, and collects the one ledger of all. The parts are those of
 /// the trunk's open tables, in the order of their texts. What is wrong with the trunk or a part is said on `faults` behind its
-/// path. Accepted where the report says complete and nothing was wrong.
+/// path. Accepted where the report says complete and nothing was wrong. Where it ends early no report is printed, and what was
+/// said stays said, in whole lines, unless a stream failed.
 pub fn join_parts<S: Parts, P: ReportForm, C: Collector, W: Write, E: Write>(
     alloc: Global,
     form: &P,
@@ -158,7 +179,8 @@ pub fn join_parts<S: Parts, P: ReportForm, C: Collector, W: Write, E: Write>(
     answers: &mut W,
     faults: &mut E,
 ) -> Result<Outcome, Ended>
-    ensures { IfOk result (TellsAll (P.is_text form.now) (S.finds parts.now) folder.now (C.text collector.old) (C.text collector.new) (W.contents answers.old) (W.contents answers.new) (E.contents faults.old) (E.contents faults.new)) }
+    ensures tells { IfOk result (TellsAll (P.is_text form.now) (S.finds parts.now) folder.now (C.text collector.old) (C.text collector.new) (W.contents answers.old) (W.contents answers.new) (E.contents faults.old) (E.contents faults.new)) }
+    ensures ended { IfErr result (λ e. EndsTelling (S.finds parts.now) folder.now e (W.contents answers.old) (W.contents answers.new) (E.contents faults.old) (E.contents faults.new)) }
 {
     let (whole, is_sound) = gather(alloc, folder, parts, collector, faults)?;
     tell_whole(alloc, form, &whole, is_sound, answers)
@@ -172,7 +194,8 @@ fn gather<S: Parts, C: Collector, E: Write>(
     collector: &mut C,
     faults: &mut E,
 ) -> Result<(Whole, bool), Ended>
-    ensures { IfOk result (λ gathered. IsGathered (S.finds parts.now) folder.now gathered.0 gathered.1 (C.text collector.old) (C.text collector.new) (E.contents faults.old) (E.contents faults.new)) }
+    ensures ok { IfOk result (λ gathered. IsGathered (S.finds parts.now) folder.now gathered.0 gathered.1 (C.text collector.old) (C.text collector.new) (E.contents faults.old) (E.contents faults.new)) }
+    ensures err { IfErr result (λ e. EndsGathering (S.finds parts.now) folder.now e (E.contents faults.old) (E.contents faults.new)) }
 {
     let path = path_within(alloc, folder, TRUNK)?;
     let (trunk, left) = trunk_at(alloc, parts, &path)?;
@@ -192,7 +215,9 @@ fn spare<S: Parts>(
     folder: &str,
     trunk: &str,
     roots: &[Table],
-) -> Result<(), Ended> {
+) -> Result<(), Ended>
+    ensures { IfErr result (λ e. (e ≡ Ended.OutInFolder) ⊎ FailsFile e) }
+{
     if parts.is_written(trunk)? {
         return Err(Ended::OutInFolder);
     }
@@ -216,7 +241,8 @@ fn add_parts<S: Parts, C: Collector, E: Write>(
 ) -> Result<bool, Ended>
     requires all { AreAll (IsOpenOn whole.old.trunk) roots.now }
     requires none { IsWhole whole.old [] }
-    ensures { IfOk result (λ sound. AreAdded (S.finds parts.now) folder.now roots.now whole.old.trunk whole.new sound (C.text collector.old) (C.text collector.new) (E.contents faults.old) (E.contents faults.new)) }
+    ensures ok { IfOk result (λ sound. AreAdded (S.finds parts.now) folder.now roots.now whole.old.trunk whole.new sound (C.text collector.old) (C.text collector.new) (E.contents faults.old) (E.contents faults.new)) }
+    ensures err { IfErr result (λ e. EndsAdding (S.finds parts.now) folder.now roots.now e (E.contents faults.old) (E.contents faults.new)) }
 {
     let mut are_sound = true;
     for root in roots {
@@ -235,7 +261,8 @@ fn tell_whole<P: ReportForm, W: Write>(
     is_sound: bool,
     answers: &mut W,
 ) -> Result<Outcome, Ended>
-    ensures { IfOk result (λ o. (parts : List Contents) → IsWhole whole.now parts → TellsParts (P.is_text form.now) whole.now.trunk parts is_sound (W.contents answers.old) (W.contents answers.new) o) }
+    ensures ok { IfOk result (λ o. (parts : List Contents) → IsWhole whole.now parts → TellsParts (P.is_text form.now) whole.now.trunk parts is_sound (W.contents answers.old) (W.contents answers.new) o) }
+    ensures err { IfErr result (λ e. ((e ≡ Ended.NoMemory) × (W.contents answers.new ≡ W.contents answers.old)) ⊎ (e ≡ Ended.Stream)) }
 {
     let status = whole.status();
     write_told(alloc, form, told_of(whole)?, &Left::Nothing, answers)?;
@@ -255,12 +282,14 @@ fn outcome_of(status: Status, is_sound: bool) -> Outcome
 
 // The board of the trunk's ledger, which has to be there, and what of it wasn't kept.
 fn trunk_at<S: Parts>(alloc: Global, parts: &S, path: &str) -> Result<(Board, Left), Ended>
-    ensures { IfOk result (λ l. IsReadAt (S.finds parts.now) path.now l.0 l.1) }
+    ensures ok { IfOk result (λ l. IsReadAt (S.finds parts.now) path.now l.0 l.1) }
+    ensures err { IfErr result (λ e. FailsFile e ⊎ HasNoTrunk (S.finds parts.now) path.now e) }
 {
     match parts.open(path)? {
         Some(mut file) => match load_from(alloc, &mut file.reader, file.length) {
             Ok(loaded) => Ok(loaded),
-            Err(stopped) => Err(stopped.ended(Ended::File)),
+            Err(Stopped::Failed(fault)) => Err(ended_by(&fault, Ended::File)),
+            Err(Stopped::Ended(ended)) => Err(ended),
         },
         None => Err(Ended::File),
     }
@@ -288,7 +317,8 @@ fn join_part<S: Parts, C: Collector, E: Write>(
     faults: &mut E,
 ) -> Result<bool, Ended>
     requires { IsOpenOn whole.old.trunk root.now × (Contains whole.old.roots root.now → ⊥) }
-    ensures { IfOk result (λ sound. MeetsPart (IsMet (S.finds parts.now) folder.now root.now) sound whole.old whole.new (C.text collector.old) (C.text collector.new) (E.contents faults.old) (E.contents faults.new)) }
+    ensures ok { IfOk result (λ sound. MeetsPart (IsMet (S.finds parts.now) folder.now root.now) sound whole.old whole.new (C.text collector.old) (C.text collector.new) (E.contents faults.old) (E.contents faults.new)) }
+    ensures err { IfErr result (λ e. EndsPart e (E.contents faults.old) (E.contents faults.new)) }
 {
     let path = part_path(alloc, folder, root)?;
     match parts.open(&path)? {
@@ -308,7 +338,8 @@ fn add_read<F: Read + Drop, C: Collector, E: Write>(
     faults: &mut E,
 ) -> Result<bool, Ended>
     requires { IsOpenOn whole.old.trunk root.now × (Contains whole.old.roots root.now → ⊥) }
-    ensures { IfOk result (λ sound. MeetsPart (IsMetIn (F.remaining file.reader) file.length path.now root.now) sound whole.old whole.new (C.text collector.old) (C.text collector.new) (E.contents faults.old) (E.contents faults.new)) }
+    ensures ok { IfOk result (λ sound. MeetsPart (IsMetIn (F.remaining file.reader) file.length path.now root.now) sound whole.old whole.new (C.text collector.old) (C.text collector.new) (E.contents faults.old) (E.contents faults.new)) }
+    ensures err { IfErr result (λ e. EndsPart e (E.contents faults.old) (E.contents faults.new)) }
 {
     match load_from(alloc, &mut file.reader, file.length) {
         Ok((part, left)) => {
@@ -316,7 +347,8 @@ fn add_read<F: Read + Drop, C: Collector, E: Write>(
         }
         Err(Stopped::Ended(Ended::BadHeader)) => says(alloc, path, b"refused 404", faults),
         Err(Stopped::Ended(Ended::WrongRoot)) => says(alloc, path, b"refused 405", faults),
-        Err(stopped) => Err(stopped.ended(Ended::File)),
+        Err(Stopped::Ended(ended)) => Err(ended),
+        Err(Stopped::Failed(fault)) => Err(ended_by(&fault, Ended::File)),
     }
 }
 
@@ -332,7 +364,8 @@ fn add_loaded<C: Collector, E: Write>(
     faults: &mut E,
 ) -> Result<bool, Ended>
     requires { IsOpenOn whole.old.trunk root.now × (Contains whole.old.roots root.now → ⊥) }
-    ensures { IfOk result (λ sound. MeetsPart (IsMetAs part.now left.now path.now root.now) sound whole.old whole.new (C.text collector.old) (C.text collector.new) (E.contents faults.old) (E.contents faults.new)) }
+    ensures ok { IfOk result (λ sound. MeetsPart (IsMetAs part.now left.now path.now root.now) sound whole.old whole.new (C.text collector.old) (C.text collector.new) (E.contents faults.old) (E.contents faults.new)) }
+    ensures err { IfErr result (λ e. EndsPart e (E.contents faults.old) (E.contents faults.new)) }
 {
     if *part.root() != *root {
         return says(alloc, path, b"refused 406", faults);
@@ -349,7 +382,8 @@ fn add<C: Collector>(
     collector: &mut C,
 ) -> Result<(), Ended>
     requires { IsOpenOn whole.old.trunk part.now.root × (Contains whole.old.roots part.now.root → ⊥) }
-    ensures { OnOk result (AddGives whole.old part.now (Ok tt) whole.new × (C.text collector.new ≡ grown (C.text collector.old) (record_lines part.now.records))) }
+    ensures ok { OnOk result (AddGives whole.old part.now (Ok tt) whole.new × (C.text collector.new ≡ grown (C.text collector.old) (record_lines part.now.records))) }
+    ensures err { IfErr result FailsWriting }
 {
     match whole.add(part) {
         Ok(()) => collector.add(alloc, part),
@@ -366,7 +400,8 @@ fn says_left<E: Write>(
     left: &Left,
     faults: &mut E,
 ) -> Result<bool, Ended>
-    ensures { IfOk result (λ sound. (sound ≡ is_silent (left_line path.now left.now)) × Appends (E.contents faults.old) (E.contents faults.new) (left_line path.now left.now)) }
+    ensures ok { IfOk result (λ sound. (sound ≡ is_silent (left_line path.now left.now)) × Appends (E.contents faults.old) (E.contents faults.new) (left_line path.now left.now)) }
+    ensures err { IfErr result (λ e. EndsPart e (E.contents faults.old) (E.contents faults.new)) }
 {
     match left {
         Left::Nothing => Ok(true),
@@ -381,7 +416,8 @@ fn says_left<E: Write>(
 
 // Says behind a path what is wrong there; so all isn't sound.
 fn says<E: Write>(alloc: Global, path: &str, what: &[u8], faults: &mut E) -> Result<bool, Ended>
-    ensures { IfOk result (λ sound. (sound ≡ false) × Appends (E.contents faults.old) (E.contents faults.new) (line_behind path.now what.now)) }
+    ensures ok { IfOk result (λ sound. (sound ≡ false) × Appends (E.contents faults.old) (E.contents faults.new) (line_behind path.now what.now)) }
+    ensures err { IfErr result (λ e. EndsPart e (E.contents faults.old) (E.contents faults.new)) }
 {
     let mut line = Vec::new(alloc);
     line.extend_from_slice(path.as_bytes())?;

@@ -10,7 +10,6 @@ mod collector;
 mod folder;
 mod join;
 mod part_files;
-mod reading;
 mod settle;
 mod settle_at;
 mod settling;

@@ -1,5 +1,6 @@
 // Where the ledgers of a trunk and its parts are read.
-ghost use Rattle.std.specs.Prelude.{◌≡◌, ◌⊎◌, IfErr, IfOk, Ok};
+ghost use Rattle.std.specs.Prelude.{IfErr, IfOk, Ok};
+ghost use Rattle.cmd_parts.specs.Join.{FailsFile};
 
 use cmd_options::{Ended, ended_by};
 use files::{Files, Opened};
@@ -7,22 +8,23 @@ use std::io::{ErrorKind, Read};
 
 /// Where the ledgers of a trunk and its parts are read, each by its path.
 pub trait Parts {
-    ghost use Rattle.std.specs.Prelude.{◌≡◌, ◌⊎◌, ℕ, IfErr, IfOk, List, Option, option_map};
-    ghost use Rattle.cmd_options.specs.declared.ended.Ended.TheVariants.{File as FailedFile, NoMemory as WantsMemory};
+    ghost use Rattle.std.specs.Prelude.{ℕ, IfErr, IfOk, List, Option, option_map};
+    ghost use Rattle.cmd_parts.specs.Join.{FailsFile};
 
     type File: Read + Drop;
 
     /// What may be found at a path: nothing; or a ledger, with what its reader has, where that is known, and its length.
     ghost finds: { Self → List ℕ → Option (Option (List ℕ) × ℕ) → Type 0 };
 
-    /// Opens the ledger at a path; none where nothing is there.
+    /// Opens the ledger at a path; none where nothing is there. Errors: `File` where it can't be opened, `NoMemory`.
     fn open(&self, path: &str) -> Result<Option<Opened<Self::File>>, Ended>
-        ensures { IfOk result (λ found. finds self.now path.now (option_map (λ file. (Self.File.remaining file.reader, file.length)) found)) };
+        ensures ok { IfOk result (λ found. finds self.now path.now (option_map (λ file. (Self.File.remaining file.reader, file.length)) found)) }
+        ensures err { IfErr result FailsFile };
 
     /// Whether the ledger at a path is the one that is to be written, or would be lost where that is made. Errors: a link there
     /// that can't be followed, refused memory.
     fn is_written(&self, path: &str) -> Result<bool, Ended>
-        ensures err { IfErr result (λ e. (e ≡ WantsMemory) ⊎ (e ≡ FailedFile)) };
+        ensures err { IfErr result FailsFile };
 }
 
 /// The files of a host.
@@ -74,7 +76,7 @@ impl<H: Files> Parts for PartsAt<'_, H> {
 // Whether the ledger at a path would be lost with a name.
 fn is_lost<H: Files>(host: &H, path: &str, name: &str) -> Result<bool, Ended>
     ensures ok { IfOk result (λ told. H.leads host.now path.now name.now (Ok told)) }
-    ensures err { IfErr result (λ e. (e ≡ Ended.NoMemory) ⊎ (e ≡ Ended.File)) }
+    ensures err { IfErr result FailsFile }
 {
     match host.leads_to(path, name) {
         Ok(told) => Ok(told),

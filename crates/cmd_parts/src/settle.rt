@@ -1,19 +1,19 @@
 // `bb settle`: a ledger is gone on with until no table of its board is open.
-ghost use Rattle.std.specs.Prelude.{◌≡◌, ◌≢◌, ◌++◌, IfErr, IfSome, MatchResult, OnOk, OnErr, List, ℕ};
+ghost use Rattle.std.specs.Prelude.{◌≡◌, ◌≢◌, ◌++◌, IfErr, IfSome, OnOk, List, ℕ};
 ghost use Rattle.std.specs.Io.KnownBytes.{Appends};
 ghost use Rattle.ledger.specs.LedgerText.{IsLedgerOf, ReadsIn};
 ghost use Rattle.cmd_ledgers.specs.Retry.{AtSomeTime};
-ghost use Rattle.cmd_parts.specs.Settle.{EndsLedgerAt, EndsWhole, FailsCut, FailsReading, SettlesLedger, SettlesWhole, kept_part, settled_text};
+ghost use Rattle.cmd_parts.specs.Settle.{EndsLedgerAt, EndsWhole, SettlesLedger, SettlesWhole, settled_text};
 
-use crate::reading::load_held;
 use crate::settling::settle_board;
 use cert::Decider;
+use cmd_ledgers::{cut_off, load_held};
 use cmd_options::Ended;
 use files::{Opened, Progress};
 use kind_evidence::NoMemory;
-use ledger::{Board, Left, Tally, kept_bytes_load};
+use ledger::{Board, Left, Tally};
 use std::alloc::Global;
-use std::io::{self, Read, Write};
+use std::io::{Read, Write};
 use text::append_number;
 use wire::LedgerOut;
 
@@ -22,25 +22,19 @@ use wire::LedgerOut;
 /// there are. `held` reads what the ledger holds. What ends it early leaves in the ledger what was settled before.
 pub fn settle_ledger<F: Read + Drop, L: LedgerOut, D: Decider, P: Progress, W: Write>(
     alloc: Global,
-    held: io::Result<Opened<F>>,
+    held: Opened<F>,
     ledger: &mut L,
     decider: &mut D,
     progress: &mut P,
     answers: &mut W,
 ) -> Result<(), Ended>
-    ensures settles { OnOk result (MatchResult held
-        (λ file. SettlesLedger (AtSomeTime D D.answers) (F.remaining file.reader) file.length (L.text ledger.old) (L.text ledger.new) (W.contents answers.old) (W.contents answers.new))
-        (λ fault. ⊥)) }
-    ensures ended { IfErr result (λ e. MatchResult held
-        (λ file. EndsLedgerAt (AtSomeTime D D.answers) (L.failures ledger.old ≢ L.failures ledger.new) e (F.remaining file.reader) file.length (L.text ledger.old) (L.text ledger.new) (W.contents answers.old) (W.contents answers.new))
-        (λ fault. FailsReading e × (L.text ledger.new ≡ L.text ledger.old) × (W.contents answers.new ≡ W.contents answers.old))) }
+    ensures settles { OnOk result (SettlesLedger (AtSomeTime D D.answers) (F.remaining held.reader) held.length
+        (L.text ledger.old) (L.text ledger.new) (W.contents answers.old) (W.contents answers.new)) }
+    ensures ended { IfErr result (λ e. EndsLedgerAt (AtSomeTime D D.answers) (L.failures ledger.old ≢ L.failures ledger.new) e
+        (F.remaining held.reader) held.length (L.text ledger.old) (L.text ledger.new) (W.contents answers.old) (W.contents answers.new)) }
 {
-    match load_held(alloc, held) {
-        Ok((mut board, left)) => {
-            settle_loaded(alloc, &mut board, &left, ledger, decider, progress, answers)
-        }
-        Err(ended) => Err(ended),
-    }
+    let (mut board, left) = load_held(alloc, held)?;
+    settle_loaded(alloc, &mut board, &left, ledger, decider, progress, answers)
 }
 
 // The same from the board of the ledger, and what of it wasn't kept.
@@ -64,22 +58,6 @@ fn settle_loaded<L: LedgerOut, D: Decider, P: Progress, W: Write>(
     append_settled(count, &board.tally(), &mut told)?;
     answers.write_all(&told)?;
     Ok(())
-}
-
-// Cuts off what wasn't kept of a ledger.
-pub(crate) fn cut_off<L: LedgerOut>(left: &Left, ledger: &mut L) -> Result<(), Ended>
-    ensures ok { OnOk result ((L.text ledger.new ≡ kept_part left.now (L.text ledger.old)) × (L.failures ledger.new ≡ L.failures ledger.old)) }
-    ensures err { IfErr result (λ e. FailsCut left.now e (L.text ledger.old) (L.text ledger.new)) }
-    ensures failed { OnErr result (L.failures ledger.old ≢ L.failures ledger.new) }
-{
-    let cut = match left {
-        Left::Nothing => Ok(()),
-        Left::From { kept, .. } => ledger.cut(*kept),
-    };
-    match cut {
-        Ok(()) => Ok(()),
-        Err(_) => Err(Ended::Ledger),
-    }
 }
 
 // Appends the line that says what was settled.

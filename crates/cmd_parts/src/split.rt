@@ -1,19 +1,24 @@
 // `bb split`: a trunk, and a ledger for each table that it leaves open.
-ghost use Rattle.std.specs.Prelude.{◌≡◌, ◌≤◌, ◌++◌, IfOk, List, Ok, OnOk, Some, codes};
+ghost use Rattle.std.specs.Prelude.{◌≡◌, ◌⊎◌, ◌≤◌, ◌++◌, IfErr, IfOk, List, ℕ, OnOk, Option, Result, codes};
 ghost use Rattle.std.specs.Io.KnownBytes.{Appends};
 ghost use Rattle.machine_text.specs.Limits.{state_limit};
 ghost use Rattle.machine_text.specs.Packed.{Packed, empty_table};
 ghost use Rattle.ledger.specs.Contents.{IsOpenOn};
 ghost use Rattle.ledger.specs.Tally.{AreAll, IsTally};
 ghost use Rattle.ledger.specs.declared.tally.Tally.{Tally as Counted};
-ghost use Rattle.cmd_parts.specs.AtPaths.{AreBegunAt};
-ghost use Rattle.cmd_parts.specs.Settling.{filled_count};
-ghost use Rattle.cmd_parts.specs.Split.{SplitsTree, path_within, split_text};
+ghost use Rattle.cmd_options.specs.declared.outcome.Outcome.{Outcome as Outcomes};
+ghost use Rattle.cmd_options.specs.declared.ended.Ended.{Ended as Ends};
+ghost use Rattle.cmd_options.specs.Ends.{EndsTold};
+ghost use Rattle.cmd_ledgers.specs.Retry.{AtSomeTime};
+ghost use Rattle.files.specs.Paths.{IsToldStill};
+ghost use Rattle.cmd_parts.specs.AtPaths.{AreBegunAt, GrowsAt, IsCreated, SplitsAt};
+ghost use Rattle.cmd_parts.specs.Split.{path_within, split_text};
 
 use crate::folder::{FolderAt, TRUNK, begin_parts, path_within};
 use crate::trunk::grow_trunk;
 use cert::Decider;
-use cmd_options::{Ended, LedgerFile, Outcome, Splitting, ended_by, told};
+use cmd_ledgers::open_held;
+use cmd_options::{Durability, Ended, LedgerFile, Outcome, Splitting, ended_by, told};
 use files::{Files, Progress, ledger_at, lock_ledger};
 use kind_evidence::NoMemory;
 use ledger::{Board, Tally};
@@ -36,8 +41,10 @@ pub fn cmd_split<H: Files, D: Decider, P: Progress, W: Write, E: Write>(
     faults: &mut E,
 ) -> Outcome
     requires { (1 ≤ splitting.now.states) × (splitting.now.states ≤ state_limit) }
-    ensures accepted { result ≡ Outcome.Accepted → SplitsTree splitting.now.states splitting.now.filled (W.contents answers.old) (W.contents answers.new) }
-    ensures locked { result ≡ Outcome.Accepted → (lock : H.Lock) × H.locks (path_within splitting.now.folder.now (codes "trunk")) (Ok (Some lock)) }
+    ensures { (ended : Result Outcomes Ends)
+        × SplitsAt (AtSomeTime D D.answers) (H.locks (path_within splitting.now.folder.now (codes "trunk"))) (H.tells_same host.old) splitting.now.states splitting.now.filled
+        splitting.now.folder.now (H.holds host.old) (H.holds host.new) (W.contents answers.old) (W.contents answers.new) ended
+        × EndsTold ended (E.contents faults.old) (E.contents faults.new) result }
 {
     told(
         split_in(alloc, splitting, host, decider, progress, answers),
@@ -55,8 +62,8 @@ pub fn split_in<H: Files, D: Decider, P: Progress, W: Write>(
     answers: &mut W,
 ) -> Result<Outcome, Ended>
     requires { (1 ≤ splitting.now.states) × (splitting.now.states ≤ state_limit) }
-    ensures splits { OnOk result (SplitsTree splitting.now.states splitting.now.filled (W.contents answers.old) (W.contents answers.new)) }
-    ensures locked { OnOk result ((lock : H.Lock) × H.locks (path_within splitting.now.folder.now (codes "trunk")) (Ok (Some lock))) }
+    ensures { SplitsAt (AtSomeTime D D.answers) (H.locks (path_within splitting.now.folder.now (codes "trunk"))) (H.tells_same host.old) splitting.now.states splitting.now.filled
+        splitting.now.folder.now (H.holds host.old) (H.holds host.new) (W.contents answers.old) (W.contents answers.new) result }
 {
     let path = path_within(alloc, splitting.folder, TRUNK)?;
     begin_folder(host, splitting.folder, &path)?;
@@ -77,10 +84,16 @@ fn grown_trunk<H: Files, D: Decider, P: Progress>(
 ) -> Result<Board, Ended>
     requires { (1 ≤ splitting.now.states) × (splitting.now.states ≤ state_limit) }
     ensures root { IfOk result (λ board. board.root ≡ empty_table splitting.now.states) }
-    ensures all { IfOk result (λ board. (t : Packed) → IsOpenOn board t → splitting.now.filled ≤ filled_count t) }
+    ensures grows { IfOk result (GrowsAt (AtSomeTime D D.answers) (H.tells_same host.old) splitting.now.states splitting.now.filled splitting.now.folder.now path.now
+        (H.holds host.old) (H.holds host.new)) }
+    ensures tells { IsToldStill (H.tells_same host.old) (H.tells_same host.new) }
 {
-    let held = host.open(path);
-    let mut ledger = ledger_at(host, &LedgerFile::at(path))?;
+    let held = open_held(host, path)?;
+    let file = LedgerFile {
+        path,
+        durability: Durability::System,
+    };
+    let mut ledger = ledger_at(host, &file)?;
     let folder = FolderAt {
         alloc,
         host: &*host,
@@ -111,6 +124,7 @@ pub fn split_off<H: Files, W: Write>(
 ) -> Result<(), Ended>
     ensures begun { OnOk result ((roots : List Packed) × AreAll (IsOpenOn trunk.now) roots × AreBegunAt (H.tells_same host.old) folder.now roots (H.holds host.old) (H.holds host.new)) }
     ensures told { OnOk result ((tally : Counted) × IsTally trunk.now.root trunk.now.records tally × Appends (W.contents answers.old) (W.contents answers.new) (split_text tally)) }
+    ensures err { IfErr result (λ e. (W.contents answers.new ≡ W.contents answers.old) ⊎ (e ≡ Ended.Stream)) }
 {
     begin_parts(alloc, trunk, folder, host)?;
     let mut told = Vec::new(alloc);
@@ -120,7 +134,10 @@ pub fn split_off<H: Files, W: Write>(
 }
 
 // Makes a folder where there is none, and the file of the trunk in it.
-fn begin_folder<H: Files>(host: &mut H, folder: &str, trunk: &str) -> Result<(), Ended> {
+fn begin_folder<H: Files>(host: &mut H, folder: &str, trunk: &str) -> Result<(), Ended>
+    ensures ok { OnOk result (IsCreated (H.tells_same host.old) trunk.now (H.holds host.old) (H.holds host.new)) }
+    ensures tells { IsToldStill (H.tells_same host.old) (H.tells_same host.new) }
+{
     if let Err(fault) = host.make_folder(folder) {
         return Err(ended_by(&fault, Ended::Ledger));
     }

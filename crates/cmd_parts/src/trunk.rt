@@ -1,5 +1,5 @@
 // The trunk of a tree, which is begun or gone on with.
-ghost use Rattle.std.specs.Prelude.{◌≡◌, ◌≢◌, ◌≤◌, ◌^◌, ◌<◌, ℕ, All, List, [], Contains, Err, IfErr, IfOk, IfSome, MatchResult, Ok, OnErr, OnOk, false, length};
+ghost use Rattle.std.specs.Prelude.{◌≡◌, ◌≢◌, ◌≤◌, ◌^◌, ◌<◌, ℕ, All, List, [], Contains, Err, IfErr, IfOk, IfSome, Ok, OnErr, OnOk, false, length};
 ghost use Rattle.machine_text.specs.Limits.{state_limit};
 ghost use Rattle.machine_text.specs.Packed.{Packed, empty_table};
 ghost use Rattle.ledger.specs.Contents.{IsOpenOn};
@@ -9,22 +9,20 @@ ghost use Rattle.ledger.specs.declared.faults.LoadFault.{LoadFault};
 ghost use Rattle.cmd_ledgers.specs.Faults.{ended_by_load};
 ghost use Rattle.cmd_ledgers.specs.Reading.{AreFirstBytes};
 ghost use Rattle.cmd_ledgers.specs.Retry.{AtSomeTime};
-ghost use Rattle.cmd_parts.specs.Settle.{FailsReading};
 ghost use Rattle.cmd_parts.specs.Settling.{IsOpenBelow, SettlesMany, filled_count};
 ghost use Rattle.cmd_parts.specs.Split.{EndsBeginning, EndsGrowing, EndsLooking, EndsTrunk, GrowsTrunk, IsNoTrunk, StopsAt, begun_trunk, due_header, kept_size};
 
 use crate::folder::Folder;
-use crate::settle::cut_off;
 use crate::settling::{append_line, open_below, settle_below};
 use cert::Decider;
-use cmd_ledgers::by_load;
+use cmd_ledgers::{by_load, cut_off};
 use cmd_options::{Ended, ended_by};
 use files::{Opened, Progress};
 use law_tree::rado_of_tables;
 use ledger::{Board, Left, Loader, ReadStop, append_header};
 use machine_text::Table;
 use std::alloc::Global;
-use std::io::{self, Read};
+use std::io::Read;
 use tnf::root;
 use wire::LedgerOut;
 
@@ -35,7 +33,7 @@ use wire::LedgerOut;
 pub fn grow_trunk<F: Read + Drop, G: Folder, L: LedgerOut, D: Decider, P: Progress>(
     alloc: Global,
     n: u8,
-    held: io::Result<Opened<F>>,
+    mut held: Opened<F>,
     limit: u64,
     folder: &G,
     decider: &mut D,
@@ -43,47 +41,22 @@ pub fn grow_trunk<F: Read + Drop, G: Folder, L: LedgerOut, D: Decider, P: Progre
     progress: &mut P,
 ) -> Result<Board, Ended>
     requires { (1 ≤ n) × (n ≤ state_limit) }
-    ensures grows { IfOk result (λ board. MatchResult held
-        (λ file. GrowsTrunk (λ t. G.sees folder.now t (Ok false)) (AtSomeTime D D.answers) n limit (F.remaining file.reader) file.length (L.text ledger.old) board (L.text ledger.new))
-        (λ fault. ⊥)) }
+    ensures grows { IfOk result (λ board. GrowsTrunk (λ t. G.sees folder.now t (Ok false)) (AtSomeTime D D.answers) n limit
+        (F.remaining held.reader) held.length (L.text ledger.old) board (L.text ledger.new)) }
     ensures root { IfOk result (λ board. board.root ≡ empty_table n) }
     ensures all { IfOk result (λ board. (t : Packed) → IsOpenOn board t → limit ≤ filled_count t) }
-    ensures ended { IfErr result (λ e. MatchResult held
-        (λ file. EndsTrunk (G.sees folder.now) (AtSomeTime D D.answers) (L.failures ledger.old ≢ L.failures ledger.new) n limit e (F.remaining file.reader) file.length (L.text ledger.old) (L.text ledger.new))
-        (λ fault. FailsReading e × (L.text ledger.new ≡ L.text ledger.old))) }
+    ensures ended { IfErr result (λ e. EndsTrunk (G.sees folder.now) (AtSomeTime D D.answers) (L.failures ledger.old ≢ L.failures ledger.new) n limit e
+        (F.remaining held.reader) held.length (L.text ledger.old) (L.text ledger.new)) }
 {
-    match load_trunk(alloc, n, held) {
-        Ok((mut board, left, bytes)) => {
-            refuse_parts(alloc, &board, limit, folder)?;
-            match grow(
-                alloc, &mut board, &left, bytes, limit, decider, ledger, progress,
-            ) {
-                Ok(()) => Ok(board),
-                Err(ended) => Err(ended),
-            }
-        }
-        Err(ended) => Err(ended),
-    }
+    let (mut board, left, bytes) = load_tree(alloc, n, &mut held.reader, held.length)?;
+    refuse_parts(alloc, &board, limit, folder)?;
+    grow(
+        alloc, &mut board, &left, bytes, limit, decider, ledger, progress,
+    )?;
+    Ok(board)
 }
 
-// The board of what a trunk's ledger holds, what of it wasn't kept, and how many bytes it has.
-fn load_trunk<F: Read + Drop>(
-    alloc: Global,
-    n: u8,
-    held: io::Result<Opened<F>>,
-) -> Result<(Board, Left, u64), Ended>
-    requires { (1 ≤ n) × (n ≤ state_limit) }
-    ensures ok { IfOk result (λ l. MatchResult held (λ file. (text : List ℕ) × AreFirstBytes (F.remaining file.reader) file.length text
-        × (l.2 ≡ length text) × LoadGives (empty_table n) text (Ok (l.0, l.1))) (λ fault. ⊥)) }
-    ensures err { IfErr result (λ e. MatchResult held (λ file. IsNoTrunk n (F.remaining file.reader) file.length e) (λ fault. FailsReading e)) }
-{
-    match held {
-        Ok(mut held) => load_tree(alloc, n, &mut held.reader, held.length),
-        Err(fault) => Err(ended_by(&fault, Ended::Ledger)),
-    }
-}
-
-// The same of what a reader has in its first bytes.
+// The board of the trunk's ledger that a reader has in its first bytes, what of it wasn't kept, and how many bytes it has.
 fn load_tree<R: Read>(
     alloc: Global,
     n: u8,

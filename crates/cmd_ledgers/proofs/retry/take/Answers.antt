@@ -1,9 +1,10 @@
-use Rattle.std.proofs.Common.{Bool, inr, ap, subst, ◌∙◌}
+use Rattle.std.proofs.Common.{Bool, List, ℕ, inr, ap, subst, ◌∙◌}
 use Rattle.cert.specs.Kinds.{recorded}
-use Rattle.wire.specs.Device.{grown}
+use Rattle.ledger.proofs.StageLaws.{if_err}
+use Rattle.wire.specs.Device.{IsBegun, grown}
 use Rattle.cmd_ledgers.specs.Retry.{SettlesOrStays}
 use Rattle.cmd_ledgers.proofs.Reports.{on_ok}
-use Rattle.cmd_ledgers.proofs.Retrying.{stays_by, one_line, changes_settled}
+use Rattle.cmd_ledgers.proofs.Retrying.{stays_by, one_line, changes_settled, torn_line}
 use Rattle.cmd_ledgers.proofs.retry.take.Goals as goal
 
 pub returns-clause-step : goal.returns-clause-step
@@ -23,3 +24,17 @@ returns-clause-changes g c =
     let taken = subst (λ (b : Bool). SettlesOrStays old.format r b old.records c.new-line.result.items c.gains.new.board.records c.gains.new.line.items) c.if-not-branch.false c.in_ok-gains.ensures.ok in
     on_ok c.append_to.result (λ kept. changes_settled old.format _ r old.records _ before _ taken.0.verdict taken.0 taken.1
     (one_line old.format r _ _ before _ taken.2 c.new-line.ensures.items (kept ∙ ap (grown before) c.deref.ensures.value))) c.append_to.ensures.ok
+
+pub returns-clause-ended : goal.returns-clause-ended
+returns-clause-ended g c =
+    let old = c.args.board.now in
+    let r = recorded c.args.r.now in
+    let before = g.L.LedgerOut.text c.args.ledger.now in
+    let after = g.L.LedgerOut.text c.append_to.new.ledger in
+    let taken = subst (λ (b : Bool). SettlesOrStays old.format r b old.records c.new-line.result.items c.gains.new.board.records c.gains.new.line.items) c.if-not-branch.false c.in_ok-gains.ensures.ok in
+    if_err c.append_to.result (λ e h. inr (
+      h.0,
+      taken.0,
+      taken.1,
+      torn_line old.format r _ _ before after taken.2 c.new-line.ensures.items (subst (λ (l : List ℕ). IsBegun before l after) c.deref.ensures.value h.2),
+    )) c.append_to.ensures.err

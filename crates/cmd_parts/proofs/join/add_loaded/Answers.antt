@@ -9,11 +9,11 @@ use Rattle.cmd_parts.specs.Join.{IsMetAs}
 use Rattle.cmd_parts.proofs.Joining.{met_loaded, unmet}
 use Rattle.cmd_parts.proofs.join.add_loaded.Goals as goal
 
-pub returns-then-ne : goal.returns-then-ne
+pub returns-then-ne-clause-ok : goal.returns-then-ne-clause-ok
 unfolding same_table
-returns-then-ne g c =
+returns-then-ne-clause-ok g c =
     let differs : c.args.part.now.root ≢ c.args.root.now = subst (λ (p : Packed). p ≢ c.args.root.now) c.root.ensures.root ((differ c.root.result.now c.args.root.now c.ne.result c.ne.ensures).0 c.if-ne.true) in
-    unmet (IsMetAs c.args.part.now c.args.left.now c.args.path.now c.args.root.now) c.says.result _ _ _ _ c.args.path.now (codes "refused 406") (differs, refl) c.says.ensures
+    unmet (IsMetAs c.args.part.now c.args.left.now c.args.path.now c.args.root.now) c.says.result _ _ _ _ c.args.path.now (codes "refused 406") (differs, refl) c.says.ensures.ok
 
 pub add-requires : goal.add-requires
 unfolding same_table
@@ -21,8 +21,8 @@ add-requires g c =
     let same : c.args.part.now.root ≡ c.args.root.now = sym c.root.ensures.root ∙ no_difference c.root.result.now c.args.root.now c.ne.result c.ne.ensures c.if-ne.false in
     subst (λ (t : Packed). IsOpenOn c.args.whole.now.trunk t × (Contains c.args.whole.now.roots t → ⊥)) (sym same) c.requires
 
-pub returns : goal.returns
+pub returns-clause-ok : goal.returns-clause-ok
 unfolding same_table
-returns g c =
+returns-clause-ok g c =
     let same : c.args.part.now.root ≡ c.args.root.now = sym c.root.ensures.root ∙ no_difference c.root.result.now c.args.root.now c.ne.result c.ne.ensures c.if-ne.false in
-    met_loaded c.says_left.result _ _ _ _ _ _ c.args.part.now c.args.left.now c.args.path.now c.args.root.now same c.in_ok-add.ensures c.says_left.ensures
+    met_loaded c.says_left.result _ _ _ _ _ _ c.args.part.now c.args.left.now c.args.path.now c.args.root.now same c.in_ok-add.ensures.ok c.says_left.ensures.ok

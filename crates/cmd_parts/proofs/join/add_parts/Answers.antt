@@ -1,11 +1,14 @@
 use Rattle.std.proofs.Common.{◌≡◌, ◌+◌, ◌++◌, ◌∷◌, [], ◌∙◌, false, true, List, ap, sym, subst, take}
-use Rattle.std.proofs.lemmas.List.{take_more}
+use Rattle.std.proofs.lemmas.List.{take-append-drop, take_more}
+use Rattle.std.proofs.lemmas.Result.{err_from_is_err_and}
 use Rattle.std.proofs.lemmas.List.Elements.{All-contains_itself}
 use Rattle.std.specs.Prelude.{Contains}
 use Rattle.machine_text.specs.Packed.{Packed}
 use Rattle.ledger.specs.Contents.{Contents, IsOpenOn}
 use Rattle.ledger.proofs.TextOrder.{all_apart}
-use Rattle.cmd_parts.specs.inside.{AreAdded}
+use Rattle.cmd_options.specs.declared.ended.Ended.{Ended}
+use Rattle.cmd_parts.specs.inside.{AreAdded, EndsAdding}
+use Rattle.cmd_parts.proofs.JoinEnds.{ends_at_part}
 use Rattle.cmd_parts.proofs.Joining.{added_more, none_added, not_added}
 use Rattle.cmd_parts.proofs.join.add_parts.Goals as goal
 use Rattle.cmd_parts.proofs.join.add_parts.Goals.{then-not-branch, else-not-branch}
@@ -42,4 +45,14 @@ loop-root-preserved g c =
     subst (λ (l : List Packed). AreAdded Finds c.args.folder.now l c.args.whole.now.trunk c.join_part.new.whole c.if-not-branch.are_sound (g.C.Collector.text c.args.collector.now) (g.C.Collector.text c.join_part.new.collector)
     (g.E.Write.contents c.args.faults.now) (g.E.Write.contents c.join_part.new.faults)) (sym more)
     (added_more Finds c.args.folder.now (take i roots) root c.args.whole.now.trunk c.loop-root.whole c.join_part.new.whole c.loop-root.are_sound c.in_ok-join_part.field-0 c.if-not-branch.are_sound _ _ _ _ _ _
-    c.loop-root.invariant c.in_ok-join_part.ensures both neither)
+    c.loop-root.invariant c.in_ok-join_part.ensures.ok both neither)
+
+pub returns-in_err-join_part-clause-err : goal.returns-in_err-join_part-clause-err
+returns-in_err-join_part-clause-err g c =
+    let Finds = g.S.Parts.finds c.args.parts.now in
+    let folder = c.args.folder.now in
+    let roots = c.args.roots.now in
+    let i = c.loop-root.root-index in
+    let p = err_from_is_err_and c.from_residual.result c.from_residual.ensures.1 in
+    rw p.1 (subst (λ (e : Ended). EndsAdding Finds folder roots e (g.E.Write.contents c.args.faults.now) (g.E.Write.contents c.join_part.new.faults)) (sym p.2)
+    (ends_at_part Finds folder _ roots i c.loop-root.are_sound c.args.whole.now.trunk c.loop-root.whole _ _ _ _ _ (sym (take-append-drop i roots)) c.loop-root.invariant c.in_err-join_part.ensures.err))

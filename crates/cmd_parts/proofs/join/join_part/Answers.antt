@@ -6,8 +6,8 @@ use Rattle.cmd_parts.specs.Split.{path_within}
 use Rattle.cmd_parts.proofs.Joining.{met_nothing, met_so, met_there, unmet}
 use Rattle.cmd_parts.proofs.join.join_part.Goals as goal
 
-pub returns-in-Some : goal.returns-in-Some
-returns-in-Some g c =
+pub returns-in-Some-clause-ok : goal.returns-in-Some-clause-ok
+returns-in-Some-clause-ok g c =
     let Finds = g.S.Parts.finds c.args.parts.now in
     let folder = c.args.folder.now in
     let root = c.args.root.now in
@@ -16,14 +16,14 @@ returns-in-Some g c =
     let is : c.deref.result.now ≡ path_within folder (text_of root) = search rules in
     let same : c.deref-in-Some.result.now ≡ path_within folder (text_of root) = search rules in
     let finds : Finds c.deref.result.now (Some (has, size)) = search rules in
-    met_so (IsMetIn has size c.deref-in-Some.result.now root) (IsMet Finds folder root) c.add_read.result _ _ _ _ _ _ (met_there Finds folder root c.deref.result.now c.deref-in-Some.result.now has size is same finds) c.add_read.ensures
+    met_so (IsMetIn has size c.deref-in-Some.result.now root) (IsMet Finds folder root) c.add_read.result _ _ _ _ _ _ (met_there Finds folder root c.deref.result.now c.deref-in-Some.result.now has size is same finds) c.add_read.ensures.ok
 
-pub returns : goal.returns
-returns g c =
+pub returns-clause-ok : goal.returns-clause-ok
+returns-clause-ok g c =
     let Finds = g.S.Parts.finds c.args.parts.now in
     let folder = c.args.folder.now in
     let root = c.args.root.now in
     let is : c.deref.result.now ≡ path_within folder (text_of root) = search rules in
     let same : c.deref-in-None.result.now ≡ path_within folder (text_of root) = search rules in
     let finds : Finds c.deref.result.now None = search rules in
-    unmet (IsMet Finds folder root) c.says.result _ _ _ _ c.deref-in-None.result.now (codes "missing") (met_nothing Finds folder root c.deref.result.now c.deref-in-None.result.now is same finds) c.says.ensures
+    unmet (IsMet Finds folder root) c.says.result _ _ _ _ c.deref-in-None.result.now (codes "missing") (met_nothing Finds folder root c.deref.result.now c.deref-in-None.result.now is same finds) c.says.ensures.ok

@@ -1,8 +1,8 @@
 use Rattle.cmd_parts.proofs.join.tell_whole.Goals as goal
 use Rattle.parts.specs.Parts.{joined_with}
 
-pub returns : goal.returns
-returns g c = λ parts whole.
+pub returns-clause-ok : goal.returns-clause-ok
+returns-clause-ok g c = λ parts whole.
     let trunk = c.args.whole.now.trunk in
     let told = c.in_ok-write_told.ensures.ok trunk.root (joined_with trunk.records parts) (c.in_ok-told_of.ensures parts whole) in
     record {

@@ -4,7 +4,8 @@ use Rattle.ledger.specs.LedgerText.{IsLedgerOf}
 use Rattle.cmd_ledgers.specs.Retry.{AtSomeTime}
 use Rattle.cmd_options.specs.declared.ended.Ended.{Ended}
 use Rattle.cmd_parts.specs.Settle.{EndsWhole}
-use Rattle.cmd_parts.proofs.Settled.{cut_reads, unsaid}
+use Rattle.cmd_ledgers.proofs.Retrying.{cut_reads}
+use Rattle.cmd_parts.proofs.Settled.{unsaid}
 use Rattle.cmd_parts.proofs.settle.settle_loaded.Goals as goal
 
 pub returns-clause-step : goal.returns-clause-step

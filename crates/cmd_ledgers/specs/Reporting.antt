@@ -14,8 +14,8 @@ use Rattle.cmd_ledgers.specs.LedgerReport.{outcome_by}
 use Rattle.cmd_ledgers.specs.Merge.{IsLoaded, Readings}
 use Rattle.cmd_ledgers.specs.Reading.{AreFirstBytes}
 
--- behind what a writer held stands, in a form, the report of a board, and what wasn't kept of its ledger; the command ends
--- by how the board stands, and by that
+-- behind what a writer held stands, in a form, the report of a board, and what wasn't kept of its ledger; the command
+-- ends by how the board stands, and by that
 pub record WritesReport (IsText : Packed → List Recorded → Left → List ℕ → Type 0) (b : Contents) (left : Left) (held new_held : Option (List ℕ)) (o : Outcome) : Type 0 where
   pub is_board : IsBoard b
   pub text : List ℕ
@@ -30,14 +30,14 @@ abbrev pub ReadsFirst : Option (List ℕ) → ℕ → Readings
 ReadsFirst has limit (Ok text) = AreFirstBytes has limit text
 ReadsFirst has limit (Err e) = (e ≡ NoMemory) ⊎ (e ≡ Stream)
 
--- the report of what a ledger is loaded as is written. Where that isn't loaded, or memory is refused, nothing is written;
--- or else a stream failed
+-- the report of what a ledger is loaded as is written. Where that isn't loaded, or memory is refused, nothing is
+-- written; or else a stream failed
 abbrev pub ReportsFrom : (Packed → List Recorded → Left → List ℕ → Type 0) → Readings → Option (List ℕ) → Option (List ℕ) → Result Outcome Ended → Type 0
 ReportsFrom IsText reads held new_held (Ok o) = (b : Contents) × (left : Left) × IsLoaded reads (Ok (b, left)) × WritesReport IsText b left held new_held o
 ReportsFrom IsText reads held new_held (Err e) = ((IsLoaded reads (Err e) ⊎ (e ≡ NoMemory)) × (new_held ≡ held)) ⊎ (e ≡ Stream)
 
--- where it is asked for, something may be said of what wasn't kept; else nothing is, nor where that ends early, but for a
--- stream
+-- where it is asked for, something may be said of what wasn't kept; else nothing is, nor where that ends early, but for
+-- a stream
 abbrev pub SaysWhy : Bool → Result Outcome Ended → Option (List ℕ) → Option (List ℕ) → Type 0
 SaysWhy false ended said new_said = new_said ≡ said
 SaysWhy true (Ok o) said new_said = (text : List ℕ) × Appends said new_said text

@@ -62,11 +62,13 @@ AreRetried Answers old before new after =
 abbrev pub ChangesNothing : Ended → List Recorded → Option (List ℕ) → List Recorded → Option (List ℕ) → Type 0
 ChangesNothing e old before new after = (e ≡ NoMemory) × (new ≡ old) × (after ≡ before)
 
--- the ledger failed under the line of a record: the board has the record, and the ledger no more than a beginning of the line
+-- the ledger failed under the line of a record: the board has the record, and the ledger no more than a beginning of
+-- the line
 abbrev pub TearsLineOf : Format → Recorded → Ended → List Recorded → Option (List ℕ) → List Recorded → Option (List ℕ) → Type 0
 TearsLineOf format r e old before new after = (e ≡ Ledger) × Settles old r × (new ≡ settled old (with_score r)) × IsBegun before (gained format r) after
 
--- what ends it at a holdout: memory was refused; or the ledger failed, under the line of a record that was answered for it
+-- what ends it at a holdout: memory was refused; or the ledger failed, under the line of a record that was answered for
+-- it
 abbrev pub EndsAtHoldout : (Packed → Recorded → Type 0) → Format → Packed → Ended → List Recorded → Option (List ℕ) → List Recorded → Option (List ℕ) → Type 0
 EndsAtHoldout Answers format t e old before new after =
     ChangesNothing e old before new after ⊎ ((r : Recorded) × Answers t r × (r.table ≡ t) × TearsLineOf format r e old before new after)

@@ -14,7 +14,8 @@ use wire::LedgerOut;
 
 /// Opens the ledger at a path, which has to be there, to be read before it is gone on with.
 pub fn open_held<H: Files>(host: &H, path: &str) -> Result<Opened<H::Reader>, Ended>
-    ensures ok { IfOk result (λ held. IsOpenedOn (H.holds host.now path.now) (H.Reader.remaining held.reader) held.length) }
+    ensures ok { IfOk result (λ held. IsOpenedOn (H.holds host.now path.now)
+        (H.Reader.remaining held.reader) held.length) }
     ensures err { IfErr result FailsReading }
 {
     match host.open(path) {
@@ -38,7 +39,8 @@ pub fn load_held<F: Read + Drop>(alloc: Global, held: Opened<F>) -> Result<(Boar
 
 /// Cuts a ledger to what was kept of it.
 pub fn cut_off<L: LedgerOut>(left: &Left, ledger: &mut L) -> Result<(), Ended>
-    ensures ok { OnOk result ((L.text ledger.new ≡ kept_part left.now (L.text ledger.old)) × (L.failures ledger.new ≡ L.failures ledger.old)) }
+    ensures ok { OnOk result ((L.text ledger.new ≡ kept_part left.now (L.text ledger.old))
+        × (L.failures ledger.new ≡ L.failures ledger.old)) }
     ensures err { IfErr result (λ e. FailsCut left.now e (L.text ledger.old) (L.text ledger.new)) }
     ensures failed { OnErr result (L.failures ledger.old ≢ L.failures ledger.new) }
 {

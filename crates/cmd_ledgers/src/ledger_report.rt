@@ -23,9 +23,9 @@ use ledger::{Board, Left, Status, Unkept};
 use std::alloc::Global;
 use std::io::{Read, Write};
 
-/// Prints the report of the ledger at a path in a form, as far as the file goes when it is opened. With `why`, where not
-/// all of it could be kept, says on `faults` why the first line that isn't kept isn't. What ends the command early is said
-/// on `faults`: a failed file or stream, a ledger that can't be loaded, or refused memory.
+/// Prints the report of the ledger at a path in a form, as far as the file goes when it is opened. With `why`, where
+/// not all of it could be kept, says on `faults` why the first line that isn't kept isn't. What ends the command early
+/// is said on `faults`: a failed file or stream, a ledger that can't be loaded, or refused memory.
 pub fn cmd_report<H: Files, P: ReportForm, W: Write, E: Write>(
     alloc: Global,
     form: &P,
@@ -36,7 +36,8 @@ pub fn cmd_report<H: Files, P: ReportForm, W: Write, E: Write>(
     faults: &mut E,
 ) -> Outcome
     ensures { (ended : Result Outcomes Ends) × (said : Option (List ℕ))
-        × ReportsFrom (P.is_text form.now) (ReadsAt (H.holds host.now path.now)) (W.contents answers.old) (W.contents answers.new) ended
+        × ReportsFrom (P.is_text form.now) (ReadsAt (H.holds host.now path.now)) (W.contents answers.old)
+        (W.contents answers.new) ended
         × SaysWhy why ended (E.contents faults.old) said × EndsTold ended said (E.contents faults.new) result }
 {
     told(
@@ -55,7 +56,8 @@ pub fn cmd_report_stream<P: ReportForm, R: Read, W: Write, E: Write>(
     faults: &mut E,
 ) -> Outcome
     ensures { (ended : Result Outcomes Ends) × (said : Option (List ℕ))
-        × ReportsFrom (P.is_text form.now) (ReadsFirst (R.remaining input.old) (2 ^ 64 - 1)) (W.contents answers.old) (W.contents answers.new) ended
+        × ReportsFrom (P.is_text form.now) (ReadsFirst (R.remaining input.old) (2 ^ 64 - 1))
+        (W.contents answers.old) (W.contents answers.new) ended
         × SaysWhy why ended (E.contents faults.old) said × EndsTold ended said (E.contents faults.new) result }
 {
     told(
@@ -74,7 +76,8 @@ pub fn report_at<H: Files, P: ReportForm, W: Write, E: Write>(
     answers: &mut W,
     faults: &mut E,
 ) -> Result<Outcome, Ended>
-    ensures reports { ReportsFrom (P.is_text form.now) (ReadsAt (H.holds host.now path.now)) (W.contents answers.old) (W.contents answers.new) result }
+    ensures reports { ReportsFrom (P.is_text form.now) (ReadsAt (H.holds host.now path.now))
+        (W.contents answers.old) (W.contents answers.new) result }
     ensures says { SaysWhy why result (E.contents faults.old) (E.contents faults.new) }
 {
     let (board, left) = load_source(alloc, &AtPath { host, path })?;
@@ -90,7 +93,8 @@ pub fn report_stream<P: ReportForm, R: Read, W: Write, E: Write>(
     answers: &mut W,
     faults: &mut E,
 ) -> Result<Outcome, Ended>
-    ensures reports { ReportsFrom (P.is_text form.now) (ReadsFirst (R.remaining input.old) (2 ^ 64 - 1)) (W.contents answers.old) (W.contents answers.new) result }
+    ensures reports { ReportsFrom (P.is_text form.now) (ReadsFirst (R.remaining input.old) (2 ^ 64 - 1))
+        (W.contents answers.old) (W.contents answers.new) result }
     ensures says { SaysWhy why result (E.contents faults.old) (E.contents faults.new) }
 {
     let (board, left) = load_stream(alloc, input, u64::MAX)?;
@@ -119,8 +123,10 @@ fn report_loaded<P: ReportForm, W: Write, E: Write>(
     answers: &mut W,
     faults: &mut E,
 ) -> Result<Outcome, Ended>
-    ensures ok { IfOk result (WritesReport (P.is_text form.now) board.now left.now (W.contents answers.old) (W.contents answers.new)) }
-    ensures err { IfErr result (λ e. ((e ≡ Ended.NoMemory) × (W.contents answers.new ≡ W.contents answers.old)) ⊎ (e ≡ Ended.Stream)) }
+    ensures ok { IfOk result (WritesReport (P.is_text form.now) board.now left.now (W.contents answers.old)
+        (W.contents answers.new)) }
+    ensures err { IfErr result (λ e. ((e ≡ Ended.NoMemory) × (W.contents answers.new ≡ W.contents answers.old))
+        ⊎ (e ≡ Ended.Stream)) }
     ensures says { SaysWhy why result (E.contents faults.old) (E.contents faults.new) }
 {
     let reason = reason_for(alloc, why, left)?;
@@ -138,8 +144,10 @@ pub fn report_board<P: ReportForm, W: Write>(
     left: &Left,
     answers: &mut W,
 ) -> Result<Outcome, Ended>
-    ensures ok { IfOk result (WritesReport (P.is_text form.now) board.now left.now (W.contents answers.old) (W.contents answers.new)) }
-    ensures err { IfErr result (λ e. ((e ≡ Ended.NoMemory) × (W.contents answers.new ≡ W.contents answers.old)) ⊎ (e ≡ Ended.Stream)) }
+    ensures ok { IfOk result (WritesReport (P.is_text form.now) board.now left.now (W.contents answers.old)
+        (W.contents answers.new)) }
+    ensures err { IfErr result (λ e. ((e ≡ Ended.NoMemory) × (W.contents answers.new ≡ W.contents answers.old))
+        ⊎ (e ≡ Ended.Stream)) }
 {
     // The proof needs that it is a board.
     let _ = board.root();

@@ -24,10 +24,10 @@ use std::alloc::Global;
 use std::io::{Read, Write};
 use wire::LedgerOut;
 
-/// Cuts a ledger file, which has to be there, to the bytes that are kept of it, asks the decider for each of its holdouts
-/// in the order of their texts, and appends a line for each that is settled. Then it prints the report: accepted where
-/// that says complete. What becomes open stays open. The ledger is locked before it is read; where another process has it
-/// locked, nothing is done. What ends the command early is said on `faults`.
+/// Cuts a ledger file, which has to be there, to the bytes that are kept of it, asks the decider for each of its
+/// holdouts in the order of their texts, and appends a line for each that is settled. Then it prints the report:
+/// accepted where that says complete. What becomes open stays open. The ledger is locked before it is read; where
+/// another process has it locked, nothing is done. What ends the command early is said on `faults`.
 pub fn cmd_retry<H: Files, D: Decider, W: Write, E: Write>(
     alloc: Global,
     file: LedgerFile<'_>,
@@ -38,7 +38,8 @@ pub fn cmd_retry<H: Files, D: Decider, W: Write, E: Write>(
 ) -> Outcome
     ensures others { IsKeptBut (H.tells_same host.old) file.entry.path.now (H.holds host.old) (H.holds host.new) }
     ensures retries { (ended : Result Outcomes Ends)
-        × RetriesAt (AtSomeTime D D.answers) (H.locks file.entry.path.now) (H.tells_same host.old) file.entry.path.now (H.holds host.old) (H.holds host.new)
+        × RetriesAt (AtSomeTime D D.answers) (H.locks file.entry.path.now)
+        (H.tells_same host.old) file.entry.path.now (H.holds host.old) (H.holds host.new)
         (W.contents answers.old) (W.contents answers.new) ended
         × EndsTold ended (E.contents faults.old) (E.contents faults.new) result }
 {
@@ -54,7 +55,8 @@ pub fn retry_at<H: Files, D: Decider, W: Write>(
     answers: &mut W,
 ) -> Result<Outcome, Ended>
     ensures others { IsKeptBut (H.tells_same host.old) file.entry.path.now (H.holds host.old) (H.holds host.new) }
-    ensures retries { RetriesAt (AtSomeTime D D.answers) (H.locks file.entry.path.now) (H.tells_same host.old) file.entry.path.now (H.holds host.old) (H.holds host.new)
+    ensures retries { RetriesAt (AtSomeTime D D.answers) (H.locks file.entry.path.now)
+        (H.tells_same host.old) file.entry.path.now (H.holds host.old) (H.holds host.new)
         (W.contents answers.old) (W.contents answers.new) result }
 {
     let _lock = lock_ledger(host, file.path)?;
@@ -74,8 +76,10 @@ pub fn retry_ledger<F: Read + Drop, L: LedgerOut, D: Decider, W: Write>(
     decider: &mut D,
     answers: &mut W,
 ) -> Result<Outcome, Ended>
-    ensures retries { IfOk result (RetriesLedger (AtSomeTime D D.answers) (F.remaining held.reader) held.length (L.text ledger.old) (L.text ledger.new) (W.contents answers.old) (W.contents answers.new)) }
-    ensures ended { IfErr result (λ e. EndsRetriedLedger (AtSomeTime D D.answers) (L.failures ledger.old ≢ L.failures ledger.new) e (F.remaining held.reader) held.length
+    ensures retries { IfOk result (RetriesLedger (AtSomeTime D D.answers) (F.remaining held.reader) held.length
+        (L.text ledger.old) (L.text ledger.new) (W.contents answers.old) (W.contents answers.new)) }
+    ensures ended { IfErr result (λ e. EndsRetriedLedger (AtSomeTime D D.answers)
+        (L.failures ledger.old ≢ L.failures ledger.new) e (F.remaining held.reader) held.length
         (L.text ledger.old) (L.text ledger.new) (W.contents answers.old) (W.contents answers.new)) }
 {
     let (mut board, left) = load_held(alloc, held)?;
@@ -91,8 +95,10 @@ fn retry_loaded<L: LedgerOut, D: Decider, W: Write>(
     decider: &mut D,
     answers: &mut W,
 ) -> Result<Outcome, Ended>
-    ensures retries { IfOk result (RetriesWhole (AtSomeTime D D.answers) board.old left.now (L.text ledger.old) (L.text ledger.new) (W.contents answers.old) (W.contents answers.new)) }
-    ensures ended { IfErr result (λ e. EndsRetriedWhole (AtSomeTime D D.answers) (L.failures ledger.old ≢ L.failures ledger.new) e board.old left.now
+    ensures retries { IfOk result (RetriesWhole (AtSomeTime D D.answers) board.old left.now (L.text ledger.old)
+        (L.text ledger.new) (W.contents answers.old) (W.contents answers.new)) }
+    ensures ended { IfErr result (λ e. EndsRetriedWhole (AtSomeTime D D.answers)
+        (L.failures ledger.old ≢ L.failures ledger.new) e board.old left.now
         (L.text ledger.old) (L.text ledger.new) (W.contents answers.old) (W.contents answers.new)) }
 {
     cut_off(left, ledger)?;
@@ -114,7 +120,8 @@ pub fn retry_holdouts<L: LedgerOut, D: Decider>(
     ensures format { board.new.format ≡ board.old.format }
     ensures step { OnOk result (StaysInStep board.old (L.text ledger.old) board.new (L.text ledger.new)) }
     ensures order { OnOk result (AreRetried (AtSomeTime D D.answers) board.old (L.text ledger.old) board.new (L.text ledger.new)) }
-    ensures ended { IfErr result (λ e. EndsRetrying (AtSomeTime D D.answers) e board.old (L.text ledger.old) board.new (L.text ledger.new)) }
+    ensures ended { IfErr result (λ e. EndsRetrying (AtSomeTime D D.answers) e board.old
+        (L.text ledger.old) board.new (L.text ledger.new)) }
     ensures works { OnOk result (L.failures ledger.new ≡ L.failures ledger.old) }
     ensures failed { result ≡ Err Ended.Ledger → L.failures ledger.old ≢ L.failures ledger.new }
 {
@@ -137,7 +144,9 @@ fn retry<L: LedgerOut, D: Decider>(
     ensures format { board.new.format ≡ board.old.format }
     ensures step { OnOk result (StaysInStep board.old (L.text ledger.old) board.new (L.text ledger.new)) }
     ensures tried { OnOk result (IsTried (AtSomeTime D D.answers) board.old.format t.now board.old.records (L.text ledger.old) board.new.records (L.text ledger.new)) }
-    ensures ended { IfErr result (λ e. EndsAtHoldout (AtSomeTime D D.answers) board.old.format t.now e board.old.records (L.text ledger.old) board.new.records (L.text ledger.new)) }
+    ensures ended { IfErr result (λ e. EndsAtHoldout
+        (AtSomeTime D D.answers) board.old.format t.now e board.old.records (L.text ledger.old) board.new.records
+        (L.text ledger.new)) }
     ensures works { OnOk result (L.failures ledger.new ≡ L.failures ledger.old) }
     ensures failed { result ≡ Err Ended.Ledger → L.failures ledger.old ≢ L.failures ledger.new }
 {
@@ -162,8 +171,10 @@ fn take<L: LedgerOut>(
     ensures format { board.new.format ≡ board.old.format }
     ensures step { OnOk result (StaysInStep board.old (L.text ledger.old) board.new (L.text ledger.new)) }
     ensures changes { OnOk result (ChangesBy board.old.format (ending_by (recorded r.now).claim) (recorded r.now) board.old.records (L.text ledger.old) board.new.records (L.text ledger.new)) }
-    ensures ended { IfErr result (λ e. ChangesNothing e board.old.records (L.text ledger.old) board.new.records (L.text ledger.new)
-        ⊎ TearsLineOf board.old.format (recorded r.now) e board.old.records (L.text ledger.old) board.new.records (L.text ledger.new)) }
+    ensures ended { IfErr result (λ e. ChangesNothing e board.old.records (L.text ledger.old) board.new.records
+        (L.text ledger.new)
+        ⊎ TearsLineOf board.old.format (recorded r.now) e board.old.records (L.text ledger.old) board.new.records
+        (L.text ledger.new)) }
     ensures works { OnOk result (L.failures ledger.new ≡ L.failures ledger.old) }
     ensures failed { result ≡ Err Ended.Ledger → L.failures ledger.old ≢ L.failures ledger.new }
 {

@@ -7,7 +7,7 @@ use Rattle.cmd_options.specs.declared.outcome.Outcome.{Outcome}
 use Rattle.cmd_options.specs.declared.ended.Ended.{Ended}
 use Rattle.files.specs.Paths.{Shelf}
 use Rattle.cmd_ledgers.specs.AtPath.{FailsWriting}
-use Rattle.cmd_parts.specs.AtPaths.{EndsJoiningInto, JoinsAt, finds_at}
+use Rattle.cmd_parts.specs.AtPaths.{EndsCollecting, JoinsAt, finds_at}
 use Rattle.cmd_parts.specs.Join.{EndsTelling, Findings, TellsAll}
 
 module _ (IsText : Packed → List Recorded → Left → List ℕ → Type 0) (folder : List ℕ) (said new_said faults new_faults : Option (List ℕ)) where
@@ -19,6 +19,6 @@ module _ (IsText : Packed → List Recorded → Left → List ℕ → Type 0) (f
   -- the one ledger isn't made, or the telling ended
   pub not_made : {K : Type 0} (Locks : Result (Option K) Ended → Type 0) (Finds : Findings) (e : Ended)
       → (FailsWriting e × (new_said ≡ said) × (new_faults ≡ faults)) ⊎ EndsTelling Finds folder e said new_said faults new_faults
-      → EndsJoiningInto IsText Locks Finds folder said new_said faults new_faults e
+      → EndsCollecting IsText Locks Finds folder said new_said faults new_faults e
   not_made Locks Finds e (inl (fails, untold, silent)) = inl (inr (inr fails), untold, silent)
   not_made Locks Finds e (inr ends) = inr (inl ends)

@@ -56,8 +56,8 @@ abbrev pub AreBegunAt : SameFile → List ℕ → List Packed → Shelf → Shel
 AreBegunAt tells folder [] old new = IsKept old new
 AreBegunAt tells folder (root ∷ roots) old new = (middle : Shelf) × IsBegunAt tells folder root old middle × AreBegunAt tells folder roots middle new
 
--- the ledger at a path is locked, and settled where it stands, which is told. Where that ends before it is read, nothing has
--- changed at any path and nothing is told; else it ended as that of its board
+-- the ledger at a path is locked, and settled where it stands, which is told. Where that ends before it is read,
+-- nothing has changed at any path and nothing is told; else it ended as that of its board
 abbrev pub SettlesAt : {K : Type 0} → (Packed → Recorded → Type 0) → (Result (Option K) Ended → Type 0) → SameFile → List ℕ → Shelf → Shelf
     → Option (List ℕ) → Option (List ℕ) → Result (Unit {0}) Ended → Type 0
 SettlesAt {K} Answers Locks tells path old new said new_said (Ok done) =
@@ -70,15 +70,15 @@ SettlesAt {K} Answers Locks tells path old new said new_said (Err e) =
 abbrev pub IsCreated : SameFile → List ℕ → Shelf → Shelf → Type 0
 IsCreated tells path old new = (text : Option (List ℕ)) × IsLedgerAt (old path) text × IsPut tells path text old new
 
--- the trunk of the tree of n states that stands at a path is grown where it stands. While it is open, none of the tables to be
--- settled in it has a part in the folder
+-- the trunk of the tree of n states that stands at a path is grown where it stands. While it is open, none of the
+-- tables to be settled in it has a part in the folder
 pub record GrowsAt (Answers : Packed → Recorded → Type 0) (tells : SameFile) (n limit : ℕ) (folder path : List ℕ) (old new : Shelf) (trunk : Contents) : Type 0 where
   pub opened : Shelf
   pub is_opened : IsKeptBut tells path old opened
   pub grows : GoesOnAt (λ has size before after. GrowsTrunk (λ t. SeesAt (opened (path_within folder (text_of t))) (Ok false)) Answers n limit has size before trunk after) tells path old new
 
--- a tree is split in a folder, and it is told: there is a file of the trunk, which is grown; then the part of each table that
--- the trunk leaves open is begun
+-- a tree is split in a folder, and it is told: there is a file of the trunk, which is grown; then the part of each
+-- table that the trunk leaves open is begun
 pub record SplitsTree (Answers : Packed → Recorded → Type 0) (tells : SameFile) (n limit : ℕ) (folder : List ℕ) (old new : Shelf) (said new_said : Option (List ℕ)) : Type 0 where
   pub trunk : Contents
   pub root : trunk.root ≡ empty_table n
@@ -93,8 +93,8 @@ pub record SplitsTree (Answers : Packed → Recorded → Type 0) (tells : SameFi
   pub counted : IsTally trunk.root trunk.records tally
   pub says : Appends said new_said (split_text tally)
 
--- it is accepted only where the trunk was locked and the tree is split so; where that ends early nothing is told, unless the
--- stream failed
+-- it is accepted only where the trunk was locked and the tree is split so; where that ends early nothing is told,
+-- unless the stream failed
 abbrev pub SplitsAt : {K : Type 0} → (Packed → Recorded → Type 0) → (Result (Option K) Ended → Type 0) → SameFile → ℕ → ℕ → List ℕ → Shelf → Shelf
     → Option (List ℕ) → Option (List ℕ) → Result Outcome Ended → Type 0
 SplitsAt {K} Answers Locks tells n limit folder old new said new_said (Ok o) =
@@ -108,21 +108,21 @@ JoinsAt IsText folder old new said new_said faults new_faults (Ok o) =
     TellsAll IsText (finds_at old) folder None None said new_said faults new_faults o × IsKept old new
 JoinsAt IsText folder old new said new_said faults new_faults (Err e) = EndsTelling (finds_at old) folder e said new_said faults new_faults × IsKept old new
 
--- why the one ledger of a trunk and its parts isn't put at a path: that isn't locked, or nothing can be made, and nothing is
--- told; or the telling ended; or all is told, but the ledger can't be put
-abbrev pub EndsJoiningInto : {K : Type 0} → (Packed → List Recorded → Left → List ℕ → Type 0) → (Result (Option K) Ended → Type 0) → Findings → List ℕ
+-- why the one ledger of a trunk and its parts isn't put at a path: that isn't locked, or nothing can be made, and
+-- nothing is told; or the telling ended; or all is told, but the ledger can't be put
+abbrev pub EndsCollecting : {K : Type 0} → (Packed → List Recorded → Left → List ℕ → Type 0) → (Result (Option K) Ended → Type 0) → Findings → List ℕ
     → Option (List ℕ) → Option (List ℕ) → Option (List ℕ) → Option (List ℕ) → Ended → Type 0
-EndsJoiningInto {K} IsText Locks Finds folder said new_said faults new_faults e =
+EndsCollecting {K} IsText Locks Finds folder said new_said faults new_faults e =
     (EndsOpening Locks e × (new_said ≡ said) × (new_faults ≡ faults))
     ⊎ (EndsTelling Finds folder e said new_said faults new_faults
     ⊎ (FailsWriting e × ((begun text : Option (List ℕ)) × (o : Outcome) × TellsAll IsText Finds folder begun text said new_said faults new_faults o)))
 
--- they are told of, and the one ledger of all comes to stand at a path, which is locked; where that ends early nothing changes
--- at any path
-abbrev pub JoinsInto : {K : Type 0} → (Packed → List Recorded → Left → List ℕ → Type 0) → (Result (Option K) Ended → Type 0) → SameFile → List ℕ → List ℕ → Shelf → Shelf
+-- they are told of, and the one ledger of all comes to stand at a path, which is locked; where that ends early nothing
+-- changes at any path
+abbrev pub CollectsAt : {K : Type 0} → (Packed → List Recorded → Left → List ℕ → Type 0) → (Result (Option K) Ended → Type 0) → SameFile → List ℕ → List ℕ → Shelf → Shelf
     → Option (List ℕ) → Option (List ℕ) → Option (List ℕ) → Option (List ℕ) → Result Outcome Ended → Type 0
-JoinsInto {K} IsText Locks tells folder out old new said new_said faults new_faults (Ok o) =
+CollectsAt {K} IsText Locks tells folder out old new said new_said faults new_faults (Ok o) =
     ((lock : K) × Locks (Ok (Some lock))) × ((begun text : Option (List ℕ)) × IsBlank begun
     × TellsAll IsText (finds_at old) folder begun text said new_said faults new_faults o × IsPut tells out text old new)
-JoinsInto {K} IsText Locks tells folder out old new said new_said faults new_faults (Err e) =
-    EndsJoiningInto IsText Locks (finds_at old) folder said new_said faults new_faults e × IsKept old new
+CollectsAt {K} IsText Locks tells folder out old new said new_said faults new_faults (Err e) =
+    EndsCollecting IsText Locks (finds_at old) folder said new_said faults new_faults e × IsKept old new

@@ -133,7 +133,8 @@ FailsAny e = (FailsFile e ⊎ FailsWriting e) ⊎ (e ≡ Stream)
 abbrev pub HasNoTrunk : Findings → List ℕ → Ended → Type 0
 HasNoTrunk Finds path e = (has : Option (List ℕ)) × (size : ℕ) × Finds path (Some (has, size)) × ((e ≡ BadHeader) ⊎ (e ≡ WrongRoot)) × EndsReading has size (EndedBy e)
 
--- why a trunk and its parts aren't told of: something fails, the trunk has no root in order, or the one ledger stands among them
+-- why a trunk and its parts aren't told of: something fails, the trunk has no root in order, or the one ledger stands
+-- among them
 abbrev pub EndsJoining : Findings → List ℕ → Ended → Type 0
 EndsJoining Finds folder e = FailsAny e ⊎ (HasNoTrunk Finds (path_within folder (codes "trunk")) e ⊎ (e ≡ OutInFolder))
 
@@ -150,8 +151,8 @@ pub record SaysFirst (Finds : Findings) (folder : List ℕ) (faults new_faults :
   pub are_met : AreMet Finds folder met parts said
   pub says : Appends faults new_faults (left_line (path_within folder (codes "trunk")) left ++ said)
 
--- the telling ends early: no report is written, and whole lines are said, those of the trunk and of the first parts; unless a
--- stream failed
+-- the telling ends early: no report is written, and whole lines are said, those of the trunk and of the first parts;
+-- unless a stream failed
 pub record EndsTelling (Finds : Findings) (folder : List ℕ) (e : Ended) (said new_said faults new_faults : Option (List ℕ)) : Type 0 where
   pub why : EndsJoining Finds folder e
   pub untold : (new_said ≡ said) ⊎ (e ≡ Stream)

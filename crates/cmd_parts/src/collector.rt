@@ -21,7 +21,8 @@ pub trait Collector {
 
     /// Begins with the ledger of the trunk. Errors: `NoMemory`, or `Ledger` where it fails.
     fn begin(&mut self, alloc: Global, trunk: &Board) -> Result<(), Ended>
-        ensures ok { OnOk result (text self.new ≡ grown (text self.old) (ledger_text trunk.now.root trunk.now.records)) }
+        ensures ok { OnOk result (text self.new ≡ grown (text self.old)
+            (ledger_text trunk.now.root trunk.now.records)) }
         ensures err { IfErr result FailsWriting };
 
     /// Adds the lines of a part. Errors: the same.

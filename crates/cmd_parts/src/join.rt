@@ -14,7 +14,7 @@ ghost use Rattle.wire.specs.Device.{grown};
 ghost use Rattle.parts.specs.Parts.{joined_with};
 ghost use Rattle.parts.specs.Whole.{AddGives, IsWhole};
 ghost use Rattle.files.specs.Paths.{IsBlank, IsKeptBut};
-ghost use Rattle.cmd_parts.specs.AtPaths.{JoinsAt, JoinsInto, finds_at};
+ghost use Rattle.cmd_parts.specs.AtPaths.{JoinsAt, CollectsAt, finds_at};
 ghost use Rattle.cmd_parts.specs.Split.{path_within};
 ghost use Rattle.cmd_parts.specs.Join.{EndsTelling, FailsFile, HasNoTrunk, IsMet, IsMetAs, IsMetIn, IsReadAt, TellsAll, TellsParts, ended_by, is_silent, left_line, line_behind, record_lines};
 ghost use Rattle.cmd_parts.specs.inside.{AreAdded, EndsAdding, EndsGathering, EndsPart, IsGathered, MeetsPart};
@@ -33,12 +33,12 @@ use std::alloc::Global;
 use std::io::{Read, Write};
 use text::append_number;
 
-/// Prints the report of the trunk in a folder and of the parts beside it, in a form: the report of one ledger that holds the
-/// records of all. Where that is asked for, it writes that ledger too, in a new file beside it, `.new`, which is put in its
-/// place once the last part was judged; a ledger of the folder itself is refused for that before anything is written. A part
-/// that isn't there counts as an open table. What is wrong with a part is said on `faults` behind its path,
-/// and what is kept of it counts. Accepted where the report says complete and nothing was wrong. What ends the command early
-/// is said on `faults` too.
+/// Prints the report of the trunk in a folder and of the parts beside it, in a form: the report of one ledger that
+/// holds the records of all. Where that is asked for, it writes that ledger too, in a new file beside it, `.new`, which
+/// is put in its place once the last part was judged; a ledger of the folder itself is refused for that before anything
+/// is written. A part that isn't there counts as an open table. What is wrong with a part is said on `faults` behind
+/// its path, and what is kept of it counts. Accepted where the report says complete and nothing was wrong. What ends
+/// the command early is said on `faults` too.
 pub fn cmd_join<H: Files, P: ReportForm, W: Write, E: Write>(
     alloc: Global,
     form: &P,
@@ -48,10 +48,12 @@ pub fn cmd_join<H: Files, P: ReportForm, W: Write, E: Write>(
     faults: &mut E,
 ) -> Outcome
     ensures alone { IfNone joining.now.out ((ended : Result Outcomes Ends) × (warned : Option (List ℕ))
-        × JoinsAt (P.is_text form.now) joining.now.folder.now (H.holds host.old) (H.holds host.new) (W.contents answers.old) (W.contents answers.new) (E.contents faults.old) warned ended
+        × JoinsAt (P.is_text form.now) joining.now.folder.now (H.holds host.old) (H.holds host.new)
+        (W.contents answers.old) (W.contents answers.new) (E.contents faults.old) warned ended
         × EndsTold ended warned (E.contents faults.new) result) }
     ensures into { IfSome joining.now.out (λ out. (ended : Result Outcomes Ends) × (warned : Option (List ℕ))
-        × JoinsInto (P.is_text form.now) (H.locks out.now) (H.tells_same host.old) joining.now.folder.now out.now (H.holds host.old) (H.holds host.new)
+        × CollectsAt (P.is_text form.now) (H.locks out.now) (H.tells_same host.old) joining.now.folder.now out.now
+        (H.holds host.old) (H.holds host.new)
         (W.contents answers.old) (W.contents answers.new) (E.contents faults.old) warned ended
         × EndsTold ended warned (E.contents faults.new) result) }
 {
@@ -67,10 +69,13 @@ pub fn join_at<H: Files, P: ReportForm, W: Write, E: Write>(
     answers: &mut W,
     faults: &mut E,
 ) -> Result<Outcome, Ended>
-    ensures alone { IfNone joining.now.out (JoinsAt (P.is_text form.now) joining.now.folder.now (H.holds host.old) (H.holds host.new)
+    ensures alone { IfNone joining.now.out (JoinsAt (P.is_text form.now) joining.now.folder.now (H.holds host.old)
+        (H.holds host.new)
         (W.contents answers.old) (W.contents answers.new) (E.contents faults.old) (E.contents faults.new) result) }
-    ensures into { IfSome joining.now.out (λ out. JoinsInto (P.is_text form.now) (H.locks out.now) (H.tells_same host.old) joining.now.folder.now out.now
-        (H.holds host.old) (H.holds host.new) (W.contents answers.old) (W.contents answers.new) (E.contents faults.old) (E.contents faults.new) result) }
+    ensures into { IfSome joining.now.out (λ out. CollectsAt (P.is_text form.now) (H.locks out.now)
+        (H.tells_same host.old) joining.now.folder.now out.now
+        (H.holds host.old) (H.holds host.new) (W.contents answers.old) (W.contents answers.new)
+        (E.contents faults.old) (E.contents faults.new) result) }
 {
     match joining.out {
         Some(out) => join_into(alloc, form, joining.folder, out, host, answers, faults),
@@ -109,7 +114,8 @@ pub fn join_into<H: Files, P: ReportForm, W: Write, E: Write>(
     faults: &mut E,
 ) -> Result<Outcome, Ended>
     ensures others { IsKeptBut (H.tells_same host.old) out.now (H.holds host.old) (H.holds host.new) }
-    ensures joins { JoinsInto (P.is_text form.now) (H.locks out.now) (H.tells_same host.old) folder.now out.now (H.holds host.old) (H.holds host.new)
+    ensures joins { CollectsAt (P.is_text form.now) (H.locks out.now) (H.tells_same host.old) folder.now out.now
+        (H.holds host.old) (H.holds host.new)
         (W.contents answers.old) (W.contents answers.new) (E.contents faults.old) (E.contents faults.new) result }
 {
     let _lock = lock_ledger(host, out)?;
@@ -130,8 +136,10 @@ fn joined<H: Files, P: ReportForm, W: Write, E: Write>(
 ) -> Result<(H::Made, Outcome), Ended>
     ensures ok { IfOk result (λ j. (begun : Option (List ℕ)) × IsBlank begun
         × TellsAll (P.is_text form.now) (finds_at (H.holds host.now)) folder.now begun (H.Made.text j.0) (W.contents answers.old) (W.contents answers.new) (E.contents faults.old) (E.contents faults.new) j.1) }
-    ensures err { IfErr result (λ e. (FailsWriting e × (W.contents answers.new ≡ W.contents answers.old) × (E.contents faults.new ≡ E.contents faults.old))
-        ⊎ EndsTelling (finds_at (H.holds host.now)) folder.now e (W.contents answers.old) (W.contents answers.new) (E.contents faults.old) (E.contents faults.new)) }
+    ensures err { IfErr result (λ e. (FailsWriting e × (W.contents answers.new ≡ W.contents answers.old)
+        × (E.contents faults.new ≡ E.contents faults.old))
+        ⊎ EndsTelling (finds_at (H.holds host.now)) folder.now e (W.contents answers.old) (W.contents answers.new)
+        (E.contents faults.old) (E.contents faults.new)) }
 {
     let mut one = OneLedger {
         ledger: made_for(host, out, &[])?,
@@ -156,8 +164,11 @@ fn join_beside<'a, H: Files, P: ReportForm, C: Collector, W: Write, E: Write>(
     answers: &mut W,
     faults: &mut E,
 ) -> Result<Outcome, Ended>
-    ensures ok { IfOk result (TellsAll (P.is_text form.now) (finds_at (H.holds host.now)) folder.now (C.text collector.old) (C.text collector.new) (W.contents answers.old) (W.contents answers.new) (E.contents faults.old) (E.contents faults.new)) }
-    ensures err { IfErr result (λ e. EndsTelling (finds_at (H.holds host.now)) folder.now e (W.contents answers.old) (W.contents answers.new) (E.contents faults.old) (E.contents faults.new)) }
+    ensures ok { IfOk result (TellsAll (P.is_text form.now) (finds_at (H.holds host.now)) folder.now
+        (C.text collector.old) (C.text collector.new) (W.contents answers.old) (W.contents answers.new)
+        (E.contents faults.old) (E.contents faults.new)) }
+    ensures err { IfErr result (λ e. EndsTelling (finds_at (H.holds host.now)) folder.now e
+        (W.contents answers.old) (W.contents answers.new) (E.contents faults.old) (E.contents faults.new)) }
 {
     let parts = PartsAt {
         host,
@@ -166,10 +177,10 @@ fn join_beside<'a, H: Files, P: ReportForm, C: Collector, W: Write, E: Write>(
     join_parts(alloc, form, folder, &parts, collector, answers, faults)
 }
 
-/// Prints the report of the trunk in a folder and of its parts, and collects the one ledger of all. The parts are those of
-/// the trunk's open tables, in the order of their texts. What is wrong with the trunk or a part is said on `faults` behind its
-/// path. Accepted where the report says complete and nothing was wrong. Where it ends early no report is printed, and what was
-/// said stays said, in whole lines, unless a stream failed.
+/// Prints the report of the trunk in a folder and of its parts, and collects the one ledger of all. The parts are those
+/// of the trunk's open tables, in the order of their texts. What is wrong with the trunk or a part is said on `faults`
+/// behind its path. Accepted where the report says complete and nothing was wrong. Where it ends early no report is
+/// printed, and what was said stays said, in whole lines, unless a stream failed.
 pub fn join_parts<S: Parts, P: ReportForm, C: Collector, W: Write, E: Write>(
     alloc: Global,
     form: &P,
@@ -179,8 +190,11 @@ pub fn join_parts<S: Parts, P: ReportForm, C: Collector, W: Write, E: Write>(
     answers: &mut W,
     faults: &mut E,
 ) -> Result<Outcome, Ended>
-    ensures tells { IfOk result (TellsAll (P.is_text form.now) (S.finds parts.now) folder.now (C.text collector.old) (C.text collector.new) (W.contents answers.old) (W.contents answers.new) (E.contents faults.old) (E.contents faults.new)) }
-    ensures ended { IfErr result (λ e. EndsTelling (S.finds parts.now) folder.now e (W.contents answers.old) (W.contents answers.new) (E.contents faults.old) (E.contents faults.new)) }
+    ensures tells { IfOk result (TellsAll (P.is_text form.now) (S.finds parts.now) folder.now
+        (C.text collector.old) (C.text collector.new) (W.contents answers.old) (W.contents answers.new)
+        (E.contents faults.old) (E.contents faults.new)) }
+    ensures ended { IfErr result (λ e. EndsTelling (S.finds parts.now) folder.now e (W.contents answers.old)
+        (W.contents answers.new) (E.contents faults.old) (E.contents faults.new)) }
 {
     let (whole, is_sound) = gather(alloc, folder, parts, collector, faults)?;
     tell_whole(alloc, form, &whole, is_sound, answers)
@@ -194,8 +208,10 @@ fn gather<S: Parts, C: Collector, E: Write>(
     collector: &mut C,
     faults: &mut E,
 ) -> Result<(Whole, bool), Ended>
-    ensures ok { IfOk result (λ gathered. IsGathered (S.finds parts.now) folder.now gathered.0 gathered.1 (C.text collector.old) (C.text collector.new) (E.contents faults.old) (E.contents faults.new)) }
-    ensures err { IfErr result (λ e. EndsGathering (S.finds parts.now) folder.now e (E.contents faults.old) (E.contents faults.new)) }
+    ensures ok { IfOk result (λ gathered. IsGathered (S.finds parts.now) folder.now gathered.0 gathered.1
+        (C.text collector.old) (C.text collector.new) (E.contents faults.old) (E.contents faults.new)) }
+    ensures err { IfErr result (λ e. EndsGathering (S.finds parts.now) folder.now e (E.contents faults.old)
+        (E.contents faults.new)) }
 {
     let path = path_within(alloc, folder, TRUNK)?;
     let (trunk, left) = trunk_at(alloc, parts, &path)?;
@@ -241,8 +257,11 @@ fn add_parts<S: Parts, C: Collector, E: Write>(
 ) -> Result<bool, Ended>
     requires all { AreAll (IsOpenOn whole.old.trunk) roots.now }
     requires none { IsWhole whole.old [] }
-    ensures ok { IfOk result (λ sound. AreAdded (S.finds parts.now) folder.now roots.now whole.old.trunk whole.new sound (C.text collector.old) (C.text collector.new) (E.contents faults.old) (E.contents faults.new)) }
-    ensures err { IfErr result (λ e. EndsAdding (S.finds parts.now) folder.now roots.now e (E.contents faults.old) (E.contents faults.new)) }
+    ensures ok { IfOk result (λ sound. AreAdded
+        (S.finds parts.now) folder.now roots.now whole.old.trunk whole.new sound (C.text collector.old)
+        (C.text collector.new) (E.contents faults.old) (E.contents faults.new)) }
+    ensures err { IfErr result (λ e. EndsAdding (S.finds parts.now) folder.now roots.now e (E.contents faults.old)
+        (E.contents faults.new)) }
 {
     let mut are_sound = true;
     for root in roots {
@@ -261,8 +280,11 @@ fn tell_whole<P: ReportForm, W: Write>(
     is_sound: bool,
     answers: &mut W,
 ) -> Result<Outcome, Ended>
-    ensures ok { IfOk result (λ o. (parts : List Contents) → IsWhole whole.now parts → TellsParts (P.is_text form.now) whole.now.trunk parts is_sound (W.contents answers.old) (W.contents answers.new) o) }
-    ensures err { IfErr result (λ e. ((e ≡ Ended.NoMemory) × (W.contents answers.new ≡ W.contents answers.old)) ⊎ (e ≡ Ended.Stream)) }
+    ensures ok { IfOk result (λ o. (parts : List Contents) → IsWhole whole.now parts
+        → TellsParts (P.is_text form.now) whole.now.trunk parts is_sound (W.contents answers.old)
+        (W.contents answers.new) o) }
+    ensures err { IfErr result (λ e. ((e ≡ Ended.NoMemory) × (W.contents answers.new ≡ W.contents answers.old))
+        ⊎ (e ≡ Ended.Stream)) }
 {
     let status = whole.status();
     write_told(alloc, form, told_of(whole)?, &Left::Nothing, answers)?;
@@ -317,7 +339,9 @@ fn join_part<S: Parts, C: Collector, E: Write>(
     faults: &mut E,
 ) -> Result<bool, Ended>
     requires { IsOpenOn whole.old.trunk root.now × (Contains whole.old.roots root.now → ⊥) }
-    ensures ok { IfOk result (λ sound. MeetsPart (IsMet (S.finds parts.now) folder.now root.now) sound whole.old whole.new (C.text collector.old) (C.text collector.new) (E.contents faults.old) (E.contents faults.new)) }
+    ensures ok { IfOk result (λ sound. MeetsPart (IsMet
+        (S.finds parts.now) folder.now root.now) sound whole.old whole.new (C.text collector.old)
+        (C.text collector.new) (E.contents faults.old) (E.contents faults.new)) }
     ensures err { IfErr result (λ e. EndsPart e (E.contents faults.old) (E.contents faults.new)) }
 {
     let path = part_path(alloc, folder, root)?;
@@ -338,7 +362,9 @@ fn add_read<F: Read + Drop, C: Collector, E: Write>(
     faults: &mut E,
 ) -> Result<bool, Ended>
     requires { IsOpenOn whole.old.trunk root.now × (Contains whole.old.roots root.now → ⊥) }
-    ensures ok { IfOk result (λ sound. MeetsPart (IsMetIn (F.remaining file.reader) file.length path.now root.now) sound whole.old whole.new (C.text collector.old) (C.text collector.new) (E.contents faults.old) (E.contents faults.new)) }
+    ensures ok { IfOk result (λ sound. MeetsPart (IsMetIn
+        (F.remaining file.reader) file.length path.now root.now) sound whole.old whole.new (C.text collector.old)
+        (C.text collector.new) (E.contents faults.old) (E.contents faults.new)) }
     ensures err { IfErr result (λ e. EndsPart e (E.contents faults.old) (E.contents faults.new)) }
 {
     match load_from(alloc, &mut file.reader, file.length) {
@@ -364,7 +390,9 @@ fn add_loaded<C: Collector, E: Write>(
     faults: &mut E,
 ) -> Result<bool, Ended>
     requires { IsOpenOn whole.old.trunk root.now × (Contains whole.old.roots root.now → ⊥) }
-    ensures ok { IfOk result (λ sound. MeetsPart (IsMetAs part.now left.now path.now root.now) sound whole.old whole.new (C.text collector.old) (C.text collector.new) (E.contents faults.old) (E.contents faults.new)) }
+    ensures ok { IfOk result (λ sound. MeetsPart
+        (IsMetAs part.now left.now path.now root.now) sound whole.old whole.new (C.text collector.old)
+        (C.text collector.new) (E.contents faults.old) (E.contents faults.new)) }
     ensures err { IfErr result (λ e. EndsPart e (E.contents faults.old) (E.contents faults.new)) }
 {
     if *part.root() != *root {
@@ -382,7 +410,8 @@ fn add<C: Collector>(
     collector: &mut C,
 ) -> Result<(), Ended>
     requires { IsOpenOn whole.old.trunk part.now.root × (Contains whole.old.roots part.now.root → ⊥) }
-    ensures ok { OnOk result (AddGives whole.old part.now (Ok tt) whole.new × (C.text collector.new ≡ grown (C.text collector.old) (record_lines part.now.records))) }
+    ensures ok { OnOk result (AddGives whole.old part.now (Ok tt) whole.new
+        × (C.text collector.new ≡ grown (C.text collector.old) (record_lines part.now.records))) }
     ensures err { IfErr result FailsWriting }
 {
     match whole.add(part) {
@@ -400,7 +429,8 @@ fn says_left<E: Write>(
     left: &Left,
     faults: &mut E,
 ) -> Result<bool, Ended>
-    ensures ok { IfOk result (λ sound. (sound ≡ is_silent (left_line path.now left.now)) × Appends (E.contents faults.old) (E.contents faults.new) (left_line path.now left.now)) }
+    ensures ok { IfOk result (λ sound. (sound ≡ is_silent (left_line path.now left.now))
+        × Appends (E.contents faults.old) (E.contents faults.new) (left_line path.now left.now)) }
     ensures err { IfErr result (λ e. EndsPart e (E.contents faults.old) (E.contents faults.new)) }
 {
     match left {
@@ -416,7 +446,8 @@ fn says_left<E: Write>(
 
 // Says behind a path what is wrong there; so all isn't sound.
 fn says<E: Write>(alloc: Global, path: &str, what: &[u8], faults: &mut E) -> Result<bool, Ended>
-    ensures ok { IfOk result (λ sound. (sound ≡ false) × Appends (E.contents faults.old) (E.contents faults.new) (line_behind path.now what.now)) }
+    ensures ok { IfOk result (λ sound. (sound ≡ false)
+        × Appends (E.contents faults.old) (E.contents faults.new) (line_behind path.now what.now)) }
     ensures err { IfErr result (λ e. EndsPart e (E.contents faults.old) (E.contents faults.new)) }
 {
     let mut line = Vec::new(alloc);

@@ -18,7 +18,8 @@ pub trait Parts {
 
     /// Opens the ledger at a path; none where nothing is there. Errors: `File` where it can't be opened, `NoMemory`.
     fn open(&self, path: &str) -> Result<Option<Opened<Self::File>>, Ended>
-        ensures ok { IfOk result (λ found. finds self.now path.now (option_map (λ file. (Self.File.remaining file.reader, file.length)) found)) }
+        ensures ok { IfOk result (λ found. finds self.now path.now (option_map (λ file.
+            (Self.File.remaining file.reader, file.length)) found)) }
         ensures err { IfErr result FailsFile };
 
     /// Whether the ledger at a path is the one that is to be written, or would be lost where that is made. Errors: a link there

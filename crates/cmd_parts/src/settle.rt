@@ -30,8 +30,10 @@ pub fn settle_ledger<F: Read + Drop, L: LedgerOut, D: Decider, P: Progress, W: W
 ) -> Result<(), Ended>
     ensures settles { OnOk result (SettlesLedger (AtSomeTime D D.answers) (F.remaining held.reader) held.length
         (L.text ledger.old) (L.text ledger.new) (W.contents answers.old) (W.contents answers.new)) }
-    ensures ended { IfErr result (λ e. EndsLedgerAt (AtSomeTime D D.answers) (L.failures ledger.old ≢ L.failures ledger.new) e
-        (F.remaining held.reader) held.length (L.text ledger.old) (L.text ledger.new) (W.contents answers.old) (W.contents answers.new)) }
+    ensures ended { IfErr result (λ e. EndsLedgerAt (AtSomeTime D D.answers)
+        (L.failures ledger.old ≢ L.failures ledger.new) e
+        (F.remaining held.reader) held.length (L.text ledger.old) (L.text ledger.new) (W.contents answers.old)
+        (W.contents answers.new)) }
 {
     let (mut board, left) = load_held(alloc, held)?;
     settle_loaded(alloc, &mut board, &left, ledger, decider, progress, answers)

@@ -22,7 +22,8 @@ pub fn settle_ledger_at<H: Files, D: Decider, P: Progress, W: Write>(
     answers: &mut W,
 ) -> Result<(), Ended>
     ensures others { IsKeptBut (H.tells_same host.old) file.entry.path.now (H.holds host.old) (H.holds host.new) }
-    ensures settles { SettlesAt (AtSomeTime D D.answers) (H.locks file.entry.path.now) (H.tells_same host.old) file.entry.path.now
+    ensures settles { SettlesAt (AtSomeTime D D.answers) (H.locks file.entry.path.now)
+        (H.tells_same host.old) file.entry.path.now
         (H.holds host.old) (H.holds host.new) (W.contents answers.old) (W.contents answers.new) result }
 {
     let _lock = lock_ledger(host, file.path)?;

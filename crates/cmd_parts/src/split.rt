@@ -42,8 +42,10 @@ pub fn cmd_split<H: Files, D: Decider, P: Progress, W: Write, E: Write>(
 ) -> Outcome
     requires { (1 ≤ splitting.now.states) × (splitting.now.states ≤ state_limit) }
     ensures { (ended : Result Outcomes Ends)
-        × SplitsAt (AtSomeTime D D.answers) (H.locks (path_within splitting.now.folder.now (codes "trunk"))) (H.tells_same host.old) splitting.now.states splitting.now.filled
-        splitting.now.folder.now (H.holds host.old) (H.holds host.new) (W.contents answers.old) (W.contents answers.new) ended
+        × SplitsAt (AtSomeTime D D.answers) (H.locks (path_within splitting.now.folder.now (codes "trunk")))
+        (H.tells_same host.old) splitting.now.states splitting.now.filled
+        splitting.now.folder.now (H.holds host.old) (H.holds host.new) (W.contents answers.old)
+        (W.contents answers.new) ended
         × EndsTold ended (E.contents faults.old) (E.contents faults.new) result }
 {
     told(
@@ -62,8 +64,10 @@ pub fn split_in<H: Files, D: Decider, P: Progress, W: Write>(
     answers: &mut W,
 ) -> Result<Outcome, Ended>
     requires { (1 ≤ splitting.now.states) × (splitting.now.states ≤ state_limit) }
-    ensures { SplitsAt (AtSomeTime D D.answers) (H.locks (path_within splitting.now.folder.now (codes "trunk"))) (H.tells_same host.old) splitting.now.states splitting.now.filled
-        splitting.now.folder.now (H.holds host.old) (H.holds host.new) (W.contents answers.old) (W.contents answers.new) result }
+    ensures { SplitsAt (AtSomeTime D D.answers) (H.locks (path_within splitting.now.folder.now (codes "trunk")))
+        (H.tells_same host.old) splitting.now.states splitting.now.filled
+        splitting.now.folder.now (H.holds host.old) (H.holds host.new) (W.contents answers.old)
+        (W.contents answers.new) result }
 {
     let path = path_within(alloc, splitting.folder, TRUNK)?;
     begin_folder(host, splitting.folder, &path)?;
@@ -84,7 +88,8 @@ fn grown_trunk<H: Files, D: Decider, P: Progress>(
 ) -> Result<Board, Ended>
     requires { (1 ≤ splitting.now.states) × (splitting.now.states ≤ state_limit) }
     ensures root { IfOk result (λ board. board.root ≡ empty_table splitting.now.states) }
-    ensures grows { IfOk result (GrowsAt (AtSomeTime D D.answers) (H.tells_same host.old) splitting.now.states splitting.now.filled splitting.now.folder.now path.now
+    ensures grows { IfOk result (GrowsAt (AtSomeTime D D.answers)
+        (H.tells_same host.old) splitting.now.states splitting.now.filled splitting.now.folder.now path.now
         (H.holds host.old) (H.holds host.new)) }
     ensures tells { IsToldStill (H.tells_same host.old) (H.tells_same host.new) }
 {

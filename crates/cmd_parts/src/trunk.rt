@@ -41,11 +41,13 @@ pub fn grow_trunk<F: Read + Drop, G: Folder, L: LedgerOut, D: Decider, P: Progre
     progress: &mut P,
 ) -> Result<Board, Ended>
     requires { (1 ≤ n) × (n ≤ state_limit) }
-    ensures grows { IfOk result (λ board. GrowsTrunk (λ t. G.sees folder.now t (Ok false)) (AtSomeTime D D.answers) n limit
+    ensures grows { IfOk result (λ board. GrowsTrunk (λ t. G.sees folder.now t (Ok false))
+        (AtSomeTime D D.answers) n limit
         (F.remaining held.reader) held.length (L.text ledger.old) board (L.text ledger.new)) }
     ensures root { IfOk result (λ board. board.root ≡ empty_table n) }
     ensures all { IfOk result (λ board. (t : Packed) → IsOpenOn board t → limit ≤ filled_count t) }
-    ensures ended { IfErr result (λ e. EndsTrunk (G.sees folder.now) (AtSomeTime D D.answers) (L.failures ledger.old ≢ L.failures ledger.new) n limit e
+    ensures ended { IfErr result (λ e. EndsTrunk (G.sees folder.now) (AtSomeTime D D.answers)
+        (L.failures ledger.old ≢ L.failures ledger.new) n limit e
         (F.remaining held.reader) held.length (L.text ledger.old) (L.text ledger.new)) }
 {
     let (mut board, left, bytes) = load_tree(alloc, n, &mut held.reader, held.length)?;
@@ -56,7 +58,8 @@ pub fn grow_trunk<F: Read + Drop, G: Folder, L: LedgerOut, D: Decider, P: Progre
     Ok(board)
 }
 
-// The board of the trunk's ledger that a reader has in its first bytes, what of it wasn't kept, and how many bytes it has.
+// The board of the trunk's ledger that a reader has in its first bytes, what of it wasn't kept, and how many bytes it
+// has.
 fn load_tree<R: Read>(
     alloc: Global,
     n: u8,

@@ -2,7 +2,7 @@ use Rattle.std.proofs.Common.{inr, refl, sym, subst}
 use Rattle.std.proofs.lemmas.Result.{err_from_is_err_and}
 use Rattle.cmd_options.specs.declared.ended.Ended.{Ended}
 use Rattle.cmd_ledgers.specs.AtPath.{FailsWriting}
-use Rattle.cmd_parts.specs.AtPaths.{EndsJoiningInto, finds_at}
+use Rattle.cmd_parts.specs.AtPaths.{EndsCollecting, finds_at}
 use Rattle.cmd_parts.proofs.JoinAt.{not_made}
 use Rattle.cmd_parts.proofs.join.join_into.Goals as goal
 
@@ -17,7 +17,7 @@ returns-in_err-made-clause-joins g c =
     let new_faults = g.E.Write.contents c.joined.new.faults in
     let p = err_from_is_err_and c.from_residual-in_err-made.result c.from_residual-in_err-made.ensures.1 in
     rw p.1 (
-      subst (λ (e : Ended). EndsJoiningInto IsText Locks Finds c.args.folder.now said new_said faults new_faults e) (sym p.2)
+      subst (λ (e : Ended). EndsCollecting IsText Locks Finds c.args.folder.now said new_said faults new_faults e) (sym p.2)
           (not_made IsText c.args.folder.now said new_said faults new_faults Locks Finds _ c.in_err-made.ensures.err),
       λ path. refl,
     )

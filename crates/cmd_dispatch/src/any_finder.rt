@@ -69,6 +69,8 @@ fn finder_of(alloc: Global, letter: u8, search: &Search) -> Option<AnyFinder> {
         b'N' => Some(AnyFinder::Ngram(NgramFinder::new(alloc, search.gram))),
         b'F' => Some(AnyFinder::Far(FarFinder::new(alloc, search.far))),
         b'A' => Some(AnyFinder::Listed(WordFinder::new(alloc, search.words))),
+        // Without counts there are automata too, but 0 asks for none.
+        b'W' if search.count == 0 => None,
         b'W' => Some(AnyFinder::Counted(CountedFinder::new(alloc, search.count))),
         // A hard search alone looks tables up: of one of them the check takes half a minute.
         b'P' => None,

@@ -1,4 +1,4 @@
-use Rattle.std.proofs.Common.{◌≡◌, ℕ, List, ◌∷◌, ◌++◌, ◌+◌, ◌<◌, suc, flat_map, slice_index, drop, sym, ap, ◌∙◌, append_assoc, arith}
+use Rattle.std.proofs.Common.{◌≡◌, ℕ, List, ◌∷◌, ◌++◌, ◌+◌, ◌<◌, suc, flat_map, slice_index, drop, length, sym, ap, ◌∙◌, append_assoc, arith}
 use Rattle.std.proofs.Math.Seq.{drop-cons}
 use Rattle.cmd_options.specs.Kinds.{kind_letters}
 use Rattle.cmd_page.specs.Page.{count_html, kind_html}
@@ -11,7 +11,7 @@ loop-letter-preserved c =
     let row : ℕ → List ℕ = kind_html (slice_index c.args.kinds.now) in
     let rest = flat_map row (drop (k + 1) kind_letters) in
     let out = c.loop-letter.out.items in
-    let within : k < 9 = omega (arith, c.loop-letter-test.true) in
+    let within : k < length kind_letters = omega (arith, c.loop-letter-test.true) in
     let next : k + 1 ≡ suc k = omega arith in
     let more : c.append_count.new.out.items ≡ out ++ row letter =
     c.in_ok-append_count.ensures ∙ ap (λ (name : List ℕ). out ++ count_html name (slice_index c.args.kinds.now letter)) c.kind_label.ensures in

@@ -25,10 +25,16 @@ pub(crate) fn decide<S: Disk, R: Read, W: Write, E: Write>(
     call: Call<'_, S, R, W, E>,
     search: &Search,
 ) -> Result<Outcome, Ended> {
-    let mut decider = decider_for(call.alloc, search)?;
-    let reader = reader_of(call.system);
-    let (input, answers, faults) = (call.input, call.answers, call.faults);
-    decide_for(call.alloc, reader, &mut decider, input, answers, faults)
+    let Call {
+        alloc,
+        system,
+        input,
+        answers,
+        faults,
+    } = call;
+    let mut decider = decider_for(alloc, search)?;
+    let reader = reader_of(system);
+    decide_for(alloc, reader, &mut decider, input, answers, faults)
 }
 
 // Who reads what is said on standard error.

@@ -79,8 +79,7 @@ module _ (t : TuringMachine) (m : Machine) (same : IsSameMachine t m) where
     where
       inside : (q : ℕ) (s : Symbol) (a : Action) → t q s ≡ Some a → (q < n) × (a.next < n)
       inside q s a is =
-          let entry = same q s ∙ ap as_entry_where is in
-          (
+          let entry = same q s ∙ ap as_entry_where is in (
             elim (cases_lt q n) [
               | inl less ↦ less
               | inr past ↦ absurd (none-some (as_entry a) (sym (machine.beyond q (as_sym s) past) ∙ entry))

@@ -67,8 +67,7 @@ ones_back zero tape ones same size = λ x.
     let none = ap (λ r. set.contains r x) (set.empty_of_len ones (sym size)) ∙ set.contains-empty int_cmp x in
     blank_is (set.contains ones x) (tape x) (same x) none
 ones_back (suc s) tape ones same size =
-    let (x, member) = some_member ones s size in
-    (
+    let (x, member) = some_member ones s size in (
       x,
       one_is (set.contains ones x) (tape x) (same x) member,
       ones_back s (with_symbol tape x Blank) (set.remove ones x) (same_written tape ones same x Blank) (let e = one_fewer ones x member in omega arith),

@@ -1,5 +1,5 @@
 -- What is the same of a machine written in both ways has the same greatest number over all machines of n states.
-use Rattle.std.proofs.Common.{◌↔◌, ℕ, ◌≤◌}
+use Rattle.std.proofs.Common.{◌↔◌, ℕ}
 use Rattle.law_turing.specs.Machine.{Machine}
 use Rattle.law_turing.specs.Halting.{HaltsAt, IsRado}
 use Rattle.law_tree.specs.Best.{Scores, IsGreatestOfAll}

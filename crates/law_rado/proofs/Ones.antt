@@ -4,12 +4,9 @@ use Rattle.std.specs.Ordering.{int_cmp, int_eq}
 use Rattle.std.specs.FinSet as set
 use Rattle.std.specs.List.{list_any}
 use Rattle.std.proofs.lemmas.Cmp.{int_cmp_total}
-use Rattle.machine_text.specs.declared.transition.Sym.{Sym}
 use Rattle.machine_text.specs.declared.transition.Sym.TheVariants as sym_of
 use Rattle.law_turing.specs.Machine.{Machine}
-use Rattle.law_turing.specs.Tape.{cell_of, with_cell}
 use Rattle.law_turing.specs.Run.{Config}
-use Rattle.law_turing.specs.Score.{score_of}
 use Rattle.law_turing.proofs.Cells.{tied_here}
 use Rattle.law_tree.specs.Best.{Scores}
 use Rattle.law_rado.specs.BusyBeaver.{Symbol, Blank, One, TuringMachine, TapeOf, Configuration, with_symbol, HoldsOnes, HaltsWithOnes}

@@ -1,19 +1,18 @@
 -- A machine written in both ways: its configurations stay the same, place by place, so it halts in the same step.
-use Rattle.std.proofs.Common.{◌≡◌, ◌↔◌, ℕ, zero, suc, Bool, true, false, cond, not, ◌||◌, ◌&&◌, ℤ, pos, ◌+ℤ◌, ◌-ℤ◌, Option, Some, None, sym, ◌∙◌, ap, subst, refl}
+use Rattle.std.proofs.Common.{◌≡◌, ◌↔◌, ℕ, zero, suc, Bool, true, false, cond, not, ◌||◌, ◌&&◌, ℤ, Option, Some, None, sym, ◌∙◌, ap, subst, refl}
 use Rattle.std.specs.Ordering.{int_cmp, int_eq}
 use Rattle.std.specs.FinSet as set
 use Rattle.std.proofs.lemmas.Cmp.{int_cmp_total}
-use Rattle.std.proofs.lemmas.Option.{same_Some, none-some}
+use Rattle.std.proofs.lemmas.Option.{none-some}
 use Rattle.machine_text.specs.declared.transition.Sym.{Sym}
 use Rattle.machine_text.specs.declared.transition.Sym.TheVariants as sym_of
-use Rattle.machine_text.specs.declared.transition.Entry.{Entry}
 use Rattle.law_turing.specs.Machine.{Machine}
 use Rattle.law_turing.specs.Tape.{cell_of, with_cell, symbol_read, moved_head}
-use Rattle.law_turing.specs.Run.{Config, cell, start, done_by, next, next_from, after}
+use Rattle.law_turing.specs.Run.{Config, cell, start, done_by, next_from, after}
 use Rattle.law_turing.specs.Halting.{HaltsAt}
 use Rattle.law_turing.proofs.RunLaws.{from_zero, from_suc}
-use Rattle.law_rado.specs.BusyBeaver.{Symbol, Blank, One, Direction, Left, Right, Action, TuringMachine, TapeOf, Configuration, first_configuration, with_symbol, beside, acted_by, action_in, stepped_from, after_steps, HaltsInSteps}
-use Rattle.law_rado.specs.SameMachine.{as_sym, as_dir, as_entry, as_entry_where, IsSameMachine}
+use Rattle.law_rado.specs.BusyBeaver.{Symbol, Direction, Left, Right, Action, TuringMachine, TapeOf, Configuration, first_configuration, with_symbol, beside, acted_by, action_in, stepped_from, after_steps, HaltsInSteps}
+use Rattle.law_rado.specs.SameMachine.{as_sym, as_dir, as_entry_where, IsSameMachine}
 
 -- the set of places where ones stand is that of a tape
 abbrev pub AreSameCells : TapeOf → set.FinSet int_cmp → Type 0
@@ -68,6 +67,19 @@ same_done c d same (Some a) = record {
   cells = subst (λ x. AreSameCells (with_symbol c.tape x a.write) (with_cell d.tape.ones d.tape.head (as_sym a.write))) same.head (same_written c.tape d.tape.ones same.cells d.tape.head a.write);
 }
 
+-- where the one is, so is the other
+there_is : (c : Configuration) (p : Option Config) → AreSame (Some c) p → (d : Config) × (p ≡ Some d) × IsSameConfig c d
+there_is c None is = absurd is
+there_is c (Some d) is = (d, refl, is)
+
+back_is : (o : Option Configuration) (d : Config) → AreSame o (Some d) → (c : Configuration) × (o ≡ Some c) × IsSameConfig c d
+back_is None d is = absurd is
+back_is (Some c) d is = (c, refl, is)
+
+no_action : (d : Config) (o : Option Action) → done_by d (as_entry_where o) ≡ None → o ≡ None
+no_action d None none = refl
+no_action d (Some a) none = absurd (none-some _ (sym none))
+
 module _ (t : TuringMachine) (m : Machine) (same : IsSameMachine t m) where
   same_entry : (c : Configuration) (d : Config) → IsSameConfig c d → m d.state (symbol_read d.tape) ≡ as_entry_where (action_in t c)
   same_entry c d is = ap (λ q. m q (symbol_read d.tape)) is.state ∙ ap (m c.state) (ap (cell d) is.head ∙ is.cells c.head) ∙ same c.state (c.tape c.head)
@@ -81,19 +93,6 @@ module _ (t : TuringMachine) (m : Machine) (same : IsSameMachine t m) where
   same_after : (k : ℕ) → AreSame (after_steps t k) (after m k)
   same_after zero = subst (AreSame (Some first_configuration)) (sym (from_zero m start)) at_first
   same_after (suc k) = subst (AreSame (stepped_from t (after_steps t k))) (sym (from_suc m k start)) (same_step (after_steps t k) (after m k) (same_after k))
-
-  -- where the one is, so is the other
-  there_is : (c : Configuration) (p : Option Config) → AreSame (Some c) p → (d : Config) × (p ≡ Some d) × IsSameConfig c d
-  there_is c None is = absurd is
-  there_is c (Some d) is = (d, refl, is)
-
-  back_is : (o : Option Configuration) (d : Config) → AreSame o (Some d) → (c : Configuration) × (o ≡ Some c) × IsSameConfig c d
-  back_is None d is = absurd is
-  back_is (Some c) d is = (c, refl, is)
-
-  no_action : (d : Config) (o : Option Action) → done_by d (as_entry_where o) ≡ None → o ≡ None
-  no_action d None none = refl
-  no_action d (Some a) none = absurd (none-some _ (sym none))
 
   -- it halts on the same configuration
   pub halts_there : (k : ℕ) (h : HaltsInSteps t k) → (g : HaltsAt m k) × IsSameConfig h.last g.at

@@ -1,4 +1,8 @@
 -- What S(n) and Σ(n) are (Radó 1962), whole: all that stands here is made of whole numbers and options.
+--
+-- How to read it: `(x : A) → B` is "for each x of A", also the functions from A to B, `(x : A) × B` is "there is one",
+-- and `×` between facts is "and". ℕ has `zero` and `suc k`, which is k + 1; ℤ has the whole numbers, `pos k` among them;
+-- `Some a` is there, `None` isn't. `λ x. ..` is a function of x, `c.state` a field of the record c.
 use Rattle.std.specs.Prelude.{◌≡◌, ℕ, zero, suc, ◌<◌, ◌≤◌, ℤ, pos, ◌+ℤ◌, ◌-ℤ◌, if◌then◌else◌, Option, Some, None}
 use Rattle.std.specs.Ordering.{int_eq}
 
@@ -76,7 +80,8 @@ pub record HaltsInSteps (m : TuringMachine) (k : ℕ) : Type 0 where
   pub halts : action_in m last ≡ None
   pub count : k ≡ suc before
 
--- so many cells of a tape hold a one: it is blank, or one of its cells holds a one and, made blank, leaves one fewer
+-- so many cells of a tape hold a one: none where all are blank, and otherwise one more than are left when a cell that
+-- holds a one is made blank
 abbrev pub HoldsOnes : ℕ → TapeOf → Type 0
 HoldsOnes zero tape = (x : ℤ) → tape x ≡ Blank
 HoldsOnes (suc s) tape = (x : ℤ) × (tape x ≡ One) × HoldsOnes s (with_symbol tape x Blank)

@@ -1,5 +1,5 @@
 // The definitions of `BusyBeaver` say the same as those that the other crates speak of.
-ghost use Rattle.std.specs.Prelude.{◌≡◌, ◌↔◌, ℕ};
+ghost use Rattle.std.specs.Prelude.{◌↔◌, ℕ};
 ghost use Rattle.law_turing.specs.Machine.{Machine, IsMachine};
 ghost use Rattle.law_turing.specs.Halting.{HaltsAt, IsRado};
 ghost use Rattle.law_tree.specs.Best.{Scores, IsGreatestOfAll};

@@ -4,6 +4,7 @@ use Rattle.law_turing.specs.Machine.{Machine}
 use Rattle.law_turing.specs.Halting.{HaltsAt, IsRado}
 use Rattle.law_tree.specs.Best.{Scores, IsGreatestOfAll}
 use Rattle.law_tree.proofs.Rado.{rado_is_greatest}
+use Rattle.ledger.specs.Sigma.{IsSigma}
 use Rattle.law_rado.specs.BusyBeaver.{TuringMachine, HaltsInSteps, HaltsWithOnes, IsGreatest, IsS, IsSigmaOf}
 use Rattle.law_rado.specs.SameMachine.{IsSameMachine}
 use Rattle.law_rado.proofs.Machines.{machine_there, machine_back, same_states}
@@ -40,5 +41,15 @@ greatest_steps n s =
     let all = same_greatest HaltsInSteps HaltsAt same_halts n s in
     (λ r. all.0 (rado.1 r), λ g. rado.0 (all.1 g))
 
-pub greatest_score : (n s : ℕ) → IsGreatestOfAll Scores n s ↔ IsSigmaOf n s
-greatest_score = same_greatest HaltsWithOnes Scores same_score
+-- of the scores that is the greatest score
+sigma_is_greatest : (n s : ℕ) → IsGreatestOfAll Scores n s ↔ IsSigma n s
+sigma_is_greatest n s = (
+  λ g. record { champion = g.champion; is_machine = g.is_machine; scores = g.worth; greatest = g.greatest },
+  λ r. record { champion = r.champion; is_machine = r.is_machine; worth = r.scores; greatest = r.greatest },
+)
+
+pub greatest_score : (n s : ℕ) → IsSigma n s ↔ IsSigmaOf n s
+greatest_score n s =
+    let sigma = sigma_is_greatest n s in
+    let all = same_greatest HaltsWithOnes Scores same_score n s in
+    (λ r. all.0 (sigma.1 r), λ g. sigma.0 (all.1 g))

@@ -1,8 +1,9 @@
 -- What S(n) and Σ(n) are (Radó 1962), whole: all that stands here is made of whole numbers and options.
 --
--- How to read it: `(x : A) → B` is "for each x of A", also the functions from A to B, `(x : A) × B` is "there is one",
--- and `×` between facts is "and". ℕ has `zero` and `suc k`, which is k + 1; ℤ has the whole numbers, `pos k` among them;
--- `Some a` is there, `None` isn't. `λ x. ..` is a function of x, `c.state` a field of the record c.
+-- How to read it: `(x : A) → B` is "for each x of A, B", and `A → B` also the functions from A to B; `(x : A) × B` is
+-- "there is an x of A with B", `A × B` is "A and B", `≡` "is equal to"; `Type 0` are the types and the statements. ℕ has
+-- `zero` and `suc k`, which is k + 1; ℤ are the whole numbers, `pos k` is k as one of them, and `int_eq` tells whether
+-- two are equal. `Some a` is a, `None` is nothing. `λ x. ..` is a function of x, `c.state` a field of the record c.
 use Rattle.std.specs.Prelude.{◌≡◌, ℕ, zero, suc, ◌<◌, ◌≤◌, ℤ, pos, ◌+ℤ◌, ◌-ℤ◌, if◌then◌else◌, Option, Some, None}
 use Rattle.std.specs.Ordering.{int_eq}
 
@@ -72,7 +73,9 @@ abbrev pub after_steps : TuringMachine → ℕ → Option Configuration
 after_steps m zero = Some first_configuration
 after_steps m (suc k) = stepped_from m (after_steps m k)
 
--- it halts in k steps: after k - 1 of them it has no action. The halting step counts
+-- it halts in k steps: after k - 1 of them it has no action, and the halting step counts. (Radó's machines have an action
+-- there too, which writes, moves and halts. It is left out here: it changes nothing but the score, and that is greatest
+-- where it writes a one.)
 pub record HaltsInSteps (m : TuringMachine) (k : ℕ) : Type 0 where
   pub before : ℕ
   pub last : Configuration
@@ -86,7 +89,7 @@ abbrev pub HoldsOnes : ℕ → TapeOf → Type 0
 HoldsOnes zero tape = (x : ℤ) → tape x ≡ Blank
 HoldsOnes (suc s) tape = (x : ℤ) × (tape x ≡ One) × HoldsOnes s (with_symbol tape x Blank)
 
--- it halts with the score s: the ones on its tape after the halting step, which writes a one
+-- it halts with the score s: so many ones are on its tape after the halting step, which writes a one
 pub record HaltsWithOnes (m : TuringMachine) (s : ℕ) : Type 0 where
   pub steps : ℕ
   pub halts : HaltsInSteps m steps

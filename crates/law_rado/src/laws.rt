@@ -2,7 +2,8 @@
 ghost use Rattle.std.specs.Prelude.{◌↔◌, ℕ};
 ghost use Rattle.law_turing.specs.Machine.{Machine, IsMachine};
 ghost use Rattle.law_turing.specs.Halting.{HaltsAt, IsRado};
-ghost use Rattle.law_tree.specs.Best.{Scores, IsGreatestOfAll};
+ghost use Rattle.law_tree.specs.Best.{Scores};
+ghost use Rattle.ledger.specs.Sigma.{IsSigma};
 ghost use Rattle.law_rado.specs.BusyBeaver.{TuringMachine, HasStates, HaltsInSteps, HaltsWithOnes, IsS, IsSigmaOf};
 ghost use Rattle.law_rado.specs.SameMachine.{IsSameMachine};
 
@@ -23,5 +24,5 @@ pub fn rado_is_greatest_steps()
 
 /// The greatest score of all machines of n states is Σ(n).
 pub fn sigma_is_greatest_score()
-    ensures { (n s : ℕ) → IsGreatestOfAll Scores n s ↔ IsSigmaOf n s }
+    ensures { (n s : ℕ) → IsSigma n s ↔ IsSigmaOf n s }
 {}

@@ -1,9 +1,9 @@
 -- What S(n) and Σ(n) are (Radó 1962), whole: all that stands here is made of whole numbers and options.
 --
 -- How to read it: `(x : A) → B` is "for each x of A, B", and `A → B` also the functions from A to B; `(x : A) × B` is
--- "there is an x of A with B", `A × B` is "A and B", `≡` "is equal to"; `Type 0` are the types and the statements. ℕ has
--- `zero` and `suc k`, which is k + 1; ℤ are the whole numbers, `pos k` is k as one of them, and `int_eq` tells whether
--- two are equal. `Some a` is a, `None` is nothing. `λ x. ..` is a function of x, `c.state` a field of the record c.
+-- "there is an x of A with B", `A × B` is "A and B", `≡` "is equal to"; `Type 0` has the types and the statements.
+-- ℕ has `zero` and `suc k`, which is k + 1; ℤ has all whole numbers, `pos k` is k as one of them, and `int_eq` tells
+-- whether two are equal. `Some a` is a, `None` is nothing. `λ x. ..` is a function of x, `c.state` a field of c.
 use Rattle.std.specs.Prelude.{◌≡◌, ℕ, zero, suc, ◌<◌, ◌≤◌, ℤ, pos, ◌+ℤ◌, ◌-ℤ◌, if◌then◌else◌, Option, Some, None}
 use Rattle.std.specs.Ordering.{int_eq}
 
@@ -73,9 +73,9 @@ abbrev pub after_steps : TuringMachine → ℕ → Option Configuration
 after_steps m zero = Some first_configuration
 after_steps m (suc k) = stepped_from m (after_steps m k)
 
--- it halts in k steps: after k - 1 of them it has no action, and the halting step counts. (Radó's machines have an action
--- there too, which writes, moves and halts. It is left out here: it changes nothing but the score, and that is greatest
--- where it writes a one.)
+-- it halts in k steps: after k - 1 of them it has no action, and the halting step counts. (Radó's machines have an
+-- action there too, which writes, moves and halts. It is left out here: it changes nothing but the score, and that is
+-- greatest where it writes a one.)
 pub record HaltsInSteps (m : TuringMachine) (k : ℕ) : Type 0 where
   pub before : ℕ
   pub last : Configuration

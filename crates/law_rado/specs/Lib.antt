@@ -1,0 +1,2 @@
+pub mod BusyBeaver
+pub mod SameMachine

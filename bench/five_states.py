@@ -1,5 +1,5 @@
 #!/usr/bin/env python3
-"""What docs/FIVE.md says of five states: their tree is split, its parts are settled and those with holdouts tried again twice (and
+"""Five states with holdouts tried again: their tree is split, its parts are settled and those with holdouts tried again twice (and
 settled again, where that opened tables), and all is told of by bb join. Prints of each pass the time on the clock, the
 processor minutes, how many holdouts there are after it, and of which kinds those are that were settled so far; then how many
 records of each kind the ledgers hold, their bytes, the most memory that a process had, and the report.

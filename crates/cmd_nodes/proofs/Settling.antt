@@ -88,7 +88,7 @@ module _ (IsText : FormText) (n : ℕ) (IsKept : Contents → Type 0) (held new_
       } in
       subst (λ (x : Outcome). SettlesTree IsText n IsKept held new_held (Ok x)) (sym reports.ends) (by_status b reports.status some limit of_tree reports.stands)
 
-  -- or why there is none
+  -- a report, or why there is none
   pub reported : (c : Coordinating) (r : Result Outcome Ended) → 1 ≤ n → n ≤ state_limit → IsOfRoot (empty_table n) c → ((leased : Leased) → c.held ≡ Some leased → IsKept leased.board)
       → IfOk r (λ o. IfSome c.held (λ leased. ReportsBoard IsText leased.board held new_held o)) → IfErr r (λ e. (new_held ≡ held) ⊎ (e ≡ Stream)) → SettlesTree IsText n IsKept held new_held r
   reported c (Ok o) some limit has kept ok err = settles c o some limit has kept ok
@@ -117,7 +117,7 @@ module _ (IsText : FormText) (n : ℕ) (IsKept : Contents → Type 0) (held new_
   done_tells NoMemory so = absurd so
   done_tells Failed so = absurd so
 
-  -- and so the outcome tells
+  -- what the outcome tells
   pub tells : (ended : Result Outcome Ended) (said new_said : Option (List ℕ)) (o : Outcome) → SettlesTree IsText n IsKept held new_held ended → EndsTold ended said new_said o
       → TellsTree IsText n IsKept held new_held o
   tells (Ok done) said new_said o so told = subst (TellsTree IsText n IsKept held new_held) (sym told.0) (done_tells done so)

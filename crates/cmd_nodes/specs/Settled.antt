@@ -46,8 +46,8 @@ pub record ReportsTree (IsText : FormText) (n : ℕ) (IsKept : Contents → Type
   pub appends : Appends held new_held written
   pub kept : IsKept board
 
--- the board is complete: its best, the greatest number of steps that it has, is S(n), and its ones, the greatest
--- score, are Σ(n) (Radó 1962)
+-- a complete board is reported: its best, the greatest number of steps that it has, is S(n), and its ones, the
+-- greatest score, are Σ(n) (Radó 1962)
 pub record ReportsComplete (IsText : FormText) (n : ℕ) (IsKept : Contents → Type 0) (held new_held : Option (List ℕ)) : Type 0 where
   pub board : Contents
   pub reports : ReportsTree IsText n IsKept held new_held board
@@ -59,7 +59,7 @@ pub record ReportsComplete (IsText : FormText) (n : ℕ) (IsKept : Contents → 
   pub are_ones : IsGreatestOnes board.records (Some ones)
   pub is_sigma : IsSigma n ones
 
--- or it isn't
+-- a board is reported that isn't complete
 pub record ReportsIncomplete (IsText : FormText) (n : ℕ) (IsKept : Contents → Type 0) (held new_held : Option (List ℕ)) : Type 0 where
   pub board : Contents
   pub reports : ReportsTree IsText n IsKept held new_held board

@@ -41,7 +41,8 @@ pub fn cmd_coord<F: Read + Drop, L: LedgerOut, R: Read, W: Write, E: Write>(
 ) -> Outcome
     requires { (1 ≤ beginning.states) × (beginning.states ≤ state_limit) }
     ensures { (ended : Result Outcomes Ends)
-        × IfOk ended (CoordinatesTree beginning.states (KeepsLedger F.remaining held (L.text ledger.old) (L.text ledger.new)))
+        × IfOk ended
+        (CoordinatesTree beginning.states (KeepsLedger F.remaining held (L.text ledger.old) (L.text ledger.new)))
         × EndsTold ended (E.contents faults.old) (E.contents faults.new) result }
 {
     told(
@@ -125,7 +126,7 @@ fn carry_out_first<L: LedgerOut>(
     }
 }
 
-// Answers what comes, to the end of the input. What was answered before a fault is sent all the same.
+// Answers what comes, to the end of the input.
 fn serve<N: Node, L: LedgerOut, R: Read, W: Write>(
     alloc: Global,
     node: &mut N,
@@ -165,6 +166,7 @@ fn take_turns<N: Node, L: LedgerOut, R: Read, W: Write>(
     Ok(())
 }
 
+// Takes one turn; a fault of it ends the command.
 fn take_turn<N: Node, K: Link, L: LedgerOut>(
     node: &mut N,
     lines: &mut Lines,

@@ -38,8 +38,8 @@ pub struct Run<'a, P, N, C> {
 
 /// Settles the tree of the empty table by a coordinator and workers, and prints the report in a form. The
 /// coordinator's board begins with what `held` reads, and its records go to `ledger`. Accepted where the board is
-/// complete at the end. What ends the command early is said on `faults`, and so is how far it is, where that is asked
-/// for.
+/// complete at the end: then what is printed is the report of a complete board, whose best is S(n) and whose ones are
+/// Σ(n). What ends the command early is said on `faults`, and so is how far it is, where that is asked for.
 #[tactic(auto, using(crate::proofs::Settling::tells))]
 pub fn cmd_run<
     P: ReportForm,

@@ -81,7 +81,7 @@ root_test o b root t r is root_is r_is = (
   λ h. r_is ∙ same_at root t (root_is ∙ subst (λ (p : Option Contents). HasRoot p t) is h),
 )
 
--- and that it is in order
+-- a board's root is in order
 pub root_order : (b : Contents) (root t : Packed) (r : Bool) → IsBoard b → root ≡ b.root → r ≡ same_table root t → r ≡ true → (u : ℕ) × InOrder u (entry_of t)
 root_order b root t r board root_is r_is h =
     subst (λ (p : Packed). (u : ℕ) × InOrder u (entry_of p)) (sym root_is ∙ same_is root t (sym r_is ∙ h)) board.in_order

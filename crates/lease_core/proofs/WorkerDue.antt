@@ -109,7 +109,7 @@ asks_row {D = D} kept old new out due view rests due_is empty idle says same =
     subst (λ (r : Bool). TickBy r (unacknowledged old.acknowledged (records_on old.board)) old out new) (sym works)
     (subst (λ (rs : List Recorded). TickBy false rs old out new) (sym none) (inr (idle, asks, forgets)))
 
--- what is sent at a tick takes memory: records that are due
+-- a tick at which records are due takes memory
 some_due : {D : Type 0} (w : WorkerState D) (rs : List Recorded) → (rs ≡ [] → ⊥) → MayGrowBy false rs w
 some_due w [] some = absurd (some refl)
 some_due w (r ∷ rs) some = tt
@@ -119,7 +119,7 @@ grows_due {D = D} kept old view rests due =
     let works = sym (ap (λ (w : WorkerState D). w.rests) view) ∙ rests in
     subst (λ (b : Bool). MayGrowBy b (unacknowledged old.acknowledged (records_on old.board)) old) (sym works) (some_due old (unacknowledged old.acknowledged (records_on old.board)) due)
 
--- or that it asks
+-- a tick at which it asks takes memory
 pub grows_asking : {D : Type 0} (kept old : WorkerState D) (due : List ℕ) → kept ≡ old → kept.rests ≡ false
     → due ≡ frames_of (map Rec (take tick_record_limit (unacknowledged old.acknowledged (records_on old.board)))) → due ≡ [] → (MayWork old.board → ⊥) → MayGrowAtTick old
 grows_asking {D = D} kept old due view rests due_is empty idle =

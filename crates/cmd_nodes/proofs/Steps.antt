@@ -10,6 +10,8 @@ use Rattle.leases.specs.Leases.{Leased, no_leases}
 use Rattle.lease_core.specs.CoordinatorRules.{Coordinating, On}
 use Rattle.lease_core.specs.Starts.{HeldInStep, InStep, StartsFrom}
 use Rattle.lease_core.specs.declared.start_fault.StartFault.{StartFault}
+use Rattle.files.specs.Opened.{IsLedgerOn}
+use Rattle.files.specs.Paths.{Known, Unknown, Missing, Bytes, IsLedgerAt}
 use Rattle.files.specs.declared.opened.Opened.{Opened}
 use Rattle.cmd_nodes.specs.Settled.{IsOfLedger, KeepsLedger}
 use Rattle.cmd_nodes.specs.inside.{Becomes, IsServed, IsOfRoot, KeepsStep, StartsInStep}
@@ -69,3 +71,9 @@ pub ledger_kept : {F : Type 0} (remaining : F → Option (List ℕ)) (held : Res
     → last.held ≡ Some leased → StartsInStep remaining held old then first → KeepsStep (λ c text. InStep c text) first last then new → KeepsLedger remaining held old new leased.board
 ledger_kept remaining (Ok opened) old then new first last leased is starts step = λ was. subst (λ (o : Option Leased). IfSome new (HeldInStep o)) is (step (starts was))
 ledger_kept remaining (Err fault) old then new first last leased is starts step = tt
+
+-- what is opened at a path is one ledger, where it is known what stands there
+pub of_path : (known : Known) (has : Option (List ℕ)) (len : ℕ) (text : Option (List ℕ)) → (known ≡ Unknown → ⊥) → IsLedgerOn known has len → IsLedgerAt known text → IsOfLedger has len text
+of_path Unknown has len text some on at = absurd (some refl)
+of_path Missing has len text some on at = record { bytes = []; is_read = on.0; is_all = on.1; is_held = at }
+of_path (Bytes bytes) has len text some on at = record { bytes = bytes; is_read = on.0; is_all = on.1; is_held = at }

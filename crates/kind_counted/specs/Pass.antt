@@ -1,5 +1,6 @@
 -- The pass by which counted automata are judged. Whether they stand is said without it (law_counted's `Counted`). But
--- where a number gets too large, it ends (203), and which numbers come up depends on how it goes: so it is said here.
+-- where a number gets too large, it ends (203), and which numbers come up depends on how it goes: so it is said here,
+-- over lists and whole numbers. Of refused memory it says nothing.
 use Rattle.std.specs.Prelude.{◌≡◌, ℕ, zero, suc, ◌+◌, ◌-◌, ◌<◌, ◌==◌, ◌&&◌, not, nat_le, if◌then◌else◌, Bool, true, pos, ◌+ℤ◌, ◌-ℤ◌, int_lt, int_div, int_rem, unsigned_abs, List, [], ◌∷◌, ◌++◌, Option, Some, None, Result, Ok, Err, IsTrue, ◌↔◌}
 use Rattle.std.specs.List.{range_with_len}
 use Rattle.machine_text.specs.Packed.{symbol_number}
@@ -41,7 +42,7 @@ walk step s (x ∷ xs) = step s x >>= λ s. walk step s xs
 abbrev pub each : {A : Type 0} → (A → Answer (Unit {0})) → List A → Answer (Unit {0})
 each test xs = walk (λ _ x. test x) tt xs
 
--- numbers: a point, where none of its numbers is too large
+-- whether no number of a point is too large, and the point where none is
 unfoldable pub is_small : Point → Bool
 is_small v = each_below (λ x. nat_le (unsigned_abs (v x)) number_limit) count_limit
 
@@ -107,7 +108,7 @@ zero_of x base rest (Some carrier) = cleared x base carrier >>= λ base. Ok (rec
 unfoldable pub zero_at : ℕ → Coset → Answer Coset
 zero_at x k = walk (add x) (split_rows None []) k.rows >>= λ s. zero_of x k.base s.rest s.carrier
 
--- and those that are 0 in each count of a list that is unused at a state
+-- the members that are 0 in each count of a list that is unused at a state
 abbrev pub kept_at : (ℕ → ℕ → Bool) → ℕ → Coset → ℕ → Answer Coset
 kept_at unused q k x = if unused q x then zero_at x k else Ok k
 
@@ -160,12 +161,12 @@ unfoldable pub settled_by : CountedSystem → (ℕ → ℕ → Bool) → Coset �
 settled_by w unused k side by next q b last =
     moved_coset k by.count last.count >>= λ k. settled_if_any w (moved_to side by.to next b q) (kept unused q (counts_of w.split side) k)
 
--- where it had been read from a state, if it can have been
+-- where it had been read from a state by a symbol, if it can have been
 abbrev pub settled_from : CountedSystem → (ℕ → ℕ → Bool) → Local → Coset → Dir → Transition → State → ℕ → Sym → Option Transition → Answer (Unit {0})
 settled_from w unused c k side by next q b None = passes
 settled_from w unused c k side by next q b (Some last) = if last.to == state_on side c then settled_by w unused k side by next q b last else passes
 
--- and by 0 and by 1
+-- where it had been read by 0, and by 1, from a state
 unfoldable pub settled_at : CountedSystem → (ℕ → ℕ → Bool) → Local → Coset → Dir → Transition → State → ℕ → Answer (Unit {0})
 settled_at w unused c k side by next q =
     settled_from w unused c k side by next q Zero (delta w side q Zero) >>= λ _. settled_from w unused c k side by next q One (delta w side q One)
@@ -174,7 +175,7 @@ settled_at w unused c k side by next q =
 unfoldable pub states_from : ℕ → List ℕ
 states_from q = range_with_len q (half_state_limit - q)
 
--- from each state
+-- where it had been read from any state
 abbrev pub settled_on : CountedSystem → (ℕ → ℕ → Bool) → Local → Coset → Dir → Transition → State → Answer (Unit {0})
 settled_on w unused c k side by next = each (settled_at w unused c k side by next) (states_from 0)
 

@@ -1,7 +1,6 @@
 // Whether counted automata stand for a table.
 ghost use Rattle.std.specs.Prelude.{◌≡◌, ◌↔◌, ◌≤◌, length, IsTrue, Some, Err, IfOk, OnErr, IfSome, IfNone};
 ghost use Rattle.machine_text.specs.Packed.{entry_of};
-ghost use Rattle.law_turing.specs.Halting.{Never};
 ghost use Rattle.law_turing.specs.Mirror.{opposite};
 ghost use Rattle.law_counted.specs.Cosets.{zeros, IsMember};
 ghost use Rattle.law_counted.specs.Counted.{delta, HasCoset, Remains, Settled, LeadsOn, CountedStand, moved_to, state_on};
@@ -38,10 +37,10 @@ struct Step {
 }
 
 impl CountedAutomata {
-    /// Whether counted automata stand for a table. One for which they do never halts.
+    /// Whether counted automata stand for a table: `Fails` where they don't, `TooLarge` where a number gets too large in
+    /// the pass.
     pub fn check(&self, alloc: Global, t: &Table) -> Result<(), Refused>
         ensures stands { IfOk result (λ _. CountedStand (entry_of t.now) (counted_of self.now)) }
-        ensures never { IfOk result (λ _. Never (entry_of t.now)) }
         ensures fails { result ≡ Err Refused.Fails → CountedStand (entry_of t.now) (counted_of self.now) → ⊥ }
         ensures large { result ≡ Err Refused.TooLarge → GetTooLarge (entry_of t.now) (counted_of self.now) }
         ensures small { IfOk result (λ _. GetTooLarge (entry_of t.now) (counted_of self.now) → ⊥) }

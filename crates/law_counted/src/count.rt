@@ -1,6 +1,6 @@
 // The counts of counted automata.
 
-/// A count, by its number: below `MAX_COUNTS`.
+/// A count, by its number.
 #[derive(Clone, Copy)]
 pub struct Count {
     pub number: usize,

@@ -3,7 +3,6 @@ use Rattle.std.proofs.lemmas.Result.{err_from_is_err_and}
 use Rattle.machine_text.specs.declared.transition.Dir.{Dir}
 use Rattle.machine_text.specs.Packed.{entry_of}
 use Rattle.law_turing.specs.Machine.{Machine}
-use Rattle.law_turing.specs.Halting.{Never}
 use Rattle.law_counted.specs.Counted.{CountedSystem, CountedStand, delta}
 use Rattle.kind_counted.specs.declared.refused.Refused.TheVariants.{Fails, TooLarge}
 use Rattle.kind_counted.specs.Pass.{◌>>=◌, begins_inside, all_go_on, TellsUnused}
@@ -12,7 +11,6 @@ use Rattle.kind_counted.proofs.PassEnds.{both_tell, said_err, judged_on, not_too
 use Rattle.kind_counted.specs.Certificate.{counted_of}
 use Rattle.kind_counted.specs.inside.Judging.{AllGoOn}
 use Rattle.kind_counted.proofs.LeftLaws.{ok_then}
-use Rattle.law_counted.proofs.CountedLaws.{counted_never}
 use Rattle.kind_counted.proofs.StandingLaws.{stands_from, stands_items}
 use Rattle.kind_counted.proofs.certificate.CountedAutomata.check.Goals as goal
 
@@ -23,14 +21,6 @@ returns-clause-stands c =
     let items = c.args.self.now.items.items in
     ok_then c.check_items.result (λ _. AllGoOn m w items (length items)) (λ _. CountedStand m w)
     (λ _ all. stands_from m c.args.self.now c.in_ok-check_form.ensures.formed c.in_ok-check_start.ensures.starts all) c.check_items.ensures.all
-
-pub returns-clause-never : goal.returns-clause-never
-returns-clause-never c =
-    let m : Machine = entry_of c.args.t.now in
-    let w : CountedSystem = counted_of c.args.self.now in
-    let items = c.args.self.now.items.items in
-    ok_then c.check_items.result (λ _. AllGoOn m w items (length items)) (λ _. Never m)
-    (λ _ all. counted_never m w (stands_from m c.args.self.now c.in_ok-check_form.ensures.formed c.in_ok-check_start.ensures.starts all)) c.check_items.ensures.all
 
 pub returns-clause-fails : goal.returns-clause-fails
 returns-clause-fails c = λ e stands. c.check_items.ensures.fails e (stands_items (entry_of c.args.t.now) c.args.self.now stands)

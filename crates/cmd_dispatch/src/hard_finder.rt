@@ -52,10 +52,8 @@ impl HardFinder {
         budget: u64,
     ) -> Result<Option<OwnedCertificate>, NoMemory> {
         match stage {
-            Stage::Names => Ok(NamedFinder.search(t).map(OwnedCertificate::Named)),
-            Stage::Loops { first, steps } => Ok(
-                self.loops.search(t, first, steps)?.map(certificate_of),
-            ),
+            Stage::Names => Ok(named(t)),
+            Stage::Loops { first, steps } => self.ask_for_loops(t, first, steps),
             Stage::Backward { paths } => self.ask_backwards(t, paths),
             Stage::Words(stage) => self.ask_for_words(t, &[stage]),
             Stage::FurtherWords => self.ask_for_words(t, &WORD_STAGES[2..]),
@@ -65,6 +63,16 @@ impl HardFinder {
             Stage::TranslatedCycles => self.translated.find(t, MAX_TIME),
             Stage::Counted => self.counted.find(t, budget),
         }
+    }
+
+    // What the repeats of a run show.
+    fn ask_for_loops(
+        &mut self,
+        t: &Table,
+        first: u64,
+        steps: u64,
+    ) -> Result<Option<OwnedCertificate>, NoMemory> {
+        Ok(self.loops.search(t, first, steps)?.map(certificate_of))
     }
 
     // What backward reasoning shows.
@@ -111,6 +119,14 @@ impl Finder for HardFinder {
         }
         Ok(None)
     }
+}
+
+// Whether a table has a proof of its own; all that have one have five states.
+fn named(t: &Table) -> Option<OwnedCertificate> {
+    if t.states() != 5 {
+        return None;
+    }
+    NamedFinder.search(t).map(OwnedCertificate::Named)
 }
 
 fn certificate_of(found: Found) -> OwnedCertificate {

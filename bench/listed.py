@@ -1,18 +1,16 @@
 #!/usr/bin/env python3
 """Times bb check against bench/plain_listed.rs on 100,000 records of the kind A, those that bb decide --words 11 finds for the
 tables of examples/five-states.holdouts.xz, again and again, and compares what both print; then bb check on each record alone of
-the longest that may be, 65,000 bytes. The two are run in turn, and the least time of each counts."""
+the longest that may be, 65,000 bytes."""
 import itertools
 import lzma
 import os
 import sys
-import tempfile
 
-from measured import built, row, run
+from measured import beside_plain, run
 from program import PROGRAM, TOP
 
 COUNT = 100_000
-TURNS = 3
 LONGEST = 65_000
 WORST = 0.05
 
@@ -49,17 +47,8 @@ def longest():
 
 
 def main():
-    records = found()
-    text = b"".join(record + b"\n" for record in itertools.islice(itertools.cycle(records), COUNT))
-    with tempfile.TemporaryDirectory() as folder:
-        plain = built(folder, "plain_listed")
-        turns = [(run([PROGRAM, "check"], text), run([plain], text)) for _ in range(TURNS)]
-    if any(ours[1] != theirs[1] for ours, theirs in turns):
-        print("the outputs differ")
+    if not beside_plain("A", "plain_listed", found(), COUNT):
         return 1
-    ours, theirs = min(t[0][0] for t in turns), min(t[1][0] for t in turns)
-    row(f"`bb check`, {COUNT:,} records of the kind `A` ({len(text) // COUNT:,} bytes each)", ours / theirs,
-        f"{ours:.2f} s, {1e6 * ours / COUNT:.0f} microseconds a record")
     times = [(run([PROGRAM, "check"], record + b"\n")[0], len(record)) for record in longest()]
     worst, length = max(times)
     print(f"the slowest of {len(times)} long records: {1e3 * worst:.0f} milliseconds, {length:,} bytes")

@@ -3,7 +3,7 @@
 #[allow(dead_code)]
 mod machine;
 
-use machine::{number, parse, printed, Row};
+use machine::{number, printed, record, Row};
 use std::collections::HashMap;
 use std::io::{self, BufRead, BufWriter, Write};
 
@@ -261,32 +261,26 @@ fn moved((base, rows): &Coset, more: Option<usize>, fewer: Option<usize>) -> Res
 }
 
 fn answer(line: &str) -> String {
-    if line.len() > 65_000 {
-        return "refused 305".to_string();
-    }
-    let parts: Vec<&str> = line.split(' ').collect();
-    let table = match parse(parts[0].as_bytes()) {
-        Ok(table) => table,
-        Err((number, None)) => return format!("refused 301 {number}"),
-        Err((number, Some(place))) => return format!("refused 301 {number} {place}"),
-    };
-    if parts.len() != 7 || parts[1] != "W" {
-        return "refused 302".to_string();
-    }
-    let (Some(i @ 0..=52), Some(j)) = (number(parts[2]), number(parts[3])) else {
-        return "refused 303".to_string();
+    judged(line).unwrap_or_else(|refused| refused)
+}
+
+fn judged(line: &str) -> Result<String, String> {
+    let refused = |number: u16| Err(format!("refused {number}"));
+    let (table, fields) = record(line, "W")?;
+    let (Some(i @ 0..=52), Some(j)) = (number(fields[0]), number(fields[1])) else {
+        return refused(303);
     };
     if i + j > COUNTS as u64 {
-        return "refused 303".to_string();
+        return refused(303);
     }
-    if parts[4..].iter().map(|part| part.len()).sum::<usize>() > BYTES {
-        return "refused 305".to_string();
+    if fields[2..].iter().map(|field| field.len()).sum::<usize>() > BYTES {
+        return refused(305);
     }
-    match counted(table.len(), i as usize, (i + j) as usize, &parts[4..]).map(|found| found.stand(&table)) {
-        None => "refused 304".to_string(),
-        Some(Ok(())) => format!("{} never", printed(&table)),
-        Some(Err(Ended::Fails)) => "refused 201".to_string(),
-        Some(Err(Ended::Large)) => "refused 203".to_string(),
+    match counted(table.len(), i as usize, (i + j) as usize, &fields[2..]).map(|found| found.stand(&table)) {
+        None => refused(304),
+        Some(Ok(())) => Ok(format!("{} never", printed(&table))),
+        Some(Err(Ended::Fails)) => refused(201),
+        Some(Err(Ended::Large)) => refused(203),
     }
 }
 

@@ -3,7 +3,7 @@
 #[allow(dead_code)]
 mod machine;
 
-use machine::{number, parse, printed, Row};
+use machine::{number, printed, record, Row};
 use std::io::{self, BufRead, BufWriter, Write};
 
 /// Two automata: where the first goes, of each state of the second and symbol the states to which it has edges, or none where
@@ -91,26 +91,20 @@ impl Automata {
 }
 
 fn answer(line: &str) -> String {
-    if line.len() > 65_000 {
-        return "refused 305".to_string();
-    }
-    let parts: Vec<&str> = line.split(' ').collect();
-    let table = match parse(parts[0].as_bytes()) {
-        Ok(table) => table,
-        Err((number, None)) => return format!("refused 301 {number}"),
-        Err((number, Some(place))) => return format!("refused 301 {number} {place}"),
+    judged(line).unwrap_or_else(|refused| refused)
+}
+
+fn judged(line: &str) -> Result<String, String> {
+    let refused = |number: u16| Err(format!("refused {number}"));
+    let (table, fields) = record(line, "A")?;
+    let (side, size) = match (fields[0], number(fields[1])) {
+        ("L" | "R", Some(size @ 1..=4096)) => (fields[0] == "R", size as usize),
+        _ => return refused(303),
     };
-    if parts.len() != 7 || parts[1] != "A" {
-        return "refused 302".to_string();
-    }
-    let (side, size) = match (parts[2], number(parts[3])) {
-        ("L" | "R", Some(size @ 1..=4096)) => (parts[2] == "R", size as usize),
-        _ => return "refused 303".to_string(),
-    };
-    match automata(table.len(), size, &parts[4..]) {
-        None => "refused 304".to_string(),
-        Some(found) if found.fit(&table, side) => format!("{} never", printed(&table)),
-        Some(_) => "refused 201".to_string(),
+    match automata(table.len(), size, &fields[2..]) {
+        None => refused(304),
+        Some(found) if found.fit(&table, side) => Ok(format!("{} never", printed(&table))),
+        Some(_) => refused(201),
     }
 }
 

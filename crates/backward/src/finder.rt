@@ -42,8 +42,11 @@ impl BackwardFinder {
         ensures found { IfOk result (λ o. IfSome o (λ e. IsBackward t.now.states (entry_of t.now) e.depth
             × (IsTooWide t.now e.depth → ⊥)
             × (e.depth ≤ min (min self.old.depth budget) depth_limit))) }
-        ensures least { IfOk result (λ o. IfSome o (λ e. (d : ℕ) → d < e.depth → IsBackward t.now.states (entry_of t.now) d → ⊥)) }
-        ensures none { IfOk result (λ o. IfNone o ((d : ℕ) → d ≤ min (min self.old.depth budget) depth_limit → IsBackward t.now.states (entry_of t.now) d → IsTooWide t.now d)) }
+        ensures least { IfOk result (λ o. IfSome o
+            (λ e. (d : ℕ) → d < e.depth → IsBackward t.now.states (entry_of t.now) d → ⊥)) }
+        ensures none { IfOk result (λ o. IfNone o
+            ((d : ℕ) → d ≤ min (min self.old.depth budget) depth_limit → IsBackward t.now.states (entry_of t.now) d
+            → IsTooWide t.now d)) }
         ensures same { self.new.depth ≡ self.old.depth }
     {
         let limit = self.depth.min(budget).min(MAX_DEPTH);

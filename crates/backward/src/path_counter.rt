@@ -50,7 +50,7 @@ impl PathCounter {
         self.count_once(table, depth)
     }
 
-    // The same, with no look at lesser depths first.
+    // Counts the paths of one depth, with no look at lesser depths first.
     fn count_once(&mut self, table: &Table, depth: u64) -> Result<Result<(), TooWide>, NoMemory>
         requires { depth ≤ depth_limit }
         ensures counted { IfOk result (λ counted. Counted table.now depth counted self.new.counts.items) }

@@ -30,9 +30,11 @@ pub(crate) fn place_before(
     requires pair { pair.state.0 < table.now.states }
     requires room { HasRoom (length cells.now) head 1 }
     ensures room { IfSome result (λ place. (place < length cells.now) × (place ≤ head + 1) × (head ≤ place + 1)) }
-    ensures some { IfSome result (λ place. known_from table.now pair.state.0 pair.symbol (known_about cells.now state.0 head)
+    ensures some { IfSome result (λ place. known_from table.now pair.state.0 pair.symbol
+        (known_about cells.now state.0 head)
         ≡ Some (known_about (slice_set cells.now place (Some pair.symbol)) pair.state.0 place)) }
-    ensures none { IfNone result (known_from table.now pair.state.0 pair.symbol (known_about cells.now state.0 head) ≡ None) }
+    ensures none { IfNone result (known_from table.now pair.state.0 pair.symbol (known_about cells.now state.0 head)
+        ≡ None) }
 {
     let entry = table.get(pair.state, pair.symbol)?;
     let place = left_behind(entry.dir, head);

@@ -10,7 +10,7 @@ pub enum Trial {
     Files(u64, Share),
     /// Sockets fail once so many calls succeeded.
     Sockets(u64),
-    /// This bit of a file is changed.
+    /// A bit of a file is changed, by its number.
     Bit(usize),
     /// So many bytes of a file are left.
     Cut(usize),

@@ -13,4 +13,5 @@ ShowsVerdict p (Some c) = IsSome (ending_by c) × IsCertified (record { table = 
 -- is, nothing is claimed
 unfoldable pub Answered : {F : Type 0} → (F → Option Claim → Type 0) → Packed → List F → Claim → Type 0
 Answered gives p [] c = c ≡ NoClaim
-Answered gives p (f ∷ fs) c = (o : Option Claim) × gives f o × ((ShowsVerdict p o × (o ≡ Some c)) ⊎ ((ShowsVerdict p o → ⊥) × Answered gives p fs c))
+Answered gives p (f ∷ fs) c = (o : Option Claim) × gives f o
+    × ((ShowsVerdict p o × (o ≡ Some c)) ⊎ ((ShowsVerdict p o → ⊥) × Answered gives p fs c))

@@ -222,7 +222,8 @@ impl OwnedCertificate {
     /// With the verdict that it was found to show, the certificate of a table that halts has that table's score; every
     /// other stays as it is.
     pub fn with_score(self, shown: Option<Verdict>) -> OwnedCertificate
-        ensures { (p : Packed) → shown ≡ shown_by (owned_claim self) p → owned_claim result ≡ scored p (owned_claim self) }
+        ensures { (p : Packed) → shown ≡ shown_by (owned_claim self) p
+            → owned_claim result ≡ scored p (owned_claim self) }
     {
         match (self, shown) {
             (OwnedCertificate::Halts(evidence), Some(Verdict::Halts { ones, .. })) => {

@@ -25,7 +25,8 @@ pub fn decide<F: Finder>(
 ) -> Result<OwnedRecord, NoMemory>
     ensures table { IfOk result (λ r. r.table ≡ t.now) }
     ensures certified { IfOk result (λ r. IsCertified (owned_recorded r)) }
-    ensures order { IfOk result (λ r. Answered (λ f claim. F.gives f t.now budget claim) t.now finders.old (owned_claim r.certificate)) }
+    ensures order { IfOk result (λ r. Answered (λ f claim. F.gives f t.now budget claim) t.now finders.old
+        (owned_claim r.certificate)) }
 {
     for finder in finders.iter_mut() {
         if let Some(record) = taken(alloc, finder, t, budget)? {
@@ -46,7 +47,8 @@ fn taken<F: Finder>(
     budget: u64,
 ) -> Result<Option<OwnedRecord>, NoMemory>
     ensures { IfOk result (λ o. (given : Option Claim) × F.gives finder.old t.now budget given
-        × MatchOption o (ShowsVerdict t.now given → ⊥) (λ r. (r.table ≡ t.now) × ShowsVerdict t.now given × (given ≡ Some (owned_claim r.certificate)))) }
+        × MatchOption o (ShowsVerdict t.now given → ⊥)
+        (λ r. (r.table ≡ t.now) × ShowsVerdict t.now given × (given ≡ Some (owned_claim r.certificate)))) }
 {
     match finder.find(t, budget)? {
         Some(certificate) => {
@@ -66,7 +68,8 @@ fn taken<F: Finder>(
 
 // Whether a record claims something, and that stands.
 fn is_decided(alloc: Global, r: &OwnedRecord) -> Result<bool, NoMemory>
-    ensures { IfOk result (λ decided. IsTrue decided ↔ ShowsVerdict r.now.table (Some (owned_claim r.now.certificate))) }
+    ensures { IfOk result (λ decided. IsTrue decided
+        ↔ ShowsVerdict r.now.table (Some (owned_claim r.now.certificate))) }
 {
     // The parts by their names: the borrow checker's proof has to know of what the record is made.
     let record = Record {
@@ -92,7 +95,7 @@ pub trait Decider {
     /// promises nothing of what it answers may answer anything that is certified.
     ghost answers: { Self → Packed → Recorded → Type 0 };
 
-    /// Its record of the table. After `NoMemory` it can be asked again.
+    /// A record of the table. After `NoMemory` the decider can be asked again.
     fn decide(&mut self, alloc: Global, t: &Table) -> Result<OwnedRecord, NoMemory>
         ensures table { IfOk result (λ r. r.table ≡ t.now) }
         ensures certified { IfOk result (λ r. IsCertified (owned_recorded r)) }
@@ -109,7 +112,7 @@ pub struct Finders<F> {
 }
 
 impl<F: Finder> Finders<F> {
-    /// These finders, with this budget in steps.
+    /// Finders in the order in which they are asked, with a budget in steps.
     pub fn new(finders: Vec<F>, budget: u64) -> Finders<F>
         ensures finders { result.finders ≡ finders }
         ensures budget { result.budget ≡ budget }

@@ -23,7 +23,8 @@ pub struct Judged {
 /// Neither that nor the check of position sets or of automata of few states takes memory. `Fails` where it doesn't
 /// stand, `TooLong` and `TooWide` where it asks for more than the limits of its kind, `NoMemory` where memory is refused.
 pub fn judge(alloc: Global, r: &Record) -> Result<Option<Verdict>, Refused>
-    ensures ok { IfOk result (λ v. IsCertified (recorded r.now) × (v ≡ shown_by (claim_of r.now.certificate) r.now.table)) }
+    ensures ok { IfOk result (λ v. IsCertified (recorded r.now)
+        × (v ≡ shown_by (claim_of r.now.certificate) r.now.table)) }
     ensures refused { IfErr result (λ f. f ≢ Refused.NoMemory → IsRefusedBy f (recorded r.now)) }
     ensures memory { IfErr result (λ f. f ≡ Refused.NoMemory → TakesMemory (claim_of r.now.certificate)) }
     ensures undecided { claim_of r.now.certificate ≡ NoClaim → result ≡ Ok None }
@@ -34,14 +35,17 @@ pub fn judge(alloc: Global, r: &Record) -> Result<Option<Verdict>, Refused>
     }
 }
 
-/// The same, with the pair on which the table halts: a table that is claimed to halt is run once.
+/// Checks as `judge` does, and answers the pair on which the table halts too: a table that is claimed to halt is run
+/// once.
 pub fn judge_on(alloc: Global, r: &Record) -> Result<Judged, Refused>
     ensures certified { OnOk result (IsCertified (recorded r.now)) }
     ensures verdict { IfOk result (λ judged. judged.verdict ≡ shown_by (claim_of r.now.certificate) r.now.table) }
-    ensures pair { IfOk result (λ judged. IsPairOf (ending_by (claim_of r.now.certificate)) r.now.table judged.halts_on) }
+    ensures pair { IfOk result (λ judged. IsPairOf (ending_by (claim_of r.now.certificate)) r.now.table
+        judged.halts_on) }
     ensures refused { IfErr result (λ f. f ≢ Refused.NoMemory → IsRefusedBy f (recorded r.now)) }
     ensures memory { IfErr result (λ f. f ≡ Refused.NoMemory → TakesMemory (claim_of r.now.certificate)) }
-    ensures undecided { claim_of r.now.certificate ≡ NoClaim → result ≡ Ok (record { verdict = None; halts_on = None }) }
+    ensures undecided { claim_of r.now.certificate ≡ NoClaim
+        → result ≡ Ok (record { verdict = None; halts_on = None }) }
 {
     match &r.certificate {
         Certificate::Halts(evidence) => {
@@ -71,11 +75,15 @@ pub fn judge_on(alloc: Global, r: &Record) -> Result<Judged, Refused>
 
 // What evidence of any kind shows of a table, with no pair.
 fn checked<E: Evidence>(evidence: &E, alloc: Global, t: &Table) -> Result<Judged, Refused>
-    ensures ok { IfOk result (λ judged. judged ≡ record { verdict = Some (E.shows evidence.now t.now); halts_on = None }) }
-    ensures certified { OnOk result ((E.meaning evidence.now).within × (E.meaning evidence.now).stands t.now × ((E.meaning evidence.now).wide t.now → ⊥)) }
-    ensures fails { result ≡ Err Refused.Fails → (E.meaning evidence.now).within × ((E.meaning evidence.now).wide t.now → ⊥) × ((E.meaning evidence.now).stands t.now → ⊥) }
+    ensures ok { IfOk result (λ judged. judged
+        ≡ record { verdict = Some (E.shows evidence.now t.now); halts_on = None }) }
+    ensures certified { OnOk result ((E.meaning evidence.now).within × (E.meaning evidence.now).stands t.now
+        × ((E.meaning evidence.now).wide t.now → ⊥)) }
+    ensures fails { result ≡ Err Refused.Fails → (E.meaning evidence.now).within
+        × ((E.meaning evidence.now).wide t.now → ⊥) × ((E.meaning evidence.now).stands t.now → ⊥) }
     ensures long { result ≡ Err Refused.TooLong → (E.meaning evidence.now).within → ⊥ }
-    ensures wide { result ≡ Err Refused.TooWide → (E.meaning evidence.now).within × (E.meaning evidence.now).wide t.now }
+    ensures wide { result ≡ Err Refused.TooWide → (E.meaning evidence.now).within
+        × (E.meaning evidence.now).wide t.now }
     ensures memory { result ≡ Err Refused.NoMemory → (E.meaning evidence.now).takes_memory }
 {
     let verdict = evidence.check(alloc, t)?;

@@ -33,9 +33,11 @@ pub fn record_texts_are_lines()
 /// and shows the same. What is certified stays so with its score, and without.
 pub fn scores_leave_claims()
     ensures ends { (c : Claim) (p : Packed) → option_map ending_of (shown_by c p) ≡ ending_by c }
-    ensures scored { (p : Packed) (c : Claim) → (ending_by (scored p c) ≡ ending_by c) × (shown_by (scored p c) p ≡ shown_by c p) }
+    ensures scored { (p : Packed) (c : Claim) → (ending_by (scored p c) ≡ ending_by c)
+        × (shown_by (scored p c) p ≡ shown_by c p) }
     ensures unscored { (c : Claim) → ending_by (unscored c) ≡ ending_by c }
-    ensures again { (p : Packed) (c : Claim) → (scored p (scored p c) ≡ scored p c) × (scored p (unscored c) ≡ scored p c) }
+    ensures again { (p : Packed) (c : Claim) → (scored p (scored p c) ≡ scored p c)
+        × (scored p (unscored c) ≡ scored p c) }
     ensures certified { (r : Recorded) → IsCertified r → IsCertified (with_score r) × IsCertified (without_score r) }
     ensures found { (r s : Recorded) → GetsScore r s → IsCertified r → s ≡ with_score r }
 {}

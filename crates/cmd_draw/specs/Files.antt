@@ -32,12 +32,15 @@ pub record DrawsTable (tells : SameFile) (folder : List ℕ) (d : Drawing) (t : 
   pub put : PutsFile tells (picture_path folder t) picture old new
 
 -- a table is answered once its picture is put there; anything else by its fault, and nothing changes at any path
-abbrev pub AnswersAsked : SameFile → List ℕ → Drawing → Shelf → Result Packed RecordFault → Outcome → Shelf → List ℕ → Type 0
-AnswersAsked tells folder d old (Ok t) o new answer = DrawsTable tells folder d t old new × (o ≡ Accepted) × (answer ≡ drawn_text t)
+abbrev pub AnswersAsked : SameFile → List ℕ → Drawing → Shelf → Result Packed RecordFault → Outcome → Shelf → List ℕ
+    → Type 0
+AnswersAsked tells folder d old (Ok t) o new answer = DrawsTable tells folder d t old new × (o ≡ Accepted)
+    × (answer ≡ drawn_text t)
 AnswersAsked tells folder d old (Err f) o new answer = IsKept old new × (o ≡ Refused) × (answer ≡ fault_text f)
 
 -- what `bb draw --out` says to a line, by where files stand before and then: an answer with its newline
-pub record DrawsLine {H : Type 0} (tells : H → SameFile) (holds : H → Shelf) (folder : List ℕ) (d : Drawing) (old : H) (line : BoundedLine) (o : Outcome) (new : H) (said : List ℕ) : Type 0 where
+pub record DrawsLine {H : Type 0} (tells : H → SameFile) (holds : H → Shelf) (folder : List ℕ) (d : Drawing) (old : H)
+    (line : BoundedLine) (o : Outcome) (new : H) (said : List ℕ) : Type 0 where
   pub answer : List ℕ
   pub answers : AnswersAsked (tells old) folder d (holds old) (table_asked line) o (holds new) answer
   pub still : IsToldStill (tells old) (tells new)
@@ -45,7 +48,8 @@ pub record DrawsLine {H : Type 0} (tells : H → SameFile) (holds : H → Shelf)
 
 -- a reader is read to its end, and what is said to its lines is written behind what a writer held, as the picture of one
 -- table after another is put in the folder; before that nothing changes at any path
-pub record DrawsFiles {H : Type 0} (tells : H → SameFile) (holds : H → Shelf) (folder : List ℕ) (d : Drawing) (host : H) (read new_read held new_held : Option (List ℕ)) (o : Outcome) : Type 0 where
+pub record DrawsFiles {H : Type 0} (tells : H → SameFile) (holds : H → Shelf) (folder : List ℕ) (d : Drawing) (host : H)
+    (read new_read held new_held : Option (List ℕ)) (o : Outcome) : Type 0 where
   pub first : H
   pub last : H
   pub kept : IsKept (holds host) (holds first)
@@ -54,4 +58,5 @@ pub record DrawsFiles {H : Type 0} (tells : H → SameFile) (holds : H → Shelf
 
 -- in one folder no two tables have one path
 abbrev pub IsOneTableAPath : Type 0
-IsOneTableAPath = (folder : List ℕ) → (a b : Packed) → IsTable a → IsTable b → picture_path folder a ≡ picture_path folder b → a ≡ b
+IsOneTableAPath = (folder : List ℕ) → (a b : Packed) → IsTable a → IsTable b
+    → picture_path folder a ≡ picture_path folder b → a ≡ b

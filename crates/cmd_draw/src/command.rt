@@ -22,9 +22,12 @@ pub fn cmd_draw<H: Files, R: Read, W: Write, E: Write>(
     answers: &mut W,
     faults: &mut E,
 ) -> Outcome
-    ensures first { IfNone drawing.now.out (DrawsFirst drawing.now (R.remaining input.old) (R.remaining input.new) (W.contents answers.old) (W.contents answers.new) (E.contents faults.old) (E.contents faults.new) result
+    ensures first { IfNone drawing.now.out (DrawsFirst drawing.now (R.remaining input.old) (R.remaining input.new)
+        (W.contents answers.old) (W.contents answers.new) (E.contents faults.old) (E.contents faults.new) result
         ⊎ (result ≡ Outcome.NoMemory) ⊎ (result ≡ Outcome.Failed)) }
-    ensures files { IfSome drawing.now.out (λ folder. DrawsFiles H.tells_same H.holds folder.now drawing.now host.old (R.remaining input.old) (R.remaining input.new) (W.contents answers.old) (W.contents answers.new) result
+    ensures files { IfSome drawing.now.out (λ folder.
+        DrawsFiles H.tells_same H.holds folder.now drawing.now host.old (R.remaining input.old) (R.remaining input.new)
+        (W.contents answers.old) (W.contents answers.new) result
         ⊎ (result ≡ Outcome.NoMemory) ⊎ (result ≡ Outcome.Failed)) }
 {
     told(
@@ -33,7 +36,7 @@ pub fn cmd_draw<H: Files, R: Read, W: Write, E: Write>(
     )
 }
 
-/// The same, but that what ends it early isn't said.
+/// Draws as `cmd_draw` does, but answers what ends it early, and doesn't say it.
 pub fn draw_asked<H: Files, R: Read, W: Write, E: Write>(
     alloc: Global,
     drawing: &Drawing<'_>,
@@ -42,8 +45,12 @@ pub fn draw_asked<H: Files, R: Read, W: Write, E: Write>(
     answers: &mut W,
     faults: &mut E,
 ) -> Result<Outcome, Ended>
-    ensures first { IfOk result (λ o. IfNone drawing.now.out (DrawsFirst drawing.now (R.remaining input.old) (R.remaining input.new) (W.contents answers.old) (W.contents answers.new) (E.contents faults.old) (E.contents faults.new) o)) }
-    ensures files { IfOk result (λ o. IfSome drawing.now.out (λ folder. DrawsFiles H.tells_same H.holds folder.now drawing.now host.old (R.remaining input.old) (R.remaining input.new) (W.contents answers.old) (W.contents answers.new) o)) }
+    ensures first { IfOk result (λ o. IfNone drawing.now.out
+        (DrawsFirst drawing.now (R.remaining input.old) (R.remaining input.new) (W.contents answers.old)
+        (W.contents answers.new) (E.contents faults.old) (E.contents faults.new) o)) }
+    ensures files { IfOk result (λ o. IfSome drawing.now.out
+        (λ folder. DrawsFiles H.tells_same H.holds folder.now drawing.now host.old (R.remaining input.old)
+        (R.remaining input.new) (W.contents answers.old) (W.contents answers.new) o)) }
     ensures err { IfErr result EndsDrawing }
 {
     match drawing.out {

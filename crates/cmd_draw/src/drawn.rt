@@ -34,7 +34,8 @@ pub fn draw_files<H: Files, R: Read, W: Write>(
     input: &mut R,
     answers: &mut W,
 ) -> Result<Outcome, Ended>
-    ensures ok { IfOk result (DrawsFiles H.tells_same H.holds folder.now drawing.now host.old (R.remaining input.old) (R.remaining input.new) (W.contents answers.old) (W.contents answers.new)) }
+    ensures ok { IfOk result (DrawsFiles H.tells_same H.holds folder.now drawing.now host.old (R.remaining input.old)
+        (R.remaining input.new) (W.contents answers.old) (W.contents answers.new)) }
     ensures err { IfErr result EndsDrawing }
 {
     match host.make_folder(folder) {
@@ -43,7 +44,7 @@ pub fn draw_files<H: Files, R: Read, W: Write>(
     }
 }
 
-// The same in a folder that is there.
+// Draws as `draw_files` does, in a folder that is there.
 fn draw_within<H: Files, R: Read, W: Write>(
     alloc: Global,
     drawing: &Drawing<'_>,
@@ -52,7 +53,9 @@ fn draw_within<H: Files, R: Read, W: Write>(
     input: &mut R,
     answers: &mut W,
 ) -> Result<Outcome, Ended>
-    ensures ok { IfOk result (λ o. (last : H) × TakesStream (DrawsLine H.tells_same H.holds folder.now drawing.now) host.old last (R.remaining input.old) (R.remaining input.new) (W.contents answers.old) (W.contents answers.new) o) }
+    ensures ok { IfOk result (λ o. (last : H)
+        × TakesStream (DrawsLine H.tells_same H.holds folder.now drawing.now) host.old last (R.remaining input.old)
+        (R.remaining input.new) (W.contents answers.old) (W.contents answers.new) o) }
     ensures err { IfErr result EndsDrawing }
 {
     let pictures = Pictures {
@@ -81,7 +84,8 @@ impl<H: Files> Sayer for Pictures<'_, H> {
     ghost use Rattle.cmd_draw.specs.inside.{TakesBy};
     ghost use Rattle.cmd_draw.specs.Said.{EndsDrawing};
 
-    ghost takes = { TakesBy {K = List ℕ × Asked} (λ p. (p.folder.now, p.drawing.now)) (λ p. p.host.now) (λ kept. DrawsLine H.tells_same H.holds kept.0 kept.1) };
+    ghost takes = { TakesBy {K = List ℕ × Asked} (λ p. (p.folder.now, p.drawing.now)) (λ p. p.host.now)
+        (λ kept. DrawsLine H.tells_same H.holds kept.0 kept.1) };
 
     ghost ends = { EndsDrawing };
 
@@ -97,7 +101,9 @@ impl<H: Files> Pictures<'_, H> {
     fn answer(&mut self, line: Option<&[u8]>, said: &mut Vec<u8>) -> Result<Outcome, Ended>
         ensures stays { (self.new.folder ≡ self.old.folder) × (self.new.drawing ≡ self.old.drawing) }
         ensures still { IsToldStill (H.tells_same self.old.host.now) (H.tells_same self.new.host.now) }
-        ensures ok { IfOk result (λ o. (answer : List ℕ) × AnswersAsked (H.tells_same self.old.host.now) self.old.folder.now self.old.drawing.now (H.holds self.old.host.now) (table_asked (lent line.entry)) o (H.holds self.new.host.now) answer
+        ensures ok { IfOk result (λ o. (answer : List ℕ)
+            × AnswersAsked (H.tells_same self.old.host.now) self.old.folder.now self.old.drawing.now
+            (H.holds self.old.host.now) (table_asked (lent line.entry)) o (H.holds self.new.host.now) answer
             × (said.new.items ≡ said.old.items ++ answer)) }
         ensures err { IfErr result EndsDrawing }
     {
@@ -118,7 +124,8 @@ impl<H: Files> Pictures<'_, H> {
     fn draw(&mut self, t: &Table) -> Result<(), Ended>
         ensures stays { (self.new.folder ≡ self.old.folder) × (self.new.drawing ≡ self.old.drawing) }
         ensures still { IsToldStill (H.tells_same self.old.host.now) (H.tells_same self.new.host.now) }
-        ensures ok { OnOk result (DrawsTable (H.tells_same self.old.host.now) self.old.folder.now self.old.drawing.now t.now (H.holds self.old.host.now) (H.holds self.new.host.now)) }
+        ensures ok { OnOk result (DrawsTable (H.tells_same self.old.host.now) self.old.folder.now self.old.drawing.now
+            t.now (H.holds self.old.host.now) (H.holds self.new.host.now)) }
         ensures err { IfErr result EndsDrawing }
     {
         let picture = picture_of(self.alloc, t, self.drawing)?;
@@ -142,7 +149,8 @@ pub fn put_picture<H: Files>(
     t: &Table,
     picture: &[u8],
 ) -> Result<(), Ended>
-    ensures ok { OnOk result (PutsFile (H.tells_same host.old) (picture_path folder.now t.now) picture.now (H.holds host.old) (H.holds host.new)) }
+    ensures ok { OnOk result (PutsFile (H.tells_same host.old) (picture_path folder.now t.now) picture.now
+        (H.holds host.old) (H.holds host.new)) }
     ensures still { IsToldStill (H.tells_same host.old) (H.tells_same host.new) }
     ensures err { IfErr result (λ e. EndsDrawing e × IsKept (H.holds host.old) (H.holds host.new)) }
 {

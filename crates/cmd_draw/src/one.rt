@@ -46,7 +46,8 @@ impl Sayer for First {
 impl First {
     // Keeps a table, or says that it is one too many.
     fn pick(&mut self, t: Table, said: &mut Vec<u8>) -> Result<Outcome, NoMemory>
-        ensures { IfOk result (λ o. (more : List ℕ) × PicksTable t self.old.table o self.new.table more × (said.new.items ≡ said.old.items ++ more)) }
+        ensures { IfOk result (λ o. (more : List ℕ) × PicksTable t self.old.table o self.new.table more
+            × (said.new.items ≡ said.old.items ++ more)) }
     {
         if self.table.is_some() {
             said.extend_from_slice(ANOTHER_TABLE)?;
@@ -74,7 +75,8 @@ pub fn draw_first<R: Read, W: Write, E: Write>(
     answers: &mut W,
     faults: &mut E,
 ) -> Result<Outcome, Ended>
-    ensures ok { IfOk result (DrawsFirst drawing.now (R.remaining input.old) (R.remaining input.new) (W.contents answers.old) (W.contents answers.new) (E.contents faults.old) (E.contents faults.new)) }
+    ensures ok { IfOk result (DrawsFirst drawing.now (R.remaining input.old) (R.remaining input.new)
+        (W.contents answers.old) (W.contents answers.new) (E.contents faults.old) (E.contents faults.new)) }
     ensures err { IfErr result EndsDrawing }
 {
     let (outcome, first) = say_lines(alloc, First { table: None }, PIECE_BYTES, input, faults)?;

@@ -45,7 +45,8 @@ object_of root status tally champions ones_champions holdouts =
 
 abbrev pub report_value : Packed → Status → Tally → List Packed → List Packed → List Packed → Data
 report_value root status tally champions ones_champions holdouts =
-    object_of (table_value root) status tally (tables_value champions) (tables_value ones_champions) (tables_value holdouts)
+    object_of (table_value root) status tally (tables_value champions) (tables_value ones_champions)
+    (tables_value holdouts)
 
 -- its text, with no space, and a newline
 abbrev pub json_text : Packed → Status → Tally → List Packed → List Packed → List Packed → List ℕ

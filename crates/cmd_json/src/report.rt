@@ -22,11 +22,14 @@ use std::alloc::Global;
 /// `ones` is Σ(n) (Radó 1962). Where memory is refused, `out` is as it was.
 #[tactic(auto, using(crate::proofs::TreeJsons::tree_json, crate::proofs::TreeJsons::json_tells_rado))]
 pub fn report_json(alloc: Global, board: &Board, out: &mut Vec<u8>) -> Result<(), NoMemory>
-    ensures ok { OnOk result ((text : List ℕ) × IsJsonReport board.now.root board.now.records text × (out.new.items ≡ out.old.items ++ text)) }
+    ensures ok { OnOk result ((text : List ℕ) × IsJsonReport board.now.root board.now.records text
+        × (out.new.items ≡ out.old.items ++ text)) }
     ensures complete { OnOk result (IsComplete board.now.root (mark_in board.now.records) →
         (text : List ℕ) × IsTreeJson board.now.root text × (out.new.items ≡ out.old.items ++ text)) }
-    ensures rado { OnOk result (IsComplete board.now.root (mark_in board.now.records) → (n : ℕ) → 1 ≤ n → n ≤ state_limit →
-        board.now.root ≡ empty_table n → (text : List ℕ) × JsonTellsRado n text × (out.new.items ≡ out.old.items ++ text)) }
+    ensures rado { OnOk result (IsComplete board.now.root (mark_in board.now.records) → (n : ℕ) → 1 ≤ n
+        → n ≤ state_limit →
+        board.now.root ≡ empty_table n → (text : List ℕ) × JsonTellsRado n text
+        × (out.new.items ≡ out.old.items ++ text)) }
     ensures err { OnErr result (out.new.items ≡ out.old.items) }
 {
     // The proof needs that it is a board.
@@ -44,7 +47,8 @@ fn report_text(alloc: Global, board: &Board) -> Result<Vec<u8>, NoMemory>
 
 // The text of the report of what is told.
 pub(crate) fn told_text(alloc: Global, told: Told) -> Result<Vec<u8>, NoMemory>
-    ensures { IfOk result (λ text. (root : Packed) (rs : List Recorded) → IsToldOf root rs told → IsJsonReport root rs text.items) }
+    ensures { IfOk result (λ text. (root : Packed) (rs : List Recorded) → IsToldOf root rs told
+        → IsJsonReport root rs text.items) }
 {
     let Told {
         root,

@@ -22,7 +22,9 @@ pub(crate) fn report_value(
     ones_champions: Champions,
     holdouts: Holdouts,
 ) -> Result<Value, NoMemory>
-    ensures { IfOk result (λ report. view report ≡ report_value root.now status tally.now (into_iter_items champions) (into_iter_items ones_champions) (into_iter_items holdouts)) }
+    ensures { IfOk result (λ report. view report
+        ≡ report_value root.now status tally.now (into_iter_items champions) (into_iter_items ones_champions)
+        (into_iter_items holdouts)) }
 {
     let mut champions = tables_value(alloc, champions)?;
     let mut ones_champions = tables_value(alloc, ones_champions)?;
@@ -39,7 +41,7 @@ pub(crate) fn report_value(
     )
 }
 
-// The same from values that are taken out of their places, so that where memory is refused the object alone
+// Makes an object of values that are taken out of their places, so that where memory is refused the object alone
 // is let go, and not what isn't in it yet.
 fn object_of(
     alloc: Global,
@@ -50,7 +52,9 @@ fn object_of(
     ones_champions: &mut Value,
     holdouts: &mut Value,
 ) -> Result<Value, NoMemory>
-    ensures { IfOk result (λ report. view report ≡ object_of (view root.old) status tally.now (view champions.old) (view ones_champions.old) (view holdouts.old)) }
+    ensures { IfOk result (λ report. view report
+        ≡ object_of (view root.old) status tally.now (view champions.old) (view ones_champions.old)
+        (view holdouts.old)) }
 {
     json!(in alloc; {
         "best": greatest_value(tally.best),

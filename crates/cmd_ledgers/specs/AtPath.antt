@@ -33,19 +33,26 @@ FailsWriting e = (e ≡ NoMemory) ⊎ (e ≡ Ledger)
 
 -- a ledger of what two hold together is put at a path, and what it holds is printed. Where that ends early nothing has
 -- changed at any path and nothing is printed, unless the stream fails once it is put
-abbrev pub MergesAt : SameFile → List ℕ → List ℕ → List ℕ → Shelf → Shelf → Option (List ℕ) → Option (List ℕ) → Result Outcome Ended → Type 0
+abbrev pub MergesAt : SameFile → List ℕ → List ℕ → List ℕ → Shelf → Shelf → Option (List ℕ) → Option (List ℕ)
+    → Result Outcome Ended → Type 0
 MergesAt tells one other out old new held new_held (Ok o) =
-    (b : Contents) × (tally : Tally) × (left : Left) × AreJoined (ReadsAt (old one)) (ReadsAt (old other)) (Ok (b, left)) × IsTally b.root b.records tally
+    (b : Contents) × (tally : Tally) × (left : Left)
+    × AreJoined (ReadsAt (old one)) (ReadsAt (old other)) (Ok (b, left)) × IsTally b.root b.records tally
     × PutsLedger tells out b old new × Appends held new_held (merged_text tally left) × (o ≡ outcome_of_left left)
 MergesAt tells one other out old new held new_held (Err e) =
-    ((AreJoined (ReadsAt (old one)) (ReadsAt (old other)) (Err e) ⊎ FailsWriting e) × IsKept old new × (new_held ≡ held))
-    ⊎ ((e ≡ Stream) × ((b : Contents) × (left : Left) × AreJoined (ReadsAt (old one)) (ReadsAt (old other)) (Ok (b, left)) × PutsLedger tells out b old new))
+    ((AreJoined (ReadsAt (old one)) (ReadsAt (old other)) (Err e) ⊎ FailsWriting e) × IsKept old new
+    × (new_held ≡ held))
+    ⊎ ((e ≡ Stream) × ((b : Contents) × (left : Left)
+    × AreJoined (ReadsAt (old one)) (ReadsAt (old other)) (Ok (b, left)) × PutsLedger tells out b old new))
 
 -- and a ledger of what one holds, in the same way
-abbrev pub CarriesAt : SameFile → List ℕ → List ℕ → Shelf → Shelf → Option (List ℕ) → Option (List ℕ) → Result Outcome Ended → Type 0
+abbrev pub CarriesAt : SameFile → List ℕ → List ℕ → Shelf → Shelf → Option (List ℕ) → Option (List ℕ)
+    → Result Outcome Ended → Type 0
 CarriesAt tells from out old new held new_held (Ok o) =
-    (b : Contents) × (tally : Tally) × (left : Left) × IsLoaded (ReadsAt (old from)) (Ok (b, left)) × IsTally b.root b.records tally
+    (b : Contents) × (tally : Tally) × (left : Left) × IsLoaded (ReadsAt (old from)) (Ok (b, left))
+    × IsTally b.root b.records tally
     × PutsLedger tells out b old new × Appends held new_held (carried_text tally left) × (o ≡ outcome_of_left left)
 CarriesAt tells from out old new held new_held (Err e) =
     ((IsLoaded (ReadsAt (old from)) (Err e) ⊎ FailsWriting e) × IsKept old new × (new_held ≡ held))
-    ⊎ ((e ≡ Stream) × ((b : Contents) × (left : Left) × IsLoaded (ReadsAt (old from)) (Ok (b, left)) × PutsLedger tells out b old new))
+    ⊎ ((e ≡ Stream) × ((b : Contents) × (left : Left) × IsLoaded (ReadsAt (old from)) (Ok (b, left))
+    × PutsLedger tells out b old new))

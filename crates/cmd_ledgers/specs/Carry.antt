@@ -24,4 +24,5 @@ EndsCarryingInto from e IsUntouched =
 -- what is printed of a ledger that is carried
 abbrev pub carried_text : Tally → Left → List ℕ
 carried_text tally left =
-    count_text (codes "carried ") (tally.nodes - tally.open_count) ++ count_text (codes " halting ") tally.halting ++ (10 ∷ []) ++ left_text left
+    count_text (codes "carried ") (tally.nodes - tally.open_count) ++ count_text (codes " halting ") tally.halting
+    ++ (10 ∷ []) ++ left_text left

@@ -32,7 +32,8 @@ EndsOpening Locks e = ((e ≡ Locked) × Locks (Ok None)) ⊎ (Locks (Err e) ⊎
 
 -- the ledger at a path is read and gone on with, by what its reader has, how many bytes that is, and its text before
 -- and after; nothing changes at any path of another file
-pub record GoesOnAt (Does : Option (List ℕ) → ℕ → Option (List ℕ) → Option (List ℕ) → Type 0) (tells : SameFile) (path : List ℕ) (old new : Shelf) : Type 0 where
+pub record GoesOnAt (Does : Option (List ℕ) → ℕ → Option (List ℕ) → Option (List ℕ) → Type 0) (tells : SameFile)
+    (path : List ℕ) (old new : Shelf) : Type 0 where
   pub has : Option (List ℕ)
   pub size : ℕ
   pub is_read : IsOpenedOn (old path) has size

@@ -45,7 +45,8 @@ abbrev pub IsLines : Packed → List Recorded → Left → List ℕ → Type 0
 IsLines root rs left text = (report : List ℕ) × IsReport root rs report × (text ≡ report ++ left_text left)
 
 -- behind what a writer held stands, in a form, the report of the records for which the text stands
-pub record WritesLedger (IsText : Packed → List Recorded → Left → List ℕ → Type 0) (text : List ℕ) (o : Outcome) (left : Left) (held new_held : Option (List ℕ)) : Type 0 where
+pub record WritesLedger (IsText : Packed → List Recorded → Left → List ℕ → Type 0) (text : List ℕ) (o : Outcome)
+    (left : Left) (held new_held : Option (List ℕ)) : Type 0 where
   pub root : Packed
   pub records : List Recorded
   pub loads : ReadsAs root text records left
@@ -59,11 +60,13 @@ pub record WritesLedger (IsText : Packed → List Recorded → Left → List ℕ
 -- why there is no report: the text has no root, or one that isn't in order; memory may be refused where it has one in order
 abbrev pub EndsLedger : List ℕ → Ended → Type 0
 EndsLedger text BadHeader = IsTornHeader text ⊎ HasNoHeader text
-EndsLedger text WrongRoot = (root : Packed) × (rest : List ℕ) × HasHeader text root rest × (((u : ℕ) × InOrder u (entry_of root)) → ⊥)
+EndsLedger text WrongRoot = (root : Packed) × (rest : List ℕ) × HasHeader text root rest
+    × (((u : ℕ) × InOrder u (entry_of root)) → ⊥)
 EndsLedger text Stream = ⊥
 EndsLedger text Ledger = ⊥
 EndsLedger text File = ⊥
 EndsLedger text HasPart = ⊥
 EndsLedger text OutInFolder = ⊥
 EndsLedger text Locked = ⊥
-EndsLedger text NoMemory = (root : Packed) × (rest : List ℕ) × HasHeader text root rest × ((u : ℕ) × InOrder u (entry_of root))
+EndsLedger text NoMemory = (root : Packed) × (rest : List ℕ) × HasHeader text root rest
+    × ((u : ℕ) × InOrder u (entry_of root))

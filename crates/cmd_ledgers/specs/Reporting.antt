@@ -16,7 +16,8 @@ use Rattle.cmd_ledgers.specs.Reading.{AreFirstBytes}
 
 -- behind what a writer held stands, in a form, the report of a board, and what wasn't kept of its ledger; the command
 -- ends by how the board stands, and by that
-pub record WritesReport (IsText : Packed → List Recorded → Left → List ℕ → Type 0) (b : Contents) (left : Left) (held new_held : Option (List ℕ)) (o : Outcome) : Type 0 where
+pub record WritesReport (IsText : Packed → List Recorded → Left → List ℕ → Type 0) (b : Contents) (left : Left)
+    (held new_held : Option (List ℕ)) (o : Outcome) : Type 0 where
   pub is_board : IsBoard b
   pub text : List ℕ
   pub is_text : IsText b.root b.records left text
@@ -32,9 +33,12 @@ ReadsFirst has limit (Err e) = (e ≡ NoMemory) ⊎ (e ≡ Stream)
 
 -- the report of what a ledger is loaded as is written. Where that isn't loaded, or memory is refused, nothing is
 -- written; or else a stream failed
-abbrev pub ReportsFrom : (Packed → List Recorded → Left → List ℕ → Type 0) → Readings → Option (List ℕ) → Option (List ℕ) → Result Outcome Ended → Type 0
-ReportsFrom IsText reads held new_held (Ok o) = (b : Contents) × (left : Left) × IsLoaded reads (Ok (b, left)) × WritesReport IsText b left held new_held o
-ReportsFrom IsText reads held new_held (Err e) = ((IsLoaded reads (Err e) ⊎ (e ≡ NoMemory)) × (new_held ≡ held)) ⊎ (e ≡ Stream)
+abbrev pub ReportsFrom : (Packed → List Recorded → Left → List ℕ → Type 0) → Readings → Option (List ℕ)
+    → Option (List ℕ) → Result Outcome Ended → Type 0
+ReportsFrom IsText reads held new_held (Ok o) = (b : Contents) × (left : Left) × IsLoaded reads (Ok (b, left))
+    × WritesReport IsText b left held new_held o
+ReportsFrom IsText reads held new_held (Err e) = ((IsLoaded reads (Err e) ⊎ (e ≡ NoMemory)) × (new_held ≡ held))
+    ⊎ (e ≡ Stream)
 
 -- where it is asked for, something may be said of what wasn't kept; else nothing is, nor where that ends early, but for
 -- a stream

@@ -25,7 +25,8 @@ gained format r = ledger_line format (with_score r) ++ (10 ∷ [])
 -- whether a record for a holdout is taken, as it is where it has a verdict: it stands in the holdout's place with its
 -- score, and its line is appended; where it isn't taken, the records stay as they were
 abbrev pub SettlesOrStays : Format → Recorded → Bool → List Recorded → List ℕ → List Recorded → List ℕ → Type 0
-SettlesOrStays format r true old lines new new_lines = Settles old r × (new ≡ settled old (with_score r)) × (new_lines ≡ lines ++ gained format r)
+SettlesOrStays format r true old lines new new_lines = Settles old r × (new ≡ settled old (with_score r))
+    × (new_lines ≡ lines ++ gained format r)
 SettlesOrStays format r false old lines new new_lines = (ending_by r.claim ≡ None) × (new ≡ old)
 
 -- a ledger's text, where it is known, with the line of a record behind it
@@ -34,20 +35,25 @@ with_line format r text = grown text (gained format r)
 
 -- by the verdict that is shown for a holdout: where there is none nothing changes; else the record stands in the holdout's
 -- place, with its score, and its line is appended
-abbrev pub ChangesBy : Format → Option Ending → Recorded → List Recorded → Option (List ℕ) → List Recorded → Option (List ℕ) → Type 0
+abbrev pub ChangesBy : Format → Option Ending → Recorded → List Recorded → Option (List ℕ) → List Recorded
+    → Option (List ℕ) → Type 0
 ChangesBy format None r old before new after = (new ≡ old) × (after ≡ before)
-ChangesBy format (Some v) r old before new after = Settles old r × (new ≡ settled old (with_score r)) × (after ≡ with_line format r before)
+ChangesBy format (Some v) r old before new after = Settles old r × (new ≡ settled old (with_score r))
+    × (after ≡ with_line format r before)
 
 -- a holdout is tried: a record of it is answered, and taken where that has a verdict
-abbrev pub IsTried : (Packed → Recorded → Type 0) → Format → Packed → List Recorded → Option (List ℕ) → List Recorded → Option (List ℕ) → Type 0
+abbrev pub IsTried : (Packed → Recorded → Type 0) → Format → Packed → List Recorded → Option (List ℕ) → List Recorded
+    → Option (List ℕ) → Type 0
 IsTried Answers format t old before new after =
     (r : Recorded) × Answers t r × (r.table ≡ t) × ChangesBy format (ending_by r.claim) r old before new after
 
 -- holdouts are tried, one after another
-abbrev pub AreTried : (Packed → Recorded → Type 0) → Format → List Packed → List Recorded → Option (List ℕ) → List Recorded → Option (List ℕ) → Type 0
+abbrev pub AreTried : (Packed → Recorded → Type 0) → Format → List Packed → List Recorded → Option (List ℕ)
+    → List Recorded → Option (List ℕ) → Type 0
 AreTried Answers format [] old before new after = (new ≡ old) × (after ≡ before)
 AreTried Answers format (t ∷ ts) old before new after =
-    (mid : List Recorded) × (text : Option (List ℕ)) × IsTried Answers format t old before mid text × AreTried Answers format ts mid text new after
+    (mid : List Recorded) × (text : Option (List ℕ)) × IsTried Answers format t old before mid text
+    × AreTried Answers format ts mid text new after
 
 -- what a decider may answer for a table as it is at some time, since it may change while it is asked
 abbrev pub AtSomeTime : (D : Type 0) → (D → Packed → Recorded → Type 0) → Packed → Recorded → Type 0
@@ -56,7 +62,8 @@ AtSomeTime D answers t r = (d : D) × answers d t r
 -- the holdouts that a board had are tried in the order of their texts, in the version of its ledger
 abbrev pub AreRetried : (Packed → Recorded → Type 0) → Contents → Option (List ℕ) → Contents → Option (List ℕ) → Type 0
 AreRetried Answers old before new after =
-    (ts : List Packed) × AreAll (IsHoldout old.records) ts × AreTried Answers old.format ts old.records before new.records after
+    (ts : List Packed) × AreAll (IsHoldout old.records) ts
+    × AreTried Answers old.format ts old.records before new.records after
 
 -- memory was refused, and nothing changed
 abbrev pub ChangesNothing : Ended → List Recorded → Option (List ℕ) → List Recorded → Option (List ℕ) → Type 0
@@ -64,17 +71,22 @@ ChangesNothing e old before new after = (e ≡ NoMemory) × (new ≡ old) × (af
 
 -- the ledger failed under the line of a record: the board has the record, and the ledger no more than a beginning of
 -- the line
-abbrev pub TearsLineOf : Format → Recorded → Ended → List Recorded → Option (List ℕ) → List Recorded → Option (List ℕ) → Type 0
-TearsLineOf format r e old before new after = (e ≡ Ledger) × Settles old r × (new ≡ settled old (with_score r)) × IsBegun before (gained format r) after
+abbrev pub TearsLineOf : Format → Recorded → Ended → List Recorded → Option (List ℕ) → List Recorded → Option (List ℕ)
+    → Type 0
+TearsLineOf format r e old before new after = (e ≡ Ledger) × Settles old r × (new ≡ settled old (with_score r))
+    × IsBegun before (gained format r) after
 
 -- what ends it at a holdout: memory was refused; or the ledger failed, under the line of a record that was answered for
 -- it
-abbrev pub EndsAtHoldout : (Packed → Recorded → Type 0) → Format → Packed → Ended → List Recorded → Option (List ℕ) → List Recorded → Option (List ℕ) → Type 0
+abbrev pub EndsAtHoldout : (Packed → Recorded → Type 0) → Format → Packed → Ended → List Recorded → Option (List ℕ)
+    → List Recorded → Option (List ℕ) → Type 0
 EndsAtHoldout Answers format t e old before new after =
-    ChangesNothing e old before new after ⊎ ((r : Recorded) × Answers t r × (r.table ≡ t) × TearsLineOf format r e old before new after)
+    ChangesNothing e old before new after ⊎ ((r : Recorded) × Answers t r × (r.table ≡ t)
+    × TearsLineOf format r e old before new after)
 
 -- it ended at one of the holdouts that a board had, and those before it were tried
-pub record StopsAtHoldout (Answers : Packed → Recorded → Type 0) (e : Ended) (old : Contents) (before : Option (List ℕ)) (new : Contents) (after : Option (List ℕ)) : Type 0 where
+pub record StopsAtHoldout (Answers : Packed → Recorded → Type 0) (e : Ended) (old : Contents) (before : Option (List ℕ))
+    (new : Contents) (after : Option (List ℕ)) : Type 0 where
   pub tried : List Packed
   pub at : Packed
   pub later : List Packed
@@ -85,5 +97,7 @@ pub record StopsAtHoldout (Answers : Packed → Recorded → Type 0) (e : Ended)
   pub ends : EndsAtHoldout Answers old.format at e mid text new.records after
 
 -- what ends it early: there is no memory for the holdouts; or it ends at one of them
-abbrev pub EndsRetrying : (Packed → Recorded → Type 0) → Ended → Contents → Option (List ℕ) → Contents → Option (List ℕ) → Type 0
-EndsRetrying Answers e old before new after = ChangesNothing e old.records before new.records after ⊎ StopsAtHoldout Answers e old before new after
+abbrev pub EndsRetrying : (Packed → Recorded → Type 0) → Ended → Contents → Option (List ℕ) → Contents → Option (List ℕ)
+    → Type 0
+EndsRetrying Answers e old before new after = ChangesNothing e old.records before new.records after
+    ⊎ StopsAtHoldout Answers e old before new after

@@ -21,10 +21,12 @@ use text::append_number;
 /// table of n states, its best is S(n) and its ones are Σ(n) (Radó 1962). Where memory is refused, `out` is as it was.
 #[tactic(auto, using(crate::proofs::TreeReports::tree_report, crate::proofs::TreeReports::tells_rado))]
 pub fn report(board: &Board, out: &mut Vec<u8>) -> Result<(), NoMemory>
-    ensures ok { OnOk result ((text : List ℕ) × IsReport board.now.root board.now.records text × (out.new.items ≡ out.old.items ++ text)) }
+    ensures ok { OnOk result ((text : List ℕ) × IsReport board.now.root board.now.records text
+        × (out.new.items ≡ out.old.items ++ text)) }
     ensures complete { OnOk result (IsComplete board.now.root (mark_in board.now.records) →
         (text : List ℕ) × IsTreeReport board.now.root text × (out.new.items ≡ out.old.items ++ text)) }
-    ensures rado { OnOk result (IsComplete board.now.root (mark_in board.now.records) → (n : ℕ) → 1 ≤ n → n ≤ state_limit →
+    ensures rado { OnOk result (IsComplete board.now.root (mark_in board.now.records) → (n : ℕ) → 1 ≤ n
+        → n ≤ state_limit →
         board.now.root ≡ empty_table n → (text : List ℕ) × TellsRado n text × (out.new.items ≡ out.old.items ++ text)) }
     ensures err { OnErr result (out.new.items ≡ out.old.items) }
 {
@@ -42,7 +44,8 @@ pub fn report(board: &Board, out: &mut Vec<u8>) -> Result<(), NoMemory>
 
 // Appends the report; where memory is refused, a beginning of it.
 fn append_report(board: &Board, out: &mut Vec<u8>) -> Result<(), NoMemory>
-    ensures ok { OnOk result ((text : List ℕ) × IsReport board.now.root board.now.records text × (out.new.items ≡ out.old.items ++ text)) }
+    ensures ok { OnOk result ((text : List ℕ) × IsReport board.now.root board.now.records text
+        × (out.new.items ≡ out.old.items ++ text)) }
     ensures kept { take (length out.old.items) out.new.items ≡ out.old.items }
 {
     let (champions, ones_champions, holdouts) = board.champions_and_holdouts()?;

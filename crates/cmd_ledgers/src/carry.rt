@@ -35,13 +35,14 @@ pub fn cmd_carry<H: Files, W: Write, E: Write>(
 ) -> Outcome
     ensures others { IsKeptBut (H.tells_same host.old) carrying.entry.out.now (H.holds host.old) (H.holds host.new) }
     ensures carries { (ended : Result Outcomes Ends)
-        × CarriesAt (H.tells_same host.old) carrying.entry.ledger.now carrying.entry.out.now (H.holds host.old) (H.holds host.new) (W.contents answers.old) (W.contents answers.new) ended
+        × CarriesAt (H.tells_same host.old) carrying.entry.ledger.now carrying.entry.out.now (H.holds host.old)
+        (H.holds host.new) (W.contents answers.old) (W.contents answers.new) ended
         × EndsTold ended (E.contents faults.old) (E.contents faults.new) result }
 {
     told(carry_at(alloc, carrying, host, answers), faults)
 }
 
-/// The same, but that what ends it early isn't said.
+/// Carries as `cmd_carry` does, but answers what ends it early, and doesn't say it.
 pub fn carry_at<H: Files, W: Write>(
     alloc: Global,
     carrying: Carrying<'_>,
@@ -49,7 +50,8 @@ pub fn carry_at<H: Files, W: Write>(
     answers: &mut W,
 ) -> Result<Outcome, Ended>
     ensures others { IsKeptBut (H.tells_same host.old) carrying.entry.out.now (H.holds host.old) (H.holds host.new) }
-    ensures carries { CarriesAt (H.tells_same host.old) carrying.entry.ledger.now carrying.entry.out.now (H.holds host.old) (H.holds host.new) (W.contents answers.old) (W.contents answers.new) result }
+    ensures carries { CarriesAt (H.tells_same host.old) carrying.entry.ledger.now carrying.entry.out.now
+        (H.holds host.old) (H.holds host.new) (W.contents answers.old) (W.contents answers.new) result }
 {
     let (made, tally, left) = carried(alloc, carrying, host)?;
     let said = carried_line(alloc, &tally, &left)?;
@@ -66,7 +68,8 @@ fn carried<H: Files>(
 ) -> Result<(H::Made, Tally, Left), Ended>
     ensures ok { IfOk result (λ j. (begun : Option (List ℕ)) × IsBlank begun
         × CarriesInto (ReadsAt (H.holds host.now carrying.entry.ledger.now)) j.1 j.2 begun (H.Made.text j.0)) }
-    ensures err { IfErr result (λ e. IsLoaded (ReadsAt (H.holds host.now carrying.entry.ledger.now)) (Err e) ⊎ FailsWriting e) }
+    ensures err { IfErr result (λ e. IsLoaded (ReadsAt (H.holds host.now carrying.entry.ledger.now)) (Err e)
+        ⊎ FailsWriting e) }
 {
     let mut made = made_for(host, carrying.out, &[carrying.ledger])?;
     let from = AtPath {
@@ -98,7 +101,8 @@ pub fn carry_into<S: LedgerSource, L: LedgerOut>(
     from: &S,
     ledger: &mut L,
 ) -> Result<(Tally, Left), Ended>
-    ensures ok { IfOk result (λ told. CarriesInto (S.reads from.now) told.0 told.1 (L.text ledger.old) (L.text ledger.new)) }
+    ensures ok { IfOk result (λ told. CarriesInto (S.reads from.now) told.0 told.1 (L.text ledger.old)
+        (L.text ledger.new)) }
     ensures err { IfErr result (λ e. EndsCarryingInto (S.reads from.now) e (ledger.new ≡ ledger.old)) }
 {
     let (board, left) = load_source(alloc, from)?;

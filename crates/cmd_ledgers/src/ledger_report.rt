@@ -208,7 +208,8 @@ pub fn report_ledger<R: Read>(
     limit: u64,
     out: &mut Vec<u8>,
 ) -> Result<(Outcome, Left), Stopped>
-    ensures ok { IfOk result (λ r. (text : List ℕ) × AreFirstBytes (R.remaining from.old) limit text × ReportsLedger text out.old.items r.0 r.1 out.new.items) }
+    ensures ok { IfOk result (λ r. (text : List ℕ) × AreFirstBytes (R.remaining from.old) limit text
+        × ReportsLedger text out.old.items r.0 r.1 out.new.items) }
     ensures err { IfErr result (EndsReading (R.remaining from.old) limit) }
 {
     let (board, left) = load_from(alloc, from, limit)?;
@@ -218,7 +219,8 @@ pub fn report_ledger<R: Read>(
 
 // Appends the report of a board, and what wasn't kept of its ledger.
 fn append_ledger_report(board: &Board, left: &Left, out: &mut Vec<u8>) -> Result<(), Stopped>
-    ensures ok { OnOk result ((text : List ℕ) × IsReport board.now.root board.now.records text × (out.new.items ≡ out.old.items ++ text ++ left_text left.now)) }
+    ensures ok { OnOk result ((text : List ℕ) × IsReport board.now.root board.now.records text
+        × (out.new.items ≡ out.old.items ++ text ++ left_text left.now)) }
     ensures err { IfErr result (λ e. e ≡ Stopped.Ended Ended.NoMemory) }
 {
     report(board, out)?;

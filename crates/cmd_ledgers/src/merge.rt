@@ -37,13 +37,14 @@ pub fn cmd_merge<H: Files, W: Write, E: Write>(
 ) -> Outcome
     ensures others { IsKeptBut (H.tells_same host.old) merging.entry.out.now (H.holds host.old) (H.holds host.new) }
     ensures merges { (ended : Result Outcomes Ends)
-        × MergesAt (H.tells_same host.old) merging.entry.first.now merging.entry.second.now merging.entry.out.now (H.holds host.old) (H.holds host.new) (W.contents answers.old) (W.contents answers.new) ended
+        × MergesAt (H.tells_same host.old) merging.entry.first.now merging.entry.second.now merging.entry.out.now
+        (H.holds host.old) (H.holds host.new) (W.contents answers.old) (W.contents answers.new) ended
         × EndsTold ended (E.contents faults.old) (E.contents faults.new) result }
 {
     told(merge_at(alloc, merging, host, answers), faults)
 }
 
-/// The same, but that what ends it early isn't said.
+/// Merges as `cmd_merge` does, but answers what ends it early, and doesn't say it.
 pub fn merge_at<H: Files, W: Write>(
     alloc: Global,
     merging: Merging<'_>,
@@ -51,7 +52,9 @@ pub fn merge_at<H: Files, W: Write>(
     answers: &mut W,
 ) -> Result<Outcome, Ended>
     ensures others { IsKeptBut (H.tells_same host.old) merging.entry.out.now (H.holds host.old) (H.holds host.new) }
-    ensures merges { MergesAt (H.tells_same host.old) merging.entry.first.now merging.entry.second.now merging.entry.out.now (H.holds host.old) (H.holds host.new) (W.contents answers.old) (W.contents answers.new) result }
+    ensures merges { MergesAt (H.tells_same host.old) merging.entry.first.now merging.entry.second.now
+        merging.entry.out.now (H.holds host.old) (H.holds host.new) (W.contents answers.old) (W.contents answers.new)
+        result }
 {
     let (made, tally, left) = joined(alloc, merging, host)?;
     let said = merged_line(alloc, &tally, &left)?;
@@ -67,8 +70,10 @@ fn joined<H: Files>(
     host: &H,
 ) -> Result<(H::Made, Tally, Left), Ended>
     ensures ok { IfOk result (λ j. (begun : Option (List ℕ)) × IsBlank begun
-        × JoinsInto (ReadsAt (H.holds host.now merging.entry.first.now)) (ReadsAt (H.holds host.now merging.entry.second.now)) j.1 j.2 begun (H.Made.text j.0)) }
-    ensures err { IfErr result (λ e. AreJoined (ReadsAt (H.holds host.now merging.entry.first.now)) (ReadsAt (H.holds host.now merging.entry.second.now)) (Err e) ⊎ FailsWriting e) }
+        × JoinsInto (ReadsAt (H.holds host.now merging.entry.first.now))
+        (ReadsAt (H.holds host.now merging.entry.second.now)) j.1 j.2 begun (H.Made.text j.0)) }
+    ensures err { IfErr result (λ e. AreJoined (ReadsAt (H.holds host.now merging.entry.first.now))
+        (ReadsAt (H.holds host.now merging.entry.second.now)) (Err e) ⊎ FailsWriting e) }
 {
     let mut made = made_for(host, merging.out, &[merging.first, merging.second])?;
     let first = AtPath {
@@ -114,8 +119,10 @@ pub fn join_into<A: LedgerSource, B: LedgerSource, L: LedgerOut>(
     second: &B,
     ledger: &mut L,
 ) -> Result<(Tally, Left), Ended>
-    ensures ok { IfOk result (λ told. JoinsInto (A.reads first.now) (B.reads second.now) told.0 told.1 (L.text ledger.old) (L.text ledger.new)) }
-    ensures err { IfErr result (λ e. EndsJoiningInto (A.reads first.now) (B.reads second.now) e (ledger.new ≡ ledger.old)) }
+    ensures ok { IfOk result (λ told. JoinsInto (A.reads first.now) (B.reads second.now) told.0 told.1
+        (L.text ledger.old) (L.text ledger.new)) }
+    ensures err { IfErr result (λ e. EndsJoiningInto (A.reads first.now) (B.reads second.now) e
+        (ledger.new ≡ ledger.old)) }
 {
     let (board, left) = join(alloc, first, second)?;
     write_whole(alloc, &board, ledger)?;
@@ -151,8 +158,10 @@ fn earlier(first: Left, second: Left) -> Left
 
 // Takes the records of a ledger into a board of its root, and answers what wasn't kept of it.
 fn take_source<S: LedgerSource>(alloc: Global, board: &mut Board, source: &S) -> Result<Left, Ended>
-    ensures ok { IfOk result (λ left. (text : List ℕ) × S.reads source.now (Ok text) × TakesIn board.old text left board.new) }
-    ensures err { IfErr result (λ e. S.reads source.now (Err e) ⊎ ((text : List ℕ) × S.reads source.now (Ok text) × EndsTakingIn board.old.root text e)) }
+    ensures ok { IfOk result (λ left. (text : List ℕ) × S.reads source.now (Ok text)
+        × TakesIn board.old text left board.new) }
+    ensures err { IfErr result (λ e. S.reads source.now (Err e)
+        ⊎ ((text : List ℕ) × S.reads source.now (Ok text) × EndsTakingIn board.old.root text e)) }
 {
     let mut opened = source.open()?;
     match take_from(alloc, board, &mut opened.reader, opened.length) {
@@ -162,14 +171,15 @@ fn take_source<S: LedgerSource>(alloc: Global, board: &mut Board, source: &S) ->
     }
 }
 
-// The same of the ledger that a reader has in its first bytes.
+// Takes the records of the ledger that a reader has in its first bytes.
 fn take_from<R: Read>(
     alloc: Global,
     board: &mut Board,
     from: &mut R,
     limit: u64,
 ) -> Result<Left, Stopped>
-    ensures ok { IfOk result (λ left. (text : List ℕ) × AreFirstBytes (R.remaining from.old) limit text × TakesIn board.old text left board.new) }
+    ensures ok { IfOk result (λ left. (text : List ℕ) × AreFirstBytes (R.remaining from.old) limit text
+        × TakesIn board.old text left board.new) }
     ensures err { IfErr result (EndsReadingOf board.old.root (R.remaining from.old) limit) }
 {
     let root = *board.root();

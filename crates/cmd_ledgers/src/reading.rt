@@ -34,7 +34,7 @@ pub fn load_from<R: Read>(alloc: Global, from: &mut R, limit: u64) -> Result<(Bo
     load_behind(alloc, root, &begun[..len], from, limit - len as u64)
 }
 
-/// The same of a ledger that has to be of this root.
+/// Loads a ledger that has to be of a root.
 pub(crate) fn load_of<R: Read>(
     alloc: Global,
     root: Table,
@@ -63,7 +63,8 @@ pub fn begin_reading<R: Read>(
     buffer: &mut [u8],
 ) -> Result<(Table, usize), Stopped>
     requires { length buffer.old ≡ min limit header_byte_limit }
-    ensures ok { IfOk result (λ b. (b.1 ≤ length buffer.new) × BeginsWithRoot (R.remaining from.old) (R.remaining from.new) limit (take b.1 buffer.new) b.0) }
+    ensures ok { IfOk result (λ b. (b.1 ≤ length buffer.new)
+        × BeginsWithRoot (R.remaining from.old) (R.remaining from.new) limit (take b.1 buffer.new) b.0) }
     ensures err { IfErr result (EndsReading (R.remaining from.old) limit) }
     ensures memory { IfErr result (λ e. e ≢ Stopped.Ended Ended.NoMemory) }
 {
@@ -82,7 +83,8 @@ pub fn begin_reading<R: Read>(
 fn fill<R: Read>(from: &mut R, limit: u64, buffer: &mut [u8]) -> io::Result<usize>
     requires { length buffer.old ≡ min limit header_byte_limit }
     ensures within { IfOk result (λ len. len ≤ length buffer.new) }
-    ensures ok { IfOk result (λ len. BeginsReading (R.remaining from.old) (R.remaining from.new) limit (take len buffer.new)) }
+    ensures ok { IfOk result (λ len. BeginsReading (R.remaining from.old) (R.remaining from.new) limit
+        (take len buffer.new)) }
 {
     let mut len = 0;
     while len < buffer.len() && !has_newline(&buffer[..len]) {
@@ -99,7 +101,8 @@ fn fill<R: Read>(from: &mut R, limit: u64, buffer: &mut [u8]) -> io::Result<usiz
 fn read_behind<R: Read>(from: &mut R, buffer: &mut [u8], len: usize) -> io::Result<usize>
     requires { len < length buffer.old }
     ensures within { IfOk result (λ count. len + count ≤ length buffer.old) }
-    ensures ok { IfOk result (λ count. (more : List ℕ) × Consumes (R.remaining from.old) (R.remaining from.new) more × (take (len + count) buffer.new ≡ take len buffer.old ++ more)) }
+    ensures ok { IfOk result (λ count. (more : List ℕ) × Consumes (R.remaining from.old) (R.remaining from.new) more
+        × (take (len + count) buffer.new ≡ take len buffer.old ++ more)) }
     ensures end { IfOk result (λ count. count ≡ 0 → IsAtEnd (R.remaining from.new)) }
 {
     from.read(&mut buffer[len..])
@@ -126,7 +129,9 @@ fn load_behind<R: Read>(
     requires order { (u : ℕ) × InOrder u (entry_of root) }
     requires header { (rest : List ℕ) × HasHeader first.now root rest }
     requires small { length first.now + limit < 2 ^ 64 }
-    ensures ok { IfOk result (λ l. (l.0.root ≡ root) × ((more : List ℕ) × AreFirstBytes (R.remaining from.old) limit more × ReadsIn l.0.format root (first.now ++ more) l.0.records l.1)) }
+    ensures ok { IfOk result (λ l. (l.0.root ≡ root)
+        × ((more : List ℕ) × AreFirstBytes (R.remaining from.old) limit more
+        × ReadsIn l.0.format root (first.now ++ more) l.0.records l.1)) }
     ensures err { IfErr result EndsBehindHeader }
 {
     let mut loader = Loader::new(alloc, root);
@@ -147,7 +152,8 @@ fn feed_all<R: Read>(
     limit: u64,
 ) -> Result<(), Stopped>
     requires { loader.old.bytes + length first.now + limit < 2 ^ 64 }
-    ensures ok { OnOk result ((more : List ℕ) × AreFirstBytes (R.remaining from.old) limit more × IsFed loader.old (first.now ++ more) loader.new) }
+    ensures ok { OnOk result ((more : List ℕ) × AreFirstBytes (R.remaining from.old) limit more
+        × IsFed loader.old (first.now ++ more) loader.new) }
     ensures err { IfErr result EndsBehindHeader }
 {
     match loader.feed(first) {

@@ -34,7 +34,8 @@ pub trait ReportForm {
 
     /// Makes the report of what is told.
     fn make(&self, alloc: Global, told: Told, left: &Left) -> Result<Self::Made, NoMemory>
-        ensures { IfOk result (λ made. (root : Packed) (rs : List Recorded) → IsToldOf root rs told → is_text self.now root rs left.now (bytes made)) };
+        ensures { IfOk result (λ made. (root : Packed) (rs : List Recorded) → IsToldOf root rs told
+            → is_text self.now root rs left.now (bytes made)) };
 
     /// Writes a report that is made.
     fn write<W: Write>(&self, made: Self::Made, answers: &mut W) -> io::Result<()>
@@ -64,7 +65,8 @@ pub fn write_told<P: ReportForm, W: Write>(
     left: &Left,
     answers: &mut W,
 ) -> Result<(), Ended>
-    ensures ok { OnOk result ((root : Packed) (rs : List Recorded) → IsToldOf root rs told → (text : List ℕ) × P.is_text form.now root rs left.now text
+    ensures ok { OnOk result ((root : Packed) (rs : List Recorded) → IsToldOf root rs told → (text : List ℕ)
+        × P.is_text form.now root rs left.now text
         × Appends (W.contents answers.old) (W.contents answers.new) text) }
     ensures err { IfErr result (λ e. ((e ≡ Ended.NoMemory) × (answers.new ≡ answers.old)) ⊎ (e ≡ Ended.Stream)) }
 {

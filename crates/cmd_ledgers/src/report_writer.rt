@@ -39,7 +39,8 @@ pub struct LineReport {
 
 // Makes the report of what is told, and `left LINE` where not all of a ledger was kept.
 pub(crate) fn line_report(alloc: Global, told: Told, left: &Left) -> Result<LineReport, NoMemory>
-    ensures { IfOk result (λ made. (root : Packed) (rs : List Recorded) → IsToldOf root rs told → IsLines root rs left.now (bytes_of_lines made)) }
+    ensures { IfOk result (λ made. (root : Packed) (rs : List Recorded) → IsToldOf root rs told
+        → IsLines root rs left.now (bytes_of_lines made)) }
 {
     let Told {
         root,
@@ -93,7 +94,8 @@ fn pass_tables<W: Write>(
     piece: &mut Vec<u8>,
     answers: &mut W,
 ) -> io::Result<()>
-    ensures { OnOk result (Passes (W.contents answers.old) piece.old.items (W.contents answers.new) piece.new.items (table_lines name.now (into_iter_items tables))) }
+    ensures { OnOk result (Passes (W.contents answers.old) piece.old.items (W.contents answers.new) piece.new.items
+        (table_lines name.now (into_iter_items tables))) }
 {
     for table in tables {
         pass_line(name, &table, piece, answers)?;
@@ -108,7 +110,8 @@ fn pass_line<W: Write>(
     piece: &mut Vec<u8>,
     answers: &mut W,
 ) -> io::Result<()>
-    ensures { OnOk result (Passes (W.contents answers.old) piece.old.items (W.contents answers.new) piece.new.items (line_of name.now (text_of t.now))) }
+    ensures { OnOk result (Passes (W.contents answers.old) piece.old.items (W.contents answers.new) piece.new.items
+        (line_of name.now (text_of t.now))) }
 {
     let mut buf = [0; TEXT_BYTES];
     pass(name, piece, answers)?;
@@ -120,7 +123,8 @@ fn pass_line<W: Write>(
 /// Passes bytes on to a writer by way of a piece in memory: they come behind the piece, or, where it has no room for them,
 /// it is written, and they behind it. The piece never grows.
 pub fn pass<W: Write>(bytes: &[u8], piece: &mut Vec<u8>, answers: &mut W) -> io::Result<()>
-    ensures { OnOk result (Passes (W.contents answers.old) piece.old.items (W.contents answers.new) piece.new.items bytes.now) }
+    ensures { OnOk result (Passes (W.contents answers.old) piece.old.items (W.contents answers.new) piece.new.items
+        bytes.now) }
 {
     if bytes.len() > piece.capacity() - piece.len() {
         answers.write_all(piece.as_slice())?;

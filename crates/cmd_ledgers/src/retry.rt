@@ -46,7 +46,7 @@ pub fn cmd_retry<H: Files, D: Decider, W: Write, E: Write>(
     told(retry_at(alloc, file, host, decider, answers), faults)
 }
 
-/// The same, but that what ends it early isn't said.
+/// Retries as `cmd_retry` does, but answers what ends it early, and doesn't say it.
 pub fn retry_at<H: Files, D: Decider, W: Write>(
     alloc: Global,
     file: LedgerFile<'_>,
@@ -86,7 +86,7 @@ pub fn retry_ledger<F: Read + Drop, L: LedgerOut, D: Decider, W: Write>(
     retry_loaded(alloc, &mut board, &left, ledger, decider, answers)
 }
 
-// The same from the board of the ledger, and what of it wasn't kept.
+// Retries from the board of the ledger, and what of it wasn't kept.
 fn retry_loaded<L: LedgerOut, D: Decider, W: Write>(
     alloc: Global,
     board: &mut Board,
@@ -119,7 +119,8 @@ pub fn retry_holdouts<L: LedgerOut, D: Decider>(
     ensures root { board.new.root ≡ board.old.root }
     ensures format { board.new.format ≡ board.old.format }
     ensures step { OnOk result (StaysInStep board.old (L.text ledger.old) board.new (L.text ledger.new)) }
-    ensures order { OnOk result (AreRetried (AtSomeTime D D.answers) board.old (L.text ledger.old) board.new (L.text ledger.new)) }
+    ensures order { OnOk result (AreRetried (AtSomeTime D D.answers) board.old (L.text ledger.old) board.new
+        (L.text ledger.new)) }
     ensures ended { IfErr result (λ e. EndsRetrying (AtSomeTime D D.answers) e board.old
         (L.text ledger.old) board.new (L.text ledger.new)) }
     ensures works { OnOk result (L.failures ledger.new ≡ L.failures ledger.old) }
@@ -143,7 +144,8 @@ fn retry<L: LedgerOut, D: Decider>(
     ensures root { board.new.root ≡ board.old.root }
     ensures format { board.new.format ≡ board.old.format }
     ensures step { OnOk result (StaysInStep board.old (L.text ledger.old) board.new (L.text ledger.new)) }
-    ensures tried { OnOk result (IsTried (AtSomeTime D D.answers) board.old.format t.now board.old.records (L.text ledger.old) board.new.records (L.text ledger.new)) }
+    ensures tried { OnOk result (IsTried (AtSomeTime D D.answers) board.old.format t.now board.old.records
+        (L.text ledger.old) board.new.records (L.text ledger.new)) }
     ensures ended { IfErr result (λ e. EndsAtHoldout
         (AtSomeTime D D.answers) board.old.format t.now e board.old.records (L.text ledger.old) board.new.records
         (L.text ledger.new)) }
@@ -170,7 +172,8 @@ fn take<L: LedgerOut>(
     ensures root { board.new.root ≡ board.old.root }
     ensures format { board.new.format ≡ board.old.format }
     ensures step { OnOk result (StaysInStep board.old (L.text ledger.old) board.new (L.text ledger.new)) }
-    ensures changes { OnOk result (ChangesBy board.old.format (ending_by (recorded r.now).claim) (recorded r.now) board.old.records (L.text ledger.old) board.new.records (L.text ledger.new)) }
+    ensures changes { OnOk result (ChangesBy board.old.format (ending_by (recorded r.now).claim) (recorded r.now)
+        board.old.records (L.text ledger.old) board.new.records (L.text ledger.new)) }
     ensures ended { IfErr result (λ e. ChangesNothing e board.old.records (L.text ledger.old) board.new.records
         (L.text ledger.new)
         ⊎ TearsLineOf board.old.format (recorded r.now) e board.old.records (L.text ledger.old) board.new.records
@@ -194,7 +197,8 @@ fn gains(board: &mut Board, r: &Record, line: &mut Vec<u8>) -> Result<bool, Ende
     requires certified { IsCertified (recorded r.now) }
     ensures root { board.new.root ≡ board.old.root }
     ensures format { board.new.format ≡ board.old.format }
-    ensures ok { IfOk result (λ gained. SettlesOrStays board.old.format (recorded r.now) gained board.old.records line.old.items board.new.records line.new.items) }
+    ensures ok { IfOk result (λ gained. SettlesOrStays board.old.format (recorded r.now) gained board.old.records
+        line.old.items board.new.records line.new.items) }
     ensures err { IfErr result (λ e. (e ≡ Ended.NoMemory) × (board.new.records ≡ board.old.records)) }
 {
     match board.offer_certified_line(r, line) {

@@ -23,7 +23,8 @@ pub trait LedgerSource {
 
     /// Opens it, to be read as far as it goes then.
     fn open(&self) -> Result<Opened<Self::Reader>, Ended>
-        ensures ok { IfOk result (λ opened. (text : List ℕ) → AreFirstBytes (Self.Reader.remaining opened.reader) opened.length text → reads self.now (Ok text)) }
+        ensures ok { IfOk result (λ opened. (text : List ℕ)
+            → AreFirstBytes (Self.Reader.remaining opened.reader) opened.length text → reads self.now (Ok text)) }
         ensures err { IfErr result (λ e. reads self.now (Err e)) };
 
     /// What ends a command of which a read of it fails.

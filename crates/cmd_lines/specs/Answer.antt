@@ -55,8 +55,10 @@ fault_text f = refusal_text (record_fault.record_fault_number f) ++ inner_text f
 -- claim is certified; or why it is refused
 abbrev pub AnswersRecord : Recorded → Outcome → List ℕ → Type 0
 AnswersRecord r Accepted answer =
-    IsCertified r × IfSome (shown_by r.claim r.table) (λ v. IsTrueOf v (entry_of r.table)) × (answer ≡ text_of r.table ++ verdict_text (shown_by r.claim r.table) ++ ones_text (score_by r.claim))
-AnswersRecord r Refused answer = (why : Refusal) × (number : ℕ) × IsRefusedBy why r × (verdict.refused_number why ≡ Some number) × (answer ≡ refusal_text number)
+    IsCertified r × IfSome (shown_by r.claim r.table) (λ v. IsTrueOf v (entry_of r.table))
+    × (answer ≡ text_of r.table ++ verdict_text (shown_by r.claim r.table) ++ ones_text (score_by r.claim))
+AnswersRecord r Refused answer = (why : Refusal) × (number : ℕ) × IsRefusedBy why r
+    × (verdict.refused_number why ≡ Some number) × (answer ≡ refusal_text number)
 AnswersRecord r BadLine answer = ⊥
 AnswersRecord r NoMemory answer = ⊥
 AnswersRecord r Failed answer = ⊥

@@ -13,10 +13,12 @@ abbrev pub AreAnswered : (Option (List ℕ) → Outcome → List ℕ → Type 0)
 AreAnswered Says [] o text = (o ≡ Accepted) × (text ≡ [])
 AreAnswered Says (line ∷ lines) o text =
     (first : Outcome) × (answer : List ℕ) × (later : Outcome) × (answers : List ℕ) ×
-    Says (bounded_line line) first answer × AreAnswered Says lines later answers × (o ≡ first_fault first later) × (text ≡ answer ++ (10 ∷ answers))
+    Says (bounded_line line) first answer × AreAnswered Says lines later answers × (o ≡ first_fault first later)
+    × (text ≡ answer ++ (10 ∷ answers))
 
 -- a reader is read to its end, and the answers to its lines are written behind what a writer held
-pub record AnswersStream (Says : Option (List ℕ) → Outcome → List ℕ → Type 0) (read new_read held new_held : Option (List ℕ)) (o : Outcome) : Type 0 where
+pub record AnswersStream (Says : Option (List ℕ) → Outcome → List ℕ → Type 0)
+    (read new_read held new_held : Option (List ℕ)) (o : Outcome) : Type 0 where
   pub text : List ℕ
   pub lines : List (List ℕ)
   pub answers : List ℕ
@@ -27,5 +29,6 @@ pub record AnswersStream (Says : Option (List ℕ) → Outcome → List ℕ → 
   pub written : Appends held new_held answers
 
 -- what is said to one line is an answer with its newline, whatever is remembered
-abbrev pub SaysAnswer : {D : Type 0} → (BoundedLine → Outcome → List ℕ → Type 0) → D → BoundedLine → Outcome → D → List ℕ → Type 0
+abbrev pub SaysAnswer : {D : Type 0} → (BoundedLine → Outcome → List ℕ → Type 0) → D → BoundedLine → Outcome → D
+    → List ℕ → Type 0
 SaysAnswer {D} Says old line o new said = (answer : List ℕ) × Says line o answer × (said ≡ answer ++ 10 ∷ [])

@@ -15,7 +15,8 @@ use text::append_number;
 
 /// Appends the answer to a line, which is none where it was too long, with a newline.
 pub fn answer(alloc: Global, line: Option<&[u8]>, out: &mut Vec<u8>) -> Result<Outcome, NoMemory>
-    ensures { IfOk result (λ o. (answer : List ℕ) × Answers (read_line (lent line.entry)) o answer × (out.new.items ≡ out.old.items ++ answer ++ 10 ∷ [])) }
+    ensures { IfOk result (λ o. (answer : List ℕ) × Answers (read_line (lent line.entry)) o answer
+        × (out.new.items ≡ out.old.items ++ answer ++ 10 ∷ [])) }
 {
     let outcome = match read_line(line) {
         Ok(record) => answer_record(alloc, &record, out)?,
@@ -40,7 +41,8 @@ fn read_line(line: Option<&[u8]>) -> Result<Record<'_>, RecordFault>
 
 // Appends what the record's certificate shows, or why it is refused.
 fn answer_record(alloc: Global, r: &Record, out: &mut Vec<u8>) -> Result<Outcome, NoMemory>
-    ensures { IfOk result (λ o. (answer : List ℕ) × AnswersRecord (recorded r.now) o answer × (out.new.items ≡ out.old.items ++ answer)) }
+    ensures { IfOk result (λ o. (answer : List ℕ) × AnswersRecord (recorded r.now) o answer
+        × (out.new.items ≡ out.old.items ++ answer)) }
 {
     standing_claims_are_true();
     // The proof needs that it is a table.
@@ -62,7 +64,8 @@ fn answer_record(alloc: Global, r: &Record, out: &mut Vec<u8>) -> Result<Outcome
 
 // Appends a record's table, what is said of it, and the score that the record has, if any.
 fn append_shown(r: &Record, verdict: Option<Verdict>, out: &mut Vec<u8>) -> Result<(), NoMemory>
-    ensures { OnOk result (out.new.items ≡ out.old.items ++ text_of (recorded r.now).table ++ verdict_text verdict ++ ones_text (score_by (recorded r.now).claim)) }
+    ensures { OnOk result (out.new.items ≡ out.old.items ++ text_of (recorded r.now).table ++ verdict_text verdict
+        ++ ones_text (score_by (recorded r.now).claim)) }
 {
     append_table(&r.table, out)?;
     append_verdict(verdict, out)?;

@@ -26,7 +26,8 @@ pub fn cmd_check<R: Read, W: Write, E: Write>(
     answers: &mut W,
     faults: &mut E,
 ) -> Outcome
-    ensures { AnswersStream SaysOfRecord (R.remaining input.old) (R.remaining input.new) (W.contents answers.old) (W.contents answers.new) result
+    ensures { AnswersStream SaysOfRecord (R.remaining input.old) (R.remaining input.new) (W.contents answers.old)
+        (W.contents answers.new) result
         ⊎ (result ≡ Outcome.NoMemory) ⊎ (result ≡ Outcome.Failed) }
 {
     told(
@@ -35,8 +36,8 @@ pub fn cmd_check<R: Read, W: Write, E: Write>(
     )
 }
 
-/// The same for a script or a person, who is told on `faults` at the end which line was the first that is a table alone; but
-/// that what ends it early isn't said.
+/// Checks as `cmd_check` does, for a script or a person, who is told on `faults` at the end which line was the first
+/// that is a table alone; but answers what ends it early, and doesn't say it.
 pub fn check_for<R: Read, W: Write, E: Write>(
     alloc: Global,
     reader: Reader,
@@ -44,7 +45,8 @@ pub fn check_for<R: Read, W: Write, E: Write>(
     answers: &mut W,
     faults: &mut E,
 ) -> Result<Outcome, Ended>
-    ensures ok { IfOk result (AnswersStream SaysOfRecord (R.remaining input.old) (R.remaining input.new) (W.contents answers.old) (W.contents answers.new)) }
+    ensures ok { IfOk result (AnswersStream SaysOfRecord (R.remaining input.old) (R.remaining input.new)
+        (W.contents answers.old) (W.contents answers.new)) }
     ensures err { IfErr result (λ e. (e ≡ Ended.NoMemory) ⊎ (e ≡ Ended.Stream)) }
 {
     let checker = Checker {

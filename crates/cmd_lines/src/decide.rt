@@ -30,7 +30,8 @@ pub fn cmd_decide<D: Decider, R: Read, W: Write, E: Write>(
     answers: &mut W,
     faults: &mut E,
 ) -> Outcome
-    ensures { AnswersStream (SaysOfTable D.answers) (R.remaining input.old) (R.remaining input.new) (W.contents answers.old) (W.contents answers.new) result
+    ensures { AnswersStream (SaysOfTable D.answers) (R.remaining input.old) (R.remaining input.new)
+        (W.contents answers.old) (W.contents answers.new) result
         ⊎ (result ≡ Outcome.NoMemory) ⊎ (result ≡ Outcome.Failed) }
 {
     told(
@@ -39,8 +40,8 @@ pub fn cmd_decide<D: Decider, R: Read, W: Write, E: Write>(
     )
 }
 
-/// The same for a script or a person, who is told on `faults` at the end which line was the first that is a record; but that
-/// what ends it early isn't said.
+/// Decides as `cmd_decide` does, for a script or a person, who is told on `faults` at the end which line was the first
+/// that is a record; but answers what ends it early, and doesn't say it.
 pub fn decide_for<D: Decider, R: Read, W: Write, E: Write>(
     alloc: Global,
     reader: Reader,
@@ -49,7 +50,8 @@ pub fn decide_for<D: Decider, R: Read, W: Write, E: Write>(
     answers: &mut W,
     faults: &mut E,
 ) -> Result<Outcome, Ended>
-    ensures ok { IfOk result (AnswersStream (SaysOfTable D.answers) (R.remaining input.old) (R.remaining input.new) (W.contents answers.old) (W.contents answers.new)) }
+    ensures ok { IfOk result (AnswersStream (SaysOfTable D.answers) (R.remaining input.old) (R.remaining input.new)
+        (W.contents answers.old) (W.contents answers.new)) }
     ensures err { IfErr result (λ e. (e ≡ Ended.NoMemory) ⊎ (e ≡ Ended.Stream)) }
 {
     let answerer = TableAnswerer {
@@ -98,7 +100,9 @@ pub fn decide_line<D: Decider>(
     line: Option<&[u8]>,
     out: &mut Vec<u8>,
 ) -> Result<Outcome, NoMemory>
-    ensures { IfOk result (λ o. (answer : List ℕ) × Decides (D.answers decider.old) (read_line_table (lent line.entry)) o answer × (out.new.items ≡ out.old.items ++ answer ++ 10 ∷ [])) }
+    ensures { IfOk result (λ o. (answer : List ℕ)
+        × Decides (D.answers decider.old) (read_line_table (lent line.entry)) o answer
+        × (out.new.items ≡ out.old.items ++ answer ++ 10 ∷ [])) }
 {
     let outcome = match read_line_table(line) {
         Ok(table) => append_record(alloc, decider, &table, out)?,
@@ -131,7 +135,8 @@ fn append_record<D: Decider>(
     t: &Table,
     out: &mut Vec<u8>,
 ) -> Result<Outcome, NoMemory>
-    ensures { IfOk result (λ o. (answer : List ℕ) × DecidesTable (D.answers decider.old) t.now o answer × (out.new.items ≡ out.old.items ++ answer)) }
+    ensures { IfOk result (λ o. (answer : List ℕ) × DecidesTable (D.answers decider.old) t.now o answer
+        × (out.new.items ≡ out.old.items ++ answer)) }
 {
     let record = decider.decide(alloc, t)?;
     record.lent().write_text(out)?;

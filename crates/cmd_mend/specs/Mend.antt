@@ -63,7 +63,8 @@ EndsMendingInto has limit e IsUntouched =
 
 -- what is printed
 abbrev pub mended_text : Tally → ℕ → List ℕ
-mended_text tally dropped = codes "mended " ++ decimal (tally.nodes - tally.open_count) ++ codes " dropped " ++ decimal dropped ++ 10 ∷ []
+mended_text tally dropped = codes "mended " ++ decimal (tally.nodes - tally.open_count) ++ codes " dropped "
+    ++ decimal dropped ++ 10 ∷ []
 
 -- accepted where each line was taken
 abbrev pub outcome_of_dropped : ℕ → Outcome
@@ -72,10 +73,14 @@ outcome_of_dropped (suc dropped) = Refused
 
 -- a ledger of what is kept of a text, which may be read so, is put at a path, and that is told. Where that ends early nothing
 -- has changed at any path and nothing is printed, unless the stream fails once it is put
-abbrev pub MendsAt : (List ℕ → Type 0) → SameFile → List ℕ → Shelf → Shelf → Option (List ℕ) → Option (List ℕ) → Result Outcome Ended → Type 0
+abbrev pub MendsAt : (List ℕ → Type 0) → SameFile → List ℕ → Shelf → Shelf → Option (List ℕ) → Option (List ℕ)
+    → Result Outcome Ended → Type 0
 MendsAt Reads tells out old new held new_held (Ok o) =
-    (text : List ℕ) × Reads text × ((b : Contents) × (tally : Tally) × (dropped : ℕ) × IsMended text b dropped × IsTally b.root b.records tally
-    × PutsLedger tells out b old new × Appends held new_held (mended_text tally dropped) × (o ≡ outcome_of_dropped dropped))
+    (text : List ℕ) × Reads text × ((b : Contents) × (tally : Tally) × (dropped : ℕ) × IsMended text b dropped
+    × IsTally b.root b.records tally
+    × PutsLedger tells out b old new × Appends held new_held (mended_text tally dropped)
+    × (o ≡ outcome_of_dropped dropped))
 MendsAt Reads tells out old new held new_held (Err e) =
     (IsKept old new × (new_held ≡ held))
-    ⊎ ((e ≡ StreamFails) × ((text : List ℕ) × Reads text × ((b : Contents) × (dropped : ℕ) × IsMended text b dropped × PutsLedger tells out b old new)))
+    ⊎ ((e ≡ StreamFails) × ((text : List ℕ) × Reads text
+    × ((b : Contents) × (dropped : ℕ) × IsMended text b dropped × PutsLedger tells out b old new)))

@@ -28,7 +28,8 @@ IsAnswer answer = Unit {0}
 abbrev pub ReadMends : Mender → Result Recorded RecordFault → Mender → Type 0
 ReadMends old (Err fault) new = (new.board ≡ old.board) × (new.dropped ≡ 1 + old.dropped)
 ReadMends old (Ok r) new =
-    (answer : Result Taken OfferFault) × IsAnswer answer × OfferGives old.board.root old.board.records r answer new.board.records
+    (answer : Result Taken OfferFault) × IsAnswer answer
+    × OfferGives old.board.root old.board.records r answer new.board.records
     × (new.board.root ≡ old.board.root) × (new.dropped ≡ dropped_by answer + old.dropped)
 
 abbrev pub LineMends : Mender → BoundedLine → Mender → Type 0

@@ -36,13 +36,14 @@ pub fn cmd_mend<H: Files, W: Write, E: Write>(
 ) -> Outcome
     ensures others { IsKeptBut (H.tells_same host.old) mending.entry.out.now (H.holds host.old) (H.holds host.new) }
     ensures mends { (ended : Result Outcomes Ends)
-        × MendsAt (IsAt (H.holds host.old mending.entry.ledger.now)) (H.tells_same host.old) mending.entry.out.now (H.holds host.old) (H.holds host.new) (W.contents answers.old) (W.contents answers.new) ended
+        × MendsAt (IsAt (H.holds host.old mending.entry.ledger.now)) (H.tells_same host.old) mending.entry.out.now
+        (H.holds host.old) (H.holds host.new) (W.contents answers.old) (W.contents answers.new) ended
         × EndsTold ended (E.contents faults.old) (E.contents faults.new) result }
 {
     told(mend_at(alloc, mending, host, answers), faults)
 }
 
-/// The same of the damaged ledger that a stream has up to its end.
+/// Mends as `cmd_mend` does, of the damaged ledger that a stream has up to its end.
 pub fn cmd_mend_stream<H: Files, R: Read, W: Write, E: Write>(
     alloc: Global,
     out: &str,
@@ -53,7 +54,8 @@ pub fn cmd_mend_stream<H: Files, R: Read, W: Write, E: Write>(
 ) -> Outcome
     ensures others { IsKeptBut (H.tells_same host.old) out.now (H.holds host.old) (H.holds host.new) }
     ensures mends { (ended : Result Outcomes Ends)
-        × MendsAt (AreFirstBytes (R.remaining input.old) (2 ^ 64 - 1)) (H.tells_same host.old) out.now (H.holds host.old) (H.holds host.new) (W.contents answers.old) (W.contents answers.new) ended
+        × MendsAt (AreFirstBytes (R.remaining input.old) (2 ^ 64 - 1)) (H.tells_same host.old) out.now
+        (H.holds host.old) (H.holds host.new) (W.contents answers.old) (W.contents answers.new) ended
         × EndsTold ended (E.contents faults.old) (E.contents faults.new) result }
 {
     told(mend_stream(alloc, out, host, input, answers), faults)
@@ -67,7 +69,9 @@ pub fn mend_at<H: Files, W: Write>(
     answers: &mut W,
 ) -> Result<Outcome, Ended>
     ensures others { IsKeptBut (H.tells_same host.old) mending.entry.out.now (H.holds host.old) (H.holds host.new) }
-    ensures mends { MendsAt (IsAt (H.holds host.old mending.entry.ledger.now)) (H.tells_same host.old) mending.entry.out.now (H.holds host.old) (H.holds host.new) (W.contents answers.old) (W.contents answers.new) result }
+    ensures mends { MendsAt (IsAt (H.holds host.old mending.entry.ledger.now)) (H.tells_same host.old)
+        mending.entry.out.now (H.holds host.old) (H.holds host.new) (W.contents answers.old) (W.contents answers.new)
+        result }
 {
     let mut made = made_for(host, mending.out, &[mending.ledger])?;
     let (tally, dropped) = mended_file(alloc, mending.ledger, host, &mut made)?;
@@ -83,7 +87,8 @@ pub fn mend_stream<H: Files, R: Read, W: Write>(
     answers: &mut W,
 ) -> Result<Outcome, Ended>
     ensures others { IsKeptBut (H.tells_same host.old) out.now (H.holds host.old) (H.holds host.new) }
-    ensures mends { MendsAt (AreFirstBytes (R.remaining input.old) (2 ^ 64 - 1)) (H.tells_same host.old) out.now (H.holds host.old) (H.holds host.new) (W.contents answers.old) (W.contents answers.new) result }
+    ensures mends { MendsAt (AreFirstBytes (R.remaining input.old) (2 ^ 64 - 1)) (H.tells_same host.old) out.now
+        (H.holds host.old) (H.holds host.new) (W.contents answers.old) (W.contents answers.new) result }
 {
     let mut made = made_for(host, out, &[STANDARD_INPUT])?;
     match mend_into(alloc, input, u64::MAX, &mut made) {
@@ -99,7 +104,8 @@ fn mended_file<H: Files, L: LedgerOut>(
     host: &H,
     made: &mut L,
 ) -> Result<(Tally, u64), Ended>
-    ensures { IfOk result (λ m. (text : List ℕ) × IsAt (H.holds host.now path.now) text × MendsInto text m.0 m.1 (L.text made.old) (L.text made.new)) }
+    ensures { IfOk result (λ m. (text : List ℕ) × IsAt (H.holds host.now path.now) text
+        × MendsInto text m.0 m.1 (L.text made.old) (L.text made.new)) }
 {
     let mut file = match host.open_to_end(path) {
         Ok(file) => file,
@@ -121,10 +127,14 @@ fn put_and_tell<H: Files, W: Write>(
     dropped: u64,
     answers: &mut W,
 ) -> Result<Outcome, Ended>
-    ensures ok { IfOk result (λ o. IsPut (H.tells_same host.old) out.now (H.Made.text made) (H.holds host.old) (H.holds host.new)
-        × Appends (W.contents answers.old) (W.contents answers.new) (mended_text tally.now dropped) × (o ≡ outcome_of_dropped dropped)) }
-    ensures err { IfErr result (λ e. (IsKept (H.holds host.old) (H.holds host.new) × (W.contents answers.new ≡ W.contents answers.old))
-        ⊎ ((e ≡ Ended.Stream) × IsPut (H.tells_same host.old) out.now (H.Made.text made) (H.holds host.old) (H.holds host.new))) }
+    ensures ok { IfOk result (λ o. IsPut (H.tells_same host.old) out.now (H.Made.text made) (H.holds host.old)
+        (H.holds host.new)
+        × Appends (W.contents answers.old) (W.contents answers.new) (mended_text tally.now dropped)
+        × (o ≡ outcome_of_dropped dropped)) }
+    ensures err { IfErr result (λ e. (IsKept (H.holds host.old) (H.holds host.new)
+        × (W.contents answers.new ≡ W.contents answers.old))
+        ⊎ ((e ≡ Ended.Stream) × IsPut (H.tells_same host.old) out.now (H.Made.text made) (H.holds host.old)
+        (H.holds host.new))) }
 {
     let mut said = Vec::new(alloc);
     append_mended(tally, dropped, &mut said)?;

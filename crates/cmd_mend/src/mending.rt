@@ -29,7 +29,8 @@ pub fn mend_into<R: Read, L: LedgerOut>(
     limit: u64,
     ledger: &mut L,
 ) -> Result<(Tally, u64), Stopped>
-    ensures ok { IfOk result (λ told. (text : List ℕ) × AreFirstBytes (R.remaining from.old) limit text × MendsInto text told.0 told.1 (L.text ledger.old) (L.text ledger.new)) }
+    ensures ok { IfOk result (λ told. (text : List ℕ) × AreFirstBytes (R.remaining from.old) limit text
+        × MendsInto text told.0 told.1 (L.text ledger.old) (L.text ledger.new)) }
     ensures err { IfErr result (λ e. EndsMendingInto (R.remaining from.old) limit e (ledger.new ≡ ledger.old)) }
 {
     let (board, dropped) = mend_from(alloc, from, limit)?;
@@ -42,7 +43,8 @@ pub fn mend_into<R: Read, L: LedgerOut>(
 /// The board of what can be kept of the damaged ledger that a reader has in its first bytes, up to a limit: each line
 /// behind its header is offered in turn. Answers how many of them weren't taken, too.
 pub fn mend_from<R: Read>(alloc: Global, from: &mut R, limit: u64) -> Result<(Board, u64), Stopped>
-    ensures ok { IfOk result (λ m. (text : List ℕ) × AreFirstBytes (R.remaining from.old) limit text × IsMended text m.0 m.1) }
+    ensures ok { IfOk result (λ m. (text : List ℕ) × AreFirstBytes (R.remaining from.old) limit text
+        × IsMended text m.0 m.1) }
     ensures err { IfErr result (EndsReading (R.remaining from.old) limit) }
 {
     let mut buffer = [0; MAX_HEADER_BYTES];
@@ -63,7 +65,7 @@ fn behind_header(text: &[u8]) -> &[u8]
     }
 }
 
-// The same of what stands behind the header of a root: of these first bytes, and then of what a reader has.
+// Mends what stands behind the header of a root: first some bytes of it, and then what a reader has.
 fn mend_behind<R: Read>(
     alloc: Global,
     root: Table,
@@ -72,7 +74,9 @@ fn mend_behind<R: Read>(
     limit: u64,
 ) -> Result<(Board, u64), Stopped>
     requires { (u : ℕ) × InOrder u (entry_of root) }
-    ensures ok { IfOk result (λ m. (m.0.root ≡ root) × ((more : List ℕ) × AreFirstBytes (R.remaining from.old) limit more × MendsBehind root (first.now ++ more) m.0.records m.1)) }
+    ensures ok { IfOk result (λ m. (m.0.root ≡ root)
+        × ((more : List ℕ) × AreFirstBytes (R.remaining from.old) limit more
+        × MendsBehind root (first.now ++ more) m.0.records m.1)) }
     ensures err { IfErr result EndsBehindHeader }
 {
     let mut mender = mender_of(alloc, root)?;
@@ -105,7 +109,8 @@ fn take_all<R: Read>(
     mender: &mut Mender,
 ) -> Result<(), Stopped>
     ensures ok { OnOk result ((more : List ℕ) × AreFirstBytes (R.remaining from.old) limit more
-        × ((lines : List (List ℕ)) × AreLines (first.now ++ more) lines × AreTakenInTurn LineMends mender.old lines mender.new)) }
+        × ((lines : List (List ℕ)) × AreLines (first.now ++ more) lines
+        × AreTakenInTurn LineMends mender.old lines mender.new)) }
     ensures err { IfErr result EndsBehindHeader }
 {
     let mut lines = LineLoop::new(alloc);

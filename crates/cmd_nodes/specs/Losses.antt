@@ -27,7 +27,8 @@ delivered_of every before (frame ∷ frames) = left_of every before frame ++ del
 -- lines, each with its newline, and none of them with another
 abbrev pub AreFrames : List (List ℕ) → List ℕ → List ℕ → Type 0
 AreFrames [] text rest = (text ≡ rest) × HasNoNewline rest
-AreFrames (frame ∷ frames) text rest = HasNoNewline frame × (more : List ℕ) × (text ≡ frame ++ (10 ∷ more)) × AreFrames frames more rest
+AreFrames (frame ∷ frames) text rest = HasNoNewline frame × (more : List ℕ) × (text ≡ frame ++ (10 ∷ more))
+    × AreFrames frames more rest
 
 -- what was sent is frames, and perhaps a beginning of one more; the frames are delivered but for those that are lost,
 -- and so is that beginning

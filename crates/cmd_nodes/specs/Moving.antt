@@ -43,12 +43,15 @@ abbrev pub HasWritten : List ℕ → Option (List ℕ) → Option (List ℕ) →
 HasWritten piece old new = Appends old new piece
 
 abbrev pub IsPartlyWritten : List ℕ → Option (List ℕ) → Option (List ℕ) → Type 0
-IsPartlyWritten piece old new = (written : List ℕ) × (unwritten : List ℕ) × (piece ≡ written ++ unwritten) × Appends old new written
+IsPartlyWritten piece old new = (written : List ℕ) × (unwritten : List ℕ) × (piece ≡ written ++ unwritten)
+    × Appends old new written
 
 abbrev pub HasRead : ℕ → Option (List ℕ) → List ℕ → Option (List ℕ) → List ℕ → Type 0
-HasRead count old waiting new inbox = (came : List ℕ) × (length came ≡ count) × Consumes old new came × (inbox ≡ waiting ++ came)
+HasRead count old waiting new inbox = (came : List ℕ) × (length came ≡ count) × Consumes old new came
+    × (inbox ≡ waiting ++ came)
 
-pub record IsPartlyRead (fault : Ended) (count : ℕ) (old : Option (List ℕ)) (waiting : List ℕ) (new : Option (List ℕ)) (inbox : List ℕ) : Type 0 where
+pub record IsPartlyRead (fault : Ended) (count : ℕ) (old : Option (List ℕ)) (waiting : List ℕ) (new : Option (List ℕ))
+    (inbox : List ℕ) : Type 0 where
   pub delivered : List ℕ
   pub lost : List ℕ
   pub reads : Consumes old new (delivered ++ lost)

@@ -33,12 +33,15 @@ pub record IsOfLedger (has : Option (List ℕ)) (len : ℕ) (text : Option (List
   pub is_held : text ≡ Some bytes
 
 -- a ledger that held what was opened of it holds a board's in the end
-abbrev pub KeepsLedger : {F : Type 0} → (F → Option (List ℕ)) → Result (Opened F) Error → Option (List ℕ) → Option (List ℕ) → Contents → Type 0
-KeepsLedger remaining (Ok opened) old new board = IsOfLedger (remaining opened.reader) opened.length old → IfSome new (IsLedgerOf board)
+abbrev pub KeepsLedger : {F : Type 0} → (F → Option (List ℕ)) → Result (Opened F) Error → Option (List ℕ)
+    → Option (List ℕ) → Contents → Type 0
+KeepsLedger remaining (Ok opened) old new board = IsOfLedger (remaining opened.reader) opened.length old
+    → IfSome new (IsLedgerOf board)
 KeepsLedger remaining (Err fault) old new board = Unit {0}
 
 -- what was written is the report, in a form, of a board of the tree of n states, and its ledger is kept
-pub record ReportsTree (IsText : FormText) (n : ℕ) (IsKept : Contents → Type 0) (held new_held : Option (List ℕ)) (board : Contents) : Type 0 where
+pub record ReportsTree (IsText : FormText) (n : ℕ) (IsKept : Contents → Type 0) (held new_held : Option (List ℕ))
+    (board : Contents) : Type 0 where
   pub is_board : IsBoard board
   pub root : board.root ≡ empty_table n
   pub written : List ℕ
@@ -48,7 +51,8 @@ pub record ReportsTree (IsText : FormText) (n : ℕ) (IsKept : Contents → Type
 
 -- the board is complete: its best, the greatest number of steps that it has, is S(n), and its ones, the greatest
 -- score, are Σ(n) (Radó 1962)
-pub record ReportsComplete (IsText : FormText) (n : ℕ) (IsKept : Contents → Type 0) (held new_held : Option (List ℕ)) : Type 0 where
+pub record ReportsComplete (IsText : FormText) (n : ℕ) (IsKept : Contents → Type 0)
+    (held new_held : Option (List ℕ)) : Type 0 where
   pub board : Contents
   pub reports : ReportsTree IsText n IsKept held new_held board
   pub complete : IsComplete board.root (mark_in board.records)
@@ -60,14 +64,16 @@ pub record ReportsComplete (IsText : FormText) (n : ℕ) (IsKept : Contents → 
   pub is_sigma : IsSigma n ones
 
 -- or it isn't
-pub record ReportsIncomplete (IsText : FormText) (n : ℕ) (IsKept : Contents → Type 0) (held new_held : Option (List ℕ)) : Type 0 where
+pub record ReportsIncomplete (IsText : FormText) (n : ℕ) (IsKept : Contents → Type 0)
+    (held new_held : Option (List ℕ)) : Type 0 where
   pub board : Contents
   pub reports : ReportsTree IsText n IsKept held new_held board
   pub incomplete : IsComplete board.root (mark_in board.records) → ⊥
 
 -- by how a command ends: with all accepted, the report of a complete board is written; with a refusal, that of one that
 -- isn't complete. What ends it early ends it before anything is written, unless a stream fails
-abbrev pub SettlesTree : FormText → ℕ → (Contents → Type 0) → Option (List ℕ) → Option (List ℕ) → Result Outcome Ended → Type 0
+abbrev pub SettlesTree : FormText → ℕ → (Contents → Type 0) → Option (List ℕ) → Option (List ℕ) → Result Outcome Ended
+    → Type 0
 SettlesTree IsText n IsKept held new_held (Ok Accepted) = ReportsComplete IsText n IsKept held new_held
 SettlesTree IsText n IsKept held new_held (Ok Refused) = ReportsIncomplete IsText n IsKept held new_held
 SettlesTree IsText n IsKept held new_held (Ok BadLine) = ⊥

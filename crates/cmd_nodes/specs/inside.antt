@@ -19,7 +19,8 @@ use Rattle.cmd_nodes.specs.Settled.{FormText, IsOfLedger}
 -- a node gave these answers in turn, and became so
 abbrev pub BecomesBy : {N : Type 0} → Answering N → N → List Reply → N → Type 0
 BecomesBy answers old [] new = new ≡ old
-BecomesBy {N} answers old (reply ∷ replies) new = (node : N) × answers old reply.to (Ok reply.out) node × BecomesBy answers node replies new
+BecomesBy {N} answers old (reply ∷ replies) new = (node : N) × answers old reply.to (Ok reply.out) node
+    × BecomesBy answers node replies new
 
 -- it gave some answers, and became so
 abbrev pub Becomes : {N : Type 0} → Answering N → N → N → Type 0
@@ -39,12 +40,15 @@ pub record IsServed (old new : Coordinating) (before after : Option (List ℕ)) 
   pub step : KeepsStep (λ c text. InStep c text) old new before after
 
 -- a ledger that held what was opened of it is in step with the coordinator that began with that
-abbrev pub StartsInStep : {F : Type 0} → (F → Option (List ℕ)) → Result (Opened F) Error → Option (List ℕ) → Option (List ℕ) → Coordinating → Type 0
-StartsInStep remaining (Ok opened) old new c = IsOfLedger (remaining opened.reader) opened.length old → IfSome new (InStep c)
+abbrev pub StartsInStep : {F : Type 0} → (F → Option (List ℕ)) → Result (Opened F) Error → Option (List ℕ)
+    → Option (List ℕ) → Coordinating → Type 0
+StartsInStep remaining (Ok opened) old new c = IsOfLedger (remaining opened.reader) opened.length old
+    → IfSome new (InStep c)
 StartsInStep remaining (Err fault) old new c = Unit {0}
 
 -- the report of a board is written in a form, and the outcome is by how the board stands
-pub record ReportsBoard (IsText : FormText) (board : Contents) (held new_held : Option (List ℕ)) (o : Outcome) : Type 0 where
+pub record ReportsBoard (IsText : FormText) (board : Contents) (held new_held : Option (List ℕ)) (o : Outcome) : Type 0
+    where
   pub is_board : IsBoard board
   pub status : Status
   pub stands : IsStatus board.root board.records status

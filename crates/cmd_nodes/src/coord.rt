@@ -41,7 +41,8 @@ pub fn cmd_coord<F: Read + Drop, L: LedgerOut, R: Read, W: Write, E: Write>(
 ) -> Outcome
     requires { (1 ≤ beginning.states) × (beginning.states ≤ state_limit) }
     ensures { (ended : Result Outcomes Ends)
-        × IfOk ended (CoordinatesTree beginning.states (KeepsLedger F.remaining held (L.text ledger.old) (L.text ledger.new)))
+        × IfOk ended (CoordinatesTree beginning.states
+        (KeepsLedger F.remaining held (L.text ledger.old) (L.text ledger.new)))
         × EndsTold ended (E.contents faults.old) (E.contents faults.new) result }
 {
     told(
@@ -50,7 +51,7 @@ pub fn cmd_coord<F: Read + Drop, L: LedgerOut, R: Read, W: Write, E: Write>(
     )
 }
 
-/// The same, but that what ends it early isn't said.
+/// Coordinates as `cmd_coord` does, but answers what ends it early, and doesn't say it.
 pub fn coordinate<F: Read + Drop, L: LedgerOut, R: Read, W: Write>(
     alloc: Global,
     beginning: Beginning,

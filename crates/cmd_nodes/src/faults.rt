@@ -29,7 +29,7 @@ pub(crate) fn by_turn(fault: TurnFault) -> Ended
     }
 }
 
-// The same over a link in memory, which fails where memory is refused.
+// What ends a node over a link in memory, which fails where memory is refused.
 pub(crate) fn in_memory(fault: TurnFault) -> Ended
     ensures { result ≡ ended_in_memory fault }
 {

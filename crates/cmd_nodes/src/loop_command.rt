@@ -54,7 +54,7 @@ pub fn cmd_loop<
     )
 }
 
-/// The same, but that what ends it early isn't said.
+/// Settles as `cmd_loop` does, but answers what ends it early, and doesn't say it.
 pub fn loop_tree<
     P: ReportForm,
     F: Read + Drop,

@@ -46,7 +46,8 @@ impl Losses {
 /// Delivers to one end what was sent from the other, but for the frames that are lost.
 pub fn carry(from: &mut MemLink, to: &mut MemLink, losses: &mut Losses) -> Result<(), NoMemory>
     ensures every { losses.new.every ≡ losses.old.every }
-    ensures frames { OnOk result ((delivered : List ℕ) × Carries losses.old.every losses.old.counted from.old.sent delivered losses.new.counted
+    ensures frames { OnOk result ((delivered : List ℕ)
+        × Carries losses.old.every losses.old.counted from.old.sent delivered losses.new.counted
         × (to.new.waiting ≡ to.old.waiting ++ delivered)) }
     ensures whole { OnOk result (losses.old.every ≡ None → to.new.waiting ≡ to.old.waiting ++ from.old.sent) }
     ensures sent { OnOk result (from.new.sent ≡ []) }
@@ -59,7 +60,8 @@ pub fn carry(from: &mut MemLink, to: &mut MemLink, losses: &mut Losses) -> Resul
 // Delivers frames, each with its newline, but for those that are lost, and what stands behind the last newline.
 fn carry_frames(sent: &[u8], to: &mut MemLink, losses: &mut Losses) -> Result<(), NoMemory>
     ensures every { losses.new.every ≡ losses.old.every }
-    ensures frames { OnOk result ((delivered : List ℕ) × Carries losses.old.every losses.old.counted sent.now delivered losses.new.counted
+    ensures frames { OnOk result ((delivered : List ℕ)
+        × Carries losses.old.every losses.old.counted sent.now delivered losses.new.counted
         × (to.new.waiting ≡ to.old.waiting ++ delivered)) }
 {
     let mut left = sent;
@@ -77,7 +79,8 @@ fn carry_frames(sent: &[u8], to: &mut MemLink, losses: &mut Losses) -> Result<()
 fn carry_frame(frame: &[u8], to: &mut MemLink, losses: &mut Losses) -> Result<(), NoMemory>
     ensures every { losses.new.every ≡ losses.old.every }
     ensures counted { losses.new.counted ≡ counted_on losses.old.counted }
-    ensures left { OnOk result (to.new.waiting ≡ to.old.waiting ++ left_of losses.old.every losses.old.counted frame.now) }
+    ensures left { OnOk result (to.new.waiting ≡ to.old.waiting
+        ++ left_of losses.old.every losses.old.counted frame.now) }
 {
     if losses.loses_next() {
         return Ok(());

@@ -19,8 +19,10 @@ pub fn move_all<W: Write, R: Read>(
 ) -> Result<(), Ended>
     ensures moved { OnOk result (HasMoved from.old.sent (way (W.contents near.old) (R.remaining far.old) to.old.waiting)
         (way (W.contents near.new) (R.remaining far.new) to.new.waiting)) }
-    ensures whole { OnOk result (IfSome (R.remaining far.old) (λ ready. StartsWith ready from.old.sent → to.new.waiting ≡ to.old.waiting ++ from.old.sent)) }
-    ensures broken { IfErr result (λ e. StopsMoving e from.old.sent (way (W.contents near.old) (R.remaining far.old) to.old.waiting)
+    ensures whole { OnOk result (IfSome (R.remaining far.old)
+        (λ ready. StartsWith ready from.old.sent → to.new.waiting ≡ to.old.waiting ++ from.old.sent)) }
+    ensures broken { IfErr result (λ e. StopsMoving e from.old.sent
+        (way (W.contents near.old) (R.remaining far.old) to.old.waiting)
         (way (W.contents near.new) (R.remaining far.new) to.new.waiting)) }
     ensures outbox { OnOk result (from.new ≡ record from.old { sent = [] }) }
     ensures left { OnErr result (from.new ≡ from.old) }
@@ -40,7 +42,8 @@ fn move_pieces<W: Write, R: Read>(
 ) -> Result<(), Ended>
     ensures moved { OnOk result (HasMoved sent.now (way (W.contents near.old) (R.remaining far.old) to.old.waiting)
         (way (W.contents near.new) (R.remaining far.new) to.new.waiting)) }
-    ensures broken { IfErr result (λ e. StopsMoving e sent.now (way (W.contents near.old) (R.remaining far.old) to.old.waiting)
+    ensures broken { IfErr result (λ e. StopsMoving e sent.now
+        (way (W.contents near.old) (R.remaining far.old) to.old.waiting)
         (way (W.contents near.new) (R.remaining far.new) to.new.waiting)) }
     ensures inbox { to.new ≡ record to.old { waiting = to.new.waiting } }
 {
@@ -63,7 +66,8 @@ fn move_piece<W: Write, R: Read>(
     requires { length piece.now ≤ piece_byte_limit }
     ensures moved { OnOk result (HasMoved piece.now (way (W.contents near.old) (R.remaining far.old) to.old.waiting)
         (way (W.contents near.new) (R.remaining far.new) to.new.waiting)) }
-    ensures broken { IfErr result (λ e. StopsMoving e piece.now (way (W.contents near.old) (R.remaining far.old) to.old.waiting)
+    ensures broken { IfErr result (λ e. StopsMoving e piece.now
+        (way (W.contents near.old) (R.remaining far.old) to.old.waiting)
         (way (W.contents near.new) (R.remaining far.new) to.new.waiting)) }
     ensures inbox { to.new ≡ record to.old { waiting = to.new.waiting } }
 {
@@ -93,7 +97,8 @@ fn write_piece<W: Write>(near: &mut W, piece: &[u8]) -> Result<(), Ended>
 fn read_piece<R: Read>(far: &mut R, count: usize, to: &mut MemLink) -> Result<(), Ended>
     requires { count ≤ piece_byte_limit }
     ensures ok { OnOk result (HasRead count (R.remaining far.old) to.old.waiting (R.remaining far.new) to.new.waiting) }
-    ensures err { IfErr result (λ e. IsPartlyRead e count (R.remaining far.old) to.old.waiting (R.remaining far.new) to.new.waiting) }
+    ensures err { IfErr result (λ e. IsPartlyRead e count (R.remaining far.old) to.old.waiting (R.remaining far.new)
+        to.new.waiting) }
     ensures inbox { to.new ≡ record to.old { waiting = to.new.waiting } }
 {
     let mut buf = [0; MAX_PIECE_BYTES];

@@ -27,7 +27,7 @@ pub(crate) fn report_board<P: ReportForm, W: Write>(
     }
 }
 
-// The same of a board.
+// Reports a board.
 fn report_of<P: ReportForm, W: Write>(
     alloc: Global,
     form: &P,

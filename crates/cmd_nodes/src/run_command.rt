@@ -70,7 +70,7 @@ pub fn cmd_run<
     told(run_tree(alloc, run, held, ledger, answers, faults), faults)
 }
 
-/// The same, but that what ends it early isn't said.
+/// Settles as `cmd_run` does, but answers what ends it early, and doesn't say it.
 pub fn run_tree<
     P: ReportForm,
     F: Read + Drop,

@@ -69,7 +69,7 @@ impl<N: Node, Y: Carrier> Station<N, Y> {
         }
     }
 
-    // Its part of a round: it works, its frames go to the coordinator, and the answers come back.
+    // A worker's part of a round: it works, its frames go to the coordinator, and the answers come back.
     pub fn take_round<L: LedgerOut>(
         &mut self,
         round: u64,

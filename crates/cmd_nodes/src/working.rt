@@ -18,9 +18,13 @@ pub fn work<N: Node, L: Link, W: LedgerOut>(
     link: &mut L,
     ledger: &mut W,
 ) -> Result<(), TurnFault>
-    ensures ok { OnOk result (Handed N.answers (scene node.old (W.text ledger.old) (L.sent link.old)) (events_of_round round) [] (scene node.new (W.text ledger.new) (L.sent link.new))) }
-    ensures err { IfErr result (λ fault. (left : List Happening) × BrokenOff N.answers N.is_stopped (scene node.old (W.text ledger.old) (L.sent link.old)) (events_of_round round) fault left (scene node.new (W.text ledger.new) (L.sent link.new))) }
-    ensures step { result ≢ Err TurnFault.LedgerFault → IfSome (W.text ledger.old) (N.in_step node.old) → IfSome (W.text ledger.new) (N.in_step node.new) }
+    ensures ok { OnOk result (Handed N.answers (scene node.old (W.text ledger.old) (L.sent link.old))
+        (events_of_round round) [] (scene node.new (W.text ledger.new) (L.sent link.new))) }
+    ensures err { IfErr result (λ fault. (left : List Happening)
+        × BrokenOff N.answers N.is_stopped (scene node.old (W.text ledger.old) (L.sent link.old))
+        (events_of_round round) fault left (scene node.new (W.text ledger.new) (L.sent link.new))) }
+    ensures step { result ≢ Err TurnFault.LedgerFault → IfSome (W.text ledger.old) (N.in_step node.old)
+        → IfSome (W.text ledger.new) (N.in_step node.new) }
 {
     let mut left = WORK_TURNS;
     'turns: while left > 0 {
@@ -38,9 +42,13 @@ fn handle<N: Node, L: Link, W: LedgerOut>(
     ledger: &mut W,
 ) -> Result<(), TurnFault>
     ensures ok { OnOk result ((out : Answer) × N.answers node.old (seen event.entry) (Ok out) node.new
-        × (scene node.new (W.text ledger.new) (L.sent link.new) ≡ carried out node.new (scene node.old (W.text ledger.old) (L.sent link.old)))) }
-    ensures err { IfErr result (λ fault. Faulted N.answers N.is_stopped (scene node.old (W.text ledger.old) (L.sent link.old)) (seen event.entry) fault (scene node.new (W.text ledger.new) (L.sent link.new))) }
-    ensures step { result ≢ Err TurnFault.LedgerFault → IfSome (W.text ledger.old) (N.in_step node.old) → IfSome (W.text ledger.new) (N.in_step node.new) }
+        × (scene node.new (W.text ledger.new) (L.sent link.new)
+        ≡ carried out node.new (scene node.old (W.text ledger.old) (L.sent link.old)))) }
+    ensures err { IfErr result (λ fault. Faulted N.answers N.is_stopped
+        (scene node.old (W.text ledger.old) (L.sent link.old)) (seen event.entry) fault
+        (scene node.new (W.text ledger.new) (L.sent link.new))) }
+    ensures step { result ≢ Err TurnFault.LedgerFault → IfSome (W.text ledger.old) (N.in_step node.old)
+        → IfSome (W.text ledger.new) (N.in_step node.new) }
 {
     let out = node.on(event)?;
     carry_out(node, link, ledger, &out)

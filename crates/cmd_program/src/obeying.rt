@@ -67,7 +67,7 @@ fn tell_reason<S: Disk, E: Write>(system: &S, outcome: Outcome, faults: &mut E) 
         && system.tells_terminal()
         && let Some(reason) = system.reason()
     {
-        // It has failed, whether that can be said or not.
+        // The program has failed, whether that can be said or not.
         let _ = faults.write_all(reason.as_bytes());
     }
     outcome

@@ -6,7 +6,8 @@ use Rattle.text.specs.Lines.{HasNoNewline, BeginsWithLine}
 abbrev pub AreLines : List ℕ → List (List ℕ) → Type 0
 AreLines text [] = text ≡ []
 AreLines text (line ∷ lines) =
-    ((rest : List ℕ) × BeginsWithLine text line rest × AreLines rest lines) ⊎ ((text ≡ line) × (line ≢ []) × HasNoNewline line × (lines ≡ []))
+    ((rest : List ℕ) × BeginsWithLine text line rest × AreLines rest lines)
+    ⊎ ((text ≡ line) × (line ≢ []) × HasNoNewline line × (lines ≡ []))
 
 -- each of these is one line
 abbrev pub AreOneLineEach : List (List ℕ) → Type 0

@@ -17,10 +17,12 @@ lent (Some line) = Some line.now
 -- lines are taken in their order, and of each no more is read than may be kept
 abbrev pub AreTakenInTurn : {D : Type 0} → (D → BoundedLine → D → Type 0) → D → List (List ℕ) → D → Type 0
 AreTakenInTurn {D} Takes old [] new = new ≡ old
-AreTakenInTurn {D} Takes old (line ∷ lines) new = (middle : D) × Takes old (bounded_line line) middle × AreTakenInTurn Takes middle lines new
+AreTakenInTurn {D} Takes old (line ∷ lines) new = (middle : D) × Takes old (bounded_line line) middle
+    × AreTakenInTurn Takes middle lines new
 
 -- of a text the whole lines are taken, and what stands behind them is kept
-pub record HasTakenLines {D : Type 0} (Takes : D → BoundedLine → D → Type 0) (start : D) (text : List ℕ) (begun : BoundedLine) (now : D) : Type 0 where
+pub record HasTakenLines {D : Type 0} (Takes : D → BoundedLine → D → Type 0) (start : D) (text : List ℕ)
+    (begun : BoundedLine) (now : D) : Type 0 where
   pub lines : List (List ℕ)
   pub last : List ℕ
   pub are_whole : AreOneLineEach lines
@@ -30,8 +32,10 @@ pub record HasTakenLines {D : Type 0} (Takes : D → BoundedLine → D → Type 
   pub taken : AreTakenInTurn Takes start lines now
 
 -- whatever was taken of a text before, it is so of the text with a piece more
-abbrev pub TakesMore : {D : Type 0} → (D → BoundedLine → D → Type 0) → List ℕ → BoundedLine → D → BoundedLine → D → Type 0
-TakesMore {D} Takes piece begun old new_begun new = (start : D) → (text : List ℕ) → HasTakenLines Takes start text begun old → HasTakenLines Takes start (text ++ piece) new_begun new
+abbrev pub TakesMore : {D : Type 0} → (D → BoundedLine → D → Type 0) → List ℕ → BoundedLine → D → BoundedLine → D
+    → Type 0
+TakesMore {D} Takes piece begun old new_begun new = (start : D) → (text : List ℕ)
+    → HasTakenLines Takes start text begun old → HasTakenLines Takes start (text ++ piece) new_begun new
 
 -- this text was read, and that is all: so many bytes, or all that the reader has
 pub record IsReadWhole (read : Option (List ℕ)) (limit : ℕ) (text : List ℕ) (new_read : Option (List ℕ)) : Type 0 where

@@ -62,7 +62,8 @@ impl LineLoop {
         limit: u64,
         taker: &mut T,
     ) -> Result<(), Stopped>
-        ensures ok { OnOk result ((text : List ℕ) × IsReadWhole (R.remaining from.old) limit text (R.remaining from.new) × TakesMore T.takes text self.old taker.old self.new taker.new) }
+        ensures ok { OnOk result ((text : List ℕ) × IsReadWhole (R.remaining from.old) limit text (R.remaining from.new)
+            × TakesMore T.takes text self.old taker.old self.new taker.new) }
         ensures err { IfErr result (StopsTakingFrom T.ends) }
     {
         let mut buf = [0; PIECE_BYTES];

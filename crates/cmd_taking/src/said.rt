@@ -25,7 +25,8 @@ pub fn say_lines<S: Sayer + Drop, R: Read, W: Write>(
     says: &mut W,
 ) -> Result<(Outcome, S), Ended>
     requires { (0 < room) × (room ≤ 16_384) }
-    ensures ok { IfOk result (λ said. TakesStream S.takes sayer said.1 (R.remaining input.old) (R.remaining input.new) (W.contents says.old) (W.contents says.new) said.0) }
+    ensures ok { IfOk result (λ said. TakesStream S.takes sayer said.1 (R.remaining input.old) (R.remaining input.new)
+        (W.contents says.old) (W.contents says.new) said.0) }
     ensures err { IfErr result (λ e. ((e ≡ Ended.NoMemory) ⊎ S.ends e) ⊎ (e ≡ Ended.Stream)) }
 {
     let mut lines = LineLoop::new(alloc);

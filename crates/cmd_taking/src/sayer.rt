@@ -17,6 +17,7 @@ pub trait Sayer {
 
     /// Takes a line, and appends what is said to it, whole lines or nothing.
     fn take_line(&mut self, line: Option<&[u8]>, said: &mut Vec<u8>) -> Result<Outcome, Ended>
-        ensures ok { IfOk result (λ o. (more : List ℕ) × takes self.old (lent line.entry) o self.new more × (said.new.items ≡ said.old.items ++ more)) }
+        ensures ok { IfOk result (λ o. (more : List ℕ) × takes self.old (lent line.entry) o self.new more
+            × (said.new.items ≡ said.old.items ++ more)) }
         ensures err { IfErr result ends };
 }

@@ -13,14 +13,15 @@ use std::io::Write;
 pub(crate) struct Saying<S> {
     pub sayer: S,
     pub waits: Vec<u8>,
-    // That of the first line that wasn't accepted.
+    // The outcome of the first line that wasn't accepted.
     pub outcome: Outcome,
 }
 
 impl<S: Sayer> LineTaker for Saying<S> {
     ghost use Rattle.cmd_taking.specs.inside.{SaysBehind};
 
-    ghost takes = { λ old line new. SaysBehind S.takes old.sayer old.outcome old.waits.items line new.sayer new.outcome new.waits.items };
+    ghost takes = { λ old line new. SaysBehind S.takes old.sayer old.outcome old.waits.items line new.sayer new.outcome
+        new.waits.items };
 
     ghost ends = { S.ends };
 

@@ -19,7 +19,8 @@ pub record Automata : Type 0 where
   pub keep : ℕ
 
 abbrev pub automata : ℕ → Dir → ℕ → List ℕ → List ℕ → ℕ → Automata
-automata states side size delta rows keep = record { states = states; side = side; size = size; delta = delta; rows = rows; keep = keep }
+automata states side size delta rows keep = record
+    { states = states; side = side; size = size; delta = delta; rows = rows; keep = keep }
 
 -- a set of numbers, kept as the bits of one
 abbrev pub has : ℕ → ℕ → Bool

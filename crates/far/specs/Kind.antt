@@ -22,12 +22,14 @@ size_in (Some m) = if not (nat_lt m 1) && not (nat_lt size_limit m) then Some m 
 
 -- three texts of numbers, for tables of n states
 abbrev pub numbers_by : ℕ → Dir → ℕ → List ℕ → List ℕ → List ℕ → Result Automata FieldFault
-numbers_by n side size delta rows keep = if are_texts n size delta rows keep then Ok (automata_by n side size delta rows keep) else Err BadList
+numbers_by n side size delta rows keep = if are_texts n size delta rows keep then Ok
+    (automata_by n side size delta rows keep) else Err BadList
 
 -- a side, a size and three texts of numbers, for a table of n states
 abbrev pub far_by : ℕ → List (List ℕ) → Result Automata FieldFault
 far_by n (side ∷ (size ∷ (delta ∷ (rows ∷ (keep ∷ []))))) =
-    with_value (side_of side) (λ side. with_value (size_in (decimal_value size)) (λ size. numbers_by n side size delta rows keep))
+    with_value (side_of side) (λ side. with_value (size_in (decimal_value size))
+    (λ size. numbers_by n side size delta rows keep))
 far_by n fields = Err BadKind
 
 -- the numbers as they are written, from delta on
@@ -51,5 +53,6 @@ far_kind = record {
     stands = λ p. AreAutomata a × AreAutomataOf a p;
     takes_memory = ⊥;
   };
-  law = λ a p table stands. automata_never p.states (entry_of p) a.side (described a) (table_machine p table) stands.1.fits;
+  law = λ a p table stands. automata_never p.states (entry_of p) a.side (described a) (table_machine p table)
+      stands.1.fits;
 }

@@ -5,4 +5,5 @@ use Rattle.far.specs.Texts.{automata_by}
 use Rattle.far.specs.declared.owned_far.OwnedFar.{OwnedFar}
 
 abbrev pub owned_automata : OwnedFar → Automata
-owned_automata o = automata_by o.states o.side o.size (owned_delta o.size o.text.items) (owned_rows o.size o.row_bytes o.text.items) (owned_keep o.size o.row_bytes o.text.items)
+owned_automata o = automata_by o.states o.side o.size (owned_delta o.size o.text.items)
+    (owned_rows o.size o.row_bytes o.text.items) (owned_keep o.size o.row_bytes o.text.items)

@@ -15,9 +15,11 @@ abbrev pub is_delta : ℕ → List ℕ → Bool
 is_delta size text = (length text == 2 * size) && each_below (λ k. is_state_digit size (slice_index text k)) (2 * size)
 
 abbrev pub is_rows : ℕ → ℕ → List ℕ → Bool
-is_rows count limit text = (length (parts_of 44 text) == count) && each_below (λ k. is_hex limit (get_or (parts_of 44 text) k [])) count
+is_rows count limit text = (length (parts_of 44 text) == count) && each_below
+    (λ k. is_hex limit (get_or (parts_of 44 text) k [])) count
 
 -- whether the texts are those of automata of this size, made for so many states
 unfoldable pub are_texts : ℕ → ℕ → List ℕ → List ℕ → List ℕ → Bool
 are_texts states size delta rows keep =
-    is_delta size delta && (is_rows (2 * (size * states)) (2 ^ (size * states + 1)) rows && is_hex (2 ^ (size * states + 1)) keep)
+    is_delta size delta && (is_rows (2 * (size * states)) (2 ^ (size * states + 1)) rows && is_hex
+    (2 ^ (size * states + 1)) keep)

@@ -62,4 +62,5 @@ pub record AreTexts (states size : ℕ) (delta rows keep : List ℕ) : Type 0 wh
 
 -- the automata that they give
 abbrev pub automata_by : ℕ → Dir → ℕ → List ℕ → List ℕ → List ℕ → Automata
-automata_by states side size delta rows keep = automata states side size (delta_of delta) (rows_of rows) (hex_worth keep)
+automata_by states side size delta rows keep = automata states side size (delta_of delta) (rows_of rows)
+    (hex_worth keep)

@@ -129,7 +129,7 @@ impl<'a> Far<'a> {
             self.keep,
         ) {
             Some(numbers) => numbers.hold(t),
-            // It never comes to this: the texts were read before.
+            // Never comes: the texts were read before.
             None => false,
         }
     }

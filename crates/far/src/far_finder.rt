@@ -58,7 +58,7 @@ impl FarFinder {
         OwnedFar::of_first(self.alloc, &found, t, most)
     }
 
-    /// The same by one stage of the search.
+    /// Looks for automata by one stage of the search.
     pub fn search_in_stage(&mut self, t: &Table, stage: Stage) -> Result<Option<OwnedFar>, NoMemory>
         ensures found { IfOk result (λ o. IfSome o (λ e. AreAutomataOf (owned_automata e) t.now)) }
         ensures size { IfOk result (λ o. IfSome o (λ e. (owned_automata e).size ≤ min self.old.size size_limit)) }

@@ -47,7 +47,7 @@ impl Far<'_> {
         self.append_numbers(out)
     }
 
-    // Those from delta on.
+    // Appends the numbers from delta on.
     fn append_numbers(&self, out: &mut Vec<u8>) -> Result<(), NoMemory>
         ensures ok { OnOk result (out.new.items ≡ out.old.items ++ spaced (number_fields (automata_of self.now))) }
         ensures kept { take (length out.old.items) out.new.items ≡ out.old.items }

@@ -16,9 +16,11 @@ pub fn texts_read_back()
         AreTexts a.states a.size (delta_text a.delta) (rows_text a.rows) (hex_text a.keep) }
     ensures same { (a : Automata) → 1 ≤ a.size → 1 ≤ a.states → AreAutomata a →
         automata_by a.states a.side a.size (delta_text a.delta) (rows_text a.rows) (hex_text a.keep) ≡ a }
-    ensures short { (a : Automata) → AreSized a → AreAutomata a → length (spaced (number_fields a)) ≤ number_byte_limit }
+    ensures short { (a : Automata) → AreSized a → AreAutomata a
+        → length (spaced (number_fields a)) ≤ number_byte_limit }
     ensures bytes { (a : Automata) →
-        All (λ b. 44 ≤ b) (delta_text a.delta) × All (λ b. 44 ≤ b) (rows_text a.rows) × All (λ b. 44 ≤ b) (hex_text a.keep) }
+        All (λ b. 44 ≤ b) (delta_text a.delta) × All (λ b. 44 ≤ b) (rows_text a.rows)
+        × All (λ b. 44 ≤ b) (hex_text a.keep) }
 {}
 
 /// The test of three texts answers true exactly where they are those of automata.

@@ -95,7 +95,7 @@ impl LeastEdges {
         grew
     }
 
-    // Those that one transition of the first automaton asks for.
+    // Adds the edges that one transition of the first automaton asks for.
     fn grow_by(&mut self, number: u8) -> bool
         requires { number < 2 * self.old.size }
         ensures { self.new ≡ self.old }
@@ -114,7 +114,7 @@ impl LeastEdges {
         grew
     }
 
-    // Those that it asks for with one pair of the table.
+    // Adds the edges that a transition asks for with one pair of the table.
     fn grow_at(&mut self, step: Move, state: State, read: Sym) -> bool
         requires from { step.from < self.old.size }
         requires to { step.to < self.old.size }

@@ -11,7 +11,8 @@ use text::Parts;
 // Where the first automaton goes.
 pub(crate) fn delta_of(text: &[u8], size: u8) -> Option<[u8; MAX_MOVES]>
     requires { (1 ≤ size) × (size ≤ size_limit) }
-    ensures some { IfSome result (λ d. (take (2 * size) d ≡ delta_of text.now) × IsDelta size text.now × (length d ≡ move_limit)) }
+    ensures some { IfSome result (λ d. (take (2 * size) d ≡ delta_of text.now) × IsDelta size text.now
+        × (length d ≡ move_limit)) }
     ensures none { IfNone result (IsDelta size text.now → ⊥) }
 {
     let count = 2 * size as usize;
@@ -29,7 +30,8 @@ pub(crate) fn delta_of(text: &[u8], size: u8) -> Option<[u8; MAX_MOVES]>
 pub(crate) fn rows_of(text: &[u8], count: usize, limit: Set) -> Option<[Set; MAX_ROWS]>
     requires count { count ≤ row_limit }
     requires limit { limit ≤ 2 ^ (pair_limit + 1) }
-    ensures some { IfSome result (λ r. (take count r ≡ rows_of text.now) × IsRows count limit text.now × (length r ≡ row_limit)) }
+    ensures some { IfSome result (λ r. (take count r ≡ rows_of text.now) × IsRows count limit text.now
+        × (length r ≡ row_limit)) }
     ensures none { IfNone result (IsRows count limit text.now → ⊥) }
 {
     let mut rows = [0; MAX_ROWS];

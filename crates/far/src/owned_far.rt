@@ -25,7 +25,8 @@ pub struct OwnedFar {
     size: u8,
     ghost limits: { (1 ≤ states) × (states ≤ state_limit) × (1 ≤ size) × (size ≤ size_limit) },
     ghost room: { 2 * size + row_bytes ≤ length text.items },
-    ghost texts: { AreTexts states size (owned_delta size text.items) (owned_rows size row_bytes text.items) (owned_keep size row_bytes text.items) },
+    ghost texts: { AreTexts states size (owned_delta size text.items) (owned_rows size row_bytes text.items)
+        (owned_keep size row_bytes text.items) },
 }
 
 impl OwnedFar {

@@ -19,7 +19,8 @@ pub(crate) struct Unpacked {
     pub rows: [Set; MAX_ROWS],
     pub keep: Set,
     ghost limits: { (1 ≤ states) × (states ≤ state_limit) × (1 ≤ size) × (size ≤ size_limit) },
-    ghost numbers: { AreAutomata (automata states side size (take (2 * size) delta) (take (2 * (size * states)) rows) keep) },
+    ghost numbers: { AreAutomata (automata states side size (take (2 * size) delta) (take (2 * (size * states)) rows)
+        keep) },
 }
 
 impl Unpacked {

@@ -13,11 +13,13 @@ pub trait DiskFile {
     /// Keeps its first bytes, so many of them.
     fn cut(&mut self, len: u64) -> io::Result<()>
         ensures ok { OnOk result (text self.new ≡ shortened len (text self.old)) }
-        ensures err { OnErr result ((text self.new ≡ text self.old) ⊎ (text self.new ≡ shortened len (text self.old))) };
+        ensures err { OnErr result ((text self.new ≡ text self.old)
+            ⊎ (text self.new ≡ shortened len (text self.old))) };
 
     /// Takes bytes at its end from the front of these, and says how many.
     fn write(&mut self, bytes: &[u8]) -> io::Result<usize>
-        ensures ok { IfOk result (λ n. (n ≤ length bytes.now) × (text self.new ≡ grown (text self.old) (take n bytes.now))) }
+        ensures ok { IfOk result (λ n. (n ≤ length bytes.now)
+            × (text self.new ≡ grown (text self.old) (take n bytes.now))) }
         ensures err { OnErr result (IsBegun (text self.old) bytes.now (text self.new)) };
 
     /// Waits until what it holds is on the disk.

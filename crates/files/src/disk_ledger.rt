@@ -39,7 +39,8 @@ impl<'a, D: Disk> DiskLedger<'a, D> {
     // Opens the ledger where it isn't open yet.
     fn open(&mut self) -> io::Result<()>
         ensures failures { self.new.failures ≡ self.old.failures }
-        ensures text { text_written D.File.text (D.stands self.new.disk.now (string_bytes self.new.path)) self.new.ledger
+        ensures text { text_written D.File.text (D.stands self.new.disk.now (string_bytes self.new.path))
+            self.new.ledger
             ≡ text_written D.File.text (D.stands self.old.disk.now (string_bytes self.old.path)) self.old.ledger }
     {
         if self.ledger.is_some() {
@@ -53,12 +54,16 @@ impl<'a, D: Disk> DiskLedger<'a, D> {
     // Cuts the ledger, which is opened for it; what is cut off is kept.
     fn cut_open(&mut self, len: u64) -> Result<(), Fault>
         ensures failures { self.new.failures ≡ self.old.failures }
-        ensures ok { OnOk result (text_written D.File.text (D.stands self.new.disk.now (string_bytes self.new.path)) self.new.ledger
-            ≡ shortened len (text_written D.File.text (D.stands self.old.disk.now (string_bytes self.old.path)) self.old.ledger)) }
-        ensures err { OnErr result ((text_written D.File.text (D.stands self.new.disk.now (string_bytes self.new.path)) self.new.ledger
+        ensures ok { OnOk result (text_written D.File.text (D.stands self.new.disk.now (string_bytes self.new.path))
+            self.new.ledger
+            ≡ shortened len (text_written D.File.text (D.stands self.old.disk.now (string_bytes self.old.path))
+            self.old.ledger)) }
+        ensures err { OnErr result ((text_written D.File.text (D.stands self.new.disk.now (string_bytes self.new.path))
+            self.new.ledger
             ≡ text_written D.File.text (D.stands self.old.disk.now (string_bytes self.old.path)) self.old.ledger)
             ⊎ (text_written D.File.text (D.stands self.new.disk.now (string_bytes self.new.path)) self.new.ledger
-            ≡ shortened len (text_written D.File.text (D.stands self.old.disk.now (string_bytes self.old.path)) self.old.ledger))) }
+            ≡ shortened len (text_written D.File.text (D.stands self.old.disk.now (string_bytes self.old.path))
+            self.old.ledger))) }
     {
         if keep_cut(self.disk, &self.path, len).is_err() || self.open().is_err() {
             return Err(Fault);
@@ -72,9 +77,12 @@ impl<'a, D: Disk> DiskLedger<'a, D> {
     // Appends to the ledger, which is opened for it.
     fn append_open(&mut self, bytes: &[u8]) -> Result<usize, Fault>
         ensures failures { self.new.failures ≡ self.old.failures }
-        ensures ok { IfOk result (λ n. (n ≤ length bytes.now) × (text_written D.File.text (D.stands self.new.disk.now (string_bytes self.new.path)) self.new.ledger
-            ≡ grown (text_written D.File.text (D.stands self.old.disk.now (string_bytes self.old.path)) self.old.ledger) (take n bytes.now))) }
-        ensures err { OnErr result (IsBegun (text_written D.File.text (D.stands self.old.disk.now (string_bytes self.old.path)) self.old.ledger) bytes.now
+        ensures ok { IfOk result (λ n. (n ≤ length bytes.now)
+            × (text_written D.File.text (D.stands self.new.disk.now (string_bytes self.new.path)) self.new.ledger
+            ≡ grown (text_written D.File.text (D.stands self.old.disk.now (string_bytes self.old.path)) self.old.ledger)
+            (take n bytes.now))) }
+        ensures err { OnErr result (IsBegun (text_written D.File.text
+            (D.stands self.old.disk.now (string_bytes self.old.path)) self.old.ledger) bytes.now
             (text_written D.File.text (D.stands self.new.disk.now (string_bytes self.new.path)) self.new.ledger)) }
     {
         if self.open().is_err() {

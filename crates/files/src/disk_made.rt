@@ -49,7 +49,8 @@ impl<'a, D: Disk> DiskMade<'a, D> {
     // Begins the file where it isn't begun yet.
     fn begin(&mut self) -> io::Result<()>
         ensures failures { self.new.failures ≡ self.old.failures }
-        ensures text { text_written D.File.text (no_bytes D.knows) self.new.ledger ≡ text_written D.File.text (no_bytes D.knows) self.old.ledger }
+        ensures text { text_written D.File.text (no_bytes D.knows) self.new.ledger
+            ≡ text_written D.File.text (no_bytes D.knows) self.old.ledger }
     {
         if self.ledger.is_some() {
             return Ok(());
@@ -65,9 +66,12 @@ impl<'a, D: Disk> DiskMade<'a, D> {
     // Cuts the file, which is begun for it; of one that holds nothing nothing is cut off.
     fn cut_begun(&mut self, len: u64) -> Result<(), Fault>
         ensures failures { self.new.failures ≡ self.old.failures }
-        ensures ok { OnOk result (text_written D.File.text (no_bytes D.knows) self.new.ledger ≡ shortened len (text_written D.File.text (no_bytes D.knows) self.old.ledger)) }
-        ensures err { OnErr result ((text_written D.File.text (no_bytes D.knows) self.new.ledger ≡ text_written D.File.text (no_bytes D.knows) self.old.ledger)
-            ⊎ (text_written D.File.text (no_bytes D.knows) self.new.ledger ≡ shortened len (text_written D.File.text (no_bytes D.knows) self.old.ledger))) }
+        ensures ok { OnOk result (text_written D.File.text (no_bytes D.knows) self.new.ledger
+            ≡ shortened len (text_written D.File.text (no_bytes D.knows) self.old.ledger)) }
+        ensures err { OnErr result ((text_written D.File.text (no_bytes D.knows) self.new.ledger
+            ≡ text_written D.File.text (no_bytes D.knows) self.old.ledger)
+            ⊎ (text_written D.File.text (no_bytes D.knows) self.new.ledger
+            ≡ shortened len (text_written D.File.text (no_bytes D.knows) self.old.ledger))) }
     {
         let is_new = self.ledger.is_none();
         if self.begin().is_err() {
@@ -84,8 +88,10 @@ impl<'a, D: Disk> DiskMade<'a, D> {
     fn append_begun(&mut self, bytes: &[u8]) -> Result<usize, Fault>
         ensures failures { self.new.failures ≡ self.old.failures }
         ensures ok { IfOk result (λ n. (n ≤ length bytes.now)
-            × (text_written D.File.text (no_bytes D.knows) self.new.ledger ≡ grown (text_written D.File.text (no_bytes D.knows) self.old.ledger) (take n bytes.now))) }
-        ensures err { OnErr result (IsBegun (text_written D.File.text (no_bytes D.knows) self.old.ledger) bytes.now (text_written D.File.text (no_bytes D.knows) self.new.ledger)) }
+            × (text_written D.File.text (no_bytes D.knows) self.new.ledger
+            ≡ grown (text_written D.File.text (no_bytes D.knows) self.old.ledger) (take n bytes.now))) }
+        ensures err { OnErr result (IsBegun (text_written D.File.text (no_bytes D.knows) self.old.ledger) bytes.now
+            (text_written D.File.text (no_bytes D.knows) self.new.ledger)) }
     {
         if self.begin().is_err() {
             return Err(Fault);

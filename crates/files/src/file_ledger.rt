@@ -32,7 +32,8 @@ impl<F: DiskFile> FileLedger<F> {
     fn set_length(&mut self, len: u64) -> io::Result<()>
         ensures failures { self.new.failures ≡ self.old.failures }
         ensures ok { OnOk result (F.text self.new.file ≡ shortened len (F.text self.old.file)) }
-        ensures err { OnErr result ((F.text self.new.file ≡ F.text self.old.file) ⊎ (F.text self.new.file ≡ shortened len (F.text self.old.file))) }
+        ensures err { OnErr result ((F.text self.new.file ≡ F.text self.old.file)
+            ⊎ (F.text self.new.file ≡ shortened len (F.text self.old.file))) }
     {
         self.file.cut(len)?;
         self.wait_for_disk()
@@ -41,7 +42,8 @@ impl<F: DiskFile> FileLedger<F> {
     // Writes a beginning of what is to be appended.
     fn write(&mut self, bytes: &[u8]) -> io::Result<usize>
         ensures failures { self.new.failures ≡ self.old.failures }
-        ensures ok { IfOk result (λ n. (n ≤ length bytes.now) × (F.text self.new.file ≡ grown (F.text self.old.file) (take n bytes.now))) }
+        ensures ok { IfOk result (λ n. (n ≤ length bytes.now)
+            × (F.text self.new.file ≡ grown (F.text self.old.file) (take n bytes.now))) }
         ensures err { OnErr result (IsBegun (F.text self.old.file) bytes.now (F.text self.new.file)) }
     {
         let count = self.file.write(bytes)?;

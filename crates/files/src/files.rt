@@ -43,7 +43,7 @@ pub trait Files {
         ensures ok { IfOk result (λ o. IsOpenedOn (holds self.now path.now) (Self.Reader.remaining o.reader) o.length) }
         ensures missing { IfErr result (λ e. error_kind e ≡ NotFound → IsMissing (holds self.now path.now)) };
 
-    /// The same of what is only read: of what is no plain file, whatever comes until its end.
+    /// Opens what is only read, which is no plain file perhaps: whatever comes until its end.
     fn open_to_end(&self, path: &str) -> io::Result<Opened<Self::Reader>>
         ensures ok { IfOk result (λ o. IsOpenedOn (holds self.now path.now) (Self.Reader.remaining o.reader) o.length) }
         ensures missing { IfErr result (λ e. error_kind e ≡ NotFound → IsMissing (holds self.now path.now)) };
@@ -63,7 +63,8 @@ pub trait Files {
     fn ledger(&mut self, file: &LedgerFile<'_>) -> io::Result<Self::Ledger>
         ensures ok { IfOk result (λ l. IsLedgerAt (holds self.old file.now.path.now) (Self.Ledger.text l)) }
         ensures opened { OnOk result (opened self.new file.now.path.now) }
-        ensures others { OnOk result (IsKeptBut (tells_same self.old) file.now.path.now (holds self.old) (holds self.new)) }
+        ensures others { OnOk result (IsKeptBut (tells_same self.old) file.now.path.now (holds self.old)
+            (holds self.new)) }
         ensures tells { IsToldStill (tells_same self.old) (tells_same self.new) }
         ensures err { OnErr result (IsKept (holds self.old) (holds self.new)) };
 
@@ -71,11 +72,13 @@ pub trait Files {
     fn close(&mut self, path: &str, ledger: Self::Ledger)
         requires { opened self.old path.now }
         ensures tells { IsToldStill (tells_same self.old) (tells_same self.new) }
-        ensures put { IsPut (tells_same self.old) path.now (Self.Ledger.text ledger) (holds self.old) (holds self.new) };
+        ensures put { IsPut (tells_same self.old) path.now (Self.Ledger.text ledger) (holds self.old)
+            (holds self.new) };
 
     /// Makes sure that there is a file at a path: where there is none, an empty one.
     fn create(&mut self, path: &str) -> io::Result<()>
-        ensures ok { OnOk result ((text : Option (List ℕ)) × IsLedgerAt (holds self.old path.now) text × IsPut (tells_same self.old) path.now text (holds self.old) (holds self.new)) }
+        ensures ok { OnOk result ((text : Option (List ℕ)) × IsLedgerAt (holds self.old path.now) text
+            × IsPut (tells_same self.old) path.now text (holds self.old) (holds self.new)) }
         ensures tells { IsToldStill (tells_same self.old) (tells_same self.new) }
         ensures err { OnErr result (IsKept (holds self.old) (holds self.new)) };
 
@@ -92,7 +95,8 @@ pub trait Files {
     /// Puts a file that was made at a path, in place of what stands there, at once; where that was asked for, once it is on
     /// the disk.
     fn put(&mut self, made: Self::Made, path: &str) -> io::Result<()>
-        ensures ok { OnOk result (IsPut (tells_same self.old) path.now (Self.Made.text made) (holds self.old) (holds self.new)) }
+        ensures ok { OnOk result (IsPut (tells_same self.old) path.now (Self.Made.text made) (holds self.old)
+            (holds self.new)) }
         ensures tells { IsToldStill (tells_same self.old) (tells_same self.new) }
         ensures err { OnErr result (IsKept (holds self.old) (holds self.new)) };
 

@@ -26,7 +26,7 @@ pub(crate) fn keep_cut<D: Disk>(disk: &D, path: &str, len: u64) -> io::Result<()
         return Err(unfit(disk, path));
     };
     if disk.is_same(path, &kept_at) {
-        // It would be cut with the ledger.
+        // What leads to the ledger would be cut with it.
         return Err(unfit(disk, &kept_at));
     }
     let count = copy_behind(disk, path, len, &kept_at)?;

@@ -71,7 +71,8 @@ impl MemFiles {
 
     // Makes a file of a path, where there is none.
     fn add(&mut self, path: &[u8], bytes: Vec<u8>) -> io::Result<()>
-        ensures ok { OnOk result ((f : MemFile) × (f.path.items ≡ path.now) × (f.bytes ≡ bytes) × (self.new.files.items ≡ self.old.files.items ++ f ∷ [])) }
+        ensures ok { OnOk result ((f : MemFile) × (f.path.items ≡ path.now) × (f.bytes ≡ bytes)
+            × (self.new.files.items ≡ self.old.files.items ++ f ∷ [])) }
         ensures err { OnErr result (self.new.files.items ≡ self.old.files.items) }
     {
         let copy = copied(self.alloc, path)?;

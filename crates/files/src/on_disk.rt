@@ -17,7 +17,7 @@ pub struct OnDisk<'a, D> {
 }
 
 impl<'a, D: Disk> OnDisk<'a, D> {
-    /// Those of a disk.
+    /// The files of a disk.
     pub fn of(alloc: Global, disk: &'a D) -> OnDisk<'a, D> {
         OnDisk { alloc, disk }
     }
@@ -32,7 +32,8 @@ impl<'a, D: Disk> Files for OnDisk<'a, D> {
 
     ghost tells_same = { λ files. D.same files.disk.now };
 
-    ghost leads = { λ files path name. LeadsBy (D.ends files.disk.now path) (λ end. D.same files.disk.now end name) path };
+    ghost leads = { λ files path name. LeadsBy (D.ends files.disk.now path) (λ end. D.same files.disk.now end name)
+        path };
 
     ghost opened = { λ files path. ⊤ };
 

@@ -36,7 +36,8 @@ impl<R: Read> Read for Held<R> {
 
 /// What the ledger at a path holds; nothing where its file isn't there.
 pub fn held_at<H: Files>(host: &H, path: &str) -> io::Result<Opened<Held<H::Reader>>>
-    ensures { IfOk result (λ o. IsLedgerOn (H.holds host.now path.now) (held_bytes H.Reader.remaining o.reader) o.length) }
+    ensures { IfOk result (λ o. IsLedgerOn (H.holds host.now path.now) (held_bytes H.Reader.remaining o.reader)
+        o.length) }
 {
     match host.open(path) {
         Ok(file) => Ok(Opened {

@@ -22,7 +22,7 @@ pub enum Place {
     },
     /// Over what stands there, which is no plain file.
     Over {
-        /// Its path.
+        /// The path of what stands there.
         path: String,
     },
 }

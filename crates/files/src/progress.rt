@@ -3,7 +3,7 @@ use ledger::Tally;
 
 /// What is told, record for record, how far a board is settled.
 pub trait Progress {
-    /// It is so far.
+    /// A board is so far.
     fn tell(&mut self, tally: &Tally);
 }
 

@@ -3,7 +3,7 @@
 /// How it is told how far a run is.
 #[derive(Clone, Copy, Debug, PartialEq, Eq)]
 pub enum Telling {
-    /// It isn't.
+    /// Nothing is told.
     Nothing,
     /// By lines.
     Lines,

@@ -11,7 +11,8 @@ pub fn ledger_at<H: Files>(host: &mut H, file: &LedgerFile<'_>) -> Result<H::Led
     ensures opened { OnOk result (H.opened host.new file.now.path.now) }
     ensures others { IsKeptBut (H.tells_same host.old) file.now.path.now (H.holds host.old) (H.holds host.new) }
     ensures tells { IsToldStill (H.tells_same host.old) (H.tells_same host.new) }
-    ensures err { IfErr result (λ e. ((e ≡ Ended.NoMemory) ⊎ (e ≡ Ended.Ledger)) × IsKept (H.holds host.old) (H.holds host.new)) }
+    ensures err { IfErr result (λ e. ((e ≡ Ended.NoMemory) ⊎ (e ≡ Ended.Ledger))
+        × IsKept (H.holds host.old) (H.holds host.new)) }
 {
     match host.ledger(file) {
         Ok(ledger) => Ok(ledger),
@@ -32,9 +33,11 @@ pub fn made_for<H: Files>(host: &H, out: &str, read: &[&str]) -> Result<H::Made,
 
 /// Puts a ledger that was made at a path, in place of what stands there.
 pub fn put_at<H: Files>(host: &mut H, made: H::Made, out: &str) -> Result<(), Ended>
-    ensures ok { OnOk result (IsPut (H.tells_same host.old) out.now (H.Made.text made) (H.holds host.old) (H.holds host.new)) }
+    ensures ok { OnOk result (IsPut (H.tells_same host.old) out.now (H.Made.text made) (H.holds host.old)
+        (H.holds host.new)) }
     ensures tells { IsToldStill (H.tells_same host.old) (H.tells_same host.new) }
-    ensures err { IfErr result (λ e. ((e ≡ Ended.NoMemory) ⊎ (e ≡ Ended.Ledger)) × IsKept (H.holds host.old) (H.holds host.new)) }
+    ensures err { IfErr result (λ e. ((e ≡ Ended.NoMemory) ⊎ (e ≡ Ended.Ledger))
+        × IsKept (H.holds host.old) (H.holds host.new)) }
 {
     match host.put(made, out) {
         Ok(()) => Ok(()),

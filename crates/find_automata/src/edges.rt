@@ -143,7 +143,7 @@ impl Edges {
         grew
     }
 
-    // It goes back over this one: the second automaton reads the symbol of the transition, and then the written one.
+    // The head goes back over a symbol: the second automaton reads that of the transition, and then the written one.
     fn grow_over(&mut self, place: usize, step: Step, number: usize) -> bool
         requires place { place < 256 }
         requires number { number < 32 }

@@ -10,14 +10,14 @@ pub(crate) struct Borders {
 }
 
 impl Borders {
-    // Those of the empty list. Takes no memory.
+    // The borders of the empty list. Takes no memory.
     pub fn new(alloc: Global) -> Borders {
         Borders {
             lengths: Vec::new(alloc),
         }
     }
 
-    // Those of another list, in the memory that is there.
+    // Takes the borders of another list, in the memory that is there.
     pub fn retake<T: PartialEq>(&mut self, items: &[T]) -> Result<(), NoMemory> {
         self.lengths.clear();
         for at in 0..items.len() {

@@ -17,11 +17,11 @@ const MOST_PERIODS: usize = 4;
 /// What one run of a table shows.
 #[derive(Clone, Copy, Debug, PartialEq, Eq)]
 pub enum Found {
-    /// It halts.
+    /// The table halts.
     Halts(HaltsIn),
-    /// It comes to a cycle.
+    /// The run comes to a cycle.
     Cycle(Cycle),
-    /// It comes to a translated cycle.
+    /// The run comes to a translated cycle.
     Translated(Translated),
 }
 
@@ -57,7 +57,7 @@ impl LoopFinder {
         found
     }
 
-    // The same, of the run that a runner begins.
+    // What is found in the run that a runner begins.
     fn found_in(
         &mut self,
         runner: &mut Runner,
@@ -87,7 +87,7 @@ impl LoopFinder {
         Ok(None)
     }
 
-    // That a run halts in so many steps where a runner stands, if that stands.
+    // The claim that a run halts in so many steps where a runner stands, if it stands.
     fn halting(&self, runner: &Runner, t: &Table, count: u64) -> Result<Option<Found>, NoMemory>
         ensures { IfOk result (λ o. IfSome o (IsShown t.now)) }
     {
@@ -167,7 +167,8 @@ fn score(runner: &Runner) -> u64 {
 
 // Whether a claim stands.
 fn standing<E: Evidence>(claim: &E, alloc: Global, t: &Table) -> Result<bool, NoMemory>
-    ensures { IfOk result (λ stands. IsTrue stands → (E.meaning claim.now).stands t.now × (E.meaning claim.now).within) }
+    ensures { IfOk result (λ stands. IsTrue stands → (E.meaning claim.now).stands t.now
+        × (E.meaning claim.now).within) }
 {
     match claim.check(alloc, t) {
         Ok(_) => Ok(true),

@@ -67,7 +67,7 @@ impl WordFinder {
         self.search_by(t, &WORD_STAGES[..count])
     }
 
-    /// The same by these stages, whichever are the finder's.
+    /// Looks for automata by some stages, whichever are the finder's.
     pub fn search_by(
         &mut self,
         t: &Table,
@@ -84,7 +84,7 @@ impl WordFinder {
         Ok(None)
     }
 
-    /// The same by one stage: first with what is ahead on the right, and then on the left.
+    /// Looks for automata by one stage: first with what is ahead on the right, and then on the left.
     pub fn search_in_stage(
         &mut self,
         t: &Table,
@@ -153,7 +153,7 @@ impl WordFinder {
         Ok(found.map(FoundAutomata::Far))
     }
 
-    // The same with any number of states.
+    // Looks for automata with any number of states.
     fn many_states(
         &self,
         t: &Table,

@@ -60,7 +60,7 @@ impl Word {
         }
     }
 
-    // Its last symbols, where there are more than so many.
+    // The last symbols of a word, where there are more than so many.
     fn last(self, count: u8) -> Word {
         if self.len <= count {
             return self;

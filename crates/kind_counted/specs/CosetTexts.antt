@@ -35,13 +35,15 @@ unfoldable pub counted_by_sizes : CosetTexts → ℕ → ℕ → Option CountedS
 counted_by_sizes t l r =
     option_and_then (λ left. option_and_then (λ right. option_map (λ items.
     record { split = t.left_counts; left = transitions_of left; right = transitions_of right; items = items })
-    (items_from (record { states = t.states; left = l; right = r; counts = t.left_counts + t.right_counts }) None (parts_of 44 t.cosets)))
+    (items_from (record { states = t.states; left = l; right = r; counts = t.left_counts + t.right_counts }) None
+    (parts_of 44 t.cosets)))
     (automaton_from r t.left_counts (t.left_counts + t.right_counts) (parts_of 44 t.right)))
     (automaton_from l 0 t.left_counts (parts_of 44 t.left))
 
 unfoldable pub counted_in : CosetTexts → Option CountedSystem
 counted_in t =
-    option_and_then (λ l. option_and_then (λ r. counted_by_sizes t l r) (half_states (parts_of 44 t.right))) (half_states (parts_of 44 t.left))
+    option_and_then (λ l. option_and_then (λ r. counted_by_sizes t l r) (half_states (parts_of 44 t.right)))
+    (half_states (parts_of 44 t.left))
 
 -- the texts are within the limits
 pub record AreWithinLimits (t : CosetTexts) : Type 0 where

@@ -10,7 +10,8 @@ tells_first a b rest = nat_lt a b || ((a == b) && rest)
 
 unfoldable pub is_before : Local → Local → Bool
 is_before a b =
-    tells_first a.left b.left (tells_first a.state.0 b.state.0 (tells_first (symbol_number a.read) (symbol_number b.read) (nat_lt a.right b.right)))
+    tells_first a.left b.left (tells_first a.state.0 b.state.0
+    (tells_first (symbol_number a.read) (symbol_number b.read) (nat_lt a.right b.right)))
 
 -- whether it stands behind the last, if there is one
 abbrev pub follows : Option Local → Local → Bool

@@ -56,7 +56,8 @@ is_zero v = each_below (λ x. is_zero_at x v) count_limit
 
 -- a row taken off so often that a place is 0
 unfoldable pub cleared : ℕ → Point → Point → Answer Point
-cleared x v row = if unsigned_abs (int_rem (v x) (row x)) == 0 then sized (less v (int_div (v x) (row x)) row) else Err Fails
+cleared x v row = if unsigned_abs (int_rem (v x) (row x)) == 0 then sized (less v (int_div (v x) (row x)) row) else Err
+    Fails
 
 -- the first place from one on that isn't 0, of so many
 abbrev pub first_place : Point → ℕ → ℕ → ℕ
@@ -74,7 +75,8 @@ unfoldable pub inside : List Point → Point → Answer (Unit {0})
 inside rows v = taken_off rows v >>= λ rest. if is_zero rest then passes else Err Fails
 
 unfoldable pub all_inside : Coset → Coset → Answer (Unit {0})
-all_inside k other = sized (λ x. k.base x -ℤ other.base x) >>= inside other.rows >>= λ _. each (inside other.rows) k.rows
+all_inside k other = sized (λ x. k.base x -ℤ other.base x) >>= inside other.rows >>= λ _.
+    each (inside other.rows) k.rows
 
 -- Euclid on two rows, in so many rounds at most, until the second is 0 in a place
 abbrev pub parted : ℕ → ℕ → Point → Point → Answer (Point × Point)
@@ -93,8 +95,10 @@ split_rows carrier rest = record { carrier = carrier; rest = rest }
 
 -- one row more. Each round of Euclid makes the row smaller in the place, so as many do as its number there is large
 abbrev pub add_to : ℕ → List Point → Point → Option Point → Answer SplitRows
-add_to x rest row None = Ok (if is_zero_at x row then split_rows None (rest ++ row ∷ []) else split_rows (Some row) rest)
-add_to x rest row (Some carrier) = parted x (unsigned_abs (row x)) carrier row >>= λ p. Ok (split_rows (Some p.0) (rest ++ p.1 ∷ []))
+add_to x rest row None = Ok (if is_zero_at x row then split_rows None (rest ++ row ∷ []) else split_rows (Some row)
+    rest)
+add_to x rest row (Some carrier) = parted x (unsigned_abs (row x)) carrier row >>= λ p.
+    Ok (split_rows (Some p.0) (rest ++ p.1 ∷ []))
 
 abbrev pub add : ℕ → SplitRows → Point → Answer SplitRows
 add x s row = add_to x s.rest row s.carrier
@@ -139,7 +143,8 @@ is_negative k = not (each_below (λ x. not (is_negative_at k x)) count_limit)
 
 -- the coset of what stands around the head
 abbrev pub is_same : Local → Local → Bool
-is_same a b = (a.left == b.left) && ((a.state.0 == b.state.0) && ((symbol_number a.read == symbol_number b.read) && (a.right == b.right)))
+is_same a b = (a.left == b.left) && ((a.state.0 == b.state.0) &&
+    ((symbol_number a.read == symbol_number b.read) && (a.right == b.right)))
 
 abbrev pub coset_at : Local → List Item → Answer Coset
 coset_at c [] = Err Fails
@@ -156,19 +161,25 @@ settled_if_any w next (Err e) = Err e
 
 -- after a step to a side, by the transition that reads what was written, to a state of the machine: where the symbol
 -- that is now under the head had been read by a transition, from a state
-unfoldable pub settled_by : CountedSystem → (ℕ → ℕ → Bool) → Coset → Dir → Transition → State → ℕ → Sym → Transition → Answer (Unit {0})
+unfoldable pub settled_by : CountedSystem → (ℕ → ℕ → Bool) → Coset → Dir → Transition → State → ℕ → Sym → Transition
+    → Answer (Unit {0})
 settled_by w unused k side by next q b last =
-    moved_coset k by.count last.count >>= λ k. settled_if_any w (moved_to side by.to next b q) (kept unused q (counts_of w.split side) k)
+    moved_coset k by.count last.count >>= λ k.
+    settled_if_any w (moved_to side by.to next b q) (kept unused q (counts_of w.split side) k)
 
 -- where it had been read from a state, if it can have been
-abbrev pub settled_from : CountedSystem → (ℕ → ℕ → Bool) → Local → Coset → Dir → Transition → State → ℕ → Sym → Option Transition → Answer (Unit {0})
+abbrev pub settled_from : CountedSystem → (ℕ → ℕ → Bool) → Local → Coset → Dir → Transition → State → ℕ → Sym
+    → Option Transition → Answer (Unit {0})
 settled_from w unused c k side by next q b None = passes
-settled_from w unused c k side by next q b (Some last) = if last.to == state_on side c then settled_by w unused k side by next q b last else passes
+settled_from w unused c k side by next q b (Some last) = if last.to == state_on side c then settled_by w unused k side
+    by next q b last else passes
 
 -- and by 0 and by 1
-unfoldable pub settled_at : CountedSystem → (ℕ → ℕ → Bool) → Local → Coset → Dir → Transition → State → ℕ → Answer (Unit {0})
+unfoldable pub settled_at : CountedSystem → (ℕ → ℕ → Bool) → Local → Coset → Dir → Transition → State → ℕ
+    → Answer (Unit {0})
 settled_at w unused c k side by next q =
-    settled_from w unused c k side by next q Zero (delta w side q Zero) >>= λ _. settled_from w unused c k side by next q One (delta w side q One)
+    settled_from w unused c k side by next q Zero (delta w side q Zero) >>= λ _.
+    settled_from w unused c k side by next q One (delta w side q One)
 
 -- the states that an automaton may have, from one on
 unfoldable pub states_from : ℕ → List ℕ
@@ -186,7 +197,8 @@ leads_on w unused c k e (Some by) = settled_on w unused c k e.dir by e.next
 -- the step from what stands around the head, by its entry
 abbrev pub goes_on : CountedSystem → (Dir → ℕ → ℕ → Bool) → Local → Coset → Option Entry → Answer (Unit {0})
 goes_on w unused c k None = Err Fails
-goes_on w unused c k (Some e) = leads_on w (unused e.dir) c k e (delta w (opposite e.dir) (state_on (opposite e.dir) c) e.write)
+goes_on w unused c k (Some e) = leads_on w (unused e.dir) c k e
+    (delta w (opposite e.dir) (state_on (opposite e.dir) c) e.write)
 
 -- what stands around the head on the blank tape
 abbrev pub start_local : Local
@@ -212,7 +224,8 @@ pub record TellsUnused (a : Delta) (unused : ℕ → ℕ → Bool) : Type 0 wher
 -- blank cells far away change nothing, and each automaton has its own counts
 pub record IsFormed (w : CountedSystem) : Type 0 where
   pub blank : (side : Dir) → delta w side 0 Zero ≡ Some (record { to = 0; count = None })
-  pub own : (side : Dir) (q : ℕ) (s : Sym) (t : Transition) (x : Count) → delta w side q s ≡ Some t → t.count ≡ Some x → IsOf w side x.number
+  pub own : (side : Dir) (q : ℕ) (s : Sym) (t : Transition) (x : Count) → delta w side q s ≡ Some t → t.count ≡ Some x
+      → IsOf w side x.number
 
 -- a number gets too large when counted automata are judged for a machine
 pub record GetTooLarge (m : Machine) (w : CountedSystem) : Type 0 where

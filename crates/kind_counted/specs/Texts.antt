@@ -51,14 +51,16 @@ unfoldable pub exit_from : ℕ → ℕ → ℕ → List ℕ → Option (Option T
 exit_from states low limit text =
     if bytes_eq text (45 ∷ []) then Some None
     else if is_letter (last_byte text) then
-    option_and_then (λ to. option_map (λ x. Some (record { to = to; count = Some (record { number = x }) })) (ranged_count low limit (last_byte text)))
+    option_and_then (λ to. option_map (λ x. Some (record { to = to; count = Some (record { number = x }) }))
+    (ranged_count low limit (last_byte text)))
     (ranged_number 0 states (front_of text))
     else option_map (λ to. Some (record { to = to; count = None })) (ranged_number 0 states text)
 
 -- the transitions of a state, by 0 and by 1
 unfoldable pub pair_from : ℕ → ℕ → ℕ → List ℕ → List ℕ → Option Exits
 pair_from states low limit zero one =
-    option_and_then (λ by_zero. option_map (λ by_one. record { zero = by_zero; one = by_one }) (exit_from states low limit one))
+    option_and_then (λ by_zero. option_map (λ by_one. record { zero = by_zero; one = by_one })
+    (exit_from states low limit one))
     (exit_from states low limit zero)
 
 -- the transitions of states, two for each
@@ -66,7 +68,8 @@ abbrev pub exits_from : ℕ → ℕ → ℕ → List (List ℕ) → Option (List
 exits_from states low limit [] = Some []
 exits_from states low limit (zero ∷ []) = None
 exits_from states low limit (zero ∷ (one ∷ parts)) =
-    option_and_then (λ pair. option_map (λ rest. pair ∷ rest) (exits_from states low limit parts)) (pair_from states low limit zero one)
+    option_and_then (λ pair. option_map (λ rest. pair ∷ rest) (exits_from states low limit parts))
+    (pair_from states low limit zero one)
 
 -- how many states that are: half as many, where there are no more than may be
 unfoldable pub half_states : List (List ℕ) → Option ℕ
@@ -97,7 +100,8 @@ terms_of (b ∷ text) = if is_letter b then (b ∷ []) ∷ terms_of text else on
 abbrev pub terms_from : ℕ → ℕ → List ℤ → List (List ℕ) → Option (List ℤ)
 terms_from limit low numbers [] = Some numbers
 terms_from limit low numbers (term ∷ terms) =
-    option_and_then (λ x. option_and_then (λ n. terms_from limit (x + 1) (set numbers x n) terms) (signed_from (front_of term)))
+    option_and_then (λ x. option_and_then (λ n. terms_from limit (x + 1) (set numbers x n) terms)
+    (signed_from (front_of term)))
     (ranged_count low limit (last_byte term))
 
 -- a base or a row: `0`, or terms
@@ -117,13 +121,15 @@ unfoldable pub leads : ℕ → List ℤ → Bool
 leads low numbers = nat_le low (pivot_of numbers) && int_lt (pos 0) (point_of numbers (pivot_of numbers))
 
 unfoldable pub row_from : ℕ → ℕ → List ℕ → Option (List ℤ)
-row_from limit low text = option_and_then (λ numbers. if leads low numbers then Some numbers else None) (numbers_from limit text)
+row_from limit low text = option_and_then (λ numbers. if leads low numbers then Some numbers else None)
+    (numbers_from limit text)
 
 -- rows in echelon form
 abbrev pub rows_from : ℕ → ℕ → List (List ℕ) → Option (List Point)
 rows_from limit low [] = Some []
 rows_from limit low (part ∷ parts) =
-    option_and_then (λ row. option_map (λ rows. point_of row ∷ rows) (rows_from limit (pivot_of row + 1) parts)) (row_from limit low part)
+    option_and_then (λ row. option_map (λ rows. point_of row ∷ rows) (rows_from limit (pivot_of row + 1) parts))
+    (row_from limit low part)
 
 -- the table's state that a letter names, and the symbol that a digit names
 unfoldable pub state_from : ℕ → ℕ → Option State
@@ -136,7 +142,8 @@ symbol_from b = if b == 48 then Some Zero else if b == 49 then Some One else Non
 -- symbol that is read, and a state of the right automaton. The place is the first whose byte isn't below `A`
 unfoldable pub local_at : Shape → List ℕ → ℕ → Option Local
 local_at a text at =
-    option_and_then (λ l. option_and_then (λ f. option_and_then (λ s. option_map (λ r. record { left = l; state = f; read = s; right = r })
+    option_and_then (λ l. option_and_then (λ f.
+    option_and_then (λ s. option_map (λ r. record { left = l; state = f; read = s; right = r })
     (ranged_number 0 a.right (drop (at + 2) text)))
     (symbol_from (slice_index text (at + 1))))
     (state_from a.states (slice_index text at)))
@@ -150,14 +157,17 @@ unfoldable pub item_from : Shape → List (List ℕ) → Option Item
 item_from a [] = None
 item_from a (at ∷ []) = None
 item_from a (at ∷ (base ∷ rows)) =
-    option_and_then (λ c. option_and_then (λ numbers. option_map (λ rows. record { at = c; coset = record { base = point_of numbers; rows = rows } })
+    option_and_then (λ c. option_and_then (λ numbers.
+    option_map (λ rows. record { at = c; coset = record { base = point_of numbers; rows = rows } })
     (rows_from a.counts 0 rows)) (numbers_from a.counts base)) (local_from a at)
 
 -- items that rise, behind one that there may be before them
 unfoldable pub item_behind : Shape → Option Local → List ℕ → Option Item
-item_behind a last text = option_and_then (λ (item : Item). if follows last item.at then Some item else None) (item_from a (parts_of 58 text))
+item_behind a last text = option_and_then (λ (item : Item). if follows last item.at then Some item else None)
+    (item_from a (parts_of 58 text))
 
 abbrev pub items_from : Shape → Option Local → List (List ℕ) → Option (List Item)
 items_from a last [] = Some []
 items_from a last (part ∷ parts) =
-    option_and_then (λ (item : Item). option_map (λ items. item ∷ items) (items_from a (Some item.at) parts)) (item_behind a last part)
+    option_and_then (λ (item : Item). option_map (λ items. item ∷ items) (items_from a (Some item.at) parts))
+    (item_behind a last part)

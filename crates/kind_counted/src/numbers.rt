@@ -34,7 +34,7 @@ impl Counts {
         }
     }
 
-    // These numbers less so many times others; none where a number gets too large.
+    // The numbers less so many times others; none where a number gets too large.
     pub(crate) fn less(&self, f: i64, row: &Counts) -> Option<Counts>
         requires { unsigned_abs f ≤ number_limit }
         ensures less { IfSome result
@@ -86,7 +86,7 @@ impl Counts {
         }
     }
 
-    // These numbers less others.
+    // The numbers less others.
     pub(crate) fn minus(&self, other: &Counts) -> Result<Counts, Refused>
         ensures minus { IfOk result
             (λ v. (x : ℕ) → point_of v.numbers x ≡ point_of self.now.numbers x -ℤ point_of other.now.numbers x) }
@@ -100,7 +100,7 @@ impl Counts {
         }
     }
 
-    // These numbers with one more in a count.
+    // The numbers with one more in a count.
     pub(crate) fn one_more(&self, count: Option<Count>) -> Result<Counts, Refused>
         requires { IsCount count }
         ensures more { IfOk result
@@ -115,7 +115,7 @@ impl Counts {
         }
     }
 
-    // These numbers with one less in a count.
+    // The numbers with one less in a count.
     pub(crate) fn one_less(&self, count: Option<Count>) -> Result<Counts, Refused>
         requires { IsCount count }
         ensures less { IfOk result
@@ -130,7 +130,7 @@ impl Counts {
         }
     }
 
-    // These numbers with another one in a place.
+    // The numbers with another one in a place.
     fn with(&self, place: usize, number: i64) -> Result<Counts, Refused>
         requires { place < count_limit }
         ensures with { IfOk result (λ v. v.numbers ≡ set self.now.numbers place number) }

@@ -32,7 +32,8 @@ room_for_fields n = 64999 - 7 * n
 pub record IsKind {C : Type 0} (k : Kind C) : Type 0 where
   pub letter : IsLetter k.letter
   pub are_fields : (c : C) → (k.meaning c).writable → All IsField (k.fields c)
-  pub short : (c : C) (n : ℕ) → n ≤ state_limit → (k.meaning c).writable → (k.meaning c).made_for n → length (spaced (k.fields c)) ≤ room_for_fields n
+  pub short : (c : C) (n : ℕ) → n ≤ state_limit → (k.meaning c).writable → (k.meaning c).made_for n
+      → length (spaced (k.fields c)) ≤ room_for_fields n
   pub back : (c : C) (n : ℕ) → (k.meaning c).writable → (k.meaning c).made_for n → k.by n (k.fields c) ≡ Ok c
   pub writable : (c : C) (p : Packed) → (k.meaning c).within → (k.meaning c).stands p → (k.meaning c).writable
   pub made : (c : C) (p : Packed) → (k.meaning c).stands p → (k.meaning c).made_for p.states

@@ -21,8 +21,10 @@ pub trait Evidence {
     /// Checks the claim. The limit is judged first, then whether it is too wide, then whether it stands. Memory is
     /// refused only where the claim takes some.
     fn check(&self, alloc: Global, t: &Table) -> Result<Verdict, Refused>
-        ensures ok { IfOk result (λ v. (v ≡ shows self.now t.now) × (meaning self.now).within × (meaning self.now).stands t.now × ((meaning self.now).wide t.now → ⊥)) }
-        ensures fails { result ≡ Err Refused.Fails → (meaning self.now).within × ((meaning self.now).wide t.now → ⊥) × ((meaning self.now).stands t.now → ⊥) }
+        ensures ok { IfOk result (λ v. (v ≡ shows self.now t.now) × (meaning self.now).within
+            × (meaning self.now).stands t.now × ((meaning self.now).wide t.now → ⊥)) }
+        ensures fails { result ≡ Err Refused.Fails → (meaning self.now).within × ((meaning self.now).wide t.now → ⊥)
+            × ((meaning self.now).stands t.now → ⊥) }
         ensures long { result ≡ Err Refused.TooLong → (meaning self.now).within → ⊥ }
         ensures wide { result ≡ Err Refused.TooWide → (meaning self.now).within × (meaning self.now).wide t.now }
         ensures memory { result ≡ Err Refused.NoMemory → (meaning self.now).takes_memory };

@@ -6,30 +6,31 @@ use std::fmt;
 /// What is said of a table's run from the blank tape.
 #[derive(Clone, Copy, Debug, PartialEq, Eq)]
 pub enum Verdict {
-    /// It halts in so many steps, with so many ones on its tape then; the halting step counts and writes a one
+    /// The table halts in so many steps, with so many ones on its tape then; the halting step counts and writes a one
     /// (Radó 1962).
     Halts { steps: u64, ones: u64 },
-    /// It never halts.
+    /// The table never halts.
     Never,
 }
 
 /// How a table's run from the blank tape ends: a verdict without the ones, which aren't known before it is run.
 #[derive(Clone, Copy, Debug, PartialEq, Eq)]
 pub enum Ending {
-    /// It halts in so many steps; the halting step counts (Radó 1962).
+    /// The table halts in so many steps; the halting step counts (Radó 1962).
     Halts(u64),
-    /// It never halts.
+    /// The table never halts.
     Never,
 }
 
 /// Why evidence was refused.
 #[derive(Clone, Copy, Debug, PartialEq, Eq)]
 pub enum Refused {
-    /// It doesn't hold for the table.
+    /// The evidence doesn't hold for the table.
     Fails,
-    /// It asks for more than its kind's limit, and isn't looked at.
+    /// The evidence asks for more than its kind's limit, and isn't looked at.
     TooLong,
-    /// It asks for more paths at one depth than backward reasoning keeps.
+    /// The check asks for more than its kind allows: more paths of one depth than backward reasoning keeps, or larger
+    /// numbers than counted automata may have.
     TooWide,
     /// Memory was refused.
     NoMemory,

@@ -20,7 +20,8 @@ pub record ListedAutomata : Type 0 where
   pub keep : List ℕ
 
 abbrev pub listed_automata : ℕ → Dir → ℕ → List ℕ → List (List ℕ) → List ℕ → ListedAutomata
-listed_automata states side size delta rows keep = record { states = states; side = side; size = size; delta = delta; rows = rows; keep = keep }
+listed_automata states side size delta rows keep = record
+    { states = states; side = side; size = size; delta = delta; rows = rows; keep = keep }
 
 -- whether a number is in a list
 abbrev pub has_item : List ℕ → ℕ → Bool

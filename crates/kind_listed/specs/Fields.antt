@@ -17,14 +17,16 @@ listed_size_in (Some m) = if not (nat_lt m 1) && not (nat_lt listed_size_limit m
 -- three texts: how long they are together is judged before any of them
 abbrev pub texts_by : ListedTexts → Result ListedTexts FieldFault
 texts_by t =
-    if nat_lt (listed_byte_limit t.states) (length (decimal t.size) + length t.delta + length t.rows + length t.keep) then Err TooLong
+    if nat_lt (listed_byte_limit t.states) (length (decimal t.size) + length t.delta + length t.rows + length t.keep)
+    then Err TooLong
     else if is_some (automata_of_texts t) then Ok t
     else Err BadList
 
 -- a side, a size and three texts, for a table of n states
 abbrev pub listed_by : ℕ → List (List ℕ) → Result ListedTexts FieldFault
 listed_by n (side ∷ (size ∷ (delta ∷ (rows ∷ (keep ∷ []))))) =
-    with_value (side_of side) (λ side. with_value (listed_size_in (decimal_value size)) (λ size. texts_by (listed_texts n side size delta rows keep)))
+    with_value (side_of side) (λ side. with_value (listed_size_in (decimal_value size))
+    (λ size. texts_by (listed_texts n side size delta rows keep)))
 listed_by n fields = Err BadKind
 
 abbrev pub listed_fields : ListedTexts → List (List ℕ)

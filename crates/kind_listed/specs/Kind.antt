@@ -24,5 +24,6 @@ listed_kind = record {
     stands = λ p. AreTextsOf t p;
     takes_memory = Unit {0};
   };
-  law = λ t p table stands. automata_never p.states (entry_of p) stands.automata.side (described_by stands.automata) (table_machine p table) stands.fit.fits;
+  law = λ t p table stands. automata_never p.states (entry_of p) stands.automata.side (described_by stands.automata)
+      (table_machine p table) stands.fit.fits;
 }

@@ -22,7 +22,8 @@ next_low rising n = if rising then n + 1 else 0
 abbrev pub numbers_in : Bool → ℕ → ℕ → List (List ℕ) → Option (List ℕ)
 numbers_in rising low limit [] = Some []
 numbers_in rising low limit (part ∷ parts) =
-    option_and_then (λ n. option_map (λ ns. n ∷ ns) (numbers_in rising (next_low rising n) limit parts)) (number_in low limit part)
+    option_and_then (λ n. option_map (λ ns. n ∷ ns) (numbers_in rising (next_low rising n) limit parts))
+    (number_in low limit part)
 
 -- the edges of one state on one symbol: `-` for all, `.` for none, or a list; the halt state is the last
 unfoldable pub row_in : ℕ → List ℕ → Option (List ℕ)
@@ -33,12 +34,14 @@ row_in last text =
 
 abbrev pub rows_in : ℕ → List (List ℕ) → Option (List (List ℕ))
 rows_in last [] = Some []
-rows_in last (part ∷ parts) = option_and_then (λ row. option_map (λ rows. row ∷ rows) (rows_in last parts)) (row_in last part)
+rows_in last (part ∷ parts) = option_and_then (λ row. option_map (λ rows. row ∷ rows) (rows_in last parts))
+    (row_in last part)
 
 -- the automata with these numbers, where there are as many as there have to be
 abbrev pub counted : ℕ → Dir → ℕ → List ℕ → List (List ℕ) → List ℕ → Option ListedAutomata
 counted states side size delta rows keep =
-    if (length delta == 2 * size) && (length rows == 2 * (size * states)) then Some (listed_automata states side size delta rows keep) else None
+    if (length delta == 2 * size) && (length rows == 2 * (size * states)) then Some
+    (listed_automata states side size delta rows keep) else None
 
 -- the automata that three texts give
 unfoldable pub automata_in : ℕ → Dir → ℕ → List ℕ → List ℕ → List ℕ → Option ListedAutomata
@@ -60,7 +63,8 @@ pub record ListedTexts : Type 0 where
   pub keep : List ℕ
 
 abbrev pub listed_texts : ℕ → Dir → ℕ → List ℕ → List ℕ → List ℕ → ListedTexts
-listed_texts states side size delta rows keep = record { states = states; side = side; size = size; delta = delta; rows = rows; keep = keep }
+listed_texts states side size delta rows keep = record
+    { states = states; side = side; size = size; delta = delta; rows = rows; keep = keep }
 
 abbrev pub automata_of_texts : ListedTexts → Option ListedAutomata
 automata_of_texts t = automata_in t.states t.side t.size t.delta t.rows t.keep

@@ -48,8 +48,10 @@ impl<'a> Listed<'a> {
 
 // The size of automata that a field names.
 fn size_from(field: &[u8]) -> Result<u16, FieldFault>
-    ensures ok { IfOk result (λ m. (listed_size_in (decimal_value field.now) ≡ Some m) × (1 ≤ m) × (m ≤ listed_size_limit)) }
-    ensures err { IfErr result (λ fault. (fault ≡ FieldFault.BadNumber) × (listed_size_in (decimal_value field.now) ≡ None)) }
+    ensures ok { IfOk result (λ m. (listed_size_in (decimal_value field.now) ≡ Some m) × (1 ≤ m)
+        × (m ≤ listed_size_limit)) }
+    ensures err { IfErr result (λ fault. (fault ≡ FieldFault.BadNumber)
+        × (listed_size_in (decimal_value field.now) ≡ None)) }
 {
     let size = number_in(field)?;
     if Listed::is_size(size) {

@@ -47,7 +47,8 @@ impl Unpacked {
     // Whether each pair of the second automaton has the edges that an undefined entry asks for, or one that moves ahead.
     fn each_pair_fits(&self, t: &Table) -> bool
         requires { self.now.states ≡ t.now.states }
-        ensures { IsTrue result ↔ EachPairFits (entry_of t.now) (numbers_of_unpacked self.now) (halt_number (numbers_of_unpacked self.now)) }
+        ensures { IsTrue result ↔ EachPairFits (entry_of t.now) (numbers_of_unpacked self.now)
+            (halt_number (numbers_of_unpacked self.now)) }
     {
         let states = self.states as u16;
         for j in 0..self.last() {
@@ -98,7 +99,8 @@ impl Unpacked {
     // Whether there are the edges that the entries ask for which move back.
     fn each_fits_back(&self, alloc: Global, t: &Table) -> Result<bool, NoMemory>
         requires { self.now.states ≡ t.now.states }
-        ensures { IfOk result (λ fits. IsTrue fits ↔ EachFitsBack (entry_of t.now) (numbers_of_unpacked self.now) self.now.states) }
+        ensures { IfOk result (λ fits. IsTrue fits
+            ↔ EachFitsBack (entry_of t.now) (numbers_of_unpacked self.now) self.now.states) }
     {
         let moves = self.moves(alloc)?;
         let mut seen = self.none_seen(alloc)?;
@@ -142,7 +144,7 @@ impl Unpacked {
         self.goes_back(f as u16, r, entry, moves, seen)
     }
 
-    // The same of an entry that moves back. The transitions to one state stand one behind another: what leads into the list
+    // Whether an entry that moves back fits. The transitions to one state stand one behind another: what leads into the list
     // of a target is then looked at once, however many of them there are.
     fn goes_back(&self, f: u16, r: Sym, entry: Entry, moves: &[Move], seen: &mut [u16]) -> bool
         requires second { f < self.now.states }
@@ -192,7 +194,8 @@ impl Unpacked {
         requires to { to < self.now.size }
         requires second { f < self.now.states }
         requires seen { AreSeen (numbers_of_unpacked self.now) f r s seen.old }
-        ensures fits { IsTrue result ↔ LeadInto (numbers_of_unpacked self.now) set.now s (edges_at (numbers_of_unpacked self.now) (to * self.now.states + f) r) (length set.now) }
+        ensures fits { IsTrue result ↔ LeadInto (numbers_of_unpacked self.now) set.now s
+            (edges_at (numbers_of_unpacked self.now) (to * self.now.states + f) r) (length set.now) }
         ensures seen { AreSeen (numbers_of_unpacked self.now) f r s seen.new }
     {
         for i in 0..set.len() {
@@ -208,7 +211,8 @@ impl Unpacked {
         requires to { to < self.now.size }
         requires second { f < self.now.states }
         requires seen { AreSeen (numbers_of_unpacked self.now) f r s seen.old }
-        ensures fits { IsTrue result ↔ LeadsInto (numbers_of_unpacked self.now) u s (edges_at (numbers_of_unpacked self.now) (to * self.now.states + f) r) }
+        ensures fits { IsTrue result ↔ LeadsInto (numbers_of_unpacked self.now) u s
+            (edges_at (numbers_of_unpacked self.now) (to * self.now.states + f) r) }
         ensures seen { AreSeen (numbers_of_unpacked self.now) f r s seen.new }
     {
         if u >= self.last() {

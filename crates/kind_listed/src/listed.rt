@@ -26,7 +26,8 @@ pub struct Listed<'a> {
     pub(crate) rows: &'a [u8],
     pub(crate) keep: &'a [u8],
     ghost limits: { (1 ≤ states) × (states ≤ state_limit) × (1 ≤ size) × (size ≤ listed_size_limit) },
-    ghost short: { length (decimal size) + length delta.now + length rows.now + length keep.now ≤ listed_byte_limit states },
+    ghost short: { length (decimal size) + length delta.now + length rows.now + length keep.now
+        ≤ listed_byte_limit states },
     ghost given: { IsTrue (is_some (automata_in states side size delta.now rows.now keep.now)) },
 }
 
@@ -46,7 +47,8 @@ impl<'a> Listed<'a> {
     /// Whether a record of such texts, for a table of so many states, has at most 65,000 bytes in all.
     pub fn are_short(states: u8, size: u16, delta: &[u8], rows: &[u8], keep: &[u8]) -> bool
         requires { states ≤ state_limit }
-        ensures { IsTrue result ↔ (length (decimal size) + length delta.now + length rows.now + length keep.now ≤ listed_byte_limit states) }
+        ensures { IsTrue result ↔ (length (decimal size) + length delta.now + length rows.now + length keep.now
+            ≤ listed_byte_limit states) }
     {
         let most = MAX_BYTES - 7 * states as usize - digits_of(size);
         delta.len() <= most
@@ -66,9 +68,11 @@ impl<'a> Listed<'a> {
     ) -> Option<Listed<'a>>
         requires states { (1 ≤ states) × (states ≤ state_limit) }
         requires size { (1 ≤ size) × (size ≤ listed_size_limit) }
-        requires short { length (decimal size) + length delta.now + length rows.now + length keep.now ≤ listed_byte_limit states }
+        requires short { length (decimal size) + length delta.now + length rows.now + length keep.now
+            ≤ listed_byte_limit states }
         ensures some { IfSome result (λ e. texts_of e ≡ listed_texts states side size delta.now rows.now keep.now) }
-        ensures given { IfSome result (λ e. IsTrue (is_some (automata_in states side size delta.now rows.now keep.now))) }
+        ensures given { IfSome result (λ e. IsTrue
+            (is_some (automata_in states side size delta.now rows.now keep.now))) }
         ensures none { IfNone result (automata_in states side size delta.now rows.now keep.now ≡ None) }
     {
         if !are_texts(states, side, size, delta, rows, keep) {

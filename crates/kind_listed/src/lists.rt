@@ -44,7 +44,7 @@ impl Lists {
         self.starts.len() - 1
     }
 
-    // One of them.
+    // One of the lists.
     #[tactic(auto, using(crate::proofs::Listing::lists_length))]
     pub fn get(&self, k: usize) -> &[u16]
         requires { k < length self.now }

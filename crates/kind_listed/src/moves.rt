@@ -19,14 +19,15 @@ pub(crate) struct Move {
 impl Unpacked {
     // All transitions, those to one state one behind another.
     pub fn moves(&self, alloc: Global) -> Result<Vec<Move>, NoMemory>
-        ensures { IfOk result (λ moves. IsPermutation (all_moves (numbers_of_unpacked self.now) self.now.size) moves.items) }
+        ensures { IfOk result (λ moves. IsPermutation (all_moves (numbers_of_unpacked self.now) self.now.size)
+            moves.items) }
     {
         let mut moves = self.moves_by_state(alloc)?;
         moves.sort_unstable();
         Ok(moves)
     }
 
-    // The same by the states from which they go.
+    // The transitions by the states from which they go.
     fn moves_by_state(&self, alloc: Global) -> Result<Vec<Move>, NoMemory>
         ensures { IfOk result (λ moves. moves.items ≡ all_moves (numbers_of_unpacked self.now) self.now.size) }
     {

@@ -20,7 +20,8 @@ pub struct OwnedListed {
     side: Dir,
     size: u16,
     ghost limits: { (1 ≤ states) × (states ≤ state_limit) × (1 ≤ size) × (size ≤ listed_size_limit) },
-    ghost room: { (delta_bytes + row_bytes ≤ length text.items) × (length (decimal size) + length text.items ≤ listed_byte_limit states) },
+    ghost room: { (delta_bytes + row_bytes ≤ length text.items)
+        × (length (decimal size) + length text.items ≤ listed_byte_limit states) },
     ghost given: { IsTrue (is_some (automata_in states side size (take delta_bytes text.items)
         (take row_bytes (drop delta_bytes text.items)) (drop row_bytes (drop delta_bytes text.items)))) },
 }

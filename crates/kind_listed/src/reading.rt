@@ -39,7 +39,8 @@ fn read_numbers(
     limit: u16,
     numbers: &mut Vec<u16>,
 ) -> Result<bool, NoMemory>
-    ensures { IfOk result (λ fine. numbers_in rising 0 limit parts.entry ≡ (if fine then Some numbers.new.items else None)) }
+    ensures { IfOk result (λ fine. numbers_in rising 0 limit parts.entry
+        ≡ (if fine then Some numbers.new.items else None)) }
 {
     numbers.clear();
     let mut low = 0;
@@ -62,7 +63,8 @@ pub(crate) fn numbers_of(
     rising: bool,
     limit: u16,
 ) -> Result<Option<Vec<u16>>, NoMemory>
-    ensures { IfOk result (λ numbers. option_map (λ n. n.items) numbers ≡ numbers_in rising 0 limit (parts_of 44 text.now)) }
+    ensures { IfOk result (λ numbers. option_map (λ n. n.items) numbers
+        ≡ numbers_in rising 0 limit (parts_of 44 text.now)) }
 {
     let mut numbers = Vec::new(alloc);
     if read_numbers(Parts::of(b',', text), rising, limit, &mut numbers)? {

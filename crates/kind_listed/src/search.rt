@@ -27,7 +27,7 @@ pub(crate) fn is_part(a: &[u16], b: &[u16]) -> bool
     }
 }
 
-// The same where the other is much longer: each number is searched.
+// Whether a list is part of one that is much longer: each number is searched.
 fn is_part_of_long(a: &[u16], b: &[u16]) -> bool
     requires { IsRising b.now }
     ensures { IsTrue result ↔ IsPartTo a.now b.now (length a.now) }
@@ -40,7 +40,7 @@ fn is_part_of_long(a: &[u16], b: &[u16]) -> bool
     true
 }
 
-// The same where it isn't: both are gone through once.
+// Whether a list is part of one that isn't much longer: both are gone through once.
 fn is_part_of_near(a: &[u16], b: &[u16]) -> bool
     requires first { IsRising a.now }
     requires second { IsRising b.now }

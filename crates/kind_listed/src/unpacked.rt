@@ -42,7 +42,8 @@ impl Unpacked {
     ) -> Result<Option<Unpacked>, NoMemory>
         requires states { (1 ≤ states) × (states ≤ state_limit) }
         requires size { (1 ≤ size) × (size ≤ listed_size_limit) }
-        ensures { IfOk result (λ read. option_map numbers_of_unpacked read ≡ automata_in states side size delta.now rows.now keep.now) }
+        ensures { IfOk result (λ read. option_map numbers_of_unpacked read
+            ≡ automata_in states side size delta.now rows.now keep.now) }
     {
         let last = size * states as u16;
         let Some(delta) = numbers_of(alloc, delta, false, size)? else {

@@ -122,8 +122,10 @@ pub record LeadsOn (w : CountedSystem) (c : Local) (k : Coset) (write : Sym) (ne
 -- the counted automata stand for a machine: the blank tape is in its coset, no member halts, and each step settles
 pub record CountedStand (m : Machine) (w : CountedSystem) : Type 0 where
   pub blank : (side : Dir) → delta w side 0 Zero ≡ Some (record { to = 0; count = None })
-  pub own : (side : Dir) (q : ℕ) (s : Sym) (t : Transition) (x : Count) → delta w side q s ≡ Some t → t.count ≡ Some x → IsOf w side x.number
-  pub start : (k : Coset) × HasCoset w (record { left = 0; state = record { 0 = 0 }; read = Zero; right = 0 }) k × IsMember k zeros
+  pub own : (side : Dir) (q : ℕ) (s : Sym) (t : Transition) (x : Count) → delta w side q s ≡ Some t → t.count ≡ Some x
+      → IsOf w side x.number
+  pub start : (k : Coset) × HasCoset w (record { left = 0; state = record { 0 = 0 }; read = Zero; right = 0 }) k
+      × IsMember k zeros
   pub goes_on : (c : Local) (k : Coset) → HasCoset w c k → m c.state.0 c.read ≢ None
   pub steps : (c : Local) (k : Coset) (e : Entry) → HasCoset w c k → m c.state.0 c.read ≡ Some e →
       LeadsOn w c k e.write e.next e.dir
@@ -135,5 +137,6 @@ pub record IsHeldBy (w : CountedSystem) (c : Config) : Type 0 where
   pub left_read : IsHalfRead w.left L c (moved_head c.tape.head L) left
   pub right_read : IsHalfRead w.right R c (moved_head c.tape.head R) right
   pub coset : Coset
-  pub there : HasCoset w (record { left = left.state; state = record { 0 = c.state }; read = symbol_read c.tape; right = right.state }) coset
+  pub there : HasCoset w (record { left = left.state; state = record { 0 = c.state }; read = symbol_read c.tape;
+      right = right.state }) coset
   pub member : IsMember coset (λ x. pos (left.times x + right.times x))

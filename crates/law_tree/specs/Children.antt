@@ -48,4 +48,5 @@ unfoldable pub child_entries : ℕ → ℕ → Machine → List Entry
 child_entries n u m =
     let targets = min n (u + 1) in
     if holes n m == 2 * n then entries_to targets Zero R ++ entries_to targets One R
-    else (entries_to targets Zero L ++ entries_to targets Zero R) ++ (entries_to targets One L ++ entries_to targets One R)
+    else (entries_to targets Zero L ++ entries_to targets Zero R)
+    ++ (entries_to targets One L ++ entries_to targets One R)

@@ -28,7 +28,8 @@ pub record IsChildTable (p t : Packed) : Type 0 where
 -- undefined
 unfoldable pub children_at : Packed → ℕ → Sym → List Packed
 children_at p q s =
-    if nat_le 2 (holes p.states (entry_of p)) then map (with_entry p q s) (child_entries p.states (used_count p.states (entry_of p)) (entry_of p))
+    if nat_le 2 (holes p.states (entry_of p)) then map (with_entry p q s)
+    (child_entries p.states (used_count p.states (entry_of p)) (entry_of p))
     else []
 
 -- t stands in the tree of p: it is p, or stands in the tree of a child
@@ -57,4 +58,5 @@ IsBestOfTable V p (Some s) = TableAttains V p s × ((k : ℕ) → TableAttains V
 abbrev pub IsGreatestInTables : (Machine → ℕ → Type 0) → Packed → Option ℕ → Type 0
 IsGreatestInTables V p None = (t : Packed) (k : ℕ) → InTableTree p t → V (entry_of t) k → ⊥
 IsGreatestInTables V p (Some s) =
-    ((t : Packed) × InTableTree p t × V (entry_of t) s) × ((t : Packed) (k : ℕ) → InTableTree p t → V (entry_of t) k → k ≤ s)
+    ((t : Packed) × InTableTree p t × V (entry_of t) s)
+    × ((t : Packed) (k : ℕ) → InTableTree p t → V (entry_of t) k → k ≤ s)

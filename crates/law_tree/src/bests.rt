@@ -26,8 +26,10 @@ pub fn best_of_full()
 
 /// A machine that halts on its only undefined pair is its own best.
 pub fn best_of_only_pair()
-    ensures steps { (n k : ℕ) (m : Machine) → IsMachine n m → holes n m ≤ 1 → HaltsAt m k → IsBest HaltsAt n m (Some k) }
-    ensures score { (n k s : ℕ) (m : Machine) → IsMachine n m → holes n m ≤ 1 → HaltsWith m k s → IsBest Scores n m (Some s) }
+    ensures steps { (n k : ℕ) (m : Machine) → IsMachine n m → holes n m ≤ 1 → HaltsAt m k
+        → IsBest HaltsAt n m (Some k) }
+    ensures score { (n k s : ℕ) (m : Machine) → IsMachine n m → holes n m ≤ 1 → HaltsWith m k s
+        → IsBest Scores n m (Some s) }
 {}
 
 /// What the extensions of a machine in order that halts on a pair attain is what it attains itself, and
@@ -54,7 +56,7 @@ pub fn best_by_children()
         IsBest Scores n m (Some s) ↔ IsGreatestOf n u m x b s }
 {}
 
-/// So it is the greatest of its own and of the bests along the list of the children's entries.
+/// The best of a tree is the greatest of its root's own and of the bests along the list of the children's entries.
 pub fn best_by_list()
     ensures steps { (n u k q : ℕ) (r : Symbol) (m : Machine) (b : Entry → Option ℕ) →
         IsMachine n m → InOrder u m → HaltsOn m k q r →

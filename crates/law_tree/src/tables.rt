@@ -1,4 +1,4 @@
-// The same of tables, which programs hold.
+// Children, trees and the best of tables, which programs hold.
 ghost use Rattle.std.specs.Prelude.{◌≡◌, ◌↔◌, ℕ, ◌<◌, ◌≤◌, ◌≢◌, Option, Some, Contains, AllPairs};
 ghost use Rattle.std.specs.Ordering.{nat_cmp};
 ghost use Rattle.std.specs.declared.cmp.Ordering.TheVariants.{Less};
@@ -48,11 +48,14 @@ pub fn child_is_table()
 /// The list of the children of a table in order that halts on a pair has exactly its children, each once,
 /// and it rises in the order of their texts.
 pub fn children_listed()
-    ensures members { (p t : Packed) (u k q : ℕ) (s : Symbol) → IsTable p → InOrder u (entry_of p) → HaltsOn (entry_of p) k q s →
+    ensures members { (p t : Packed) (u k q : ℕ) (s : Symbol) → IsTable p → InOrder u (entry_of p)
+        → HaltsOn (entry_of p) k q s →
         Contains (children_at p q s) t ↔ IsChildTable p t }
-    ensures once { (p : Packed) (u k q : ℕ) (s : Symbol) → IsTable p → InOrder u (entry_of p) → HaltsOn (entry_of p) k q s →
+    ensures once { (p : Packed) (u k q : ℕ) (s : Symbol) → IsTable p → InOrder u (entry_of p)
+        → HaltsOn (entry_of p) k q s →
         AllPairs (λ a b. a ≢ b) (children_at p q s) }
-    ensures rising { (p : Packed) (u k q : ℕ) (s : Symbol) → IsTable p → InOrder u (entry_of p) → HaltsOn (entry_of p) k q s →
+    ensures rising { (p : Packed) (u k q : ℕ) (s : Symbol) → IsTable p → InOrder u (entry_of p)
+        → HaltsOn (entry_of p) k q s →
         AllPairs (λ a b. slice_cmp nat_cmp (text_of a) (text_of b) ≡ Less) (children_at p q s) }
 {}
 

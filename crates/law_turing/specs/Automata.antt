@@ -73,4 +73,5 @@ Reaches a u (s ∷ w) v = (t : Node) × IsTrue (a.edge u s t) × Reaches a t w v
 -- is behind the head, and from its state and the configuration's the second one comes there
 abbrev pub LeadsToHalt : TwoAutomata → Dir → Config → Type 0
 LeadsToHalt a side c =
-    (q : ℕ) → ReadsBehind a.delta side c c.tape.head q → (k : ℕ) × Reaches a (At q c.state) (symbols_ahead side c c.tape.head k) Halt
+    (q : ℕ) → ReadsBehind a.delta side c c.tape.head q → (k : ℕ)
+    × Reaches a (At q c.state) (symbols_ahead side c c.tape.head k) Halt

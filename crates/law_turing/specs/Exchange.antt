@@ -10,7 +10,8 @@ exchanged a b q = if q == a then b else if q == b then a else q
 -- the entry, with the states of its target exchanged
 abbrev pub exchanged_entry : ℕ → ℕ → Option Entry → Option Entry
 exchanged_entry a b None = None
-exchanged_entry a b (Some e) = Some (record { write = e.write; dir = e.dir; next = record { 0 = exchanged a b e.next.0 } })
+exchanged_entry a b (Some e) = Some (record
+    { write = e.write; dir = e.dir; next = record { 0 = exchanged a b e.next.0 } })
 
 -- the machine that does in b what m does in a, and in a what m does in b
 abbrev pub with_exchanged : ℕ → ℕ → Machine → Machine

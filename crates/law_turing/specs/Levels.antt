@@ -38,4 +38,5 @@ known_before k p (Some e) = if can_lead_to e k then Some (before_step p e k) els
 -- what the paths of depth k need, one path after another
 unfoldable pub level : ℕ → Machine → ℕ → List Partial
 level n m zero = filter_map (λ p. known_at_end p (m p.state p.symbol)) (all_pairs n)
-level n m (suc k) = flat_map (λ later. filter_map (λ p. known_before later p (m p.state p.symbol)) (all_pairs n)) (level n m k)
+level n m (suc k) = flat_map (λ later. filter_map (λ p. known_before later p (m p.state p.symbol)) (all_pairs n))
+    (level n m k)

@@ -33,7 +33,8 @@ local_of g c = record {
 -- all words are of the width; the sets hold the blank tape, no member halts, and no step leaves them. A step to the right takes the first
 -- symbol of the left word away and the written one comes in behind it; any symbol may come into view at the end
 -- of the right word, so long as that word is one of the set. A step to the left is the mirror image
-pub record IsClosedSet (g : ℕ) (m : Machine) (lefts rights : List Sym → Type 0) (members : Local → Type 0) : Type 0 where
+pub record IsClosedSet (g : ℕ) (m : Machine) (lefts rights : List Sym → Type 0) (members : Local → Type 0) : Type 0
+    where
   pub width : 0 < g
   pub left_words : (w : List Sym) → lefts w → length w ≡ g
   pub right_words : (w : List Sym) → rights w → length w ≡ g

@@ -13,7 +13,8 @@ pub record Config : Type 0 where
 
 abbrev pub config_code : Coded Config
 config_code =
-    code_by (ℕ × Tape) (coded× coded_ℕ tape_code) (λ c. (c.state, c.tape)) (λ p. record { state = p.0; tape = p.1 }) (λ _. refl)
+    code_by (ℕ × Tape) (coded× coded_ℕ tape_code) (λ c. (c.state, c.tape)) (λ p. record { state = p.0; tape = p.1 })
+    (λ _. refl)
 
 -- state A on the blank tape
 abbrev pub start : Config

@@ -15,7 +15,8 @@ pub record Tape : Type 0 where
 
 abbrev pub tape_code : Coded Tape
 tape_code =
-    code_by (ℤ × set.FinSet int_cmp) (coded× coded_ℤ (set.code coded_ℤ)) (λ t. (t.head, t.ones)) (λ p. record { head = p.0; ones = p.1 }) (λ _. refl)
+    code_by (ℤ × set.FinSet int_cmp) (coded× coded_ℤ (set.code coded_ℤ)) (λ t. (t.head, t.ones))
+    (λ p. record { head = p.0; ones = p.1 }) (λ _. refl)
 
 abbrev pub blank : Tape
 blank = record { head = pos 0; ones = set.empty }

@@ -15,4 +15,5 @@ HasRecordOn (Some b) t = IsSome (claim_in b.records t)
 -- each table that is acknowledged, by whichever of the messages that are sent, has a record on the board
 abbrev pub AcknowledgesRecorded : Out → Option Contents → Type 0
 AcknowledgesRecorded out board =
-    (sent : List Message) × (out.frames.items ≡ frames_of sent) × ((t : Packed) → Contains sent (Ack t) → HasRecordOn board t)
+    (sent : List Message) × (out.frames.items ≡ frames_of sent)
+    × ((t : Packed) → Contains sent (Ack t) → HasRecordOn board t)

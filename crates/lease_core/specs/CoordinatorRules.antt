@@ -49,7 +49,8 @@ RecRow format r (Err OfferNoMemory) out = ⊥
 
 abbrev pub OfferRow : Leased → Recorded → Out → Leased → Type 0
 OfferRow old r out new =
-    (said : Result Taken OfferFault) × OfferGives old.board.root old.board.records r said new.board.records × (new.board.root ≡ old.board.root)
+    (said : Result Taken OfferFault) × OfferGives old.board.root old.board.records r said new.board.records
+    × (new.board.root ≡ old.board.root)
     × (new.board.format ≡ old.board.format) × LeasesAfter r.table said old new × RecRow old.board.format r said out
 
 -- DONE of its own era: the lease of that number ends, if it lives; else it is stale
@@ -58,7 +59,8 @@ note_of true = Quiet
 note_of false = Stale
 
 abbrev pub DoneRow : Bool → ℕ → Leased → Out → Leased → Type 0
-DoneRow true number old out new = (lived : Bool) × IsDone number old.leases lived new.leases × (new.board ≡ old.board) × Says out None [] [] (note_of lived)
+DoneRow true number old out new = (lived : Bool) × IsDone number old.leases lived new.leases × (new.board ≡ old.board)
+    × Says out None [] [] (note_of lived)
 DoneRow false number old out new = Says out None [] [] Stale × (new ≡ old)
 
 -- nothing happens, but that this is noted
@@ -67,7 +69,8 @@ OnlyNotes note old out new = Says out None [] [] note × (new ≡ old)
 
 abbrev pub MessageRow : ℕ → Leased → Message → Out → Leased → Type 0
 MessageRow era old (Ask id) out new =
-    (reply : Reply) × Asks old.board id old.leases reply new.leases × (new.board ≡ old.board) × Says out None [] (reply_of era reply ∷ []) Quiet
+    (reply : Reply) × Asks old.board id old.leases reply new.leases × (new.board ≡ old.board)
+    × Says out None [] (reply_of era reply ∷ []) Quiet
 MessageRow era old (Rec r) out new = OfferRow old r out new
 MessageRow era old (Done named number) out new = DoneRow (named == era) number old out new
 MessageRow era old (Grant named number table) out new = OnlyNotes Strange old out new
@@ -82,7 +85,8 @@ FrameRow era old (Err fault) out new = OnlyNotes Strange old out new
 -- the row of an event
 abbrev pub Row : ℕ → Leased → Happening → Out → Leased → Type 0
 Row era old (Came frame) out new = FrameRow era old (message_of frame) out new
-Row era old (Ticked t) out new = Says out None [] [] Quiet × (new ≡ record { board = old.board; leases = ticked t old.leases })
+Row era old (Ticked t) out new = Says out None [] [] Quiet
+    × (new ≡ record { board = old.board; leases = ticked t old.leases })
 Row era old Worked out new = OnlyNotes Quiet old out new
 
 -- what may take memory to answer: ASK; REC of a table with as many states as the root; DONE of its own era, whose
@@ -117,4 +121,5 @@ HeldGives era None e result new = ⊥
 abbrev pub On : Coordinating → Happening → Result Out NodeFault → Coordinating → Type 0
 On old e (Err Stopped) new = (old.stopped ≡ true) × (new ≡ old)
 On old e (Err NoMemory) new = (old.stopped ≡ false) × (new ≡ old) × HeldGives old.era old.held e (Err NoMemory) new.held
-On old e (Ok out) new = (old.stopped ≡ false) × (new.stopped ≡ false) × (new.era ≡ old.era) × HeldGives old.era old.held e (Ok out) new.held
+On old e (Ok out) new = (old.stopped ≡ false) × (new.stopped ≡ false) × (new.era ≡ old.era)
+    × HeldGives old.era old.held e (Ok out) new.held

@@ -48,7 +48,8 @@ CantStart root text NoMemory = IsTornHeader text ⊎ ((rest : List ℕ) × HasHe
 -- a coordinator for machines of n states is started from a ledger's text; or it can't start, and is stopped
 abbrev pub Starts : ℕ → ℕ → List ℕ → Coordinating → Result Out StartFault → Type 0
 Starts n era text new (Ok out) =
-    (board : Contents) × (left : Left) × LoadGives (empty_table n) text (Ok (board, left)) × (new ≡ started era board) × Begins (empty_table n) text left out
+    (board : Contents) × (left : Left) × LoadGives (empty_table n) text (Ok (board, left)) × (new ≡ started era board)
+    × Begins (empty_table n) text left out
 Starts n era text new (Err fault) = CantStart (empty_table n) text fault × (new ≡ not_started era)
 
 -- a ledger's text is in step with a coordinator: it is the ledger of its board; none is in step with a coordinator that
@@ -64,8 +65,13 @@ InStep s text = HeldInStep s.held text
 -- the bytes that were read. Where memory was refused more may be left to read. Where a read failed it is stopped
 abbrev pub StartsFrom : ℕ → ℕ → Option (List ℕ) → ℕ → Option (List ℕ) → Coordinating → Result Out StartFault → Type 0
 StartsFrom n era read limit new_read new (Ok out) =
-    (text : List ℕ) × IsAllRead read limit text new_read × Starts n era text new (Ok out) × InStep new (text_after out text)
-StartsFrom n era read limit new_read new (Err BadHeader) = (text : List ℕ) × IsAllRead read limit text new_read × Starts n era text new (Err BadHeader)
-StartsFrom n era read limit new_read new (Err WrongRoot) = (text : List ℕ) × IsAllRead read limit text new_read × Starts n era text new (Err WrongRoot)
-StartsFrom n era read limit new_read new (Err NoMemory) = (text : List ℕ) × IsRead read limit text new_read × Starts n era text new (Err NoMemory)
-StartsFrom n era read limit new_read new (Err LedgerFault) = (text : List ℕ) × IsRead read limit text new_read × (new ≡ not_started era)
+    (text : List ℕ) × IsAllRead read limit text new_read × Starts n era text new (Ok out)
+    × InStep new (text_after out text)
+StartsFrom n era read limit new_read new (Err BadHeader) = (text : List ℕ) × IsAllRead read limit text new_read
+    × Starts n era text new (Err BadHeader)
+StartsFrom n era read limit new_read new (Err WrongRoot) = (text : List ℕ) × IsAllRead read limit text new_read
+    × Starts n era text new (Err WrongRoot)
+StartsFrom n era read limit new_read new (Err NoMemory) = (text : List ℕ) × IsRead read limit text new_read
+    × Starts n era text new (Err NoMemory)
+StartsFrom n era read limit new_read new (Err LedgerFault) = (text : List ℕ) × IsRead read limit text new_read
+    × (new ≡ not_started era)

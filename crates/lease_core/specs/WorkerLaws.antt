@@ -13,7 +13,8 @@ use Rattle.lease_core.specs.Says.{lines_of}
 -- each record that is sent is a record of the board
 abbrev pub SendsOwn : Out → Option Contents → Type 0
 SendsOwn out board =
-    (sent : List Message) × (out.frames.items ≡ frames_of sent) × ((r : Recorded) → Contains sent (Rec r) → Contains (records_on board) r)
+    (sent : List Message) × (out.frames.items ≡ frames_of sent)
+    × ((r : Recorded) → Contains sent (Rec r) → Contains (records_on board) r)
 
 -- the board gained these records; without a board there are none
 abbrev pub IsGained : Option Contents → List Recorded → Option Contents → Type 0
@@ -29,4 +30,5 @@ gained_lines (Some b) rs = lines_of b.format rs
 abbrev pub Gains : Option Contents → Out → Option Contents → Type 0
 Gains old out new =
     ((rs : List Recorded) × IsGained old rs new × (out.cut ≡ None) × (out.append.items ≡ gained_lines old rs))
-    ⊎ ((root : Packed) × (new ≡ Some (empty_board root)) × (out.cut ≡ Some 0) × (out.append.items ≡ ledger_text root []))
+    ⊎ ((root : Packed) × (new ≡ Some (empty_board root)) × (out.cut ≡ Some 0)
+    × (out.append.items ≡ ledger_text root []))

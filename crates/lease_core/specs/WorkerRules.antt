@@ -29,7 +29,8 @@ use Rattle.lease_core.specs.WorkerState.{WorkerState, empty_board, with_record, 
 
 -- the first open table, in the order of texts: each other one comes after it
 abbrev pub IsFirstOpen : Contents → Packed → Type 0
-IsFirstOpen b t = IsOpenOn b t × ((q : Packed) → IsOpenOn b q → (q ≡ t) ⊎ (slice_cmp nat_cmp (text_of t) (text_of q) ≡ Less))
+IsFirstOpen b t = IsOpenOn b t × ((q : Packed) → IsOpenOn b q → (q ≡ t)
+    ⊎ (slice_cmp nat_cmp (text_of t) (text_of q) ≡ Less))
 
 -- a record of the first open table was made: it is fit, it comes last on the board with its score, and is sent so
 pub record Makes (b : Contents) (r : Recorded) (out : Out) (board : Option Contents) : Type 0 where
@@ -52,19 +53,23 @@ module _ {D : Type 0} where
 
   -- under a lease of this name, with this board: no record of it is acknowledged, and a former `STOP` is forgotten
   abbrev pub granted : WorkerState D → LeaseName → Option Contents → WorkerState D
-  granted w name board = record { id = w.id; decider = w.decider; board = board; lease = Some name; acknowledged = []; rests = false; stopped = w.stopped }
+  granted w name board = record { id = w.id; decider = w.decider; board = board; lease = Some name; acknowledged = [];
+      rests = false; stopped = w.stopped }
 
   -- `GRANT`: of a table that doesn't name its states in order; of the root of its board; of another table, whose board is begun
   abbrev pub GrantRow : WorkerState D → LeaseName → Packed → Out → WorkerState D → Type 0
   GrantRow old name t out new =
       ((((u : ℕ) × InOrder u (entry_of t)) → ⊥) × Notes (Refused 401) old out new)
-      ⊎ (((u : ℕ) × InOrder u (entry_of t)) × HasRoot old.board t × Says out None [] [] Quiet × (new ≡ granted old name old.board))
-      ⊎ (IsBoard (empty_board t) × (HasRoot old.board t → ⊥) × Says out (Some 0) (ledger_text t []) [] Quiet × (new ≡ granted old name (Some (empty_board t))))
+      ⊎ (((u : ℕ) × InOrder u (entry_of t)) × HasRoot old.board t × Says out None [] [] Quiet
+      × (new ≡ granted old name old.board))
+      ⊎ (IsBoard (empty_board t) × (HasRoot old.board t → ⊥) × Says out (Some 0) (ledger_text t []) [] Quiet
+      × (new ≡ granted old name (Some (empty_board t))))
 
   -- `ACK`: of a record of its board, which is acknowledged; of no such record
   abbrev pub AckRow : WorkerState D → Packed → Out → WorkerState D → Type 0
   AckRow old t out new =
-      (IsRecordedOn old.board t × Says out None [] [] Quiet × (new ≡ record old { acknowledged = with_table old.acknowledged t }))
+      (IsRecordedOn old.board t × Says out None [] [] Quiet
+      × (new ≡ record old { acknowledged = with_table old.acknowledged t }))
       ⊎ ((IsRecordedOn old.board t → ⊥) × Notes Stale old out new)
 
   -- a frame, by the message that it is
@@ -84,7 +89,8 @@ module _ {D : Type 0} where
   TickBy false (r ∷ rs) old out new = Says out None [] (map Rec (take tick_record_limit (r ∷ rs))) Quiet × (new ≡ old)
   TickBy false [] old out new =
       (MayWork old.board × Notes Quiet old out new)
-      ⊎ ((MayWork old.board → ⊥) × Says out None [] (done_with old.lease ++ (Ask old.id ∷ [])) Quiet × (new ≡ record old { lease = None }))
+      ⊎ ((MayWork old.board → ⊥) × Says out None [] (done_with old.lease ++ (Ask old.id ∷ [])) Quiet
+      × (new ≡ record old { lease = None }))
 
   abbrev pub TickRow : WorkerState D → Out → WorkerState D → Type 0
   TickRow old out new = TickBy old.rests (unacknowledged old.acknowledged (records_on old.board)) old out new
@@ -128,7 +134,8 @@ module _ {D : Type 0} (asked : D → Packed → Recorded → Type 0) where
   abbrev pub WorkRow : WorkerState D → Out → WorkerState D → Type 0
   WorkRow old out new =
       ((MayWork old.board → ⊥) × Notes Quiet old out new)
-      ⊎ ((b : Contents) × (r : Recorded) × (old.board ≡ Some b) × asked old.decider r.table r × Makes b r out new.board × (new ≡ record old { decider = new.decider; board = new.board }))
+      ⊎ ((b : Contents) × (r : Recorded) × (old.board ≡ Some b) × asked old.decider r.table r × Makes b r out new.board
+      × (new ≡ record old { decider = new.decider; board = new.board }))
 
   abbrev pub Row : WorkerState D → Happening → Out → WorkerState D → Type 0
   Row old (Came frame) out new = FrameRow old (message_of frame) out new

@@ -35,10 +35,12 @@ Loads text (Err fault) = IsNoStart text fault
 module _ {D : Type 0} where
   -- at first it has no lease, and all records count as not acknowledged
   abbrev pub at_first : ℕ → D → Option Contents → Bool → WorkerState D
-  at_first id decider board stopped = record { id = id; decider = decider; board = board; lease = None; acknowledged = []; rests = false; stopped = stopped }
+  at_first id decider board stopped = record
+      { id = id; decider = decider; board = board; lease = None; acknowledged = []; rests = false; stopped = stopped }
 
   -- its board is as which its ledger reads, and what of that isn't kept is cut off; or it can't start, and is stopped
   abbrev pub Starts : ℕ → D → List ℕ → WorkerState D → Result Out StartFault → Type 0
   Starts id decider text new (Ok out) =
-      (board : Option Contents) × (left : Left) × ReadsAsBoard text board left × Says out (cut_of left) [] [] Quiet × (new ≡ at_first id decider board false)
+      (board : Option Contents) × (left : Left) × ReadsAsBoard text board left × Says out (cut_of left) [] [] Quiet
+      × (new ≡ at_first id decider board false)
   Starts id decider text new (Err fault) = IsNoStart text fault × (new ≡ at_first id decider None true)

@@ -58,8 +58,8 @@ impl Coordinator {
         Coordinator::of(alloc, era, begun(alloc, n, ledger))
     }
 
-    /// The same from a reader of its ledger: of that are read as many bytes as the limit says, or all where there are
-    /// fewer, a piece at a time, and it starts as from those bytes. `LedgerFault` where a read fails before; of it and
+    /// Starts as `start` does, from a reader of its ledger: of that are read as many bytes as the limit says, or all where
+    /// there are fewer, a piece at a time, and it starts as from those bytes. `LedgerFault` where a read fails before; of it and
     /// `NoMemory` the one that is met first.
     pub fn start_from<R: Read>(
         alloc: Global,
@@ -105,9 +105,11 @@ impl Coordinator {
         }
     }
 
-    /// Its board, on which it has its leases; none where its start was refused.
+    /// The board on which it has its leases; none where its start was refused.
     pub fn board(&self) -> Option<&Board>
-        ensures { MatchOption result (self.now.held ≡ None) (λ board. (held : Leased) × (self.now.held ≡ Some held) × (board.now ≡ held.board) × AreLeases held.board held.leases) }
+        ensures { MatchOption result (self.now.held ≡ None)
+            (λ board. (held : Leased) × (self.now.held ≡ Some held) × (board.now ≡ held.board)
+            × AreLeases held.board held.leases) }
     {
         match &self.held {
             Some(held) => Some(held.board()),

@@ -10,7 +10,8 @@ ghost use Rattle.lease_core.specs.CoordinatorFinals.{board_of};
 
 /// Each table that a coordinator acknowledges, to whatever happens, has a record on its board.
 pub fn acknowledged_tables_are_recorded()
-    ensures { (old new : Coordinating) (e : Happening) (out : Answer) → On old e (Ok out) new → AcknowledgesRecorded out (board_of new.held) }
+    ensures { (old new : Coordinating) (e : Happening) (out : Answer) → On old e (Ok out) new
+        → AcknowledgesRecorded out (board_of new.held) }
 {}
 
 /// Complete is final: whatever happens to a coordinator, a complete board stays as it is.

@@ -32,7 +32,7 @@ pub(crate) fn begun(alloc: Global, n: u8, ledger: &[u8]) -> Result<(LeasedBoard,
     }
 }
 
-// The same of what a reader gives of a ledger, no more than so many bytes.
+// Begins from what a reader gives of a ledger, no more than so many bytes.
 pub(crate) fn begun_from<R: Read>(
     alloc: Global,
     n: u8,
@@ -59,7 +59,7 @@ fn empty_loader(alloc: Global, n: u8) -> Loader
     Loader::new(alloc, root(n))
 }
 
-// The same of what a loader was fed.
+// Begins from what a loader was fed.
 fn begun_by(alloc: Global, loader: Loader) -> Result<(LeasedBoard, Out), StartFault>
     ensures { (n : ℕ) (text : List ℕ) → loader.root ≡ empty_table n → StandsAfter loader text → BeginsSo n text result }
 {

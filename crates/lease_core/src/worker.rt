@@ -86,7 +86,7 @@ impl<D: Drop> Worker<D> {
     ghost use Rattle.lease_core.specs.WorkerStart.{Starts, at_first};
     ghost use Rattle.std.specs.Prelude.{false};
 
-    /// The same with any decider, which is asked for each record that it makes.
+    /// Starts as `new` does, with any decider, which is asked for each record that the worker makes.
     pub fn over(
         alloc: Global,
         id: u32,
@@ -99,7 +99,7 @@ impl<D: Drop> Worker<D> {
         Worker::started(alloc, id, ledger, decider)
     }
 
-    // The same; that its ledger is in step is shown of what this one promises.
+    // Starts a worker with a decider; that its ledger is in step is shown of what this one promises.
     fn started(
         alloc: Global,
         id: u32,
@@ -139,7 +139,7 @@ impl<D: Drop> Worker<D> {
         }
     }
 
-    /// Its board, lent, if it has one.
+    /// The worker's board, lent, if it has one.
     pub fn board(&self) -> Option<&Board>
         ensures { option_map (λ b. b.now) result ≡ self.now.board }
     {
@@ -180,7 +180,7 @@ impl<D: Decider + Drop> Worker<D> {
         }
     }
 
-    // It was granted a table.
+    // The worker was granted a table.
     fn on_grant(&mut self, name: LeaseName, t: Table) -> Result<Out, NoMemory>
         ensures ok { IfOk result (λ out. GrantRow self.old name t out self.new) }
         ensures err { OnErr result (self.new ≡ self.old) }
@@ -221,7 +221,8 @@ impl<D: Decider + Drop> Worker<D> {
     fn on_ack(&mut self, t: Table) -> Result<Out, NoMemory>
         ensures ok { IfOk result (λ out. AckRow self.old t out self.new) }
         ensures err { OnErr result (self.new ≡ self.old) }
-        ensures grows { OnErr result (IsRecordedOn self.old.board t × (list_any (same_table t) self.old.acknowledged ≡ false)) }
+        ensures grows { OnErr result (IsRecordedOn self.old.board t
+            × (list_any (same_table t) self.old.acknowledged ≡ false)) }
     {
         if !is_recorded(&self.board, &t) {
             return Ok(noted(self.alloc, Note::Stale));
@@ -272,7 +273,9 @@ impl<D: Decider + Drop> Worker<D> {
 
     // The frames of the first records that aren't acknowledged.
     fn due(&self) -> Result<Vec<u8>, NoMemory>
-        ensures ok { IfOk result (λ frames. frames.items ≡ frames_of (map Rec (take tick_record_limit (unacknowledged self.now.acknowledged (records_on self.now.board))))) }
+        ensures ok { IfOk result (λ frames. frames.items
+            ≡ frames_of (map Rec (take tick_record_limit
+            (unacknowledged self.now.acknowledged (records_on self.now.board))))) }
         ensures grows { OnErr result (unacknowledged self.now.acknowledged (records_on self.now.board) ≢ []) }
     {
         match &self.board {

@@ -75,7 +75,9 @@ pub(crate) fn frames_due(
     from: usize,
 ) -> Result<Vec<u8>, NoMemory>
     requires { AreFirstAcknowledged acknowledged.now.keys board.now.records from }
-    ensures ok { IfOk result (λ frames. frames.items ≡ frames_of (map RecMessage (take tick_record_limit (unacknowledged acknowledged.now.keys board.now.records)))) }
+    ensures ok { IfOk result (λ frames. frames.items
+        ≡ frames_of (map RecMessage (take tick_record_limit
+        (unacknowledged acknowledged.now.keys board.now.records)))) }
     ensures grows { OnErr result (unacknowledged acknowledged.now.keys board.now.records ≢ []) }
 {
     let mut frames = Vec::new(alloc);

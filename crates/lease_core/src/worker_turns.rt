@@ -84,7 +84,7 @@ pub(crate) fn make(alloc: Global, board: &mut Board, made: &OwnedRecord) -> Resu
     }
 }
 
-// The same of a record that has its score. Its frame comes before the offer, and its line with that: once the board has
+// Puts a record that has its score. Its frame comes before the offer, and its line with that: once the board has
 // taken the record, nothing may be refused.
 fn put(alloc: Global, board: &mut Board, r: &Record) -> Result<Out, NoMemory>
     requires first { IsFirstOpen board.old r.now.table }

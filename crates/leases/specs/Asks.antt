@@ -16,7 +16,8 @@ IsFree b s t = IsOpenOn b t × (lease_of s t ≡ None)
 
 -- the first of the free tables, in the order of their texts
 abbrev pub IsFirstFree : Contents → Leases → Packed → Type 0
-IsFirstFree b s t = IsFree b s t × ((q : Packed) → IsFree b s q → is_lt (slice_cmp nat_cmp (text_of q) (text_of t)) ≡ false)
+IsFirstFree b s t = IsFree b s t × ((q : Packed) → IsFree b s q
+    → is_lt (slice_cmp nat_cmp (text_of q) (text_of t)) ≡ false)
 
 -- one more lease may live, and a number is left for it
 abbrev pub MayGrant : Leases → Type 0
@@ -24,7 +25,8 @@ MayGrant s = (length s.live < lease_limit) × (s.given < last_number)
 
 -- a table comes under a new lease of a worker, with the next number
 pub record Grants (id : ℕ) (t : Packed) (old new : Leases) : Type 0 where
-  pub live : new.live ≡ old.live ++ (record { number = old.given + 1; id = id; deadline = old.moment + lease_time } ∷ [])
+  pub live : new.live ≡ old.live ++ (record { number = old.given + 1; id = id; deadline = old.moment + lease_time }
+      ∷ [])
   pub here : lease_of new t ≡ Some (old.given + 1)
   pub others : (q : Packed) → (q ≡ t → ⊥) → lease_of new q ≡ lease_of old q
   pub moment : new.moment ≡ old.moment

@@ -18,7 +18,8 @@ BoardGives root old r result new = OfferGives root old r result new ⊎ ((result
 -- the lease of this number is renewed: its deadline counts from the moment
 abbrev pub renewed : Option ℕ → ℕ → List Lease → List Lease
 renewed None moment live = live
-renewed (Some n) moment live = map (λ l. if l.number == n then record { number = l.number; id = l.id; deadline = moment + lease_time } else l) live
+renewed (Some n) moment live = map (λ l.
+    if l.number == n then record { number = l.number; id = l.id; deadline = moment + lease_time } else l) live
 
 -- a table became open
 abbrev pub BecameOpen : Leased → Leased → Packed → Type 0

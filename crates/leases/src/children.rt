@@ -68,8 +68,10 @@ pub(crate) fn lease_children(
 )
     requires came { child_limit ≤ spare came.old }
     requires tables { child_limit ≤ spare_of tables.old }
-    ensures here { (q : Packed) → IsChildTable t.now q → IsHalting board.now.records t.now → IsOpenOn board.now q → came_under came.new.entries q ≡ Some number }
-    ensures other { (q : Packed) → (IsChildTable t.now q → ⊥) → came_under came.new.entries q ≡ came_under came.old.entries q }
+    ensures here { (q : Packed) → IsChildTable t.now q → IsHalting board.now.records t.now → IsOpenOn board.now q
+        → came_under came.new.entries q ≡ Some number }
+    ensures other { (q : Packed) → (IsChildTable t.now q → ⊥)
+        → came_under came.new.entries q ≡ came_under came.old.entries q }
     ensures only { CameOnly board.now number came.old.entries came.new.entries tables.new.keys }
     ensures more { (q : Packed) → Contains tables.old.keys q → Contains tables.new.keys q }
 {
@@ -89,8 +91,10 @@ fn lease_all(
 )
     requires came { length found ≤ spare came.old }
     requires tables { length found ≤ spare_of tables.old }
-    ensures here { (q : Packed) → Contains found q → IsOpenOn board.now q → came_under came.new.entries q ≡ Some number }
-    ensures other { (q : Packed) → (Contains found q → ⊥) → came_under came.new.entries q ≡ came_under came.old.entries q }
+    ensures here { (q : Packed) → Contains found q → IsOpenOn board.now q
+        → came_under came.new.entries q ≡ Some number }
+    ensures other { (q : Packed) → (Contains found q → ⊥)
+        → came_under came.new.entries q ≡ came_under came.old.entries q }
     ensures only { CameOnly board.now number came.old.entries came.new.entries tables.new.keys }
     ensures more { (q : Packed) → Contains tables.old.keys q → Contains tables.new.keys q }
 {

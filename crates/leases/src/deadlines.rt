@@ -65,7 +65,8 @@ impl Deadlines {
         ensures past { IfSome result (λ number. TakesPast moment number self.old.entries self.new.entries) }
         ensures room { IfSome result (λ number. self.old.room + 1 ≤ self.new.room) }
         ensures same { IfNone result (self.new ≡ self.old) }
-        ensures none { IfNone result ((r : Reverse (ℕ × ℕ)) → Contains self.new.entries r → is_past moment r.0.0 ≡ false) }
+        ensures none { IfNone result ((r : Reverse (ℕ × ℕ)) → Contains self.new.entries r
+            → is_past moment r.0.0 ≡ false) }
     {
         let first = self.heap.peek()?;
         if !is_due(first.0.0, moment) {

@@ -26,7 +26,8 @@ pub(crate) fn take_ended(
     ensures awaited { AreAwaitedBut deadlines.new.entries numbers.new.items (lease_at nat_cmp leases.now) }
     ensures room { length numbers.new.items ≤ deadlines.new.room }
     ensures only { HaveEnded moment numbers.new.items (lease_at nat_cmp leases.now) }
-    ensures all { OnOk result ((n : ℕ) (l : HeldLease) → lease_at nat_cmp leases.now n ≡ Some l → is_past moment l.renewed ≡ true → Contains numbers.new.items n) }
+    ensures all { OnOk result ((n : ℕ) (l : HeldLease) → lease_at nat_cmp leases.now n ≡ Some l
+        → is_past moment l.renewed ≡ true → Contains numbers.new.items n) }
     ensures err { OnErr result (SomePast moment (lease_at nat_cmp leases.now)) }
 {
     while let Some(number) = deadlines.pop_due(moment) {

@@ -65,10 +65,14 @@ pub(crate) fn first_free(
     live: &LiveLeases,
     but: Option<u64>,
 ) -> Option<Table>
-    requires { (q : Packed) → IsFree board.now (as_leases (without but live.now) came.now.entries 0 0) q → Contains free.old.tables q }
-    ensures kept { (q : Packed) → IsFree board.now (as_leases (without but live.now) came.now.entries 0 0) q → Contains free.new.tables q }
-    ensures first { IfSome result (λ t. IsFirstFree board.now (as_leases (without but live.now) came.now.entries 0 0) t) }
-    ensures none { IfNone result ((q : Packed) → IsFree board.now (as_leases (without but live.now) came.now.entries 0 0) q → ⊥) }
+    requires { (q : Packed) → IsFree board.now (as_leases (without but live.now) came.now.entries 0 0) q
+        → Contains free.old.tables q }
+    ensures kept { (q : Packed) → IsFree board.now (as_leases (without but live.now) came.now.entries 0 0) q
+        → Contains free.new.tables q }
+    ensures first { IfSome result (λ t. IsFirstFree board.now (as_leases (without but live.now) came.now.entries 0 0)
+        t) }
+    ensures none { IfNone result ((q : Packed)
+        → IsFree board.now (as_leases (without but live.now) came.now.entries 0 0) q → ⊥) }
 {
     child_is_table();
     // The proof needs that the open tables are tables.

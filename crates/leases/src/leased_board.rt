@@ -83,7 +83,8 @@ impl LeasedBoard {
     pub fn tick(&mut self, t: u64) -> Result<(), NoMemory>
         ensures board { self.new.board ≡ self.old.board }
         ensures ok { OnOk result (self.new.leases ≡ ticked t self.old.leases) }
-        ensures err { OnErr result (SomeEnds (max self.old.leases.moment t) self.old.leases.live × (self.new.leases ≡ self.old.leases)) }
+        ensures err { OnErr result (SomeEnds (max self.old.leases.moment t) self.old.leases.live
+            × (self.new.leases ≡ self.old.leases)) }
     {
         let moment = self.moment.max(t);
         let numbers = self.live.due(self.alloc, moment)?;
@@ -98,7 +99,8 @@ impl LeasedBoard {
     pub fn done(&mut self, number: u64) -> Result<bool, NoMemory>
         ensures board { self.new.board ≡ self.old.board }
         ensures ok { IfOk result (λ lived. IsDone number self.old.leases lived self.new.leases) }
-        ensures err { OnErr result ((is_live self.old.leases.live number ≡ true) × (self.new.leases ≡ self.old.leases)) }
+        ensures err { OnErr result ((is_live self.old.leases.live number ≡ true)
+            × (self.new.leases ≡ self.old.leases)) }
     {
         let lived = self.live.lives(number);
         self.end(number)?;
@@ -109,7 +111,8 @@ impl LeasedBoard {
     fn end(&mut self, number: u64) -> Result<(), NoMemory>
         ensures board { self.new.board ≡ self.old.board }
         ensures ok { OnOk result (self.new.leases ≡ ended (λ l. l.number == number) self.old.leases) }
-        ensures err { OnErr result ((is_live self.old.leases.live number ≡ true) × (self.new.leases ≡ self.old.leases)) }
+        ensures err { OnErr result ((is_live self.old.leases.live number ≡ true)
+            × (self.new.leases ≡ self.old.leases)) }
     {
         self.live.free_tables_of(Some(number), &mut self.free)?;
         self.live.end(Some(number));
@@ -124,7 +127,7 @@ impl LeasedBoard {
         ensures ok { IfOk result (λ reply. Asks self.old.board id self.old.leases reply self.new.leases) }
         ensures err { OnErr result (self.new.leases ≡ self.old.leases) }
     {
-        // Its own lease goes when nothing more can be refused: it makes way for the new one.
+        // The worker's own lease goes when nothing more can be refused: it makes way for the new one.
         let own = self.live.of_worker(id);
         self.live.free_tables_of(own, &mut self.free)?;
         if !has_open(&self.board) {
@@ -174,7 +177,8 @@ impl LeasedBoard {
     ///
     /// Room for the children is made before the board is asked, so `NoMemory` may come for any record.
     pub fn offer_line(&mut self, r: &Record, out: &mut Vec<u8>) -> Result<Taken, OfferFault>
-        ensures gives { BoardGives self.old.board.root self.old.board.records (recorded r.now) result self.new.board.records }
+        ensures gives { BoardGives self.old.board.root self.old.board.records (recorded r.now) result
+            self.new.board.records }
         ensures line { out.new.items ≡ out.old.items ++ gained_line self.old.board.format (recorded r.now) result }
         ensures root { self.new.board.root ≡ self.old.board.root }
         ensures format { self.new.board.format ≡ self.old.board.format }
@@ -189,7 +193,8 @@ impl LeasedBoard {
     // Offers a record of a table that is under none.
     fn offer_free(&mut self, r: &Record, out: &mut Vec<u8>) -> Result<Taken, OfferFault>
         requires { lease_of self.old.leases r.now.table ≡ None }
-        ensures gives { BoardGives self.old.board.root self.old.board.records (recorded r.now) result self.new.board.records }
+        ensures gives { BoardGives self.old.board.root self.old.board.records (recorded r.now) result
+            self.new.board.records }
         ensures line { out.new.items ≡ out.old.items ++ gained_line self.old.board.format (recorded r.now) result }
         ensures root { self.new.board.root ≡ self.old.board.root }
         ensures format { self.new.board.format ≡ self.old.board.format }
@@ -222,7 +227,8 @@ impl LeasedBoard {
         out: &mut Vec<u8>,
     ) -> Result<Taken, OfferFault>
         requires { lease_of self.old.leases r.now.table ≡ Some number }
-        ensures gives { BoardGives self.old.board.root self.old.board.records (recorded r.now) result self.new.board.records }
+        ensures gives { BoardGives self.old.board.root self.old.board.records (recorded r.now) result
+            self.new.board.records }
         ensures line { out.new.items ≡ out.old.items ++ gained_line self.old.board.format (recorded r.now) result }
         ensures root { self.new.board.root ≡ self.old.board.root }
         ensures format { self.new.board.format ≡ self.old.board.format }

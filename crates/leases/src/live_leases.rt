@@ -47,7 +47,8 @@ impl Model for LiveLeases {
 
     ghost view = { λ a. map stored_lease a.leases.entries };
 
-    ghost invariant = { λ a. IsOrdered nat_cmp a.leases × AreOfWorkers (number_of nat_eq a.of_worker) (lease_at nat_cmp a.leases)
+    ghost invariant = { λ a. IsOrdered nat_cmp a.leases
+        × AreOfWorkers (number_of nat_eq a.of_worker) (lease_at nat_cmp a.leases)
         × AreAwaited a.deadlines.entries (lease_at nat_cmp a.leases) };
 }
 
@@ -100,7 +101,7 @@ impl LiveLeases {
     {
         let mut numbers = Vec::new(alloc);
         let all = take_ended(&mut self.deadlines, &self.leases, &mut numbers, moment);
-        // They live until they are ended: where memory is refused meanwhile, the next tick finds them.
+        // Leases live until they are ended: where memory is refused meanwhile, the next tick finds them.
         put_back(&mut self.deadlines, &numbers);
         all?;
         Ok(numbers)
@@ -218,7 +219,8 @@ impl LiveLeases {
 fn take_out(leases: &mut BTreeMap<u64, HeldLease>, which: Option<u64>)
     requires { IsOrdered nat_cmp leases.old }
     ensures kept { map stored_lease leases.new.entries ≡ without which (map stored_lease leases.old.entries) }
-    ensures at { (q : ℕ) → lease_at nat_cmp leases.new q ≡ cond (is_numbered which q) None (lease_at nat_cmp leases.old q) }
+    ensures at { (q : ℕ) → lease_at nat_cmp leases.new q
+        ≡ cond (is_numbered which q) None (lease_at nat_cmp leases.old q) }
     ensures ordered { IsOrdered nat_cmp leases.new }
 {
     let Some(number) = which else {
@@ -237,7 +239,8 @@ fn renew_lease(
 )
     requires room { child_limit ≤ (stored_lease (number, lease.old)).room }
     requires came { child_limit ≤ spare came.old }
-    ensures { Renews board.now t.now moment (stored_lease (number, lease.old)) (stored_lease (number, lease.new)) came.old.entries came.new.entries }
+    ensures { Renews board.now t.now moment (stored_lease (number, lease.old)) (stored_lease (number, lease.new))
+        came.old.entries came.new.entries }
 {
     lease.renewed = moment;
     lease.tables.swap_remove(t);

@@ -15,4 +15,5 @@ abbrev pub IsBound : Packed → List Recorded → Packed → Bound → Type 0
 IsBound root rs t Unknown = IsElsewhere root rs t
 IsBound root rs t Open = (IsElsewhere root rs t → ⊥) × (IsClosed root (mark_in rs) t → ⊥)
 IsBound root rs t (Closed best ones) =
-    IsClosed root (mark_in rs) t × IsGreatestRecorded (λ x k. k) (mark_in rs) t best × IsGreatestRecorded (λ x k. score_at (entry_of x) k) (mark_in rs) t ones
+    IsClosed root (mark_in rs) t × IsGreatestRecorded (λ x k. k) (mark_in rs) t best
+    × IsGreatestRecorded (λ x k. score_at (entry_of x) k) (mark_in rs) t ones

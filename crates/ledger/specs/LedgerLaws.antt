@@ -18,9 +18,11 @@ pub record ReadsAsFirst (root : Packed) (text : List ℕ) (lines : List (List �
 
 -- lines of a body are the longest list of whole lines of which each reads, in a version, as a record that is fit in its
 -- turn: any other such list is a beginning of it. The records rs are those held of them
-pub record IsLongest (format : Format) (root : Packed) (body : List ℕ) (lines : List (List ℕ)) (rs : List Recorded) : Type 0 where
+pub record IsLongest (format : Format) (root : Packed) (body : List ℕ) (lines : List (List ℕ))
+    (rs : List Recorded) : Type 0 where
   pub kept : List Recorded
   pub fit : AreFitLines format root [] lines kept
   pub records : rs ≡ held kept
-  pub longest : (others : List (List ℕ)) (rest : List ℕ) (fit_ones : List Recorded) → body ≡ joined others ++ rest → AreFitLines format root [] others fit_ones
+  pub longest : (others : List (List ℕ)) (rest : List ℕ) (fit_ones : List Recorded) → body ≡ joined others ++ rest
+      → AreFitLines format root [] others fit_ones
       → (more : List (List ℕ)) × (lines ≡ others ++ more)

@@ -52,20 +52,24 @@ pub record HasNoHeader (text : List ℕ) : Type 0 where
 -- a record is taken, which makes the records old into the records new: it is fit and comes last, or it settles a
 -- holdout and stands in its place. It is held with its score, whether it came with it or not
 abbrev pub IsTaken : Packed → List Recorded → Recorded → List Recorded → Type 0
-IsTaken root old r new = (IsFit root old r × (new ≡ old ++ (with_score r ∷ []))) ⊎ (Settles old r × (new ≡ settled old (with_score r)))
+IsTaken root old r new = (IsFit root old r × (new ≡ old ++ (with_score r ∷ [])))
+    ⊎ (Settles old r × (new ≡ settled old (with_score r)))
 
 -- lines that are each read, and taken in turn
 abbrev pub AreTaken : Format → Packed → List Recorded → List (List ℕ) → List Recorded → Type 0
 AreTaken format root old [] new = new ≡ old
 AreTaken format root old (line ∷ lines) new =
-    (r : Recorded) × (mid : List Recorded) × HasNoNewline line × (ledger_record format line ≡ Ok r) × IsTaken root old r mid × AreTaken format root mid lines new
+    (r : Recorded) × (mid : List Recorded) × HasNoNewline line × (ledger_record format line ≡ Ok r)
+    × IsTaken root old r mid × AreTaken format root mid lines new
 
 -- why a line isn't kept behind the records rs
 abbrev pub IsUnkeptLine : Format → Packed → List Recorded → List ℕ → Unkept → Type 0
 IsUnkeptLine format root rs line Torn = ⊥
 IsUnkeptLine format root rs line (Unread f) = ledger_record format line ≡ Err f
-IsUnkeptLine format root rs line (Unfit f) = (f ≢ OfferNoMemory) × ((r : Recorded) × (ledger_record format line ≡ Ok r) × OfferGives root rs r (Err f) rs)
-IsUnkeptLine format root rs line Repeated = (r : Recorded) × (ledger_record format line ≡ Ok r) × OfferGives root rs r (Ok Known) rs
+IsUnkeptLine format root rs line (Unfit f) = (f ≢ OfferNoMemory)
+    × ((r : Recorded) × (ledger_record format line ≡ Ok r) × OfferGives root rs r (Err f) rs)
+IsUnkeptLine format root rs line Repeated = (r : Recorded) × (ledger_record format line ≡ Ok r)
+    × OfferGives root rs r (Ok Known) rs
 
 -- what becomes of the records where a line is offered: it is taken, or there is a reason why not
 abbrev pub LineGives : Format → Packed → List Recorded → List ℕ → Option Unkept → List Recorded → Type 0
@@ -73,7 +77,8 @@ LineGives format root old line None new = (r : Recorded) × (ledger_record forma
 LineGives format root old line (Some why) new = IsUnkeptLine format root old line why × (new ≡ old)
 
 abbrev pub BeginsUnkept : Format → Packed → List Recorded → List ℕ → Unkept → Type 0
-BeginsUnkept format root rs text why = (line : List ℕ) × (rest : List ℕ) × BeginsWithLine text line rest × IsUnkeptLine format root rs line why
+BeginsUnkept format root rs text why = (line : List ℕ) × (rest : List ℕ) × BeginsWithLine text line rest
+    × IsUnkeptLine format root rs line why
 
 -- why nothing of a text is kept behind the records rs: it is torn off within its first line, or that isn't kept
 abbrev pub IsUnkept : Format → Packed → List Recorded → List ℕ → Unkept → Type 0
@@ -85,11 +90,13 @@ IsUnkept format root rs text Repeated = BeginsUnkept format root rs text Repeate
 -- what is left of a text of n bytes, whose rest begins with the line of this number
 abbrev pub IsLeft : Format → Packed → List Recorded → ℕ → ℕ → List ℕ → Left → Type 0
 IsLeft format root rs n number rest Nothing = rest ≡ []
-IsLeft format root rs n number rest (From line kept why) = (line ≡ number) × (kept + length rest ≡ n) × IsUnkept format root rs rest why
+IsLeft format root rs n number rest (From line kept why) = (line ≡ number) × (kept + length rest ≡ n)
+    × IsUnkept format root rs rest why
 
 -- what is kept of the body of a text of n bytes in a version: lines that are taken in turn, from the records old to the
 -- records new, up to a rest that isn't kept
-pub record Keeps (format : Format) (root : Packed) (n : ℕ) (body : List ℕ) (old new : List Recorded) (left : Left) : Type 0 where
+pub record Keeps (format : Format) (root : Packed) (n : ℕ) (body : List ℕ) (old new : List Recorded)
+    (left : Left) : Type 0 where
   pub lines : List (List ℕ)
   pub rest : List ℕ
   pub is : body ≡ joined lines ++ rest
@@ -131,7 +138,8 @@ pub record ReadsAsNew (b : Contents) (text : List ℕ) (left : Left) : Type 0 wh
 -- what a text is loaded as, where the root is asked for
 abbrev pub LoadGives : Packed → List ℕ → Result (Contents × Left) LoadFault → Type 0
 LoadGives root text (Ok loaded) =
-    (loaded.0.root ≡ root) × (ReadsAsNew loaded.0 text loaded.1 ⊎ ReadsIn loaded.0.format root text loaded.0.records loaded.1)
+    (loaded.0.root ≡ root) × (ReadsAsNew loaded.0 text loaded.1
+    ⊎ ReadsIn loaded.0.format root text loaded.0.records loaded.1)
 LoadGives root text (Err BadHeader) = HasNoHeader text
 LoadGives root text (Err WrongRoot) = (other : Packed) × (rest : List ℕ) × HasHeader text other rest × (other ≢ root)
 LoadGives root text (Err NoMemory) = IsTornHeader text ⊎ ((rest : List ℕ) × HasHeader text root rest)

@@ -18,7 +18,8 @@ use Rattle.ledger.specs.declared.faults.OfferFault.TheVariants.{NoMemory}
 -- the root, or a child of the table of an earlier record that says that it halts
 abbrev pub HasPlace : Packed → List Recorded → Packed → Type 0
 HasPlace root earlier t =
-    (t ≡ root) ⊎ ((p : Recorded) × (k : ℕ) × Contains earlier p × (ending_by p.claim ≡ Some (Halts k)) × IsChildTable p.table t)
+    (t ≡ root) ⊎ ((p : Recorded) × (k : ℕ) × Contains earlier p × (ending_by p.claim ≡ Some (Halts k))
+    × IsChildTable p.table t)
 
 -- fit after earlier fit records: its table has a place; none of them gives it a verdict, and where the record itself has
 -- none, none of them is of its table; and it is certified
@@ -32,7 +33,8 @@ pub record IsFitAfter (root : Packed) (earlier : List Recorded) (r : Recorded) :
 abbrev pub AreKept : Packed → List Recorded → List Recorded → List Recorded → Type 0
 AreKept root earlier [] kept = kept ≡ earlier
 AreKept root earlier (r ∷ rs) kept =
-    (IsFitAfter root earlier r × AreKept root (earlier ++ (r ∷ [])) rs kept) ⊎ ((IsFitAfter root earlier r → ⊥) × AreKept root earlier rs kept)
+    (IsFitAfter root earlier r × AreKept root (earlier ++ (r ∷ [])) rs kept)
+    ⊎ ((IsFitAfter root earlier r → ⊥) × AreKept root earlier rs kept)
 
 -- the records with one more: in the place of that of its table, or last where there is none
 unfoldable pub placed : List Recorded → Recorded → List Recorded
@@ -51,7 +53,8 @@ pub record Offer : Type 0 where
 -- offers, one after another, make the records old into the records new
 abbrev pub AreOffered : Packed → List Recorded → List Offer → List Recorded → Type 0
 AreOffered root old [] new = new ≡ old
-AreOffered root old (o ∷ os) new = (mid : List Recorded) × OfferGives root old o.offered o.answer mid × AreOffered root mid os new
+AreOffered root old (o ∷ os) new = (mid : List Recorded) × OfferGives root old o.offered o.answer mid
+    × AreOffered root mid os new
 
 -- the records of the offers for which memory wasn't refused
 abbrev pub answered_with : Recorded → Result Taken OfferFault → List Recorded → List Recorded
@@ -67,4 +70,5 @@ answered (o ∷ os) = answered_with o.offered o.answer (answered os)
 abbrev pub AreFitLines : Format → Packed → List Recorded → List (List ℕ) → List Recorded → Type 0
 AreFitLines format root earlier [] kept = kept ≡ earlier
 AreFitLines format root earlier (line ∷ lines) kept =
-    (r : Recorded) × HasNoNewline line × (ledger_record format line ≡ Ok r) × IsFitAfter root earlier r × AreFitLines format root (earlier ++ (r ∷ [])) lines kept
+    (r : Recorded) × HasNoNewline line × (ledger_record format line ≡ Ok r) × IsFitAfter root earlier r
+    × AreFitLines format root (earlier ++ (r ∷ [])) lines kept

@@ -53,7 +53,8 @@ pub record IsLeftSo (root : Packed) (text : List ℕ) (body : Body) (left : Left
   pub kept : body.line ≡ Some []
 
 abbrev pub IsBodyOf : Packed → List ℕ → Body → Type 0
-IsBodyOf root text body = (body.board.root ≡ root) × MatchOption body.left (IsAllTaken root text body) (IsLeftSo root text body)
+IsBodyOf root text body = (body.board.root ≡ root)
+    × MatchOption body.left (IsAllTaken root text body) (IsLeftSo root text body)
 
 -- the stage that a text has come to: a first line that isn't finished; a header of the root, and what is behind it;
 -- or the text, whatever follows, is no ledger of the root

@@ -22,6 +22,7 @@ FeedsAll old read limit new new_read = (text : List ℕ) × IsAllRead read limit
 
 -- a read failed, behind what was fed; or memory was refused for what was read
 abbrev pub StopsReading : Loading → Option (List ℕ) → ℕ → ReadStop → Loading → Option (List ℕ) → Type 0
-StopsReading old read limit (Failed fault) new new_read = (text : List ℕ) × IsRead read limit text new_read × IsFed old text new
+StopsReading old read limit (Failed fault) new new_read = (text : List ℕ) × IsRead read limit text new_read
+    × IsFed old text new
 StopsReading old read limit NoMemory new new_read =
     (text : List ℕ) × (stop : FeedStop) × IsRead read limit text new_read × IsStopped old text stop new

@@ -77,5 +77,6 @@ pub record IsTally (root : Packed) (rs : List Recorded) (tally : Tally) : Type 0
 -- how a board stands: tables are open; none is, but there are holdouts; or neither
 abbrev pub IsStatus : Packed → List Recorded → Status → Type 0
 IsStatus root rs (Working count) = (0 < count) × AreSoMany (IsOpen root (mark_in rs)) count
-IsStatus root rs (Holdouts count) = ((t : Packed) → IsOpen root (mark_in rs) t → ⊥) × (0 < count) × AreSoMany (IsHoldout rs) count
+IsStatus root rs (Holdouts count) = ((t : Packed) → IsOpen root (mark_in rs) t → ⊥) × (0 < count)
+    × AreSoMany (IsHoldout rs) count
 IsStatus root rs (Complete best ones) = IsComplete root (mark_in rs) × IsGreatestCount rs best × IsGreatestOnes rs ones

@@ -137,7 +137,7 @@ impl Board {
         self.format.number()
     }
 
-    /// That version.
+    /// The version of the board's ledger.
     pub fn version(&self) -> Format
         ensures { result ≡ self.now.format }
     {
@@ -275,10 +275,14 @@ impl Board {
     /// is Radó's S(n). Its ones are their greatest score, and for the empty table of n states Radó's Σ(n).
     pub fn status(&self) -> Status
         ensures stands { IsStatus self.now.root self.now.records result }
-        ensures best { (best ones : Option ℕ) → result ≡ Status.Complete best ones → IsBestOfTable HaltsAt self.now.root best }
-        ensures ones { (best ones : Option ℕ) → result ≡ Status.Complete best ones → IsBestOfTable Scores self.now.root ones }
-        ensures rado { (n s : ℕ) (ones : Option ℕ) → 1 ≤ n → n ≤ state_limit → self.now.root ≡ empty_table n → result ≡ Status.Complete (Some s) ones → IsRado n s }
-        ensures sigma { (n s : ℕ) (best : Option ℕ) → 1 ≤ n → n ≤ state_limit → self.now.root ≡ empty_table n → result ≡ Status.Complete best (Some s) → IsSigma n s }
+        ensures best { (best ones : Option ℕ) → result ≡ Status.Complete best ones
+            → IsBestOfTable HaltsAt self.now.root best }
+        ensures ones { (best ones : Option ℕ) → result ≡ Status.Complete best ones
+            → IsBestOfTable Scores self.now.root ones }
+        ensures rado { (n s : ℕ) (ones : Option ℕ) → 1 ≤ n → n ≤ state_limit → self.now.root ≡ empty_table n
+            → result ≡ Status.Complete (Some s) ones → IsRado n s }
+        ensures sigma { (n s : ℕ) (best : Option ℕ) → 1 ≤ n → n ≤ state_limit → self.now.root ≡ empty_table n
+            → result ≡ Status.Complete best (Some s) → IsSigma n s }
     {
         child_is_table();
         standing_claims_are_true();
@@ -407,7 +411,8 @@ impl Board {
     fn take(&mut self, r: &Record, judging: Judging) -> Result<Taken, OfferFault>
         requires is_open { IsOpen self.old.root (mark_in self.old.records) r.now.table }
         requires judged { IsJudgedSo judging (recorded r.now) }
-        ensures ok { IfOk result (λ taken. (taken ≡ Taken.New) × IsFit self.old.root self.old.records (recorded r.now) × (self.new.records ≡ self.old.records ++ (with_score (recorded r.now) ∷ []))) }
+        ensures ok { IfOk result (λ taken. (taken ≡ Taken.New) × IsFit self.old.root self.old.records (recorded r.now)
+            × (self.new.records ≡ self.old.records ++ (with_score (recorded r.now) ∷ []))) }
         ensures err { OnErr result (self.new.records ≡ self.old.records) }
         ensures root { self.new.root ≡ self.old.root }
         ensures format { self.new.format ≡ self.old.format }
@@ -455,7 +460,8 @@ impl Board {
         requires holdout { IsHoldout self.old.records r.now.table }
         requires verdict { IsSome (ending_by (claim_of r.now.certificate)) }
         requires judged { IsJudgedSo judging (recorded r.now) }
-        ensures ok { IfOk result (λ taken. (taken ≡ Taken.Settled) × Settles self.old.records (recorded r.now) × (self.new.records ≡ settled self.old.records (with_score (recorded r.now)))) }
+        ensures ok { IfOk result (λ taken. (taken ≡ Taken.Settled) × Settles self.old.records (recorded r.now)
+            × (self.new.records ≡ settled self.old.records (with_score (recorded r.now)))) }
         ensures err { OnErr result (self.new.records ≡ self.old.records) }
         ensures root { self.new.root ≡ self.old.root }
         ensures format { self.new.format ≡ self.old.format }

@@ -50,7 +50,8 @@ impl Body {
     pub fn add(&mut self, part: &[u8]) -> Result<(), NoMemory>
         requires { HasNoNewline part.now }
         ensures ok { OnOk result (BodyGrows self.old part.now self.new) }
-        ensures err { OnErr result ((self.new ≡ self.old) × ((root : Packed) (text : List ℕ) → IsBodyOf root text self.old → IsHeaded root text)) }
+        ensures err { OnErr result ((self.new ≡ self.old)
+            × ((root : Packed) (text : List ℕ) → IsBodyOf root text self.old → IsHeaded root text)) }
     {
         if self.left.is_some() {
             return Ok(());
@@ -93,7 +94,8 @@ impl Body {
 
     // What is left of the text where it ends here.
     fn left_at_end(&self) -> Left
-        ensures { (root : Packed) (text : List ℕ) → IsBodyOf root text self.now → LoadGives root text (Ok (self.now.board, result)) }
+        ensures { (root : Packed) (text : List ℕ) → IsBodyOf root text self.now
+            → LoadGives root text (Ok (self.now.board, result)) }
     {
         if let Some(left) = self.left {
             return left;
@@ -123,7 +125,8 @@ impl Body {
     // Takes the line that has come.
     fn take_begun(&mut self, after: u64) -> Result<(), NoMemory>
         requires { self.old.left ≡ None }
-        ensures ok { OnOk result ((line : List ℕ) → self.old.line ≡ record_start line → LineTaken self.old line after self.new) }
+        ensures ok { OnOk result ((line : List ℕ) → self.old.line ≡ record_start line
+            → LineTaken self.old line after self.new) }
         ensures err { OnErr result (self.new ≡ self.old) }
     {
         let why = take_start(&mut self.board, self.line.line())?;
@@ -158,7 +161,8 @@ impl Body {
 
 // Takes the record of a line of which this is kept; none where it is too long for a record.
 fn take_start(board: &mut Board, start: Option<&[u8]>) -> Result<Option<Unkept>, NoMemory>
-    ensures gives { IfOk result (λ why. (line : List ℕ) → option_map (λ kept. kept.now) start.entry ≡ record_start line →
+    ensures gives { IfOk result (λ why. (line : List ℕ)
+        → option_map (λ kept. kept.now) start.entry ≡ record_start line →
         LineGives board.old.format board.old.root board.old.records line why board.new.records) }
     ensures root { board.new.root ≡ board.old.root }
     ensures format { board.new.format ≡ board.old.format }
@@ -172,7 +176,8 @@ fn take_start(board: &mut Board, start: Option<&[u8]>) -> Result<Option<Unkept>,
 
 // Takes the record of a line, or says why it isn't kept; then the board is as it was.
 fn take_line(board: &mut Board, line: &[u8]) -> Result<Option<Unkept>, NoMemory>
-    ensures gives { IfOk result (λ why. LineGives board.old.format board.old.root board.old.records line.now why board.new.records) }
+    ensures gives { IfOk result (λ why. LineGives board.old.format board.old.root board.old.records line.now why
+        board.new.records) }
     ensures root { board.new.root ≡ board.old.root }
     ensures format { board.new.format ≡ board.old.format }
     ensures err { OnErr result (board.new ≡ board.old) }

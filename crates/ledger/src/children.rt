@@ -36,7 +36,8 @@ pub(crate) fn children_on(parent: &Table, pair: Pair) -> Children
 pub(crate) fn child_count(r: &Record, halts_on: Option<Pair>) -> u64
     requires in_order { (u : ℕ) × InOrder u (entry_of r.now.table) }
     requires pair { IsPairOf (ending_by (claim_of r.now.certificate)) r.now.table halts_on }
-    ensures number { AreSoMany (λ t. ((k : ℕ) × (ending_by (claim_of r.now.certificate) ≡ Some (Halts k))) × IsChildTable r.now.table t) result }
+    ensures number { AreSoMany (λ t. ((k : ℕ) × (ending_by (claim_of r.now.certificate) ≡ Some (Halts k)))
+        × IsChildTable r.now.table t) result }
     ensures small { result < 2 ^ 63 }
 {
     // The proof needs that a table has few states.

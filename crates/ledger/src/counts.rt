@@ -16,7 +16,7 @@ pub(crate) struct Counts {
 }
 
 impl Counts {
-    // Those of no record.
+    // The counts of no record.
     pub fn none() -> Counts
         ensures { result ≡ record { halting = 0; never = 0; undecided = 0; best = None; ones = None } }
     {
@@ -29,7 +29,7 @@ impl Counts {
         }
     }
 
-    // Those with one more record, which shows this, with this score.
+    // The counts with one more record, by what it shows and its score.
     pub fn with(self, shown: Option<Ending>, ones: Option<u64>) -> Counts
         requires halting { self.halting < 2 ^ 63 }
         requires never { self.never < 2 ^ 63 }
@@ -57,7 +57,7 @@ impl Counts {
         }
     }
 
-    // Those without a holdout.
+    // The counts with a holdout less.
     pub fn without_holdout(self) -> Counts
         requires { 0 < self.undecided }
         ensures { result ≡ without_holdout self }

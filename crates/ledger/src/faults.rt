@@ -17,11 +17,11 @@ pub enum BoardFault {
 /// Why an offered record wasn't taken. Nothing changed.
 #[derive(Clone, Copy, Debug, PartialEq, Eq)]
 pub enum OfferFault {
-    /// Its table has another number of states than the root.
+    /// The record's table has another number of states than the root.
     WrongSize,
-    /// Its table is neither open nor a holdout.
+    /// The record's table is neither open nor a holdout.
     NotOpen,
-    /// Its certificate was refused, and not because memory was refused.
+    /// The record's certificate was refused, and not because memory was refused.
     Refused(Refused),
     /// Memory was refused.
     NoMemory,
@@ -43,7 +43,7 @@ pub enum LoadFault {
 /// Why two boards weren't merged.
 #[derive(Clone, Copy, Debug, PartialEq, Eq)]
 pub enum MergeFault {
-    /// Their roots differ. Nothing changed.
+    /// The roots differ. Nothing changed.
     WrongRoot,
     /// Memory was refused. A beginning of the other board's records was taken in.
     NoMemory,

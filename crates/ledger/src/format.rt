@@ -12,12 +12,12 @@ use kind_evidence::Ending;
 pub enum Format {
     /// A record that says that its table halts stands without its score.
     One,
-    /// It stands with its score.
+    /// A record that halts stands with its score.
     Two,
 }
 
 impl Format {
-    /// Its number: 1 or 2.
+    /// The version's number: 1 or 2.
     pub fn number(self) -> u8
         ensures { result ≡ format_number self }
     {

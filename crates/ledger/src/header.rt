@@ -85,7 +85,8 @@ pub(crate) fn header_in(line: &[u8]) -> Option<Header>
 
 // The root whose text stands behind these words.
 fn root_after(words: &[u8], line: &[u8]) -> Option<Table>
-    ensures { MatchOption result ((root : Packed) → NamesAfter words.now line.now root → ⊥) (NamesAfter words.now line.now) }
+    ensures { MatchOption result ((root : Packed) → NamesAfter words.now line.now root → ⊥)
+        (NamesAfter words.now line.now) }
 {
     let Some(name) = line.strip_prefix(words) else {
         return None;

@@ -34,7 +34,8 @@ pub(crate) fn certificate_for<'a>(
 // The pair on which a table halts, where it is recorded as halting.
 pub(crate) fn pair_for(records: &IndexMap<Table, StoredRecord>, t: &Table) -> Option<Pair>
     requires { All KnowsPair records.now.entries }
-    ensures some { IfSome result (λ pair. (k : ℕ) × HaltsAfter (records_of records.now.entries) k t.now × HaltsOnPair t.now k pair) }
+    ensures some { IfSome result (λ pair. (k : ℕ) × HaltsAfter (records_of records.now.entries) k t.now
+        × HaltsOnPair t.now k pair) }
     ensures none { IfNone result (IsHalting (records_of records.now.entries) t.now → ⊥) }
 {
     match records.get(t) {
@@ -57,7 +58,8 @@ pub(crate) fn verdict_in(records: &IndexMap<Table, StoredRecord>, t: &Table) -> 
 // The place of a holdout's record.
 pub(crate) fn place_of(records: &IndexMap<Table, StoredRecord>, t: &Table) -> usize
     requires { IsHoldout (records_of records.now.entries) t.now }
-    ensures place { (r : Recorded) × (slice_get (records_of records.now.entries) result ≡ Some r) × (r.table ≡ t.now) × (is_halting r ≡ false) }
+    ensures place { (r : Recorded) × (slice_get (records_of records.now.entries) result ≡ Some r) × (r.table ≡ t.now)
+        × (is_halting r ≡ false) }
     ensures small { result < 2 ^ 63 }
     ensures room { length records.now.entries < 2 ^ 63 }
 {
@@ -75,7 +77,8 @@ pub(crate) fn place_and_count_of(
     t: &Table,
 ) -> (u32, TreeCount)
     requires { IsHoldout (records_of records.now.entries) t.now }
-    ensures { (k : StoredRecord) × (lookup (same_table t.now) records.now.entries ≡ Some k) × (result ≡ (k.parent, k.tree)) }
+    ensures { (k : StoredRecord) × (lookup (same_table t.now) records.now.entries ≡ Some k)
+        × (result ≡ (k.parent, k.tree)) }
 {
     match records.get(t) {
         Some(stored) => (stored.parent, stored.tree),

@@ -48,15 +48,18 @@ pub fn versions_read_apart()
 
 /// The ledger that is written of a board reads in version 2 as its records, and every byte of it is kept.
 pub fn ledgers_load_whole()
-    ensures { (root : Packed) (rs : List Recorded) → IsBoardOf root rs → ReadsIn Two root (ledger_text root rs) rs Nothing }
+    ensures { (root : Packed) (rs : List Recorded) → IsBoardOf root rs
+        → ReadsIn Two root (ledger_text root rs) rs Nothing }
 {}
 
 /// A text reads as one root and one list of records only, and in one version.
 pub fn ledgers_read_as_one()
-    ensures records { (root other : Packed) (text : List ℕ) (rs others : List Recorded) (left more : LeftOver) → IsTable root →
+    ensures records { (root other : Packed) (text : List ℕ) (rs others : List Recorded) (left more : LeftOver)
+        → IsTable root →
         ReadsAs root text rs left → ReadsAs other text others more → (root ≡ other) × (rs ≡ others) }
     ensures version { (root other : Packed) (text : List ℕ) (rs others : List Recorded) (left more : LeftOver) →
-        (reads : ReadsAs root text rs left) → (same : ReadsAs other text others more) → reads.header.format ≡ same.header.format }
+        (reads : ReadsAs root text rs left) → (same : ReadsAs other text others more)
+        → reads.header.format ≡ same.header.format }
 {}
 
 /// The lines of a text that are kept are the longest list of whole lines behind its header of which each
@@ -70,13 +73,15 @@ pub fn ledgers_read_longest()
 /// records that there are once that is taken.
 pub fn ledgers_grow()
     ensures { (b : Contents) (text : List ℕ) (r : Recorded) (new : List Recorded) → IsBoard b → IsLedgerOf b text →
-        IsTaken b.root b.records r new → ReadsIn b.format b.root (text ++ (ledger_line b.format (with_score r) ++ (10 ∷ []))) new Nothing }
+        IsTaken b.root b.records r new → ReadsIn b.format b.root
+        (text ++ (ledger_line b.format (with_score r) ++ (10 ∷ []))) new Nothing }
 {}
 
 /// The bytes that are kept of a text read as the same records in the same version, and all of them are kept.
 pub fn kept_bytes_load()
     ensures { (root : Packed) (text : List ℕ) (rs : List Recorded) (line kept : ℕ) (why : WhyUnkept) →
-        (reads : ReadsAs root text rs (From line kept why)) → ReadsIn reads.header.format root (take kept text) rs Nothing }
+        (reads : ReadsAs root text rs (From line kept why))
+        → ReadsIn reads.header.format root (take kept text) rs Nothing }
 {}
 
 /// A beginning of a text that reads as records, cut anywhere behind its header, reads as the records of the
@@ -90,12 +95,14 @@ pub fn beginnings_load()
 /// Merged in either order, two lists of records say the same of each table: the same verdict, that it is a
 /// holdout, or nothing. So the same tables are open.
 pub fn merges_agree()
-    ensures { (a b first second : List Recorded) (t : Packed) → IsMerged a b first → IsMerged b a second → mark_in first t ≡ mark_in second t }
+    ensures { (a b first second : List Recorded) (t : Packed) → IsMerged a b first → IsMerged b a second
+        → mark_in first t ≡ mark_in second t }
 {}
 
 /// Complete is final: no offer changes the records of a complete board.
 pub fn complete_is_final()
-    ensures { (root : Packed) (old new : List Recorded) (r : Recorded) (answer : Result Answer Fault) → IsComplete root (mark_in old) →
+    ensures { (root : Packed) (old new : List Recorded) (r : Recorded) (answer : Result Answer Fault)
+        → IsComplete root (mark_in old) →
         OfferGives root old r answer new → new ≡ old }
 {}
 
@@ -109,11 +116,13 @@ pub fn complete_boards_hold_the_tree()
         IsNeverHalting b.records t ↔ (InTableTree b.root t × Never (entry_of t)) }
     ensures tally { (b : Contents) (tally : Counted) → IsBoard b → IsComplete b.root (mark_in b.records) →
         IsTally b.root b.records tally → IsTreeTally b.root tally }
-    ensures champions { (b : Contents) (best : Option ℕ) (tables : List Packed) → IsBoard b → IsComplete b.root (mark_in b.records) →
+    ensures champions { (b : Contents) (best : Option ℕ) (tables : List Packed) → IsBoard b
+        → IsComplete b.root (mark_in b.records) →
         AreAll (IsChampion b.records best) tables → AreAll (IsTreeChampion b.root best) tables }
     ensures scores { (b : Contents) (t : Packed) (s : ℕ) → IsBoard b → IsComplete b.root (mark_in b.records) →
         HasOnes b.records s t ↔ (InTableTree b.root t × Scores (entry_of t) s) }
-    ensures ones_champions { (b : Contents) (ones : Option ℕ) (tables : List Packed) → IsBoard b → IsComplete b.root (mark_in b.records) →
+    ensures ones_champions { (b : Contents) (ones : Option ℕ) (tables : List Packed) → IsBoard b
+        → IsComplete b.root (mark_in b.records) →
         AreAll (IsOnesChampion b.records ones) tables → AreAll (IsTreeOnesChampion b.root ones) tables }
 {}
 

@@ -38,7 +38,8 @@ impl LineStart {
 
     /// Takes more bytes of the line.
     pub fn add(&mut self, more: &[u8]) -> Result<(), NoMemory>
-        ensures ok { OnOk result ((line : List ℕ) → self.old ≡ record_start line → self.new ≡ record_start (line ++ more.now)) }
+        ensures ok { OnOk result ((line : List ℕ) → self.old ≡ record_start line
+            → self.new ≡ record_start (line ++ more.now)) }
         ensures err { OnErr result (self.new ≡ self.old) }
     {
         if self.overlong {

@@ -30,7 +30,7 @@ impl Board {
         self.put_line(r, Judging::Due, out)
     }
 
-    /// The same of a record that is certified already, as `offer_certified` does.
+    /// Offers a record that is certified already, as `offer_certified` does, and appends its line as `offer_line` does.
     pub fn offer_certified_line(
         &mut self,
         r: &Record,
@@ -46,7 +46,7 @@ impl Board {
         self.put_line(r, Judging::Done, out)
     }
 
-    // The same, by whether the record is yet to be judged.
+    // Offers a record and appends its line, by whether the record is yet to be judged.
     fn put_line(
         &mut self,
         r: &Record,
@@ -73,7 +73,7 @@ impl Board {
         }
     }
 
-    // The same of a record that is judged.
+    // Offers a record that is judged, and appends its line.
     fn put_judged(
         &mut self,
         r: &Record,

@@ -125,7 +125,8 @@ fn open_child(
     child: Table,
 ) -> Result<(), NoMemory>
     ensures ok { OnOk result ((q : Packed) → ContainsKey table_cmp tables.new q
-        ↔ (ContainsKey table_cmp tables.old q ⊎ HasUnrecorded (child ∷ []) (records_of records.now.entries) parent.now q)) }
+        ↔ (ContainsKey table_cmp tables.old q ⊎ HasUnrecorded (child ∷ []) (records_of records.now.entries) parent.now
+        q)) }
     ensures others { others place tables.new.entries ≡ others place tables.old.entries }
     ensures entries { OnOk result ((tables.new.entries ≡ tables.old.entries)
         ⊎ (tables.new.entries ≡ insert_entry table_cmp tables.old.entries child place)) }
@@ -138,7 +139,8 @@ fn open_child(
 
 // Opens a table, unless it is open.
 fn open_new(tables: &mut BTreeMap<Table, u32>, t: Table, place: u32) -> Result<(), NoMemory>
-    ensures ok { OnOk result ((q : Packed) → ContainsKey table_cmp tables.new q ↔ (ContainsKey table_cmp tables.old q ⊎ (q ≡ t))) }
+    ensures ok { OnOk result ((q : Packed) → ContainsKey table_cmp tables.new q
+        ↔ (ContainsKey table_cmp tables.old q ⊎ (q ≡ t))) }
     ensures others { others place tables.new.entries ≡ others place tables.old.entries }
     ensures entries { OnOk result ((tables.new.entries ≡ tables.old.entries)
         ⊎ (tables.new.entries ≡ insert_entry table_cmp tables.old.entries t place)) }

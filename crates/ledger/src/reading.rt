@@ -24,7 +24,8 @@ impl Loader {
     pub fn feed_from<R: Read>(&mut self, from: &mut R, limit: u64) -> Result<(), ReadStop>
         requires { self.old.bytes + limit < 2 ^ 64 }
         ensures ok { OnOk result (FeedsAll self.old (R.remaining from.old) limit self.new (R.remaining from.new)) }
-        ensures stopped { IfErr result (λ stop. StopsReading self.old (R.remaining from.old) limit stop self.new (R.remaining from.new)) }
+        ensures stopped { IfErr result (λ stop. StopsReading self.old (R.remaining from.old) limit stop self.new
+            (R.remaining from.new)) }
     {
         let mut buf = [0; PIECE_BYTES];
         let mut left = limit;

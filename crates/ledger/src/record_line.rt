@@ -30,7 +30,8 @@ pub(crate) fn append_scored(
     out: &mut Vec<u8>,
 ) -> Result<(), NoMemory>
     requires { shown ≡ shown_by (claim_of r.now.certificate) r.now.table }
-    ensures ok { OnOk result (out.new.items ≡ out.old.items ++ (ledger_line format (with_score (recorded r.now)) ++ (10 ∷ []))) }
+    ensures ok { OnOk result (out.new.items ≡ out.old.items
+        ++ (ledger_line format (with_score (recorded r.now)) ++ (10 ∷ []))) }
     ensures kept { take (length out.old.items) out.new.items ≡ out.old.items }
 {
     let held = Record {
@@ -41,7 +42,8 @@ pub(crate) fn append_scored(
 }
 
 fn scored<'a>(certificate: &Certificate<'a>, shown: Option<Verdict>) -> Certificate<'a>
-    ensures { (p : Packed) → shown ≡ shown_by (claim_of certificate.now) p → claim_of result ≡ scored p (claim_of certificate.now) }
+    ensures { (p : Packed) → shown ≡ shown_by (claim_of certificate.now) p
+        → claim_of result ≡ scored p (claim_of certificate.now) }
 {
     match (*certificate, shown) {
         (Certificate::Halts(mut evidence), Some(Verdict::Halts { ones, .. })) => {

@@ -37,7 +37,7 @@ impl<'a> Records<'a> {
         }
     }
 
-    // Those of a board from a place on.
+    // The records of a board from a place on.
     pub(crate) fn from_place(
         records: &'a IndexMap<Table, StoredRecord>,
         place: usize,

@@ -24,8 +24,10 @@ pub(crate) fn listed_tables(
     ones: Option<u64>,
 ) -> Result<(Vec<Table>, Vec<Table>, Vec<Table>), NoMemory>
     ensures champions { IfOk result (λ found. found.0.items ≡ tables_with best (records_of records.now.entries)) }
-    ensures ones_champions { IfOk result (λ found. found.1.items ≡ tables_with_ones ones (records_of records.now.entries)) }
-    ensures holdouts { IfOk result (λ found. found.2.items ≡ filter_map undecided_table (records_of records.now.entries)) }
+    ensures ones_champions { IfOk result (λ found. found.1.items
+        ≡ tables_with_ones ones (records_of records.now.entries)) }
+    ensures holdouts { IfOk result (λ found. found.2.items
+        ≡ filter_map undecided_table (records_of records.now.entries)) }
 {
     match (best, ones) {
         (Some(best), Some(ones)) => champion_and_undecided_tables(alloc, records, best, ones),
@@ -38,16 +40,19 @@ pub(crate) fn listed_tables(
     }
 }
 
-// The same where there are such numbers.
+// The champions and holdouts where there are a greatest number of steps and a greatest score.
 fn champion_and_undecided_tables(
     alloc: Global,
     records: &IndexMap<Table, StoredRecord>,
     best: u64,
     ones: u64,
 ) -> Result<(Vec<Table>, Vec<Table>, Vec<Table>), NoMemory>
-    ensures champions { IfOk result (λ found. found.0.items ≡ filter_map (champion_table best) (records_of records.now.entries)) }
-    ensures ones_champions { IfOk result (λ found. found.1.items ≡ filter_map (ones_champion_table ones) (records_of records.now.entries)) }
-    ensures holdouts { IfOk result (λ found. found.2.items ≡ filter_map undecided_table (records_of records.now.entries)) }
+    ensures champions { IfOk result (λ found. found.0.items
+        ≡ filter_map (champion_table best) (records_of records.now.entries)) }
+    ensures ones_champions { IfOk result (λ found. found.1.items
+        ≡ filter_map (ones_champion_table ones) (records_of records.now.entries)) }
+    ensures holdouts { IfOk result (λ found. found.2.items
+        ≡ filter_map undecided_table (records_of records.now.entries)) }
 {
     let mut champions = Vec::new(alloc);
     let mut ones_champions = Vec::new(alloc);
@@ -147,7 +152,8 @@ fn ones_champion_tables(
     records: &IndexMap<Table, StoredRecord>,
     best: u64,
 ) -> Result<Vec<Table>, NoMemory>
-    ensures { IfOk result (λ found. found.items ≡ filter_map (ones_champion_table best) (records_of records.now.entries)) }
+    ensures { IfOk result (λ found. found.items
+        ≡ filter_map (ones_champion_table best) (records_of records.now.entries)) }
 {
     let mut found = Vec::new(alloc);
     for (table, stored) in records.iter() {
@@ -176,7 +182,7 @@ fn push_some(found: &mut Vec<Table>, table: Option<Table>) -> Result<(), NoMemor
     Ok(())
 }
 
-// The same tables in the order of their texts.
+// Tables in the order of their texts.
 pub(crate) fn sorted_tables(alloc: Global, tables: Vec<Table>) -> Result<IntoIter<Table>, NoMemory>
     ensures same { IfOk result (λ found. IsPermutation tables.items (into_iter_items found)) }
     ensures sorted { IfOk result (λ found. IsSorted table_cmp (into_iter_items found)) }

@@ -23,11 +23,11 @@ use std::alloc::Global;
 /// What a text has come to.
 #[derive(Drop)]
 pub(crate) enum Stage {
-    /// Its first line isn't finished.
+    /// The first line isn't finished.
     Header(HeaderLine),
-    /// It has the header of the root.
+    /// The text has the header of the root.
     Records(Body),
-    /// It is no ledger of the root, whatever follows.
+    /// The text is no ledger of the root, whatever follows.
     Refused(LoadFault),
 }
 
@@ -35,7 +35,8 @@ pub(crate) enum Stage {
 pub(crate) fn add(root: &Table, stage: &mut Stage, part: &[u8]) -> Result<(), NoMemory>
     requires { HasNoNewline part.now }
     ensures ok { OnOk result (StageGrows root.now stage.old part.now stage.new) }
-    ensures err { OnErr result ((stage.new ≡ stage.old) × ((text : List ℕ) → IsStageOf root.now text stage.old → IsHeaded root.now text)) }
+    ensures err { OnErr result ((stage.new ≡ stage.old)
+        × ((text : List ℕ) → IsStageOf root.now text stage.old → IsHeaded root.now text)) }
 {
     match stage {
         Stage::Header(line) => {
@@ -91,7 +92,8 @@ pub(crate) fn finish(alloc: Global, root: Table, stage: Stage) -> Result<(Board,
 // Behind a first line, of which this is kept: the text has so many bytes.
 fn ended(alloc: Global, root: &Table, line: &[u8], after: u64) -> Result<Stage, NoMemory>
     requires { (u : ℕ) × InOrder u (entry_of root.now) }
-    ensures ok { IfOk result (λ next. (text : List ℕ) → length text + 1 ≡ after → HasNoNewline text → line.now ≡ header_start text
+    ensures ok { IfOk result (λ next. (text : List ℕ) → length text + 1 ≡ after → HasNoNewline text
+        → line.now ≡ header_start text
         → IsStageOf root.now (text ++ 10 ∷ []) next) }
     ensures err { OnErr result ((format : Version) × NamesRoot format line.now root.now) }
 {

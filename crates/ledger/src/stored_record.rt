@@ -50,8 +50,10 @@ impl StoredRecord {
     ) -> Result<StoredRecord, OfferFault>
         requires { IsJudgedSo judging (recorded r.now) }
         ensures certified { OnOk result (IsCertified (recorded r.now)) }
-        ensures claim { IfOk result (λ stored. owned_claim stored.certificate ≡ scored r.now.table (claim_of r.now.certificate)) }
-        ensures pair { IfOk result (λ stored. IsPairOf (ending_by (owned_claim stored.certificate)) r.now.table stored.halts_on) }
+        ensures claim { IfOk result (λ stored. owned_claim stored.certificate
+            ≡ scored r.now.table (claim_of r.now.certificate)) }
+        ensures pair { IfOk result (λ stored. IsPairOf (ending_by (owned_claim stored.certificate)) r.now.table
+            stored.halts_on) }
         ensures parent { IfOk result (λ stored. stored.parent ≡ parent) }
         ensures tree { IfOk result (λ stored. stored.tree ≡ tree) }
         ensures refusal { IfErr result (λ f. IsWhyRefused f (recorded r.now)) }
@@ -87,7 +89,8 @@ pub(crate) fn judged_as(alloc: Global, r: &Record, judging: Judging) -> Result<J
     requires { IsJudgedSo judging (recorded r.now) }
     ensures certified { OnOk result (IsCertified (recorded r.now)) }
     ensures verdict { IfOk result (λ judged. judged.verdict ≡ shown_by (claim_of r.now.certificate) r.now.table) }
-    ensures pair { IfOk result (λ judged. IsPairOf (ending_by (claim_of r.now.certificate)) r.now.table judged.halts_on) }
+    ensures pair { IfOk result (λ judged. IsPairOf (ending_by (claim_of r.now.certificate)) r.now.table
+        judged.halts_on) }
     ensures refusal { IfErr result (λ f. IsWhyRefused f (recorded r.now)) }
 {
     match judging {
@@ -97,11 +100,12 @@ pub(crate) fn judged_as(alloc: Global, r: &Record, judging: Judging) -> Result<J
     }
 }
 
-// The same; whether the certificate stands is judged.
+// What a record's certificate shows, once it is judged.
 fn judged(alloc: Global, r: &Record) -> Result<Judged, OfferFault>
     ensures certified { OnOk result (IsCertified (recorded r.now)) }
     ensures verdict { IfOk result (λ judged. judged.verdict ≡ shown_by (claim_of r.now.certificate) r.now.table) }
-    ensures pair { IfOk result (λ judged. IsPairOf (ending_by (claim_of r.now.certificate)) r.now.table judged.halts_on) }
+    ensures pair { IfOk result (λ judged. IsPairOf (ending_by (claim_of r.now.certificate)) r.now.table
+        judged.halts_on) }
     ensures refusal { IfErr result (λ f. IsWhyRefused f (recorded r.now)) }
 {
     match judge_on(alloc, r) {
@@ -111,10 +115,11 @@ fn judged(alloc: Global, r: &Record) -> Result<Judged, OfferFault>
     }
 }
 
-// The same of a certificate that is known to stand: only a table that halts is run, for its score and its children.
+// What a certificate shows that is known to stand: only a table that halts is run, for its score and its children.
 fn certified(alloc: Global, r: &Record) -> Result<Judged, OfferFault>
     ensures verdict { IfOk result (λ judged. judged.verdict ≡ shown_by (claim_of r.now.certificate) r.now.table) }
-    ensures pair { IfOk result (λ judged. IsPairOf (ending_by (claim_of r.now.certificate)) r.now.table judged.halts_on) }
+    ensures pair { IfOk result (λ judged. IsPairOf (ending_by (claim_of r.now.certificate)) r.now.table
+        judged.halts_on) }
     ensures refusal { IfErr result (λ f. IsWhyRefused f (recorded r.now)) }
 {
     match r.certificate.ending() {

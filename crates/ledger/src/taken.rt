@@ -2,10 +2,10 @@
 /// What became of an offered record.
 #[derive(Clone, Copy, Debug, PartialEq, Eq)]
 pub enum Taken {
-    /// Its table was open, and has it as its record now.
+    /// The table was open, and has the record now.
     New,
-    /// Its table had a verdict, or was a holdout for which no verdict was offered. Nothing changed.
+    /// The table had a verdict, or was a holdout for which no verdict was offered. Nothing changed.
     Known,
-    /// Its table was a holdout, and has a verdict now.
+    /// The table was a holdout, and has a verdict now.
     Settled,
 }

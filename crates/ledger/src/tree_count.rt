@@ -34,7 +34,7 @@ pub(crate) struct TreeChange {
 }
 
 impl TreeCount {
-    // Those of an open table: there is nothing else in its tree.
+    // The numbers of an open table: there is nothing else in its tree.
     pub fn first() -> TreeCount
         ensures { result ≡ first_count }
     {
@@ -46,7 +46,7 @@ impl TreeCount {
         }
     }
 
-    // Those after a change.
+    // The numbers after a change.
     pub fn with(self, change: TreeChange) -> TreeCount
         requires { MayChange self change }
         ensures { result ≡ changed_count change self }

@@ -21,7 +21,8 @@ impl Board {
     /// was.
     pub fn write_ledger(&self, out: &mut Vec<u8>) -> Result<(), NoMemory>
         ensures ok { OnOk result (out.new.items ≡ out.old.items ++ ledger_text self.now.root self.now.records) }
-        ensures whole { OnOk result (ReadsIn Two self.now.root (drop (length out.old.items) out.new.items) self.now.records Nothing) }
+        ensures whole { OnOk result (ReadsIn Two self.now.root (drop (length out.old.items) out.new.items)
+            self.now.records Nothing) }
         ensures err { OnErr result (out.new.items ≡ out.old.items) }
     {
         ledgers_load_whole();

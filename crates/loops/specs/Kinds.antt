@@ -18,7 +18,8 @@ use Rattle.loops.specs.Limits.{time_limit}
 
 -- two times
 abbrev pub cycle_by : List (List ℕ) → Result Cycle FieldFault
-cycle_by (i ∷ (j ∷ [])) = with_value (decimal_value i) (λ i. with_value (decimal_value j) (λ j. Ok (record { i = i; j = j })))
+cycle_by (i ∷ (j ∷ [])) = with_value (decimal_value i)
+    (λ i. with_value (decimal_value j) (λ j. Ok (record { i = i; j = j })))
 cycle_by fields = Err BadKind
 
 abbrev pub cycle_fields : Cycle → List (List ℕ)
@@ -27,7 +28,8 @@ cycle_fields c = decimal c.i ∷ (decimal c.j ∷ [])
 -- two times and a side
 abbrev pub translated_by : List (List ℕ) → Result Translated FieldFault
 translated_by (i ∷ (j ∷ (side ∷ []))) =
-    with_value (decimal_value i) (λ i. with_value (decimal_value j) (λ j. with_value (side_of side) (λ side. Ok (record { i = i; j = j; side = side }))))
+    with_value (decimal_value i) (λ i. with_value (decimal_value j)
+    (λ j. with_value (side_of side) (λ side. Ok (record { i = i; j = j; side = side }))))
 translated_by fields = Err BadKind
 
 abbrev pub translated_fields : Translated → List (List ℕ)

@@ -7,7 +7,7 @@ pub fn cycles_are_a_kind()
     ensures { IsKind cycle_kind }
 {}
 
-/// So are translated cycles.
+/// Translated cycles are a kind.
 pub fn translated_cycles_are_a_kind()
     ensures { IsKind translated_kind }
 {}

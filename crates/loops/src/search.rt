@@ -19,7 +19,7 @@ pub(crate) trait Watch: Drop {
     // A loop that is found.
     type Loop;
 
-    // It has looked at the run of a table up to just before a time.
+    // The search has looked at the run of a table up to just before a time.
     ghost has_seen: { Self → Packed → ℕ → Type 0 };
 
     // The run of a table has the loop.

@@ -90,5 +90,6 @@ unless_faulty (f ∷ others) p = Err f
 -- what a text is read as: its length is judged first
 unfoldable pub table_of : List ℕ → Result Packed TextFault
 table_of text =
-    if is_table_length (length text) then unless_faulty (faults_of (states_in (length text)) text) (table_named (states_in (length text)) text)
+    if is_table_length (length text) then unless_faulty (faults_of (states_in (length text)) text)
+    (table_named (states_in (length text)) text)
     else Err BadLength

@@ -27,7 +27,8 @@ lists_by s =
 
 -- a width and three lists, for a table of n states
 abbrev pub ngram_by : ℕ → List (List ℕ) → Result Lists FieldFault
-ngram_by n (g ∷ (left ∷ (right ∷ (local ∷ [])))) = with_value (width_in (decimal_value g)) (λ g. lists_by (lists n g left right local))
+ngram_by n (g ∷ (left ∷ (right ∷ (local ∷ [])))) = with_value (width_in (decimal_value g))
+    (λ g. lists_by (lists n g left right local))
 ngram_by n fields = Err BadKind
 
 abbrev pub ngram_fields : Lists → List (List ℕ)
@@ -47,5 +48,6 @@ ngram_kind = record {
     stands = λ p. AreLists s × IsPositionSet s p;
     takes_memory = ⊥;
   };
-  law = λ s p table stands. closed_never (entry_of p) (λ w. IsItem s.width s.left (word_text w)) (λ w. IsItem s.width s.right (word_text w)) (IsLocalItem s) s.width stands.1.closed;
+  law = λ s p table stands. closed_never (entry_of p) (λ w. IsItem s.width s.left (word_text w))
+      (λ w. IsItem s.width s.right (word_text w)) (IsLocalItem s) s.width stands.1.closed;
 }

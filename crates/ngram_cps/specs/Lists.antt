@@ -15,7 +15,8 @@ pub record Lists : Type 0 where
   pub local : List ℕ
 
 abbrev pub lists : ℕ → ℕ → List ℕ → List ℕ → List ℕ → Lists
-lists states width left right local = record { states = states; width = width; left = left; right = right; local = local }
+lists states width left right local = record
+    { states = states; width = width; left = left; right = right; local = local }
 
 -- each of the texts is a list of its kind
 pub record AreLists (s : Lists) : Type 0 where
@@ -38,4 +39,5 @@ pub record IsLocalItem (s : Lists) (c : Local) : Type 0 where
 -- the table has as many states as they were made for, and no step of it leaves them
 pub record IsPositionSet (s : Lists) (p : Packed) : Type 0 where
   pub states : s.states ≡ p.states
-  pub closed : IsClosedSet s.width (entry_of p) (λ w. IsItem s.width s.left (word_text w)) (λ w. IsItem s.width s.right (word_text w)) (IsLocalItem s)
+  pub closed : IsClosedSet s.width (entry_of p) (λ w. IsItem s.width s.left (word_text w))
+      (λ w. IsItem s.width s.right (word_text w)) (IsLocalItem s)

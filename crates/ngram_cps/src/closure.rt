@@ -108,7 +108,8 @@ impl Ngram<'_> {
     // Whether the left word after a move to the right is in its list.
     fn leaves_left(&self, bytes: &[u8], entry: Entry) -> bool
         requires { length bytes.now ≡ 2 * self.now.width + 2 }
-        ensures { IsTrue result ↔ IsItem self.now.width self.now.left.text.now (left_after self.now.width bytes.now (symbol_byte entry.write)) }
+        ensures { IsTrue result ↔ IsItem self.now.width self.now.left.text.now
+            (left_after self.now.width bytes.now (symbol_byte entry.write)) }
     {
         self.left.contains(left_after(
             self.width as usize,
@@ -120,7 +121,8 @@ impl Ngram<'_> {
     // Whether the right word after a move to the left is in its list.
     fn leaves_right(&self, bytes: &[u8], entry: Entry) -> bool
         requires { length bytes.now ≡ 2 * self.now.width + 2 }
-        ensures { IsTrue result ↔ IsItem self.now.width self.now.right.text.now (right_after self.now.width bytes.now (symbol_byte entry.write)) }
+        ensures { IsTrue result ↔ IsItem self.now.width self.now.right.text.now
+            (right_after self.now.width bytes.now (symbol_byte entry.write)) }
     {
         self.right.contains(right_after(
             self.width as usize,
@@ -144,7 +146,7 @@ impl Ngram<'_> {
         self.local.contains(local_right(g, bytes, symbol_byte(entry.write), next, seen).as_slice())
     }
 
-    // The same of a move to the left.
+    // Whether what follows by a move to the left is there.
     fn follows_left(&self, bytes: &[u8], entry: Entry, seen: u8) -> bool
         requires size { length bytes.now ≡ 2 * self.now.width + 2 }
         requires next { entry.next.0 < state_limit }

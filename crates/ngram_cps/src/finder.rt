@@ -60,7 +60,8 @@ impl NgramFinder {
         ensures lists { IfOk result (λ o. IfSome o (λ e. AreLists (owned_lists e))) }
         ensures width { IfOk result (λ o. IfSome o (λ e. (owned_lists e).width ≤ min self.old.width width_limit)) }
         ensures short { IfOk result (λ o. IfSome o (λ e.
-            length (owned_lists e).left + length (owned_lists e).right + length (owned_lists e).local ≤ list_byte_limit)) }
+            length (owned_lists e).left + length (owned_lists e).right + length (owned_lists e).local
+            ≤ list_byte_limit)) }
         ensures same { self.new.width ≡ self.old.width }
     {
         let widest = self.width.min(MAX_WIDTH as u64) as u8;
@@ -87,7 +88,8 @@ impl NgramFinder {
         ensures lists { IfOk result (λ o. IfSome o (λ e. AreLists (owned_lists e))) }
         ensures width { IfOk result (λ o. IfSome o (λ e. (owned_lists e).width ≡ width)) }
         ensures short { IfOk result (λ o. IfSome o (λ e.
-            length (owned_lists e).left + length (owned_lists e).right + length (owned_lists e).local ≤ list_byte_limit)) }
+            length (owned_lists e).left + length (owned_lists e).right + length (owned_lists e).local
+            ≤ list_byte_limit)) }
         ensures same { self.new.width ≡ self.old.width }
     {
         if width == 0 || width > self.width.min(MAX_WIDTH as u64) {
@@ -112,7 +114,8 @@ impl NgramFinder {
         ensures lists { IfOk result (λ o. IfSome o (λ e. AreLists (owned_lists e))) }
         ensures width { IfOk result (λ o. IfSome o (λ e. (owned_lists e).width ≡ width.symbols)) }
         ensures short { IfOk result (λ o. IfSome o (λ e.
-            length (owned_lists e).left + length (owned_lists e).right + length (owned_lists e).local ≤ list_byte_limit)) }
+            length (owned_lists e).left + length (owned_lists e).right + length (owned_lists e).local
+            ≤ list_byte_limit)) }
         ensures same { self.new.width ≡ self.old.width }
     {
         // A member and its comma have so many bytes.
@@ -131,7 +134,8 @@ impl NgramFinder {
         ensures lists { IfOk result (λ o. IfSome o (λ e. AreLists (owned_lists e))) }
         ensures width { IfOk result (λ o. IfSome o (λ e. (owned_lists e).width ≡ width.symbols)) }
         ensures short { IfOk result (λ o. IfSome o (λ e.
-            length (owned_lists e).left + length (owned_lists e).right + length (owned_lists e).local ≤ list_byte_limit)) }
+            length (owned_lists e).left + length (owned_lists e).right + length (owned_lists e).local
+            ≤ list_byte_limit)) }
     {
         let ListTexts { left, right, local } = &self.texts;
         if !Ngram::are_short(left, right, local) {

@@ -21,7 +21,7 @@ pub(crate) fn join_champions(
     }
 }
 
-// The same where each has a greatest number.
+// Joins champions where each side has a greatest number.
 fn join_by(tables: &mut Vec<Table>, best: u64, more: Vec<Table>, best_of_more: u64)
     requires { vec_len tables.old + vec_len more ≤ vec_capacity tables.old }
     ensures { tables.new.items ≡ champions_of_both (Some best) tables.old.items (Some best_of_more) more.items }

@@ -32,7 +32,7 @@ pub fn parts_are_held()
         IsClosed root (mark_in (rs ++ ps)) t ↔ IsClosed r (mark_in ps) t }
 {}
 
-/// The same of a trunk and any number of parts: they are held together, recorded is what one of them records, and open is
+/// A trunk and any number of parts are held together: recorded is what one of them records, and open is
 /// what the trunk leaves open and is no part's root, and what a part leaves open. So where each open table of the trunk is
 /// the root of a part, the trunk has no holdout and each part is complete, all together are complete. In whichever order
 /// the parts come, all together say the same of each table.

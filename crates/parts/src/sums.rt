@@ -21,7 +21,7 @@ pub(crate) struct Sums {
 }
 
 impl Sums {
-    // Those of a board.
+    // The sums of a board.
     pub fn of(alloc: Global, board: &Board) -> Result<Sums, NoMemory>
         ensures { IfOk result (λ sums. AreTotals board.now.root board.now.records (totals_of sums)) }
     {

@@ -9,7 +9,8 @@ use Rattle.run.specs.declared.halts_in.HaltsIn.{HaltsIn}
 -- a number of steps, and a number of ones where it is given
 abbrev pub halts_by : List (List ℕ) → Result HaltsIn FieldFault
 halts_by (k ∷ []) = with_value (decimal_value k) (λ k. Ok (record { steps = k; ones = None }))
-halts_by (k ∷ s ∷ []) = with_value (decimal_value k) (λ k. with_value (decimal_value s) (λ s. Ok (record { steps = k; ones = Some s })))
+halts_by (k ∷ s ∷ []) = with_value (decimal_value k)
+    (λ k. with_value (decimal_value s) (λ s. Ok (record { steps = k; ones = Some s })))
 halts_by fields = Err BadKind
 
 abbrev pub ones_fields : Option ℕ → List (List ℕ)

@@ -13,11 +13,13 @@ pub record RunState : Type 0 where
 
 abbrev pub packed_code : Coded Packed
 packed_code =
-    code_by (List ℕ × ℕ) (coded× (coded_list coded_ℕ) coded_ℕ) (λ p. (p.codes, p.states)) (λ c. record { codes = c.0; states = c.1 }) (λ _. refl)
+    code_by (List ℕ × ℕ) (coded× (coded_list coded_ℕ) coded_ℕ) (λ p. (p.codes, p.states))
+    (λ c. record { codes = c.0; states = c.1 }) (λ _. refl)
 
 abbrev pub run_state_code : Coded RunState
 run_state_code =
-    code_by (Packed × (ℕ × Config)) (coded× packed_code (coded× coded_ℕ config_code)) (λ r. (r.table, (r.steps, r.config))) (λ c. record { table = c.0; steps = c.1.0; config = c.1.1 }) (λ _. refl)
+    code_by (Packed × (ℕ × Config)) (coded× packed_code (coded× coded_ℕ config_code))
+    (λ r. (r.table, (r.steps, r.config))) (λ c. record { table = c.0; steps = c.1.0; config = c.1.1 }) (λ _. refl)
 
 -- the configuration is that of the run at this time
 pub record OnRun (r : RunState) : Type 0 where

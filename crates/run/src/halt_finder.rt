@@ -33,7 +33,8 @@ impl HaltFinder {
         ensures found { IfOk result (λ o. IfSome o (λ e. HaltsAt (entry_of t.now) e.steps)) }
         ensures score { IfOk result (λ o. IfSome o (λ e. e.ones ≡ Some (score_at (entry_of t.now) e.steps))) }
         ensures within { IfOk result (λ o. IfSome o (λ e. e.steps ≤ min (min self.old.steps budget) halt_step_limit)) }
-        ensures none { IfOk result (λ o. IfNone o ((k : ℕ) → k ≤ min (min self.old.steps budget) halt_step_limit → HaltsAt (entry_of t.now) k → ⊥)) }
+        ensures none { IfOk result (λ o. IfNone o
+            ((k : ℕ) → k ≤ min (min self.old.steps budget) halt_step_limit → HaltsAt (entry_of t.now) k → ⊥)) }
         ensures same { self.new.steps ≡ self.old.steps }
     {
         let limit = self.steps.min(budget).min(MAX_HALT_STEPS);

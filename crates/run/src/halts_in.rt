@@ -28,7 +28,7 @@ pub struct HaltsIn {
 pub struct Halted {
     /// The pair on which it does: the state of its last configuration, and the symbol that it reads there.
     pub pair: Pair,
-    /// Its score: the number of ones on its tape after the halting step, which writes one (Radó 1962).
+    /// The score: the number of ones on the tape after the halting step, which writes one (Radó 1962).
     pub ones: u64,
 }
 
@@ -68,10 +68,12 @@ impl HaltsIn {
     pub fn halted(&self, alloc: Global, t: &Table) -> Result<Halted, Refused>
         ensures within { OnOk result (self.now.steps ≤ halt_step_limit) }
         ensures stands { OnOk result (HaltsAsClaimed self.now t.now) }
-        ensures pair { IfOk result (λ halted. HaltsOn (entry_of t.now) self.now.steps halted.pair.state.0 halted.pair.symbol) }
+        ensures pair { IfOk result (λ halted. HaltsOn (entry_of t.now) self.now.steps halted.pair.state.0
+            halted.pair.symbol) }
         ensures state { IfOk result (λ halted. halted.pair.state.0 < t.now.states) }
         ensures score { IfOk result (λ halted. halted.ones ≡ score_at (entry_of t.now) self.now.steps) }
-        ensures fails { result ≡ Err Refused.Fails → (self.now.steps ≤ halt_step_limit) × (HaltsAsClaimed self.now t.now → ⊥) }
+        ensures fails { result ≡ Err Refused.Fails → (self.now.steps ≤ halt_step_limit)
+            × (HaltsAsClaimed self.now t.now → ⊥) }
         ensures long { result ≡ Err Refused.TooLong → self.now.steps ≤ halt_step_limit → ⊥ }
         ensures narrow { result ≡ Err Refused.TooWide → ⊥ }
         ensures memory { result ≡ Err Refused.NoMemory → self.now.steps ≤ halt_step_limit }

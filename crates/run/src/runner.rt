@@ -12,7 +12,7 @@ use tape::{NoMemory, Tape};
 /// What a step came to.
 #[derive(Clone, Copy, Debug, PartialEq, Eq)]
 pub enum Step {
-    /// It was carried out.
+    /// The step was done.
     Went,
     /// The run stands on a halting pair: it halts in `count` steps, of which this is the last.
     Halts { count: u64 },

@@ -121,7 +121,8 @@ fn gather_token(
     requires taken { SectionsRopesBelow (length ropes.old) taken.old.items }
     ensures old { RopesAdded ropes.old ropes.new }
     ensures gathers { OnOk result
-        (TakesOff (λ l. separator_left digit l) ropes.old ropes.new left.old.items left.new.items taken.old.items taken.new.items) }
+        (TakesOff (λ l. separator_left digit l) ropes.old ropes.new left.old.items left.new.items taken.old.items
+        taken.new.items) }
 {
     if !is_wanted(digit, want) {
         left.push(Token::Separator(digit))?;
@@ -141,7 +142,8 @@ fn gather_separator(
     requires taken { SectionsRopesBelow (length ropes.old) taken.old.items }
     ensures old { RopesAdded ropes.old ropes.new }
     ensures gathers { OnOk result
-        (TakesOff (λ l. separator_left digit l) ropes.old ropes.new left.old.items left.new.items taken.old.items taken.new.items) }
+        (TakesOff (λ l. separator_left digit l) ropes.old ropes.new left.old.items left.new.items taken.old.items
+        taken.new.items) }
 {
     open_ropes(ropes, left)?;
     let Some(top) = left.pop() else {

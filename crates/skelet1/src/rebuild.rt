@@ -107,7 +107,8 @@ fn rebuild_separator(
     requires { RopesBelow (length ropes.old) left.old.items }
     ensures old { RopesAdded ropes.old ropes.new }
     ensures rebuilds { IfOk result
-        (λ a. Rebuilds (Separator digit before) given inside a count ropes.old ropes.new left.old.items left.new.items) }
+        (λ a. Rebuilds (Separator digit before) given inside a count ropes.old ropes.new left.old.items
+        left.new.items) }
 {
     if digit > 3 {
         return Err(Fault::NoRule);

@@ -55,11 +55,14 @@ IsReached ones = HasOnesWithin ones (neg_ℤ place_limit -ℤ pos 64) (place_lim
 
 -- each one at or beyond a place has a one of the other tape `shift` further to the right
 abbrev pub OnesWithin : Dir → ℤ → ℤ → set.FinSet int_cmp → set.FinSet int_cmp → Type 0
-OnesWithin side from shift ones others = (x : ℤ) → Beyond side from x → cell_of ones x ≡ One → cell_of others (x +ℤ shift) ≡ One
+OnesWithin side from shift ones others = (x : ℤ) → Beyond side from x → cell_of ones x ≡ One
+    → cell_of others (x +ℤ shift) ≡ One
 
 -- the same for the ones of the word so numbered alone
 abbrev pub WordWithin : Dir → ℤ → ℤ → ℕ → set.FinSet int_cmp → set.FinSet int_cmp → Type 0
-WordWithin side from shift block ones others = (i : ℕ) → i < 64 → Beyond side from (place_numbered (64 * block + i)) → cell_of ones (place_numbered (64 * block + i)) ≡ One → cell_of others (place_numbered (64 * block + i) +ℤ shift) ≡ One
+WordWithin side from shift block ones others = (i : ℕ) → i < 64 → Beyond side from (place_numbered (64 * block + i))
+    → cell_of ones (place_numbered (64 * block + i)) ≡ One
+    → cell_of others (place_numbered (64 * block + i) +ℤ shift) ≡ One
 
 -- the bit so many cells ahead of a bit, on a side
 abbrev pub bit_ahead : Dir → ℕ → ℕ → ℕ

@@ -110,7 +110,8 @@ pub(crate) fn with_symbols(word: u64, bit: u32, dir: Dir, count: u32, s: Sym) ->
     requires some { 0 < count }
     requires inside { HasCells dir bit count }
     ensures here { (i : ℕ) → i < count → bit_symbol (bit_at result (bit_ahead dir bit i)) ≡ s }
-    ensures others { (j : ℕ) → j < 64 → ((i : ℕ) → i < count → j ≢ bit_ahead dir bit i) → bit_at result j ≡ bit_at word j }
+    ensures others { (j : ℕ) → j < 64 → ((i : ℕ) → i < count → j ≢ bit_ahead dir bit i)
+        → bit_at result j ≡ bit_at word j }
 {
     let cells = up_to(count - 1) << lowest(bit, dir, count);
     match s {

@@ -59,7 +59,8 @@ impl Tape {
     pub(crate) fn blocks(&self) -> (u64, u64)
         ensures reached { IsReached self.now.ones }
         ensures bound { result.1 < 2 ^ 58 }
-        ensures all { HasOnesWithin self.now.ones (place_numbered (64 * result.0)) (place_numbered (64 * result.1) -ℤ pos 1) }
+        ensures all { HasOnesWithin self.now.ones (place_numbered (64 * result.0))
+            (place_numbered (64 * result.1) -ℤ pos 1) }
     {
         let first = self.block - self.left.len() as u64;
         let end = self.block + self.right.len() as u64 + 1;

@@ -44,7 +44,7 @@ impl Tape {
         true
     }
 
-    // The same for the ones of the word so numbered alone.
+    // Whether the ones of the word so numbered alone are in the other tape.
     fn word_is_in(&self, other: &Tape, block: u64, from: i64, shift: i64, side: Dir) -> bool
         requires { block < 2 ^ 58 }
         ensures { IsTrue result ↔ WordWithin side from shift block self.now.ones other.now.ones }

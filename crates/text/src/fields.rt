@@ -36,7 +36,8 @@ pub fn next_field<'a>(fields: &mut Parts<'a>) -> Result<&'a [u8], FieldFault>
 /// Behind the last field stands no other.
 pub fn end_of(mut fields: Parts<'_>) -> Result<(), FieldFault>
     ensures ok { OnOk result (fields.entry ≡ []) }
-    ensures err { IfErr result (λ fault. (fault ≡ FieldFault.BadKind) × (field : List ℕ) × (left : List (List ℕ)) × (fields.entry ≡ field ∷ left)) }
+    ensures err { IfErr result (λ fault. (fault ≡ FieldFault.BadKind) × (field : List ℕ) × (left : List (List ℕ))
+        × (fields.entry ≡ field ∷ left)) }
 {
     match fields.next() {
         Some(_) => Err(FieldFault::BadKind),

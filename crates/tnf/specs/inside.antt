@@ -33,7 +33,8 @@ entries_after targets first Zero L = entries_to targets Zero R ++ ones_from targ
 unfoldable pub entries_left : ℕ → Dir → Option Entry → List Entry
 entries_left targets first None = []
 entries_left targets first (Some e) =
-    map (λ q. record { write = e.write; dir = e.dir; next = record { 0 = q } }) (range_with_len e.next.0 (targets - e.next.0))
+    map (λ q. record { write = e.write; dir = e.dir; next = record { 0 = q } })
+    (range_with_len e.next.0 (targets - e.next.0))
     ++ entries_after targets first e.write e.dir
 
 -- the tables that have those entries at a pair

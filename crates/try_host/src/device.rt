@@ -31,7 +31,7 @@ impl Share {
 #[derive(Clone, Copy, Drop)]
 pub(crate) enum Call {
     Succeeds,
-    // It fails, and so much of it is done.
+    // A call fails, and so much of it is done.
     Fails(Share),
 }
 

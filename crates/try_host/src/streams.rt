@@ -15,7 +15,7 @@ pub struct Input<'a> {
 }
 
 impl<'a> Input<'a> {
-    /// These bytes.
+    /// The bytes that a step gives.
     pub fn of(room: &'a Room<'a>, step: &'a Step, given: &'a [u8]) -> Input<'a> {
         Input {
             room,
@@ -68,7 +68,7 @@ impl Read for Input<'_> {
 #[derive(Drop)]
 pub struct Output<'a> {
     room: &'a Room<'a>,
-    // Its name where its calls are written down.
+    // The stream's name where its calls are written down.
     name: Option<&'static str>,
     device: Device,
     pub kept: Vec<u8>,

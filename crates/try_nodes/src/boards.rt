@@ -199,7 +199,7 @@ fn say_champions(board: &Board, said: &mut Said) -> Result<(), NoMemory> {
     Ok(())
 }
 
-// The same in one pass, and behind another `/` the holdouts.
+// Says champions of both sorts in one pass, and behind another `/` the holdouts.
 fn say_selected(board: &Board, said: &mut Said) -> Result<(), NoMemory> {
     let (longest, fullest, holdouts) = board.champions_and_holdouts()?;
     for table in longest {

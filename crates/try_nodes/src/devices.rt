@@ -83,7 +83,7 @@ impl Session<'_> {
         })
     }
 
-    // The same, or wrong where the ledger isn't whole.
+    // What came, or wrong where the ledger isn't whole.
     fn came_whole(self, came: Came, ledger: &[u8]) -> Came {
         if ledger == self.kept {
             came

@@ -23,11 +23,11 @@ pub struct FileText {
 /// What has to stand somewhere.
 #[derive(Drop)]
 pub enum Said {
-    /// These bytes.
+    /// Exactly some bytes.
     Bytes(Vec<u8>),
-    /// These bytes, and some behind them.
+    /// Some bytes, and any behind them.
     Beginning(Vec<u8>),
-    /// These, one behind another, with anything between.
+    /// Texts, one behind another, with anything between.
     Pieces(Vec<Vec<u8>>),
     /// Anything but nothing, which the case doesn't compare.
     Something,

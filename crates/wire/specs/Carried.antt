@@ -55,10 +55,12 @@ Answering N = N → Happening → Result Out NodeFault → N → Type 0
 abbrev pub Carried : {N : Type 0} → Answering N → Scene N → List Reply → Scene N → Type 0
 Carried answers old [] new = new ≡ old
 Carried {N} answers old (reply ∷ replies) new =
-    (node : N) × answers old.node reply.to (Ok reply.out) node × Carried answers (carried reply.out node old) replies new
+    (node : N) × answers old.node reply.to (Ok reply.out) node
+    × Carried answers (carried reply.out node old) replies new
 
 -- a beginning of what happened was handed over in its order, and the answers to it were carried out whole
-pub record Handed {N : Type 0} (answers : Answering N) (old : Scene N) (events : List Happening) (left : List Happening) (new : Scene N) : Type 0 where
+pub record Handed {N : Type 0} (answers : Answering N) (old : Scene N) (events : List Happening) (left : List Happening)
+    (new : Scene N) : Type 0 where
   pub replies : List Reply
   pub order : events ≡ map (λ reply. reply.to) replies ++ left
   pub whole : Carried answers old replies new
@@ -67,15 +69,18 @@ pub record Handed {N : Type 0} (answers : Answering N) (old : Scene N) (events :
 -- before any frame of it was sent, and the node was stopped; of the node, which gave no answer
 abbrev pub Faulted : {N : Type 0} → Answering N → (N → Type 0) → Scene N → Happening → TurnFault → Scene N → Type 0
 Faulted answers is_stopped old event LinkFault new =
-    (out : Out) × answers old.node event (Ok out) new.node × (new.text ≡ kept_text out old.text) × IsBegun old.sent out.frames.items new.sent
+    (out : Out) × answers old.node event (Ok out) new.node × (new.text ≡ kept_text out old.text)
+    × IsBegun old.sent out.frames.items new.sent
 Faulted {N} answers is_stopped old event LedgerFault new =
-    (out : Out) × (node : N) × answers old.node event (Ok out) node × is_stopped new.node × IsPartlyKept out old.text new.text × (new.sent ≡ old.sent)
+    (out : Out) × (node : N) × answers old.node event (Ok out) node × is_stopped new.node
+    × IsPartlyKept out old.text new.text × (new.sent ≡ old.sent)
 Faulted answers is_stopped old event (Node fault) new =
     answers old.node event (Err fault) new.node × (new.text ≡ old.text) × (new.sent ≡ old.sent)
 Faulted answers is_stopped old event NoMemory new = ⊥
 
 -- these events were to be handed over, and one of them brought a fault when those before it were carried out
-pub record BrokenOff {N : Type 0} (answers : Answering N) (is_stopped : N → Type 0) (old : Scene N) (events : List Happening) (fault : TurnFault) (left : List Happening) (new : Scene N) : Type 0 where
+pub record BrokenOff {N : Type 0} (answers : Answering N) (is_stopped : N → Type 0) (old : Scene N)
+    (events : List Happening) (fault : TurnFault) (left : List Happening) (new : Scene N) : Type 0 where
   pub event : Happening
   pub at : Scene N
   pub before : Handed answers old events (event ∷ left) at

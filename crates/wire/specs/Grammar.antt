@@ -36,7 +36,8 @@ ask_in text = decimal_value text >>= λ id. if nat_lt id (2 ^ 32) then Some (Ask
 abbrev pub grant_in : List ℕ → Option Message
 grant_in text =
     cut_at 32 text >>= λ first. cut_at 32 first.1 >>= λ second.
-    decimal_value first.0 >>= λ era. decimal_value second.0 >>= λ lease. read_table (table_of second.1) >>= λ table. Some (Grant era lease table)
+    decimal_value first.0 >>= λ era. decimal_value second.0 >>= λ lease. read_table (table_of second.1) >>= λ table.
+    Some (Grant era lease table)
 
 abbrev pub rec_in : List ℕ → Option Message
 rec_in text = read_record (record_of text) >>= λ r. Some (Rec r)
@@ -49,7 +50,8 @@ later_in text = read_table (table_of text) >>= λ table. Some (Later (Some table
 
 -- `era lease`
 abbrev pub done_in : List ℕ → Option Message
-done_in text = cut_at 32 text >>= λ cut. decimal_value cut.0 >>= λ era. decimal_value cut.1 >>= λ lease. Some (Done era lease)
+done_in text = cut_at 32 text >>= λ cut. decimal_value cut.0 >>= λ era. decimal_value cut.1 >>= λ lease.
+    Some (Done era lease)
 
 -- a word with a text behind it
 abbrev pub message_with : List ℕ → List ℕ → Option Message
@@ -87,7 +89,8 @@ message_of frame = if nat_lt line_byte_limit (length frame) then Err TooLong els
 -- the text of a message
 unfoldable pub message_text : Message → List ℕ
 message_text (Ask id) = codes "ASK " ++ decimal id
-message_text (Grant era lease table) = codes "GRANT " ++ decimal era ++ codes " " ++ decimal lease ++ codes " " ++ text_of table
+message_text (Grant era lease table) = codes "GRANT " ++ decimal era ++ codes " " ++ decimal lease ++ codes " "
+    ++ text_of table
 message_text (Rec r) = codes "REC " ++ record_text r
 message_text (Ack table) = codes "ACK " ++ text_of table
 message_text (Later None) = codes "LATER"

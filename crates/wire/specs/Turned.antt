@@ -30,18 +30,22 @@ abbrev pub IsUntouched : {N : Type 0} → Scene N → Stream → Stream → Scen
 IsUntouched old lines left new = (new ≡ old) × (left ≡ lines)
 
 -- the lines were handed over as far as one that brought a fault; those behind it are left
-abbrev pub IsBroken : {N : Type 0} → Answering N → (N → Type 0) → Scene N → Stream → TurnFault → Stream → Scene N → Type 0
+abbrev pub IsBroken : {N : Type 0} → Answering N → (N → Type 0) → Scene N → Stream → TurnFault → Stream → Scene N
+    → Type 0
 IsBroken answers is_stopped old lines fault left new =
-    BrokenOff answers is_stopped old (events_of lines.waiting) fault (events_of left.waiting) new × (left.rest ≡ lines.rest)
+    BrokenOff answers is_stopped old (events_of lines.waiting) fault (events_of left.waiting) new
+    × (left.rest ≡ lines.rest)
 
 -- how a turn ended in which this piece came: all lines that then were whole were handed over; or it ended at one of
 -- them; or before the first of them, where the link failed at once, or the lines of the piece weren't taken
-abbrev pub Turned : {N : Type 0} → Answering N → (N → Type 0) → Scene N → Stream → List ℕ → Result Turn TurnFault → Stream → Scene N → Type 0
+abbrev pub Turned : {N : Type 0} → Answering N → (N → Type 0) → Scene N → Stream → List ℕ → Result Turn TurnFault
+    → Stream → Scene N → Type 0
 Turned answers is_stopped old lines piece (Ok turn) left new =
     Handed answers old (events_of (fed lines piece).waiting) [] new
     × (left ≡ record { waiting = []; rest = (fed lines piece).rest }) × (turn ≡ turn_of piece)
 Turned answers is_stopped old lines piece (Err LinkFault) left new =
-    ((piece ≡ []) × IsUntouched old lines left new) ⊎ IsBroken answers is_stopped old (fed lines piece) LinkFault left new
+    ((piece ≡ []) × IsUntouched old lines left new)
+    ⊎ IsBroken answers is_stopped old (fed lines piece) LinkFault left new
 Turned answers is_stopped old lines piece (Err LedgerFault) left new =
     IsBroken answers is_stopped old (fed lines piece) LedgerFault left new
 Turned answers is_stopped old lines piece (Err (Node fault)) left new =

@@ -11,8 +11,10 @@ use crate::turned::TurnFault;
 
 /// Appends all of the bytes to a ledger, in as many calls as that takes; a call that takes none is a fault.
 pub fn append_all<W: LedgerOut>(ledger: &mut W, bytes: &[u8]) -> Result<(), Fault>
-    ensures ok { OnOk result ((W.text ledger.new ≡ grown (W.text ledger.old) bytes.now) × (W.failures ledger.new ≡ W.failures ledger.old)) }
-    ensures err { OnErr result ((W.failures ledger.old ≢ W.failures ledger.new) × IsBegun (W.text ledger.old) bytes.now (W.text ledger.new)) }
+    ensures ok { OnOk result ((W.text ledger.new ≡ grown (W.text ledger.old) bytes.now)
+        × (W.failures ledger.new ≡ W.failures ledger.old)) }
+    ensures err { OnErr result ((W.failures ledger.old ≢ W.failures ledger.new)
+        × IsBegun (W.text ledger.old) bytes.now (W.text ledger.new)) }
 {
     let mut done = 0;
     'calls: while done < bytes.len() {
@@ -27,8 +29,10 @@ pub fn append_all<W: LedgerOut>(ledger: &mut W, bytes: &[u8]) -> Result<(), Faul
 
 // Sends all of the bytes, in as many calls as that takes.
 pub(crate) fn send_all<L: Link>(link: &mut L, bytes: &[u8]) -> Result<(), Fault>
-    ensures ok { OnOk result ((L.sent link.new ≡ grown (L.sent link.old) bytes.now) × (L.failures link.new ≡ L.failures link.old)) }
-    ensures err { OnErr result ((L.failures link.old ≢ L.failures link.new) × IsBegun (L.sent link.old) bytes.now (L.sent link.new)) }
+    ensures ok { OnOk result ((L.sent link.new ≡ grown (L.sent link.old) bytes.now)
+        × (L.failures link.new ≡ L.failures link.old)) }
+    ensures err { OnErr result ((L.failures link.old ≢ L.failures link.new)
+        × IsBegun (L.sent link.old) bytes.now (L.sent link.new)) }
     ensures waiting { L.waiting link.new ≡ L.waiting link.old }
 {
     let mut done = 0;
@@ -44,7 +48,8 @@ pub(crate) fn send_all<L: Link>(link: &mut L, bytes: &[u8]) -> Result<(), Fault>
 
 // Carries out an answer's cut.
 fn cut<W: LedgerOut>(ledger: &mut W, at: Option<u64>) -> Result<(), Fault>
-    ensures ok { OnOk result ((W.text ledger.new ≡ cut_to at (W.text ledger.old)) × (W.failures ledger.new ≡ W.failures ledger.old)) }
+    ensures ok { OnOk result ((W.text ledger.new ≡ cut_to at (W.text ledger.old))
+        × (W.failures ledger.new ≡ W.failures ledger.old)) }
     ensures err { OnErr result ((W.failures ledger.old ≢ W.failures ledger.new)
         × ((W.text ledger.new ≡ W.text ledger.old) ⊎ (W.text ledger.new ≡ cut_to at (W.text ledger.old)))) }
 {
@@ -56,8 +61,10 @@ fn cut<W: LedgerOut>(ledger: &mut W, at: Option<u64>) -> Result<(), Fault>
 
 // Carries out an answer's cut, and then appends.
 pub(crate) fn keep<W: LedgerOut>(out: &Out, ledger: &mut W) -> Result<(), Fault>
-    ensures ok { OnOk result ((W.text ledger.new ≡ kept_text out.now (W.text ledger.old)) × (W.failures ledger.new ≡ W.failures ledger.old)) }
-    ensures err { OnErr result ((W.failures ledger.old ≢ W.failures ledger.new) × IsPartlyKept out.now (W.text ledger.old) (W.text ledger.new)) }
+    ensures ok { OnOk result ((W.text ledger.new ≡ kept_text out.now (W.text ledger.old))
+        × (W.failures ledger.new ≡ W.failures ledger.old)) }
+    ensures err { OnErr result ((W.failures ledger.old ≢ W.failures ledger.new)
+        × IsPartlyKept out.now (W.text ledger.old) (W.text ledger.new)) }
 {
     cut(ledger, out.cut)?;
     append_all(ledger, &out.append)
@@ -71,11 +78,15 @@ pub fn carry_out<N: Node, L: Link, W: LedgerOut>(
     ledger: &mut W,
     out: &Out,
 ) -> Result<(), TurnFault>
-    ensures ok { OnOk result ((node.new ≡ node.old) × (W.text ledger.new ≡ kept_text out.now (W.text ledger.old)) × (L.sent link.new ≡ grown (L.sent link.old) out.now.frames.items)
+    ensures ok { OnOk result ((node.new ≡ node.old) × (W.text ledger.new ≡ kept_text out.now (W.text ledger.old))
+        × (L.sent link.new ≡ grown (L.sent link.old) out.now.frames.items)
         × (W.failures ledger.new ≡ W.failures ledger.old) × (L.failures link.new ≡ L.failures link.old)) }
-    ensures link { result ≡ Err TurnFault.LinkFault → (node.new ≡ node.old) × (W.text ledger.new ≡ kept_text out.now (W.text ledger.old)) × IsBegun (L.sent link.old) out.now.frames.items (L.sent link.new)
+    ensures link { result ≡ Err TurnFault.LinkFault → (node.new ≡ node.old)
+        × (W.text ledger.new ≡ kept_text out.now (W.text ledger.old))
+        × IsBegun (L.sent link.old) out.now.frames.items (L.sent link.new)
         × (W.failures ledger.new ≡ W.failures ledger.old) × (L.failures link.old ≢ L.failures link.new) }
-    ensures ledger { result ≡ Err TurnFault.LedgerFault → N.is_stopped node.new × IsPartlyKept out.now (W.text ledger.old) (W.text ledger.new) × (L.sent link.new ≡ L.sent link.old)
+    ensures ledger { result ≡ Err TurnFault.LedgerFault → N.is_stopped node.new
+        × IsPartlyKept out.now (W.text ledger.old) (W.text ledger.new) × (L.sent link.new ≡ L.sent link.old)
         × (W.failures ledger.old ≢ W.failures ledger.new) × (L.failures link.new ≡ L.failures link.old) }
     ensures faults { IfErr result (λ e. (e ≡ TurnFault.LinkFault) ⊎ (e ≡ TurnFault.LedgerFault)) }
     ensures waiting { L.waiting link.new ≡ L.waiting link.old }

@@ -45,9 +45,12 @@ pub fn turn<N: Node, L: Link, W: LedgerOut>(
     link: &mut L,
     ledger: &mut W,
 ) -> Result<Turn, TurnFault>
-    ensures turned { (piece : List ℕ) × (length piece ≤ piece_byte_limit) × (L.waiting link.old ≡ preceded piece (L.waiting link.new))
-        × Turned N.answers N.is_stopped (scene node.old (W.text ledger.old) (L.sent link.old)) lines.old piece result lines.new (scene node.new (W.text ledger.new) (L.sent link.new)) }
-    ensures step { result ≢ Err TurnFault.LedgerFault → IfSome (W.text ledger.old) (N.in_step node.old) → IfSome (W.text ledger.new) (N.in_step node.new) }
+    ensures turned { (piece : List ℕ) × (length piece ≤ piece_byte_limit)
+        × (L.waiting link.old ≡ preceded piece (L.waiting link.new))
+        × Turned N.answers N.is_stopped (scene node.old (W.text ledger.old) (L.sent link.old)) lines.old piece result
+        lines.new (scene node.new (W.text ledger.new) (L.sent link.new)) }
+    ensures step { result ≢ Err TurnFault.LedgerFault → IfSome (W.text ledger.old) (N.in_step node.old)
+        → IfSome (W.text ledger.new) (N.in_step node.new) }
     ensures end { result ≡ Ok Turn.End → IfSome (L.waiting link.new) (λ bytes. bytes ≡ []) }
     ensures link { result ≡ Err TurnFault.LinkFault → L.failures link.old ≢ L.failures link.new }
     ensures ledger { result ≡ Err TurnFault.LedgerFault → W.failures ledger.old ≢ W.failures ledger.new }

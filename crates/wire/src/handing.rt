@@ -32,10 +32,14 @@ pub(crate) fn hand<N: Node, L: Link, W: LedgerOut>(
     ledger: &mut W,
 ) -> Result<(), TurnFault>
     ensures ok { OnOk result ((out : Answer) × N.answers node.old (event_of (known line)) (Ok out) node.new
-        × (W.text ledger.new ≡ kept_text out (W.text ledger.old)) × (L.sent link.new ≡ grown (L.sent link.old) out.frames.items)
+        × (W.text ledger.new ≡ kept_text out (W.text ledger.old))
+        × (L.sent link.new ≡ grown (L.sent link.old) out.frames.items)
         × (W.failures ledger.new ≡ W.failures ledger.old) × (L.failures link.new ≡ L.failures link.old)) }
-    ensures err { IfErr result (λ fault. Faulted N.answers N.is_stopped (scene node.old (W.text ledger.old) (L.sent link.old)) (event_of (known line)) fault (scene node.new (W.text ledger.new) (L.sent link.new))) }
-    ensures step { result ≢ Err TurnFault.LedgerFault → IfSome (W.text ledger.old) (N.in_step node.old) → IfSome (W.text ledger.new) (N.in_step node.new) }
+    ensures err { IfErr result (λ fault. Faulted N.answers N.is_stopped
+        (scene node.old (W.text ledger.old) (L.sent link.old)) (event_of (known line)) fault
+        (scene node.new (W.text ledger.new) (L.sent link.new))) }
+    ensures step { result ≢ Err TurnFault.LedgerFault → IfSome (W.text ledger.old) (N.in_step node.old)
+        → IfSome (W.text ledger.new) (N.in_step node.new) }
     ensures link { result ≡ Err TurnFault.LinkFault → L.failures link.old ≢ L.failures link.new }
     ensures ledger { result ≡ Err TurnFault.LedgerFault → W.failures ledger.old ≢ W.failures ledger.new }
     ensures waiting { L.waiting link.new ≡ L.waiting link.old }
@@ -51,10 +55,14 @@ pub(crate) fn hand_all<N: Node, L: Link, W: LedgerOut>(
     link: &mut L,
     ledger: &mut W,
 ) -> Result<(), TurnFault>
-    ensures ok { OnOk result (Handed N.answers (scene node.old (W.text ledger.old) (L.sent link.old)) (events_of lines.old.waiting) [] (scene node.new (W.text ledger.new) (L.sent link.new))
+    ensures ok { OnOk result (Handed N.answers (scene node.old (W.text ledger.old) (L.sent link.old))
+        (events_of lines.old.waiting) [] (scene node.new (W.text ledger.new) (L.sent link.new))
         × (lines.new ≡ record { waiting = []; rest = lines.old.rest })) }
-    ensures err { IfErr result (λ fault. IsBroken N.answers N.is_stopped (scene node.old (W.text ledger.old) (L.sent link.old)) lines.old fault lines.new (scene node.new (W.text ledger.new) (L.sent link.new))) }
-    ensures step { result ≢ Err TurnFault.LedgerFault → IfSome (W.text ledger.old) (N.in_step node.old) → IfSome (W.text ledger.new) (N.in_step node.new) }
+    ensures err { IfErr result (λ fault. IsBroken N.answers N.is_stopped
+        (scene node.old (W.text ledger.old) (L.sent link.old)) lines.old fault lines.new
+        (scene node.new (W.text ledger.new) (L.sent link.new))) }
+    ensures step { result ≢ Err TurnFault.LedgerFault → IfSome (W.text ledger.old) (N.in_step node.old)
+        → IfSome (W.text ledger.new) (N.in_step node.new) }
     ensures link { result ≡ Err TurnFault.LinkFault → L.failures link.old ≢ L.failures link.new }
     ensures ledger { result ≡ Err TurnFault.LedgerFault → W.failures ledger.old ≢ W.failures ledger.new }
     ensures waiting { L.waiting link.new ≡ L.waiting link.old }

@@ -14,15 +14,18 @@ pub trait LedgerOut {
 
     /// Keeps its first bytes, so many of them.
     fn cut(&mut self, len: u64) -> Result<(), Fault>
-        ensures ok { OnOk result ((text self.new ≡ shortened len (text self.old)) × (failures self.new ≡ failures self.old)) }
+        ensures ok { OnOk result ((text self.new ≡ shortened len (text self.old))
+            × (failures self.new ≡ failures self.old)) }
         ensures err { OnErr result ((failures self.old ≢ failures self.new)
             × ((text self.new ≡ text self.old) ⊎ (text self.new ≡ shortened len (text self.old)))) };
 
     /// Takes bytes at its end from the front of these, and says how many: some, where there are any, unless
     /// that counts as a failure.
     fn append(&mut self, bytes: &[u8]) -> Result<usize, Fault>
-        ensures took { IfOk result (λ n. (n ≤ length bytes.now) × (text self.new ≡ grown (text self.old) (take n bytes.now))) }
+        ensures took { IfOk result (λ n. (n ≤ length bytes.now)
+            × (text self.new ≡ grown (text self.old) (take n bytes.now))) }
         ensures count { IfOk result (λ n. (IsRefusal n bytes.now → failures self.old ≢ failures self.new)
             × ((IsRefusal n bytes.now → ⊥) → failures self.new ≡ failures self.old)) }
-        ensures err { OnErr result ((failures self.old ≢ failures self.new) × IsBegun (text self.old) bytes.now (text self.new)) };
+        ensures err { OnErr result ((failures self.old ≢ failures self.new)
+            × IsBegun (text self.old) bytes.now (text self.new)) };
 }

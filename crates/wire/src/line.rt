@@ -9,7 +9,7 @@ use text::Cutter;
 pub enum Line {
     /// All its bytes, at most text's `MAX_LINE_BYTES` of them.
     Whole(Vec<u8>),
-    /// It has more.
+    /// The line has more.
     Overlong,
 }
 

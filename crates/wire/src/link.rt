@@ -18,7 +18,8 @@ pub trait Link {
     /// Puts what came at the front of the buffer, and says how many bytes that is: none where the stream has
     /// ended. After a fault nothing is lost.
     fn receive(&mut self, buf: &mut [u8]) -> Result<usize, Fault>
-        ensures came { IfOk result (λ n. (n ≤ length buf.new) × (waiting self.old ≡ preceded (take n buf.new) (waiting self.new))) }
+        ensures came { IfOk result (λ n. (n ≤ length buf.new)
+            × (waiting self.old ≡ preceded (take n buf.new) (waiting self.new))) }
         ensures end { result ≡ Ok 0 → 0 < length buf.new → IfSome (waiting self.new) (λ bytes. bytes ≡ []) }
         ensures sent { sent self.new ≡ sent self.old }
         ensures count { IfOk result (λ n. failures self.new ≡ failures self.old) }
@@ -27,9 +28,11 @@ pub trait Link {
     /// Takes bytes to be sent from the front of these, and says how many: some, where there are any, unless
     /// that counts as a failure.
     fn send(&mut self, bytes: &[u8]) -> Result<usize, Fault>
-        ensures took { IfOk result (λ n. (n ≤ length bytes.now) × (sent self.new ≡ grown (sent self.old) (take n bytes.now))) }
+        ensures took { IfOk result (λ n. (n ≤ length bytes.now)
+            × (sent self.new ≡ grown (sent self.old) (take n bytes.now))) }
         ensures count { IfOk result (λ n. (IsRefusal n bytes.now → failures self.old ≢ failures self.new)
             × ((IsRefusal n bytes.now → ⊥) → failures self.new ≡ failures self.old)) }
         ensures waiting { waiting self.new ≡ waiting self.old }
-        ensures err { OnErr result ((failures self.old ≢ failures self.new) × IsBegun (sent self.old) bytes.now (sent self.new)) };
+        ensures err { OnErr result ((failures self.old ≢ failures self.new)
+            × IsBegun (sent self.old) bytes.now (sent self.new)) };
 }

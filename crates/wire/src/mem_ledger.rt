@@ -42,7 +42,7 @@ impl MemLedger {
         }
     }
 
-    /// Its text.
+    /// The ledger's text.
     pub fn text(&self) -> &[u8]
         ensures { result.now ≡ self.now.text }
     {
@@ -81,8 +81,10 @@ impl LedgerOut for MemLedger {
     /// Keeps its first bytes. It fails exactly where it was set to.
     fn cut(&mut self, len: u64) -> Result<(), Fault>
         ensures due { IsErr result ↔ IsDue self.old.trouble }
-        ensures ok { OnOk result (self.new ≡ record { text = take len self.old.text; trouble = called self.old.trouble }) }
-        ensures err { OnErr result (self.new ≡ record { text = self.old.text; trouble = failed (called self.old.trouble) }) }
+        ensures ok { OnOk result (self.new ≡ record
+            { text = take len self.old.text; trouble = called self.old.trouble }) }
+        ensures err { OnErr result (self.new ≡ record
+            { text = self.old.text; trouble = failed (called self.old.trouble) }) }
     {
         self.trouble.begin_call()?;
         if len < self.text.len() as u64 {
@@ -97,7 +99,8 @@ impl LedgerOut for MemLedger {
         ensures due { IsDue self.old.trouble → IsErr result }
         ensures ok { IfOk result (λ n. (n ≡ share self.old.trouble (length bytes.now))
             × (self.new ≡ record { text = self.old.text ++ take n bytes.now; trouble = called self.old.trouble })) }
-        ensures err { OnErr result (self.new ≡ record { text = self.old.text; trouble = failed (called self.old.trouble) }) }
+        ensures err { OnErr result (self.new ≡ record
+            { text = self.old.text; trouble = failed (called self.old.trouble) }) }
     {
         self.trouble.begin_call()?;
         let count = self.trouble.share(bytes.len());

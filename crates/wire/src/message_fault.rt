@@ -7,9 +7,9 @@ use std::fmt;
 /// Why a frame is no message. Its length is judged first.
 #[derive(Clone, Copy, Debug, PartialEq, Eq)]
 pub enum MsgFault {
-    /// It is not the text of a message.
+    /// The frame is not the text of a message.
     BadMessage,
-    /// It is longer than text's `MAX_LINE_BYTES`.
+    /// The frame is longer than text's `MAX_LINE_BYTES`.
     TooLong,
 }
 

@@ -36,16 +36,16 @@ pub enum Note {
     Quiet,
     /// The frame is no message, or none for this role.
     Strange,
-    /// It speaks of what is no more.
+    /// The event speaks of what is no more.
     Stale,
-    /// It was refused, with this number.
+    /// The event was refused, with this number.
     Refused(u16),
 }
 
 /// Why a node didn't answer. Nothing changed.
 #[derive(Clone, Copy, Debug, PartialEq, Eq)]
 pub enum NodeFault {
-    /// It was stopped.
+    /// The node was stopped.
     Stopped,
     /// Memory was refused.
     NoMemory,
@@ -60,7 +60,7 @@ pub trait Node {
     ghost use Rattle.wire.specs.declared.node.NodeFault.{NodeFault as Failure};
     ghost use Rattle.wire.specs.declared.node.Out.{Out as Answer};
 
-    /// It was stopped, or never started.
+    /// The node was stopped, or never started.
     ghost is_stopped: { Self → Type 0 };
 
     /// A ledger with this text is in step with it.
@@ -76,7 +76,8 @@ pub trait Node {
     fn on(&mut self, e: Event<'_>) -> Result<Out, NodeFault>
         ensures answer { answers self.old (seen e.entry) result self.new }
         ensures final_kept { keeps_final self.old (seen e.entry) self.new }
-        ensures step { IfOk result (λ out. (text : List ℕ) → in_step self.old text → in_step self.new (text_after out text)) }
+        ensures step { IfOk result (λ out. (text : List ℕ) → in_step self.old text
+            → in_step self.new (text_after out text)) }
         ensures fault { OnErr result ((text : List ℕ) → in_step self.old text → in_step self.new text) }
         ensures refused { result ≡ Err NodeFault.Stopped ↔ is_stopped self.old }
         ensures stopped { is_stopped self.new ↔ is_stopped self.old };

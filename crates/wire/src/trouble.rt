@@ -9,7 +9,7 @@ use crate::fault::Fault;
 pub(crate) struct Trouble {
     // Which call from now fails; 0 where none does.
     pub failing: u64,
-    // It moves one byte at a time.
+    // The stream moves one byte at a time.
     pub slow: bool,
     pub failures: u64,
 }

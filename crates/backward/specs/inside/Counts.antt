@@ -17,7 +17,8 @@ paths_beyond n m (suc k) needs =
 
 -- the numbers of paths, depth by depth, after a path of a depth and all those that go further back than it were counted
 pub record CountsOn (p : Packed) (depth : ℕ) (needs : Partial) (old new : List ℕ) : Type 0 where
-  pub from : (k : ℕ) → depth + k < length old → slice_index new (depth + k) ≡ slice_index old (depth + k) + paths_beyond p.states (entry_of p) k needs
+  pub from : (k : ℕ) → depth + k < length old
+      → slice_index new (depth + k) ≡ slice_index old (depth + k) + paths_beyond p.states (entry_of p) k needs
   pub nearer : (k : ℕ) → k < depth → slice_index new k ≡ slice_index old k
   pub narrow : (k : ℕ) → slice_index old k ≤ path_limit → slice_index new k ≤ path_limit
 

@@ -18,8 +18,10 @@ pub record ReachesIn (a : Automata) (set : ℕ) (s : Sym) (row : ℕ) : Type 0 w
 -- the edges that an entry at the machine state f and the symbol r asks for, with the first automaton in q
 pub record FitsEntry (a : Automata) (q f : ℕ) (r : Sym) (e : Entry) : Type 0 where
   pub ahead : e.dir ≡ a.side → IsTrue (has (row_at a (q * a.states + f) r) (target a q e.write * a.states + e.next.0))
-  pub back_zero : (e.dir ≡ a.side → ⊥) → ReachesIn a (row_at a (q * a.states + e.next.0) Zero) e.write (row_at a (target a q Zero * a.states + f) r)
-  pub back_one : (e.dir ≡ a.side → ⊥) → ReachesIn a (row_at a (q * a.states + e.next.0) One) e.write (row_at a (target a q One * a.states + f) r)
+  pub back_zero : (e.dir ≡ a.side → ⊥) → ReachesIn a (row_at a (q * a.states + e.next.0) Zero) e.write
+      (row_at a (target a q Zero * a.states + f) r)
+  pub back_one : (e.dir ≡ a.side → ⊥) → ReachesIn a (row_at a (q * a.states + e.next.0) One) e.write
+      (row_at a (target a q One * a.states + f) r)
 
 -- and those that a pair asks for
 abbrev pub FitsBy : Option Entry → Automata → ℕ → ℕ → Sym → Type 0

@@ -58,15 +58,19 @@ pub record AreDifferent (items : List Item) : Type 0 where
   pub each : (i : ℕ) → i < length items → IsNew items i
 
 -- the points that are left settle, where one symbol had been read last from one state
-pub record SettlesFrom (w : CountedSystem) (c : Local) (k : Coset) (side : Dir) (by : Transition) (next : State) (q : ℕ) (b : Sym) : Type 0 where
-  pub each : (u : Transition) → delta w side q b ≡ Some u → u.to ≡ state_on side c → Settled (Remains w k side by u q) (HasCoset w (moved_to side by.to next b q))
+pub record SettlesFrom (w : CountedSystem) (c : Local) (k : Coset) (side : Dir) (by : Transition) (next : State) (q : ℕ)
+    (b : Sym) : Type 0 where
+  pub each : (u : Transition) → delta w side q b ≡ Some u → u.to ≡ state_on side c
+      → Settled (Remains w k side by u q) (HasCoset w (moved_to side by.to next b q))
 
 -- the points that are left settle whichever symbol had been read last from so many states
-pub record AreSettled (w : CountedSystem) (c : Local) (k : Coset) (side : Dir) (by : Transition) (next : State) (reach : ℕ) : Type 0 where
+pub record AreSettled (w : CountedSystem) (c : Local) (k : Coset) (side : Dir) (by : Transition) (next : State)
+    (reach : ℕ) : Type 0 where
   pub each : (q : ℕ) (b : Sym) → q < reach → SettlesFrom w c k side by next q b
 
 -- the points that are left settle whichever symbol had been read last
-pub record AllSettle (w : CountedSystem) (c : Local) (k : Coset) (side : Dir) (by : Transition) (next : State) : Type 0 where
+pub record AllSettle (w : CountedSystem) (c : Local) (k : Coset) (side : Dir) (by : Transition) (next : State) : Type 0
+    where
   pub each : (q : ℕ) (b : Sym) → SettlesFrom w c k side by next q b
 
 -- there is an entry, and its step settles

@@ -28,7 +28,8 @@ IncludedBy sets from (Some t) = Includes from t.count (slice_index sets t.to)
 -- the sets hold all counts that are used
 pub record AreUsed (a : Delta) (sets : List ℕ) : Type 0 where
   pub start : IsTrue (in_set (slice_index sets 0) reached)
-  pub each : (q : ℕ) (s : Sym) → IsTrue (in_set (slice_index sets q) reached) → IncludedBy sets (slice_index sets q) (a q s)
+  pub each : (q : ℕ) (s : Sym) → IsTrue (in_set (slice_index sets q) reached)
+      → IncludedBy sets (slice_index sets q) (a q s)
 
 -- a path from 0 to a state: a word that is read to it; and one that has a transition with a count
 pub record HasPath (a : Delta) (q : ℕ) : Type 0 where

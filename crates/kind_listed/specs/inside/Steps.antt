@@ -23,7 +23,8 @@ pub record LeadInto (a : ListedAutomata) (set : List ℕ) (s : Sym) (into : List
 -- the edge that an entry at the machine state f and the symbol r asks for which moves ahead, with the first automaton in q.
 -- A list with the halt state has all edges
 abbrev pub GoesAhead : ListedAutomata → ℕ → ℕ → Sym → Entry → Type 0
-GoesAhead a q f r e = IsTrue (has_item (edges_at a (q * a.states + f) r) (halt_number a) || has_item (edges_at a (q * a.states + f) r) (target_of a q e.write * a.states + e.next.0))
+GoesAhead a q f r e = IsTrue (has_item (edges_at a (q * a.states + f) r) (halt_number a) || has_item
+    (edges_at a (q * a.states + f) r) (target_of a q e.write * a.states + e.next.0))
 
 -- what a pair asks for that is undefined, or whose entry moves ahead
 abbrev pub EdgesFit : Option Entry → ListedAutomata → ℕ → ℕ → Sym → Type 0
@@ -50,10 +51,12 @@ all_moves a (suc q) = all_moves a q ++ (move_from a q Zero ∷ (move_from a q On
 abbrev pub BackOver : ListedAutomata → ℕ → Sym → Entry → Move → Type 0
 BackOver a f r e v =
     (IsTrue (has_item (edges_at a (v.to * a.states + f) r) (halt_number a)) → ⊥) →
-    LeadInto a (edges_at a (v.from * a.states + e.next.0) v.read) e.write (edges_at a (v.to * a.states + f) r) (length (edges_at a (v.from * a.states + e.next.0) v.read))
+    LeadInto a (edges_at a (v.from * a.states + e.next.0) v.read) e.write (edges_at a (v.to * a.states + f) r)
+    (length (edges_at a (v.from * a.states + e.next.0) v.read))
 
 -- over so many transitions of a list
-pub record BackOverEach (a : ListedAutomata) (f : ℕ) (r : Sym) (e : Entry) (moves : List Move) (reach : ℕ) : Type 0 where
+pub record BackOverEach (a : ListedAutomata) (f : ℕ) (r : Sym) (e : Entry) (moves : List Move) (reach : ℕ) : Type 0
+    where
   pub each : (k : ℕ) (d : Move) → k < reach → BackOver a f r e (get_or moves k d)
 
 -- over all of them
@@ -73,7 +76,8 @@ pub record EachFitsBack (m : Machine) (a : ListedAutomata) (reach : ℕ) : Type 
 -- there is none where the number is no state
 pub record AreSeen (a : ListedAutomata) (f : ℕ) (r s : Sym) (seen : List ℕ) : Type 0 where
   pub all : length seen ≡ halt_number a
-  pub each : (u : ℕ) → u < halt_number a → slice_index seen u < a.size → LeadsInto a u s (edges_at a (slice_index seen u * a.states + f) r)
+  pub each : (u : ℕ) → u < halt_number a → slice_index seen u < a.size
+      → LeadsInto a u s (edges_at a (slice_index seen u * a.states + f) r)
 
 -- the blank tape is kept away from the halt state
 pub record BlankIsKept (a : ListedAutomata) : Type 0 where

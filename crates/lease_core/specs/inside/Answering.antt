@@ -19,10 +19,13 @@ abbrev pub GivesFrame : ℕ → Leased → Result Message MsgFault → Result Ou
 GivesFrame era old m result new = ByRow (λ out. FrameRow era old m out new) (MayGrowFor era old m) old result new
 
 abbrev pub GivesMessage : ℕ → Leased → Message → Result Out NodeFault → Leased → Type 0
-GivesMessage era old m result new = ByRow (λ out. MessageRow era old m out new) (MayGrowFor era old (Ok m)) old result new
+GivesMessage era old m result new = ByRow (λ out. MessageRow era old m out new) (MayGrowFor era old (Ok m)) old result
+    new
 
 abbrev pub GivesOffer : Leased → Recorded → Result Out NodeFault → Leased → Type 0
-GivesOffer old r result new = ByRow (λ out. OfferRow old r out new) (r.table.states ≡ old.board.root.states) old result new
+GivesOffer old r result new = ByRow (λ out. OfferRow old r out new) (r.table.states ≡ old.board.root.states) old result
+    new
 
 abbrev pub GivesDone : Bool → ℕ → Leased → Result Out NodeFault → Leased → Type 0
-GivesDone is_own number old result new = ByRow (λ out. DoneRow is_own number old out new) ((is_own ≡ true) × (is_live old.leases.live number ≡ true)) old result new
+GivesDone is_own number old result new = ByRow (λ out. DoneRow is_own number old out new)
+    ((is_own ≡ true) × (is_live old.leases.live number ≡ true)) old result new

@@ -13,14 +13,20 @@ use Rattle.lease_core.specs.declared.start_fault.StartFault.{StartFault}
 use Rattle.lease_core.specs.declared.start_fault.StartFault.TheVariants.{BadHeader, WrongRoot, LedgerFault, NoMemory}
 
 abbrev pub BeginsSo : ℕ → List ℕ → Result (Leased × Out) StartFault → Type 0
-BeginsSo n text (Ok begun) = (begun.0.leases ≡ no_leases) × ((left : Left) × LoadGives (empty_table n) text (Ok (begun.0.board, left)) × Begins (empty_table n) text left begun.1)
+BeginsSo n text (Ok begun) = (begun.0.leases ≡ no_leases)
+    × ((left : Left) × LoadGives (empty_table n) text (Ok (begun.0.board, left))
+    × Begins (empty_table n) text left begun.1)
 BeginsSo n text (Err fault) = CantStart (empty_table n) text fault
 
 abbrev pub BeginsFrom : ℕ → Option (List ℕ) → ℕ → Option (List ℕ) → Result (Leased × Out) StartFault → Type 0
-BeginsFrom n read limit new_read (Ok begun) = (text : List ℕ) × IsAllRead read limit text new_read × BeginsSo n text (Ok begun)
-BeginsFrom n read limit new_read (Err BadHeader) = (text : List ℕ) × IsAllRead read limit text new_read × BeginsSo n text (Err BadHeader)
-BeginsFrom n read limit new_read (Err WrongRoot) = (text : List ℕ) × IsAllRead read limit text new_read × BeginsSo n text (Err WrongRoot)
-BeginsFrom n read limit new_read (Err NoMemory) = (text : List ℕ) × IsRead read limit text new_read × BeginsSo n text (Err NoMemory)
+BeginsFrom n read limit new_read (Ok begun) = (text : List ℕ) × IsAllRead read limit text new_read
+    × BeginsSo n text (Ok begun)
+BeginsFrom n read limit new_read (Err BadHeader) = (text : List ℕ) × IsAllRead read limit text new_read
+    × BeginsSo n text (Err BadHeader)
+BeginsFrom n read limit new_read (Err WrongRoot) = (text : List ℕ) × IsAllRead read limit text new_read
+    × BeginsSo n text (Err WrongRoot)
+BeginsFrom n read limit new_read (Err NoMemory) = (text : List ℕ) × IsRead read limit text new_read
+    × BeginsSo n text (Err NoMemory)
 BeginsFrom n read limit new_read (Err LedgerFault) = (text : List ℕ) × IsRead read limit text new_read
 
 -- the coordinator that is made of what a start gives, and its answer

@@ -39,11 +39,13 @@ AreAwaited entries lease_at = (n : ℕ) (l : HeldLease) → lease_at n ≡ Some 
 
 -- each lease has such an entry, or is listed
 abbrev pub AreAwaitedBut : List (Reverse (ℕ × ℕ)) → List ℕ → (ℕ → Option HeldLease) → Type 0
-AreAwaitedBut entries numbers lease_at = (n : ℕ) (l : HeldLease) → lease_at n ≡ Some l → Awaits entries n l.renewed ⊎ Contains numbers n
+AreAwaitedBut entries numbers lease_at = (n : ℕ) (l : HeldLease) → lease_at n ≡ Some l → Awaits entries n l.renewed
+    ⊎ Contains numbers n
 
 -- these are numbers of leases that have ended
 abbrev pub HaveEnded : ℕ → List ℕ → (ℕ → Option HeldLease) → Type 0
-HaveEnded moment numbers lease_at = (n : ℕ) → Contains numbers n → (l : HeldLease) × (lease_at n ≡ Some l) × (is_past moment l.renewed ≡ true)
+HaveEnded moment numbers lease_at = (n : ℕ) → Contains numbers n → (l : HeldLease) × (lease_at n ≡ Some l)
+    × (is_past moment l.renewed ≡ true)
 
 -- some lease has ended by a moment
 abbrev pub SomePast : ℕ → (ℕ → Option HeldLease) → Type 0

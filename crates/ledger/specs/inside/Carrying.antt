@@ -19,14 +19,17 @@ one_undecided (Some v) = 0
 
 -- what the first record of an open table changes, and one that settles a holdout
 abbrev pub taking_change : ℕ → Option Ending → Option ℕ → TreeChange
-taking_change n shown ones = record { opened = n; closed = 1; undecided = one_undecided shown; settled = 0; steps = steps_of shown; ones = ones }
+taking_change n shown ones = record { opened = n; closed = 1; undecided = one_undecided shown; settled = 0;
+    steps = steps_of shown; ones = ones }
 
 abbrev pub settling_change : ℕ → Option Ending → Option ℕ → TreeChange
-settling_change n shown ones = record { opened = n; closed = 0; undecided = 0; settled = 1; steps = steps_of shown; ones = ones }
+settling_change n shown ones = record { opened = n; closed = 0; undecided = 0; settled = 1; steps = steps_of shown;
+    ones = ones }
 
 -- the numbers after a change, which there is room for
 abbrev pub changed_count : TreeChange → TreeCount → TreeCount
-changed_count c n = record { open_count = n.open_count + c.opened - c.closed; holdouts = n.holdouts + c.undecided - c.settled; best = greater n.best c.steps; ones = greater n.ones c.ones }
+changed_count c n = record { open_count = n.open_count + c.opened - c.closed; holdouts = n.holdouts + c.undecided -
+    c.settled; best = greater n.best c.steps; ones = greater n.ones c.ones }
 
 pub record MayChange (n : TreeCount) (c : TreeChange) : Type 0 where
   pub open_room : n.open_count + c.opened < 2 ^ 64
@@ -37,17 +40,20 @@ pub record MayChange (n : TreeCount) (c : TreeChange) : Type 0 where
 -- the chain of a place: itself, and that of the place of its record's parent
 pub data OnChain (es : List (Packed × StoredRecord)) : ℕ → ℕ → Type 0 where
   Here : {place : ℕ} → place + 1 < 2 ^ 32 → OnChain es place place
-  Above : {place above : ℕ} {e : Packed × StoredRecord} → place + 1 < 2 ^ 32 → slice_get es place ≡ Some e → OnChain es e.1.parent above → OnChain es place above
+  Above : {place above : ℕ} {e : Packed × StoredRecord} → place + 1 < 2 ^ 32 → slice_get es place ≡ Some e
+      → OnChain es e.1.parent above → OnChain es place above
 
 -- a chain starts at a record, and each parent's stands before that of its child
 abbrev pub HasChain : List (Packed × StoredRecord) → ℕ → Type 0
 HasChain es place = place + 1 < 2 ^ 32 → place < length es
 
 abbrev pub AreEarlier : List (Packed × StoredRecord) → Type 0
-AreEarlier es = (i : ℕ) (e : Packed × StoredRecord) → slice_get es i ≡ Some e → (e.1.parent ≡ no_place) ⊎ (e.1.parent < i)
+AreEarlier es = (i : ℕ) (e : Packed × StoredRecord) → slice_get es i ≡ Some e → (e.1.parent ≡ no_place)
+    ⊎ (e.1.parent < i)
 
 abbrev pub ChainMayChange : List (Packed × StoredRecord) → ℕ → TreeChange → Type 0
-ChainMayChange es from c = (i : ℕ) (e : Packed × StoredRecord) → OnChain es from i → slice_get es i ≡ Some e → MayChange e.1.tree c
+ChainMayChange es from c = (i : ℕ) (e : Packed × StoredRecord) → OnChain es from i → slice_get es i ≡ Some e
+    → MayChange e.1.tree c
 
 -- an entry that counts a change, where its place is on the chain, or else is as it was
 abbrev pub counting : TreeChange → Packed × StoredRecord → Packed × StoredRecord
@@ -58,4 +64,5 @@ IsCarried c e now IsOn = (IsOn × (now ≡ counting c e)) ⊎ ((IsOn → ⊥) ×
 
 abbrev pub AreCarried : TreeChange → List (Packed × StoredRecord) → ℕ → List (Packed × StoredRecord) → Type 0
 AreCarried c es from new =
-    (i : ℕ) (now : Packed × StoredRecord) → slice_get new i ≡ Some now → (e : Packed × StoredRecord) × (slice_get es i ≡ Some e) × IsCarried c e now (OnChain es from i)
+    (i : ℕ) (now : Packed × StoredRecord) → slice_get new i ≡ Some now → (e : Packed × StoredRecord)
+    × (slice_get es i ≡ Some e) × IsCarried c e now (OnChain es from i)

@@ -27,7 +27,8 @@ no_place = 4294967295
 
 -- the place of the record that opened a table: that of its parent's, which halts; what opened the root has none
 abbrev pub IsOpener : Packed → List Recorded → Packed → ℕ → Type 0
-IsOpener root rs t place = ((t ≡ root) × (place ≡ no_place)) ⊎ ((r : Recorded) × (slice_get rs place ≡ Some r) × (is_halting r ≡ true) × IsChildTable r.table t)
+IsOpener root rs t place = ((t ≡ root) × (place ≡ no_place))
+    ⊎ ((r : Recorded) × (slice_get rs place ≡ Some r) × (is_halting r ≡ true) × IsChildTable r.table t)
 
 -- a map of tables is that of the open ones, each with the place of what opened it
 pub record IsOpenMapOf (tables : BTreeMap Packed ℕ) (root : Packed) (rs : List Recorded) : Type 0 where

@@ -10,7 +10,8 @@ use Rattle.ledger.specs.declared.stage.Stage.{Stage}
 
 -- how a body goes on behind a line that was taken, or wasn't for a reason; the next line has so many bytes before it
 abbrev pub GoesBehind : Body → Option Unkept → ℕ → Body → Type 0
-GoesBehind old None after new = (new.number ≡ min (old.number + 1) 18446744073709551615) × (new.before ≡ after) × (new.left ≡ None)
+GoesBehind old None after new = (new.number ≡ min (old.number + 1) 18446744073709551615) × (new.before ≡ after)
+    × (new.left ≡ None)
 GoesBehind old (Some why) after new = new.left ≡ Some (From old.number old.before why)
 
 -- a line was offered to a body of which no line wasn't kept
@@ -31,7 +32,8 @@ StageGrows root old more new = (text : List ℕ) → IsStageOf root text old →
 
 -- a line that ends, so many bytes of the text up to its newline
 abbrev pub BodyEnds : Body → List ℕ → ℕ → Body → Type 0
-BodyEnds old part after new = (root : Packed) (text : List ℕ) → length text + length part + 1 ≡ after → IsBodyOf root text old
+BodyEnds old part after new = (root : Packed) (text : List ℕ) → length text + length part + 1 ≡ after
+    → IsBodyOf root text old
     → IsBodyOf root (text ++ (part ++ (10 ∷ []))) new
 
 abbrev pub StageEnds : Packed → Stage → List ℕ → ℕ → Stage → Type 0

@@ -24,14 +24,17 @@ pub record IsTreeCount (root : Packed) (rs : List Recorded) (p : Packed) (n : Tr
 -- the place of the record of a table's parent, which stands before the table's own place; the root has none
 abbrev pub IsParentPlace : Packed → List Recorded → ℕ → Packed → ℕ → Type 0
 IsParentPlace root rs i t place =
-    ((t ≡ root) × (place ≡ no_place)) ⊎ ((place < i) × ((r : Recorded) × (slice_get rs place ≡ Some r) × (is_halting r ≡ true) × IsChildTable r.table t))
+    ((t ≡ root) × (place ≡ no_place)) ⊎ ((place < i)
+    × ((r : Recorded) × (slice_get rs place ≡ Some r) × (is_halting r ≡ true) × IsChildTable r.table t))
 
 -- with each record are kept the place of its parent's, and the numbers of its tree by these records
 abbrev pub AreParented : Packed → List (Packed × StoredRecord) → Type 0
-AreParented root es = (i : ℕ) (e : Packed × StoredRecord) → slice_get es i ≡ Some e → IsParentPlace root (records_of es) i e.0 e.1.parent
+AreParented root es = (i : ℕ) (e : Packed × StoredRecord) → slice_get es i ≡ Some e
+    → IsParentPlace root (records_of es) i e.0 e.1.parent
 
 abbrev pub AreTreeCounts : Packed → List Recorded → List (Packed × StoredRecord) → Type 0
-AreTreeCounts root rs es = (i : ℕ) (e : Packed × StoredRecord) → slice_get es i ≡ Some e → IsTreeCount root rs e.0 e.1.tree
+AreTreeCounts root rs es = (i : ℕ) (e : Packed × StoredRecord) → slice_get es i ≡ Some e
+    → IsTreeCount root rs e.0 e.1.tree
 
 pub record IsIndexed (root : Packed) (es : List (Packed × StoredRecord)) : Type 0 where
   pub parents : AreParented root es

@@ -11,7 +11,8 @@ pub record Moment : Type 0 where
 
 abbrev pub moment_code : Coded Moment
 moment_code =
-    code_by (ℕ × Config) (coded× coded_ℕ config_code) (λ m. (m.time, m.config)) (λ p. record { time = p.0; config = p.1 }) (λ _. refl)
+    code_by (ℕ × Config) (coded× coded_ℕ config_code) (λ m. (m.time, m.config))
+    (λ p. record { time = p.0; config = p.1 }) (λ _. refl)
 
 -- where a runner stands
 abbrev pub moment_of : RunState → Moment

@@ -18,7 +18,8 @@ unfoldable pub right_seen : ℕ → List ℕ → ℕ → List ℕ
 right_seen g bytes seen = take (g - 1) (drop (g + 3) bytes) ++ seen ∷ []
 
 unfoldable pub local_right : ℕ → List ℕ → ℕ → ℕ → ℕ → List ℕ
-local_right g bytes write next seen = left_after g bytes write ++ next ∷ slice_index bytes (g + 2) ∷ right_seen g bytes seen
+local_right g bytes write next seen = left_after g bytes write ++ next ∷ slice_index bytes (g + 2)
+    ∷ right_seen g bytes seen
 
 -- after a move to the left
 unfoldable pub right_after : ℕ → List ℕ → ℕ → List ℕ
@@ -28,16 +29,19 @@ unfoldable pub left_seen : ℕ → List ℕ → ℕ → List ℕ
 left_seen g bytes seen = seen ∷ take (g - 1) bytes
 
 unfoldable pub local_left : ℕ → List ℕ → ℕ → ℕ → ℕ → List ℕ
-local_left g bytes write next seen = left_seen g bytes seen ++ next ∷ slice_index bytes (g - 1) ∷ right_after g bytes write
+local_left g bytes write next seen = left_seen g bytes seen ++ next ∷ slice_index bytes (g - 1)
+    ∷ right_after g bytes write
 
 -- one more symbol may come into view only with the local configuration to which it belongs
 abbrev pub FollowsRight : Lists → List ℕ → Entry → ℕ → Type 0
 FollowsRight s bytes e seen =
-    IsItem s.width s.right (right_seen s.width bytes seen) → IsItem (2 * s.width + 2) s.local (local_right s.width bytes (symbol_byte e.write) (65 + e.next.0) seen)
+    IsItem s.width s.right (right_seen s.width bytes seen)
+    → IsItem (2 * s.width + 2) s.local (local_right s.width bytes (symbol_byte e.write) (65 + e.next.0) seen)
 
 abbrev pub FollowsLeft : Lists → List ℕ → Entry → ℕ → Type 0
 FollowsLeft s bytes e seen =
-    IsItem s.width s.left (left_seen s.width bytes seen) → IsItem (2 * s.width + 2) s.local (local_left s.width bytes (symbol_byte e.write) (65 + e.next.0) seen)
+    IsItem s.width s.left (left_seen s.width bytes seen)
+    → IsItem (2 * s.width + 2) s.local (local_left s.width bytes (symbol_byte e.write) (65 + e.next.0) seen)
 
 pub record StepsRight (s : Lists) (bytes : List ℕ) (e : Entry) : Type 0 where
   pub leaves : IsItem s.width s.left (left_after s.width bytes (symbol_byte e.write))
@@ -59,7 +63,8 @@ StepsBy (Some e) s bytes = FollowsSide e.dir s bytes e
 
 -- the local configuration has a step, which stays in the lists
 unfoldable pub GoesOn : Machine → Lists → List ℕ → Type 0
-GoesOn m s bytes = StepsBy (m (slice_index bytes s.width - 65) (symbol_of (slice_index bytes (s.width + 1) - 48))) s bytes
+GoesOn m s bytes = StepsBy (m (slice_index bytes s.width - 65) (symbol_of (slice_index bytes (s.width + 1) - 48))) s
+    bytes
 
 -- so many of the local configurations do
 pub record EachGoesOn (m : Machine) (s : Lists) (reach : ℕ) : Type 0 where

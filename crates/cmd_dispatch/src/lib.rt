@@ -18,7 +18,7 @@ mod pictures;
 mod stages;
 mod system;
 
-pub use executing::carry_out;
+pub use executing::execute;
 pub use failures::Failures;
 pub use named_file::NamedFile;
 pub use named_socket::NamedSocket;

@@ -8,7 +8,7 @@ use Rattle.law_tree.specs.Closed.{IsVerdict}
 use Rattle.cert.specs.Claim.{Recorded, ending_by}
 use Rattle.cert.specs.Scored.{with_score}
 use Rattle.ledger.specs.Contents.{Contents, IsBoard}
-use Rattle.ledger.specs.Held.{IsHoldout, Settles, settled}
+use Rattle.ledger.specs.Held.{IsHoldout, Resolves, resolved}
 use Rattle.ledger.specs.LedgerText.{IsLedgerOf, IsTaken, ReadsIn, gained_line}
 use Rattle.ledger.specs.Offers.{OfferGives}
 use Rattle.ledger.specs.Records.{mark_of}
@@ -23,11 +23,11 @@ use Rattle.ledger.specs.declared.faults.OfferFault.{OfferFault}
 use Rattle.ledger.proofs.Growing.{grows, cut_to_kept}
 use Rattle.ledger.proofs.OpenLaws.{settled_other}
 use Rattle.ledger.proofs.TextOrder.{all_apart}
-use Rattle.wire.specs.Carried.{cut_to}
+use Rattle.wire.specs.Fulfilled.{cut_to}
 use Rattle.wire.specs.Device.{IsBegun, grown}
 use Rattle.cmd_options.specs.declared.ended.Ended.{Ended}
 use Rattle.cmd_ledgers.specs.GoingOn.{kept_part}
-use Rattle.cmd_ledgers.specs.Retry.{StaysInStep, SettlesOrStays, ChangesBy, IsTried, AreTried, AreRetried, EndsAtHoldout, EndsRetrying, gained, with_line}
+use Rattle.cmd_ledgers.specs.Retry.{StaysInStep, ResolvesOrStays, ChangesBy, IsTried, AreTried, AreRetried, EndsAtHoldout, EndsRetrying, gained, with_line}
 
 -- a ledger that is cut to what was kept of it
 pub cut_in_step : (b : Contents) (before after : Option (List ℕ)) (line kept : ℕ) (why : Unkept) → after ≡ cut_to (Some kept) before
@@ -62,18 +62,18 @@ one_line format r line begun before after is none gains = gains ∙ ap (grown be
 -- what comes of an offer of a record for a holdout: it is never new, and known only where it has no verdict
 module _ (format : Format) (root : Packed) (old new : List Recorded) (r : Recorded) (lines new_lines : List ℕ) (result : Result Taken OfferFault) (gives : OfferGives root old r result new)
     (line : new_lines ≡ lines ++ gained_line format r result) where
-  pub new_holdout : IsHoldout old r.table → result ≡ Ok New → SettlesOrStays format r true old lines new new_lines
+  pub new_holdout : IsHoldout old r.table → result ≡ Ok New → ResolvesOrStays format r true old lines new new_lines
   new_holdout holdout is =
       let fit : OfferGives root old r (Ok New) new = subst (λ (x : Result Taken OfferFault). OfferGives root old r x new) is gives in
       let unmarked = fit.0.is_open.unmarked in
       absurd (cc)
 
-  pub settled_holdout : result ≡ Ok Settled → SettlesOrStays format r true old lines new new_lines
+  pub settled_holdout : result ≡ Ok Settled → ResolvesOrStays format r true old lines new new_lines
   settled_holdout is =
-      let settles : OfferGives root old r (Ok Settled) new = subst (λ (x : Result Taken OfferFault). OfferGives root old r x new) is gives in
-      (settles.0, settles.1, line ∙ ap (λ (x : Result Taken OfferFault). lines ++ gained_line format r x) is)
+      let resolves : OfferGives root old r (Ok Settled) new = subst (λ (x : Result Taken OfferFault). OfferGives root old r x new) is gives in
+      (resolves.0, resolves.1, line ∙ ap (λ (x : Result Taken OfferFault). lines ++ gained_line format r x) is)
 
-  pub known_holdout : IsHoldout old r.table → result ≡ Ok Known → SettlesOrStays format r false old lines new new_lines
+  pub known_holdout : IsHoldout old r.table → result ≡ Ok Known → ResolvesOrStays format r false old lines new new_lines
   known_holdout holdout is =
       let known : OfferGives root old r (Ok Known) new = subst (λ (x : Result Taken OfferFault). OfferGives root old r x new) is gives in (
         elim known.0.is [
@@ -85,16 +85,16 @@ module _ (format : Format) (root : Packed) (old new : List Recorded) (r : Record
 
 -- what its offer changes
 pub changes_settled : (format : Format) (o : Option Ending) (r : Recorded) (old new : List Recorded) (before after : Option (List ℕ)) → IsSome o
-    → Settles old r → new ≡ settled old (with_score r) → after ≡ with_line format r before → ChangesBy format o r old before new after
-changes_settled format (Some v) r old new before after some settles is line = (settles, is, line)
-changes_settled format None r old new before after some settles is line = absurd (cc)
+    → Resolves old r → new ≡ resolved old (with_score r) → after ≡ with_line format r before → ChangesBy format o r old before new after
+changes_settled format (Some v) r old new before after some resolves is line = (resolves, is, line)
+changes_settled format None r old new before after some resolves is line = absurd (cc)
 
 pub changes_none : (format : Format) (o : Option Ending) (r : Recorded) (old new : List Recorded) (before after : Option (List ℕ)) → o ≡ None → new ≡ old → after ≡ before
     → ChangesBy format o r old before new after
 changes_none format o r old new before after none is same = subst (λ (x : Option Ending). ChangesBy format x r old before new after) (sym none) (is, same)
 
 changes : (format : Format) (o : Option Ending) (r : Recorded) (old new : List Recorded) (before after : Option (List ℕ)) → ChangesBy format o r old before new after
-    → (new ≡ old) ⊎ (new ≡ settled old (with_score r))
+    → (new ≡ old) ⊎ (new ≡ resolved old (with_score r))
 changes format None r old new before after by = inl by.0
 changes format (Some v) r old new before after by = inr by.1
 
@@ -112,7 +112,7 @@ all_wait rs ts all = record {
 pub first_waits : (rs : List Recorded) (t : Packed) (ts : List Packed) → AreWaiting rs (t ∷ ts) → IsHoldout rs t
 first_waits rs t ts waiting = waiting.holdouts 0 t (omega arith)
 
-stays_holdout : (rs new : List Recorded) (r : Recorded) (t : Packed) → t ≢ r.table → (new ≡ rs) ⊎ (new ≡ settled rs (with_score r)) → IsHoldout rs t → IsHoldout new t
+stays_holdout : (rs new : List Recorded) (r : Recorded) (t : Packed) → t ≢ r.table → (new ≡ rs) ⊎ (new ≡ resolved rs (with_score r)) → IsHoldout rs t → IsHoldout new t
 stays_holdout rs new r t other (inl same) holdout = subst (λ (l : List Recorded). IsHoldout l t) (sym same) holdout
 stays_holdout rs new r t other (inr is) holdout = subst (λ (l : List Recorded). IsHoldout l t) (sym is) (ap (option_map mark_of) (settled_other rs (with_score r) t other) ∙ holdout)
 

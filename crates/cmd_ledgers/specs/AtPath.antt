@@ -10,7 +10,7 @@ use Rattle.cmd_options.specs.declared.outcome.Outcome.{Outcome}
 use Rattle.cmd_options.specs.declared.ended.Ended.{Ended}
 use Rattle.cmd_options.specs.declared.ended.Ended.TheVariants.{File, Ledger, NoMemory, Stream}
 use Rattle.cmd_ledgers.specs.Carry.{carried_text}
-use Rattle.cmd_ledgers.specs.Merge.{AreJoined, IsLoaded, Readings, merged_text, outcome_of_left, rewritten}
+use Rattle.cmd_ledgers.specs.Merge.{AreMerged, IsLoaded, Readings, merged_text, outcome_of_left, rewritten}
 
 -- these are the bytes that stand at a path
 abbrev pub IsAt : Known → List ℕ → Type 0
@@ -37,13 +37,13 @@ abbrev pub MergesAt : SameFile → List ℕ → List ℕ → List ℕ → Shelf 
     → Result Outcome Ended → Type 0
 MergesAt tells one other out old new held new_held (Ok o) =
     (b : Contents) × (tally : Tally) × (left : Left)
-    × AreJoined (ReadsAt (old one)) (ReadsAt (old other)) (Ok (b, left)) × IsTally b.root b.records tally
+    × AreMerged (ReadsAt (old one)) (ReadsAt (old other)) (Ok (b, left)) × IsTally b.root b.records tally
     × PutsLedger tells out b old new × Appends held new_held (merged_text tally left) × (o ≡ outcome_of_left left)
 MergesAt tells one other out old new held new_held (Err e) =
-    ((AreJoined (ReadsAt (old one)) (ReadsAt (old other)) (Err e) ⊎ FailsWriting e) × IsKept old new
+    ((AreMerged (ReadsAt (old one)) (ReadsAt (old other)) (Err e) ⊎ FailsWriting e) × IsKept old new
     × (new_held ≡ held))
     ⊎ ((e ≡ Stream) × ((b : Contents) × (left : Left)
-    × AreJoined (ReadsAt (old one)) (ReadsAt (old other)) (Ok (b, left)) × PutsLedger tells out b old new))
+    × AreMerged (ReadsAt (old one)) (ReadsAt (old other)) (Ok (b, left)) × PutsLedger tells out b old new))
 
 -- and a ledger of what one holds, in the same way
 abbrev pub CarriesAt : SameFile → List ℕ → List ℕ → Shelf → Shelf → Option (List ℕ) → Option (List ℕ)

@@ -1,4 +1,4 @@
--- What ends a command by a ledger that can't be loaded, or two that can't be joined.
+-- What ends a command by a ledger that can't be loaded, or two that can't be merged.
 use Rattle.ledger.specs.declared.faults.LoadFault.{LoadFault}
 use Rattle.ledger.specs.declared.faults.LoadFault.TheVariants.{BadHeader as BadLedgerHeader, WrongRoot as OtherRoot, NoMemory as NoLedgerMemory}
 use Rattle.ledger.specs.declared.faults.MergeFault.{MergeFault}

@@ -1,4 +1,4 @@
--- Two ledgers that are read one after the other, and joined.
+-- Two ledgers that are read one after the other, and merged.
 use Rattle.std.specs.Prelude.{◌≡◌, ◌≢◌, ◌⊎◌, ℕ, ◌-◌, List, [], ◌∷◌, ◌++◌, Option, Some, None, Result, Ok, Err, codes, decimal}
 use Rattle.machine_text.specs.Packed.{Packed}
 use Rattle.ledger.specs.Contents.{Contents}
@@ -48,11 +48,11 @@ EndsTakingIn root text Locked = ⊥
 EndsTakingIn root text NoMemory = (rest : List ℕ) × HasHeader text root rest
 
 -- the second ledger is read once the first one is loaded, and its records are taken into the first one's board
-abbrev pub AreJoined : Readings → Readings → Result (Contents × Left) Ended → Type 0
-AreJoined one other (Ok joined) =
+abbrev pub AreMerged : Readings → Readings → Result (Contents × Left) Ended → Type 0
+AreMerged one other (Ok merged) =
     (first : Contents × Left) × (bytes : List ℕ) × (left : Left) × IsLoaded one (Ok first) × other (Ok bytes)
-    × TakesIn first.0 bytes left joined.0 × (joined.1 ≡ first_left first.1 left)
-AreJoined one other (Err e) =
+    × TakesIn first.0 bytes left merged.0 × (merged.1 ≡ first_left first.1 left)
+AreMerged one other (Err e) =
     IsLoaded one (Err e)
     ⊎ ((first : Contents × Left) × IsLoaded one (Ok first)
     × (other (Err e) ⊎ ((bytes : List ℕ) × other (Ok bytes) × EndsTakingIn first.0.root bytes e)))
@@ -62,17 +62,17 @@ abbrev pub rewritten : Contents → Option (List ℕ) → Option (List ℕ)
 rewritten b (Some text) = Some (ledger_text b.root b.records)
 rewritten b None = None
 
--- two ledgers are joined, and a third holds what they come to, which is told
-abbrev pub JoinsInto : Readings → Readings → Tally → Left → Option (List ℕ) → Option (List ℕ) → Type 0
-JoinsInto one other tally left before after =
-    (b : Contents) × AreJoined one other (Ok (b, left)) × IsTally b.root b.records tally × (after ≡ rewritten b before)
+-- two ledgers are merged, and a third holds what they come to, which is told
+abbrev pub MergesInto : Readings → Readings → Tally → Left → Option (List ℕ) → Option (List ℕ) → Type 0
+MergesInto one other tally left before after =
+    (b : Contents) × AreMerged one other (Ok (b, left)) × IsTally b.root b.records tally × (after ≡ rewritten b before)
 
--- why no third ledger is made, and whether it is as it was: the two aren't joined; or they are, but memory is refused for
+-- why no third ledger is made, and whether it is as it was: the two aren't merged; or they are, but memory is refused for
 -- the text; or else the third has failed
-abbrev pub EndsJoiningInto : Readings → Readings → Ended → Type 0 → Type 0
-EndsJoiningInto one other e IsUntouched =
-    (AreJoined one other (Err e) × IsUntouched)
-    ⊎ ((joined : Contents × Left) × AreJoined one other (Ok joined) × (((e ≡ NoMemory) × IsUntouched) ⊎ (e ≡ Ledger)))
+abbrev pub EndsMergingInto : Readings → Readings → Ended → Type 0 → Type 0
+EndsMergingInto one other e IsUntouched =
+    (AreMerged one other (Err e) × IsUntouched)
+    ⊎ ((merged : Contents × Left) × AreMerged one other (Ok merged) × (((e ≡ NoMemory) × IsUntouched) ⊎ (e ≡ Ledger)))
 
 -- accepted where all was kept
 abbrev pub outcome_of_left : Left → Outcome
@@ -83,7 +83,7 @@ outcome_of_left (From line kept why) = Refused
 abbrev pub count_text : List ℕ → ℕ → List ℕ
 count_text name count = name ++ decimal count
 
--- what is printed of two ledgers that are joined
+-- what is printed of two ledgers that are merged
 abbrev pub merged_text : Tally → Left → List ℕ
 merged_text tally left =
     count_text (codes "merged ") (tally.nodes - tally.open_count) ++ count_text (codes " open ") tally.open_count

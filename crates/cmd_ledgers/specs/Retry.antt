@@ -5,7 +5,7 @@ use Rattle.kind_evidence.specs.declared.verdicts.Ending.{Ending}
 use Rattle.cert.specs.Claim.{Recorded, ending_by}
 use Rattle.cert.specs.Scored.{with_score}
 use Rattle.ledger.specs.Contents.{Contents}
-use Rattle.ledger.specs.Held.{IsHoldout, Settles, settled}
+use Rattle.ledger.specs.Held.{IsHoldout, Resolves, resolved}
 use Rattle.ledger.specs.LedgerText.{IsLedgerOf}
 use Rattle.ledger.specs.Tally.{AreAll}
 use Rattle.ledger.specs.Versions.{ledger_line}
@@ -24,10 +24,10 @@ gained format r = ledger_line format (with_score r) ++ (10 ∷ [])
 
 -- whether a record for a holdout is taken, as it is where it has a verdict: it stands in the holdout's place with its
 -- score, and its line is appended; where it isn't taken, the records stay as they were
-abbrev pub SettlesOrStays : Format → Recorded → Bool → List Recorded → List ℕ → List Recorded → List ℕ → Type 0
-SettlesOrStays format r true old lines new new_lines = Settles old r × (new ≡ settled old (with_score r))
+abbrev pub ResolvesOrStays : Format → Recorded → Bool → List Recorded → List ℕ → List Recorded → List ℕ → Type 0
+ResolvesOrStays format r true old lines new new_lines = Resolves old r × (new ≡ resolved old (with_score r))
     × (new_lines ≡ lines ++ gained format r)
-SettlesOrStays format r false old lines new new_lines = (ending_by r.claim ≡ None) × (new ≡ old)
+ResolvesOrStays format r false old lines new new_lines = (ending_by r.claim ≡ None) × (new ≡ old)
 
 -- a ledger's text, where it is known, with the line of a record behind it
 abbrev pub with_line : Format → Recorded → Option (List ℕ) → Option (List ℕ)
@@ -38,7 +38,7 @@ with_line format r text = grown text (gained format r)
 abbrev pub ChangesBy : Format → Option Ending → Recorded → List Recorded → Option (List ℕ) → List Recorded
     → Option (List ℕ) → Type 0
 ChangesBy format None r old before new after = (new ≡ old) × (after ≡ before)
-ChangesBy format (Some v) r old before new after = Settles old r × (new ≡ settled old (with_score r))
+ChangesBy format (Some v) r old before new after = Resolves old r × (new ≡ resolved old (with_score r))
     × (after ≡ with_line format r before)
 
 -- a holdout is tried: a record of it is answered, and taken where that has a verdict
@@ -73,7 +73,7 @@ ChangesNothing e old before new after = (e ≡ NoMemory) × (new ≡ old) × (af
 -- the line
 abbrev pub TearsLineOf : Format → Recorded → Ended → List Recorded → Option (List ℕ) → List Recorded → Option (List ℕ)
     → Type 0
-TearsLineOf format r e old before new after = (e ≡ Ledger) × Settles old r × (new ≡ settled old (with_score r))
+TearsLineOf format r e old before new after = (e ≡ Ledger) × Resolves old r × (new ≡ resolved old (with_score r))
     × IsBegun before (gained format r) after
 
 -- what ends it at a holdout: memory was refused; or the ledger failed, under the line of a record that was answered for

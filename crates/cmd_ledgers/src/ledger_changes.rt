@@ -1,6 +1,6 @@
 // What a command does to a ledger; one that fails ends the command.
 ghost use Rattle.std.specs.Prelude.{◌≡◌, ◌≢◌, OnOk, IfErr, Some};
-ghost use Rattle.wire.specs.Carried.{kept_text, cut_to};
+ghost use Rattle.wire.specs.Fulfilled.{kept_text, cut_to};
 ghost use Rattle.wire.specs.Device.{IsBegun, grown};
 
 use cmd_options::Ended;

@@ -5,7 +5,7 @@
 //! complete one, `specs/LedgerReport` what is printed for a ledger's text, `specs/Reading` how that is read,
 //! `specs/Reporting` what `report` comes to, `specs/GoingOn` a ledger that is gone on with where it stands,
 //! `specs/Retry` what becomes of holdouts that are tried again, `specs/RetryAt` what `retry` comes to, `specs/Merge`
-//! two ledgers that are joined,
+//! two ledgers that are merged,
 //! `specs/Carry` one that is written as version 2, `specs/AtPath` what the last two come to where files stand.
 #![tactic(auto)]
 
@@ -34,7 +34,7 @@ pub use ledger_report::{
     cmd_report, cmd_report_stream, outcome_by, report_at, report_board, report_ledger,
     report_stream,
 };
-pub use merge::{cmd_merge, join, join_into, merge_at};
+pub use merge::{cmd_merge, merge_of, merge_into, merge_at};
 pub use reading::{MAX_HEADER_BYTES, begin_reading, load_from};
 pub use report_form::{AsLines, ReportForm, write_report, write_told};
 pub use report_writer::{LineReport, pass};

@@ -5,7 +5,7 @@ ghost use Rattle.cmd_options.specs.declared.ended.Ended.{Ended as Ends};
 ghost use Rattle.cmd_options.specs.Ends.{EndsTold};
 ghost use Rattle.files.specs.Paths.{IsBlank, IsKeptBut};
 ghost use Rattle.cmd_ledgers.specs.AtPath.{FailsWriting, MergesAt, ReadsAt};
-ghost use Rattle.cmd_ledgers.specs.Merge.{AreJoined, EndsJoiningInto, EndsTakingIn, IsLoaded, JoinsInto, TakesIn, count_text, first_left, merged_text, rewritten};
+ghost use Rattle.cmd_ledgers.specs.Merge.{AreMerged, EndsMergingInto, EndsTakingIn, IsLoaded, MergesInto, TakesIn, count_text, first_left, merged_text, rewritten};
 ghost use Rattle.cmd_ledgers.specs.Reading.{AreFirstBytes, EndsReadingOf};
 
 use crate::faults::by_merge;
@@ -56,7 +56,7 @@ pub fn merge_at<H: Files, W: Write>(
         merging.entry.out.now (H.holds host.old) (H.holds host.new) (W.contents answers.old) (W.contents answers.new)
         result }
 {
-    let (made, tally, left) = joined(alloc, merging, host)?;
+    let (made, tally, left) = merged(alloc, merging, host)?;
     let said = merged_line(alloc, &tally, &left)?;
     put_at(host, made, merging.out)?;
     answers.write_all(&said)?;
@@ -64,15 +64,15 @@ pub fn merge_at<H: Files, W: Write>(
 }
 
 // The ledger of what two hold together, which stands nowhere yet.
-fn joined<H: Files>(
+fn merged<H: Files>(
     alloc: Global,
     merging: Merging<'_>,
     host: &H,
 ) -> Result<(H::Made, Tally, Left), Ended>
     ensures ok { IfOk result (λ j. (begun : Option (List ℕ)) × IsBlank begun
-        × JoinsInto (ReadsAt (H.holds host.now merging.entry.first.now))
+        × MergesInto (ReadsAt (H.holds host.now merging.entry.first.now))
         (ReadsAt (H.holds host.now merging.entry.second.now)) j.1 j.2 begun (H.Made.text j.0)) }
-    ensures err { IfErr result (λ e. AreJoined (ReadsAt (H.holds host.now merging.entry.first.now))
+    ensures err { IfErr result (λ e. AreMerged (ReadsAt (H.holds host.now merging.entry.first.now))
         (ReadsAt (H.holds host.now merging.entry.second.now)) (Err e) ⊎ FailsWriting e) }
 {
     let mut made = made_for(host, merging.out, &[merging.first, merging.second])?;
@@ -84,7 +84,7 @@ fn joined<H: Files>(
         host,
         path: merging.second,
     };
-    let (tally, left) = join_into(alloc, &first, &second, &mut made)?;
+    let (tally, left) = merge_into(alloc, &first, &second, &mut made)?;
     Ok((made, tally, left))
 }
 
@@ -111,20 +111,20 @@ pub(crate) fn append_count(name: &[u8], count: u64, out: &mut Vec<u8>) -> Result
 }
 
 /// Joins two ledgers, and makes a third hold the ledger of what they hold together, whatever it held before. Answers
-/// how many tables there are of each kind, and what wasn't kept. Where the two aren't joined, or memory is refused, the
+/// how many tables there are of each kind, and what wasn't kept. Where the two aren't merged, or memory is refused, the
 /// third isn't touched.
-pub fn join_into<A: LedgerSource, B: LedgerSource, L: LedgerOut>(
+pub fn merge_into<A: LedgerSource, B: LedgerSource, L: LedgerOut>(
     alloc: Global,
     first: &A,
     second: &B,
     ledger: &mut L,
 ) -> Result<(Tally, Left), Ended>
-    ensures ok { IfOk result (λ told. JoinsInto (A.reads first.now) (B.reads second.now) told.0 told.1
+    ensures ok { IfOk result (λ told. MergesInto (A.reads first.now) (B.reads second.now) told.0 told.1
         (L.text ledger.old) (L.text ledger.new)) }
-    ensures err { IfErr result (λ e. EndsJoiningInto (A.reads first.now) (B.reads second.now) e
+    ensures err { IfErr result (λ e. EndsMergingInto (A.reads first.now) (B.reads second.now) e
         (ledger.new ≡ ledger.old)) }
 {
-    let (board, left) = join(alloc, first, second)?;
+    let (board, left) = merge_of(alloc, first, second)?;
     write_whole(alloc, &board, ledger)?;
     Ok((board.tally(), left))
 }
@@ -133,13 +133,13 @@ pub fn join_into<A: LedgerSource, B: LedgerSource, L: LedgerOut>(
 /// board, and what wasn't kept of the first of the two of which not all was. What ends it is of the first ledger,
 /// where that can't be read or loaded, else of the second: a header that doesn't read or another root, and only then
 /// refused memory.
-pub fn join<A: LedgerSource, B: LedgerSource>(
+pub fn merge_of<A: LedgerSource, B: LedgerSource>(
     alloc: Global,
     first: &A,
     second: &B,
 ) -> Result<(Board, Left), Ended>
-    ensures ok { IfOk result (λ j. AreJoined (A.reads first.now) (B.reads second.now) (Ok j)) }
-    ensures err { IfErr result (λ e. AreJoined (A.reads first.now) (B.reads second.now) (Err e)) }
+    ensures ok { IfOk result (λ j. AreMerged (A.reads first.now) (B.reads second.now) (Ok j)) }
+    ensures err { IfErr result (λ e. AreMerged (A.reads first.now) (B.reads second.now) (Err e)) }
 {
     let (mut board, first_left) = load_source(alloc, first)?;
     let second_left = take_source(alloc, &mut board, second)?;

@@ -8,7 +8,7 @@ ghost use Rattle.cmd_options.specs.declared.outcome.Outcome.{Outcome as Outcomes
 ghost use Rattle.cmd_options.specs.declared.ended.Ended.{Ended as Ends};
 ghost use Rattle.cmd_options.specs.Ends.{EndsTold};
 ghost use Rattle.files.specs.Paths.{IsKeptBut};
-ghost use Rattle.cmd_ledgers.specs.Retry.{SettlesOrStays, StaysInStep, AtSomeTime, ChangesBy, ChangesNothing, EndsAtHoldout, EndsRetrying, IsTried, AreRetried, TearsLineOf};
+ghost use Rattle.cmd_ledgers.specs.Retry.{ResolvesOrStays, StaysInStep, AtSomeTime, ChangesBy, ChangesNothing, EndsAtHoldout, EndsRetrying, IsTried, AreRetried, TearsLineOf};
 ghost use Rattle.cmd_ledgers.specs.RetryAt.{EndsRetriedLedger, EndsRetriedWhole, RetriesAt, RetriesLedger, RetriesWhole};
 
 use crate::going_on::{cut_off, load_held, open_held};
@@ -25,7 +25,7 @@ use std::io::{Read, Write};
 use wire::LedgerOut;
 
 /// Cuts a ledger file, which has to be there, to the bytes that are kept of it, asks the decider for each of its
-/// holdouts in the order of their texts, and appends a line for each that is settled. Then it prints the report:
+/// holdouts in the order of their texts, and appends a line for each that is resolved. Then it prints the report:
 /// accepted where that says complete. What becomes open stays open. The ledger is locked before it is read; where
 /// another process has it locked, nothing is done. What ends the command early is said on `faults`.
 pub fn cmd_retry<H: Files, D: Decider, W: Write, E: Write>(
@@ -68,7 +68,7 @@ pub fn retry_at<H: Files, D: Decider, W: Write>(
 }
 
 /// Cuts a ledger to the bytes that are kept of it, tries its holdouts as `retry_holdouts` does, and prints the report.
-/// `held` reads what the ledger holds. What ends it early leaves in the ledger what was settled before.
+/// `held` reads what the ledger holds. What ends it early leaves in the ledger what was resolved before.
 pub fn retry_ledger<F: Read + Drop, L: LedgerOut, D: Decider, W: Write>(
     alloc: Global,
     held: Opened<F>,
@@ -109,7 +109,7 @@ fn retry_loaded<L: LedgerOut, D: Decider, W: Write>(
 /// Asks the decider for each holdout of a board, in the order of their texts. What it answers is taken where
 /// it has a verdict, and its line is appended to the ledger in the ledger's version, so that a ledger that was in step
 /// with the board is so again; else nothing changes. What ends it early, refused memory or a ledger that failed, leaves
-/// what was settled before.
+/// what was resolved before.
 pub fn retry_holdouts<L: LedgerOut, D: Decider>(
     alloc: Global,
     board: &mut Board,
@@ -197,7 +197,7 @@ fn gains(board: &mut Board, r: &Record, line: &mut Vec<u8>) -> Result<bool, Ende
     requires certified { IsCertified (recorded r.now) }
     ensures root { board.new.root ≡ board.old.root }
     ensures format { board.new.format ≡ board.old.format }
-    ensures ok { IfOk result (λ gained. SettlesOrStays board.old.format (recorded r.now) gained board.old.records
+    ensures ok { IfOk result (λ gained. ResolvesOrStays board.old.format (recorded r.now) gained board.old.records
         line.old.items board.new.records line.new.items) }
     ensures err { IfErr result (λ e. (e ≡ Ended.NoMemory) × (board.new.records ≡ board.old.records)) }
 {

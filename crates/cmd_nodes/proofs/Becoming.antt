@@ -1,13 +1,13 @@
 -- Answers that follow one another.
 use Rattle.std.proofs.Common.{List, [], ◌∷◌, ◌++◌, refl, ap, subst}
 use Rattle.wire.specs.Happening.{Happening}
-use Rattle.wire.specs.Carried.{Answering, Carried, Handed, Reply, Scene, carried}
+use Rattle.wire.specs.Fulfilled.{Answering, Fulfilled, Handed, Reply, Scene, fulfilled}
 use Rattle.cmd_nodes.specs.inside.{Becomes, BecomesBy}
 
--- a node that was carried on by answers has became them
-carried_becomes : {N : Type 0} (answers : Answering N) (old : Scene N) (replies : List Reply) (new : Scene N) → Carried answers old replies new → BecomesBy answers old.node replies new.node
+-- a node that was fulfilled on by answers has became them
+carried_becomes : {N : Type 0} (answers : Answering N) (old : Scene N) (replies : List Reply) (new : Scene N) → Fulfilled answers old replies new → BecomesBy answers old.node replies new.node
 carried_becomes answers old [] new is = ap (λ s. s.node) is
-carried_becomes answers old (reply ∷ replies) new is = (is.0, is.1, carried_becomes answers (carried reply.out is.0 old) replies new is.2)
+carried_becomes answers old (reply ∷ replies) new is = (is.0, is.1, carried_becomes answers (fulfilled reply.out is.0 old) replies new is.2)
 
 becomes_more : {N : Type 0} (answers : Answering N) (a b c : N) (replies more : List Reply) → BecomesBy answers a replies b → BecomesBy answers b more c → BecomesBy answers a (replies ++ more) c
 becomes_more answers a b c [] more is next = subst (λ n. BecomesBy answers n more c) is next

@@ -1,15 +1,15 @@
--- Frames that are carried one after another.
+-- Frames that are fulfilled one after another.
 use Rattle.std.proofs.Common.{◌≡◌, ℕ, List, [], ◌∷◌, ◌++◌, Option, None, refl, sym, ap, ◌∙◌, append_assoc}
 use Rattle.text.specs.Lines.{HasNoNewline, BeginsWithLine}
-use Rattle.cmd_nodes.specs.Losses.{AreFrames, Carries, counted_on, delivered_of, left_of}
+use Rattle.cmd_nodes.specs.Losses.{AreFrames, Delivers, counted_on, delivered_of, left_of}
 
 -- nothing but a beginning of a frame
-pub carries_rest : (every : Option ℕ) (before : ℕ) (rest : List ℕ) → HasNoNewline rest → Carries every before rest rest before
+pub carries_rest : (every : Option ℕ) (before : ℕ) (rest : List ℕ) → HasNoNewline rest → Delivers every before rest rest before
 carries_rest every before rest none = record { frames = []; rest = rest; are_frames = (refl, none); is = refl; count = refl }
 
--- a frame, and what is carried behind it
-pub carries_frame : (every : Option ℕ) (before after : ℕ) (text frame more delivered : List ℕ) → BeginsWithLine text frame more → Carries every (counted_on before) more delivered after
-    → Carries every before text (left_of every before frame ++ delivered) after
+-- a frame, and what is fulfilled behind it
+pub carries_frame : (every : Option ℕ) (before after : ℕ) (text frame more delivered : List ℕ) → BeginsWithLine text frame more → Delivers every (counted_on before) more delivered after
+    → Delivers every before text (left_of every before frame ++ delivered) after
 carries_frame every before after text frame more delivered begins x = record {
   frames = frame ∷ x.frames;
   rest = x.rest;
@@ -27,6 +27,6 @@ all_left before (frame ∷ frames) text rest are =
     ∙ (ap (λ (l : List ℕ). (frame ++ (10 ∷ [])) ++ l) (all_left (counted_on before) frames are.1 rest are.3)
     ∙ (append_assoc frame (10 ∷ []) are.1 ∙ sym are.2))
 
-pub carries_all : (every : Option ℕ) (before after : ℕ) (sent delivered : List ℕ) → every ≡ None → Carries every before sent delivered after → delivered ≡ sent
+pub carries_all : (every : Option ℕ) (before after : ℕ) (sent delivered : List ℕ) → every ≡ None → Delivers every before sent delivered after → delivered ≡ sent
 carries_all every before after sent delivered none x =
     x.is ∙ (ap (λ (o : Option ℕ). delivered_of o before x.frames ++ x.rest) none ∙ all_left before x.frames sent x.rest x.are_frames)

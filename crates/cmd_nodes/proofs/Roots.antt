@@ -1,7 +1,7 @@
 -- A coordinator's answers keep the root of its board.
 use Rattle.std.proofs.Common.{◌≡◌, ℕ, Bool, true, false, List, [], ◌∷◌, Option, Some, None, Result, Ok, Err, refl, ◌∙◌, ap, sym, subst, ◌==◌}
 use Rattle.machine_text.specs.Packed.{Packed}
-use Rattle.wire.specs.Carried.{Reply}
+use Rattle.wire.specs.Fulfilled.{Reply}
 use Rattle.wire.specs.Happening.{Happening, Came, Ticked, Worked}
 use Rattle.wire.specs.Grammar.{message_of}
 use Rattle.wire.specs.Message.{Message, Ask, Grant, Rec, Ack, Later, Done, Stop}

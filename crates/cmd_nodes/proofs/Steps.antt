@@ -3,7 +3,7 @@ use Rattle.std.proofs.Common.{◌≡◌, ℕ, ◌+◌, List, [], ◌∷◌, ◌+
 use Rattle.std.specs.declared.io.Error.{Error}
 use Rattle.machine_text.specs.Packed.{empty_table}
 use Rattle.ledger.specs.Reading.{IsAllRead}
-use Rattle.wire.specs.Carried.{kept_text, text_after}
+use Rattle.wire.specs.Fulfilled.{kept_text, text_after}
 use Rattle.wire.specs.Happening.{Happening}
 use Rattle.wire.specs.declared.node.Out.{Out}
 use Rattle.leases.specs.Leases.{Leased, no_leases}
@@ -21,7 +21,7 @@ nothing_yet c text = record { root = λ root has. has; step = λ known. known }
 pub one_by_one : (a b c : Coordinating) (first then last : Option (List ℕ)) → IsServed a b first then → IsServed b c then last → IsServed a c first last
 one_by_one a b c first then last x y = record { root = λ root has. y.root root (x.root root has); step = λ known. y.step (x.step known) }
 
--- the ledger's part of an answer is carried out
+-- the ledger's part of an answer is fulfilled
 step_kept : (out : Out) (old new : Coordinating) (before after : Option (List ℕ)) → ((text : List ℕ) → InStep old text → InStep new (text_after out text)) → after ≡ kept_text out before
     → KeepsStep (λ c text. InStep c text) old new before after
 step_kept out old new None after step is = λ known. subst (λ (o : Option (List ℕ)). IfSome o (InStep new)) (sym is) tt
@@ -50,7 +50,7 @@ all_read bytes text len (Some ys) all is =
     ] in
     sym (consumed ∙ (ap (λ (l : List ℕ). text ++ l) none ∙ append-nil text))
 
--- a coordinator has started, and its first answer is carried out
+-- a coordinator has started, and its first answer is fulfilled
 module _ (n era : ℕ) (has : Option (List ℕ)) (len : ℕ) (left : Option (List ℕ)) (c : Coordinating) (first : Result Out StartFault) (out : Out)
     (starts : StartsFrom n era has len left c first) (is : first ≡ Ok out) where
   pub start_root : IsOfRoot (empty_table n) c

@@ -14,7 +14,7 @@ ended_by_start OtherStartRoot = WrongRoot
 ended_by_start StartLedgerFault = Ledger
 ended_by_start NoStartMemory = NoMemory
 
--- a turn isn't carried out; a node is stopped where its ledger has failed
+-- a turn isn't fulfilled; a node is stopped where its ledger has failed
 abbrev pub ended_by_turn : TurnFault → Ended
 ended_by_turn LinkFault = Stream
 ended_by_turn LedgerFault = Ledger
@@ -22,7 +22,7 @@ ended_by_turn (Node Stopped) = Ledger
 ended_by_turn (Node NoNodeMemory) = NoMemory
 ended_by_turn NoTurnMemory = NoMemory
 
--- a turn over a link in memory isn't carried out: such a link fails where memory is refused
+-- a turn over a link in memory isn't fulfilled: such a link fails where memory is refused
 abbrev pub ended_in_memory : TurnFault → Ended
 ended_in_memory LinkFault = NoMemory
 ended_in_memory LedgerFault = ended_by_turn LedgerFault

@@ -32,7 +32,7 @@ AreFrames (frame ∷ frames) text rest = HasNoNewline frame × (more : List ℕ)
 
 -- what was sent is frames, and perhaps a beginning of one more; the frames are delivered but for those that are lost,
 -- and so is that beginning
-pub record Carries (every : Option ℕ) (before : ℕ) (sent delivered : List ℕ) (after : ℕ) : Type 0 where
+pub record Delivers (every : Option ℕ) (before : ℕ) (sent delivered : List ℕ) (after : ℕ) : Type 0 where
   pub frames : List (List ℕ)
   pub rest : List ℕ
   pub are_frames : AreFrames frames sent rest

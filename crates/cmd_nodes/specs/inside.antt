@@ -7,7 +7,7 @@ use Rattle.ledger.specs.Contents.{Contents, IsBoard}
 use Rattle.ledger.specs.Tally.{IsStatus}
 use Rattle.ledger.specs.declared.left.Left.TheVariants.{Nothing}
 use Rattle.ledger.specs.declared.status.Status.{Status}
-use Rattle.wire.specs.Carried.{Answering, Reply}
+use Rattle.wire.specs.Fulfilled.{Answering, Reply}
 use Rattle.leases.specs.Leases.{Leased}
 use Rattle.lease_core.specs.CoordinatorRules.{Coordinating}
 use Rattle.lease_core.specs.Starts.{InStep}

@@ -2,7 +2,7 @@
 ghost use Rattle.std.specs.Prelude.{◌≡◌, ◌≤◌, None, IfOk, IfSome, OnOk, Result};
 ghost use Rattle.machine_text.specs.Limits.{state_limit};
 ghost use Rattle.machine_text.specs.Packed.{empty_table};
-ghost use Rattle.wire.specs.Carried.{kept_text};
+ghost use Rattle.wire.specs.Fulfilled.{kept_text};
 ghost use Rattle.wire.specs.declared.node.Out.{Out as Answer};
 ghost use Rattle.lease_core.specs.Starts.{InStep};
 ghost use Rattle.ledger.specs.Contents.{IsBoard};
@@ -107,12 +107,12 @@ fn start<F: Read + Drop, L: LedgerOut>(
         &mut held,
         length,
     );
-    carry_out_first(first, held.fault(), ledger)?;
+    fulfil_first(first, held.fault(), ledger)?;
     Ok(node)
 }
 
 // Does what a node asks for when it has started. What a read of its ledger came to, where one failed, is told apart.
-fn carry_out_first<L: LedgerOut>(
+fn fulfil_first<L: LedgerOut>(
     first: Result<Out, StartFault>,
     fault: Option<Ended>,
     ledger: &mut L,

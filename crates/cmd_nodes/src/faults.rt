@@ -18,7 +18,7 @@ pub(crate) fn by_start(fault: StartFault) -> Ended
     }
 }
 
-// A turn isn't carried out. A node is stopped where its ledger has failed.
+// A turn isn't fulfilled. A node is stopped where its ledger has failed.
 pub(crate) fn by_turn(fault: TurnFault) -> Ended
     ensures { result ≡ ended_by_turn fault }
 {

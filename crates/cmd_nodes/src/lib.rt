@@ -6,7 +6,7 @@
 //! `specs/Settled` what is printed of the board to which a tree is settled.
 #![tactic(auto)]
 
-mod carriers;
+mod couriers;
 mod coord;
 mod faults;
 mod held_ledger;
@@ -25,7 +25,7 @@ mod working;
 
 pub use coord::{cmd_coord, coordinate};
 pub use loop_command::{cmd_loop, loop_tree};
-pub use losses::{Losses, carry};
+pub use losses::{Losses, deliver};
 pub use maybe_ledger::MaybeLedger;
 pub use moving::move_all;
 pub use no_ledger::NoLedger;

@@ -6,7 +6,7 @@ ghost use Rattle.cmd_options.specs.declared.ended.Ended.{Ended as Ends};
 ghost use Rattle.cmd_options.specs.declared.outcome.Outcome.{Outcome as Outcomes};
 ghost use Rattle.cmd_nodes.specs.Settled.{KeepsLedger, SettlesTree, TellsTree};
 
-use crate::carriers::OverSockets;
+use crate::couriers::OverSockets;
 use crate::run_command::{Run, settle};
 use crate::sockets::Sockets;
 use cmd_ledgers::ReportForm;
@@ -78,6 +78,6 @@ pub fn loop_tree<
         (KeepsLedger F.remaining held (L.text ledger.old) (L.text ledger.new))
         (W.contents answers.old) (W.contents answers.new) result }
 {
-    let carriers = OverSockets { sockets };
-    settle(alloc, run, &carriers, held, ledger, answers, faults)
+    let couriers = OverSockets { sockets };
+    settle(alloc, run, &couriers, held, ledger, answers, faults)
 }

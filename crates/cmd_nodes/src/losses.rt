@@ -1,6 +1,6 @@
 // Frames on their way over a link in memory, of which some may be lost.
 ghost use Rattle.std.specs.Prelude.{◌≡◌, ◌++◌, List, ℕ, [], None, OnOk};
-ghost use Rattle.cmd_nodes.specs.Losses.{Carries, counted_on, is_lost, left_of};
+ghost use Rattle.cmd_nodes.specs.Losses.{Delivers, counted_on, is_lost, left_of};
 
 use kind_evidence::NoMemory;
 use text::cut;
@@ -44,24 +44,24 @@ impl Losses {
 }
 
 /// Delivers to one end what was sent from the other, but for the frames that are lost.
-pub fn carry(from: &mut MemLink, to: &mut MemLink, losses: &mut Losses) -> Result<(), NoMemory>
+pub fn deliver(from: &mut MemLink, to: &mut MemLink, losses: &mut Losses) -> Result<(), NoMemory>
     ensures every { losses.new.every ≡ losses.old.every }
     ensures frames { OnOk result ((delivered : List ℕ)
-        × Carries losses.old.every losses.old.counted from.old.sent delivered losses.new.counted
+        × Delivers losses.old.every losses.old.counted from.old.sent delivered losses.new.counted
         × (to.new.waiting ≡ to.old.waiting ++ delivered)) }
     ensures whole { OnOk result (losses.old.every ≡ None → to.new.waiting ≡ to.old.waiting ++ from.old.sent) }
     ensures sent { OnOk result (from.new.sent ≡ []) }
 {
-    carry_frames(from.sent(), to, losses)?;
+    deliver_frames(from.sent(), to, losses)?;
     from.clear_sent();
     Ok(())
 }
 
 // Delivers frames, each with its newline, but for those that are lost, and what stands behind the last newline.
-fn carry_frames(sent: &[u8], to: &mut MemLink, losses: &mut Losses) -> Result<(), NoMemory>
+fn deliver_frames(sent: &[u8], to: &mut MemLink, losses: &mut Losses) -> Result<(), NoMemory>
     ensures every { losses.new.every ≡ losses.old.every }
     ensures frames { OnOk result ((delivered : List ℕ)
-        × Carries losses.old.every losses.old.counted sent.now delivered losses.new.counted
+        × Delivers losses.old.every losses.old.counted sent.now delivered losses.new.counted
         × (to.new.waiting ≡ to.old.waiting ++ delivered)) }
 {
     let mut left = sent;
@@ -70,13 +70,13 @@ fn carry_frames(sent: &[u8], to: &mut MemLink, losses: &mut Losses) -> Result<()
         let Some(rest) = rest else {
             return to.deliver(frame);
         };
-        carry_frame(frame, to, losses)?;
+        deliver_frame(frame, to, losses)?;
         left = rest;
     }
 }
 
 // Counts a frame, and delivers it with its newline where it isn't lost.
-fn carry_frame(frame: &[u8], to: &mut MemLink, losses: &mut Losses) -> Result<(), NoMemory>
+fn deliver_frame(frame: &[u8], to: &mut MemLink, losses: &mut Losses) -> Result<(), NoMemory>
     ensures every { losses.new.every ≡ losses.old.every }
     ensures counted { losses.new.counted ≡ counted_on losses.old.counted }
     ensures left { OnOk result (to.new.waiting ≡ to.old.waiting

@@ -2,7 +2,7 @@
 ghost use Rattle.std.specs.Prelude.{OnOk};
 ghost use Rattle.cmd_nodes.specs.inside.{IsServed};
 
-use crate::carriers::Carrier;
+use crate::couriers::Courier;
 use crate::faults::by_turn;
 use crate::station::Station;
 use cmd_ledgers::keep_answer;
@@ -14,7 +14,7 @@ use wire::{Event, LedgerOut, Node, TurnFault};
 
 // Runs rounds, numbered from 1, until no table is open or so many were run. A round is a tick of the
 // coordinator, and then each worker's part.
-pub(crate) fn run_rounds<N: Node, Y: Carrier, L: LedgerOut, P: Progress>(
+pub(crate) fn run_rounds<N: Node, Y: Courier, L: LedgerOut, P: Progress>(
     coordinator: &mut Coordinator,
     ledger: &mut L,
     stations: &mut Vec<Station<N, Y>>,
@@ -35,7 +35,7 @@ pub(crate) fn run_rounds<N: Node, Y: Carrier, L: LedgerOut, P: Progress>(
     Ok(())
 }
 
-fn run_round<N: Node, Y: Carrier, L: LedgerOut>(
+fn run_round<N: Node, Y: Courier, L: LedgerOut>(
     coordinator: &mut Coordinator,
     ledger: &mut L,
     stations: &mut Vec<Station<N, Y>>,

@@ -7,7 +7,7 @@ ghost use Rattle.cmd_options.specs.declared.outcome.Outcome.{Outcome as Outcomes
 ghost use Rattle.cmd_nodes.specs.Settled.{KeepsLedger, SettlesTree, TellsTree};
 ghost use Rattle.cmd_nodes.specs.inside.{IsServed};
 
-use crate::carriers::{Carriers, InMemory};
+use crate::couriers::{Couriers, InMemory};
 use crate::coord::start_coordinator;
 use crate::reporting::report_board;
 use crate::rounds::run_rounds;
@@ -92,10 +92,10 @@ pub fn run_tree<
         (KeepsLedger F.remaining held (L.text ledger.old) (L.text ledger.new))
         (W.contents answers.old) (W.contents answers.new) result }
 {
-    let carriers = InMemory {
+    let couriers = InMemory {
         lose: run.settling.lose,
     };
-    settle(alloc, run, &carriers, held, ledger, answers, faults)
+    settle(alloc, run, &couriers, held, ledger, answers, faults)
 }
 
 // A coordinator that is settled by its workers, and its report.
@@ -105,13 +105,13 @@ pub(crate) fn settle<
     L: LedgerOut,
     N: Node + Drop,
     C: Clock,
-    Y: Carriers,
+    Y: Couriers,
     W: Write,
     E: Write,
 >(
     alloc: Global,
     run: Run<'_, P, N, C>,
-    carriers: &Y,
+    couriers: &Y,
     held: io::Result<Opened<F>>,
     ledger: &mut L,
     answers: &mut W,
@@ -128,15 +128,15 @@ pub(crate) fn settle<
     };
     let mut node = start_coordinator(alloc, beginning, held, ledger)?;
     let form = run.form;
-    run_workers(alloc, run, carriers, &mut node, ledger, faults)?;
+    run_workers(alloc, run, couriers, &mut node, ledger, faults)?;
     report_board(alloc, form, &node, answers)
 }
 
 // The rounds alone.
-fn run_workers<P, L: LedgerOut, N: Node + Drop, C: Clock, Y: Carriers, E: Write>(
+fn run_workers<P, L: LedgerOut, N: Node + Drop, C: Clock, Y: Couriers, E: Write>(
     alloc: Global,
     run: Run<'_, P, N, C>,
-    carriers: &Y,
+    couriers: &Y,
     node: &mut Coordinator,
     ledger: &mut L,
     faults: &mut E,
@@ -144,7 +144,7 @@ fn run_workers<P, L: LedgerOut, N: Node + Drop, C: Clock, Y: Carriers, E: Write>
     ensures { OnOk result (IsServed node.old node.new (L.text ledger.old) (L.text ledger.new)) }
 {
     let settling = run.settling;
-    let mut stations = stations(alloc, run.workers, carriers)?;
+    let mut stations = stations(alloc, run.workers, couriers)?;
     let records = recorded(node);
     let mut progress = TimedProgress::new(alloc, run.telling, records, run.clock, faults);
     let ended = run_rounds(node, ledger, &mut stations, settling.rounds, &mut progress);
@@ -153,15 +153,15 @@ fn run_workers<P, L: LedgerOut, N: Node + Drop, C: Clock, Y: Carriers, E: Write>
 }
 
 // Each worker with a link of its own.
-fn stations<N: Node + Drop, Y: Carriers>(
+fn stations<N: Node + Drop, Y: Couriers>(
     alloc: Global,
     workers: Vec<N>,
-    carriers: &Y,
-) -> Result<Vec<Station<N, Y::Carrier>>, Ended> {
-    let base = carriers.begin()?;
+    couriers: &Y,
+) -> Result<Vec<Station<N, Y::Courier>>, Ended> {
+    let base = couriers.begin()?;
     let mut stations = Vec::new(alloc);
     for worker in workers {
-        let station = Station::new(alloc, worker, carriers.carrier(&base)?);
+        let station = Station::new(alloc, worker, couriers.courier(&base)?);
         if stations.push(station).is_err() {
             return Err(Ended::NoMemory);
         }

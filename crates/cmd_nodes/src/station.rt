@@ -2,7 +2,7 @@
 ghost use Rattle.std.specs.Prelude.{OnOk};
 ghost use Rattle.cmd_nodes.specs.inside.{Becomes, IsServed, KeepsStep};
 
-use crate::carriers::Carrier;
+use crate::couriers::Courier;
 use crate::faults::in_memory;
 use crate::no_ledger::NoLedger;
 use crate::working::work;
@@ -11,7 +11,7 @@ use lease_core::Coordinator;
 use std::alloc::Global;
 use wire::{LedgerOut, Lines, MemLink, Node, TurnFault, turn};
 
-// A worker, whose ledger nobody reads, both ends of its link with the coordinator, which are in memory, and what carries
+// A worker, whose ledger nobody reads, both ends of its link with the coordinator, which are in memory, and what delivers
 // frames from one to the other. The worker is any node: what is proved of a type that keeps boxed finders would depend
 // on the bodies of its calls.
 #[derive(Drop)]
@@ -20,7 +20,7 @@ pub(crate) struct Station<N, Y> {
     ledger: NoLedger,
     near: LinkEnd,
     far: LinkEnd,
-    carrier: Y,
+    courier: Y,
 }
 
 // One end of a link, and the lines that came to it.
@@ -38,7 +38,7 @@ impl LinkEnd {
         }
     }
 
-    // Hands all that waits to a node, and carries out what it answers.
+    // Hands all that waits to a node, and fulfils what it answers.
     fn serve<N: Node, L: LedgerOut>(
         &mut self,
         node: &mut N,
@@ -57,15 +57,15 @@ impl LinkEnd {
     }
 }
 
-impl<N: Node, Y: Carrier> Station<N, Y> {
+impl<N: Node, Y: Courier> Station<N, Y> {
     // A worker that was started from an empty ledger.
-    pub fn new(alloc: Global, worker: N, carrier: Y) -> Station<N, Y> {
+    pub fn new(alloc: Global, worker: N, courier: Y) -> Station<N, Y> {
         Station {
             worker,
             ledger: NoLedger,
             near: LinkEnd::new(alloc),
             far: LinkEnd::new(alloc),
-            carrier,
+            courier,
         }
     }
 
@@ -88,10 +88,10 @@ impl<N: Node, Y: Carrier> Station<N, Y> {
         if worked.is_err() {
             return Err(Ended::NoMemory);
         }
-        self.carrier
+        self.courier
             .to_coordinator(&mut self.near.link, &mut self.far.link)?;
         serve_coordinator(&mut self.far, coordinator, ledger)?;
-        self.carrier
+        self.courier
             .to_worker(&mut self.far.link, &mut self.near.link)?;
         match self.near.serve(&mut self.worker, &mut self.ledger) {
             Ok(()) => Ok(()),

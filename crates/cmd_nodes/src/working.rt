@@ -1,16 +1,16 @@
 // A worker's part of a round.
 ghost use Rattle.std.specs.Prelude.{◌≡◌, ◌≢◌, List, [], Ok, Err, IfErr, IfSome, OnOk};
 ghost use Rattle.cmd_nodes.specs.Rounds.{events_of_round};
-ghost use Rattle.wire.specs.Carried.{BrokenOff, Faulted, Handed, carried, scene};
+ghost use Rattle.wire.specs.Fulfilled.{BrokenOff, Faulted, Handed, fulfilled, scene};
 ghost use Rattle.wire.specs.Happening.{Happening, seen};
 ghost use Rattle.wire.specs.declared.node.Out.{Out as Answer};
 
-use wire::{Event, LedgerOut, Link, Node, TurnFault, carry_out};
+use wire::{Event, LedgerOut, Link, Node, TurnFault, fulfil};
 
 // How many work turns a worker gets in a round.
 const WORK_TURNS: u32 = 8;
 
-/// Hands a worker what happens to it in a round, each event once the answer to the one before is carried out, the
+/// Hands a worker what happens to it in a round, each event once the answer to the one before is fulfilled, the
 /// ledger's part of it first. A fault ends that.
 pub fn work<N: Node, L: Link, W: LedgerOut>(
     node: &mut N,
@@ -34,7 +34,7 @@ pub fn work<N: Node, L: Link, W: LedgerOut>(
     handle(node, Event::Tick(round), link, ledger)
 }
 
-// Hands a node an event, and carries out its answer.
+// Hands a node an event, and fulfils its answer.
 fn handle<N: Node, L: Link, W: LedgerOut>(
     node: &mut N,
     event: Event<'_>,
@@ -43,7 +43,7 @@ fn handle<N: Node, L: Link, W: LedgerOut>(
 ) -> Result<(), TurnFault>
     ensures ok { OnOk result ((out : Answer) × N.answers node.old (seen event.entry) (Ok out) node.new
         × (scene node.new (W.text ledger.new) (L.sent link.new)
-        ≡ carried out node.new (scene node.old (W.text ledger.old) (L.sent link.old)))) }
+        ≡ fulfilled out node.new (scene node.old (W.text ledger.old) (L.sent link.old)))) }
     ensures err { IfErr result (λ fault. Faulted N.answers N.is_stopped
         (scene node.old (W.text ledger.old) (L.sent link.old)) (seen event.entry) fault
         (scene node.new (W.text ledger.new) (L.sent link.new))) }
@@ -51,5 +51,5 @@ fn handle<N: Node, L: Link, W: LedgerOut>(
         → IfSome (W.text ledger.new) (N.in_step node.new) }
 {
     let out = node.on(event)?;
-    carry_out(node, link, ledger, &out)
+    fulfil(node, link, ledger, &out)
 }

@@ -4,7 +4,7 @@ ghost use Rattle.cmd_words.specs.Unread.{EndsUnread};
 ghost use Rattle.cmd_options.specs.Ranges.{AreWithinRanges};
 
 use crate::named::Named;
-use cmd_dispatch::carry_out;
+use cmd_dispatch::execute;
 use cmd_nodes::Sockets;
 use cmd_options::{Ended, NoMemory, Options, Outcome};
 use cmd_words::{LineFault, options};
@@ -56,7 +56,7 @@ fn carried_out<S: Disk + Clock + Sockets, R: Read, W: Write, E: Write>(
     let mut input = Named::of(system, "standard input", input);
     let mut answers = Named::of(system, "standard output", answers);
     let mut faults = Named::of(system, "standard error", faults);
-    carry_out(alloc, asked, system, &mut input, &mut answers, &mut faults)
+    execute(alloc, asked, system, &mut input, &mut answers, &mut faults)
 }
 
 // Where a command failed, says on a terminal what of it failed, and why.

@@ -100,7 +100,7 @@ impl AutomataSearch {
         self.levels[0].begin(&sided);
         for attempt in 0..stage.tries {
             let level = &mut self.levels[self.depth];
-            if level.settle(&sided, stage.named.min(most), most) {
+            if level.suffices(&sided, stage.named.min(most), most) {
                 return level.automaton(side, most);
             }
             if !self.descend(&sided) {

@@ -54,7 +54,7 @@ impl Level {
 
     // Adds the edges, and says whether these automata will do. Where they don't, and may do with more transitions, the
     // next one is to be decided.
-    pub fn settle(&mut self, table: &SidedTable, limit: u8, most_states: u8) -> bool {
+    pub fn suffices(&mut self, table: &SidedTable, limit: u8, most_states: u8) -> bool {
         if !self.edges.close(table, &self.first) {
             return false;
         }

@@ -85,7 +85,7 @@ impl Closing {
             let Some(task) = self.tasks.pop() else {
                 return Ok(true);
             };
-            if !self.carry_out(reduction, task)? || !self.has_room(room) {
+            if !self.does_task(reduction, task)? || !self.has_room(room) {
                 return Ok(false);
             }
         }
@@ -158,7 +158,7 @@ impl Closing {
     }
 
     // Whether that was done without coming to a halting pair.
-    fn carry_out<F: FirstAutomaton>(
+    fn does_task<F: FirstAutomaton>(
         &mut self,
         reduction: &Reduction<'_, F>,
         task: Task,

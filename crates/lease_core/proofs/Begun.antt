@@ -11,7 +11,7 @@ use Rattle.ledger.specs.declared.faults.LoadFault.{LoadFault}
 use Rattle.ledger.specs.declared.faults.LoadFault.TheVariants.{BadHeader as BadLedgerHeader, WrongRoot as OtherRoot, NoMemory as NoLedgerMemory}
 use Rattle.ledger.specs.declared.reading.ReadStop.{ReadStop}
 use Rattle.ledger.specs.declared.reading.ReadStop.TheVariants.{Failed, NoMemory as NoReadMemory}
-use Rattle.wire.specs.Carried.{text_after}
+use Rattle.wire.specs.Fulfilled.{text_after}
 use Rattle.wire.specs.declared.node.Out.{Out}
 use Rattle.leases.specs.Leases.{Leased, no_leases}
 use Rattle.lease_core.specs.Faults.{start_fault_of, start_fault_of_stop}

@@ -19,7 +19,7 @@ use Rattle.ledger.specs.declared.faults.OfferFault.TheVariants.{WrongSize, NotOp
 use Rattle.ledger.proofs.Growing.{grows, cut_to_kept}
 use Rattle.ledger.proofs.Written.{whole_ledger}
 use Rattle.ledger.proofs.OpenStart.{board_starts}
-use Rattle.wire.specs.Carried.{text_after, cut_by}
+use Rattle.wire.specs.Fulfilled.{text_after, cut_by}
 use Rattle.wire.specs.Happening.{Happening, Came, Ticked, Worked}
 use Rattle.wire.specs.Grammar.{message_of}
 use Rattle.wire.specs.Message.{Message, Ask, Grant, Rec, Ack, Later, Done, Stop}

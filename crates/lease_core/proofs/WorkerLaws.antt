@@ -11,7 +11,7 @@ use Rattle.ledger.specs.declared.left.Left.{Left}
 use Rattle.ledger.specs.declared.left.Left.TheVariants.{Nothing, From}
 use Rattle.ledger.proofs.Growing.{grows, cut_to_kept}
 use Rattle.ledger.proofs.Written.{whole_ledger}
-use Rattle.wire.specs.Carried.{cut_by, text_after}
+use Rattle.wire.specs.Fulfilled.{cut_by, text_after}
 use Rattle.wire.specs.Happening.{Happening, Came, Ticked, Worked}
 use Rattle.wire.specs.Message.{Message, Ask, Grant, Rec, Ack, Later, Done, Stop}
 use Rattle.wire.specs.Grammar.{message_of}

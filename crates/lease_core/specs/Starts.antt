@@ -8,7 +8,7 @@ use Rattle.ledger.specs.declared.format.Format.TheVariants.{Two}
 use Rattle.ledger.specs.LedgerText.{HasHeader, HasNoHeader, IsLedgerOf, IsTornHeader, LoadGives}
 use Rattle.ledger.specs.Reading.{IsRead, IsAllRead}
 use Rattle.ledger.specs.declared.left.Left.{Left}
-use Rattle.wire.specs.Carried.{text_after}
+use Rattle.wire.specs.Fulfilled.{text_after}
 use Rattle.wire.specs.declared.node.Note.TheVariants.{Quiet}
 use Rattle.wire.specs.declared.node.Out.{Out}
 use Rattle.leases.specs.Leases.{Leased, no_leases}

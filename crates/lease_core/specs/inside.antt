@@ -2,4 +2,4 @@
 pub mod Begun
 pub mod Answering
 pub mod Due
-pub mod Telling
+pub mod Tidings

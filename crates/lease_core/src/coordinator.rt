@@ -2,7 +2,7 @@
 ghost use Rattle.std.specs.Prelude.{◌≡◌, ◌≤◌, MatchOption, None, Some, IfOk, List, ℕ};
 ghost use Rattle.machine_text.specs.Limits.{state_limit};
 ghost use Rattle.wire.specs.Happening.{seen};
-ghost use Rattle.wire.specs.Carried.{text_after};
+ghost use Rattle.wire.specs.Fulfilled.{text_after};
 ghost use Rattle.leases.specs.Leases.{AreLeases, Leased};
 ghost use Rattle.lease_core.specs.CoordinatorRules.{On};
 ghost use Rattle.lease_core.specs.Starts.{Starts, StartsFrom, InStep};
@@ -41,7 +41,7 @@ impl Model for Coordinator {
 
 impl Coordinator {
     /// A coordinator for machines of n states, from the bytes of its ledger. The answer says how many of these
-    /// were kept, where not all were, and appends a header where none were; once it is carried out (`begin`) the
+    /// were kept, where not all were, and appends a header where none were; once it is fulfilled (`begin`) the
     /// ledger is in step. `era` tells its leases from those of an earlier run. Where the start is refused, the
     /// coordinator is stopped: `BadHeader` and `WrongRoot` as a board's `load` refuses the bytes, and `NoMemory`
     /// for no bytes that are refused so.

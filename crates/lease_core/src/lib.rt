@@ -19,7 +19,7 @@ mod limits;
 mod plain_answers;
 mod start_fault;
 mod starting;
-mod told;
+mod tidings;
 mod worker;
 mod worker_answers;
 mod worker_laws;

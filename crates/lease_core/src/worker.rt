@@ -5,7 +5,7 @@ use crate::kept::cut_of;
 use crate::lease_name::LeaseName;
 use crate::plain_answers::{noted, refused, sent};
 use crate::start_fault::StartFault;
-use crate::told::{Telling, told};
+use crate::tidings::{Tidings, tidings_of};
 use crate::worker_answers::{asking, first_due, frames_due, ledger_of};
 use crate::worker_start::loaded;
 use crate::worker_turns::{acknowledge, has_root, is_recorded, make, next_table};
@@ -54,7 +54,7 @@ impl<D> Model for Worker<D> {
 }
 
 impl Worker<Finders<Box<dyn Finder>>> {
-    ghost use Rattle.wire.specs.Carried.{text_after};
+    ghost use Rattle.wire.specs.Fulfilled.{text_after};
     ghost use Rattle.lease_core.specs.WorkerState.{IsInStep};
     ghost use Rattle.lease_core.specs.WorkerStart.{Starts};
 
@@ -81,12 +81,12 @@ impl Worker<Finders<Box<dyn Finder>>> {
 }
 
 impl<D: Drop> Worker<D> {
-    ghost use Rattle.wire.specs.Carried.{text_after};
+    ghost use Rattle.wire.specs.Fulfilled.{text_after};
     ghost use Rattle.lease_core.specs.WorkerState.{IsInStep};
     ghost use Rattle.lease_core.specs.WorkerStart.{Starts, at_first};
     ghost use Rattle.std.specs.Prelude.{false};
 
-    /// Starts as `new` does, with any decider, which is asked for each record that the worker makes.
+    /// Starts as `start` does, with any decider, which is asked for each record that the worker makes.
     pub fn over(
         alloc: Global,
         id: u32,
@@ -168,15 +168,15 @@ impl<D: Decider + Drop> Worker<D> {
         ensures err { OnErr result (self.new ≡ self.old) }
         ensures grows { OnErr result (MayGrowFor self.old (message_of frame.now)) }
     {
-        match told(frame) {
-            Telling::Granted(name, t) => self.on_grant(name, t),
-            Telling::Acknowledged(t) => self.on_ack(t),
-            Telling::Later => Ok(noted(self.alloc, Note::Quiet)),
-            Telling::Stop => {
+        match tidings_of(frame) {
+            Tidings::Granted(name, t) => self.on_grant(name, t),
+            Tidings::Acknowledged(t) => self.on_ack(t),
+            Tidings::Later => Ok(noted(self.alloc, Note::Quiet)),
+            Tidings::Stop => {
                 self.rests = true;
                 Ok(noted(self.alloc, Note::Quiet))
             }
-            Telling::Strange => Ok(noted(self.alloc, Note::Strange)),
+            Tidings::Strange => Ok(noted(self.alloc, Note::Strange)),
         }
     }
 

@@ -19,7 +19,7 @@ use Rattle.cert.specs.Scored.{with_score}
 use Rattle.cert.proofs.Scores.{score_certified}
 use Rattle.ledger.specs.Contents.{Contents, IsBoard, IsOpenOn}
 use Rattle.ledger.specs.Records.{mark_in, mark_of, mark_by}
-use Rattle.ledger.specs.Held.{IsFit, Settles, settled}
+use Rattle.ledger.specs.Held.{IsFit, Resolves, resolved}
 use Rattle.ledger.specs.Tally.{AreAll, IsHalting}
 use Rattle.ledger.proofs.Apart.{first_member, all_members}
 use Rattle.ledger.proofs.BoardLaws.{marked_in_tree}
@@ -90,13 +90,13 @@ opens_new old new r below board root format fit is =
     subst (λ (b : Contents). Opens old b r.table) (sym same)
     (opens_by old (old.records ++ (held ∷ [])) held below board (open_in_tree old.root old.records r.table below board.held fit.is_open) (λ k marked. let none = fit.is_open.unmarked in absurd (cc)) (taken_last old.records held old.root fit.is_open))
 
-pub opens_settled : (old new : Contents) (r : Recorded) → Below → IsBoard old → new.root ≡ old.root → new.format ≡ old.format → Settles old.records r → new.records ≡ settled old.records (with_score r) → Opens old new r.table
+pub opens_settled : (old new : Contents) (r : Recorded) → Below → IsBoard old → new.root ≡ old.root → new.format ≡ old.format → Resolves old.records r → new.records ≡ resolved old.records (with_score r) → Opens old new r.table
 opens_settled old new r below board root format settles is =
     let held = with_score r in
-    let same : new ≡ record { root = old.root; records = settled old.records held; format = old.format } = λ i. record { root = root i; records = is i; format = format i } in
+    let same : new ≡ record { root = old.root; records = resolved old.records held; format = old.format } = λ i. record { root = root i; records = is i; format = format i } in
     let holdout : mark_in old.records r.table ≡ Some Holdout = settles.is_holdout in
     subst (λ (b : Contents). Opens old b r.table) (sym same)
-    (opens_by old (settled old.records held) held below board (marked_in_tree old r.table Holdout below board holdout) (λ k marked. absurd (cc)) (taken_settling old.records held holdout))
+    (opens_by old (resolved old.records held) held below board (marked_in_tree old r.table Holdout below board holdout) (λ k marked. absurd (cc)) (taken_settling old.records held holdout))
 
 pub if_few : (t : Packed) (found : Option (List Packed)) → ChildrenListed → IsTable t → IfSome found (AreAll (IsChildTable t)) → IfSome found (λ found. length found ≤ child_limit)
 if_few t None listed table all = tt

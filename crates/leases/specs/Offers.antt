@@ -34,7 +34,7 @@ pub record TakesNew (t : Packed) (old new : Leased) : Type 0 where
   pub moment : new.leases.moment ≡ old.leases.moment
   pub given : new.leases.given ≡ old.leases.given
 
--- a holdout was settled: its children, which became open, are under none; the leases stay as they were
+-- a holdout was resolved: its children, which became open, are under none; the leases stay as they were
 pub record TakesSettled (old new : Leased) : Type 0 where
   pub leases : new.leases ≡ old.leases
   pub children : (q : Packed) → BecameOpen old new q → lease_of new.leases q ≡ None

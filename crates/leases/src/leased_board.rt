@@ -172,7 +172,7 @@ impl LeasedBoard {
 
     /// Offers a record to the board, and appends its line where it is taken, as `Board::offer_line` does. Where it was
     /// taken as `New`, the children that became open come under the lease under which its table stood, or under none,
-    /// and that lease is renewed. Where it settled a holdout, the children are under none. After an error nothing has
+    /// and that lease is renewed. Where it resolved a holdout, the children are under none. After an error nothing has
     /// changed.
     ///
     /// Room for the children is made before the board is asked, so `NoMemory` may come for any record.

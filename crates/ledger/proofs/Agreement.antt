@@ -18,7 +18,7 @@ use Rattle.cert.specs.Scored.{scored, with_score}
 use Rattle.cert.proofs.Scores.{score_certified, scored_ends}
 use Rattle.cert.proofs.Refusals.{refused_or_certified}
 use Rattle.ledger.specs.Records.{same_table, claim_in, mark_in, mark_of, mark_by}
-use Rattle.ledger.specs.Held.{HasScore, IsFit, IsHeld, Settles, settled}
+use Rattle.ledger.specs.Held.{HasScore, IsFit, IsHeld, Resolves, resolved}
 use Rattle.ledger.specs.Offers.{OfferGives, IsKnown}
 use Rattle.ledger.specs.Lists.{HasPlace, IsFitAfter, placed, held}
 use Rattle.ledger.specs.declared.faults.OfferFault.{OfferFault}
@@ -56,7 +56,7 @@ agree_none root = record {
   places = λ e at. absurd (nobody at);
 }
 
--- a record is put last, or settles
+-- a record is put last, or resolves
 placed_past : (x : Recorded) (xs : List Recorded) (r : Recorded) → same_table x.table r.table ≡ false → placed (x ∷ xs) r ≡ x ∷ placed xs r
 unfolding placed
 placed_past x xs r other = rw other
@@ -74,10 +74,10 @@ placed_last (x ∷ xs) r none =
       | false ↦ λ other. placed_past x xs r other ∙ ap (λ (l : List Recorded). x ∷ l) (placed_last xs r (sym (claim_past x xs r.table other) ∙ none))
     ] refl
 
-placed_settles : (rs : List Recorded) (r : Recorded) (c : Claim) → claim_in rs r.table ≡ Some c → placed rs r ≡ settled rs r
+placed_settles : (rs : List Recorded) (r : Recorded) (c : Claim) → claim_in rs r.table ≡ Some c → placed rs r ≡ resolved rs r
 placed_settles [] r c is = let none = claim_none r.table in absurd (cc)
 placed_settles (x ∷ xs) r c is =
-    elim (same_table x.table r.table) as (λ v. same_table x.table r.table ≡ v → placed (x ∷ xs) r ≡ settled (x ∷ xs) r) [
+    elim (same_table x.table r.table) as (λ v. same_table x.table r.table ≡ v → placed (x ∷ xs) r ≡ resolved (x ∷ xs) r) [
       | true ↦ λ here. placed_here x xs r here ∙ sym (settled_here x xs r here)
       | false ↦ λ other.
           placed_past x xs r other ∙ (ap (λ (l : List Recorded). x ∷ l) (placed_settles xs r c (sym (claim_past x xs r.table other) ∙ is)) ∙ sym (settled_past x xs r other))
@@ -155,10 +155,10 @@ some_verdict : (o : Option Ending) → (o ≡ None → ⊥) → IsSome o
 some_verdict None never = absurd (never refl)
 some_verdict (Some v) never = refl
 
--- fit by the list is fit for the records that are held, or settles one of them
-pub fit_now : (root : Packed) (ks rs : List Recorded) (r : Recorded) → Agree root ks rs → IsFitAfter root ks r → IsFit root rs r ⊎ Settles rs r
+-- fit by the list is fit for the records that are held, or resolves one of them
+pub fit_now : (root : Packed) (ks rs : List Recorded) (r : Recorded) → Agree root ks rs → IsFitAfter root ks r → IsFit root rs r ⊎ Resolves rs r
 fit_now root ks rs r agree fit =
-    elim (claim_in rs r.table) as (λ o. claim_in rs r.table ≡ o → IsFit root rs r ⊎ Settles rs r) [
+    elim (claim_in rs r.table) as (λ o. claim_in rs r.table ≡ o → IsFit root rs r ⊎ Resolves rs r) [
       | None ↦ λ gone. inl (record {
         is_open = record {
           unmarked = ap (option_map mark_of) gone;
@@ -195,9 +195,9 @@ new_fit root ks rs r agree fit =
       certified = fit.certified;
     }
 
-pub settling_fit : (root : Packed) (ks rs : List Recorded) (r : Recorded) → Agree root ks rs → Settles rs r → IsFitAfter root ks r
-settling_fit root ks rs r agree settles =
-    let c = holdout_claim rs r.table settles.is_holdout in
+pub settling_fit : (root : Packed) (ks rs : List Recorded) (r : Recorded) → Agree root ks rs → Resolves rs r → IsFitAfter root ks r
+settling_fit root ks rs r agree resolves =
+    let c = holdout_claim rs r.table resolves.is_holdout in
     let none : ending_by c.0 ≡ None = no_verdict (ending_by c.0) c.2 in
     let there = agree.some r.table c.0 c.1 in
     record {
@@ -210,19 +210,19 @@ settling_fit root ks rs r agree settles =
                 let claim : scored r.table e.claim ≡ c.0 = same_Some (scored r.table e.claim) c.0 (sym claimed ∙ c.1) in
                 let shown = sym (scored_ends r.table e.claim) ∙ (ap ending_by claim ∙ none) in absurd (cc)
           ] refl;
-      not_again = λ bare. absurd (no_some (ending_by r.claim) settles.verdict bare);
-      certified = settles.certified;
+      not_again = λ bare. absurd (no_some (ending_by r.claim) resolves.verdict bare);
+      certified = resolves.certified;
     }
 
--- what is fit or settles does so with its score
+-- what is fit or resolves does so with its score
 pub fit_scored : (root : Packed) (rs : List Recorded) (r : Recorded) → IsFit root rs r → IsFit root rs (with_score r)
 fit_scored root rs r fit = record { is_open = fit.is_open; certified = score_certified r fit.certified }
 
-pub settles_scored : (rs : List Recorded) (r : Recorded) → Settles rs r → Settles rs (with_score r)
-settles_scored rs r settles = record {
-  is_holdout = settles.is_holdout;
-  verdict = subst (λ (o : Option Ending). IsSome o) (sym (scored_ends r.table r.claim)) settles.verdict;
-  certified = score_certified r settles.certified;
+pub settles_scored : (rs : List Recorded) (r : Recorded) → Resolves rs r → Resolves rs (with_score r)
+settles_scored rs r resolves = record {
+  is_holdout = resolves.is_holdout;
+  verdict = subst (λ (o : Option Ending). IsSome o) (sym (scored_ends r.table r.claim)) resolves.verdict;
+  certified = score_certified r resolves.certified;
 }
 
 -- a fit record is taken, and the records agree with one more
@@ -231,24 +231,24 @@ agree_new root ks rs r agree fit =
     let gone = unmarked (claim_in rs r.table) fit.is_open.unmarked in
     agree_more root ks rs (rs ++ (with_score r ∷ [])) r agree (taken_new rs (with_score r) gone) (held_more root rs (with_score r) agree.is_held (fit_scored root rs r fit) (scored_has r)) (sym (placed_last rs (with_score r) gone)) (λ c is. absurd (cc)) (open_place root ks rs r.table agree fit.is_open)
 
-pub agree_settled : (root : Packed) (ks rs : List Recorded) (r : Recorded) → Agree root ks rs → Settles rs r → Agree root (ks ++ (r ∷ [])) (settled rs (with_score r))
-agree_settled root ks rs r agree settles =
-    let c = holdout_claim rs r.table settles.is_holdout in
+pub agree_settled : (root : Packed) (ks rs : List Recorded) (r : Recorded) → Agree root ks rs → Resolves rs r → Agree root (ks ++ (r ∷ [])) (resolved rs (with_score r))
+agree_settled root ks rs r agree resolves =
+    let c = holdout_claim rs r.table resolves.is_holdout in
     let none : ending_by c.0 ≡ None = no_verdict (ending_by c.0) c.2 in
-    agree_more root ks rs (settled rs (with_score r)) r agree (taken_settled rs (with_score r) c.0 c.1 c.2) (held_settled root rs (with_score r) agree.is_held (settles_scored rs r settles) (scored_has r))
+    agree_more root ks rs (resolved rs (with_score r)) r agree (taken_settled rs (with_score r) c.0 c.1 c.2) (held_settled root rs (with_score r) agree.is_held (settles_scored rs r resolves) (scored_has r))
     (sym (placed_settles rs (with_score r) c.0 c.1))
     (λ d is. let same : c.0 ≡ d = cc (c.1, is) in subst (λ (x : Claim). ending_by x ≡ None) same none)
-    (settling_fit root ks rs r agree settles).place
+    (settling_fit root ks rs r agree resolves).place
 
 -- what is fit now is taken, unless memory is refused
-fit_states : (root : Packed) (rs : List Recorded) (r : Recorded) → IsTable root → IsHeld root rs → IsFit root rs r ⊎ Settles rs r → r.table.states ≡ root.states
+fit_states : (root : Packed) (rs : List Recorded) (r : Recorded) → IsTable root → IsHeld root rs → IsFit root rs r ⊎ Resolves rs r → r.table.states ≡ root.states
 fit_states root rs r table is_held (inl fit) = (tree_alike root r.table table (open_in_tree root rs r.table tree_table_child is_held fit.is_open)).states
-fit_states root rs r table is_held (inr settles) =
-    let c = holdout_claim rs r.table settles.is_holdout in (tree_alike root r.table table (recorded_in_tree root rs r.table c.0 tree_table_child is_held c.1)).states
+fit_states root rs r table is_held (inr resolves) =
+    let c = holdout_claim rs r.table resolves.is_holdout in (tree_alike root r.table table (recorded_in_tree root rs r.table c.0 tree_table_child is_held c.1)).states
 
-fit_certified : (root : Packed) (rs : List Recorded) (r : Recorded) → IsFit root rs r ⊎ Settles rs r → IsCertified r
+fit_certified : (root : Packed) (rs : List Recorded) (r : Recorded) → IsFit root rs r ⊎ Resolves rs r → IsCertified r
 fit_certified root rs r (inl fit) = fit.certified
-fit_certified root rs r (inr settles) = settles.certified
+fit_certified root rs r (inr resolves) = resolves.certified
 
 verdict_marked : (o : Option Mark) → IsVerdict o → o ≡ None → ⊥
 verdict_marked None v e = v
@@ -260,21 +260,21 @@ verdict_holdout (Some (Halting k)) v e = cc
 verdict_holdout (Some NeverHalting) v e = cc
 verdict_holdout (Some Holdout) v e = v
 
-pub fit_or_known : (root : Packed) (rs : List Recorded) (r : Recorded) → IsFit root rs r ⊎ Settles rs r → IsKnown rs r → ⊥
+pub fit_or_known : (root : Packed) (rs : List Recorded) (r : Recorded) → IsFit root rs r ⊎ Resolves rs r → IsKnown rs r → ⊥
 fit_or_known root rs r (inl fit) known = elim known.is [
   | inl v ↦ verdict_marked (mark_in rs r.table) v fit.is_open.unmarked
   | inr h ↦ let gone = fit.is_open.unmarked in let there = h.0 in absurd (cc)
 ]
-fit_or_known root rs r (inr settles) known = elim known.is [
-  | inl v ↦ verdict_holdout (mark_in rs r.table) v settles.is_holdout
-  | inr h ↦ no_some (ending_by r.claim) settles.verdict h.1
+fit_or_known root rs r (inr resolves) known = elim known.is [
+  | inl v ↦ verdict_holdout (mark_in rs r.table) v resolves.is_holdout
+  | inr h ↦ no_some (ending_by r.claim) resolves.verdict h.1
 ]
 
-pub fit_or_refused : (root : Packed) (rs : List Recorded) (r : Recorded) (f : OfferFault) (new : List Recorded) → IsTable root → IsHeld root rs → IsFit root rs r ⊎ Settles rs r
+pub fit_or_refused : (root : Packed) (rs : List Recorded) (r : Recorded) (f : OfferFault) (new : List Recorded) → IsTable root → IsHeld root rs → IsFit root rs r ⊎ Resolves rs r
     → OfferGives root rs r (Err f) new → f ≢ NoMemory → ⊥
 fit_or_refused root rs r WrongSize new table is_held fit gives no_memory = gives.0 (fit_states root rs r table is_held fit)
 fit_or_refused root rs r NotOpen new table is_held (inl fit) gives no_memory = gives.1.not_open fit.is_open
-fit_or_refused root rs r NotOpen new table is_held (inr settles) gives no_memory =
-    let c = holdout_claim rs r.table settles.is_holdout in let gone = gives.1.unrecorded in let there = c.1 in absurd (cc)
+fit_or_refused root rs r NotOpen new table is_held (inr resolves) gives no_memory =
+    let c = holdout_claim rs r.table resolves.is_holdout in let gone = gives.1.unrecorded in let there = c.1 in absurd (cc)
 fit_or_refused root rs r (IsRefused f) new table is_held fit gives no_memory = refused_or_certified f r gives.1 (fit_certified root rs r fit)
 fit_or_refused root rs r NoMemory new table is_held fit gives no_memory = no_memory refl

@@ -10,7 +10,7 @@ use Rattle.law_tree.proofs.TreeLaws.{child_holes}
 use Rattle.cert.specs.Claim.{Recorded}
 use Rattle.ledger.specs.inside.Stored.{entry_recorded, records_of}
 use Rattle.ledger.specs.inside.Open.{no_place}
-use Rattle.ledger.specs.inside.Carrying.{OnChain, Here, Above}
+use Rattle.ledger.specs.inside.Changing.{OnChain, Here, Above}
 use Rattle.ledger.specs.inside.Trees.{AreParented}
 use Rattle.ledger.specs.declared.stored_record.StoredRecord.{StoredRecord}
 

@@ -5,7 +5,7 @@ use Rattle.law_tree.specs.Closed.{Mark, Holdout, IsVerdict}
 use Rattle.cert.specs.Claim.{Claim, Recorded}
 use Rattle.cert.specs.Scored.{with_score}
 use Rattle.ledger.specs.Offers.{OfferGives, IsKnown}
-use Rattle.ledger.specs.Held.{settled}
+use Rattle.ledger.specs.Held.{resolved}
 use Rattle.ledger.specs.Records.{claim_in, mark_in, mark_of}
 use Rattle.ledger.specs.declared.taken.Taken.{Taken}
 use Rattle.ledger.specs.declared.taken.Taken.TheVariants.{New, Known, Settled}
@@ -36,9 +36,9 @@ last rs r = elim (claim_in rs r.table) as (λ o. claim_in rs r.table ≡ o → I
   | None ↦ λ is. claimed (rs ++ (r ∷ [])) r.table r.claim (claim_more rs (r ∷ []) r.table is ∙ claim_here r [] r.table (same_itself r.table))
 ] refl
 
-put : (rs : List Recorded) (r : Recorded) → IsIn rs r.table → IsIn (settled rs r) r.table
-put rs r there = elim (claim_in rs r.table) as (λ o. claim_in rs r.table ≡ o → IsSome o → IsIn (settled rs r) r.table) [
-  | Some c ↦ λ is there. claimed (settled rs r) r.table r.claim (settled_claim rs r c is)
+put : (rs : List Recorded) (r : Recorded) → IsIn rs r.table → IsIn (resolved rs r) r.table
+put rs r there = elim (claim_in rs r.table) as (λ o. claim_in rs r.table ≡ o → IsSome o → IsIn (resolved rs r) r.table) [
+  | Some c ↦ λ is there. claimed (resolved rs r) r.table r.claim (settled_claim rs r c is)
   | None ↦ λ is there. absurd (cc)
 ] refl there
 

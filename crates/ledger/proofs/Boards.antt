@@ -12,7 +12,7 @@ use Rattle.cert.specs.Claim.{Claim, Recorded, ending_by, score_by}
 use Rattle.cert.specs.Certified.{IsCertified, IsPairOf}
 use Rattle.cert.specs.Kinds.{owned_claim}
 use Rattle.ledger.specs.Records.{same_table, claim_in, mark_in}
-use Rattle.ledger.specs.Held.{HasScore, IsHoldout, Settles, settled}
+use Rattle.ledger.specs.Held.{HasScore, IsHoldout, Resolves, resolved}
 use Rattle.ledger.specs.Contents.{IsBoardOf}
 use Rattle.ledger.specs.inside.Stored.{entry_recorded, records_of, KnowsPair}
 use Rattle.ledger.specs.inside.Counting.{IsCounted, with_shown, without_holdout, is_halting, is_never, is_undecided}
@@ -62,11 +62,11 @@ records_more es new r k claim none is =
     ap records_of (is ∙ entry_last es r.table k (no_entry es r.table none)) ∙ (map-append entry_recorded es ((r.table, k) ∷ []) ∙ ap (λ (x : Recorded). records_of es ++ (x ∷ [])) (stored_is r k claim))
 
 pub records_settled : (es new : List (Packed × StoredRecord)) (r : Recorded) (k : StoredRecord) → owned_claim k.certificate ≡ r.claim → IsHoldout (records_of es) r.table → new ≡ insert_entry same_table es r.table k
-    → records_of new ≡ settled (records_of es) r
+    → records_of new ≡ resolved (records_of es) r
 records_settled es new r k claim holdout is =
     let c = holdout_claim (records_of es) r.table holdout in
     let found = an_entry es r.table c.0 c.1 in
-    ap records_of is ∙ (entry_settled es r.table k found.0 found.1 ∙ ap (settled (records_of es)) (stored_is r k claim))
+    ap records_of is ∙ (entry_settled es r.table k found.0 found.1 ∙ ap (resolved (records_of es)) (stored_is r k claim))
 
 known : (es new : List (Packed × StoredRecord)) (r : Recorded) (k : StoredRecord) → All KnowsPair es → owned_claim k.certificate ≡ r.claim → IsPairOf (ending_by r.claim) r.table k.halts_on → new ≡ insert_entry same_table es r.table k → All KnowsPair new
 known es new r k all claim pair is =
@@ -92,26 +92,26 @@ stored_more root es new r k place tables mid after counts kept is_open certified
       subst (λ (l : List Recorded). IsCounted l (with_shown counts (ending_by r.claim) (score_by r.claim))) (sym list) (counted_more rs r counts kept.3 (taken_last rs r root is_open) (ones_taken rs (rs ++ (r ∷ [])) r counts.ones scored (taken_last rs r root is_open) kept.3.ones)),
     )
 
--- a holdout is settled
+-- a holdout is resolved
 pub stored_settled : (root : Packed) (es new : List (Packed × StoredRecord)) (r : Recorded) (k : StoredRecord) (place : ℕ) (tables after : BTreeMap Packed ℕ) (counts : Counts)
-    → IsStoredUnindexed root es tables counts → Settles (records_of es) r → HasScore r
+    → IsStoredUnindexed root es tables counts → Resolves (records_of es) r → HasScore r
     → owned_claim k.certificate ≡ r.claim → IsPairOf (ending_by r.claim) r.table k.halts_on → new ≡ insert_entry same_table es r.table k
     → (x : Recorded) × (slice_get (records_of es) place ≡ Some x) × (x.table ≡ r.table) × (is_halting x ≡ false)
     → ((q : Packed) → ContainsKey table_cmp after q ↔ (ContainsKey table_cmp tables q ⊎ IsNewChild (records_of es) r q))
     → others place after.entries ≡ tables.entries → AreChildrenAt place r.table after.entries → (k.halts_on ≡ None → after.entries ≡ tables.entries)
     → IsStoredUnindexed root new after (with_shown (without_holdout counts) (ending_by r.claim) (score_by r.claim))
-stored_settled root es new r k place tables after counts kept settles scored claim pair is at opened others children none =
+stored_settled root es new r k place tables after counts kept resolves scored claim pair is at opened others children none =
     let rs = records_of es in
-    let holdout = settles.is_holdout in
+    let holdout = resolves.is_holdout in
     let list = records_settled es new r k claim holdout is in
     let c = holdout_claim rs r.table holdout in (
-      subst (λ (l : List Recorded). IsBoardOf root l) (sym list) (board_settled root rs r kept.0 settles scored),
+      subst (λ (l : List Recorded). IsBoardOf root l) (sym list) (board_settled root rs r kept.0 resolves scored),
       subst (λ (l : List Recorded). IsOpenMapOf after root l) (sym list)
           (opened_settled root rs r at.0 place k.halts_on tables after kept.0 kept.1 holdout at.1 at.2 pair others children none opened),
       known es new r k kept.2 claim pair is,
       subst (λ (l : List Recorded). IsCounted l (with_shown (without_holdout counts) (ending_by r.claim) (score_by r.claim))) (sym list)
           (counted_settled rs r c.0 counts kept.3 c.1 (holdout_shows rs r.table c.0 holdout c.1) (taken_settling rs r holdout)
-          (ones_taken rs (settled rs r) r counts.ones scored (taken_settling rs r holdout) kept.3.ones)),
+          (ones_taken rs (resolved rs r) r counts.ones scored (taken_settling rs r holdout) kept.3.ones)),
     )
 
 -- there is a holdout to be counted off

@@ -17,7 +17,7 @@ use Rattle.ledger.specs.inside.Counting.{is_undecided, IsCounted}
 use Rattle.ledger.specs.inside.Stored.{entry_recorded, records_of, KnowsPair}
 use Rattle.machine_text.specs.Order.{table_cmp}
 use Rattle.ledger.specs.inside.Open.{IsNewChild, IsOpenMapOf}
-use Rattle.ledger.specs.inside.Carrying.{taking_change, settling_change, ChainMayChange, AreCarried}
+use Rattle.ledger.specs.inside.Changing.{taking_change, resolving_change, ChainMayChange, AreChanged}
 use Rattle.ledger.specs.inside.Trees.{IsIndexed}
 use Rattle.ledger.specs.declared.counts.Counts.{Counts}
 use Rattle.ledger.specs.declared.stored_record.StoredRecord.{StoredRecord}
@@ -62,13 +62,13 @@ module _ (root : Packed) (es new : List (Packed × StoredRecord)) (r : Recorded)
         (λ p n inside count. taken_room root board.is_table (records_of es) ready.had (records_of new) r ready.taken (ready_table root (records_of es) new r from ready) p inside
         n opened opens (length (filter is_undecided (records_of es))) is_open new_ones few open_ones small held_ones under count)
 
-    pub settling_room : IsHoldout (records_of es) r.table → IsSome (ending_by r.claim) → ChainMayChange new from (settling_change opened (ending_by r.claim) (score_by r.claim))
-    settling_room holdout verdict = ready_room root (records_of es) new r from ready (settling_change opened (ending_by r.claim) (score_by r.claim))
+    pub settling_room : IsHoldout (records_of es) r.table → IsSome (ending_by r.claim) → ChainMayChange new from (resolving_change opened (ending_by r.claim) (score_by r.claim))
+    settling_room holdout verdict = ready_room root (records_of es) new r from ready (resolving_change opened (ending_by r.claim) (score_by r.claim))
         (λ p n inside count. settled_room root board.is_table (records_of es) ready.had (records_of new) r ready.taken (ready_table root (records_of es) new r from ready) p inside
         n opened opens (length (filter is_undecided (records_of es))) holdout verdict few open_ones small held_ones under count)
 
   -- then all that is kept is so of the new records
-  pub taking_carried : (last : List (Packed × StoredRecord)) (after : BTreeMap Packed ℕ) (counts : Counts) → IsOpen root (mark_in (records_of es)) r.table → HasScore r → AreCarried (taking_change opened (ending_by r.claim) (score_by r.claim)) new from last
+  pub taking_carried : (last : List (Packed × StoredRecord)) (after : BTreeMap Packed ℕ) (counts : Counts) → IsOpen root (mark_in (records_of es)) r.table → HasScore r → AreChanged (taking_change opened (ending_by r.claim) (score_by r.claim)) new from last
       → length last ≡ length new → IsStoredUnindexed root new after counts → IsStored root last after counts
   taking_carried last after counts is_open has carried long kept =
       let c = taking_change opened (ending_by r.claim) (score_by r.claim) in
@@ -82,9 +82,9 @@ module _ (root : Packed) (es new : List (Packed × StoredRecord)) (r : Recorded)
       )
 
   pub settling_carried : (last : List (Packed × StoredRecord)) (after : BTreeMap Packed ℕ) (counts : Counts) → IsHoldout (records_of es) r.table → IsSome (ending_by r.claim) → HasScore r
-      → AreCarried (settling_change opened (ending_by r.claim) (score_by r.claim)) new from last → length last ≡ length new → IsStoredUnindexed root new after counts → IsStored root last after counts
+      → AreChanged (resolving_change opened (ending_by r.claim) (score_by r.claim)) new from last → length last ≡ length new → IsStoredUnindexed root new after counts → IsStored root last after counts
   settling_carried last after counts holdout verdict has carried long kept =
-      let c = settling_change opened (ending_by r.claim) (score_by r.claim) in
+      let c = resolving_change opened (ending_by r.claim) (score_by r.claim) in
       let all = stored_carried root new last after counts kept (ready_records root (records_of es) new r from ready c last carried long) (ready_pairs root (records_of es) new r from ready c last carried long kept.2) in (
         all.0,
         all.1,

@@ -3,7 +3,7 @@ use Rattle.std.proofs.Common.{◌≡◌, true, false, List, [], ◌∷◌, ◌++
 use Rattle.machine_text.specs.Packed.{Packed}
 use Rattle.cert.specs.Claim.{Claim, Recorded}
 use Rattle.ledger.specs.Records.{same_table, claim_in}
-use Rattle.ledger.specs.Held.{settled}
+use Rattle.ledger.specs.Held.{resolved}
 use Rattle.ledger.proofs.Same.{same_itself}
 
 -- a record of a table at the front, and one of another table
@@ -36,22 +36,22 @@ claim_more (r ∷ rs) ys t none =
       | false ↦ λ other. claim_past r (rs ++ ys) t other ∙ claim_more rs ys t (sym (claim_past r rs t other) ∙ none)
     ] refl
 
--- a settling record takes the place of the first for its table: it claims there what is claimed of that table,
+-- a resolving record takes the place of the first for its table: it claims there what is claimed of that table,
 -- and nothing else changes
-pub settled_here : (x : Recorded) (xs : List Recorded) (r : Recorded) → same_table x.table r.table ≡ true → settled (x ∷ xs) r ≡ r ∷ xs
-unfolding settled
+pub settled_here : (x : Recorded) (xs : List Recorded) (r : Recorded) → same_table x.table r.table ≡ true → resolved (x ∷ xs) r ≡ r ∷ xs
+unfolding resolved
 settled_here x xs r same = rw same
 
-pub settled_past : (x : Recorded) (xs : List Recorded) (r : Recorded) → same_table x.table r.table ≡ false → settled (x ∷ xs) r ≡ x ∷ settled xs r
-unfolding settled
+pub settled_past : (x : Recorded) (xs : List Recorded) (r : Recorded) → same_table x.table r.table ≡ false → resolved (x ∷ xs) r ≡ x ∷ resolved xs r
+unfolding resolved
 settled_past x xs r other = rw other
 
-pub settled_claim : (rs : List Recorded) (r : Recorded) (c : Claim) → claim_in rs r.table ≡ Some c → claim_in (settled rs r) r.table ≡ Some r.claim
+pub settled_claim : (rs : List Recorded) (r : Recorded) (c : Claim) → claim_in rs r.table ≡ Some c → claim_in (resolved rs r) r.table ≡ Some r.claim
 settled_claim [] r c is = let none = claim_none r.table in cc
 settled_claim (x ∷ xs) r c is =
-    elim (same_table x.table r.table) as (λ v. same_table x.table r.table ≡ v → claim_in (settled (x ∷ xs) r) r.table ≡ Some r.claim) [
+    elim (same_table x.table r.table) as (λ v. same_table x.table r.table ≡ v → claim_in (resolved (x ∷ xs) r) r.table ≡ Some r.claim) [
       | true ↦ λ same. ap (λ (l : List Recorded). claim_in l r.table) (settled_here x xs r same) ∙ claim_here r xs r.table (same_itself r.table)
       | false ↦ λ other.
-          ap (λ (l : List Recorded). claim_in l r.table) (settled_past x xs r other) ∙ claim_past x (settled xs r) r.table other
+          ap (λ (l : List Recorded). claim_in l r.table) (settled_past x xs r other) ∙ claim_past x (resolved xs r) r.table other
           ∙ settled_claim xs r c (sym (claim_past x xs r.table other) ∙ is)
     ] refl

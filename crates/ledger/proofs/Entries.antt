@@ -16,7 +16,7 @@ use Rattle.law_tree.specs.Closed.{Holdout}
 use Rattle.cert.specs.Claim.{Claim, Recorded, ending_by}
 use Rattle.cert.specs.Kinds.{owned_claim}
 use Rattle.ledger.specs.Records.{same_table, claim_in, mark_of, mark_by}
-use Rattle.ledger.specs.Held.{HasScore, IsHoldout, settled}
+use Rattle.ledger.specs.Held.{HasScore, IsHoldout, resolved}
 use Rattle.ledger.specs.inside.Stored.{entry_recorded, records_of, KnowsPair}
 use Rattle.ledger.specs.inside.Counting.{is_halting}
 use Rattle.ledger.specs.declared.stored_record.StoredRecord.{StoredRecord}
@@ -66,11 +66,11 @@ entry_last (e ∷ es) t k none =
 
 -- and a table that is there keeps its place
 pub entry_settled : (es : List (Packed × StoredRecord)) (t : Packed) (k old : StoredRecord) → lookup (same_table t) es ≡ Some old
-    → records_of (insert_entry same_table es t k) ≡ settled (records_of es) (entry_recorded (t, k))
+    → records_of (insert_entry same_table es t k) ≡ resolved (records_of es) (entry_recorded (t, k))
 entry_settled [] t k old is = absurd (cc)
 entry_settled (e ∷ es) t k old is =
     elim (same_table t e.0) as (λ v. same_table t e.0 ≡ v → cond v (Some e.1) (lookup (same_table t) es) ≡ Some old
-    → records_of (cond v ((e.0, k) ∷ es) (e ∷ insert_entry same_table es t k)) ≡ settled (entry_recorded e ∷ records_of es) (entry_recorded (t, k))) [
+    → records_of (cond v ((e.0, k) ∷ es) (e ∷ insert_entry same_table es t k)) ≡ resolved (entry_recorded e ∷ records_of es) (entry_recorded (t, k))) [
       | true ↦ λ same found.
           ap (λ (p : Packed). entry_recorded (p, k) ∷ records_of es) (sym (same_is t e.0 same)) ∙ sym (settled_here (entry_recorded e) (records_of es) (entry_recorded (t, k)) (same_flips e.0 t ∙ same))
       | false ↦ λ other rest.

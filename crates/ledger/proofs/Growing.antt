@@ -25,12 +25,12 @@ use Rattle.ledger.proofs.VersionLaws.{one_line, reads_back, taken_written}
 -- a record that is taken is of a table, and certified
 taken_table : (b : Contents) (r : Recorded) (new : List Recorded) → IsBoard b → IsTaken b.root b.records r new → IsTable r.table
 taken_table b r new board (inl fit) = (tree_alike b.root r.table board.is_table (open_in_tree b.root b.records r.table tree_table_child board.held fit.0.is_open)).is_table
-taken_table b r new board (inr settles) =
-    (tree_alike b.root r.table board.is_table (marked_in_tree b r.table Holdout tree_table_child board settles.0.is_holdout)).is_table
+taken_table b r new board (inr resolves) =
+    (tree_alike b.root r.table board.is_table (marked_in_tree b r.table Holdout tree_table_child board resolves.0.is_holdout)).is_table
 
 taken_certified : (root : Packed) (old : List Recorded) (r : Recorded) (new : List Recorded) → IsTaken root old r new → IsCertified r
 taken_certified root old r new (inl fit) = fit.0.certified
-taken_certified root old r new (inr settles) = settles.0.certified
+taken_certified root old r new (inr resolves) = resolves.0.certified
 
 -- the same record with its score is taken as it is held
 taken_held : (format : Format) (root : Packed) (old : List Recorded) (r : Recorded) (new : List Recorded) → IsTaken root old r new → IsTaken root old (as_written format (with_score r)) new

@@ -8,7 +8,7 @@ use Rattle.std.specs.List.{All}
 use Rattle.std.proofs.lemmas.List.Elements.{All-append, All-cons, All-nil}
 use Rattle.cert.specs.Claim.{Claim, Recorded, Stands, shown_by}
 use Rattle.ledger.specs.Records.{same_table, claim_in, mark_in, mark_of, verdict_in, shown_where}
-use Rattle.ledger.specs.Held.{IsFit, AreFitAfter, HasScore, IsHeld, Settles, settled}
+use Rattle.ledger.specs.Held.{IsFit, AreFitAfter, HasScore, IsHeld, Resolves, resolved}
 use Rattle.cert.specs.Certified.{IsCertified}
 use Rattle.cert.specs.Scored.{with_score}
 use Rattle.cert.proofs.Scores.{scored_twice}
@@ -141,12 +141,12 @@ fit_refined root old new (x ∷ rs) refined fit = (
   fit_refined root (old ++ (x ∷ [])) (new ++ (x ∷ [])) rs (refined_more old new (x ∷ []) refined) fit.1,
 )
 
--- a settling record keeps a list held
+-- a resolving record keeps a list held
 fit_settled : (root : Packed) (earlier rs : List Recorded) (r : Recorded) (c : Claim) → AreFitAfter root earlier rs → claim_in rs r.table ≡ Some c → mark_of c ≡ Holdout → IsCertified r
-    → AreFitAfter root earlier (settled rs r)
+    → AreFitAfter root earlier (resolved rs r)
 fit_settled root earlier [] r c fit is holdout certified = let none = claim_none r.table in cc
 fit_settled root earlier (x ∷ rs) r c fit is holdout certified =
-    elim (same_table x.table r.table) as (λ v. same_table x.table r.table ≡ v → AreFitAfter root earlier (settled (x ∷ rs) r)) [
+    elim (same_table x.table r.table) as (λ v. same_table x.table r.table ≡ v → AreFitAfter root earlier (resolved (x ∷ rs) r)) [
       | true ↦ λ here.
           let same : x.table ≡ r.table = same_is x.table r.table here in
           let claimed = claim_here x rs r.table here in
@@ -159,28 +159,28 @@ fit_settled root earlier (x ∷ rs) r c fit is holdout certified =
           subst (AreFitAfter root earlier) (sym (settled_past x rs r other)) (fit.0, later)
     ] refl
 
--- with its score a record has it; and scores stay where a record is settled
+-- with its score a record has it; and scores stay where a record is resolved
 pub scored_has : (r : Recorded) → HasScore (with_score r)
 scored_has r = ap (λ (c : Claim). record { table = r.table; claim = c }) (scored_twice r.table r.claim)
 
-scores_settled : (rs : List Recorded) (r : Recorded) → All HasScore rs → HasScore r → All HasScore (settled rs r)
-unfolding settled
+scores_settled : (rs : List Recorded) (r : Recorded) → All HasScore rs → HasScore r → All HasScore (resolved rs r)
+unfolding resolved
 scores_settled [] r all scored = All-nil HasScore
 scores_settled (x ∷ xs) r all scored =
-    elim (same_table x.table r.table) as (λ v. All HasScore (cond v (r ∷ xs) (x ∷ settled xs r))) [
+    elim (same_table x.table r.table) as (λ v. All HasScore (cond v (r ∷ xs) (x ∷ resolved xs r))) [
       | true ↦ All-cons HasScore r xs scored (all_rest HasScore x xs all)
-      | false ↦ All-cons HasScore x (settled xs r) (all_first HasScore x xs all) (scores_settled xs r (all_rest HasScore x xs all) scored)
+      | false ↦ All-cons HasScore x (resolved xs r) (all_first HasScore x xs all) (scores_settled xs r (all_rest HasScore x xs all) scored)
     ]
 
 none_marked : {o : Option Mark} {m : Mark} → o ≡ Some m → o ≡ None → ⊥
 none_marked some none = cc
 
-pub held_settled : (root : Packed) (rs : List Recorded) (r : Recorded) → IsHeld root rs → Settles rs r → HasScore r → IsHeld root (settled rs r)
-held_settled root rs r held settles scored =
-    elim (claim_in rs r.table) as (λ o. claim_in rs r.table ≡ o → IsHeld root (settled rs r)) [
+pub held_settled : (root : Packed) (rs : List Recorded) (r : Recorded) → IsHeld root rs → Resolves rs r → HasScore r → IsHeld root (resolved rs r)
+held_settled root rs r held resolves scored =
+    elim (claim_in rs r.table) as (λ o. claim_in rs r.table ≡ o → IsHeld root (resolved rs r)) [
       | Some c ↦ λ is.
-          let marked = ap (option_map mark_of) (sym is) ∙ settles.is_holdout in
+          let marked = ap (option_map mark_of) (sym is) ∙ resolves.is_holdout in
           let holdout : mark_of c ≡ Holdout = cc in
-          record { fit = fit_settled root [] rs r c held.fit is holdout settles.certified; scored = scores_settled rs r held.scored scored }
-      | None ↦ λ none. let marked = ap (option_map mark_of) none in absurd (none_marked settles.is_holdout marked)
+          record { fit = fit_settled root [] rs r c held.fit is holdout resolves.certified; scored = scores_settled rs r held.scored scored }
+      | None ↦ λ none. let marked = ap (option_map mark_of) none in absurd (none_marked resolves.is_holdout marked)
     ] refl

@@ -16,7 +16,7 @@ use Rattle.ledger.specs.Records.{same_table, claim_in, mark_in, mark_by}
 use Rattle.ledger.specs.Contents.{IsBoardOf}
 use Rattle.ledger.specs.inside.Counting.{says_halts}
 use Rattle.ledger.specs.inside.Stored.{entry_recorded, records_of, KnowsPair}
-use Rattle.ledger.specs.inside.Carrying.{changed_count, MayChange, OnChain, HasChain, AreEarlier, ChainMayChange, IsCarried, AreCarried}
+use Rattle.ledger.specs.inside.Changing.{changed_count, MayChange, OnChain, HasChain, AreEarlier, ChainMayChange, IsChanged, AreChanged}
 use Rattle.ledger.specs.inside.Trees.{IsTreeCount, IsParentPlace, AreParented, AreTreeCounts, IsIndexed}
 use Rattle.ledger.specs.declared.stored_record.StoredRecord.{StoredRecord}
 use Rattle.ledger.specs.declared.tree_count.TreeCount.{TreeCount}
@@ -144,7 +144,7 @@ module _ (root : Packed) (old : List Recorded) (es : List (Packed × StoredRecor
   ready_room c room = λ i e on at.
       room e.0 e.1.tree (chain_above root es ready.board.is_table ready.parents (below_entries root es ready.board) ready_once from i (r.table, ready.kept) e on ready.at at) (ready.counts i e at)
 
-  module _ (c : TreeChange) (new : List (Packed × StoredRecord)) (carried : AreCarried c es from new) (as_long : length new ≡ length es) where
+  module _ (c : TreeChange) (new : List (Packed × StoredRecord)) (carried : AreChanged c es from new) (as_long : length new ≡ length es) where
     -- but for the numbers each entry is as it was
     still_entry : (i : ℕ) (now : Packed × StoredRecord) → slice_get new i ≡ Some now
         → (e : Packed × StoredRecord) × (slice_get es i ≡ Some e) × ((now.0 ≡ e.0) × (now.1.parent ≡ e.1.parent) × (entry_recorded now ≡ entry_recorded e) × (KnowsPair e → KnowsPair now))
@@ -185,7 +185,7 @@ module _ (root : Packed) (old : List Recorded) (es : List (Packed × StoredRecor
             let other : e.0 ≢ r.table = λ (same : e.0 ≡ r.table). outside (subst (λ (p : Packed). InTableTree p r.table) (sym same) Itself) in
             subst IsSome (ready.taken.others e.0 other) (some_there (claim_in (records_of es) e.0) (entry_recorded e).claim (entry_claim es i e (held_apart root (records_of es) ready.board.held) at))
 
-        count_at : (i : ℕ) (now e : Packed × StoredRecord) → slice_get es i ≡ Some e → IsCarried c e now (OnChain es from i) → IsTreeCount root (records_of es) now.0 now.1.tree
+        count_at : (i : ℕ) (now e : Packed × StoredRecord) → slice_get es i ≡ Some e → IsChanged c e now (OnChain es from i) → IsTreeCount root (records_of es) now.0 now.1.tree
         count_at i now e at (inl on) =
             let inside = chain_above root es ready.board.is_table ready.parents below ready_once from i (r.table, ready.kept) e on.0 ready.at at in
             subst (λ (x : Packed × StoredRecord). IsTreeCount root (records_of es) x.0 x.1.tree) (sym on.1) (moves e.0 e.1.tree inside (ready.counts i e at))

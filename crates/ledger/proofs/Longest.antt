@@ -4,7 +4,7 @@ use Rattle.std.proofs.lemmas.List.{append_cancel_left}
 use Rattle.machine_text.specs.Packed.{Packed, IsTable}
 use Rattle.machine_text.specs.Text.{table_of}
 use Rattle.cert.specs.Claim.{Recorded}
-use Rattle.ledger.specs.Held.{IsFit, Settles}
+use Rattle.ledger.specs.Held.{IsFit, Resolves}
 use Rattle.ledger.specs.Offers.{OfferGives}
 use Rattle.text.specs.Lines.{joined, BeginsWithLine}
 use Rattle.ledger.specs.Versions.{header_words, ledger_record}
@@ -82,11 +82,11 @@ stuck format root ks rs rest line after r (Unread f) table agree begins reads fi
 stuck format root ks rs rest line after r (Unfit f) table agree begins reads fit is =
     let w = is.3.1 in
     let same : r ≡ w.0 = one_read format line is.0 r w.0 (same_line begins is.2).0 reads w.1 in
-    fit_or_refused root rs w.0 f rs table agree.is_held (subst (λ (x : Recorded). IsFit root rs x ⊎ Settles rs x) same (fit_now root ks rs r agree fit)) w.2 is.3.0
+    fit_or_refused root rs w.0 f rs table agree.is_held (subst (λ (x : Recorded). IsFit root rs x ⊎ Resolves rs x) same (fit_now root ks rs r agree fit)) w.2 is.3.0
 stuck format root ks rs rest line after r Repeated table agree begins reads fit is =
     let w = is.3 in
     let same : r ≡ w.0 = one_read format line is.0 r w.0 (same_line begins is.2).0 reads w.1 in
-    fit_or_known root rs w.0 (subst (λ (x : Recorded). IsFit root rs x ⊎ Settles rs x) same (fit_now root ks rs r agree fit)) w.2.0
+    fit_or_known root rs w.0 (subst (λ (x : Recorded). IsFit root rs x ⊎ Resolves rs x) same (fit_now root ks rs r agree fit)) w.2.0
 
 -- any list of whole lines that are fit in their turn is a beginning of those that are taken up to such an end
 begins_all : (format : Format) (root : Packed) (ks rs new : List Recorded) (lines : List (List ℕ)) (rest : List ℕ) (others : List (List ℕ)) (rest' : List ℕ) (kept : List Recorded) → IsTable root

@@ -11,7 +11,7 @@ use Rattle.kind_evidence.specs.declared.verdicts.Ending.TheVariants.{Halts, Neve
 use Rattle.law_tree.specs.Closed.{Mark, Halting, NeverHalting, Holdout}
 use Rattle.cert.specs.Claim.{Claim, Recorded, ending_by, score_by}
 use Rattle.ledger.specs.Records.{same_table, claim_in, mark_in, mark_of, mark_by}
-use Rattle.ledger.specs.Held.{IsHoldout, settled}
+use Rattle.ledger.specs.Held.{IsHoldout, resolved}
 use Rattle.ledger.specs.inside.Counting.{is_undecided, is_halting, is_never, says_halts, says_never, is_champion, is_steps, steps_of, greater, IsCounted, with_shown, without_holdout}
 use Rattle.ledger.specs.Tally.{AreSoMany, HaltsAfter, IsHalting, IsNeverHalting, IsGreatestCount, IsGreatestOnes}
 use Rattle.ledger.proofs.OpenLaws.{IsTaken, stopping_verdict}
@@ -172,7 +172,7 @@ greatest_taken old new r best taken greatest = by (greater best (steps_of (endin
           ],
         )
 
--- the numbers once a record is put last, and once a holdout is settled
+-- the numbers once a record is put last, and once a holdout is resolved
 abbrev one : Bool → ℕ
 one true = 1
 one false = 0
@@ -188,10 +188,10 @@ abbrev by_claim : (Option Ending → Bool) → Recorded → Bool
 by_claim q r = q (ending_by r.claim)
 
 number_settled : (q : Option Ending → Bool) (rs : List Recorded) (r : Recorded) (c : Claim) → claim_in rs r.table ≡ Some c
-    → length (filter (by_claim q) (settled rs r)) + one (q (ending_by c)) ≡ length (filter (by_claim q) rs) + one (q (ending_by r.claim))
+    → length (filter (by_claim q) (resolved rs r)) + one (q (ending_by c)) ≡ length (filter (by_claim q) rs) + one (q (ending_by r.claim))
 number_settled q [] r c is = let none = claim_none r.table in absurd (cc)
 number_settled q (x ∷ xs) r c is =
-    elim (same_table x.table r.table) as (λ v. same_table x.table r.table ≡ v → length (filter (by_claim q) (settled (x ∷ xs) r)) + one (q (ending_by c)) ≡ length (filter (by_claim q) (x ∷ xs)) + one (q (ending_by r.claim))) [
+    elim (same_table x.table r.table) as (λ v. same_table x.table r.table ≡ v → length (filter (by_claim q) (resolved (x ∷ xs) r)) + one (q (ending_by c)) ≡ length (filter (by_claim q) (x ∷ xs)) + one (q (ending_by r.claim))) [
       | true ↦ λ here.
           let claimed = claim_here x xs r.table here in
           let claim : x.claim ≡ c = cc in
@@ -201,7 +201,7 @@ number_settled q (x ∷ xs) r c is =
       | false ↦ λ other.
           let list = ap (λ (l : List Recorded). length (filter (by_claim q) l)) (settled_past x xs r other) in
           let later = number_settled q xs r c (sym (claim_past x xs r.table other) ∙ is) in
-          omega (arith, list, filter_one (by_claim q) x (settled xs r), filter_one (by_claim q) x xs, later)
+          omega (arith, list, filter_one (by_claim q) x (resolved xs r), filter_one (by_claim q) x xs, later)
     ] refl
 
 pub number_within : (p : Recorded → Bool) (rs : List Recorded) → length (filter p rs) ≤ length rs
@@ -236,8 +236,8 @@ some_holdout (y ∷ ys) r x is none =
       | false ↦ λ other. omega (arith, filter_one is_undecided y ys, some_holdout ys r x (sym (claim_past y ys r.table other) ∙ is) none)
     ] refl
 
-pub counted_settled : (rs : List Recorded) (r : Recorded) (x : Claim) (c : Counts) → IsCounted rs c → claim_in rs r.table ≡ Some x → ending_by x ≡ None → IsTaken rs (settled rs r) r
-    → IsGreatestOnes (settled rs r) (greater c.ones (score_by r.claim)) → IsCounted (settled rs r) (with_shown (without_holdout c) (ending_by r.claim) (score_by r.claim))
+pub counted_settled : (rs : List Recorded) (r : Recorded) (x : Claim) (c : Counts) → IsCounted rs c → claim_in rs r.table ≡ Some x → ending_by x ≡ None → IsTaken rs (resolved rs r) r
+    → IsGreatestOnes (resolved rs r) (greater c.ones (score_by r.claim)) → IsCounted (resolved rs r) (with_shown (without_holdout c) (ending_by r.claim) (score_by r.claim))
 counted_settled rs r x c counted is none taken ones =
     let halts = number_settled says_halts rs r x is in
     let nevers = number_settled says_never rs r x is in
@@ -247,7 +247,7 @@ counted_settled rs r x c counted is none taken ones =
     let u : one (is_none (ending_by x)) ≡ 1 = ap (λ (o : Option Ending). one (is_none o)) none in
     let some = some_holdout rs r x is none in
     let now = counts_shown (without_holdout c) (ending_by r.claim) (score_by r.claim) _ _ _ (omega (arith, counted.halting, halts, h)) (omega (arith, counted.never, nevers, n)) (omega (arith, counted.undecided, undecided, u, some)) in
-    record { halting = now.0; never = now.1; undecided = now.2; best = subst (IsGreatestCount (settled rs r)) (sym now.3) (greatest_taken rs (settled rs r) r c.best taken counted.best); ones = subst (IsGreatestOnes (settled rs r)) (sym now.4) ones }
+    record { halting = now.0; never = now.1; undecided = now.2; best = subst (IsGreatestCount (resolved rs r)) (sym now.3) (greatest_taken rs (resolved rs r) r c.best taken counted.best); ones = subst (IsGreatestOnes (resolved rs r)) (sym now.4) ones }
 
 -- the tables of a number of steps
 champion_mark : (o : Option Ending) (best : ℕ) → is_steps best (steps_of o) ≡ true → mark_by o ≡ Halting best

@@ -7,11 +7,11 @@ use Rattle.law_tree.specs.Closed.{IsVerdict, IsOpen}
 use Rattle.cert.specs.Claim.{Claim, Recorded, ending_by}
 use Rattle.ledger.specs.Records.{claim_in, mark_in, mark_of, mark_by}
 use Rattle.cert.specs.Scored.{with_score}
-use Rattle.ledger.specs.Held.{IsFit, IsHoldout, Settles, settled}
+use Rattle.ledger.specs.Held.{IsFit, IsHoldout, Resolves, resolved}
 use Rattle.ledger.specs.Offers.{IsJudged, OfferGives}
-use Rattle.ledger.specs.inside.Places.{IsWhyRefused, IsPlace, place_by}
-use Rattle.ledger.specs.declared.place.Place.{Place}
-use Rattle.ledger.specs.declared.place.Place.TheVariants.{Open, Elsewhere}
+use Rattle.ledger.specs.inside.Places.{IsWhyRefused, IsFooting, footing_by}
+use Rattle.ledger.specs.declared.footing.Footing.{Footing}
+use Rattle.ledger.specs.declared.footing.Footing.TheVariants.{Open, Elsewhere}
 use Rattle.ledger.specs.declared.taken.Taken.{Taken}
 use Rattle.ledger.specs.declared.taken.Taken.TheVariants.{New, Settled}
 use Rattle.ledger.specs.declared.faults.OfferFault.{OfferFault}
@@ -21,19 +21,19 @@ by_verdict : (v : Ending) → IsVerdict (Some (mark_by (Some v)))
 by_verdict (Halts k) = tt
 by_verdict Never = tt
 
-by_shown : (root : Packed) (rs : List Recorded) (r : Recorded) (held offered : Option Ending) → mark_in rs r.table ≡ Some (mark_by held) → ending_by r.claim ≡ offered → IsPlace root rs r (place_by held offered)
+by_shown : (root : Packed) (rs : List Recorded) (r : Recorded) (held offered : Option Ending) → mark_in rs r.table ≡ Some (mark_by held) → ending_by r.claim ≡ offered → IsFooting root rs r (footing_by held offered)
 by_shown root rs r (Some v) offered marked shown = record { is = inl (subst IsVerdict (sym marked) (by_verdict v)) }
 by_shown root rs r None (Some v) marked shown = (marked, subst (λ (o : Option Ending). IsSome o) (sym shown) refl)
 by_shown root rs r None None marked shown = record { is = inr (marked, shown) }
 
-pub stands_recorded : (root : Packed) (rs : List Recorded) (r : Recorded) (c : Claim) (place : Place) → claim_in rs r.table ≡ Some c → place ≡ place_by (ending_by c) (ending_by r.claim) → IsPlace root rs r place
-stands_recorded root rs r c place claimed is = subst (IsPlace root rs r) (sym is) (by_shown root rs r (ending_by c) (ending_by r.claim) (ap (option_map mark_of) claimed) refl)
+pub stands_recorded : (root : Packed) (rs : List Recorded) (r : Recorded) (c : Claim) (place : Footing) → claim_in rs r.table ≡ Some c → place ≡ footing_by (ending_by c) (ending_by r.claim) → IsFooting root rs r place
+stands_recorded root rs r c place claimed is = subst (IsFooting root rs r) (sym is) (by_shown root rs r (ending_by c) (ending_by r.claim) (ap (option_map mark_of) claimed) refl)
 
-pub stands_unrecorded : (root : Packed) (rs : List Recorded) (r : Recorded) (place : Place) → claim_in rs r.table ≡ None
+pub stands_unrecorded : (root : Packed) (rs : List Recorded) (r : Recorded) (place : Footing) → claim_in rs r.table ≡ None
     → (IsOpen root (mark_in rs) r.table × (place ≡ Open)) ⊎ ((IsOpen root (mark_in rs) r.table → ⊥) × (place ≡ Elsewhere))
-    → IsPlace root rs r place
-stands_unrecorded root rs r place none (inl h) = subst (IsPlace root rs r) (sym h.1) h.0
-stands_unrecorded root rs r place none (inr h) = subst (IsPlace root rs r) (sym h.1) (record { unrecorded = none; not_open = h.0 })
+    → IsFooting root rs r place
+stands_unrecorded root rs r place none (inl h) = subst (IsFooting root rs r) (sym h.1) h.0
+stands_unrecorded root rs r place none (inr h) = subst (IsFooting root rs r) (sym h.1) (record { unrecorded = none; not_open = h.0 })
 
 refusal_gives : (root : Packed) (old new : List Recorded) (r : Recorded) (f : OfferFault) → IsWhyRefused f r → IsJudged root old r → new ≡ old → OfferGives root old r (Err f) new
 refusal_gives root old new r WrongSize refusal judged same = absurd refusal
@@ -48,7 +48,7 @@ take_gives root old new r (Ok t) is_open ok same refusal = subst (λ (x : Taken)
 take_gives root old new r (Err f) is_open ok same refusal = refusal_gives root old new r f refusal (record { is = inl is_open }) same
 
 pub settle_gives : (root : Packed) (old new : List Recorded) (r : Recorded) (result : Result Taken OfferFault) → IsHoldout old r.table × IsSome (ending_by r.claim)
-    → IfOk result (λ (t : Taken). (t ≡ Settled) × Settles old r × (new ≡ settled old (with_score r)))
+    → IfOk result (λ (t : Taken). (t ≡ Settled) × Resolves old r × (new ≡ resolved old (with_score r)))
     → OnErr result (new ≡ old) → IfErr result (λ (f : OfferFault). IsWhyRefused f r) → OfferGives root old r result new
 settle_gives root old new r (Ok t) holdout ok same refusal = subst (λ (x : Taken). OfferGives root old r (Ok x) new) (sym ok.0) (ok.1, ok.2)
 settle_gives root old new r (Err f) holdout ok same refusal = refusal_gives root old new r f refusal (record { is = inr holdout }) same

@@ -7,7 +7,7 @@ use Rattle.law_tree.specs.Closed.{Halting, Holdout, IsOpen}
 use Rattle.law_tree.specs.Tables.{IsChildTable, InTableTree, Itself}
 use Rattle.cert.specs.Claim.{Claim, Recorded, ending_by}
 use Rattle.ledger.specs.Records.{same_table, claim_in, mark_in, mark_of, mark_by}
-use Rattle.ledger.specs.Held.{AreFitAfter, IsHeld, settled}
+use Rattle.ledger.specs.Held.{AreFitAfter, IsHeld, resolved}
 use Rattle.ledger.specs.inside.Open.{IsNewChild}
 use Rattle.ledger.proofs.Same.{same_is, same_itself, not_same, apart}
 use Rattle.ledger.proofs.Claims.{claim_here, claim_past, claim_none, claim_kept, claim_more, settled_here, settled_past, settled_claim}
@@ -41,19 +41,19 @@ same_after x xs ys t same =
       | false ↦ λ no. claim_past x xs t no ∙ (same ∙ sym (claim_past x ys t no))
     ] refl
 
-pub settled_other : (rs : List Recorded) (r : Recorded) (t : Packed) → t ≢ r.table → claim_in (settled rs r) t ≡ claim_in rs t
-unfolding settled
+pub settled_other : (rs : List Recorded) (r : Recorded) (t : Packed) → t ≢ r.table → claim_in (resolved rs r) t ≡ claim_in rs t
+unfolding resolved
 settled_other [] r t other = refl
 settled_other (x ∷ xs) r t other =
-    elim (same_table x.table r.table) as (λ v. same_table x.table r.table ≡ v → claim_in (settled (x ∷ xs) r) t ≡ claim_in (x ∷ xs) t) [
+    elim (same_table x.table r.table) as (λ v. same_table x.table r.table ≡ v → claim_in (resolved (x ∷ xs) r) t ≡ claim_in (x ∷ xs) t) [
       | true ↦ λ here.
           let past = not_same r.table t (λ (e : r.table ≡ t). other (sym e)) in
           let past_x = not_same x.table t (λ (e : x.table ≡ t). other (sym e ∙ same_is x.table r.table here)) in
           ap (λ (l : List Recorded). claim_in l t) (settled_here x xs r here) ∙ claim_past r xs t past ∙ sym (claim_past x xs t past_x)
-      | false ↦ λ no. ap (λ (l : List Recorded). claim_in l t) (settled_past x xs r no) ∙ same_after x (settled xs r) xs t (settled_other xs r t other)
+      | false ↦ λ no. ap (λ (l : List Recorded). claim_in l t) (settled_past x xs r no) ∙ same_after x (resolved xs r) xs t (settled_other xs r t other)
     ] refl
 
-pub taken_settled : (rs : List Recorded) (r : Recorded) (c : Claim) → claim_in rs r.table ≡ Some c → mark_of c ≡ Holdout → IsTaken rs (settled rs r) r
+pub taken_settled : (rs : List Recorded) (r : Recorded) (c : Claim) → claim_in rs r.table ≡ Some c → mark_of c ≡ Holdout → IsTaken rs (resolved rs r) r
 taken_settled rs r c is holdout = record {
   here = settled_claim rs r c is;
   others = λ t other. settled_other rs r t other;

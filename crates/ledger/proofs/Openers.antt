@@ -14,7 +14,7 @@ use Rattle.machine_text.specs.Packed.{Packed}
 use Rattle.law_tree.specs.Tables.{IsChildTable}
 use Rattle.cert.specs.Claim.{Claim, Recorded, ending_by}
 use Rattle.ledger.specs.Records.{same_table, claim_in}
-use Rattle.ledger.specs.Held.{settled}
+use Rattle.ledger.specs.Held.{resolved}
 use Rattle.ledger.specs.inside.Counting.{is_halting, says_halts}
 use Rattle.machine_text.specs.Order.{table_cmp}
 use Rattle.ledger.specs.inside.Open.{others, AreChildrenAt, IsOpener}
@@ -123,12 +123,12 @@ pub grows_last : (root : Packed) (rs : List Recorded) (r : Recorded) (t : Packed
 grows_last root rs r t i (inl top) = inl top
 grows_last root rs r t i (inr w) = inr (w.0, got_more rs (r ∷ []) i w.0 w.1, w.2, w.3)
 
--- and where a holdout is settled
+-- and where a holdout is resolved
 pub got_settled : (rs : List Recorded) (r : Recorded) (c : Claim) (i : ℕ) (x : Recorded) → claim_in rs r.table ≡ Some c → says_halts (ending_by c) ≡ false → slice_get rs i ≡ Some x → is_halting x ≡ true
-    → slice_get (settled rs r) i ≡ Some x
+    → slice_get (resolved rs r) i ≡ Some x
 got_settled [] r c i x is silent at halts = absurd (cc)
 got_settled (y ∷ ys) r c zero x is silent at halts =
-    elim (same_table y.table r.table) as (λ v. same_table y.table r.table ≡ v → slice_get (settled (y ∷ ys) r) 0 ≡ Some x) [
+    elim (same_table y.table r.table) as (λ v. same_table y.table r.table ≡ v → slice_get (resolved (y ∷ ys) r) 0 ≡ Some x) [
       | true ↦ λ here.
           let claimed = claim_here y ys r.table here in
           let claim : y.claim ≡ c = cc in
@@ -138,12 +138,12 @@ got_settled (y ∷ ys) r c zero x is silent at halts =
       | false ↦ λ other. ap (λ (l : List Recorded). slice_get l 0) (settled_past y ys r other) ∙ at
     ] refl
 got_settled (y ∷ ys) r c (suc i) x is silent at halts =
-    elim (same_table y.table r.table) as (λ v. same_table y.table r.table ≡ v → slice_get (settled (y ∷ ys) r) (suc i) ≡ Some x) [
+    elim (same_table y.table r.table) as (λ v. same_table y.table r.table ≡ v → slice_get (resolved (y ∷ ys) r) (suc i) ≡ Some x) [
       | true ↦ λ here. ap (λ (l : List Recorded). slice_get l (suc i)) (settled_here y ys r here) ∙ at
       | false ↦ λ other. ap (λ (l : List Recorded). slice_get l (suc i)) (settled_past y ys r other) ∙ got_settled ys r c i x (sym (claim_past y ys r.table other) ∙ is) silent at halts
     ] refl
 
-pub grows_settled : (root : Packed) (rs : List Recorded) (r : Recorded) (c : Claim) → claim_in rs r.table ≡ Some c → says_halts (ending_by c) ≡ false → (t : Packed) (i : ℕ) → IsOpener root rs t i → IsOpener root (settled rs r) t i
+pub grows_settled : (root : Packed) (rs : List Recorded) (r : Recorded) (c : Claim) → claim_in rs r.table ≡ Some c → says_halts (ending_by c) ≡ false → (t : Packed) (i : ℕ) → IsOpener root rs t i → IsOpener root (resolved rs r) t i
 grows_settled root rs r c is silent t i (inl top) = inl top
 grows_settled root rs r c is silent t i (inr w) = inr (w.0, got_settled rs r c i w.0 is silent w.1 w.2, w.2, w.3)
 
@@ -152,13 +152,13 @@ not_member : (y : Recorded) (ys : List Recorded) (r x : Recorded) (i : ℕ) → 
 not_member y ys r x i apart at table here =
     apart 0 (suc i) x (omega arith) (omega (arith, slice_get_within ys i x at)) (same_is y.table r.table here ∙ (sym table ∙ ap (λ (z : Recorded). z.table) (sym (get_or_from_slice_get ys i x x at))))
 
-pub settled_slot : (rs : List Recorded) (r x : Recorded) (i : ℕ) → AreApart rs → slice_get rs i ≡ Some x → x.table ≡ r.table → slice_get (settled rs r) i ≡ Some r
+pub settled_slot : (rs : List Recorded) (r x : Recorded) (i : ℕ) → AreApart rs → slice_get rs i ≡ Some x → x.table ≡ r.table → slice_get (resolved rs r) i ≡ Some r
 settled_slot [] r x i apart at table = absurd (cc)
 settled_slot (y ∷ ys) r x zero apart at table =
     let same : y ≡ x = cc in
     ap (λ (l : List Recorded). slice_get l 0) (settled_here y ys r (same_at y.table r.table (ap (λ (z : Recorded). z.table) same ∙ table)))
 settled_slot (y ∷ ys) r x (suc i) apart at table =
-    elim (same_table y.table r.table) as (λ v. same_table y.table r.table ≡ v → slice_get (settled (y ∷ ys) r) (suc i) ≡ Some r) [
+    elim (same_table y.table r.table) as (λ v. same_table y.table r.table ≡ v → slice_get (resolved (y ∷ ys) r) (suc i) ≡ Some r) [
       | true ↦ λ here. absurd (not_member y ys r x i apart at table here)
       | false ↦ λ other. ap (λ (l : List Recorded). slice_get l (suc i)) (settled_past y ys r other) ∙ settled_slot ys r x i (λ a b d less below. apart (suc a) (suc b) d (omega arith) (omega arith)) at table
     ] refl

@@ -14,12 +14,12 @@ use Rattle.cert.specs.Claim.{Claim, Recorded, ending_by}
 use Rattle.cert.specs.Certified.{IsCertified}
 use Rattle.cert.specs.Kinds.{owned_claim}
 use Rattle.ledger.specs.Records.{same_table, mark_in, claim_in}
-use Rattle.ledger.specs.Held.{HasScore, Settles, settled}
+use Rattle.ledger.specs.Held.{HasScore, Resolves, resolved}
 use Rattle.ledger.specs.Contents.{IsBoardOf}
 use Rattle.ledger.specs.inside.Counting.{is_halting, IsCounted}
 use Rattle.ledger.specs.inside.Stored.{entry_recorded, records_of, KnowsPair}
 use Rattle.ledger.specs.inside.Open.{IsOpener, IsOpenMapOf}
-use Rattle.ledger.specs.inside.Carrying.{first_count}
+use Rattle.ledger.specs.inside.Changing.{first_count}
 use Rattle.ledger.specs.inside.Trees.{IsTreeCount, IsParentPlace, IsIndexed}
 use Rattle.ledger.specs.declared.counts.Counts.{Counts}
 use Rattle.ledger.specs.declared.stored_record.StoredRecord.{StoredRecord}
@@ -116,22 +116,22 @@ ready_taken root es new r k place board indexed is_open certified scored claim o
     opened_at i end (inr w) = inr (let within = slice_get_within (records_of es) k.parent w.0 w.1 in omega (arith, within, end), (w.0, got_more (records_of es) (r ∷ []) k.parent w.0 w.1, w.2, w.3))
 
 pub ready_settled : (root : Packed) (es new : List (Packed × StoredRecord)) (r x : Recorded) (k old : StoredRecord) (place : ℕ) → IsBoardOf root (records_of es) → IsIndexed root es
-    → Settles (records_of es) r → HasScore r → owned_claim k.certificate ≡ r.claim → lookup (same_table r.table) es ≡ Some old → k.parent ≡ old.parent → k.tree ≡ old.tree
+    → Resolves (records_of es) r → HasScore r → owned_claim k.certificate ≡ r.claim → lookup (same_table r.table) es ≡ Some old → k.parent ≡ old.parent → k.tree ≡ old.tree
     → new ≡ insert_entry same_table es r.table k → slice_get (records_of es) place ≡ Some x → x.table ≡ r.table → place + 1 < 2 ^ 32 → IsReady root (records_of es) new r place
-ready_settled root es new r x k old place board indexed settles scored claim there parent tree is at table small =
+ready_settled root es new r x k old place board indexed resolves scored claim there parent tree is at table small =
     let rs = records_of es in
-    let holdout = settles.is_holdout in
+    let holdout = resolves.is_holdout in
     let c = holdout_claim rs r.table holdout in
-    let list : records_of new ≡ settled rs r = records_settled es new r k claim holdout is in
+    let list : records_of new ≡ resolved rs r = records_settled es new r k claim holdout is in
     let own = own_entry new place r (ap (λ (l : List Recorded). slice_get l place) list ∙ settled_slot rs r x place (held_apart root rs board.held) at table) in
     record {
-      board = subst (λ (l : List Recorded). IsBoardOf root l) (sym list) (board_settled root rs r board settles scored);
+      board = subst (λ (l : List Recorded). IsBoardOf root l) (sym list) (board_settled root rs r board resolves scored);
       had = have_parents root es board indexed.parents;
       taken = subst (λ (l : List Recorded). IsTaken rs l r) (sym list) (taken_settling rs r holdout);
       parents = λ i e got.
           let w = got_inserted es r.table k old i e there parent tree (subst (λ (l : List (Packed × StoredRecord)). slice_get l i ≡ Some e) is got) in
           subst (λ (l : List Recorded). IsParentPlace root l i e.0 e.1.parent) (sym list)
-          (place_kept root rs (settled rs r) i e.0 e.1.parent (λ y it halts. got_settled rs r c.0 e.1.parent y c.1 (silent_claim (ending_by c.0) c.2) it halts)
+          (place_kept root rs (resolved rs r) i e.0 e.1.parent (λ y it halts. got_settled rs r c.0 e.1.parent y c.1 (silent_claim (ending_by c.0) c.2) it halts)
           (subst (λ (n : ℕ). IsParentPlace root rs i e.0 n) (sym w.2.1) (subst (λ (p : Packed). IsParentPlace root rs i p w.0.1.parent) (sym w.2.0) (indexed.parents i w.0 w.1))));
       counts = λ i e got.
           let w = got_inserted es r.table k old i e there parent tree (subst (λ (l : List (Packed × StoredRecord)). slice_get l i ≡ Some e) is got) in

@@ -15,7 +15,7 @@ use Rattle.law_tree.specs.Tables.{IsChildTable, InTableTree}
 use Rattle.cert.specs.Claim.{Claim, Recorded, ending_by}
 use Rattle.cert.specs.Certified.{IsCertified, IsPairOf}
 use Rattle.ledger.specs.Records.{claim_in, mark_in, mark_of, mark_by}
-use Rattle.ledger.specs.Held.{HasScore, IsHoldout, Settles, settled}
+use Rattle.ledger.specs.Held.{HasScore, IsHoldout, Resolves, resolved}
 use Rattle.ledger.specs.Contents.{Contents, IsBoard, IsBoardOf}
 use Rattle.ledger.specs.inside.Counting.{is_halting, says_halts}
 use Rattle.machine_text.specs.Order.{table_cmp}
@@ -104,11 +104,11 @@ opened_more root old r place pair tables mid after before is_open last known oth
       (λ k q shown child. inr (r, subst (λ (n : ℕ). slice_get (old ++ (r ∷ [])) n ≡ Some r) (sym last) (got_last old r), halts_says r k shown, child))));
 }
 
--- a holdout is settled
-pub board_settled : (root : Packed) (old : List Recorded) (r : Recorded) → IsBoardOf root old → Settles old r → HasScore r → IsBoardOf root (settled old r)
-board_settled root old r board settles scored = record { is_table = board.is_table; in_order = board.in_order; held = held_settled root old r board.held settles scored }
+-- a holdout is resolved
+pub board_settled : (root : Packed) (old : List Recorded) (r : Recorded) → IsBoardOf root old → Resolves old r → HasScore r → IsBoardOf root (resolved old r)
+board_settled root old r board resolves scored = record { is_table = board.is_table; in_order = board.in_order; held = held_settled root old r board.held resolves scored }
 
-pub taken_settling : (old : List Recorded) (r : Recorded) → IsHoldout old r.table → IsTaken old (settled old r) r
+pub taken_settling : (old : List Recorded) (r : Recorded) → IsHoldout old r.table → IsTaken old (resolved old r) r
 taken_settling old r holdout = let c = holdout_claim old r.table holdout in taken_settled old r c.0 c.1 c.2
 
 pub silent_claim : (o : Option Ending) → mark_by o ≡ Holdout → says_halts o ≡ false
@@ -126,7 +126,7 @@ pub opened_settled : (root : Packed) (old : List Recorded) (r x : Recorded) (pla
     → slice_get old place ≡ Some x → x.table ≡ r.table
     → IsPairOf (ending_by r.claim) r.table pair → others place after.entries ≡ tables.entries → AreChildrenAt place r.table after.entries → (pair ≡ None → after.entries ≡ tables.entries)
     → ((q : Packed) → ContainsKey table_cmp after q ↔ (ContainsKey table_cmp tables q ⊎ IsNewChild old r q))
-    → IsOpenMapOf after root (settled old r)
+    → IsOpenMapOf after root (resolved old r)
 opened_settled root old r x place pair tables after board before holdout at table known others children none is =
     let c = holdout_claim old r.table holdout in
     let opens : Opens tables after old r = λ q. (
@@ -134,7 +134,7 @@ opened_settled root old r x place pair tables after board before holdout at tabl
       λ h. (is q).1 (elim h [ inl a ↦ inl a.0 | inr u ↦ inr u ]),
     ) in
     record {
-      exact = open_taken_exact root old (settled old r) r tables after before (taken_settling old r holdout) opens;
-      openers = opens_or_not root old (settled old r) place after.entries tables.entries (ending_by r.claim) r.table pair (grows_settled root old r c.0 c.1 (silent_claim (ending_by c.0) c.2)) before.openers others children none known
+      exact = open_taken_exact root old (resolved old r) r tables after before (taken_settling old r holdout) opens;
+      openers = opens_or_not root old (resolved old r) place after.entries tables.entries (ending_by r.claim) r.table pair (grows_settled root old r c.0 c.1 (silent_claim (ending_by c.0) c.2)) before.openers others children none known
           (λ k q shown child. inr (r, settled_slot old r x place (held_apart root old board.held) at table, halts_says r k shown, child));
     }

@@ -13,7 +13,7 @@ use Rattle.ledger.specs.Held.{HasScore, IsHoldout}
 use Rattle.ledger.specs.Tally.{AreSoMany}
 use Rattle.ledger.specs.inside.Counting.{greater, steps_of}
 use Rattle.ledger.specs.inside.Open.{IsNewChild}
-use Rattle.ledger.specs.inside.Carrying.{first_count, one_undecided, taking_change, settling_change, changed_count, MayChange}
+use Rattle.ledger.specs.inside.Changing.{first_count, one_undecided, taking_change, resolving_change, changed_count, MayChange}
 use Rattle.ledger.specs.inside.Trees.{IsTreeCount}
 use Rattle.ledger.specs.declared.tree_count.TreeCount.{TreeCount}
 use Rattle.ledger.proofs.Amounts.{IsGreatestOf, no_more, many_same, many_both, many_less, none_many, one_many, greatest_more, greatest_same}
@@ -260,7 +260,7 @@ module _ (root : Packed) (is_table : IsTable root) (old : List Recorded) (parent
       }
 
       pub count_settled : (n : TreeCount) (opened : ℕ) → IsHoldout old r.table → IsSome (ending_by r.claim) → AreSoMany (IsNewChild old r) opened → HasScore r → IsTreeCount root old p n
-          → IsTreeCount root new p (changed_count (settling_change opened (ending_by r.claim) (score_by r.claim)) n)
+          → IsTreeCount root new p (changed_count (resolving_change opened (ending_by r.claim) (score_by r.claim)) n)
       count_settled n opened holdout verdict children has count = record {
         open_count = open_settling n.open_count opened (λ is_open. let unmarked = is_open.unmarked in absurd (cc)) children count.open_count;
         holdouts = (holdouts_settling n.holdouts holdout verdict count.holdouts).0;
@@ -285,7 +285,7 @@ module _ (root : Packed) (is_table : IsTable root) (old : List Recorded) (parent
 
       pub settled_room : (n : TreeCount) (opened opens records : ℕ) → IsHoldout old r.table → IsSome (ending_by r.claim) → opened < 2 ^ 63
           → AreSoMany (IsOpen root (mark_in old)) opens → opens < 2 ^ 63 → AreSoMany (IsHoldout old) records → records < 2 ^ 63 → IsTreeCount root old p n
-          → MayChange n (settling_change opened (ending_by r.claim) (score_by r.claim))
+          → MayChange n (resolving_change opened (ending_by r.claim) (score_by r.claim))
       settled_room n opened opens records holdout verdict few all small holdouts under count =
           let most = no_more (λ q. InTableTree p q × IsOpen root (mark_in old) q) (IsOpen root (mark_in old)) n.open_count opens (λ q h. h.1) count.open_count all in
           let also = no_more (λ q. InTableTree p q × IsHoldout old q) (IsHoldout old) n.holdouts records (λ q h. h.1) count.holdouts holdouts in

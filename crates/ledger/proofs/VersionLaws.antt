@@ -14,7 +14,7 @@ use Rattle.cert.proofs.RoundTrip.{record_of-record_text}
 use Rattle.cert.proofs.Scores.{scored_again, unscored_ends, unscored_certified}
 use Rattle.text.specs.Lines.{HasNoNewline}
 use Rattle.ledger.specs.Versions.{may_stand, standing_record, ledger_record, as_written, ledger_line}
-use Rattle.ledger.specs.Held.{HasScore, IsFit, Settles, settled}
+use Rattle.ledger.specs.Held.{HasScore, IsFit, Resolves, resolved}
 use Rattle.ledger.specs.LedgerText.{IsTaken}
 use Rattle.ledger.specs.declared.format.Format.{Format}
 use Rattle.ledger.specs.declared.format.Format.TheVariants.{One, Two}
@@ -79,26 +79,26 @@ pub line_unread : (format : Format) (line : List ℕ) (f : RecordFault) → Err 
 unfolding ledger_record
 line_unread format line f reads = ap (standing_record format) reads
 
--- what is fit, or settles, is so as it is written
+-- what is fit, or resolves, is so as it is written
 fit_written : (format : Format) (root : Packed) (old : List Recorded) (r : Recorded) → IsFit root old r → IsFit root old (as_written format r)
 fit_written One root old r fit = record { is_open = fit.is_open; certified = unscored_certified r fit.certified }
 fit_written Two root old r fit = fit
 
-settles_written : (format : Format) (old : List Recorded) (r : Recorded) → Settles old r → Settles old (as_written format r)
-settles_written One old r settles = record {
-  is_holdout = settles.is_holdout;
-  verdict = subst IsSome (sym (unscored_ends r.claim)) settles.verdict;
-  certified = unscored_certified r settles.certified;
+settles_written : (format : Format) (old : List Recorded) (r : Recorded) → Resolves old r → Resolves old (as_written format r)
+settles_written One old r resolves = record {
+  is_holdout = resolves.is_holdout;
+  verdict = subst IsSome (sym (unscored_ends r.claim)) resolves.verdict;
+  certified = unscored_certified r resolves.certified;
 }
-settles_written Two old r settles = settles
+settles_written Two old r resolves = resolves
 
 -- a held record that is taken is taken from its line
 pub taken_written : (format : Format) (root : Packed) (old : List Recorded) (r : Recorded) (new : List Recorded) → HasScore r
-    → (IsFit root old r × (new ≡ old ++ (r ∷ []))) ⊎ (Settles old r × (new ≡ settled old r)) → IsTaken root old (as_written format r) new
+    → (IsFit root old r × (new ≡ old ++ (r ∷ []))) ⊎ (Resolves old r × (new ≡ resolved old r)) → IsTaken root old (as_written format r) new
 taken_written format root old r new has (inl w) =
     inl (fit_written format root old r w.0, w.1 ∙ ap (λ (x : Recorded). old ++ (x ∷ [])) (sym (written_held format r has)))
 taken_written format root old r new has (inr w) =
-    inr (settles_written format old r w.0, w.1 ∙ ap (λ (x : Recorded). settled old x) (sym (written_held format r has)))
+    inr (settles_written format old r w.0, w.1 ∙ ap (λ (x : Recorded). resolved old x) (sym (written_held format r has)))
 
 -- what is read in a version may stand there
 abbrev given : Bool → Recorded → Result Recorded RecordFault

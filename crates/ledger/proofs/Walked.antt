@@ -9,7 +9,7 @@ use Rattle.ledger.specs.declared.tree_count.TreeCount.{TreeCount}
 use Rattle.ledger.specs.declared.tree_count.TreeChange.{TreeChange}
 use Rattle.ledger.specs.declared.stored_record.StoredRecord.{StoredRecord}
 use Rattle.ledger.specs.inside.Open.{no_place}
-use Rattle.ledger.specs.inside.Carrying.{counting, changed_count, MayChange, OnChain, Here, Above, AreEarlier, ChainMayChange, AreCarried}
+use Rattle.ledger.specs.inside.Changing.{counting, changed_count, MayChange, OnChain, Here, Above, AreEarlier, ChainMayChange, AreChanged}
 
 -- an entry before the walk and now: it is past, or it isn't, and stands on the chain only where it stands on what is left
 abbrev pub IsWalked : TreeChange → List (Packed × StoredRecord) → ℕ → ℕ → ℕ → Packed × StoredRecord → Packed × StoredRecord → Type 0
@@ -94,7 +94,7 @@ one_walked c es new from place e k earlier walked small on at is = λ i now ther
     ]
 
 -- at the end all are
-pub all_walked : (c : TreeChange) (es new : List (Packed × StoredRecord)) (from place : ℕ) → AreWalked c es from place new → 2 ^ 32 ≤ place + 1 → AreCarried c es from new
+pub all_walked : (c : TreeChange) (es new : List (Packed × StoredRecord)) (from place : ℕ) → AreWalked c es from place new → 2 ^ 32 ≤ place + 1 → AreChanged c es from new
 all_walked c es new from place walked large = λ i now at.
     let w = walked i now at in (
       w.0,

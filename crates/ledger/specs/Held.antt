@@ -31,13 +31,13 @@ pub record IsHeld (root : Packed) (rs : List Recorded) : Type 0 where
 abbrev pub IsHoldout : List Recorded → Packed → Type 0
 IsHoldout rs t = mark_in rs t ≡ Some Holdout
 
--- the record settles a holdout: it has a verdict, and is certified
-pub record Settles (rs : List Recorded) (r : Recorded) : Type 0 where
+-- the record resolves a holdout: it has a verdict, and is certified
+pub record Resolves (rs : List Recorded) (r : Recorded) : Type 0 where
   pub is_holdout : IsHoldout rs r.table
   pub verdict : IsSome (ending_by r.claim)
   pub certified : IsCertified r
 
 -- the records with this one in the place of the first for its table
-unfoldable pub settled : List Recorded → Recorded → List Recorded
-settled [] r = []
-settled (x ∷ xs) r = if same_table x.table r.table then r ∷ xs else x ∷ settled xs r
+unfoldable pub resolved : List Recorded → Recorded → List Recorded
+resolved [] r = []
+resolved (x ∷ xs) r = if same_table x.table r.table then r ∷ xs else x ∷ resolved xs r

@@ -9,7 +9,7 @@ use Rattle.cert.specs.Scored.{with_score}
 use Rattle.ledger.specs.Versions.{header_words, ledger_record, ledger_line}
 use Rattle.ledger.specs.Contents.{Contents}
 use Rattle.text.specs.Lines.{joined, HasNoNewline, BeginsWithLine}
-use Rattle.ledger.specs.Held.{IsFit, Settles, settled}
+use Rattle.ledger.specs.Held.{IsFit, Resolves, resolved}
 use Rattle.ledger.specs.Offers.{OfferGives}
 use Rattle.ledger.specs.declared.format.Format.{Format}
 use Rattle.ledger.specs.declared.format.Format.TheVariants.{Two}
@@ -49,11 +49,11 @@ pub record HasNoHeader (text : List ℕ) : Type 0 where
   pub whole : IsTornHeader text → ⊥
   pub none : (root : Packed) (rest : List ℕ) → HasHeader text root rest → ⊥
 
--- a record is taken, which makes the records old into the records new: it is fit and comes last, or it settles a
+-- a record is taken, which makes the records old into the records new: it is fit and comes last, or it resolves a
 -- holdout and stands in its place. It is held with its score, whether it came with it or not
 abbrev pub IsTaken : Packed → List Recorded → Recorded → List Recorded → Type 0
 IsTaken root old r new = (IsFit root old r × (new ≡ old ++ (with_score r ∷ [])))
-    ⊎ (Settles old r × (new ≡ settled old (with_score r)))
+    ⊎ (Resolves old r × (new ≡ resolved old (with_score r)))
 
 -- lines that are each read, and taken in turn
 abbrev pub AreTaken : Format → Packed → List Recorded → List (List ℕ) → List Recorded → Type 0

@@ -41,7 +41,7 @@ unfoldable pub placed : List Recorded → Recorded → List Recorded
 placed [] r = r ∷ []
 placed (x ∷ xs) r = if same_table x.table r.table then r ∷ xs else x ∷ placed xs r
 
--- the records of a list, each with its score, and each that a later one settles replaced by that one
+-- the records of a list, each with its score, and each that a later one resolves replaced by that one
 abbrev pub held : List Recorded → List Recorded
 held kept = fold placed [] (map with_score kept)
 

@@ -6,7 +6,7 @@ use Rattle.cert.specs.Claim.{Recorded, ending_by}
 use Rattle.cert.specs.Certified.{IsRefusedBy}
 use Rattle.cert.specs.Scored.{with_score}
 use Rattle.ledger.specs.Records.{claim_in, mark_in}
-use Rattle.ledger.specs.Held.{IsFit, IsHoldout, Settles, settled}
+use Rattle.ledger.specs.Held.{IsFit, IsHoldout, Resolves, resolved}
 use Rattle.ledger.specs.declared.taken.Taken.{Taken}
 use Rattle.ledger.specs.declared.taken.Taken.TheVariants.{New, Known, Settled}
 use Rattle.ledger.specs.declared.faults.OfferFault.{OfferFault}
@@ -29,7 +29,7 @@ pub record IsElsewhere (root : Packed) (rs : List Recorded) (t : Packed) : Type 
 abbrev pub OfferGives : Packed → List Recorded → Recorded → Result Taken OfferFault → List Recorded → Type 0
 OfferGives root old r (Ok New) new = IsFit root old r × (new ≡ old ++ (with_score r ∷ []))
 OfferGives root old r (Ok Known) new = IsKnown old r × (new ≡ old)
-OfferGives root old r (Ok Settled) new = Settles old r × (new ≡ settled old (with_score r))
+OfferGives root old r (Ok Settled) new = Resolves old r × (new ≡ resolved old (with_score r))
 OfferGives root old r (Err WrongSize) new = (r.table.states ≢ root.states) × (new ≡ old)
 OfferGives root old r (Err NotOpen) new = (r.table.states ≡ root.states) × IsElsewhere root old r.table × (new ≡ old)
 OfferGives root old r (Err (IsRefused f)) new = IsJudged root old r × IsRefusedBy f r × (new ≡ old)

@@ -2,7 +2,7 @@
 pub mod Counting
 pub mod Stored
 pub mod Open
-pub mod Carrying
+pub mod Changing
 pub mod Trees
 pub mod Places
 pub mod HeaderRead

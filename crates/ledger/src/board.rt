@@ -11,11 +11,11 @@ ghost use Rattle.law_tree.specs.Tables.{IsBestOfTable, IsChildTable};
 ghost use Rattle.ledger.specs.Versions.{format_number};
 ghost use Rattle.ledger.specs.Contents.{IsBoard};
 ghost use Rattle.ledger.specs.declared.format.Format.TheVariants.{Two};
-ghost use Rattle.ledger.specs.inside.Places.{IsPlace};
+ghost use Rattle.ledger.specs.inside.Places.{IsFooting};
 ghost use Rattle.ledger.specs.Sigma.{IsSigma};
 ghost use Rattle.ledger.specs.Tally.{AreAll, IsChampion, IsGreatestCount, IsGreatestOnes, IsHalting, IsOnesChampion, IsStatus, IsTally};
 
-use crate::chain::carry_up;
+use crate::chain::change_chain;
 use crate::children::{child_count, children_on};
 use crate::counts::Counts;
 use crate::faults::{BoardFault, OfferFault};
@@ -25,7 +25,7 @@ use crate::index::{
 };
 use crate::open::Open;
 use crate::open_tables::{only, open_children, opener_of, opener_place};
-use crate::place::{Place, recorded_place};
+use crate::footing::{Footing, recorded_footing};
 use crate::records::Records;
 use crate::selected::{
     listed_tables, sorted_tables, tables_with, tables_with_ones, undecided_tables,
@@ -94,7 +94,7 @@ impl Board {
     ghost use Rattle.cert.specs.Kinds.{claim_of, recorded};
     ghost use Rattle.cert.specs.Scored.{with_score};
     ghost use Rattle.ledger.specs.Records.{claim_in, mark_in, verdict_in};
-    ghost use Rattle.ledger.specs.Held.{IsFit, IsHoldout, Settles, settled};
+    ghost use Rattle.ledger.specs.Held.{IsFit, IsHoldout, Resolves, resolved};
     ghost use Rattle.ledger.specs.Offers.{OfferGives};
     ghost use Rattle.ledger.specs.inside.Places.{IsJudgedSo, IsWhyRefused};
     ghost use Rattle.ledger.specs.inside.Trees.{IsTreeCount};
@@ -377,33 +377,33 @@ impl Board {
         if r.table.states() != self.root.states() {
             return Err(OfferFault::WrongSize);
         }
-        match self.place(r) {
-            Place::Known => Ok(Taken::Known),
-            Place::Elsewhere => Err(OfferFault::NotOpen),
-            Place::Open => self.take(r, judging),
-            Place::Holdout => self.settle(r, judging),
+        match self.footing(r) {
+            Footing::Known => Ok(Taken::Known),
+            Footing::Elsewhere => Err(OfferFault::NotOpen),
+            Footing::Open => self.take(r, judging),
+            Footing::Holdout => self.resolve(r, judging),
         }
     }
 
     // Where an offered record stands.
-    pub(crate) fn place(&self, r: &Record) -> Place
-        ensures { IsPlace self.now.root self.now.records (recorded r.now) result }
+    pub(crate) fn footing(&self, r: &Record) -> Footing
+        ensures { IsFooting self.now.root self.now.records (recorded r.now) result }
     {
         match certificate_for(&self.records, &r.table) {
-            Some(held) => recorded_place(&held, &r.certificate),
-            None => self.unrecorded_place(&r.table),
+            Some(held) => recorded_footing(&held, &r.certificate),
+            None => self.unrecorded_footing(&r.table),
         }
     }
 
     // Where a table without a record stands.
-    fn unrecorded_place(&self, t: &Table) -> Place
-        ensures { (IsOpen self.now.root (mark_in self.now.records) t.now × (result ≡ Place.Open))
-            ⊎ ((IsOpen self.now.root (mark_in self.now.records) t.now → ⊥) × (result ≡ Place.Elsewhere)) }
+    fn unrecorded_footing(&self, t: &Table) -> Footing
+        ensures { (IsOpen self.now.root (mark_in self.now.records) t.now × (result ≡ Footing.Open))
+            ⊎ ((IsOpen self.now.root (mark_in self.now.records) t.now → ⊥) × (result ≡ Footing.Elsewhere)) }
     {
         if self.is_open(t) {
-            Place::Open
+            Footing::Open
         } else {
-            Place::Elsewhere
+            Footing::Elsewhere
         }
     }
 
@@ -445,7 +445,7 @@ impl Board {
             Ok(_) => {}
             Err(_) => unreachable!(),
         }
-        carry_up(
+        change_chain(
             &mut self.records,
             place,
             TreeChange::of_taking(opened, shown, score),
@@ -456,12 +456,12 @@ impl Board {
     }
 
     // Takes a record with a verdict on a holdout.
-    fn settle(&mut self, r: &Record, judging: Judging) -> Result<Taken, OfferFault>
+    fn resolve(&mut self, r: &Record, judging: Judging) -> Result<Taken, OfferFault>
         requires holdout { IsHoldout self.old.records r.now.table }
         requires verdict { IsSome (ending_by (claim_of r.now.certificate)) }
         requires judged { IsJudgedSo judging (recorded r.now) }
-        ensures ok { IfOk result (λ taken. (taken ≡ Taken.Settled) × Settles self.old.records (recorded r.now)
-            × (self.new.records ≡ settled self.old.records (with_score (recorded r.now)))) }
+        ensures ok { IfOk result (λ taken. (taken ≡ Taken.Settled) × Resolves self.old.records (recorded r.now)
+            × (self.new.records ≡ resolved self.old.records (with_score (recorded r.now)))) }
         ensures err { OnErr result (self.new.records ≡ self.old.records) }
         ensures root { self.new.root ≡ self.old.root }
         ensures format { self.new.format ≡ self.old.format }
@@ -493,10 +493,10 @@ impl Board {
             Ok(_) => {}
             Err(_) => unreachable!(),
         }
-        carry_up(
+        change_chain(
             &mut self.records,
             place,
-            TreeChange::of_settling(opened, shown, score),
+            TreeChange::of_resolving(opened, shown, score),
         );
         self.counts = self.counts.without_holdout().with(shown, score);
         Ok(Taken::Settled)

@@ -51,7 +51,7 @@ impl Board {
         let Some(tree) = self.tree_count(t) else {
             return self.bound_unrecorded(t);
         };
-        if tree.is_settled() {
+        if tree.is_closed() {
             Bound::Closed {
                 best: tree.best,
                 ones: tree.ones,

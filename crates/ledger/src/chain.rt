@@ -1,6 +1,6 @@
 // The chain of the places of parents, from a record up to that of the root.
 ghost use Rattle.std.specs.Prelude.{◌≡◌, length};
-ghost use Rattle.ledger.specs.inside.Carrying.{AreCarried, AreEarlier, ChainMayChange, HasChain};
+ghost use Rattle.ledger.specs.inside.Changing.{AreChanged, AreEarlier, ChainMayChange, HasChain};
 
 use crate::open_tables::NO_PLACE;
 use crate::stored_record::StoredRecord;
@@ -8,13 +8,13 @@ use crate::tree_count::TreeChange;
 use indexmap::IndexMap;
 use machine_text::Table;
 
-// Carries a change up from the record at a place: each record of its chain counts it. As a child has fewer
+// Changes the numbers of the record at a place and of each on its chain. As a child has fewer
 // undefined pairs than its parent, there are no more of them than a table has pairs.
-pub(crate) fn carry_up(records: &mut IndexMap<Table, StoredRecord>, from: u32, change: TreeChange)
+pub(crate) fn change_chain(records: &mut IndexMap<Table, StoredRecord>, from: u32, change: TreeChange)
     requires there { HasChain records.old.entries from }
     requires earlier { AreEarlier records.old.entries }
     requires room { ChainMayChange records.old.entries from change }
-    ensures carried { AreCarried change records.old.entries from records.new.entries }
+    ensures changed { AreChanged change records.old.entries from records.new.entries }
     ensures length { length records.new.entries ≡ length records.old.entries }
 {
     let mut place = from;

@@ -33,7 +33,7 @@ mod merge;
 mod offer_line;
 mod open;
 mod open_tables;
-mod place;
+mod footing;
 mod reading;
 mod record_line;
 mod records;

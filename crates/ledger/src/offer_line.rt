@@ -10,7 +10,7 @@ ghost use Rattle.ledger.specs.inside.Places.{IsJudgedSo};
 
 use crate::board::Board;
 use crate::faults::OfferFault;
-use crate::place::Place;
+use crate::footing::Footing;
 use crate::record_line::append_scored;
 use crate::stored_record::{Judging, judged_as};
 use crate::taken::Taken;
@@ -63,10 +63,10 @@ impl Board {
         if r.table.states() != self.root().states() {
             return Err(OfferFault::WrongSize);
         }
-        match self.place(r) {
-            Place::Known => Ok(Taken::Known),
-            Place::Elsewhere => Err(OfferFault::NotOpen),
-            Place::Open | Place::Holdout => {
+        match self.footing(r) {
+            Footing::Known => Ok(Taken::Known),
+            Footing::Elsewhere => Err(OfferFault::NotOpen),
+            Footing::Open | Footing::Holdout => {
                 let judged = judged_as(self.alloc(), r, judging)?;
                 self.put_judged(r, judged, out)
             }

@@ -1,7 +1,7 @@
 // What is kept of the tree of each recorded table, so that it needn't be walked to know what is left in it.
 ghost use Rattle.std.specs.Prelude.{◌≡◌, ◌↔◌, IsTrue};
 ghost use Rattle.ledger.specs.inside.Counting.{steps_of};
-ghost use Rattle.ledger.specs.inside.Carrying.{changed_count, first_count, settling_change, taking_change, MayChange};
+ghost use Rattle.ledger.specs.inside.Changing.{changed_count, first_count, resolving_change, taking_change, MayChange};
 
 use crate::counts::greater;
 use kind_evidence::Ending;
@@ -26,7 +26,7 @@ pub(crate) struct TreeChange {
     // 1 where its table is a holdout now
     pub undecided: u64,
     // 1 where its table was a holdout
-    pub settled: u64,
+    pub resolved: u64,
     // the steps after which its table halts
     pub steps: Option<u64>,
     // the score with which it does
@@ -53,14 +53,14 @@ impl TreeCount {
     {
         TreeCount {
             open_count: self.open_count + change.opened - change.closed,
-            holdouts: self.holdouts + change.undecided - change.settled,
+            holdouts: self.holdouts + change.undecided - change.resolved,
             best: greater(self.best, change.steps),
             ones: greater(self.ones, change.ones),
         }
     }
 
     // Whether no table of the tree is open or a holdout.
-    pub fn is_settled(&self) -> bool
+    pub fn is_closed(&self) -> bool
         ensures { IsTrue result ↔ ((self.now.open_count ≡ 0) × (self.now.holdouts ≡ 0)) }
     {
         self.open_count == 0 && self.holdouts == 0
@@ -80,21 +80,21 @@ impl TreeChange {
             opened,
             closed: 1,
             undecided,
-            settled: 0,
+            resolved: 0,
             steps: steps_of(shown),
             ones,
         }
     }
 
-    // By the record that settles a holdout, which shows this, with this score, and opens so many children.
-    pub fn of_settling(opened: u64, shown: Option<Ending>, ones: Option<u64>) -> TreeChange
-        ensures { result ≡ settling_change opened shown ones }
+    // By the record that resolves a holdout, which shows this, with this score, and opens so many children.
+    pub fn of_resolving(opened: u64, shown: Option<Ending>, ones: Option<u64>) -> TreeChange
+        ensures { result ≡ resolving_change opened shown ones }
     {
         TreeChange {
             opened,
             closed: 0,
             undecided: 0,
-            settled: 1,
+            resolved: 1,
             steps: steps_of(shown),
             ones,
         }

@@ -20,7 +20,7 @@ pub struct HaltFinder {
 }
 
 impl HaltFinder {
-    /// A finder that carries out so many steps at most, and none beyond `MAX_HALT_STEPS`.
+    /// A finder that makes so many steps at most, and none beyond `MAX_HALT_STEPS`.
     pub fn new(alloc: Global, steps: u64) -> HaltFinder
         ensures { result.steps ≡ steps }
     {

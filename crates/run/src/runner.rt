@@ -90,7 +90,7 @@ impl Runner {
                 count: self.steps + 1,
             });
         };
-        carry_out(&mut self.tape, entry)?;
+        apply(&mut self.tape, entry)?;
         self.state = entry.next;
         self.steps += 1;
         Ok(Step::Went)
@@ -173,7 +173,7 @@ impl Runner {
 
 // Writes and moves as an entry says. After an error the tape is as it was.
 #[inline]
-fn carry_out(tape: &mut Tape, e: Entry) -> Result<(), NoMemory>
+fn apply(tape: &mut Tape, e: Entry) -> Result<(), NoMemory>
     requires { IsWithinLimit tape.old.head }
     ensures ok { OnOk result (tape.new ≡ moved (written tape.old e.write) e.dir) }
     ensures err { OnErr result (tape.new ≡ tape.old) }

@@ -3,9 +3,9 @@ ghost use Rattle.std.specs.Prelude.{◌≡◌, ◌≢◌, ◌↔◌, Ok, Err, fa
 ghost use Rattle.machine_text.specs.Packed.{entry_of};
 ghost use Rattle.law_turing.specs.Halting.{Never};
 ghost use Rattle.skelet1.specs.Table.{skelet1, skelet1_text};
-ghost use Rattle.skelet1.specs.declared.fault.Fault.TheVariants as fault;
+ghost use Rattle.skelet1.specs.declared.given_up.GivenUp.TheVariants as fault;
 
-use crate::fault::Fault;
+use crate::given_up::GivenUp;
 use crate::main_run::MainRun;
 use machine_text::{TEXT_BYTES, Table};
 use std::alloc::Global;
@@ -15,7 +15,7 @@ use std::alloc::Global;
 /// table is answered at once. Where the run can't be followed so far by the rules, nothing is seen of it. An error says
 /// nothing of the table: memory was refused (`NoMemory`), a number got to 2^128 (`TooLarge`), or a loop to its limit
 /// (`TooLong`).
-pub fn never_halts(alloc: Global, t: &Table, turns: u64) -> Result<bool, Fault>
+pub fn never_halts(alloc: Global, t: &Table, turns: u64) -> Result<bool, GivenUp>
     ensures never { IfOk result (λ yes. IsTrue yes → Never (entry_of t.now)) }
     ensures other { t.now ≢ skelet1 → result ≡ Ok false }
     ensures rule { result ≡ Err fault.NoRule → ⊥ }
@@ -25,7 +25,7 @@ pub fn never_halts(alloc: Global, t: &Table, turns: u64) -> Result<bool, Fault>
     }
     match repeats_after(alloc, turns) {
         Ok(seen) => Ok(seen),
-        Err(Fault::NoRule) => Ok(false),
+        Err(GivenUp::NoRule) => Ok(false),
         Err(fault) => Err(fault),
     }
 }
@@ -47,7 +47,7 @@ fn is_its_text(text: &[u8]) -> bool
 }
 
 // Whether the run is seen to repeat after so many turns.
-fn repeats_after(alloc: Global, turns: u64) -> Result<bool, Fault>
+fn repeats_after(alloc: Global, turns: u64) -> Result<bool, GivenUp>
     ensures { IfOk result (λ yes. IsTrue yes → Never (entry_of skelet1)) }
 {
     let mut run = MainRun::start(alloc)?;

@@ -8,7 +8,7 @@ ghost use Rattle.skelet1.specs.declared.token.Token.TheVariants.{X};
 ghost use Rattle.skelet1.specs.inside.Tokens.{RopesBelow, RopeBelow, BothRopesBelow, TurnsAt, PassesTo, Winds, Leads, IsPlain};
 
 use crate::answer::Answer;
-use crate::fault::Fault;
+use crate::given_up::GivenUp;
 use crate::heading::Heading;
 use crate::ropes::Ropes;
 use crate::stacks::{put_left, put_one, put_right};
@@ -20,7 +20,7 @@ pub(crate) fn at_cut(
     left: &mut Vec<Token>,
     right: &mut Vec<Token>,
     answer: Answer,
-) -> Result<Heading, Fault>
+) -> Result<Heading, GivenUp>
     requires { BothRopesBelow ropes.old left.old.items right.old.items }
     ensures { IfOk result
         (λ heading. PassesTo (λ l r. rightward answer l (c_right r)) heading
@@ -50,7 +50,7 @@ fn cut_in_a(
     ropes: &mut Ropes,
     left: &mut Vec<Token>,
     right: &mut Vec<Token>,
-) -> Result<Answer, Fault>
+) -> Result<Answer, GivenUp>
     requires { BothRopesBelow ropes.old left.old.items right.old.items }
     ensures { IfOk result
         (λ a. PassesTo (λ l r. rightward A l (c_right r)) (Right a)
@@ -75,14 +75,14 @@ fn cut_in_c(
     ropes: &mut Ropes,
     left: &mut Vec<Token>,
     right: &mut Vec<Token>,
-) -> Result<Heading, Fault>
+) -> Result<Heading, GivenUp>
     requires { BothRopesBelow ropes.old left.old.items right.old.items }
     ensures { IfOk result
         (λ heading. PassesTo (λ l r. rightward C l (c_right r)) heading
         ropes.old ropes.new left.old.items left.new.items right.old.items right.new.items) }
 {
     let Some(top) = right.pop() else {
-        return Err(Fault::NoRule);
+        return Err(GivenUp::NoRule);
     };
     match top {
         Token::Cut => {
@@ -92,7 +92,7 @@ fn cut_in_c(
         }
         Token::X(g) => {
             if g == 0 {
-                return Err(Fault::NoRule);
+                return Err(GivenUp::NoRule);
             }
             put_right(ropes, right, Token::X(g - 1))?;
             right.push(Token::Cut)?;
@@ -101,13 +101,13 @@ fn cut_in_c(
         }
         Token::Y(g) => {
             if g == 0 {
-                return Err(Fault::NoRule);
+                return Err(GivenUp::NoRule);
             }
             put_right(ropes, right, Token::Y(g - 1))?;
             right.push(Token::Cut)?;
             put_one(ropes, left)?;
             Ok(Heading::Left)
         }
-        _ => Err(Fault::NoRule),
+        _ => Err(GivenUp::NoRule),
     }
 }

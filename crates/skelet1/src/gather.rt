@@ -6,7 +6,7 @@ ghost use Rattle.skelet1.specs.inside.Tokens.{RopesBelow, SameLeft};
 ghost use Rattle.skelet1.specs.inside.Sections.{SectionsRopesBelow, TakesOff, PutsSeparator};
 
 use crate::answer::Answer;
-use crate::fault::Fault;
+use crate::given_up::GivenUp;
 use crate::glider::glider;
 use crate::plan::periods_of;
 use crate::ropes::Ropes;
@@ -29,7 +29,7 @@ fn gather_one(
     left: &mut Vec<Token>,
     taken: &mut Vec<Section>,
     want: Answer,
-) -> Result<Option<Answer>, Fault>
+) -> Result<Option<Answer>, GivenUp>
     requires left { RopesBelow (length ropes.old) left.old.items }
     requires taken { SectionsRopesBelow (length ropes.old) taken.old.items }
     ensures old { RopesAdded ropes.old ropes.new }
@@ -81,7 +81,7 @@ fn gather_cut(
     left: &mut Vec<Token>,
     taken: &mut Vec<Section>,
     want: Answer,
-) -> Result<Option<Answer>, Fault>
+) -> Result<Option<Answer>, GivenUp>
     requires left { RopesBelow (length ropes.old) left.old.items }
     requires taken { SectionsRopesBelow (length ropes.old) taken.old.items }
     ensures old { RopesAdded ropes.old ropes.new }
@@ -116,7 +116,7 @@ fn gather_token(
     taken: &mut Vec<Section>,
     digit: u8,
     want: Answer,
-) -> Result<Option<Answer>, Fault>
+) -> Result<Option<Answer>, GivenUp>
     requires left { RopesBelow (length ropes.old) left.old.items }
     requires taken { SectionsRopesBelow (length ropes.old) taken.old.items }
     ensures old { RopesAdded ropes.old ropes.new }
@@ -137,7 +137,7 @@ fn gather_separator(
     left: &mut Vec<Token>,
     taken: &mut Vec<Section>,
     digit: u8,
-) -> Result<Option<Answer>, Fault>
+) -> Result<Option<Answer>, GivenUp>
     requires left { RopesBelow (length ropes.old) left.old.items }
     requires taken { SectionsRopesBelow (length ropes.old) taken.old.items }
     ensures old { RopesAdded ropes.old ropes.new }
@@ -164,7 +164,7 @@ fn gather_separator(
 }
 
 // Opens ropes at the end of the left half tape, but none that was read in C: that would be wound up for nothing.
-fn open_ropes(ropes: &mut Ropes, left: &mut Vec<Token>) -> Result<(), Fault>
+fn open_ropes(ropes: &mut Ropes, left: &mut Vec<Token>) -> Result<(), GivenUp>
     requires { RopesBelow (length ropes.old) left.old.items }
     ensures old { RopesAdded ropes.old ropes.new }
     ensures same { OnOk result (SameLeft ropes.old ropes.new left.old.items left.new.items) }
@@ -191,7 +191,7 @@ fn wanted(digit: u8, before: u128) -> Answer {
 }
 
 // Puts a separator before the left half tape.
-pub(crate) fn put_back(ropes: &Ropes, left: &mut Vec<Token>, digit: u8) -> Result<(), Fault>
+pub(crate) fn put_back(ropes: &Ropes, left: &mut Vec<Token>, digit: u8) -> Result<(), GivenUp>
     requires { RopesBelow (length ropes.now) left.old.items }
     ensures { OnOk result (PutsSeparator digit ropes.now left.old.items left.new.items) }
 {
@@ -210,7 +210,7 @@ pub(crate) fn gather(
     ropes: &mut Ropes,
     left: &mut Vec<Token>,
     taken: &mut Vec<Section>,
-) -> Result<u128, Fault>
+) -> Result<u128, GivenUp>
     requires left { RopesBelow (length ropes.old) left.old.items }
     requires taken { SectionsRopesBelow (length ropes.old) taken.old.items }
     ensures old { RopesAdded ropes.old ropes.new }
@@ -233,11 +233,11 @@ pub(crate) fn gather(
         want = next;
         rest = fewer(rest, taken);
     }
-    Err(Fault::TooLong)
+    Err(GivenUp::TooLong)
 }
 
 // For how many periods the sections can be visited, if the glider stands before them.
-fn glides_behind(ropes: &mut Ropes, left: &mut Vec<Token>, taken: &[Section]) -> Result<u128, Fault>
+fn glides_behind(ropes: &mut Ropes, left: &mut Vec<Token>, taken: &[Section]) -> Result<u128, GivenUp>
     requires { RopesBelow (length ropes.old) left.old.items }
     ensures old { RopesAdded ropes.old ropes.new }
     ensures same { OnOk result (SameLeft ropes.old ropes.new left.old.items left.new.items) }

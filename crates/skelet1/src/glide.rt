@@ -6,7 +6,7 @@ ghost use Rattle.skelet1.specs.declared.section.Section.TheVariants.{Group, Sepa
 ghost use Rattle.skelet1.specs.inside.Tokens.{RopesBelow};
 ghost use Rattle.skelet1.specs.inside.Sections.{SectionsRopesBelow, Glided};
 
-use crate::fault::Fault;
+use crate::given_up::GivenUp;
 use crate::glider::{FALL, GAP, VISITS, block, glider, put_glider};
 use crate::numbers::product;
 use crate::ropes::Ropes;
@@ -15,34 +15,34 @@ use crate::tails::take_tail;
 use crate::token::Token;
 
 // Takes the last two sections, which are the glider's group and the gap behind it. The words x of its group.
-fn take_group(taken: &mut Vec<Section>) -> Result<u128, Fault>
+fn take_group(taken: &mut Vec<Section>) -> Result<u128, GivenUp>
     ensures { IfOk result (λ b. taken.old.items ≡ (taken.new.items ++ Group glider_gap ∷ []) ++ Separator 3 b ∷ []) }
 {
     let Some(last) = taken.pop() else {
-        return Err(Fault::NoRule);
+        return Err(GivenUp::NoRule);
     };
     let Section::Separator(digit, group) = last else {
-        return Err(Fault::NoRule);
+        return Err(GivenUp::NoRule);
     };
     if digit != 3 {
-        return Err(Fault::NoRule);
+        return Err(GivenUp::NoRule);
     }
     take_gap(taken)?;
     Ok(group)
 }
 
 // Takes the last section, which is the gap.
-fn take_gap(taken: &mut Vec<Section>) -> Result<(), Fault>
+fn take_gap(taken: &mut Vec<Section>) -> Result<(), GivenUp>
     ensures { OnOk result (taken.old.items ≡ taken.new.items ++ Group glider_gap ∷ []) }
 {
     let Some(last) = taken.pop() else {
-        return Err(Fault::NoRule);
+        return Err(GivenUp::NoRule);
     };
     let Section::Group(n) = last else {
-        return Err(Fault::NoRule);
+        return Err(GivenUp::NoRule);
     };
     if n != GAP {
-        return Err(Fault::NoRule);
+        return Err(GivenUp::NoRule);
     }
     Ok(())
 }
@@ -53,7 +53,7 @@ pub(crate) fn glide(
     left: &mut Vec<Token>,
     taken: &mut Vec<Section>,
     periods: u128,
-) -> Result<u128, Fault>
+) -> Result<u128, GivenUp>
     requires left { RopesBelow (length ropes.old) left.old.items }
     requires taken { SectionsRopesBelow (length ropes.old) taken.old.items }
     requires some { 1 ≤ periods }
@@ -66,14 +66,14 @@ pub(crate) fn glide(
     let less = product(periods, FALL)?;
     let visits = product(periods, VISITS)?;
     if group < less {
-        return Err(Fault::NoRule);
+        return Err(GivenUp::NoRule);
     }
     let rest = group - less;
     if rest % 2 != 0 {
-        return Err(Fault::NoRule);
+        return Err(GivenUp::NoRule);
     }
     if !take_tail(ropes, left, &glider())? {
-        return Err(Fault::NoRule);
+        return Err(GivenUp::NoRule);
     }
     let one = block(ropes)?;
     let row = ropes.repeat(one, periods)?;

@@ -5,7 +5,7 @@ ghost use Rattle.skelet1.specs.declared.token.Token.TheVariants.{X, Cut};
 ghost use Rattle.skelet1.specs.inside.Glider.{glider_tokens, glider_gap, glider_block};
 ghost use Rattle.skelet1.specs.inside.Tokens.{RopesBelow};
 
-use crate::fault::Fault;
+use crate::given_up::GivenUp;
 use crate::ropes::Ropes;
 use crate::token::Token;
 
@@ -64,7 +64,7 @@ pub(crate) fn glider() -> [Token; TOKENS]
 }
 
 /// Puts the glider in the place of all tokens: its tokens, its group, cc and the gap.
-pub(crate) fn put_glider(left: &mut Vec<Token>, group: Token) -> Result<(), Fault>
+pub(crate) fn put_glider(left: &mut Vec<Token>, group: Token) -> Result<(), GivenUp>
     ensures { OnOk result (left.new.items ≡ glider_tokens ++ group ∷ Cut ∷ Cut ∷ X glider_gap ∷ []) }
 {
     left.clear();
@@ -75,7 +75,7 @@ pub(crate) fn put_glider(left: &mut Vec<Token>, group: Token) -> Result<(), Faul
 
 /// The rope that a period leaves behind.
 #[tactic(auto, unfolding(crate::specs::inside::Glider::glider_block))]
-pub(crate) fn block(ropes: &mut Ropes) -> Result<usize, Fault>
+pub(crate) fn block(ropes: &mut Ropes) -> Result<usize, GivenUp>
     ensures old { RopesAdded ropes.old ropes.new }
     ensures block { IfOk result (λ i. (i < length ropes.new) × (groups_at ropes.new i ≡ glider_block)) }
 {
@@ -87,7 +87,7 @@ pub(crate) fn block(ropes: &mut Ropes) -> Result<usize, Fault>
 }
 
 // A rope, and one group more behind it.
-fn with_group(ropes: &mut Ropes, i: usize, g: u128) -> Result<usize, Fault>
+fn with_group(ropes: &mut Ropes, i: usize, g: u128) -> Result<usize, GivenUp>
     requires rope { i < length ropes.old }
     requires odd { g % 2 ≡ 1 }
     ensures old { RopesAdded ropes.old ropes.new }

@@ -5,7 +5,7 @@ ghost use Rattle.skelet1.specs.inside.Tokens.{RopesBelow, JumpsTo};
 
 use crate::answer::Answer;
 use crate::beyond::Beyond;
-use crate::fault::Fault;
+use crate::given_up::GivenUp;
 use crate::gather::gather;
 use crate::glide::glide;
 use crate::plan::plan_visits;
@@ -22,7 +22,7 @@ pub(crate) fn jump(
     taken: &mut Vec<Section>,
     plan: &mut Vec<u128>,
     beyond: Beyond,
-) -> Result<(u128, Beyond), Fault>
+) -> Result<(u128, Beyond), GivenUp>
     requires left { RopesBelow (length ropes.old) left.old.items }
     requires glides { GliderGlides }
     ensures { IfOk result (λ p. JumpsTo beyond p.1 p.0 ropes.old ropes.new left.old.items left.new.items) }

@@ -42,7 +42,7 @@ mod rebuild;
 
 // The whole check.
 mod check;
-mod fault;
+mod given_up;
 mod main_run;
 mod numbers;
 mod period;
@@ -50,5 +50,5 @@ mod repeating;
 mod rounds;
 
 pub use check::{is_skelet1, never_halts};
-pub use fault::Fault;
+pub use given_up::GivenUp;
 pub use main_run::{MainRun, TURNS};

@@ -1,6 +1,6 @@
 // The run from the blank tape, followed turn by turn.
 use crate::beyond::Beyond;
-use crate::fault::Fault;
+use crate::given_up::GivenUp;
 use crate::numbers::one_more;
 use crate::period::glider_glides;
 use crate::repeating::comes_again;
@@ -49,11 +49,11 @@ impl MainRun {
 
     /// The first return to the right end, once a period of the glider was seen to be as it is said to be: some
     /// 2,000,000 rules. `NoRule` where it isn't so.
-    pub fn start(alloc: Global) -> Result<MainRun, Fault>
+    pub fn start(alloc: Global) -> Result<MainRun, GivenUp>
         ensures { IfOk result (λ run. run.turns ≡ 0) }
     {
         if !glider_glides(alloc)? {
-            return Err(Fault::NoRule);
+            return Err(GivenUp::NoRule);
         }
         Ok(MainRun {
             ropes: Ropes::new(alloc),
@@ -67,7 +67,7 @@ impl MainRun {
     }
 
     /// One turn more: at least one step of the machine. After an error the run isn't followed further.
-    pub fn turn(self) -> Result<MainRun, Fault>
+    pub fn turn(self) -> Result<MainRun, GivenUp>
         ensures { IfOk result (λ run. run.turns ≡ self.turns + 1) }
     {
         let MainRun {
@@ -104,7 +104,7 @@ impl MainRun {
 
     /// Whether the run is seen to repeat for ever from here on: what stands nearest to the right end comes again and
     /// again, and what is beyond it is never read. If so, the machine never halts.
-    pub fn repeats(self) -> Result<bool, Fault>
+    pub fn repeats(self) -> Result<bool, GivenUp>
         ensures { IfOk result (λ yes. IsTrue yes → Never (entry_of skelet1)) }
     {
         let mut ropes = self.ropes;

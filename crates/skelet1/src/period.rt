@@ -5,7 +5,7 @@ ghost use Rattle.skelet1.specs.inside.Loop.{VisitsOften};
 ghost use Rattle.skelet1.specs.inside.Tokens.{RopesBelow};
 
 use crate::beyond::Beyond;
-use crate::fault::Fault;
+use crate::given_up::GivenUp;
 use crate::glider::{FALL, VISITS, glider, put_glider};
 use crate::ropes::Ropes;
 use crate::tails::take_tail;
@@ -17,7 +17,7 @@ use std::alloc::Global;
 const BEHIND: usize = 14;
 
 /// Whether a period of the glider is as it is said to be.
-pub(crate) fn glider_glides(alloc: Global) -> Result<bool, Fault>
+pub(crate) fn glider_glides(alloc: Global) -> Result<bool, GivenUp>
     ensures { IfOk result (λ yes. IsTrue yes → GliderGlides) }
 {
     let mut ropes = Ropes::new(alloc);
@@ -32,7 +32,7 @@ fn is_period(
     ropes: &mut Ropes,
     left: &mut Vec<Token>,
     right: &mut Vec<Token>,
-) -> Result<bool, Fault>
+) -> Result<bool, GivenUp>
     requires { right.old.items ≡ [] }
     ensures { IfOk result (λ yes. IsTrue yes → GliderGlides) }
 {
@@ -76,7 +76,7 @@ fn visit_often(
     ropes: &mut Ropes,
     left: &mut Vec<Token>,
     right: &mut Vec<Token>,
-) -> Result<bool, Fault>
+) -> Result<bool, GivenUp>
     requires left { RopesBelow (length ropes.old) left.old.items }
     requires right { right.old.items ≡ [] }
     ensures { IfOk result

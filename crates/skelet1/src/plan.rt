@@ -1,6 +1,6 @@
 // How often each separator is to be visited in a jump. What is planned here is tested when the sections are put back,
 // so nothing rests on it, and no clause speaks of it.
-use crate::fault::Fault;
+use crate::given_up::GivenUp;
 use crate::glider::{FALL, GAP, VISITS};
 use crate::section::Section;
 
@@ -49,7 +49,7 @@ pub(crate) fn plan_visits(
     taken: &[Section],
     periods: u128,
     plan: &mut Vec<u128>,
-) -> Result<(), Fault> {
+) -> Result<(), GivenUp> {
     plan.clear();
     let mut count = nearest_visits(taken, periods);
     for section in taken {

@@ -12,7 +12,7 @@ ghost use Rattle.skelet1.specs.inside.Tokens.{RopesBelow, tokens_left};
 ghost use Rattle.skelet1.specs.inside.Sections.{SectionRopeBelow, SectionsRopesBelow, Rebuilds, PutsSeparator, sections_left};
 
 use crate::answer::Answer;
-use crate::fault::Fault;
+use crate::given_up::GivenUp;
 use crate::gather::put_back;
 use crate::numbers::sum;
 use crate::ropes::Ropes;
@@ -41,7 +41,7 @@ fn answer_of(digit: u8) -> Answer
 }
 
 // How many words x so many visits of a separator take.
-fn payment(digit: u128, count: u128) -> Result<u128, Fault>
+fn payment(digit: u128, count: u128) -> Result<u128, GivenUp>
     requires { digit ≤ 3 }
     ensures { IfOk result (λ n. n ≡ paid digit count) }
 {
@@ -60,7 +60,7 @@ fn rebuild_one(
     count: u128,
     inside: u128,
     given: Answer,
-) -> Result<(u128, Answer), Fault>
+) -> Result<(u128, Answer), GivenUp>
     requires left { RopesBelow (length ropes.old) left.old.items }
     requires section { SectionRopeBelow (length ropes.old) section }
     ensures old { RopesAdded ropes.old ropes.new }
@@ -74,14 +74,14 @@ fn rebuild_one(
         }
         Section::Cut => {
             if !suits(inside, given, Answer::A) {
-                return Err(Fault::NoRule);
+                return Err(GivenUp::NoRule);
             }
             put_left(ropes, left, Token::Cut)?;
             Ok((inside, Answer::C))
         }
         Section::Rope(i) => {
             if !suits(inside, given, Answer::A) {
-                return Err(Fault::NoRule);
+                return Err(GivenUp::NoRule);
             }
             ropes.are_odd();
             put_left(ropes, left, Token::Rope(i))?;
@@ -103,7 +103,7 @@ fn rebuild_separator(
     count: u128,
     inside: u128,
     given: Answer,
-) -> Result<Answer, Fault>
+) -> Result<Answer, GivenUp>
     requires { RopesBelow (length ropes.old) left.old.items }
     ensures old { RopesAdded ropes.old ropes.new }
     ensures rebuilds { IfOk result
@@ -111,17 +111,17 @@ fn rebuild_separator(
         left.new.items) }
 {
     if digit > 3 {
-        return Err(Fault::NoRule);
+        return Err(GivenUp::NoRule);
     }
     let own = digit as u128;
     let all = sum(own, count)?;
     let less = payment(own, count)?;
     if inside != all / 4 || less >= before {
-        return Err(Fault::NoRule);
+        return Err(GivenUp::NoRule);
     }
     let asked = given.turned(before).turned((own + 1) / 2);
     if !suits(inside, asked, Answer::C) {
-        return Err(Fault::NoRule);
+        return Err(GivenUp::NoRule);
     }
     put_left(ropes, left, Token::X(before - less))?;
     put_back(ropes, left, (all % 4) as u8)?;
@@ -138,7 +138,7 @@ pub(crate) fn rebuild(
     plan: &mut Vec<u128>,
     inside: u128,
     given: Answer,
-) -> Result<u128, Fault>
+) -> Result<u128, GivenUp>
     requires left { RopesBelow (length ropes.old) left.old.items }
     requires taken { SectionsRopesBelow (length ropes.old) taken.old.items }
     ensures within { OnOk result (RopesBelow (length ropes.new) left.new.items) }
@@ -156,7 +156,7 @@ pub(crate) fn rebuild(
         a = b;
     }
     if !suits(n, a, Answer::A) {
-        return Err(Fault::NoRule);
+        return Err(GivenUp::NoRule);
     }
     Ok(n)
 }

@@ -8,7 +8,7 @@ ghost use Rattle.skelet1.specs.inside.Loop.{RunReaches, Repeats};
 ghost use Rattle.skelet1.specs.inside.Tokens.{RopesBelow};
 
 use crate::beyond::Beyond;
-use crate::fault::Fault;
+use crate::given_up::GivenUp;
 use crate::ropes::Ropes;
 use crate::rounds::round;
 use crate::tails::take_tail;
@@ -25,7 +25,7 @@ pub(crate) fn comes_again(
     ropes: &mut Ropes,
     left: &mut Vec<Token>,
     right: &mut Vec<Token>,
-) -> Result<bool, Fault>
+) -> Result<bool, GivenUp>
     requires right { right.old.items ≡ [] }
     requires reaches { (turns : ℕ) × (beyond : Beyond) × RunReaches turns beyond ropes.old left.old.items }
     ensures { IfOk result (λ yes. IsTrue yes → Never (entry_of skelet1)) }
@@ -47,7 +47,7 @@ fn repeats(
     left: &mut Vec<Token>,
     right: &mut Vec<Token>,
     tokens: &[Token],
-) -> Result<bool, Fault>
+) -> Result<bool, GivenUp>
     requires left { left.old.items ≡ tokens.now }
     requires right { right.old.items ≡ [] }
     requires free { (n : ℕ) → RopesBelow n tokens.now }

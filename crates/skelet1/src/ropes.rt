@@ -1,7 +1,7 @@
 // Ropes: rows of words c x^g, each g odd, by their numbers. They are only ever added to.
 ghost use Rattle.std.specs.Prelude.{◌≡◌, ◌<◌, ◌≤◌, ◌-◌, ◌%◌, ◌++◌, ◌∷◌, [], ℕ, length, IfOk, OnOk, OnErr, IsTrue};
 
-use crate::fault::Fault;
+use crate::given_up::GivenUp;
 use crate::node::{Node, Piece};
 use std::alloc::Global;
 use std::marker::Model;
@@ -45,7 +45,7 @@ impl Ropes {
     }
 
     /// A rope of one group.
-    pub fn group(&mut self, g: u128) -> Result<usize, Fault>
+    pub fn group(&mut self, g: u128) -> Result<usize, GivenUp>
         requires { g % 2 ≡ 1 }
         ensures old { RopesAdded self.old self.new }
         ensures rope { IfOk result (λ i. (i < length self.new) × (groups_at self.new i ≡ g ∷ [])) }
@@ -57,7 +57,7 @@ impl Ropes {
     }
 
     /// Two ropes as one.
-    pub fn join(&mut self, a: usize, b: usize) -> Result<usize, Fault>
+    pub fn join(&mut self, a: usize, b: usize) -> Result<usize, GivenUp>
         requires a { a < length self.old }
         requires b { b < length self.old }
         ensures old { RopesAdded self.old self.new }
@@ -72,7 +72,7 @@ impl Ropes {
     }
 
     /// A rope so many times.
-    pub fn repeat(&mut self, a: usize, count: u128) -> Result<usize, Fault>
+    pub fn repeat(&mut self, a: usize, count: u128) -> Result<usize, GivenUp>
         requires a { a < length self.old }
         requires some { 1 ≤ count }
         ensures old { RopesAdded self.old self.new }
@@ -99,7 +99,7 @@ impl Ropes {
     }
 
     /// A rope's one group, or two ropes that it is made of, of which the first or the last is the smaller.
-    pub fn open(&mut self, i: usize, from_front: bool) -> Result<Opened, Fault>
+    pub fn open(&mut self, i: usize, from_front: bool) -> Result<Opened, GivenUp>
         requires { i < length self.old }
         ensures old { RopesAdded self.old self.new }
         ensures opened { IfOk result (OpensTo self.new (groups_at self.old i)) }
@@ -109,7 +109,7 @@ impl Ropes {
             Node::Joined(a, b) => Ok(Opened::Two(a, b)),
             Node::Repeated(a, count) => {
                 if count < 2 {
-                    return Err(Fault::NoRule);
+                    return Err(GivenUp::NoRule);
                 }
                 let others = self.repeat(a, count - 1)?;
                 Ok(if from_front {
@@ -142,7 +142,7 @@ impl Ropes {
     }
 
     // One more rope.
-    fn add(&mut self, piece: Piece) -> Result<usize, Fault>
+    fn add(&mut self, piece: Piece) -> Result<usize, GivenUp>
         requires { IsPiece self.old piece }
         ensures old { RopesAdded self.old self.new }
         ensures rope { IfOk result

@@ -6,7 +6,7 @@ ghost use Rattle.skelet1.specs.inside.Loop.{GoesRound, MakesTurn};
 
 use crate::answer::Answer;
 use crate::beyond::Beyond;
-use crate::fault::Fault;
+use crate::given_up::GivenUp;
 use crate::jump::jump;
 use crate::ropes::Ropes;
 use crate::section::Section;
@@ -20,7 +20,7 @@ pub(crate) fn round(
     left: &mut Vec<Token>,
     right: &mut Vec<Token>,
     beyond: Beyond,
-) -> Result<(), Fault>
+) -> Result<(), GivenUp>
     requires left { RopesBelow (length ropes.old) left.old.items }
     requires right { right.old.items ≡ [] }
     ensures right { OnOk result (right.new.items ≡ []) }
@@ -44,7 +44,7 @@ pub(crate) fn turn(
     taken: &mut Vec<Section>,
     plan: &mut Vec<u128>,
     beyond: Beyond,
-) -> Result<Beyond, Fault>
+) -> Result<Beyond, GivenUp>
     requires left { RopesBelow (length ropes.old) left.old.items }
     requires right { right.old.items ≡ [] }
     requires glides { GliderGlides }

@@ -8,7 +8,7 @@ ghost use Rattle.skelet1.specs.declared.token.Token.TheVariants.{X};
 ghost use Rattle.skelet1.specs.inside.Tokens.{RopesBelow, RopeBelow, BothRopesBelow, TurnsAt, PassesTo, Winds, Leads, IsPlain};
 
 use crate::answer::Answer;
-use crate::fault::Fault;
+use crate::given_up::GivenUp;
 use crate::ropes::Ropes;
 use crate::stacks::{open_left, pay};
 use crate::token::Token;
@@ -18,7 +18,7 @@ pub(crate) fn at_separator(
     ropes: &mut Ropes,
     left: &mut Vec<Token>,
     digit: u8,
-) -> Result<Answer, Fault>
+) -> Result<Answer, GivenUp>
     requires { RopesBelow (length ropes.old) left.old.items }
     ensures old { RopesAdded ropes.old ropes.new }
     ensures turns { IfOk result (λ a. TurnsAt digit a ropes.old ropes.new left.old.items left.new.items) }
@@ -38,16 +38,16 @@ pub(crate) fn at_separator(
         at_two(ropes, left)?;
         return Ok(Answer::A);
     }
-    Err(Fault::NoRule)
+    Err(GivenUp::NoRule)
 }
 
 // A visit of the separator 11, which was taken off, and no rope is before it.
-fn at_two(ropes: &Ropes, left: &mut Vec<Token>) -> Result<(), Fault>
+fn at_two(ropes: &Ropes, left: &mut Vec<Token>) -> Result<(), GivenUp>
     requires { RopesBelow (length ropes.now) left.old.items }
     ensures { OnOk result (TurnsAt 2 A ropes.now ropes.now left.old.items left.new.items) }
 {
     let Some(top) = left.pop() else {
-        return Err(Fault::NoRule);
+        return Err(GivenUp::NoRule);
     };
     if let Token::Separator(digit) = top {
         if digit == 0 {
@@ -58,7 +58,7 @@ fn at_two(ropes: &Ropes, left: &mut Vec<Token>) -> Result<(), Fault>
             left.extend_from_slice(&[Token::Separator(0), Token::Cut, Token::X(1)])?;
             return Ok(());
         }
-        return Err(Fault::NoRule);
+        return Err(GivenUp::NoRule);
     }
     left.push(top)?;
     pay(ropes, left, 1)?;

@@ -4,7 +4,7 @@ ghost use Rattle.skelet1.specs.inside.Arena.{RopesAdded};
 ghost use Rattle.skelet1.specs.declared.token.Token.TheVariants.{X, Separator, Rope, Wound};
 ghost use Rattle.skelet1.specs.inside.Tokens.{RopeBelow, RopesBelow, Merges, PutsLeft, PutsRight, SameLeft, Pays};
 
-use crate::fault::Fault;
+use crate::given_up::GivenUp;
 use crate::numbers::sum;
 use crate::ropes::{Opened, Ropes};
 use crate::token::Token;
@@ -13,14 +13,14 @@ use crate::token::Token;
 const MAX_OPENINGS: u64 = 1_000_000;
 
 // The one token that two groups are.
-fn merged(top: Token, token: Token) -> Result<Option<Token>, Fault>
+fn merged(top: Token, token: Token) -> Result<Option<Token>, GivenUp>
     ensures { IfOk result (λ o. IfSome o (λ both. Merges top token both)) }
 {
     match (top, token) {
         (Token::X(a), Token::X(b)) => Ok(Some(Token::X(sum(a, b)?))),
         (Token::X(a), Token::Y(b)) => Ok(Some(Token::Y(sum(a, b)?))),
         (Token::Y(a), Token::X(b)) => Ok(Some(Token::Y(sum(a, b)?))),
-        (Token::Y(_), Token::Y(_)) => Err(Fault::NoRule),
+        (Token::Y(_), Token::Y(_)) => Err(GivenUp::NoRule),
         _ => Ok(None),
     }
 }
@@ -33,7 +33,7 @@ fn is_none(token: Token) -> bool
 }
 
 /// Puts a token before the right half tape.
-pub(crate) fn put_right(ropes: &Ropes, right: &mut Vec<Token>, token: Token) -> Result<(), Fault>
+pub(crate) fn put_right(ropes: &Ropes, right: &mut Vec<Token>, token: Token) -> Result<(), GivenUp>
     requires right { RopesBelow (length ropes.now) right.old.items }
     requires token { RopeBelow (length ropes.now) token }
     ensures { OnOk result (PutsRight ropes.now ropes.now token right.old.items right.new.items) }
@@ -56,7 +56,7 @@ pub(crate) fn put_right(ropes: &Ropes, right: &mut Vec<Token>, token: Token) -> 
 }
 
 // Puts a token before the left half tape, with no look into a rope there.
-fn put_plain(ropes: &Ropes, left: &mut Vec<Token>, token: Token) -> Result<(), Fault>
+fn put_plain(ropes: &Ropes, left: &mut Vec<Token>, token: Token) -> Result<(), GivenUp>
     requires left { RopesBelow (length ropes.now) left.old.items }
     requires token { RopeBelow (length ropes.now) token }
     ensures { OnOk result (PutsLeft ropes.now ropes.now token left.old.items left.new.items) }
@@ -76,7 +76,7 @@ fn put_plain(ropes: &Ropes, left: &mut Vec<Token>, token: Token) -> Result<(), F
 }
 
 /// Opens ropes at the end of the left half tape, until its last token is none.
-pub(crate) fn open_left(ropes: &mut Ropes, left: &mut Vec<Token>) -> Result<(), Fault>
+pub(crate) fn open_left(ropes: &mut Ropes, left: &mut Vec<Token>) -> Result<(), GivenUp>
     requires { RopesBelow (length ropes.old) left.old.items }
     ensures old { RopesAdded ropes.old ropes.new }
     ensures same { OnOk result (SameLeft ropes.old ropes.new left.old.items left.new.items) }
@@ -86,11 +86,11 @@ pub(crate) fn open_left(ropes: &mut Ropes, left: &mut Vec<Token>) -> Result<(), 
             return Ok(());
         }
     }
-    Err(Fault::TooLong)
+    Err(GivenUp::TooLong)
 }
 
 // Opens a rope at the end of the left half tape once; whether there was one.
-fn open_once(ropes: &mut Ropes, left: &mut Vec<Token>) -> Result<bool, Fault>
+fn open_once(ropes: &mut Ropes, left: &mut Vec<Token>) -> Result<bool, GivenUp>
     requires { RopesBelow (length ropes.old) left.old.items }
     ensures old { RopesAdded ropes.old ropes.new }
     ensures same { OnOk result (SameLeft ropes.old ropes.new left.old.items left.new.items) }
@@ -115,7 +115,7 @@ fn open_once(ropes: &mut Ropes, left: &mut Vec<Token>) -> Result<bool, Fault>
 }
 
 // Puts a rope before the left half tape in parts.
-fn open_rope(ropes: &mut Ropes, left: &mut Vec<Token>, i: usize) -> Result<(), Fault>
+fn open_rope(ropes: &mut Ropes, left: &mut Vec<Token>, i: usize) -> Result<(), GivenUp>
     requires left { RopesBelow (length ropes.old) left.old.items }
     requires token { i < length ropes.old }
     ensures old { RopesAdded ropes.old ropes.new }
@@ -133,7 +133,7 @@ fn open_rope(ropes: &mut Ropes, left: &mut Vec<Token>, i: usize) -> Result<(), F
 }
 
 // Puts a rope that was read in C before the left half tape in parts.
-pub(crate) fn open_wound(ropes: &mut Ropes, left: &mut Vec<Token>, i: usize) -> Result<(), Fault>
+pub(crate) fn open_wound(ropes: &mut Ropes, left: &mut Vec<Token>, i: usize) -> Result<(), GivenUp>
     requires left { RopesBelow (length ropes.old) left.old.items }
     requires token { i < length ropes.old }
     ensures old { RopesAdded ropes.old ropes.new }
@@ -157,7 +157,7 @@ pub(crate) fn open_wound(ropes: &mut Ropes, left: &mut Vec<Token>, i: usize) -> 
 }
 
 // Puts a rope before the left half tape: with one that stands there it is one rope.
-fn put_rope(ropes: &mut Ropes, left: &mut Vec<Token>, i: usize) -> Result<(), Fault>
+fn put_rope(ropes: &mut Ropes, left: &mut Vec<Token>, i: usize) -> Result<(), GivenUp>
     requires left { RopesBelow (length ropes.old) left.old.items }
     requires token { i < length ropes.old }
     ensures old { RopesAdded ropes.old ropes.new }
@@ -178,7 +178,7 @@ fn put_rope(ropes: &mut Ropes, left: &mut Vec<Token>, i: usize) -> Result<(), Fa
 }
 
 /// Puts a token before the left half tape.
-pub(crate) fn put_left(ropes: &mut Ropes, left: &mut Vec<Token>, token: Token) -> Result<(), Fault>
+pub(crate) fn put_left(ropes: &mut Ropes, left: &mut Vec<Token>, token: Token) -> Result<(), GivenUp>
     requires left { RopesBelow (length ropes.old) left.old.items }
     requires token { RopeBelow (length ropes.old) token }
     ensures old { RopesAdded ropes.old ropes.new }
@@ -202,7 +202,7 @@ pub(crate) fn put_left(ropes: &mut Ropes, left: &mut Vec<Token>, token: Token) -
 }
 
 /// Takes words x off the end of the left half tape, if its last token has so many.
-pub(crate) fn pay(ropes: &Ropes, left: &mut Vec<Token>, count: u128) -> Result<(), Fault>
+pub(crate) fn pay(ropes: &Ropes, left: &mut Vec<Token>, count: u128) -> Result<(), GivenUp>
     requires { RopesBelow (length ropes.now) left.old.items }
     ensures { OnOk result (Pays ropes.now count left.old.items left.new.items) }
 {
@@ -212,7 +212,7 @@ pub(crate) fn pay(ropes: &Ropes, left: &mut Vec<Token>, count: u128) -> Result<(
                 return Ok(());
             }
             if n < count {
-                return Err(Fault::NoRule);
+                return Err(GivenUp::NoRule);
             }
             left.push(Token::X(n - count))?;
             Ok(())
@@ -221,12 +221,12 @@ pub(crate) fn pay(ropes: &Ropes, left: &mut Vec<Token>, count: u128) -> Result<(
             left.push(Token::Y(n - count))?;
             Ok(())
         }
-        _ => Err(Fault::NoRule),
+        _ => Err(GivenUp::NoRule),
     }
 }
 
 /// Puts a 1 before the left half tape: behind 10 that is x.
-pub(crate) fn put_one(ropes: &mut Ropes, left: &mut Vec<Token>) -> Result<(), Fault>
+pub(crate) fn put_one(ropes: &mut Ropes, left: &mut Vec<Token>) -> Result<(), GivenUp>
     requires { RopesBelow (length ropes.old) left.old.items }
     ensures old { RopesAdded ropes.old ropes.new }
     ensures put { OnOk result (PutsLeft ropes.old ropes.new (Separator 0) left.old.items left.new.items) }
@@ -250,7 +250,7 @@ pub(crate) fn put_one(ropes: &mut Ropes, left: &mut Vec<Token>) -> Result<(), Fa
 }
 
 /// Puts a rope before the right half tape in parts.
-pub(crate) fn open_right(ropes: &mut Ropes, right: &mut Vec<Token>, i: usize) -> Result<(), Fault>
+pub(crate) fn open_right(ropes: &mut Ropes, right: &mut Vec<Token>, i: usize) -> Result<(), GivenUp>
     requires right { RopesBelow (length ropes.old) right.old.items }
     requires token { i < length ropes.old }
     ensures old { RopesAdded ropes.old ropes.new }

@@ -11,7 +11,7 @@ ghost use Rattle.skelet1.specs.inside.Tokens.{RopesBelow, RopeBelow, BothRopesBe
 use crate::answer::Answer;
 use crate::beyond::Beyond;
 use crate::cuts::at_cut;
-use crate::fault::Fault;
+use crate::given_up::GivenUp;
 use crate::heading::Heading;
 use crate::ropes::Ropes;
 use crate::separator_visit::at_separator;
@@ -34,7 +34,7 @@ pub(crate) fn step_left(
     left: &mut Vec<Token>,
     right: &mut Vec<Token>,
     beyond: Beyond,
-) -> Result<Heading, Fault>
+) -> Result<Heading, GivenUp>
     requires { BothRopesBelow ropes.old left.old.items right.old.items }
     ensures { IfOk result (λ heading. Leads beyond
         (record { ropes = ropes.old; lefts = left.old.items; rights = right.old.items; heading = Left })
@@ -42,7 +42,7 @@ pub(crate) fn step_left(
 {
     let Some(top) = left.pop() else {
         if !beyond.is_blank() {
-            return Err(Fault::NoRule);
+            return Err(GivenUp::NoRule);
         }
         left.extend_from_slice(&[Token::Separator(0), Token::X(1)])?;
         return Ok(Heading::Right(Answer::C));
@@ -56,7 +56,7 @@ pub(crate) fn step_left(
         return Ok(Heading::Left);
     }
     if !is_plain(top) {
-        return Err(Fault::NoRule);
+        return Err(GivenUp::NoRule);
     }
     put_right(ropes, right, top)?;
     Ok(Heading::Left)
@@ -68,14 +68,14 @@ pub(crate) fn step_right(
     left: &mut Vec<Token>,
     right: &mut Vec<Token>,
     answer: Answer,
-) -> Result<Heading, Fault>
+) -> Result<Heading, GivenUp>
     requires { BothRopesBelow ropes.old left.old.items right.old.items }
     ensures { IfOk result (λ heading. (beyond : Beyond) → Leads beyond
         (record { ropes = ropes.old; lefts = left.old.items; rights = right.old.items; heading = Right answer })
         (record { ropes = ropes.new; lefts = left.new.items; rights = right.new.items; heading = heading })) }
 {
     let Some(top) = right.pop() else {
-        return Err(Fault::NoRule);
+        return Err(GivenUp::NoRule);
     };
     match top {
         Token::X(g) => {
@@ -94,7 +94,7 @@ pub(crate) fn step_right(
             at_rope(ropes, left, right, answer, i)?;
             Ok(Heading::Right(answer))
         }
-        _ => Err(Fault::NoRule),
+        _ => Err(GivenUp::NoRule),
     }
 }
 
@@ -105,7 +105,7 @@ fn at_rope(
     right: &mut Vec<Token>,
     answer: Answer,
     i: usize,
-) -> Result<(), Fault>
+) -> Result<(), GivenUp>
     requires sound { BothRopesBelow ropes.old left.old.items right.old.items }
     requires token { i < length ropes.old }
     ensures { OnOk result
@@ -136,7 +136,7 @@ fn ends_with_x(tokens: &[Token]) -> bool {
 }
 
 // Puts a long rope before the left half tape that was read in C, behind an x.
-fn wind(ropes: &mut Ropes, left: &mut Vec<Token>, i: usize) -> Result<(), Fault>
+fn wind(ropes: &mut Ropes, left: &mut Vec<Token>, i: usize) -> Result<(), GivenUp>
     requires left { RopesBelow (length ropes.old) left.old.items }
     requires token { i < length ropes.old }
     requires long { AreLong (groups_at ropes.old i) }

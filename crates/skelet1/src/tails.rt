@@ -4,7 +4,7 @@ ghost use Rattle.machine_text.specs.declared.transition.Sym.{Sym};
 ghost use Rattle.skelet1.specs.inside.Arena.{RopesAdded};
 ghost use Rattle.skelet1.specs.inside.Tokens.{RopesBelow, SameLeft, EndsWith};
 
-use crate::fault::Fault;
+use crate::given_up::GivenUp;
 use crate::ropes::Ropes;
 use crate::stacks::open_left;
 use crate::token::Token;
@@ -27,7 +27,7 @@ pub(crate) fn take_tail(
     ropes: &mut Ropes,
     left: &mut Vec<Token>,
     tail: &[Token],
-) -> Result<bool, Fault>
+) -> Result<bool, GivenUp>
     requires left { RopesBelow (length ropes.old) left.old.items }
     requires tail { (n : ℕ) → RopesBelow n tail.now }
     ensures old { RopesAdded ropes.old ropes.new }
@@ -49,7 +49,7 @@ pub(crate) fn take_tail(
 }
 
 // Takes a token off the end of the left half tape, if it stands there.
-fn take_one(ropes: &mut Ropes, left: &mut Vec<Token>, token: Token) -> Result<bool, Fault>
+fn take_one(ropes: &mut Ropes, left: &mut Vec<Token>, token: Token) -> Result<bool, GivenUp>
     requires { RopesBelow (length ropes.old) left.old.items }
     ensures old { RopesAdded ropes.old ropes.new }
     ensures taken { IfOk result
@@ -72,7 +72,7 @@ pub(crate) fn ends_with(
     ropes: &mut Ropes,
     left: &mut Vec<Token>,
     tail: &[Token],
-) -> Result<bool, Fault>
+) -> Result<bool, GivenUp>
     requires left { RopesBelow (length ropes.old) left.old.items }
     requires tail { (n : ℕ) → RopesBelow n tail.now }
     ensures old { RopesAdded ropes.old ropes.new }

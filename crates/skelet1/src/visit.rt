@@ -5,7 +5,7 @@ ghost use Rattle.skelet1.specs.inside.Tokens.{BothRopesBelow, Leads, Visited};
 
 use crate::answer::Answer;
 use crate::beyond::Beyond;
-use crate::fault::Fault;
+use crate::given_up::GivenUp;
 use crate::heading::Heading;
 use crate::ropes::Ropes;
 use crate::steps::{step_left, step_right};
@@ -21,7 +21,7 @@ fn step(
     right: &mut Vec<Token>,
     beyond: Beyond,
     heading: Heading,
-) -> Result<Heading, Fault>
+) -> Result<Heading, GivenUp>
     requires { BothRopesBelow ropes.old left.old.items right.old.items }
     ensures { IfOk result (λ after. Leads beyond
         (record { ropes = ropes.old; lefts = left.old.items; rights = right.old.items; heading = heading })
@@ -55,7 +55,7 @@ pub(crate) fn visit(
     left: &mut Vec<Token>,
     right: &mut Vec<Token>,
     beyond: Beyond,
-) -> Result<Answer, Fault>
+) -> Result<Answer, GivenUp>
     requires sound { BothRopesBelow ropes.old left.old.items right.old.items }
     requires empty { right.old.items ≡ [] }
     ensures empty { IfOk result (λ _. right.new.items ≡ []) }
@@ -68,5 +68,5 @@ pub(crate) fn visit(
         }
         heading = step(ropes, left, right, beyond, heading)?;
     }
-    Err(Fault::TooLong)
+    Err(GivenUp::TooLong)
 }

@@ -1,7 +1,7 @@
 // Of Skelet 1, whether its run is seen to repeat.
 use crate::words::{number_of, parted, table_of, unread};
 use kind_evidence::NoMemory;
-use skelet1::{Fault, never_halts};
+use skelet1::{GivenUp, never_halts};
 use std::alloc::Global;
 use try_rows::Said;
 
@@ -14,7 +14,7 @@ pub fn say_repeats(alloc: Global, rest: &str, said: &mut Said) -> Result<(), NoM
     match never_halts(alloc, &table, turns) {
         Ok(true) => said.text("never"),
         Ok(false) => said.text("not seen"),
-        Err(Fault::NoMemory) => Err(NoMemory),
+        Err(GivenUp::NoMemory) => Err(NoMemory),
         Err(_) => said.text("too far"),
     }
 }

@@ -1,4 +1,4 @@
--- How the carrying out of one answer ends, as what a turn says of it.
+-- How the fulfilling out of one answer ends, as what a turn says of it.
 use Rattle.std.proofs.Common.{◌≡◌, inl, inr, sym, subst, ap}
 use Rattle.std.specs.Prelude.{◌⊎◌, Result, Ok, Err, IfErr}
 use Rattle.wire.specs.declared.node.Out.{Out}
@@ -6,9 +6,9 @@ use Rattle.wire.specs.declared.turned.TurnFault.{TurnFault}
 use Rattle.wire.specs.declared.turned.TurnFault.TheVariants.{LinkFault, LedgerFault}
 use Rattle.wire.specs.Happening.{Happening}
 use Rattle.wire.specs.Device.{IsBegun}
-use Rattle.wire.specs.Carried.{Answering, Scene, Faulted, kept_text, IsPartlyKept}
+use Rattle.wire.specs.Fulfilled.{Answering, Scene, Faulted, kept_text, IsPartlyKept}
 
--- an answer that wasn't carried out whole, for either of the two reasons
+-- an answer that wasn't fulfilled whole, for either of the two reasons
 pub faulted_by : {N : Type 0} (answers : Answering N) (is_stopped : N → Type 0)
     (old new : Scene N) (event : Happening) (out : Out) (node : N) (r : Result (Unit {0}) TurnFault)
     → answers old.node event (Ok out) node

@@ -4,22 +4,22 @@ use Rattle.std.specs.Prelude.{Option, Ok}
 use Rattle.wire.specs.declared.node.Out.{Out}
 use Rattle.wire.specs.Happening.{Happening}
 use Rattle.wire.specs.Device.{grown}
-use Rattle.wire.specs.Carried.{Answering, Scene, scene, Reply, Carried, Handed, carried, kept_text}
+use Rattle.wire.specs.Fulfilled.{Answering, Scene, scene, Reply, Fulfilled, Handed, fulfilled, kept_text}
 
 -- nothing is handed over yet
 pub handed_none : {N : Type 0} (answers : Answering N) (old : Scene N) (events : List Happening)
     → Handed answers old events events old
 handed_none answers old events = record { replies = []; order = refl; whole = refl }
 
--- one more answer is carried out
+-- one more answer is fulfilled
 carried_more : {N : Type 0} (answers : Answering N) (old at : Scene N) (replies : List Reply)
     (event : Happening) (out : Out) (node : N)
-    → Carried answers old replies at → answers at.node event (Ok out) node
-    → Carried answers old (replies ++ (record { to = event; out = out } ∷ [])) (carried out node at)
+    → Fulfilled answers old replies at → answers at.node event (Ok out) node
+    → Fulfilled answers old (replies ++ (record { to = event; out = out } ∷ [])) (fulfilled out node at)
 carried_more answers old at [] event out node e given =
-    (node, subst (λ s. answers s.node event (Ok out) node) e given, ap (λ s. carried out node s) e)
+    (node, subst (λ s. answers s.node event (Ok out) node) e given, ap (λ s. fulfilled out node s) e)
 carried_more answers old at (reply ∷ replies) event out node (n, first, whole) given =
-    (n, first, carried_more answers (carried reply.out n old) at replies event out node whole given)
+    (n, first, carried_more answers (fulfilled reply.out n old) at replies event out node whole given)
 
 -- the events behind those that were handed over
 order_more : (replies : List Reply) (reply : Reply) (left : List Happening)
@@ -32,12 +32,12 @@ pub handed_more : {N : Type 0} (answers : Answering N) (old at new : Scene N)
     → Handed answers old events (event ∷ left) at → answers at.node event (Ok out) new.node
     → new.text ≡ kept_text out at.text → new.sent ≡ grown at.sent out.frames.items → Handed answers old events left new
 handed_more answers old at new events left event out before given text sent =
-    let e : carried out new.node at ≡ new =
+    let e : fulfilled out new.node at ≡ new =
     ap (λ (t : Option (List ℕ)). scene new.node t (grown at.sent out.frames.items)) (sym text)
     ∙ ap (λ (s : Option (List ℕ)). scene new.node new.text s) (sym sent) in
     record {
       replies = before.replies ++ (record { to = event; out = out } ∷ []);
       order = before.order ∙ order_more before.replies (record { to = event; out = out }) left;
-      whole = subst (λ s. Carried answers old (before.replies ++ (record { to = event; out = out } ∷ [])) s) e
+      whole = subst (λ s. Fulfilled answers old (before.replies ++ (record { to = event; out = out } ∷ [])) s) e
           (carried_more answers old at before.replies event out new.node before.whole given);
     }

@@ -6,7 +6,7 @@ pub mod Grammar
 pub mod Meaning
 pub mod inside
 pub mod Happening
-pub mod Carried
+pub mod Fulfilled
 pub mod Device
 pub mod Memory
 pub mod Faults

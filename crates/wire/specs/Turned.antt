@@ -7,7 +7,7 @@ use Rattle.wire.specs.declared.turned.TurnFault.TheVariants.{LinkFault, LedgerFa
 use Rattle.wire.specs.Happening.{Happening, Came}
 use Rattle.text.specs.Lines.{BoundedLine}
 use Rattle.wire.specs.Lines.{Stream, fed}
-use Rattle.wire.specs.Carried.{Answering, Scene, Handed, BrokenOff}
+use Rattle.wire.specs.Fulfilled.{Answering, Scene, Handed, BrokenOff}
 
 -- a line as a frame: its bytes, and none of a line that was too long
 abbrev pub frame_of : BoundedLine → List ℕ

@@ -1,11 +1,11 @@
 // The engine: what runs a node over its link and its ledger.
 ghost use Rattle.std.specs.Prelude.{◌≡◌, ◌≢◌, ◌≤◌, ℕ, List, [], length, Ok, Err, OnOk, OnErr, IfErr, IfSome};
-ghost use Rattle.wire.specs.Carried.{kept_text, IsPartlyKept, scene};
+ghost use Rattle.wire.specs.Fulfilled.{kept_text, IsPartlyKept, scene};
 ghost use Rattle.wire.specs.Device.{preceded};
 ghost use Rattle.wire.specs.Limits.{piece_byte_limit};
 ghost use Rattle.wire.specs.Turned.{Turned};
 
-use crate::carrying::keep;
+use crate::fulfilling::keep;
 use crate::handing::hand_all;
 use crate::ledger_out::LedgerOut;
 use crate::limits::MAX_PIECE_BYTES;
@@ -30,14 +30,14 @@ pub fn begin<W: LedgerOut>(first: &Out, ledger: &mut W) -> Result<(), TurnFault>
 }
 
 /// Receives once, at most `MAX_PIECE_BYTES` bytes, and hands each line that then is whole to the node, in
-/// order, a line that is too long as an empty frame. Each answer is carried out before the next line is
+/// order, a line that is too long as an empty frame. Each answer is fulfilled before the next line is
 /// handed over: first its ledger's part, whole, and then its frames are sent. `Turn::End` where no byte
 /// came.
 ///
 /// After `LinkFault` the last answer's ledger part stands, whole, and a beginning of its frames may have been
 /// sent. After `LedgerFault` no frame of the last answer was sent, at most its cut and a beginning of the
 /// rest was made, and the node is stopped. After the node's own fault, or where memory was refused for the
-/// lines of the piece, each answer was carried out whole. Lines that weren't handed over stay in `lines`,
+/// lines of the piece, each answer was fulfilled whole. Lines that weren't handed over stay in `lines`,
 /// but for the piece for which memory was refused.
 pub fn turn<N: Node, L: Link, W: LedgerOut>(
     node: &mut N,

@@ -1,12 +1,12 @@
-// Handing lines to a node, and carrying out what it answers.
+// Handing lines to a node, and fulfilling out what it answers.
 ghost use Rattle.std.specs.Prelude.{◌≡◌, ◌≢◌, ◌∷◌, [], length, Ok, Err, IfErr, IfSome, OnOk};
-ghost use Rattle.wire.specs.Carried.{Faulted, Handed, kept_text, scene};
+ghost use Rattle.wire.specs.Fulfilled.{Faulted, Handed, kept_text, scene};
 ghost use Rattle.wire.specs.Device.{grown};
 ghost use Rattle.wire.specs.Lines.{known};
 ghost use Rattle.wire.specs.Turned.{IsBroken, event_of, events_of, frame_of};
 ghost use Rattle.wire.specs.declared.node.Out.{Out as Answer};
 
-use crate::carrying::carry_out;
+use crate::fulfilling::fulfil;
 use crate::ledger_out::LedgerOut;
 use crate::line::Line;
 use crate::lines::Lines;
@@ -24,7 +24,7 @@ fn frame_of(line: &Line) -> &[u8]
     }
 }
 
-// Hands one line to the node, and carries out its answer.
+// Hands one line to the node, and fulfils its answer.
 pub(crate) fn hand<N: Node, L: Link, W: LedgerOut>(
     node: &mut N,
     line: Line,
@@ -45,10 +45,10 @@ pub(crate) fn hand<N: Node, L: Link, W: LedgerOut>(
     ensures waiting { L.waiting link.new ≡ L.waiting link.old }
 {
     let out = node.on(Event::Frame(frame_of(&line)))?;
-    carry_out(node, link, ledger, &out)
+    fulfil(node, link, ledger, &out)
 }
 
-// Hands each line that waits to the node, and carries out its answers, as far as one that can't be.
+// Hands each line that waits to the node, and fulfils its answers, as far as one that can't be.
 pub(crate) fn hand_all<N: Node, L: Link, W: LedgerOut>(
     node: &mut N,
     lines: &mut Lines,

@@ -7,7 +7,7 @@ ghost use Rattle.wire.specs.Message.{Message, IsSendable};
 ghost use Rattle.wire.specs.Grammar.{message_of, message_text, frames_of};
 
 /// Two pieces in turn leave what both leave as one piece: the lines are the same however a stream is cut.
-pub fn pieces_join()
+pub fn pieces_concatenate()
     ensures { (s : Stream) (a b : List ℕ) → fed (fed s a) b ≡ fed s (a ++ b) }
 {}
 

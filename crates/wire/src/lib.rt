@@ -5,11 +5,11 @@
 //! messages as nodes' rules speak of them, `specs/Grammar` the text of each.
 //!
 //! A [`Node`] answers events, and does nothing else: each answer says what is to be cut from its ledger,
-//! what to be appended, and which frames to be sent. `begin`, `carry_out` and `turn` carry answers out, the ledger's
-//! part first; `specs/Carried` and `specs/Turned` say what that means.
+//! what to be appended, and which frames to be sent. `begin`, `fulfil` and `turn` fulfil answers, the ledger's
+//! part first; `specs/Fulfilled` and `specs/Turned` say what that means.
 #![tactic(auto)]
 
-mod carrying;
+mod fulfilling;
 mod decoder;
 mod encoder;
 mod engine;
@@ -29,13 +29,13 @@ mod node;
 mod trouble;
 mod turned;
 
-pub use carrying::{append_all, carry_out};
+pub use fulfilling::{append_all, fulfil};
 pub use decoder::decode;
 pub use encoder::encode;
 pub use engine::{begin, turn};
 pub use fault::Fault;
 pub use kind_evidence::NoMemory;
-pub use laws::{begun_lines_go_on, messages_come_through, messages_read_back, pieces_join};
+pub use laws::{begun_lines_go_on, messages_come_through, messages_read_back, pieces_concatenate};
 pub use ledger_out::LedgerOut;
 pub use limits::MAX_PIECE_BYTES;
 pub use line::Line;

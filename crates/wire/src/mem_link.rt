@@ -10,7 +10,7 @@ use std::alloc::Global;
 use std::marker::Model;
 
 /// A link that keeps its bytes in memory, for programs and tests: what is delivered to it is received from
-/// it, and what it sends stands there to be carried on. It can be set to fail at a call, or to move one byte
+/// it, and what it sends stands there to be delivered. It can be set to fail at a call, or to move one byte
 /// at a time. A growth that is refused is a failure of its own.
 #[derive(Drop)]
 pub struct MemLink {
@@ -75,7 +75,7 @@ impl MemLink {
         &self.outbox
     }
 
-    /// Forgets what was sent, once that is carried on.
+    /// Forgets what was sent, once that is delivered.
     pub fn clear_sent(&mut self)
         ensures { self.new ≡ record self.old { sent = [] } }
     {

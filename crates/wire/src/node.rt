@@ -52,11 +52,11 @@ pub enum NodeFault {
 }
 
 /// Answers events. What it knows stands in a ledger, which is kept in step with it: after each answer that
-/// was carried out it is in step again.
+/// was fulfilled it is in step again.
 pub trait Node {
     ghost use Rattle.std.specs.Prelude.{◌≡◌, ◌↔◌, ℕ, List, Result, Err, IfOk, OnErr};
     ghost use Rattle.wire.specs.Happening.{Happening, seen};
-    ghost use Rattle.wire.specs.Carried.{text_after};
+    ghost use Rattle.wire.specs.Fulfilled.{text_after};
     ghost use Rattle.wire.specs.declared.node.NodeFault.{NodeFault as Failure};
     ghost use Rattle.wire.specs.declared.node.Out.{Out as Answer};
 

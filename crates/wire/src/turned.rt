@@ -15,7 +15,7 @@ pub enum Turn {
     End,
 }
 
-/// Why a turn, or the carrying out of an answer, ended before its time. What was appended before stands.
+/// Why a turn, or the fulfilling out of an answer, ended before its time. What was appended before stands.
 #[derive(Clone, Copy, Debug, PartialEq, Eq)]
 pub enum TurnFault {
     /// The link failed. A beginning of the last answer's frames was sent.

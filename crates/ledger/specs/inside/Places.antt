@@ -12,20 +12,20 @@ use Rattle.ledger.specs.declared.faults.OfferFault.{OfferFault}
 use Rattle.ledger.specs.declared.faults.OfferFault.TheVariants.{WrongSize, NotOpen, Refused as IsRefused, NoMemory}
 use Rattle.ledger.specs.declared.stored_record.Judging.{Judging}
 use Rattle.ledger.specs.declared.stored_record.Judging.TheVariants.{Due, Done, Seen}
-use Rattle.ledger.specs.declared.place.Place.{Place}
-use Rattle.ledger.specs.declared.place.Place.TheVariants.{Known, Open, Holdout, Elsewhere}
+use Rattle.ledger.specs.declared.footing.Footing.{Footing}
+use Rattle.ledger.specs.declared.footing.Footing.TheVariants.{Known, Open, Holdout, Elsewhere}
 
-abbrev pub IsPlace : Packed → List Recorded → Recorded → Place → Type 0
-IsPlace root rs r Known = IsKnown rs r
-IsPlace root rs r Open = IsOpen root (mark_in rs) r.table
-IsPlace root rs r Holdout = IsHoldout rs r.table × IsSome (ending_by r.claim)
-IsPlace root rs r Elsewhere = IsElsewhere root rs r.table
+abbrev pub IsFooting : Packed → List Recorded → Recorded → Footing → Type 0
+IsFooting root rs r Known = IsKnown rs r
+IsFooting root rs r Open = IsOpen root (mark_in rs) r.table
+IsFooting root rs r Holdout = IsHoldout rs r.table × IsSome (ending_by r.claim)
+IsFooting root rs r Elsewhere = IsElsewhere root rs r.table
 
 -- by the verdict that is held and the one that is offered
-abbrev pub place_by : Option Ending → Option Ending → Place
-place_by (Some v) offered = Known
-place_by None (Some v) = Holdout
-place_by None None = Known
+abbrev pub footing_by : Option Ending → Option Ending → Footing
+footing_by (Some v) offered = Known
+footing_by None (Some v) = Holdout
+footing_by None None = Known
 
 -- why a record that is judged isn't taken: its claim is refused, or memory
 abbrev pub IsWhyRefused : OfferFault → Recorded → Type 0

@@ -2,7 +2,7 @@ use Rattle.std.proofs.Common.{arith, ◌≡◌, ◌-◌, subst, ap, ℕ, List, [
 use Rattle.std.specs.Prelude.{replicate}
 use Rattle.std.proofs.lemmas.Result.{on_ok_weaker, IfErr-weaker, err_from_is_err_and}
 use Rattle.cmd_nodes.specs.Rounds.{events_of_round}
-use Rattle.wire.specs.Carried.{Handed, scene}
+use Rattle.wire.specs.Fulfilled.{Handed, scene}
 use Rattle.wire.specs.Happening.{Happening, Ticked, Worked}
 use Rattle.wire.proofs.Replies.{handed_more}
 use Rattle.cmd_nodes.proofs.WorkTurns.{works_next}

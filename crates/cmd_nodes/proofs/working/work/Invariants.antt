@@ -1,7 +1,7 @@
 use Rattle.std.proofs.Common.{[], ◌∷◌, ◌++◌}
 use Rattle.std.specs.Prelude.{IfSome, replicate}
 use Rattle.cmd_nodes.specs.Rounds.{events_of_round}
-use Rattle.wire.specs.Carried.{Handed, scene}
+use Rattle.wire.specs.Fulfilled.{Handed, scene}
 use Rattle.wire.specs.Happening.{Ticked, Worked}
 use Rattle.cmd_nodes.proofs.working.work.Given as goal
 

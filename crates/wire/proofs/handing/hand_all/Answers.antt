@@ -1,6 +1,6 @@
 use Rattle.std.proofs.Common.{◌∙◌, sym, subst, ap, List}
 use Rattle.std.proofs.lemmas.Result.{err_from_is_err_and}
-use Rattle.wire.specs.Carried.{Handed, scene}
+use Rattle.wire.specs.Fulfilled.{Handed, scene}
 use Rattle.text.specs.Lines.{BoundedLine}
 use Rattle.wire.specs.Lines.{Stream, known}
 use Rattle.wire.specs.Turned.{event_of, events_of}

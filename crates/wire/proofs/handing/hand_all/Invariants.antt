@@ -1,6 +1,6 @@
 use Rattle.std.proofs.Common.{◌≡◌, length}
 use Rattle.std.specs.Prelude.{IfSome}
-use Rattle.wire.specs.Carried.{Handed, scene}
+use Rattle.wire.specs.Fulfilled.{Handed, scene}
 use Rattle.wire.specs.Turned.{events_of}
 use Rattle.wire.proofs.handing.hand_all.Given as goal
 

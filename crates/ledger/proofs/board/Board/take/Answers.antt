@@ -9,7 +9,7 @@ use Rattle.ledger.specs.Contents.{Contents, IsBoard}
 use Rattle.ledger.specs.inside.Stored.{records_of}
 use Rattle.ledger.specs.inside.Counting.{with_shown}
 use Rattle.ledger.specs.inside.Open.{IsOpener}
-use Rattle.ledger.specs.inside.Carrying.{taking_change, AreCarried, ChainMayChange}
+use Rattle.ledger.specs.inside.Changing.{taking_change, AreChanged, ChainMayChange}
 use Rattle.ledger.specs.declared.stored_record.StoredRecord.{StoredRecord}
 use Rattle.ledger.specs.declared.tree_count.TreeChange.{TreeChange}
 use Rattle.ledger.proofs.Boards.{next_place, numbers_fit, stored_more, records_more}
@@ -42,9 +42,9 @@ invariant_of-self-in_err-open_children c =
     let now = subst (λ (l : List (Packed × StoredRecord)). IsStored c.self.inside.root l c.self.inside.open_tables c.self.inside.counts) (sym c.in_ok-reserve.ensures.entries) c.self.invariant in
     (now.0, same_map c.self.inside.open_tables c.open_children.new.tables _ _ c.in_err-open_children.ensures.err now.1, now.2, now.3, now.4)
 
-pub carry_up-requires-clause-there : goal.carry_up-requires-clause-there
+pub change_chain-requires-clause-there : goal.change_chain-requires-clause-there
 unfolding same_table
-carry_up-requires-clause-there c =
+change_chain-requires-clause-there c =
     let root = c.self.inside.root in
     let es = c.reserve.new.self.entries in
     let r = as_lent c.args.r.now.table c.lent.result in
@@ -59,9 +59,9 @@ carry_up-requires-clause-there c =
     (c.in_ok-stored.ensures.tree ∙ c.first.ensures) c.in-Ok.ensures.entries (c.in_ok-place.ensures.is ∙ many) c.in_ok-place.ensures.small in
     ready_there root (records_of es) c.insert.new.self.entries r c.in_ok-place.place ready
 
-pub carry_up-requires-clause-earlier : goal.carry_up-requires-clause-earlier
+pub change_chain-requires-clause-earlier : goal.change_chain-requires-clause-earlier
 unfolding same_table
-carry_up-requires-clause-earlier c =
+change_chain-requires-clause-earlier c =
     let root = c.self.inside.root in
     let es = c.reserve.new.self.entries in
     let r = as_lent c.args.r.now.table c.lent.result in
@@ -76,9 +76,9 @@ carry_up-requires-clause-earlier c =
     (c.in_ok-stored.ensures.tree ∙ c.first.ensures) c.in-Ok.ensures.entries (c.in_ok-place.ensures.is ∙ many) c.in_ok-place.ensures.small in
     ready_earlier root (records_of es) c.insert.new.self.entries r c.in_ok-place.place ready
 
-pub carry_up-requires-clause-room : goal.carry_up-requires-clause-room
+pub change_chain-requires-clause-room : goal.change_chain-requires-clause-room
 unfolding same_table
-carry_up-requires-clause-room c =
+change_chain-requires-clause-room c =
     let root = c.self.inside.root in
     let es = c.reserve.new.self.entries in
     let r = as_lent c.args.r.now.table c.lent.result in
@@ -126,8 +126,8 @@ invariant_of-self-2 c =
     ∙ ap (taking_change c.child_count-opened.result (ending_by r.claim)) c.ones-score.ensures) in
     rw (c.with-self-inside.ensures, c.ending-shown.ensures, c.ones-score.ensures)
     (taking_carried root es c.insert.new.self.entries r c.in_ok-place.place now.0 ready c.child_count-opened.result c.child_count-opened.ensures.number
-    c.carry_up.new.records.entries c.remove.new.self (with_shown c.self.inside.counts (ending_by r.claim) (score_by r.claim)) open_now certified.1
-    (subst (λ (h : TreeChange). AreCarried h c.insert.new.self.entries c.in_ok-place.place c.carry_up.new.records.entries) change c.carry_up.ensures.carried) c.carry_up.ensures.length
+    c.change_chain.new.records.entries c.remove.new.self (with_shown c.self.inside.counts (ending_by r.claim) (score_by r.claim)) open_now certified.1
+    (subst (λ (h : TreeChange). AreChanged h c.insert.new.self.entries c.in_ok-place.place c.change_chain.new.records.entries) change c.change_chain.ensures.changed) c.change_chain.ensures.length
     (stored_more root es c.insert.new.self.entries r c.in_ok-stored.stored c.in_ok-place.place c.self.inside.open_tables c.open_children.new.tables c.remove.new.self c.self.inside.counts
     (now.0, now.1, now.2, now.3) open_now certified.0 certified.1 (sym c.lent.ensures) (lent_pair c.args.r.now.table c.in_ok-stored.stored c.lent.result c.lent.ensures c.in_ok-stored.ensures.pair) c.in-Ok.ensures.entries (c.in_ok-place.ensures.is ∙ many)
     c.in_ok-open_children.ensures.ok c.in_ok-open_children.ensures.others c.in_ok-open_children.ensures.children c.in_ok-open_children.ensures.none
@@ -151,7 +151,7 @@ returns-clause-ok c =
     let before = ap records_of c.in_ok-reserve.ensures.entries ∙ ap (λ (b : Contents). b.records) c.self.view_is in (
       refl,
       record { is_open = c.requires.is_open; certified = c.in_ok-stored.ensures.certified },
-      ready_records root (records_of es) c.insert.new.self.entries r c.in_ok-place.place ready c.of_taking.result c.carry_up.new.records.entries c.carry_up.ensures.carried c.carry_up.ensures.length
+      ready_records root (records_of es) c.insert.new.self.entries r c.in_ok-place.place ready c.of_taking.result c.change_chain.new.records.entries c.change_chain.ensures.changed c.change_chain.ensures.length
           ∙ (records_more es c.insert.new.self.entries r c.in_ok-stored.stored (sym c.lent.ensures) (unmarked _ open_now.unmarked) c.in-Ok.ensures.entries
           ∙ (ap (λ (l : List Recorded). l ++ (r ∷ [])) before
           ∙ ap (λ (x : Recorded). c.args.self.now.records ++ (x ∷ [])) (lent_is (recorded c.args.r.now) c.in_ok-stored.stored c.lent.result c.lent.ensures c.in_ok-stored.ensures.claim))),

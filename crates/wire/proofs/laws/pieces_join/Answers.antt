@@ -1,5 +1,0 @@
-use Rattle.wire.proofs.Cutting.{fed_twice}
-use Rattle.wire.proofs.laws.pieces_join.Goals as goal
-
-pub returns : goal.returns
-returns c = fed_twice

@@ -5,18 +5,20 @@ use Rattle.std.proofs.Math.Seq.{drop-cons}
 use Rattle.std.specs.Prelude.{MatchOption}
 use Rattle.machine_text.specs.Packed.{Packed}
 use Rattle.cert.specs.Claim.{Claim, NoClaim}
-use Rattle.cert.specs.Kinds.{owned_claim}
-use Rattle.cert.specs.declared.record.OwnedRecord.{OwnedRecord}
+use Rattle.cert.specs.Kinds.{owned_claim, owned_recorded}
+use Rattle.cert.specs.declared.deciding.Decided.{Decided}
+use Rattle.cert.specs.Certified.{IsShownBy}
 use Rattle.cert.specs.Asking.{ShowsVerdict, Answered}
 
 -- what comes of one finder
-abbrev OfOne : Packed → Option Claim → Option OwnedRecord → Type 0
-OfOne p given o = MatchOption o (ShowsVerdict p given → ⊥) (λ r. (r.table ≡ p) × ShowsVerdict p given × (given ≡ Some (owned_claim r.certificate)))
+abbrev OfOne : Packed → Option Claim → Option Decided → Type 0
+OfOne p given o = MatchOption o (ShowsVerdict p given → ⊥) (λ d. (d.record.table ≡ p) × IsShownBy (owned_recorded d.record) d.judged
+    × ShowsVerdict p given × (given ≡ Some (owned_claim d.record.certificate)))
 
-pub one_taken : (p : Packed) (given : Option Claim) (o : Option OwnedRecord) (r : OwnedRecord) → o ≡ Some r → OfOne p given o → ShowsVerdict p given × (given ≡ Some (owned_claim r.certificate))
-one_taken p given o r is one = let made = subst (OfOne p given) is one in (made.1, made.2)
+pub one_taken : (p : Packed) (given : Option Claim) (o : Option Decided) (d : Decided) → o ≡ Some d → OfOne p given o → ShowsVerdict p given × (given ≡ Some (owned_claim d.record.certificate))
+one_taken p given o d is one = let made = subst (OfOne p given) is one in (made.2.1, made.2.2)
 
-pub one_left : (p : Packed) (given : Option Claim) (o : Option OwnedRecord) → o ≡ None → OfOne p given o → ShowsVerdict p given → ⊥
+pub one_left : (p : Packed) (given : Option Claim) (o : Option Decided) → o ≡ None → OfOne p given o → ShowsVerdict p given → ⊥
 one_left p given o is one = subst (OfOne p given) is one
 
 module _ {F : Type 0} (gives : F → Option Claim → Type 0) (p : Packed) where

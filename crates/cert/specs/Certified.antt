@@ -1,4 +1,4 @@
--- When a record is certified, why its certificate is refused, and the pair on which its table halts.
+-- When a record is certified, why its certificate is refused, and what it shows where it stands.
 use Rattle.std.specs.Prelude.{◌≡◌, ℕ, ◌<◌, Option, Some, None}
 use Rattle.machine_text.specs.Packed.{Packed, entry_of}
 use Rattle.machine_text.specs.declared.transition.Pair.{Pair}
@@ -7,7 +7,8 @@ use Rattle.kind_evidence.specs.declared.verdicts.Ending.{Ending}
 use Rattle.kind_evidence.specs.declared.verdicts.Ending.TheVariants.{Halts, Never}
 use Rattle.kind_evidence.specs.declared.verdicts.Refused.{Refused}
 use Rattle.kind_evidence.specs.declared.verdicts.Refused.TheVariants.{Fails, TooLong, TooWide, NoMemory}
-use Rattle.cert.specs.Claim.{Recorded, IsWithin, IsWide, Stands}
+use Rattle.cert.specs.Claim.{Recorded, IsWithin, IsWide, Stands, ending_by, shown_by}
+use Rattle.cert.specs.declared.judgement.Judged.{Judged}
 
 -- what is claimed stands, within the limits; where nothing is claimed nothing has to
 pub record IsCertified (r : Recorded) : Type 0 where
@@ -33,3 +34,9 @@ IsPairOf (Some (Halts k)) t (Some pair) = HaltsOnPair t k pair
 IsPairOf (Some (Halts k)) t None = ⊥
 IsPairOf (Some Never) t pair = pair ≡ None
 IsPairOf None t pair = pair ≡ None
+
+-- a record is certified, and its claim shows this verdict, with this pair
+pub record IsShownBy (r : Recorded) (judged : Judged) : Type 0 where
+  pub certified : IsCertified r
+  pub verdict : judged.verdict ≡ shown_by r.claim r.table
+  pub pair : IsPairOf (ending_by r.claim) r.table judged.halts_on

@@ -1,17 +1,26 @@
 // From finders to a record that is certified.
-ghost use Rattle.std.specs.Prelude.{◌≡◌, ◌↔◌, IsTrue, Option, Some, IfOk, MatchOption};
+ghost use Rattle.std.specs.Prelude.{◌≡◌, Option, Some, IfOk, MatchOption};
 ghost use Rattle.cert.specs.Asking.{Answered, ShowsVerdict};
-ghost use Rattle.cert.specs.Certified.{IsCertified};
+ghost use Rattle.cert.specs.Certified.{IsCertified, IsShownBy};
 ghost use Rattle.cert.specs.Claim.{Claim};
 ghost use Rattle.cert.specs.Kinds.{owned_claim, owned_recorded};
 
 use crate::certificate::OwnedCertificate;
 use crate::finder::Finder;
-use crate::judgement::judge;
+use crate::judgement::{Judged, judge_on};
 use crate::record::{OwnedRecord, Record};
 use kind_evidence::{NoMemory, Refused};
 use machine_text::Table;
 use std::alloc::Global;
+
+/// A record that is certified, with what its certificate shows of the table.
+#[derive(Drop)]
+pub struct Decided {
+    /// The record.
+    pub record: OwnedRecord,
+    /// What it shows: who takes the record needn't judge it again.
+    pub judged: Judged,
+}
 
 /// A record of the table with the first certificate that stands of those that the finders give, asked in
 /// their order; undecided where none does. Each certificate is judged, whatever finder gave it, and none
@@ -28,27 +37,50 @@ pub fn decide<F: Finder>(
     ensures order { IfOk result (λ r. Answered (λ f claim. F.gives f t.now budget claim) t.now finders.old
         (owned_claim r.certificate)) }
 {
+    let decided = decide_judged(alloc, finders, t, budget)?;
+    Ok(decided.record)
+}
+
+/// Decides as `decide` does, and answers what was judged with the record, so that nothing is run or judged twice.
+pub fn decide_judged<F: Finder>(
+    alloc: Global,
+    finders: &mut [F],
+    t: &Table,
+    budget: u64,
+) -> Result<Decided, NoMemory>
+    ensures table { IfOk result (λ d. d.record.table ≡ t.now) }
+    ensures shown { IfOk result (λ d. IsShownBy (owned_recorded d.record) d.judged) }
+    ensures order { IfOk result (λ d. Answered (λ f claim. F.gives f t.now budget claim) t.now finders.old
+        (owned_claim d.record.certificate)) }
+{
     for finder in finders.iter_mut() {
-        if let Some(record) = taken(alloc, finder, t, budget)? {
-            return Ok(record);
+        if let Some(decided) = taken(alloc, finder, t, budget)? {
+            return Ok(decided);
         }
     }
-    Ok(OwnedRecord {
-        table: *t,
-        certificate: OwnedCertificate::Undecided,
+    Ok(Decided {
+        record: OwnedRecord {
+            table: *t,
+            certificate: OwnedCertificate::Undecided,
+        },
+        judged: Judged {
+            verdict: None,
+            halts_on: None,
+        },
     })
 }
 
-// The record of what a finder gives for a table, if it claims something and stands.
+// What a finder gives for a table, judged, if it claims something and stands.
 fn taken<F: Finder>(
     alloc: Global,
     finder: &mut F,
     t: &Table,
     budget: u64,
-) -> Result<Option<OwnedRecord>, NoMemory>
+) -> Result<Option<Decided>, NoMemory>
     ensures { IfOk result (λ o. (given : Option Claim) × F.gives finder.old t.now budget given
-        × MatchOption o (ShowsVerdict t.now given → ⊥)
-        (λ r. (r.table ≡ t.now) × ShowsVerdict t.now given × (given ≡ Some (owned_claim r.certificate)))) }
+        × MatchOption o (ShowsVerdict t.now given → ⊥) (λ d. (d.record.table ≡ t.now)
+        × IsShownBy (owned_recorded d.record) d.judged
+        × ShowsVerdict t.now given × (given ≡ Some (owned_claim d.record.certificate)))) }
 {
     match finder.find(t, budget)? {
         Some(certificate) => {
@@ -56,30 +88,30 @@ fn taken<F: Finder>(
                 table: *t,
                 certificate,
             };
-            if is_decided(alloc, &record)? {
-                Ok(Some(record))
-            } else {
-                Ok(None)
+            match judged_of(alloc, &record)? {
+                Some(judged) => Ok(Some(Decided { record, judged })),
+                None => Ok(None),
             }
         }
         None => Ok(None),
     }
 }
 
-// Whether a record claims something, and that stands.
-fn is_decided(alloc: Global, r: &OwnedRecord) -> Result<bool, NoMemory>
-    ensures { IfOk result (λ decided. IsTrue decided
-        ↔ ShowsVerdict r.now.table (Some (owned_claim r.now.certificate))) }
+// What a record shows, if it claims something and that stands.
+fn judged_of(alloc: Global, r: &OwnedRecord) -> Result<Option<Judged>, NoMemory>
+    ensures { IfOk result (λ o. MatchOption o (ShowsVerdict r.now.table (Some (owned_claim r.now.certificate)) → ⊥)
+        (λ judged. IsShownBy (owned_recorded r.now) judged
+        × ShowsVerdict r.now.table (Some (owned_claim r.now.certificate)))) }
 {
     // The parts by their names: the borrow checker's proof has to know of what the record is made.
     let record = Record {
         table: r.table,
         certificate: r.certificate.lent(),
     };
-    match judge(alloc, &record) {
-        Ok(verdict) => Ok(verdict.is_some()),
+    match judge_on(alloc, &record) {
+        Ok(judged) => Ok(judged.verdict.is_some().then_some(judged)),
         Err(Refused::NoMemory) => Err(NoMemory),
-        Err(_) => Ok(false),
+        Err(_) => Ok(None),
     }
 }
 
@@ -87,7 +119,7 @@ fn is_decided(alloc: Global, r: &OwnedRecord) -> Result<bool, NoMemory>
 pub trait Decider {
     ghost use Rattle.std.specs.Prelude.{◌≡◌, IfOk};
     ghost use Rattle.machine_text.specs.Packed.{Packed};
-    ghost use Rattle.cert.specs.Certified.{IsCertified};
+    ghost use Rattle.cert.specs.Certified.{IsCertified, IsShownBy};
     ghost use Rattle.cert.specs.Claim.{Recorded};
     ghost use Rattle.cert.specs.Kinds.{owned_recorded};
 
@@ -100,6 +132,12 @@ pub trait Decider {
         ensures table { IfOk result (λ r. r.table ≡ t.now) }
         ensures certified { IfOk result (λ r. IsCertified (owned_recorded r)) }
         ensures answers { IfOk result (λ r. answers self.old t.now (owned_recorded r)) };
+
+    /// A record as `decide` answers it, with what was judged, so that who takes it needn't judge it again.
+    fn decide_judged(&mut self, alloc: Global, t: &Table) -> Result<Decided, NoMemory>
+        ensures table { IfOk result (λ d. d.record.table ≡ t.now) }
+        ensures shown { IfOk result (λ d. IsShownBy (owned_recorded d.record) d.judged) }
+        ensures answers { IfOk result (λ d. answers self.old t.now (owned_recorded d.record)) };
 }
 
 /// Finders in the order in which they are asked, with the budget that each is given.
@@ -129,5 +167,9 @@ impl<F: Finder> Decider for Finders<F> {
 
     fn decide(&mut self, alloc: Global, t: &Table) -> Result<OwnedRecord, NoMemory> {
         decide(alloc, &mut self.finders, t, self.budget)
+    }
+
+    fn decide_judged(&mut self, alloc: Global, t: &Table) -> Result<Decided, NoMemory> {
+        decide_judged(alloc, &mut self.finders, t, self.budget)
     }
 }

@@ -22,7 +22,7 @@ mod scoring;
 
 pub use appending::append_table;
 pub use certificate::{Certificate, OwnedCertificate};
-pub use deciding::{Decider, Finders, decide};
+pub use deciding::{Decided, Decider, Finders, decide, decide_judged};
 pub use finder::Finder;
 pub use judgement::{Judged, judge, judge_on};
 pub use kind_evidence::NoMemory;

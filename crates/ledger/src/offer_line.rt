@@ -1,7 +1,7 @@
 // An offer together with the line that a ledger gains by it.
 ghost use Rattle.std.specs.Prelude.{◌≡◌, ◌++◌, IfErr, IfOk, take, length};
 ghost use Rattle.law_tree.specs.Closed.{IsComplete};
-ghost use Rattle.cert.specs.Certified.{IsCertified};
+ghost use Rattle.cert.specs.Certified.{IsCertified, IsShownBy};
 ghost use Rattle.cert.specs.Kinds.{recorded};
 ghost use Rattle.ledger.specs.Records.{mark_in};
 ghost use Rattle.ledger.specs.Offers.{IsJudged, OfferGives};
@@ -44,6 +44,24 @@ impl Board {
         ensures complete { IsComplete self.old.root (mark_in self.old.records) → self.new.records ≡ self.old.records }
     {
         self.put_line(r, Judging::Done, out)
+    }
+
+    /// Offers a record that was judged, as a decider answers it with what it shows, as `offer_certified_line` does: nothing is
+    /// run again.
+    pub fn offer_judged_line(
+        &mut self,
+        r: &Record,
+        judged: Judged,
+        out: &mut Vec<u8>,
+    ) -> Result<Taken, OfferFault>
+        requires { IsShownBy (recorded r.now) judged }
+        ensures gives { OfferGives self.old.root self.old.records (recorded r.now) result self.new.records }
+        ensures line { out.new.items ≡ out.old.items ++ gained_line self.old.format (recorded r.now) result }
+        ensures root { self.new.root ≡ self.old.root }
+        ensures format { self.new.format ≡ self.old.format }
+        ensures complete { IsComplete self.old.root (mark_in self.old.records) → self.new.records ≡ self.old.records }
+    {
+        self.put_line(r, Judging::Seen(judged), out)
     }
 
     // Offers a record and appends its line, by whether the record is yet to be judged.

@@ -1,5 +1,5 @@
 use Rattle.cert.proofs.Asked.{IsAskedTo}
-use Rattle.cert.proofs.deciding.decide.Given as goal
+use Rattle.cert.proofs.deciding.decide_judged.Given as goal
 
 abbrev pub invariant-loop-finder : goal.invariant-loop-finder
 invariant-loop-finder g l =

@@ -35,8 +35,7 @@ IsPairOf (Some (Halts k)) t None = ⊥
 IsPairOf (Some Never) t pair = pair ≡ None
 IsPairOf None t pair = pair ≡ None
 
--- a record is certified, and its claim shows this verdict, with this pair
-pub record IsShownBy (r : Recorded) (judged : Judged) : Type 0 where
-  pub certified : IsCertified r
-  pub verdict : judged.verdict ≡ shown_by r.claim r.table
-  pub pair : IsPairOf (ending_by r.claim) r.table judged.halts_on
+-- a record is certified, and this is the verdict that its claim shows, with its pair
+abbrev pub IsShownBy : Recorded → Judged → Type 0
+IsShownBy r judged = IsCertified r × (judged.verdict ≡ shown_by r.claim r.table)
+    × IsPairOf (ending_by r.claim) r.table judged.halts_on

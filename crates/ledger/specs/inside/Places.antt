@@ -38,5 +38,4 @@ IsWhyRefused NoMemory r = Unit {0}
 abbrev pub IsJudgedSo : Judging → Recorded → Type 0
 IsJudgedSo Due r = Unit {0}
 IsJudgedSo Done r = IsCertified r
-IsJudgedSo (Seen judged) r = IsCertified r × (judged.verdict ≡ shown_by r.claim r.table)
-    × IsPairOf (ending_by r.claim) r.table judged.halts_on
+IsJudgedSo (Seen judged) r = IsShownBy r judged

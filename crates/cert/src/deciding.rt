@@ -4,6 +4,7 @@ ghost use Rattle.cert.specs.Asking.{Answered, ShowsVerdict};
 ghost use Rattle.cert.specs.Certified.{IsCertified, IsShownBy};
 ghost use Rattle.cert.specs.Claim.{Claim};
 ghost use Rattle.cert.specs.Kinds.{owned_claim, owned_recorded};
+ghost use Rattle.cert.specs.Scored.{with_score};
 
 use crate::certificate::OwnedCertificate;
 use crate::finder::Finder;
@@ -20,6 +21,23 @@ pub struct Decided {
     pub record: OwnedRecord,
     /// What it shows: who takes the record needn't judge it again.
     pub judged: Judged,
+}
+
+impl Decided {
+    /// Gives the record its table's score, where it says that the table halts: nothing is run.
+    pub fn scored(self) -> Decided
+        requires { IsShownBy (owned_recorded self.record) self.judged }
+        ensures record { owned_recorded result.record ≡ with_score (owned_recorded self.record) }
+        ensures shown { IsShownBy (owned_recorded result.record) result.judged }
+    {
+        Decided {
+            record: OwnedRecord {
+                table: self.record.table,
+                certificate: self.record.certificate.with_score(self.judged.verdict),
+            },
+            judged: self.judged,
+        }
+    }
 }
 
 /// A record of the table with the first certificate that stands of those that the finders give, asked in

@@ -32,8 +32,8 @@ WritesPicture d None held new_held = new_held ≡ held
 WritesPicture d (Some t) held new_held = (picture : List ℕ) × IsPicture d t picture × Appends held new_held picture
 
 -- a reader is read to its end; the picture of the first table is written, and what is said to the lines beside it
-pub record DrawsFirst (d : Drawing) (read new_read held new_held said new_said : Option (List ℕ)) (o : Outcome) : Type 0
-    where
+pub record DrawsFirst (d : Drawing) (read new_read held new_held said new_said : Option (List ℕ))
+    (o : Outcome) : Type 0 where
   pub first : First
   pub takes : TakesStream Picks (record { table = None }) first read new_read said new_said o
   pub writes : WritesPicture d first.table held new_held

@@ -34,7 +34,7 @@ pub use ledger_report::{
     cmd_report, cmd_report_stream, outcome_by, report_at, report_board, report_ledger,
     report_stream,
 };
-pub use merge::{cmd_merge, merge_of, merge_into, merge_at};
+pub use merge::{cmd_merge, merge_at, merge_into, merge_of};
 pub use reading::{MAX_HEADER_BYTES, begin_reading, load_from};
 pub use report_form::{AsLines, ReportForm, write_report, write_told};
 pub use report_writer::{LineReport, pass};

@@ -1,6 +1,6 @@
 // `bb retry`: the holdouts of a ledger are tried again.
 ghost use Rattle.std.specs.Prelude.{◌≡◌, ◌≢◌, ◌⊎◌, Err, IfErr, IfOk, IfSome, OnOk, Result};
-ghost use Rattle.cert.specs.Certified.{IsCertified};
+ghost use Rattle.cert.specs.Certified.{IsShownBy};
 ghost use Rattle.cert.specs.Claim.{ending_by};
 ghost use Rattle.cert.specs.Kinds.{recorded};
 ghost use Rattle.ledger.specs.Held.{IsHoldout};
@@ -15,7 +15,7 @@ use crate::going_on::{cut_off, load_held, open_held};
 use crate::ledger_changes::append_to;
 use crate::ledger_report::report_board;
 use crate::report_form::AsLines;
-use cert::{Decider, Record};
+use cert::{Decider, Judged, Record};
 use cmd_options::{Ended, LedgerFile, Outcome, told};
 use files::{Files, Opened, ledger_at, lock_ledger};
 use ledger::{Board, Left, Taken};
@@ -152,23 +152,24 @@ fn retry<L: LedgerOut, D: Decider>(
     ensures works { OnOk result (L.failures ledger.new ≡ L.failures ledger.old) }
     ensures failed { result ≡ Err Ended.Ledger → L.failures ledger.old ≢ L.failures ledger.new }
 {
-    let made = decider.decide(alloc, t)?;
+    let made = decider.decide_judged(alloc, t)?;
     let record = Record {
-        table: made.table,
-        certificate: made.certificate.lent(),
+        table: made.record.table,
+        certificate: made.record.certificate.lent(),
     };
-    take(alloc, board, &record, ledger)
+    take(alloc, board, &record, made.judged, ledger)
 }
 
-// Offers a certified record of a holdout, and appends its line where it is taken.
+// Offers a judged record of a holdout, and appends its line where it is taken.
 fn take<L: LedgerOut>(
     alloc: Global,
     board: &mut Board,
     r: &Record,
+    judged: Judged,
     ledger: &mut L,
 ) -> Result<(), Ended>
     requires holdout { IsHoldout board.old.records (recorded r.now).table }
-    requires certified { IsCertified (recorded r.now) }
+    requires shown { IsShownBy (recorded r.now) judged }
     ensures root { board.new.root ≡ board.old.root }
     ensures format { board.new.format ≡ board.old.format }
     ensures step { OnOk result (StaysInStep board.old (L.text ledger.old) board.new (L.text ledger.new)) }
@@ -184,24 +185,24 @@ fn take<L: LedgerOut>(
     // The proof needs that it is a board.
     let _ = board.root();
     let mut line = Vec::new(alloc);
-    if !gains(board, r, &mut line)? {
+    if !gains(board, r, judged, &mut line)? {
         return Ok(());
     }
     append_to(ledger, &line)
 }
 
-// Offers a certified record of a holdout, and answers whether it is taken. Where it is, its line is appended, with its
+// Offers a judged record of a holdout, and answers whether it is taken. Where it is, its line is appended, with its
 // score in version 2.
-fn gains(board: &mut Board, r: &Record, line: &mut Vec<u8>) -> Result<bool, Ended>
+fn gains(board: &mut Board, r: &Record, judged: Judged, line: &mut Vec<u8>) -> Result<bool, Ended>
     requires holdout { IsHoldout board.old.records (recorded r.now).table }
-    requires certified { IsCertified (recorded r.now) }
+    requires shown { IsShownBy (recorded r.now) judged }
     ensures root { board.new.root ≡ board.old.root }
     ensures format { board.new.format ≡ board.old.format }
     ensures ok { IfOk result (λ gained. ResolvesOrStays board.old.format (recorded r.now) gained board.old.records
         line.old.items board.new.records line.new.items) }
     ensures err { IfErr result (λ e. (e ≡ Ended.NoMemory) × (board.new.records ≡ board.old.records)) }
 {
-    match board.offer_certified_line(r, line) {
+    match board.offer_judged_line(r, judged, line) {
         Ok(Taken::Settled) => Ok(true),
         // for an open table alone
         Ok(Taken::New) => Ok(true),

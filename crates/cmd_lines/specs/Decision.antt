@@ -13,8 +13,8 @@ use Rattle.cmd_options.specs.declared.outcome.Outcome.{Outcome}
 use Rattle.cmd_options.specs.declared.outcome.Outcome.TheVariants.{Accepted, Refused}
 
 -- a record of the table that the decider answers, whose certificate stands within the limits, or claims nothing
-pub record DecidesTable (Answers : Packed → Recorded → Type 0) (t : Packed) (o : Outcome) (answer : List ℕ) : Type 0
-    where
+pub record DecidesTable (Answers : Packed → Recorded → Type 0) (t : Packed) (o : Outcome)
+    (answer : List ℕ) : Type 0 where
   pub decided : Recorded
   pub asked : Answers t decided
   pub table : decided.table ≡ t

@@ -47,8 +47,8 @@ StartsInStep remaining (Ok opened) old new c = IsOfLedger (remaining opened.read
 StartsInStep remaining (Err fault) old new c = Unit {0}
 
 -- the report of a board is written in a form, and the outcome is by how the board stands
-pub record ReportsBoard (IsText : FormText) (board : Contents) (held new_held : Option (List ℕ)) (o : Outcome) : Type 0
-    where
+pub record ReportsBoard (IsText : FormText) (board : Contents) (held new_held : Option (List ℕ))
+    (o : Outcome) : Type 0 where
   pub is_board : IsBoard board
   pub status : Status
   pub stands : IsStatus board.root board.records status

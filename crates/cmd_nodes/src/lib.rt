@@ -6,8 +6,8 @@
 //! `specs/Settled` what is printed of the board to which a tree is settled.
 #![tactic(auto)]
 
-mod couriers;
 mod coord;
+mod couriers;
 mod faults;
 mod held_ledger;
 mod loop_command;

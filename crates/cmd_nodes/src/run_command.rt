@@ -7,8 +7,8 @@ ghost use Rattle.cmd_options.specs.declared.outcome.Outcome.{Outcome as Outcomes
 ghost use Rattle.cmd_nodes.specs.Settled.{KeepsLedger, SettlesTree, TellsTree};
 ghost use Rattle.cmd_nodes.specs.inside.{IsServed};
 
-use crate::couriers::{Couriers, InMemory};
 use crate::coord::start_coordinator;
+use crate::couriers::{Couriers, InMemory};
 use crate::reporting::report_board;
 use crate::rounds::run_rounds;
 use crate::station::Station;

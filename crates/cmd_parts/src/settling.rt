@@ -1,7 +1,7 @@
 // Open tables are settled, and their records' lines appended to the ledger.
 ghost use Rattle.std.specs.Prelude.{◌≡◌, ◌≢◌, ◌≤◌, ◌<◌, ◌+◌, ◌^◌, ◌++◌, IfOk, IfErr, IfSome, IfNone, OnOk, OnErr, Err, filter, length};
 ghost use Rattle.machine_text.specs.Packed.{Packed};
-ghost use Rattle.cert.specs.Certified.{IsCertified};
+ghost use Rattle.cert.specs.Certified.{IsShownBy};
 ghost use Rattle.cert.specs.Kinds.{recorded};
 ghost use Rattle.ledger.specs.Contents.{IsOpenOn};
 ghost use Rattle.ledger.specs.Held.{IsFit};
@@ -11,7 +11,7 @@ ghost use Rattle.cmd_ledgers.specs.Retry.{AtSomeTime, StaysInStep, gained};
 ghost use Rattle.cmd_parts.specs.Settling.{ComesFirst, EndsAtOne, EndsSettling, IsOpenBelow, SettlesMany, SettlesOne, filled_count, with_last};
 ghost use Rattle.cmd_parts.specs.inside.{is_below};
 
-use cert::{Decider, Record};
+use cert::{Decider, Judged, Record};
 use cmd_options::Ended;
 use files::Progress;
 use kind_evidence::NoMemory;
@@ -162,27 +162,27 @@ fn settle<L: LedgerOut, D: Decider>(
 {
     // The proof needs that it is a board.
     let _ = board.root();
-    let made = decider.decide(alloc, t)?;
+    let made = decider.decide_judged(alloc, t)?;
     // The parts by their names: the borrow checker's proof has to know of what the record is made.
     let record = Record {
-        table: made.table,
-        certificate: made.certificate.lent(),
+        table: made.record.table,
+        certificate: made.record.certificate.lent(),
     };
     let mut line = Vec::new(alloc);
-    take(board, &record, &mut line)?;
+    take(board, &record, made.judged, &mut line)?;
     append_line(ledger, &line)
 }
 
-// Puts a certified record of an open table on a board, and appends its line, with its score in version 2.
-fn take(board: &mut Board, r: &Record, line: &mut Vec<u8>) -> Result<(), NoMemory>
+// Puts a judged record of an open table on a board, and appends its line, with its score in version 2.
+fn take(board: &mut Board, r: &Record, judged: Judged, line: &mut Vec<u8>) -> Result<(), NoMemory>
     requires is_open { IsOpenOn board.old (recorded r.now).table }
-    requires certified { IsCertified (recorded r.now) }
+    requires shown { IsShownBy (recorded r.now) judged }
     ensures fit { OnOk result (IsFit board.old.root board.old.records (recorded r.now)) }
     ensures ok { OnOk result (board.new ≡ with_last board.old (recorded r.now)) }
     ensures line { OnOk result (line.new.items ≡ line.old.items ++ gained board.old.format (recorded r.now)) }
     ensures err { OnErr result (board.new ≡ board.old) }
 {
-    match board.offer_certified_line(r, line) {
+    match board.offer_judged_line(r, judged, line) {
         Ok(Taken::New) => Ok(()),
         Ok(Taken::Known) | Ok(Taken::Settled) => unreachable!(),
         // its table is open and it is certified, so it was memory

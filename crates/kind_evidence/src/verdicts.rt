@@ -58,7 +58,10 @@ impl fmt::Display for Refused {
         match self {
             Refused::Fails => write!(f, "it does not hold for the table"),
             Refused::TooLong => write!(f, "it asks for more than the limit of its kind"),
-            Refused::TooWide => write!(f, "it asks for more paths, or larger numbers, than its check keeps"),
+            Refused::TooWide => write!(
+                f,
+                "it asks for more paths, or larger numbers, than its check keeps"
+            ),
             Refused::NoMemory => write!(f, "out of memory"),
         }
     }

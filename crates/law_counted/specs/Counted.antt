@@ -137,6 +137,10 @@ pub record IsHeldBy (w : CountedSystem) (c : Config) : Type 0 where
   pub left_read : IsHalfRead w.left L c (moved_head c.tape.head L) left
   pub right_read : IsHalfRead w.right R c (moved_head c.tape.head R) right
   pub coset : Coset
-  pub there : HasCoset w (record { left = left.state; state = record { 0 = c.state }; read = symbol_read c.tape;
-      right = right.state }) coset
+  pub there : HasCoset w (record {
+    left = left.state;
+    state = record { 0 = c.state };
+    read = symbol_read c.tape;
+    right = right.state;
+  }) coset
   pub member : IsMember coset (λ x. pos (left.times x + right.times x))

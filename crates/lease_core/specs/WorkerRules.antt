@@ -53,8 +53,15 @@ module _ {D : Type 0} where
 
   -- under a lease of this name, with this board: no record of it is acknowledged, and a former `STOP` is forgotten
   abbrev pub granted : WorkerState D → LeaseName → Option Contents → WorkerState D
-  granted w name board = record { id = w.id; decider = w.decider; board = board; lease = Some name; acknowledged = [];
-      rests = false; stopped = w.stopped }
+  granted w name board = record {
+    id = w.id;
+    decider = w.decider;
+    board = board;
+    lease = Some name;
+    acknowledged = [];
+    rests = false;
+    stopped = w.stopped;
+  }
 
   -- `GRANT`: of a table that doesn't name its states in order; of the root of its board; of another table, whose board is begun
   abbrev pub GrantRow : WorkerState D → LeaseName → Packed → Out → WorkerState D → Type 0

@@ -306,8 +306,8 @@ impl<D: Decider + Drop> Worker<D> {
         let Some(t) = next_table(board) else {
             return Ok(noted(self.alloc, Note::Quiet));
         };
-        let made = self.decider.decide(self.alloc, &t)?;
-        make(self.alloc, board, &made)
+        let made = self.decider.decide_judged(self.alloc, &t)?;
+        make(self.alloc, board, made)
     }
 
     // Something happens.

@@ -1,7 +1,7 @@
 // What a worker does to its board, and asks of it.
 ghost use Rattle.std.specs.List.{list_any};
 ghost use Rattle.std.specs.Prelude.{◌≡◌, ◌<◌, ◌↔◌, ℕ, false, IsTrue, Some, IfSome, IfNone, IfOk, OnOk, OnErr, length};
-ghost use Rattle.cert.specs.Certified.{IsCertified};
+ghost use Rattle.cert.specs.Certified.{IsShownBy};
 ghost use Rattle.cert.specs.Kinds.{owned_recorded, recorded};
 ghost use Rattle.machine_text.specs.Packed.{entry_of};
 ghost use Rattle.law_tree.specs.Used.{InOrder};
@@ -13,7 +13,7 @@ ghost use Rattle.lease_core.specs.WorkerRules.{IsFirstOpen, Makes};
 
 use crate::limits::MAX_WORK_RECORDS;
 use crate::worker_answers::frame_of;
-use cert::{OwnedRecord, Record};
+use cert::{Decided, Judged, Record};
 use indexmap::IndexSet;
 use kind_evidence::NoMemory;
 use ledger::{Board, Taken};
@@ -66,30 +66,28 @@ pub(crate) fn is_recorded(board: &Option<Board>, t: &Table) -> bool
 }
 
 // Puts a record of its first open table on a board, and answers so.
-pub(crate) fn make(alloc: Global, board: &mut Board, made: &OwnedRecord) -> Result<Out, NoMemory>
-    requires first { IsFirstOpen board.old made.now.table }
+pub(crate) fn make(alloc: Global, board: &mut Board, made: Decided) -> Result<Out, NoMemory>
+    requires first { IsFirstOpen board.old made.record.table }
     requires few { length board.old.records < work_record_limit }
-    requires certified { IsCertified (owned_recorded made.now) }
-    ensures ok { IfOk result (λ out. Makes board.old (owned_recorded made.now) out (Some board.new)) }
+    requires shown { IsShownBy (owned_recorded made.record) made.judged }
+    ensures ok { IfOk result (λ out. Makes board.old (owned_recorded made.record) out (Some board.new)) }
     ensures err { OnErr result (board.new ≡ board.old) }
 {
+    let Decided { record, judged } = made.scored();
     // The parts by their names: the borrow checker's proof has to know of what the record is made.
     let r = Record {
-        table: made.table,
-        certificate: made.certificate.lent(),
+        table: record.table,
+        certificate: record.certificate.lent(),
     };
-    match r.scored(alloc) {
-        Ok(scored) => put(alloc, board, &scored),
-        Err(_) => Err(NoMemory),
-    }
+    put(alloc, board, &r, judged)
 }
 
 // Puts a record that has its score. Its frame comes before the offer, and its line with that: once the board has
 // taken the record, nothing may be refused.
-fn put(alloc: Global, board: &mut Board, r: &Record) -> Result<Out, NoMemory>
+fn put(alloc: Global, board: &mut Board, r: &Record, judged: Judged) -> Result<Out, NoMemory>
     requires first { IsFirstOpen board.old r.now.table }
     requires few { length board.old.records < work_record_limit }
-    requires certified { IsCertified (recorded r.now) }
+    requires shown { IsShownBy (recorded r.now) judged }
     requires scored { HasScore (recorded r.now) }
     ensures ok { IfOk result (λ out. Makes board.old (recorded r.now) out (Some board.new)) }
     ensures err { OnErr result (board.new ≡ board.old) }
@@ -98,7 +96,7 @@ fn put(alloc: Global, board: &mut Board, r: &Record) -> Result<Out, NoMemory>
     let _ = board.root();
     let frames = frame_of(alloc, r)?;
     let mut append = Vec::new(alloc);
-    match board.offer_certified_line(r, &mut append) {
+    match board.offer_judged_line(r, judged, &mut append) {
         Ok(Taken::New) => Ok(Out {
             cut: None,
             append,

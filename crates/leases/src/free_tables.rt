@@ -25,8 +25,11 @@ impl Model for FreeTables {
 
     ghost Value = { Free };
 
-    ghost view = { λ a. record { tables = map (λ r. r.0) (heap_items a.heap); room = heap_capacity a.heap - heap_len
-        a.heap } };
+    ghost view = { λ a. record {
+      tables = map (λ r. r.0) (heap_items a.heap);
+      room = heap_capacity a.heap - heap_len
+          a.heap;
+    } };
 
     ghost invariant = { λ a. IsHeap reverse_cmp (heap_items a.heap) };
 }

@@ -19,13 +19,13 @@ use crate::chain::change_chain;
 use crate::children::{child_count, children_on};
 use crate::counts::Counts;
 use crate::faults::{BoardFault, OfferFault};
+use crate::footing::{Footing, recorded_footing};
 use crate::format::Format;
 use crate::index::{
     certificate_for, pair_for, place_and_count_of, place_of, tree_count_of, verdict_in,
 };
 use crate::open::Open;
 use crate::open_tables::{only, open_children, opener_of, opener_place};
-use crate::footing::{Footing, recorded_footing};
 use crate::records::Records;
 use crate::selected::{
     listed_tables, sorted_tables, tables_with, tables_with_ones, undecided_tables,

@@ -10,7 +10,11 @@ use machine_text::Table;
 
 // Changes the numbers of the record at a place and of each on its chain. As a child has fewer
 // undefined pairs than its parent, there are no more of them than a table has pairs.
-pub(crate) fn change_chain(records: &mut IndexMap<Table, StoredRecord>, from: u32, change: TreeChange)
+pub(crate) fn change_chain(
+    records: &mut IndexMap<Table, StoredRecord>,
+    from: u32,
+    change: TreeChange,
+)
     requires there { HasChain records.old.entries from }
     requires earlier { AreEarlier records.old.entries }
     requires room { ChainMayChange records.old.entries from change }

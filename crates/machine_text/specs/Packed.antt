@@ -33,8 +33,12 @@ code_of (Some e) = 16 * symbol_number e.write + 8 * direction_number e.dir + e.n
 abbrev pub coded_entry : ℕ → Option Entry
 coded_entry k =
     if k == 0 then None
-    else Some (record { write = symbol_of ((k - 1) / 16); dir = direction_of ((k - 1) / 8 % 2); next = record
-    { 0 = (k - 1) % 8 } })
+    else Some (record {
+      write = symbol_of ((k - 1) / 16);
+      dir = direction_of ((k - 1) / 8 % 2);
+      next = record
+          { 0 = (k - 1) % 8 };
+    })
 
 -- a table as it is stored: the codes of A0, A1, B0, B1, .., and the number of states
 pub record Packed : Type 0 where

@@ -4,5 +4,11 @@ use Rattle.ngram_cps.specs.Lists.{Lists}
 use Rattle.ngram_cps.specs.declared.owned.OwnedNgram.{OwnedNgram}
 
 abbrev pub owned_lists : OwnedNgram → Lists
-owned_lists o = record { states = o.states; width = o.width; left = take o.left_len o.text.items; right = take
-    o.right_len (drop o.left_len o.text.items); local = drop o.right_len (drop o.left_len o.text.items) }
+owned_lists o = record {
+  states = o.states;
+  width = o.width;
+  left = take o.left_len o.text.items;
+  right = take
+      o.right_len (drop o.left_len o.text.items);
+  local = drop o.right_len (drop o.left_len o.text.items);
+}

@@ -237,7 +237,11 @@ pub(crate) fn gather(
 }
 
 // For how many periods the sections can be visited, if the glider stands before them.
-fn glides_behind(ropes: &mut Ropes, left: &mut Vec<Token>, taken: &[Section]) -> Result<u128, GivenUp>
+fn glides_behind(
+    ropes: &mut Ropes,
+    left: &mut Vec<Token>,
+    taken: &[Section],
+) -> Result<u128, GivenUp>
     requires { RopesBelow (length ropes.old) left.old.items }
     ensures old { RopesAdded ropes.old ropes.new }
     ensures same { OnOk result (SameLeft ropes.old ropes.new left.old.items left.new.items) }

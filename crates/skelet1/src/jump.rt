@@ -5,8 +5,8 @@ ghost use Rattle.skelet1.specs.inside.Tokens.{RopesBelow, JumpsTo};
 
 use crate::answer::Answer;
 use crate::beyond::Beyond;
-use crate::given_up::GivenUp;
 use crate::gather::gather;
+use crate::given_up::GivenUp;
 use crate::glide::glide;
 use crate::plan::plan_visits;
 use crate::rebuild::rebuild;

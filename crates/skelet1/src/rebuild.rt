@@ -12,8 +12,8 @@ ghost use Rattle.skelet1.specs.inside.Tokens.{RopesBelow, tokens_left};
 ghost use Rattle.skelet1.specs.inside.Sections.{SectionRopeBelow, SectionsRopesBelow, Rebuilds, PutsSeparator, sections_left};
 
 use crate::answer::Answer;
-use crate::given_up::GivenUp;
 use crate::gather::put_back;
+use crate::given_up::GivenUp;
 use crate::numbers::sum;
 use crate::ropes::Ropes;
 use crate::section::Section;

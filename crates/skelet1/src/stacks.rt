@@ -178,7 +178,11 @@ fn put_rope(ropes: &mut Ropes, left: &mut Vec<Token>, i: usize) -> Result<(), Gi
 }
 
 /// Puts a token before the left half tape.
-pub(crate) fn put_left(ropes: &mut Ropes, left: &mut Vec<Token>, token: Token) -> Result<(), GivenUp>
+pub(crate) fn put_left(
+    ropes: &mut Ropes,
+    left: &mut Vec<Token>,
+    token: Token,
+) -> Result<(), GivenUp>
     requires left { RopesBelow (length ropes.old) left.old.items }
     requires token { RopeBelow (length ropes.old) token }
     ensures old { RopesAdded ropes.old ropes.new }

@@ -9,11 +9,11 @@
 //! part first; `specs/Fulfilled` and `specs/Turned` say what that means.
 #![tactic(auto)]
 
-mod fulfilling;
 mod decoder;
 mod encoder;
 mod engine;
 mod fault;
+mod fulfilling;
 mod handing;
 mod laws;
 mod ledger_out;
@@ -29,11 +29,11 @@ mod node;
 mod trouble;
 mod turned;
 
-pub use fulfilling::{append_all, fulfil};
 pub use decoder::decode;
 pub use encoder::encode;
 pub use engine::{begin, turn};
 pub use fault::Fault;
+pub use fulfilling::{append_all, fulfil};
 pub use kind_evidence::NoMemory;
 pub use laws::{begun_lines_go_on, messages_come_through, messages_read_back, pieces_concatenate};
 pub use ledger_out::LedgerOut;

@@ -27,8 +27,11 @@ impl Model for MemLink {
 
     ghost Value = { MemoryLink };
 
-    ghost view = { λ a. record { waiting = drop a.received a.inbox.items; sent = a.outbox.items;
-        trouble = a.trouble } };
+    ghost view = { λ a. record {
+      waiting = drop a.received a.inbox.items;
+      sent = a.outbox.items;
+      trouble = a.trouble;
+    } };
 
     ghost invariant = { λ a. a.received ≤ length a.inbox.items };
 }
@@ -135,8 +138,11 @@ impl Link for MemLink {
     fn send(&mut self, bytes: &[u8]) -> Result<usize, Fault>
         ensures due { IsDue self.old.trouble → IsErr result }
         ensures ok { IfOk result (λ n. (n ≡ share self.old.trouble (length bytes.now))
-            × (self.new ≡ record self.old { sent = self.old.sent
-            ++ take n bytes.now; trouble = called self.old.trouble })) }
+            × (self.new ≡ record self.old {
+              sent = self.old.sent
+                  ++ take n bytes.now;
+              trouble = called self.old.trouble;
+            })) }
         ensures err { OnErr result (self.new ≡ record self.old { trouble = failed (called self.old.trouble) }) }
     {
         self.trouble.begin_call()?;

@@ -69,8 +69,8 @@ pub record AreSettled (w : CountedSystem) (c : Local) (k : Coset) (side : Dir) (
   pub each : (q : ℕ) (b : Sym) → q < reach → SettlesFrom w c k side by next q b
 
 -- the points that are left settle whichever symbol had been read last
-pub record AllSettle (w : CountedSystem) (c : Local) (k : Coset) (side : Dir) (by : Transition) (next : State) : Type 0
-    where
+pub record AllSettle (w : CountedSystem) (c : Local) (k : Coset) (side : Dir) (by : Transition)
+    (next : State) : Type 0 where
   pub each : (q : ℕ) (b : Sym) → SettlesFrom w c k side by next q b
 
 -- there is an entry, and its step settles

@@ -55,8 +55,8 @@ BackOver a f r e v =
     (length (edges_at a (v.from * a.states + e.next.0) v.read))
 
 -- over so many transitions of a list
-pub record BackOverEach (a : ListedAutomata) (f : ℕ) (r : Sym) (e : Entry) (moves : List Move) (reach : ℕ) : Type 0
-    where
+pub record BackOverEach (a : ListedAutomata) (f : ℕ) (r : Sym) (e : Entry) (moves : List Move)
+    (reach : ℕ) : Type 0 where
   pub each : (k : ℕ) (d : Move) → k < reach → BackOver a f r e (get_or moves k d)
 
 -- over all of them

@@ -18,8 +18,14 @@ pub record StoredLease : Type 0 where
   pub room : ℕ
 
 abbrev pub stored_lease : ℕ × HeldLease → StoredLease
-stored_lease e = record { number = e.0; id = e.1.id; renewed = e.1.renewed; tables = e.1.tables.keys; room = spare
-    e.1.tables }
+stored_lease e = record {
+  number = e.0;
+  id = e.1.id;
+  renewed = e.1.renewed;
+  tables = e.1.tables.keys;
+  room = spare
+      e.1.tables;
+}
 
 -- a lease as it is seen: the code keeps when it was given or renewed, since a deadline may be greater than its numbers
 abbrev pub as_lease : StoredLease → Lease
@@ -34,12 +40,12 @@ abbrev pub as_leases : List StoredLease → List (Packed × ℕ) → ℕ → ℕ
 as_leases leases came moment given = record { live = map as_lease leases; came = came; moment = moment; given = given }
 
 -- each live lease lists the tables that came under it, and each open table that is under none is among the free ones
-pub record AreStored (b : Contents) (leases : List StoredLease) (came : List (Packed × ℕ)) (free : List Packed) : Type 0
-    where
+pub record AreStored (b : Contents) (leases : List StoredLease) (came : List (Packed × ℕ))
+    (free : List Packed) : Type 0 where
   pub listed : (l : StoredLease) (t : Packed) → Contains leases l → came_under came t ≡ Some l.number
-      → Contains l.tables t
-  pub freed : (t : Packed) → IsOpenOn b t → while_live (map as_lease leases) (came_under came t) ≡ None
-      → Contains free t
+        → Contains l.tables t
+    pub freed : (t : Packed) → IsOpenOn b t → while_live (map as_lease leases) (came_under came t) ≡ None
+        → Contains free t
 
 -- the tables of the leases that pass a test are among the free ones
 abbrev pub AreAmongFree : (Lease → Bool) → List StoredLease → List Packed → Type 0

@@ -19,17 +19,34 @@ one_undecided (Some v) = 0
 
 -- what the first record of an open table changes, and one that resolves a holdout
 abbrev pub taking_change : ℕ → Option Ending → Option ℕ → TreeChange
-taking_change n shown ones = record { opened = n; closed = 1; undecided = one_undecided shown; resolved = 0;
-    steps = steps_of shown; ones = ones }
+taking_change n shown ones = record {
+  opened = n;
+  closed = 1;
+  undecided = one_undecided shown;
+  resolved = 0;
+  steps = steps_of shown;
+  ones = ones;
+}
 
 abbrev pub resolving_change : ℕ → Option Ending → Option ℕ → TreeChange
-resolving_change n shown ones = record { opened = n; closed = 0; undecided = 0; resolved = 1; steps = steps_of shown;
-    ones = ones }
+resolving_change n shown ones = record {
+  opened = n;
+  closed = 0;
+  undecided = 0;
+  resolved = 1;
+  steps = steps_of shown;
+  ones = ones;
+}
 
 -- the numbers after a change, which there is room for
 abbrev pub changed_count : TreeChange → TreeCount → TreeCount
-changed_count c n = record { open_count = n.open_count + c.opened - c.closed; holdouts = n.holdouts + c.undecided -
-    c.resolved; best = greater n.best c.steps; ones = greater n.ones c.ones }
+changed_count c n = record {
+  open_count = n.open_count + c.opened - c.closed;
+  holdouts = n.holdouts + c.undecided -
+      c.resolved;
+  best = greater n.best c.steps;
+  ones = greater n.ones c.ones;
+}
 
 pub record MayChange (n : TreeCount) (c : TreeChange) : Type 0 where
   pub open_room : n.open_count + c.opened < 2 ^ 64

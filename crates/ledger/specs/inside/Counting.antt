@@ -86,15 +86,35 @@ pub record IsCounted (rs : List Recorded) (c : Counts) : Type 0 where
 
 -- the numbers with one more record, by what it shows and its score
 abbrev pub with_shown : Counts → Option Ending → Option ℕ → Counts
-with_shown c None ones = record { halting = c.halting; never = c.never; undecided = c.undecided + 1; best = c.best;
-    ones = greater c.ones ones }
-with_shown c (Some Never) ones = record { halting = c.halting; never = c.never + 1; undecided = c.undecided;
-    best = c.best; ones = greater c.ones ones }
-with_shown c (Some (Halts k)) ones = record
-    { halting = c.halting + 1; never = c.never; undecided = c.undecided; best = greater c.best (Some k); ones = greater
-    c.ones ones }
+with_shown c None ones = record {
+  halting = c.halting;
+  never = c.never;
+  undecided = c.undecided + 1;
+  best = c.best;
+  ones = greater c.ones ones;
+}
+with_shown c (Some Never) ones = record {
+  halting = c.halting;
+  never = c.never + 1;
+  undecided = c.undecided;
+  best = c.best;
+  ones = greater c.ones ones;
+}
+with_shown c (Some (Halts k)) ones = record {
+  halting = c.halting + 1;
+  never = c.never;
+  undecided = c.undecided;
+  best = greater c.best (Some k);
+  ones = greater
+      c.ones ones;
+}
 
 -- the numbers without a holdout
 abbrev pub without_holdout : Counts → Counts
-without_holdout c = record { halting = c.halting; never = c.never; undecided = c.undecided - 1; best = c.best;
-    ones = c.ones }
+without_holdout c = record {
+  halting = c.halting;
+  never = c.never;
+  undecided = c.undecided - 1;
+  best = c.best;
+  ones = c.ones;
+}

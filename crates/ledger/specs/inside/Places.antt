@@ -3,11 +3,11 @@ use Rattle.std.specs.Prelude.{◌≡◌, List, Option, Some, None, IsSome}
 use Rattle.machine_text.specs.Packed.{Packed}
 use Rattle.kind_evidence.specs.declared.verdicts.Ending.{Ending}
 use Rattle.law_tree.specs.Closed.{IsOpen}
-use Rattle.cert.specs.Claim.{Recorded, ending_by, shown_by}
+use Rattle.cert.specs.Claim.{Recorded, ending_by}
 use Rattle.ledger.specs.Records.{mark_in}
 use Rattle.ledger.specs.Held.{IsHoldout}
 use Rattle.ledger.specs.Offers.{IsKnown, IsElsewhere}
-use Rattle.cert.specs.Certified.{IsCertified, IsPairOf, IsRefusedBy}
+use Rattle.cert.specs.Certified.{IsCertified, IsRefusedBy, IsShownBy}
 use Rattle.ledger.specs.declared.faults.OfferFault.{OfferFault}
 use Rattle.ledger.specs.declared.faults.OfferFault.TheVariants.{WrongSize, NotOpen, Refused as IsRefused, NoMemory}
 use Rattle.ledger.specs.declared.stored_record.Judging.{Judging}

@@ -1,21 +1,6 @@
-use Rattle.std.proofs.Common.{Some, subst}
+use Rattle.std.proofs.Common.{Some, subst, inl}
 use Rattle.cert.specs.Claim.{Claim}
 use Rattle.cert.specs.Kinds.{owned_recorded, recorded}
 use Rattle.cert.specs.Scored.{GetsScore}
-use Rattle.lease_core.proofs.Making.{scored_certified, scored_first, made_unscored}
+use Rattle.lease_core.proofs.Making.{lent_is, scored_first, made_unscored}
 use Rattle.lease_core.proofs.worker_turns.make.Goals as goal
-
-pub put-requires-clause-first : goal.put-requires-clause-first
-put-requires-clause-first c =
-    let gets = subst (λ (k : Claim). GetsScore (record { table = c.args.made.now.table; claim = k }) (recorded c.in-Ok.scored)) c.lent.ensures c.in-Ok.ensures in
-    scored_first (owned_recorded c.args.made.now) (recorded c.in-Ok.scored) gets c.requires.certified c.args.board.now c.requires.first
-
-pub put-requires-clause-certified : goal.put-requires-clause-certified
-put-requires-clause-certified c =
-    let gets = subst (λ (k : Claim). GetsScore (record { table = c.args.made.now.table; claim = k }) (recorded c.in-Ok.scored)) c.lent.ensures c.in-Ok.ensures in
-    scored_certified (owned_recorded c.args.made.now) (recorded c.in-Ok.scored) gets c.requires.certified
-
-pub returns-in-Ok-clause-ok : goal.returns-in-Ok-clause-ok
-returns-in-Ok-clause-ok c =
-    let gets = subst (λ (k : Claim). GetsScore (record { table = c.args.made.now.table; claim = k }) (recorded c.in-Ok.scored)) c.lent.ensures c.in-Ok.ensures in
-    made_unscored (owned_recorded c.args.made.now) (recorded c.in-Ok.scored) gets c.requires.certified c.args.board.now c.put.result (Some c.put.new.board) c.put.ensures.ok

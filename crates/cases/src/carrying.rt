@@ -3,8 +3,8 @@ use cmd_program::obey;
 use cmd_words::{LineFault, options};
 use std::alloc::{AllocError as NoMemory, Global};
 use std::cell::RefCell;
-use try_host::{CaseHost, Failing, Input, MemDisk, Output, Room};
-use try_text::{Limits, Step};
+use try_host::{CaseHost, Failing, HostRoom, Input, MemDisk, Output};
+use try_text::{CaseStep, Limits};
 
 /// What came of a command.
 #[derive(Drop)]
@@ -21,12 +21,12 @@ pub struct Found {
 pub fn carry(
     alloc: Global,
     disk: &RefCell<MemDisk>,
-    step: &Step,
+    step: &CaseStep,
     given: &[u8],
     failing: Failing,
     (answers, faults): (Limits, Limits),
 ) -> Result<Found, NoMemory> {
-    let room = Room::new(alloc, disk, &step.conditions, failing);
+    let room = HostRoom::new(alloc, disk, &step.conditions, failing);
     let mut input = Input::of(&room, step, given);
     let mut answers = Output::answers(&room, answers);
     let mut faults = Output::faults(&room, faults);
@@ -48,7 +48,7 @@ pub fn carry(
 }
 
 // The words of the command line.
-fn words_of(alloc: Global, step: &Step) -> Result<Vec<String>, LineFault> {
+fn words_of(alloc: Global, step: &CaseStep) -> Result<Vec<String>, LineFault> {
     if step.conditions.is_no_text {
         return Err(LineFault::NotText);
     }
@@ -60,7 +60,7 @@ fn words_of(alloc: Global, step: &Step) -> Result<Vec<String>, LineFault> {
 }
 
 /// What the words of a step ask for, or what they are refused for.
-pub fn asked_of(alloc: Global, step: &Step) -> Result<String, NoMemory> {
+pub fn asked_of(alloc: Global, step: &CaseStep) -> Result<String, NoMemory> {
     let mut words = Vec::new(alloc);
     for word in &step.words {
         words.push(word.as_str())?;

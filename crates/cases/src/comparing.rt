@@ -2,7 +2,7 @@
 use crate::carrying::Found;
 use std::alloc::{AllocError as NoMemory, Global};
 use try_host::MemDisk;
-use try_text::{FileText, Said, Step};
+use try_text::{CaseStep, Expected, FileText};
 
 /// What is different: its name, what has to come, and what came.
 #[derive(Drop)]
@@ -50,7 +50,7 @@ pub fn held_of(alloc: Global, disk: &MemDisk) -> Result<Vec<Held>, NoMemory> {
 /// What is different of streams, the exit status and the calls. What earlier commands of the case answered is given.
 pub fn streams_differ(
     alloc: Global,
-    step: &Step,
+    step: &CaseStep,
     found: &Found,
     earlier: &[Vec<u8>],
 ) -> Result<Option<Difference>, NoMemory> {
@@ -76,13 +76,13 @@ pub fn streams_differ(
 // What is different of standard output.
 fn answers_differ(
     alloc: Global,
-    said: &Said,
+    said: &Expected,
     found: &[u8],
     earlier: &[Vec<u8>],
 ) -> Result<Option<Difference>, NoMemory> {
     let name = "standard output";
     match said {
-        Said::Answer(number) => {
+        Expected::Answer(number) => {
             let wanted = match earlier.get(number.saturating_sub(1)) {
                 Some(wanted) => wanted.as_slice(),
                 None => b"(no such command)\n",
@@ -134,37 +134,38 @@ fn behind<'a>(text: &'a [u8], piece: &[u8]) -> Option<&'a [u8]> {
 }
 
 // Whether this is what has to stand somewhere; none is found where there is no file.
-fn is_said(said: &Said, found: Option<&[u8]>) -> bool {
+fn is_said(said: &Expected, found: Option<&[u8]>) -> bool {
     let Some(found) = found else {
-        return matches!(said, Said::Gone);
+        return matches!(said, Expected::Gone);
     };
     match said {
-        Said::Bytes(bytes) => found == bytes.as_slice(),
-        Said::Beginning(bytes) => {
+        Expected::Bytes(bytes) => found == bytes.as_slice(),
+        Expected::Beginning(bytes) => {
             found.starts_with(bytes) && bytes.len() < found.len() && found.ends_with(b"\n")
         }
-        Said::Something => !found.is_empty(),
-        Said::Pieces(pieces) => has_pieces(found, pieces),
+        Expected::Something => !found.is_empty(),
+        Expected::Pieces(pieces) => has_pieces(found, pieces),
         // No command makes a link; what another command answered or another file holds is put in their place.
-        Said::Gone
-        | Said::Data(_)
-        | Said::Link(_)
-        | Said::Name(_)
-        | Said::Answer(_)
-        | Said::Same(_) => false,
+        Expected::Gone
+        | Expected::Data(_)
+        | Expected::Link(_)
+        | Expected::Name(_)
+        | Expected::Answer(_)
+        | Expected::Same(_) => false,
     }
 }
 
 // What has to stand somewhere, as it is told.
-fn wanted_of(said: &Said) -> &[u8] {
+fn wanted_of(said: &Expected) -> &[u8] {
     match said {
-        Said::Bytes(bytes) | Said::Beginning(bytes) => bytes,
-        Said::Something => b"(something)\n",
-        Said::Gone => b"(no file)\n",
-        Said::Pieces(_) => b"(pieces, one behind another)\n",
-        Said::Data(_) | Said::Link(_) | Said::Name(_) => b"(what stands before a command alone)\n",
-        Said::Answer(_) => b"(no such command)\n",
-        Said::Same(_) => b"(no such file)\n",
+        Expected::Bytes(bytes) | Expected::Beginning(bytes) => bytes,
+        Expected::Something => b"(something)\n",
+        Expected::Gone => b"(no file)\n",
+        Expected::Pieces(_) => b"(pieces, one behind another)\n",
+        Expected::Data(_) | Expected::Link(_) | Expected::Name(_) =>
+            b"(what stands before a command alone)\n",
+        Expected::Answer(_) => b"(no such command)\n",
+        Expected::Same(_) => b"(no such file)\n",
     }
 }
 
@@ -172,7 +173,7 @@ fn wanted_of(said: &Said) -> &[u8] {
 fn said_differs(
     alloc: Global,
     name: &str,
-    said: &Said,
+    said: &Expected,
     found: Option<&[u8]>,
 ) -> Result<Option<Difference>, NoMemory> {
     if is_said(said, found) {
@@ -185,13 +186,13 @@ fn said_differs(
 /// What is different of the files: those that a step names are as it says, and each other is as it was.
 pub fn files_differ(
     alloc: Global,
-    step: &Step,
+    step: &CaseStep,
     before: &[Held],
     disk: &MemDisk,
 ) -> Result<Option<Difference>, NoMemory> {
     for file in &step.after {
         let found = disk.text_at(&file.path);
-        if let Said::Same(other) = &file.said
+        if let Expected::Same(other) = &file.said
             && found.is_some()
             && found == disk.text_at(other)
         {
@@ -215,7 +216,7 @@ pub fn files_differ(
 // What is different of a path that a step may not name.
 fn other_differs(
     alloc: Global,
-    step: &Step,
+    step: &CaseStep,
     before: &[Held],
     disk: &MemDisk,
     path: &str,
@@ -233,7 +234,7 @@ fn other_differs(
 // Of the files that were there, one that is there no more.
 fn gone_differ(
     alloc: Global,
-    step: &Step,
+    step: &CaseStep,
     before: &[Held],
     disk: &MemDisk,
 ) -> Result<Option<Difference>, NoMemory> {

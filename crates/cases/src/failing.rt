@@ -3,7 +3,7 @@ use crate::carrying::Found;
 use crate::comparing::{Difference, status_differs};
 use std::alloc::{AllocError as NoMemory, Global};
 use try_host::MemDisk;
-use try_text::{Said, Step};
+use try_text::{CaseStep, Expected};
 
 // The exit status where a stream or a file fails.
 const FAILED: u8 = 4;
@@ -15,11 +15,11 @@ const REFUSED: u8 = 1;
 /// file.
 pub fn broken_off_differs(
     alloc: Global,
-    step: &Step,
+    step: &CaseStep,
     found: &Found,
     disk: &MemDisk,
 ) -> Result<Option<Difference>, NoMemory> {
-    if let Said::Bytes(answers) = &step.answers
+    if let Expected::Bytes(answers) = &step.answers
         && !answers.starts_with(&found.answers)
     {
         let name = "a beginning of standard output";
@@ -85,11 +85,11 @@ fn is_named(found: &Found, path: &str) -> bool {
 /// Of a step of whose file a bit was changed: that is named, or nothing is different.
 pub fn changed_differs(
     alloc: Global,
-    step: &Step,
+    step: &CaseStep,
     found: &Found,
     path: &str,
 ) -> Result<Option<Difference>, NoMemory> {
-    let Said::Bytes(answers) = &step.answers else {
+    let Expected::Bytes(answers) = &step.answers else {
         return Ok(None);
     };
     if is_named(found, path) || found.answers == *answers {

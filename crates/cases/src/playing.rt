@@ -6,7 +6,7 @@ use crate::trial::Trial;
 use std::alloc::Global;
 use std::io::{self, ErrorKind, Write};
 use try_host::MemDisk;
-use try_text::{Case, CaseFault, FileText, Said, cases_of};
+use try_text::{Case, CaseFault, Expected, FileText, cases_of};
 
 /// Plays the cases of a file over the data of its folder. Says how many hold, and of each other what is different; answers
 /// whether all hold.
@@ -126,19 +126,19 @@ fn laid_out(alloc: Global, data: &[DataFile], files: &[FileText]) -> io::Result<
     for file in files {
         let path = file.path.as_str();
         let is_laid = match &file.said {
-            Said::Bytes(bytes) => {
+            Expected::Bytes(bytes) => {
                 disk.put(path, bytes.as_slice().to_vec(alloc)?)?;
                 true
             }
-            Said::Link(to) => {
+            Expected::Link(to) => {
                 disk.link(path, to)?;
                 true
             }
-            Said::Data(name) => {
+            Expected::Data(name) => {
                 disk.put(path, data_of(data, name)?.to_vec(alloc)?)?;
                 true
             }
-            Said::Name(of) => disk.add(path, of)?,
+            Expected::Name(of) => disk.add(path, of)?,
             _ => false,
         };
         if !is_laid {

@@ -10,7 +10,7 @@ use std::alloc::Global;
 use std::cell::RefCell;
 use std::io::{self, ErrorKind};
 use try_host::{Failing, MemDisk};
-use try_text::{Limits, Said, Step, Variant};
+use try_text::{CaseStep, Expected, Limits, Variant};
 
 /// What came of a step.
 #[derive(Drop)]
@@ -61,7 +61,7 @@ impl<'a> Scene<'a> {
     }
 
     /// Plays a step in which this goes wrong.
-    pub fn play(&mut self, step: &Step, trial: Trial) -> io::Result<Played> {
+    pub fn play(&mut self, step: &CaseStep, trial: Trial) -> io::Result<Played> {
         match (trial, &step.conditions.variant) {
             (Trial::Files(..), _) => self.play_broken_off(step, trial),
             (Trial::Sockets(_), _) => self.play_cut_off(step, trial),
@@ -75,14 +75,14 @@ impl<'a> Scene<'a> {
         }
     }
 
-    fn carried(&self, step: &Step, failing: Failing) -> io::Result<Found> {
+    fn carried(&self, step: &CaseStep, failing: Failing) -> io::Result<Found> {
         let limits = (step.conditions.answers, step.conditions.faults);
         let given = self.given(step)?;
         Ok(carry(self.alloc, &self.disk, step, given, failing, limits)?)
     }
 
     // What a step has on standard input.
-    fn given<'b>(&'b self, step: &'b Step) -> io::Result<&'b [u8]> {
+    fn given<'b>(&'b self, step: &'b CaseStep) -> io::Result<&'b [u8]> {
         match &step.input_file {
             Some(name) => data_of(self.data, name),
             None => Ok(&step.input),
@@ -97,7 +97,7 @@ impl<'a> Scene<'a> {
     }
 
     // Nothing goes wrong but what the step says.
-    fn play_plain(&mut self, step: &Step) -> io::Result<Option<Difference>> {
+    fn play_plain(&mut self, step: &CaseStep) -> io::Result<Option<Difference>> {
         match &step.asked {
             Some(asked) => self.ask(step, asked),
             None => {
@@ -109,7 +109,7 @@ impl<'a> Scene<'a> {
     }
 
     // What the words of a step ask for, in place of what comes of it.
-    fn ask(&self, step: &Step, asked: &[u8]) -> io::Result<Option<Difference>> {
+    fn ask(&self, step: &CaseStep, asked: &[u8]) -> io::Result<Option<Difference>> {
         let found = asked_of(self.alloc, step)?;
         let found = found.as_bytes();
         if found == asked {
@@ -122,7 +122,7 @@ impl<'a> Scene<'a> {
     // What came of a step, beside what has to come of it.
     fn compare(
         &mut self,
-        step: &Step,
+        step: &CaseStep,
         found: Found,
         before: &[Held],
     ) -> io::Result<Option<Difference>> {
@@ -133,7 +133,7 @@ impl<'a> Scene<'a> {
         self.files_differ(step, before)
     }
 
-    fn files_differ(&self, step: &Step, before: &[Held]) -> io::Result<Option<Difference>> {
+    fn files_differ(&self, step: &CaseStep, before: &[Held]) -> io::Result<Option<Difference>> {
         match self.disk.try_borrow() {
             Ok(disk) => Ok(files_differ(self.alloc, step, before, &disk)?),
             Err(_) => Err(borrowed()),
@@ -141,7 +141,7 @@ impl<'a> Scene<'a> {
     }
 
     // Files fail in a call, and the command is given again.
-    fn play_broken_off(&mut self, step: &Step, trial: Trial) -> io::Result<Played> {
+    fn play_broken_off(&mut self, step: &CaseStep, trial: Trial) -> io::Result<Played> {
         let before = self.held()?;
         let found = self.carried(step, trial.failing())?;
         if !found.has_failed {
@@ -164,7 +164,7 @@ impl<'a> Scene<'a> {
     }
 
     // Sockets fail in a call.
-    fn play_cut_off(&mut self, step: &Step, trial: Trial) -> io::Result<Played> {
+    fn play_cut_off(&mut self, step: &CaseStep, trial: Trial) -> io::Result<Played> {
         let before = self.held()?;
         let found = self.carried(step, trial.failing())?;
         if !found.has_failed {
@@ -176,13 +176,13 @@ impl<'a> Scene<'a> {
     }
 
     // What there is to say can't be written: to standard error where nothing is said on standard output.
-    fn play_unsaid(&self, step: &Step) -> io::Result<Played> {
+    fn play_unsaid(&self, step: &CaseStep) -> io::Result<Played> {
         let full = Limits {
             calls: 0,
             ..Limits::NONE
         };
         let limits = match &step.answers {
-            Said::Bytes(bytes) if bytes.is_empty() => (Limits::NONE, full),
+            Expected::Bytes(bytes) if bytes.is_empty() => (Limits::NONE, full),
             _ => (full, Limits::NONE),
         };
         let given = self.given(step)?;
@@ -198,7 +198,7 @@ impl<'a> Scene<'a> {
     }
 
     // A bit of a file is changed.
-    fn play_changed(&mut self, step: &Step, path: &str, bit: usize) -> io::Result<Played> {
+    fn play_changed(&mut self, step: &CaseStep, path: &str, bit: usize) -> io::Result<Played> {
         let Some(mut text) = self.text_at(path)? else {
             return Ok(Played::plain(self.play_plain(step)?));
         };
@@ -213,7 +213,7 @@ impl<'a> Scene<'a> {
     }
 
     // Only a beginning of a file is left.
-    fn play_torn(&mut self, step: &Step, path: &str, len: usize) -> io::Result<Played> {
+    fn play_torn(&mut self, step: &CaseStep, path: &str, len: usize) -> io::Result<Played> {
         let mut left = self.text_at(path)?.unwrap_or(Vec::new(self.alloc));
         if len >= left.len() {
             return Ok(Played::plain(self.play_plain(step)?));
@@ -226,7 +226,12 @@ impl<'a> Scene<'a> {
     }
 
     // Of a file only a beginning is left, which is none the worse.
-    fn play_from_beginning(&mut self, step: &Step, path: &str, len: usize) -> io::Result<Played> {
+    fn play_from_beginning(
+        &mut self,
+        step: &CaseStep,
+        path: &str,
+        len: usize,
+    ) -> io::Result<Played> {
         let mut left = self.text_at(path)?.unwrap_or(Vec::new(self.alloc));
         if len >= left.len() {
             return Ok(Played::plain(self.play_plain(step)?));

@@ -1,4 +1,4 @@
--- The same of tables, which are what programs hold: children, the tree, and the best. The map of a table is a
+-- Children, the tree and the best of tables, which are what programs hold. The map of a table is a
 -- machine of its states.
 use Rattle.std.specs.Prelude.{◌≡◌, ℕ, ◌≤◌, ◌⊎◌, nat_le, if◌then◌else◌, List, [], map, Option, Some, None}
 use Rattle.machine_text.specs.declared.transition.Sym.{Sym}

@@ -48,8 +48,8 @@ pub record IsClosedSet (g : ℕ) (m : Machine) (lefts rights : List Sym → Type
         lefts (l ++ e.write ∷ []) × ((x : Sym) → rights (r ++ x ∷ []) →
         members (record { left = l ++ e.write ∷ []; state = e.next.0; read = r0; right = r ++ x ∷ [] }))
     pub on_left : (l0 r0 s : Sym) (l r : List Sym) (q : ℕ) (e : Entry) →
-        members (record { left = l ++ l0 ∷ []; state = q; read = s; right = r ++ r0 ∷ [] }) → m q s ≡ Some e → e.dir ≡ L →
-        rights (e.write ∷ r) × ((x : Sym) → lefts (x ∷ l) →
+        members (record { left = l ++ l0 ∷ []; state = q; read = s; right = r ++ r0 ∷ [] }) → m q s ≡ Some e →
+        e.dir ≡ L → rights (e.write ∷ r) × ((x : Sym) → lefts (x ∷ l) →
         members (record { left = x ∷ l; state = e.next.0; read = l0; right = e.write ∷ r }))
 
 -- the configuration is within the sets: what stands around its head is a member, and so is each word wholly on

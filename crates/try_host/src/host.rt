@@ -1,6 +1,6 @@
 // The host of a case: its files, locks, sockets and clock.
 use crate::device::{Call, failed};
-use crate::room::Room;
+use crate::room::HostRoom;
 use crate::sheets::{Page, Sheet, sheet_at, synced};
 use crate::sockets::Socket;
 use cmd_nodes::Sockets;
@@ -12,7 +12,7 @@ use std::time::{Clock, Duration};
 /// What a command finds, as a host.
 #[derive(Clone, Copy, Drop)]
 pub struct CaseHost<'a> {
-    pub room: &'a Room<'a>,
+    pub room: &'a HostRoom<'a>,
 }
 
 impl<'a> Disk for CaseHost<'a> {
@@ -169,7 +169,7 @@ impl<'a> Disk for CaseHost<'a> {
     }
 }
 
-fn renamed(room: &Room<'_>, from: &str, to: &str) -> io::Result<()> {
+fn renamed(room: &HostRoom<'_>, from: &str, to: &str) -> io::Result<()> {
     let Ok(mut disk) = room.disk.try_borrow_mut() else {
         return Err(failed());
     };

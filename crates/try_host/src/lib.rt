@@ -13,5 +13,5 @@ mod streams;
 pub use device::Share;
 pub use host::CaseHost;
 pub use mem_disk::{MemDisk, Name};
-pub use room::{Failing, Room};
+pub use room::{Failing, HostRoom};
 pub use streams::{Input, Output};

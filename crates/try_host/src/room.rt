@@ -26,7 +26,7 @@ impl Failing {
 
 /// What a command finds in place of the system.
 #[derive(Drop)]
-pub struct Room<'a> {
+pub struct HostRoom<'a> {
     pub(crate) alloc: Global,
     pub(crate) disk: &'a RefCell<MemDisk>,
     pub(crate) conditions: &'a Conditions,
@@ -43,13 +43,13 @@ pub struct Room<'a> {
     reason: RefCell<Option<String>>,
 }
 
-impl<'a> Room<'a> {
+impl<'a> HostRoom<'a> {
     pub fn new(
         alloc: Global,
         disk: &'a RefCell<MemDisk>,
         conditions: &'a Conditions,
         failing: Failing,
-    ) -> Room<'a> {
+    ) -> HostRoom<'a> {
         let (calls, share) = failing
             .files
             .unwrap_or((conditions.files.calls, Share::Nothing));
@@ -61,7 +61,7 @@ impl<'a> Room<'a> {
             calls: failing.sockets.unwrap_or(conditions.sockets.calls),
             ..conditions.sockets
         };
-        Room {
+        HostRoom {
             alloc,
             disk,
             conditions,

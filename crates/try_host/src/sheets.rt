@@ -1,6 +1,6 @@
 // Files that are read, and files that are changed.
 use crate::device::{Call, failed};
-use crate::room::Room;
+use crate::room::HostRoom;
 use files::DiskFile;
 use std::alloc::Global;
 use std::io::{self, Read};
@@ -8,7 +8,7 @@ use std::io::{self, Read};
 /// A file that is read: a read gives what then stands behind what was read.
 #[derive(Drop)]
 pub struct Page<'a> {
-    pub(crate) room: &'a Room<'a>,
+    pub(crate) room: &'a HostRoom<'a>,
     pub(crate) path: String,
     pub(crate) place: usize,
     pub(crate) at: usize,
@@ -34,7 +34,7 @@ impl Read for Page<'_> {
 /// A file that is open for appending.
 #[derive(Drop)]
 pub struct Sheet<'a> {
-    pub(crate) room: &'a Room<'a>,
+    pub(crate) room: &'a HostRoom<'a>,
     pub(crate) path: String,
     pub(crate) place: usize,
 }
@@ -112,13 +112,17 @@ impl DiskFile for Sheet<'_> {
 }
 
 // Waits for the disk.
-pub(crate) fn synced(room: &Room<'_>, path: &str) -> io::Result<()> {
+pub(crate) fn synced(room: &HostRoom<'_>, path: &str) -> io::Result<()> {
     room.files.check()?;
     room.note("sync", path)
 }
 
 // A file that is open for appending, which is made where it isn't there.
-pub(crate) fn sheet_at<'a>(alloc: Global, room: &'a Room<'a>, path: &str) -> io::Result<Sheet<'a>> {
+pub(crate) fn sheet_at<'a>(
+    alloc: Global,
+    room: &'a HostRoom<'a>,
+    path: &str,
+) -> io::Result<Sheet<'a>> {
     let Ok(mut disk) = room.disk.try_borrow_mut() else {
         return Err(failed());
     };

@@ -1,6 +1,6 @@
 // Sockets in memory.
 use crate::device::failed;
-use crate::room::Room;
+use crate::room::HostRoom;
 use std::io::{self, Read, Write};
 
 // The most bytes that may be under way: a piece is read at the other end before anything else is written.
@@ -9,7 +9,7 @@ const PIECE: usize = 4_096;
 /// A socket. What is written to any of them stands in one row until it is read.
 #[derive(Clone, Copy, Drop)]
 pub struct Socket<'a> {
-    pub(crate) room: &'a Room<'a>,
+    pub(crate) room: &'a HostRoom<'a>,
 }
 
 impl Write for Socket<'_> {

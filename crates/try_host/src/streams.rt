@@ -1,14 +1,14 @@
 // Standard input, standard output and standard error.
 use crate::device::{Device, Share, failed};
-use crate::room::Room;
+use crate::room::HostRoom;
 use std::io::{self, Read, Write};
-use try_text::{Limits, Step, Turn};
+use try_text::{CaseStep, CaseTurn, Limits};
 
 /// Standard input of a step.
 #[derive(Drop)]
 pub struct Input<'a> {
-    room: &'a Room<'a>,
-    step: &'a Step,
+    room: &'a HostRoom<'a>,
+    step: &'a CaseStep,
     given: &'a [u8],
     device: Device,
     at: usize,
@@ -16,7 +16,7 @@ pub struct Input<'a> {
 
 impl<'a> Input<'a> {
     /// The bytes that a step gives.
-    pub fn of(room: &'a Room<'a>, step: &'a Step, given: &'a [u8]) -> Input<'a> {
+    pub fn of(room: &'a HostRoom<'a>, step: &'a CaseStep, given: &'a [u8]) -> Input<'a> {
         Input {
             room,
             step,
@@ -40,12 +40,12 @@ impl<'a> Input<'a> {
 }
 
 // The line that begins at a place.
-fn turn_at(turns: &[Turn], at: usize) -> Option<Turn> {
+fn turn_at(turns: &[CaseTurn], at: usize) -> Option<CaseTurn> {
     turns.iter().copied().find(|turn| turn.start == at)
 }
 
 // Where the line after it begins.
-fn next_start(turns: &[Turn], at: usize) -> Option<usize> {
+fn next_start(turns: &[CaseTurn], at: usize) -> Option<usize> {
     turns
         .iter()
         .map(|turn| turn.start)
@@ -67,7 +67,7 @@ impl Read for Input<'_> {
 /// Standard output or standard error of a step: what was written to it is kept.
 #[derive(Drop)]
 pub struct Output<'a> {
-    room: &'a Room<'a>,
+    room: &'a HostRoom<'a>,
     // The stream's name where its calls are written down.
     name: Option<&'static str>,
     device: Device,
@@ -77,7 +77,7 @@ pub struct Output<'a> {
 
 impl<'a> Output<'a> {
     /// Standard output.
-    pub fn answers(room: &'a Room<'a>, limits: Limits) -> Output<'a> {
+    pub fn answers(room: &'a HostRoom<'a>, limits: Limits) -> Output<'a> {
         Output {
             room,
             name: Some("say"),
@@ -88,7 +88,7 @@ impl<'a> Output<'a> {
     }
 
     /// Standard error.
-    pub fn faults(room: &'a Room<'a>, limits: Limits) -> Output<'a> {
+    pub fn faults(room: &'a HostRoom<'a>, limits: Limits) -> Output<'a> {
         Output {
             name: None,
             ..Output::answers(room, limits)

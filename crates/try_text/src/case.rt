@@ -10,19 +10,19 @@ pub struct Case {
     pub line: usize,
     /// The files before the first step.
     pub files: Vec<FileText>,
-    pub steps: Vec<Step>,
+    pub steps: Vec<CaseStep>,
 }
 
 /// A file: its path, and what it holds, or what comes of it.
 #[derive(Drop)]
 pub struct FileText {
     pub path: String,
-    pub said: Said,
+    pub said: Expected,
 }
 
 /// What has to stand somewhere.
 #[derive(Drop)]
-pub enum Said {
+pub enum Expected {
     /// Exactly some bytes.
     Bytes(Vec<u8>),
     /// Some bytes, and any behind them.
@@ -47,7 +47,7 @@ pub enum Said {
 
 /// A command, what it meets, and what has to come of it.
 #[derive(Drop)]
-pub struct Step {
+pub struct CaseStep {
     /// The number of its line.
     pub line: usize,
     /// The words of the command line.
@@ -59,11 +59,11 @@ pub struct Step {
     /// The file of the program's folder that is standard input in place of it.
     pub input_file: Option<String>,
     /// Where a line of standard input begins, and how much was answered above it.
-    pub turns: Vec<Turn>,
+    pub turns: Vec<CaseTurn>,
     /// Standard output.
-    pub answers: Said,
+    pub answers: Expected,
     /// Standard error.
-    pub faults: Said,
+    pub faults: Expected,
     /// The exit status.
     pub status: u8,
     /// The files that aren't as they were.
@@ -78,7 +78,7 @@ pub struct Step {
 
 /// A line of standard input, as the lines of a step tell of a talk.
 #[derive(Clone, Copy, Drop)]
-pub struct Turn {
+pub struct CaseTurn {
     /// How many bytes stand before it.
     pub start: usize,
     /// How many bytes of answers stand above it.

@@ -10,7 +10,7 @@ mod escapes;
 mod fault;
 mod reading;
 
-pub use case::{Case, FileText, Said, Step, Turn};
+pub use case::{Case, CaseStep, CaseTurn, Expected, FileText};
 pub use conditions::{Conditions, Limits, Variant};
 pub use fault::CaseFault;
 pub use reading::cases_of;

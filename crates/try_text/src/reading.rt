@@ -1,5 +1,5 @@
 // From a text to its cases.
-use crate::case::{Case, FileText, Said, Step, Turn};
+use crate::case::{Case, CaseStep, CaseTurn, Expected, FileText};
 use crate::conditions::Conditions;
 use crate::escapes::append_text;
 use crate::fault::CaseFault;
@@ -85,11 +85,11 @@ impl Reader {
             ">*" => return append_piece(alloc, &mut step.answers, text),
             "!*" => return append_piece(alloc, &mut step.faults, text),
             ">=" => match text.parse::<usize>() {
-                Ok(number) => step.answers = Said::Answer(number),
+                Ok(number) => step.answers = Expected::Answer(number),
                 Err(_) => return Ok(false),
             },
-            ">>" => step.answers = Said::Something,
-            "!!" => step.faults = Said::Something,
+            ">>" => step.answers = Expected::Something,
+            "!!" => step.faults = Expected::Something,
             "?" => match text.parse::<u8>() {
                 Ok(status) => step.status = status,
                 Err(_) => return Ok(false),
@@ -123,15 +123,15 @@ impl Reader {
         for word in text.split(' ') {
             words.push(word.to_string(alloc)?)?;
         }
-        case.steps.push(Step {
+        case.steps.push(CaseStep {
             line: number,
             words,
             conditions: Conditions::new(alloc),
             input: Vec::new(alloc),
             input_file: None,
             turns: Vec::new(alloc),
-            answers: Said::Bytes(Vec::new(alloc)),
-            faults: Said::Bytes(Vec::new(alloc)),
+            answers: Expected::Bytes(Vec::new(alloc)),
+            faults: Expected::Bytes(Vec::new(alloc)),
             status: 0,
             after: Vec::new(alloc),
             has_others: false,
@@ -146,13 +146,13 @@ impl Reader {
         let alloc = self.alloc;
         let (path, other) = text.split_once(' ').unwrap_or((text, ""));
         let said = match mark {
-            "gone" => Said::Gone,
-            "some" => Said::Something,
-            "link" => Said::Link(other.to_string(alloc)?),
-            "data" => Said::Data(other.to_string(alloc)?),
-            "name" => Said::Name(other.to_string(alloc)?),
-            "same" => Said::Same(other.to_string(alloc)?),
-            _ => Said::Bytes(Vec::new(alloc)),
+            "gone" => Expected::Gone,
+            "some" => Expected::Something,
+            "link" => Expected::Link(other.to_string(alloc)?),
+            "data" => Expected::Data(other.to_string(alloc)?),
+            "name" => Expected::Name(other.to_string(alloc)?),
+            "same" => Expected::Same(other.to_string(alloc)?),
+            _ => Expected::Bytes(Vec::new(alloc)),
         };
         let path = path.to_string(alloc)?;
         self.last = Place::File;
@@ -191,7 +191,7 @@ impl Reader {
         let is_read = append_text(&mut beginning, text)?;
         match self.said_at(place) {
             Some(said) => {
-                *said = Said::Beginning(beginning);
+                *said = Expected::Beginning(beginning);
                 Ok(is_read)
             }
             None => Ok(false),
@@ -202,11 +202,11 @@ impl Reader {
     fn begin_turn(&mut self) -> Result<(), NoMemory> {
         if let Some(step) = self.step() {
             let due = match &step.answers {
-                Said::Bytes(bytes) => bytes.len(),
+                Expected::Bytes(bytes) => bytes.len(),
                 _ => 0,
             };
             let start = step.input.len();
-            step.turns.push(Turn { start, due })?;
+            step.turns.push(CaseTurn { start, due })?;
         }
         Ok(())
     }
@@ -221,7 +221,7 @@ impl Reader {
         }
     }
 
-    fn step(&mut self) -> Option<&mut Step> {
+    fn step(&mut self) -> Option<&mut CaseStep> {
         self.cases.last_mut()?.steps.last_mut()
     }
 
@@ -235,7 +235,7 @@ impl Reader {
     }
 
     // What is said at a place.
-    fn said_at(&mut self, place: Place) -> Option<&mut Said> {
+    fn said_at(&mut self, place: Place) -> Option<&mut Expected> {
         match place {
             Place::Nothing | Place::Input => None,
             Place::File => Some(&mut self.files()?.last_mut()?.said),
@@ -250,22 +250,22 @@ impl Reader {
             return Some(&mut self.step()?.input);
         }
         match self.said_at(place)? {
-            Said::Bytes(bytes) => Some(bytes),
+            Expected::Bytes(bytes) => Some(bytes),
             _ => None,
         }
     }
 }
 
 // Appends a text that stands behind others, in place of lines that stand there alone.
-fn append_piece(alloc: Global, said: &mut Said, text: &str) -> Result<bool, NoMemory> {
+fn append_piece(alloc: Global, said: &mut Expected, text: &str) -> Result<bool, NoMemory> {
     let mut piece = Vec::new(alloc);
     let is_read = append_text(&mut piece, text)?;
     match said {
-        Said::Pieces(pieces) => pieces.push(piece)?,
-        Said::Bytes(bytes) if bytes.is_empty() => {
+        Expected::Pieces(pieces) => pieces.push(piece)?,
+        Expected::Bytes(bytes) if bytes.is_empty() => {
             let mut pieces = Vec::new(alloc);
             pieces.push(piece)?;
-            *said = Said::Pieces(pieces);
+            *said = Expected::Pieces(pieces);
         }
         _ => return Ok(false),
     }

@@ -44,13 +44,13 @@ pub record IsClosedSet (g : ℕ) (m : Machine) (lefts rights : List Sym → Type
   pub blank_tape : members (record { left = replicate g Zero; state = 0; read = Zero; right = replicate g Zero })
   pub goes_on : (c : Local) → members c → m c.state c.read ≢ None
   pub on_right : (l0 r0 s : Sym) (l r : List Sym) (q : ℕ) (e : Entry) →
-        members (record { left = l0 ∷ l; state = q; read = s; right = r0 ∷ r }) → m q s ≡ Some e → e.dir ≡ R →
-        lefts (l ++ e.write ∷ []) × ((x : Sym) → rights (r ++ x ∷ []) →
-        members (record { left = l ++ e.write ∷ []; state = e.next.0; read = r0; right = r ++ x ∷ [] }))
-    pub on_left : (l0 r0 s : Sym) (l r : List Sym) (q : ℕ) (e : Entry) →
-        members (record { left = l ++ l0 ∷ []; state = q; read = s; right = r ++ r0 ∷ [] }) → m q s ≡ Some e →
-        e.dir ≡ L → rights (e.write ∷ r) × ((x : Sym) → lefts (x ∷ l) →
-        members (record { left = x ∷ l; state = e.next.0; read = l0; right = e.write ∷ r }))
+      members (record { left = l0 ∷ l; state = q; read = s; right = r0 ∷ r }) → m q s ≡ Some e → e.dir ≡ R →
+      lefts (l ++ e.write ∷ []) × ((x : Sym) → rights (r ++ x ∷ []) →
+      members (record { left = l ++ e.write ∷ []; state = e.next.0; read = r0; right = r ++ x ∷ [] }))
+  pub on_left : (l0 r0 s : Sym) (l r : List Sym) (q : ℕ) (e : Entry) →
+      members (record { left = l ++ l0 ∷ []; state = q; read = s; right = r ++ r0 ∷ [] }) → m q s ≡ Some e →
+      e.dir ≡ L → rights (e.write ∷ r) × ((x : Sym) → lefts (x ∷ l) →
+      members (record { left = x ∷ l; state = e.next.0; read = l0; right = e.write ∷ r }))
 
 -- the configuration is within the sets: what stands around its head is a member, and so is each word wholly on
 -- one side of it

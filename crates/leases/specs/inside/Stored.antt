@@ -43,9 +43,9 @@ as_leases leases came moment given = record { live = map as_lease leases; came =
 pub record AreStored (b : Contents) (leases : List StoredLease) (came : List (Packed × ℕ))
     (free : List Packed) : Type 0 where
   pub listed : (l : StoredLease) (t : Packed) → Contains leases l → came_under came t ≡ Some l.number
-        → Contains l.tables t
-    pub freed : (t : Packed) → IsOpenOn b t → while_live (map as_lease leases) (came_under came t) ≡ None
-        → Contains free t
+      → Contains l.tables t
+  pub freed : (t : Packed) → IsOpenOn b t → while_live (map as_lease leases) (came_under came t) ≡ None
+      → Contains free t
 
 -- the tables of the leases that pass a test are among the free ones
 abbrev pub AreAmongFree : (Lease → Bool) → List StoredLease → List Packed → Type 0

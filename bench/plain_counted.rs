@@ -260,7 +260,7 @@ fn moved((base, rows): &Coset, more: Option<usize>, fewer: Option<usize>) -> Res
     Ok((base, rows.clone()))
 }
 
-fn answer(line: &str) -> String {
+pub fn answer(line: &str) -> String {
     judged(line).unwrap_or_else(|refused| refused)
 }
 

@@ -90,7 +90,7 @@ impl Automata {
     }
 }
 
-fn answer(line: &str) -> String {
+pub fn answer(line: &str) -> String {
     judged(line).unwrap_or_else(|refused| refused)
 }
 

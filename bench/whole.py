@@ -3,21 +3,19 @@
 each record by plain Rust that shares nothing with bb, and prints how many records there are of each kind and what both took.
 Arguments: the folder, and how many threads the plain one has (as many as there are processors)."""
 import os
-import resource
 import subprocess
 import sys
 import tempfile
 
-from measured import built
+from measured import built, used
 from program import PROGRAM
 
 
 def told(command):
     """What a command printed, what it said beside that, and its processor seconds."""
-    before = resource.getrusage(resource.RUSAGE_CHILDREN)
+    before = used()
     done = subprocess.run(command, capture_output=True, check=False)
-    after = resource.getrusage(resource.RUSAGE_CHILDREN)
-    return done.stdout, done.stderr, after.ru_utime + after.ru_stime - before.ru_utime - before.ru_stime
+    return done.stdout, done.stderr, used() - before
 
 
 def main():

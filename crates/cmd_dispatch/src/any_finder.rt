@@ -47,7 +47,7 @@ impl Finder for AnyFinder {
 fn all_finders(alloc: Global, search: &Search) -> Result<Vec<AnyFinder>, NoMemory> {
     let mut finders = Vec::new(alloc);
     if search.hard {
-        finders.push(AnyFinder::Hard(HardFinder::new(alloc)))?;
+        finders.push(AnyFinder::Hard(HardFinder::new(alloc)?))?;
         return Ok(finders);
     }
     for letter in LETTERS {

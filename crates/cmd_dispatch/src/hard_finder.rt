@@ -1,4 +1,5 @@
 // The finder that goes through the stages.
+use crate::named_tables::NamedTables;
 use crate::stages::{COUNTS, DEPTH, HALTING_STEPS, LARGEST, STAGES, Stage};
 use backward::BackwardFinder;
 use cert::{Finder, OwnedCertificate};
@@ -8,7 +9,6 @@ use find_counted::CountedFinder;
 use find_loops::{Found, LoopFinder};
 use find_words::{WORD_STAGES, WordFinder, WordStage};
 use kind_evidence::NoMemory;
-use kind_named::NamedFinder;
 use loops::{CycleFinder, MAX_TIME, TranslatedFinder};
 use machine_text::Table;
 use run::HaltFinder;
@@ -18,6 +18,7 @@ use std::alloc::Global;
 #[derive(Drop)]
 pub(crate) struct HardFinder {
     alloc: Global,
+    named: NamedTables,
     loops: LoopFinder,
     backward: BackwardFinder,
     words: WordFinder,
@@ -29,9 +30,10 @@ pub(crate) struct HardFinder {
 }
 
 impl HardFinder {
-    pub fn new(alloc: Global) -> HardFinder {
-        HardFinder {
+    pub fn new(alloc: Global) -> Result<HardFinder, NoMemory> {
+        Ok(HardFinder {
             alloc,
+            named: NamedTables::new(alloc)?,
             loops: LoopFinder::new(alloc),
             backward: BackwardFinder::new(alloc, DEPTH),
             // The stages name their words themselves.
@@ -41,7 +43,7 @@ impl HardFinder {
             cycle: CycleFinder::new(alloc, MAX_TIME),
             translated: TranslatedFinder::new(alloc, MAX_TIME),
             counted: CountedFinder::new(alloc, COUNTS),
-        }
+        })
     }
 
     // What a stage finds.
@@ -52,7 +54,7 @@ impl HardFinder {
         budget: u64,
     ) -> Result<Option<OwnedCertificate>, NoMemory> {
         match stage {
-            Stage::Names => Ok(named(t)),
+            Stage::Names => Ok(self.named.claim(t).map(OwnedCertificate::Named)),
             Stage::Loops { first, steps } => self.ask_for_loops(t, first, steps),
             Stage::Backward { paths } => self.ask_backwards(t, paths),
             Stage::Words(stage) => self.ask_for_words(t, &[stage]),
@@ -119,14 +121,6 @@ impl Finder for HardFinder {
         }
         Ok(None)
     }
-}
-
-// Whether a table has a proof of its own; all that have one have five states.
-fn named(t: &Table) -> Option<OwnedCertificate> {
-    if t.states() != 5 {
-        return None;
-    }
-    NamedFinder.search(t).map(OwnedCertificate::Named)
 }
 
 fn certificate_of(found: Found) -> OwnedCertificate {

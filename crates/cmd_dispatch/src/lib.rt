@@ -13,6 +13,7 @@ mod ledgers;
 mod lines;
 mod named_file;
 mod named_socket;
+mod named_tables;
 mod nodes;
 mod pictures;
 mod stages;

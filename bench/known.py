@@ -1,0 +1,66 @@
+#!/usr/bin/env python3
+"""How the records of examples/five-states.known were found, and that they are what is said of them: bench/known.py.
+
+They are those of the tree of five states that no search of bb finds. The searches that found them were plain programs that aren't
+kept here; HOW says what each did, so that they can be made again. Whoever doesn't believe in them needn't: bb judges each record,
+and so do the plain programs of this folder (plain_check.rs), as this script does. It also asks `bb decide --hard` for each table,
+which finds none, and says what is then to be taken out of the file where it finds one after all. Ends with 1 where something is not so.
+"""
+import os
+import sys
+import tempfile
+
+from measured import built, run
+from program import PROGRAM, TOP
+
+WORDS = """The first automaton has a state for each word of what was read last, at most 33 symbols, from which the last 10 are dropped
+where they repeat twice; its edges were closed within 60,000 edges and 12,000 states. Then two states were made one, with what their
+transitions then force, as long as nothing halts: 4,000 tries, first of states whose words end alike."""
+LEARNED = """The half tapes of 2,000 steps of the run, read from far away, are put into a tree for each side. Two nodes are one state
+where the same was ever seen to follow them in the next cells up to the head, with the head's state and what is beyond it. Every
+transition is counted in a count of its own, and the cosets are closed, an item after another; where a transition is missing that the
+closure asks for, the states that are most alike are tried in turn, a new one first."""
+FEWER = " Then counts were left out, or made one, as long as the check accepts."
+BY_HAND = """The automata were made by hand from those of 1RB1LC_1LC1RA_0LE0LD_0RA1RD_---0LC, which does the same in two steps less: in
+these a 1 is pushed on the right and taken off again, so a state of the right automaton stands in three, which know which transition
+pushed it; one count on each side is enough. The cosets were closed by the check's own rules."""
+
+HOW = {
+    "1RB---_0RC1RD_0LD1RC_1LE0RA_1RA0LE": WORDS,
+    "0RB1RA_1RC1LD_1LC1RB_0LE0LA_---0LD": BY_HAND,
+    "0RB1RA_1RC1LD_1LD1RB_0LE0LA_---0LD": LEARNED + FEWER,
+    "1RB0LD_1RC0RA_0RD0RB_1LE---_1LB0LC": LEARNED,
+    "1RB0RC_1LC0LE_0LD0LB_1RA---_1LB0RD": LEARNED,
+    "1RB0RE_0RC0RA_1LD---_1LA0LB_1RA0LC": LEARNED,
+    "1RB1LC_1LB1RA_0LE0LD_0RA1RD_---0LC": BY_HAND,
+    "1RB1LC_1LC1RA_0LE0LD_0RA1RD_---0LC": LEARNED + FEWER,
+}
+
+
+def what(record):
+    """A record in a line: its kind, and how large it is."""
+    table, kind, first, second = record.split(" ")[:4]
+    size = f"{second} states" if kind == "A" else f"{first} and {second} counts"
+    return f"{table} {kind}, {size}, {len(record):,} bytes"
+
+
+def main():
+    with open(os.path.join(TOP, "examples", "five-states.known"), encoding="ascii") as file:
+        records = file.read().splitlines()
+    tables = [record.split(" ")[0] for record in records]
+    text = "".join(record + "\n" for record in records).encode()
+    never = "".join(f"{table} never\n" for table in tables).encode()
+    with tempfile.TemporaryDirectory() as folder:
+        stands = run([PROGRAM, "check"], text)[1] == never == run([built(folder, "plain_check")], text)[1]
+    found = run([PROGRAM, "decide", "--hard"], "".join(table + "\n" for table in tables).encode())[1].decode().splitlines()
+    for record, answer in zip(records, found, strict=True):
+        print(what(record))
+        print("    " + HOW[record.split(" ")[0]].replace("\n", "\n    "))
+        if not answer.endswith(" U"):
+            print("    bb decide --hard finds a record now: this one can go")
+    print(f"{len(records)} records, accepted by both judges" if stands else "A RECORD ISN'T ACCEPTED")
+    return 0 if stands and set(HOW) == set(tables) and all(answer.endswith(" U") for answer in found) else 1
+
+
+if __name__ == "__main__":
+    sys.exit(main())

@@ -6,7 +6,8 @@ use Rattle.run.specs.declared.halts_in.HaltsIn.{HaltsIn}
 use Rattle.run.specs.Halts.{HaltsAsClaimed}
 use Rattle.kind_evidence.specs.Verdict.{ending_of}
 use Rattle.cert.specs.Claim.{Claim, HaltsClaim, NeverClaim, NoClaim, Recorded, ending_by, shown_by}
-use Rattle.cert.specs.Certified.{IsCertified}
+use Rattle.cert.specs.Certified.{IsCertified, IsShownBy}
+use Rattle.cert.specs.declared.judgement.Judged.{Judged}
 use Rattle.cert.specs.Kinds.{recorded}
 use Rattle.cert.specs.declared.record.Record.{Record}
 use Rattle.cert.specs.declared.certificate.Certificate.TheVariants.{Halts}
@@ -51,6 +52,16 @@ certified_scored p NoClaim certified = certified
 -- what is certified stays so with its score, and without one
 pub score_certified : (r : Recorded) → IsCertified r → IsCertified (with_score r)
 score_certified r = certified_scored r.table r.claim
+
+-- and shows the same with its score
+shown_by_scored : (p : Packed) (c : Claim) (judged : Judged) → IsShownBy (record { table = p; claim = c }) judged
+    → IsShownBy (record { table = p; claim = scored p c }) judged
+shown_by_scored p (HaltsClaim e) judged shown = (certified_scored p (HaltsClaim e) shown.0, shown.1, shown.2)
+shown_by_scored p (NeverClaim r) judged shown = shown
+shown_by_scored p NoClaim judged shown = shown
+
+pub score_shown : (r : Recorded) (judged : Judged) → IsShownBy r judged → IsShownBy (with_score r) judged
+score_shown r = shown_by_scored r.table r.claim
 
 certified_unscored : (p : Packed) (c : Claim) → IsCertified (record { table = p; claim = c }) → IsCertified (record { table = p; claim = unscored c })
 certified_unscored p (HaltsClaim e) certified = record { within = certified.within; narrow = certified.narrow; stands = record { halts = certified.stands.halts; score = tt } }

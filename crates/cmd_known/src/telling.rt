@@ -1,0 +1,41 @@
+// What is said of refused lines.
+ghost use Rattle.std.specs.Prelude.{◌≡◌, ◌⊎◌, ◌++◌, IfErr, OnOk};
+ghost use Rattle.std.specs.Io.KnownBytes.{Appends};
+ghost use Rattle.cmd_known.specs.Refusals.{refusals_text};
+
+use crate::refusals::Refusals;
+use cmd_options::{Ended, NoMemory};
+use std::alloc::Global;
+use std::io::Write;
+use text::append_number;
+
+/// Says how many lines of the file at a path were refused, and which was the first; nothing where none was.
+pub fn tell_refusals<E: Write>(
+    alloc: Global,
+    path: &str,
+    refused: Refusals,
+    faults: &mut E,
+) -> Result<(), Ended>
+    ensures ok { OnOk result (Appends (E.contents faults.old) (E.contents faults.new) (refusals_text path.now refused)) }
+    ensures err { IfErr result (λ e. (e ≡ Ended.NoMemory) ⊎ (e ≡ Ended.Stream)) }
+{
+    let mut line = Vec::new(alloc);
+    append_refusals(path, refused, &mut line)?;
+    faults.write_all(&line)?;
+    Ok(())
+}
+
+// Appends what is said.
+fn append_refusals(path: &str, refused: Refusals, out: &mut Vec<u8>) -> Result<(), NoMemory>
+    ensures { OnOk result (out.new.items ≡ out.old.items ++ refusals_text path.now refused) }
+{
+    let Some(first) = refused.first else {
+        return Ok(());
+    };
+    out.extend_from_slice(path.as_bytes())?;
+    out.extend_from_slice(b": ")?;
+    append_number(refused.count, out)?;
+    out.extend_from_slice(b" refused, the first in line ")?;
+    append_number(first, out)?;
+    out.extend_from_slice(b"\n")
+}

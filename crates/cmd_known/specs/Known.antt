@@ -17,7 +17,7 @@ use Rattle.cmd_known.specs.declared.told.Told.{Told}
 use Rattle.cmd_known.specs.declared.known.Known.{Known}
 
 -- what is said of a table: a claim, and the number of the line that has it
-record pub Saying : Type 0 where
+pub record Saying : Type 0 where
   pub line : ℕ
   pub claim : Claim
 

@@ -1,13 +1,13 @@
 // What is known of tables by the records of a text.
-ghost use Rattle.std.specs.Prelude.{◌≡◌, Ok, Err, IfErr, IfOk, OnErr, OnOk, is_none, option_map};
+ghost use Rattle.std.specs.Prelude.{◌≡◌, IfErr, IfOk, OnErr, OnOk, is_none, option_map};
 ghost use Rattle.machine_text.specs.Packed.{Packed};
 ghost use Rattle.cert.specs.Kinds.{owned_claim, read_as, recorded};
 ghost use Rattle.cmd_lines.specs.Answer.{read_line};
 ghost use Rattle.cmd_taking.specs.Taken.{lent};
 ghost use Rattle.cmd_options.specs.declared.ended.Ended.TheVariants.{NoMemory as WantsMemory};
 ghost use Rattle.cmd_known.specs.Known.{IsGiven, IsLookedUp, known_of, some_claim};
-ghost use Rattle.cmd_known.specs.Refusals.{no_refusals, with_line};
-ghost use Rattle.cmd_known.specs.inside.{LineTells, RecordTells};
+ghost use Rattle.cmd_known.specs.Refusals.{no_refusals};
+ghost use Rattle.cmd_known.specs.inside.{IsNews, LineTells, RecordKept};
 
 use crate::refusals::Refusals;
 use crate::told::Told;
@@ -73,29 +73,28 @@ impl Known {
         Ok(None)
     }
 
-    // Keeps what the record of the last line claims, where that is the first of its table.
-    fn take(&mut self, found: &Record<'_>) -> Result<(), NoMemory>
-        ensures { OnOk result (RecordTells self.old (Ok (recorded found.now)) self.new) }
+    // The record of a line, where that tells something: it claims something, and nothing is known of its table.
+    fn news<'a>(&self, line: Option<&'a [u8]>) -> Option<Record<'a>>
+        ensures { IsNews (known_of self.now) (read_line (lent line.entry)) (option_map recorded result) }
     {
-        if claims_nothing(found) || self.told.contains_key(&found.table) {
-            self.refuse();
-            return Ok(());
+        match read_line(line) {
+            Ok(found) if !claims_nothing(&found) && !self.told.contains_key(&found.table) => Some(
+                found,
+            ),
+            _ => None,
         }
+    }
+
+    // Keeps what the record of the last line claims of its table.
+    fn keep(&mut self, found: &Record<'_>) -> Result<(), NoMemory>
+        ensures { OnOk result (RecordKept self.old (recorded found.now) self.new) }
+    {
         let told = Told {
             line: self.lines,
             certificate: OwnedCertificate::of(self.alloc, &found.certificate)?,
         };
         self.told.insert(found.table, told)?;
         Ok(())
-    }
-
-    // Counts the last line as one that tells nothing.
-    fn refuse(&mut self)
-        ensures told { self.new.told ≡ self.old.told }
-        ensures lines { self.new.lines ≡ self.old.lines }
-        ensures refused { self.new.refused ≡ with_line self.old.refused self.old.lines }
-    {
-        self.refused = self.refused.with_line(self.lines);
     }
 }
 
@@ -106,10 +105,10 @@ impl LineTaker for Known {
 
     fn take_line(&mut self, line: Option<&[u8]>) -> Result<(), Ended> {
         self.lines = self.lines.saturating_add(1);
-        match read_line(line) {
-            Ok(found) => Ok(self.take(&found)?),
-            Err(_) => {
-                self.refuse();
+        match self.news(line) {
+            Some(found) => Ok(self.keep(&found)?),
+            None => {
+                self.refused = self.refused.with_line(self.lines);
                 Ok(())
             }
         }

@@ -4,8 +4,8 @@ ghost use Rattle.cmd_options.specs.Ranges.{AreWithinRanges, IsSettling, IsWithin
 
 use crate::arguments::{
     CARRIED, DAMAGED, DRAWN, ERA, FILE, FILLED, FIRST, FOLDER, FROM, HARD, JOINED, JSON, KNOWN,
-    LEDGER, LOSE, MENDED, MERGED, OLD, PICTURES, PROGRESS, READ, ROUNDS, ROWS, SECOND, STATES, STEPS, SYNC,
-    WHY, WIDTH, WORKERS,
+    LEDGER, LOSE, MENDED, MERGED, OLD, PICTURES, PROGRESS, READ, ROUNDS, ROWS, SECOND, STATES,
+    STEPS, SYNC, WHY, WIDTH, WORKERS,
 };
 use crate::grammar::program;
 use crate::line_fault::LineFault;
@@ -180,10 +180,7 @@ fn loop_options<'a>(over_sockets: &ArgMatches<'a>) -> Result<Options<'a>, LineFa
 }
 
 // How a tree is settled, where so many frames are lost.
-fn settling_of<'a>(
-    matches: &ArgMatches<'a>,
-    lose: Option<u64>,
-) -> Result<Settling<'a>, LineFault>
+fn settling_of<'a>(matches: &ArgMatches<'a>, lose: Option<u64>) -> Result<Settling<'a>, LineFault>
     requires { IfSome lose (λ every. (2 ≤ every) × (every ≤ 1000)) }
     ensures { IfOk result (λ settling. IsSettling settling × (settling.lose ≡ lose)) }
 {

@@ -77,12 +77,13 @@ impl Known {
     fn news<'a>(&self, line: Option<&'a [u8]>) -> Option<Record<'a>>
         ensures { IsNews (known_of self.now) (read_line (lent line.entry)) (option_map recorded result) }
     {
-        match read_line(line) {
-            Ok(found) if !claims_nothing(&found) && !self.told.contains_key(&found.table) => Some(
-                found,
-            ),
-            _ => None,
+        let Ok(found) = read_line(line) else {
+            return None;
+        };
+        if claims_nothing(&found) || self.told.contains_key(&found.table) {
+            return None;
         }
+        Some(found)
     }
 
     // Keeps what the record of the last line claims of its table.

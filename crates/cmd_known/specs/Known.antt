@@ -12,7 +12,7 @@ use Rattle.cert.specs.declared.record_fault.RecordFault.{RecordFault}
 use Rattle.cmd_lines.specs.Answer.{read_line}
 use Rattle.cmd_ledgers.specs.Reading.{AreFirstBytes}
 use Rattle.cmd_taking.specs.Lines.{AreLines}
-use Rattle.cmd_known.specs.Refusals.{next, no_refusals, with_line, with_lines}
+use Rattle.cmd_known.specs.Refusals.{next_number, no_refusals, with_number, with_numbers}
 use Rattle.cmd_known.specs.declared.told.Told.{Told}
 use Rattle.cmd_known.specs.declared.known.Known.{Known}
 
@@ -45,7 +45,7 @@ said_by n (Ok r) p = cond (is_at (table_cmp r.table) p) (option_map (saying n) (
 -- what the first line that says something of a table says, of lines behind so many others
 abbrev pub first_said : ℕ → List (List ℕ) → Packed → Option Saying
 first_said n [] p = None
-first_said n (line ∷ lines) p = option_or (said_by (next n) (read_line (bounded_line line)) p) (first_said (next n) lines p)
+first_said n (line ∷ lines) p = option_or (said_by (next_number n) (read_line (bounded_line line)) p) (first_said (next_number n) lines p)
 
 -- a line tells nothing: it is no record, its record claims nothing, or something is known of its table
 abbrev pub tells_nothing : (Packed → Option Saying) → Result Recorded RecordFault → Bool
@@ -57,8 +57,8 @@ abbrev pub untold : (Packed → Option Saying) → ℕ → List (List ℕ) → L
 untold known n [] = []
 untold known n (line ∷ lines) =
     let read = read_line (bounded_line line) in
-    let later = untold (λ p. option_or (known p) (said_by (next n) read p)) (next n) lines in
-    cond (tells_nothing known read) (next n ∷ later) later
+    let later = untold (λ p. option_or (known p) (said_by (next_number n) read p)) (next_number n) lines in
+    cond (tells_nothing known read) (next_number n ∷ later) later
 
 -- of each table the first line that says something of it is known, and the lines that tell nothing are refused
 pub record IsKnownBy (has : Option (List ℕ)) (limit : ℕ) (known : Known) : Type 0 where
@@ -67,7 +67,7 @@ pub record IsKnownBy (has : Option (List ℕ)) (limit : ℕ) (known : Known) : T
   pub lines : List (List ℕ)
   pub are_lines : AreLines text lines
   pub tables : (p : Packed) → known_of known p ≡ first_said 0 lines p
-  pub refused : known.refused ≡ with_lines no_refusals (untold (λ p. None) 0 lines)
+  pub refused : known.refused ≡ with_numbers no_refusals (untold (λ p. None) 0 lines)
 
 -- what is known of a table is given where it stands
 abbrev pub IsGiven : Option Saying → Packed → Option Claim → Type 0
@@ -79,7 +79,7 @@ IsGiven (Some said) p given =
 abbrev pub IsRefused : Option Saying → Known → Packed → Known → Type 0
 IsRefused None old p new = new ≡ old
 IsRefused (Some said) old p new =
-    (new.refused ≡ with_line old.refused said.line) × ((q : Packed) → known_of new q ≡ cond (is_at (table_cmp p) q) None (known_of old q))
+    (new.refused ≡ with_number old.refused said.line) × ((q : Packed) → known_of new q ≡ cond (is_at (table_cmp p) q) None (known_of old q))
 
 -- where something is given nothing changes, else what was known of the table is refused
 abbrev pub IsLookedUp : Known → Packed → Option Claim → Known → Type 0

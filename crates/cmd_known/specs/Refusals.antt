@@ -3,8 +3,8 @@ use Rattle.std.specs.Prelude.{ℕ, ◌+◌, ◌^◌, ◌-◌, List, [], ◌∷�
 use Rattle.cmd_known.specs.declared.refusals.Refusals.{Refusals}
 
 -- the number after one; no text has so many lines that they end
-abbrev pub next : ℕ → ℕ
-next n = min (n + 1) (2 ^ 64 - 1)
+abbrev pub next_number : ℕ → ℕ
+next_number n = min (n + 1) (2 ^ 64 - 1)
 
 abbrev pub no_refusals : Refusals
 no_refusals = record { count = 0; first = None }
@@ -15,17 +15,24 @@ least None n = n
 least (Some m) n = min m n
 
 -- one line more
-abbrev pub with_line : Refusals → ℕ → Refusals
-with_line refused line = record { count = next refused.count; first = Some (least refused.first line) }
+abbrev pub with_number : Refusals → ℕ → Refusals
+with_number refused line = record { count = next_number refused.count; first = Some (least refused.first line) }
 
-abbrev pub with_lines : Refusals → List ℕ → Refusals
-with_lines refused [] = refused
-with_lines refused (line ∷ lines) = with_lines (with_line refused line) lines
+abbrev pub with_numbers : Refusals → List ℕ → Refusals
+with_numbers refused [] = refused
+with_numbers refused (line ∷ lines) = with_numbers (with_number refused line) lines
 
--- what is said of them, behind the path of their file
+-- how many there are, behind the path of their file
+abbrev pub counted : List ℕ → ℕ → List ℕ
+counted path count = path ++ codes ": " ++ decimal count
+
+abbrev pub refusals_line : List ℕ → ℕ → ℕ → List ℕ
+refusals_line path count first = counted path count ++ codes " refused, the first in line " ++ decimal first ++ 10 ∷ []
+
+-- what is said of them, which is nothing where there are none
 abbrev pub said_of : List ℕ → ℕ → Option ℕ → List ℕ
 said_of path count None = []
-said_of path count (Some first) = path ++ codes ": " ++ decimal count ++ codes " refused, the first in line " ++ decimal first ++ 10 ∷ []
+said_of path count (Some first) = refusals_line path count first
 
 abbrev pub refusals_text : List ℕ → Refusals → List ℕ
 refusals_text path refused = said_of path refused.count refused.first

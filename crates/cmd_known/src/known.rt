@@ -69,7 +69,7 @@ impl Known {
         }
         let line = told.line;
         self.told.remove(t);
-        self.refused = self.refused.with_line(line);
+        self.refused = self.refused.with_number(line);
         Ok(None)
     }
 
@@ -109,7 +109,7 @@ impl LineTaker for Known {
         match self.news(line) {
             Some(found) => Ok(self.keep(&found)?),
             None => {
-                self.refused = self.refused.with_line(self.lines);
+                self.refused = self.refused.with_number(self.lines);
                 Ok(())
             }
         }

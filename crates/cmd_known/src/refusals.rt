@@ -1,6 +1,6 @@
 // Lines that tell nothing, or what doesn't stand.
 ghost use Rattle.std.specs.Prelude.{◌≡◌};
-ghost use Rattle.cmd_known.specs.Refusals.{no_refusals, with_line};
+ghost use Rattle.cmd_known.specs.Refusals.{no_refusals, with_number};
 
 /// How many lines were refused, and the number of the first of them; the first line of a text is 1.
 #[derive(Clone, Copy, Debug, PartialEq, Eq)]
@@ -23,8 +23,8 @@ impl Refusals {
     }
 
     /// These and the line of a number.
-    pub(crate) fn with_line(self, line: u64) -> Refusals
-        ensures { result ≡ with_line self line }
+    pub(crate) fn with_number(self, line: u64) -> Refusals
+        ensures { result ≡ with_number self line }
     {
         let first = match self.first {
             Some(first) if first < line => first,

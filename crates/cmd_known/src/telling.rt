@@ -1,7 +1,7 @@
 // What is said of refused lines.
 ghost use Rattle.std.specs.Prelude.{◌≡◌, ◌⊎◌, ◌++◌, IfErr, OnOk};
 ghost use Rattle.std.specs.Io.KnownBytes.{Appends};
-ghost use Rattle.cmd_known.specs.Refusals.{refusals_text};
+ghost use Rattle.cmd_known.specs.Refusals.{counted, refusals_line, refusals_text};
 
 use crate::refusals::Refusals;
 use cmd_options::{Ended, NoMemory};
@@ -29,13 +29,27 @@ pub fn tell_refusals<E: Write>(
 fn append_refusals(path: &str, refused: Refusals, out: &mut Vec<u8>) -> Result<(), NoMemory>
     ensures { OnOk result (out.new.items ≡ out.old.items ++ refusals_text path.now refused) }
 {
-    let Some(first) = refused.first else {
-        return Ok(());
-    };
-    out.extend_from_slice(path.as_bytes())?;
-    out.extend_from_slice(b": ")?;
-    append_number(refused.count, out)?;
+    match refused.first {
+        Some(first) => append_line(path, refused.count, first, out),
+        None => Ok(()),
+    }
+}
+
+// Appends the line that says how many there are, and which is the first.
+fn append_line(path: &str, count: u64, first: u64, out: &mut Vec<u8>) -> Result<(), NoMemory>
+    ensures { OnOk result (out.new.items ≡ out.old.items ++ refusals_line path.now count first) }
+{
+    append_count(path, count, out)?;
     out.extend_from_slice(b" refused, the first in line ")?;
     append_number(first, out)?;
     out.extend_from_slice(b"\n")
+}
+
+// Appends a path, and a number behind it.
+fn append_count(path: &str, count: u64, out: &mut Vec<u8>) -> Result<(), NoMemory>
+    ensures { OnOk result (out.new.items ≡ out.old.items ++ counted path.now count) }
+{
+    out.extend_from_slice(path.as_bytes())?;
+    out.extend_from_slice(b": ")?;
+    append_number(count, out)
 }

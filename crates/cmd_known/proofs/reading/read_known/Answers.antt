@@ -3,7 +3,7 @@ use Rattle.cmd_ledgers.proofs.FirstBytes.{all_first}
 use Rattle.cmd_taking.specs.Taken.{HasTakenLines}
 use Rattle.cmd_taking.proofs.Taking.{nothing_taken}
 use Rattle.cmd_known.specs.inside.{LineTells}
-use Rattle.cmd_known.proofs.Telling.{all_tell}
+use Rattle.cmd_known.proofs.Lines.{all_tell}
 use Rattle.cmd_known.proofs.reading.read_known.Goals as goal
 
 pub returns : goal.returns

@@ -12,7 +12,7 @@ use Rattle.ledger.proofs.Sets.{at_is}
 use Rattle.cmd_lines.specs.Answer.{read_line}
 use Rattle.cmd_taking.specs.Taken.{AreTakenInTurn}
 use Rattle.cmd_known.specs.Known.{Saying, first_said, known_of, said_by, said_in, saying, some_claim, tells_nothing, untold}
-use Rattle.cmd_known.specs.Refusals.{next, no_refusals, with_line, with_lines}
+use Rattle.cmd_known.specs.Refusals.{next_number, no_refusals, with_number, with_numbers}
 use Rattle.cmd_known.specs.inside.{IsNews, LineTells, LinesTell, RecordKept}
 use Rattle.cmd_known.specs.declared.known.Known.{Known}
 use Rattle.cmd_known.specs.declared.refusals.Refusals.{Refusals}
@@ -83,26 +83,26 @@ told_line n known r p is =
     ] refl
 
 -- a line that is refused
-pub refused_line : (old new : Known) (line : BoundedLine) → new.told ≡ old.told → new.lines ≡ next old.lines → new.refused ≡ with_line old.refused (next old.lines)
+pub refused_line : (old new : Known) (line : BoundedLine) → new.told ≡ old.told → new.lines ≡ next_number old.lines → new.refused ≡ with_number old.refused (next_number old.lines)
     → IsNews (known_of old) (read_line line) None → LineTells old line new
 refused_line old new line told lines refused none = record {
   lines = lines;
-  known = λ p. ap (λ m. option_map said_in (get table_cmp m p)) told ∙ untold_line (next old.lines) (known_of old) (read_line line) p none;
-  refused = refused ∙ ap (λ v. cond v (with_line old.refused (next old.lines)) old.refused) (sym none);
+  known = λ p. ap (λ m. option_map said_in (get table_cmp m p)) told ∙ untold_line (next_number old.lines) (known_of old) (read_line line) p none;
+  refused = refused ∙ ap (λ v. cond v (with_number old.refused (next_number old.lines)) old.refused) (sym none);
 }
 
 -- a line that is kept, by one who has counted it
-pub kept_line : (old counted new : Known) (line : BoundedLine) (r : Recorded) → counted.told ≡ old.told → counted.lines ≡ next old.lines → counted.refused ≡ old.refused
+pub kept_line : (old counted new : Known) (line : BoundedLine) (r : Recorded) → counted.told ≡ old.told → counted.lines ≡ next_number old.lines → counted.refused ≡ old.refused
     → IsNews (known_of old) (read_line line) (Some r) → RecordKept counted r new → LineTells old line new
 kept_line old counted new line r told lines refused (read, news) kept = record {
   lines = kept.lines ∙ lines;
   known = λ p.
       kept.known p
       ∙ (ap (λ n. cond (is_at (table_cmp r.table) p) (Some (saying n r.claim)) (known_of counted p)) lines
-      ∙ (ap (λ o. cond (is_at (table_cmp r.table) p) (Some (saying (next old.lines) r.claim)) o) (ap (λ m. option_map said_in (get table_cmp m p)) told)
-      ∙ (told_line (next old.lines) (known_of old) r p (subst (λ read. tells_nothing (known_of old) read ≡ false) read news)
-      ∙ ap (λ read. option_or (known_of old p) (said_by (next old.lines) read p)) (sym read))));
-  refused = kept.refused ∙ (refused ∙ ap (λ v. cond v (with_line old.refused (next old.lines)) old.refused) (sym news));
+      ∙ (ap (λ o. cond (is_at (table_cmp r.table) p) (Some (saying (next_number old.lines) r.claim)) o) (ap (λ m. option_map said_in (get table_cmp m p)) told)
+      ∙ (told_line (next_number old.lines) (known_of old) r p (subst (λ read. tells_nothing (known_of old) read ≡ false) read news)
+      ∙ ap (λ read. option_or (known_of old p) (said_by (next_number old.lines) read p)) (sym read))));
+  refused = kept.refused ∙ (refused ∙ ap (λ v. cond v (with_number old.refused (next_number old.lines)) old.refused) (sym news));
 }
 
 same_nothing : (f g : Packed → Option Saying) → ((p : Packed) → f p ≡ g p) → (read : Result Recorded RecordFault) → tells_nothing f read ≡ tells_nothing g read
@@ -114,11 +114,11 @@ same_untold : (f g : Packed → Option Saying) → ((p : Packed) → f p ≡ g p
 same_untold f g same n [] = refl
 same_untold f g same n (line ∷ lines) =
     let read = read_line (bounded_line line) in
-    let later = same_untold (λ p. option_or (f p) (said_by (next n) read p)) (λ p. option_or (g p) (said_by (next n) read p)) (λ p. ap (λ o. option_or o (said_by (next n) read p)) (same p)) (next n) lines in
-    ap (λ l. cond (tells_nothing f read) (next n ∷ l) l) later ∙ ap (λ v. cond v (next n ∷ untold (λ p. option_or (g p) (said_by (next n) read p)) (next n) lines) (untold (λ p. option_or (g p) (said_by (next n) read p)) (next n) lines)) (same_nothing f g same read)
+    let later = same_untold (λ p. option_or (f p) (said_by (next_number n) read p)) (λ p. option_or (g p) (said_by (next_number n) read p)) (λ p. ap (λ o. option_or o (said_by (next_number n) read p)) (same p)) (next_number n) lines in
+    ap (λ l. cond (tells_nothing f read) (next_number n ∷ l) l) later ∙ ap (λ v. cond v (next_number n ∷ untold (λ p. option_or (g p) (said_by (next_number n) read p)) (next_number n) lines) (untold (λ p. option_or (g p) (said_by (next_number n) read p)) (next_number n) lines)) (same_nothing f g same read)
 
 -- a line that may be refused, and those behind it
-refused_first : (v : Bool) (refused : Refusals) (n : ℕ) (later : List ℕ) → with_lines (cond v (with_line refused n) refused) later ≡ with_lines refused (cond v (n ∷ later) later)
+refused_first : (v : Bool) (refused : Refusals) (n : ℕ) (later : List ℕ) → with_numbers (cond v (with_number refused n) refused) later ≡ with_numbers refused (cond v (n ∷ later) later)
 refused_first true refused n later = refl
 refused_first false refused n later = refl
 
@@ -135,25 +135,25 @@ lines_tell (line ∷ lines) old new (middle, first, later) =
       known = λ p.
           rest.known p
           ∙ (ap (λ n. option_or (known_of middle p) (first_said n lines p)) first.lines
-          ∙ (ap (λ o. option_or o (first_said (next old.lines) lines p)) (first.known p)
-          ∙ or_or (known_of old p) (said_by (next old.lines) read p) (first_said (next old.lines) lines p)));
+          ∙ (ap (λ o. option_or o (first_said (next_number old.lines) lines p)) (first.known p)
+          ∙ or_or (known_of old p) (said_by (next_number old.lines) read p) (first_said (next_number old.lines) lines p)));
       refused =
           rest.refused
-          ∙ (ap (λ n. with_lines middle.refused (untold (known_of middle) n lines)) first.lines
-          ∙ (ap (with_lines middle.refused) (same_untold (known_of middle) (λ p. option_or (known_of old p) (said_by (next old.lines) read p)) first.known (next old.lines) lines)
-          ∙ (ap (λ r. with_lines r (untold (λ p. option_or (known_of old p) (said_by (next old.lines) read p)) (next old.lines) lines)) first.refused
-          ∙ refused_first (tells_nothing (known_of old) read) old.refused (next old.lines) (untold (λ p. option_or (known_of old p) (said_by (next old.lines) read p)) (next old.lines) lines))));
+          ∙ (ap (λ n. with_numbers middle.refused (untold (known_of middle) n lines)) first.lines
+          ∙ (ap (with_numbers middle.refused) (same_untold (known_of middle) (λ p. option_or (known_of old p) (said_by (next_number old.lines) read p)) first.known (next_number old.lines) lines)
+          ∙ (ap (λ r. with_numbers r (untold (λ p. option_or (known_of old p) (said_by (next_number old.lines) read p)) (next_number old.lines) lines)) first.refused
+          ∙ refused_first (tells_nothing (known_of old) read) old.refused (next_number old.lines) (untold (λ p. option_or (known_of old p) (said_by (next_number old.lines) read p)) (next_number old.lines) lines))));
     }
 
 -- lines that are taken by one to whom nothing is known
 pub all_tell : (lines : List (List ℕ)) (start new : Known) → ((p : Packed) → known_of start p ≡ None) → start.lines ≡ 0 → start.refused ≡ no_refusals
     → AreTakenInTurn LineTells start lines new
-    → ((p : Packed) → known_of new p ≡ first_said 0 lines p) × (new.refused ≡ with_lines no_refusals (untold (λ p. None) 0 lines))
+    → ((p : Packed) → known_of new p ≡ first_said 0 lines p) × (new.refused ≡ with_numbers no_refusals (untold (λ p. None) 0 lines))
 all_tell lines start new nothing before none taken =
     let tell = lines_tell lines start new taken in (
       λ p. tell.known p ∙ (ap (λ o. option_or o (first_said start.lines lines p)) (nothing p) ∙ ap (λ n. first_said n lines p) before),
       tell.refused
-          ∙ (ap (λ r. with_lines r (untold (known_of start) start.lines lines)) none
-          ∙ (ap (λ n. with_lines no_refusals (untold (known_of start) n lines)) before
-          ∙ ap (with_lines no_refusals) (same_untold (known_of start) (λ p. None) nothing 0 lines))),
+          ∙ (ap (λ r. with_numbers r (untold (known_of start) start.lines lines)) none
+          ∙ (ap (λ n. with_numbers no_refusals (untold (known_of start) n lines)) before
+          ∙ ap (with_numbers no_refusals) (same_untold (known_of start) (λ p. None) nothing 0 lines))),
     )

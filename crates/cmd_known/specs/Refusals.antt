@@ -23,11 +23,11 @@ with_numbers refused [] = refused
 with_numbers refused (line ∷ lines) = with_numbers (with_number refused line) lines
 
 -- how many there are, behind the path of their file
-abbrev pub counted : List ℕ → ℕ → List ℕ
-counted path count = path ++ codes ": " ++ decimal count
+abbrev pub count_behind : List ℕ → ℕ → List ℕ
+count_behind path count = path ++ codes ": " ++ decimal count
 
 abbrev pub refusals_line : List ℕ → ℕ → ℕ → List ℕ
-refusals_line path count first = counted path count ++ codes " refused, the first in line " ++ decimal first ++ 10 ∷ []
+refusals_line path count first = count_behind path count ++ codes " refused, the first in line " ++ decimal first ++ 10 ∷ []
 
 -- what is said of them, which is nothing where there are none
 abbrev pub said_of : List ℕ → ℕ → Option ℕ → List ℕ

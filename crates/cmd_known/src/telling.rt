@@ -1,7 +1,7 @@
 // What is said of refused lines.
 ghost use Rattle.std.specs.Prelude.{◌≡◌, ◌⊎◌, ◌++◌, IfErr, OnOk};
 ghost use Rattle.std.specs.Io.KnownBytes.{Appends};
-ghost use Rattle.cmd_known.specs.Refusals.{counted, refusals_line, refusals_text};
+ghost use Rattle.cmd_known.specs.Refusals.{count_behind, refusals_line, refusals_text};
 
 use crate::refusals::Refusals;
 use cmd_options::{Ended, NoMemory};
@@ -47,7 +47,7 @@ fn append_line(path: &str, count: u64, first: u64, out: &mut Vec<u8>) -> Result<
 
 // Appends a path, and a number behind it.
 fn append_count(path: &str, count: u64, out: &mut Vec<u8>) -> Result<(), NoMemory>
-    ensures { OnOk result (out.new.items ≡ out.old.items ++ counted path.now count) }
+    ensures { OnOk result (out.new.items ≡ out.old.items ++ count_behind path.now count) }
 {
     out.extend_from_slice(path.as_bytes())?;
     out.extend_from_slice(b": ")?;

@@ -1,14 +1,15 @@
 #!/bin/sh
 # Settles the tree of N states in parts, on all processors of this machine, and says how it stands:
 #   contrib/tree.sh N DIR [OPTIONS OF bb settle..]
-# DIR is made, or gone on with where it was stopped. The options are --hard where there are none; BB names the program
-# (./bb if it isn't set), JOBS how many parts are worked off at once, FILLED how many entries the tables of the trunk have
-# (5 if it isn't set). What is done is said on standard error; the report comes on standard output, and its exit status.
+# DIR is made, or gone on with where it was stopped. Where there are no options they are --hard and the known records of five
+# states that no search of bb finds. BB names the program (./bb if it isn't set), JOBS how many parts are worked off at once,
+# FILLED how many entries the tables of the trunk have (5 if it isn't set). What is done is said on standard error; the report
+# comes on standard output, and its exit status.
 set -e
 states=${1:?"contrib/tree.sh N DIR [OPTIONS..]"}
 folder=${2:?"contrib/tree.sh N DIR [OPTIONS..]"}
 shift 2
-[ $# -gt 0 ] || set -- --hard
+[ $# -gt 0 ] || set -- --hard --known "$(dirname "$0")/../examples/five-states.known"
 # The script ./bb sums up its sources each time: it is asked once which program it runs.
 bb=${BB:-$(./bb --where)}
 jobs=${JOBS:-$(getconf _NPROCESSORS_ONLN)}

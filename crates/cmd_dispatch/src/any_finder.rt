@@ -1,5 +1,6 @@
 // The finders that the command line can ask for.
 use crate::hard_finder::HardFinder;
+use crate::known_file::KnownFile;
 use backward::BackwardFinder;
 use cert::{Finder, Finders, OwnedCertificate};
 use cmd_options::{Ended, LETTERS, Search};
@@ -15,7 +16,8 @@ use std::alloc::Global;
 
 // One of them, so that a list of them needs no boxes.
 #[derive(Drop)]
-pub(crate) enum AnyFinder {
+pub(crate) enum AnyFinder<'a> {
+    Known(&'a KnownFile<'a>),
     Halts(HaltFinder),
     Cycle(CycleFinder),
     Translated(TranslatedFinder),
@@ -27,9 +29,13 @@ pub(crate) enum AnyFinder {
     Hard(HardFinder),
 }
 
-impl Finder for AnyFinder {
+impl Finder for AnyFinder<'_> {
     fn find(&mut self, t: &Table, budget: u64) -> Result<Option<OwnedCertificate>, NoMemory> {
         match self {
+            AnyFinder::Known(file) => match file.known.try_borrow_mut() {
+                Ok(mut known) => known.find(t, budget),
+                Err(_) => Ok(None),
+            },
             AnyFinder::Halts(finder) => finder.find(t, budget),
             AnyFinder::Cycle(finder) => finder.find(t, budget),
             AnyFinder::Translated(finder) => finder.find(t, budget),
@@ -43,9 +49,17 @@ impl Finder for AnyFinder {
     }
 }
 
-// Those of the kinds, in the order of their letters; or the one that goes through the stages, where the search is hard.
-fn all_finders(alloc: Global, search: &Search) -> Result<Vec<AnyFinder>, NoMemory> {
+// What is known; then those of the kinds, in the order of their letters, or the one that goes through the stages, where the
+// search is hard.
+fn all_finders<'a>(
+    alloc: Global,
+    known: Option<&'a KnownFile<'a>>,
+    search: &Search<'_>,
+) -> Result<Vec<AnyFinder<'a>>, NoMemory> {
     let mut finders = Vec::new(alloc);
+    if let Some(known) = known {
+        finders.push(AnyFinder::Known(known))?;
+    }
     if search.hard {
         finders.push(AnyFinder::Hard(HardFinder::new(alloc)?))?;
         return Ok(finders);
@@ -59,7 +73,7 @@ fn all_finders(alloc: Global, search: &Search) -> Result<Vec<AnyFinder>, NoMemor
 }
 
 // What looks for certificates of the kind of a letter; nothing does for those that claim nothing.
-fn finder_of(alloc: Global, letter: u8, search: &Search) -> Option<AnyFinder> {
+fn finder_of<'a>(alloc: Global, letter: u8, search: &Search<'_>) -> Option<AnyFinder<'a>> {
     let steps = search.steps;
     match letter {
         b'H' => Some(AnyFinder::Halts(HaltFinder::new(alloc, steps))),
@@ -79,6 +93,11 @@ fn finder_of(alloc: Global, letter: u8, search: &Search) -> Option<AnyFinder> {
 }
 
 // What decides tables by them.
-pub(crate) fn decider_for(alloc: Global, search: &Search) -> Result<Finders<AnyFinder>, Ended> {
-    Ok(Finders::new(all_finders(alloc, search)?, search.steps))
+pub(crate) fn decider_for<'a>(
+    alloc: Global,
+    known: Option<&'a KnownFile<'a>>,
+    search: &Search<'_>,
+) -> Result<Finders<AnyFinder<'a>>, Ended> {
+    let finders = all_finders(alloc, known, search)?;
+    Ok(Finders::new(finders, search.steps))
 }

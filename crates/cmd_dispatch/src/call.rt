@@ -1,4 +1,5 @@
 // A command that is carried out, with all that it meets.
+use crate::known_file::KnownFile;
 use files::{Disk, OnDisk};
 use std::alloc::Global;
 
@@ -7,6 +8,8 @@ use std::alloc::Global;
 pub(crate) struct Call<'a, S, R, W, E> {
     pub alloc: Global,
     pub system: &'a S,
+    // what is known before a search
+    pub known: Option<&'a KnownFile<'a>>,
     pub input: &'a mut R,
     pub answers: &'a mut W,
     pub faults: &'a mut E,

@@ -2,6 +2,7 @@
 ghost use Rattle.cmd_options.specs.Ranges.{AreWithinRanges};
 
 use crate::call::Call;
+use crate::known_file::KnownFile;
 use crate::{folders, ledgers, lines, nodes, pictures};
 use cmd_nodes::Sockets;
 use cmd_options::{Ended, Options, Outcome, told};
@@ -23,14 +24,22 @@ pub fn execute<S: Disk + Clock + Sockets, R: Read, W: Write, E: Write>(
 ) -> Outcome
     requires { AreWithinRanges asked }
 {
+    let known = match KnownFile::asked(alloc, &asked, system) {
+        Ok(known) => known,
+        Err(ended) => return ended.told(faults),
+    };
     let call = Call {
         alloc,
         system,
+        known: known.as_ref(),
         input,
         answers,
         faults: &mut *faults,
     };
     let ended = call.done(asked);
+    if let Some(known) = &known {
+        known.tell(alloc, faults);
+    }
     told(ended, faults)
 }
 

@@ -17,7 +17,7 @@ pub(crate) fn split<S: Disk, R, W: Write, E>(
 ) -> Result<Outcome, Ended>
     requires { IsSplitting splitting.now }
 {
-    let mut decider = decider_for(call.alloc, &splitting.search)?;
+    let mut decider = decider_for(call.alloc, call.known, &splitting.search)?;
     let mut files = call.files();
     split_in(
         call.alloc,
@@ -34,7 +34,7 @@ pub(crate) fn settle<S: Disk + Clock, R, W: Write, E: Write>(
     call: Call<'_, S, R, W, E>,
     settling: &LedgerSettling<'_>,
 ) -> Result<Outcome, Ended> {
-    let mut decider = decider_for(call.alloc, &settling.search)?;
+    let mut decider = decider_for(call.alloc, call.known, &settling.search)?;
     let mut files = call.files();
     let (alloc, file, answers) = (call.alloc, settling.file, call.answers);
     let telling = Telling::of(settling.progress, call.system.tells_terminal());

@@ -16,9 +16,9 @@ pub(crate) const STANDARD_INPUT: &str = "-";
 pub(crate) fn retry<S: Disk, R, W: Write, E>(
     call: Call<'_, S, R, W, E>,
     file: LedgerFile<'_>,
-    search: &Search,
+    search: &Search<'_>,
 ) -> Result<Outcome, Ended> {
-    let mut decider = decider_for(call.alloc, search)?;
+    let mut decider = decider_for(call.alloc, call.known, search)?;
     let mut files = call.files();
     retry_at(call.alloc, file, &mut files, &mut decider, call.answers)
 }

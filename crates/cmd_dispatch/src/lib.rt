@@ -9,6 +9,7 @@ mod executing;
 mod failures;
 mod folders;
 mod hard_finder;
+mod known_file;
 mod ledgers;
 mod lines;
 mod named_file;

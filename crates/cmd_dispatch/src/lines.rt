@@ -16,6 +16,7 @@ pub(crate) fn check<S: Disk, R: Read, W: Write, E: Write>(
         input,
         answers,
         faults,
+        ..
     } = call;
     check_for(alloc, reader_of(system), input, answers, faults)
 }
@@ -23,16 +24,17 @@ pub(crate) fn check<S: Disk, R: Read, W: Write, E: Write>(
 // `bb decide`.
 pub(crate) fn decide<S: Disk, R: Read, W: Write, E: Write>(
     call: Call<'_, S, R, W, E>,
-    search: &Search,
+    search: &Search<'_>,
 ) -> Result<Outcome, Ended> {
     let Call {
         alloc,
         system,
+        known,
         input,
         answers,
         faults,
     } = call;
-    let mut decider = decider_for(alloc, search)?;
+    let mut decider = decider_for(alloc, known, search)?;
     let reader = reader_of(system);
     decide_for(alloc, reader, &mut decider, input, answers, faults)
 }

@@ -4,6 +4,7 @@ ghost use Rattle.cmd_options.specs.Ranges.{IsBeginning, IsSettling};
 
 use crate::any_finder::{AnyFinder, decider_for};
 use crate::call::Call;
+use crate::known_file::KnownFile;
 use cert::Finders;
 use cmd_json::Form;
 use cmd_nodes::{MaybeLedger, Run, Sockets, coordinate, loop_tree, run_tree};
@@ -42,12 +43,12 @@ pub(crate) fn coord<S: Disk, R: Read, W: Write, E>(
 // `bb run`.
 pub(crate) fn run<S: Disk + Clock, R, W: Write, E: Write>(
     call: Call<'_, S, R, W, E>,
-    settling: &Settling,
+    settling: &Settling<'_>,
     ledger: Option<LedgerFile<'_>>,
 ) -> Result<Outcome, Ended>
     requires { IsSettling settling.now }
 {
-    let workers = workers_of(call.alloc, settling)?;
+    let workers = workers_of(call.alloc, call.known, settling)?;
     let kept = Kept::of(call.files(), ledger)?;
     let Call {
         alloc,
@@ -62,7 +63,7 @@ pub(crate) fn run<S: Disk + Clock, R, W: Write, E: Write>(
 // The same with these workers, and with a ledger or none.
 fn run_kept<N: Node + Drop, S: Disk + Clock, W: Write, E: Write>(
     alloc: Global,
-    settling: &Settling,
+    settling: &Settling<'_>,
     workers: Vec<N>,
     system: &S,
     kept: Kept<'_, S>,
@@ -84,12 +85,12 @@ fn run_kept<N: Node + Drop, S: Disk + Clock, W: Write, E: Write>(
 // `bb loop`.
 pub(crate) fn run_over_sockets<S: Disk + Clock + Sockets, R, W: Write, E: Write>(
     call: Call<'_, S, R, W, E>,
-    settling: &Settling,
+    settling: &Settling<'_>,
     ledger: Option<LedgerFile<'_>>,
 ) -> Result<Outcome, Ended>
     requires { IsSettling settling.now }
 {
-    let workers = workers_of(call.alloc, settling)?;
+    let workers = workers_of(call.alloc, call.known, settling)?;
     let kept = Kept::of(call.files(), ledger)?;
     let Call {
         alloc,
@@ -104,7 +105,7 @@ pub(crate) fn run_over_sockets<S: Disk + Clock + Sockets, R, W: Write, E: Write>
 // The same with these workers, and with a ledger or none.
 fn loop_kept<N: Node + Drop, S: Disk + Clock + Sockets, W: Write, E: Write>(
     alloc: Global,
-    settling: &Settling,
+    settling: &Settling<'_>,
     workers: Vec<N>,
     system: &S,
     kept: Kept<'_, S>,
@@ -125,7 +126,7 @@ fn loop_kept<N: Node + Drop, S: Disk + Clock + Sockets, W: Write, E: Write>(
 
 // What is run, by the system's clock.
 fn run_of<'a, N, S: Disk>(
-    settling: &'a Settling,
+    settling: &'a Settling<'a>,
     form: &'a Form,
     workers: Vec<N>,
     system: &'a S,
@@ -182,13 +183,14 @@ impl<'a, D: Disk> Kept<'a, D> {
 }
 
 // So many workers, with the ids from 1 on, each started from an empty ledger.
-fn workers_of(
+fn workers_of<'a>(
     alloc: Global,
-    settling: &Settling,
-) -> Result<Vec<Worker<Finders<AnyFinder>>>, Ended> {
+    known: Option<&'a KnownFile<'a>>,
+    settling: &Settling<'_>,
+) -> Result<Vec<Worker<Finders<AnyFinder<'a>>>>, Ended> {
     let mut workers = Vec::new(alloc);
     for id in 1..=u32::from(settling.workers) {
-        let finders = decider_for(alloc, &settling.search)?;
+        let finders = decider_for(alloc, known, &settling.search)?;
         let (worker, started) = Worker::over(alloc, id, b"", finders);
         // An empty ledger is refused for want of memory alone.
         if started.is_err() || workers.push(worker).is_err() {

@@ -25,7 +25,7 @@ use wire::{LedgerOut, Node};
 #[derive(Drop)]
 pub struct Run<'a, P, N, C> {
     /// How the tree is settled.
-    pub settling: &'a Settling,
+    pub settling: &'a Settling<'a>,
     /// The form of the report.
     pub form: &'a P,
     /// The workers, which were started from empty ledgers.

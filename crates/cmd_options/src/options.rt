@@ -7,8 +7,8 @@ use crate::ledger_file::LedgerFile;
 pub enum Options<'a> {
     /// `bb check`
     Check,
-    /// `bb decide [--steps K] [--depth D] [--gram G] [--far M] [--words W] [--count C] [--hard]`
-    Decide(Search),
+    /// `bb decide [--known FILE] [--steps K] [--depth D] [--gram G] [--far M] [--words W] [--count C] [--hard]`
+    Decide(Search<'a>),
     /// `bb coord N [--ledger FILE] [--sync] [--era E]`
     Coord {
         /// How a coordinator is begun.
@@ -20,14 +20,14 @@ pub enum Options<'a> {
     /// options of `decide`
     Run {
         /// How the tree is settled.
-        settling: Settling,
+        settling: Settling<'a>,
         /// The coordinator's ledger; none where it is kept in memory.
         ledger: Option<LedgerFile<'a>>,
     },
     /// `bb loop N` and the options of `run` but `--lose`
     Loop {
         /// How the tree is settled; no frame is lost.
-        settling: Settling,
+        settling: Settling<'a>,
         /// The coordinator's ledger; none where it is kept in memory.
         ledger: Option<LedgerFile<'a>>,
     },
@@ -36,7 +36,7 @@ pub enum Options<'a> {
         /// The ledger.
         file: LedgerFile<'a>,
         /// How far certificates are searched for.
-        search: Search,
+        search: Search<'a>,
     },
     /// `bb merge A B OUT`
     Merge(Merging<'a>),
@@ -103,7 +103,7 @@ pub struct LedgerSettling<'a> {
     /// The ledger.
     pub file: LedgerFile<'a>,
     /// How far certificates are searched for.
-    pub search: Search,
+    pub search: Search<'a>,
     /// Whether to tell on standard error, while it goes on, how far it is.
     pub progress: bool,
 }
@@ -118,7 +118,7 @@ pub struct Splitting<'a> {
     /// A table with fewer filled entries is decided in the trunk; any other is the root of a part: 0 to 14.
     pub filled: u8,
     /// How far certificates are searched for in the trunk.
-    pub search: Search,
+    pub search: Search<'a>,
 }
 
 /// What is said of a trunk and its parts together.
@@ -132,9 +132,11 @@ pub struct Joining<'a> {
     pub json: bool,
 }
 
-/// How far certificates are searched for.
+/// What is known before certificates are searched for, and how far they are.
 #[derive(Clone, Copy, Debug, PartialEq, Eq)]
-pub struct Search {
+pub struct Search<'a> {
+    /// The file of records that were found elsewhere, which are looked up first; none where there is none.
+    pub known: Option<&'a str>,
     /// The steps of each finder that runs tables, and the budget: 1 to 100,000,000.
     pub steps: u64,
     /// The depth of backward reasoning: 0 to 1,000.
@@ -163,7 +165,7 @@ pub struct Beginning {
 
 /// How a tree is settled by a coordinator and workers in one process.
 #[derive(Clone, Copy, Debug, PartialEq, Eq)]
-pub struct Settling {
+pub struct Settling<'a> {
     /// How many states the machines have: 1 to 7.
     pub states: u8,
     /// How many workers there are: 1 to 64.
@@ -174,7 +176,7 @@ pub struct Settling {
     /// The most rounds: 1 to 1,000,000,000.
     pub rounds: u64,
     /// How far each worker searches for certificates.
-    pub search: Search,
+    pub search: Search<'a>,
     /// Whether to print the report as JSON.
     pub json: bool,
     /// Whether to tell on standard error, while it goes on, how far it is.

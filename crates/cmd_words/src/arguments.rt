@@ -49,6 +49,9 @@ mod rows {
     pub(crate) const PICTURES: Text = Text { name: "out", value: Some("DIR"),
         help: "Make a file of each picture, DIR/TABLE.svg" };
 
+    pub(crate) const KNOWN: Text = Text { name: "known", value: Some("FILE"),
+        help: "Look for the record of a table in this file first; it is judged like any other" };
+
     pub(crate) const SYNC: Flag = Flag { name: "sync", needs: &[], excludes: &[],
         help: "Wait until each line of the ledger is on the disk, against a power cut" };
     // Where the ledger is an option.

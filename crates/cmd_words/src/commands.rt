@@ -19,7 +19,7 @@ pub(crate) struct CommandWords {
 }
 
 /// The options of a search for certificates: before those of the kinds, and behind them.
-pub(crate) const SEARCH: [Argument; 1] = [Number(STEPS)];
+pub(crate) const SEARCH: [Argument; 2] = [Text(KNOWN), Number(STEPS)];
 
 pub(crate) const SEARCH_BY_STAGES: [Argument; 1] = [Flag(HARD)];
 

@@ -58,7 +58,7 @@ there are and whatever frames are lost. With --ledger a run that was stopped goe
 Exit status: 0 the report says complete; 1 it doesn't, or the ledger was refused (`refused 404` no header
 with a readable table, `refused 405` another root); 2 a wrong command line; 3 out of memory
 (`refused memory`); 4 the ledger failed (`refused 604`), or a stream did (`refused 603`), or another process writes
-the ledger (`refused 606`).";
+the ledger (`refused 606`), or known records couldn't be read (`refused 605`).";
 
 pub(crate) const LOOP: &str =
     "As `bb run`, but that the frames of each worker go over a connection of its own on 127.0.0.1, at most 4,096
@@ -76,7 +76,7 @@ What becomes open below a settled table stays open: `bb run --ledger FILE` goes 
 Exit status: 0 the report says complete; 1 it doesn't, or the ledger was refused (`refused 404` no header
 with a readable table, `refused 405` its table doesn't name its states in order); 2 a wrong command line;
 3 out of memory (`refused memory`); 4 the file failed (`refused 604`), or a stream did (`refused 603`), or another
-process writes it (`refused 606`).";
+process writes it (`refused 606`), or known records couldn't be read (`refused 605`).";
 
 pub(crate) const MERGE: &str =
     "Both ledgers are of one tree. OUT gets the records of A, each holdout that B settles settled in its place,
@@ -146,7 +146,7 @@ stand together. On a folder that is there already only what is missing is added.
 Exit status: 0 trunk and parts are there; 1 the trunk was refused (`refused 404` no header with a readable table,
 `refused 405` another root), or a table with fewer than D filled entries has a part (`refused 407`); 2 a wrong
 command line; 3 out of memory (`refused memory`); 4 a file failed (`refused 604`), or a stream did (`refused 603`), or
-another process writes the trunk (`refused 606`).";
+another process writes the trunk (`refused 606`), or known records couldn't be read (`refused 605`).";
 
 pub(crate) const SETTLE: &str =
     "The first open table in the order of the texts is looked at, as by `bb decide`, and its record is appended, until
@@ -157,7 +157,7 @@ ledger are recorded without a verdict.
 Exit status: 0 no table is open, with or without holdouts; 1 the ledger was refused (`refused 404` no header with a
 readable table, `refused 405` its table doesn't name its states in order); 2 a wrong command line; 3 out of memory
 (`refused memory`); 4 the file failed (`refused 604`), or a stream did (`refused 603`), or another process writes it
-(`refused 606`).";
+(`refused 606`), or known records couldn't be read (`refused 605`).";
 
 pub(crate) const JOIN: &str =
     "The report is that of one ledger with the records of the trunk and of all parts, byte for byte. A part that isn't
@@ -178,11 +178,14 @@ pub(crate) const DECIDE: &str = "  $ echo 1RB1LB_1LA--- | bb decide
 A line is a table in the bbchallenge standard format. Its record has the first certificate that is
 found and stands, looked for in this order: that it halts, a cycle, a translated cycle, backward
 reasoning, a closed position set, finite automata, automata from words, counted automata; or `U`, undecided.
+First of all comes what is known: with --known the file's record of the table, where that stands. How many of the file's
+lines were refused, and which was the first, is said on standard error at the end.
 A text that is no table is answered `refused 301` with its fault, as by `bb check`, and a line over 65,536 bytes
 `refused 305`.
 
 Exit status: 0 each line was a table; 1 some wasn't; 2 a wrong command line; 3 out of memory
-(`refused memory` on standard error); 4 a stream failed (`refused 603`).";
+(`refused memory` on standard error); 4 a stream failed (`refused 603`), or known records couldn't be
+read (`refused 605`).";
 
 pub(crate) const RECORDS: &str = "  $ echo 1RB1LB_1LA--- H 6 4 | bb check
   1RB1LB_1LA--- halts 6 ones 4

@@ -9,7 +9,8 @@ use std::io::{self, Write};
 use thiserror::Error as Fault;
 
 /// Why there are no options: clap refused the words, also for a path where a number belongs, or was asked for help or the
-/// version, a word isn't text, clap let through a command or a number that it should have refused, or memory was refused.
+/// version, a word isn't text, clap let through a command or a number that it should have refused, known records would be read
+/// from standard input, or memory was refused.
 #[derive(Debug, Drop, Fault)]
 pub enum LineFault {
     #[error("{0}")]
@@ -23,6 +24,8 @@ pub enum LineFault {
     NoSuchCommand,
     #[error("error: a number is out of its range\n")]
     OutOfRange,
+    #[error("error: --known takes a file, not standard input (a file of that name is ./-)\n")]
+    KnownFromInput,
     #[error("refused memory\n")]
     NoMemory,
 }
@@ -39,7 +42,8 @@ impl LineFault {
             LineFault::PathForNumber(_)
             | LineFault::NotText
             | LineFault::NoSuchCommand
-            | LineFault::OutOfRange => false,
+            | LineFault::OutOfRange
+            | LineFault::KnownFromInput => false,
             LineFault::NoMemory => return Ended::NoMemory.told(faults),
         };
         let Ok(text) = format!(in alloc; "{self}") else {

@@ -3,9 +3,9 @@ ghost use Rattle.std.specs.Prelude.{◌≡◌, ◌≤◌, IfOk, IfSome};
 ghost use Rattle.cmd_options.specs.Ranges.{AreWithinRanges, IsSettling, IsWithinRange};
 
 use crate::arguments::{
-    CARRIED, DAMAGED, DRAWN, ERA, FILE, FILLED, FIRST, FOLDER, FROM, HARD, JOINED, JSON, LEDGER,
-    LOSE, MENDED, MERGED, OLD, PICTURES, PROGRESS, READ, ROUNDS, ROWS, SECOND, STATES, STEPS, SYNC,
-    WHY, WIDTH, WORKERS,
+    CARRIED, DAMAGED, DRAWN, ERA, FILE, FILLED, FIRST, FOLDER, FROM, HARD, JOINED, JSON, KNOWN,
+    LEDGER, LOSE, MENDED, MERGED, OLD, PICTURES, PROGRESS, READ, ROUNDS, ROWS, SECOND, STATES,
+    STEPS, SYNC, WHY, WIDTH, WORKERS,
 };
 use crate::grammar::program;
 use crate::line_fault::LineFault;
@@ -88,10 +88,11 @@ fn quotes(alloc: Global, text: &str, word: &str) -> Result<bool, NoMemory> {
 }
 
 // How far to search. clap has refused what is out of range.
-fn search_of(matches: &ArgMatches<'_>) -> Result<Search, LineFault>
+fn search_of<'a>(matches: &ArgMatches<'a>) -> Result<Search<'a>, LineFault>
     ensures { IfOk result IsWithinRange }
 {
     Ok(Search {
+        known: known_of(matches)?,
         steps: number_of(matches, STEPS)?,
         depth: number_of(matches, DEPTH)?,
         gram: number_of(matches, GRAM)?,
@@ -100,6 +101,14 @@ fn search_of(matches: &ArgMatches<'_>) -> Result<Search, LineFault>
         count: number_of(matches, COUNT)?,
         hard: matches.get_flag(HARD.name),
     })
+}
+
+// The file of records that are looked up first, if there is one.
+fn known_of<'a>(matches: &ArgMatches<'a>) -> Result<Option<&'a str>, LineFault> {
+    match matches.get_str(KNOWN.name) {
+        Some("-") => Err(LineFault::KnownFromInput),
+        known => Ok(known),
+    }
 }
 
 // The number of an option.
@@ -171,7 +180,7 @@ fn loop_options<'a>(over_sockets: &ArgMatches<'a>) -> Result<Options<'a>, LineFa
 }
 
 // How a tree is settled, where so many frames are lost.
-fn settling_of(matches: &ArgMatches<'_>, lose: Option<u64>) -> Result<Settling, LineFault>
+fn settling_of<'a>(matches: &ArgMatches<'a>, lose: Option<u64>) -> Result<Settling<'a>, LineFault>
     requires { IfSome lose (λ every. (2 ≤ every) × (every ≤ 1000)) }
     ensures { IfOk result (λ settling. IsSettling settling × (settling.lose ≡ lose)) }
 {

@@ -56,6 +56,7 @@ fn ran(alloc: Global, row: &Row, workers: Vec<Probe<'_>>) -> Outcome {
         lose: row.lose,
         rounds: row.rounds,
         search: Search {
+            known: None,
             steps: 1_000,
             depth: 20,
             gram: 3,

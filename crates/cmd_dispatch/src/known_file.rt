@@ -1,0 +1,56 @@
+// The file of records that were found elsewhere.
+use cmd_known::{Known, read_known, tell_refusals};
+use cmd_options::{Ended, Options, ended_by};
+use files::{Disk, Files, OnDisk};
+use std::alloc::Global;
+use std::cell::RefCell;
+use std::io::Write;
+
+// What is known by it. All finders of a command look tables up in it, each worker's too.
+#[derive(Drop)]
+pub(crate) struct KnownFile<'a> {
+    path: &'a str,
+    pub known: RefCell<Known>,
+}
+
+impl<'a> KnownFile<'a> {
+    // The one that is asked for, read to its end; none where none is.
+    pub fn asked<S: Disk>(
+        alloc: Global,
+        asked: &Options<'a>,
+        system: &S,
+    ) -> Result<Option<KnownFile<'a>>, Ended> {
+        let Some(path) = path_in(asked) else {
+            return Ok(None);
+        };
+        let mut file = match OnDisk::of(alloc, system).open_to_end(path) {
+            Ok(file) => file,
+            Err(fault) => return Err(ended_by(&fault, Ended::File)),
+        };
+        match read_known(alloc, &mut file.reader, file.length) {
+            Ok(known) => Ok(Some(KnownFile {
+                path,
+                known: RefCell::new(known),
+            })),
+            Err(stopped) => Err(stopped.ended(Ended::File)),
+        }
+    }
+
+    // Says what was refused of it. Nothing hangs on whether that can be said.
+    pub fn tell<E: Write>(&self, alloc: Global, faults: &mut E) {
+        if let Ok(known) = self.known.try_borrow() {
+            let _ = tell_refusals(alloc, self.path, known.refused(), faults);
+        }
+    }
+}
+
+// Where a command that searches for certificates is to look first.
+fn path_in<'a>(asked: &Options<'a>) -> Option<&'a str> {
+    match asked {
+        Options::Decide(search) | Options::Retry { search, .. } => search.known,
+        Options::Run { settling, .. } | Options::Loop { settling, .. } => settling.search.known,
+        Options::Split(splitting) => splitting.search.known,
+        Options::Settle(settling) => settling.search.known,
+        _ => None,
+    }
+}

@@ -108,10 +108,14 @@ impl Whole {
     pub fn status(&self) -> Status
         ensures stands { (parts : List Contents) → IsWhole self.now parts →
             IsStatus self.now.trunk.root (joined_with self.now.trunk.records parts) result }
-        ensures best { (best ones : Option ℕ) → result ≡ Status.Complete best ones → IsBestOfTable HaltsAt self.now.trunk.root best }
-        ensures ones { (best ones : Option ℕ) → result ≡ Status.Complete best ones → IsBestOfTable Scores self.now.trunk.root ones }
-        ensures rado { (n s : ℕ) (ones : Option ℕ) → 1 ≤ n → n ≤ state_limit → self.now.trunk.root ≡ empty_table n → result ≡ Status.Complete (Some s) ones → IsRado n s }
-        ensures sigma { (n s : ℕ) (best : Option ℕ) → 1 ≤ n → n ≤ state_limit → self.now.trunk.root ≡ empty_table n → result ≡ Status.Complete best (Some s) → IsSigma n s }
+        ensures best { (best ones : Option ℕ) → result ≡ Status.Complete best ones
+            → IsBestOfTable HaltsAt self.now.trunk.root best }
+        ensures ones { (best ones : Option ℕ) → result ≡ Status.Complete best ones
+            → IsBestOfTable Scores self.now.trunk.root ones }
+        ensures rado { (n s : ℕ) (ones : Option ℕ) → 1 ≤ n → n ≤ state_limit → self.now.trunk.root ≡ empty_table n
+            → result ≡ Status.Complete (Some s) ones → IsRado n s }
+        ensures sigma { (n s : ℕ) (best : Option ℕ) → 1 ≤ n → n ≤ state_limit → self.now.trunk.root ≡ empty_table n
+            → result ≡ Status.Complete best (Some s) → IsSigma n s }
     {
         child_is_table();
         standing_claims_are_true();
@@ -137,7 +141,8 @@ impl Whole {
         ensures champions { IfOk result (λ found. (parts : List Contents) → IsWhole self.now parts → (best : Option ℕ) →
             IsGreatestCount (joined_with self.now.trunk.records parts) best →
             AreAll (IsChampion (joined_with self.now.trunk.records parts) best) (into_iter_items found.0)) }
-        ensures ones_champions { IfOk result (λ found. (parts : List Contents) → IsWhole self.now parts → (ones : Option ℕ) →
+        ensures ones_champions { IfOk result (λ found. (parts : List Contents) → IsWhole self.now parts
+            → (ones : Option ℕ) →
             IsGreatestOnes (joined_with self.now.trunk.records parts) ones →
             AreAll (IsOnesChampion (joined_with self.now.trunk.records parts) ones) (into_iter_items found.1)) }
         ensures holdouts { IfOk result (λ found. (parts : List Contents) → IsWhole self.now parts →

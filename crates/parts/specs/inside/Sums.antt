@@ -8,7 +8,12 @@ use Rattle.parts.specs.declared.sums.Sums.{Sums}
 
 -- the totals that are kept
 abbrev pub totals_of : Sums → Totals
-totals_of s = record { tally = s.tally; champions = s.champions.items; ones_champions = s.ones_champions.items; holdouts = s.holdouts.items }
+totals_of s = record {
+  tally = s.tally;
+  champions = s.champions.items;
+  ones_champions = s.ones_champions.items;
+  holdouts = s.holdouts.items;
+}
 
 -- the champions of two lists of records: those of the one with the greater number, or of both where the numbers are one
 abbrev pub champions_of_both : Option ℕ → List Packed → Option ℕ → List Packed → List Packed

@@ -16,7 +16,7 @@ OfOne p given o = MatchOption o (ShowsVerdict p given → ⊥) (λ d. (d.record.
     × ShowsVerdict p given × (given ≡ Some (owned_claim d.record.certificate)))
 
 pub one_taken : (p : Packed) (given : Option Claim) (o : Option Decided) (d : Decided) → o ≡ Some d → OfOne p given o → ShowsVerdict p given × (given ≡ Some (owned_claim d.record.certificate))
-one_taken p given o d is one = let made = subst (OfOne p given) is one in (made.2.1, made.2.2)
+one_taken p given o d is one = let made = subst (OfOne p given) is one in (made.2, made.3)
 
 pub one_left : (p : Packed) (given : Option Claim) (o : Option Decided) → o ≡ None → OfOne p given o → ShowsVerdict p given → ⊥
 one_left p given o is one = subst (OfOne p given) is one

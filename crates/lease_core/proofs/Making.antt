@@ -1,5 +1,5 @@
 -- The record of a work turn, which is offered with its score.
-use Rattle.std.proofs.Common.{◌≡◌, ◌<◌, [], ◌∷◌, ◌++◌, length, Option, Some, None, Result, Ok, Err, IfOk, sym, ap, subst}
+use Rattle.std.proofs.Common.{inl, ◌≡◌, ◌<◌, [], ◌∷◌, ◌++◌, length, Option, Some, None, Result, Ok, Err, IfOk, sym, ap, subst}
 use Rattle.cert.specs.Certified.{IsCertified}
 use Rattle.cert.specs.Claim.{Claim, Recorded}
 use Rattle.cert.specs.Scored.{GetsScore, with_score}
@@ -63,3 +63,7 @@ module _ (r s : Recorded) (gets : GetsScore r s) (certified : IsCertified r) whe
   pub made_unscored : {E : Type 0} (b : Contents) (result : Result Out E) (board : Option Contents) → IfOk result (λ (out : Out). Makes b s out board) → IfOk result (λ (out : Out). Makes b r out board)
   made_unscored b (Ok out) board made = makes_unscored b out board made
   made_unscored b (Err e) board made = tt
+
+-- what is offered of a record that was made is that with its score
+pub full_gets : (r s : Recorded) → IsCertified r → s ≡ with_score r → GetsScore r s
+full_gets r s certified is = inl (certified, is)

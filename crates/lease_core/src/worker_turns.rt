@@ -73,13 +73,13 @@ pub(crate) fn make(alloc: Global, board: &mut Board, made: Decided) -> Result<Ou
     ensures ok { IfOk result (λ out. Makes board.old (owned_recorded made.record) out (Some board.new)) }
     ensures err { OnErr result (board.new ≡ board.old) }
 {
-    let Decided { record, judged } = made.scored();
+    let full = made.scored();
     // The parts by their names: the borrow checker's proof has to know of what the record is made.
     let r = Record {
-        table: record.table,
-        certificate: record.certificate.lent(),
+        table: full.record.table,
+        certificate: full.record.certificate.lent(),
     };
-    put(alloc, board, &r, judged)
+    put(alloc, board, &r, full.judged)
 }
 
 // Puts a record that has its score. Its frame comes before the offer, and its line with that: once the board has

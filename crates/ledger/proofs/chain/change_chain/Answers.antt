@@ -35,5 +35,5 @@ loop-place-preserved c =
       as_many = as_long c.loop-place.records.entries c.loop-place.place _ ∙ c.loop-place.invariant.as_many;
     }
 
-pub returns-clause-carried : goal.returns-clause-carried
-returns-clause-carried c = all_walked c.args.change c.args.records.now.entries c.loop-place.records.entries c.args.from c.loop-place.place c.loop-place.invariant.walked (last_place c.loop-place.place c.loop-place-test.false)
+pub returns-clause-changed : goal.returns-clause-changed
+returns-clause-changed c = all_walked c.args.change c.args.records.now.entries c.loop-place.records.entries c.args.from c.loop-place.place c.loop-place.invariant.walked (last_place c.loop-place.place c.loop-place-test.false)

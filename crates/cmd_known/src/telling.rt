@@ -16,7 +16,8 @@ pub fn tell_refusals<E: Write>(
     refused: Refusals,
     faults: &mut E,
 ) -> Result<(), Ended>
-    ensures ok { OnOk result (Appends (E.contents faults.old) (E.contents faults.new) (refusals_text path.now refused)) }
+    ensures ok { OnOk result (Appends (E.contents faults.old) (E.contents faults.new)
+        (refusals_text path.now refused)) }
     ensures err { IfErr result (λ e. (e ≡ Ended.NoMemory) ⊎ (e ≡ Ended.Stream)) }
 {
     let mut line = Vec::new(alloc);

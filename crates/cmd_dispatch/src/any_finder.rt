@@ -49,8 +49,8 @@ impl Finder for AnyFinder<'_> {
     }
 }
 
-// What is known; then those of the kinds, in the order of their letters, or the one that goes through the stages, where the
-// search is hard.
+// What is known; then those of the kinds, in the order of their letters, or the one that goes through the stages, where
+// the search is hard.
 fn all_finders<'a>(
     alloc: Global,
     known: Option<&'a KnownFile<'a>>,

@@ -45,7 +45,8 @@ said_by n (Ok r) p = cond (is_at (table_cmp r.table) p) (option_map (saying n) (
 -- what the first line that says something of a table says, of lines behind so many others
 abbrev pub first_said : ℕ → List (List ℕ) → Packed → Option Saying
 first_said n [] p = None
-first_said n (line ∷ lines) p = option_or (said_by (next_number n) (read_line (bounded_line line)) p) (first_said (next_number n) lines p)
+first_said n (line ∷ lines) p =
+    option_or (said_by (next_number n) (read_line (bounded_line line)) p) (first_said (next_number n) lines p)
 
 -- a line tells nothing: it is no record, its record claims nothing, or something is known of its table
 abbrev pub tells_nothing : (Packed → Option Saying) → Result Recorded RecordFault → Bool
@@ -73,13 +74,15 @@ pub record IsKnownBy (has : Option (List ℕ)) (limit : ℕ) (known : Known) : T
 abbrev pub IsGiven : Option Saying → Packed → Option Claim → Type 0
 IsGiven None p given = given ≡ None
 IsGiven (Some said) p given =
-    (ShowsVerdict p (Some said.claim) × (given ≡ Some said.claim)) ⊎ ((ShowsVerdict p (Some said.claim) → ⊥) × (given ≡ None))
+    (ShowsVerdict p (Some said.claim) × (given ≡ Some said.claim))
+    ⊎ ((ShowsVerdict p (Some said.claim) → ⊥) × (given ≡ None))
 
 -- what is known of a table is known no more, and its line is refused
 abbrev pub IsRefused : Option Saying → Known → Packed → Known → Type 0
 IsRefused None old p new = new ≡ old
 IsRefused (Some said) old p new =
-    (new.refused ≡ with_number old.refused said.line) × ((q : Packed) → known_of new q ≡ cond (is_at (table_cmp p) q) None (known_of old q))
+    (new.refused ≡ with_number old.refused said.line)
+    × ((q : Packed) → known_of new q ≡ cond (is_at (table_cmp p) q) None (known_of old q))
 
 -- where something is given nothing changes, else what was known of the table is refused
 abbrev pub IsLookedUp : Known → Packed → Option Claim → Known → Type 0

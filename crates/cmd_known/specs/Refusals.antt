@@ -26,8 +26,12 @@ with_numbers refused (line ∷ lines) = with_numbers (with_number refused line) 
 abbrev pub count_behind : List ℕ → ℕ → List ℕ
 count_behind path count = path ++ codes ": " ++ decimal count
 
+-- and which is the first
+abbrev pub first_refused : ℕ → List ℕ
+first_refused first = codes " refused, the first in line " ++ decimal first ++ 10 ∷ []
+
 abbrev pub refusals_line : List ℕ → ℕ → ℕ → List ℕ
-refusals_line path count first = count_behind path count ++ codes " refused, the first in line " ++ decimal first ++ 10 ∷ []
+refusals_line path count first = count_behind path count ++ first_refused first
 
 -- what is said of them, which is nothing where there are none
 abbrev pub said_of : List ℕ → ℕ → Option ℕ → List ℕ

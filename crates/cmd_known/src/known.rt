@@ -1,5 +1,5 @@
 // What is known of tables by the records of a text.
-ghost use Rattle.std.specs.Prelude.{◌≡◌, IfErr, IfOk, OnErr, OnOk, is_none, option_map};
+ghost use Rattle.std.specs.Prelude.{◌≡◌, IfOk, OnErr, OnOk, is_none, option_map};
 ghost use Rattle.machine_text.specs.Packed.{Packed};
 ghost use Rattle.cert.specs.Kinds.{owned_claim, read_as, recorded};
 ghost use Rattle.cmd_lines.specs.Answer.{read_line};
@@ -46,16 +46,16 @@ impl Known {
         }
     }
 
-    /// The lines that were refused: those that told nothing when they were read, and those whose record was looked up and
-    /// doesn't stand.
+    /// The lines that were refused: those that told nothing when they were read, and those whose record was looked up
+    /// and doesn't stand.
     pub fn refused(&self) -> Refusals
         ensures { result ≡ self.now.refused }
     {
         self.refused
     }
 
-    /// What is known of a table, where it stands. Where it doesn't, its line is refused, and nothing is known of the table
-    /// from then on. Where memory is refused nothing changes.
+    /// What is known of a table, where it stands. Where it doesn't, its line is refused, and nothing is known of the
+    /// table from then on. Where memory is refused nothing changes.
     pub fn look_up(&mut self, t: &Table) -> Result<Option<OwnedCertificate>, NoMemory>
         ensures given { IfOk result (λ o. IsGiven (known_of self.old t.now) t.now (option_map owned_claim o)) }
         ensures changes { IfOk result (λ o. IsLookedUp self.old t.now (option_map owned_claim o) self.new) }

@@ -8,8 +8,9 @@ use cmd_taking::LineLoop;
 use std::alloc::Global;
 use std::io::Read;
 
-/// What is known by the first bytes of a reader, so many bytes at most: of each table the claim of the first line that is a
-/// record of it and claims something; the other lines are refused. A line of over 65,000 bytes is no record. Nothing is judged.
+/// What is known by the first bytes of a reader, so many bytes at most: of each table the claim of the first line that
+/// is a record of it and claims something; the other lines are refused. A line of over 65,000 bytes is no record.
+/// Nothing is judged.
 pub fn read_known<R: Read>(alloc: Global, from: &mut R, limit: u64) -> Result<Known, Stopped>
     ensures { IfOk result (IsKnownBy (R.remaining from.old) limit) }
 {

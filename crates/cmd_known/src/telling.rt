@@ -1,7 +1,7 @@
 // What is said of refused lines.
 ghost use Rattle.std.specs.Prelude.{◌≡◌, ◌⊎◌, ◌++◌, IfErr, OnOk};
 ghost use Rattle.std.specs.Io.KnownBytes.{Appends};
-ghost use Rattle.cmd_known.specs.Refusals.{count_behind, refusals_line, refusals_text};
+ghost use Rattle.cmd_known.specs.Refusals.{count_behind, first_refused, refusals_line, refusals_text};
 
 use crate::refusals::Refusals;
 use cmd_options::{Ended, NoMemory};
@@ -16,7 +16,8 @@ pub fn tell_refusals<E: Write>(
     refused: Refusals,
     faults: &mut E,
 ) -> Result<(), Ended>
-    ensures ok { OnOk result (Appends (E.contents faults.old) (E.contents faults.new) (refusals_text path.now refused)) }
+    ensures ok { OnOk result (Appends (E.contents faults.old) (E.contents faults.new)
+        (refusals_text path.now refused)) }
     ensures err { IfErr result (λ e. (e ≡ Ended.NoMemory) ⊎ (e ≡ Ended.Stream)) }
 {
     let mut line = Vec::new(alloc);
@@ -40,9 +41,7 @@ fn append_line(path: &str, count: u64, first: u64, out: &mut Vec<u8>) -> Result<
     ensures { OnOk result (out.new.items ≡ out.old.items ++ refusals_line path.now count first) }
 {
     append_count(path, count, out)?;
-    out.extend_from_slice(b" refused, the first in line ")?;
-    append_number(first, out)?;
-    out.extend_from_slice(b"\n")
+    append_first(first, out)
 }
 
 // Appends a path, and a number behind it.
@@ -52,4 +51,13 @@ fn append_count(path: &str, count: u64, out: &mut Vec<u8>) -> Result<(), NoMemor
     out.extend_from_slice(path.as_bytes())?;
     out.extend_from_slice(b": ")?;
     append_number(count, out)
+}
+
+// Appends which is the first.
+fn append_first(first: u64, out: &mut Vec<u8>) -> Result<(), NoMemory>
+    ensures { OnOk result (out.new.items ≡ out.old.items ++ first_refused first) }
+{
+    out.extend_from_slice(b" refused, the first in line ")?;
+    append_number(first, out)?;
+    out.extend_from_slice(b"\n")
 }

@@ -8,9 +8,9 @@ use std::alloc::{AllocFailed, Global};
 use std::io::{self, Write};
 use thiserror::Error as Fault;
 
-/// Why there are no options: clap refused the words, also for a path where a number belongs, or was asked for help or the
-/// version, a word isn't text, clap let through a command or a number that it should have refused, known records would be read
-/// from standard input, or memory was refused.
+/// Why there are no options: clap refused the words, also for a path where a number belongs, or was asked for help or
+/// the version, a word isn't text, clap let through a command or a number that it should have refused, known records
+/// would be read from standard input, or memory was refused.
 #[derive(Debug, Drop, Fault)]
 pub enum LineFault {
     #[error("{0}")]

@@ -9,15 +9,20 @@ stress/skelet1.py returns COUNT        the run from the blank tape by rules, up 
                                        the tape has to be that of the plain run
 stress/skelet1.py check [PROGRAM ..]   the whole check, by the built program's `bb check` or another one: half a minute and
                                        80 megabytes; its answer has to be `never`
+stress/skelet1.py told [PROGRAM ..]    what `bb report`, `bb retry` and `bb join` say of it before they judge it: a line where
+                                       standard error is a terminal, and nothing elsewhere
 
 Written from the definitions in crates/skelet1/specs/inside (Words, Tokens, Visits, Jumps), with a machine that makes one
 step at a time; no code of the crate is used. Ends with 1 where something differs.
 """
 import os
+import pty
 import random
 import resource
+import select
 import subprocess
 import sys
+import tempfile
 
 sys.path.insert(0, os.path.join(os.path.dirname(os.path.abspath(__file__)), "..", "bench"))
 from program import PROGRAM  # noqa: E402
@@ -391,6 +396,40 @@ def check(program):
     return said != f"{TEXT} never\n"
 
 
+def said_at(program, words, end, other):
+    """What comes on standard error, whose other end is read, in some seconds; the program is stopped then."""
+    with subprocess.Popen(program + words, stdout=subprocess.DEVNULL, stderr=end) as begun:
+        os.close(end)
+        said = b""
+        while select.select([other], [], [], 5)[0]:
+            more = os.read(other, 4096)
+            if not more:
+                break
+            said += more
+        begun.kill()
+    os.close(other)
+    return said.decode().replace("\r\n", "\n")
+
+
+def told(program):
+    """What is said before it is judged, by each command that reads ledgers."""
+    wrong = 0
+    with tempfile.TemporaryDirectory() as folder:
+        ledger = os.path.join(folder, "trunk.ledger")
+        with open(ledger, "w", encoding="ascii") as file:
+            file.write(f"bb-ledger 2 {TEXT}\n{TEXT} P\n")
+        for words in (["report", ledger], ["retry", ledger], ["join", folder]):
+            other, end = pty.openpty()
+            shown = said_at(program, words, end, other)
+            other, end = os.pipe()
+            beside = said_at(program, words, other=other, end=end)
+            if shown != "judging Skelet 1, some half a minute ..\n" or beside != "":
+                wrong += 1
+                print(f"{words[0]} says {shown!r} at a terminal, {beside!r} elsewhere")
+    print(f"told: {wrong} differ")
+    return wrong
+
+
 def main():
     words = sys.argv[1:]
     if words[:1] == ["rules"] and len(words) == 3:
@@ -399,6 +438,8 @@ def main():
         return all_visits(int(words[1]), int(words[2]))
     if words[:1] == ["returns"] and len(words) == 2:
         return returns(int(words[1]))
+    if words[:1] == ["told"]:
+        return told(words[1:] or [PROGRAM])
     if words[:1] == ["check"]:
         return check(words[1:] or [PROGRAM, "check"])
     print(__doc__)

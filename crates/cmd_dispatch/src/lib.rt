@@ -19,9 +19,11 @@ mod nodes;
 mod pictures;
 mod stages;
 mod system;
+mod watched_file;
 
 pub use executing::execute;
 pub use failures::Failures;
 pub use named_file::NamedFile;
 pub use named_socket::NamedSocket;
 pub use system::{FileLock, System};
+pub use watched_file::WatchedFile;

@@ -2,6 +2,7 @@
 use crate::failures::Failures;
 use crate::named_file::NamedFile;
 use crate::named_socket::{LOOPBACK, NamedSocket};
+use crate::watched_file::WatchedFile;
 use cmd_nodes::Sockets;
 use cmd_options::{Ended, ended_by};
 use files::Disk;
@@ -113,18 +114,22 @@ impl<'a> Disk for System<'a> {
 
     ghost knows = { false };
 
-    type Reader = NamedFile<'a>;
+    type Reader = WatchedFile<'a>;
 
-    fn open(&self, path: &str) -> io::Result<NamedFile<'a>> {
+    fn open(&self, path: &str) -> io::Result<WatchedFile<'a>> {
         let file = self.noted(path, fs::open(self.rt, path))?;
-        Ok(self.named(file, path))
+        Ok(WatchedFile {
+            file: self.named(file, path),
+            rt: self.rt,
+            come: 0,
+        })
     }
 
-    fn length(&self, file: &NamedFile<'a>) -> io::Result<u64> {
+    fn length(&self, file: &WatchedFile<'a>) -> io::Result<u64> {
         Ok(file.metadata()?.len())
     }
 
-    fn extent(&self, file: &NamedFile<'a>) -> io::Result<u64> {
+    fn extent(&self, file: &WatchedFile<'a>) -> io::Result<u64> {
         let found = file.metadata()?;
         Ok(if found.is_file() {
             found.len()

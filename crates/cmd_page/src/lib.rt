@@ -10,13 +10,18 @@ mod counts;
 mod entries;
 mod escape;
 mod figures;
+mod form;
 mod laws;
 mod making;
 mod page;
 mod rows;
+mod sentence;
 mod style;
 mod summary;
 mod writing;
 
+pub use census::Census;
+pub use form::Page;
 pub use laws::{escaped_is_plain, tables_need_no_escape};
+pub use making::MadePage;
 pub use page::{write_ledger_page, write_page};

@@ -200,8 +200,9 @@ pub fn join_parts<S: Parts, P: ReportForm, C: Collector, W: Write, E: Write>(
     tell_whole(alloc, form, &whole, is_sound, answers)
 }
 
-// The trunk and the parts beside it, and whether nothing is wrong with them.
-fn gather<S: Parts, C: Collector, E: Write>(
+/// Judges the trunk in a folder and the parts beside it as `join_parts` does, and answers the whole of them and whether
+/// nothing is wrong with them. What is wrong with the trunk or a part is said on `faults` behind its path.
+pub fn gather<S: Parts, C: Collector, E: Write>(
     alloc: Global,
     folder: &str,
     parts: &S,
@@ -272,8 +273,9 @@ fn add_parts<S: Parts, C: Collector, E: Write>(
     Ok(are_sound)
 }
 
-// Prints the report of a whole.
-fn tell_whole<P: ReportForm, W: Write>(
+/// Prints the report of a whole in a form. Accepted where that says complete and nothing is wrong with its parts. Where
+/// memory is refused, nothing was printed.
+pub fn tell_whole<P: ReportForm, W: Write>(
     alloc: Global,
     form: &P,
     whole: &Whole,

@@ -5,8 +5,8 @@ use Rattle.machine_text.specs.Packed.{Packed}
 use Rattle.machine_text.specs.Text.{text_of}
 use Rattle.cmd_picture.specs.declared.ones.Run.{Run}
 use Rattle.cmd_picture.specs.declared.view.View.{View}
-use Rattle.cmd_picture.specs.declared.style.TheConstants.{BEGINNING, STYLE}
 use Rattle.cmd_picture.specs.Rows.{Shown}
+use Rattle.cmd_picture.specs.Style.{beginning_text, style_text}
 
 abbrev pub cells_svg : ℕ → ℕ → ℕ → List ℕ
 cells_svg column y count = codes "M" ++ decimal column ++ codes " " ++ decimal y ++ codes "h" ++ decimal count
@@ -35,14 +35,14 @@ abbrev pub size_svg : ℕ → ℕ → List ℕ
 size_svg width height = decimal width ++ codes " " ++ decimal height
 
 abbrev pub frame_svg : ℕ → ℕ → List ℕ
-frame_svg width height = BEGINNING.now ++ size_svg width height ++ codes "'>\n"
+frame_svg width height = beginning_text ++ size_svg width height ++ codes "'>\n"
 
 abbrev pub title_svg : Packed → List ℕ
 title_svg p = codes "<title>" ++ text_of p ++ codes "</title>\n"
 
 -- what stands before so many rows: room for them and for a bar, the table's text, the colours
 unfoldable pub opening : Packed → View → ℕ → List ℕ
-opening p v rows = frame_svg v.width (rows + 1) ++ title_svg p ++ STYLE.now
+opening p v rows = frame_svg v.width (rows + 1) ++ title_svg p ++ style_text
 
 unfoldable pub svg_text : Packed → View → List Shown → List ℕ
 svg_text p v rows = opening p v (length rows) ++ flat_map (row_svg v) rows ++ codes "</g>\n</svg>\n"

@@ -8,7 +8,7 @@ ghost use Rattle.cmd_picture.specs.Times.{AreWithinRuns};
 use crate::lines::append_row;
 use crate::row::Row;
 use crate::rows::Rows;
-use crate::style::{BEGINNING, STYLE};
+use crate::style::{beginning, style};
 use crate::times::Times;
 use crate::view::View;
 use machine_text::{TEXT_BYTES, Table};
@@ -61,14 +61,14 @@ fn append_opening(t: &Table, view: &View, rows: u64, out: &mut Vec<u8>) -> Resul
 {
     append_frame(view.width, rows + 1, out)?;
     append_title(t, out)?;
-    out.extend_from_slice(STYLE)
+    out.extend_from_slice(style())
 }
 
 // Appends the beginning of a document that is so wide and so high.
 fn append_frame(width: u64, height: u64, out: &mut Vec<u8>) -> Result<(), NoMemory>
     ensures { OnOk result (out.new.items ≡ out.old.items ++ frame_svg width height) }
 {
-    out.extend_from_slice(BEGINNING)?;
+    out.extend_from_slice(beginning())?;
     append_size(width, height, out)?;
     out.extend_from_slice(b"'>\n")
 }

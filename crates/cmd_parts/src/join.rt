@@ -272,8 +272,9 @@ fn add_parts<S: Parts, C: Collector, E: Write>(
     Ok(are_sound)
 }
 
-// Prints the report of a whole.
-fn tell_whole<P: ReportForm, W: Write>(
+/// Prints the report of a whole in a form. Accepted where it says complete and nothing was wrong. Where memory is refused,
+/// nothing was printed.
+pub fn tell_whole<P: ReportForm, W: Write>(
     alloc: Global,
     form: &P,
     whole: &Whole,
@@ -317,8 +318,8 @@ fn trunk_at<S: Parts>(alloc: Global, parts: &S, path: &str) -> Result<(Board, Le
     }
 }
 
-// The open tables of a trunk.
-fn open_tables(alloc: Global, trunk: &Board) -> Result<Vec<Table>, NoMemory>
+/// The open tables of a trunk, in the order of their texts.
+pub fn open_tables(alloc: Global, trunk: &Board) -> Result<Vec<Table>, NoMemory>
     ensures { IfOk result (λ roots. AreAll (IsOpenOn trunk.now) roots.items) }
 {
     let mut roots = Vec::new(alloc);

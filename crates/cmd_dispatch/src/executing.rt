@@ -12,7 +12,7 @@ use std::io::{Read, Write};
 use std::time::Clock;
 
 /// Does what is asked for: `bb check`, `bb decide`, `bb draw` and `bb coord` read `input`, and so do `bb report -`,
-/// `bb page -` and `bb mend -`. The answer goes to `answers`, and what ends the command early to `faults`. Each end is an
+/// `bb page -`, `bb mend -` and `bb join -`. The answer goes to `answers`, and what ends the command early to `faults`. Each end is an
 /// `Outcome`: want of memory and a stream or a file that fails too.
 pub fn execute<S: Disk + Clock + Sockets, R: Read, W: Write, E: Write>(
     alloc: Global,

@@ -3,11 +3,13 @@ ghost use Rattle.cmd_options.specs.Ranges.{IsSplitting};
 
 use crate::any_finder::decider_for;
 use crate::call::Call;
+use crate::ledgers::STANDARD_INPUT;
 use cmd_json::Form;
 use cmd_options::{Ended, Joining, LedgerSettling, Outcome, Splitting};
 use cmd_parts::{join_at, settle_ledger_at, split_in};
+use cmd_stream::join_stream;
 use files::{Disk, Silent, Telling, TimedProgress};
-use std::io::Write;
+use std::io::{Read, Write};
 use std::time::Clock;
 
 // `bb split`.
@@ -51,8 +53,8 @@ pub(crate) fn settle<S: Disk + Clock, R, W: Write, E: Write>(
     ended.and(Ok(Outcome::Accepted))
 }
 
-// `bb join`.
-pub(crate) fn join<S: Disk, R, W: Write, E: Write>(
+// `bb join`, of a folder or of `input`.
+pub(crate) fn join<S: Disk, R: Read, W: Write, E: Write>(
     call: Call<'_, S, R, W, E>,
     joining: &Joining<'_>,
 ) -> Result<Outcome, Ended> {
@@ -60,9 +62,13 @@ pub(crate) fn join<S: Disk, R, W: Write, E: Write>(
     let mut files = call.files();
     let Call {
         alloc,
+        input,
         answers,
         faults,
         ..
     } = call;
+    if joining.folder == STANDARD_INPUT {
+        return join_stream(alloc, &form, input, answers, faults);
+    }
     join_at(alloc, &form, joining, &mut files, answers, faults)
 }

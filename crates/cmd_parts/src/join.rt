@@ -319,8 +319,8 @@ fn trunk_at<S: Parts>(alloc: Global, parts: &S, path: &str) -> Result<(Board, Le
     }
 }
 
-// The open tables of a trunk.
-fn open_tables(alloc: Global, trunk: &Board) -> Result<Vec<Table>, NoMemory>
+/// The open tables of a trunk, in the order of their texts.
+pub fn open_tables(alloc: Global, trunk: &Board) -> Result<Vec<Table>, NoMemory>
     ensures { IfOk result (λ roots. AreAll (IsOpenOn trunk.now) roots.items) }
 {
     let mut roots = Vec::new(alloc);

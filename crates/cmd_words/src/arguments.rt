@@ -32,6 +32,8 @@ mod rows {
     pub(crate) const FILE: Text = Text { name: "FILE", value: None, help: "The ledger file" };
     pub(crate) const READ: Text = Text { name: "FILE", value: None, help: "The ledger file, or `-` for standard input" };
     pub(crate) const FOLDER: Text = Text { name: "DIR", value: None, help: "The folder of the trunk and the parts" };
+    pub(crate) const JOIN_READ: Text = Text { name: "DIR", value: None,
+        help: "The folder of the trunk and the parts, or `-` for a stream of them on standard input" };
     pub(crate) const FIRST: Text = Text { name: "A", value: None, help: "The ledger whose records come first" };
     pub(crate) const SECOND: Text = Text { name: "B", value: None, help: "The other ledger" };
     pub(crate) const MERGED: Text = Text { name: "OUT", value: None,

@@ -62,7 +62,7 @@ pub(crate) const COMMANDS: [CommandWords; 15] = [
         arguments: &[Text(FILE), Flag(SYNC), Flag(PROGRESS)] },
     CommandWords { name: "join", searches: false, after_help: JOIN,
         about: "Prints the report of a trunk and its parts together, as of one ledger that holds all.",
-        arguments: &[Text(FOLDER), Flag(JSON), Text(JOINED)] },
+        arguments: &[Text(JOIN_READ), Flag(JSON), Text(JOINED)] },
     CommandWords { name: "draw", searches: false, after_help: DRAW,
         about: "Reads a table or a record a line on standard input, and draws its run as SVG.",
         arguments: &[Number(FROM), Number(DRAWN), Number(ROWS), Number(WIDTH), Text(PICTURES)] },

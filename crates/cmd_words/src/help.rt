@@ -167,6 +167,11 @@ count as far as they are kept: `missing`, `left LINE` as by `bb report`, `refuse
 `refused 405` its table doesn't name its states in order, `refused 406` its root is another table than its name says.
 With --ledger the one ledger is written too; it must be none of the folder's (`refused 408`).
 
+Standard input (`-`) is read to its end: the trunk's ledger first, and then those of its parts, one behind the other in
+any order. What is wrong with a part is said behind its root: `missing`, `left LINE`, `added before` where one of that
+root came already, `not under the trunk`; or, where it has no root, behind its number in the stream (`refused 404`,
+`refused 405`). A folder that is named so is `./-`.
+
 Exit status: 0 the report says complete, and all was kept; 1 it doesn't, or a ledger was refused; 2 a wrong command
 line; 3 out of memory (`refused memory`); 4 a file couldn't be read (`refused 605`) or written (`refused 604`), or a
 stream failed (`refused 603`), or another process writes the one ledger (`refused 606`).";

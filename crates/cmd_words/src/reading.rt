@@ -3,7 +3,7 @@ ghost use Rattle.std.specs.Prelude.{◌≡◌, ◌≤◌, IfOk, IfSome};
 ghost use Rattle.cmd_options.specs.Ranges.{AreWithinRanges, IsSettling, IsWithinRange};
 
 use crate::arguments::{
-    CARRIED, DAMAGED, DRAWN, ERA, FILE, FILLED, FIRST, FOLDER, FROM, HARD, JOINED, JSON, KNOWN,
+    CARRIED, DAMAGED, DRAWN, ERA, FILE, FILLED, FIRST, FOLDER, FROM, HARD, JOIN_READ, JOINED, JSON, KNOWN,
     LEDGER, LOSE, MENDED, MERGED, OLD, PICTURES, PROGRESS, READ, ROUNDS, ROWS, SECOND, STATES,
     STEPS, SYNC, WHY, WIDTH, WORKERS,
 };
@@ -17,6 +17,9 @@ use cmd_options::{
     WORDS,
 };
 use std::alloc::Global;
+
+// In place of a path: standard input.
+const STANDARD_INPUT: &str = "-";
 
 /// What the words of a command line ask for, the program's name first. Where there are options, each number
 /// is within its range.
@@ -50,7 +53,7 @@ fn asked<'a>(name: &str, command: &ArgMatches<'a>) -> Result<Options<'a>, LineFa
         "mend" => Ok(mend_options(command)),
         "split" => split_options(command),
         "settle" => settle_options(command),
-        "join" => Ok(join_options(command)),
+        "join" => join_options(command),
         "draw" => draw_options(command),
         "page" => Ok(page_options(command)),
         "report" => Ok(report_options(command)),
@@ -253,14 +256,18 @@ fn settle_options<'a>(settle: &ArgMatches<'a>) -> Result<Options<'a>, LineFault>
     }))
 }
 
-fn join_options<'a>(join: &ArgMatches<'a>) -> Options<'a>
-    ensures { AreWithinRanges result }
+fn join_options<'a>(join: &ArgMatches<'a>) -> Result<Options<'a>, LineFault>
+    ensures { IfOk result AreWithinRanges }
 {
-    Options::Join(Joining {
-        folder: join.get_str(FOLDER.name).unwrap_or_default(),
+    let joining = Joining {
+        folder: join.get_str(JOIN_READ.name).unwrap_or_default(),
         out: join.get_str(JOINED.name),
         json: join.get_flag(JSON.name),
-    })
+    };
+    if joining.folder == STANDARD_INPUT && joining.out.is_some() {
+        return Err(LineFault::LedgerOfStream);
+    }
+    Ok(Options::Join(joining))
 }
 
 fn draw_options<'a>(draw: &ArgMatches<'a>) -> Result<Options<'a>, LineFault>

@@ -1,0 +1,22 @@
+#!/bin/sh
+# Prints the ledgers of a tree in parts one behind the other, as bb join - reads them: the trunk, and then the parts in the
+# order of their names. The SHA-256 of what is printed is said on standard error:
+#   contrib/pack.sh DIR | xz -T0 > DIR.xz
+#   xz -dc DIR.xz | bb join -
+set -e
+folder=${1:?"contrib/pack.sh DIR"}
+export LC_ALL=C
+[ -r "$folder/trunk.ledger" ] || { echo "no $folder/trunk.ledger" >&2; exit 1; }
+ledgers() {
+  echo "$folder/trunk.ledger"
+  find "$folder" -name '*.ledger' ! -name trunk.ledger | sort
+}
+# A last line without newline gets one, so that the next header stands on a line of its own.
+printed() {
+  ledgers | while IFS= read -r ledger; do
+    cat "$ledger"
+    [ -z "$(tail -c 1 "$ledger")" ] || echo
+  done
+}
+exec 3>&1
+printed | tee -a /dev/fd/3 | sha256sum >&2

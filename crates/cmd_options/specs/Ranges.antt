@@ -1,7 +1,7 @@
 -- The ranges of the options' numbers.
 use Rattle.std.specs.Prelude.{◌≡◌, ◌≤◌, None, IfSome}
 use Rattle.cmd_options.specs.declared.options.Options.{Options}
-use Rattle.cmd_options.specs.declared.options.Options.TheVariants.{Check, Decide, Coord, Run, Loop, Retry, Merge, Carry, Mend, Split, Settle, Join, Draw, Page, Report}
+use Rattle.cmd_options.specs.declared.options.Options.TheVariants.{Check, Decide, Coord, Run, Loop, Retry, Merge, Carry, Mend, Split, Settle, Join, Look, Draw, Page, Report}
 use Rattle.cmd_options.specs.declared.options.Search.{Search}
 use Rattle.cmd_options.specs.declared.options.Beginning.{Beginning}
 use Rattle.cmd_options.specs.declared.options.Settling.{Settling}
@@ -50,6 +50,7 @@ AreWithinRanges (Mend mending) = Unit {0}
 AreWithinRanges (Split splitting) = IsSplitting splitting
 AreWithinRanges (Settle s) = IsWithinRange s.search
 AreWithinRanges (Join joining) = Unit {0}
+AreWithinRanges (Look looking) = Unit {0}
 AreWithinRanges (Draw drawing) = Unit {0}
 AreWithinRanges (Page file) = Unit {0}
 AreWithinRanges (Report file json why) = Unit {0}

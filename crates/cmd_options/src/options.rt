@@ -50,6 +50,8 @@ pub enum Options<'a> {
     Settle(LedgerSettling<'a>),
     /// `bb join DIR [--json] [--ledger OUT]`
     Join(Joining<'a>),
+    /// `bb look PATH [--holdouts]`
+    Look(Looking<'a>),
     /// `bb draw [--from T] [--steps K] [--rows R] [--width W] [--out DIR]`
     Draw(Drawing<'a>),
     /// `bb page FILE`
@@ -117,7 +119,16 @@ pub struct Splitting<'a> {
     pub folder: &'a str,
     /// A table with fewer filled entries is decided in the trunk; any other is the root of a part: 0 to 14.
     pub filled: u8,
-    /// How far certificates are searched for in the trunk.
+    /// Where tables are looked up.
+#[derive(Clone, Copy, Debug, PartialEq, Eq)]
+pub struct Looking<'a> {
+    /// The path of a ledger, or of a folder of a trunk and its parts.
+    pub path: &'a str,
+    /// Whether the holdouts are printed, in place of what is recorded of given tables.
+    pub holdouts: bool,
+}
+
+/// How far certificates are searched for in the trunk.
     pub search: Search<'a>,
 }
 

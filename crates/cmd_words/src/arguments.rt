@@ -34,6 +34,8 @@ mod rows {
     pub(crate) const FOLDER: Text = Text { name: "DIR", value: None, help: "The folder of the trunk and the parts" };
     pub(crate) const JOIN_READ: Text = Text { name: "DIR", value: None,
         help: "The folder of the trunk and the parts, or `-` for a stream of them on standard input" };
+    pub(crate) const LOOKED: Text = Text { name: "PATH", value: None,
+        help: "The ledger file, or the folder of a trunk and its parts" };
     pub(crate) const FIRST: Text = Text { name: "A", value: None, help: "The ledger whose records come first" };
     pub(crate) const SECOND: Text = Text { name: "B", value: None, help: "The other ledger" };
     pub(crate) const MERGED: Text = Text { name: "OUT", value: None,
@@ -62,6 +64,8 @@ mod rows {
     pub(crate) const HARD: Flag = Flag { name: "hard", needs: &[], excludes: REACH_NAMES,
         help: "Go by stages, from cheap searches to dear ones; --steps scales them" };
     pub(crate) const JSON: Flag = Flag { name: "json", needs: &[], excludes: &[], help: "Print the report as JSON" };
+    pub(crate) const HOLDOUTS: Flag = Flag { name: "holdouts", needs: &[], excludes: &[],
+        help: "Print the tables that are recorded without a verdict, and read no lines" };
     pub(crate) const PROGRESS: Flag = Flag { name: "progress", needs: &[], excludes: &[],
         help: "Say on standard error, once a second, how far it is" };
     pub(crate) const WHY: Flag = Flag { name: "why", needs: &[], excludes: &[],

@@ -1,8 +1,8 @@
 // The commands, a row each.
 use crate::arguments::*;
 use crate::help::{
-    CARRY, COORD, DECIDE, DRAW, JOIN, LOOP, MEND, MERGE, PAGE, RECORDS, REPORT, RETRY, RUN, SETTLE,
-    SPLIT,
+    CARRY, COORD, DECIDE, DRAW, JOIN, LOOK, LOOP, MEND, MERGE, PAGE, RECORDS, REPORT, RETRY, RUN,
+    SETTLE, SPLIT,
 };
 use crate::words::Argument::{self, Flag, Number, Text};
 
@@ -63,6 +63,9 @@ pub(crate) const COMMANDS: [CommandWords; 15] = [
     CommandWords { name: "join", searches: false, after_help: JOIN,
         about: "Prints the report of a trunk and its parts together, as of one ledger that holds all.",
         arguments: &[Text(JOIN_READ), Flag(JSON), Text(JOINED)] },
+    CommandWords { name: "look", searches: false, after_help: LOOK,
+        about: "Reads a table a line on standard input, and prints its record in a ledger, or in a tree in parts.",
+        arguments: &[Text(LOOKED), Flag(HOLDOUTS)] },
     CommandWords { name: "draw", searches: false, after_help: DRAW,
         about: "Reads a table or a record a line on standard input, and draws its run as SVG.",
         arguments: &[Number(FROM), Number(DRAWN), Number(ROWS), Number(WIDTH), Text(PICTURES)] },

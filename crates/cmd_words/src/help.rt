@@ -176,6 +176,21 @@ Exit status: 0 the report says complete, and all was kept; 1 it doesn't, or a le
 line; 3 out of memory (`refused memory`); 4 a file couldn't be read (`refused 605`) or written (`refused 604`), or a
 stream failed (`refused 603`), or another process writes the one ledger (`refused 606`).";
 
+pub(crate) const LOOK: &str = "  $ bb run 2 --ledger two.ledger | grep best
+  best 6
+  $ echo 1RB1LB_1LA--- | bb look two.ledger
+  1RB1LB_1LA--- H 6 4
+
+To a table comes its record, or `TABLE open` where it has none yet, or `TABLE unknown` where it isn't of the tree. In a
+folder that `bb split` made the record of a table is looked for in the part that it belongs to, which is judged then;
+where that isn't there, its tables are unknown. A line that is no table is refused as by `bb decide`.
+
+With --holdouts no lines are read: the tables that are recorded without a verdict are printed, in the order of their
+texts, of all parts of a folder.
+
+Exit status: 0 each table has a record; 1 one has none, or a line or a ledger was refused; 2 a wrong command line; 3 out
+of memory (`refused memory`); 4 a file couldn't be read (`refused 605`), or a stream failed (`refused 603`).";
+
 pub(crate) const DECIDE: &str = "  $ echo 1RB1LB_1LA--- | bb decide
   1RB1LB_1LA--- H 6 4
   $ echo 0RB0LA_0LB--- | bb decide | bb check

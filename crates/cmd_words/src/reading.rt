@@ -3,9 +3,9 @@ ghost use Rattle.std.specs.Prelude.{◌≡◌, ◌≤◌, IfOk, IfSome};
 ghost use Rattle.cmd_options.specs.Ranges.{AreWithinRanges, IsSettling, IsWithinRange};
 
 use crate::arguments::{
-    CARRIED, DAMAGED, DRAWN, ERA, FILE, FILLED, FIRST, FOLDER, FROM, HARD, JOIN_READ, JOINED, JSON, KNOWN,
-    LEDGER, LOSE, MENDED, MERGED, OLD, PICTURES, PROGRESS, READ, ROUNDS, ROWS, SECOND, STATES,
-    STEPS, SYNC, WHY, WIDTH, WORKERS,
+    CARRIED, DAMAGED, DRAWN, ERA, FILE, FILLED, FIRST, FOLDER, FROM, HARD, HOLDOUTS, JOIN_READ,
+    JOINED, JSON, KNOWN, LEDGER, LOOKED, LOSE, MENDED, MERGED, OLD, PICTURES, PROGRESS, READ,
+    ROUNDS, ROWS, SECOND, STATES, STEPS, SYNC, WHY, WIDTH, WORKERS,
 };
 use crate::grammar::program;
 use crate::line_fault::LineFault;
@@ -13,8 +13,8 @@ use clap::error::ErrorKind;
 use clap::{ArgMatches, Error};
 use cmd_options::{
     Beginning, COUNT, Carrying, DEPTH, Drawing, Durability, FAR, GRAM, Joining, LedgerFile,
-    LedgerSettling, Mending, Merging, NoMemory, Number, Options, Search, Settling, Splitting,
-    WORDS,
+    LedgerSettling, Looking, Mending, Merging, NoMemory, Number, Options, Search, Settling,
+    Splitting, WORDS,
 };
 use std::alloc::Global;
 
@@ -54,6 +54,7 @@ fn asked<'a>(name: &str, command: &ArgMatches<'a>) -> Result<Options<'a>, LineFa
         "split" => split_options(command),
         "settle" => settle_options(command),
         "join" => join_options(command),
+        "look" => Ok(look_options(command)),
         "draw" => draw_options(command),
         "page" => Ok(page_options(command)),
         "report" => Ok(report_options(command)),
@@ -268,6 +269,15 @@ fn join_options<'a>(join: &ArgMatches<'a>) -> Result<Options<'a>, LineFault>
         return Err(LineFault::LedgerOfStream);
     }
     Ok(Options::Join(joining))
+}
+
+fn look_options<'a>(look: &ArgMatches<'a>) -> Options<'a>
+    ensures { AreWithinRanges result }
+{
+    Options::Look(Looking {
+        path: look.get_str(LOOKED.name).unwrap_or_default(),
+        holdouts: look.get_flag(HOLDOUTS.name),
+    })
 }
 
 fn draw_options<'a>(draw: &ArgMatches<'a>) -> Result<Options<'a>, LineFault>

@@ -119,16 +119,7 @@ pub struct Splitting<'a> {
     pub folder: &'a str,
     /// A table with fewer filled entries is decided in the trunk; any other is the root of a part: 0 to 14.
     pub filled: u8,
-    /// Where tables are looked up.
-#[derive(Clone, Copy, Debug, PartialEq, Eq)]
-pub struct Looking<'a> {
-    /// The path of a ledger, or of a folder of a trunk and its parts.
-    pub path: &'a str,
-    /// Whether the holdouts are printed, in place of what is recorded of given tables.
-    pub holdouts: bool,
-}
-
-/// How far certificates are searched for in the trunk.
+    /// How far certificates are searched for in the trunk.
     pub search: Search<'a>,
 }
 
@@ -141,6 +132,15 @@ pub struct Joining<'a> {
     pub out: Option<&'a str>,
     /// Whether to print the report as JSON.
     pub json: bool,
+}
+
+/// Where tables are looked up.
+#[derive(Clone, Copy, Debug, PartialEq, Eq)]
+pub struct Looking<'a> {
+    /// The path of a ledger, or of a folder of a trunk and its parts.
+    pub path: &'a str,
+    /// Whether the holdouts are printed, in place of what is recorded of given tables.
+    pub holdouts: bool,
 }
 
 /// What is known before certificates are searched for, and how far they are.

@@ -14,7 +14,7 @@ use ngram_cps::NgramFinder;
 use run::HaltFinder;
 use std::alloc::Global;
 
-// One of them, so that a list of them needs no boxes.
+// A finder of any kind, so that a list of them needs no boxes.
 #[derive(Drop)]
 pub(crate) enum AnyFinder<'a> {
     Known(&'a KnownFile<'a>),

@@ -60,7 +60,7 @@ pub(crate) fn run<S: Disk + Clock, R, W: Write, E: Write>(
     run_kept(alloc, settling, workers, system, kept, answers, faults)
 }
 
-// The same with these workers, and with a ledger or none.
+// Settles the tree with some workers, and with a ledger or none.
 fn run_kept<N: Node + Drop, S: Disk + Clock, W: Write, E: Write>(
     alloc: Global,
     settling: &Settling<'_>,
@@ -102,7 +102,7 @@ pub(crate) fn run_over_sockets<S: Disk + Clock + Sockets, R, W: Write, E: Write>
     loop_kept(alloc, settling, workers, system, kept, answers, faults)
 }
 
-// The same with these workers, and with a ledger or none.
+// Settles the tree with some workers, and with a ledger or none.
 fn loop_kept<N: Node + Drop, S: Disk + Clock + Sockets, W: Write, E: Write>(
     alloc: Global,
     settling: &Settling<'_>,

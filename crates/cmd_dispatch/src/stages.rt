@@ -14,7 +14,7 @@ pub(crate) enum Stage {
     Backward { paths: u64 },
     // Automata whose first one is made from words.
     Words(WordStage),
-    // The same by the stages of the words that are known, from the third on: the first two stand further ahead.
+    // Automata by the stages of the words that are known, from the third on: the first two stand further ahead.
     FurtherWords,
     // Automata of few states, with the tries of a budget of 1,000.
     Automata(Automata),

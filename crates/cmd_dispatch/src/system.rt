@@ -21,7 +21,7 @@ pub struct System<'a> {
 }
 
 impl<'a> System<'a> {
-    /// Those that the program was given; what fails is remembered.
+    /// The system's files, clock and sockets that the program was given; what fails is remembered.
     pub fn of(rt: &'a HostRuntime, failures: &'a Failures) -> System<'a> {
         System { rt, failures }
     }

@@ -21,13 +21,16 @@ IsNews known read (Some r) = (read ≡ Ok r) × (tells_nothing known read ≡ fa
 pub record RecordKept (old : Known) (r : Recorded) (new : Known) : Type 0 where
   pub lines : new.lines ≡ old.lines
   pub refused : new.refused ≡ old.refused
-  pub known : (p : Packed) → known_of new p ≡ cond (is_at (table_cmp r.table) p) (Some (saying old.lines r.claim)) (known_of old p)
+  pub known : (p : Packed) → known_of new p
+      ≡ cond (is_at (table_cmp r.table) p) (Some (saying old.lines r.claim)) (known_of old p)
 
 -- what a line, which is the next one, says is known, or the line is refused
 pub record LineTells (old : Known) (line : BoundedLine) (new : Known) : Type 0 where
   pub lines : new.lines ≡ next_number old.lines
-  pub known : (p : Packed) → known_of new p ≡ option_or (known_of old p) (said_by (next_number old.lines) (read_line line) p)
-  pub refused : new.refused ≡ cond (tells_nothing (known_of old) (read_line line)) (with_number old.refused (next_number old.lines)) old.refused
+  pub known : (p : Packed) → known_of new p
+      ≡ option_or (known_of old p) (said_by (next_number old.lines) (read_line line) p)
+  pub refused : new.refused ≡ cond (tells_nothing (known_of old) (read_line line))
+      (with_number old.refused (next_number old.lines)) old.refused
 
 -- what was known at first, and then what lines say
 pub record LinesTell (old : Known) (lines : List (List ℕ)) (new : Known) : Type 0 where

@@ -22,7 +22,7 @@ impl Refusals {
         }
     }
 
-    /// These and the line of a number.
+    /// The refusals and a line more, by its number.
     pub(crate) fn with_number(self, line: u64) -> Refusals
         ensures { result ≡ with_number self line }
     {

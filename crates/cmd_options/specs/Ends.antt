@@ -29,4 +29,5 @@ end_when (EndedBy other) e = other
 -- what ended a command early is said, on a line, unless that can't be said either
 abbrev pub EndsTold : Result Outcome Ended → Option (List ℕ) → Option (List ℕ) → Outcome → Type 0
 EndsTold (Ok o) said new_said outcome = (outcome ≡ o) × (new_said ≡ said)
-EndsTold (Err e) said new_said outcome = ((outcome ≡ outcome_of e) × Appends said new_said (ended_text e)) ⊎ (outcome ≡ HasFailed)
+EndsTold (Err e) said new_said outcome = ((outcome ≡ outcome_of e) × Appends said new_said (ended_text e))
+    ⊎ (outcome ≡ HasFailed)

@@ -65,7 +65,8 @@ impl Ended {
     /// Says why a command ended, on a line; where that can't be said either, a stream has failed.
     pub fn told<E: Write>(self, faults: &mut E) -> Outcome
         ensures outcome { (result ≡ outcome_of self) ⊎ (result ≡ Outcome.Failed) }
-        ensures said { Appends (E.contents faults.old) (E.contents faults.new) (ended_text self) ⊎ (result ≡ Outcome.Failed) }
+        ensures said { Appends (E.contents faults.old) (E.contents faults.new) (ended_text self)
+            ⊎ (result ≡ Outcome.Failed) }
     {
         match faults.write_all(self.line()) {
             Ok(()) => self.outcome(),

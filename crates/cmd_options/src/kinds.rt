@@ -54,5 +54,5 @@ pub const COUNT: Number = Number { name: "count", value: Some("C"), least: 0, mo
 /// The options that say how far the certificates of a kind are searched for, in the order in which help has them.
 pub const REACHES: [Number; 5] = [DEPTH, GRAM, FAR, WORDS, COUNT];
 
-/// Their names.
+/// The names of the options that say how far certificates are searched for.
 pub const REACH_NAMES: &[&str] = &["depth", "gram", "far", "words", "count"];

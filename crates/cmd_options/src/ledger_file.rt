@@ -6,14 +6,14 @@ ghost use Rattle.std.specs.Prelude.{◌≡◌};
 pub enum Durability {
     /// The system has them: they outlive the process.
     System,
-    /// They are on the disk: they outlive a power cut.
+    /// Lines are on the disk: they outlive a power cut.
     Disk,
 }
 
 /// A ledger file that is written.
 #[derive(Clone, Copy, Debug, PartialEq, Eq)]
 pub struct LedgerFile<'a> {
-    /// Its path.
+    /// The ledger's path.
     pub path: &'a str,
     /// How far a line of it has come when it counts as written.
     pub durability: Durability,

@@ -54,17 +54,21 @@ IsBegunAt tells folder root old new = IsPartBegun tells (path_within folder (tex
 -- and those of several, one after another
 abbrev pub AreBegunAt : SameFile → List ℕ → List Packed → Shelf → Shelf → Type 0
 AreBegunAt tells folder [] old new = IsKept old new
-AreBegunAt tells folder (root ∷ roots) old new = (middle : Shelf) × IsBegunAt tells folder root old middle × AreBegunAt tells folder roots middle new
+AreBegunAt tells folder (root ∷ roots) old new = (middle : Shelf) × IsBegunAt tells folder root old middle
+    × AreBegunAt tells folder roots middle new
 
 -- the ledger at a path is locked, and settled where it stands, which is told. Where that ends before it is read,
 -- nothing has changed at any path and nothing is told; else it ended as that of its board
-abbrev pub SettlesAt : {K : Type 0} → (Packed → Recorded → Type 0) → (Result (Option K) Ended → Type 0) → SameFile → List ℕ → Shelf → Shelf
+abbrev pub SettlesAt : {K : Type 0} → (Packed → Recorded → Type 0) → (Result (Option K) Ended → Type 0) → SameFile
+    → List ℕ → Shelf → Shelf
     → Option (List ℕ) → Option (List ℕ) → Result (Unit {0}) Ended → Type 0
 SettlesAt {K} Answers Locks tells path old new said new_said (Ok done) =
-    (lock : K) × Locks (Ok (Some lock)) × GoesOnAt (λ has size before after. SettlesLedger Answers has size before after said new_said) tells path old new
+    (lock : K) × Locks (Ok (Some lock)) × GoesOnAt
+    (λ has size before after. SettlesLedger Answers has size before after said new_said) tells path old new
 SettlesAt {K} Answers Locks tells path old new said new_said (Err e) =
     (EndsOpening Locks e × IsKept old new × (new_said ≡ said))
-    ⊎ GoesOnAt (λ has size before after. EndsLedgerAt Answers ⊤ e has size before after said new_said) tells path old new
+    ⊎ GoesOnAt (λ has size before after. EndsLedgerAt Answers ⊤ e has size before after said new_said) tells path old
+    new
 
 -- there is a file at a path: where none was, one that holds nothing
 abbrev pub IsCreated : SameFile → List ℕ → Shelf → Shelf → Type 0
@@ -72,14 +76,18 @@ IsCreated tells path old new = (text : Option (List ℕ)) × IsLedgerAt (old pat
 
 -- the trunk of the tree of n states that stands at a path is grown where it stands. While it is open, none of the
 -- tables to be settled in it has a part in the folder
-pub record GrowsAt (Answers : Packed → Recorded → Type 0) (tells : SameFile) (n limit : ℕ) (folder path : List ℕ) (old new : Shelf) (trunk : Contents) : Type 0 where
+pub record GrowsAt (Answers : Packed → Recorded → Type 0) (tells : SameFile) (n limit : ℕ) (folder path : List ℕ)
+    (old new : Shelf) (trunk : Contents) : Type 0 where
   pub opened : Shelf
   pub is_opened : IsKeptBut tells path old opened
-  pub grows : GoesOnAt (λ has size before after. GrowsTrunk (λ t. SeesAt (opened (path_within folder (text_of t))) (Ok false)) Answers n limit has size before trunk after) tells path old new
+  pub grows : GoesOnAt (λ has size before after.
+      GrowsTrunk (λ t. SeesAt (opened (path_within folder (text_of t))) (Ok false)) Answers n limit has size before
+      trunk after) tells path old new
 
 -- a tree is split in a folder, and it is told: there is a file of the trunk, which is grown; then the part of each
 -- table that the trunk leaves open is begun
-pub record SplitsTree (Answers : Packed → Recorded → Type 0) (tells : SameFile) (n limit : ℕ) (folder : List ℕ) (old new : Shelf) (said new_said : Option (List ℕ)) : Type 0 where
+pub record SplitsTree (Answers : Packed → Recorded → Type 0) (tells : SameFile) (n limit : ℕ) (folder : List ℕ)
+    (old new : Shelf) (said new_said : Option (List ℕ)) : Type 0 where
   pub trunk : Contents
   pub root : trunk.root ≡ empty_table n
   pub created : Shelf
@@ -95,31 +103,38 @@ pub record SplitsTree (Answers : Packed → Recorded → Type 0) (tells : SameFi
 
 -- it is accepted only where the trunk was locked and the tree is split so; where that ends early nothing is told,
 -- unless the stream failed
-abbrev pub SplitsAt : {K : Type 0} → (Packed → Recorded → Type 0) → (Result (Option K) Ended → Type 0) → SameFile → ℕ → ℕ → List ℕ → Shelf → Shelf
+abbrev pub SplitsAt : {K : Type 0} → (Packed → Recorded → Type 0) → (Result (Option K) Ended → Type 0) → SameFile → ℕ
+    → ℕ → List ℕ → Shelf → Shelf
     → Option (List ℕ) → Option (List ℕ) → Result Outcome Ended → Type 0
 SplitsAt {K} Answers Locks tells n limit folder old new said new_said (Ok o) =
-    (o ≡ Accepted) × ((lock : K) × Locks (Ok (Some lock))) × SplitsTree Answers tells n limit folder old new said new_said
+    (o ≡ Accepted) × ((lock : K) × Locks (Ok (Some lock)))
+    × SplitsTree Answers tells n limit folder old new said new_said
 SplitsAt {K} Answers Locks tells n limit folder old new said new_said (Err e) = (new_said ≡ said) ⊎ (e ≡ Stream)
 
 -- a trunk and its parts are told of, where they stand; nothing changes at any path
-abbrev pub JoinsAt : (Packed → List Recorded → Left → List ℕ → Type 0) → List ℕ → Shelf → Shelf → Option (List ℕ) → Option (List ℕ) → Option (List ℕ) → Option (List ℕ)
+abbrev pub JoinsAt : (Packed → List Recorded → Left → List ℕ → Type 0) → List ℕ → Shelf → Shelf → Option (List ℕ)
+    → Option (List ℕ) → Option (List ℕ) → Option (List ℕ)
     → Result Outcome Ended → Type 0
 JoinsAt IsText folder old new said new_said faults new_faults (Ok o) =
     TellsAll IsText (finds_at old) folder None None said new_said faults new_faults o × IsKept old new
-JoinsAt IsText folder old new said new_said faults new_faults (Err e) = EndsTelling (finds_at old) folder e said new_said faults new_faults × IsKept old new
+JoinsAt IsText folder old new said new_said faults new_faults (Err e) = EndsTelling (finds_at old) folder e said
+    new_said faults new_faults × IsKept old new
 
 -- why the one ledger of a trunk and its parts isn't put at a path: that isn't locked, or nothing can be made, and
 -- nothing is told; or the telling ended; or all is told, but the ledger can't be put
-abbrev pub EndsCollecting : {K : Type 0} → (Packed → List Recorded → Left → List ℕ → Type 0) → (Result (Option K) Ended → Type 0) → Findings → List ℕ
+abbrev pub EndsCollecting : {K : Type 0} → (Packed → List Recorded → Left → List ℕ → Type 0)
+    → (Result (Option K) Ended → Type 0) → Findings → List ℕ
     → Option (List ℕ) → Option (List ℕ) → Option (List ℕ) → Option (List ℕ) → Ended → Type 0
 EndsCollecting {K} IsText Locks Finds folder said new_said faults new_faults e =
     (EndsOpening Locks e × (new_said ≡ said) × (new_faults ≡ faults))
     ⊎ (EndsTelling Finds folder e said new_said faults new_faults
-    ⊎ (FailsWriting e × ((begun text : Option (List ℕ)) × (o : Outcome) × TellsAll IsText Finds folder begun text said new_said faults new_faults o)))
+    ⊎ (FailsWriting e × ((begun text : Option (List ℕ)) × (o : Outcome)
+    × TellsAll IsText Finds folder begun text said new_said faults new_faults o)))
 
 -- they are told of, and the one ledger of all comes to stand at a path, which is locked; where that ends early nothing
 -- changes at any path
-abbrev pub CollectsAt : {K : Type 0} → (Packed → List Recorded → Left → List ℕ → Type 0) → (Result (Option K) Ended → Type 0) → SameFile → List ℕ → List ℕ → Shelf → Shelf
+abbrev pub CollectsAt : {K : Type 0} → (Packed → List Recorded → Left → List ℕ → Type 0)
+    → (Result (Option K) Ended → Type 0) → SameFile → List ℕ → List ℕ → Shelf → Shelf
     → Option (List ℕ) → Option (List ℕ) → Option (List ℕ) → Option (List ℕ) → Result Outcome Ended → Type 0
 CollectsAt {K} IsText Locks tells folder out old new said new_said faults new_faults (Ok o) =
     ((lock : K) × Locks (Ok (Some lock))) × ((begun text : Option (List ℕ)) × IsBlank begun

@@ -50,7 +50,8 @@ Findings = List ℕ → Option (Option (List ℕ) × ℕ) → Type 0
 
 -- a ledger is found at a path, and loaded, up to what is left
 abbrev pub IsReadAt : Findings → List ℕ → Contents → Left → Type 0
-IsReadAt Finds path b left = (has : Option (List ℕ)) × (size : ℕ) × Finds path (Some (has, size)) × IsLoadedFrom has size b left
+IsReadAt Finds path b left = (has : Option (List ℕ)) × (size : ℕ) × Finds path (Some (has, size))
+    × IsLoadedFrom has size b left
 
 -- a board is loaded where the part of a root is looked for: it counts where it has that root, and which line wasn't kept is
 -- said; else it is refused
@@ -63,12 +64,14 @@ IsMetAs part left path root None said = (part.root ≢ root) × (said ≡ line_b
 abbrev pub IsMetIn : Option (List ℕ) → ℕ → List ℕ → Packed → Option Contents → List ℕ → Type 0
 IsMetIn has size path root counted said =
     ((part : Contents) × (left : Left) × IsLoadedFrom has size part left × IsMetAs part left path root counted said)
-    ⊎ ((e : Ended) × (counted ≡ None) × ((e ≡ BadHeader) ⊎ (e ≡ WrongRoot)) × EndsReading has size (EndedBy e) × (said ≡ line_behind path (ended_line e)))
+    ⊎ ((e : Ended) × (counted ≡ None) × ((e ≡ BadHeader) ⊎ (e ≡ WrongRoot)) × EndsReading has size (EndedBy e)
+    × (said ≡ line_behind path (ended_line e)))
 
 -- what is found of the part of a root, whether it counts, and what is said: nothing is there; or there is a ledger, which is met so
 abbrev pub IsMet : Findings → List ℕ → Packed → Option Contents → List ℕ → Type 0
 IsMet Finds folder root counted said =
-    (Finds (path_within folder (text_of root)) None × (counted ≡ None) × (said ≡ line_behind (path_within folder (text_of root)) (codes "missing")))
+    (Finds (path_within folder (text_of root)) None × (counted ≡ None)
+    × (said ≡ line_behind (path_within folder (text_of root)) (codes "missing")))
     ⊎ ((has : Option (List ℕ)) × (size : ℕ) × Finds (path_within folder (text_of root)) (Some (has, size))
     × IsMetIn has size (path_within folder (text_of root)) root counted said)
 
@@ -81,11 +84,13 @@ counted_part (Some part) = part ∷ []
 abbrev pub AreMet : Findings → List ℕ → List Packed → List Contents → List ℕ → Type 0
 AreMet Finds folder [] parts lines = (parts ≡ []) × (lines ≡ [])
 AreMet Finds folder (root ∷ roots) parts lines =
-    (counted : Option Contents) × (said : List ℕ) × (others : List Contents) × (more : List ℕ) × IsMet Finds folder root counted said
+    (counted : Option Contents) × (said : List ℕ) × (others : List Contents) × (more : List ℕ)
+    × IsMet Finds folder root counted said
     × AreMet Finds folder roots others more × (parts ≡ counted_part counted ++ others) × (lines ≡ said ++ more)
 
 -- a folder holds a trunk, which is loaded, and the parts of its open tables, which are met in the order of their texts
-pub record HoldsTree (Finds : Findings) (folder : List ℕ) (trunk : Contents) (parts : List Contents) (lines : List ℕ) : Type 0 where
+pub record HoldsTree (Finds : Findings) (folder : List ℕ) (trunk : Contents) (parts : List Contents)
+    (lines : List ℕ) : Type 0 where
   pub left : Left
   pub reads : IsReadAt Finds (path_within folder (codes "trunk")) trunk left
   pub roots : List Packed
@@ -100,7 +105,8 @@ ended_by status true = outcome_by status Nothing
 ended_by status false = Refused
 
 -- of a trunk and parts behind it the report is printed that one ledger has which holds all of their records
-pub record TellsParts (IsText : Packed → List Recorded → Left → List ℕ → Type 0) (trunk : Contents) (parts : List Contents) (is_sound : Bool) (said new_said : Option (List ℕ)) (o : Outcome) : Type 0 where
+pub record TellsParts (IsText : Packed → List Recorded → Left → List ℕ → Type 0) (trunk : Contents)
+    (parts : List Contents) (is_sound : Bool) (said new_said : Option (List ℕ)) (o : Outcome) : Type 0 where
   pub text : List ℕ
   pub is_text : IsText trunk.root (joined_with trunk.records parts) Nothing text
   pub says : Appends said new_said text
@@ -110,7 +116,8 @@ pub record TellsParts (IsText : Packed → List Recorded → Left → List ℕ �
 
 -- that is so of the trunk that a folder holds and of the parts that count; what is wrong with them is said, and the one ledger of
 -- all is written
-pub record TellsAll (IsText : Packed → List Recorded → Left → List ℕ → Type 0) (Finds : Findings) (folder : List ℕ) (before after said new_said faults new_faults : Option (List ℕ)) (o : Outcome) : Type 0 where
+pub record TellsAll (IsText : Packed → List Recorded → Left → List ℕ → Type 0) (Finds : Findings) (folder : List ℕ)
+    (before after said new_said faults new_faults : Option (List ℕ)) (o : Outcome) : Type 0 where
   pub trunk : Contents
   pub parts : List Contents
   pub lines : List ℕ
@@ -131,7 +138,8 @@ FailsAny e = (FailsFile e ⊎ FailsWriting e) ⊎ (e ≡ Stream)
 
 -- the trunk's ledger has no root, or one that isn't in order
 abbrev pub HasNoTrunk : Findings → List ℕ → Ended → Type 0
-HasNoTrunk Finds path e = (has : Option (List ℕ)) × (size : ℕ) × Finds path (Some (has, size)) × ((e ≡ BadHeader) ⊎ (e ≡ WrongRoot)) × EndsReading has size (EndedBy e)
+HasNoTrunk Finds path e = (has : Option (List ℕ)) × (size : ℕ) × Finds path (Some (has, size))
+    × ((e ≡ BadHeader) ⊎ (e ≡ WrongRoot)) × EndsReading has size (EndedBy e)
 
 -- why a trunk and its parts aren't told of: something fails, the trunk has no root in order, or the one ledger stands
 -- among them
@@ -153,7 +161,8 @@ pub record SaysFirst (Finds : Findings) (folder : List ℕ) (faults new_faults :
 
 -- the telling ends early: no report is written, and whole lines are said, those of the trunk and of the first parts;
 -- unless a stream failed
-pub record EndsTelling (Finds : Findings) (folder : List ℕ) (e : Ended) (said new_said faults new_faults : Option (List ℕ)) : Type 0 where
+pub record EndsTelling (Finds : Findings) (folder : List ℕ) (e : Ended)
+    (said new_said faults new_faults : Option (List ℕ)) : Type 0 where
   pub why : EndsJoining Finds folder e
   pub untold : (new_said ≡ said) ⊎ (e ≡ Stream)
   pub warns : ((new_faults ≡ faults) ⊎ SaysFirst Finds folder faults new_faults) ⊎ (e ≡ Stream)

@@ -18,7 +18,8 @@ abbrev pub settled_text : ℕ → ℕ → List ℕ
 settled_text count holdouts = codes "settled " ++ decimal count ++ codes " holdouts " ++ decimal holdouts ++ 10 ∷ []
 
 -- a board and its ledger, from what was kept of that, are settled until no table is open, and this is told
-pub record SettlesWhole (Answers : Packed → Recorded → Type 0) (old : Contents) (left : Left) (before after : Option (List ℕ)) (told : List ℕ) : Type 0 where
+pub record SettlesWhole (Answers : Packed → Recorded → Type 0) (old : Contents) (left : Left)
+    (before after : Option (List ℕ)) (told : List ℕ) : Type 0 where
   pub count : ℕ
   pub board : Contents
   pub many : SettlesMany Answers ComesFirst count old (kept_part left before) board after
@@ -28,7 +29,8 @@ pub record SettlesWhole (Answers : Packed → Recorded → Type 0) (old : Conten
   pub is : told ≡ settled_text count tally.holdouts
 
 -- the ledger that a reader has in its first bytes is loaded and settled, which is told behind what was said before
-pub record SettlesLedger (Answers : Packed → Recorded → Type 0) (has : Option (List ℕ)) (limit : ℕ) (before after said new_said : Option (List ℕ)) : Type 0 where
+pub record SettlesLedger (Answers : Packed → Recorded → Type 0) (has : Option (List ℕ)) (limit : ℕ)
+    (before after said new_said : Option (List ℕ)) : Type 0 where
   pub loaded : Contents
   pub left : Left
   pub told : List ℕ
@@ -37,20 +39,26 @@ pub record SettlesLedger (Answers : Packed → Recorded → Type 0) (has : Optio
   pub says : Appends said new_said told
 
 -- all is settled, but to say so a stream failed, or memory was refused before anything was said
-abbrev pub EndsSaying : (Packed → Recorded → Type 0) → Ended → Contents → Left → Option (List ℕ) → Option (List ℕ) → Option (List ℕ) → Option (List ℕ) → Type 0
+abbrev pub EndsSaying : (Packed → Recorded → Type 0) → Ended → Contents → Left → Option (List ℕ) → Option (List ℕ)
+    → Option (List ℕ) → Option (List ℕ) → Type 0
 EndsSaying Answers e old left before after said new_said =
-    ((e ≡ Stream) ⊎ ((e ≡ NoMemory) × (new_said ≡ said))) × ((told : List ℕ) × SettlesWhole Answers old left before after told)
+    ((e ≡ Stream) ⊎ ((e ≡ NoMemory) × (new_said ≡ said)))
+    × ((told : List ℕ) × SettlesWhole Answers old left before after told)
 
 -- why a board and its ledger aren't settled whole: the cut, the settling or the saying ended early; where that is for the
 -- ledger, it has failed
-pub record EndsWhole (Answers : Packed → Recorded → Type 0) (HasFailed : Type 0) (e : Ended) (old : Contents) (left : Left) (before after said new_said : Option (List ℕ)) : Type 0 where
+pub record EndsWhole (Answers : Packed → Recorded → Type 0) (HasFailed : Type 0) (e : Ended) (old : Contents)
+    (left : Left) (before after said new_said : Option (List ℕ)) : Type 0 where
   pub failed : e ≡ Ledger → HasFailed
   pub how :
-      ((new_said ≡ said) × (FailsCut left e before after ⊎ ((new : Contents) × EndsSettling Answers ComesFirst e old (kept_part left before) new after)))
+      ((new_said ≡ said) × (FailsCut left e before after
+      ⊎ ((new : Contents) × EndsSettling Answers ComesFirst e old (kept_part left before) new after)))
       ⊎ EndsSaying Answers e old left before after said new_said
 
 -- why a ledger that a reader has in its first bytes isn't settled whole: it isn't loaded, and nothing is done; or that of its board
-abbrev pub EndsLedgerAt : (Packed → Recorded → Type 0) → Type 0 → Ended → Option (List ℕ) → ℕ → Option (List ℕ) → Option (List ℕ) → Option (List ℕ) → Option (List ℕ) → Type 0
+abbrev pub EndsLedgerAt : (Packed → Recorded → Type 0) → Type 0 → Ended → Option (List ℕ) → ℕ → Option (List ℕ)
+    → Option (List ℕ) → Option (List ℕ) → Option (List ℕ) → Type 0
 EndsLedgerAt Answers HasFailed e has limit before after said new_said =
     (EndsLoading has limit e × (after ≡ before) × (new_said ≡ said))
-    ⊎ ((loaded : Contents) × (left : Left) × IsLoadedFrom has limit loaded left × EndsWhole Answers HasFailed e loaded left before after said new_said)
+    ⊎ ((loaded : Contents) × (left : Left) × IsLoadedFrom has limit loaded left
+    × EndsWhole Answers HasFailed e loaded left before after said new_said)

@@ -16,7 +16,8 @@ use Rattle.cmd_options.specs.declared.ended.Ended.TheVariants.{BadHeader, WrongR
 
 -- the open table whose text comes first
 abbrev pub ComesFirst : Contents → Packed → Type 0
-ComesFirst b t = IsOpenOn b t × ((q : Packed) → IsOpenOn b q → (q ≡ t) ⊎ (slice_cmp nat_cmp (text_of t) (text_of q) ≡ Less))
+ComesFirst b t = IsOpenOn b t × ((q : Packed) → IsOpenOn b q → (q ≡ t)
+    ⊎ (slice_cmp nat_cmp (text_of t) (text_of q) ≡ Less))
 
 -- how many of a table's entries are filled
 abbrev pub filled_count : Packed → ℕ
@@ -31,33 +32,39 @@ abbrev pub with_last : Contents → Recorded → Contents
 with_last b r = record { root = b.root; records = b.records ++ (with_score r ∷ []); format = b.format }
 
 -- a record may come next: its table is due, and it is what was answered for that, whatever it says; so it is fit
-pub record ComesNext (Answers : Packed → Recorded → Type 0) (IsDue : Contents → Packed → Type 0) (b : Contents) (r : Recorded) : Type 0 where
+pub record ComesNext (Answers : Packed → Recorded → Type 0) (IsDue : Contents → Packed → Type 0) (b : Contents)
+    (r : Recorded) : Type 0 where
   pub due : IsDue b r.table
   pub answered : Answers r.table r
   pub fit : IsFit b.root b.records r
 
 -- a table is settled: its record comes last on the board, and the line of that last in the ledger
-pub record SettlesOne (Answers : Packed → Recorded → Type 0) (IsDue : Contents → Packed → Type 0) (old : Contents) (before : Option (List ℕ)) (new : Contents) (after : Option (List ℕ)) : Type 0 where
+pub record SettlesOne (Answers : Packed → Recorded → Type 0) (IsDue : Contents → Packed → Type 0) (old : Contents)
+    (before : Option (List ℕ)) (new : Contents) (after : Option (List ℕ)) : Type 0 where
   pub made : Recorded
   pub next : ComesNext Answers IsDue old made
   pub board : new ≡ with_last old made
   pub text : after ≡ with_line old.format made before
 
 -- so many tables are settled, one after another
-abbrev pub SettlesMany : (Packed → Recorded → Type 0) → (Contents → Packed → Type 0) → ℕ → Contents → Option (List ℕ) → Contents → Option (List ℕ) → Type 0
+abbrev pub SettlesMany : (Packed → Recorded → Type 0) → (Contents → Packed → Type 0) → ℕ → Contents → Option (List ℕ)
+    → Contents → Option (List ℕ) → Type 0
 SettlesMany Answers IsDue zero old before new after = (new ≡ old) × (after ≡ before)
 SettlesMany Answers IsDue (suc k) old before new after =
-    (mid : Contents) × (text : Option (List ℕ)) × SettlesMany Answers IsDue k old before mid text × SettlesOne Answers IsDue mid text new after
+    (mid : Contents) × (text : Option (List ℕ)) × SettlesMany Answers IsDue k old before mid text
+    × SettlesOne Answers IsDue mid text new after
 
 -- the ledger fails under the line of a record: the board has the record, and the ledger no more than a beginning of the line
-pub record TearsLine (Answers : Packed → Recorded → Type 0) (IsDue : Contents → Packed → Type 0) (old : Contents) (before : Option (List ℕ)) (new : Contents) (after : Option (List ℕ)) : Type 0 where
+pub record TearsLine (Answers : Packed → Recorded → Type 0) (IsDue : Contents → Packed → Type 0) (old : Contents)
+    (before : Option (List ℕ)) (new : Contents) (after : Option (List ℕ)) : Type 0 where
   pub made : Recorded
   pub next : ComesNext Answers IsDue old made
   pub board : new ≡ with_last old made
   pub text : IsBegun before (gained old.format made) after
 
 -- what ends it for one table: memory was refused, and nothing changed; or the ledger failed
-abbrev pub EndsAtOne : (Packed → Recorded → Type 0) → (Contents → Packed → Type 0) → Ended → Contents → Option (List ℕ) → Contents → Option (List ℕ) → Type 0
+abbrev pub EndsAtOne : (Packed → Recorded → Type 0) → (Contents → Packed → Type 0) → Ended → Contents → Option (List ℕ)
+    → Contents → Option (List ℕ) → Type 0
 EndsAtOne Answers IsDue BadHeader old before new after = ⊥
 EndsAtOne Answers IsDue WrongRoot old before new after = ⊥
 EndsAtOne Answers IsDue Stream old before new after = ⊥
@@ -69,6 +76,8 @@ EndsAtOne Answers IsDue Locked old before new after = ⊥
 EndsAtOne Answers IsDue NoMemory old before new after = (new ≡ old) × (after ≡ before)
 
 -- what ends it early: the tables that were settled before stay so
-abbrev pub EndsSettling : (Packed → Recorded → Type 0) → (Contents → Packed → Type 0) → Ended → Contents → Option (List ℕ) → Contents → Option (List ℕ) → Type 0
+abbrev pub EndsSettling : (Packed → Recorded → Type 0) → (Contents → Packed → Type 0) → Ended → Contents
+    → Option (List ℕ) → Contents → Option (List ℕ) → Type 0
 EndsSettling Answers IsDue e old before new after =
-    (k : ℕ) × (mid : Contents) × (text : Option (List ℕ)) × SettlesMany Answers IsDue k old before mid text × EndsAtOne Answers IsDue e mid text new after
+    (k : ℕ) × (mid : Contents) × (text : Option (List ℕ)) × SettlesMany Answers IsDue k old before mid text
+    × EndsAtOne Answers IsDue e mid text new after

@@ -48,7 +48,9 @@ begun_trunk root bytes left text = grown (kept_part left text) (due_header root 
 
 -- the trunk of the tree of n states that a reader has in its first bytes is loaded, and settled until each open table has so
 -- many filled entries
-pub record GrowsTrunk (HasNoPart : Packed → Type 0) (Answers : Packed → Recorded → Type 0) (n limit : ℕ) (has : Option (List ℕ)) (size : ℕ) (before : Option (List ℕ)) (new : Contents) (after : Option (List ℕ)) : Type 0 where
+pub record GrowsTrunk (HasNoPart : Packed → Type 0) (Answers : Packed → Recorded → Type 0) (n limit : ℕ)
+    (has : Option (List ℕ)) (size : ℕ) (before : Option (List ℕ)) (new : Contents) (after : Option
+    (List ℕ)) : Type 0 where
   pub text : List ℕ
   pub first : AreFirstBytes has size text
   pub loaded : Contents
@@ -57,7 +59,8 @@ pub record GrowsTrunk (HasNoPart : Packed → Type 0) (Answers : Packed → Reco
   -- none of the tables to be settled had a part
   pub unsplit : (t : Packed) → IsOpenBelow limit loaded t → HasNoPart t
   pub count : ℕ
-  pub many : SettlesMany Answers (IsOpenBelow limit) count loaded (begun_trunk (empty_table n) (length text) left before) new after
+  pub many : SettlesMany Answers (IsOpenBelow limit) count loaded
+      (begun_trunk (empty_table n) (length text) left before) new after
   pub none_below : (t : Packed) → IsOpenOn new t → limit ≤ filled_count t
   -- where that was the whole ledger, it is the ledger of the trunk
   pub step : before ≡ Some text → IfSome after (IsLedgerOf new)
@@ -65,7 +68,8 @@ pub record GrowsTrunk (HasNoPart : Packed → Type 0) (Answers : Packed → Reco
 -- why the tree of n states has no trunk in the first bytes of a reader: that failed, or they are not its ledger
 abbrev pub IsNoTrunk : ℕ → Option (List ℕ) → ℕ → Ended → Type 0
 IsNoTrunk n has size e =
-    FailsReading e ⊎ ((text : List ℕ) × (fault : LoadFault) × AreFirstBytes has size text × LoadGives (empty_table n) text (Err fault) × (e ≡ ended_by_load fault))
+    FailsReading e ⊎ ((text : List ℕ) × (fault : LoadFault) × AreFirstBytes has size text
+    × LoadGives (empty_table n) text (Err fault) × (e ≡ ended_by_load fault))
 
 -- it ends at a table: its part was seen, or it ended so that nothing was seen
 abbrev pub StopsAt : (Packed → Result Bool Ended → Type 0) → Packed → Ended → Type 0
@@ -79,23 +83,30 @@ EndsLooking Sees limit loaded e = (e ≡ NoMemory) ⊎ ((t : Packed) × IsOpenBe
 abbrev pub EndsBeginning : Type 0 → Ended → Packed → ℕ → Left → Option (List ℕ) → Option (List ℕ) → Type 0
 EndsBeginning HasFailed e root bytes left before after =
     ((e ≡ NoMemory) × (after ≡ before))
-    ⊎ ((e ≡ Ledger) × HasFailed × ((after ≡ before) ⊎ IsBegun (kept_part left before) (due_header root (kept_size bytes left)) after))
+    ⊎ ((e ≡ Ledger) × HasFailed × ((after ≡ before)
+    ⊎ IsBegun (kept_part left before) (due_header root (kept_size bytes left)) after))
 
 -- why a trunk that is loaded isn't grown: it isn't begun, or the settling ended early; where that is for the ledger, it has failed
-abbrev pub EndsGrowing : (Packed → Recorded → Type 0) → Type 0 → ℕ → Ended → Contents → ℕ → Left → Option (List ℕ) → Option (List ℕ) → Type 0
+abbrev pub EndsGrowing : (Packed → Recorded → Type 0) → Type 0 → ℕ → Ended → Contents → ℕ → Left → Option (List ℕ)
+    → Option (List ℕ) → Type 0
 EndsGrowing Answers HasFailed limit e loaded bytes left before after =
     EndsBeginning HasFailed e loaded.root bytes left before after
-    ⊎ ((e ≡ Ledger → HasFailed) × ((new : Contents) × EndsSettling Answers (IsOpenBelow limit) e loaded (begun_trunk loaded.root bytes left before) new after))
+    ⊎ ((e ≡ Ledger → HasFailed) × ((new : Contents)
+    × EndsSettling Answers (IsOpenBelow limit) e loaded (begun_trunk loaded.root bytes left before) new after))
 
 -- why the trunk that a reader has in its first bytes isn't grown: it isn't loaded, or the looking for parts ended, and nothing
 -- is done; or none of the tables to be settled has a part, and the growing ended
-abbrev pub EndsTrunk : (Packed → Result Bool Ended → Type 0) → (Packed → Recorded → Type 0) → Type 0 → ℕ → ℕ → Ended → Option (List ℕ) → ℕ → Option (List ℕ) → Option (List ℕ) → Type 0
+abbrev pub EndsTrunk : (Packed → Result Bool Ended → Type 0) → (Packed → Recorded → Type 0) → Type 0 → ℕ → ℕ → Ended
+    → Option (List ℕ) → ℕ → Option (List ℕ) → Option (List ℕ) → Type 0
 EndsTrunk Sees Answers HasFailed n limit e has size before after =
     (IsNoTrunk n has size e × (after ≡ before))
-    ⊎ ((text : List ℕ) × (loaded : Contents) × (left : Left) × AreFirstBytes has size text × LoadGives (empty_table n) text (Ok (loaded, left))
+    ⊎ ((text : List ℕ) × (loaded : Contents) × (left : Left) × AreFirstBytes has size text
+    × LoadGives (empty_table n) text (Ok (loaded, left))
     × ((EndsLooking Sees limit loaded e × (after ≡ before))
-    ⊎ (((t : Packed) → IsOpenBelow limit loaded t → Sees t (Ok false)) × EndsGrowing Answers HasFailed limit e loaded (length text) left before after)))
+    ⊎ (((t : Packed) → IsOpenBelow limit loaded t → Sees t (Ok false))
+    × EndsGrowing Answers HasFailed limit e loaded (length text) left before after)))
 
 -- the line that says how many records the trunk has, and how many parts there are
 abbrev pub split_text : Tally → List ℕ
-split_text tally = codes "trunk " ++ decimal (tally.nodes - tally.open_count) ++ codes " parts " ++ decimal tally.open_count ++ 10 ∷ []
+split_text tally = codes "trunk " ++ decimal (tally.nodes - tally.open_count) ++ codes " parts "
+    ++ decimal tally.open_count ++ 10 ∷ []

@@ -18,10 +18,12 @@ is_below limit t = nat_lt (filled_count t) limit
 -- a part that counts is added to a whole, and its lines to the one ledger; else nothing changes
 abbrev pub AddsCounted : Option Contents → Collected → Collected → Option (List ℕ) → Option (List ℕ) → Type 0
 AddsCounted None old new before after = (new ≡ old) × (after ≡ before)
-AddsCounted (Some part) old new before after = AddGives old part (Ok tt) new × (after ≡ grown before (record_lines part.records))
+AddsCounted (Some part) old new before after = AddGives old part (Ok tt) new
+    × (after ≡ grown before (record_lines part.records))
 
 -- a part is met, added where it counts, and what is wrong with it is said
-pub record MeetsPart (IsMet : Option Contents → List ℕ → Type 0) (is_sound : Bool) (old new : Collected) (before after faults new_faults : Option (List ℕ)) : Type 0 where
+pub record MeetsPart (IsMet : Option Contents → List ℕ → Type 0) (is_sound : Bool) (old new : Collected)
+    (before after faults new_faults : Option (List ℕ)) : Type 0 where
   pub counted : Option Contents
   pub said : List ℕ
   pub met : IsMet counted said
@@ -30,7 +32,8 @@ pub record MeetsPart (IsMet : Option Contents → List ℕ → Type 0) (is_sound
   pub adds : AddsCounted counted old new before after
 
 -- so are the parts of these roots, behind a trunk without parts
-pub record AreAdded (Finds : Findings) (folder : List ℕ) (roots : List Packed) (trunk : Contents) (whole : Collected) (is_sound : Bool) (before after faults new_faults : Option (List ℕ)) : Type 0 where
+pub record AreAdded (Finds : Findings) (folder : List ℕ) (roots : List Packed) (trunk : Contents) (whole : Collected)
+    (is_sound : Bool) (before after faults new_faults : Option (List ℕ)) : Type 0 where
   pub parts : List Contents
   pub lines : List ℕ
   pub met : AreMet Finds folder roots parts lines
@@ -42,7 +45,8 @@ pub record AreAdded (Finds : Findings) (folder : List ℕ) (roots : List Packed)
       → after ≡ grown start (ledger_text trunk.root (joined_with trunk.records parts))
 
 -- it is the whole of what a folder holds, and the one ledger of all stands behind what stood in its place
-pub record IsGathered (Finds : Findings) (folder : List ℕ) (whole : Collected) (is_sound : Bool) (before after faults new_faults : Option (List ℕ)) : Type 0 where
+pub record IsGathered (Finds : Findings) (folder : List ℕ) (whole : Collected) (is_sound : Bool)
+    (before after faults new_faults : Option (List ℕ)) : Type 0 where
   pub parts : List Contents
   pub lines : List ℕ
   pub holds : HoldsTree Finds folder whole.trunk parts lines
@@ -56,7 +60,8 @@ abbrev pub EndsPart : Ended → Option (List ℕ) → Option (List ℕ) → Type
 EndsPart e faults new_faults = FailsAny e × ((new_faults ≡ faults) ⊎ (e ≡ Stream))
 
 -- why those of these roots aren't added: something fails, and what is wrong with the first ones is said
-pub record EndsAdding (Finds : Findings) (folder : List ℕ) (roots : List Packed) (e : Ended) (faults new_faults : Option (List ℕ)) : Type 0 where
+pub record EndsAdding (Finds : Findings) (folder : List ℕ) (roots : List Packed) (e : Ended)
+    (faults new_faults : Option (List ℕ)) : Type 0 where
   pub met : List Packed
   pub later : List Packed
   pub are_all : roots ≡ met ++ later
@@ -67,6 +72,7 @@ pub record EndsAdding (Finds : Findings) (folder : List ℕ) (roots : List Packe
   pub says : Appends faults new_faults lines ⊎ (e ≡ Stream)
 
 -- why what a folder holds isn't gathered, and what is said before
-pub record EndsGathering (Finds : Findings) (folder : List ℕ) (e : Ended) (faults new_faults : Option (List ℕ)) : Type 0 where
+pub record EndsGathering (Finds : Findings) (folder : List ℕ) (e : Ended) (faults new_faults : Option
+    (List ℕ)) : Type 0 where
   pub why : EndsJoining Finds folder e
   pub warns : ((new_faults ≡ faults) ⊎ SaysFirst Finds folder faults new_faults) ⊎ (e ≡ Stream)

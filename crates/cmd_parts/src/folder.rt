@@ -62,7 +62,8 @@ pub fn begin_parts<H: Files>(
     folder: &str,
     host: &mut H,
 ) -> Result<(), Ended>
-    ensures { OnOk result ((roots : List Packed) × AreAll (IsOpenOn board.now) roots × AreBegunAt (H.tells_same host.old) folder.now roots (H.holds host.old) (H.holds host.new)) }
+    ensures { OnOk result ((roots : List Packed) × AreAll (IsOpenOn board.now) roots
+        × AreBegunAt (H.tells_same host.old) folder.now roots (H.holds host.old) (H.holds host.new)) }
 {
     for root in board.open() {
         begin_part_in(alloc, folder, root, host)?;
@@ -77,21 +78,23 @@ fn begin_part_in<H: Files>(
     root: &Table,
     host: &mut H,
 ) -> Result<(), Ended>
-    ensures ok { OnOk result (IsBegunAt (H.tells_same host.old) folder.now root.now (H.holds host.old) (H.holds host.new)) }
+    ensures ok { OnOk result (IsBegunAt (H.tells_same host.old) folder.now root.now (H.holds host.old)
+        (H.holds host.new)) }
     ensures tells { IsToldStill (H.tells_same host.old) (H.tells_same host.new) }
 {
     let path = part_path(alloc, folder, root)?;
     begin_part_at(alloc, &path, root, host)
 }
 
-// The same at its path.
+// Begins a part at its path.
 fn begin_part_at<H: Files>(
     alloc: Global,
     path: &str,
     root: &Table,
     host: &mut H,
 ) -> Result<(), Ended>
-    ensures ok { OnOk result (IsPartBegun (H.tells_same host.old) path.now root.now (H.holds host.old) (H.holds host.new)) }
+    ensures ok { OnOk result (IsPartBegun (H.tells_same host.old) path.now root.now (H.holds host.old)
+        (H.holds host.new)) }
     ensures tells { IsToldStill (H.tells_same host.old) (H.tells_same host.new) }
 {
     let bytes = bytes_at(host, path)?;

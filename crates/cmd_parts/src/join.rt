@@ -60,7 +60,7 @@ pub fn cmd_join<H: Files, P: ReportForm, W: Write, E: Write>(
     told(join_at(alloc, form, joining, host, answers, faults), faults)
 }
 
-/// The same, but that what ends it early isn't said.
+/// Joins as `cmd_join` does, but answers what ends it early, and doesn't say it.
 pub fn join_at<H: Files, P: ReportForm, W: Write, E: Write>(
     alloc: Global,
     form: &P,
@@ -135,7 +135,8 @@ fn joined<H: Files, P: ReportForm, W: Write, E: Write>(
     faults: &mut E,
 ) -> Result<(H::Made, Outcome), Ended>
     ensures ok { IfOk result (λ j. (begun : Option (List ℕ)) × IsBlank begun
-        × TellsAll (P.is_text form.now) (finds_at (H.holds host.now)) folder.now begun (H.Made.text j.0) (W.contents answers.old) (W.contents answers.new) (E.contents faults.old) (E.contents faults.new) j.1) }
+        × TellsAll (P.is_text form.now) (finds_at (H.holds host.now)) folder.now begun (H.Made.text j.0)
+        (W.contents answers.old) (W.contents answers.new) (E.contents faults.old) (E.contents faults.new) j.1) }
     ensures err { IfErr result (λ e. (FailsWriting e × (W.contents answers.new ≡ W.contents answers.old)
         × (E.contents faults.new ≡ E.contents faults.old))
         ⊎ EndsTelling (finds_at (H.holds host.now)) folder.now e (W.contents answers.old) (W.contents answers.new)
@@ -152,7 +153,7 @@ fn joined<H: Files, P: ReportForm, W: Write, E: Write>(
     Ok((one.ledger, outcome))
 }
 
-// The same where the one ledger is written at a path, and a name may be removed for that.
+// Joins parts where the one ledger is written at a path, and a name may be removed for that.
 fn join_beside<'a, H: Files, P: ReportForm, C: Collector, W: Write, E: Write>(
     alloc: Global,
     form: &P,
@@ -463,7 +464,8 @@ fn says<E: Write>(alloc: Global, path: &str, what: &[u8], faults: &mut E) -> Res
 
 // What a report tells of a trunk and the parts that were added.
 fn told_of(whole: &Whole) -> Result<Told, NoMemory>
-    ensures { IfOk result (λ told. (parts : List Contents) → IsWhole whole.now parts → IsToldOf whole.now.trunk.root (joined_with whole.now.trunk.records parts) told) }
+    ensures { IfOk result (λ told. (parts : List Contents) → IsWhole whole.now parts
+        → IsToldOf whole.now.trunk.root (joined_with whole.now.trunk.records parts) told) }
 {
     let (champions, ones_champions, holdouts) = whole.champions_and_holdouts()?;
     Ok(Told {

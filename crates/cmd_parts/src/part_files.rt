@@ -39,7 +39,7 @@ pub struct PartsAt<'a, H> {
 /// A ledger that is written while others are read.
 #[derive(Clone, Copy, Debug)]
 pub struct Written<'a> {
-    /// Its path.
+    /// The path of the ledger.
     pub out: &'a str,
     /// The name that is removed where it is made, if one is.
     pub removed: Option<&'a str>,

@@ -39,7 +39,7 @@ pub fn settle_ledger<F: Read + Drop, L: LedgerOut, D: Decider, P: Progress, W: W
     settle_loaded(alloc, &mut board, &left, ledger, decider, progress, answers)
 }
 
-// The same from the board of the ledger, and what of it wasn't kept.
+// Settles from the board of the ledger, and what of it wasn't kept.
 fn settle_loaded<L: LedgerOut, D: Decider, P: Progress, W: Write>(
     alloc: Global,
     board: &mut Board,
@@ -49,10 +49,15 @@ fn settle_loaded<L: LedgerOut, D: Decider, P: Progress, W: Write>(
     progress: &mut P,
     answers: &mut W,
 ) -> Result<(), Ended>
-    ensures settled { OnOk result ((told : List ℕ) × SettlesWhole (AtSomeTime D D.answers) board.old left.now (L.text ledger.old) (L.text ledger.new) told
+    ensures settled { OnOk result ((told : List ℕ)
+        × SettlesWhole (AtSomeTime D D.answers) board.old left.now (L.text ledger.old) (L.text ledger.new) told
         × Appends (W.contents answers.old) (W.contents answers.new) told) }
-    ensures step { OnOk result (IfSome (L.text ledger.old) (λ text. ReadsIn board.old.format board.old.root text board.old.records left.now) → IfSome (L.text ledger.new) (IsLedgerOf board.new)) }
-    ensures ended { IfErr result (λ e. EndsWhole (AtSomeTime D D.answers) (L.failures ledger.old ≢ L.failures ledger.new) e board.old left.now (L.text ledger.old) (L.text ledger.new) (W.contents answers.old) (W.contents answers.new)) }
+    ensures step { OnOk result (IfSome (L.text ledger.old)
+        (λ text. ReadsIn board.old.format board.old.root text board.old.records left.now)
+        → IfSome (L.text ledger.new) (IsLedgerOf board.new)) }
+    ensures ended { IfErr result (λ e. EndsWhole (AtSomeTime D D.answers)
+        (L.failures ledger.old ≢ L.failures ledger.new) e board.old left.now (L.text ledger.old) (L.text ledger.new)
+        (W.contents answers.old) (W.contents answers.new)) }
 {
     cut_off(left, ledger)?;
     let count = settle_board(alloc, board, decider, ledger, progress)?;

@@ -30,10 +30,12 @@ pub fn settle_board<L: LedgerOut, D: Decider, P: Progress>(
     ledger: &mut L,
     progress: &mut P,
 ) -> Result<u64, Ended>
-    ensures settled { IfOk result (λ k. SettlesMany (AtSomeTime D D.answers) ComesFirst k board.old (L.text ledger.old) board.new (L.text ledger.new)) }
+    ensures settled { IfOk result (λ k. SettlesMany (AtSomeTime D D.answers) ComesFirst k board.old (L.text ledger.old)
+        board.new (L.text ledger.new)) }
     ensures all { OnOk result ((t : Packed) → IsOpenOn board.new t → ⊥) }
     ensures step { OnOk result (StaysInStep board.old (L.text ledger.old) board.new (L.text ledger.new)) }
-    ensures ended { IfErr result (λ e. EndsSettling (AtSomeTime D D.answers) ComesFirst e board.old (L.text ledger.old) board.new (L.text ledger.new)) }
+    ensures ended { IfErr result (λ e. EndsSettling (AtSomeTime D D.answers) ComesFirst e board.old (L.text ledger.old)
+        board.new (L.text ledger.new)) }
     ensures works { OnOk result (L.failures ledger.new ≡ L.failures ledger.old) }
     ensures failed { result ≡ Err Ended.Ledger → L.failures ledger.old ≢ L.failures ledger.new }
 {
@@ -57,10 +59,12 @@ pub fn settle_below<L: LedgerOut, D: Decider, P: Progress>(
     ledger: &mut L,
     progress: &mut P,
 ) -> Result<u64, Ended>
-    ensures settled { IfOk result (λ k. SettlesMany (AtSomeTime D D.answers) (IsOpenBelow limit) k board.old (L.text ledger.old) board.new (L.text ledger.new)) }
+    ensures settled { IfOk result (λ k. SettlesMany (AtSomeTime D D.answers) (IsOpenBelow limit) k board.old
+        (L.text ledger.old) board.new (L.text ledger.new)) }
     ensures all { OnOk result ((t : Packed) → IsOpenOn board.new t → limit ≤ filled_count t) }
     ensures step { OnOk result (StaysInStep board.old (L.text ledger.old) board.new (L.text ledger.new)) }
-    ensures ended { IfErr result (λ e. EndsSettling (AtSomeTime D D.answers) (IsOpenBelow limit) e board.old (L.text ledger.old) board.new (L.text ledger.new)) }
+    ensures ended { IfErr result (λ e. EndsSettling (AtSomeTime D D.answers) (IsOpenBelow limit) e board.old
+        (L.text ledger.old) board.new (L.text ledger.new)) }
     ensures works { OnOk result (L.failures ledger.new ≡ L.failures ledger.old) }
     ensures failed { result ≡ Err Ended.Ledger → L.failures ledger.old ≢ L.failures ledger.new }
 {
@@ -84,11 +88,13 @@ fn settle_all<L: LedgerOut, D: Decider, P: Progress>(
     progress: &mut P,
 ) -> Result<(), Ended>
     requires { AreAll (IsOpenBelow limit board.old) due.now }
-    ensures settled { OnOk result (SettlesMany (AtSomeTime D D.answers) (IsOpenBelow limit) (length due.now) board.old (L.text ledger.old) board.new (L.text ledger.new)) }
+    ensures settled { OnOk result (SettlesMany (AtSomeTime D D.answers) (IsOpenBelow limit) (length due.now) board.old
+        (L.text ledger.old) board.new (L.text ledger.new)) }
     ensures records { OnOk result (length board.new.records ≡ length board.old.records + length due.now) }
     ensures small { OnOk result (0 < length due.now → length board.new.records < 2 ^ 64) }
     ensures step { OnOk result (StaysInStep board.old (L.text ledger.old) board.new (L.text ledger.new)) }
-    ensures ended { IfErr result (λ e. EndsSettling (AtSomeTime D D.answers) (IsOpenBelow limit) e board.old (L.text ledger.old) board.new (L.text ledger.new)) }
+    ensures ended { IfErr result (λ e. EndsSettling (AtSomeTime D D.answers) (IsOpenBelow limit) e board.old
+        (L.text ledger.old) board.new (L.text ledger.new)) }
     ensures works { OnOk result (L.failures ledger.new ≡ L.failures ledger.old) }
     ensures failed { result ≡ Err Ended.Ledger → L.failures ledger.old ≢ L.failures ledger.new }
 {
@@ -114,7 +120,7 @@ pub(crate) fn open_below(alloc: Global, board: &Board, limit: u64) -> Result<Vec
     below(alloc, board.open(), limit)
 }
 
-// Those of some tables.
+// The tables with fewer filled entries than so many.
 fn below(alloc: Global, tables: Open<'_>, limit: u64) -> Result<Vec<Table>, NoMemory>
     ensures { IfOk result (λ found. found.items ≡ filter (is_below limit) tables.entry) }
 {
@@ -154,9 +160,11 @@ fn settle<L: LedgerOut, D: Decider>(
     ledger: &mut L,
 ) -> Result<(), Ended>
     requires { IsOpenOn board.old t.now }
-    ensures ok { OnOk result (SettlesOne (AtSomeTime D D.answers) (λ b q. q ≡ t.now) board.old (L.text ledger.old) board.new (L.text ledger.new)) }
+    ensures ok { OnOk result (SettlesOne (AtSomeTime D D.answers) (λ b q. q ≡ t.now) board.old (L.text ledger.old)
+        board.new (L.text ledger.new)) }
     ensures step { OnOk result (StaysInStep board.old (L.text ledger.old) board.new (L.text ledger.new)) }
-    ensures ended { IfErr result (λ e. EndsAtOne (AtSomeTime D D.answers) (λ b q. q ≡ t.now) e board.old (L.text ledger.old) board.new (L.text ledger.new)) }
+    ensures ended { IfErr result (λ e. EndsAtOne (AtSomeTime D D.answers) (λ b q. q ≡ t.now) e board.old
+        (L.text ledger.old) board.new (L.text ledger.new)) }
     ensures works { OnOk result (L.failures ledger.new ≡ L.failures ledger.old) }
     ensures failed { result ≡ Err Ended.Ledger → L.failures ledger.old ≢ L.failures ledger.new }
 {
@@ -192,8 +200,10 @@ fn take(board: &mut Board, r: &Record, judged: Judged, line: &mut Vec<u8>) -> Re
 
 // Appends a line to a ledger.
 pub(crate) fn append_line<L: LedgerOut>(ledger: &mut L, line: &[u8]) -> Result<(), Ended>
-    ensures ok { OnOk result ((L.text ledger.new ≡ grown (L.text ledger.old) line.now) × (L.failures ledger.new ≡ L.failures ledger.old)) }
-    ensures err { IfErr result (λ e. (e ≡ Ended.Ledger) × (L.failures ledger.old ≢ L.failures ledger.new) × IsBegun (L.text ledger.old) line.now (L.text ledger.new)) }
+    ensures ok { OnOk result ((L.text ledger.new ≡ grown (L.text ledger.old) line.now)
+        × (L.failures ledger.new ≡ L.failures ledger.old)) }
+    ensures err { IfErr result (λ e. (e ≡ Ended.Ledger) × (L.failures ledger.old ≢ L.failures ledger.new)
+        × IsBegun (L.text ledger.old) line.now (L.text ledger.new)) }
 {
     match append_all(ledger, line) {
         Ok(()) => Ok(()),

@@ -54,7 +54,7 @@ pub fn cmd_split<H: Files, D: Decider, P: Progress, W: Write, E: Write>(
     )
 }
 
-/// The same, but that what ends it early isn't said.
+/// Splits as `cmd_split` does, but answers what ends it early, and doesn't say it.
 pub fn split_in<H: Files, D: Decider, P: Progress, W: Write>(
     alloc: Global,
     splitting: &Splitting<'_>,
@@ -127,8 +127,10 @@ pub fn split_off<H: Files, W: Write>(
     host: &mut H,
     answers: &mut W,
 ) -> Result<(), Ended>
-    ensures begun { OnOk result ((roots : List Packed) × AreAll (IsOpenOn trunk.now) roots × AreBegunAt (H.tells_same host.old) folder.now roots (H.holds host.old) (H.holds host.new)) }
-    ensures told { OnOk result ((tally : Counted) × IsTally trunk.now.root trunk.now.records tally × Appends (W.contents answers.old) (W.contents answers.new) (split_text tally)) }
+    ensures begun { OnOk result ((roots : List Packed) × AreAll (IsOpenOn trunk.now) roots
+        × AreBegunAt (H.tells_same host.old) folder.now roots (H.holds host.old) (H.holds host.new)) }
+    ensures told { OnOk result ((tally : Counted) × IsTally trunk.now.root trunk.now.records tally
+        × Appends (W.contents answers.old) (W.contents answers.new) (split_text tally)) }
     ensures err { IfErr result (λ e. (W.contents answers.new ≡ W.contents answers.old) ⊎ (e ≡ Ended.Stream)) }
 {
     begin_parts(alloc, trunk, folder, host)?;

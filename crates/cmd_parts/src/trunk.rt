@@ -80,10 +80,12 @@ fn load_tree<R: Read>(
     }
 }
 
-// The same of what a loader was fed.
+// The board of what a loader was fed.
 fn finished(loader: Loader) -> Result<(Board, Left, u64), Ended>
-    ensures ok { (text : List ℕ) → StandsAfter loader text → IfOk result (λ l. (l.2 ≡ length text) × LoadGives loader.root text (Ok (l.0, l.1))) }
-    ensures err { (text : List ℕ) → StandsAfter loader text → IfErr result (λ e. (fault : LoadFault) × LoadGives loader.root text (Err fault) × (e ≡ ended_by_load fault)) }
+    ensures ok { (text : List ℕ) → StandsAfter loader text
+        → IfOk result (λ l. (l.2 ≡ length text) × LoadGives loader.root text (Ok (l.0, l.1))) }
+    ensures err { (text : List ℕ) → StandsAfter loader text
+        → IfErr result (λ e. (fault : LoadFault) × LoadGives loader.root text (Err fault) × (e ≡ ended_by_load fault)) }
 {
     let bytes = loader.bytes();
     match loader.finish() {
@@ -130,10 +132,14 @@ fn grow<L: LedgerOut, D: Decider, P: Progress>(
     ledger: &mut L,
     progress: &mut P,
 ) -> Result<(), Ended>
-    ensures settled { OnOk result ((k : ℕ) × SettlesMany (AtSomeTime D D.answers) (IsOpenBelow limit) k board.old (begun_trunk board.old.root bytes left.now (L.text ledger.old)) board.new (L.text ledger.new)) }
+    ensures settled { OnOk result ((k : ℕ) × SettlesMany (AtSomeTime D D.answers) (IsOpenBelow limit) k board.old
+        (begun_trunk board.old.root bytes left.now (L.text ledger.old)) board.new (L.text ledger.new)) }
     ensures all { OnOk result ((t : Packed) → IsOpenOn board.new t → limit ≤ filled_count t) }
-    ensures step { OnOk result (IfSome (begun_trunk board.old.root bytes left.now (L.text ledger.old)) (IsLedgerOf board.old) → IfSome (L.text ledger.new) (IsLedgerOf board.new)) }
-    ensures ended { IfErr result (λ e. EndsGrowing (AtSomeTime D D.answers) (L.failures ledger.old ≢ L.failures ledger.new) limit e board.old bytes left.now (L.text ledger.old) (L.text ledger.new)) }
+    ensures step { OnOk result (IfSome (begun_trunk board.old.root bytes left.now (L.text ledger.old))
+        (IsLedgerOf board.old) → IfSome (L.text ledger.new) (IsLedgerOf board.new)) }
+    ensures ended { IfErr result (λ e. EndsGrowing (AtSomeTime D D.answers)
+        (L.failures ledger.old ≢ L.failures ledger.new) limit e board.old bytes left.now (L.text ledger.old)
+        (L.text ledger.new)) }
 {
     begin_trunk(alloc, board.root(), left, bytes, ledger)?;
     settle_below(alloc, board, limit, decider, ledger, progress)?;
@@ -148,8 +154,10 @@ fn begin_trunk<L: LedgerOut>(
     bytes: u64,
     ledger: &mut L,
 ) -> Result<(), Ended>
-    ensures ok { OnOk result ((L.text ledger.new ≡ begun_trunk root.now bytes left.now (L.text ledger.old)) × (L.failures ledger.new ≡ L.failures ledger.old)) }
-    ensures err { IfErr result (λ e. EndsBeginning (L.failures ledger.old ≢ L.failures ledger.new) e root.now bytes left.now (L.text ledger.old) (L.text ledger.new)) }
+    ensures ok { OnOk result ((L.text ledger.new ≡ begun_trunk root.now bytes left.now (L.text ledger.old))
+        × (L.failures ledger.new ≡ L.failures ledger.old)) }
+    ensures err { IfErr result (λ e. EndsBeginning (L.failures ledger.old ≢ L.failures ledger.new) e root.now bytes
+        left.now (L.text ledger.old) (L.text ledger.new)) }
 {
     let mut header = Vec::new(alloc);
     if kept_size(left, bytes) == 0 {

@@ -18,7 +18,8 @@ IsAskedFor told = (kind_of told ≡ DisplayHelp) ⊎ (kind_of told ≡ DisplayVe
 
 -- a wrong line ends as one; help and the version are answered
 abbrev pub EndsUnread : LineFault → Outcome → Type 0
-EndsUnread (Refused told) o = (IsAskedFor told × (o ≡ Accepted)) ⊎ ((IsAskedFor told → ⊥) × (o ≡ BadLine)) ⊎ EndsGravely o
+EndsUnread (Refused told) o = (IsAskedFor told × (o ≡ Accepted)) ⊎ ((IsAskedFor told → ⊥) × (o ≡ BadLine))
+    ⊎ EndsGravely o
 EndsUnread (PathForNumber told) o = (o ≡ BadLine) ⊎ EndsGravely o
 EndsUnread LedgerOfStream o = (o ≡ BadLine) ⊎ EndsGravely o
 EndsUnread NotText o = (o ≡ BadLine) ⊎ EndsGravely o

@@ -152,8 +152,8 @@ another process writes the trunk (`refused 606`), or known records couldn't be r
 pub(crate) const SETTLE: &str =
     "The first open table in the order of the texts is looked at, as by `bb decide`, and its record is appended, until
 none is open. What follows the last line that can be kept is cut off first; but for a torn last line it is kept in
-FILE.cut, and `bb mend` reads it. It can be stopped at any time, and goes on where it was. Then comes the line `settled R holdouts H`: how many records came, and how many tables of the
-ledger are recorded without a verdict.
+FILE.cut, and `bb mend` reads it. It can be stopped at any time, and goes on where it was. Then comes the line
+`settled R holdouts H`: how many records came, and how many tables of the ledger are recorded without a verdict.
 
 Exit status: 0 no table is open, with or without holdouts; 1 the ledger was refused (`refused 404` no header with a
 readable table, `refused 405` its table doesn't name its states in order); 2 a wrong command line; 3 out of memory

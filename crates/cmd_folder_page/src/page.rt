@@ -7,14 +7,14 @@ ghost use Rattle.cmd_folder_page.specs.Page.{TellsPage};
 use crate::counting::Counting;
 use cmd_options::{Ended, Outcome};
 use cmd_page::{Census, Page};
-use cmd_parts::{Parts, PartsAt, gather, tell_whole};
+use cmd_parts::{PartLedgers, PartsAt, gather, tell_whole};
 use files::Files;
 use std::alloc::Global;
 use std::io::Write;
 
 /// Writes the page of the trunk in a folder and of the parts beside it, under the folder's path as its title. What is
 /// wrong with the trunk or a part is said on `faults` behind its path, as `join_parts` has it, and so is what it answers.
-pub fn write_folder_page<S: Parts, W: Write, E: Write>(
+pub fn write_folder_page<S: PartLedgers, W: Write, E: Write>(
     alloc: Global,
     folder: &str,
     parts: &S,

@@ -49,8 +49,8 @@ begun_trunk root bytes left text = grown (kept_part left text) (due_header root 
 -- the trunk of the tree of n states that a reader has in its first bytes is loaded, and settled until each open table has so
 -- many filled entries
 pub record GrowsTrunk (HasNoPart : Packed → Type 0) (Answers : Packed → Recorded → Type 0) (n limit : ℕ)
-    (has : Option (List ℕ)) (size : ℕ) (before : Option (List ℕ)) (new : Contents) (after : Option
-    (List ℕ)) : Type 0 where
+    (has : Option (List ℕ)) (size : ℕ) (before : Option (List ℕ)) (new : Contents)
+    (after : Option (List ℕ)) : Type 0 where
   pub text : List ℕ
   pub first : AreFirstBytes has size text
   pub loaded : Contents

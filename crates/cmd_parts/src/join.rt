@@ -21,7 +21,7 @@ ghost use Rattle.cmd_parts.specs.inside.{AreAdded, EndsAdding, EndsGathering, En
 
 use crate::collector::{Collector, Nowhere, OneLedger};
 use crate::folder::{TRUNK, part_path, path_within};
-use crate::part_files::{Parts, PartsAt, Written};
+use crate::part_files::{PartLedgers, PartsAt, Written};
 use cmd_ledgers::{ReportForm, Told, load_from, outcome_by, write_told};
 use cmd_options::{Ended, Joining, Outcome, Stopped, ended_by, told};
 use files::{Files, Opened, lock_ledger, made_for, put_at};
@@ -182,7 +182,7 @@ fn join_beside<'a, H: Files, P: ReportForm, C: Collector, W: Write, E: Write>(
 /// of the trunk's open tables, in the order of their texts. What is wrong with the trunk or a part is said on `faults`
 /// behind its path. Accepted where the report says complete and nothing was wrong. Where it ends early no report is
 /// printed, and what was said stays said, in whole lines, unless a stream failed.
-pub fn join_parts<S: Parts, P: ReportForm, C: Collector, W: Write, E: Write>(
+pub fn join_parts<S: PartLedgers, P: ReportForm, C: Collector, W: Write, E: Write>(
     alloc: Global,
     form: &P,
     folder: &str,
@@ -203,7 +203,7 @@ pub fn join_parts<S: Parts, P: ReportForm, C: Collector, W: Write, E: Write>(
 
 /// Judges the trunk in a folder and the parts beside it as `join_parts` does, and answers the whole of them and whether
 /// nothing is wrong with them. What is wrong with the trunk or a part is said on `faults` behind its path.
-pub fn gather<S: Parts, C: Collector, E: Write>(
+pub fn gather<S: PartLedgers, C: Collector, E: Write>(
     alloc: Global,
     folder: &str,
     parts: &S,
@@ -227,7 +227,7 @@ pub fn gather<S: Parts, C: Collector, E: Write>(
 }
 
 // Refuses to write over the trunk or one of the parts of these roots.
-fn spare<S: Parts>(
+fn spare<S: PartLedgers>(
     alloc: Global,
     parts: &S,
     folder: &str,
@@ -248,7 +248,7 @@ fn spare<S: Parts>(
 }
 
 // Adds the parts of these roots, and answers whether all are there and sound.
-fn add_parts<S: Parts, C: Collector, E: Write>(
+fn add_parts<S: PartLedgers, C: Collector, E: Write>(
     alloc: Global,
     parts: &S,
     folder: &str,
@@ -306,7 +306,7 @@ fn outcome_of(status: Status, is_sound: bool) -> Outcome
 }
 
 // The board of the trunk's ledger, which has to be there, and what of it wasn't kept.
-fn trunk_at<S: Parts>(alloc: Global, parts: &S, path: &str) -> Result<(Board, Left), Ended>
+fn trunk_at<S: PartLedgers>(alloc: Global, parts: &S, path: &str) -> Result<(Board, Left), Ended>
     ensures ok { IfOk result (λ l. IsReadAt (S.finds parts.now) path.now l.0 l.1) }
     ensures err { IfErr result (λ e. FailsFile e ⊎ HasNoTrunk (S.finds parts.now) path.now e) }
 {
@@ -332,7 +332,7 @@ pub fn open_tables(alloc: Global, trunk: &Board) -> Result<Vec<Table>, NoMemory>
 }
 
 // Adds the part of a root, and answers whether it is there and sound.
-fn join_part<S: Parts, C: Collector, E: Write>(
+fn join_part<S: PartLedgers, C: Collector, E: Write>(
     alloc: Global,
     parts: &S,
     folder: &str,

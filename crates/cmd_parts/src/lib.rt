@@ -19,7 +19,7 @@ mod trunk;
 pub use collector::{Collector, Nowhere, OneLedger};
 pub use folder::{Folder, FolderAt, begin_part, begin_parts, part_path};
 pub use join::{cmd_join, gather, join_at, join_into, join_parts, open_tables, tell_whole};
-pub use part_files::{Parts, PartsAt, Written};
+pub use part_files::{PartLedgers, PartsAt, Written};
 pub use settle::settle_ledger;
 pub use settle_at::settle_ledger_at;
 pub use settling::{settle_below, settle_board};

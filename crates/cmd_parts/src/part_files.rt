@@ -7,7 +7,7 @@ use files::{Files, Opened};
 use std::io::{ErrorKind, Read};
 
 /// Where the ledgers of a trunk and its parts are read, each by its path.
-pub trait Parts {
+pub trait PartLedgers {
     ghost use Rattle.std.specs.Prelude.{ℕ, IfErr, IfOk, List, Option, option_map};
     ghost use Rattle.cmd_parts.specs.Join.{FailsFile};
 
@@ -45,7 +45,7 @@ pub struct Written<'a> {
     pub removed: Option<&'a str>,
 }
 
-impl<H: Files> Parts for PartsAt<'_, H> {
+impl<H: Files> PartLedgers for PartsAt<'_, H> {
     ghost use Rattle.cmd_parts.specs.AtPaths.{finds_at};
 
     type File = H::Reader;

@@ -14,13 +14,13 @@ returns-clause-tells g c =
     let census = c.gather.new.collector.census in
     let kinds : ℕ → ℕ = λ k. get_or census.kinds k 0 in
     let entries : ℕ → ℕ = λ k. get_or census.entries k 0 in
-    if_ok c.tell_whole.result (λ o told. (kinds, entries, told)) (all_told (IsPageWith kinds entries c.args.folder.now) (g.S.Parts.finds c.args.parts.now) c.args.folder.now None None
+    if_ok c.tell_whole.result (λ o told. (kinds, entries, told)) (all_told (IsPageWith kinds entries c.args.folder.now) (g.S.PartLedgers.finds c.args.parts.now) c.args.folder.now None None
     (g.W.Write.contents c.args.answers.now) (g.W.Write.contents c.tell_whole.new.answers) (g.E.Write.contents c.args.faults.now) (g.E.Write.contents c.gather.new.faults)
     c.in_ok-whole.whole c.in_ok-whole.is_sound c.tell_whole.result c.in_ok-whole.ensures.ok c.tell_whole.ensures.ok)
 
 pub returns-in_err-whole-clause-ended : goal.returns-in_err-whole-clause-ended
 returns-in_err-whole-clause-ended g c =
-    let Finds = g.S.Parts.finds c.args.parts.now in
+    let Finds = g.S.PartLedgers.finds c.args.parts.now in
     let folder = c.args.folder.now in
     let said = g.W.Write.contents c.args.answers.now in
     let faults = g.E.Write.contents c.args.faults.now in
@@ -30,7 +30,7 @@ returns-in_err-whole-clause-ended g c =
 
 pub returns-clause-ended : goal.returns-clause-ended
 returns-clause-ended g c =
-    let Finds = g.S.Parts.finds c.args.parts.now in
+    let Finds = g.S.PartLedgers.finds c.args.parts.now in
     let folder = c.args.folder.now in
     let said = g.W.Write.contents c.args.answers.now in
     let new_said = g.W.Write.contents c.tell_whole.new.answers in

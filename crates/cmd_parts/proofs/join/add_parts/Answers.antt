@@ -14,7 +14,7 @@ use Rattle.cmd_parts.proofs.join.add_parts.Goals as goal
 use Rattle.cmd_parts.proofs.join.add_parts.Goals.{then-not-branch, else-not-branch}
 
 pub loop-root-init : goal.loop-root-init
-loop-root-init g c = none_added (g.S.Parts.finds c.args.parts.now) c.args.folder.now c.args.whole.now _ _ c.requires.none
+loop-root-init g c = none_added (g.S.PartLedgers.finds c.args.parts.now) c.args.folder.now c.args.whole.now _ _ c.requires.none
 
 pub join_part-requires : goal.join_part-requires
 join_part-requires g c =
@@ -23,13 +23,13 @@ join_part-requires g c =
     let root = c.root-item.result in
     let there : Contains roots root = subst (λ (t : Packed). Contains roots t) (sym c.root-item.is) (All-contains_itself roots i root c.loop-root-test.true) in (
       subst (λ (b : Contents). IsOpenOn b root) (sym c.loop-root.invariant.trunk_is) ((c.requires.all.exact root).0 there),
-      not_added (g.S.Parts.finds c.args.parts.now) c.args.folder.now roots i root c.args.whole.now.trunk c.loop-root.whole c.loop-root.are_sound _ _ _ _
+      not_added (g.S.PartLedgers.finds c.args.parts.now) c.args.folder.now roots i root c.args.whole.now.trunk c.loop-root.whole c.loop-root.are_sound _ _ _ _
           (all_apart (IsOpenOn c.args.whole.now.trunk) roots c.requires.all) c.loop-root-test.true c.root-item.is c.loop-root.invariant,
     )
 
 pub loop-root-preserved : goal.loop-root-preserved
 loop-root-preserved g c =
-    let Finds = g.S.Parts.finds c.args.parts.now in
+    let Finds = g.S.PartLedgers.finds c.args.parts.now in
     let roots = c.args.roots.now in
     let i = c.loop-root.root-index in
     let root = c.root-item.result in
@@ -49,7 +49,7 @@ loop-root-preserved g c =
 
 pub returns-in_err-join_part-clause-err : goal.returns-in_err-join_part-clause-err
 returns-in_err-join_part-clause-err g c =
-    let Finds = g.S.Parts.finds c.args.parts.now in
+    let Finds = g.S.PartLedgers.finds c.args.parts.now in
     let folder = c.args.folder.now in
     let roots = c.args.roots.now in
     let i = c.loop-root.root-index in

@@ -27,14 +27,14 @@ returns-clause-ok g c =
       | then-is_kept w ↦ λ no. absurd (let yes = w.if-is_kept.true in cc)
       | else-is_kept w ↦ λ no. w.result-is ∙ no
     ] in
-    gathered_so (g.S.Parts.finds c.args.parts.now) c.args.folder.now c.deref.result.now c.deref-4.result.now trunk c.in_ok-whole.whole.trunk c.in_ok-trunk.left c.deref-5.result.now c.add_parts.new.whole
+    gathered_so (g.S.PartLedgers.finds c.args.parts.now) c.args.folder.now c.deref.result.now c.deref-4.result.now trunk c.in_ok-whole.whole.trunk c.in_ok-trunk.left c.deref-5.result.now c.add_parts.new.whole
     c.in_ok-is_kept.is_kept c.in_ok-are_sound.are_sound c.if-is_kept.result _ _ _ _ _ _ is same c.in_ok-trunk.ensures.ok
     (subst (λ (l : List Packed). AreAll (IsOpenOn trunk) l) (sym roots) c.in_ok-roots.ensures)
     c.in_ok-is_kept.ensures.ok c.in_ok-begin.ensures.ok c.in_ok-whole.ensures.trunk c.in_ok-are_sound.ensures.ok all neither
 
 pub returns-in_err-trunk-clause-err : goal.returns-in_err-trunk-clause-err
 returns-in_err-trunk-clause-err g c =
-    let Finds = g.S.Parts.finds c.args.parts.now in
+    let Finds = g.S.PartLedgers.finds c.args.parts.now in
     let folder = c.args.folder.now in
     let faults = g.E.Write.contents c.args.faults.now in
     let is : c.deref.result.now ≡ path_within folder (codes "trunk") = search rules in
@@ -43,7 +43,7 @@ returns-in_err-trunk-clause-err g c =
 
 pub returns-in_err-begin-clause-err : goal.returns-in_err-begin-clause-err
 returns-in_err-begin-clause-err g c =
-    let Finds = g.S.Parts.finds c.args.parts.now in
+    let Finds = g.S.PartLedgers.finds c.args.parts.now in
     let folder = c.args.folder.now in
     let trunk = c.in_ok-trunk.trunk in
     let faults = g.E.Write.contents c.args.faults.now in
@@ -57,7 +57,7 @@ returns-in_err-begin-clause-err g c =
 
 pub returns-in_err-whole-clause-err : goal.returns-in_err-whole-clause-err
 returns-in_err-whole-clause-err g c =
-    let Finds = g.S.Parts.finds c.args.parts.now in
+    let Finds = g.S.PartLedgers.finds c.args.parts.now in
     let folder = c.args.folder.now in
     let trunk = c.in_ok-trunk.trunk in
     let faults = g.E.Write.contents c.args.faults.now in
@@ -71,7 +71,7 @@ returns-in_err-whole-clause-err g c =
 
 pub returns-in_err-are_sound-clause-err : goal.returns-in_err-are_sound-clause-err
 returns-in_err-are_sound-clause-err g c =
-    let Finds = g.S.Parts.finds c.args.parts.now in
+    let Finds = g.S.PartLedgers.finds c.args.parts.now in
     let folder = c.args.folder.now in
     let trunk = c.in_ok-trunk.trunk in
     let faults = g.E.Write.contents c.args.faults.now in

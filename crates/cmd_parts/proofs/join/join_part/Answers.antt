@@ -8,7 +8,7 @@ use Rattle.cmd_parts.proofs.join.join_part.Goals as goal
 
 pub returns-in-Some-clause-ok : goal.returns-in-Some-clause-ok
 returns-in-Some-clause-ok g c =
-    let Finds = g.S.Parts.finds c.args.parts.now in
+    let Finds = g.S.PartLedgers.finds c.args.parts.now in
     let folder = c.args.folder.now in
     let root = c.args.root.now in
     let has = g.S.File.Read.remaining c.in-Some.file.reader in
@@ -20,7 +20,7 @@ returns-in-Some-clause-ok g c =
 
 pub returns-clause-ok : goal.returns-clause-ok
 returns-clause-ok g c =
-    let Finds = g.S.Parts.finds c.args.parts.now in
+    let Finds = g.S.PartLedgers.finds c.args.parts.now in
     let folder = c.args.folder.now in
     let root = c.args.root.now in
     let is : c.deref.result.now ≡ path_within folder (text_of root) = search rules in

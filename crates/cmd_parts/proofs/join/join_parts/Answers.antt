@@ -8,13 +8,13 @@ use Rattle.cmd_parts.proofs.Joining.{all_told}
 use Rattle.cmd_parts.proofs.join.join_parts.Goals as goal
 
 pub returns-clause-tells : goal.returns-clause-tells
-returns-clause-tells g c = all_told (g.P.ReportForm.is_text c.args.form.now) (g.S.Parts.finds c.args.parts.now) c.args.folder.now (g.C.Collector.text c.args.collector.now) (g.C.Collector.text c.gather.new.collector)
+returns-clause-tells g c = all_told (g.P.ReportForm.is_text c.args.form.now) (g.S.PartLedgers.finds c.args.parts.now) c.args.folder.now (g.C.Collector.text c.args.collector.now) (g.C.Collector.text c.gather.new.collector)
     (g.W.Write.contents c.args.answers.now) (g.W.Write.contents c.tell_whole.new.answers) (g.E.Write.contents c.args.faults.now) (g.E.Write.contents c.gather.new.faults)
     c.in_ok-whole.whole c.in_ok-whole.is_sound c.tell_whole.result c.in_ok-whole.ensures.ok c.tell_whole.ensures.ok
 
 pub returns-in_err-whole-clause-ended : goal.returns-in_err-whole-clause-ended
 returns-in_err-whole-clause-ended g c =
-    let Finds = g.S.Parts.finds c.args.parts.now in
+    let Finds = g.S.PartLedgers.finds c.args.parts.now in
     let folder = c.args.folder.now in
     let said = g.W.Write.contents c.args.answers.now in
     let faults = g.E.Write.contents c.args.faults.now in
@@ -24,7 +24,7 @@ returns-in_err-whole-clause-ended g c =
 
 pub returns-clause-ended : goal.returns-clause-ended
 returns-clause-ended g c =
-    let Finds = g.S.Parts.finds c.args.parts.now in
+    let Finds = g.S.PartLedgers.finds c.args.parts.now in
     let folder = c.args.folder.now in
     let said = g.W.Write.contents c.args.answers.now in
     let new_said = g.W.Write.contents c.tell_whole.new.answers in

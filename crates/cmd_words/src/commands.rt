@@ -24,7 +24,7 @@ pub(crate) const SEARCH: [Argument; 2] = [Text(KNOWN), Number(STEPS)];
 pub(crate) const SEARCH_BY_STAGES: [Argument; 1] = [Flag(HARD)];
 
 #[rattlefmt::skip]
-pub(crate) const COMMANDS: [CommandWords; 15] = [
+pub(crate) const COMMANDS: [CommandWords; 16] = [
     CommandWords { name: "check", searches: false, after_help: RECORDS,
         about: "Checks a record a line on standard input, and prints an answer a line.",
         arguments: &[] },

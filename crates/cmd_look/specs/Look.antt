@@ -1,14 +1,11 @@
 -- What is recorded of given tables, and which tables are recorded without a verdict: by a ledger, or by a folder of a
 -- trunk and its parts.
-use Rattle.std.specs.Prelude.{◌≡◌, ◌⊎◌, ℕ, List, ◌++◌, map, Option, Some, None, Result, Ok, Err, IsSome, codes}
+use Rattle.std.specs.Prelude.{◌≡◌, ◌⊎◌, ℕ, List, map, Option, Some, None, IsSome, codes}
 use Rattle.std.specs.Io.KnownBytes.{Appends}
-use Rattle.text.specs.Lines.{BoundedLine, joined}
-use Rattle.machine_text.specs.Packed.{Packed, entry_of}
+use Rattle.text.specs.Lines.{joined}
+use Rattle.machine_text.specs.Packed.{Packed}
 use Rattle.machine_text.specs.Text.{text_of}
-use Rattle.law_turing.specs.Extension.{Extends}
-use Rattle.cert.specs.Claim.{Claim, Recorded}
-use Rattle.cert.specs.Grammar.{record_text}
-use Rattle.cert.specs.declared.record_fault.RecordFault.{RecordFault}
+use Rattle.cert.specs.Claim.{Recorded}
 use Rattle.ledger.specs.Contents.{Contents, IsOpenOn}
 use Rattle.ledger.specs.Held.{IsHoldout}
 use Rattle.ledger.specs.Records.{claim_in}
@@ -17,47 +14,16 @@ use Rattle.ledger.specs.declared.left.Left.{Left}
 use Rattle.parts.specs.Parts.{joined_with}
 use Rattle.cmd_options.specs.declared.ended.Ended.{Ended}
 use Rattle.cmd_options.specs.declared.outcome.Outcome.{Outcome}
-use Rattle.cmd_options.specs.declared.outcome.Outcome.TheVariants.{Accepted, Refused}
-use Rattle.cmd_lines.specs.Answer.{fault_text}
-use Rattle.cmd_lines.specs.Decision.{read_line_table}
+use Rattle.cmd_options.specs.declared.outcome.Outcome.TheVariants.{Accepted}
 use Rattle.cmd_lines.specs.Stream.{AnswersStream}
 use Rattle.cmd_parts.specs.Join.{EndsJoining, Findings, HasNoTrunk, HoldsTree, IsMet, IsReadAt}
 use Rattle.cmd_parts.specs.Split.{path_within}
-
-abbrev pub open_text : Packed → List ℕ
-open_text t = text_of t ++ codes " open"
-
-abbrev pub unknown_text : Packed → List ℕ
-unknown_text t = text_of t ++ codes " unknown"
-
--- the table isn't of the tree, as far as that is known
-abbrev pub SaysUnknown : Packed → Outcome → List ℕ → Type 0
-SaysUnknown t o answer = (o ≡ Refused) × (answer ≡ unknown_text t)
-
-abbrev pub SaysOpen : Packed → Outcome → List ℕ → Type 0
-SaysOpen t o answer = (o ≡ Refused) × (answer ≡ open_text t)
-
--- what is said of a table of which a board has no record
-abbrev pub SaysUnrecorded : Contents → Packed → Outcome → List ℕ → Type 0
-SaysUnrecorded b t o answer = (IsOpenOn b t × SaysOpen t o answer) ⊎ ((IsOpenOn b t → ⊥) × SaysUnknown t o answer)
-
--- what is said of a table by what a board's record claims of it, where there is one
-abbrev pub SaysByClaim : Contents → Packed → Option Claim → Outcome → List ℕ → Type 0
-SaysByClaim b t (Some claim) o answer = (o ≡ Accepted) × (answer ≡ record_text (record { table = t; claim = claim }))
-SaysByClaim b t None o answer = SaysUnrecorded b t o answer
-
--- its record on the board; or it is open there, or neither
-abbrev pub SaysByBoard : Contents → Packed → Outcome → List ℕ → Type 0
-SaysByBoard b t o answer = SaysByClaim b t (claim_in b.records t) o answer
+use Rattle.cmd_look.specs.Tables.{IsOf, IsOfNone, SaysByBoard, SaysOfLine, SaysUnknown}
 
 -- what is said of a table by the part that it belongs to, where that counts
 abbrev pub SaysByPart : Option Contents → Packed → Outcome → List ℕ → Type 0
 SaysByPart (Some part) t o answer = SaysByBoard part t o answer
 SaysByPart None t o answer = SaysUnknown t o answer
-
--- a table is a root, or comes of it by more entries
-abbrev pub IsOf : Packed → Packed → Type 0
-IsOf t root = (t.states ≡ root.states) × Extends (entry_of t) (entry_of root)
 
 -- what is said of a table that the trunk in a folder has no record of, by what is found of the part of a root
 pub record SaysBelow (Finds : Findings) (folder : List ℕ) (trunk : Contents) (t : Packed) (o : Outcome)
@@ -70,23 +36,11 @@ pub record SaysBelow (Finds : Findings) (folder : List ℕ) (trunk : Contents) (
   pub met : IsMet Finds folder root counted wrong
   pub says : SaysByPart counted t o answer
 
--- it belongs to no part
-abbrev pub IsOfNone : Contents → Packed → Type 0
-IsOfNone trunk t = (root : Packed) → IsOpenOn trunk root → IsOf t root → ⊥
-
 -- what is said of a table by a folder: its record in the trunk; else by the part that it belongs to, where there is one
 abbrev pub SaysByFolder : Findings → List ℕ → Contents → Packed → Outcome → List ℕ → Type 0
 SaysByFolder Finds folder trunk t o answer =
     (IsSome (claim_in trunk.records t) × SaysByBoard trunk t o answer)
     ⊎ (SaysBelow Finds folder trunk t o answer ⊎ (IsOfNone trunk t × SaysUnknown t o answer))
-
--- what is said to a line, by what was read of it
-abbrev pub SaysOfRead : (Packed → Outcome → List ℕ → Type 0) → Result Packed RecordFault → Outcome → List ℕ → Type 0
-SaysOfRead Says (Ok t) o answer = Says t o answer
-SaysOfRead Says (Err fault) o answer = (o ≡ Refused) × (answer ≡ fault_text fault)
-
-abbrev pub SaysOfLine : (Packed → Outcome → List ℕ → Type 0) → BoundedLine → Outcome → List ℕ → Type 0
-SaysOfLine Says line o answer = SaysOfRead Says (read_line_table line) o answer
 
 -- lines are answered by the ledger at a path
 pub record AnswersByLedger (Finds : Findings) (path : List ℕ) (read new_read held new_held : Option (List ℕ))

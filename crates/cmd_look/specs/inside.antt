@@ -1,17 +1,12 @@
--- For the code: the part that is kept from one line to the next, and what a line does.
-use Rattle.std.specs.Prelude.{◌≡◌, ◌≢◌, ℕ, List, [], ◌∷◌, ◌++◌, Option, Some, None, IfSome, ⊤}
+-- For the code: the part that is kept from one line to the next, and what a line does to it.
+use Rattle.std.specs.Prelude.{◌≡◌, ◌≢◌, ℕ, List, Option, Some, None, IfSome, ⊤}
 use Rattle.text.specs.Lines.{BoundedLine}
 use Rattle.machine_text.specs.Packed.{Packed}
-use Rattle.machine_text.specs.declared.transition.Entry.{Entry}
 use Rattle.ledger.specs.Contents.{Contents}
 use Rattle.cmd_options.specs.declared.outcome.Outcome.{Outcome}
 use Rattle.cmd_parts.specs.Join.{Findings, IsMet}
-use Rattle.cmd_look.specs.Look.{SaysByFolder, SaysOfLine}
-
--- an entry stays: where there is one, the other is that
-abbrev pub StaysEntry : Option Entry → Option Entry → Type 0
-StaysEntry None other = ⊤
-StaysEntry (Some entry) other = other ≡ Some entry
+use Rattle.cmd_look.specs.Tables.{SaysOfLine, SaysWith}
+use Rattle.cmd_look.specs.Look.{SaysByFolder}
 
 -- this is the root of a part
 abbrev pub HasRoot : Option Contents → Packed → Type 0
@@ -32,10 +27,6 @@ IsKept Finds folder (Some part) = (wrong : List ℕ) × IsMet Finds folder part.
 abbrev pub IsFound : Findings → List ℕ → Packed → Option Contents → Type 0
 IsFound Finds folder root found =
     ((wrong : List ℕ) × IsMet Finds folder root found wrong) × IfSome found (λ part. part.root ≡ root)
-
--- an answer to a line, with its newline
-abbrev pub SaysWith : (BoundedLine → Outcome → List ℕ → Type 0) → BoundedLine → Outcome → List ℕ → Type 0
-SaysWith Says line o said = (answer : List ℕ) × Says line o answer × (said ≡ answer ++ 10 ∷ [])
 
 -- what a line of a folder does to the part that is kept, and what is said to it
 abbrev pub LooksIn : Findings → List ℕ → Contents → Option Contents → BoundedLine → Outcome → Option Contents → List ℕ

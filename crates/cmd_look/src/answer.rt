@@ -6,7 +6,7 @@ ghost use Rattle.ledger.specs.Records.{claim_in};
 ghost use Rattle.cmd_lines.specs.Answer.{fault_text};
 ghost use Rattle.cmd_lines.specs.Decision.{read_line_table};
 ghost use Rattle.cmd_taking.specs.Taken.{lent};
-ghost use Rattle.cmd_look.specs.Look.{SaysByBoard, SaysUnknown, SaysUnrecorded};
+ghost use Rattle.cmd_look.specs.Tables.{SaysByBoard, SaysOpen, SaysUnknown, SaysUnrecorded};
 
 use cert::{Record, RecordFault, append_table};
 use cmd_lines::append_fault;
@@ -59,9 +59,18 @@ fn append_unrecorded(board: &Board, t: &Table, out: &mut Vec<u8>) -> Result<Outc
     ensures { IfOk result (λ o. (answer : List ℕ) × SaysUnrecorded board.now t.now o answer
         × (out.new.items ≡ out.old.items ++ answer)) }
 {
-    if !board.is_open(t) {
-        return append_unknown(t, out);
+    if board.is_open(t) {
+        append_open(t, out)
+    } else {
+        append_unknown(t, out)
     }
+}
+
+// Appends that a table is open.
+fn append_open(t: &Table, out: &mut Vec<u8>) -> Result<Outcome, NoMemory>
+    ensures { IfOk result (λ o. (answer : List ℕ) × SaysOpen t.now o answer
+        × (out.new.items ≡ out.old.items ++ answer)) }
+{
     append_table(t, out)?;
     out.extend_from_slice(b" open")?;
     Ok(Outcome::Refused)
@@ -91,7 +100,7 @@ fn record_on<'a>(board: &'a Board, t: &Table) -> Option<Record<'a>>
 
 // The first record of a table among some.
 fn record_among<'a>(records: Records<'a>, t: &Table) -> Option<Record<'a>>
-    ensures claim { option_map (λ r. claim_of r.certificate) result ≡ claim_in records t.now }
+    ensures claim { option_map (λ r. claim_of r.certificate) result ≡ claim_in records.entry t.now }
     ensures table { IfSome result (λ r. r.table ≡ t.now) }
 {
     for record in records {

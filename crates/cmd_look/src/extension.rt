@@ -1,11 +1,10 @@
 // The open table of a trunk that a table comes of.
-ghost use Rattle.std.specs.Prelude.{◌↔◌, ◌⊎◌, Contains, IfNone, IfSome, IsTrue};
+ghost use Rattle.std.specs.Prelude.{◌≡◌, ◌<◌, ◌↔◌, Contains, IfNone, IfSome, IsTrue};
 ghost use Rattle.machine_text.specs.Packed.{Packed, entry_of};
 ghost use Rattle.machine_text.specs.declared.transition.Sym.{Sym as Symbol};
 ghost use Rattle.machine_text.specs.declared.transition.Sym.TheVariants.{Zero, One};
 ghost use Rattle.ledger.specs.Contents.{IsOpenOn};
-ghost use Rattle.cmd_look.specs.Look.{IsOf, IsOfNone};
-ghost use Rattle.cmd_look.specs.inside.{StaysEntry};
+ghost use Rattle.cmd_look.specs.Tables.{IsOf, IsOfNone, StaysEntry};
 
 use ledger::{Board, Open};
 use machine_text::{State, Sym, Table};
@@ -20,8 +19,8 @@ pub(crate) fn root_above(trunk: &Board, t: &Table) -> Option<Table>
 
 // The first of some tables of which a table is.
 fn root_among(roots: Open<'_>, t: &Table) -> Option<Table>
-    ensures some { IfSome result (λ root. Contains roots root × IsOf t.now root) }
-    ensures none { IfNone result ((root : Packed) → Contains roots root → IsOf t.now root → ⊥) }
+    ensures some { IfSome result (λ root. Contains roots.entry root × IsOf t.now root) }
+    ensures none { IfNone result ((root : Packed) → Contains roots.entry root → IsOf t.now root → ⊥) }
 {
     for root in roots {
         if is_of(t, root) {

@@ -1,7 +1,7 @@
 // Lines that are answered by a folder of a trunk and its parts.
 ghost use Rattle.std.specs.Prelude.{◌≡◌, ◌⊎◌, ◌++◌, List, ℕ, IfErr, IfOk, IsTrue, OnOk};
 ghost use Rattle.cmd_parts.specs.Join.{FailsFile};
-ghost use Rattle.cmd_look.specs.Look.{IsOfNone, SaysBelow, SaysByFolder, SaysByPart, SaysUnknown};
+ghost use Rattle.cmd_look.specs.Look.{SaysByFolder, SaysByPart};
 ghost use Rattle.cmd_look.specs.inside.{HasRoot, IsFound, IsKept};
 
 use crate::answer::{append_by_board, append_unknown, refuse, table_of_line};
@@ -41,7 +41,7 @@ impl<S: PartLedgers> Sayer for FolderLook<'_, S> {
             Ok(table) => self.look_up(&table, said)?,
             Err(fault) => refuse(fault, said)?,
         };
-        said.push(b'\n')?;
+        said.extend_from_slice(b"\n")?;
         Ok(outcome)
     }
 }
@@ -99,11 +99,7 @@ fn has_root(part: &Option<Board>, root: &Table) -> bool
 }
 
 // Appends what is said of a table by the part that it belongs to; without that it is unknown.
-fn append_by_part(
-    part: &Option<Board>,
-    t: &Table,
-    out: &mut Vec<u8>,
-) -> Result<Outcome, NoMemory>
+fn append_by_part(part: &Option<Board>, t: &Table, out: &mut Vec<u8>) -> Result<Outcome, NoMemory>
     ensures { IfOk result (λ o. (answer : List ℕ) × SaysByPart part.now t.now o answer
         × (out.new.items ≡ out.old.items ++ answer)) }
 {

@@ -57,11 +57,7 @@ fn print_of_folder<S: PartLedgers, W: Write, E: Write>(
 }
 
 // Prints tables, a line each.
-fn print_holdouts<W: Write>(
-    alloc: Global,
-    holdouts: Holdouts,
-    answers: &mut W,
-) -> Result<(), Ended>
+fn print_holdouts<W: Write>(alloc: Global, holdouts: Holdouts, answers: &mut W) -> Result<(), Ended>
     ensures ok { OnOk result (Appends (W.contents answers.old) (W.contents answers.new)
         (joined (map text_of (into_iter_items holdouts)))) }
     ensures err { IfErr result (λ e. (e ≡ Ended.NoMemory) ⊎ (e ≡ Ended.Stream)) }
@@ -70,7 +66,7 @@ fn print_holdouts<W: Write>(
     for table in holdouts {
         line.clear();
         append_table(&table, &mut line)?;
-        line.push(b'\n')?;
+        line.extend_from_slice(b"\n")?;
         answers.write_all(&line)?;
     }
     Ok(())

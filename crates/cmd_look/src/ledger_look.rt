@@ -13,8 +13,7 @@ pub(crate) struct LedgerLook {
 impl Sayer for LedgerLook {
     ghost use Rattle.std.specs.Prelude.{◌≡◌};
     ghost use Rattle.cmd_options.specs.declared.ended.Ended.TheVariants.{NoMemory as WantsMemory};
-    ghost use Rattle.cmd_look.specs.Look.{SaysByBoard, SaysOfLine};
-    ghost use Rattle.cmd_look.specs.inside.{SaysWith};
+    ghost use Rattle.cmd_look.specs.Tables.{SaysByBoard, SaysOfLine, SaysWith};
 
     ghost takes = { λ old line o new said. (new.board ≡ old.board)
         × SaysWith (SaysOfLine (SaysByBoard old.board)) line o said };
@@ -26,7 +25,7 @@ impl Sayer for LedgerLook {
             Ok(table) => append_by_board(&self.board, &table, said)?,
             Err(fault) => refuse(fault, said)?,
         };
-        said.push(b'\n')?;
+        said.extend_from_slice(b"\n")?;
         Ok(outcome)
     }
 }

@@ -28,11 +28,7 @@ pub(crate) fn trunk_path(alloc: Global, folder: &str) -> Result<String, NoMemory
 }
 
 // The board of the ledger at a path, which has to be there.
-pub(crate) fn board_at<S: PartLedgers>(
-    alloc: Global,
-    parts: &S,
-    path: &str,
-) -> Result<Board, Ended>
+pub(crate) fn board_at<S: PartLedgers>(alloc: Global, parts: &S, path: &str) -> Result<Board, Ended>
     ensures ok { IfOk result (λ b. (left : LeftOver) × IsReadAt (S.finds parts.now) path.now b left) }
     ensures err { IfErr result (λ e. FailsFile e ⊎ HasNoTrunk (S.finds parts.now) path.now e) }
 {

@@ -1,1 +1,3 @@
 pub mod Extending
+pub mod Kept
+pub mod Printing

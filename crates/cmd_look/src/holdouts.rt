@@ -1,10 +1,10 @@
 // `bb look --holdouts`.
-ghost use Rattle.std.specs.Prelude.{◌≡◌, ◌⊎◌, ◌++◌, List, ℕ, IfErr, IfOk, OnOk, map};
+ghost use Rattle.std.specs.Prelude.{◌≡◌, ◌⊎◌, ◌++◌, ◌∷◌, [], IfErr, IfOk, OnOk, map};
 ghost use Rattle.std.specs.Io.KnownBytes.{Appends};
 ghost use Rattle.std.specs.Vec.Iter.{into_iter_items};
 ghost use Rattle.text.specs.Lines.{joined};
 ghost use Rattle.machine_text.specs.Text.{text_of};
-ghost use Rattle.cmd_look.specs.Look.{EndsLooking, PrintsAt, PrintsHoldouts, PrintsOfFolder};
+ghost use Rattle.cmd_look.specs.Look.{EndsLooking, PrintsAt, PrintsOfFolder};
 ghost use Rattle.cmd_parts.specs.Join.{EndsJoining};
 
 use crate::loading::board_at;
@@ -12,6 +12,7 @@ use cert::append_table;
 use cmd_options::{Ended, Outcome};
 use cmd_parts::{Nowhere, PartLedgers, gather};
 use ledger::Holdouts;
+use machine_text::Table;
 use std::alloc::Global;
 use std::io::Write;
 
@@ -64,10 +65,19 @@ fn print_holdouts<W: Write>(alloc: Global, holdouts: Holdouts, answers: &mut W) 
 {
     let mut line = Vec::new(alloc);
     for table in holdouts {
-        line.clear();
-        append_table(&table, &mut line)?;
-        line.extend_from_slice(b"\n")?;
-        answers.write_all(&line)?;
+        print_line(&table, &mut line, answers)?;
     }
+    Ok(())
+}
+
+// Prints a table, whose line is made in place of another one.
+fn print_line<W: Write>(t: &Table, line: &mut Vec<u8>, answers: &mut W) -> Result<(), Ended>
+    ensures ok { OnOk result (Appends (W.contents answers.old) (W.contents answers.new) (text_of t.now ++ 10 ∷ [])) }
+    ensures err { IfErr result (λ e. (e ≡ Ended.NoMemory) ⊎ (e ≡ Ended.Stream)) }
+{
+    line.clear();
+    append_table(t, line)?;
+    line.extend_from_slice(b"\n")?;
+    answers.write_all(line)?;
     Ok(())
 }

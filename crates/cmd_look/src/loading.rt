@@ -71,7 +71,7 @@ fn part_in<F: Read + Drop>(
     ensures err { IfErr result FailsFile }
 {
     match load_from(alloc, &mut file.reader, file.length) {
-        Ok((part, _)) => Ok(with_root(part, root)),
+        Ok((part, _left)) => Ok(with_root(part, root)),
         Err(Stopped::Ended(Ended::BadHeader)) => Ok(None),
         Err(Stopped::Ended(Ended::WrongRoot)) => Ok(None),
         Err(Stopped::Ended(ended)) => Err(ended),

@@ -153,11 +153,12 @@ fn retry<L: LedgerOut, D: Decider>(
     ensures failed { result ≡ Err Ended.Ledger → L.failures ledger.old ≢ L.failures ledger.new }
 {
     let made = decider.decide_judged(alloc, t)?;
+    let judged = made.judged;
     let record = Record {
         table: made.record.table,
         certificate: made.record.certificate.lent(),
     };
-    take(alloc, board, &record, made.judged, ledger)
+    take(alloc, board, &record, judged, ledger)
 }
 
 // Offers a judged record of a holdout, and appends its line where it is taken.

@@ -171,13 +171,14 @@ fn settle<L: LedgerOut, D: Decider>(
     // The proof needs that it is a board.
     let _ = board.root();
     let made = decider.decide_judged(alloc, t)?;
+    let judged = made.judged;
     // The parts by their names: the borrow checker's proof has to know of what the record is made.
     let record = Record {
         table: made.record.table,
         certificate: made.record.certificate.lent(),
     };
     let mut line = Vec::new(alloc);
-    take(board, &record, made.judged, &mut line)?;
+    take(board, &record, judged, &mut line)?;
     append_line(ledger, &line)
 }
 

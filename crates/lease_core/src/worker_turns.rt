@@ -74,12 +74,13 @@ pub(crate) fn make(alloc: Global, board: &mut Board, made: Decided) -> Result<Ou
     ensures err { OnErr result (board.new ≡ board.old) }
 {
     let full = made.scored();
+    let judged = full.judged;
     // The parts by their names: the borrow checker's proof has to know of what the record is made.
     let r = Record {
         table: full.record.table,
         certificate: full.record.certificate.lent(),
     };
-    put(alloc, board, &r, full.judged)
+    put(alloc, board, &r, judged)
 }
 
 // Puts a record that has its score. Its frame comes before the offer, and its line with that: once the board has

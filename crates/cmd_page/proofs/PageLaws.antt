@@ -1,19 +1,22 @@
 -- The parts of a page, put together.
-use Rattle.std.proofs.Common.{◌≡◌, ℕ, zero, suc, true, false, ltb, ◌&&◌, ◌∷◌, ◌+◌, ◌-◌, ◌*◌, ◌<◌, ◌≤◌, List, [], ◌++◌, decimal, flat_map, get_or, cond, Result, Ok, Err, OnOk, refl, ap, ◌∙◌, arith}
+use Rattle.std.proofs.Common.{◌≡◌, ℕ, zero, suc, true, false, ltb, ◌&&◌, ◌∷◌, ◌+◌, ◌-◌, ◌*◌, ◌^◌, ◌<◌, ◌≤◌, List, [], ◌++◌, length, decimal, flat_map, get_or, cond, Result, Ok, Err, OnOk, refl, ap, ◌∙◌, arith}
 use Rattle.std.specs.Result.{is_ok}
 use Rattle.std.specs.List.{range_with_len, list_all}
 use Rattle.std.proofs.lemmas.Bool.Decides.{nat_tests}
 use Rattle.std.specs.Vec.Iter.{into_iter_items}
 use Rattle.machine_text.specs.Limits.{state_limit}
+use Rattle.machine_text.specs.Packed.{Packed}
 use Rattle.cert.specs.Claim.{Recorded}
 use Rattle.ledger.specs.declared.left.Left.{Left}
 use Rattle.cmd_ledgers.specs.declared.told.Told.{Told}
 use Rattle.cmd_options.specs.Kinds.{kind_letters, kind_label}
-use Rattle.cmd_page.specs.Census.{of_kind, with_entries}
-use Rattle.cmd_page.specs.Page.{count_html, kind_html, kinds_html, entries_html, census_html, opening_html, summary_html, champions_html, head_html}
+use Rattle.cmd_page.specs.Census.{of_kind, with_entries, letter_of, entry_count}
+use Rattle.cmd_page.specs.Page.{IsPage, IsPageWith, count_html, kind_html, kinds_html, entries_html, census_html, opening_html, summary_html, champions_html, head_html, holdouts_html}
+use Rattle.cmd_page.specs.Counting.{HasCounted}
 use Rattle.cmd_page.specs.inside.{IsCensus}
 use Rattle.cmd_page.specs.declared.census.Census.{Census}
-use Rattle.cmd_page.specs.declared.style.TheConstants.{KINDS, ENTRIES}
+use Rattle.cmd_page.proofs.Counted.{all_counted}
+use Rattle.cmd_page.specs.Style.{kinds_text, entries_text, ending_text}
 
 -- a text that is appended last
 pub ended : {T E : Type 0} (r : Result T E) (old text new : List ℕ) → new ≡ cond (is_ok r) (old ++ text) old → OnOk r (new ≡ old ++ text)
@@ -55,21 +58,46 @@ same_kinds : (f g : ℕ → ℕ) → ((k : ℕ) → k < 256 → f k ≡ g k) →
 same_kinds f g same = same_rows f g same kind_letters refl
 
 -- all before the rows of the holdouts, part by part
-pub whole_head : (title : List ℕ) (rs : List Recorded) (left : Left) (told : Told) (figures : List ℕ) (census : Census) (n : ℕ) (h0 h1 h2 h3 h4 : List ℕ)
+pub whole_head : (title : List ℕ) (left : Left) (told : Told) (figures : List ℕ) (kinds entries : ℕ → ℕ) (n : ℕ) (h0 h1 h2 h3 h4 : List ℕ)
     → h0 ≡ [] → h1 ≡ h0 ++ opening_html title → h2 ≡ h1 ++ summary_html told.root told.status told.tally left
-    → h3 ≡ h2 ++ census_html n (λ k. get_or census.kinds k 0) (λ k. get_or census.entries k 0) → h4 ≡ h3 ++ champions_html figures (into_iter_items told.ones_champions)
-    → IsCensus rs census → n ≡ told.root.states → told.root.states ≤ state_limit → h4 ≡ head_html title rs left told figures
+    → h3 ≡ h2 ++ census_html n kinds entries → h4 ≡ h3 ++ champions_html figures (into_iter_items told.ones_champions)
+    → n ≡ told.root.states → h4 ≡ head_html title kinds entries left told figures
 unfolding head_html
-whole_head title rs left told figures census n h0 h1 h2 h3 h4 e0 e1 e2 e3 e4 counted states limit =
+whole_head title left told figures kinds entries n h0 h1 h2 h3 h4 e0 e1 e2 e3 e4 states =
     let first : h1 ≡ opening_html title = e1 ∙ ap (λ (l : List ℕ). l ++ opening_html title) e0 in
     let summary = summary_html told.root told.status told.tally left in
     let second : h2 ≡ opening_html title ++ summary = e2 ∙ ap (λ (l : List ℕ). l ++ summary) first in
-    let kinds = same_kinds (λ k. get_or census.kinds k 0) (of_kind rs) counted.kinds in
-    let entries = same_entries (λ k. get_or census.entries k 0) (with_entries rs) 0 (2 * n + 1) (λ k within. counted.entries k (omega (arith, within, limit, states))) in
-    let of_entries : ℕ → ℕ = λ k. get_or census.entries k 0 in
-    let census_is : census_html n (λ k. get_or census.kinds k 0) of_entries ≡ census_html told.root.states (of_kind rs) (with_entries rs) =
-    ap (λ (l : List ℕ). KINDS.now ++ l ++ ENTRIES.now ++ entries_html n of_entries) kinds
-    ∙ (ap (λ (l : List ℕ). KINDS.now ++ kinds_html (of_kind rs) ++ ENTRIES.now ++ l) entries ∙ ap (λ (m : ℕ). census_html m (of_kind rs) (with_entries rs)) states) in
-    let third : h3 ≡ opening_html title ++ summary ++ census_html told.root.states (of_kind rs) (with_entries rs) =
-    e3 ∙ (ap (λ (l : List ℕ). h2 ++ l) census_is ∙ ap (λ (l : List ℕ). l ++ census_html told.root.states (of_kind rs) (with_entries rs)) second) in
+    let third : h3 ≡ opening_html title ++ summary ++ census_html told.root.states kinds entries =
+    e3 ∙ (ap (λ (m : ℕ). h2 ++ census_html m kinds entries) states ∙ ap (λ (l : List ℕ). l ++ census_html told.root.states kinds entries) second) in
     e4 ∙ ap (λ (l : List ℕ). l ++ champions_html figures (into_iter_items told.ones_champions)) third
+
+pub exact_census : (rs : List Recorded) (census : Census) → HasCounted rs census → length rs < 2 ^ 64 → IsCensus rs census
+exact_census rs census counted few = record {
+  kinds = all_counted (λ r. letter_of r.claim) 256 rs census.kinds counted.kinds few;
+  entries = all_counted (λ r. entry_count r.table) 15 rs census.entries counted.entries few;
+}
+
+-- a page with the numbers that are counted of its records is the page of these
+pub counted_page : (title : List ℕ) (root : Packed) (rs : List Recorded) (left : Left) (text : List ℕ) (census : Census) → IsCensus rs census → root.states ≤ state_limit
+    → IsPageWith (λ k. get_or census.kinds k 0) (λ k. get_or census.entries k 0) title root rs left text → IsPage title root rs left text
+unfolding head_html
+counted_page title root rs left text census counted limit page =
+    let told = page.told in
+    let n = told.root.states in
+    let same_root : n ≡ root.states = ap (λ (p : Packed). p.states) page.is_told.root_is in
+    let of_kinds : ℕ → ℕ = λ k. get_or census.kinds k 0 in
+    let of_entries : ℕ → ℕ = λ k. get_or census.entries k 0 in
+    let kinds = same_kinds of_kinds (of_kind rs) counted.kinds in
+    let entries = same_entries of_entries (with_entries rs) 0 (2 * n + 1) (λ k within. counted.entries k (omega (arith, within, limit, same_root))) in
+    let census_is : census_html n of_kinds of_entries ≡ census_html n (of_kind rs) (with_entries rs) =
+    ap (λ (l : List ℕ). kinds_text ++ l ++ entries_text ++ entries_html n of_entries) kinds
+    ∙ ap (λ (l : List ℕ). kinds_text ++ kinds_html (of_kind rs) ++ entries_text ++ l) entries in
+    let before = opening_html title ++ summary_html told.root told.status told.tally left in
+    let champions = champions_html page.figures (into_iter_items told.ones_champions) in
+    record {
+      told = told;
+      is_told = page.is_told;
+      figures = page.figures;
+      are_figures = page.are_figures;
+      is = page.is ∙ ap (λ (l : List ℕ). before ++ l ++ champions ++ holdouts_html (into_iter_items told.holdouts) ++ ending_text) census_is;
+    }

@@ -1,5 +1,5 @@
 -- How many records of a list are of each kind, and of tables with so many entries.
-use Rattle.std.specs.Prelude.{ℕ, zero, suc, ◌+◌, ◌==◌, List, Option, Some, None, count_by, slice_index}
+use Rattle.std.specs.Prelude.{◌≡◌, ℕ, zero, suc, ◌+◌, ◌-◌, ◌^◌, ◌<◌, ◌==◌, min, List, Option, Some, None, count_by, slice_index}
 use Rattle.machine_text.specs.Packed.{Packed, entry_of}
 use Rattle.machine_text.specs.declared.transition.Sym.{Sym}
 use Rattle.machine_text.specs.declared.transition.Sym.TheVariants.{Zero, One}
@@ -35,3 +35,7 @@ of_kind rs letter = how_many (λ r. letter_of r.claim) letter rs
 -- how many are of a table with so many entries
 abbrev pub with_entries : List Recorded → ℕ → ℕ
 with_entries rs k = how_many (λ r. entry_count r.table) k rs
+
+-- numbers at the first n places to which others were added, as far as 64 bits hold them
+abbrev pub AreMore : ℕ → List ℕ → (ℕ → ℕ) → List ℕ → Type 0
+AreMore n old number new = (k : ℕ) → k < n → slice_index new k ≡ min (slice_index old k + number k) (2 ^ 64 - 1)

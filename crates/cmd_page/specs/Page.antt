@@ -15,13 +15,14 @@ use Rattle.cmd_ledgers.specs.Told.{IsToldOf}
 use Rattle.cmd_ledgers.specs.declared.told.Told.{Told}
 use Rattle.cmd_options.specs.Kinds.{kind_letters, kind_label}
 use Rattle.cmd_page.specs.Census.{of_kind, with_entries, entry_count}
-use Rattle.cmd_page.specs.Escaped.{escaped}
+use Rattle.cmd_page.specs.Escaped.{escaped, code_html}
 use Rattle.cmd_page.specs.Figures.{AreFigures}
-use Rattle.cmd_page.specs.declared.style.TheConstants.{OPENING, HEADING, PARTS, KINDS, ENTRIES, CHAMPIONS, ONES_CHAMPIONS, HOLDOUTS, ENDING}
+use Rattle.cmd_page.specs.Sentence.{sentence_html}
+use Rattle.cmd_page.specs.Style.{opening_text, heading_text, parts_text, kinds_text, entries_text, champions_text, ones_champions_text, holdouts_text, ending_text}
 
 -- the title, in the title bar and as the heading
 abbrev pub opening_html : List ℕ → List ℕ
-opening_html title = OPENING.now ++ escaped title ++ HEADING.now ++ escaped title ++ PARTS.now
+opening_html title = opening_text ++ escaped title ++ heading_text ++ escaped title ++ parts_text
 
 -- a row of a name and a value
 abbrev pub row_html : List ℕ → List ℕ → List ℕ
@@ -30,13 +31,10 @@ row_html name value = codes "<tr><th scope='row'>" ++ name ++ codes "</th><td>" 
 abbrev pub count_html : List ℕ → ℕ → List ℕ
 count_html name n = row_html name (decimal n)
 
-abbrev pub code_html : Packed → List ℕ
-code_html t = codes "<code>" ++ text_of t ++ codes "</code>"
-
 abbrev pub root_html : Packed → List ℕ
 root_html root = codes "<p>Root " ++ code_html root ++ codes "</p>\n<table>\n"
 
--- how the board stands, in words
+-- how the board stands, in words; where the tree is complete, the sentence that says what it shows stands behind that
 abbrev pub status_html : Status → List ℕ
 status_html (Working count) = codes "<p><strong>Working.</strong> There are open tables.</p>\n"
 status_html (Holdouts count) = codes "<p><strong>Holdouts.</strong> No table is open, and not all have a verdict.</p>\n"
@@ -61,7 +59,7 @@ tally_html tally = verdicts_html tally ++ count_html (codes "Holdouts") tally.ho
 
 abbrev pub summary_html : Packed → Status → Tally → Left → List ℕ
 summary_html root status tally left =
-    status_html status ++ left_html left ++ root_html root ++ tally_html tally
+    status_html status ++ sentence_html root status ++ left_html left ++ root_html root ++ tally_html tally
 
 -- a row for each kind, by how many there are of its letter
 abbrev pub kind_html : (ℕ → ℕ) → ℕ → List ℕ
@@ -75,7 +73,7 @@ abbrev pub entries_html : ℕ → (ℕ → ℕ) → List ℕ
 entries_html n number = flat_map (λ k. count_html (decimal k) (number k)) (range_with_len 0 (2 * n + 1))
 
 abbrev pub census_html : ℕ → (ℕ → ℕ) → (ℕ → ℕ) → List ℕ
-census_html n kinds entries = KINDS.now ++ kinds_html kinds ++ ENTRIES.now ++ entries_html n entries
+census_html n kinds entries = kinds_text ++ kinds_html kinds ++ entries_text ++ entries_html n entries
 
 -- tables in a list
 abbrev pub item_html : Packed → List ℕ
@@ -86,10 +84,10 @@ items_html tables = flat_map item_html tables
 
 -- the champions by scores, and what stands before the rows of the holdouts
 abbrev pub ones_champions_html : List Packed → List ℕ
-ones_champions_html tables = ONES_CHAMPIONS.now ++ items_html tables ++ HOLDOUTS.now
+ones_champions_html tables = ones_champions_text ++ items_html tables ++ holdouts_text
 
 abbrev pub champions_html : List ℕ → List Packed → List ℕ
-champions_html figures ones_champions = CHAMPIONS.now ++ figures ++ ones_champions_html ones_champions
+champions_html figures ones_champions = champions_text ++ figures ++ ones_champions_html ones_champions
 
 -- a holdout's row, to which its text is the link
 abbrev pub link_html : List ℕ → List ℕ
@@ -105,22 +103,27 @@ holdout_html t = codes "<tr id='" ++ text_of t ++ codes "'>" ++ link_html (text_
 abbrev pub holdouts_html : List Packed → List ℕ
 holdouts_html tables = flat_map holdout_html tables
 
--- all before the rows of the holdouts
-unfoldable pub head_html : List ℕ → List Recorded → Left → Told → List ℕ → List ℕ
-head_html title rs left told figures =
+-- all before the rows of the holdouts, by how many records there are of each kind and of tables with so many entries
+unfoldable pub head_html : List ℕ → (ℕ → ℕ) → (ℕ → ℕ) → Left → Told → List ℕ → List ℕ
+head_html title kinds entries left told figures =
     opening_html title
     ++ summary_html told.root told.status told.tally left
-    ++ census_html told.root.states (of_kind rs) (with_entries rs)
+    ++ census_html told.root.states kinds entries
     ++ champions_html figures (into_iter_items told.ones_champions)
 
-abbrev pub page_html : List ℕ → List Recorded → Left → Told → List ℕ → List ℕ
-page_html title rs left told figures = head_html title rs left told figures ++ holdouts_html (into_iter_items told.holdouts) ++ ENDING.now
+abbrev pub page_html : List ℕ → (ℕ → ℕ) → (ℕ → ℕ) → Left → Told → List ℕ → List ℕ
+page_html title kinds entries left told figures =
+    head_html title kinds entries left told figures ++ holdouts_html (into_iter_items told.holdouts) ++ ending_text
 
--- the page of a root and the records held from it, under a title: all that a report tells of them, the numbers of their
--- kinds and entries, the champions with their pictures, and exactly the holdouts, in the order of their texts
-pub record IsPage (title : List ℕ) (root : Packed) (rs : List Recorded) (left : Left) (text : List ℕ) : Type 0 where
+-- a page of a root and the records held from it, under a title, but that these are the numbers of kinds and entries
+pub record IsPageWith (kinds entries : ℕ → ℕ) (title : List ℕ) (root : Packed) (rs : List Recorded) (left : Left) (text : List ℕ) : Type 0 where
   pub told : Told
   pub is_told : IsToldOf root rs told
   pub figures : List ℕ
   pub are_figures : AreFigures told.tally.best (into_iter_items told.champions) figures
-  pub is : text ≡ page_html title rs left told figures
+  pub is : text ≡ page_html title kinds entries left told figures
+
+-- the page of a root and the records held from it, under a title: all that a report tells of them, the numbers of their
+-- kinds and entries, the champions with their pictures, and exactly the holdouts, in the order of their texts
+abbrev pub IsPage : List ℕ → Packed → List Recorded → Left → List ℕ → Type 0
+IsPage title root rs left text = IsPageWith (of_kind rs) (with_entries rs) title root rs left text

@@ -6,7 +6,7 @@ use Rattle.cmd_page.specs.Census.{of_kind, with_entries}
 use Rattle.cmd_page.specs.Page.{holdouts_html}
 use Rattle.cmd_page.specs.declared.census.Census.{Census}
 use Rattle.cmd_page.specs.declared.making.MadePage.{MadePage}
-use Rattle.cmd_page.specs.declared.style.TheConstants.{ENDING}
+use Rattle.cmd_page.specs.Style.{ending_text}
 
 -- what is counted of records
 pub record IsCensus (rs : List Recorded) (census : Census) : Type 0 where
@@ -15,4 +15,4 @@ pub record IsCensus (rs : List Recorded) (census : Census) : Type 0 where
 
 -- the bytes of a page that is made
 abbrev pub bytes_of_page : MadePage → List ℕ
-bytes_of_page made = made.head.items ++ holdouts_html (into_iter_items made.holdouts) ++ ENDING.now
+bytes_of_page made = made.head.items ++ holdouts_html (into_iter_items made.holdouts) ++ ending_text

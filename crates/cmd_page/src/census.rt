@@ -1,18 +1,54 @@
 // How many records there are of each kind, and of tables with so many entries.
 ghost use Rattle.std.specs.Prelude.{◌≡◌, ℕ, ◌+◌, ◌-◌, ◌^◌, ◌<◌, ◌==◌, if◌then◌else◌, slice_index, length};
 ghost use Rattle.cert.specs.Kinds.{claim_of};
-ghost use Rattle.cmd_page.specs.Census.{letter_of};
+ghost use Rattle.cmd_page.specs.Census.{AreMore, letter_of};
 ghost use Rattle.cmd_page.specs.inside.{IsCensus};
 
 use crate::entries::entry_count;
 use cert::Certificate;
 use ledger::{Board, Records};
 
-// How many records there are of each kind, by its letter, and of tables with so many entries, by that number.
+/// How many records there are of each kind, by its letter, and of tables with so many entries, by that number.
 #[derive(Drop)]
-pub(crate) struct Census {
-    pub(crate) kinds: [u64; 256],
-    pub(crate) entries: [u64; 15],
+pub struct Census {
+    pub kinds: [u64; 256],
+    pub entries: [u64; 15],
+}
+
+impl Census {
+    ghost use Rattle.std.specs.Prelude.{[], ◌++◌, List};
+    ghost use Rattle.cert.specs.Claim.{Recorded};
+    ghost use Rattle.cmd_page.specs.Counting.{HasCounted};
+
+    /// Of no record.
+    pub fn new() -> Census
+        ensures { HasCounted [] result }
+    {
+        Census {
+            kinds: [0; 256],
+            entries: [0; 15],
+        }
+    }
+
+    /// Counts a board's records too. A number that 64 bits don't hold is the greatest that they do.
+    pub fn add(&mut self, board: &Board)
+        ensures { (rs : List Recorded) → HasCounted rs self.old → HasCounted (rs ++ board.now.records) self.new }
+    {
+        let more = census_of(board);
+        add_up(&mut self.kinds, &more.kinds);
+        add_up(&mut self.entries, &more.entries);
+    }
+}
+
+// Adds numbers to others, place by place.
+fn add_up(counts: &mut [u64], more: &[u64])
+    requires { length more.now ≡ length counts.old }
+    ensures length { length counts.new ≡ length counts.old }
+    ensures sums { AreMore (length counts.old) counts.old (slice_index more.now) counts.new }
+{
+    for k in 0..more.len() {
+        counts[k] = counts[k].saturating_add(more[k]);
+    }
 }
 
 // Those of a board's records.

@@ -5,7 +5,7 @@ ghost use Rattle.cmd_page.specs.Page.{kinds_html, entries_html, census_html};
 
 use crate::census::Census;
 use crate::rows::{append_count, append_numbered};
-use crate::style::{ENTRIES, KINDS};
+use crate::style;
 use cmd_options::{LETTERS, kind_label};
 use kind_evidence::NoMemory;
 
@@ -14,9 +14,9 @@ pub(crate) fn append_census(states: u8, census: &Census, out: &mut Vec<u8>) -> R
     requires { states ≤ state_limit }
     ensures { OnOk result (out.new.items ≡ out.old.items ++ census_html states (slice_index census.now.kinds) (slice_index census.now.entries)) }
 {
-    out.extend_from_slice(KINDS)?;
+    out.extend_from_slice(style::kinds())?;
     append_kinds(&census.kinds, out)?;
-    out.extend_from_slice(ENTRIES)?;
+    out.extend_from_slice(style::entries())?;
     append_entries(states, &census.entries, out)
 }
 

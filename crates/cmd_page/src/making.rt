@@ -1,18 +1,19 @@
 // A page as it is made, before it is written.
-ghost use Rattle.std.specs.Prelude.{◌≡◌, ℕ, ◌++◌, List, IfOk, OnOk};
+ghost use Rattle.std.specs.Prelude.{◌≡◌, ◌≤◌, ℕ, ◌++◌, List, IfOk, OnOk, slice_index};
 ghost use Rattle.std.specs.Vec.Iter.{into_iter_items};
+ghost use Rattle.machine_text.specs.Limits.{state_limit};
 ghost use Rattle.machine_text.specs.Packed.{Packed};
 ghost use Rattle.cert.specs.Claim.{Recorded};
 ghost use Rattle.cmd_ledgers.specs.Told.{IsToldOf};
 ghost use Rattle.cmd_page.specs.Figures.{AreFigures};
-ghost use Rattle.cmd_page.specs.Page.{IsPage, champions_html, ones_champions_html};
-ghost use Rattle.cmd_page.specs.inside.{IsCensus, bytes_of_page};
+ghost use Rattle.cmd_page.specs.Page.{IsPage, IsPageWith, champions_html, ones_champions_html};
+ghost use Rattle.cmd_page.specs.inside.{bytes_of_page};
 
 use crate::census::{Census, census_of};
 use crate::counts::append_census;
 use crate::figures::append_figures;
 use crate::rows::append_items;
-use crate::style::{CHAMPIONS, HOLDOUTS, ONES_CHAMPIONS};
+use crate::style;
 use crate::summary::{append_opening, append_summary};
 use cmd_ledgers::Told;
 use kind_evidence::NoMemory;
@@ -22,9 +23,9 @@ use std::alloc::Global;
 // How many bytes are gathered before they are written, at least.
 const PIECE_BYTES: usize = 16_384;
 
-// A page, with all the memory that it takes. The rows of the holdouts are made as they are written.
+/// A page, with all the memory that it takes. The rows of the holdouts are made as they are written.
 #[derive(Drop)]
-pub(crate) struct MadePage {
+pub struct MadePage {
     // all before the rows of the holdouts
     pub(crate) head: Vec<u8>,
     pub(crate) holdouts: Holdouts,
@@ -43,15 +44,17 @@ pub(crate) fn page_of(
 }
 
 // Makes the page of what is counted and told.
-fn told_page(
+pub(crate) fn told_page(
     alloc: Global,
     title: &[u8],
     census: &Census,
     told: Told,
     left: &Left,
 ) -> Result<MadePage, NoMemory>
-    ensures { IfOk result (λ made. (root : Packed) (rs : List Recorded) → IsCensus rs census.now → IsToldOf root rs told →
-        IsPage title.now root rs left.now (bytes_of_page made)) }
+    ensures { IfOk result (λ made. (told.root.states ≤ state_limit)
+        × ((root : Packed) (rs : List Recorded) → IsToldOf root rs told
+        → IsPageWith (slice_index census.now.kinds) (slice_index census.now.entries) title.now root rs left.now
+        (bytes_of_page made))) }
 {
     let Told {
         root,
@@ -80,7 +83,7 @@ fn append_champions(
     ensures { OnOk result ((figures : List ℕ) × AreFigures best (into_iter_items champions) figures
         × (out.new.items ≡ out.old.items ++ champions_html figures (into_iter_items ones_champions))) }
 {
-    out.extend_from_slice(CHAMPIONS)?;
+    out.extend_from_slice(style::champions())?;
     append_figures(alloc, best, champions, out)?;
     append_ones_champions(ones_champions, out)
 }
@@ -88,7 +91,7 @@ fn append_champions(
 fn append_ones_champions(ones_champions: Champions, out: &mut Vec<u8>) -> Result<(), NoMemory>
     ensures { OnOk result (out.new.items ≡ out.old.items ++ ones_champions_html (into_iter_items ones_champions)) }
 {
-    out.extend_from_slice(ONES_CHAMPIONS)?;
+    out.extend_from_slice(style::ones_champions())?;
     append_items(ones_champions, out)?;
-    out.extend_from_slice(HOLDOUTS)
+    out.extend_from_slice(style::holdouts())
 }

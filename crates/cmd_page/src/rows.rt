@@ -2,7 +2,8 @@
 ghost use Rattle.std.specs.Prelude.{◌≡◌, ◌++◌, codes, decimal, OnOk};
 ghost use Rattle.std.specs.Vec.Iter.{into_iter_items};
 ghost use Rattle.cmd_ledgers.specs.Report.{greatest_text};
-ghost use Rattle.cmd_page.specs.Page.{row_html, count_html, code_html, item_html, items_html};
+ghost use Rattle.cmd_page.specs.Escaped.{code_html};
+ghost use Rattle.cmd_page.specs.Page.{row_html, count_html, item_html, items_html};
 
 use kind_evidence::NoMemory;
 use machine_text::{TEXT_BYTES, Table};

@@ -1,7 +1,12 @@
 // How a page looks, and what it does. Nothing comes from elsewhere, and the page forbids itself to ask for it.
+ghost use Rattle.std.specs.Prelude.{◌≡◌};
+ghost use Rattle.cmd_page.specs.Style.{opening_text, heading_text, parts_text, kinds_text, entries_text, champions_text, ones_champions_text, holdouts_text, ending_text};
 
 // The beginning, up to the title. Light or dark, as the reader has it; on a narrow screen one part beneath the other.
-pub(crate) const OPENING: &[u8] =
+#[tactic(auto, unfolding(crate::specs::Style::opening_text))]
+pub(crate) fn opening() -> &'static [u8]
+    ensures { result.now ≡ opening_text }
+{
     b"<!doctype html>\n<html lang='en'>\n<head>\n<meta charset='utf-8'>\n\
 <meta name='viewport' content='width=device-width,initial-scale=1'>\n\
 <meta http-equiv='Content-Security-Policy' content=\"default-src 'none';style-src 'unsafe-inline';\
@@ -43,43 +48,76 @@ tr:target{background:var(--mark)}\n\
 :focus-visible{outline:2px solid var(--link);outline-offset:2px}\n\
 @media print{nav,.tools{display:none}}\n\
 </style>\n\
-<title>";
+<title>"
+}
 
 // From the title to the heading.
-pub(crate) const HEADING: &[u8] =
-    b"</title>\n</head>\n<body>\n<header>\n<p>Busy beaver report</p>\n<h1>";
+#[tactic(auto, unfolding(crate::specs::Style::heading_text))]
+pub(crate) fn heading() -> &'static [u8]
+    ensures { result.now ≡ heading_text }
+{
+    b"</title>\n</head>\n<body>\n<header>\n<p>Busy beaver report</p>\n<h1>"
+}
 
 // From the heading to how the board stands.
-pub(crate) const PARTS: &[u8] =
+#[tactic(auto, unfolding(crate::specs::Style::parts_text))]
+pub(crate) fn parts() -> &'static [u8]
+    ensures { result.now ≡ parts_text }
+{
     b"</h1>\n<nav aria-label='Parts of this page'>\n<a href='#status'>Status</a>\n\
 <a href='#kinds'>Certificates</a>\n<a href='#entries'>Filled entries</a>\n<a href='#champions'>Champions</a>\n\
-<a href='#holdouts'>Holdouts</a>\n</nav>\n</header>\n<main>\n<section id='status'>\n<h2>Status</h2>\n";
+<a href='#holdouts'>Holdouts</a>\n</nav>\n</header>\n<main>\n<section id='status'>\n<h2>Status</h2>\n"
+}
 
 // Before the rows of the kinds.
-pub(crate) const KINDS: &[u8] =
-    b"</table>\n</section>\n<section id='kinds'>\n<h2>Records by kind of certificate</h2>\n<table>\n";
+#[tactic(auto, unfolding(crate::specs::Style::kinds_text))]
+pub(crate) fn kinds() -> &'static [u8]
+    ensures { result.now ≡ kinds_text }
+{
+    b"</table>\n</section>\n<section id='kinds'>\n<h2>Records by kind of certificate</h2>\n<table>\n"
+}
 
 // Before the rows of the numbers of entries.
-pub(crate) const ENTRIES: &[u8] =
-    b"</table>\n</section>\n<section id='entries'>\n<h2>Records by filled entries</h2>\n<table>\n";
+#[tactic(auto, unfolding(crate::specs::Style::entries_text))]
+pub(crate) fn entries() -> &'static [u8]
+    ensures { result.now ≡ entries_text }
+{
+    b"</table>\n</section>\n<section id='entries'>\n<h2>Records by filled entries</h2>\n<table>\n"
+}
 
 // Before the pictures of the champions.
-pub(crate) const CHAMPIONS: &[u8] =
-    b"</table>\n</section>\n<section id='champions'>\n<h2>Champions</h2>\n<h3>Most steps</h3>\n<div class='figures'>\n";
+#[tactic(auto, unfolding(crate::specs::Style::champions_text))]
+pub(crate) fn champions() -> &'static [u8]
+    ensures { result.now ≡ champions_text }
+{
+    b"</table>\n</section>\n<section id='champions'>\n<h2>Champions</h2>\n<h3>Most steps</h3>\n<div class='figures'>\n"
+}
 
 // Before the champions by scores.
-pub(crate) const ONES_CHAMPIONS: &[u8] = b"</div>\n<h3>Most ones</h3>\n<ul>\n";
+#[tactic(auto, unfolding(crate::specs::Style::ones_champions_text))]
+pub(crate) fn ones_champions() -> &'static [u8]
+    ensures { result.now ≡ ones_champions_text }
+{
+    b"</div>\n<h3>Most ones</h3>\n<ul>\n"
+}
 
 // Before the rows of the holdouts. The tools are shown by what makes them work.
-pub(crate) const HOLDOUTS: &[u8] =
+#[tactic(auto, unfolding(crate::specs::Style::holdouts_text))]
+pub(crate) fn holdouts() -> &'static [u8]
+    ensures { result.now ≡ holdouts_text }
+{
     b"</ul>\n</section>\n<section id='holdouts'>\n<h2>Holdouts</h2>\n<p class='none'>There is none.</p>\n\
 <div class='tools' hidden>\n<label for='search'>Search</label>\n\
 <input type='search' id='search' autocomplete='off' spellcheck='false' placeholder='part of a table, or several'>\n\
 <output for='search'></output>\n</div>\n<table>\n\
-<thead><tr><th scope='col' aria-sort='ascending'>Table</th><th scope='col'>Filled entries</th></tr></thead>\n<tbody>\n";
+<thead><tr><th scope='col' aria-sort='ascending'>Table</th><th scope='col'>Filled entries</th></tr></thead>\n<tbody>\n"
+}
 
 // Behind the rows of the holdouts: what searches and sorts them.
-pub(crate) const ENDING: &[u8] =
+#[tactic(auto, unfolding(crate::specs::Style::ending_text))]
+pub(crate) fn ending() -> &'static [u8]
+    ensures { result.now ≡ ending_text }
+{
     b"</tbody>\n</table>\n</section>\n</main>\n<script>\n'use strict';\n\
 const part = document.getElementById('holdouts'), body = part.querySelector('tbody'), rows = [...body.rows];\n\
 const field = part.querySelector('input'), found = part.querySelector('output'), heads = [...part.querySelectorAll('th')];\n\
@@ -113,4 +151,5 @@ if (rows.length) {\n\
   part.querySelector('.tools').hidden = false;\n\
   search();\n\
 }\n\
-</script>\n</body>\n</html>\n";
+</script>\n</body>\n</html>\n"
+}

@@ -4,7 +4,8 @@ ghost use Rattle.cmd_page.specs.Page.{opening_html, root_html, status_html, left
 
 use crate::escape::append_escaped;
 use crate::rows::{append_code, append_count, append_greatest};
-use crate::style::{HEADING, OPENING, PARTS};
+use crate::sentence::append_sentence;
+use crate::style::{heading, opening, parts};
 use kind_evidence::NoMemory;
 use ledger::{Left, Status, Tally};
 use machine_text::Table;
@@ -14,14 +15,14 @@ use text::append_number;
 pub(crate) fn append_opening(title: &[u8], out: &mut Vec<u8>) -> Result<(), NoMemory>
     ensures { OnOk result (out.new.items ≡ out.old.items ++ opening_html title.now) }
 {
-    out.extend_from_slice(OPENING)?;
+    out.extend_from_slice(opening())?;
     append_escaped(title, out)?;
-    out.extend_from_slice(HEADING)?;
+    out.extend_from_slice(heading())?;
     append_escaped(title, out)?;
-    out.extend_from_slice(PARTS)
+    out.extend_from_slice(parts())
 }
 
-// Appends how a board stands, and what wasn't kept of its ledger.
+// Appends how a board stands, what its tree shows, and what wasn't kept of its ledger.
 pub(crate) fn append_summary(
     root: &Table,
     status: Status,
@@ -32,6 +33,7 @@ pub(crate) fn append_summary(
     ensures { OnOk result (out.new.items ≡ out.old.items ++ summary_html root.now status tally.now left.now) }
 {
     out.extend_from_slice(status_words(status))?;
+    append_sentence(root, status, out)?;
     append_left(left, out)?;
     append_root(root, out)?;
     append_tally(tally, out)

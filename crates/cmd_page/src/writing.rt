@@ -8,7 +8,7 @@ ghost use Rattle.cmd_page.specs.inside.{bytes_of_page};
 
 use crate::entries::entry_count;
 use crate::making::MadePage;
-use crate::style::ENDING;
+use crate::style;
 use cmd_ledgers::pass;
 use itoa::Buffer;
 use ledger::Holdouts;
@@ -22,7 +22,7 @@ pub(crate) fn write_made<W: Write>(made: MadePage, answers: &mut W) -> io::Resul
     let MadePage { head, holdouts } = made;
     let mut piece = head;
     pass_holdouts(holdouts, &mut piece, answers)?;
-    pass(ENDING, &mut piece, answers)?;
+    pass(style::ending(), &mut piece, answers)?;
     answers.write_all(&piece)
 }
 

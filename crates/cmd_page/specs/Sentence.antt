@@ -1,0 +1,56 @@
+-- The sentence that says what a tree shows once it is complete. Bytes are those of UTF-8: 206 163 `Σ`.
+use Rattle.std.specs.Prelude.{ℕ, ◌%◌, ◌==◌, ◌&&◌, nat_lt, if◌then◌else◌, Option, Some, None, List, [], ◌∷◌, ◌++◌, length, codes, decimal}
+use Rattle.machine_text.specs.Packed.{Packed}
+use Rattle.ledger.specs.declared.status.Status.{Status}
+use Rattle.ledger.specs.declared.status.Status.TheVariants.{Working, Holdouts, Complete}
+use Rattle.cmd_page.specs.Census.{entry_count}
+use Rattle.cmd_page.specs.Escaped.{code_html}
+
+-- what stands before the digits that are left: a comma, where they are three, or six, and so on
+abbrev pub comma_before : List ℕ → List ℕ
+comma_before digits = if nat_lt 0 (length digits) && (length digits % 3 == 0) then codes "," else []
+
+-- digits in groups of three, from the last one on
+unfoldable pub in_groups : List ℕ → List ℕ
+in_groups [] = []
+in_groups (digit ∷ digits) = digit ∷ comma_before digits ++ in_groups digits
+
+-- a number as 47,176,870
+abbrev pub grouped : ℕ → List ℕ
+grouped n = in_groups (decimal n)
+
+-- what a greatest number of n states is called, and that it is this
+abbrev pub named_html : List ℕ → ℕ → ℕ → List ℕ
+named_html name n number = name ++ decimal n ++ codes ") = " ++ grouped number
+
+-- of the tree of n states, which is that of the empty table
+abbrev pub rado_html : ℕ → ℕ → ℕ → List ℕ
+rado_html n best ones =
+    named_html (codes "<p>So S(") n best ++ named_html (codes " and " ++ 206 ∷ 163 ∷ codes "(") n ones ++ codes ".</p>\n"
+
+-- of another root: of the tables that extend it, that one itself among them
+abbrev pub tables_html : Packed → List ℕ
+tables_html root = codes "<p>Of the tables below " ++ code_html root
+
+abbrev pub ones_html : ℕ → List ℕ
+ones_html ones = codes " and the most ones " ++ grouped ones ++ codes ".</p>\n"
+
+abbrev pub below_html : Packed → ℕ → ℕ → List ℕ
+below_html root best ones = tables_html root ++ codes " that halt, the most steps are " ++ grouped best ++ ones_html ones
+
+abbrev pub none_html : Packed → List ℕ
+none_html root = tables_html root ++ codes " none halts.</p>\n"
+
+-- a root without an entry is the empty table of its states
+abbrev pub shown_html : Packed → ℕ → ℕ → List ℕ
+shown_html root best ones =
+    if entry_count root == 0 then rado_html root.states best ones else below_html root best ones
+
+-- nothing where the tree isn't complete
+abbrev pub sentence_html : Packed → Status → List ℕ
+sentence_html root (Working count) = []
+sentence_html root (Holdouts count) = []
+sentence_html root (Complete None None) = none_html root
+sentence_html root (Complete (Some best) (Some ones)) = shown_html root best ones
+sentence_html root (Complete None (Some ones)) = []
+sentence_html root (Complete (Some best) None) = []

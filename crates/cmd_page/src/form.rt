@@ -1,0 +1,39 @@
+// A page as a form of a report.
+use crate::census::Census;
+use crate::making::{MadePage, told_page};
+use crate::writing::write_made;
+use cmd_ledgers::{ReportForm, Told};
+use kind_evidence::NoMemory;
+use ledger::Left;
+use std::alloc::Global;
+use std::io::{self, Write};
+
+/// A report as a page, of records that were counted.
+#[derive(Drop)]
+pub struct Page<'a> {
+    /// The title, which may have any bytes.
+    pub title: &'a str,
+    /// How many records there are.
+    pub census: &'a Census,
+}
+
+impl ReportForm for Page<'_> {
+    ghost use Rattle.std.specs.Prelude.{slice_index};
+    ghost use Rattle.cmd_page.specs.Page.{IsPageWith};
+    ghost use Rattle.cmd_page.specs.inside.{bytes_of_page};
+
+    type Made = MadePage;
+
+    ghost is_text = { λ page. IsPageWith (slice_index page.census.now.kinds)
+        (slice_index page.census.now.entries) page.title.now };
+
+    ghost bytes = { bytes_of_page };
+
+    fn make(&self, alloc: Global, told: Told, left: &Left) -> Result<MadePage, NoMemory> {
+        told_page(alloc, self.title.as_bytes(), self.census, told, left)
+    }
+
+    fn write<W: Write>(&self, made: MadePage, answers: &mut W) -> io::Result<()> {
+        write_made(made, answers)
+    }
+}

@@ -17,7 +17,8 @@ ghost use Rattle.files.specs.Paths.{IsBlank, IsKeptBut};
 ghost use Rattle.cmd_parts.specs.AtPaths.{JoinsAt, CollectsAt, finds_at};
 ghost use Rattle.cmd_parts.specs.Split.{path_within};
 ghost use Rattle.cmd_parts.specs.Join.{EndsTelling, FailsFile, HasNoTrunk, IsMet, IsMetAs, IsMetIn, IsReadAt, TellsAll, TellsParts, ended_by, is_silent, left_line, line_behind, record_lines};
-ghost use Rattle.cmd_parts.specs.inside.{AreAdded, EndsAdding, EndsGathering, EndsPart, IsGathered, MeetsPart};
+ghost use Rattle.cmd_parts.specs.Gather.{EndsGathering, IsGathered};
+ghost use Rattle.cmd_parts.specs.inside.{AreAdded, CountsMore, EndsAdding, EndsPart, MeetsPart};
 
 use crate::collector::{Collector, Nowhere, OneLedger};
 use crate::folder::{TRUNK, part_path, path_within};
@@ -200,8 +201,9 @@ pub fn join_parts<S: Parts, P: ReportForm, C: Collector, W: Write, E: Write>(
     tell_whole(alloc, form, &whole, is_sound, answers)
 }
 
-// The trunk and the parts beside it, and whether nothing is wrong with them.
-fn gather<S: Parts, C: Collector, E: Write>(
+/// Judges the trunk in a folder and the parts beside it as `join_parts` does, and answers the whole of them and whether
+/// nothing is wrong with them. What is wrong with the trunk or a part is said on `faults` behind its path.
+pub fn gather<S: Parts, C: Collector, E: Write>(
     alloc: Global,
     folder: &str,
     parts: &S,
@@ -209,7 +211,8 @@ fn gather<S: Parts, C: Collector, E: Write>(
     faults: &mut E,
 ) -> Result<(Whole, bool), Ended>
     ensures ok { IfOk result (λ gathered. IsGathered (S.finds parts.now) folder.now gathered.0 gathered.1
-        (C.text collector.old) (C.text collector.new) (E.contents faults.old) (E.contents faults.new)) }
+        (C.text collector.old) (C.text collector.new) (E.contents faults.old) (E.contents faults.new)
+        (C.counts collector.new)) }
     ensures err { IfErr result (λ e. EndsGathering (S.finds parts.now) folder.now e (E.contents faults.old)
         (E.contents faults.new)) }
 {
@@ -259,7 +262,8 @@ fn add_parts<S: Parts, C: Collector, E: Write>(
     requires none { IsWhole whole.old [] }
     ensures ok { IfOk result (λ sound. AreAdded
         (S.finds parts.now) folder.now roots.now whole.old.trunk whole.new sound (C.text collector.old)
-        (C.text collector.new) (E.contents faults.old) (E.contents faults.new)) }
+        (C.text collector.new) (E.contents faults.old) (E.contents faults.new)
+        (C.counts collector.old) (C.counts collector.new)) }
     ensures err { IfErr result (λ e. EndsAdding (S.finds parts.now) folder.now roots.now e (E.contents faults.old)
         (E.contents faults.new)) }
 {
@@ -272,8 +276,9 @@ fn add_parts<S: Parts, C: Collector, E: Write>(
     Ok(are_sound)
 }
 
-// Prints the report of a whole.
-fn tell_whole<P: ReportForm, W: Write>(
+/// Prints the report of a whole in a form. Accepted where that says complete and nothing is wrong with its parts. Where
+/// memory is refused, nothing was printed.
+pub fn tell_whole<P: ReportForm, W: Write>(
     alloc: Global,
     form: &P,
     whole: &Whole,
@@ -341,7 +346,8 @@ fn join_part<S: Parts, C: Collector, E: Write>(
     requires { IsOpenOn whole.old.trunk root.now × (Contains whole.old.roots root.now → ⊥) }
     ensures ok { IfOk result (λ sound. MeetsPart (IsMet
         (S.finds parts.now) folder.now root.now) sound whole.old whole.new (C.text collector.old)
-        (C.text collector.new) (E.contents faults.old) (E.contents faults.new)) }
+        (C.text collector.new) (E.contents faults.old) (E.contents faults.new)
+        (C.counts collector.old) (C.counts collector.new)) }
     ensures err { IfErr result (λ e. EndsPart e (E.contents faults.old) (E.contents faults.new)) }
 {
     let path = part_path(alloc, folder, root)?;
@@ -364,7 +370,8 @@ fn add_read<F: Read + Drop, C: Collector, E: Write>(
     requires { IsOpenOn whole.old.trunk root.now × (Contains whole.old.roots root.now → ⊥) }
     ensures ok { IfOk result (λ sound. MeetsPart (IsMetIn
         (F.remaining file.reader) file.length path.now root.now) sound whole.old whole.new (C.text collector.old)
-        (C.text collector.new) (E.contents faults.old) (E.contents faults.new)) }
+        (C.text collector.new) (E.contents faults.old) (E.contents faults.new)
+        (C.counts collector.old) (C.counts collector.new)) }
     ensures err { IfErr result (λ e. EndsPart e (E.contents faults.old) (E.contents faults.new)) }
 {
     match load_from(alloc, &mut file.reader, file.length) {
@@ -392,7 +399,8 @@ fn add_loaded<C: Collector, E: Write>(
     requires { IsOpenOn whole.old.trunk root.now × (Contains whole.old.roots root.now → ⊥) }
     ensures ok { IfOk result (λ sound. MeetsPart
         (IsMetAs part.now left.now path.now root.now) sound whole.old whole.new (C.text collector.old)
-        (C.text collector.new) (E.contents faults.old) (E.contents faults.new)) }
+        (C.text collector.new) (E.contents faults.old) (E.contents faults.new)
+        (C.counts collector.old) (C.counts collector.new)) }
     ensures err { IfErr result (λ e. EndsPart e (E.contents faults.old) (E.contents faults.new)) }
 {
     if *part.root() != *root {
@@ -411,7 +419,8 @@ fn add<C: Collector>(
 ) -> Result<(), Ended>
     requires { IsOpenOn whole.old.trunk part.now.root × (Contains whole.old.roots part.now.root → ⊥) }
     ensures ok { OnOk result (AddGives whole.old part.now (Ok tt) whole.new
-        × (C.text collector.new ≡ grown (C.text collector.old) (record_lines part.now.records))) }
+        × (C.text collector.new ≡ grown (C.text collector.old) (record_lines part.now.records))
+        × CountsMore (C.counts collector.old) (C.counts collector.new) part.now.records) }
     ensures err { IfErr result FailsWriting }
 {
     match whole.add(part) {

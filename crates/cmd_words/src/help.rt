@@ -130,7 +130,8 @@ line; 3 out of memory (`refused memory`); 4 a stream failed (`refused 603`), or 
 pub(crate) const PAGE: &str =
     "The page needs no server and loads nothing: how the tree stands, how many records there are of each kind and by how
 many entries are filled, the champions with pictures of their runs, and the holdouts, in a table that can be searched and
-sorted. The ledger is read as by `bb report`.
+sorted; and what a tree shows that is complete. The ledger is read as by `bb report`. FILE may be a folder that `bb split`
+made: its page is that of all its ledgers together, which are read as by `bb join`.
 
   bb page four.ledger > four.html
 

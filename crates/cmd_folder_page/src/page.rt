@@ -1,0 +1,71 @@
+// The page of a folder.
+ghost use Rattle.std.specs.Prelude.{◌^◌, ◌<◌, IfErr, IfOk, List, None, length};
+ghost use Rattle.ledger.specs.Contents.{Contents};
+ghost use Rattle.parts.specs.Parts.{joined_with};
+ghost use Rattle.parts.specs.Whole.{IsWhole};
+ghost use Rattle.cmd_page.specs.Page.{IsPage};
+ghost use Rattle.cmd_parts.specs.AtPaths.{finds_at};
+ghost use Rattle.cmd_parts.specs.Join.{EndsTelling, TellsAll};
+
+use crate::counting::Counting;
+use cmd_options::{Ended, Outcome};
+use cmd_page::{Census, Page};
+use cmd_parts::{Parts, PartsAt, gather, tell_whole};
+use files::Files;
+use parts::Whole;
+use std::alloc::Global;
+use std::io::Write;
+
+/// Writes the page of the trunk in a folder and of the parts beside it, under the folder's path as its title. What is
+/// wrong with the trunk or a part is said on `faults` behind its path, as `join_parts` has it, and so is what it answers.
+pub fn write_folder_page<S: Parts, W: Write, E: Write>(
+    alloc: Global,
+    folder: &str,
+    parts: &S,
+    answers: &mut W,
+    faults: &mut E,
+) -> Result<Outcome, Ended>
+    ensures tells { IfOk result (TellsAll (IsPage folder.now) (S.finds parts.now) folder.now None None
+        (W.contents answers.old) (W.contents answers.new) (E.contents faults.old) (E.contents faults.new)) }
+    ensures ended { IfErr result (λ e. EndsTelling (S.finds parts.now) folder.now e (W.contents answers.old)
+        (W.contents answers.new) (E.contents faults.old) (E.contents faults.new)) }
+{
+    let mut counting = Counting {
+        census: Census::new(),
+    };
+    let (whole, is_sound) = gather(alloc, folder, parts, &mut counting, faults)?;
+    count_fits(&whole);
+    let page = Page {
+        title: folder,
+        census: &counting.census,
+    };
+    tell_whole(alloc, &page, &whole, is_sound, answers)
+}
+
+// All records of a whole are no more than 64 bits count.
+fn count_fits(whole: &Whole)
+    ensures { (parts : List Contents) → IsWhole whole.now parts
+        → length (joined_with whole.now.trunk.records parts) < 2 ^ 64 }
+{
+    let _tally = whole.tally();
+}
+
+/// The same where the files of a host stand.
+pub fn folder_page_at<H: Files, W: Write, E: Write>(
+    alloc: Global,
+    folder: &str,
+    host: &H,
+    answers: &mut W,
+    faults: &mut E,
+) -> Result<Outcome, Ended>
+    ensures tells { IfOk result (TellsAll (IsPage folder.now) (finds_at (H.holds host.now)) folder.now None None
+        (W.contents answers.old) (W.contents answers.new) (E.contents faults.old) (E.contents faults.new)) }
+    ensures ended { IfErr result (λ e. EndsTelling (finds_at (H.holds host.now)) folder.now e (W.contents answers.old)
+        (W.contents answers.new) (E.contents faults.old) (E.contents faults.new)) }
+{
+    let parts = PartsAt {
+        host,
+        written: None,
+    };
+    write_folder_page(alloc, folder, &parts, answers, faults)
+}

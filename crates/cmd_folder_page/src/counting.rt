@@ -13,10 +13,14 @@ pub struct Counting {
 
 impl Collector for Counting {
     ghost use Rattle.std.specs.Prelude.{None};
+    ghost use Rattle.cmd_page.specs.Counting.{HasCounted};
 
     ghost text = { λ counting. None };
 
+    ghost counts = { λ counting rs. HasCounted rs counting.census };
+
     fn begin(&mut self, _alloc: Global, trunk: &Board) -> Result<(), Ended> {
+        self.census = Census::new();
         self.census.add(trunk);
         Ok(())
     }

@@ -1,14 +1,18 @@
 // The page of a folder.
-ghost use Rattle.std.specs.Prelude.{IfErr, IfOk};
+ghost use Rattle.std.specs.Prelude.{◌^◌, ◌<◌, IfErr, IfOk, List, None, length};
+ghost use Rattle.ledger.specs.Contents.{Contents};
+ghost use Rattle.parts.specs.Parts.{joined_with};
+ghost use Rattle.parts.specs.Whole.{IsWhole};
+ghost use Rattle.cmd_page.specs.Page.{IsPage};
 ghost use Rattle.cmd_parts.specs.AtPaths.{finds_at};
-ghost use Rattle.cmd_parts.specs.Join.{EndsTelling};
-ghost use Rattle.cmd_folder_page.specs.Page.{TellsPage};
+ghost use Rattle.cmd_parts.specs.Join.{EndsTelling, TellsAll};
 
 use crate::counting::Counting;
 use cmd_options::{Ended, Outcome};
 use cmd_page::{Census, Page};
 use cmd_parts::{PartLedgers, PartsAt, gather, tell_whole};
 use files::Files;
+use parts::Whole;
 use std::alloc::Global;
 use std::io::Write;
 
@@ -21,8 +25,8 @@ pub fn write_folder_page<S: PartLedgers, W: Write, E: Write>(
     answers: &mut W,
     faults: &mut E,
 ) -> Result<Outcome, Ended>
-    ensures tells { IfOk result (TellsPage (S.finds parts.now) folder.now (W.contents answers.old)
-        (W.contents answers.new) (E.contents faults.old) (E.contents faults.new)) }
+    ensures tells { IfOk result (TellsAll (IsPage folder.now) (S.finds parts.now) folder.now None None
+        (W.contents answers.old) (W.contents answers.new) (E.contents faults.old) (E.contents faults.new)) }
     ensures ended { IfErr result (λ e. EndsTelling (S.finds parts.now) folder.now e (W.contents answers.old)
         (W.contents answers.new) (E.contents faults.old) (E.contents faults.new)) }
 {
@@ -30,6 +34,7 @@ pub fn write_folder_page<S: PartLedgers, W: Write, E: Write>(
         census: Census::new(),
     };
     let (whole, is_sound) = gather(alloc, folder, parts, &mut counting, faults)?;
+    count_fits(&whole);
     let page = Page {
         title: folder,
         census: &counting.census,
@@ -37,7 +42,15 @@ pub fn write_folder_page<S: PartLedgers, W: Write, E: Write>(
     tell_whole(alloc, &page, &whole, is_sound, answers)
 }
 
-/// The same where the files of a host stand.
+// All records of a whole are no more than 64 bits count.
+fn count_fits(whole: &Whole)
+    ensures { (parts : List Contents) → IsWhole whole.now parts
+        → length (joined_with whole.now.trunk.records parts) < 2 ^ 64 }
+{
+    let _tally = whole.tally();
+}
+
+/// Writes the page of a folder of a host's files, as `write_folder_page` does.
 pub fn folder_page_at<H: Files, W: Write, E: Write>(
     alloc: Global,
     folder: &str,
@@ -45,8 +58,8 @@ pub fn folder_page_at<H: Files, W: Write, E: Write>(
     answers: &mut W,
     faults: &mut E,
 ) -> Result<Outcome, Ended>
-    ensures tells { IfOk result (TellsPage (finds_at (H.holds host.now)) folder.now (W.contents answers.old)
-        (W.contents answers.new) (E.contents faults.old) (E.contents faults.new)) }
+    ensures tells { IfOk result (TellsAll (IsPage folder.now) (finds_at (H.holds host.now)) folder.now None None
+        (W.contents answers.old) (W.contents answers.new) (E.contents faults.old) (E.contents faults.new)) }
     ensures ended { IfErr result (λ e. EndsTelling (finds_at (H.holds host.now)) folder.now e (W.contents answers.old)
         (W.contents answers.new) (E.contents faults.old) (E.contents faults.new)) }
 {

@@ -15,7 +15,7 @@ use crate::going_on::{cut_off, load_held, open_held};
 use crate::ledger_changes::append_to;
 use crate::ledger_report::report_board;
 use crate::report_form::AsLines;
-use cert::{Decider, Judged, Record};
+use cert::{Decided, Decider, Judged, Record};
 use cmd_options::{Ended, LedgerFile, Outcome, told};
 use files::{Files, Opened, ledger_at, lock_ledger};
 use ledger::{Board, Left, Taken};
@@ -152,12 +152,15 @@ fn retry<L: LedgerOut, D: Decider>(
     ensures works { OnOk result (L.failures ledger.new ≡ L.failures ledger.old) }
     ensures failed { result ≡ Err Ended.Ledger → L.failures ledger.old ≢ L.failures ledger.new }
 {
-    let made = decider.decide_judged(alloc, t)?;
+    let Decided {
+        record: made,
+        judged,
+    } = decider.decide_judged(alloc, t)?;
     let record = Record {
-        table: made.record.table,
-        certificate: made.record.certificate.lent(),
+        table: made.table,
+        certificate: made.certificate.lent(),
     };
-    take(alloc, board, &record, made.judged, ledger)
+    take(alloc, board, &record, judged, ledger)
 }
 
 // Offers a judged record of a holdout, and appends its line where it is taken.

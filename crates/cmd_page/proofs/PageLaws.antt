@@ -1,5 +1,5 @@
 -- The parts of a page, put together.
-use Rattle.std.proofs.Common.{◌≡◌, ℕ, zero, suc, true, false, ltb, ◌&&◌, ◌∷◌, ◌+◌, ◌-◌, ◌*◌, ◌<◌, ◌≤◌, List, [], ◌++◌, decimal, flat_map, get_or, cond, Result, Ok, Err, OnOk, refl, ap, ◌∙◌, arith}
+use Rattle.std.proofs.Common.{◌≡◌, ℕ, zero, suc, true, false, ltb, ◌&&◌, ◌∷◌, ◌+◌, ◌-◌, ◌*◌, ◌^◌, ◌<◌, ◌≤◌, List, [], ◌++◌, length, decimal, flat_map, get_or, cond, Result, Ok, Err, OnOk, refl, ap, ◌∙◌, arith}
 use Rattle.std.specs.Result.{is_ok}
 use Rattle.std.specs.List.{range_with_len, list_all}
 use Rattle.std.proofs.lemmas.Bool.Decides.{nat_tests}
@@ -10,10 +10,12 @@ use Rattle.cert.specs.Claim.{Recorded}
 use Rattle.ledger.specs.declared.left.Left.{Left}
 use Rattle.cmd_ledgers.specs.declared.told.Told.{Told}
 use Rattle.cmd_options.specs.Kinds.{kind_letters, kind_label}
-use Rattle.cmd_page.specs.Census.{of_kind, with_entries}
+use Rattle.cmd_page.specs.Census.{of_kind, with_entries, letter_of, entry_count}
 use Rattle.cmd_page.specs.Page.{IsPage, IsPageWith, count_html, kind_html, kinds_html, entries_html, census_html, opening_html, summary_html, champions_html, head_html, holdouts_html}
+use Rattle.cmd_page.specs.Counting.{HasCounted}
 use Rattle.cmd_page.specs.inside.{IsCensus}
 use Rattle.cmd_page.specs.declared.census.Census.{Census}
+use Rattle.cmd_page.proofs.Counted.{all_counted}
 use Rattle.cmd_page.specs.Style.{kinds_text, entries_text, ending_text}
 
 -- a text that is appended last
@@ -68,6 +70,12 @@ whole_head title left told figures kinds entries n h0 h1 h2 h3 h4 e0 e1 e2 e3 e4
     let third : h3 ≡ opening_html title ++ summary ++ census_html told.root.states kinds entries =
     e3 ∙ (ap (λ (m : ℕ). h2 ++ census_html m kinds entries) states ∙ ap (λ (l : List ℕ). l ++ census_html told.root.states kinds entries) second) in
     e4 ∙ ap (λ (l : List ℕ). l ++ champions_html figures (into_iter_items told.ones_champions)) third
+
+pub exact_census : (rs : List Recorded) (census : Census) → HasCounted rs census → length rs < 2 ^ 64 → IsCensus rs census
+exact_census rs census counted few = record {
+  kinds = all_counted (λ r. letter_of r.claim) 256 rs census.kinds counted.kinds few;
+  entries = all_counted (λ r. entry_count r.table) 15 rs census.entries counted.entries few;
+}
 
 -- a page with the numbers that are counted of its records is the page of these
 pub counted_page : (title : List ℕ) (root : Packed) (rs : List Recorded) (left : Left) (text : List ℕ) (census : Census) → IsCensus rs census → root.states ≤ state_limit

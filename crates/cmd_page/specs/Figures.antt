@@ -53,7 +53,8 @@ IsPictureIf true t best svg = IsChampionPicture t best svg
 IsPictureIf false t best svg = svg ≡ []
 
 abbrev pub caption_html : Packed → ℕ → List ℕ
-caption_html t best = codes "<figcaption><code>" ++ text_of t ++ codes "</code><br>" ++ decimal best ++ codes " steps</figcaption>\n"
+caption_html t best = codes "<figcaption><code>" ++ text_of t ++ codes "</code><br>" ++ decimal best
+    ++ codes " steps</figcaption>\n"
 
 -- a table with its picture and its number of steps
 unfoldable pub figure_html : Packed → ℕ → List ℕ → List ℕ
@@ -63,7 +64,8 @@ figure_html t best svg = codes "<figure>\n" ++ svg ++ caption_html t best ++ cod
 unfoldable pub AreFiguresOf : ℕ → ℕ → List Packed → List ℕ → Type 0
 AreFiguresOf best room [] html = html ≡ []
 AreFiguresOf best room (t ∷ tables) html = (svg : List ℕ) × (rest : List ℕ)
-    × IsPictureIf (nat_lt 0 room) t best svg × AreFiguresOf best (room - 1) tables rest × (html ≡ figure_html t best svg ++ rest)
+    × IsPictureIf (nat_lt 0 room) t best svg × AreFiguresOf best (room - 1) tables rest
+    × (html ≡ figure_html t best svg ++ rest)
 
 -- those of champions by the greatest number of steps, where there is one
 abbrev pub AreFigures : Option ℕ → List Packed → List ℕ → Type 0

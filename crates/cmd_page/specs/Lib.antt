@@ -4,4 +4,5 @@ pub mod Figures
 pub mod Style
 pub mod Sentence
 pub mod Page
+pub mod Counting
 pub mod inside

@@ -49,13 +49,16 @@ left_html Nothing = []
 left_html (From line kept why) = left_line_html line
 
 abbrev pub verdicts_html : Tally → List ℕ
-verdicts_html tally = count_html (codes "Tables") tally.nodes ++ count_html (codes "Halting") tally.halting ++ count_html (codes "Never halting") tally.never
+verdicts_html tally = count_html (codes "Tables") tally.nodes ++ count_html (codes "Halting") tally.halting
+    ++ count_html (codes "Never halting") tally.never
 
 abbrev pub greatest_html : Tally → List ℕ
-greatest_html tally = row_html (codes "Most steps") (greatest_text tally.best) ++ row_html (codes "Most ones") (greatest_text tally.ones)
+greatest_html tally = row_html (codes "Most steps") (greatest_text tally.best)
+    ++ row_html (codes "Most ones") (greatest_text tally.ones)
 
 abbrev pub tally_html : Tally → List ℕ
-tally_html tally = verdicts_html tally ++ count_html (codes "Holdouts") tally.holdouts ++ count_html (codes "Open") tally.open_count ++ greatest_html tally
+tally_html tally = verdicts_html tally ++ count_html (codes "Holdouts") tally.holdouts
+    ++ count_html (codes "Open") tally.open_count ++ greatest_html tally
 
 abbrev pub summary_html : Packed → Status → Tally → Left → List ℕ
 summary_html root status tally left =
@@ -116,7 +119,8 @@ page_html title kinds entries left told figures =
     head_html title kinds entries left told figures ++ holdouts_html (into_iter_items told.holdouts) ++ ending_text
 
 -- a page of a root and the records held from it, under a title, but that these are the numbers of kinds and entries
-pub record IsPageWith (kinds entries : ℕ → ℕ) (title : List ℕ) (root : Packed) (rs : List Recorded) (left : Left) (text : List ℕ) : Type 0 where
+pub record IsPageWith (kinds entries : ℕ → ℕ) (title : List ℕ) (root : Packed) (rs : List Recorded) (left : Left)
+    (text : List ℕ) : Type 0 where
   pub told : Told
   pub is_told : IsToldOf root rs told
   pub figures : List ℕ

@@ -26,7 +26,8 @@ named_html name n number = name ++ decimal n ++ codes ") = " ++ grouped number
 -- of the tree of n states, which is that of the empty table
 abbrev pub rado_html : ℕ → ℕ → ℕ → List ℕ
 rado_html n best ones =
-    named_html (codes "<p>So S(") n best ++ named_html (codes " and " ++ 206 ∷ 163 ∷ codes "(") n ones ++ codes ".</p>\n"
+    named_html (codes "<p>So S(") n best ++ named_html (codes " and " ++ 206 ∷ 163 ∷ codes "(") n ones
+    ++ codes ".</p>\n"
 
 -- of another root: of the tables that extend it, that one itself among them
 abbrev pub tables_html : Packed → List ℕ
@@ -36,7 +37,8 @@ abbrev pub ones_html : ℕ → List ℕ
 ones_html ones = codes " and the most ones " ++ grouped ones ++ codes ".</p>\n"
 
 abbrev pub below_html : Packed → ℕ → ℕ → List ℕ
-below_html root best ones = tables_html root ++ codes " that halt, the most steps are " ++ grouped best ++ ones_html ones
+below_html root best ones = tables_html root ++ codes " that halt, the most steps are " ++ grouped best
+    ++ ones_html ones
 
 abbrev pub none_html : Packed → List ℕ
 none_html root = tables_html root ++ codes " none halts.</p>\n"

@@ -1,5 +1,5 @@
 // How many records there are of each kind, and of tables with so many entries.
-ghost use Rattle.std.specs.Prelude.{◌≡◌, ℕ, ◌+◌, ◌-◌, ◌^◌, ◌<◌, ◌==◌, if◌then◌else◌, slice_index, length, replicate};
+ghost use Rattle.std.specs.Prelude.{◌≡◌, ℕ, ◌+◌, ◌-◌, ◌^◌, ◌<◌, ◌==◌, if◌then◌else◌, slice_index, length};
 ghost use Rattle.cert.specs.Kinds.{claim_of};
 ghost use Rattle.cmd_page.specs.Census.{AreMore, letter_of};
 ghost use Rattle.cmd_page.specs.inside.{IsCensus};
@@ -16,12 +16,13 @@ pub struct Census {
 }
 
 impl Census {
-    ghost use Rattle.cmd_page.specs.Census.{AreMore, of_kind, with_entries};
+    ghost use Rattle.std.specs.Prelude.{[], ◌++◌, List};
+    ghost use Rattle.cert.specs.Claim.{Recorded};
+    ghost use Rattle.cmd_page.specs.Counting.{HasCounted};
 
     /// Of no record.
     pub fn new() -> Census
-        ensures kinds { result.kinds ≡ replicate 256 0 }
-        ensures entries { result.entries ≡ replicate 15 0 }
+        ensures { HasCounted [] result }
     {
         Census {
             kinds: [0; 256],
@@ -31,8 +32,7 @@ impl Census {
 
     /// Counts a board's records too. A number that 64 bits don't hold is the greatest that they do.
     pub fn add(&mut self, board: &Board)
-        ensures kinds { AreMore 256 self.old.kinds (of_kind board.now.records) self.new.kinds }
-        ensures entries { AreMore 15 self.old.entries (with_entries board.now.records) self.new.entries }
+        ensures { (rs : List Recorded) → HasCounted rs self.old → HasCounted (rs ++ board.now.records) self.new }
     {
         let more = census_of(board);
         add_up(&mut self.kinds, &more.kinds);
@@ -51,7 +51,7 @@ fn add_up(counts: &mut [u64], more: &[u64])
     }
 }
 
-// Those of a board's records.
+// The census of a board's records.
 pub(crate) fn census_of(board: &Board) -> Census
     ensures { IsCensus board.now.records result }
 {
@@ -60,7 +60,7 @@ pub(crate) fn census_of(board: &Board) -> Census
     count_records(board.records())
 }
 
-// Those of some records.
+// The census of some records.
 fn count_records(records: Records<'_>) -> Census
     requires { length records < 2 ^ 64 }
     ensures { IsCensus records.entry result }

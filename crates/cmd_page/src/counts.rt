@@ -12,7 +12,8 @@ use kind_evidence::NoMemory;
 // Appends what is counted of the records of a board, whose tables have so many states.
 pub(crate) fn append_census(states: u8, census: &Census, out: &mut Vec<u8>) -> Result<(), NoMemory>
     requires { states ≤ state_limit }
-    ensures { OnOk result (out.new.items ≡ out.old.items ++ census_html states (slice_index census.now.kinds) (slice_index census.now.entries)) }
+    ensures { OnOk result (out.new.items ≡ out.old.items
+        ++ census_html states (slice_index census.now.kinds) (slice_index census.now.entries)) }
 {
     out.extend_from_slice(style::kinds())?;
     append_kinds(&census.kinds, out)?;

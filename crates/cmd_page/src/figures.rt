@@ -31,7 +31,8 @@ pub(crate) fn append_figures(
     champions: Champions,
     out: &mut Vec<u8>,
 ) -> Result<(), NoMemory>
-    ensures { OnOk result ((html : List ℕ) × AreFigures best (into_iter_items champions) html × (out.new.items ≡ out.old.items ++ html)) }
+    ensures { OnOk result ((html : List ℕ) × AreFigures best (into_iter_items champions) html
+        × (out.new.items ≡ out.old.items ++ html)) }
 {
     match best {
         Some(best) => append_figures_of(alloc, best, champions, out),
@@ -39,14 +40,15 @@ pub(crate) fn append_figures(
     }
 }
 
-// The same of those that halt in so many steps.
+// Appends the figures of champions that halt in so many steps.
 fn append_figures_of(
     alloc: Global,
     best: u64,
     champions: Champions,
     out: &mut Vec<u8>,
 ) -> Result<(), NoMemory>
-    ensures { OnOk result ((html : List ℕ) × AreFiguresOf best picture_limit (into_iter_items champions) html × (out.new.items ≡ out.old.items ++ html)) }
+    ensures { OnOk result ((html : List ℕ) × AreFiguresOf best picture_limit (into_iter_items champions) html
+        × (out.new.items ≡ out.old.items ++ html)) }
 {
     let mut room = MAX_PICTURES;
     for table in champions {

@@ -1,8 +1,10 @@
 //! The report of a board as one HTML file, which needs no server and asks for nothing from elsewhere.
 //!
-//! `specs/Page` says which text a page is: how the board stands, how many records there are of each kind and of tables
-//! with so many entries (`specs/Census`), the champions with pictures of their runs (`specs/Figures`), and the holdouts,
-//! a row each, in the order of their texts. `specs/Escaped` says how a text of any bytes stands in HTML.
+//! `specs/Page` says which text a page is: how the board stands, what its tree shows once it is complete
+//! (`specs/Sentence`), how many records there are of each kind and of tables with so many entries (`specs/Census`), the
+//! champions with pictures of their runs (`specs/Figures`), and the holdouts, a row each, in the order of their texts.
+//! `specs/Style` has how that looks, `specs/Escaped` how a text of any bytes stands in HTML, `specs/Counting` which
+//! records a `Census` has counted that is made of many boards.
 #![tactic(auto)]
 
 mod census;

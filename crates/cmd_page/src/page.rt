@@ -42,7 +42,8 @@ pub fn write_ledger_page<R: Read, W: Write>(
 ) -> Result<(Outcome, Left), Stopped>
     ensures ok { IfOk result (λ r. (text : List ℕ) × AreFirstBytes (R.remaining from.old) limit text
         × WritesLedger (IsPage title.now) text r.0 r.1 (W.contents answers.old) (W.contents answers.new)) }
-    ensures err { IfErr result (λ e. (e ≡ Stopped.Ended Ended.Stream) ⊎ (EndsReading (R.remaining from.old) limit e × (answers.new ≡ answers.old))) }
+    ensures err { IfErr result (λ e. (e ≡ Stopped.Ended Ended.Stream)
+        ⊎ (EndsReading (R.remaining from.old) limit e × (answers.new ≡ answers.old))) }
 {
     let (board, left) = load_from(alloc, from, limit)?;
     write_page(alloc, title, &board, &left, answers)?;

@@ -55,7 +55,8 @@ fn append_row(name: &[u8], value: &[u8], out: &mut Vec<u8>) -> Result<(), NoMemo
 
 // Appends what stands before the value of a row.
 fn append_name(name: &[u8], out: &mut Vec<u8>) -> Result<(), NoMemory>
-    ensures { OnOk result (out.new.items ≡ out.old.items ++ (codes "<tr><th scope='row'>" ++ name.now ++ codes "</th><td>")) }
+    ensures { OnOk result (out.new.items ≡ out.old.items
+        ++ (codes "<tr><th scope='row'>" ++ name.now ++ codes "</th><td>")) }
 {
     out.extend_from_slice(b"<tr><th scope='row'>")?;
     out.extend_from_slice(name)?;

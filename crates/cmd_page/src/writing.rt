@@ -32,7 +32,8 @@ fn pass_holdouts<W: Write>(
     piece: &mut Vec<u8>,
     answers: &mut W,
 ) -> io::Result<()>
-    ensures { OnOk result (Passes (W.contents answers.old) piece.old.items (W.contents answers.new) piece.new.items (holdouts_html (into_iter_items holdouts))) }
+    ensures { OnOk result (Passes (W.contents answers.old) piece.old.items (W.contents answers.new) piece.new.items
+        (holdouts_html (into_iter_items holdouts))) }
 {
     for table in holdouts {
         pass_holdout(&table, piece, answers)?;
@@ -42,7 +43,8 @@ fn pass_holdouts<W: Write>(
 
 // Passes on the row of a holdout.
 fn pass_holdout<W: Write>(t: &Table, piece: &mut Vec<u8>, answers: &mut W) -> io::Result<()>
-    ensures { OnOk result (Passes (W.contents answers.old) piece.old.items (W.contents answers.new) piece.new.items (holdout_html t.now)) }
+    ensures { OnOk result (Passes (W.contents answers.old) piece.old.items (W.contents answers.new) piece.new.items
+        (holdout_html t.now)) }
 {
     let mut buf = [0; TEXT_BYTES];
     let text = t.text(&mut buf);
@@ -55,7 +57,8 @@ fn pass_holdout<W: Write>(t: &Table, piece: &mut Vec<u8>, answers: &mut W) -> io
 
 // Passes on a table's text as a link to its row.
 fn pass_link<W: Write>(text: &[u8], piece: &mut Vec<u8>, answers: &mut W) -> io::Result<()>
-    ensures { OnOk result (Passes (W.contents answers.old) piece.old.items (W.contents answers.new) piece.new.items (link_html text.now)) }
+    ensures { OnOk result (Passes (W.contents answers.old) piece.old.items (W.contents answers.new) piece.new.items
+        (link_html text.now)) }
 {
     pass(b"<td><a href='#", piece, answers)?;
     pass(text, piece, answers)?;
@@ -66,7 +69,8 @@ fn pass_link<W: Write>(text: &[u8], piece: &mut Vec<u8>, answers: &mut W) -> io:
 
 // Passes on a number of entries, and the end of the row.
 fn pass_entries<W: Write>(entries: u8, piece: &mut Vec<u8>, answers: &mut W) -> io::Result<()>
-    ensures { OnOk result (Passes (W.contents answers.old) piece.old.items (W.contents answers.new) piece.new.items (last_cell_html entries)) }
+    ensures { OnOk result (Passes (W.contents answers.old) piece.old.items (W.contents answers.new) piece.new.items
+        (last_cell_html entries)) }
 {
     let mut buffer = Buffer::new();
     pass(b"<td>", piece, answers)?;

@@ -3,6 +3,7 @@ use Rattle.std.proofs.Common.{◌≡◌, ◌⊎◌, ℕ, Bool, List, [], ◌++�
 use Rattle.std.specs.Prelude.{codes}
 use Rattle.std.specs.Io.KnownBytes.{Appends}
 use Rattle.machine_text.specs.Packed.{Packed}
+use Rattle.cert.specs.Claim.{Recorded}
 use Rattle.ledger.specs.Contents.{Contents, IsOpenOn}
 use Rattle.ledger.specs.Tally.{AreAll}
 use Rattle.ledger.specs.declared.left.Left.{Left}
@@ -13,7 +14,8 @@ use Rattle.cmd_ledgers.specs.Reading.{EndsReading}
 use Rattle.parts.specs.Whole.{Collected}
 use Rattle.cmd_parts.specs.Join.{EndsJoining, EndsTelling, FailsAny, FailsFile, Findings, HasNoTrunk, HoldsTree, IsReadAt, SaysFirst, left_line}
 use Rattle.cmd_parts.specs.Split.{path_within}
-use Rattle.cmd_parts.specs.inside.{AreAdded, EndsAdding, EndsGathering, EndsPart}
+use Rattle.cmd_parts.specs.Gather.{EndsGathering}
+use Rattle.cmd_parts.specs.inside.{AreAdded, EndsAdding, EndsPart}
 use Rattle.cmd_parts.proofs.Joining.{appends_both}
 
 -- a ledger isn't loaded: there is no memory, or it has no root, or one that isn't in order
@@ -72,9 +74,9 @@ module _ (Finds : Findings) (folder : List ℕ) (e : Ended) where
   none_met roots faults nothing why = record { met = []; later = roots; are_all = refl; parts = []; lines = []; are_met = (refl, refl); why = why; says = inl nothing }
 
   -- at one of them
-  pub ends_at_part : (roots : List Packed) (i : ℕ) (sound : Bool) (trunk : Contents) (whole : Collected) (before after faults mid new_faults : Option (List ℕ)) → roots ≡ take i roots ++ drop i roots
-      → AreAdded Finds folder (take i roots) trunk whole sound before after faults mid → EndsPart e mid new_faults → EndsAdding Finds folder roots e faults new_faults
-  ends_at_part roots i sound trunk whole before after faults mid new_faults split added (why, said) = record {
+  pub ends_at_part : {Old New : List Recorded → Type 0} (roots : List Packed) (i : ℕ) (sound : Bool) (trunk : Contents) (whole : Collected) (before after faults mid new_faults : Option (List ℕ)) → roots ≡ take i roots ++ drop i roots
+      → AreAdded Finds folder (take i roots) trunk whole sound before after faults mid Old New → EndsPart e mid new_faults → EndsAdding Finds folder roots e faults new_faults
+  ends_at_part {Old} {New} roots i sound trunk whole before after faults mid new_faults split added (why, said) = record {
     met = take i roots;
     later = drop i roots;
     are_all = split;

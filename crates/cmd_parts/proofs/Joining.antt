@@ -1,5 +1,5 @@
 -- One ledger of a trunk and its parts: its lines are the trunk's, and then those of each part.
-use Rattle.std.proofs.Common.{◌≡◌, ◌≢◌, ◌≤◌, ◌<◌, ℕ, Bool, true, false, List, [], ◌∷◌, ◌++◌, length, drop, take, get_or, Option, Some, None, IfOk, Result, Ok, Err, inl, inr, refl, sym, ap, subst, ◌∙◌, append_assoc, append-nil, length-append, arith}
+use Rattle.std.proofs.Common.{◌≡◌, ◌≢◌, ◌≤◌, ◌<◌, ℕ, Bool, true, false, List, [], ◌∷◌, ◌++◌, length, drop, take, get_or, Option, Some, None, IfOk, OnOk, Result, Ok, Err, inl, inr, refl, sym, ap, subst, ◌∙◌, append_assoc, append-nil, length-append, arith}
 use Rattle.std.specs.Prelude.{map, codes}
 use Rattle.std.specs.Io.KnownBytes.{Appends}
 use Rattle.std.specs.List.{AllPairs, Contains}
@@ -24,7 +24,8 @@ use Rattle.parts.specs.Whole.{AddGives, Collected, IsWhole}
 use Rattle.parts.proofs.ManyParts.{joined_more}
 use Rattle.cmd_parts.specs.Join.{AreMet, Findings, HoldsTree, IsMet, IsMetAs, IsMetIn, IsReadAt, TellsAll, TellsParts, counted_part, is_silent, left_line, line_behind, record_lines}
 use Rattle.cmd_parts.specs.Split.{path_within}
-use Rattle.cmd_parts.specs.inside.{AddsCounted, AreAdded, IsGathered, MeetsPart}
+use Rattle.cmd_parts.specs.Gather.{IsGathered}
+use Rattle.cmd_parts.specs.inside.{AddsCounted, AreAdded, CountsMore, MeetsPart, counted_records}
 
 lines_both : (a b : List Recorded) → record_lines (a ++ b) ≡ record_lines a ++ record_lines b
 lines_both a b = ap joined (map-append (ledger_line Two) a b) ∙ joined-append (map (ledger_line Two) a) (map (ledger_line Two) b)
@@ -51,6 +52,14 @@ text_so (Some part) old new start before after root rs parts adds is =
     adds.1 ∙ (ap (λ (t : Option (List ℕ)). grown t (record_lines part.records)) is
     ∙ grown_more start (ledger_text root own) (record_lines part.records) (ledger_text root (joined_with rs (parts ++ (part ∷ []))))
     (ledger_more root own part.records ∙ ap (λ (l : List Recorded). ledger_text root l) (sym (joined_more rs parts part))))
+
+-- and so are the records that are counted
+counted_so : (counted : Option Contents) (rs : List Recorded) (parts : List Contents) → joined_with rs parts ++ counted_records counted ≡ joined_with rs (parts ++ counted_part counted)
+counted_so None rs parts = append-nil (joined_with rs parts) ∙ ap (λ (l : List Contents). joined_with rs l) (sym (append-nil parts))
+counted_so (Some part) rs parts = sym (joined_more rs parts part)
+
+counts_nothing : (Counted : List Recorded → Type 0) → CountsMore Counted Counted []
+counts_nothing Counted rs h = subst Counted (sym (append-nil rs)) h
 
 whole_so : (counted : Option Contents) (old new : Collected) (before after : Option (List ℕ)) (parts : List Contents) → AddsCounted counted old new before after
     → IsWhole old parts → IsWhole new (parts ++ counted_part counted)
@@ -140,8 +149,8 @@ module _ (Finds : Findings) (folder : List ℕ) where
       ]
 
   -- before any part
-  pub none_added : (whole : Collected) (before faults : Option (List ℕ)) → IsWhole whole [] → AreAdded Finds folder [] whole.trunk whole true before before faults faults
-  none_added whole before faults is = record {
+  pub none_added : {Counted : List Recorded → Type 0} (whole : Collected) (before faults : Option (List ℕ)) → IsWhole whole [] → AreAdded Finds folder [] whole.trunk whole true before before faults faults Counted Counted
+  none_added {Counted} whole before faults is = record {
     parts = [];
     lines = [];
     met = (refl, refl);
@@ -150,13 +159,14 @@ module _ (Finds : Findings) (folder : List ℕ) where
     sound = refl;
     says = appends_nothing faults;
     writes = λ start h. h;
+    counts = λ rs h. h;
   }
 
   -- one part more
-  pub added_more : (roots : List Packed) (root : Packed) (trunk : Contents) (old new : Collected) (a b c : Bool) (before text after faults mid new_faults : Option (List ℕ))
-      → AreAdded Finds folder roots trunk old a before text faults mid → MeetsPart (IsMet Finds folder root) b old new text after mid new_faults
-      → (b ≡ true → c ≡ a) → (b ≡ false → c ≡ false) → AreAdded Finds folder (roots ++ (root ∷ [])) trunk new c before after faults new_faults
-  added_more roots root trunk old new a b c before text after faults mid new_faults all one both neither = record {
+  pub added_more : {Old Mid New : List Recorded → Type 0} (roots : List Packed) (root : Packed) (trunk : Contents) (old new : Collected) (a b c : Bool) (before text after faults mid new_faults : Option (List ℕ))
+      → AreAdded Finds folder roots trunk old a before text faults mid Old Mid → MeetsPart (IsMet Finds folder root) b old new text after mid new_faults Mid New
+      → (b ≡ true → c ≡ a) → (b ≡ false → c ≡ false) → AreAdded Finds folder (roots ++ (root ∷ [])) trunk new c before after faults new_faults Old New
+  added_more {Old} {Mid} {New} roots root trunk old new a b c before text after faults mid new_faults all one both neither = record {
     parts = all.parts ++ counted_part one.counted;
     lines = all.lines ++ one.said;
     met = met_more roots root all.parts all.lines one.said one.counted all.met one.met;
@@ -165,54 +175,62 @@ module _ (Finds : Findings) (folder : List ℕ) where
     sound = sound_both a b c all.lines one.said all.sound one.sound both neither;
     says = appends_both faults mid new_faults all.lines one.said all.says one.says;
     writes = λ start is. text_so one.counted old new start text after trunk.root trunk.records all.parts one.adds (all.writes start is);
+    counts = λ rs h. subst New (counted_so one.counted rs all.parts) (one.counts (joined_with rs all.parts) (all.counts rs h));
   }
 
   -- the root that comes next has no part yet
-  pub not_added : (roots : List Packed) (i : ℕ) (root : Packed) (trunk : Contents) (whole : Collected) (a : Bool) (before after faults new_faults : Option (List ℕ))
-      → AllPairs (λ (x y : Packed). x ≢ y) roots → i < length roots → root ≡ get_or roots i root → AreAdded Finds folder (take i roots) trunk whole a before after faults new_faults
+  pub not_added : {Old New : List Recorded → Type 0} (roots : List Packed) (i : ℕ) (root : Packed) (trunk : Contents) (whole : Collected) (a : Bool) (before after faults new_faults : Option (List ℕ))
+      → AllPairs (λ (x y : Packed). x ≢ y) roots → i < length roots → root ≡ get_or roots i root → AreAdded Finds folder (take i roots) trunk whole a before after faults new_faults Old New
       → Contains whole.roots root → ⊥
-  not_added roots i root trunk whole a before after faults new_faults apart below is all at =
+  not_added {Old} {New} roots i root trunk whole a before after faults new_faults apart below is all at =
       let (k, within, same) = counted_one (take i roots) all.parts all.lines root all.met (subst (λ (l : List Packed). Contains l root) all.whole_is.roots_are at) in
       let size = length-take i roots in
       let less : k < i = omega arith in
       apart k i root less below (sym (get_or-take i roots k root less) ∙ (same ∙ is))
 
+-- what follows of a success besides
+pub both_ok : {T E A : Type 0} (B C : Type 0) (r : Result T E) → A → OnOk r B → OnOk r C → OnOk r (A × B × C)
+both_ok B C (Ok t) a b c = (a, b, c)
+both_ok B C (Err e) a b c = tt
+
 -- what is met so is met otherwise
-pub met_so : (A B : Option Contents → List ℕ → Type 0) (r : Result Bool Ended) (old new : Collected) (before after faults new_faults : Option (List ℕ)) → ((counted : Option Contents) (said : List ℕ) → A counted said → B counted said)
-    → IfOk r (λ sound. MeetsPart A sound old new before after faults new_faults) → IfOk r (λ sound. MeetsPart B sound old new before after faults new_faults)
-met_so A B (Ok sound) old new before after faults new_faults f h = record { counted = h.counted; said = h.said; met = f h.counted h.said h.met; sound = h.sound; says = h.says; adds = h.adds }
-met_so A B (Err e) old new before after faults new_faults f h = tt
+pub met_so : (Old New : List Recorded → Type 0) (A B : Option Contents → List ℕ → Type 0) (r : Result Bool Ended) (old new : Collected) (before after faults new_faults : Option (List ℕ)) → ((counted : Option Contents) (said : List ℕ) → A counted said → B counted said)
+    → IfOk r (λ sound. MeetsPart A sound old new before after faults new_faults Old New) → IfOk r (λ sound. MeetsPart B sound old new before after faults new_faults Old New)
+met_so Old New A B (Ok sound) old new before after faults new_faults f h = record { counted = h.counted; said = h.said; met = f h.counted h.said h.met; sound = h.sound; says = h.says; adds = h.adds; counts = h.counts }
+met_so Old New A B (Err e) old new before after faults new_faults f h = tt
 
 loud : (path what : List ℕ) → is_silent (line_behind path what) ≡ false
 loud [] what = refl
 loud (byte ∷ more) what = refl
 
 -- nothing counts, and that is said
-pub unmet : (A : Option Contents → List ℕ → Type 0) (r : Result Bool Ended) (whole : Collected) (text faults new_faults : Option (List ℕ)) (path what : List ℕ) → A None (line_behind path what)
-    → IfOk r (λ sound. (sound ≡ false) × Appends faults new_faults (line_behind path what)) → IfOk r (λ sound. MeetsPart A sound whole whole text text faults new_faults)
-unmet A (Ok sound) whole text faults new_faults path what met h = record {
+pub unmet : (Counted : List Recorded → Type 0) (A : Option Contents → List ℕ → Type 0) (r : Result Bool Ended) (whole : Collected) (text faults new_faults : Option (List ℕ)) (path what : List ℕ) → A None (line_behind path what)
+    → IfOk r (λ sound. (sound ≡ false) × Appends faults new_faults (line_behind path what)) → IfOk r (λ sound. MeetsPart A sound whole whole text text faults new_faults Counted Counted)
+unmet Counted A (Ok sound) whole text faults new_faults path what met h = record {
   counted = None;
   said = line_behind path what;
   met = met;
   sound = h.0 ∙ sym (loud path what);
   says = h.1;
   adds = (refl, refl);
+  counts = counts_nothing Counted;
 }
-unmet A (Err e) whole text faults new_faults path what met h = tt
+unmet Counted A (Err e) whole text faults new_faults path what met h = tt
 
 -- a part that is loaded counts
-pub met_loaded : (r : Result Bool Ended) (old new : Collected) (before after faults new_faults : Option (List ℕ)) (part : Contents) (left : Left) (path : List ℕ) (root : Packed) → part.root ≡ root
-    → AddGives old part (Ok tt) new × (after ≡ grown before (record_lines part.records)) → IfOk r (λ sound. (sound ≡ is_silent (left_line path left)) × Appends faults new_faults (left_line path left))
-    → IfOk r (λ sound. MeetsPart (IsMetAs part left path root) sound old new before after faults new_faults)
-met_loaded (Ok sound) old new before after faults new_faults part left path root same adds h = record {
+pub met_loaded : (Old New : List Recorded → Type 0) (r : Result Bool Ended) (old new : Collected) (before after faults new_faults : Option (List ℕ)) (part : Contents) (left : Left) (path : List ℕ) (root : Packed) → part.root ≡ root
+    → AddGives old part (Ok tt) new × (after ≡ grown before (record_lines part.records)) × CountsMore Old New part.records → IfOk r (λ sound. (sound ≡ is_silent (left_line path left)) × Appends faults new_faults (left_line path left))
+    → IfOk r (λ sound. MeetsPart (IsMetAs part left path root) sound old new before after faults new_faults Old New)
+met_loaded Old New (Ok sound) old new before after faults new_faults part left path root same adds h = record {
   counted = Some part;
   said = left_line path left;
   met = (refl, same, refl);
   sound = h.0;
   says = h.1;
-  adds = adds;
+  adds = (adds.0, adds.1);
+  counts = adds.2;
 }
-met_loaded (Err e) old new before after faults new_faults part left path root same adds h = tt
+met_loaded Old New (Err e) old new before after faults new_faults part left path root same adds h = tt
 
 module _ (Finds : Findings) (folder : List ℕ) where
   pub met_there : (root : Packed) (path here : List ℕ) (has : Option (List ℕ)) (size : ℕ) → path ≡ path_within folder (text_of root) → here ≡ path_within folder (text_of root)
@@ -229,12 +247,12 @@ module _ (Finds : Findings) (folder : List ℕ) where
   met_nothing root path here is same finds = inl (subst (λ (p : List ℕ). Finds p None) is finds, refl, ap (λ (p : List ℕ). line_behind p (codes "missing")) same)
 
   -- the trunk, and then the parts
-  pub gathered_so : (path here : List ℕ) (trunk first : Contents) (left : Left) (roots : List Packed) (whole : Collected) (kept sound both : Bool) (before begun after faults mid new_faults : Option (List ℕ))
+  pub gathered_so : {Old New : List Recorded → Type 0} (path here : List ℕ) (trunk first : Contents) (left : Left) (roots : List Packed) (whole : Collected) (kept sound both : Bool) (before begun after faults mid new_faults : Option (List ℕ))
       → path ≡ path_within folder (codes "trunk") → here ≡ path_within folder (codes "trunk") → IsReadAt Finds path trunk left → AreAll (IsOpenOn trunk) roots
-      → (kept ≡ is_silent (left_line here left)) × Appends faults mid (left_line here left) → begun ≡ grown before (ledger_text trunk.root trunk.records)
-      → first ≡ trunk → AreAdded Finds folder roots first whole sound begun after mid new_faults → (kept ≡ true → both ≡ sound) → (kept ≡ false → both ≡ false)
-      → IsGathered Finds folder whole both before after faults new_faults
-  gathered_so path here trunk first left roots whole kept sound both before begun after faults mid new_faults is there reads are_open says begins same added all neither =
+      → (kept ≡ is_silent (left_line here left)) × Appends faults mid (left_line here left) → begun ≡ grown before (ledger_text trunk.root trunk.records) → Old trunk.records
+      → first ≡ trunk → AreAdded Finds folder roots first whole sound begun after mid new_faults Old New → (kept ≡ true → both ≡ sound) → (kept ≡ false → both ≡ false)
+      → IsGathered Finds folder whole both before after faults new_faults New
+  gathered_so {Old} {New} path here trunk first left roots whole kept sound both before begun after faults mid new_faults is there reads are_open says begins counted same added all neither =
       let trunk_is : whole.trunk ≡ trunk = added.trunk_is ∙ same in
       let lines = left_line here left ++ added.lines in
       record {
@@ -254,6 +272,7 @@ module _ (Finds : Findings) (folder : List ℕ) where
         says = appends_both faults mid new_faults (left_line here left) added.lines says.1 added.says;
         writes = added.writes before (begins ∙ ap (λ (b : Contents). grown before (ledger_text b.root b.records)) (sym same))
             ∙ ap (λ (b : Contents). grown before (ledger_text b.root (joined_with b.records added.parts))) (sym added.trunk_is);
+        counts = subst (λ (b : Contents). New (joined_with b.records added.parts)) (sym trunk_is) (added.counts trunk.records counted);
       }
 
 drop_front : (xs ys : List ℕ) → drop (length xs) (xs ++ ys) ≡ ys
@@ -276,10 +295,10 @@ behind_header root rs n header text is len all =
     )
 
 -- what is told of a whole that was gathered is told of the trunk and all its parts
-pub all_told : (IsText : Packed → List Recorded → Left → List ℕ → Type 0) (Finds : Findings) (folder : List ℕ) (before after said new_said faults new_faults : Option (List ℕ)) (whole : Collected) (sound : Bool) (r : Result Outcome Ended)
-    → IsGathered Finds folder whole sound before after faults new_faults → IfOk r (λ o. (parts : List Contents) → IsWhole whole parts → TellsParts IsText whole.trunk parts sound said new_said o)
+pub all_told : {Counted : List Recorded → Type 0} (IsText : Packed → List Recorded → Left → List ℕ → Type 0) (Finds : Findings) (folder : List ℕ) (before after said new_said faults new_faults : Option (List ℕ)) (whole : Collected) (sound : Bool) (r : Result Outcome Ended)
+    → IsGathered Finds folder whole sound before after faults new_faults Counted → IfOk r (λ o. (parts : List Contents) → IsWhole whole parts → TellsParts IsText whole.trunk parts sound said new_said o)
     → IfOk r (TellsAll IsText Finds folder before after said new_said faults new_faults)
-all_told IsText Finds folder before after said new_said faults new_faults whole sound (Ok o) gathered tells = record {
+all_told {Counted} IsText Finds folder before after said new_said faults new_faults whole sound (Ok o) gathered tells = record {
   trunk = whole.trunk;
   parts = gathered.parts;
   lines = gathered.lines;
@@ -290,4 +309,4 @@ all_told IsText Finds folder before after said new_said faults new_faults whole 
   warns = gathered.says;
   writes = gathered.writes;
 }
-all_told IsText Finds folder before after said new_said faults new_faults whole sound (Err e) gathered tells = tt
+all_told {Counted} IsText Finds folder before after said new_said faults new_faults whole sound (Err e) gathered tells = tt

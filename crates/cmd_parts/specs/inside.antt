@@ -1,7 +1,8 @@
 -- For the code: tables with few filled entries, and parts that are added to a whole one after another.
-use Rattle.std.specs.Prelude.{◌≡◌, ◌⊎◌, ℕ, Bool, List, ◌++◌, Option, None, Some, Ok, nat_lt}
+use Rattle.std.specs.Prelude.{◌≡◌, ◌⊎◌, ℕ, Bool, List, [], ◌++◌, Option, None, Some, Ok, nat_lt}
 use Rattle.std.specs.Io.KnownBytes.{Appends}
 use Rattle.machine_text.specs.Packed.{Packed}
+use Rattle.cert.specs.Claim.{Recorded}
 use Rattle.ledger.specs.Contents.{Contents}
 use Rattle.ledger.specs.LedgerText.{ledger_text}
 use Rattle.wire.specs.Device.{grown}
@@ -9,7 +10,7 @@ use Rattle.parts.specs.Parts.{joined_with}
 use Rattle.parts.specs.Whole.{AddGives, Collected, IsWhole}
 use Rattle.cmd_options.specs.declared.ended.Ended.{Ended}
 use Rattle.cmd_options.specs.declared.ended.Ended.TheVariants.{Stream}
-use Rattle.cmd_parts.specs.Join.{AreMet, EndsJoining, FailsAny, Findings, HoldsTree, SaysFirst, is_silent, record_lines}
+use Rattle.cmd_parts.specs.Join.{AreMet, FailsAny, Findings, is_silent, record_lines}
 use Rattle.cmd_parts.specs.Settling.{filled_count}
 
 abbrev pub is_below : ℕ → Packed → Bool
@@ -21,19 +22,30 @@ AddsCounted None old new before after = (new ≡ old) × (after ≡ before)
 AddsCounted (Some part) old new before after = AddGives old part (Ok tt) new
     × (after ≡ grown before (record_lines part.records))
 
--- a part is met, added where it counts, and what is wrong with it is said
+-- its records; none where none counts
+abbrev pub counted_records : Option Contents → List Recorded
+counted_records None = []
+counted_records (Some part) = part.records
+
+-- where records may have been counted before, these may be counted behind them
+abbrev pub CountsMore : (List Recorded → Type 0) → (List Recorded → Type 0) → List Recorded → Type 0
+CountsMore Old New more = (rs : List Recorded) → Old rs → New (rs ++ more)
+
+-- a part is met, added and counted where it counts, and what is wrong with it is said
 pub record MeetsPart (IsMet : Option Contents → List ℕ → Type 0) (is_sound : Bool) (old new : Collected)
-    (before after faults new_faults : Option (List ℕ)) : Type 0 where
+    (before after faults new_faults : Option (List ℕ)) (Old New : List Recorded → Type 0) : Type 0 where
   pub counted : Option Contents
   pub said : List ℕ
   pub met : IsMet counted said
   pub sound : is_sound ≡ is_silent said
   pub says : Appends faults new_faults said
   pub adds : AddsCounted counted old new before after
+  pub counts : CountsMore Old New (counted_records counted)
 
 -- so are the parts of these roots, behind a trunk without parts
 pub record AreAdded (Finds : Findings) (folder : List ℕ) (roots : List Packed) (trunk : Contents) (whole : Collected)
-    (is_sound : Bool) (before after faults new_faults : Option (List ℕ)) : Type 0 where
+    (is_sound : Bool) (before after faults new_faults : Option (List ℕ))
+    (Old New : List Recorded → Type 0) : Type 0 where
   pub parts : List Contents
   pub lines : List ℕ
   pub met : AreMet Finds folder roots parts lines
@@ -43,17 +55,7 @@ pub record AreAdded (Finds : Findings) (folder : List ℕ) (roots : List Packed)
   pub says : Appends faults new_faults lines
   pub writes : (start : Option (List ℕ)) → before ≡ grown start (ledger_text trunk.root trunk.records)
       → after ≡ grown start (ledger_text trunk.root (joined_with trunk.records parts))
-
--- it is the whole of what a folder holds, and the one ledger of all stands behind what stood in its place
-pub record IsGathered (Finds : Findings) (folder : List ℕ) (whole : Collected) (is_sound : Bool)
-    (before after faults new_faults : Option (List ℕ)) : Type 0 where
-  pub parts : List Contents
-  pub lines : List ℕ
-  pub holds : HoldsTree Finds folder whole.trunk parts lines
-  pub whole_is : IsWhole whole parts
-  pub sound : is_sound ≡ is_silent lines
-  pub says : Appends faults new_faults lines
-  pub writes : after ≡ grown before (ledger_text whole.trunk.root (joined_with whole.trunk.records parts))
+  pub counts : (rs : List Recorded) → Old rs → New (joined_with rs parts)
 
 -- why a part isn't met: something fails, and nothing is said, unless it is a stream
 abbrev pub EndsPart : Ended → Option (List ℕ) → Option (List ℕ) → Type 0
@@ -70,9 +72,3 @@ pub record EndsAdding (Finds : Findings) (folder : List ℕ) (roots : List Packe
   pub are_met : AreMet Finds folder met parts lines
   pub why : FailsAny e
   pub says : Appends faults new_faults lines ⊎ (e ≡ Stream)
-
--- why what a folder holds isn't gathered, and what is said before
-pub record EndsGathering (Finds : Findings) (folder : List ℕ) (e : Ended) (faults new_faults : Option
-    (List ℕ)) : Type 0 where
-  pub why : EndsJoining Finds folder e
-  pub warns : ((new_faults ≡ faults) ⊎ SaysFirst Finds folder faults new_faults) ⊎ (e ≡ Stream)

@@ -17,7 +17,8 @@ ghost use Rattle.files.specs.Paths.{IsBlank, IsKeptBut};
 ghost use Rattle.cmd_parts.specs.AtPaths.{JoinsAt, CollectsAt, finds_at};
 ghost use Rattle.cmd_parts.specs.Split.{path_within};
 ghost use Rattle.cmd_parts.specs.Join.{EndsTelling, FailsFile, HasNoTrunk, IsMet, IsMetAs, IsMetIn, IsReadAt, TellsAll, TellsParts, ended_by, is_silent, left_line, line_behind, record_lines};
-ghost use Rattle.cmd_parts.specs.inside.{AreAdded, EndsAdding, EndsGathering, EndsPart, IsGathered, MeetsPart};
+ghost use Rattle.cmd_parts.specs.Gather.{EndsGathering, IsGathered};
+ghost use Rattle.cmd_parts.specs.inside.{AreAdded, CountsMore, EndsAdding, EndsPart, MeetsPart};
 
 use crate::collector::{Collector, Nowhere, OneLedger};
 use crate::folder::{TRUNK, part_path, path_within};
@@ -211,7 +212,8 @@ pub fn gather<S: PartLedgers, C: Collector, E: Write>(
     faults: &mut E,
 ) -> Result<(Whole, bool), Ended>
     ensures ok { IfOk result (λ gathered. IsGathered (S.finds parts.now) folder.now gathered.0 gathered.1
-        (C.text collector.old) (C.text collector.new) (E.contents faults.old) (E.contents faults.new)) }
+        (C.text collector.old) (C.text collector.new) (E.contents faults.old) (E.contents faults.new)
+        (C.counts collector.new)) }
     ensures err { IfErr result (λ e. EndsGathering (S.finds parts.now) folder.now e (E.contents faults.old)
         (E.contents faults.new)) }
 {
@@ -261,7 +263,8 @@ fn add_parts<S: PartLedgers, C: Collector, E: Write>(
     requires none { IsWhole whole.old [] }
     ensures ok { IfOk result (λ sound. AreAdded
         (S.finds parts.now) folder.now roots.now whole.old.trunk whole.new sound (C.text collector.old)
-        (C.text collector.new) (E.contents faults.old) (E.contents faults.new)) }
+        (C.text collector.new) (E.contents faults.old) (E.contents faults.new)
+        (C.counts collector.old) (C.counts collector.new)) }
     ensures err { IfErr result (λ e. EndsAdding (S.finds parts.now) folder.now roots.now e (E.contents faults.old)
         (E.contents faults.new)) }
 {
@@ -344,7 +347,8 @@ fn join_part<S: PartLedgers, C: Collector, E: Write>(
     requires { IsOpenOn whole.old.trunk root.now × (Contains whole.old.roots root.now → ⊥) }
     ensures ok { IfOk result (λ sound. MeetsPart (IsMet
         (S.finds parts.now) folder.now root.now) sound whole.old whole.new (C.text collector.old)
-        (C.text collector.new) (E.contents faults.old) (E.contents faults.new)) }
+        (C.text collector.new) (E.contents faults.old) (E.contents faults.new)
+        (C.counts collector.old) (C.counts collector.new)) }
     ensures err { IfErr result (λ e. EndsPart e (E.contents faults.old) (E.contents faults.new)) }
 {
     let path = part_path(alloc, folder, root)?;
@@ -367,7 +371,8 @@ fn add_read<F: Read + Drop, C: Collector, E: Write>(
     requires { IsOpenOn whole.old.trunk root.now × (Contains whole.old.roots root.now → ⊥) }
     ensures ok { IfOk result (λ sound. MeetsPart (IsMetIn
         (F.remaining file.reader) file.length path.now root.now) sound whole.old whole.new (C.text collector.old)
-        (C.text collector.new) (E.contents faults.old) (E.contents faults.new)) }
+        (C.text collector.new) (E.contents faults.old) (E.contents faults.new)
+        (C.counts collector.old) (C.counts collector.new)) }
     ensures err { IfErr result (λ e. EndsPart e (E.contents faults.old) (E.contents faults.new)) }
 {
     match load_from(alloc, &mut file.reader, file.length) {
@@ -395,7 +400,8 @@ fn add_loaded<C: Collector, E: Write>(
     requires { IsOpenOn whole.old.trunk root.now × (Contains whole.old.roots root.now → ⊥) }
     ensures ok { IfOk result (λ sound. MeetsPart
         (IsMetAs part.now left.now path.now root.now) sound whole.old whole.new (C.text collector.old)
-        (C.text collector.new) (E.contents faults.old) (E.contents faults.new)) }
+        (C.text collector.new) (E.contents faults.old) (E.contents faults.new)
+        (C.counts collector.old) (C.counts collector.new)) }
     ensures err { IfErr result (λ e. EndsPart e (E.contents faults.old) (E.contents faults.new)) }
 {
     if *part.root() != *root {
@@ -414,7 +420,8 @@ fn add<C: Collector>(
 ) -> Result<(), Ended>
     requires { IsOpenOn whole.old.trunk part.now.root × (Contains whole.old.roots part.now.root → ⊥) }
     ensures ok { OnOk result (AddGives whole.old part.now (Ok tt) whole.new
-        × (C.text collector.new ≡ grown (C.text collector.old) (record_lines part.now.records))) }
+        × (C.text collector.new ≡ grown (C.text collector.old) (record_lines part.now.records))
+        × CountsMore (C.counts collector.old) (C.counts collector.new) part.now.records) }
     ensures err { IfErr result FailsWriting }
 {
     match whole.add(part) {

@@ -3,7 +3,8 @@
 //!
 //! `specs/Settling` says what becomes of a board and its ledger while open tables are settled, `specs/Settle` what a
 //! ledger is that is settled whole, `specs/Split` what a tree is that is split into a trunk and its parts, `specs/Join` what
-//! is told of them together, `specs/AtPaths` what all that is where files stand. `specs/inside` and `proofs` are for the code alone.
+//! is told of them together, `specs/Gather` what is gathered before that, `specs/AtPaths` what all that is where files
+//! stand. `specs/inside` and `proofs` are for the code alone.
 #![tactic(auto)]
 
 mod collector;

@@ -11,7 +11,7 @@ ghost use Rattle.cmd_ledgers.specs.Retry.{AtSomeTime, StaysInStep, gained};
 ghost use Rattle.cmd_parts.specs.Settling.{ComesFirst, EndsAtOne, EndsSettling, IsOpenBelow, SettlesMany, SettlesOne, filled_count, with_last};
 ghost use Rattle.cmd_parts.specs.inside.{is_below};
 
-use cert::{Decider, Judged, Record};
+use cert::{Decided, Decider, Judged, Record};
 use cmd_options::Ended;
 use files::Progress;
 use kind_evidence::NoMemory;
@@ -170,14 +170,17 @@ fn settle<L: LedgerOut, D: Decider>(
 {
     // The proof needs that it is a board.
     let _ = board.root();
-    let made = decider.decide_judged(alloc, t)?;
+    let Decided {
+        record: made,
+        judged,
+    } = decider.decide_judged(alloc, t)?;
     // The parts by their names: the borrow checker's proof has to know of what the record is made.
     let record = Record {
-        table: made.record.table,
-        certificate: made.record.certificate.lent(),
+        table: made.table,
+        certificate: made.certificate.lent(),
     };
     let mut line = Vec::new(alloc);
-    take(board, &record, made.judged, &mut line)?;
+    take(board, &record, judged, &mut line)?;
     append_line(ledger, &line)
 }
 

@@ -7,7 +7,7 @@ use Rattle.std.proofs.lemmas.Bool.Decides.{nat_tests}
 use Rattle.machine_text.specs.declared.transition.Sym.{Sym}
 use Rattle.machine_text.specs.declared.transition.Sym.TheVariants.{Zero, One}
 use Rattle.law_turing.specs.Tape.{cell_of}
-use Rattle.cmd_picture.specs.declared.ones.Run.{Run}
+use Rattle.cmd_picture.specs.declared.ones.Stretch.{Stretch}
 use Rattle.cmd_picture.specs.declared.span.Span.{Span}
 use Rattle.cmd_picture.specs.declared.view.View.{View}
 use Rattle.cmd_picture.specs.View.{place}
@@ -24,7 +24,7 @@ unfolding drawn
 drawn_none i = refl
 
 -- runs that are apart end behind where they begin
-apart_order : (from : ℕ) (runs : List Run) (end : ℕ) → AreApart from runs end → from ≤ end
+apart_order : (from : ℕ) (runs : List Stretch) (end : ℕ) → AreApart from runs end → from ≤ end
 unfolding AreApart
 apart_order from [] end apart = apart
 apart_order from (r ∷ runs) end apart =
@@ -33,14 +33,14 @@ apart_order from (r ∷ runs) end apart =
     omega arith
 
 -- a later end is an end too
-pub apart_later : (from : ℕ) (runs : List Run) (end later : ℕ) → end ≤ later → AreApart from runs end → AreApart from runs later
+pub apart_later : (from : ℕ) (runs : List Stretch) (end later : ℕ) → end ≤ later → AreApart from runs end → AreApart from runs later
 unfolding AreApart
 apart_later from [] end later more apart = omega (arith, apart)
 apart_later from (r ∷ runs) end later more apart =
     (apart.0, apart.1, apart_later (r.first + r.count + 1) runs end later more apart.2)
 
 -- one run more, behind the end
-pub apart_push : (from : ℕ) (runs : List Run) (end : ℕ) (r : Run) → AreApart from runs end → end ≤ r.first → 0 < r.count
+pub apart_push : (from : ℕ) (runs : List Stretch) (end : ℕ) (r : Stretch) → AreApart from runs end → end ≤ r.first → 0 < r.count
     → AreApart from (runs ++ r ∷ []) (r.first + r.count + 1)
 unfolding AreApart
 apart_push from [] end r apart behind some = (omega (arith, apart), some, omega arith)
@@ -48,34 +48,34 @@ apart_push from (q ∷ runs) end r apart behind some =
     (apart.0, apart.1, apart_push (q.first + q.count + 1) runs end r apart.2 behind some)
 
 -- whether a run has a column
-covered : (r : Run) (i : ℕ) → r.first ≤ i → i < r.first + r.count → (nat_le r.first i && nat_lt i (r.first + r.count)) ≡ true
+covered : (r : Stretch) (i : ℕ) → r.first ≤ i → i < r.first + r.count → (nat_le r.first i && nat_lt i (r.first + r.count)) ≡ true
 covered r i low high = grind (arith, nat_tests)
 
-before : (r : Run) (i : ℕ) → i < r.first → (nat_le r.first i && nat_lt i (r.first + r.count)) ≡ false
+before : (r : Stretch) (i : ℕ) → i < r.first → (nat_le r.first i && nat_lt i (r.first + r.count)) ≡ false
 before r i low = grind (arith, nat_tests)
 
-behind : (r : Run) (i : ℕ) → r.first + r.count ≤ i → (nat_le r.first i && nat_lt i (r.first + r.count)) ≡ false
+behind : (r : Stretch) (i : ℕ) → r.first + r.count ≤ i → (nat_le r.first i && nat_lt i (r.first + r.count)) ≡ false
 behind r i high = grind (arith, nat_tests)
 
 -- what the first of some runs draws
-drawn_in : (r : Run) (runs : List Run) (i : ℕ) → r.first ≤ i → i < r.first + r.count → drawn (r ∷ runs) i ≡ One
+drawn_in : (r : Stretch) (runs : List Stretch) (i : ℕ) → r.first ≤ i → i < r.first + r.count → drawn (r ∷ runs) i ≡ One
 unfolding drawn
 drawn_in r runs i low high = ap (λ (b : Bool). if b then One else drawn runs i) (covered r i low high)
 
-drawn_before : (r : Run) (runs : List Run) (i : ℕ) → i < r.first → drawn (r ∷ runs) i ≡ drawn runs i
+drawn_before : (r : Stretch) (runs : List Stretch) (i : ℕ) → i < r.first → drawn (r ∷ runs) i ≡ drawn runs i
 unfolding drawn
 drawn_before r runs i low = ap (λ (b : Bool). if b then One else drawn runs i) (before r i low)
 
-drawn_behind : (r : Run) (runs : List Run) (i : ℕ) → r.first + r.count ≤ i → drawn (r ∷ runs) i ≡ drawn runs i
+drawn_behind : (r : Stretch) (runs : List Stretch) (i : ℕ) → r.first + r.count ≤ i → drawn (r ∷ runs) i ≡ drawn runs i
 unfolding drawn
 drawn_behind r runs i high = ap (λ (b : Bool). if b then One else drawn runs i) (behind r i high)
 
-drawn_same : (r : Run) (runs others : List Run) (i : ℕ) → drawn runs i ≡ drawn others i → drawn (r ∷ runs) i ≡ drawn (r ∷ others) i
+drawn_same : (r : Stretch) (runs others : List Stretch) (i : ℕ) → drawn runs i ≡ drawn others i → drawn (r ∷ runs) i ≡ drawn (r ∷ others) i
 unfolding drawn
 drawn_same r runs others i same = ap (λ (s : Sym). if nat_le r.first i && nat_lt i (r.first + r.count) then One else s) same
 
 -- beyond the end nothing is drawn
-pub drawn_beyond : (from : ℕ) (runs : List Run) (end i : ℕ) → AreApart from runs end → end ≤ i + 1 → drawn runs i ≡ Zero
+pub drawn_beyond : (from : ℕ) (runs : List Stretch) (end i : ℕ) → AreApart from runs end → end ≤ i + 1 → drawn runs i ≡ Zero
 unfolding AreApart
 drawn_beyond from [] end i apart late = drawn_none i
 drawn_beyond from (r ∷ runs) end i apart late =
@@ -84,11 +84,11 @@ drawn_beyond from (r ∷ runs) end i apart late =
     drawn_behind r runs i past ∙ drawn_beyond (r.first + r.count + 1) runs end i apart.2 late
 
 -- a run that is put behind others draws its own columns, and leaves those before it
-drawn_push_before : (runs : List Run) (r : Run) (i : ℕ) → i < r.first → drawn (runs ++ r ∷ []) i ≡ drawn runs i
+drawn_push_before : (runs : List Stretch) (r : Stretch) (i : ℕ) → i < r.first → drawn (runs ++ r ∷ []) i ≡ drawn runs i
 drawn_push_before [] r i low = drawn_before r [] i low
 drawn_push_before (q ∷ runs) r i low = drawn_same q (runs ++ r ∷ []) runs i (drawn_push_before runs r i low)
 
-drawn_push_in : (runs : List Run) (r : Run) (i : ℕ) → r.first ≤ i → i < r.first + r.count → drawn (runs ++ r ∷ []) i ≡ One
+drawn_push_in : (runs : List Stretch) (r : Stretch) (i : ℕ) → r.first ≤ i → i < r.first + r.count → drawn (runs ++ r ∷ []) i ≡ One
 drawn_push_in [] r i low high = drawn_in r [] i low high
 drawn_push_in (q ∷ runs) r i low high =
     elim (cases_lt i q.first) [
@@ -100,7 +100,7 @@ drawn_push_in (q ∷ runs) r i low high =
     ]
 
 -- runs that draw the symbols of a row up to a column draw more of them with the next run
-pub drawn_push : (runs : List Run) (column after later : ℕ) (f : ℕ → Sym) (r : Run) → AreApart 0 runs column → r.first ≡ column → r.first + r.count ≡ after → 0 < r.count
+pub drawn_push : (runs : List Stretch) (column after later : ℕ) (f : ℕ → Sym) (r : Stretch) → AreApart 0 runs column → r.first ≡ column → r.first + r.count ≡ after → 0 < r.count
     → ((i : ℕ) → i < column → drawn runs i ≡ f i) → ((i : ℕ) → column ≤ i → i < after → f i ≡ One) → ((i : ℕ) → after ≤ i → i < later → f i ≡ Zero)
     → (i : ℕ) → i < later → drawn (runs ++ r ∷ []) i ≡ f i
 drawn_push runs column after later f r apart first next some old dark blank i low =

@@ -4,7 +4,7 @@ use Rattle.machine_text.specs.Packed.{Packed}
 use Rattle.law_turing.specs.Machine.{Machine}
 use Rattle.law_turing.specs.Run.{Config, cell, next, after}
 use Rattle.law_turing.specs.Halting.{HaltsAt}
-use Rattle.cmd_picture.specs.declared.ones.Run.{Run}
+use Rattle.cmd_picture.specs.declared.ones.Stretch.{Stretch}
 use Rattle.cmd_picture.specs.declared.row.Row.{Row}
 use Rattle.cmd_picture.specs.declared.times.Times.{Times}
 use Rattle.cmd_picture.specs.declared.view.View.{View}
@@ -19,10 +19,17 @@ pub record Shown : Type 0 where
   pub state : ℕ
   pub head : Option ℕ
   pub halts : Bool
-  pub runs : List Run
+  pub runs : List Stretch
 
 abbrev pub shown_row : Row → Shown
-shown_row r = record { number = r.number; time = r.time; state = r.state.0; head = r.head; halts = r.halts; runs = r.runs.items }
+shown_row r = record {
+  number = r.number;
+  time = r.time;
+  state = r.state.0;
+  head = r.head;
+  halts = r.halts;
+  runs = r.runs.items;
+}
 
 -- a row shows the run's configuration at its time: the state, the head's column, whether it is on a halting pair, and
 -- in each column of the view the symbol of that cell, as runs of ones that can't be longer
@@ -45,7 +52,8 @@ pub record IsRow (m : Machine) (v : View) (t : Times) (n : ℕ) (r : Shown) : Ty
 -- the rows from number n on: no more where the time of the next one isn't asked for, or where the machine halted
 unfoldable pub AreRows : Machine → View → Times → ℕ → List Shown → Type 0
 AreRows m v t n [] = last_time t < due t n
-AreRows m v t n (r ∷ rows) = IsRow m v t n r × (r.halts ≡ true → rows ≡ []) × (r.halts ≡ false → AreRows m v t (n + 1) rows)
+AreRows m v t n (r ∷ rows) = IsRow m v t n r × (r.halts ≡ true → rows ≡ [])
+    × (r.halts ≡ false → AreRows m v t (n + 1) rows)
 
 -- rows that are gone through: those of a table's run, of which so many were given; over once it halted
 pub record Progress : Type 0 where
@@ -57,5 +65,6 @@ pub record Progress : Type 0 where
 
 -- the next row is given, or there is none
 abbrev pub GivesRow : Machine → Progress → Bool → Shown → Progress → Type 0
-GivesRow m old true r new = IsRow m old.view old.times old.number r × (old.over ≡ false) × (new ≡ record old { number = old.number + 1; over = r.halts })
+GivesRow m old true r new = IsRow m old.view old.times old.number r × (old.over ≡ false)
+    × (new ≡ record old { number = old.number + 1; over = r.halts })
 GivesRow m old false r new = (new ≡ old) × ((old.over ≡ true) ⊎ (last_time old.times < due old.times old.number))

@@ -2,15 +2,15 @@
 use Rattle.std.specs.Prelude.{ℕ, ◌+◌, ◌<◌, ◌≤◌, nat_le, nat_lt, ◌&&◌, if◌then◌else◌, List, [], ◌∷◌}
 use Rattle.machine_text.specs.declared.transition.Sym.{Sym}
 use Rattle.machine_text.specs.declared.transition.Sym.TheVariants.{Zero, One}
-use Rattle.cmd_picture.specs.declared.ones.Run.{Run}
+use Rattle.cmd_picture.specs.declared.ones.Stretch.{Stretch}
 
 -- the symbol that runs of ones draw in a column: a one in their columns, a blank elsewhere
-unfoldable pub drawn : List Run → ℕ → Sym
+unfoldable pub drawn : List Stretch → ℕ → Sym
 drawn [] i = Zero
 drawn (r ∷ runs) i = if nat_le r.first i && nat_lt i (r.first + r.count) then One else drawn runs i
 
 -- runs from left to right, each of one column at least, with a blank one at least behind each: the first column of
 -- any is `from` at least, and the column of a blank behind one is before `end`
-unfoldable pub AreApart : ℕ → List Run → ℕ → Type 0
+unfoldable pub AreApart : ℕ → List Stretch → ℕ → Type 0
 AreApart from [] end = from ≤ end
 AreApart from (r ∷ runs) end = (from ≤ r.first) × (0 < r.count) × AreApart (r.first + r.count + 1) runs end

@@ -3,7 +3,7 @@
 use Rattle.std.specs.Prelude.{ℕ, ◌+◌, Bool, true, false, Option, Some, None, List, [], ◌++◌, length, flat_map, codes, decimal}
 use Rattle.machine_text.specs.Packed.{Packed}
 use Rattle.machine_text.specs.Text.{text_of}
-use Rattle.cmd_picture.specs.declared.ones.Run.{Run}
+use Rattle.cmd_picture.specs.declared.ones.Stretch.{Stretch}
 use Rattle.cmd_picture.specs.declared.view.View.{View}
 use Rattle.cmd_picture.specs.Rows.{Shown}
 use Rattle.cmd_picture.specs.Style.{beginning_text, style_text}
@@ -12,7 +12,7 @@ abbrev pub cells_svg : ℕ → ℕ → ℕ → List ℕ
 cells_svg column y count = codes "M" ++ decimal column ++ codes " " ++ decimal y ++ codes "h" ++ decimal count
 
 -- the ones of a row
-abbrev pub ones_svg : ℕ → List Run → List ℕ
+abbrev pub ones_svg : ℕ → List Stretch → List ℕ
 ones_svg y runs = codes "<path d='" ++ flat_map (λ r. cells_svg r.first y r.count) runs ++ codes "'/>"
 
 -- the head in the class of its state

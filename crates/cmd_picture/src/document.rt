@@ -20,7 +20,8 @@ use text::append_number;
 /// one unit high, and what reads the document scales it. Its title is the table's text.
 pub fn svg(alloc: Global, t: Table, view: View, times: Times) -> Result<Vec<u8>, NoMemory>
     requires { AreWithinRuns times }
-    ensures { IfOk result (λ text. (rows : List Shown) × AreRows (entry_of t) view times 0 rows × (text.items ≡ svg_text t view rows)) }
+    ensures { IfOk result (λ text. (rows : List Shown) × AreRows (entry_of t) view times 0 rows
+        × (text.items ≡ svg_text t view rows)) }
 {
     let mut drawn = Vec::new(alloc);
     let mut rows = Rows::new(alloc, t, view, times)?;

@@ -19,7 +19,7 @@ mod view;
 mod visits;
 
 pub use document::svg;
-pub use ones::Run;
+pub use ones::Stretch;
 pub use placing::placement;
 pub use row::Row;
 pub use rows::Rows;

@@ -3,7 +3,7 @@ ghost use Rattle.std.specs.Prelude.{◌≡◌, ◌++◌, OnOk};
 ghost use Rattle.cmd_picture.specs.Rows.{shown_row};
 ghost use Rattle.cmd_picture.specs.Svg.{row_svg, ones_svg, head_svg, halt_svg, bar_svg, cells_svg};
 
-use crate::ones::Run;
+use crate::ones::Stretch;
 use crate::row::Row;
 use crate::view::View;
 use machine_text::State;
@@ -22,7 +22,7 @@ pub(crate) fn append_row(view: &View, row: &Row, out: &mut Vec<u8>) -> Result<()
 }
 
 // Appends the ones of a row.
-fn append_ones(y: u64, runs: &[Run], out: &mut Vec<u8>) -> Result<(), NoMemory>
+fn append_ones(y: u64, runs: &[Stretch], out: &mut Vec<u8>) -> Result<(), NoMemory>
     ensures { OnOk result (out.new.items ≡ out.old.items ++ ones_svg y runs.now) }
 {
     out.extend_from_slice(b"<path d='")?;

@@ -13,7 +13,7 @@ use tape::{NoMemory, Tape};
 
 /// A run of ones in a row: `count` columns from column `first` on.
 #[derive(Clone, Copy, Debug, PartialEq, Eq)]
-pub struct Run {
+pub struct Stretch {
     pub first: u64,
     pub count: u64,
 }
@@ -24,18 +24,19 @@ pub(crate) fn read_ones(
     tape: &Tape,
     view: &View,
     cells: Span,
-    runs: &mut Vec<Run>,
+    runs: &mut Vec<Stretch>,
 ) -> Result<(), NoMemory>
     requires { HasOnesIn cells tape.now.ones }
     ensures apart { OnOk result (AreApart 0 runs.new.items (view.now.width + 1)) }
-    ensures cells { OnOk result ((i : ℕ) → i < view.now.width → drawn runs.new.items i ≡ cell_of tape.now.ones (place view.now i)) }
+    ensures cells { OnOk result ((i : ℕ) → i < view.now.width
+        → drawn runs.new.items i ≡ cell_of tape.now.ones (place view.now i)) }
 {
     runs.clear();
     let (first, end) = view.columns(cells);
     let mut column = pass(tape, view, Sym::Zero, first, end);
     while column < end {
         let after = pass(tape, view, Sym::One, column, end);
-        runs.push(Run {
+        runs.push(Stretch {
             first: column,
             count: after - column,
         })?;

@@ -1,14 +1,14 @@
 // One row of a picture.
 ghost use Rattle.std.specs.Prelude.{◌≡◌, [], false, None};
 
-use crate::ones::Run;
+use crate::ones::Stretch;
 use machine_text::State;
 use std::alloc::Global;
 
 /// What a configuration of a run shows within a view. A row is kept and filled again and again.
 #[derive(Drop)]
 pub struct Row {
-    /// Its number, from 0 on, downwards.
+    /// The row's number, from 0 on, downwards.
     pub number: u64,
     /// The time: the number of steps that led to the configuration.
     pub time: u64,
@@ -19,7 +19,7 @@ pub struct Row {
     /// Whether the machine halts with the next step.
     pub halts: bool,
     /// The ones in the view, from left to right.
-    pub runs: Vec<Run>,
+    pub runs: Vec<Stretch>,
 }
 
 impl Row {

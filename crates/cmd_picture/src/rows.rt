@@ -54,7 +54,8 @@ impl Rows {
     /// The rows of a table's run from the blank tape.
     pub fn new(alloc: Global, t: Table, view: View, times: Times) -> Result<Rows, NoMemory>
         requires { AreWithinRuns times }
-        ensures { IfOk result (λ rows. rows ≡ record { table = t; view = view; times = times; number = 0; over = false }) }
+        ensures { IfOk result (λ rows. rows ≡ record
+            { table = t; view = view; times = times; number = 0; over = false }) }
     {
         let runner = Runner::new(alloc, t)?;
         // Opens the invariant of the runner.
@@ -75,7 +76,8 @@ impl Rows {
     /// Puts the next row in the place of what `row` has, or answers that there is none. After an error no row was given,
     /// and the next call goes on from there.
     pub fn next_row(&mut self, row: &mut Row) -> Result<bool, NoMemory>
-        ensures ok { IfOk result (λ given. GivesRow (entry_of self.old.table) self.old given (shown_row row.new) self.new) }
+        ensures ok { IfOk result (λ given. GivesRow (entry_of self.old.table) self.old given (shown_row row.new)
+            self.new) }
         ensures err { OnErr result (self.new ≡ self.old) }
     {
         if self.over || self.due > self.times.from + self.times.steps {

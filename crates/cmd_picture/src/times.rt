@@ -16,7 +16,7 @@ pub struct Times {
 impl Times {
     ghost use Rattle.cmd_picture.specs.Times.{AreWithinRuns, due, last_time};
 
-    /// These times. Those beyond `MAX_RUN_STEPS` are left out, a first one is put there, and `every` is 1 at least.
+    /// Times from one on. Those beyond `MAX_RUN_STEPS` are left out, a first one is put there, and `every` is 1 at least.
     pub fn new(from: u64, steps: u64, every: u64) -> Times
         ensures from { result.from ≡ min from run_step_limit }
         ensures steps { result.steps ≡ min steps (run_step_limit - result.from) }
@@ -31,7 +31,7 @@ impl Times {
         }
     }
 
-    /// The same stretch of a run, so many steps from row to row that there are no more than `rows` rows; one at least.
+    /// Times in the same part of a run, so many steps from row to row that there are no more than `rows` rows; one at least.
     pub fn in_rows(self, rows: u64) -> Times
         requires { AreWithinRuns self }
         ensures from { result.from ≡ self.from }

@@ -57,7 +57,8 @@ impl View {
     pub(crate) fn columns(&self, cells: Span) -> (u64, u64)
         ensures order { result.0 ≤ result.1 }
         ensures width { result.1 ≤ self.now.width }
-        ensures all { (i : ℕ) → i < self.now.width → cells.first ≤ℤ place self.now i → place self.now i ≤ℤ cells.last → (result.0 ≤ i) × (i < result.1) }
+        ensures all { (i : ℕ) → i < self.now.width → cells.first ≤ℤ place self.now i → place self.now i ≤ℤ cells.last
+            → (result.0 ≤ i) × (i < result.1) }
         ensures inside { (i : ℕ) → i < result.1 → place self.now i ≤ℤ cells.last }
     {
         let end = if cells.last < self.left {

@@ -1,9 +1,10 @@
 -- The record of a work turn, which is offered with its score.
-use Rattle.std.proofs.Common.{inl, ◌≡◌, ◌<◌, [], ◌∷◌, ◌++◌, length, Option, Some, None, Result, Ok, Err, IfOk, sym, ap, subst}
-use Rattle.cert.specs.Certified.{IsCertified}
+use Rattle.std.proofs.Common.{◌≡◌, ◌<◌, [], ◌∷◌, ◌++◌, length, Option, Some, None, Result, Ok, Err, IfOk, sym, ap, subst}
+use Rattle.cert.specs.Certified.{IsCertified, IsShownBy}
+use Rattle.cert.specs.declared.judgement.Judged.{Judged}
 use Rattle.cert.specs.Claim.{Claim, Recorded}
 use Rattle.cert.specs.Scored.{GetsScore, with_score}
-use Rattle.cert.proofs.Scores.{has_score, scored_twice, score_certified}
+use Rattle.cert.proofs.Scores.{has_score, scored_twice, score_certified, score_shown}
 use Rattle.ledger.specs.Contents.{Contents, IsBoard}
 use Rattle.ledger.specs.Held.{HasScore}
 use Rattle.ledger.specs.LedgerText.{gained_line}
@@ -44,6 +45,9 @@ module _ (r s : Recorded) (gets : GetsScore r s) (certified : IsCertified r) whe
   pub scored_certified : IsCertified s
   scored_certified = subst IsCertified (sym is_scored) (score_certified r certified)
 
+  pub scored_shown : (judged : Judged) → IsShownBy r judged → IsShownBy s judged
+  scored_shown judged shown = subst (λ (q : Recorded). IsShownBy q judged) (sym is_scored) (score_shown r judged shown)
+
   pub scored_first : (b : Contents) → IsFirstOpen b r.table → IsFirstOpen b s.table
   scored_first b first = subst (λ (q : Recorded). IsFirstOpen b q.table) (sym is_scored) first
 
@@ -63,7 +67,3 @@ module _ (r s : Recorded) (gets : GetsScore r s) (certified : IsCertified r) whe
   pub made_unscored : {E : Type 0} (b : Contents) (result : Result Out E) (board : Option Contents) → IfOk result (λ (out : Out). Makes b s out board) → IfOk result (λ (out : Out). Makes b r out board)
   made_unscored b (Ok out) board made = makes_unscored b out board made
   made_unscored b (Err e) board made = tt
-
--- what is offered of a record that was made is that with its score
-pub full_gets : (r s : Recorded) → IsCertified r → s ≡ with_score r → GetsScore r s
-full_gets r s certified is = inl (certified, is)

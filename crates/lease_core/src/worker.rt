@@ -9,7 +9,7 @@ use crate::tidings::{Tidings, tidings_of};
 use crate::worker_answers::{asking, first_due, frames_due, ledger_of};
 use crate::worker_start::loaded;
 use crate::worker_turns::{acknowledge, has_root, is_recorded, make, next_table};
-use cert::{Decider, Finder, Finders};
+use cert::{Decided, Decider, Finder, Finders};
 use indexmap::IndexSet;
 use kind_evidence::NoMemory;
 use ledger::Board;
@@ -306,8 +306,11 @@ impl<D: Decider + Drop> Worker<D> {
         let Some(t) = next_table(board) else {
             return Ok(noted(self.alloc, Note::Quiet));
         };
-        let made = self.decider.decide_judged(self.alloc, &t)?;
-        make(self.alloc, board, made)
+        let Decided {
+            record: made,
+            judged,
+        } = self.decider.decide_judged(self.alloc, &t)?;
+        make(self.alloc, board, &made, judged)
     }
 
     // Something happens.

@@ -13,7 +13,7 @@ ghost use Rattle.lease_core.specs.WorkerRules.{IsFirstOpen, Makes};
 
 use crate::limits::MAX_WORK_RECORDS;
 use crate::worker_answers::frame_of;
-use cert::{Decided, Judged, Record};
+use cert::{Judged, OwnedRecord, Record};
 use indexmap::IndexSet;
 use kind_evidence::NoMemory;
 use ledger::{Board, Taken};
@@ -66,20 +66,27 @@ pub(crate) fn is_recorded(board: &Option<Board>, t: &Table) -> bool
 }
 
 // Puts a record of its first open table on a board, and answers so.
-pub(crate) fn make(alloc: Global, board: &mut Board, made: Decided) -> Result<Out, NoMemory>
-    requires first { IsFirstOpen board.old made.record.table }
+pub(crate) fn make(
+    alloc: Global,
+    board: &mut Board,
+    made: &OwnedRecord,
+    judged: Judged,
+) -> Result<Out, NoMemory>
+    requires first { IsFirstOpen board.old made.now.table }
     requires few { length board.old.records < work_record_limit }
-    requires shown { IsShownBy (owned_recorded made.record) made.judged }
-    ensures ok { IfOk result (λ out. Makes board.old (owned_recorded made.record) out (Some board.new)) }
+    requires shown { IsShownBy (owned_recorded made.now) judged }
+    ensures ok { IfOk result (λ out. Makes board.old (owned_recorded made.now) out (Some board.new)) }
     ensures err { OnErr result (board.new ≡ board.old) }
 {
-    let full = made.scored();
     // The parts by their names: the borrow checker's proof has to know of what the record is made.
     let r = Record {
-        table: full.record.table,
-        certificate: full.record.certificate.lent(),
+        table: made.table,
+        certificate: made.certificate.lent(),
     };
-    put(alloc, board, &r, full.judged)
+    match r.scored(alloc) {
+        Ok(scored) => put(alloc, board, &scored, judged),
+        Err(_) => Err(NoMemory),
+    }
 }
 
 // Puts a record that has its score. Its frame comes before the offer, and its line with that: once the board has

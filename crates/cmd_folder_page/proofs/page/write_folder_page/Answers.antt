@@ -1,22 +1,16 @@
-use Rattle.std.proofs.Common.{ℕ, None, get_or, sym, subst}
+use Rattle.std.proofs.Common.{sym, subst}
 use Rattle.std.proofs.lemmas.Result.{err_from_is_err_and}
 use Rattle.ledger.proofs.StageLaws.{if_err}
-use Rattle.cmd_ledgers.proofs.Reports.{if_ok}
 use Rattle.cmd_options.specs.declared.ended.Ended.{Ended}
-use Rattle.cmd_page.specs.Page.{IsPageWith}
 use Rattle.cmd_parts.specs.Join.{EndsTelling}
 use Rattle.cmd_parts.proofs.JoinEnds.{ends_gathered, ends_untold}
-use Rattle.cmd_parts.proofs.Joining.{all_told}
+use Rattle.cmd_folder_page.proofs.PageTold.{page_told}
 use Rattle.cmd_folder_page.proofs.page.write_folder_page.Goals as goal
 
 pub returns-clause-tells : goal.returns-clause-tells
-returns-clause-tells g c =
-    let census = c.gather.new.collector.census in
-    let kinds : ℕ → ℕ = λ k. get_or census.kinds k 0 in
-    let entries : ℕ → ℕ = λ k. get_or census.entries k 0 in
-    if_ok c.tell_whole.result (λ o told. (kinds, entries, told)) (all_told (IsPageWith kinds entries c.args.folder.now) (g.S.PartLedgers.finds c.args.parts.now) c.args.folder.now None None
+returns-clause-tells g c = page_told (g.S.PartLedgers.finds c.args.parts.now) c.args.folder.now
     (g.W.Write.contents c.args.answers.now) (g.W.Write.contents c.tell_whole.new.answers) (g.E.Write.contents c.args.faults.now) (g.E.Write.contents c.gather.new.faults)
-    c.in_ok-whole.whole c.in_ok-whole.is_sound c.tell_whole.result c.in_ok-whole.ensures.ok c.tell_whole.ensures.ok)
+    c.in_ok-whole.whole c.in_ok-whole.is_sound c.gather.new.collector.census c.tell_whole.result c.in_ok-whole.ensures.ok c.count_fits.ensures c.tell_whole.ensures.ok
 
 pub returns-in_err-whole-clause-ended : goal.returns-in_err-whole-clause-ended
 returns-in_err-whole-clause-ended g c =

@@ -13,7 +13,7 @@ pub returns-then-ne-clause-ok : goal.returns-then-ne-clause-ok
 unfolding same_table
 returns-then-ne-clause-ok g c =
     let differs : c.args.part.now.root ≢ c.args.root.now = subst (λ (p : Packed). p ≢ c.args.root.now) c.root.ensures.root ((differ c.root.result.now c.args.root.now c.ne.result c.ne.ensures).0 c.if-ne.true) in
-    unmet (IsMetAs c.args.part.now c.args.left.now c.args.path.now c.args.root.now) c.says.result _ _ _ _ c.args.path.now (codes "refused 406") (differs, refl) c.says.ensures.ok
+    unmet (g.C.Collector.counts c.args.collector.now) (IsMetAs c.args.part.now c.args.left.now c.args.path.now c.args.root.now) c.says.result _ _ _ _ c.args.path.now (codes "refused 406") (differs, refl) c.says.ensures.ok
 
 pub add-requires : goal.add-requires
 unfolding same_table
@@ -25,4 +25,4 @@ pub returns-clause-ok : goal.returns-clause-ok
 unfolding same_table
 returns-clause-ok g c =
     let same : c.args.part.now.root ≡ c.args.root.now = sym c.root.ensures.root ∙ no_difference c.root.result.now c.args.root.now c.ne.result c.ne.ensures c.if-ne.false in
-    met_loaded c.says_left.result _ _ _ _ _ _ c.args.part.now c.args.left.now c.args.path.now c.args.root.now same c.in_ok-add.ensures.ok c.says_left.ensures.ok
+    met_loaded (g.C.Collector.counts c.args.collector.now) (g.C.Collector.counts c.add.new.collector) c.says_left.result _ _ _ _ _ _ c.args.part.now c.args.left.now c.args.path.now c.args.root.now same c.in_ok-add.ensures.ok c.says_left.ensures.ok

@@ -43,7 +43,8 @@ loop-root-preserved g c =
       | else-not-branch w ↦ λ no. absurd (let yes = w.if-not-branch.false in cc)
     ] in
     subst (λ (l : List Packed). AreAdded Finds c.args.folder.now l c.args.whole.now.trunk c.join_part.new.whole c.if-not-branch.are_sound (g.C.Collector.text c.args.collector.now) (g.C.Collector.text c.join_part.new.collector)
-    (g.E.Write.contents c.args.faults.now) (g.E.Write.contents c.join_part.new.faults)) (sym more)
+    (g.E.Write.contents c.args.faults.now) (g.E.Write.contents c.join_part.new.faults)
+    (g.C.Collector.counts c.args.collector.now) (g.C.Collector.counts c.join_part.new.collector)) (sym more)
     (added_more Finds c.args.folder.now (take i roots) root c.args.whole.now.trunk c.loop-root.whole c.join_part.new.whole c.loop-root.are_sound c.in_ok-join_part.field-0 c.if-not-branch.are_sound _ _ _ _ _ _
     c.loop-root.invariant c.in_ok-join_part.ensures.ok both neither)
 

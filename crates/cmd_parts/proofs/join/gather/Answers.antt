@@ -7,7 +7,7 @@ use Rattle.ledger.specs.Tally.{AreAll}
 use Rattle.cmd_parts.specs.Split.{path_within}
 use Rattle.cmd_options.specs.declared.ended.Ended.{Ended}
 use Rattle.cmd_options.specs.declared.ended.Ended.TheVariants.{NoMemory}
-use Rattle.cmd_parts.specs.inside.{EndsGathering}
+use Rattle.cmd_parts.specs.Gather.{EndsGathering}
 use Rattle.cmd_parts.proofs.Joining.{appends_nothing, gathered_so}
 use Rattle.cmd_parts.proofs.JoinEnds.{ends_behind, ends_trunk, none_met}
 use Rattle.cmd_parts.proofs.join.gather.Goals as goal
@@ -30,7 +30,7 @@ returns-clause-ok g c =
     gathered_so (g.S.PartLedgers.finds c.args.parts.now) c.args.folder.now c.deref.result.now c.deref-4.result.now trunk c.in_ok-whole.whole.trunk c.in_ok-trunk.left c.deref-5.result.now c.add_parts.new.whole
     c.in_ok-is_kept.is_kept c.in_ok-are_sound.are_sound c.if-is_kept.result _ _ _ _ _ _ is same c.in_ok-trunk.ensures.ok
     (subst (λ (l : List Packed). AreAll (IsOpenOn trunk) l) (sym roots) c.in_ok-roots.ensures)
-    c.in_ok-is_kept.ensures.ok c.in_ok-begin.ensures.ok c.in_ok-whole.ensures.trunk c.in_ok-are_sound.ensures.ok all neither
+    c.in_ok-is_kept.ensures.ok c.in_ok-begin.ensures.ok c.in_ok-begin.ensures.counts c.in_ok-whole.ensures.trunk c.in_ok-are_sound.ensures.ok all neither
 
 pub returns-in_err-trunk-clause-err : goal.returns-in_err-trunk-clause-err
 returns-in_err-trunk-clause-err g c =

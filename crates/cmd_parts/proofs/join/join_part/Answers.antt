@@ -16,7 +16,7 @@ returns-in-Some-clause-ok g c =
     let is : c.deref.result.now ≡ path_within folder (text_of root) = search rules in
     let same : c.deref-in-Some.result.now ≡ path_within folder (text_of root) = search rules in
     let finds : Finds c.deref.result.now (Some (has, size)) = search rules in
-    met_so (IsMetIn has size c.deref-in-Some.result.now root) (IsMet Finds folder root) c.add_read.result _ _ _ _ _ _ (met_there Finds folder root c.deref.result.now c.deref-in-Some.result.now has size is same finds) c.add_read.ensures.ok
+    met_so (g.C.Collector.counts c.args.collector.now) (g.C.Collector.counts c.add_read.new.collector) (IsMetIn has size c.deref-in-Some.result.now root) (IsMet Finds folder root) c.add_read.result _ _ _ _ _ _ (met_there Finds folder root c.deref.result.now c.deref-in-Some.result.now has size is same finds) c.add_read.ensures.ok
 
 pub returns-clause-ok : goal.returns-clause-ok
 returns-clause-ok g c =
@@ -26,4 +26,4 @@ returns-clause-ok g c =
     let is : c.deref.result.now ≡ path_within folder (text_of root) = search rules in
     let same : c.deref-in-None.result.now ≡ path_within folder (text_of root) = search rules in
     let finds : Finds c.deref.result.now None = search rules in
-    unmet (IsMet Finds folder root) c.says.result _ _ _ _ c.deref-in-None.result.now (codes "missing") (met_nothing Finds folder root c.deref.result.now c.deref-in-None.result.now is same finds) c.says.ensures.ok
+    unmet (g.C.Collector.counts c.args.collector.now) (IsMet Finds folder root) c.says.result _ _ _ _ c.deref-in-None.result.now (codes "missing") (met_nothing Finds folder root c.deref.result.now c.deref-in-None.result.now is same finds) c.says.ensures.ok

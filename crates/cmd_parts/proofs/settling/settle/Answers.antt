@@ -11,7 +11,7 @@ pub returns-clause-step : goal.returns-clause-step
 returns-clause-step g c =
     let old = c.args.board.now in
     let before = g.L.LedgerOut.text c.args.ledger.now in
-    let r : Recorded = record { table = c.in_ok-made.made.record.table; claim = claim_of c.lent.result } in
+    let r : Recorded = record { table = c.in_ok-made.field-0.record.table; claim = claim_of c.lent.result } in
     let took = c.in_ok-take.ensures in
     on_ok c.append_line.result (λ kept. stays_by old c.take.new.board r before _ c.root.ensures.board
     (inl (took.fit, ap (λ (b : Contents). b.records) took.ok)) (ap (λ (b : Contents). b.root) took.ok) (ap (λ (b : Contents). b.format) took.ok)

@@ -1,7 +1,7 @@
 use Rattle.std.proofs.Common.{rules, ◌≡◌, ℕ, ◌+◌, ◌-◌, ◌<◌, ◌≤◌, [], ◌∷◌, ◌++◌, inl, inr, sym, ◌∙◌, subst, arith}
 use Rattle.std.proofs.lemmas.Bool.{cases_lt}
 use Rattle.law_turing.specs.Tape.{cell_of}
-use Rattle.cmd_picture.specs.declared.ones.Run.{Run}
+use Rattle.cmd_picture.specs.declared.ones.Stretch.{Stretch}
 use Rattle.cmd_picture.specs.View.{place}
 use Rattle.cmd_picture.specs.Runs.{AreApart}
 use Rattle.cmd_picture.proofs.RunLaws.{apart_none, apart_later, apart_push, drawn_none, drawn_beyond, drawn_push, past_ones, past_blanks, outside}
@@ -30,7 +30,7 @@ loop-column-preserved c =
     let here = c.loop-column.invariant.here low in
     let onward : c.loop-column.column ≤ c.pass-after.result = c.pass-after.ensures.onward in
     let some : c.loop-column.column < c.pass-after.result = past_ones f c.loop-column.column c.pass-after.result c.columns-first.result.1 low onward here c.pass-after.ensures.other in
-    let r : Run = record { first = c.loop-column.column; count = c.pass-after.result - c.loop-column.column } in
+    let r : Stretch = record { first = c.loop-column.column; count = c.pass-after.result - c.loop-column.column } in
     let items : c.push.new.self.items ≡ c.loop-column.runs.items ++ r ∷ [] = search rules in
     let ends : c.loop-column.column + (c.pass-after.result - c.loop-column.column) ≡ c.pass-after.result = omega arith in
     let apart : AreApart 0 (c.loop-column.runs.items ++ r ∷ []) (c.pass-after.result + 1) =

@@ -1,19 +1,21 @@
-use Rattle.std.proofs.Common.{Some, ap, ◌∙◌}
-use Rattle.cert.specs.Claim.{Claim, Recorded}
-use Rattle.cert.specs.Kinds.{claim_of, owned_recorded}
-use Rattle.lease_core.proofs.Making.{full_gets, scored_first, made_unscored}
+use Rattle.std.proofs.Common.{Some, subst}
+use Rattle.cert.specs.Claim.{Claim}
+use Rattle.cert.specs.Kinds.{owned_recorded, recorded}
+use Rattle.cert.specs.Scored.{GetsScore}
+use Rattle.lease_core.proofs.Making.{scored_shown, scored_first, made_unscored}
 use Rattle.lease_core.proofs.worker_turns.make.Goals as goal
 
 pub put-requires-clause-first : goal.put-requires-clause-first
 put-requires-clause-first c =
-    let made = owned_recorded c.args.made.record in
-    let offered : Recorded = record { table = c.scored-full.result.record.table; claim = claim_of c.lent.result } in
-    let is = ap (λ (k : Claim). record { table = c.scored-full.result.record.table; claim = k }) c.lent.ensures ∙ c.scored-full.ensures.record in
-    scored_first made offered (full_gets made offered c.requires.shown.0 is) c.requires.shown.0 c.args.board.now c.requires.first
+    let gets = subst (λ (k : Claim). GetsScore (record { table = c.args.made.now.table; claim = k }) (recorded c.in-Ok.scored)) c.lent.ensures c.in-Ok.ensures in
+    scored_first (owned_recorded c.args.made.now) (recorded c.in-Ok.scored) gets c.requires.shown.0 c.args.board.now c.requires.first
 
-pub returns-clause-ok : goal.returns-clause-ok
-returns-clause-ok c =
-    let made = owned_recorded c.args.made.record in
-    let offered : Recorded = record { table = c.scored-full.result.record.table; claim = claim_of c.lent.result } in
-    let is = ap (λ (k : Claim). record { table = c.scored-full.result.record.table; claim = k }) c.lent.ensures ∙ c.scored-full.ensures.record in
-    made_unscored made offered (full_gets made offered c.requires.shown.0 is) c.requires.shown.0 c.args.board.now c.put.result (Some c.put.new.board) c.put.ensures.ok
+pub put-requires-clause-shown : goal.put-requires-clause-shown
+put-requires-clause-shown c =
+    let gets = subst (λ (k : Claim). GetsScore (record { table = c.args.made.now.table; claim = k }) (recorded c.in-Ok.scored)) c.lent.ensures c.in-Ok.ensures in
+    scored_shown (owned_recorded c.args.made.now) (recorded c.in-Ok.scored) gets c.requires.shown.0 c.args.judged c.requires.shown
+
+pub returns-in-Ok-clause-ok : goal.returns-in-Ok-clause-ok
+returns-in-Ok-clause-ok c =
+    let gets = subst (λ (k : Claim). GetsScore (record { table = c.args.made.now.table; claim = k }) (recorded c.in-Ok.scored)) c.lent.ensures c.in-Ok.ensures in
+    made_unscored (owned_recorded c.args.made.now) (recorded c.in-Ok.scored) gets c.requires.shown.0 c.args.board.now c.put.result (Some c.put.new.board) c.put.ensures.ok

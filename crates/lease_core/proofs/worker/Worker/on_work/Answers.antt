@@ -12,5 +12,5 @@ returns-clause-ok g c = search rules steps 1000000
 
 pub invariant_of-self-2 : goal.invariant_of-self-2
 invariant_of-self-2 g c =
-    made_keeps c.self.inside.acknowledged.keys c.in-Some.board c.make.new.board (owned_recorded c.in_ok-made.made.record) c.make.result c.self.inside.first_due c.make.ensures.ok c.make.ensures.err
+    made_keeps c.self.inside.acknowledged.keys c.in-Some.board c.make.new.board (owned_recorded c.in_ok-made.field-0.record) c.make.result c.self.inside.first_due c.make.ensures.ok c.make.ensures.err
     (subst (λ (o : Option Contents). AreFirstAcknowledged c.self.inside.acknowledged.keys (records_on o) c.self.inside.first_due) c.in-Some.is c.self.invariant)

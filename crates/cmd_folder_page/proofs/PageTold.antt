@@ -1,0 +1,45 @@
+-- The page of a whole is that of the records of all.
+use Rattle.std.proofs.Common.{◌≡◌, ℕ, ◌<◌, ◌^◌, Bool, List, length, get_or, Option, None, IfOk, Result, Ok, Err, ap, ◌∙◌}
+use Rattle.cert.specs.Claim.{Recorded}
+use Rattle.ledger.specs.Contents.{Contents}
+use Rattle.ledger.specs.declared.left.Left.TheVariants.{Nothing}
+use Rattle.parts.specs.Parts.{joined_with}
+use Rattle.parts.specs.Whole.{Collected, IsWhole}
+use Rattle.cmd_options.specs.declared.ended.Ended.{Ended}
+use Rattle.cmd_options.specs.declared.outcome.Outcome.{Outcome}
+use Rattle.cmd_page.specs.Page.{IsPage, IsPageWith}
+use Rattle.cmd_page.specs.Counting.{HasCounted}
+use Rattle.cmd_page.specs.declared.census.Census.{Census}
+use Rattle.cmd_page.proofs.PageLaws.{counted_page, exact_census}
+use Rattle.cmd_parts.specs.Join.{Findings, TellsAll, TellsParts, ended_by}
+use Rattle.cmd_parts.specs.Gather.{IsGathered}
+
+pub page_told : (Finds : Findings) (folder : List ℕ) (said new_said faults new_faults : Option (List ℕ)) (whole : Collected) (sound : Bool) (census : Census) (r : Result Outcome Ended)
+    → IsGathered Finds folder whole sound None None faults new_faults (λ (rs : List Recorded). HasCounted rs census)
+    → ((parts : List Contents) → IsWhole whole parts → length (joined_with whole.trunk.records parts) < 2 ^ 64)
+    → IfOk r (λ o. (parts : List Contents) → IsWhole whole parts → TellsParts (IsPageWith (λ k. get_or census.kinds k 0) (λ k. get_or census.entries k 0) folder) whole.trunk parts sound said new_said o)
+    → IfOk r (TellsAll (IsPage folder) Finds folder None None said new_said faults new_faults)
+page_told Finds folder said new_said faults new_faults whole sound census (Ok o) gathered few tells =
+    let parts = gathered.parts in
+    let is = gathered.whole_is in
+    let told = tells parts is in
+    let rs = joined_with whole.trunk.records parts in
+    record {
+      trunk = whole.trunk;
+      parts = parts;
+      lines = gathered.lines;
+      holds = gathered.holds;
+      is_board = is.trunk_is;
+      are_parts = is.are_parts;
+      tells = record {
+        text = told.text;
+        is_text = counted_page folder whole.trunk.root rs Nothing told.text census (exact_census rs census gathered.counts (few parts is)) is.trunk_is.is_table.limit told.is_text;
+        says = told.says;
+        status = told.status;
+        stands = told.stands;
+        ends = told.ends ∙ ap (λ (s : Bool). ended_by told.status s) gathered.sound;
+      };
+      warns = gathered.says;
+      writes = gathered.writes;
+    }
+page_told Finds folder said new_said faults new_faults whole sound census (Err e) gathered few tells = tt

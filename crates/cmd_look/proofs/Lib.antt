@@ -1,0 +1,4 @@
+pub mod Extending
+pub mod Kept
+pub mod Parts
+pub mod Printing

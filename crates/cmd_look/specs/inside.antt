@@ -1,0 +1,36 @@
+-- For the code: the part that is kept from one line to the next, and what a line does to it.
+use Rattle.std.specs.Prelude.{◌≡◌, ◌≢◌, ℕ, List, Option, Some, None, IfSome, ⊤}
+use Rattle.text.specs.Lines.{BoundedLine}
+use Rattle.machine_text.specs.Packed.{Packed}
+use Rattle.ledger.specs.Contents.{Contents}
+use Rattle.cmd_options.specs.declared.outcome.Outcome.{Outcome}
+use Rattle.cmd_parts.specs.Join.{Findings, IsMet}
+use Rattle.cmd_look.specs.Tables.{SaysOfLine, SaysWith}
+use Rattle.cmd_look.specs.Look.{SaysByFolder}
+
+-- this is the root of a part
+abbrev pub HasRoot : Option Contents → Packed → Type 0
+HasRoot None root = ⊥
+HasRoot (Some part) root = part.root ≡ root
+
+-- a board, where it has this root
+abbrev pub IsPicked : Contents → Packed → Option Contents → Type 0
+IsPicked part root None = part.root ≢ root
+IsPicked part root (Some picked) = (picked ≡ part) × (part.root ≡ root)
+
+-- the part of its root, where one is kept
+abbrev pub IsKept : Findings → List ℕ → Option Contents → Type 0
+IsKept Finds folder None = ⊤
+IsKept Finds folder (Some part) = (wrong : List ℕ) × IsMet Finds folder part.root (Some part) wrong
+
+-- the part of this root, as it was found
+abbrev pub IsFound : Findings → List ℕ → Packed → Option Contents → Type 0
+IsFound Finds folder root found =
+    ((wrong : List ℕ) × IsMet Finds folder root found wrong) × IfSome found (λ part. part.root ≡ root)
+
+-- what a line of a folder does to the part that is kept, and what is said to it
+abbrev pub LooksIn : Findings → List ℕ → Contents → Option Contents → BoundedLine → Outcome → Option Contents → List ℕ
+    → Type 0
+LooksIn Finds folder trunk old line o new said =
+    IsKept Finds folder old
+    → IsKept Finds folder new × SaysWith (SaysOfLine (SaysByFolder Finds folder trunk)) line o said

@@ -64,6 +64,7 @@ impl<S: Disk + Clock + Sockets, R: Read, W: Write, E: Write> Call<'_, S, R, W, E
             Options::Split(splitting) => folders::split(self, &splitting),
             Options::Settle(settling) => folders::settle(self, &settling),
             Options::Join(joining) => folders::join(self, &joining),
+            Options::Look(looking) => folders::look(self, &looking),
         }
     }
 }

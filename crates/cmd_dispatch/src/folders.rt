@@ -5,7 +5,8 @@ use crate::any_finder::decider_for;
 use crate::call::Call;
 use crate::ledgers::STANDARD_INPUT;
 use cmd_json::Form;
-use cmd_options::{Ended, Joining, LedgerSettling, Outcome, Splitting};
+use cmd_look::look_at;
+use cmd_options::{Ended, Joining, LedgerSettling, Looking, Outcome, Splitting};
 use cmd_parts::{join_at, settle_ledger_at, split_in};
 use cmd_stream::join_stream;
 use files::{Disk, Silent, Telling, TimedProgress};
@@ -71,4 +72,20 @@ pub(crate) fn join<S: Disk, R: Read, W: Write, E: Write>(
         return join_stream(alloc, &form, input, answers, faults);
     }
     join_at(alloc, &form, joining, &mut files, answers, faults)
+}
+
+// `bb look`, in a ledger or in a folder.
+pub(crate) fn look<S: Disk, R: Read, W: Write, E: Write>(
+    call: Call<'_, S, R, W, E>,
+    looking: &Looking<'_>,
+) -> Result<Outcome, Ended> {
+    let files = call.files();
+    let Call {
+        alloc,
+        input,
+        answers,
+        faults,
+        ..
+    } = call;
+    look_at(alloc, looking, &files, input, answers, faults)
 }

@@ -7,7 +7,7 @@ use Rattle.machine_text.specs.declared.transition.Sym.{Sym}
 use Rattle.machine_text.specs.declared.transition.Sym.TheVariants.{Zero, One}
 use Rattle.machine_text.proofs.RoundTrip.{none_beyond}
 use Rattle.law_turing.specs.Extension.{Extends}
-use Rattle.cmd_look.specs.Tables.{IsOf, StaysEntry}
+use Rattle.cmd_look.specs.Tables.{ComesOf, StaysEntry}
 
 -- the entries at a state stay
 abbrev pub StaysRow : Packed → Packed → ℕ → Type 0
@@ -22,7 +22,7 @@ as_stays None other stays e is = cc
 as_stays (Some d) other stays e is = stays ∙ is
 
 -- of a root each row stays
-pub row_stays : (t root : Packed) → IsOf t root → (q : ℕ) → StaysRow t root q
+pub row_stays : (t root : Packed) → ComesOf t root → (q : ℕ) → StaysRow t root q
 row_stays t root of q = (stays_as (entry_of root q Zero) (entry_of t q Zero) (of.1.is q Zero), stays_as (entry_of root q One) (entry_of t q One) (of.1.is q One))
 
 entry_stays : (t root : Packed) → (q : ℕ) (s : Sym) → StaysRow t root q → StaysEntry (entry_of root q s) (entry_of t q s)
@@ -30,7 +30,7 @@ entry_stays t root q Zero stays = stays.0
 entry_stays t root q One stays = stays.1
 
 -- where each row stays, it is one of the root
-pub of_rows : (t root : Packed) → t.states ≡ root.states → IsTable root → ((q : ℕ) → q < root.states → StaysRow t root q) → IsOf t root
+pub of_rows : (t root : Packed) → t.states ≡ root.states → IsTable root → ((q : ℕ) → q < root.states → StaysRow t root q) → ComesOf t root
 of_rows t root states is rows = (
   states,
   record {

@@ -10,7 +10,7 @@ use Rattle.cmd_lines.specs.Stream.{AnswersStream, AreAnswered}
 use Rattle.cmd_parts.specs.Join.{Findings, IsMet}
 use Rattle.cmd_look.specs.Tables.{SaysByBoard, SaysOfLine, SaysWith}
 use Rattle.cmd_look.specs.Look.{SaysByFolder}
-use Rattle.cmd_look.specs.inside.{HasRoot, IsFound, IsKept, LooksIn}
+use Rattle.cmd_look.specs.inside.{HoldsPartOf, IsFound, KeepsPart, LooksIn}
 
 -- what each line keeps, where it is answered so, is kept by all
 lines_kept : {D : Type 0} (Takes : D → BoundedLine → Outcome → D → List ℕ → Type 0) (Keeps : D → Type 0) (Says : BoundedLine → Outcome → List ℕ → Type 0)
@@ -54,7 +54,7 @@ pub folder_stream : {D S : Type 0} (parts : D → S) (Finds : S → Findings) (f
 folder_stream parts Finds folder trunk part s f t old new read new_read held new_held o is_s is_f is_t none =
     stream_kept (λ old line o new said. (parts new ≡ parts old) × (folder new ≡ folder old) × (trunk new ≡ trunk old)
     × LooksIn (Finds (parts old)) (folder old) (trunk old) (part old) line o (part new) said)
-    (λ d. (parts d ≡ s) × (folder d ≡ f) × (trunk d ≡ t) × IsKept (Finds s) f (part d)) (SaysOfLine (SaysByFolder (Finds s) f t))
+    (λ d. (parts d ≡ s) × (folder d ≡ f) × (trunk d ≡ t) × KeepsPart (Finds s) f (part d)) (SaysOfLine (SaysByFolder (Finds s) f t))
     (λ old line o new said kept takes.
     let (ks, kf, kt, kp) = kept in
     let (ss, sf, st, looks) = takes in
@@ -63,13 +63,13 @@ folder_stream parts Finds folder trunk part s f t old new read new_read held new
     let by_t = subst (λ x. LooksIn (Finds s) f x (part old) line o (part new) said) kt by_f in
     let done = by_t kp in
     ((ss ∙ ks, sf ∙ kf, st ∙ kt, done.0), done.1))
-    old new read new_read held new_held o (is_s, is_f, is_t, subst (IsKept (Finds s) f) (sym none) tt)
+    old new read new_read held new_held o (is_s, is_f, is_t, subst (KeepsPart (Finds s) f) (sym none) tt)
 
 -- a part that was found is the part of its root
-pub found_kept : (Finds : Findings) (folder : List ℕ) (root : Packed) (found : Option Contents) → IsFound Finds folder root found → IsKept Finds folder found
+pub found_kept : (Finds : Findings) (folder : List ℕ) (root : Packed) (found : Option Contents) → IsFound Finds folder root found → KeepsPart Finds folder found
 found_kept Finds folder root None is = tt
 found_kept Finds folder root (Some part) is = (is.0.0, subst (λ (r : Packed). IsMet Finds folder r (Some part) is.0.0) (sym is.1) is.0.1)
 
-pub kept_found : (Finds : Findings) (folder : List ℕ) (root : Packed) (part : Option Contents) → HasRoot part root → IsKept Finds folder part → IsFound Finds folder root part
+pub kept_found : (Finds : Findings) (folder : List ℕ) (root : Packed) (part : Option Contents) → HoldsPartOf part root → KeepsPart Finds folder part → IsFound Finds folder root part
 kept_found Finds folder root None has is = absurd has
 kept_found Finds folder root (Some part) has is = ((is.0, subst (λ (r : Packed). IsMet Finds folder r (Some part) is.0) has is.1), has)

@@ -13,7 +13,7 @@ use Rattle.cmd_options.specs.declared.stopped.Stopped.TheVariants.{Ended as Ende
 use Rattle.cmd_options.specs.Outcome.{ended_line}
 use Rattle.cmd_parts.specs.Join.{Findings, IsMetIn, left_line, line_behind}
 use Rattle.cmd_parts.specs.Split.{path_within}
-use Rattle.cmd_look.specs.Tables.{IsOf}
+use Rattle.cmd_look.specs.Tables.{ComesOf}
 use Rattle.cmd_look.specs.Look.{SaysByFolder, SaysByPart}
 use Rattle.cmd_look.specs.inside.{IsFound, IsPicked}
 
@@ -36,7 +36,7 @@ refused_met has size root e which reading path = (line_behind path (ended_line e
 
 -- what the part of a root says is said by the folder
 pub below : (Finds : Findings) (folder : List ℕ) (trunk : Contents) (t root : Packed) (found : Option Contents) (o : Outcome) (answer : List ℕ)
-    → IsOpenOn trunk root → IsOf t root → IsFound Finds folder root found → SaysByPart found t o answer → SaysByFolder Finds folder trunk t o answer
+    → IsOpenOn trunk root → ComesOf t root → IsFound Finds folder root found → SaysByPart found t o answer → SaysByFolder Finds folder trunk t o answer
 below Finds folder trunk t root found o answer is_open of_root is says = inr (inl (record {
   root = root;
   is_open = is_open;

@@ -18,7 +18,7 @@ use Rattle.cmd_options.specs.declared.outcome.Outcome.TheVariants.{Accepted}
 use Rattle.cmd_lines.specs.Stream.{AnswersStream}
 use Rattle.cmd_parts.specs.Join.{EndsJoining, Findings, HasNoTrunk, HoldsTree, IsMet, IsReadAt}
 use Rattle.cmd_parts.specs.Split.{path_within}
-use Rattle.cmd_look.specs.Tables.{IsOf, IsOfNone, SaysByBoard, SaysOfLine, SaysUnknown}
+use Rattle.cmd_look.specs.Tables.{ComesOf, ComesOfNone, SaysByBoard, SaysOfLine, SaysUnknown}
 
 -- what is said of a table by the part that it belongs to, where that counts
 abbrev pub SaysByPart : Option Contents → Packed → Outcome → List ℕ → Type 0
@@ -30,7 +30,7 @@ pub record SaysBelow (Finds : Findings) (folder : List ℕ) (trunk : Contents) (
     (answer : List ℕ) : Type 0 where
   pub root : Packed
   pub is_open : IsOpenOn trunk root
-  pub of_root : IsOf t root
+  pub of_root : ComesOf t root
   pub counted : Option Contents
   pub wrong : List ℕ
   pub met : IsMet Finds folder root counted wrong
@@ -40,7 +40,7 @@ pub record SaysBelow (Finds : Findings) (folder : List ℕ) (trunk : Contents) (
 abbrev pub SaysByFolder : Findings → List ℕ → Contents → Packed → Outcome → List ℕ → Type 0
 SaysByFolder Finds folder trunk t o answer =
     (IsSome (claim_in trunk.records t) × SaysByBoard trunk t o answer)
-    ⊎ (SaysBelow Finds folder trunk t o answer ⊎ (IsOfNone trunk t × SaysUnknown t o answer))
+    ⊎ (SaysBelow Finds folder trunk t o answer ⊎ (ComesOfNone trunk t × SaysUnknown t o answer))
 
 -- lines are answered by the ledger at a path
 pub record AnswersByLedger (Finds : Findings) (path : List ℕ) (read new_read held new_held : Option (List ℕ))
@@ -93,5 +93,5 @@ PrintsAt Finds path held new_held faults new_faults o =
     ⊎ PrintsOfFolder Finds path held new_held faults new_faults)
 
 -- what may end it: a ledger without a root in order, or what ends the joining of a folder
-abbrev pub EndsLooking : Findings → List ℕ → Ended → Type 0
-EndsLooking Finds path e = HasNoTrunk Finds path e ⊎ EndsJoining Finds path e
+abbrev pub EndsLookUp : Findings → List ℕ → Ended → Type 0
+EndsLookUp Finds path e = HasNoTrunk Finds path e ⊎ EndsJoining Finds path e

@@ -42,12 +42,12 @@ abbrev pub SaysByBoard : Contents → Packed → Outcome → List ℕ → Type 0
 SaysByBoard b t o answer = SaysByClaim b t (claim_in b.records t) o answer
 
 -- a table is a root, or comes of it by more entries
-abbrev pub IsOf : Packed → Packed → Type 0
-IsOf t root = (t.states ≡ root.states) × Extends (entry_of t) (entry_of root)
+abbrev pub ComesOf : Packed → Packed → Type 0
+ComesOf t root = (t.states ≡ root.states) × Extends (entry_of t) (entry_of root)
 
 -- it belongs to no part
-abbrev pub IsOfNone : Contents → Packed → Type 0
-IsOfNone trunk t = (root : Packed) → IsOpenOn trunk root → IsOf t root → ⊥
+abbrev pub ComesOfNone : Contents → Packed → Type 0
+ComesOfNone trunk t = (root : Packed) → IsOpenOn trunk root → ComesOf t root → ⊥
 
 -- what is said to a line, by what was read of it
 abbrev pub SaysOfRead : (Packed → Outcome → List ℕ → Type 0) → Result Packed RecordFault → Outcome → List ℕ → Type 0

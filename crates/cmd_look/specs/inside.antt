@@ -9,9 +9,9 @@ use Rattle.cmd_look.specs.Tables.{SaysOfLine, SaysWith}
 use Rattle.cmd_look.specs.Look.{SaysByFolder}
 
 -- this is the root of a part
-abbrev pub HasRoot : Option Contents → Packed → Type 0
-HasRoot None root = ⊥
-HasRoot (Some part) root = part.root ≡ root
+abbrev pub HoldsPartOf : Option Contents → Packed → Type 0
+HoldsPartOf None root = ⊥
+HoldsPartOf (Some part) root = part.root ≡ root
 
 -- a board, where it has this root
 abbrev pub IsPicked : Contents → Packed → Option Contents → Type 0
@@ -19,9 +19,9 @@ IsPicked part root None = part.root ≢ root
 IsPicked part root (Some picked) = (picked ≡ part) × (part.root ≡ root)
 
 -- the part of its root, where one is kept
-abbrev pub IsKept : Findings → List ℕ → Option Contents → Type 0
-IsKept Finds folder None = ⊤
-IsKept Finds folder (Some part) = (wrong : List ℕ) × IsMet Finds folder part.root (Some part) wrong
+abbrev pub KeepsPart : Findings → List ℕ → Option Contents → Type 0
+KeepsPart Finds folder None = ⊤
+KeepsPart Finds folder (Some part) = (wrong : List ℕ) × IsMet Finds folder part.root (Some part) wrong
 
 -- the part of this root, as it was found
 abbrev pub IsFound : Findings → List ℕ → Packed → Option Contents → Type 0
@@ -32,5 +32,5 @@ IsFound Finds folder root found =
 abbrev pub LooksIn : Findings → List ℕ → Contents → Option Contents → BoundedLine → Outcome → Option Contents → List ℕ
     → Type 0
 LooksIn Finds folder trunk old line o new said =
-    IsKept Finds folder old
-    → IsKept Finds folder new × SaysWith (SaysOfLine (SaysByFolder Finds folder trunk)) line o said
+    KeepsPart Finds folder old
+    → KeepsPart Finds folder new × SaysWith (SaysOfLine (SaysByFolder Finds folder trunk)) line o said

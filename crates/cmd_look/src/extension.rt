@@ -4,23 +4,23 @@ ghost use Rattle.machine_text.specs.Packed.{Packed, entry_of};
 ghost use Rattle.machine_text.specs.declared.transition.Sym.{Sym as Symbol};
 ghost use Rattle.machine_text.specs.declared.transition.Sym.TheVariants.{Zero, One};
 ghost use Rattle.ledger.specs.Contents.{IsOpenOn};
-ghost use Rattle.cmd_look.specs.Tables.{IsOf, IsOfNone, StaysEntry};
+ghost use Rattle.cmd_look.specs.Tables.{ComesOf, ComesOfNone, StaysEntry};
 
 use ledger::{Board, Open};
 use machine_text::{State, Sym, Table};
 
 // The open table of a trunk of which a table is.
 pub(crate) fn root_above(trunk: &Board, t: &Table) -> Option<Table>
-    ensures some { IfSome result (λ root. IsOpenOn trunk.now root × IsOf t.now root) }
-    ensures none { IfNone result (IsOfNone trunk.now t.now) }
+    ensures some { IfSome result (λ root. IsOpenOn trunk.now root × ComesOf t.now root) }
+    ensures none { IfNone result (ComesOfNone trunk.now t.now) }
 {
     root_among(trunk.open(), t)
 }
 
 // The first of some tables of which a table is.
 fn root_among(roots: Open<'_>, t: &Table) -> Option<Table>
-    ensures some { IfSome result (λ root. Contains roots.entry root × IsOf t.now root) }
-    ensures none { IfNone result ((root : Packed) → Contains roots.entry root → IsOf t.now root → ⊥) }
+    ensures some { IfSome result (λ root. Contains roots.entry root × ComesOf t.now root) }
+    ensures none { IfNone result ((root : Packed) → Contains roots.entry root → ComesOf t.now root → ⊥) }
 {
     for root in roots {
         if is_of(t, root) {
@@ -32,7 +32,7 @@ fn root_among(roots: Open<'_>, t: &Table) -> Option<Table>
 
 // Whether a table has each entry of a root, and as many states.
 fn is_of(t: &Table, root: &Table) -> bool
-    ensures { IsTrue result ↔ IsOf t.now root.now }
+    ensures { IsTrue result ↔ ComesOf t.now root.now }
 {
     t.states() == root.states() && has_entries(t, root)
 }
@@ -40,7 +40,7 @@ fn is_of(t: &Table, root: &Table) -> bool
 // Whether a table of as many states has each entry of a root.
 fn has_entries(t: &Table, root: &Table) -> bool
     requires { t.now.states ≡ root.now.states }
-    ensures { IsTrue result ↔ IsOf t.now root.now }
+    ensures { IsTrue result ↔ ComesOf t.now root.now }
 {
     for q in 0..root.states() {
         if !has_row(t, root, State(q)) {

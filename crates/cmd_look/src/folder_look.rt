@@ -2,7 +2,7 @@
 ghost use Rattle.std.specs.Prelude.{◌≡◌, ◌⊎◌, ◌++◌, List, ℕ, IfErr, IfOk, IsTrue, OnOk};
 ghost use Rattle.cmd_parts.specs.Join.{FailsFile};
 ghost use Rattle.cmd_look.specs.Look.{SaysByFolder, SaysByPart};
-ghost use Rattle.cmd_look.specs.inside.{HasRoot, IsFound, IsKept};
+ghost use Rattle.cmd_look.specs.inside.{HoldsPartOf, IsFound, KeepsPart};
 
 use crate::answer::{append_by_board, append_unknown, refuse, table_of_line};
 use crate::extension::root_above;
@@ -52,9 +52,9 @@ impl<S: PartLedgers> FolderLook<'_, S> {
         ensures parts { OnOk result (self.new.parts.now ≡ self.old.parts.now) }
         ensures folder { OnOk result (self.new.folder.now ≡ self.old.folder.now) }
         ensures trunk { OnOk result (self.new.trunk ≡ self.old.trunk) }
-        ensures kept { OnOk result (IsKept (S.finds self.old.parts.now) self.old.folder.now self.old.part
-            → IsKept (S.finds self.old.parts.now) self.old.folder.now self.new.part) }
-        ensures says { IfOk result (λ o. IsKept (S.finds self.old.parts.now) self.old.folder.now self.old.part
+        ensures kept { OnOk result (KeepsPart (S.finds self.old.parts.now) self.old.folder.now self.old.part
+            → KeepsPart (S.finds self.old.parts.now) self.old.folder.now self.new.part) }
+        ensures says { IfOk result (λ o. KeepsPart (S.finds self.old.parts.now) self.old.folder.now self.old.part
             → (answer : List ℕ)
             × SaysByFolder (S.finds self.old.parts.now) self.old.folder.now self.old.trunk t.now o answer
             × (out.new.items ≡ out.old.items ++ answer)) }
@@ -77,7 +77,7 @@ impl<S: PartLedgers> FolderLook<'_, S> {
         ensures parts { OnOk result (self.new.parts.now ≡ self.old.parts.now) }
         ensures folder { OnOk result (self.new.folder.now ≡ self.old.folder.now) }
         ensures trunk { OnOk result (self.new.trunk ≡ self.old.trunk) }
-        ensures found { OnOk result (IsKept (S.finds self.old.parts.now) self.old.folder.now self.old.part
+        ensures found { OnOk result (KeepsPart (S.finds self.old.parts.now) self.old.folder.now self.old.part
             → IsFound (S.finds self.old.parts.now) self.old.folder.now root.now self.new.part) }
         ensures err { IfErr result FailsFile }
     {
@@ -90,7 +90,7 @@ impl<S: PartLedgers> FolderLook<'_, S> {
 
 // Whether a part is there that has this root.
 fn has_root(part: &Option<Board>, root: &Table) -> bool
-    ensures { IsTrue result → HasRoot part.now root.now }
+    ensures { IsTrue result → HoldsPartOf part.now root.now }
 {
     match part {
         Some(part) => *part.root() == *root,

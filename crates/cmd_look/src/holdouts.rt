@@ -4,7 +4,7 @@ ghost use Rattle.std.specs.Io.KnownBytes.{Appends};
 ghost use Rattle.std.specs.Vec.Iter.{into_iter_items};
 ghost use Rattle.text.specs.Lines.{joined};
 ghost use Rattle.machine_text.specs.Text.{text_of};
-ghost use Rattle.cmd_look.specs.Look.{EndsLooking, PrintsAt, PrintsOfFolder};
+ghost use Rattle.cmd_look.specs.Look.{EndsLookUp, PrintsAt, PrintsOfFolder};
 ghost use Rattle.cmd_parts.specs.Join.{EndsJoining};
 
 use crate::loading::board_at;
@@ -26,7 +26,7 @@ pub(crate) fn print_at<S: PartLedgers, W: Write, E: Write>(
 ) -> Result<Outcome, Ended>
     ensures ok { IfOk result (PrintsAt (S.finds parts.now) path.now (W.contents answers.old) (W.contents answers.new)
         (E.contents faults.old) (E.contents faults.new)) }
-    ensures err { IfErr result (EndsLooking (S.finds parts.now) path.now) }
+    ensures err { IfErr result (EndsLookUp (S.finds parts.now) path.now) }
 {
     match board_at(alloc, parts, path) {
         Ok(board) => {

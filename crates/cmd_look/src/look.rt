@@ -2,7 +2,7 @@
 ghost use Rattle.std.specs.Prelude.{◌≡◌, IfErr, IfOk, false, true};
 ghost use Rattle.cmd_parts.specs.AtPaths.{finds_at};
 ghost use Rattle.cmd_parts.specs.Join.{EndsJoining};
-ghost use Rattle.cmd_look.specs.Look.{AnswersByFolder, AnswersLines, EndsLooking, PrintsAt};
+ghost use Rattle.cmd_look.specs.Look.{AnswersByFolder, AnswersLines, EndsLookUp, PrintsAt};
 
 use crate::folder_look::FolderLook;
 use crate::holdouts::print_at;
@@ -34,7 +34,7 @@ pub fn look_at<H: Files, R: Read, W: Write, E: Write>(
     ensures holdouts { looking.now.holdouts ≡ true → IfOk result (PrintsAt (finds_at (H.holds host.now))
         looking.now.path.now (W.contents answers.old) (W.contents answers.new)
         (E.contents faults.old) (E.contents faults.new)) }
-    ensures err { IfErr result (EndsLooking (finds_at (H.holds host.now)) looking.now.path.now) }
+    ensures err { IfErr result (EndsLookUp (finds_at (H.holds host.now)) looking.now.path.now) }
 {
     let parts = PartsAt {
         host,
@@ -56,7 +56,7 @@ pub fn look_in<S: PartLedgers, R: Read, W: Write, E: Write>(
         (R.remaining input.old) (R.remaining input.new) (W.contents answers.old) (W.contents answers.new)) }
     ensures holdouts { looking.now.holdouts ≡ true → IfOk result (PrintsAt (S.finds parts.now) looking.now.path.now
         (W.contents answers.old) (W.contents answers.new) (E.contents faults.old) (E.contents faults.new)) }
-    ensures err { IfErr result (EndsLooking (S.finds parts.now) looking.now.path.now) }
+    ensures err { IfErr result (EndsLookUp (S.finds parts.now) looking.now.path.now) }
 {
     if looking.holdouts {
         print_at(alloc, looking.path, parts, answers, faults)
@@ -75,7 +75,7 @@ fn answer_at<S: PartLedgers, R: Read, W: Write>(
 ) -> Result<Outcome, Ended>
     ensures ok { IfOk result (AnswersLines (S.finds parts.now) path.now (R.remaining input.old) (R.remaining input.new)
         (W.contents answers.old) (W.contents answers.new)) }
-    ensures err { IfErr result (EndsLooking (S.finds parts.now) path.now) }
+    ensures err { IfErr result (EndsLookUp (S.finds parts.now) path.now) }
 {
     match board_at(alloc, parts, path) {
         Ok(board) => {

@@ -18,7 +18,7 @@ lines_kept : {D : Type 0} (Takes : D → BoundedLine → Outcome → D → List 
     → (old : D) (lines : List (List ℕ)) (o : Outcome) (new : D) (said : List ℕ) → Keeps old → AreTakenBy Takes old lines o new said → AreAnswered Says lines o said
 lines_kept Takes Keeps Says each old [] o new said kept so = (so.0, so.2)
 lines_kept Takes Keeps Says each old (line ∷ lines) o new said kept (first, middle, more, later, others, takes, so, outcome, text) =
-    let (keeps, answer, says, is) = each old _ first middle more kept takes in
+    let (keeps, (answer, says, is)) = each old _ first middle more kept takes in
     (first, answer, later, others, says, lines_kept Takes Keeps Says each middle lines later new others keeps so, outcome, text ∙ (ap (λ (t : List ℕ). t ++ others) is ∙ append_assoc answer (10 ∷ []) others))
 
 stream_kept : {D : Type 0} (Takes : D → BoundedLine → Outcome → D → List ℕ → Type 0) (Keeps : D → Type 0) (Says : BoundedLine → Outcome → List ℕ → Type 0)

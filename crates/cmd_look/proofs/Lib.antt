@@ -1,3 +1,4 @@
+pub mod Claims
 pub mod Extending
 pub mod Kept
 pub mod Parts

@@ -21,9 +21,9 @@ use Rattle.cmd_look.specs.inside.{IsFound, IsPicked}
 pub picked_met : (has : Option (List ℕ)) (size : ℕ) (part : Contents) (left : Left) (root : Packed) (found : Option Contents)
     → IsLoadedFrom has size part left → IsPicked part root found → (path : List ℕ) → (wrong : List ℕ) × IsMetIn has size path root found wrong
 picked_met has size part left root None loaded picked path =
-    (line_behind path (codes "refused 406"), inl (part, left, loaded, picked, refl))
+    (line_behind path (codes "refused 406"), inl (part, left, loaded, (picked, refl)))
 picked_met has size part left root (Some counted) loaded picked path =
-    (left_line path left, inl (part, left, loaded, picked.0, picked.1, refl))
+    (left_line path left, inl (part, left, loaded, (picked.0, picked.1, refl)))
 
 pub picked_root : (part : Contents) (root : Packed) (found : Option Contents) → IsPicked part root found → IfSome found (λ p. p.root ≡ root)
 picked_root part root None picked = tt

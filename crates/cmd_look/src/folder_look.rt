@@ -1,6 +1,8 @@
 // Lines that are answered by a folder of a trunk and its parts.
 ghost use Rattle.std.specs.Prelude.{◌≡◌, ◌⊎◌, ◌++◌, List, ℕ, IfErr, IfOk, IsTrue, OnOk};
 ghost use Rattle.cmd_parts.specs.Join.{FailsFile};
+ghost use Rattle.cmd_taking.specs.Taken.{lent};
+ghost use Rattle.cmd_look.specs.Tables.{SaysOfLine};
 ghost use Rattle.cmd_look.specs.Look.{SaysByFolder, SaysByPart};
 ghost use Rattle.cmd_look.specs.inside.{HoldsPartOf, IsFound, KeepsPart};
 
@@ -37,16 +39,32 @@ impl<S: PartLedgers> Sayer for FolderLook<'_, S> {
     ghost ends = { FailsFile };
 
     fn take_line(&mut self, line: Option<&[u8]>, said: &mut Vec<u8>) -> Result<Outcome, Ended> {
-        let outcome = match table_of_line(line) {
-            Ok(table) => self.look_up(&table, said)?,
-            Err(fault) => refuse(fault, said)?,
-        };
+        let outcome = self.answer(line, said)?;
         said.extend_from_slice(b"\n")?;
         Ok(outcome)
     }
 }
 
 impl<S: PartLedgers> FolderLook<'_, S> {
+    // Appends what is said to a line, without a newline.
+    fn answer(&mut self, line: Option<&[u8]>, out: &mut Vec<u8>) -> Result<Outcome, Ended>
+        ensures parts { OnOk result (self.new.parts.now ≡ self.old.parts.now) }
+        ensures folder { OnOk result (self.new.folder.now ≡ self.old.folder.now) }
+        ensures trunk { OnOk result (self.new.trunk ≡ self.old.trunk) }
+        ensures kept { OnOk result (KeepsPart (S.finds self.old.parts.now) self.old.folder.now self.old.part
+            → KeepsPart (S.finds self.old.parts.now) self.old.folder.now self.new.part) }
+        ensures says { IfOk result (λ o. KeepsPart (S.finds self.old.parts.now) self.old.folder.now self.old.part
+            → (answer : List ℕ)
+            × SaysOfLine (SaysByFolder (S.finds self.old.parts.now) self.old.folder.now self.old.trunk)
+            (lent line.entry) o answer × (out.new.items ≡ out.old.items ++ answer)) }
+        ensures err { IfErr result FailsFile }
+    {
+        match table_of_line(line) {
+            Ok(table) => self.look_up(&table, out),
+            Err(fault) => Ok(refuse(fault, out)?),
+        }
+    }
+
     // Appends what is said of a table.
     fn look_up(&mut self, t: &Table, out: &mut Vec<u8>) -> Result<Outcome, Ended>
         ensures parts { OnOk result (self.new.parts.now ≡ self.old.parts.now) }

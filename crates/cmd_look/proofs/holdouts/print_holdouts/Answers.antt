@@ -30,7 +30,7 @@ loop-table-preserved g c =
 pub returns-clause-ok : goal.returns-clause-ok
 returns-clause-ok g c =
     let before = c.loop-table.invariant in
-    let none : into_iter_items c.loop-table.table-iterator ≡ [] = search rules in
+    let none : into_iter_items c.loop-table.table-iterator ≡ [] = c.in-None.ensures.steps.0 in
     let all : before.0 ≡ joined (map text_of (into_iter_items c.args.holdouts)) =
     sym (append-nil before.0) ∙ (ap (λ (ts : List Packed). before.0 ++ joined (map text_of ts)) (sym none) ∙ before.2) in
-    subst (Appends (g.W.Write.contents c.args.answers.now) (g.W.Write.contents c.loop-table.answers.now)) all before.1
+    subst (Appends (g.W.Write.contents c.args.answers.now) (g.W.Write.contents c.loop-table.answers)) all before.1

@@ -8,6 +8,6 @@ unfolding same_table
 returns-then-eq c =
     (refl, sym c.root.ensures.root ∙ same_is c.root.result.now c.args.root.now (sym c.eq.ensures ∙ c.if-eq.true))
 
-pub returns : goal.returns
+pub returns-else-eq : goal.returns-else-eq
 unfolding same_table
-returns c = λ same. apart c.root.result.now c.args.root.now (sym c.eq.ensures ∙ c.if-eq.false) (c.root.ensures.root ∙ same)
+returns-else-eq c = λ same. apart c.root.result.now c.args.root.now (sym c.eq.ensures ∙ c.if-eq.false) (c.root.ensures.root ∙ same)

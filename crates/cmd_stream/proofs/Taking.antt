@@ -148,17 +148,17 @@ module _ {D : Type 0} (Takes : D → List ℕ → D → List ℕ → Type 0) whe
   }
 
   -- a whole line comes
-  pub whole_line : (start : D) (held : Option (List ℕ)) (all done left part rest before line whole_line : List ℕ) (now : D) (mid : Option (List ℕ)) (new_before kept : List ℕ) (new : D) (new_held : Option (List ℕ))
-      → all ≡ done ++ left → BeginsWithLine left part rest → HasTaken Takes start held done before line now mid → whole_line ≡ line ++ part
-      → CutsBefore Takes before whole_line now mid new_before new new_held → kept ≡ new_before ++ whole_line ++ 10 ∷ []
+  pub whole_line : (start : D) (held : Option (List ℕ)) (all done left part rest before line longer_line : List ℕ) (now : D) (mid : Option (List ℕ)) (new_before kept : List ℕ) (new : D) (new_held : Option (List ℕ))
+      → all ≡ done ++ left → BeginsWithLine left part rest → HasTaken Takes start held done before line now mid → longer_line ≡ line ++ part
+      → CutsBefore Takes before longer_line now mid new_before new new_held → kept ≡ new_before ++ longer_line ++ 10 ∷ []
       → (x : List ℕ) × (all ≡ x ++ rest) × HasTaken Takes start held x kept [] new new_held
-  whole_line start held all done left part rest before line whole_line now mid new_before kept new new_held is begins so same cuts keeps =
+  whole_line start held all done left part rest before line longer_line now mid new_before kept new new_held is begins so same cuts keeps =
       let longer = subst (λ (l : List ℕ). HasTaken Takes start held (done ++ part) before l now mid) (sym same)
       (more_taken start held done before line now mid part so begins.one_line) in
-      let (cut, of) = cut_taken start held (done ++ part) before whole_line now mid new_before new new_held longer cuts in (
+      let (cut, of) = cut_taken start held (done ++ part) before longer_line now mid new_before new new_held longer cuts in (
         (done ++ part) ++ 10 ∷ [],
         is ∙ ap (λ (t : List ℕ). done ++ t) begins.is ∙ sym (append_assoc done part (10 ∷ rest)) ∙ sym (append_assoc (done ++ part) (10 ∷ []) rest),
-        subst (λ (k : List ℕ). HasTaken Takes start held ((done ++ part) ++ 10 ∷ []) k [] new new_held) (sym keeps) (line_kept start held (done ++ part) new_before whole_line new new_held cut of),
+        subst (λ (k : List ℕ). HasTaken Takes start held ((done ++ part) ++ 10 ∷ []) k [] new new_held) (sym keeps) (line_kept start held (done ++ part) new_before longer_line new new_held cut of),
       )
 
   -- at the end of the text what is kept and the line that is begun are the last ledger

@@ -239,8 +239,8 @@ pub told_so : (IsText : Packed → List Recorded → Left → List ℕ → Type 
     → AreAll (IsOpenOn whole.trunk) roots → SaysMissed new.came.keys roots all mid new_faults → (new.is_sound ≡ true → both ≡ all) → (new.is_sound ≡ false → both ≡ false)
     → IfOk r (λ o. (parts : List Contents) → IsWhole whole parts → TellsParts IsText whole.trunk parts both said new_said o)
     → IfOk r (TellsStream IsText read new_read said new_said faults new_faults)
-told_so IsText old new whole roots all both (Err e) read new_read faults mid new_faults said new_said none nothing stream is are_open missed yes no tells = tt
-told_so IsText old new whole roots all both (Ok o) read new_read faults mid new_faults said new_said none nothing stream is are_open missed yes no tells =
+told_so IsText old new whole roots all both (Err e) read new_read faults mid new_faults said new_said none nothing stream is are_open missed yes neither tells = tt
+told_so IsText old new whole roots all both (Ok o) read new_read faults mid new_faults said new_said none nothing stream is are_open missed yes neither tells =
     let (ledgers, lines, are, taken, says) = stream.takes in
     let come = all_come ledgers stream.text old new whole lines are taken none nothing is in
     record {
@@ -267,7 +267,7 @@ told_so IsText old new whole roots all both (Ok o) read new_read faults mid new_
       is_board = come.is_whole.trunk_is;
       are_parts = come.is_whole.are_parts;
       tells = subst (λ (s : Bool). TellsParts IsText whole.trunk come.parts s said new_said o)
-          (sound_first new.is_sound all both lines missed.lines come.sound missed.sound yes no) (tells come.parts come.is_whole);
+          (sound_first new.is_sound all both lines missed.lines come.sound missed.sound yes neither) (tells come.parts come.is_whole);
       warns = Appends-trans faults mid new_faults lines missed.lines says missed.says;
     }
 

@@ -48,11 +48,17 @@ pub fn join_stream<P: ReportForm, R: Read, W: Write, E: Write>(
 {
     let mut joiner = Joiner::new(alloc);
     take_ledgers(alloc, input, &mut joiner, faults)?;
-    let Some(whole) = joiner.whole else {
+    let Joiner {
+        whole,
+        came,
+        is_sound,
+        ..
+    } = joiner;
+    let Some(whole) = whole else {
         // A stream has one ledger at least.
         return Err(Ended::NoMemory);
     };
     let roots = open_tables(alloc, whole.trunk())?;
-    let are_all = says_missing(alloc, &roots, &joiner.came, faults)?;
-    tell_whole(alloc, form, &whole, joiner.is_sound && are_all, answers)
+    let are_all = says_missing(alloc, &roots, &came, faults)?;
+    tell_whole(alloc, form, &whole, is_sound && are_all, answers)
 }

@@ -189,9 +189,9 @@ module _ (Finds : Findings) (folder : List ℕ) where
       apart k i root less below (sym (get_or-take i roots k root less) ∙ (same ∙ is))
 
 -- what follows of a success besides
-pub both_ok : {T E A B C : Type 0} (r : Result T E) → A → OnOk r B → OnOk r C → OnOk r (A × B × C)
-both_ok (Ok t) a b c = (a, b, c)
-both_ok (Err e) a b c = tt
+pub both_ok : {T E A : Type 0} (B C : Type 0) (r : Result T E) → A → OnOk r B → OnOk r C → OnOk r (A × B × C)
+both_ok B C (Ok t) a b c = (a, b, c)
+both_ok B C (Err e) a b c = tt
 
 -- what is met so is met otherwise
 pub met_so : (Old New : List Recorded → Type 0) (A B : Option Contents → List ℕ → Type 0) (r : Result Bool Ended) (old new : Collected) (before after faults new_faults : Option (List ℕ)) → ((counted : Option Contents) (said : List ℕ) → A counted said → B counted said)

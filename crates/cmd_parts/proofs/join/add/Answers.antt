@@ -2,4 +2,4 @@ use Rattle.cmd_parts.proofs.Joining.{both_ok}
 use Rattle.cmd_parts.proofs.join.add.Goals as goal
 
 pub returns-in-Ok-clause-ok : goal.returns-in-Ok-clause-ok
-returns-in-Ok-clause-ok g c = both_ok c.add-in-Ok.result c.in-Ok.ensures c.add-in-Ok.ensures.ok c.add-in-Ok.ensures.counts
+returns-in-Ok-clause-ok g c = both_ok _ _ c.add-in-Ok.result c.in-Ok.ensures c.add-in-Ok.ensures.ok c.add-in-Ok.ensures.counts

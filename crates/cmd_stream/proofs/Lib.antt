@@ -1,2 +1,3 @@
+mod Loading
 mod Taking
 mod Telling

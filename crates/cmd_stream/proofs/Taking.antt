@@ -217,3 +217,10 @@ module _ {D : Type 0} (Takes : D → List ℕ → D → List ℕ → Type 0) whe
     whole = ends;
     takes = subst (λ (t : List ℕ). TakesAll Takes start held t new new_held) (sym (append-nil so.text)) (takes start held so.text so.has);
   }
+
+  -- the rest of a piece has no newline
+  pub rest_taken : (start : D) (held : Option (List ℕ)) (all done left part before line longer_line : List ℕ) (now : D) (mid : Option (List ℕ)) → all ≡ done ++ left → HasNoNewline left × (part ≡ left)
+      → HasTaken Takes start held done before line now mid → longer_line ≡ line ++ part → HasTaken Takes start held all before longer_line now mid
+  rest_taken start held all done left part before line longer_line now mid is (none, same) so longer =
+      subst (λ (t : List ℕ). HasTaken Takes start held t before longer_line now mid) (sym is)
+      (subst (λ (l : List ℕ). HasTaken Takes start held (done ++ left) before l now mid) (sym (longer ∙ ap (λ (p : List ℕ). line ++ p) same)) (more_taken start held done before line now mid left so none))

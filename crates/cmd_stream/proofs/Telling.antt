@@ -18,11 +18,12 @@ use Rattle.parts.specs.declared.part_fault.PartFault.TheVariants.{AddedBefore, N
 use Rattle.cmd_ledgers.specs.LedgerReport.{EndsLedger}
 use Rattle.cmd_options.specs.declared.ended.Ended.{Ended}
 use Rattle.cmd_options.specs.declared.ended.Ended.TheVariants.{BadHeader, WrongRoot, HasPart, OutInFolder, Stream as StreamFails, Ledger as LedgerFails, File as FileFails, Locked, NoMemory}
+use Rattle.cmd_options.specs.Outcome.{ended_line}
 use Rattle.cmd_options.specs.declared.outcome.Outcome.{Outcome}
 use Rattle.cmd_parts.specs.Join.{TellsParts, counted_part, is_silent, left_line, line_behind}
 use Rattle.cmd_parts.proofs.Joining.{sound_both, sound_first}
 use Rattle.cmd_stream.specs.Ledgers.{AreLedgers}
-use Rattle.cmd_stream.specs.Stream.{AreLedgersMet, AreMissed, EndsEarly, EndsStream, IsLoadedAs, IsLedgerMet, IsMissed, IsRefusedAs, TellsStream, roots_of}
+use Rattle.cmd_stream.specs.Stream.{AreLedgersMet, AreMissed, EndsEarly, EndsStream, IsLoadedAs, IsLedgerMet, IsMissed, IsRefusedAs, TellsStream, name_of, roots_of}
 use Rattle.cmd_stream.specs.inside.Joining.{AddsBoard, AddsLedger, AddsPart, BeginsTrunk, Joins, JoinsTo, SaysAdding, SaysMissed, SaysRoot}
 use Rattle.cmd_stream.specs.inside.Taking.{LedgersAreTaken, TakesLedgers}
 use Rattle.cmd_stream.specs.declared.joiner.Joiner.{Joiner}
@@ -239,8 +240,8 @@ pub told_so : (IsText : Packed → List Recorded → Left → List ℕ → Type 
     → AreAll (IsOpenOn whole.trunk) roots → SaysMissed new.came.keys roots all mid new_faults → (new.is_sound ≡ true → both ≡ all) → (new.is_sound ≡ false → both ≡ false)
     → IfOk r (λ o. (parts : List Contents) → IsWhole whole parts → TellsParts IsText whole.trunk parts both said new_said o)
     → IfOk r (TellsStream IsText read new_read said new_said faults new_faults)
-told_so IsText old new whole roots all both (Err e) read new_read faults mid new_faults said new_said none nothing stream is are_open missed yes neither tells = tt
-told_so IsText old new whole roots all both (Ok o) read new_read faults mid new_faults said new_said none nothing stream is are_open missed yes neither tells =
+told_so IsText old new whole roots all both (Err e) read new_read faults mid new_faults said new_said none nothing stream is are_open missed if_sound neither tells = tt
+told_so IsText old new whole roots all both (Ok o) read new_read faults mid new_faults said new_said none nothing stream is are_open missed if_sound neither tells =
     let (ledgers, lines, are, taken, says) = stream.takes in
     let come = all_come ledgers stream.text old new whole lines are taken none nothing is in
     record {
@@ -267,7 +268,7 @@ told_so IsText old new whole roots all both (Ok o) read new_read faults mid new_
       is_board = come.is_whole.trunk_is;
       are_parts = come.is_whole.are_parts;
       tells = subst (λ (s : Bool). TellsParts IsText whole.trunk come.parts s said new_said o)
-          (sound_first new.is_sound all both lines missed.lines come.sound missed.sound yes neither) (tells come.parts come.is_whole);
+          (sound_first new.is_sound all both lines missed.lines come.sound missed.sound if_sound neither) (tells come.parts come.is_whole);
       warns = Appends-trans faults mid new_faults lines missed.lines says missed.says;
     }
 
@@ -303,3 +304,10 @@ root_missing came root (Ok sound) faults new_faults name none is h = record {
   says = subst (λ (n : List ℕ). Appends faults new_faults (line_behind n (codes "missing"))) is h.1;
 }
 root_missing came root (Err e) faults new_faults name none is h = tt
+
+-- a ledger that is refused is said behind its number
+pub refused_so : (number : ℕ) (text : List ℕ) (e : Ended) (old : Collected) (came : List Packed) (r : Result Bool Ended) (faults new_faults : Option (List ℕ)) (name : List ℕ) → (e ≡ BadHeader) ⊎ (e ≡ WrongRoot)
+    → EndsLedger text e → name ≡ name_of number → IfOk r (λ sound. (sound ≡ false) × Appends faults new_faults (line_behind name (ended_line e)))
+    → IfOk r (λ sound. SaysAdding (AddsPart number text old came old came) sound faults new_faults)
+refused_so number text e old came r faults new_faults name either ends is h =
+    said_so (AddsPart number text old came old came) r faults new_faults name (name_of number) (ended_line e) is (inr (refl, refl, refl, (e, either, ends, refl))) h

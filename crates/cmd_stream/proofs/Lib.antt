@@ -1,3 +1,3 @@
-mod Loading
+mod Headers
 mod Taking
 mod Telling

@@ -137,9 +137,8 @@ module _ {D : Type 0} (Takes : D → List ℕ → D → List ℕ → Type 0) whe
     whole = so.whole;
     lines = so.lines ++ line ∷ [];
     said = so.said;
-    begins = subst (λ (r : List ℕ). BeginsWithLedgers (text ++ 10 ∷ []) so.whole r) (append_assoc before line (10 ∷ []) ∙ sym (append-nil (before ++ (line ++ (10 ∷ [])))))
-        (begins_more text so.whole (before ++ line) (10 ∷ []) so.begins);
-    is = ap (λ (b : List ℕ). b ++ (line ++ (10 ∷ []))) so.is ∙ sym (joined-append so.lines (line ∷ []));
+    begins = subst (λ (r : List ℕ). BeginsWithLedgers (text ++ 10 ∷ []) so.whole r) (sym (append-nil ((before ++ line) ++ (10 ∷ [])))) (begins_more text so.whole (before ++ line) (10 ∷ []) so.begins);
+    is = ap (λ (b : List ℕ). (b ++ line) ++ (10 ∷ [])) so.is ∙ (append_assoc (joined so.lines) line (10 ∷ []) ∙ sym (joined-append so.lines (line ∷ [])));
     are_lines = whole_push so.lines line so.are_lines so.one_line;
     one_line = All-nil (λ byte. byte ≢ 10);
     one = of_one_push so.lines line so.one (line_is_of so.lines before line so.is of);

@@ -1,5 +1,5 @@
 -- What is told of the ledgers that were taken.
-use Rattle.std.proofs.Common.{◌≡◌, ◌⊎◌, inl, inr, ℕ, Bool, true, false, IfOk, List, [], ◌∷◌, ◌++◌, Option, Some, None, Result, Ok, Err, sym, ◌∙◌, ap, subst, refl, append_assoc, append-nil}
+use Rattle.std.proofs.Common.{◌≡◌, ◌⊎◌, inl, inr, ℕ, Bool, true, false, IfErr, IfOk, List, [], ◌∷◌, ◌++◌, Option, Some, None, Result, Ok, Err, sym, ◌∙◌, ap, subst, refl, append_assoc, append-nil}
 use Rattle.std.proofs.KnownBytes.{Appends-nil, Appends-trans}
 use Rattle.std.specs.Prelude.{map, codes}
 use Rattle.std.specs.Io.KnownBytes.{Appends}
@@ -23,7 +23,7 @@ use Rattle.cmd_options.specs.declared.outcome.Outcome.{Outcome}
 use Rattle.cmd_parts.specs.Join.{TellsParts, counted_part, is_silent, left_line, line_behind}
 use Rattle.cmd_parts.proofs.Joining.{sound_both, sound_first}
 use Rattle.cmd_stream.specs.Ledgers.{AreLedgers}
-use Rattle.cmd_stream.specs.Stream.{AreLedgersMet, AreMissed, EndsEarly, EndsStream, IsLoadedAs, IsLedgerMet, IsMissed, IsRefusedAs, TellsStream, name_of, roots_of}
+use Rattle.cmd_stream.specs.Stream.{AreLedgersMet, AreMissed, EndsEarly, EndsStream, IsLoadedAs, IsLedgerMet, IsMissed, IsRefusedAs, JoinsStream, TellsStream, name_of, roots_of}
 use Rattle.cmd_stream.specs.inside.Joining.{AddsBoard, AddsLedger, AddsPart, BeginsTrunk, Joins, JoinsTo, SaysAdding, SaysMissed, SaysRoot}
 use Rattle.cmd_stream.specs.inside.Taking.{LedgersAreTaken, TakesLedgers}
 use Rattle.cmd_stream.specs.declared.joiner.Joiner.{Joiner}
@@ -263,7 +263,7 @@ told_so IsText old new whole roots all both (Ok o) read new_read faults mid new_
         are_open = are_open;
         missing = missed.lines;
         are_missed = subst (λ (l : List Packed). AreMissed l roots missed.lines) come.came missed.are_missed;
-        all_lines = ap (λ (l : List ℕ). l ++ missed.lines) come.is ∙ append_assoc (left_line (codes "trunk") come.left) come.said missed.lines;
+        all_lines = ap (λ (l : List ℕ). l ++ missed.lines) come.is;
       };
       is_board = come.is_whole.trunk_is;
       are_parts = come.is_whole.are_parts;
@@ -311,3 +311,10 @@ pub refused_so : (number : ℕ) (text : List ℕ) (e : Ended) (old : Collected) 
     → IfOk r (λ sound. SaysAdding (AddsPart number text old came old came) sound faults new_faults)
 refused_so number text e old came r faults new_faults name either ends is h =
     said_so (AddsPart number text old came old came) r faults new_faults name (name_of number) (ended_line e) is (inr (refl, refl, refl, (e, either, ends, refl))) h
+
+-- what is told is told, or why it isn't
+pub joins_so : (IsText : Packed → List Recorded → Left → List ℕ → Type 0) (r : Result Outcome Ended) (read new_read said new_said faults new_faults : Option (List ℕ))
+    → IfOk r (TellsStream IsText read new_read said new_said faults new_faults) → IfErr r (λ e. ((e ≡ NoMemory) × (new_said ≡ said)) ⊎ (e ≡ StreamFails))
+    → JoinsStream IsText read new_read said new_said faults new_faults r
+joins_so IsText (Ok o) read new_read said new_said faults new_faults tells ends = tells
+joins_so IsText (Err e) read new_read said new_said faults new_faults tells ends = ends_untold e said new_said ends

@@ -1,4 +1,4 @@
-use Rattle.cmd_stream.proofs.Loading.{one_begins, two_begins}
+use Rattle.cmd_stream.proofs.Headers.{one_begins, two_begins}
 use Rattle.cmd_stream.proofs.head.is_head.Goals as goal
 
 pub returns-then-starts_with : goal.returns-then-starts_with

@@ -1,7 +1,7 @@
 use Rattle.std.proofs.Common.{Option, Ok, subst}
 use Rattle.machine_text.specs.Packed.{Packed}
 use Rattle.ledger.specs.LedgerText.{PeekGives}
-use Rattle.cmd_stream.proofs.Loading.{loaded_as, not_loaded}
+use Rattle.cmd_stream.proofs.Headers.{loaded_as, not_loaded}
 use Rattle.cmd_stream.proofs.loading.load.Goals as goal
 
 pub returns-in-Ok-clause-ok : goal.returns-in-Ok-clause-ok

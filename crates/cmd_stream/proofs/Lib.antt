@@ -1,2 +1,3 @@
+mod Headers
 mod Taking
 mod Telling

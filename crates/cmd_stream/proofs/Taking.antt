@@ -15,12 +15,12 @@ whole_push [] line all one = (one, tt)
 whole_push (l ∷ lines) line all one = (all.0, whole_push lines line all.1 one)
 
 no_heads_push : (lines : List (List ℕ)) (line : List ℕ) → AreNoHeads lines → (IsHead line → ⊥) → AreNoHeads (lines ++ line ∷ [])
-no_heads_push [] line none no = (no, tt)
-no_heads_push (l ∷ lines) line none no = (none.0, no_heads_push lines line none.1 no)
+no_heads_push [] line none other = (other, tt)
+no_heads_push (l ∷ lines) line none other = (none.0, no_heads_push lines line none.1 other)
 
 of_one_push : (lines : List (List ℕ)) (line : List ℕ) → AreOfOne lines → (IsHead line → ⊥) ⊎ (lines ≡ []) → AreOfOne (lines ++ line ∷ [])
 of_one_push [] line one of = tt
-of_one_push (l ∷ lines) line one (inl no) = no_heads_push lines line one no
+of_one_push (l ∷ lines) line one (inl other) = no_heads_push lines line one other
 of_one_push (l ∷ lines) line one (inr none) = absurd cc
 
 no_lines : (lines : List (List ℕ)) → joined lines ≡ [] → lines ≡ []
@@ -127,7 +127,7 @@ module _ {D : Type 0} (Takes : D → List ℕ → D → List ℕ → Type 0) whe
   )
 
   line_is_of : (lines : List (List ℕ)) (before line : List ℕ) → before ≡ joined lines → IsOfIt before line → (IsHead line → ⊥) ⊎ (lines ≡ [])
-  line_is_of lines before line is (inl no) = inl no
+  line_is_of lines before line is (inl other) = inl other
   line_is_of lines before line is (inr none) = inr (no_lines lines (sym is ∙ none))
 
   -- the newline comes, and the line is kept
@@ -137,9 +137,8 @@ module _ {D : Type 0} (Takes : D → List ℕ → D → List ℕ → Type 0) whe
     whole = so.whole;
     lines = so.lines ++ line ∷ [];
     said = so.said;
-    begins = subst (λ (r : List ℕ). BeginsWithLedgers (text ++ 10 ∷ []) so.whole r) (append_assoc before line (10 ∷ []) ∙ sym (append-nil (before ++ line ++ 10 ∷ [])))
-        (begins_more text so.whole (before ++ line) (10 ∷ []) so.begins);
-    is = ap (λ (b : List ℕ). b ++ line ++ 10 ∷ []) so.is ∙ sym (joined-append so.lines (line ∷ []));
+    begins = subst (λ (r : List ℕ). BeginsWithLedgers (text ++ 10 ∷ []) so.whole r) (sym (append-nil ((before ++ line) ++ (10 ∷ [])))) (begins_more text so.whole (before ++ line) (10 ∷ []) so.begins);
+    is = ap (λ (b : List ℕ). (b ++ line) ++ (10 ∷ [])) so.is ∙ (append_assoc (joined so.lines) line (10 ∷ []) ∙ sym (joined-append so.lines (line ∷ [])));
     are_lines = whole_push so.lines line so.are_lines so.one_line;
     one_line = All-nil (λ byte. byte ≢ 10);
     one = of_one_push so.lines line so.one (line_is_of so.lines before line so.is of);
@@ -148,17 +147,17 @@ module _ {D : Type 0} (Takes : D → List ℕ → D → List ℕ → Type 0) whe
   }
 
   -- a whole line comes
-  pub whole_line : (start : D) (held : Option (List ℕ)) (all done left part rest before line whole_line : List ℕ) (now : D) (mid : Option (List ℕ)) (new_before kept : List ℕ) (new : D) (new_held : Option (List ℕ))
-      → all ≡ done ++ left → BeginsWithLine left part rest → HasTaken Takes start held done before line now mid → whole_line ≡ line ++ part
-      → CutsBefore Takes before whole_line now mid new_before new new_held → kept ≡ new_before ++ whole_line ++ 10 ∷ []
+  pub whole_line : (start : D) (held : Option (List ℕ)) (all done left part rest before line longer_line : List ℕ) (now : D) (mid : Option (List ℕ)) (new_before kept : List ℕ) (new : D) (new_held : Option (List ℕ))
+      → all ≡ done ++ left → BeginsWithLine left part rest → HasTaken Takes start held done before line now mid → longer_line ≡ line ++ part
+      → CutsBefore Takes before longer_line now mid new_before new new_held → kept ≡ new_before ++ longer_line ++ 10 ∷ []
       → (x : List ℕ) × (all ≡ x ++ rest) × HasTaken Takes start held x kept [] new new_held
-  whole_line start held all done left part rest before line whole_line now mid new_before kept new new_held is begins so same cuts keeps =
+  whole_line start held all done left part rest before line longer_line now mid new_before kept new new_held is begins so same cuts keeps =
       let longer = subst (λ (l : List ℕ). HasTaken Takes start held (done ++ part) before l now mid) (sym same)
       (more_taken start held done before line now mid part so begins.one_line) in
-      let (cut, of) = cut_taken start held (done ++ part) before whole_line now mid new_before new new_held longer cuts in (
+      let (cut, of) = cut_taken start held (done ++ part) before longer_line now mid new_before new new_held longer cuts in (
         (done ++ part) ++ 10 ∷ [],
         is ∙ ap (λ (t : List ℕ). done ++ t) begins.is ∙ sym (append_assoc done part (10 ∷ rest)) ∙ sym (append_assoc (done ++ part) (10 ∷ []) rest),
-        subst (λ (k : List ℕ). HasTaken Takes start held ((done ++ part) ++ 10 ∷ []) k [] new new_held) (sym keeps) (line_kept start held (done ++ part) new_before whole_line new new_held cut of),
+        subst (λ (k : List ℕ). HasTaken Takes start held ((done ++ part) ++ 10 ∷ []) k [] new new_held) (sym keeps) (line_kept start held (done ++ part) new_before longer_line new new_held cut of),
       )
 
   -- at the end of the text what is kept and the line that is begun are the last ledger
@@ -217,3 +216,10 @@ module _ {D : Type 0} (Takes : D → List ℕ → D → List ℕ → Type 0) whe
     whole = ends;
     takes = subst (λ (t : List ℕ). TakesAll Takes start held t new new_held) (sym (append-nil so.text)) (takes start held so.text so.has);
   }
+
+  -- the rest of a piece has no newline
+  pub rest_taken : (start : D) (held : Option (List ℕ)) (all done left part before line longer_line : List ℕ) (now : D) (mid : Option (List ℕ)) → all ≡ done ++ left → HasNoNewline left × (part ≡ left)
+      → HasTaken Takes start held done before line now mid → longer_line ≡ line ++ part → HasTaken Takes start held all before longer_line now mid
+  rest_taken start held all done left part before line longer_line now mid is (none, same) so longer =
+      subst (λ (t : List ℕ). HasTaken Takes start held t before longer_line now mid) (sym is)
+      (subst (λ (l : List ℕ). HasTaken Takes start held (done ++ left) before l now mid) (sym (longer ∙ ap (λ (p : List ℕ). line ++ p) same)) (more_taken start held done before line now mid left so none))

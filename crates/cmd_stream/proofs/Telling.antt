@@ -1,5 +1,5 @@
 -- What is told of the ledgers that were taken.
-use Rattle.std.proofs.Common.{◌≡◌, ◌⊎◌, inl, inr, ℕ, Bool, true, false, IfOk, List, [], ◌∷◌, ◌++◌, Option, Some, None, Result, Ok, Err, sym, ◌∙◌, ap, subst, refl, append_assoc, append-nil}
+use Rattle.std.proofs.Common.{◌≡◌, ◌⊎◌, inl, inr, ℕ, Bool, true, false, IfErr, IfOk, List, [], ◌∷◌, ◌++◌, Option, Some, None, Result, Ok, Err, sym, ◌∙◌, ap, subst, refl, append_assoc, append-nil}
 use Rattle.std.proofs.KnownBytes.{Appends-nil, Appends-trans}
 use Rattle.std.specs.Prelude.{map, codes}
 use Rattle.std.specs.Io.KnownBytes.{Appends}
@@ -15,15 +15,44 @@ use Rattle.ledger.specs.declared.left.Left.{Left}
 use Rattle.parts.specs.Whole.{AddGives, Collected, IsWhole}
 use Rattle.parts.proofs.Roots.{put_last}
 use Rattle.parts.specs.declared.part_fault.PartFault.TheVariants.{AddedBefore, NotOpen}
+use Rattle.cmd_ledgers.specs.LedgerReport.{EndsLedger}
 use Rattle.cmd_options.specs.declared.ended.Ended.{Ended}
+use Rattle.cmd_options.specs.declared.ended.Ended.TheVariants.{BadHeader, WrongRoot, HasPart, OutInFolder, Stream as StreamFails, Ledger as LedgerFails, File as FileFails, Locked, NoMemory}
+use Rattle.cmd_options.specs.Outcome.{ended_line}
 use Rattle.cmd_options.specs.declared.outcome.Outcome.{Outcome}
 use Rattle.cmd_parts.specs.Join.{TellsParts, counted_part, is_silent, left_line, line_behind}
 use Rattle.cmd_parts.proofs.Joining.{sound_both, sound_first}
 use Rattle.cmd_stream.specs.Ledgers.{AreLedgers}
-use Rattle.cmd_stream.specs.Stream.{AreLedgersMet, AreMissed, IsLoadedAs, IsLedgerMet, IsMissed, IsRefusedAs, TellsStream, roots_of}
+use Rattle.cmd_stream.specs.Stream.{AreLedgersMet, AreMissed, EndsEarly, EndsStream, IsLoadedAs, IsLedgerMet, IsMissed, IsRefusedAs, JoinsStream, TellsStream, name_of, roots_of}
 use Rattle.cmd_stream.specs.inside.Joining.{AddsBoard, AddsLedger, AddsPart, BeginsTrunk, Joins, JoinsTo, SaysAdding, SaysMissed, SaysRoot}
 use Rattle.cmd_stream.specs.inside.Taking.{LedgersAreTaken, TakesLedgers}
 use Rattle.cmd_stream.specs.declared.joiner.Joiner.{Joiner}
+
+-- why a ledger isn't loaded is why the telling may end
+pub ends_so : (text : List ℕ) (e : Ended) → EndsLedger text e → EndsEarly e
+ends_so text BadHeader h = inl (inr (inl refl, (text, h)))
+ends_so text WrongRoot h = inl (inr (inr refl, (text, h)))
+ends_so text HasPart h = absurd h
+ends_so text OutInFolder h = absurd h
+ends_so text StreamFails h = inr refl
+ends_so text LedgerFails h = absurd h
+ends_so text FileFails h = absurd h
+ends_so text Locked h = absurd h
+ends_so text NoMemory h = inl (inl refl)
+
+pub ends_taking : (e : Ended) → ((e ≡ NoMemory) ⊎ EndsEarly e) ⊎ (e ≡ StreamFails) → EndsEarly e
+ends_taking e (inl (inl memory)) = inl (inl memory)
+ends_taking e (inl (inr early)) = early
+ends_taking e (inr stream) = inr stream
+
+pub ends_said : (e : Ended) → (e ≡ NoMemory) ⊎ (e ≡ StreamFails) → EndsEarly e
+ends_said e (inl memory) = inl (inl memory)
+ends_said e (inr stream) = inr stream
+
+-- what is told behind it, or why it isn't
+pub ends_untold : (e : Ended) (said new_said : Option (List ℕ)) → ((e ≡ NoMemory) × (new_said ≡ said)) ⊎ (e ≡ StreamFails) → EndsStream e said new_said
+ends_untold e said new_said (inl (memory, same)) = (inl (inl memory), inl same)
+ends_untold e said new_said (inr stream) = (inr stream, inr stream)
 
 loud : (name what : List ℕ) → is_silent (line_behind name what) ≡ false
 loud [] what = refl
@@ -211,8 +240,8 @@ pub told_so : (IsText : Packed → List Recorded → Left → List ℕ → Type 
     → AreAll (IsOpenOn whole.trunk) roots → SaysMissed new.came.keys roots all mid new_faults → (new.is_sound ≡ true → both ≡ all) → (new.is_sound ≡ false → both ≡ false)
     → IfOk r (λ o. (parts : List Contents) → IsWhole whole parts → TellsParts IsText whole.trunk parts both said new_said o)
     → IfOk r (TellsStream IsText read new_read said new_said faults new_faults)
-told_so IsText old new whole roots all both (Err e) read new_read faults mid new_faults said new_said none nothing stream is are_open missed yes no tells = tt
-told_so IsText old new whole roots all both (Ok o) read new_read faults mid new_faults said new_said none nothing stream is are_open missed yes no tells =
+told_so IsText old new whole roots all both (Err e) read new_read faults mid new_faults said new_said none nothing stream is are_open missed if_sound neither tells = tt
+told_so IsText old new whole roots all both (Ok o) read new_read faults mid new_faults said new_said none nothing stream is are_open missed if_sound neither tells =
     let (ledgers, lines, are, taken, says) = stream.takes in
     let come = all_come ledgers stream.text old new whole lines are taken none nothing is in
     record {
@@ -234,12 +263,12 @@ told_so IsText old new whole roots all both (Ok o) read new_read faults mid new_
         are_open = are_open;
         missing = missed.lines;
         are_missed = subst (λ (l : List Packed). AreMissed l roots missed.lines) come.came missed.are_missed;
-        all_lines = ap (λ (l : List ℕ). l ++ missed.lines) come.is ∙ append_assoc (left_line (codes "trunk") come.left) come.said missed.lines;
+        all_lines = ap (λ (l : List ℕ). l ++ missed.lines) come.is;
       };
       is_board = come.is_whole.trunk_is;
       are_parts = come.is_whole.are_parts;
       tells = subst (λ (s : Bool). TellsParts IsText whole.trunk come.parts s said new_said o)
-          (sound_first new.is_sound all both lines missed.lines come.sound missed.sound yes no) (tells come.parts come.is_whole);
+          (sound_first new.is_sound all both lines missed.lines come.sound missed.sound if_sound neither) (tells come.parts come.is_whole);
       warns = Appends-trans faults mid new_faults lines missed.lines says missed.says;
     }
 
@@ -275,3 +304,17 @@ root_missing came root (Ok sound) faults new_faults name none is h = record {
   says = subst (λ (n : List ℕ). Appends faults new_faults (line_behind n (codes "missing"))) is h.1;
 }
 root_missing came root (Err e) faults new_faults name none is h = tt
+
+-- a ledger that is refused is said behind its number
+pub refused_so : (number : ℕ) (text : List ℕ) (e : Ended) (old : Collected) (came : List Packed) (r : Result Bool Ended) (faults new_faults : Option (List ℕ)) (name : List ℕ) → (e ≡ BadHeader) ⊎ (e ≡ WrongRoot)
+    → EndsLedger text e → name ≡ name_of number → IfOk r (λ sound. (sound ≡ false) × Appends faults new_faults (line_behind name (ended_line e)))
+    → IfOk r (λ sound. SaysAdding (AddsPart number text old came old came) sound faults new_faults)
+refused_so number text e old came r faults new_faults name either ends is h =
+    said_so (AddsPart number text old came old came) r faults new_faults name (name_of number) (ended_line e) is (inr (refl, refl, refl, (e, either, ends, refl))) h
+
+-- what is told is told, or why it isn't
+pub joins_so : (IsText : Packed → List Recorded → Left → List ℕ → Type 0) (r : Result Outcome Ended) (read new_read said new_said faults new_faults : Option (List ℕ))
+    → IfOk r (TellsStream IsText read new_read said new_said faults new_faults) → IfErr r (λ e. ((e ≡ NoMemory) × (new_said ≡ said)) ⊎ (e ≡ StreamFails))
+    → JoinsStream IsText read new_read said new_said faults new_faults r
+joins_so IsText (Ok o) read new_read said new_said faults new_faults tells ends = tells
+joins_so IsText (Err e) read new_read said new_said faults new_faults tells ends = ends_untold e said new_said ends

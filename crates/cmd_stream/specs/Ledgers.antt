@@ -40,7 +40,8 @@ pub record IsLastLedger (text : List ℕ) : Type 0 where
 abbrev pub BeginsWithLedgers : List ℕ → List (List ℕ) → List ℕ → Type 0
 BeginsWithLedgers text [] rest = text ≡ rest
 BeginsWithLedgers text (ledger ∷ ledgers) rest =
-    (behind : List ℕ) × (text ≡ ledger ++ behind) × IsWholeLedger ledger × IsHead behind × BeginsWithLedgers behind ledgers rest
+    (behind : List ℕ) × (text ≡ ledger ++ behind) × IsWholeLedger ledger × IsHead behind
+    × BeginsWithLedgers behind ledgers rest
 
 -- a text is these ledgers; whatever it is, it is one at least
 pub record AreLedgers (text : List ℕ) (ledgers : List (List ℕ)) : Type 0 where

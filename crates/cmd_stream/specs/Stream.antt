@@ -1,5 +1,6 @@
 -- A trunk and its parts that are told of together as they stand one behind the other in a stream.
-use Rattle.std.specs.Prelude.{◌≡◌, ◌⊎◌, ℕ, ◌+◌, List, [], ◌∷◌, ◌++◌, map, Contains, Option, None, Some, Result, Ok, Err, codes, decimal}
+use Rattle.std.specs.Prelude.{◌≡◌, ◌⊎◌, ℕ, ◌+◌, List, [], ◌∷◌, ◌++◌, map, Contains, Option, None}
+use Rattle.std.specs.Prelude.{Some, Result, Ok, Err, codes, decimal}
 use Rattle.std.specs.Io.KnownBytes.{Appends, Consumes, IsAtEnd}
 use Rattle.machine_text.specs.Packed.{Packed, entry_of}
 use Rattle.machine_text.specs.Text.{text_of}
@@ -29,20 +30,24 @@ name_of number = codes "ledger " ++ decimal number
 
 -- a ledger with no root, or with one that isn't in order, is refused behind its number
 abbrev pub IsRefusedAs : ℕ → List ℕ → List ℕ → Type 0
-IsRefusedAs number text said = (e : Ended) × ((e ≡ BadHeader) ⊎ (e ≡ WrongRoot)) × EndsLedger text e × (said ≡ line_behind (name_of number) (ended_line e))
+IsRefusedAs number text said = (e : Ended) × ((e ≡ BadHeader) ⊎ (e ≡ WrongRoot)) × EndsLedger text e
+    × (said ≡ line_behind (name_of number) (ended_line e))
 
 abbrev pub roots_of : List Contents → List Packed
 roots_of parts = map (λ p. p.root) parts
 
--- what a ledger is behind a trunk and the parts that count already: a part more, whose root the trunk leaves open, and which
--- line of it wasn't kept is said; or it has another root, or that of a part that counts, or is refused, which is said
+-- what a ledger is behind a trunk and the parts that count already: a part more, whose root the trunk leaves open, and
+-- which line of it wasn't kept is said; or it has another root, or that of a part that counts, or is refused, which is
+-- said
 abbrev pub IsLedgerMet : Contents → List Contents → ℕ → List ℕ → Option Contents → List ℕ → Type 0
 IsLedgerMet trunk parts number text (Some part) said =
-    (left : Left) × IsLoadedAs text part left × IsOpenOn trunk part.root × (Contains (roots_of parts) part.root → ⊥) × (said ≡ left_line (text_of part.root) left)
+    (left : Left) × IsLoadedAs text part left × IsOpenOn trunk part.root × (Contains (roots_of parts) part.root → ⊥)
+    × (said ≡ left_line (text_of part.root) left)
 IsLedgerMet trunk parts number text None said =
     ((part : Contents) × (left : Left) × IsLoadedAs text part left
     × (((IsOpenOn trunk part.root → ⊥) × (said ≡ line_behind (text_of part.root) (codes "not under the trunk")))
-    ⊎ (IsOpenOn trunk part.root × Contains (roots_of parts) part.root × (said ≡ line_behind (text_of part.root) (codes "added before")))))
+    ⊎ (IsOpenOn trunk part.root × Contains (roots_of parts) part.root
+    × (said ≡ line_behind (text_of part.root) (codes "added before")))))
     ⊎ IsRefusedAs number text said
 
 -- ledgers that are met one after another: with those that count already, all that count, and the lines that are said
@@ -54,7 +59,8 @@ AreLedgersMet trunk parts number (text ∷ texts) all lines =
 
 -- a root that isn't among those that came is said
 abbrev pub IsMissed : List Packed → Packed → List ℕ → Type 0
-IsMissed came root said = (Contains came root × (said ≡ [])) ⊎ ((Contains came root → ⊥) × (said ≡ line_behind (text_of root) (codes "missing")))
+IsMissed came root said = (Contains came root × (said ≡ []))
+    ⊎ ((Contains came root → ⊥) × (said ≡ line_behind (text_of root) (codes "missing")))
 
 -- and so of several
 abbrev pub AreMissed : List Packed → List Packed → List ℕ → Type 0
@@ -62,8 +68,8 @@ AreMissed came [] lines = lines ≡ []
 AreMissed came (root ∷ roots) lines =
     (said : List ℕ) × (more : List ℕ) × IsMissed came root said × AreMissed came roots more × (lines ≡ said ++ more)
 
--- the ledgers of a text: that of a trunk, and behind it those of its parts; what is wrong with them, and which open tables of
--- the trunk have none
+-- the ledgers of a text: that of a trunk, and behind it those of its parts; what is wrong with them, and which open
+-- tables of the trunk have none
 pub record IsTreeText (text : List ℕ) (trunk : Contents) (parts : List Contents) (lines : List ℕ) : Type 0 where
   pub first : List ℕ
   pub others : List (List ℕ)
@@ -78,10 +84,10 @@ pub record IsTreeText (text : List ℕ) (trunk : Contents) (parts : List Content
   pub are_missed : AreMissed (roots_of parts) roots missing
   pub all_lines : lines ≡ left_line (codes "trunk") left ++ said ++ missing
 
--- a reader is read to its end. Of the trunk and the parts in its text the report is printed that one ledger has which holds
--- all of their records, and what is wrong is said
-pub record TellsStream (IsText : Packed → List Recorded → Left → List ℕ → Type 0) (read new_read said new_said faults new_faults : Option (List ℕ))
-    (o : Outcome) : Type 0 where
+-- a reader is read to its end. Of the trunk and the parts in its text the report is printed that one ledger has which
+-- holds all of their records, and what is wrong is said
+pub record TellsStream (IsText : Packed → List Recorded → Left → List ℕ → Type 0)
+    (read new_read said new_said faults new_faults : Option (List ℕ)) (o : Outcome) : Type 0 where
   pub text : List ℕ
   pub consumed : Consumes read new_read text
   pub whole : IsAtEnd new_read
@@ -107,7 +113,8 @@ abbrev pub EndsStream : Ended → Option (List ℕ) → Option (List ℕ) → Ty
 EndsStream e said new_said = EndsEarly e × ((new_said ≡ said) ⊎ (e ≡ Stream))
 
 -- what may come of it
-abbrev pub JoinsStream : (Packed → List Recorded → Left → List ℕ → Type 0) → Option (List ℕ) → Option (List ℕ) → Option (List ℕ) → Option (List ℕ)
-    → Option (List ℕ) → Option (List ℕ) → Result Outcome Ended → Type 0
-JoinsStream IsText read new_read said new_said faults new_faults (Ok o) = TellsStream IsText read new_read said new_said faults new_faults o
+abbrev pub JoinsStream : (Packed → List Recorded → Left → List ℕ → Type 0) → Option (List ℕ) → Option (List ℕ)
+    → Option (List ℕ) → Option (List ℕ) → Option (List ℕ) → Option (List ℕ) → Result Outcome Ended → Type 0
+JoinsStream IsText read new_read said new_said faults new_faults (Ok o) =
+    TellsStream IsText read new_read said new_said faults new_faults o
 JoinsStream IsText read new_read said new_said faults new_faults (Err e) = EndsStream e said new_said

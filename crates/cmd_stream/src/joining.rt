@@ -14,12 +14,12 @@ use cmd_parts::{open_tables, tell_whole};
 use std::alloc::Global;
 use std::io::{Read, Write};
 
-/// Prints the report of the trunk and of the parts that a stream has one behind the other up to its end, in a form: that
-/// of one ledger that holds the records of all. The trunk comes first, its parts in any order; a line that begins as a
-/// header does begins the next ledger, and one of them is in memory at a time. A part that doesn't come counts as an open
-/// table. What is wrong with a ledger is said on `faults`: that a part is none of the trunk, came before or has a
-/// line that isn't kept, behind its root; that it has no root, behind its number; and which parts are missing. Accepted
-/// where the report says complete and nothing was wrong. What ends the command early is said on `faults` too.
+/// Prints the report of the trunk and of the parts that a stream has one behind the other up to its end, in a form:
+/// that of one ledger that holds the records of all. The trunk comes first, its parts in any order; a line that begins
+/// as a header does begins the next ledger, and one of them is in memory at a time. A part that doesn't come counts as
+/// an open table. What is wrong with a ledger is said on `faults`: that a part is none of the trunk, came before or has
+/// a line that isn't kept, behind its root; that it has no root, behind its number; and which parts are missing.
+/// Accepted where the report says complete and nothing was wrong. What ends the command early is said on `faults` too.
 pub fn cmd_join_stream<P: ReportForm, R: Read, W: Write, E: Write>(
     alloc: Global,
     form: &P,
@@ -48,11 +48,17 @@ pub fn join_stream<P: ReportForm, R: Read, W: Write, E: Write>(
 {
     let mut joiner = Joiner::new(alloc);
     take_ledgers(alloc, input, &mut joiner, faults)?;
-    let Some(whole) = joiner.whole else {
+    let Joiner {
+        whole,
+        came,
+        is_sound,
+        ..
+    } = joiner;
+    let Some(whole) = whole else {
         // A stream has one ledger at least.
         return Err(Ended::NoMemory);
     };
     let roots = open_tables(alloc, whole.trunk())?;
-    let are_all = says_missing(alloc, &roots, &joiner.came, faults)?;
-    tell_whole(alloc, form, &whole, joiner.is_sound && are_all, answers)
+    let are_all = says_missing(alloc, &roots, &came, faults)?;
+    tell_whole(alloc, form, &whole, is_sound && are_all, answers)
 }

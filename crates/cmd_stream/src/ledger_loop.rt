@@ -88,7 +88,8 @@ impl LedgerLoop {
     // At the end of the stream: takes the last ledger, and the one before it where that isn't taken yet.
     fn end<T: LedgerTaker, E: Write>(&mut self, taker: &mut T, faults: &mut E) -> Result<(), Ended>
         ensures ok { OnOk result ((start : T) (begun : Option (List ℕ)) (text : List ℕ)
-            → HasTaken T.takes start begun text self.old.before.items self.old.line.items taker.old (E.contents faults.old)
+            → HasTaken T.takes start begun text self.old.before.items self.old.line.items taker.old
+            (E.contents faults.old)
             → TakesAll T.takes start begun text taker.new (E.contents faults.new)) }
         ensures err { IfErr result (λ e. (e ≡ Ended.NoMemory) ⊎ T.ends e) }
     {

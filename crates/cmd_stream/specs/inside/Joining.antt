@@ -27,23 +27,29 @@ pub record BeginsTrunk (old : Joiner) (text : List ℕ) (new : Joiner) (said : L
   pub says : said ≡ left_line (codes "trunk") left
   pub sound : new.is_sound ≡ is_silent said
 
--- what becomes of a whole, and of the roots that came, by a ledger behind that: its board is added, and which line of it wasn't
--- kept is said; or it isn't added, and that is said
-abbrev pub AddsBoard : Contents → Left → Collected → List Packed → Collected → List Packed → Option Contents → List ℕ → Type 0
+-- what becomes of a whole, and of the roots that came, by a ledger behind that: its board is added, and which line of
+-- it wasn't kept is said; or it isn't added, and that is said
+abbrev pub AddsBoard : Contents → Left → Collected → List Packed → Collected → List Packed → Option Contents → List ℕ
+    → Type 0
 AddsBoard part left old came new new_came (Some counted) said =
-    (counted ≡ part) × AddGives old part (Ok tt) new × (new_came ≡ insert_key same_table came part.root) × (said ≡ left_line (text_of part.root) left)
+    (counted ≡ part) × AddGives old part (Ok tt) new × (new_came ≡ insert_key same_table came part.root)
+    × (said ≡ left_line (text_of part.root) left)
 AddsBoard part left old came new new_came None said =
-    (new ≡ old) × (new_came ≡ came) × ((AddGives old part (Err NotOpen) old × (said ≡ line_behind (text_of part.root) (codes "not under the trunk")))
+    (new ≡ old) × (new_came ≡ came)
+    × ((AddGives old part (Err NotOpen) old
+    × (said ≡ line_behind (text_of part.root) (codes "not under the trunk")))
     ⊎ (AddGives old part (Err AddedBefore) old × (said ≡ line_behind (text_of part.root) (codes "added before"))))
 
 -- so it is of what is loaded; or nothing is, and that is said
 abbrev pub AddsPart : ℕ → List ℕ → Collected → List Packed → Collected → List Packed → Option Contents → List ℕ → Type 0
 AddsPart number text old came new new_came counted said =
-    ((part : Contents) × (left : Left) × IsLoadedAs text part left × AddsBoard part left old came new new_came counted said)
+    ((part : Contents) × (left : Left) × IsLoadedAs text part left
+    × AddsBoard part left old came new new_came counted said)
     ⊎ ((counted ≡ None) × (new ≡ old) × (new_came ≡ came) × IsRefusedAs number text said)
 
 -- what is added so, and whether nothing was wrong
-pub record SaysAdding (Adds : Option Contents → List ℕ → Type 0) (is_sound : Bool) (faults new_faults : Option (List ℕ)) : Type 0 where
+pub record SaysAdding (Adds : Option Contents → List ℕ → Type 0) (is_sound : Bool)
+    (faults new_faults : Option (List ℕ)) : Type 0 where
   pub counted : Option Contents
   pub said : List ℕ
   pub adds : Adds counted said
@@ -68,7 +74,8 @@ abbrev pub Joins : Joiner → List ℕ → Joiner → List ℕ → Type 0
 Joins old text new said = JoinsTo old.whole old text new said
 
 -- a root is looked for
-pub record SaysRoot (came : List Packed) (root : Packed) (is_sound : Bool) (faults new_faults : Option (List ℕ)) : Type 0 where
+pub record SaysRoot (came : List Packed) (root : Packed) (is_sound : Bool)
+    (faults new_faults : Option (List ℕ)) : Type 0 where
   pub said : List ℕ
   pub is_missed : IsMissed came root said
   pub sound : is_sound ≡ is_silent said

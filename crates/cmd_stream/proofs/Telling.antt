@@ -318,3 +318,6 @@ pub joins_so : (IsText : Packed → List Recorded → Left → List ℕ → Type
     → JoinsStream IsText read new_read said new_said faults new_faults r
 joins_so IsText (Ok o) read new_read said new_said faults new_faults tells ends = tells
 joins_so IsText (Err e) read new_read said new_said faults new_faults tells ends = ends_untold e said new_said ends
+
+pub not_both : (b : Bool) → b ≡ true → b ≡ false → ⊥
+not_both b holds fails = let clash : true ≡ false = sym holds ∙ fails in absurd (cc)

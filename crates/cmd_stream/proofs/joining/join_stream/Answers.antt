@@ -5,7 +5,7 @@ use Rattle.ledger.specs.Contents.{Contents, IsOpenOn}
 use Rattle.ledger.specs.Tally.{AreAll}
 use Rattle.cmd_options.specs.declared.ended.Ended.{Ended}
 use Rattle.cmd_stream.specs.Stream.{EndsStream}
-use Rattle.cmd_stream.proofs.Telling.{ends_taking, joins_so, told_so}
+use Rattle.cmd_stream.proofs.Telling.{ends_taking, joins_so, not_both, told_so}
 use Rattle.cmd_stream.proofs.joining.join_stream.Goals as goal
 use Rattle.cmd_stream.proofs.joining.join_stream.Goals.{then-is_sound, else-is_sound}
 
@@ -27,10 +27,10 @@ returns g c =
     (subst (λ (b : Contents). AreAll (IsOpenOn b) c.in_ok-roots.roots.items) c.trunk.ensures c.in_ok-roots.ensures) in
     let if_sound : new.is_sound ≡ true → both ≡ all = elim c.if-is_sound.branch [
       | then-is_sound w ↦ λ sound. w.tell_whole-is
-      | else-is_sound w ↦ λ sound. absurd (let other = w.if-is_sound.false in cc)
+      | else-is_sound w ↦ λ sound. absurd (not_both new.is_sound sound w.if-is_sound.false)
     ] in
     let neither : new.is_sound ≡ false → both ≡ false = elim c.if-is_sound.branch [
-      | then-is_sound w ↦ λ other. absurd (let sound = w.if-is_sound.true in cc)
+      | then-is_sound w ↦ λ other. absurd (not_both new.is_sound w.if-is_sound.true other)
       | else-is_sound w ↦ λ other. w.tell_whole-is
     ] in
     let read = g.R.Read.remaining c.args.input.now in

@@ -53,10 +53,10 @@ impl<S: PartLedgers> FolderLook<'_, S> {
         ensures trunk { OnOk result (self.new.trunk ≡ self.old.trunk) }
         ensures kept { OnOk result (KeepsPart (S.finds self.old.parts.now) self.old.folder.now self.old.part
             → KeepsPart (S.finds self.old.parts.now) self.old.folder.now self.new.part) }
-        ensures says { IfOk result (λ o. KeepsPart (S.finds self.old.parts.now) self.old.folder.now self.old.part
-            → (answer : List ℕ)
-            × SaysOfLine (SaysByFolder (S.finds self.old.parts.now) self.old.folder.now self.old.trunk)
-            (lent line.entry) o answer × (out.new.items ≡ out.old.items ++ answer)) }
+        ensures says { IfOk result (λ o. (answer : List ℕ)
+            × (KeepsPart (S.finds self.old.parts.now) self.old.folder.now self.old.part
+            → SaysOfLine (SaysByFolder (S.finds self.old.parts.now) self.old.folder.now self.old.trunk)
+            (lent line.entry) o answer) × (out.new.items ≡ out.old.items ++ answer)) }
         ensures err { IfErr result FailsFile }
     {
         match table_of_line(line) {
@@ -72,9 +72,9 @@ impl<S: PartLedgers> FolderLook<'_, S> {
         ensures trunk { OnOk result (self.new.trunk ≡ self.old.trunk) }
         ensures kept { OnOk result (KeepsPart (S.finds self.old.parts.now) self.old.folder.now self.old.part
             → KeepsPart (S.finds self.old.parts.now) self.old.folder.now self.new.part) }
-        ensures says { IfOk result (λ o. KeepsPart (S.finds self.old.parts.now) self.old.folder.now self.old.part
-            → (answer : List ℕ)
-            × SaysByFolder (S.finds self.old.parts.now) self.old.folder.now self.old.trunk t.now o answer
+        ensures says { IfOk result (λ o. (answer : List ℕ)
+            × (KeepsPart (S.finds self.old.parts.now) self.old.folder.now self.old.part
+            → SaysByFolder (S.finds self.old.parts.now) self.old.folder.now self.old.trunk t.now o answer)
             × (out.new.items ≡ out.old.items ++ answer)) }
         ensures err { IfErr result FailsFile }
     {

@@ -5,6 +5,6 @@ use Rattle.cmd_look.proofs.extension.has_entries.Goals as goal
 
 pub returns : goal.returns
 returns c =
-    let of : ComesOf c.args.t.now c.args.root.now = of_rows c.args.t.now c.args.root.now c.requires c.states.ensures.table
-    (λ q less. c.loop-q.invariant q (omega (arith, less, c.loop-q-test.false, c.states.ensures.states))) in
+    let of : ComesOf c.args.t.now c.args.root.now = of_rows c.args.t.now c.args.root.now c.requires c.states-q-end.ensures.table
+    (λ q less. c.loop-q.invariant q (omega (arith, less, c.loop-q-test.false, c.states-q-end.ensures.states))) in
     search rules

@@ -1,6 +1,5 @@
-use Rattle.std.proofs.Common.{rules, ◌≡◌, ℕ, List, [], ◌∷◌, ◌++◌, sym, ap, ◌∙◌, append_assoc, append-nil, subst}
+use Rattle.std.proofs.Common.{ℕ, List, [], ◌∷◌, ◌++◌, sym, ap, ◌∙◌, append_assoc}
 use Rattle.std.specs.Prelude.{map}
-use Rattle.std.specs.Io.KnownBytes.{Appends}
 use Rattle.std.specs.Vec.Iter.{into_iter_items}
 use Rattle.text.specs.Lines.{joined}
 use Rattle.machine_text.specs.Packed.{Packed}
@@ -26,11 +25,3 @@ loop-table-preserved g c =
           ∙ (ap (λ (l : List ℕ). before.0 ++ l) (append_assoc (text_of c.in-Some.table) (10 ∷ []) (joined (map text_of (into_iter_items c.next.new.self))))
           ∙ (ap (λ (ts : List Packed). before.0 ++ joined (map text_of ts)) (sym c.in-Some.ensures.steps.0) ∙ before.2)),
     )
-
-pub returns-clause-ok : goal.returns-clause-ok
-returns-clause-ok g c =
-    let before = c.loop-table.invariant in
-    let none : into_iter_items c.loop-table.table-iterator ≡ [] = c.in-None.ensures.steps.0 in
-    let all : before.0 ≡ joined (map text_of (into_iter_items c.args.holdouts)) =
-    sym (append-nil before.0) ∙ (ap (λ (ts : List Packed). before.0 ++ joined (map text_of ts)) (sym none) ∙ before.2) in
-    subst (Appends (g.W.Write.contents c.args.answers.now) (g.W.Write.contents c.loop-table.answers)) all before.1

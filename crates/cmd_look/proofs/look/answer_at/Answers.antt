@@ -7,5 +7,5 @@ returns-in_ok-outcome-in-Ok-clause-ok g c = inl (record {
   board = c.in-Ok.board;
   left = c.in-Ok.ensures.ok.0;
   reads = c.in-Ok.ensures.ok.1;
-  answers = ledger_stream (λ d. d.board) c.in-Ok.board _ _ _ _ _ _ _ refl c.in_ok-outcome.ensures.ok;
+  answers = ledger_stream (λ d. d.board) c.in-Ok.board _ _ _ _ _ _ _ refl c.in_ok-outcome-in-Ok.ensures.ok;
 })

@@ -1,4 +1,4 @@
-use Rattle.std.proofs.Common.{◌≡◌, Bool, true, false, List, inl, refl, sym, subst}
+use Rattle.std.proofs.Common.{◌≡◌, ◌∙◌, true, false, List, inl, refl, sym, subst}
 use Rattle.std.proofs.lemmas.Result.{err_from_is_err_and}
 use Rattle.machine_text.specs.Packed.{Packed}
 use Rattle.ledger.specs.Contents.{Contents, IsOpenOn}
@@ -31,7 +31,7 @@ returns g c =
     ] in
     let neither : new.is_sound ≡ false → both ≡ false = elim c.if-is_sound.branch [
       | then-is_sound w ↦ λ other. absurd (not_both new.is_sound w.if-is_sound.true other)
-      | else-is_sound w ↦ λ other. w.tell_whole-is
+      | else-is_sound w ↦ λ other. w.tell_whole-is ∙ other
     ] in
     let read = g.R.Read.remaining c.args.input.now in
     let new_read = g.R.Read.remaining c.take_ledgers.new.input in

@@ -1,5 +1,5 @@
 // `bb join -`: a trunk and its parts in one stream.
-ghost use Rattle.std.specs.Prelude.{List, ℕ, Option, Result};
+ghost use Rattle.std.specs.Prelude.{true, false, List, ℕ, Option, Result};
 ghost use Rattle.cmd_options.specs.declared.outcome.Outcome.{Outcome as Outcomes};
 ghost use Rattle.cmd_options.specs.declared.ended.Ended.{Ended as Ends};
 ghost use Rattle.cmd_options.specs.Ends.{EndsTold};
@@ -60,5 +60,14 @@ pub fn join_stream<P: ReportForm, R: Read, W: Write, E: Write>(
     };
     let roots = open_tables(alloc, whole.trunk())?;
     let are_all = says_missing(alloc, &roots, &came, faults)?;
-    tell_whole(alloc, form, &whole, is_sound && are_all, answers)
+    let both = are_both(is_sound, are_all);
+    tell_whole(alloc, form, &whole, both, answers)
+}
+
+// Whether nothing is wrong with the ledgers that came, and all came.
+fn are_both(is_sound: bool, are_all: bool) -> bool
+    ensures sound { is_sound ≡ true → result ≡ are_all }
+    ensures neither { is_sound ≡ false → result ≡ false }
+{
+    is_sound && are_all
 }

@@ -1,13 +1,12 @@
-use Rattle.std.proofs.Common.{◌≡◌, ◌∙◌, true, false, List, inl, refl, sym, subst}
+use Rattle.std.proofs.Common.{List, inl, refl, sym, subst}
 use Rattle.std.proofs.lemmas.Result.{err_from_is_err_and}
 use Rattle.machine_text.specs.Packed.{Packed}
 use Rattle.ledger.specs.Contents.{Contents, IsOpenOn}
 use Rattle.ledger.specs.Tally.{AreAll}
 use Rattle.cmd_options.specs.declared.ended.Ended.{Ended}
 use Rattle.cmd_stream.specs.Stream.{EndsStream}
-use Rattle.cmd_stream.proofs.Telling.{ends_taking, joins_so, not_both, told_so}
+use Rattle.cmd_stream.proofs.Telling.{ends_taking, joins_so, told_so}
 use Rattle.cmd_stream.proofs.joining.join_stream.Goals as goal
-use Rattle.cmd_stream.proofs.joining.join_stream.Goals.{then-is_sound, else-is_sound}
 
 pub returns-in_err-take_ledgers : goal.returns-in_err-take_ledgers
 returns-in_err-take_ledgers g c =
@@ -22,17 +21,9 @@ returns g c =
     let whole = c.in-Some.whole in
     let roots = c.deref.result.now in
     let all = c.in_ok-are_all.are_all in
-    let both = c.if-is_sound.tell_whole in
+    let both = c.are_both.result in
     let opened : AreAll (IsOpenOn whole.trunk) roots = subst (λ (l : List Packed). AreAll (IsOpenOn whole.trunk) l) (sym c.deref.ensures.value)
     (subst (λ (b : Contents). AreAll (IsOpenOn b) c.in_ok-roots.roots.items) c.trunk.ensures c.in_ok-roots.ensures) in
-    let if_sound : new.is_sound ≡ true → both ≡ all = elim c.if-is_sound.branch [
-      | then-is_sound w ↦ λ sound. w.tell_whole-is
-      | else-is_sound w ↦ λ sound. absurd (not_both new.is_sound sound w.if-is_sound.false)
-    ] in
-    let neither : new.is_sound ≡ false → both ≡ false = elim c.if-is_sound.branch [
-      | then-is_sound w ↦ λ other. absurd (not_both new.is_sound w.if-is_sound.true other)
-      | else-is_sound w ↦ λ other. w.tell_whole-is ∙ other
-    ] in
     let read = g.R.Read.remaining c.args.input.now in
     let new_read = g.R.Read.remaining c.take_ledgers.new.input in
     let said = g.W.Write.contents c.args.answers.now in
@@ -42,4 +33,4 @@ returns g c =
     let new_faults = g.E.Write.contents c.says_missing.new.faults in
     joins_so IsText c.tell_whole.result read new_read said new_said faults new_faults
     (told_so IsText c.new-joiner.result new whole roots all both c.tell_whole.result read new_read faults mid new_faults said new_said c.new-joiner.ensures.whole c.new-joiner.ensures.came c.in_ok-take_ledgers.ensures.ok
-    c.in-Some.is opened c.in_ok-are_all.ensures.ok if_sound neither c.tell_whole.ensures.ok) c.tell_whole.ensures.err
+    c.in-Some.is opened c.in_ok-are_all.ensures.ok c.are_both.ensures.sound c.are_both.ensures.neither c.tell_whole.ensures.ok) c.tell_whole.ensures.err

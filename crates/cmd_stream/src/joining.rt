@@ -1,5 +1,5 @@
 // `bb join -`: a trunk and its parts in one stream.
-ghost use Rattle.std.specs.Prelude.{true, false, List, ℕ, Option, Result};
+ghost use Rattle.std.specs.Prelude.{◌≡◌, true, false, List, ℕ, Option, Result};
 ghost use Rattle.cmd_options.specs.declared.outcome.Outcome.{Outcome as Outcomes};
 ghost use Rattle.cmd_options.specs.declared.ended.Ended.{Ended as Ends};
 ghost use Rattle.cmd_options.specs.Ends.{EndsTold};

@@ -21,7 +21,7 @@ returns g c =
     let whole = c.in-Some.whole in
     let roots = c.deref.result.now in
     let all = c.in_ok-are_all.are_all in
-    let both = c.are_both.result in
+    let both = c.are_both-both.result in
     let opened : AreAll (IsOpenOn whole.trunk) roots = subst (λ (l : List Packed). AreAll (IsOpenOn whole.trunk) l) (sym c.deref.ensures.value)
     (subst (λ (b : Contents). AreAll (IsOpenOn b) c.in_ok-roots.roots.items) c.trunk.ensures c.in_ok-roots.ensures) in
     let read = g.R.Read.remaining c.args.input.now in
@@ -33,4 +33,4 @@ returns g c =
     let new_faults = g.E.Write.contents c.says_missing.new.faults in
     joins_so IsText c.tell_whole.result read new_read said new_said faults new_faults
     (told_so IsText c.new-joiner.result new whole roots all both c.tell_whole.result read new_read faults mid new_faults said new_said c.new-joiner.ensures.whole c.new-joiner.ensures.came c.in_ok-take_ledgers.ensures.ok
-    c.in-Some.is opened c.in_ok-are_all.ensures.ok c.are_both.ensures.sound c.are_both.ensures.neither c.tell_whole.ensures.ok) c.tell_whole.ensures.err
+    c.in-Some.is opened c.in_ok-are_all.ensures.ok c.are_both-both.ensures.sound c.are_both-both.ensures.neither c.tell_whole.ensures.ok) c.tell_whole.ensures.err

@@ -2,7 +2,7 @@
 """The examples of README.md and docs/TOUR.md, as they stand there: stress/examples.py [DOCUMENT ..].
 
 Each line that begins with `$ ` in an indented block is given to the shell, the commands of a document one after the other in one
-folder, where `bb` and `./bb` are the program and `examples` the folder of that name; what is printed on both outputs has to be the
+folder, where `bb` and `./bb` are the program, and `examples` and `contrib` the folders of these names; what is printed on both outputs has to be the
 lines below it. Ends with 1 at the first that differs.
 """
 import os
@@ -40,7 +40,8 @@ def main():
             os.mkdir(os.path.join(folder, "bin"))
             for link in ("bb", "bin/bb"):
                 os.symlink(PROGRAM, os.path.join(folder, link))
-            os.symlink(os.path.join(TOP, "examples"), os.path.join(folder, "examples"))
+            for part in ("examples", "contrib"):
+                os.symlink(os.path.join(TOP, part), os.path.join(folder, part))
             environment = {**os.environ, "PATH": f"{folder}/bin:{os.environ['PATH']}", "LC_ALL": "C"}
             for command, printed in examples_of(document):
                 done = subprocess.run(["sh", "-c", command], cwd=folder, env=environment, stdout=subprocess.PIPE, stderr=subprocess.STDOUT, text=True, check=False)

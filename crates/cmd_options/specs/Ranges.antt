@@ -1,8 +1,9 @@
 -- The ranges of the options' numbers.
 use Rattle.std.specs.Prelude.{◌≡◌, ◌≤◌, None, IfSome}
 use Rattle.cmd_options.specs.declared.options.Options.{Options}
-use Rattle.cmd_options.specs.declared.options.Options.TheVariants.{Check, Decide, Coord, Run, Loop, Retry, Merge, Carry, Mend, Split, Settle, Join, Look, Draw, Page, Report}
+use Rattle.cmd_options.specs.declared.options.Options.TheVariants.{Check, Decide, Explain, Show, Tables, Coord, Run, Loop, Retry, Merge, Carry, Mend, Split, Settle, Join, Look, Draw, Page, RecordPage, Report}
 use Rattle.cmd_options.specs.declared.options.Search.{Search}
+use Rattle.cmd_options.specs.declared.drawing.Drawing.{Drawing}
 use Rattle.cmd_options.specs.declared.options.Beginning.{Beginning}
 use Rattle.cmd_options.specs.declared.options.Settling.{Settling}
 use Rattle.cmd_options.specs.declared.options.Splitting.{Splitting}
@@ -37,9 +38,20 @@ pub record IsSplitting (s : Splitting) : Type 0 where
   pub filled : s.filled ≤ 14
   pub search : IsWithinRange s.search
 
+pub record IsDrawing (d : Drawing) : Type 0 where
+  pub some_rows : 1 ≤ d.rows
+  pub rows : d.rows ≤ 10000
+  pub some_columns : 1 ≤ d.columns
+  pub some_pixels : 1 ≤ d.square
+  pub pixels : d.square ≤ 1000
+  pub some_height : IfSome d.height (λ pixels. 1 ≤ pixels)
+
 abbrev pub AreWithinRanges : Options → Type 0
-AreWithinRanges Check = Unit {0}
-AreWithinRanges (Decide search) = IsWithinRange search
+AreWithinRanges (Check checking) = Unit {0}
+AreWithinRanges (Decide search json) = IsWithinRange search
+AreWithinRanges (Explain json) = Unit {0}
+AreWithinRanges (Show showing) = 1 ≤ showing.every
+AreWithinRanges (Tables listing) = listing.steps ≤ 100000000
 AreWithinRanges (Coord beginning ledger) = IsBeginning beginning
 AreWithinRanges (Run settling ledger) = IsSettling settling
 AreWithinRanges (Loop settling ledger) = IsSettling settling × (settling.lose ≡ None)
@@ -51,6 +63,7 @@ AreWithinRanges (Split splitting) = IsSplitting splitting
 AreWithinRanges (Settle s) = IsWithinRange s.search
 AreWithinRanges (Join joining) = Unit {0}
 AreWithinRanges (Look looking) = Unit {0}
-AreWithinRanges (Draw drawing) = Unit {0}
+AreWithinRanges (Draw drawing) = IsDrawing drawing
 AreWithinRanges (Page file) = Unit {0}
+AreWithinRanges RecordPage = Unit {0}
 AreWithinRanges (Report file json why) = Unit {0}

@@ -11,6 +11,14 @@ pub struct Drawing<'a> {
     pub rows: u64,
     /// How many cells are drawn, with the first head in the middle; 0 where those are that the head visits.
     pub width: u64,
+    /// The most columns, 1 at least: where more cells are drawn, as many neighbours share a column as make it so.
+    pub columns: u64,
+    /// The most pixels that a cell is wide and high: 1 at least.
+    pub square: u64,
+    /// The most pixels that the picture is high; none where cells are squares.
+    pub height: Option<u64>,
+    /// Whether the picture is a PNG, in place of an SVG.
+    pub png: bool,
     /// The folder in which the pictures are files; none where one picture is drawn, to standard output.
     pub out: Option<&'a str>,
 }

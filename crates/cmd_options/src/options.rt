@@ -5,10 +5,24 @@ use crate::ledger_file::LedgerFile;
 /// What a command line asks for: a command, with its files and options under their names.
 #[derive(Clone, Copy, Debug, PartialEq, Eq)]
 pub enum Options<'a> {
-    /// `bb check`
-    Check,
-    /// `bb decide [--known FILE] [--steps K] [--depth D] [--gram G] [--far M] [--words W] [--count C] [--hard]`
-    Decide(Search<'a>),
+    /// `bb check [--json] [--why]`
+    Check(Checking),
+    /// `bb decide [--json] [--known FILE] [--steps K] [--depth D] [--gram G] [--far M] [--words W] [--count C] [--hard]`
+    Decide {
+        /// How far certificates are searched for.
+        search: Search<'a>,
+        /// Whether each answer is an object of JSON.
+        json: bool,
+    },
+    /// `bb explain [--json]`
+    Explain {
+        /// Whether each answer is an object of JSON.
+        json: bool,
+    },
+    /// `bb show [--from T] [--steps K] [--every E] [--fold]`
+    Show(Showing),
+    /// `bb tables [--normal] [--steps K] [--records]`
+    Tables(Listing),
     /// `bb coord N [--ledger FILE] [--sync] [--era E]`
     Coord {
         /// How a coordinator is begun.
@@ -52,13 +66,15 @@ pub enum Options<'a> {
     Join(Joining<'a>),
     /// `bb look PATH [--holdouts]`
     Look(Looking<'a>),
-    /// `bb draw [--from T] [--steps K] [--rows R] [--width W] [--out DIR]`
+    /// `bb draw [--from T] [--steps K] [--rows R] [--width W] [--columns C] [--square P] [--height H] [--png] [--out DIR]`
     Draw(Drawing<'a>),
     /// `bb page FILE`
     Page {
-        /// The ledger's path, or `-`: it is read from standard input.
+        /// The path of a ledger or of a folder of a trunk and its parts, or `-`: a ledger is read from standard input.
         file: &'a str,
     },
+    /// `bb page --table`: records are read from standard input
+    RecordPage,
     /// `bb report FILE [--json] [--why]`
     Report {
         /// The ledger's path, or `-`: it is read from standard input.
@@ -68,6 +84,39 @@ pub enum Options<'a> {
         /// Whether to say why the first line that isn't kept isn't.
         why: bool,
     },
+}
+
+/// What is said of records that are judged.
+#[derive(Clone, Copy, Debug, PartialEq, Eq)]
+pub struct Checking {
+    /// Whether each answer is an object of JSON.
+    pub json: bool,
+    /// Whether it is said in words what is right where a record is wrong.
+    pub why: bool,
+}
+
+/// Which configurations of a table's run are shown, and how.
+#[derive(Clone, Copy, Debug, PartialEq, Eq)]
+pub struct Showing {
+    /// The time of the first: so many steps from the blank tape.
+    pub from: u64,
+    /// How many steps are shown from there on.
+    pub steps: u64,
+    /// So many steps are between one that is shown and the next: 1 or more.
+    pub every: u64,
+    /// Whether runs of equal words are folded, as in `1^12 (01)^5`.
+    pub fold: bool,
+}
+
+/// How tables are taken from a text of any form.
+#[derive(Clone, Copy, Debug, PartialEq, Eq)]
+pub struct Listing {
+    /// Whether tables are renamed and mirrored into the form that their runs ask for.
+    pub normal: bool,
+    /// The most steps of such a run.
+    pub steps: u64,
+    /// Whether the records of tables are kept behind them.
+    pub records: bool,
 }
 
 /// The paths of two ledgers that are merged, and of the one that is written.

@@ -15,6 +15,7 @@ use Rattle.law_tree.specs.Tables.{IsChildTable}
 use Rattle.cert.specs.Claim.{Claim, Recorded, ending_by}
 use Rattle.ledger.specs.Records.{same_table, claim_in}
 use Rattle.ledger.specs.Contents.{Contents}
+use Rattle.ledger.specs.declared.format.Format.{Format}
 use Rattle.ledger.specs.Held.{resolved}
 use Rattle.ledger.specs.inside.Counting.{is_halting, says_halts}
 use Rattle.machine_text.specs.Order.{table_cmp}
@@ -167,9 +168,9 @@ settled_slot (y ∷ ys) r x (suc i) apart at table =
     ] refl
 
 -- what opened a table of the view opened it among the entries, before and after room was made
-pub opener_now : (root : Packed) (old es : List (Packed × StoredRecord)) (now : Contents) (t : Packed) (opener : ℕ)
-    → record { root = root; records = records_of old; format = now.format } ≡ now → es ≡ old
+pub opener_now : (root : Packed) (old es : List (Packed × StoredRecord)) (format : Format) (now : Contents) (t : Packed) (opener : ℕ)
+    → record { root = root; records = records_of old; format = format } ≡ now → es ≡ old
     → IsOpener now.root now.records t opener → IsOpener root (records_of es) t opener
-opener_now root old es now t opener view same is =
+opener_now root old es format now t opener view same is =
     subst (λ (l : List (Packed × StoredRecord)). IsOpener root (records_of l) t opener) (sym same)
     (subst (λ (b : Contents). IsOpener b.root b.records t opener) (sym view) is)

@@ -1,5 +1,5 @@
 -- For the code: where an offered record stands, and why it isn't taken.
-use Rattle.std.specs.Prelude.{◌≡◌, List, Option, Some, None, IsSome}
+use Rattle.std.specs.Prelude.{List, Option, Some, None, IsSome}
 use Rattle.machine_text.specs.Packed.{Packed}
 use Rattle.kind_evidence.specs.declared.verdicts.Ending.{Ending}
 use Rattle.law_tree.specs.Closed.{IsOpen}

@@ -51,7 +51,7 @@ change_chain-requires-clause-there c =
     let open_now = subst (λ (l : List (Packed × StoredRecord)). IsOpen root (mark_in (records_of l)) c.args.r.now.table) (sym c.in_ok-reserve.ensures.entries)
     (subst (λ (b : Contents). IsOpen b.root (mark_in b.records) c.args.r.now.table) (sym c.self.view_is) c.requires.is_open) in
     let opener = subst (IsOpener root (records_of es) c.args.r.now.table) (sym c.in_ok-stored.ensures.parent)
-    (opener_now c.self.inside.root c.self.inside.records.entries es c.args.self.now c.args.r.now.table c.args.opener c.self.view_is c.in_ok-reserve.ensures.entries c.requires.opener) in
+    (opener_now c.self.inside.root c.self.inside.records.entries es c.self.inside.format c.args.self.now c.args.r.now.table c.args.opener c.self.view_is c.in_ok-reserve.ensures.entries c.requires.opener) in
     let ready = ready_taken root es c.insert.new.self.entries r c.in_ok-stored.stored c.in_ok-place.place now.0 now.4 open_now certified.0 certified.1 (sym c.lent.ensures) opener
     (c.in_ok-stored.ensures.tree ∙ c.first.ensures) c.in-Ok.ensures.entries (c.in_ok-place.ensures.is ∙ many) c.in_ok-place.ensures.small in
     ready_there root (records_of es) c.insert.new.self.entries r c.in_ok-place.place ready
@@ -68,7 +68,7 @@ change_chain-requires-clause-earlier c =
     let open_now = subst (λ (l : List (Packed × StoredRecord)). IsOpen root (mark_in (records_of l)) c.args.r.now.table) (sym c.in_ok-reserve.ensures.entries)
     (subst (λ (b : Contents). IsOpen b.root (mark_in b.records) c.args.r.now.table) (sym c.self.view_is) c.requires.is_open) in
     let opener = subst (IsOpener root (records_of es) c.args.r.now.table) (sym c.in_ok-stored.ensures.parent)
-    (opener_now c.self.inside.root c.self.inside.records.entries es c.args.self.now c.args.r.now.table c.args.opener c.self.view_is c.in_ok-reserve.ensures.entries c.requires.opener) in
+    (opener_now c.self.inside.root c.self.inside.records.entries es c.self.inside.format c.args.self.now c.args.r.now.table c.args.opener c.self.view_is c.in_ok-reserve.ensures.entries c.requires.opener) in
     let ready = ready_taken root es c.insert.new.self.entries r c.in_ok-stored.stored c.in_ok-place.place now.0 now.4 open_now certified.0 certified.1 (sym c.lent.ensures) opener
     (c.in_ok-stored.ensures.tree ∙ c.first.ensures) c.in-Ok.ensures.entries (c.in_ok-place.ensures.is ∙ many) c.in_ok-place.ensures.small in
     ready_earlier root (records_of es) c.insert.new.self.entries r c.in_ok-place.place ready
@@ -85,7 +85,7 @@ change_chain-requires-clause-room c =
     let open_now = subst (λ (l : List (Packed × StoredRecord)). IsOpen root (mark_in (records_of l)) c.args.r.now.table) (sym c.in_ok-reserve.ensures.entries)
     (subst (λ (b : Contents). IsOpen b.root (mark_in b.records) c.args.r.now.table) (sym c.self.view_is) c.requires.is_open) in
     let opener = subst (IsOpener root (records_of es) c.args.r.now.table) (sym c.in_ok-stored.ensures.parent)
-    (opener_now c.self.inside.root c.self.inside.records.entries es c.args.self.now c.args.r.now.table c.args.opener c.self.view_is c.in_ok-reserve.ensures.entries c.requires.opener) in
+    (opener_now c.self.inside.root c.self.inside.records.entries es c.self.inside.format c.args.self.now c.args.r.now.table c.args.opener c.self.view_is c.in_ok-reserve.ensures.entries c.requires.opener) in
     let ready = ready_taken root es c.insert.new.self.entries r c.in_ok-stored.stored c.in_ok-place.place now.0 now.4 open_now certified.0 certified.1 (sym c.lent.ensures) opener
     (c.in_ok-stored.ensures.tree ∙ c.first.ensures) c.in-Ok.ensures.entries (c.in_ok-place.ensures.is ∙ many) c.in_ok-place.ensures.small in
     let change = c.of_taking.ensures ∙ (ap (λ (o : Option Ending). taking_change c.child_count-opened.result o c.ones-score.result) c.ending-shown.ensures
@@ -116,7 +116,7 @@ invariant_of-self-2 c =
     let open_now = subst (λ (l : List (Packed × StoredRecord)). IsOpen root (mark_in (records_of l)) c.args.r.now.table) (sym c.in_ok-reserve.ensures.entries)
     (subst (λ (b : Contents). IsOpen b.root (mark_in b.records) c.args.r.now.table) (sym c.self.view_is) c.requires.is_open) in
     let opener = subst (IsOpener root (records_of es) c.args.r.now.table) (sym c.in_ok-stored.ensures.parent)
-    (opener_now c.self.inside.root c.self.inside.records.entries es c.args.self.now c.args.r.now.table c.args.opener c.self.view_is c.in_ok-reserve.ensures.entries c.requires.opener) in
+    (opener_now c.self.inside.root c.self.inside.records.entries es c.self.inside.format c.args.self.now c.args.r.now.table c.args.opener c.self.view_is c.in_ok-reserve.ensures.entries c.requires.opener) in
     let ready = ready_taken root es c.insert.new.self.entries r c.in_ok-stored.stored c.in_ok-place.place now.0 now.4 open_now certified.0 certified.1 (sym c.lent.ensures) opener
     (c.in_ok-stored.ensures.tree ∙ c.first.ensures) c.in-Ok.ensures.entries (c.in_ok-place.ensures.is ∙ many) c.in_ok-place.ensures.small in
     let change = c.of_taking.ensures ∙ (ap (λ (o : Option Ending). taking_change c.child_count-opened.result o c.ones-score.result) c.ending-shown.ensures
@@ -142,7 +142,7 @@ returns-clause-ok c =
     let open_now = subst (λ (l : List (Packed × StoredRecord)). IsOpen root (mark_in (records_of l)) c.args.r.now.table) (sym c.in_ok-reserve.ensures.entries)
     (subst (λ (b : Contents). IsOpen b.root (mark_in b.records) c.args.r.now.table) (sym c.self.view_is) c.requires.is_open) in
     let opener = subst (IsOpener root (records_of es) c.args.r.now.table) (sym c.in_ok-stored.ensures.parent)
-    (opener_now c.self.inside.root c.self.inside.records.entries es c.args.self.now c.args.r.now.table c.args.opener c.self.view_is c.in_ok-reserve.ensures.entries c.requires.opener) in
+    (opener_now c.self.inside.root c.self.inside.records.entries es c.self.inside.format c.args.self.now c.args.r.now.table c.args.opener c.self.view_is c.in_ok-reserve.ensures.entries c.requires.opener) in
     let ready = ready_taken root es c.insert.new.self.entries r c.in_ok-stored.stored c.in_ok-place.place now.0 now.4 open_now certified.0 certified.1 (sym c.lent.ensures) opener
     (c.in_ok-stored.ensures.tree ∙ c.first.ensures) c.in-Ok.ensures.entries (c.in_ok-place.ensures.is ∙ many) c.in_ok-place.ensures.small in
     let before = ap records_of c.in_ok-reserve.ensures.entries ∙ ap (λ (b : Contents). b.records) c.self.view_is in (

@@ -1,11 +1,22 @@
-use Rattle.std.proofs.Common.{List, ℕ, Some, None, refl, inl, inr, sym, ◌∙◌, subst, rules}
-use Rattle.std.specs.Prelude.{◌≡◌, ◌⊎◌}
+use Rattle.std.proofs.Common.{IsSome, inl, refl, sym, subst}
 use Rattle.law_tree.specs.Closed.{IsOpen}
 use Rattle.ledger.specs.Records.{mark_in}
 use Rattle.ledger.specs.Contents.{Contents}
 use Rattle.ledger.specs.inside.Open.{IsOpener}
+use Rattle.ledger.specs.inside.Stored.{records_of}
 use Rattle.ledger.proofs.Openers.{opener_at}
 use Rattle.ledger.proofs.board.Board.unrecorded_footing.Goals as goal
 
 pub returns-in-Some : goal.returns-in-Some
-returns-in-Some c = ?
+returns-in-Some c =
+    let t = c.args.t.now in
+    let opener = c.in-Some.opener.now in
+    let map = c.self.inside.open_tables in
+    let is_open = (c.self.invariant.1.exact t).0 (subst IsSome c.in-Some.ensures.value refl) in
+    let opens = opener_at c.self.inside.root (records_of c.self.inside.records.entries) t opener map.entries c.self.invariant.1.openers (sym c.in-Some.ensures.value) in
+    inl (
+      opener,
+      subst (λ (b : Contents). IsOpen b.root (mark_in b.records) t) c.self.view_is is_open,
+      subst (λ (b : Contents). IsOpener b.root b.records t opener) c.self.view_is opens,
+      refl,
+    )

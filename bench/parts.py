@@ -93,7 +93,7 @@ class Slurm:
             os.mkdir(os.path.join(folder, name))
         with open(path, "w", encoding="ascii") as file:
             file.write(CONFIGURATION.format(host=socket.gethostname(), folder=folder, processors=os.cpu_count()))
-        self.environment = dict(os.environ, SLURM_CONF=path, BB=PROGRAM)
+        self.environment = dict(os.environ, SLURM_CONF=path, BB=PROGRAM, PART=os.path.join(TOP, "contrib", "part.sh"))
         self.pids = [os.path.join(folder, f"{name}.pid") for name in ("slurmd", "slurmctld")]
         for daemon in ("slurmctld", "slurmd"):
             subprocess.run([daemon, "-f", path], env=self.environment, check=True)

@@ -3,7 +3,7 @@ ghost use Rattle.cmd_options.specs.Ranges.{AreWithinRanges};
 
 use crate::call::Call;
 use crate::known_file::KnownFile;
-use crate::{folders, ledgers, lines, nodes, pictures};
+use crate::{folders, ledgers, lines, nodes, pictures, texts};
 use cmd_nodes::Sockets;
 use cmd_options::{Ended, Options, Outcome, told};
 use files::Disk;
@@ -11,8 +11,8 @@ use std::alloc::Global;
 use std::io::{Read, Write};
 use std::time::Clock;
 
-/// Does what is asked for: `bb check`, `bb decide`, `bb draw` and `bb coord` read `input`, and so do `bb report -`,
-/// `bb page -`, `bb mend -` and `bb join -`. The answer goes to `answers`, and what ends the command early to `faults`. Each end is an
+/// Does what is asked for: `bb check`, `bb decide`, `bb explain`, `bb show`, `bb tables`, `bb draw` and `bb coord` read
+/// `input`, and so do `bb report -`, `bb page -`, `bb mend -` and `bb join -`. The answer goes to `answers`, and what ends the command early to `faults`. Each end is an
 /// `Outcome`: want of memory and a stream or a file that fails too.
 pub fn execute<S: Disk + Clock + Sockets, R: Read, W: Write, E: Write>(
     alloc: Global,
@@ -49,8 +49,11 @@ impl<S: Disk + Clock + Sockets, R: Read, W: Write, E: Write> Call<'_, S, R, W, E
         requires { AreWithinRanges asked }
     {
         match asked {
-            Options::Check => lines::check(self),
-            Options::Decide(search) => lines::decide(self, &search),
+            Options::Check(checking) => lines::check(self, checking),
+            Options::Decide { search, json } => lines::decide(self, &search, json),
+            Options::Explain { json } => texts::explain(self, json),
+            Options::Show(showing) => texts::show(self, &showing),
+            Options::Tables(listing) => texts::tables(self, &listing),
             Options::Draw(drawing) => pictures::draw(self, &drawing),
             Options::Coord { beginning, ledger } => nodes::coord(self, beginning, ledger),
             Options::Run { settling, ledger } => nodes::run(self, &settling, ledger),

@@ -1,8 +1,8 @@
 // The commands, a row each.
 use crate::arguments::*;
 use crate::help::{
-    CARRY, COORD, DECIDE, DRAW, JOIN, LOOK, LOOP, MEND, MERGE, PAGE, RECORDS, REPORT, RETRY, RUN,
-    SETTLE, SPLIT,
+    CARRY, COORD, DECIDE, DRAW, EXPLAIN, JOIN, LOOK, LOOP, MEND, MERGE, PAGE, RECORDS as RECORD_HELP,
+    REPORT, RETRY, RUN, SETTLE, SHOW, SPLIT, TABLES,
 };
 use crate::words::Argument::{self, Flag, Number, Text};
 
@@ -24,13 +24,22 @@ pub(crate) const SEARCH: [Argument; 2] = [Text(KNOWN), Number(STEPS)];
 pub(crate) const SEARCH_BY_STAGES: [Argument; 1] = [Flag(HARD)];
 
 #[rattlefmt::skip]
-pub(crate) const COMMANDS: [CommandWords; 16] = [
-    CommandWords { name: "check", searches: false, after_help: RECORDS,
+pub(crate) const COMMANDS: [CommandWords; 19] = [
+    CommandWords { name: "check", searches: false, after_help: RECORD_HELP,
         about: "Checks a record a line on standard input, and prints an answer a line.",
-        arguments: &[] },
+        arguments: &[Flag(LINES_JSON), Flag(RECORD_WHY)] },
     CommandWords { name: "decide", searches: true, after_help: DECIDE,
         about: "Reads a table a line on standard input, and prints a record a line.",
-        arguments: &[] },
+        arguments: &[Flag(LINES_JSON)] },
+    CommandWords { name: "explain", searches: false, after_help: EXPLAIN,
+        about: "Checks a record a line on standard input, and says in words what its check has shown.",
+        arguments: &[Flag(LINES_JSON)] },
+    CommandWords { name: "show", searches: false, after_help: SHOW,
+        about: "Reads a table or a record a line on standard input, and prints its run as text.",
+        arguments: &[Number(FROM), Number(SHOWN), Number(EVERY), Flag(FOLD)] },
+    CommandWords { name: "tables", searches: false, after_help: TABLES,
+        about: "Reads any text on standard input, and prints the tables in it, a line each.",
+        arguments: &[Flag(NORMAL), Number(RUN_STEPS), Flag(RECORDS)] },
     CommandWords { name: "run", searches: true, after_help: RUN,
         about: "Settles the tree of all machines of N states in this process, and prints the report.",
         arguments: &[Number(STATES), Number(WORKERS), Text(LEDGER), Flag(LEDGER_SYNC), Number(LOSE), Number(ROUNDS),
@@ -67,8 +76,9 @@ pub(crate) const COMMANDS: [CommandWords; 16] = [
         about: "Reads a table a line on standard input, and prints its record in a ledger, or in a tree in parts.",
         arguments: &[Text(LOOKED), Flag(HOLDOUTS)] },
     CommandWords { name: "draw", searches: false, after_help: DRAW,
-        about: "Reads a table or a record a line on standard input, and draws its run as SVG.",
-        arguments: &[Number(FROM), Number(DRAWN), Number(ROWS), Number(WIDTH), Text(PICTURES)] },
+        about: "Reads a table or a record a line on standard input, and draws its run as SVG or PNG.",
+        arguments: &[Number(FROM), Number(DRAWN), Number(ROWS), Number(WIDTH), Number(COLUMNS), Number(SQUARE),
+            Number(HEIGHT), Flag(PNG), Text(PICTURES)] },
     CommandWords { name: "page", searches: false, after_help: PAGE,
         about: "Prints the report of a ledger as one HTML page, with pictures.",
         arguments: &[Text(READ)] },

@@ -3,18 +3,19 @@ ghost use Rattle.std.specs.Prelude.{◌≡◌, ◌≤◌, IfOk, IfSome};
 ghost use Rattle.cmd_options.specs.Ranges.{AreWithinRanges, IsSettling, IsWithinRange};
 
 use crate::arguments::{
-    CARRIED, DAMAGED, DRAWN, ERA, FILE, FILLED, FIRST, FOLDER, FROM, HARD, HOLDOUTS, JOIN_READ,
-    JOINED, JSON, KNOWN, LEDGER, LOOKED, LOSE, MENDED, MERGED, OLD, PICTURES, PROGRESS, READ,
-    ROUNDS, ROWS, SECOND, STATES, STEPS, SYNC, WHY, WIDTH, WORKERS,
+    CARRIED, COLUMNS, DAMAGED, DRAWN, ERA, EVERY, FILE, FILLED, FIRST, FOLD, FOLDER, FROM, HARD,
+    HEIGHT, HOLDOUTS, JOIN_READ, JOINED, JSON, KNOWN, LEDGER, LINES_JSON, LOOKED, LOSE, MENDED,
+    MERGED, NORMAL, OLD, PICTURES, PNG, PROGRESS, READ, RECORD_WHY, RECORDS, ROUNDS, ROWS,
+    RUN_STEPS, SECOND, SHOWN, SQUARE, STATES, STEPS, SYNC, WHY, WIDTH, WORKERS,
 };
 use crate::grammar::program;
 use crate::line_fault::LineFault;
 use clap::error::ErrorKind;
 use clap::{ArgMatches, Error};
 use cmd_options::{
-    Beginning, COUNT, Carrying, DEPTH, Drawing, Durability, FAR, GRAM, Joining, LedgerFile,
-    LedgerSettling, Looking, Mending, Merging, NoMemory, Number, Options, Search, Settling,
-    Splitting, WORDS,
+    Beginning, COUNT, Carrying, Checking, DEPTH, Drawing, Durability, FAR, GRAM, Joining,
+    LedgerFile, LedgerSettling, Listing, Looking, Mending, Merging, NoMemory, Number, Options,
+    Search, Settling, Showing, Splitting, WORDS,
 };
 use std::alloc::Global;
 
@@ -42,8 +43,11 @@ fn asked<'a>(name: &str, command: &ArgMatches<'a>) -> Result<Options<'a>, LineFa
     ensures { IfOk result AreWithinRanges }
 {
     match name {
-        "check" => Ok(Options::Check),
-        "decide" => Ok(Options::Decide(search_of(command)?)),
+        "check" => Ok(check_options(command)),
+        "decide" => decide_options(command),
+        "explain" => Ok(explain_options(command)),
+        "show" => show_options(command),
+        "tables" => tables_options(command),
         "coord" => coord_options(command),
         "run" => run_options(command),
         "loop" => loop_options(command),
@@ -149,6 +153,53 @@ fn written_of<'a>(matches: &ArgMatches<'a>, path: &'a str) -> LedgerFile<'a> {
         Durability::System
     };
     LedgerFile { path, durability }
+}
+
+fn check_options<'a>(check: &ArgMatches<'a>) -> Options<'a>
+    ensures { AreWithinRanges result }
+{
+    Options::Check(Checking {
+        json: check.get_flag(LINES_JSON.name),
+        why: check.get_flag(RECORD_WHY.name),
+    })
+}
+
+fn decide_options<'a>(decide: &ArgMatches<'a>) -> Result<Options<'a>, LineFault>
+    ensures { IfOk result AreWithinRanges }
+{
+    Ok(Options::Decide {
+        search: search_of(decide)?,
+        json: decide.get_flag(LINES_JSON.name),
+    })
+}
+
+fn explain_options<'a>(explain: &ArgMatches<'a>) -> Options<'a>
+    ensures { AreWithinRanges result }
+{
+    Options::Explain {
+        json: explain.get_flag(LINES_JSON.name),
+    }
+}
+
+fn show_options<'a>(show: &ArgMatches<'a>) -> Result<Options<'a>, LineFault>
+    ensures { IfOk result AreWithinRanges }
+{
+    Ok(Options::Show(Showing {
+        from: number_of(show, FROM)?,
+        steps: number_of(show, SHOWN)?,
+        every: number_of(show, EVERY)?,
+        fold: show.get_flag(FOLD.name),
+    }))
+}
+
+fn tables_options<'a>(tables: &ArgMatches<'a>) -> Result<Options<'a>, LineFault>
+    ensures { IfOk result AreWithinRanges }
+{
+    Ok(Options::Tables(Listing {
+        normal: tables.get_flag(NORMAL.name),
+        steps: number_of(tables, RUN_STEPS)?,
+        records: tables.get_flag(RECORDS.name),
+    }))
 }
 
 fn coord_options<'a>(coord: &ArgMatches<'a>) -> Result<Options<'a>, LineFault>
@@ -288,6 +339,10 @@ fn draw_options<'a>(draw: &ArgMatches<'a>) -> Result<Options<'a>, LineFault>
         steps: number_if_given(draw, DRAWN)?,
         rows: number_of(draw, ROWS)?,
         width: number_of(draw, WIDTH)?,
+        columns: number_of(draw, COLUMNS)?,
+        square: number_of(draw, SQUARE)?,
+        height: number_if_given(draw, HEIGHT)?,
+        png: draw.get_flag(PNG.name),
         out: draw.get_str(PICTURES.name),
     }))
 }

@@ -1,3 +1,4 @@
+pub mod ColumnLaws
 pub mod RunLaws
 pub mod VisitLaws
 pub mod RowLaws

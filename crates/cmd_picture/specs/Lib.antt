@@ -1,8 +1,11 @@
 pub mod View
 pub mod Times
+pub mod Tones
 pub mod Runs
 pub mod Rows
 pub mod Visits
 pub mod Style
+pub mod Pixels
 pub mod Svg
+pub mod drawn
 pub mod inside

@@ -2,10 +2,10 @@
 ghost use Rattle.std.specs.Prelude.{◌≡◌, IfOk};
 ghost use Rattle.machine_text.specs.Packed.{entry_of};
 ghost use Rattle.cmd_picture.specs.Times.{AreWithinRuns};
-ghost use Rattle.cmd_draw.specs.Picture.{IsPicture, IsViewOf, centred, times_of};
+ghost use Rattle.cmd_draw.specs.Picture.{IsPicture, IsViewOf, centred, size_of, times_of};
 
 use cmd_options::Drawing;
-use cmd_picture::{Times, View, placement, svg};
+use cmd_picture::{Size, Times, View, placement, svg};
 use machine_text::Table;
 use std::alloc::Global;
 use tape::NoMemory;
@@ -16,8 +16,19 @@ pub fn picture_of(alloc: Global, t: &Table, drawing: &Drawing<'_>) -> Result<Vec
     ensures { IfOk result (λ text. IsPicture drawing.now t.now text.items) }
 {
     let times = times_of(drawing);
-    let view = view_of(alloc, t, times, drawing.width)?;
-    svg(alloc, *t, view, times)
+    let cells = view_of(alloc, t, times, drawing.width)?;
+    let view = cells.in_columns(drawing.columns);
+    svg(alloc, *t, view, times, size_of(drawing))
+}
+
+// How large the picture is made.
+fn size_of(drawing: &Drawing<'_>) -> Size
+    ensures { result ≡ size_of drawing.now }
+{
+    Size {
+        square: drawing.square,
+        height: drawing.height,
+    }
 }
 
 // The times that are drawn.
@@ -52,5 +63,6 @@ fn centred(width: u64) -> View
     View {
         left: 0_i64.saturating_sub_unsigned(width / 2),
         width,
+        share: 1,
     }
 }

@@ -196,12 +196,12 @@ whole t v times size rows number d text table same view drawn is =
     let has : HasRows v drawn.0 d = subst (λ (w : View). HasRows w drawn.0 d) view drawn.3 in (
       drawn.0,
       subst (λ (q : Packed). AreRows (entry_of q) v times 0 drawn.0) table
-      (subst (λ (w : View). AreRows (entry_of rows.table) w times 0 drawn.0) view (subst (λ (u : Times). AreRows (entry_of rows.table) rows.view u 0 drawn.0) same drawn.1)),
+          (subst (λ (w : View). AreRows (entry_of rows.table) w times 0 drawn.0) view (subst (λ (u : Times). AreRows (entry_of rows.table) rows.view u 0 drawn.0) same drawn.1)),
       is ∙ ap (λ n. drawn_svg t (pixels_of size (columns_of v) n) (columns_of v) n d.dark.items d.pale.items d.heads.items d.line.items) drawn.2
-      ∙ ap (λ (s : List ℕ). drawn_svg t (pixels_of size (columns_of v) (length drawn.0)) (columns_of v) (length drawn.0) s d.pale.items d.heads.items d.line.items) has.dark
-      ∙ ap (λ (s : List ℕ). drawn_svg t (pixels_of size (columns_of v) (length drawn.0)) (columns_of v) (length drawn.0) (flat_map dark_svg drawn.0) s d.heads.items d.line.items) has.pale
-      ∙ ap (λ (s : List Head). drawn_svg t (pixels_of size (columns_of v) (length drawn.0)) (columns_of v) (length drawn.0) (flat_map dark_svg drawn.0) (flat_map pale_svg drawn.0) s d.line.items) has.heads
-      ∙ ap (λ (s : List ℕ). drawn_svg t (pixels_of size (columns_of v) (length drawn.0)) (columns_of v) (length drawn.0) (flat_map dark_svg drawn.0) (flat_map pale_svg drawn.0) (flat_map head_in drawn.0) s) has.line,
+          ∙ ap (λ (s : List ℕ). drawn_svg t (pixels_of size (columns_of v) (length drawn.0)) (columns_of v) (length drawn.0) s d.pale.items d.heads.items d.line.items) has.dark
+          ∙ ap (λ (s : List ℕ). drawn_svg t (pixels_of size (columns_of v) (length drawn.0)) (columns_of v) (length drawn.0) (flat_map dark_svg drawn.0) s d.heads.items d.line.items) has.pale
+          ∙ ap (λ (s : List Head). drawn_svg t (pixels_of size (columns_of v) (length drawn.0)) (columns_of v) (length drawn.0) (flat_map dark_svg drawn.0) (flat_map pale_svg drawn.0) s d.line.items) has.heads
+          ∙ ap (λ (s : List ℕ). drawn_svg t (pixels_of size (columns_of v) (length drawn.0)) (columns_of v) (length drawn.0) (flat_map dark_svg drawn.0) (flat_map pale_svg drawn.0) (flat_map head_in drawn.0) s) has.line,
     )
 
 -- something for a state more

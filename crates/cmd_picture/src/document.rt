@@ -65,12 +65,7 @@ fn append_document(
 }
 
 // Appends what stands before the columns.
-fn append_opening(
-    t: &Table,
-    width: u64,
-    height: u64,
-    out: &mut Vec<u8>,
-) -> Result<(), NoMemory>
+fn append_opening(t: &Table, width: u64, height: u64, out: &mut Vec<u8>) -> Result<(), NoMemory>
     requires { height + 65536 ≤ 2 ^ 64 }
     ensures { OnOk result (out.new.items ≡ out.old.items ++ opening t.now width height) }
 {

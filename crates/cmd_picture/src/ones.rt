@@ -75,15 +75,7 @@ fn end_column(view: &View, end_cell: u64) -> u64
 }
 
 // The first of some columns that has a tone, or hasn't, otherwise than asked; the one after them where there is none.
-fn pass(
-    tape: &Tape,
-    view: &View,
-    tone: Tone,
-    has: bool,
-    from: u64,
-    end: u64,
-    end_cell: u64,
-) -> u64
+fn pass(tape: &Tape, view: &View, tone: Tone, has: bool, from: u64, end: u64, end_cell: u64) -> u64
     requires order { from ≤ end }
     requires share { 0 < view.now.share }
     requires columns { end ≤ columns_of view.now }

@@ -24,12 +24,7 @@ pub(crate) fn append_heads(
 }
 
 // Appends the heads that are in one state.
-fn append_class(
-    room: bool,
-    state: State,
-    heads: &[Head],
-    out: &mut Vec<u8>,
-) -> Result<(), NoMemory>
+fn append_class(room: bool, state: State, heads: &[Head], out: &mut Vec<u8>) -> Result<(), NoMemory>
     ensures { OnOk result (out.new.items ≡ out.old.items ++ class_svg state.0 (marks_svg room state.0 heads.now)) }
 {
     append_beginning(state.0, out)?;

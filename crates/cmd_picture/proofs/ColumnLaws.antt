@@ -76,10 +76,6 @@ ones_more ones v first cell onward =
     let here : place v first +ℤ pos (cell - first) ≡ place v cell = omega (arith, ints, onward) in
     ap (ones_from ones (place v first)) next ∙ ap (λ (x : ℤ). ones_from ones (place v first) (cell - first) + ones_at (cell_of ones x)) here
 
-pub no_cells : (ones : set.FinSet int_cmp) (x : ℤ) (first : ℕ) → 0 ≡ ones_from ones x (first - first)
-unfolding ones_from
-no_cells ones x first = ap (ones_from ones x) (let e : 0 ≡ first - first = omega arith in e)
-
 -- cells have no more columns than those of a view
 pub column_within : (w s e : ℕ) → 0 < s → 0 < e → e ≤ w → (e - 1) / s + 1 ≤ (if nat_eq w 0 then 0 else (w - 1) / s + 1)
 column_within w s e shared some less =

@@ -13,7 +13,7 @@ use Rattle.cmd_picture.specs.declared.times.Times.{Times}
 use Rattle.cmd_picture.specs.declared.view.View.{View}
 use Rattle.cmd_picture.specs.Rows.{Shown, IsRow, AreRows, Progress, GivesRow}
 use Rattle.cmd_picture.specs.Pixels.{pixels_of}
-use Rattle.cmd_picture.specs.Svg.{dark_svg, pale_svg, halt_svg, head_in, each_state, width_in, height_in, body_svg, closing, document, drawn_svg, svg_text}
+use Rattle.cmd_picture.specs.Svg.{dark_svg, pale_svg, halt_svg, head_in, joined, width_in, height_in, body_svg, closing, document, drawn_svg, svg_text}
 use Rattle.cmd_picture.specs.drawn.{HasRow, HasRows}
 use Rattle.cmd_picture.specs.Times.{AreWithinRuns, due, last_time}
 use Rattle.cmd_picture.specs.View.{columns_of}
@@ -64,32 +64,31 @@ pub record AreSoFar (m : Machine) (v : View) (t : Times) (rows : List Shown) (ov
   pub ended : over ≡ true → AreRows m v t 0 rows
   pub going : over ≡ false → AreFirst m v t 0 rows
 
--- they were drawn
-pub record AreDrawn (m : Machine) (v : View) (t : Times) (over : Bool) (number : ℕ) (drawn : Drawn) : Type 0 where
+-- they were drawn, as is said of them
+pub record AreDrawn (m : Machine) (v : View) (t : Times) (over : Bool) (number : ℕ) (IsOf : List Shown → Type 0) : Type 0 where
   pub rows : List Shown
   pub so_far : AreSoFar m v t rows over
   pub count : number ≡ length rows
-  pub has : HasRows v rows drawn
+  pub has : IsOf rows
 
 none_yet : (m : Machine) (v : View) (t : Times) → AreFirst m v t 0 []
 unfolding AreFirst
 none_yet m v t = tt
 
 -- none at first
-pub drawn_none : (m : Machine) (v : View) (t : Times) (over : Bool) (number : ℕ) (drawn : Drawn) → over ≡ false → number ≡ 0 → drawn.dark.items ≡ [] → drawn.pale.items ≡ []
-    → drawn.line.items ≡ [] → drawn.heads.items ≡ [] → AreDrawn m v t over number drawn
-drawn_none m v t over number drawn goes none dark pale line heads = record {
+pub drawn_none : (m : Machine) (v : View) (t : Times) (over : Bool) (number : ℕ) (IsOf : List Shown → Type 0) → over ≡ false → number ≡ 0 → IsOf [] → AreDrawn m v t over number IsOf
+drawn_none m v t over number IsOf goes none has = record {
   rows = [];
   so_far = record {
     ended = λ halts. absurd (let e : true ≡ false = sym halts ∙ goes in cc);
     going = λ is. none_yet m v t;
   };
   count = none;
-  has = record { dark = dark; pale = pale; line = line; heads = heads };
+  has = has;
 }
 
 -- a row more in each colour
-has_more : (v : View) (rows : List Shown) (r : Shown) (old new : Drawn) → HasRows v rows old → HasRow (columns_of v) r old new → HasRows v (rows ++ r ∷ []) new
+pub has_more : (v : View) (rows : List Shown) (r : Shown) (old new : Drawn) → HasRows v rows old → HasRow (columns_of v) r old new → HasRows v (rows ++ r ∷ []) new
 has_more v rows r old new has row = record {
   dark = row.dark ∙ ap (λ s. s ++ dark_svg r) has.dark ∙ flat_map_more dark_svg [] rows r;
   pale = row.pale ∙ ap (λ s. s ++ pale_svg r) has.pale ∙ flat_map_more pale_svg [] rows r;
@@ -98,9 +97,9 @@ has_more v rows r old new has row = record {
 }
 
 -- one row more
-drawn_more : (m : Machine) (v : View) (t : Times) (over halts : Bool) (number next : ℕ) (old new : Drawn) (r : Shown) → AreDrawn m v t over number old
-    → over ≡ false → IsRow m v t number r → halts ≡ r.halts → next ≡ number + 1 → HasRow (columns_of v) r old new → AreDrawn m v t halts next new
-drawn_more m v t over halts number next old new r drawn goes row same more has =
+drawn_more : (m : Machine) (v : View) (t : Times) (over halts : Bool) (number next : ℕ) (WasOf IsOf : List Shown → Type 0) (r : Shown) → AreDrawn m v t over number WasOf
+    → over ≡ false → IsRow m v t number r → halts ≡ r.halts → next ≡ number + 1 → ((rows : List Shown) → WasOf rows → IsOf (rows ++ r ∷ [])) → AreDrawn m v t halts next IsOf
+drawn_more m v t over halts number next WasOf IsOf r drawn goes row same more has =
     let first : AreFirst m v t 0 drawn.rows = drawn.so_far.going goes in
     let is_next : number ≡ 0 + length drawn.rows = let count = drawn.count in omega arith in
     let here : IsRow m v t (0 + length drawn.rows) r = subst (λ k. IsRow m v t k r) is_next row in
@@ -111,13 +110,13 @@ drawn_more m v t over halts number next old new r drawn goes row same more has =
         going = λ on. first_push m v t 0 drawn.rows r first here (sym same ∙ on);
       };
       count = let count = drawn.count in let pushed = length_push drawn.rows r in omega arith;
-      has = has_more v drawn.rows r old new drawn.has has;
+      has = has drawn.rows drawn.has;
     }
 
 -- no row more: those are all
-drawn_all : (m : Machine) (v : View) (t : Times) (over : Bool) (number : ℕ) (d : Drawn) (drawn : AreDrawn m v t over number d)
+drawn_all : (m : Machine) (v : View) (t : Times) (over : Bool) (number : ℕ) (IsOf : List Shown → Type 0) (drawn : AreDrawn m v t over number IsOf)
     → (over ≡ true) ⊎ (last_time t < due t number) → AreRows m v t 0 drawn.rows
-drawn_all m v t over number d drawn end =
+drawn_all m v t over number IsOf drawn end =
     elim (cases_Bool over) [
       | inl halted ↦ drawn.so_far.ended halted
       | inr goes ↦ elim end [
@@ -162,27 +161,27 @@ number_next m old new given r within gives is =
     (ap (λ (p : Progress). p.number) row.2, omega arith)
 
 -- a row that was given and drawn
-pub drawn_next : (p : Packed) (v : View) (t : Times) (old new : Progress) (given : Bool) (r : Shown) (before after : Drawn) → old.table ≡ p → old.view ≡ v → old.times ≡ t
-    → AreDrawn (entry_of p) v t old.over old.number before → GivesRow (entry_of old.table) old given r new → given ≡ true → HasRow (columns_of v) r before after
-    → AreDrawn (entry_of p) v t new.over new.number after
-drawn_next p v t old new given r before after table view times drawn gives is has =
+pub drawn_next : (p : Packed) (v : View) (t : Times) (old new : Progress) (given : Bool) (r : Shown) (WasOf IsOf : List Shown → Type 0) → old.table ≡ p → old.view ≡ v → old.times ≡ t
+    → AreDrawn (entry_of p) v t old.over old.number WasOf → GivesRow (entry_of old.table) old given r new → given ≡ true → ((rows : List Shown) → WasOf rows → IsOf (rows ++ r ∷ []))
+    → AreDrawn (entry_of p) v t new.over new.number IsOf
+drawn_next p v t old new given r WasOf IsOf table view times drawn gives is has =
     let row = given_row (entry_of old.table) old new given r gives is in
     let here : IsRow (entry_of p) v t old.number r =
     subst (λ (q : Packed). IsRow (entry_of q) v t old.number r) table
     (subst (λ (w : View). IsRow (entry_of old.table) w t old.number r) view
     (subst (λ (u : Times). IsRow (entry_of old.table) old.view u old.number r) times row.0))
     in
-    drawn_more (entry_of p) v t old.over new.over old.number new.number before after r drawn row.1 here (ap (λ (q : Progress). q.over) row.2) (ap (λ (q : Progress). q.number) row.2) has
+    drawn_more (entry_of p) v t old.over new.over old.number new.number WasOf IsOf r drawn row.1 here (ap (λ (q : Progress). q.over) row.2) (ap (λ (q : Progress). q.number) row.2) has
 
 -- where none is given all of them were drawn
-pub drawn_last : (p : Packed) (v : View) (t : Times) (old new : Progress) (given : Bool) (r : Shown) (d : Drawn) → old.table ≡ p → old.times ≡ t
-    → AreDrawn (entry_of p) v t old.over old.number d → GivesRow (entry_of old.table) old given r new → given ≡ false
-    → (shown : List Shown) × AreRows (entry_of p) v t 0 shown × (new.number ≡ length shown) × HasRows v shown d
-drawn_last p v t old new given r d table times drawn gives is =
+pub drawn_last : (p : Packed) (v : View) (t : Times) (old new : Progress) (given : Bool) (r : Shown) (IsOf : List Shown → Type 0) → old.table ≡ p → old.times ≡ t
+    → AreDrawn (entry_of p) v t old.over old.number IsOf → GivesRow (entry_of old.table) old given r new → given ≡ false
+    → (shown : List Shown) × AreRows (entry_of p) v t 0 shown × (new.number ≡ length shown) × IsOf shown
+drawn_last p v t old new given r IsOf table times drawn gives is =
     let none = given_none (entry_of old.table) old new given r gives is in
     let end = subst (λ (u : Times). (old.over ≡ true) ⊎ (last_time u < due u old.number)) times none.1 in (
       drawn.rows,
-      drawn_all (entry_of p) v t old.over old.number d drawn end,
+      drawn_all (entry_of p) v t old.over old.number IsOf drawn end,
       ap (λ (q : Progress). q.number) none.0 ∙ drawn.count,
       drawn.has,
     )
@@ -205,14 +204,14 @@ whole t v times size rows number d text table same view drawn is =
     )
 
 -- something for a state more
-pub state_more : (f : ℕ → List ℕ) (old now new : List ℕ) (q : ℕ) → now ≡ old ++ each_state f q → new ≡ now ++ f q → new ≡ old ++ each_state f (q + 1)
-unfolding each_state
+pub state_more : (f : ℕ → List ℕ) (old now new : List ℕ) (q : ℕ) → now ≡ old ++ joined f q → new ≡ now ++ f q → new ≡ old ++ joined f (q + 1)
+unfolding joined
 state_more f old now new q is more =
-    more ∙ ap (λ s. s ++ f q) is ∙ append_assoc old (each_state f q) (f q) ∙ ap (λ n. old ++ each_state f n) (sym (add-one q))
+    more ∙ ap (λ s. s ++ f q) is ∙ append_assoc old (joined f q) (f q) ∙ ap (λ n. old ++ joined f n) (sym (add-one q))
 
 -- and for none
-pub no_state : (f : ℕ → List ℕ) (old : List ℕ) → old ≡ old ++ each_state f 0
-unfolding each_state
+pub no_state : (f : ℕ → List ℕ) (old : List ℕ) → old ≡ old ++ joined f 0
+unfolding joined
 no_state f old = sym (append-nil old)
 
 -- three parts, one behind another

@@ -63,13 +63,13 @@ begin_svg q = codes "<path class='s" ++ decimal q ++ codes "' d='"
 abbrev pub class_svg : ℕ → List ℕ → List ℕ
 class_svg q path = begin_svg q ++ path ++ codes "'/>\n"
 
--- something for each of so many states, from A on
-unfoldable pub each_state : (ℕ → List ℕ) → ℕ → List ℕ
-each_state f zero = []
-each_state f (suc n) = each_state f n ++ f n
+-- something for each of so many numbers, from 0 on, one behind another
+unfoldable pub joined : (ℕ → List ℕ) → ℕ → List ℕ
+joined f zero = []
+joined f (suc n) = joined f n ++ f n
 
 abbrev pub heads_svg : Bool → ℕ → List Head → List ℕ
-heads_svg room states heads = each_state (λ q. class_svg q (marks_svg room q heads)) states
+heads_svg room states heads = joined (λ q. class_svg q (marks_svg room q heads)) states
 
 abbrev pub letter_svg : ℕ → List ℕ
 letter_svg q = codes "'>" ++ (65 + q) ∷ [] ++ codes "</text>\n"
@@ -89,7 +89,7 @@ abbrev pub state_legend : ℕ → ℕ → List ℕ
 state_legend y q = swatch_svg y q ++ name_svg y q
 
 abbrev pub legend_svg : ℕ → ℕ → List ℕ
-legend_svg y states = each_state (state_legend y) states
+legend_svg y states = joined (state_legend y) states
 
 abbrev pub title_svg : Packed → List ℕ
 title_svg p = codes "<title>" ++ text_of p ++ codes "</title>\n"

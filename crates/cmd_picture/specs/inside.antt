@@ -20,7 +20,10 @@ pub record HasOnesIn (cells : Span) (ones : set.FinSet int_cmp) : Type 0 where
   pub low : (x : ℤ) → cell_of ones x ≡ One → cells.first ≤ℤ x
   pub high : (x : ℤ) → cell_of ones x ≡ One → x ≤ℤ cells.last
 
--- all cells of a view from one on are blank
+-- all cells of a view before one are blank, or all from one on
+abbrev pub AreBlankBefore : ℕ → View → set.FinSet int_cmp → Type 0
+AreBlankBefore first v ones = (i : ℕ) → i < first → i < v.width → cell_of ones (place v i) ≡ Zero
+
 abbrev pub AreBlankFrom : ℕ → View → set.FinSet int_cmp → Type 0
 AreBlankFrom end v ones = (i : ℕ) → end ≤ i → i < v.width → cell_of ones (place v i) ≡ Zero
 

@@ -3,7 +3,7 @@ ghost use Rattle.std.specs.Prelude.{◌≡◌, ◌≢◌, ℕ, ◌+◌, ◌-◌,
 ghost use Rattle.cmd_picture.specs.Runs.{drawn, AreApart};
 ghost use Rattle.cmd_picture.specs.Tones.{has_tone, is_toned, ones_at, ones_from};
 ghost use Rattle.cmd_picture.specs.View.{columns_of, place};
-ghost use Rattle.cmd_picture.specs.inside.{HasOnesIn, AreBlankFrom};
+ghost use Rattle.cmd_picture.specs.inside.{HasOnesIn, AreBlankBefore, AreBlankFrom};
 
 use crate::span::Span;
 use crate::tone::Tone;
@@ -34,16 +34,16 @@ pub(crate) fn read_ones(
         → drawn runs.new.items j ≡ has_tone tone view.now tape.now.ones j) }
 {
     runs.clear();
-    let (first_cell, end_cell) = view.reached(cells);
-    let (first, end) = columns_with(view, first_cell, end_cell);
-    let mut column = pass(tape, view, tone, false, first, end, end_cell);
+    let reached = view.reached(cells);
+    let (first, end) = columns_with(view, reached.0, reached.1);
+    let mut column = pass(tape, view, tone, false, first, end, reached);
     while column < end {
-        let after = pass(tape, view, tone, true, column, end, end_cell);
+        let after = pass(tape, view, tone, true, column, end, reached);
         runs.push(Stretch {
             first: column,
             count: after - column,
         })?;
-        column = pass(tape, view, tone, false, after, end, end_cell);
+        column = pass(tape, view, tone, false, after, end, reached);
     }
     Ok(())
 }
@@ -75,36 +75,46 @@ fn end_column(view: &View, end_cell: u64) -> u64
 }
 
 // The first of some columns that has a tone, or hasn't, otherwise than asked; the one after them where there is none.
-fn pass(tape: &Tape, view: &View, tone: Tone, has: bool, from: u64, end: u64, end_cell: u64) -> u64
+fn pass(
+    tape: &Tape,
+    view: &View,
+    tone: Tone,
+    has: bool,
+    from: u64,
+    end: u64,
+    reached: (u64, u64),
+) -> u64
     requires order { from ≤ end }
     requires share { 0 < view.now.share }
     requires columns { end ≤ columns_of view.now }
-    requires places { (i : ℕ) → i < end_cell → place view.now i ≤ℤ pos (2 ^ 63 - 1) }
-    requires blank { AreBlankFrom end_cell view.now tape.now.ones }
+    requires places { (i : ℕ) → i < reached.1 → place view.now i ≤ℤ pos (2 ^ 63 - 1) }
+    requires before { AreBlankBefore reached.0 view.now tape.now.ones }
+    requires blank { AreBlankFrom reached.1 view.now tape.now.ones }
     ensures onward { from ≤ result }
     ensures bound { result ≤ end }
     ensures alike { (j : ℕ) → from ≤ j → j < result → has_tone tone view.now tape.now.ones j ≡ has }
     ensures other { result < end → has_tone tone view.now tape.now.ones result ≢ has }
 {
     for column in from..end {
-        if has_tone(tape, view, tone, column, end_cell) != has {
+        if has_tone(tape, view, tone, column, reached) != has {
             return column;
         }
     }
     end
 }
 
-// Whether a column has a tone. All its cells from one on are blank.
-fn has_tone(tape: &Tape, view: &View, tone: Tone, column: u64, end_cell: u64) -> bool
+// Whether a column has a tone. Its cells before one, and those from one on, are blank.
+fn has_tone(tape: &Tape, view: &View, tone: Tone, column: u64, reached: (u64, u64)) -> bool
     requires share { 0 < view.now.share }
     requires column { column < columns_of view.now }
-    requires places { (i : ℕ) → i < end_cell → place view.now i ≤ℤ pos (2 ^ 63 - 1) }
-    requires blank { AreBlankFrom end_cell view.now tape.now.ones }
+    requires places { (i : ℕ) → i < reached.1 → place view.now i ≤ℤ pos (2 ^ 63 - 1) }
+    requires before { AreBlankBefore reached.0 view.now tape.now.ones }
+    requires blank { AreBlankFrom reached.1 view.now tape.now.ones }
     ensures { result ≡ has_tone tone view.now tape.now.ones column }
 {
     let first = view.first_cell(column);
     let cells = view.share.min(view.width - first);
-    let ones = ones_among(tape, view, first, cells, end_cell);
+    let ones = ones_among(tape, view, first, cells, reached);
     is_toned(tone, cells, ones)
 }
 
@@ -118,18 +128,34 @@ fn is_toned(tone: Tone, cells: u64, ones: u64) -> bool
     }
 }
 
-// How many of so many cells hold a one. Those from one on are blank.
-fn ones_among(tape: &Tape, view: &View, first: u64, cells: u64, end_cell: u64) -> u64
+// How many of so many cells hold a one. Those before one, and those from one on, are blank.
+fn ones_among(tape: &Tape, view: &View, first: u64, cells: u64, reached: (u64, u64)) -> u64
     requires within { first + cells ≤ view.now.width }
-    requires places { (i : ℕ) → i < end_cell → place view.now i ≤ℤ pos (2 ^ 63 - 1) }
-    requires blank { AreBlankFrom end_cell view.now tape.now.ones }
+    requires places { (i : ℕ) → i < reached.1 → place view.now i ≤ℤ pos (2 ^ 63 - 1) }
+    requires before { AreBlankBefore reached.0 view.now tape.now.ones }
+    requires blank { AreBlankFrom reached.1 view.now tape.now.ones }
     ensures { result ≡ ones_from tape.now.ones (place view.now first) cells }
 {
+    let start = start_of(first, cells, reached.0);
     let mut ones = 0;
-    for cell in first..(first + cells).min(end_cell) {
+    for cell in start..(first + cells).min(reached.1) {
         ones += ones_at(tape.cell(view.place(cell)));
     }
     ones
+}
+
+// The first of so many cells that isn't before another.
+fn start_of(first: u64, cells: u64, other: u64) -> u64
+    requires { first + cells < 2 ^ 64 }
+    ensures low { first ≤ result }
+    ensures high { result ≤ first + cells }
+    ensures before { (i : ℕ) → first ≤ i → i < result → i < other }
+{
+    if other <= first {
+        first
+    } else {
+        other.min(first + cells)
+    }
 }
 
 // How many ones a symbol is.

@@ -18,7 +18,7 @@ loop-column-init c =
       next = λ less. rw items (apart_none _);
       here = c.pass-column.ensures.other;
       cells = λ i low. rw items (drawn_none i ∙ sym (elim (cases_lt i c.columns_with-first.result.0) [
-        | inl less ↦ blank_column c.args.tone c.args.view.now c.args.tape.now.ones i (λ k within from to. outside c.args.view.now c.args.cells c.args.tape.now.ones _ _ c.requires.span c.reached-first_cell.ensures.all k within (inl (c.columns_with-first.ensures.before k i less to)))
+        | inl less ↦ blank_column c.args.tone c.args.view.now c.args.tape.now.ones i (λ k within from to. outside c.args.view.now c.args.cells c.args.tape.now.ones _ _ c.requires.span c.reached-reached.ensures.all k within (inl (c.columns_with-first.ensures.before k i less to)))
         | inr more ↦ c.pass-column.ensures.alike i more low
       ]));
     }
@@ -63,5 +63,5 @@ returns-clause-tones c i low =
       | inl less ↦ c.loop-column.invariant.cells i less
       | inr more ↦
           drawn_beyond 0 c.loop-column.runs.items (c.loop-column.column + 1) i c.loop-column.invariant.apart (omega (arith, more))
-          ∙ sym (blank_column c.args.tone c.args.view.now c.args.tape.now.ones i (λ k within from to. outside c.args.view.now c.args.cells c.args.tape.now.ones _ _ c.requires.span c.reached-first_cell.ensures.all k within (inr (c.columns_with-first.ensures.behind k i (omega (arith, more, end)) from))))
+          ∙ sym (blank_column c.args.tone c.args.view.now c.args.tape.now.ones i (λ k within from to. outside c.args.view.now c.args.cells c.args.tape.now.ones _ _ c.requires.span c.reached-reached.ensures.all k within (inr (c.columns_with-first.ensures.behind k i (omega (arith, more, end)) from))))
     ]

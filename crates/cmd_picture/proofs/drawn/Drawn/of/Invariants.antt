@@ -1,6 +1,7 @@
 use Rattle.std.proofs.Common.{◌≡◌, ◌+◌, ◌-◌}
 use Rattle.machine_text.specs.Packed.{entry_of}
 use Rattle.run.specs.Limits.{run_step_limit}
+use Rattle.cmd_picture.specs.drawn.{HasRows}
 use Rattle.cmd_picture.proofs.PictureLaws.{AreDrawn}
 use Rattle.cmd_picture.proofs.drawn.Drawn.of.Given as goal
 
@@ -10,7 +11,7 @@ invariant-each l = record {
   table : l.rows.table ≡ l.fn.rows.table;
   view : l.rows.view ≡ l.fn.rows.view;
   times : l.rows.times ≡ l.fn.rows.times;
-  rows : AreDrawn (entry_of l.fn.rows.table) l.fn.rows.view l.fn.rows.times l.rows.over l.rows.number l.drawn;
+  rows : AreDrawn (entry_of l.fn.rows.table) l.fn.rows.view l.fn.rows.times l.rows.over l.rows.number (λ rows. HasRows l.fn.rows.view rows l.drawn);
 }
 
 abbrev pub decreases-each : goal.decreases-each

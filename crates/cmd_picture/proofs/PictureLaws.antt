@@ -1,5 +1,5 @@
 -- The rows of a picture as they are gathered, one behind another.
-use Rattle.std.proofs.Common.{◌≡◌, ℕ, ◌+◌, ◌<◌, ◌≤◌, Bool, true, false, List, [], ◌∷◌, ◌++◌, length, flat_map, ◌⊎◌, inl, inr, sym, ◌∙◌, ap, refl, subst, append_assoc, add-one, arith}
+use Rattle.std.proofs.Common.{◌≡◌, ℕ, ◌+◌, ◌*◌, ◌<◌, ◌≤◌, Bool, true, false, List, [], ◌∷◌, ◌++◌, length, flat_map, ◌⊎◌, inl, inr, sym, ◌∙◌, ap, refl, subst, append_assoc, add-one, arith}
 use Rattle.std.proofs.lemmas.Bool.{cases_Bool}
 use Rattle.std.proofs.lemmas.List.{append-nil, flat_map_more, length_push}
 use Rattle.machine_text.specs.Packed.{Packed, entry_of}
@@ -12,7 +12,9 @@ use Rattle.cmd_picture.specs.declared.size.Size.{Size}
 use Rattle.cmd_picture.specs.declared.times.Times.{Times}
 use Rattle.cmd_picture.specs.declared.view.View.{View}
 use Rattle.cmd_picture.specs.Rows.{Shown, IsRow, AreRows, Progress, GivesRow}
-use Rattle.cmd_picture.specs.Pixels.{pixels_of}
+use Rattle.png.specs.File.{png_file}
+use Rattle.cmd_picture.specs.Bitmap.{palette, row_lines, file_of, png_text}
+use Rattle.cmd_picture.specs.Pixels.{pixels_each, side_limit, pixels_of}
 use Rattle.cmd_picture.specs.Svg.{dark_svg, pale_svg, halt_svg, head_in, joined, width_in, height_in, body_svg, closing, document, drawn_svg, svg_text}
 use Rattle.cmd_picture.specs.drawn.{HasRow, HasRows}
 use Rattle.cmd_picture.specs.Times.{AreWithinRuns, due, last_time}
@@ -237,3 +239,15 @@ body_of states others p d e f g h k count dark pale heads =
 
 pub closing_of : (states others : ℕ) (p : Pixels) (height : ℕ) (d f : List ℕ) → states ≡ others → d ≡ f → closing states p height d ≡ closing others p height f
 closing_of states others p height d f count line = ap (λ n. closing n p height d) count ∙ ap (λ (s : List ℕ). closing others p height s) line
+
+-- the file of the rows that were drawn
+pub file_is : (v : View) (square columns side number width height : ℕ) (colours bytes lines : List ℕ) (shown : List Shown) → width ≡ columns * side → height ≡ number * side → colours ≡ palette
+    → bytes ≡ lines → number ≡ length shown → lines ≡ flat_map (row_lines columns side) shown → columns ≡ columns_of v → side ≡ pixels_each square side_limit columns
+    → png_file width height colours bytes ≡ png_text v square shown
+file_is v square columns side number width height colours bytes lines shown wide high same are count drawn of each =
+    ap (λ n. png_file n height colours bytes) wide
+    ∙ ap (λ n. png_file (columns * side) n colours bytes) (high ∙ ap (λ n. n * side) count)
+    ∙ ap (λ (s : List ℕ). png_file (columns * side) (length shown * side) s bytes) same
+    ∙ ap (λ (s : List ℕ). png_file (columns * side) (length shown * side) palette s) (are ∙ drawn)
+    ∙ ap (λ n. file_of columns n shown) each
+    ∙ ap (λ n. file_of n (pixels_each square side_limit n) shown) of

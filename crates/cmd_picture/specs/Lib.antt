@@ -7,5 +7,6 @@ pub mod Visits
 pub mod Style
 pub mod Pixels
 pub mod Svg
+pub mod Bitmap
 pub mod drawn
 pub mod inside

@@ -1,6 +1,6 @@
 // How large a picture is made.
-ghost use Rattle.std.specs.Prelude.{◌≡◌, ◌*◌, ◌≤◌, max};
-ghost use Rattle.cmd_picture.specs.Pixels.{pixels_each};
+ghost use Rattle.std.specs.Prelude.{◌≡◌, ◌*◌, ◌<◌, ◌≤◌, max};
+ghost use Rattle.cmd_picture.specs.Pixels.{pixels_each, side_limit};
 
 use crate::pixels::Pixels;
 
@@ -43,6 +43,16 @@ impl Size {
             },
         }
     }
+}
+
+// As many pixels a side as make so many columns no wider than the picture may be, at most so many, and one at least.
+pub(crate) fn side_of(square: u64, columns: u64) -> u64
+    ensures is { result ≡ pixels_each square side_limit columns }
+    ensures some { 0 < result }
+    ensures small { result ≤ 1000 }
+    ensures width { columns * result ≤ max columns side_limit }
+{
+    pixels_each(square, MAX_SIDE, columns)
 }
 
 // So many pixels that n of them make no more than a limit, at most so many, and one at least.

@@ -1,5 +1,5 @@
 -- The cells of columns, and the ones among them.
-use Rattle.std.proofs.Common.{◌≡◌, ℕ, zero, suc, ◌+◌, ◌-◌, ◌*◌, ◌/◌, ◌<◌, ◌≤◌, ◌⊎◌, inl, inr, nat_eq, true, if◌then◌else◌, min, ℤ, pos, ◌+ℤ◌, Bool, false, ap, sym, ◌∙◌, subst, refl, arith}
+use Rattle.std.proofs.Common.{◌≡◌, ℕ, zero, suc, ◌+◌, ◌-◌, ◌*◌, ◌/◌, ◌<◌, ◌≤◌, inl, inr, nat_eq, if◌then◌else◌, ℤ, pos, ◌+ℤ◌, false, ap, ◌∙◌, refl, arith}
 use Rattle.std.specs.Ordering.{int_cmp}
 use Rattle.std.specs.FinSet as set
 use Rattle.std.proofs.Math.Nat.{div-mul-le_self, lt-div-mul-add, mul-le-mul_right, le-div_iff_mul-le}
@@ -11,7 +11,7 @@ use Rattle.law_turing.specs.Tape.{cell_of}
 use Rattle.cmd_picture.specs.declared.tone.Tone.{Tone}
 use Rattle.cmd_picture.specs.declared.tone.Tone.TheVariants.{Pale, Dark}
 use Rattle.cmd_picture.specs.declared.view.View.{View}
-use Rattle.cmd_picture.specs.Tones.{ones_at, ones_from, ones_in, is_toned, has_tone}
+use Rattle.cmd_picture.specs.Tones.{ones_at, ones_from, is_toned, has_tone}
 use Rattle.cmd_picture.specs.View.{place, first_cell, cells_in}
 
 -- a column before that of a cell ends before the cell

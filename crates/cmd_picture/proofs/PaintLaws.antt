@@ -1,5 +1,5 @@
 -- Tones of columns as they are painted.
-use Rattle.std.proofs.Common.{◌≡◌, ℕ, ◌+◌, ◌<◌, ◌≤◌, nat_le, nat_lt, ◌&&◌, ◌||◌, Bool, true, false, if◌then◌else◌, Option, Some, None, List, [], ◌∷◌, ◌++◌, length, get_or, take, append_assoc, add-one, sym, ◌∙◌, ap, refl}
+use Rattle.std.proofs.Common.{◌≡◌, ℕ, ◌+◌, ◌<◌, nat_le, nat_lt, ◌&&◌, ◌||◌, Bool, true, false, if◌then◌else◌, Option, Some, List, [], ◌∷◌, ◌++◌, length, get_or, take, append_assoc, add-one, sym, ◌∙◌, ap, refl}
 use Rattle.std.proofs.lemmas.List.{take_more}
 use Rattle.cmd_picture.specs.declared.ones.Stretch.{Stretch}
 use Rattle.cmd_picture.specs.declared.tone.Tone.{Tone}

@@ -10,7 +10,7 @@ use Rattle.machine_text.specs.declared.transition.Sym.TheVariants.{Zero, One}
 use Rattle.machine_text.specs.declared.transition.Dir.{Dir}
 use Rattle.machine_text.specs.declared.transition.Dir.TheVariants.{L, R}
 use Rattle.law_turing.specs.Machine.{Machine}
-use Rattle.law_turing.specs.Run.{Config, start, cell, next, after}
+use Rattle.law_turing.specs.Run.{Config, start, cell, after}
 use Rattle.law_turing.specs.Tape.{Tape}
 use Rattle.law_turing.specs.Halting.{HaltsAt}
 use Rattle.law_turing.specs.Translated.{Beyond, Farthest}

@@ -1,5 +1,5 @@
 -- How many pixels a column is wide, and a row high.
-use Rattle.std.specs.Prelude.{ℕ, ◌/◌, ◌≤◌, nat_le, ◌&&◌, Bool, min, max, Option, Some, None}
+use Rattle.std.specs.Prelude.{ℕ, ◌/◌, nat_le, ◌&&◌, Bool, min, max, Option, Some, None}
 use Rattle.cmd_picture.specs.declared.pixels.Pixels.{Pixels}
 use Rattle.cmd_picture.specs.declared.size.Size.{Size}
 

@@ -1,4 +1,4 @@
-use Rattle.std.proofs.Common.{List, ◌++◌, ◌∙◌, ap}
+use Rattle.std.proofs.Common.{◌++◌, ◌∙◌, ap}
 use Rattle.std.proofs.lemmas.Result.{on_ok_weaker}
 use Rattle.cmd_picture.specs.Svg.{opening, body_svg, closing, document}
 use Rattle.cmd_picture.proofs.PictureLaws.{three_parts, body_of, closing_of}

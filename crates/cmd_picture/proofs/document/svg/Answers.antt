@@ -1,6 +1,5 @@
-use Rattle.std.proofs.Common.{◌≡◌, ℕ, List, ◌++◌, ◌∙◌, ap, sym}
+use Rattle.std.proofs.Common.{◌≡◌, ◌++◌, ◌∙◌, ap, sym}
 use Rattle.cmd_picture.specs.Rows.{Progress}
-use Rattle.cmd_picture.specs.Pixels.{pixels_of}
 use Rattle.cmd_picture.specs.Svg.{document, height_in}
 use Rattle.cmd_picture.proofs.PictureLaws.{sized, whole}
 use Rattle.cmd_picture.proofs.document.svg.Goals as goal

@@ -1,4 +1,4 @@
-use Rattle.std.proofs.Common.{◌+◌, ◌*◌, ◌/◌, ◌<◌, ◌≤◌, arith}
+use Rattle.std.proofs.Common.{◌+◌, ◌*◌, ◌≤◌, arith}
 use Rattle.cmd_picture.proofs.ColumnLaws.{before_column}
 use Rattle.cmd_picture.proofs.ones.columns_with.Goals as goal
 

@@ -1,4 +1,4 @@
-use Rattle.std.proofs.Common.{◌+◌, ◌-◌, ◌*◌, ◌/◌, ◌<◌, ◌≤◌, arith}
+use Rattle.std.proofs.Common.{◌-◌, ◌*◌, ◌<◌, arith}
 use Rattle.cmd_picture.proofs.ColumnLaws.{behind_column, column_within}
 use Rattle.cmd_picture.proofs.ones.end_column.Goals as goal
 

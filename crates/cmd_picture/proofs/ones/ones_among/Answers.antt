@@ -1,6 +1,6 @@
-use Rattle.std.proofs.Common.{rules, ◌≡◌, ◌+◌, ◌-◌, ◌<◌, ◌≤◌, pos, ap, ◌∙◌, sym, arith}
+use Rattle.std.proofs.Common.{rules, ◌≡◌, ◌+◌, ◌-◌, ◌<◌, ◌≤◌, ap, ◌∙◌, sym, arith}
 use Rattle.law_turing.specs.Tape.{cell_of}
-use Rattle.cmd_picture.specs.Tones.{ones_at, ones_from}
+use Rattle.cmd_picture.specs.Tones.{ones_at}
 use Rattle.cmd_picture.specs.View.{place}
 use Rattle.cmd_picture.proofs.ColumnLaws.{no_ones_from, ones_more, ones_from_longer, place_more}
 use Rattle.cmd_picture.proofs.ones.ones_among.Goals as goal

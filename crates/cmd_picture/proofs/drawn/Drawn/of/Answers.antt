@@ -1,8 +1,6 @@
-use Rattle.std.proofs.Common.{◌≡◌, List, length, true, false, refl, sym, ◌∙◌, subst}
+use Rattle.std.proofs.Common.{refl, ◌∙◌, subst}
 use Rattle.machine_text.specs.Packed.{entry_of}
-use Rattle.cmd_picture.specs.declared.view.View.{View}
-use Rattle.cmd_picture.specs.Rows.{Shown, shown_row, AreRows}
-use Rattle.cmd_picture.specs.View.{columns_of}
+use Rattle.cmd_picture.specs.Rows.{shown_row}
 use Rattle.cmd_picture.specs.drawn.{HasRow, HasRows}
 use Rattle.cmd_picture.proofs.PictureLaws.{drawn_none, drawn_next, drawn_last, has_more, same_rows}
 use Rattle.cmd_picture.proofs.drawn.Drawn.of.Goals as goal

@@ -1,12 +1,15 @@
 -- The picture that is drawn of a table: which times and which cells of its run, and the text of the document.
-use Rattle.std.specs.Prelude.{◌≡◌, ℕ, ◌+◌, ◌-◌, ◌/◌, ◌<◌, min, max, pos, ◌-ℤ◌, List, Option, Some, None}
+use Rattle.std.specs.Prelude.{◌≡◌, ℕ, ◌+◌, ◌-◌, ◌/◌, ◌<◌, min, max, pos, ◌-ℤ◌, Bool, true, false, List, Option, Some, None}
 use Rattle.machine_text.specs.Packed.{Packed, entry_of}
 use Rattle.law_turing.specs.Machine.{Machine}
 use Rattle.run.specs.Limits.{run_step_limit}
+use Rattle.cmd_picture.specs.declared.size.Size.{Size}
 use Rattle.cmd_picture.specs.declared.times.Times.{Times}
 use Rattle.cmd_picture.specs.declared.view.View.{View}
+use Rattle.cmd_picture.specs.Bitmap.{png_text}
 use Rattle.cmd_picture.specs.Rows.{Shown, AreRows}
 use Rattle.cmd_picture.specs.Svg.{svg_text}
+use Rattle.cmd_picture.specs.View.{share_in}
 use Rattle.cmd_picture.specs.Visits.{IsPlaced}
 use Rattle.cmd_options.specs.declared.drawing.Drawing.{Drawing}
 
@@ -29,17 +32,29 @@ times_of d = stretch (min d.from run_step_limit) (asked_steps d.steps d.rows) d.
 
 -- so many cells, the one of the first head in the middle
 abbrev pub centred : ℕ → View
-centred width = record { left = pos 0 -ℤ pos (width / 2); width = width }
+centred width = record { left = pos 0 -ℤ pos (width / 2); width = width; share = 1 }
 
 -- the cells that are drawn: so many, or, where that is 0, those that the head visits at these times
 pub record IsViewOf (width : ℕ) (m : Machine) (t : Times) (v : View) : Type 0 where
   pub visited : width ≡ 0 → IsPlaced m t v
   pub asked : 0 < width → v ≡ centred width
 
+-- of which as many share a column that there are no more than so many columns
+abbrev pub in_columns : ℕ → View → View
+in_columns columns v = record v { share = share_in columns v.width }
+
+abbrev pub size_of : Drawing → Size
+size_of d = record { square = d.square; height = d.height }
+
+-- a document, or a PNG file
+abbrev pub bytes_of : Bool → Packed → View → Size → List Shown → List ℕ
+bytes_of false t v size rows = svg_text t v size rows
+bytes_of true t v size rows = png_text v size.square rows
+
 -- the picture of a table's run from the blank tape: at these times, of these cells
 pub record IsPicture (d : Drawing) (t : Packed) (text : List ℕ) : Type 0 where
-  pub view : View
+  pub cells : View
   pub rows : List Shown
-  pub view_is : IsViewOf d.width (entry_of t) (times_of d) view
-  pub rows_are : AreRows (entry_of t) view (times_of d) 0 rows
-  pub is : text ≡ svg_text t view rows
+  pub cells_are : IsViewOf d.width (entry_of t) (times_of d) cells
+  pub rows_are : AreRows (entry_of t) (in_columns d.columns cells) (times_of d) 0 rows
+  pub is : text ≡ bytes_of d.png t (in_columns d.columns cells) (size_of d) rows

@@ -1,23 +1,55 @@
 // The picture of a table, as it is asked for.
-ghost use Rattle.std.specs.Prelude.{◌≡◌, IfOk};
+ghost use Rattle.std.specs.Prelude.{◌≡◌, ◌<◌, List, IfOk};
 ghost use Rattle.machine_text.specs.Packed.{entry_of};
+ghost use Rattle.cmd_picture.specs.Rows.{Shown, AreRows};
 ghost use Rattle.cmd_picture.specs.Times.{AreWithinRuns};
-ghost use Rattle.cmd_draw.specs.Picture.{IsPicture, IsViewOf, centred, times_of};
+ghost use Rattle.cmd_draw.specs.Picture.{IsPicture, IsViewOf, bytes_of, centred, size_of, times_of};
 
 use cmd_options::Drawing;
-use cmd_picture::{Times, View, placement, svg};
+use cmd_picture::{Size, Times, View, placement, png_file, svg};
 use machine_text::Table;
 use std::alloc::Global;
 use tape::NoMemory;
 
-/// The picture of a table's run from the blank tape, as the text of an SVG document: at the times and of the cells that are
-/// asked for.
+/// The picture of a table's run from the blank tape, as an SVG document or a PNG file: at the times and of the cells
+/// that are asked for.
 pub fn picture_of(alloc: Global, t: &Table, drawing: &Drawing<'_>) -> Result<Vec<u8>, NoMemory>
     ensures { IfOk result (λ text. IsPicture drawing.now t.now text.items) }
 {
     let times = times_of(drawing);
-    let view = view_of(alloc, t, times, drawing.width)?;
-    svg(alloc, *t, view, times)
+    let cells = view_of(alloc, t, times, drawing.width)?;
+    let view = cells.in_columns(drawing.columns);
+    bytes_of(alloc, *t, view, times, drawing)
+}
+
+// The picture at these times, in these columns: a document, or a PNG file.
+fn bytes_of(
+    alloc: Global,
+    t: Table,
+    view: View,
+    times: Times,
+    drawing: &Drawing<'_>,
+) -> Result<Vec<u8>, NoMemory>
+    requires times { AreWithinRuns times }
+    requires share { 0 < view.share }
+    ensures { IfOk result (λ text. (rows : List Shown) × AreRows (entry_of t) view times 0 rows
+        × (text.items ≡ bytes_of drawing.now.png t view (size_of drawing.now) rows)) }
+{
+    if drawing.png {
+        png_file(alloc, t, view, times, drawing.square)
+    } else {
+        svg(alloc, t, view, times, size_of(drawing))
+    }
+}
+
+// How large the picture is made.
+fn size_of(drawing: &Drawing<'_>) -> Size
+    ensures { result ≡ size_of drawing.now }
+{
+    Size {
+        square: drawing.square,
+        height: drawing.height,
+    }
 }
 
 // The times that are drawn.
@@ -52,5 +84,6 @@ fn centred(width: u64) -> View
     View {
         left: 0_i64.saturating_sub_unsigned(width / 2),
         width,
+        share: 1,
     }
 }

@@ -1,4 +1,6 @@
+pub mod ColumnLaws
 pub mod RunLaws
 pub mod VisitLaws
+pub mod PaintLaws
 pub mod RowLaws
 pub mod PictureLaws

@@ -1,15 +1,24 @@
--- The rows of a picture as they are appended, one behind another.
-use Rattle.std.proofs.Common.{◌≡◌, ℕ, ◌+◌, ◌<◌, ◌≤◌, codes, Bool, true, false, List, [], ◌∷◌, ◌++◌, length, flat_map, ◌⊎◌, inl, inr, sym, ◌∙◌, ap, refl, subst, arith}
+-- The rows of a picture as they are gathered, one behind another.
+use Rattle.std.proofs.Common.{◌≡◌, ℕ, ◌+◌, ◌*◌, ◌<◌, ◌≤◌, Bool, true, false, List, [], ◌∷◌, ◌++◌, length, flat_map, ◌⊎◌, inl, inr, sym, ◌∙◌, ap, refl, subst, append_assoc, add-one, arith}
 use Rattle.std.proofs.lemmas.Bool.{cases_Bool}
 use Rattle.std.proofs.lemmas.List.{append-nil, flat_map_more, length_push}
 use Rattle.machine_text.specs.Packed.{Packed, entry_of}
 use Rattle.law_turing.specs.Machine.{Machine}
 use Rattle.run.specs.Limits.{run_step_limit}
+use Rattle.cmd_picture.specs.declared.drawn.Drawn.{Drawn}
+use Rattle.cmd_picture.specs.declared.drawn.Head.{Head}
+use Rattle.cmd_picture.specs.declared.pixels.Pixels.{Pixels}
+use Rattle.cmd_picture.specs.declared.size.Size.{Size}
 use Rattle.cmd_picture.specs.declared.times.Times.{Times}
 use Rattle.cmd_picture.specs.declared.view.View.{View}
 use Rattle.cmd_picture.specs.Rows.{Shown, IsRow, AreRows, Progress, GivesRow}
-use Rattle.cmd_picture.specs.Svg.{row_svg, opening, svg_text}
+use Rattle.png.specs.File.{png_file}
+use Rattle.cmd_picture.specs.Bitmap.{palette, row_lines, file_of, png_text}
+use Rattle.cmd_picture.specs.Pixels.{pixels_each, side_limit, pixels_of}
+use Rattle.cmd_picture.specs.Svg.{dark_svg, pale_svg, halt_svg, head_in, joined, width_in, height_in, body_svg, closing, document, drawn_svg, svg_text}
+use Rattle.cmd_picture.specs.drawn.{HasRow, HasRows}
 use Rattle.cmd_picture.specs.Times.{AreWithinRuns, due, last_time}
+use Rattle.cmd_picture.specs.View.{columns_of}
 use Rattle.cmd_picture.proofs.RowLaws.{number_within}
 
 -- rows from number n on, on none of which the machine halts
@@ -57,54 +66,64 @@ pub record AreSoFar (m : Machine) (v : View) (t : Times) (rows : List Shown) (ov
   pub ended : over ≡ true → AreRows m v t 0 rows
   pub going : over ≡ false → AreFirst m v t 0 rows
 
--- they were appended to a text
-pub record AreAppended (m : Machine) (v : View) (t : Times) (over : Bool) (number : ℕ) (old new : List ℕ) : Type 0 where
+-- they were drawn, as is said of them
+pub record AreDrawn (m : Machine) (v : View) (t : Times) (over : Bool) (number : ℕ) (IsOf : List Shown → Type 0) : Type 0 where
   pub rows : List Shown
   pub so_far : AreSoFar m v t rows over
   pub count : number ≡ length rows
-  pub text : new ≡ old ++ flat_map (row_svg v) rows
+  pub has : IsOf rows
 
 none_yet : (m : Machine) (v : View) (t : Times) → AreFirst m v t 0 []
 unfolding AreFirst
 none_yet m v t = tt
 
-pub appended_none : (m : Machine) (v : View) (t : Times) (over : Bool) (number : ℕ) (old : List ℕ) → over ≡ false → number ≡ 0 → AreAppended m v t over number old old
-appended_none m v t over number old goes none = record {
+-- none at first
+pub drawn_none : (m : Machine) (v : View) (t : Times) (over : Bool) (number : ℕ) (IsOf : List Shown → Type 0) → over ≡ false → number ≡ 0 → IsOf [] → AreDrawn m v t over number IsOf
+drawn_none m v t over number IsOf goes none has = record {
   rows = [];
   so_far = record {
     ended = λ halts. absurd (let e : true ≡ false = sym halts ∙ goes in cc);
     going = λ is. none_yet m v t;
   };
   count = none;
-  text = sym (append-nil old);
+  has = has;
+}
+
+-- a row more in each colour
+pub has_more : (v : View) (rows : List Shown) (r : Shown) (old new : Drawn) → HasRows v rows old → HasRow (columns_of v) r old new → HasRows v (rows ++ r ∷ []) new
+has_more v rows r old new has row = record {
+  dark = row.dark ∙ ap (λ s. s ++ dark_svg r) has.dark ∙ flat_map_more dark_svg [] rows r;
+  pale = row.pale ∙ ap (λ s. s ++ pale_svg r) has.pale ∙ flat_map_more pale_svg [] rows r;
+  line = row.line ∙ ap (λ s. s ++ halt_svg v r) has.line ∙ flat_map_more (halt_svg v) [] rows r;
+  heads = row.heads ∙ ap (λ s. s ++ head_in r) has.heads ∙ flat_map_more head_in [] rows r;
 }
 
 -- one row more
-pub appended_more : (m : Machine) (v : View) (t : Times) (over halts : Bool) (number next : ℕ) (old before after : List ℕ) (r : Shown) → AreAppended m v t over number old before
-    → over ≡ false → IsRow m v t number r → halts ≡ r.halts → next ≡ number + 1 → after ≡ before ++ row_svg v r → AreAppended m v t halts next old after
-appended_more m v t over halts number next old before after r appended goes row same more text =
-    let first : AreFirst m v t 0 appended.rows = appended.so_far.going goes in
-    let is_next : number ≡ 0 + length appended.rows = let count = appended.count in omega arith in
-    let here : IsRow m v t (0 + length appended.rows) r = subst (λ k. IsRow m v t k r) is_next row in
+drawn_more : (m : Machine) (v : View) (t : Times) (over halts : Bool) (number next : ℕ) (WasOf IsOf : List Shown → Type 0) (r : Shown) → AreDrawn m v t over number WasOf
+    → over ≡ false → IsRow m v t number r → halts ≡ r.halts → next ≡ number + 1 → ((rows : List Shown) → WasOf rows → IsOf (rows ++ r ∷ [])) → AreDrawn m v t halts next IsOf
+drawn_more m v t over halts number next WasOf IsOf r drawn goes row same more has =
+    let first : AreFirst m v t 0 drawn.rows = drawn.so_far.going goes in
+    let is_next : number ≡ 0 + length drawn.rows = let count = drawn.count in omega arith in
+    let here : IsRow m v t (0 + length drawn.rows) r = subst (λ k. IsRow m v t k r) is_next row in
     record {
-      rows = appended.rows ++ r ∷ [];
+      rows = drawn.rows ++ r ∷ [];
       so_far = record {
-        ended = λ over. all_halt m v t 0 appended.rows r first here (sym same ∙ over);
-        going = λ on. first_push m v t 0 appended.rows r first here (sym same ∙ on);
+        ended = λ over. all_halt m v t 0 drawn.rows r first here (sym same ∙ over);
+        going = λ on. first_push m v t 0 drawn.rows r first here (sym same ∙ on);
       };
-      count = let count = appended.count in let pushed = length_push appended.rows r in omega arith;
-      text = text ∙ ap (λ s. s ++ row_svg v r) appended.text ∙ flat_map_more (row_svg v) old appended.rows r;
+      count = let count = drawn.count in let pushed = length_push drawn.rows r in omega arith;
+      has = has drawn.rows drawn.has;
     }
 
 -- no row more: those are all
-pub appended_all : (m : Machine) (v : View) (t : Times) (over : Bool) (number : ℕ) (old new : List ℕ) (appended : AreAppended m v t over number old new)
-    → (over ≡ true) ⊎ (last_time t < due t number) → AreRows m v t 0 appended.rows
-appended_all m v t over number old new appended end =
+drawn_all : (m : Machine) (v : View) (t : Times) (over : Bool) (number : ℕ) (IsOf : List Shown → Type 0) (drawn : AreDrawn m v t over number IsOf)
+    → (over ≡ true) ⊎ (last_time t < due t number) → AreRows m v t 0 drawn.rows
+drawn_all m v t over number IsOf drawn end =
     elim (cases_Bool over) [
-      | inl halted ↦ appended.so_far.ended halted
+      | inl halted ↦ drawn.so_far.ended halted
       | inr goes ↦ elim end [
         | inl halted ↦ absurd (let e : true ≡ false = sym halted ∙ goes in cc)
-        | inr past ↦ all_past m v t 0 appended.rows (appended.so_far.going goes) (subst (λ k. last_time t < due t k) (let e : number ≡ 0 + length appended.rows = let count = appended.count in omega arith in e) past)
+        | inr past ↦ all_past m v t 0 drawn.rows (drawn.so_far.going goes) (subst (λ k. last_time t < due t k) (let e : number ≡ 0 + length drawn.rows = let count = drawn.count in omega arith in e) past)
       ]
     ]
 
@@ -143,39 +162,92 @@ number_next m old new given r within gives is =
     let last = within.last in
     (ap (λ (p : Progress). p.number) row.2, omega arith)
 
--- a row that was given and appended
-pub appended_next : (p : Packed) (v : View) (t : Times) (old new : Progress) (given : Bool) (r : Shown) (begin before after : List ℕ) → old.table ≡ p → old.view ≡ v → old.times ≡ t
-    → AreAppended (entry_of p) v t old.over old.number begin before → GivesRow (entry_of old.table) old given r new → given ≡ true → after ≡ before ++ row_svg v r
-    → AreAppended (entry_of p) v t new.over new.number begin after
-appended_next p v t old new given r begin before after table view times appended gives is text =
+-- a row that was given and drawn
+pub drawn_next : (p : Packed) (v : View) (t : Times) (old new : Progress) (given : Bool) (r : Shown) (WasOf IsOf : List Shown → Type 0) → old.table ≡ p → old.view ≡ v → old.times ≡ t
+    → AreDrawn (entry_of p) v t old.over old.number WasOf → GivesRow (entry_of old.table) old given r new → given ≡ true → ((rows : List Shown) → WasOf rows → IsOf (rows ++ r ∷ []))
+    → AreDrawn (entry_of p) v t new.over new.number IsOf
+drawn_next p v t old new given r WasOf IsOf table view times drawn gives is has =
     let row = given_row (entry_of old.table) old new given r gives is in
     let here : IsRow (entry_of p) v t old.number r =
     subst (λ (q : Packed). IsRow (entry_of q) v t old.number r) table
     (subst (λ (w : View). IsRow (entry_of old.table) w t old.number r) view
     (subst (λ (u : Times). IsRow (entry_of old.table) old.view u old.number r) times row.0))
     in
-    appended_more (entry_of p) v t old.over new.over old.number new.number begin before after r appended row.1 here (ap (λ (q : Progress). q.over) row.2) (ap (λ (q : Progress). q.number) row.2) text
+    drawn_more (entry_of p) v t old.over new.over old.number new.number WasOf IsOf r drawn row.1 here (ap (λ (q : Progress). q.over) row.2) (ap (λ (q : Progress). q.number) row.2) has
 
--- where none is given all of them were appended
-pub appended_last : (p : Packed) (v : View) (t : Times) (old new : Progress) (given : Bool) (r : Shown) (begin text : List ℕ) → old.table ≡ p → old.times ≡ t
-    → AreAppended (entry_of p) v t old.over old.number begin text → GivesRow (entry_of old.table) old given r new → given ≡ false
-    → (drawn : List Shown) × AreRows (entry_of p) v t 0 drawn × (new.number ≡ length drawn) × (text ≡ begin ++ flat_map (row_svg v) drawn)
-appended_last p v t old new given r begin text table times appended gives is =
+-- where none is given all of them were drawn
+pub drawn_last : (p : Packed) (v : View) (t : Times) (old new : Progress) (given : Bool) (r : Shown) (IsOf : List Shown → Type 0) → old.table ≡ p → old.times ≡ t
+    → AreDrawn (entry_of p) v t old.over old.number IsOf → GivesRow (entry_of old.table) old given r new → given ≡ false
+    → (shown : List Shown) × AreRows (entry_of p) v t 0 shown × (new.number ≡ length shown) × IsOf shown
+drawn_last p v t old new given r IsOf table times drawn gives is =
     let none = given_none (entry_of old.table) old new given r gives is in
     let end = subst (λ (u : Times). (old.over ≡ true) ⊎ (last_time u < due u old.number)) times none.1 in (
-      appended.rows,
-      appended_all (entry_of p) v t old.over old.number begin text appended end,
-      ap (λ (q : Progress). q.number) none.0 ∙ appended.count,
-      appended.text,
+      drawn.rows,
+      drawn_all (entry_of p) v t old.over old.number IsOf drawn end,
+      ap (λ (q : Progress). q.number) none.0 ∙ drawn.count,
+      drawn.has,
     )
 
 -- the whole document
-pub whole : (p : Packed) (v : View) (t : Times) (rows : Progress) (number : ℕ) (body text : List ℕ) → rows.table ≡ p → rows.times ≡ t
-    → (drawn : List Shown) × AreRows (entry_of rows.table) v rows.times 0 drawn × (number ≡ length drawn) × (body ≡ flat_map (row_svg v) drawn)
-    → text ≡ opening p v number ++ body ++ codes "</g>\n</svg>\n" → (drawn : List Shown) × AreRows (entry_of p) v t 0 drawn × (text ≡ svg_text p v drawn)
-unfolding svg_text
-whole p v t rows number body text table times drawn is = (
-  drawn.0,
-  subst (λ (q : Packed). AreRows (entry_of q) v t 0 drawn.0) table (subst (λ (u : Times). AreRows (entry_of rows.table) v u 0 drawn.0) times drawn.1),
-  is ∙ (ap (λ n. opening p v n ++ body ++ codes "</g>\n</svg>\n") drawn.2 ∙ ap (λ (s : List ℕ). opening p v (length drawn.0) ++ s ++ codes "</g>\n</svg>\n") drawn.3),
-)
+pub whole : (t : Packed) (v : View) (times : Times) (size : Size) (rows : Progress) (number : ℕ) (d : Drawn) (text : List ℕ) → rows.table ≡ t → rows.times ≡ times → rows.view ≡ v
+    → (shown : List Shown) × AreRows (entry_of rows.table) rows.view rows.times 0 shown × (number ≡ length shown) × HasRows rows.view shown d
+    → text ≡ drawn_svg t (pixels_of size (columns_of v) number) (columns_of v) number d.dark.items d.pale.items d.heads.items d.line.items
+    → (shown : List Shown) × AreRows (entry_of t) v times 0 shown × (text ≡ svg_text t v size shown)
+whole t v times size rows number d text table same view drawn is =
+    let has : HasRows v drawn.0 d = subst (λ (w : View). HasRows w drawn.0 d) view drawn.3 in (
+      drawn.0,
+      subst (λ (q : Packed). AreRows (entry_of q) v times 0 drawn.0) table
+          (subst (λ (w : View). AreRows (entry_of rows.table) w times 0 drawn.0) view (subst (λ (u : Times). AreRows (entry_of rows.table) rows.view u 0 drawn.0) same drawn.1)),
+      is ∙ ap (λ n. drawn_svg t (pixels_of size (columns_of v) n) (columns_of v) n d.dark.items d.pale.items d.heads.items d.line.items) drawn.2
+          ∙ ap (λ (s : List ℕ). drawn_svg t (pixels_of size (columns_of v) (length drawn.0)) (columns_of v) (length drawn.0) s d.pale.items d.heads.items d.line.items) has.dark
+          ∙ ap (λ (s : List ℕ). drawn_svg t (pixels_of size (columns_of v) (length drawn.0)) (columns_of v) (length drawn.0) (flat_map dark_svg drawn.0) s d.heads.items d.line.items) has.pale
+          ∙ ap (λ (s : List Head). drawn_svg t (pixels_of size (columns_of v) (length drawn.0)) (columns_of v) (length drawn.0) (flat_map dark_svg drawn.0) (flat_map pale_svg drawn.0) s d.line.items) has.heads
+          ∙ ap (λ (s : List ℕ). drawn_svg t (pixels_of size (columns_of v) (length drawn.0)) (columns_of v) (length drawn.0) (flat_map dark_svg drawn.0) (flat_map pale_svg drawn.0) (flat_map head_in drawn.0) s) has.line,
+    )
+
+-- something for a state more
+pub state_more : (f : ℕ → List ℕ) (old now new : List ℕ) (q : ℕ) → now ≡ old ++ joined f q → new ≡ now ++ f q → new ≡ old ++ joined f (q + 1)
+unfolding joined
+state_more f old now new q is more =
+    more ∙ ap (λ s. s ++ f q) is ∙ append_assoc old (joined f q) (f q) ∙ ap (λ n. old ++ joined f n) (sym (add-one q))
+
+-- and for none
+pub no_state : (f : ℕ → List ℕ) (old : List ℕ) → old ≡ old ++ joined f 0
+unfolding joined
+no_state f old = sym (append-nil old)
+
+-- three parts, one behind another
+pub three_parts : (old a b c first second third : List ℕ) → first ≡ old ++ a → second ≡ first ++ b → third ≡ second ++ c → third ≡ old ++ (a ++ b ++ c)
+three_parts old a b c first second third one two three =
+    three ∙ ap (λ s. s ++ c) (two ∙ (ap (λ s. s ++ b) one ∙ append_assoc old a b)) ∙ append_assoc old (a ++ b) c
+
+-- a document in the pixels that a size gives its columns and rows
+pub sized : (t : Packed) (v : View) (size : Size) (number columns states width height : ℕ) (p : Pixels) (dark pale line : List ℕ) (heads : List Head) → columns ≡ columns_of v → states ≡ t.states
+    → p ≡ pixels_of size columns number → width ≡ width_in states p columns → height ≡ height_in p number
+    → document t p width height dark pale heads line ≡ drawn_svg t (pixels_of size (columns_of v) number) (columns_of v) number dark pale heads line
+sized t v size number columns states width height p dark pale line heads are count pixels wide high =
+    ap (λ w. document t p w height dark pale heads line) (wide ∙ ap (λ n. width_in n p columns) count)
+    ∙ ap (λ h. document t p (width_in t.states p columns) h dark pale heads line) high
+    ∙ ap (λ (q : Pixels). drawn_svg t q columns number dark pale heads line) pixels
+    ∙ ap (λ n. drawn_svg t (pixels_of size n number) n number dark pale heads line) are
+
+-- what stands in its group
+pub body_of : (states others : ℕ) (p : Pixels) (d e f g : List ℕ) (h k : List Head) → states ≡ others → d ≡ f → e ≡ g → h ≡ k → body_svg states p d e h ≡ body_svg others p f g k
+body_of states others p d e f g h k count dark pale heads =
+    ap (λ n. body_svg n p d e h) count ∙ ap (λ (s : List ℕ). body_svg others p s e h) dark ∙ ap (λ (s : List ℕ). body_svg others p f s h) pale
+    ∙ ap (λ (s : List Head). body_svg others p f g s) heads
+
+pub closing_of : (states others : ℕ) (p : Pixels) (height : ℕ) (d f : List ℕ) → states ≡ others → d ≡ f → closing states p height d ≡ closing others p height f
+closing_of states others p height d f count line = ap (λ n. closing n p height d) count ∙ ap (λ (s : List ℕ). closing others p height s) line
+
+-- the file of the rows that were drawn
+pub file_is : (v : View) (square columns side number width height : ℕ) (colours bytes lines : List ℕ) (shown : List Shown) → width ≡ columns * side → height ≡ number * side → colours ≡ palette
+    → bytes ≡ lines → number ≡ length shown → lines ≡ flat_map (row_lines columns side) shown → columns ≡ columns_of v → side ≡ pixels_each square side_limit columns
+    → png_file width height colours bytes ≡ png_text v square shown
+file_is v square columns side number width height colours bytes lines shown wide high same are count drawn of each =
+    ap (λ n. png_file n height colours bytes) wide
+    ∙ ap (λ n. png_file (columns * side) n colours bytes) (high ∙ ap (λ n. n * side) count)
+    ∙ ap (λ (s : List ℕ). png_file (columns * side) (length shown * side) s bytes) same
+    ∙ ap (λ (s : List ℕ). png_file (columns * side) (length shown * side) palette s) (are ∙ drawn)
+    ∙ ap (λ n. file_of columns n shown) each
+    ∙ ap (λ n. file_of n (pixels_each square side_limit n) shown) of

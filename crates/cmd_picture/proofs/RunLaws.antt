@@ -1,5 +1,5 @@
 -- Runs of ones: what a row of runs draws when one more is put behind it.
-use Rattle.std.proofs.Common.{◌≡◌, ◌≢◌, ℕ, ℤ, ◌≤ℤ◌, ◌+◌, ◌<◌, ◌≤◌, nat_le, nat_lt, ◌&&◌, Bool, true, false, if◌then◌else◌, List, [], ◌∷◌, ◌++◌, ◌⊎◌, inl, inr, sym, ◌∙◌, ap, refl, arith}
+use Rattle.std.proofs.Common.{◌≡◌, ◌≢◌, ℕ, ◌≤ℤ◌, ◌+◌, ◌<◌, ◌≤◌, nat_le, nat_lt, ◌&&◌, ◌||◌, Bool, true, false, List, [], ◌∷◌, ◌++◌, ◌⊎◌, inl, inr, sym, ◌∙◌, ap, refl, arith}
 use Rattle.std.proofs.lemmas.Bool.{cases_lt}
 use Rattle.std.specs.Ordering.{int_cmp}
 use Rattle.std.specs.FinSet as set
@@ -19,7 +19,7 @@ pub apart_none : (end : ℕ) → AreApart 0 [] end
 unfolding AreApart
 apart_none end = omega arith
 
-pub drawn_none : (i : ℕ) → drawn [] i ≡ Zero
+pub drawn_none : (i : ℕ) → drawn [] i ≡ false
 unfolding drawn
 drawn_none i = refl
 
@@ -58,24 +58,24 @@ behind : (r : Stretch) (i : ℕ) → r.first + r.count ≤ i → (nat_le r.first
 behind r i high = grind (arith, nat_tests)
 
 -- what the first of some runs draws
-drawn_in : (r : Stretch) (runs : List Stretch) (i : ℕ) → r.first ≤ i → i < r.first + r.count → drawn (r ∷ runs) i ≡ One
+drawn_in : (r : Stretch) (runs : List Stretch) (i : ℕ) → r.first ≤ i → i < r.first + r.count → drawn (r ∷ runs) i ≡ true
 unfolding drawn
-drawn_in r runs i low high = ap (λ (b : Bool). if b then One else drawn runs i) (covered r i low high)
+drawn_in r runs i low high = ap (λ (b : Bool). b || drawn runs i) (covered r i low high)
 
 drawn_before : (r : Stretch) (runs : List Stretch) (i : ℕ) → i < r.first → drawn (r ∷ runs) i ≡ drawn runs i
 unfolding drawn
-drawn_before r runs i low = ap (λ (b : Bool). if b then One else drawn runs i) (before r i low)
+drawn_before r runs i low = ap (λ (b : Bool). b || drawn runs i) (before r i low)
 
 drawn_behind : (r : Stretch) (runs : List Stretch) (i : ℕ) → r.first + r.count ≤ i → drawn (r ∷ runs) i ≡ drawn runs i
 unfolding drawn
-drawn_behind r runs i high = ap (λ (b : Bool). if b then One else drawn runs i) (behind r i high)
+drawn_behind r runs i high = ap (λ (b : Bool). b || drawn runs i) (behind r i high)
 
 drawn_same : (r : Stretch) (runs others : List Stretch) (i : ℕ) → drawn runs i ≡ drawn others i → drawn (r ∷ runs) i ≡ drawn (r ∷ others) i
 unfolding drawn
-drawn_same r runs others i same = ap (λ (s : Sym). if nat_le r.first i && nat_lt i (r.first + r.count) then One else s) same
+drawn_same r runs others i same = ap (λ (b : Bool). (nat_le r.first i && nat_lt i (r.first + r.count)) || b) same
 
 -- beyond the end nothing is drawn
-pub drawn_beyond : (from : ℕ) (runs : List Stretch) (end i : ℕ) → AreApart from runs end → end ≤ i + 1 → drawn runs i ≡ Zero
+pub drawn_beyond : (from : ℕ) (runs : List Stretch) (end i : ℕ) → AreApart from runs end → end ≤ i + 1 → drawn runs i ≡ false
 unfolding AreApart
 drawn_beyond from [] end i apart late = drawn_none i
 drawn_beyond from (r ∷ runs) end i apart late =
@@ -88,7 +88,7 @@ drawn_push_before : (runs : List Stretch) (r : Stretch) (i : ℕ) → i < r.firs
 drawn_push_before [] r i low = drawn_before r [] i low
 drawn_push_before (q ∷ runs) r i low = drawn_same q (runs ++ r ∷ []) runs i (drawn_push_before runs r i low)
 
-drawn_push_in : (runs : List Stretch) (r : Stretch) (i : ℕ) → r.first ≤ i → i < r.first + r.count → drawn (runs ++ r ∷ []) i ≡ One
+drawn_push_in : (runs : List Stretch) (r : Stretch) (i : ℕ) → r.first ≤ i → i < r.first + r.count → drawn (runs ++ r ∷ []) i ≡ true
 drawn_push_in [] r i low high = drawn_in r [] i low high
 drawn_push_in (q ∷ runs) r i low high =
     elim (cases_lt i q.first) [
@@ -99,9 +99,9 @@ drawn_push_in (q ∷ runs) r i low high =
       ]
     ]
 
--- runs that draw the symbols of a row up to a column draw more of them with the next run
-pub drawn_push : (runs : List Stretch) (column after later : ℕ) (f : ℕ → Sym) (r : Stretch) → AreApart 0 runs column → r.first ≡ column → r.first + r.count ≡ after → 0 < r.count
-    → ((i : ℕ) → i < column → drawn runs i ≡ f i) → ((i : ℕ) → column ≤ i → i < after → f i ≡ One) → ((i : ℕ) → after ≤ i → i < later → f i ≡ Zero)
+-- runs that draw a row up to a column draw more of it with the next run
+pub drawn_push : (runs : List Stretch) (column after later : ℕ) (f : ℕ → Bool) (r : Stretch) → AreApart 0 runs column → r.first ≡ column → r.first + r.count ≡ after → 0 < r.count
+    → ((i : ℕ) → i < column → drawn runs i ≡ f i) → ((i : ℕ) → column ≤ i → i < after → f i ≡ true) → ((i : ℕ) → after ≤ i → i < later → f i ≡ false)
     → (i : ℕ) → i < later → drawn (runs ++ r ∷ []) i ≡ f i
 drawn_push runs column after later f r apart first next some old dark blank i low =
     elim (cases_lt i column) [
@@ -115,32 +115,33 @@ drawn_push runs column after later f r apart first next some old dark blank i lo
     ]
 
 -- a symbol that isn't one is the other
-pub not_one : (s : Sym) → s ≢ One → s ≡ Zero
+not_one : (s : Sym) → s ≢ One → s ≡ Zero
 not_one Zero other = refl
 not_one One other = absurd (other refl)
 
-pub not_zero : (s : Sym) → s ≢ Zero → s ≡ One
-not_zero Zero other = absurd (other refl)
-not_zero One other = refl
+-- a test that isn't true is false
+pub not_true : (b : Bool) → b ≢ true → b ≡ false
+not_true false other = refl
+not_true true other = absurd (other refl)
 
--- a column that holds a one, and the first one after it that doesn't
-pub past_ones : (f : ℕ → Sym) (column after end : ℕ) → column < end → column ≤ after → f column ≢ Zero → (after < end → f after ≢ One) → column < after
+-- a column that has a tone, and the first one after it that hasn't
+pub past_ones : (f : ℕ → Bool) (column after end : ℕ) → column < end → column ≤ after → f column ≢ false → (after < end → f after ≢ true) → column < after
 past_ones f column after end low onward here other =
     elim (cases_lt column after) [
       | inl less ↦ less
       | inr more ↦
           let same : after ≡ column = omega arith in
-          absurd (here (ap f (sym same) ∙ not_one (f after) (other (omega arith))))
+          absurd (here (ap f (sym same) ∙ not_true (f after) (other (omega arith))))
     ]
 
--- a column that holds none, and the first one after it that isn't blank
-pub past_blanks : (f : ℕ → Sym) (after later end : ℕ) → after ≤ later → later < end → (after < end → f after ≢ One) → f later ≢ Zero → after < later
+-- a column that hasn't it, and the first one after it that has
+pub past_blanks : (f : ℕ → Bool) (after later end : ℕ) → after ≤ later → later < end → (after < end → f after ≢ true) → f later ≢ false → after < later
 past_blanks f after later end onward low other here =
     elim (cases_lt after later) [
       | inl less ↦ less
       | inr more ↦
           let same : later ≡ after = omega arith in
-          absurd (here (ap f same ∙ not_one (f after) (other (omega arith))))
+          absurd (here (ap f same ∙ not_true (f after) (other (omega arith))))
     ]
 
 -- the cells of a view that are outside of a span which has all ones are blank

@@ -10,7 +10,8 @@ use Rattle.machine_text.specs.declared.transition.Sym.TheVariants.{Zero, One}
 use Rattle.machine_text.specs.declared.transition.Dir.{Dir}
 use Rattle.machine_text.specs.declared.transition.Dir.TheVariants.{L, R}
 use Rattle.law_turing.specs.Machine.{Machine}
-use Rattle.law_turing.specs.Run.{Config, start, cell, next, after}
+use Rattle.law_turing.specs.Run.{Config, start, cell, after}
+use Rattle.law_turing.specs.Tape.{Tape}
 use Rattle.law_turing.specs.Halting.{HaltsAt}
 use Rattle.law_turing.specs.Translated.{Beyond, Farthest}
 use Rattle.law_turing.proofs.Cells.{by_place}
@@ -117,7 +118,7 @@ one_visited m (suc k) c is x one =
     (λ other. later m k x (one_visited m k b at x (sym (t.others x other) ∙ one)))
 
 -- so all of them stand among the cells that were visited from the start on
-pub ones_in : (m : Machine) (k : ℕ) (c : Config) (cells : Span) → IsVisited m 0 k cells → after m k ≡ Some c → HasOnesIn cells c.tape.ones
+ones_in : (m : Machine) (k : ℕ) (c : Config) (cells : Span) → IsVisited m 0 k cells → after m k ≡ Some c → HasOnesIn cells c.tape.ones
 ones_in m k c cells v is = record {
   low = λ x one.
       let was = one_visited m k c is x one in
@@ -128,6 +129,12 @@ ones_in m k c cells v is = record {
       let early = was.early in
       subst (λ y. y ≤ℤ cells.last) was.head (v.right.bound was.time was.there (omega arith) (omega arith) was.is);
 }
+
+-- and those of a tape that a runner shows
+pub ones_stand : (p : Packed) (r : RunState) (t : Tape) (cells : Span) → r.table ≡ p → OnRun r → t ≡ r.config.tape → IsVisited (entry_of p) 0 r.steps cells → HasOnesIn cells t.ones
+ones_stand p r t cells same stands tape visited =
+    let at : after (entry_of p) r.steps ≡ Some r.config = subst (λ (q : Packed). after (entry_of q) r.steps ≡ Some r.config) same stands.at in
+    subst (λ (u : Tape). HasOnesIn cells u.ones) (sym tape) (ones_in (entry_of p) r.steps r.config cells visited at)
 
 -- a step that was carried out
 pub took : (old new : RunState) (step : Step) → StepsTo old step new → step ≡ Went → TakesStep old new

@@ -1,8 +1,12 @@
 pub mod View
 pub mod Times
+pub mod Tones
 pub mod Runs
 pub mod Rows
 pub mod Visits
 pub mod Style
+pub mod Pixels
 pub mod Svg
+pub mod Bitmap
+pub mod drawn
 pub mod inside

@@ -1,25 +1,32 @@
 -- The rows of a picture: which configuration each one shows, and at which time.
 use Rattle.std.specs.Prelude.{◌≡◌, ◌↔◌, ◌⊎◌, ℕ, ◌+◌, ◌<◌, ◌≤◌, Bool, true, false, IsTrue, Option, Some, None, List, [], ◌∷◌}
+use Rattle.std.specs.Ordering.{int_cmp}
+use Rattle.std.specs.FinSet as set
 use Rattle.machine_text.specs.Packed.{Packed}
 use Rattle.law_turing.specs.Machine.{Machine}
-use Rattle.law_turing.specs.Run.{Config, cell, next, after}
+use Rattle.law_turing.specs.Run.{Config, next, after}
 use Rattle.law_turing.specs.Halting.{HaltsAt}
 use Rattle.cmd_picture.specs.declared.ones.Stretch.{Stretch}
 use Rattle.cmd_picture.specs.declared.row.Row.{Row}
 use Rattle.cmd_picture.specs.declared.times.Times.{Times}
+use Rattle.cmd_picture.specs.declared.tone.Tone.{Tone}
+use Rattle.cmd_picture.specs.declared.tone.Tone.TheVariants.{Pale, Dark}
 use Rattle.cmd_picture.specs.declared.view.View.{View}
 use Rattle.cmd_picture.specs.Runs.{drawn, AreApart}
 use Rattle.cmd_picture.specs.Times.{due, last_time}
-use Rattle.cmd_picture.specs.View.{place, IsHeadAt}
+use Rattle.cmd_picture.specs.Tones.{has_tone}
+use Rattle.cmd_picture.specs.View.{columns_of, IsHeadAt}
 
--- a row: its number from the top, its time, the state, the head's column, whether the machine halts there, its ones
+-- a row: its number from the top, its time, the state, the head's column, whether the machine halts there, and the runs
+-- of its columns that are dark, and pale
 pub record Shown : Type 0 where
   pub number : ℕ
   pub time : ℕ
   pub state : ℕ
   pub head : Option ℕ
   pub halts : Bool
-  pub runs : List Stretch
+  pub dark : List Stretch
+  pub pale : List Stretch
 
 abbrev pub shown_row : Row → Shown
 shown_row r = record {
@@ -28,19 +35,25 @@ shown_row r = record {
   state = r.state.0;
   head = r.head;
   halts = r.halts;
-  runs = r.runs.items;
+  dark = r.dark.items;
+  pale = r.pale.items;
 }
 
+-- runs draw the columns that have a tone, and can't be longer
+pub record AreTones (tone : Tone) (v : View) (ones : set.FinSet int_cmp) (runs : List Stretch) : Type 0 where
+  pub drawn : (j : ℕ) → j < columns_of v → drawn runs j ≡ has_tone tone v ones j
+  pub apart : AreApart 0 runs (columns_of v + 1)
+
 -- a row shows the run's configuration at its time: the state, the head's column, whether it is on a halting pair, and
--- in each column of the view the symbol of that cell, as runs of ones that can't be longer
+-- which columns are dark and which pale
 pub record Shows (m : Machine) (v : View) (r : Shown) : Type 0 where
   pub at : Config
   pub is : after m r.time ≡ Some at
   pub state : r.state ≡ at.state
   pub head : IsHeadAt v at.tape.head r.head
   pub halts : IsTrue r.halts ↔ (next m at ≡ None)
-  pub cells : (i : ℕ) → i < v.width → drawn r.runs i ≡ cell at (place v i)
-  pub apart : AreApart 0 r.runs (v.width + 1)
+  pub dark : AreTones Dark v at.tape.ones r.dark
+  pub pale : AreTones Pale v at.tape.ones r.pale
 
 -- row number n: at its time, or at the last one of a run that halts before it
 pub record IsRow (m : Machine) (v : View) (t : Times) (n : ℕ) (r : Shown) : Type 0 where

@@ -1,13 +1,11 @@
--- Runs of ones in a row, and what they draw.
-use Rattle.std.specs.Prelude.{ℕ, ◌+◌, ◌<◌, ◌≤◌, nat_le, nat_lt, ◌&&◌, if◌then◌else◌, List, [], ◌∷◌}
-use Rattle.machine_text.specs.declared.transition.Sym.{Sym}
-use Rattle.machine_text.specs.declared.transition.Sym.TheVariants.{Zero, One}
+-- Runs of columns in a row, and what they draw.
+use Rattle.std.specs.Prelude.{ℕ, ◌+◌, ◌<◌, ◌≤◌, nat_le, nat_lt, ◌&&◌, ◌||◌, Bool, false, List, [], ◌∷◌}
 use Rattle.cmd_picture.specs.declared.ones.Stretch.{Stretch}
 
--- the symbol that runs of ones draw in a column: a one in their columns, a blank elsewhere
-unfoldable pub drawn : List Stretch → ℕ → Sym
-drawn [] i = Zero
-drawn (r ∷ runs) i = if nat_le r.first i && nat_lt i (r.first + r.count) then One else drawn runs i
+-- whether runs draw a column
+unfoldable pub drawn : List Stretch → ℕ → Bool
+drawn [] i = false
+drawn (r ∷ runs) i = (nat_le r.first i && nat_lt i (r.first + r.count)) || drawn runs i
 
 -- runs from left to right, each of one column at least, with a blank one at least behind each: the first column of
 -- any is `from` at least, and the column of a blank behind one is before `end`

@@ -1,48 +1,149 @@
--- The text of a picture as an SVG document. A cell is one unit wide, a row one unit high; a path `Mx yhn` is n cells of
--- row y from column x on.
-use Rattle.std.specs.Prelude.{ℕ, ◌+◌, Bool, true, false, Option, Some, None, List, [], ◌++◌, length, flat_map, codes, decimal}
+-- The text of a picture as an SVG document. Within its group a column is one unit wide and a row one unit high; a path
+-- `Mx yhnv1h-nz` is n columns of row y from column x on.
+use Rattle.std.specs.Prelude.{ℕ, ◌+◌, ◌*◌, Bool, true, false, Option, Some, None, List, [], ◌∷◌, ◌++◌, ◌==◌, if◌then◌else◌, length, flat_map, max, codes, decimal}
+use Rattle.std.proofs.Common.{zero, suc}
 use Rattle.machine_text.specs.Packed.{Packed}
 use Rattle.machine_text.specs.Text.{text_of}
+use Rattle.cmd_picture.specs.declared.drawn.Head.{Head}
 use Rattle.cmd_picture.specs.declared.ones.Stretch.{Stretch}
+use Rattle.cmd_picture.specs.declared.pixels.Pixels.{Pixels}
+use Rattle.cmd_picture.specs.declared.size.Size.{Size}
 use Rattle.cmd_picture.specs.declared.view.View.{View}
+use Rattle.cmd_picture.specs.Pixels.{pixels_of, has_room}
 use Rattle.cmd_picture.specs.Rows.{Shown}
 use Rattle.cmd_picture.specs.Style.{beginning_text, style_text}
+use Rattle.cmd_picture.specs.View.{columns_of}
 
 abbrev pub cells_svg : ℕ → ℕ → ℕ → List ℕ
 cells_svg column y count = codes "M" ++ decimal column ++ codes " " ++ decimal y ++ codes "h" ++ decimal count
+    ++ codes "v1h-" ++ decimal count ++ codes "z"
 
--- the ones of a row
-abbrev pub ones_svg : ℕ → List Stretch → List ℕ
-ones_svg y runs = codes "<path d='" ++ flat_map (λ r. cells_svg r.first y r.count) runs ++ codes "'/>"
+abbrev pub runs_svg : ℕ → List Stretch → List ℕ
+runs_svg y runs = flat_map (λ r. cells_svg r.first y r.count) runs
 
--- the head in the class of its state
-abbrev pub head_svg : ℕ → ℕ → Option ℕ → List ℕ
-head_svg y q None = []
-head_svg y q (Some column) = codes "<path class='s" ++ decimal q ++ codes "' d='" ++ cells_svg column y 1 ++ codes "'/>"
+-- the dark columns of a row, and the pale ones
+abbrev pub dark_svg : Shown → List ℕ
+dark_svg r = runs_svg r.number r.dark
 
--- the bar beneath a row on which the machine halts
-abbrev pub bar_svg : ℕ → ℕ → List ℕ
-bar_svg width y = codes "<path class='halt' transform='translate(0 1)' d='" ++ cells_svg 0 y width ++ codes "'/>"
+abbrev pub pale_svg : Shown → List ℕ
+pale_svg r = runs_svg r.number r.pale
 
-abbrev pub halt_svg : View → ℕ → Bool → List ℕ
-halt_svg v y false = []
-halt_svg v y true = bar_svg v.width y
+-- the line beneath a row on which the machine halts
+abbrev pub line_svg : ℕ → ℕ → Bool → List ℕ
+line_svg width y false = []
+line_svg width y true = codes "M0 " ++ decimal (y + 1) ++ codes "h" ++ decimal width
 
-unfoldable pub row_svg : View → Shown → List ℕ
-row_svg v r = ones_svg r.number r.runs ++ head_svg r.number r.state r.head ++ halt_svg v r.number r.halts ++ codes "\n"
+abbrev pub halt_svg : View → Shown → List ℕ
+halt_svg v r = line_svg (columns_of v) r.number r.halts
 
-abbrev pub size_svg : ℕ → ℕ → List ℕ
-size_svg width height = decimal width ++ codes " " ++ decimal height
+-- the heads of the rows that have one in the view
+abbrev pub head_at : ℕ → ℕ → Option ℕ → List Head
+head_at y q None = []
+head_at y q (Some column) = record { state = record { 0 = q }; column = column; row = y } ∷ []
 
-abbrev pub frame_svg : ℕ → ℕ → List ℕ
-frame_svg width height = beginning_text ++ size_svg width height ++ codes "'>\n"
+abbrev pub head_in : Shown → List Head
+head_in r = head_at r.number r.state r.head
+
+-- a head is the middle of its cell where that has room, so that its symbol is seen beside it; else the whole cell
+abbrev pub middle_svg : ℕ → ℕ → List ℕ
+middle_svg column y = codes "M" ++ decimal column ++ codes ".25 " ++ decimal y ++ codes ".25h.5v.5h-.5z"
+
+abbrev pub mark_svg : Bool → ℕ → ℕ → List ℕ
+mark_svg true column y = middle_svg column y
+mark_svg false column y = cells_svg column y 1
+
+-- the heads in one state
+abbrev pub marks_svg : Bool → ℕ → List Head → List ℕ
+marks_svg room q heads = flat_map (λ h. if h.state.0 == q then mark_svg room h.column h.row else []) heads
+
+-- a path in the colour of a state
+abbrev pub begin_svg : ℕ → List ℕ
+begin_svg q = codes "<path class='s" ++ decimal q ++ codes "' d='"
+
+abbrev pub class_svg : ℕ → List ℕ → List ℕ
+class_svg q path = begin_svg q ++ path ++ codes "'/>\n"
+
+-- something for each of so many numbers, from 0 on, one behind another
+unfoldable pub joined : (ℕ → List ℕ) → ℕ → List ℕ
+joined f zero = []
+joined f (suc n) = joined f n ++ f n
+
+abbrev pub heads_svg : Bool → ℕ → List Head → List ℕ
+heads_svg room states heads = joined (λ q. class_svg q (marks_svg room q heads)) states
+
+abbrev pub letter_svg : ℕ → List ℕ
+letter_svg q = codes "'>" ++ (65 + q) ∷ [] ++ codes "</text>\n"
+
+abbrev pub square_svg : ℕ → ℕ → List ℕ
+square_svg x y = codes "M" ++ decimal x ++ codes " " ++ decimal y ++ codes "h12v12h-12z'/>"
+
+abbrev pub swatch_svg : ℕ → ℕ → List ℕ
+swatch_svg y q = begin_svg q ++ square_svg (32 * q + 4) y
+
+abbrev pub name_svg : ℕ → ℕ → List ℕ
+name_svg y q = codes "<text class='letter' x='" ++ decimal (32 * q + 20) ++ codes "' y='" ++ decimal (y + 11)
+    ++ letter_svg q
+
+-- the legend beneath the rows: each state's colour, and its letter
+abbrev pub state_legend : ℕ → ℕ → List ℕ
+state_legend y q = swatch_svg y q ++ name_svg y q
+
+abbrev pub legend_svg : ℕ → ℕ → List ℕ
+legend_svg y states = joined (state_legend y) states
 
 abbrev pub title_svg : Packed → List ℕ
 title_svg p = codes "<title>" ++ text_of p ++ codes "</title>\n"
 
--- what stands before so many rows: room for them and for a bar, the table's text, the colours
-unfoldable pub opening : Packed → View → ℕ → List ℕ
-opening p v rows = frame_svg v.width (rows + 1) ++ title_svg p ++ style_text
+-- a document of so many pixels
+abbrev pub frame_svg : ℕ → ℕ → List ℕ
+frame_svg width height = beginning_text ++ decimal width ++ codes "' height='" ++ decimal height
+    ++ codes "' viewBox='0 0 " ++ decimal width ++ codes " " ++ decimal height ++ codes "'>\n"
 
-unfoldable pub svg_text : Packed → View → List Shown → List ℕ
-svg_text p v rows = opening p v (length rows) ++ flat_map (row_svg v) rows ++ codes "</g>\n</svg>\n"
+abbrev pub scale_svg : Pixels → List ℕ
+scale_svg p = codes "scale(" ++ decimal p.across ++ codes " " ++ decimal p.down ++ codes ")'"
+
+-- so many pixels wide are so many columns, and at least the legend
+abbrev pub width_in : ℕ → Pixels → ℕ → ℕ
+width_in states p columns = max (columns * p.across) (32 * states)
+
+-- so many pixels high are so many rows
+abbrev pub height_in : Pixels → ℕ → ℕ
+height_in p rows = rows * p.down
+
+-- what stands before rows that are so high: room for them, for a line and for the legend, the table's text, the colours
+abbrev pub opening : Packed → ℕ → ℕ → List ℕ
+opening t width height = frame_svg width (height + 24) ++ title_svg t ++ style_text
+
+-- the columns: dark ones, and pale ones
+abbrev pub columns_svg : List ℕ → List ℕ → List ℕ
+columns_svg dark pale = codes "<path class='dark' d='" ++ dark ++ codes "'/>\n<path class='pale' d='" ++ pale
+    ++ codes "'/>\n"
+
+abbrev pub group_svg : Pixels → List ℕ
+group_svg p = codes "<g transform='" ++ scale_svg p ++ codes " shape-rendering='crispEdges'>\n"
+
+-- the columns, and the heads over them
+abbrev pub body_svg : ℕ → Pixels → List ℕ → List ℕ → List Head → List ℕ
+body_svg states p dark pale heads = group_svg p ++ columns_svg dark pale ++ heads_svg (has_room p) states heads
+    ++ codes "</g>\n"
+
+-- the line of halting, beneath the rows
+abbrev pub ending_svg : Pixels → List ℕ → List ℕ
+ending_svg p line = codes "<path class='halt' transform='translate(0 1) " ++ scale_svg p ++ codes " d='" ++ line
+    ++ codes "'/>\n"
+
+abbrev pub closing : ℕ → Pixels → ℕ → List ℕ → List ℕ
+closing states p height line = ending_svg p line ++ legend_svg (height + 8) states ++ codes "</svg>\n"
+
+-- of a table, in these pixels, so wide and so high: these dark and pale columns, heads and line
+unfoldable pub document : Packed → Pixels → ℕ → ℕ → List ℕ → List ℕ → List Head → List ℕ → List ℕ
+document t p width height dark pale heads line = opening t width height ++ body_svg t.states p dark pale heads
+    ++ closing t.states p height line
+
+-- the columns and rows of a document, in so many pixels each
+abbrev pub drawn_svg : Packed → Pixels → ℕ → ℕ → List ℕ → List ℕ → List Head → List ℕ → List ℕ
+drawn_svg t p columns rows = document t p (width_in t.states p columns) (height_in p rows)
+
+abbrev pub svg_text : Packed → View → Size → List Shown → List ℕ
+svg_text t v size rows = drawn_svg t (pixels_of size (columns_of v) (length rows)) (columns_of v) (length rows)
+    (flat_map dark_svg rows) (flat_map pale_svg rows) (flat_map head_in rows) (flat_map (halt_svg v) rows)

@@ -1,13 +1,16 @@
 // A picture as an SVG document.
-ghost use Rattle.std.specs.Prelude.{◌≡◌, false, ◌++◌, ◌-◌, ◌<◌, ◌^◌, List, length, flat_map, IfOk, OnOk};
+ghost use Rattle.std.specs.Prelude.{◌≡◌, ◌++◌, ◌+◌, ◌<◌, ◌≤◌, ◌^◌, List, IfOk, OnOk};
+ghost use Rattle.machine_text.specs.Limits.{state_limit};
 ghost use Rattle.machine_text.specs.Packed.{entry_of};
 ghost use Rattle.cmd_picture.specs.Rows.{Shown, AreRows};
-ghost use Rattle.cmd_picture.specs.Svg.{row_svg, size_svg, frame_svg, title_svg, opening, svg_text};
+ghost use Rattle.cmd_picture.specs.Svg.{body_svg, closing, columns_svg, document, ending_svg, frame_svg, group_svg, opening, scale_svg, svg_text, title_svg};
 ghost use Rattle.cmd_picture.specs.Times.{AreWithinRuns};
 
-use crate::lines::append_row;
-use crate::row::Row;
+use crate::drawn::{Drawn, Head};
+use crate::pixels::Pixels;
 use crate::rows::Rows;
+use crate::size::Size;
+use crate::states::{append_heads, append_legend};
 use crate::style::{beginning, style};
 use crate::times::Times;
 use crate::view::View;
@@ -16,51 +19,57 @@ use std::alloc::Global;
 use tape::NoMemory;
 use text::append_number;
 
-/// The picture of a table's run from the blank tape, as the text of an SVG document: a cell is one unit wide and a row
-/// one unit high, and what reads the document scales it. Its title is the table's text.
-pub fn svg(alloc: Global, t: Table, view: View, times: Times) -> Result<Vec<u8>, NoMemory>
-    requires { AreWithinRuns times }
+/// The picture of a table's run from the blank tape, as the text of an SVG document. Its title is the table's text, and
+/// beneath it stands which colour is which state.
+pub fn svg(
+    alloc: Global,
+    t: Table,
+    view: View,
+    times: Times,
+    size: Size,
+) -> Result<Vec<u8>, NoMemory>
+    requires times { AreWithinRuns times }
+    requires share { 0 < view.share }
     ensures { IfOk result (λ text. (rows : List Shown) × AreRows (entry_of t) view times 0 rows
-        × (text.items ≡ svg_text t view rows)) }
+        × (text.items ≡ svg_text t view size rows)) }
 {
-    let mut drawn = Vec::new(alloc);
+    let columns = view.columns();
     let mut rows = Rows::new(alloc, t, view, times)?;
-    append_rows(alloc, &mut rows, &view, &mut drawn)?;
+    let drawn = Drawn::of(alloc, &mut rows, columns)?;
+    let pixels = size.pixels(columns, rows.number());
+    let width = pixels.width(columns, t.states());
+    let height = pixels.height(rows.number());
     let mut text = Vec::new(alloc);
-    append_opening(&t, &view, rows.number(), &mut text)?;
-    text.extend_from_slice(&drawn)?;
-    text.extend_from_slice(b"</g>\n</svg>\n")?;
+    append_document(&t, pixels, width, height, &drawn, &mut text)?;
     Ok(text)
 }
 
-// Appends all the rows, from the first one on.
-fn append_rows(
-    alloc: Global,
-    rows: &mut Rows,
-    view: &View,
+// Appends the document of what is drawn.
+#[tactic(auto, unfolding(crate::specs::Svg::document))]
+fn append_document(
+    t: &Table,
+    pixels: Pixels,
+    width: u64,
+    height: u64,
+    drawn: &Drawn,
     out: &mut Vec<u8>,
 ) -> Result<(), NoMemory>
-    requires within { AreWithinRuns rows.old.times }
-    requires first { rows.old.number ≡ 0 }
-    requires begins { rows.old.over ≡ false }
-    requires view { rows.old.view ≡ view.now }
-    ensures { OnOk result ((drawn : List Shown) × AreRows (entry_of rows.old.table) view.now rows.old.times 0 drawn
-        × (rows.new.number ≡ length drawn) × (out.new.items ≡ out.old.items ++ flat_map (row_svg view.now) drawn)) }
+    requires { height + 65536 ≤ 2 ^ 64 }
+    ensures { OnOk result (out.new.items ≡ out.old.items ++ document t.now pixels width height drawn.now.dark.items
+        drawn.now.pale.items drawn.now.heads.items drawn.now.line.items) }
 {
-    let mut row = Row::new(alloc);
-    'each: while rows.next_row(&mut row)? {
-        append_row(view, &row, out)?;
-    }
-    Ok(())
+    let states = t.states();
+    append_opening(t, width, height, out)?;
+    append_body(states, pixels, &drawn.dark, &drawn.pale, &drawn.heads, out)?;
+    append_closing(states, pixels, height, &drawn.line, out)
 }
 
-// Appends what stands before the rows, of which there are so many.
-#[tactic(auto, unfolding(crate::specs::Svg::opening))]
-fn append_opening(t: &Table, view: &View, rows: u64, out: &mut Vec<u8>) -> Result<(), NoMemory>
-    requires { rows < 2 ^ 64 - 1 }
-    ensures { OnOk result (out.new.items ≡ out.old.items ++ opening t.now view.now rows) }
+// Appends what stands before the columns.
+fn append_opening(t: &Table, width: u64, height: u64, out: &mut Vec<u8>) -> Result<(), NoMemory>
+    requires { height + 65536 ≤ 2 ^ 64 }
+    ensures { OnOk result (out.new.items ≡ out.old.items ++ opening t.now width height) }
 {
-    append_frame(view.width, rows + 1, out)?;
+    append_frame(width, height + 24, out)?;
     append_title(t, out)?;
     out.extend_from_slice(style())
 }
@@ -70,17 +79,25 @@ fn append_frame(width: u64, height: u64, out: &mut Vec<u8>) -> Result<(), NoMemo
     ensures { OnOk result (out.new.items ≡ out.old.items ++ frame_svg width height) }
 {
     out.extend_from_slice(beginning())?;
-    append_size(width, height, out)?;
+    append_number(width, out)?;
+    out.extend_from_slice(b"' height='")?;
+    append_number(height, out)?;
+    out.extend_from_slice(b"' viewBox='0 0 ")?;
+    append_number(width, out)?;
+    out.extend_from_slice(b" ")?;
+    append_number(height, out)?;
     out.extend_from_slice(b"'>\n")
 }
 
-// Appends a width and a height.
-fn append_size(width: u64, height: u64, out: &mut Vec<u8>) -> Result<(), NoMemory>
-    ensures { OnOk result (out.new.items ≡ out.old.items ++ size_svg width height) }
+// Appends how columns and rows are made pixels.
+fn append_scale(pixels: Pixels, out: &mut Vec<u8>) -> Result<(), NoMemory>
+    ensures { OnOk result (out.new.items ≡ out.old.items ++ scale_svg pixels) }
 {
-    append_number(width, out)?;
+    out.extend_from_slice(b"scale(")?;
+    append_number(pixels.across, out)?;
     out.extend_from_slice(b" ")?;
-    append_number(height, out)
+    append_number(pixels.down, out)?;
+    out.extend_from_slice(b")'")
 }
 
 // Appends a table's text as the title.
@@ -91,4 +108,69 @@ fn append_title(t: &Table, out: &mut Vec<u8>) -> Result<(), NoMemory>
     out.extend_from_slice(b"<title>")?;
     out.extend_from_slice(t.text(&mut buf))?;
     out.extend_from_slice(b"</title>\n")
+}
+
+// Appends the columns, and the heads over them.
+fn append_body(
+    states: u8,
+    pixels: Pixels,
+    dark: &[u8],
+    pale: &[u8],
+    heads: &[Head],
+    out: &mut Vec<u8>,
+) -> Result<(), NoMemory>
+    ensures { OnOk result (out.new.items ≡ out.old.items ++ body_svg states pixels dark.now pale.now heads.now) }
+{
+    append_group(pixels, out)?;
+    append_columns(dark, pale, out)?;
+    append_heads(pixels.has_room(), states, heads, out)?;
+    out.extend_from_slice(b"</g>\n")
+}
+
+// Begins the group in which a column and a row are one unit each.
+fn append_group(pixels: Pixels, out: &mut Vec<u8>) -> Result<(), NoMemory>
+    ensures { OnOk result (out.new.items ≡ out.old.items ++ group_svg pixels) }
+{
+    out.extend_from_slice(b"<g transform='")?;
+    append_scale(pixels, out)?;
+    out.extend_from_slice(b" shape-rendering='crispEdges'>\n")
+}
+
+// Appends the dark columns and the pale ones.
+fn append_columns(dark: &[u8], pale: &[u8], out: &mut Vec<u8>) -> Result<(), NoMemory>
+    ensures { OnOk result (out.new.items ≡ out.old.items ++ columns_svg dark.now pale.now) }
+{
+    out.extend_from_slice(b"<path class='dark' d='")?;
+    out.extend_from_slice(dark)?;
+    out.extend_from_slice(b"'/>\n<path class='pale' d='")?;
+    out.extend_from_slice(pale)?;
+    out.extend_from_slice(b"'/>\n")
+}
+
+// Appends the line of halting, and the legend.
+fn append_closing(
+    states: u8,
+    pixels: Pixels,
+    height: u64,
+    line: &[u8],
+    out: &mut Vec<u8>,
+) -> Result<(), NoMemory>
+    requires height { height + 65536 ≤ 2 ^ 64 }
+    requires states { states ≤ state_limit }
+    ensures { OnOk result (out.new.items ≡ out.old.items ++ closing states pixels height line.now) }
+{
+    append_ending(pixels, line, out)?;
+    append_legend(height + 8, states, out)?;
+    out.extend_from_slice(b"</svg>\n")
+}
+
+// Appends the line of halting.
+fn append_ending(pixels: Pixels, line: &[u8], out: &mut Vec<u8>) -> Result<(), NoMemory>
+    ensures { OnOk result (out.new.items ≡ out.old.items ++ ending_svg pixels line.now) }
+{
+    out.extend_from_slice(b"<path class='halt' transform='translate(0 1) ")?;
+    append_scale(pixels, out)?;
+    out.extend_from_slice(b" d='")?;
+    out.extend_from_slice(line)?;
+    out.extend_from_slice(b"'/>\n")
 }

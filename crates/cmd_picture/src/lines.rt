@@ -1,73 +1,83 @@
-// A row of a picture as a line of an SVG document.
-ghost use Rattle.std.specs.Prelude.{◌≡◌, ◌++◌, OnOk};
-ghost use Rattle.cmd_picture.specs.Rows.{shown_row};
-ghost use Rattle.cmd_picture.specs.Svg.{row_svg, ones_svg, head_svg, halt_svg, bar_svg, cells_svg};
+// Parts of a picture as paths of an SVG document.
+ghost use Rattle.std.specs.Prelude.{◌≡◌, ◌<◌, ◌-◌, ◌^◌, ◌++◌, OnOk};
+ghost use Rattle.cmd_picture.specs.Svg.{cells_svg, line_svg, mark_svg, middle_svg, marks_svg, runs_svg};
 
+use crate::drawn::Head;
 use crate::ones::Stretch;
-use crate::row::Row;
-use crate::view::View;
 use machine_text::State;
 use tape::NoMemory;
 use text::append_number;
 
-// Appends a row: its ones, the head over them, and the bar where the machine halts.
-#[tactic(auto, unfolding(crate::specs::Svg::row_svg))]
-pub(crate) fn append_row(view: &View, row: &Row, out: &mut Vec<u8>) -> Result<(), NoMemory>
-    ensures { OnOk result (out.new.items ≡ out.old.items ++ row_svg view.now (shown_row row.now)) }
+// Appends the path of some runs of a row.
+pub(crate) fn append_runs(y: u64, runs: &[Stretch], out: &mut Vec<u8>) -> Result<(), NoMemory>
+    ensures { OnOk result (out.new.items ≡ out.old.items ++ runs_svg y runs.now) }
 {
-    append_ones(row.number, &row.runs, out)?;
-    append_head(row.number, row.state, row.head, out)?;
-    append_halt(row.number, row.halts, view, out)?;
-    out.extend_from_slice(b"\n")
-}
-
-// Appends the ones of a row.
-fn append_ones(y: u64, runs: &[Stretch], out: &mut Vec<u8>) -> Result<(), NoMemory>
-    ensures { OnOk result (out.new.items ≡ out.old.items ++ ones_svg y runs.now) }
-{
-    out.extend_from_slice(b"<path d='")?;
     for run in runs {
-        append_line(run.first, y, run.count, out)?;
+        append_cells(run.first, y, run.count, out)?;
     }
-    out.extend_from_slice(b"'/>")
+    Ok(())
 }
 
-// Appends the head, in the colour of its state, where the view has it.
-fn append_head(y: u64, state: State, head: Option<u64>, out: &mut Vec<u8>) -> Result<(), NoMemory>
-    ensures { OnOk result (out.new.items ≡ out.old.items ++ head_svg y state.0 head) }
-{
-    let Some(column) = head else {
-        return Ok(());
-    };
-    out.extend_from_slice(b"<path class='s")?;
-    append_number(u64::from(state.0), out)?;
-    out.extend_from_slice(b"' d='")?;
-    append_line(column, y, 1, out)?;
-    out.extend_from_slice(b"'/>")
-}
-
-// Appends the bar beneath a row on which the machine halts.
-fn append_halt(y: u64, halts: bool, view: &View, out: &mut Vec<u8>) -> Result<(), NoMemory>
-    ensures { OnOk result (out.new.items ≡ out.old.items ++ halt_svg view.now y halts) }
+// Appends the line beneath a row, if the machine halts there.
+pub(crate) fn append_line(
+    y: u64,
+    halts: bool,
+    columns: u64,
+    out: &mut Vec<u8>,
+) -> Result<(), NoMemory>
+    requires { y < 2 ^ 64 - 1 }
+    ensures { OnOk result (out.new.items ≡ out.old.items ++ line_svg columns y halts) }
 {
     if halts {
-        append_bar(y, view.width, out)
+        out.extend_from_slice(b"M0 ")?;
+        append_number(y + 1, out)?;
+        out.extend_from_slice(b"h")?;
+        append_number(columns, out)?;
+    }
+    Ok(())
+}
+
+// Appends the path of the heads that are in one state.
+pub(crate) fn append_marks(
+    room: bool,
+    state: State,
+    heads: &[Head],
+    out: &mut Vec<u8>,
+) -> Result<(), NoMemory>
+    ensures { OnOk result (out.new.items ≡ out.old.items ++ marks_svg room state.0 heads.now) }
+{
+    for head in heads {
+        if head.state.0 == state.0 {
+            append_mark(room, head.column, head.row, out)?;
+        }
+    }
+    Ok(())
+}
+
+// Appends a head: the middle of its cell where that has room, else the whole cell.
+fn append_mark(room: bool, column: u64, y: u64, out: &mut Vec<u8>) -> Result<(), NoMemory>
+    ensures { OnOk result (out.new.items ≡ out.old.items ++ mark_svg room column y) }
+{
+    if room {
+        append_middle(column, y, out)
     } else {
-        Ok(())
+        append_cells(column, y, 1, out)
     }
 }
 
-// Appends a bar beneath a row.
-fn append_bar(y: u64, width: u64, out: &mut Vec<u8>) -> Result<(), NoMemory>
-    ensures { OnOk result (out.new.items ≡ out.old.items ++ bar_svg width y) }
+// Appends the path of the middle of a cell.
+fn append_middle(column: u64, y: u64, out: &mut Vec<u8>) -> Result<(), NoMemory>
+    ensures { OnOk result (out.new.items ≡ out.old.items ++ middle_svg column y) }
 {
-    out.extend_from_slice(b"<path class='halt' transform='translate(0 1)' d='")?;
-    append_line(0, y, width, out)?;
-    out.extend_from_slice(b"'/>")
+    out.extend_from_slice(b"M")?;
+    append_number(column, out)?;
+    out.extend_from_slice(b".25 ")?;
+    append_number(y, out)?;
+    out.extend_from_slice(b".25h.5v.5h-.5z")
 }
 
-// Appends the path of so many cells of a row, from a column on.
-fn append_line(column: u64, y: u64, count: u64, out: &mut Vec<u8>) -> Result<(), NoMemory>
+// Appends the path of so many columns of a row, from one on.
+fn append_cells(column: u64, y: u64, count: u64, out: &mut Vec<u8>) -> Result<(), NoMemory>
     ensures { OnOk result (out.new.items ≡ out.old.items ++ cells_svg column y count) }
 {
     out.extend_from_slice(b"M")?;
@@ -75,5 +85,8 @@ fn append_line(column: u64, y: u64, count: u64, out: &mut Vec<u8>) -> Result<(),
     out.extend_from_slice(b" ")?;
     append_number(y, out)?;
     out.extend_from_slice(b"h")?;
-    append_number(count, out)
+    append_number(count, out)?;
+    out.extend_from_slice(b"v1h-")?;
+    append_number(count, out)?;
+    out.extend_from_slice(b"z")
 }

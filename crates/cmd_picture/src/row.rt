@@ -18,14 +18,17 @@ pub struct Row {
     pub head: Option<u64>,
     /// Whether the machine halts with the next step.
     pub halts: bool,
-    /// The ones in the view, from left to right.
-    pub runs: Vec<Stretch>,
+    /// The columns in which most cells hold a one, from left to right.
+    pub dark: Vec<Stretch>,
+    /// Those in which some do, but not most: none where each cell has a column of its own.
+    pub pale: Vec<Stretch>,
 }
 
 impl Row {
     /// A row in which nothing is shown. It takes no memory.
     pub fn new(alloc: Global) -> Row
-        ensures { result.runs.items ≡ [] }
+        ensures dark { result.dark.items ≡ [] }
+        ensures pale { result.pale.items ≡ [] }
     {
         Row {
             number: 0,
@@ -33,7 +36,8 @@ impl Row {
             state: State(0),
             head: None,
             halts: false,
-            runs: Vec::new(alloc),
+            dark: Vec::new(alloc),
+            pale: Vec::new(alloc),
         }
     }
 }

@@ -1,5 +1,5 @@
 // The rows of a picture, one after another.
-ghost use Rattle.std.specs.Prelude.{◌≡◌, ◌+◌, ◌≤◌, false, IfOk, OnOk, OnErr};
+ghost use Rattle.std.specs.Prelude.{◌≡◌, ◌+◌, ◌<◌, ◌≤◌, false, IfOk, OnOk, OnErr};
 ghost use Rattle.machine_text.specs.Packed.{entry_of};
 ghost use Rattle.run.specs.Limits.{run_step_limit};
 ghost use Rattle.cmd_picture.specs.Rows.{Shows, shown_row};
@@ -11,6 +11,7 @@ use crate::ones::read_ones;
 use crate::row::Row;
 use crate::span::Span;
 use crate::times::Times;
+use crate::tone::Tone;
 use crate::view::View;
 use crate::visits::visit;
 use machine_text::Table;
@@ -53,7 +54,8 @@ impl Rows {
 
     /// The rows of a table's run from the blank tape.
     pub fn new(alloc: Global, t: Table, view: View, times: Times) -> Result<Rows, NoMemory>
-        requires { AreWithinRuns times }
+        requires times { AreWithinRuns times }
+        requires share { 0 < view.share }
         ensures { IfOk result (λ rows. rows ≡ record
             { table = t; view = view; times = times; number = 0; over = false }) }
     {
@@ -105,13 +107,15 @@ impl Rows {
 fn show(runner: &Runner, t: &Table, view: &View, cells: Span, row: &mut Row) -> Result<(), NoMemory>
     requires same { runner.now.table ≡ t.now }
     requires visited { IsVisited (entry_of t.now) 0 runner.now.steps cells }
+    requires share { 0 < view.now.share }
     ensures number { OnOk result (row.new.number ≡ row.old.number) }
     ensures time { OnOk result (row.new.time ≡ runner.now.steps) }
     ensures shows { OnOk result (Shows (entry_of t.now) view.now (shown_row row.new)) }
 {
     let tape = runner.tape();
     row.time = runner.steps();
-    read_ones(tape, view, cells, &mut row.runs)?;
+    read_ones(tape, view, cells, Tone::Dark, &mut row.dark)?;
+    read_ones(tape, view, cells, Tone::Pale, &mut row.pale)?;
     row.state = runner.state();
     row.head = head_column(view, tape);
     row.halts = t.get(runner.state(), tape.read()).is_none();
@@ -120,6 +124,7 @@ fn show(runner: &Runner, t: &Table, view: &View, cells: Span, row: &mut Row) -> 
 
 // The column of a tape's head, where a view has it.
 fn head_column(view: &View, tape: &Tape) -> Option<u64>
+    requires { 0 < view.now.share }
     ensures { IsHeadAt view.now tape.now.head result }
 {
     view.column(tape.head())

@@ -7,15 +7,15 @@ ghost use Rattle.cmd_picture.specs.Style.{beginning_text, style_text};
 pub(crate) fn beginning() -> &'static [u8]
     ensures { result.now ≡ beginning_text }
 {
-    b"<svg xmlns='http://www.w3.org/2000/svg' shape-rendering='crispEdges' viewBox='0 0 "
+    b"<svg xmlns='http://www.w3.org/2000/svg' width='"
 }
 
 // The colours, and what stands behind the rows. Ones are dark on a light ground, or light on a dark one, as the reader
-// has it. The colours of the seven states are told apart on both, and by people who don't see red, green or blue. A
-// machine that halts has a bar beneath its last row.
+// has it. The colours of the seven states, of pale columns and of the line have a contrast of 3:1 to both grounds and to
+// ones on both, and are told apart also by people who don't see red, green or blue.
 #[tactic(auto, unfolding(crate::specs::Style::style_text))]
 pub(crate) fn style() -> &'static [u8]
     ensures { result.now ≡ style_text }
 {
-    b"<style>.p{fill:#fff}path{stroke:#222}.s0{stroke:#ff3030}.s1{stroke:#3d5cff}.s2{stroke:#46ce80}.s3{stroke:#d878ff}.s4{stroke:#b0204d}.s5{stroke:#b8c4f0}.s6{stroke:#7d4aa6}.halt{stroke:#ff9500}@media(prefers-color-scheme:dark){.p{fill:#111}path{stroke:#ddd}}</style>\n<rect class='p' width='100%' height='100%'/>\n<g transform='translate(0 .5)'>\n"
+    b"<style>.ground{fill:#fff}.dark{fill:#000}.pale{fill:#808080}.s0{fill:#e66950}.s1{fill:#195feb}.s2{fill:#696400}.s3{fill:#d76ebe}.s4{fill:#2391fa}.s5{fill:#a52daa}.s6{fill:#c3870f}.halt{stroke:#a04b46;stroke-width:2px;vector-effect:non-scaling-stroke}.letter{fill:#000;font:12px sans-serif}@media(prefers-color-scheme:dark){.ground{fill:#111}.dark,.letter{fill:#fff}}</style>\n<rect class='ground' width='100%' height='100%'/>\n"
 }

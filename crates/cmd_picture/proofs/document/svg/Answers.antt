@@ -1,20 +1,18 @@
-use Rattle.std.proofs.Common.{◌≡◌, ℕ, List, ◌++◌, flat_map, codes, ◌∙◌, ap}
+use Rattle.std.proofs.Common.{◌≡◌, ◌++◌, ◌∙◌, ap, sym}
 use Rattle.cmd_picture.specs.Rows.{Progress}
-use Rattle.cmd_picture.specs.Svg.{row_svg, opening}
-use Rattle.cmd_picture.proofs.PictureLaws.{whole}
+use Rattle.cmd_picture.specs.Svg.{document, height_in}
+use Rattle.cmd_picture.proofs.PictureLaws.{sized, whole}
 use Rattle.cmd_picture.proofs.document.svg.Goals as goal
 
--- the opening, the rows and the closing
+-- the document of the rows that were drawn
 pub returns : goal.returns
 returns c =
-    let drawn = c.in_ok-append_rows.ensures in
-    let begun : c.append_opening.new.out.items ≡ opening c.args.t c.args.view c.number.result = c.in_ok-append_opening.ensures ∙ ap (λ (s : List ℕ). s ++ opening c.args.t c.args.view c.number.result) c.new-text.ensures.items in
-    let filled : c.extend_from_slice.new.self.items ≡ opening c.args.t c.args.view c.number.result ++ c.append_rows.new.out.items =
-    c.in_ok-extend_from_slice.ensures.items
-    ∙ (ap (λ (s : List ℕ). s ++ c.deref.result.now) begun ∙ ap (λ (s : List ℕ). opening c.args.t c.args.view c.number.result ++ s) c.deref.ensures.value)
-    in
-    let closed = c.in_ok-extend_from_slice-2.ensures.items ∙ ap (λ (s : List ℕ). s ++ codes "</g>\n</svg>\n") filled in
-    whole c.args.t c.args.view c.args.times c.in_ok-rows.rows c.number.result c.append_rows.new.out.items c.extend_from_slice-2.new.self.items
-    (ap (λ (r : Progress). r.table) c.in_ok-rows.ensures) (ap (λ (r : Progress). r.times) c.in_ok-rows.ensures)
-    (drawn.0, drawn.1, c.number.ensures.number ∙ drawn.2, drawn.3 ∙ ap (λ (s : List ℕ). s ++ flat_map (row_svg c.args.view) drawn.0) c.new-drawn.ensures.items)
-    closed
+    let drawn = c.in_ok-drawn.ensures in
+    let d = c.in_ok-drawn.drawn in
+    let p = c.pixels-pixels.result in
+    let again : c.number-2.result ≡ c.number.result = c.number-2.ensures.number ∙ sym c.number.ensures.number in
+    let high = c.height-height.ensures ∙ ap (λ n. height_in p n) again in
+    let is = c.in_ok-append_document.ensures ∙ ap (λ s. s ++ document c.args.t p c.width-width.result c.height-height.result d.dark.items d.pale.items d.heads.items d.line.items) c.new-text.ensures.items in
+    whole c.args.t c.args.view c.args.times c.args.size c.in_ok-rows.rows c.number.result d c.append_document.new.out.items (ap (λ (r : Progress). r.table) c.in_ok-rows.ensures) (ap (λ (r : Progress). r.times) c.in_ok-rows.ensures)
+    (ap (λ (r : Progress). r.view) c.in_ok-rows.ensures) (drawn.0, drawn.1, c.number.ensures.number ∙ drawn.2, drawn.3)
+    (is ∙ sized c.args.t c.args.view c.args.size c.number.result c.columns-columns.result c.states.result c.width-width.result c.height-height.result p d.dark.items d.pale.items d.line.items d.heads.items c.columns-columns.ensures c.states.ensures.states c.pixels-pixels.ensures.is c.width-width.ensures high)

@@ -1,8 +1,7 @@
 use Rattle.std.proofs.Common.{◌≡◌, ℕ, ◌<◌, ◌≤◌}
-use Rattle.law_turing.specs.Tape.{cell_of}
-use Rattle.cmd_picture.specs.View.{place}
+use Rattle.cmd_picture.specs.Tones.{has_tone}
 use Rattle.cmd_picture.proofs.ones.pass.Given as goal
 
--- those before hold the symbol
+-- those before have the tone, or haven't, as asked
 abbrev pub invariant-loop-column : goal.invariant-loop-column
-invariant-loop-column l = (i : ℕ) → l.from ≤ i → i < l.column → cell_of l.tape.ones (place l.view i) ≡ l.s
+invariant-loop-column l = (j : ℕ) → l.from ≤ j → j < l.column → has_tone l.tone l.view l.tape.ones j ≡ l.has

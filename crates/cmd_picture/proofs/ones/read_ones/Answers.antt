@@ -1,9 +1,10 @@
 use Rattle.std.proofs.Common.{rules, ◌≡◌, ℕ, ◌+◌, ◌-◌, ◌<◌, ◌≤◌, [], ◌∷◌, ◌++◌, inl, inr, sym, ◌∙◌, subst, arith}
 use Rattle.std.proofs.lemmas.Bool.{cases_lt}
-use Rattle.law_turing.specs.Tape.{cell_of}
 use Rattle.cmd_picture.specs.declared.ones.Stretch.{Stretch}
-use Rattle.cmd_picture.specs.View.{place}
 use Rattle.cmd_picture.specs.Runs.{AreApart}
+use Rattle.cmd_picture.specs.Tones.{has_tone}
+use Rattle.cmd_picture.specs.View.{columns_of}
+use Rattle.cmd_picture.proofs.ColumnLaws.{blank_column}
 use Rattle.cmd_picture.proofs.RunLaws.{apart_none, apart_later, apart_push, drawn_none, drawn_beyond, drawn_push, past_ones, past_blanks, outside}
 use Rattle.cmd_picture.proofs.ones.read_ones.Goals as goal
 
@@ -16,8 +17,8 @@ loop-column-init c =
       apart = rw items (apart_none _);
       next = λ less. rw items (apart_none _);
       here = c.pass-column.ensures.other;
-      cells = λ i low. rw items (drawn_none i ∙ sym (elim (cases_lt i c.columns-first.result.0) [
-        | inl less ↦ outside c.args.view.now c.args.cells c.args.tape.now.ones c.columns-first.result.0 c.columns-first.result.1 c.requires c.columns-first.ensures.all i (omega (arith, low, c.pass-column.ensures.bound, c.columns-first.ensures.width)) (inl less)
+      cells = λ i low. rw items (drawn_none i ∙ sym (elim (cases_lt i c.columns_with-first.result.0) [
+        | inl less ↦ blank_column c.args.tone c.args.view.now c.args.tape.now.ones i (λ k within from to. outside c.args.view.now c.args.cells c.args.tape.now.ones _ _ c.requires.span c.reached-reached.ensures.all k within (inl (c.columns_with-first.ensures.before k i less to)))
         | inr more ↦ c.pass-column.ensures.alike i more low
       ]));
     }
@@ -25,11 +26,11 @@ loop-column-init c =
 -- one run more: as many ones as there are, and blanks behind them
 pub loop-column-preserved : goal.loop-column-preserved
 loop-column-preserved c =
-    let f = λ (i : ℕ). cell_of c.args.tape.now.ones (place c.args.view.now i) in
-    let low : c.loop-column.column < c.columns-first.result.1 = c.loop-column-test.true in
+    let f = λ (i : ℕ). has_tone c.args.tone c.args.view.now c.args.tape.now.ones i in
+    let low : c.loop-column.column < c.columns_with-first.result.1 = c.loop-column-test.true in
     let here = c.loop-column.invariant.here low in
     let onward : c.loop-column.column ≤ c.pass-after.result = c.pass-after.ensures.onward in
-    let some : c.loop-column.column < c.pass-after.result = past_ones f c.loop-column.column c.pass-after.result c.columns-first.result.1 low onward here c.pass-after.ensures.other in
+    let some : c.loop-column.column < c.pass-after.result = past_ones f c.loop-column.column c.pass-after.result c.columns_with-first.result.1 low onward here c.pass-after.ensures.other in
     let r : Stretch = record { first = c.loop-column.column; count = c.pass-after.result - c.loop-column.column } in
     let items : c.push.new.self.items ≡ c.loop-column.runs.items ++ r ∷ [] = search rules in
     let ends : c.loop-column.column + (c.pass-after.result - c.loop-column.column) ≡ c.pass-after.result = omega arith in
@@ -41,7 +42,7 @@ loop-column-preserved c =
       bound = c.pass-column-in-loop-column.ensures.bound;
       apart = rw items (apart_later 0 _ (c.pass-after.result + 1) (c.pass-column-in-loop-column.result + 1) (omega arith) apart);
       next = λ less.
-          let past : c.pass-after.result < c.pass-column-in-loop-column.result = past_blanks f c.pass-after.result c.pass-column-in-loop-column.result c.columns-first.result.1 later less c.pass-after.ensures.other (c.pass-column-in-loop-column.ensures.other less) in
+          let past : c.pass-after.result < c.pass-column-in-loop-column.result = past_blanks f c.pass-after.result c.pass-column-in-loop-column.result c.columns_with-first.result.1 later less c.pass-after.ensures.other (c.pass-column-in-loop-column.ensures.other less) in
           rw items (apart_later 0 _ (c.pass-after.result + 1) c.pass-column-in-loop-column.result (omega arith) apart);
       here = c.pass-column-in-loop-column.ensures.other;
       cells = λ i within.
@@ -51,16 +52,16 @@ loop-column-preserved c =
 pub returns-clause-apart : goal.returns-clause-apart
 returns-clause-apart c =
     let bound = c.loop-column.invariant.bound in
-    let width = c.columns-first.ensures.width in
-    apart_later 0 c.loop-column.runs.items (c.loop-column.column + 1) (c.args.view.now.width + 1) (omega arith) c.loop-column.invariant.apart
+    let width = c.columns_with-first.ensures.width in
+    apart_later 0 c.loop-column.runs.items (c.loop-column.column + 1) (columns_of c.args.view.now + 1) (omega arith) c.loop-column.invariant.apart
 
 -- right of the last one it is blank too
-pub returns-clause-cells : goal.returns-clause-cells
-returns-clause-cells c i low =
+pub returns-clause-tones : goal.returns-clause-tones
+returns-clause-tones c i low =
     let end = c.loop-column-test.false in
     elim (cases_lt i c.loop-column.column) [
       | inl less ↦ c.loop-column.invariant.cells i less
       | inr more ↦
           drawn_beyond 0 c.loop-column.runs.items (c.loop-column.column + 1) i c.loop-column.invariant.apart (omega (arith, more))
-          ∙ sym (outside c.args.view.now c.args.cells c.args.tape.now.ones c.columns-first.result.0 c.columns-first.result.1 c.requires c.columns-first.ensures.all i low (inr (omega (arith, more, end))))
+          ∙ sym (blank_column c.args.tone c.args.view.now c.args.tape.now.ones i (λ k within from to. outside c.args.view.now c.args.cells c.args.tape.now.ones _ _ c.requires.span c.reached-reached.ensures.all k within (inr (c.columns_with-first.ensures.behind k i (omega (arith, more, end)) from))))
     ]

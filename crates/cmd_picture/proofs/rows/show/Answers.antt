@@ -2,19 +2,23 @@ use Rattle.std.proofs.Common.{◌≡◌, Some, sym, ◌∙◌, ap, subst}
 use Rattle.machine_text.specs.Packed.{Packed, entry_of}
 use Rattle.machine_text.specs.declared.transition.Sym.{Sym}
 use Rattle.law_turing.specs.Run.{after}
-use Rattle.law_turing.specs.Tape.{Tape, cell_of, symbol_read}
-use Rattle.cmd_picture.specs.View.{place, IsHeadAt}
+use Rattle.law_turing.specs.Tape.{Tape, symbol_read}
+use Rattle.cmd_picture.specs.declared.tone.Tone.TheVariants.{Pale, Dark}
+use Rattle.cmd_picture.specs.Tones.{has_tone}
+use Rattle.cmd_picture.specs.View.{IsHeadAt}
 use Rattle.cmd_picture.specs.Runs.{drawn}
-use Rattle.cmd_picture.specs.inside.{HasOnesIn}
-use Rattle.cmd_picture.proofs.VisitLaws.{ones_in}
+use Rattle.cmd_picture.proofs.VisitLaws.{ones_stand}
 use Rattle.cmd_picture.proofs.RowLaws.{halts_where}
 use Rattle.cmd_picture.proofs.rows.show.Goals as goal
 
 -- all ones stand where the head was
-pub read_ones-requires : goal.read_ones-requires
-read_ones-requires c =
-    let at = subst (λ (p : Packed). after (entry_of p) c.args.runner.now.steps ≡ Some c.args.runner.now.config) c.requires.same c.steps-row.ensures.stands.at in
-    subst (λ (t : Tape). HasOnesIn c.args.cells t.ones) (sym c.tape-tape.ensures) (ones_in (entry_of c.args.t.now) c.args.runner.now.steps c.args.runner.now.config c.args.cells c.requires.visited at)
+pub read_ones-requires-clause-span : goal.read_ones-requires-clause-span
+read_ones-requires-clause-span c =
+    ones_stand c.args.t.now c.args.runner.now c.tape-tape.result.now c.args.cells c.requires.same c.steps-row.ensures.stands c.tape-tape.ensures c.requires.visited
+
+pub read_ones-requires-2-clause-span : goal.read_ones-requires-2-clause-span
+read_ones-requires-2-clause-span c =
+    ones_stand c.args.t.now c.args.runner.now c.tape-tape.result.now c.args.cells c.requires.same c.steps-row.ensures.stands c.tape-tape.ensures c.requires.visited
 
 -- the row shows the runner's configuration
 pub returns-clause-shows : goal.returns-clause-shows
@@ -31,6 +35,12 @@ returns-clause-shows c =
       state = c.state-row.ensures;
       head = subst (λ (t : Tape). IsHeadAt c.args.view.now t.head c.head_column-row.result) c.tape-tape.ensures c.head_column-row.ensures;
       halts = halts_where (entry_of c.args.t.now) c.args.runner.now.config c.get.result c.is_none-row.result entry c.is_none-row.ensures;
-      cells = λ i low. subst (λ (t : Tape). drawn c.read_ones.new.runs.items i ≡ cell_of t.ones (place c.args.view.now i)) c.tape-tape.ensures (c.in_ok-read_ones.ensures.cells i low);
-      apart = c.in_ok-read_ones.ensures.apart;
+      dark = record {
+        drawn = λ j low. subst (λ (t : Tape). drawn c.read_ones.new.runs.items j ≡ has_tone Dark c.args.view.now t.ones j) c.tape-tape.ensures (c.in_ok-read_ones.ensures.tones j low);
+        apart = c.in_ok-read_ones.ensures.apart;
+      };
+      pale = record {
+        drawn = λ j low. subst (λ (t : Tape). drawn c.read_ones-2.new.runs.items j ≡ has_tone Pale c.args.view.now t.ones j) c.tape-tape.ensures (c.in_ok-read_ones-2.ensures.tones j low);
+        apart = c.in_ok-read_ones-2.ensures.apart;
+      };
     }

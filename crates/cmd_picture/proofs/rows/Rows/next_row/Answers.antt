@@ -15,6 +15,7 @@ invariant_of-self-in_err-show c =
     let went = between c.self.inside.due c.self.inside.runner c.visit.new.runner c.in_ok-_step._step c.in_ok-_step.ensures.ok in
     record {
       within = c.self.invariant.within;
+      share = c.self.invariant.share;
       same = went.table ∙ c.self.invariant.same;
       stands = went.stands;
       visited = visited_on c.self.inside.table c.self.inside.due c.self.inside.runner c.visit.new.runner c.self.inside.cells c.visit.new.cells c.self.invariant.same went c.self.invariant.visited c.in_ok-_step.ensures.visited;
@@ -38,6 +39,7 @@ invariant_of-self-2 c =
     let more : due c.self.inside.times (c.self.inside.number + 1) ≡ due c.self.inside.times c.self.inside.number + c.self.inside.times.every = due_next c.self.inside.times c.self.inside.number in
     record {
       within = c.self.invariant.within;
+      share = c.self.invariant.share;
       same = went.table ∙ c.self.invariant.same;
       stands = went.stands;
       visited = visited_on c.self.inside.table c.self.inside.due c.self.inside.runner c.visit.new.runner c.self.inside.cells c.visit.new.cells c.self.invariant.same went c.self.invariant.visited c.in_ok-_step.ensures.visited;

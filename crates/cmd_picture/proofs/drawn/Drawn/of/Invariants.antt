@@ -1,16 +1,17 @@
 use Rattle.std.proofs.Common.{◌≡◌, ◌+◌, ◌-◌}
 use Rattle.machine_text.specs.Packed.{entry_of}
 use Rattle.run.specs.Limits.{run_step_limit}
-use Rattle.cmd_picture.proofs.PictureLaws.{AreAppended}
-use Rattle.cmd_picture.proofs.document.append_rows.Given as goal
+use Rattle.cmd_picture.specs.drawn.{HasRows}
+use Rattle.cmd_picture.proofs.PictureLaws.{AreDrawn}
+use Rattle.cmd_picture.proofs.drawn.Drawn.of.Given as goal
 
--- the rows that were given were appended
+-- the rows that were given were drawn
 abbrev pub invariant-each : goal.invariant-each
 invariant-each l = record {
   table : l.rows.table ≡ l.fn.rows.table;
   view : l.rows.view ≡ l.fn.rows.view;
   times : l.rows.times ≡ l.fn.rows.times;
-  rows : AreAppended (entry_of l.fn.rows.table) l.fn.rows.view l.fn.rows.times l.rows.over l.rows.number l.fn.out.items l.out.items;
+  rows : AreDrawn (entry_of l.fn.rows.table) l.fn.rows.view l.fn.rows.times l.rows.over l.rows.number (λ rows. HasRows l.fn.rows.view rows l.drawn);
 }
 
 abbrev pub decreases-each : goal.decreases-each

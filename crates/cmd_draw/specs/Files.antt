@@ -1,5 +1,5 @@
 -- Pictures that are files of a folder, one for each table.
-use Rattle.std.specs.Prelude.{◌≡◌, ℕ, List, [], ◌∷◌, ◌++◌, Option, Result, Ok, Err, codes}
+use Rattle.std.specs.Prelude.{◌≡◌, ℕ, Bool, true, false, List, [], ◌∷◌, ◌++◌, Option, Result, Ok, Err, codes}
 use Rattle.machine_text.specs.Packed.{Packed, IsTable}
 use Rattle.machine_text.specs.Text.{text_of}
 use Rattle.text.specs.Lines.{BoundedLine}
@@ -14,13 +14,18 @@ use Rattle.cmd_draw.specs.Asked.{table_asked}
 use Rattle.cmd_draw.specs.Picture.{IsPicture}
 use Rattle.cmd_draw.specs.Placing.{PutsFile}
 
+-- what the name of a picture ends with: of a PNG, or of an SVG
+abbrev pub ending : Bool → List ℕ
+ending true = codes ".png"
+ending false = codes ".svg"
+
 -- the path of a picture in a folder
-abbrev pub svg_path : List ℕ → List ℕ → List ℕ
-svg_path folder name = folder ++ codes "/" ++ name ++ codes ".svg"
+abbrev pub path_within : Bool → List ℕ → List ℕ → List ℕ
+path_within png folder name = folder ++ codes "/" ++ name ++ ending png
 
 -- that of the picture of a table
-abbrev pub picture_path : List ℕ → Packed → List ℕ
-picture_path folder t = svg_path folder (text_of t)
+abbrev pub picture_path : Bool → List ℕ → Packed → List ℕ
+picture_path png folder t = path_within png folder (text_of t)
 
 abbrev pub drawn_text : Packed → List ℕ
 drawn_text t = text_of t ++ codes " drawn"
@@ -29,7 +34,7 @@ drawn_text t = text_of t ++ codes " drawn"
 pub record DrawsTable (tells : SameFile) (folder : List ℕ) (d : Drawing) (t : Packed) (old new : Shelf) : Type 0 where
   pub picture : List ℕ
   pub is : IsPicture d t picture
-  pub put : PutsFile tells (picture_path folder t) picture old new
+  pub put : PutsFile tells (picture_path d.png folder t) picture old new
 
 -- a table is answered once its picture is put there; anything else by its fault, and nothing changes at any path
 abbrev pub AnswersAsked : SameFile → List ℕ → Drawing → Shelf → Result Packed RecordFault → Outcome → Shelf → List ℕ
@@ -58,5 +63,5 @@ pub record DrawsFiles {H : Type 0} (tells : H → SameFile) (holds : H → Shelf
 
 -- in one folder no two tables have one path
 abbrev pub IsOneTableAPath : Type 0
-IsOneTableAPath = (folder : List ℕ) → (a b : Packed) → IsTable a → IsTable b
-    → picture_path folder a ≡ picture_path folder b → a ≡ b
+IsOneTableAPath = (png : Bool) → (folder : List ℕ) → (a b : Packed) → IsTable a → IsTable b
+    → picture_path png folder a ≡ picture_path png folder b → a ≡ b

@@ -4,7 +4,7 @@ ghost use Rattle.cmd_taking.specs.Said.{TakesStream};
 ghost use Rattle.cmd_taking.specs.Taken.{lent};
 ghost use Rattle.files.specs.Paths.{IsKept, IsToldStill};
 ghost use Rattle.cmd_draw.specs.Asked.{table_asked};
-ghost use Rattle.cmd_draw.specs.Files.{AnswersAsked, DrawsFiles, DrawsLine, DrawsTable, drawn_text, picture_path, svg_path};
+ghost use Rattle.cmd_draw.specs.Files.{AnswersAsked, DrawsFiles, DrawsLine, DrawsTable, drawn_text, ending, path_within, picture_path};
 ghost use Rattle.cmd_draw.specs.Placing.{PutsFile};
 ghost use Rattle.cmd_draw.specs.Said.{EndsDrawing};
 
@@ -129,7 +129,8 @@ impl<H: Files> Pictures<'_, H> {
         ensures err { IfErr result EndsDrawing }
     {
         let picture = picture_of(self.alloc, t, self.drawing)?;
-        put_picture(self.alloc, self.host, self.folder, t, &picture)
+        let png = self.drawing.png;
+        put_picture(self.alloc, self.host, self.folder, t, png, &picture)
     }
 }
 
@@ -141,44 +142,62 @@ fn append_drawn(t: &Table, out: &mut Vec<u8>) -> Result<(), NoMemory>
     out.extend_from_slice(b" drawn")
 }
 
-/// Makes a picture of a table a file of a folder, under the table's text.
+/// Makes a picture of a table, a PNG or an SVG, a file of a folder, under the table's text.
 pub fn put_picture<H: Files>(
     alloc: Global,
     host: &mut H,
     folder: &str,
     t: &Table,
+    png: bool,
     picture: &[u8],
 ) -> Result<(), Ended>
-    ensures ok { OnOk result (PutsFile (H.tells_same host.old) (picture_path folder.now t.now) picture.now
+    ensures ok { OnOk result (PutsFile (H.tells_same host.old) (picture_path png folder.now t.now) picture.now
         (H.holds host.old) (H.holds host.new)) }
     ensures still { IsToldStill (H.tells_same host.old) (H.tells_same host.new) }
     ensures err { IfErr result (λ e. EndsDrawing e × IsKept (H.holds host.old) (H.holds host.new)) }
 {
-    let path = picture_path(alloc, folder, t)?;
+    let path = picture_path(alloc, folder, t, png)?;
     put_file(host, &path, picture)
 }
 
-/// The path of the picture of a table in a folder.
-pub fn picture_path(alloc: Global, folder: &str, t: &Table) -> Result<String, NoMemory>
-    ensures { IfOk result (λ path. string_bytes path ≡ picture_path folder.now t.now) }
+/// The path of the picture of a table in a folder, a PNG or an SVG.
+pub fn picture_path(
+    alloc: Global,
+    folder: &str,
+    t: &Table,
+    png: bool,
+) -> Result<String, NoMemory>
+    ensures { IfOk result (λ path. string_bytes path ≡ picture_path png folder.now t.now) }
 {
     // The proof needs that it is a table.
     let _ = t.states();
     let mut buffer = [0; TEXT_BYTES];
     match str::from_utf8(t.text(&mut buffer)) {
-        Ok(name) => path_within(alloc, folder, name),
+        Ok(name) => path_within(alloc, folder, name, png),
         Err(_) => unreachable!(),
     }
 }
 
 // The path of a picture in a folder.
-fn path_within(alloc: Global, folder: &str, name: &str) -> Result<String, NoMemory>
-    ensures { IfOk result (λ path. string_bytes path ≡ svg_path folder.now name.now) }
+fn path_within(
+    alloc: Global,
+    folder: &str,
+    name: &str,
+    png: bool,
+) -> Result<String, NoMemory>
+    ensures { IfOk result (λ path. string_bytes path ≡ path_within png folder.now name.now) }
 {
     let mut path = String::new(alloc);
     path.push_str(folder)?;
     path.push_str("/")?;
     path.push_str(name)?;
-    path.push_str(".svg")?;
+    path.push_str(ending(png))?;
     Ok(path)
+}
+
+// What the name of a picture ends with.
+fn ending(png: bool) -> &'static str
+    ensures { result.now ≡ ending png }
+{
+    if png { ".png" } else { ".svg" }
 }

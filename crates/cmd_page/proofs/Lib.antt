@@ -4,4 +4,4 @@ pub mod TableTexts
 pub mod Counted
 pub mod FigureLaws
 pub mod PageLaws
-pub mod Groups
+pub mod Digits

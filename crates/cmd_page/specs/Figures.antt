@@ -1,10 +1,13 @@
 -- The pictures of champions: the run from the blank tape to its halting, in a bounded number of rows and columns.
-use Rattle.std.specs.Prelude.{◌≡◌, ℕ, ◌+◌, ◌-◌, ◌/◌, min, nat_lt, Bool, true, false, Option, Some, None, List, [], ◌∷◌, ◌++◌, codes, decimal, ℤ, negsuc, ◌≤ℤ◌}
+use Rattle.std.specs.Prelude.{◌≡◌, ℕ, ◌+◌, ◌-◌, ◌/◌, ◌==◌, if◌then◌else◌, min, nat_lt, Bool, true, false, Option, Some, None, List, [], ◌∷◌, ◌++◌, codes}
 use Rattle.machine_text.specs.Packed.{Packed, entry_of}
 use Rattle.machine_text.specs.Text.{text_of}
 use Rattle.run.specs.Limits.{halt_step_limit}
 use Rattle.cmd_picture.specs.declared.times.Times.{Times}
 use Rattle.cmd_picture.specs.declared.view.View.{View}
+use Rattle.cmd_picture.specs.declared.size.Size.{Size}
+use Rattle.cmd_picture.specs.View.{columns_of, share_in}
+use Rattle.cmd_page.specs.Groups.{grouped}
 use Rattle.cmd_picture.specs.Rows.{Shown, AreRows}
 use Rattle.cmd_picture.specs.Svg.{svg_text}
 use Rattle.cmd_picture.specs.Visits.{IsPlaced}
@@ -13,12 +16,13 @@ use Rattle.cmd_picture.specs.Visits.{IsPlaced}
 abbrev pub picture_limit : ℕ
 picture_limit = 8
 
--- the columns of a picture, and how far to the left of the start it reaches
+-- the most columns of a picture
 abbrev pub column_limit : ℕ
-column_limit = 321
+column_limit = 320
 
-abbrev pub left_limit : ℤ
-left_limit = negsuc 159
+-- so large it is made: a column and a row of four pixels at most
+abbrev pub picture_size : Size
+picture_size = record { square = 4; height = None }
 
 -- so many steps from row to row that some 240 rows show a whole run of so many steps, the last of them its halting
 abbrev pub steps_apart : ℕ → ℕ
@@ -31,21 +35,27 @@ halting_times steps = record { from = 0; steps = steps + steps_apart steps; ever
 abbrev pub picture_times : ℕ → Times
 picture_times best = halting_times (min best halt_step_limit)
 
--- the cells that a picture shows of those that a run visits
-pub record IsWindow (visited v : View) : Type 0 where
-  pub near : left_limit ≤ℤ visited.left → v.left ≡ visited.left
-  pub far : visited.left ≤ℤ left_limit → v.left ≡ left_limit
-  pub width : v.width ≡ min visited.width column_limit
+-- all cells that a run visits, as many of them in a column as make it so few columns
+abbrev pub in_columns : View → View
+in_columns visited = record visited { share = share_in column_limit visited.width }
 
--- a picture of a table's run up to its halting: the configurations at these times, in these cells
-pub record IsChampionPicture (t : Packed) (best : ℕ) (svg : List ℕ) : Type 0 where
+-- what is said of how a run is sampled
+abbrev pub every_text : ℕ → List ℕ
+every_text n = if n == 1 then codes "each step" else codes "every " ++ grouped n ++ codes " steps"
+
+abbrev pub sampling_html : View → Times → List ℕ
+sampling_html v times = codes "<p class='sampled'>A row " ++ every_text times.every ++ codes ", " ++ grouped v.width
+    ++ codes " cells in " ++ grouped (columns_of v) ++ codes " columns</p>\n"
+
+-- a picture of a table's run up to its halting: the configurations at these times, in all cells that it visits, and how
+-- they are sampled
+pub record IsChampionPicture (t : Packed) (best : ℕ) (html : List ℕ) : Type 0 where
   pub visited : View
-  pub view : View
   pub rows : List Shown
   pub is_visited : IsPlaced (entry_of t) (picture_times best) visited
-  pub is_window : IsWindow visited view
-  pub are_rows : AreRows (entry_of t) view (picture_times best) 0 rows
-  pub is : svg ≡ svg_text t view rows
+  pub are_rows : AreRows (entry_of t) (in_columns visited) (picture_times best) 0 rows
+  pub is : html ≡ svg_text t (in_columns visited) picture_size rows
+      ++ sampling_html (in_columns visited) (picture_times best)
 
 -- a picture where there is to be one
 abbrev pub IsPictureIf : Bool → Packed → ℕ → List ℕ → Type 0
@@ -53,7 +63,7 @@ IsPictureIf true t best svg = IsChampionPicture t best svg
 IsPictureIf false t best svg = svg ≡ []
 
 abbrev pub caption_html : Packed → ℕ → List ℕ
-caption_html t best = codes "<figcaption><code>" ++ text_of t ++ codes "</code><br>" ++ decimal best
+caption_html t best = codes "<figcaption><code>" ++ text_of t ++ codes "</code><br>" ++ grouped best
     ++ codes " steps</figcaption>\n"
 
 -- a table with its picture and its number of steps

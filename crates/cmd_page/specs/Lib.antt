@@ -1,5 +1,6 @@
 pub mod Escaped
 pub mod Census
+pub mod Groups
 pub mod Figures
 pub mod Style
 pub mod Sentence

@@ -10,7 +10,6 @@ use Rattle.ledger.specs.declared.left.Left.TheVariants.{Nothing, From}
 use Rattle.ledger.specs.declared.tally.Tally.{Tally}
 use Rattle.ledger.specs.declared.status.Status.{Status}
 use Rattle.ledger.specs.declared.status.Status.TheVariants.{Working, Holdouts, Complete}
-use Rattle.cmd_ledgers.specs.Report.{greatest_text}
 use Rattle.cmd_ledgers.specs.Told.{IsToldOf}
 use Rattle.cmd_ledgers.specs.declared.told.Told.{Told}
 use Rattle.cmd_options.specs.Kinds.{kind_letters, kind_label}
@@ -18,7 +17,7 @@ use Rattle.cmd_page.specs.Census.{of_kind, with_entries, entry_count}
 use Rattle.cmd_page.specs.Escaped.{escaped, code_html}
 use Rattle.cmd_page.specs.Figures.{AreFigures}
 use Rattle.cmd_page.specs.Heading.{Headed, origin_html}
-use Rattle.cmd_page.specs.Row.{count_html, row_html}
+use Rattle.cmd_page.specs.Row.{count_html, most_html}
 use Rattle.cmd_page.specs.Sentence.{sentence_html}
 use Rattle.cmd_page.specs.Style.{opening_text, heading_text, parts_text, kinds_text, entries_text, champions_text, ones_champions_text, holdouts_text, ending_text}
 
@@ -48,8 +47,7 @@ verdicts_html tally = count_html (codes "Tables") tally.nodes ++ count_html (cod
     ++ count_html (codes "Never halting") tally.never
 
 abbrev pub greatest_html : Tally → List ℕ
-greatest_html tally = row_html (codes "Most steps") (greatest_text tally.best)
-    ++ row_html (codes "Most ones") (greatest_text tally.ones)
+greatest_html tally = most_html (codes "Most steps") tally.best ++ most_html (codes "Most ones") tally.ones
 
 abbrev pub tally_html : Tally → List ℕ
 tally_html tally = verdicts_html tally ++ count_html (codes "Holdouts") tally.holdouts

@@ -1,23 +1,11 @@
 -- The sentence that says what a tree shows once it is complete. Bytes are those of UTF-8: 206 163 `Σ`.
-use Rattle.std.specs.Prelude.{ℕ, ◌%◌, ◌==◌, ◌&&◌, nat_lt, if◌then◌else◌, Option, Some, None, List, [], ◌∷◌, ◌++◌, length, codes, decimal}
+use Rattle.std.specs.Prelude.{ℕ, ◌==◌, if◌then◌else◌, Option, Some, None, List, [], ◌∷◌, ◌++◌, codes, decimal}
 use Rattle.machine_text.specs.Packed.{Packed}
 use Rattle.ledger.specs.declared.status.Status.{Status}
 use Rattle.ledger.specs.declared.status.Status.TheVariants.{Working, Holdouts, Complete}
 use Rattle.cmd_page.specs.Census.{entry_count}
 use Rattle.cmd_page.specs.Escaped.{code_html}
-
--- what stands before the digits that are left: a comma, where they are three, or six, and so on
-abbrev pub comma_before : List ℕ → List ℕ
-comma_before digits = if nat_lt 0 (length digits) && (length digits % 3 == 0) then codes "," else []
-
--- digits in groups of three, from the last one on
-unfoldable pub in_groups : List ℕ → List ℕ
-in_groups [] = []
-in_groups (digit ∷ digits) = digit ∷ comma_before digits ++ in_groups digits
-
--- a number as 47,176,870
-abbrev pub grouped : ℕ → List ℕ
-grouped n = in_groups (decimal n)
+use Rattle.cmd_page.specs.Groups.{grouped}
 
 -- what a greatest number of n states is called, and that it is this
 abbrev pub named_html : List ℕ → ℕ → ℕ → List ℕ

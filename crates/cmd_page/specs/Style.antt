@@ -45,7 +45,7 @@ tables =
     ++ codes ".left{padding:.5rem .75rem;background:var(--mark)}\n"
     ++ codes ".figures{display:flex;flex-wrap:wrap;gap:1.5rem 2rem}\n"
     ++ codes "figure{margin:0;min-width:0;max-width:100%}\n"
-    ++ codes "figure svg{display:block;height:min(70vh,32rem);max-width:100%;margin-bottom:.5rem;border:1px solid var(--line)}\n"
+    ++ codes "figure svg{display:block;max-width:100%;height:auto;margin-bottom:.5rem;border:1px solid var(--line)}\n"
     ++ codes "ul{margin:0;padding-left:1.25rem}\n"
 
 -- the field that searches, and the heads that sort

@@ -1,25 +1,29 @@
 // Pictures of the runs of champions.
-ghost use Rattle.std.specs.Prelude.{◌≡◌, ℕ, ◌++◌, List, IfOk, OnOk};
+ghost use Rattle.std.specs.Prelude.{◌≡◌, ℕ, ◌<◌, ◌++◌, List, IfOk, OnOk};
 ghost use Rattle.std.specs.Vec.Iter.{into_iter_items};
 ghost use Rattle.cmd_picture.specs.Times.{AreWithinRuns};
-ghost use Rattle.cmd_page.specs.Figures.{AreFigures, AreFiguresOf, IsChampionPicture, IsPictureIf, IsWindow, caption_html, figure_html, picture_limit, picture_times};
+ghost use Rattle.cmd_page.specs.Figures.{AreFigures, AreFiguresOf, IsChampionPicture, IsPictureIf, caption_html, every_text, figure_html, picture_limit, picture_times, sampling_html};
 
-use cmd_picture::{Times, View, placement, svg};
+use crate::groups::append_grouped;
+use cmd_picture::{Size, Times, View, placement, svg};
 use kind_evidence::NoMemory;
 use ledger::Champions;
 use machine_text::{TEXT_BYTES, Table};
 use std::alloc::Global;
-use text::append_number;
 
 // How many champions have a picture.
 const MAX_PICTURES: u64 = 8;
 
-// The rows of a picture, but for one or two, its columns, and how far to the left of the start it reaches.
+// The rows of a picture, but for one or two, and its columns.
 const PICTURE_ROWS: u64 = 240;
 
-const MAX_COLUMNS: u64 = 321;
+const MAX_COLUMNS: u64 = 320;
 
-const LEFTMOST: i64 = -160;
+// A column and a row have four pixels at most.
+const PICTURE_SIZE: Size = Size {
+    square: 4,
+    height: None,
+};
 
 // The most steps of a picture: those that a record of a table that halts may claim.
 const MAX_PICTURE_STEPS: u64 = 100_000_000;
@@ -77,7 +81,7 @@ fn append_caption(t: &Table, best: u64, out: &mut Vec<u8>) -> Result<(), NoMemor
     out.extend_from_slice(b"<figcaption><code>")?;
     out.extend_from_slice(t.text(&mut buf))?;
     out.extend_from_slice(b"</code><br>")?;
-    append_number(best, out)?;
+    append_grouped(best, out)?;
     out.extend_from_slice(b" steps</figcaption>\n")
 }
 
@@ -92,13 +96,42 @@ fn picture_if(alloc: Global, wanted: bool, t: Table, best: u64) -> Result<Vec<u8
     }
 }
 
-// The picture of a table's run up to its halting, which is recorded to come with so many steps.
+// The picture of a table's run up to its halting, which is recorded to come with so many steps, and how it is sampled.
 fn picture_of(alloc: Global, t: Table, best: u64) -> Result<Vec<u8>, NoMemory>
-    ensures { IfOk result (λ svg. IsChampionPicture t best svg.items) }
+    ensures { IfOk result (λ html. IsChampionPicture t best html.items) }
 {
     let times = picture_times(best);
     let visited = placement(alloc, t, times)?;
-    svg(alloc, t, window(visited), times)
+    let view = visited.in_columns(MAX_COLUMNS);
+    let mut html = svg(alloc, t, view, times, PICTURE_SIZE)?;
+    append_sampling(view, times, &mut html)?;
+    Ok(html)
+}
+
+// Appends how a picture is sampled.
+fn append_sampling(view: View, times: Times, out: &mut Vec<u8>) -> Result<(), NoMemory>
+    requires { 0 < view.share }
+    ensures { OnOk result (out.new.items ≡ out.old.items ++ sampling_html view times) }
+{
+    out.extend_from_slice(b"<p class='sampled'>A row ")?;
+    append_every(times.every, out)?;
+    out.extend_from_slice(b", ")?;
+    append_grouped(view.width, out)?;
+    out.extend_from_slice(b" cells in ")?;
+    append_grouped(view.columns(), out)?;
+    out.extend_from_slice(b" columns</p>\n")
+}
+
+// Appends how many steps there are from row to row.
+fn append_every(steps: u64, out: &mut Vec<u8>) -> Result<(), NoMemory>
+    ensures { OnOk result (out.new.items ≡ out.old.items ++ every_text steps) }
+{
+    if steps == 1 {
+        return out.extend_from_slice(b"each step");
+    }
+    out.extend_from_slice(b"every ")?;
+    append_grouped(steps, out)?;
+    out.extend_from_slice(b" steps")
 }
 
 // The times that are drawn of a run of so many steps: each that many steps after the one before, and one more behind
@@ -113,19 +146,5 @@ fn picture_times(best: u64) -> Times
         from: 0,
         steps: steps + every,
         every,
-    }
-}
-
-// The cells that a picture shows of those that a run visits.
-fn window(visited: View) -> View
-    ensures { IsWindow visited result }
-{
-    View {
-        left: if visited.left < LEFTMOST {
-            LEFTMOST
-        } else {
-            visited.left
-        },
-        width: visited.width.min(MAX_COLUMNS),
     }
 }

@@ -14,6 +14,7 @@ mod entries;
 mod escape;
 mod figures;
 mod form;
+mod groups;
 mod heading;
 mod laws;
 mod making;

@@ -1,11 +1,11 @@
 // Rows of a name and a value, and tables in a text.
 ghost use Rattle.std.specs.Prelude.{◌≡◌, ◌++◌, codes, decimal, OnOk};
 ghost use Rattle.std.specs.Vec.Iter.{into_iter_items};
-ghost use Rattle.cmd_ledgers.specs.Report.{greatest_text};
 ghost use Rattle.cmd_page.specs.Escaped.{code_html};
 ghost use Rattle.cmd_page.specs.Page.{item_html, items_html};
-ghost use Rattle.cmd_page.specs.Row.{count_html, row_html};
+ghost use Rattle.cmd_page.specs.Row.{count_html, most_html, row_html};
 
+use crate::groups::append_grouped;
 use kind_evidence::NoMemory;
 use machine_text::{TEXT_BYTES, Table};
 use std::vec::IntoIter;
@@ -16,8 +16,8 @@ pub(crate) fn append_count(name: &[u8], n: u64, out: &mut Vec<u8>) -> Result<(),
     ensures { OnOk result (out.new.items ≡ out.old.items ++ count_html name.now n) }
 {
     append_name(name, out)?;
-    append_number(n, out)?;
-    out.extend_from_slice(b"</td></tr>\n")
+    append_grouped(n, out)?;
+    append_end(out)
 }
 
 // Appends the row of a number that is named by another.
@@ -27,8 +27,8 @@ pub(crate) fn append_numbered(name: u64, n: u64, out: &mut Vec<u8>) -> Result<()
     out.extend_from_slice(b"<tr><th scope='row'>")?;
     append_number(name, out)?;
     out.extend_from_slice(b"</th><td>")?;
-    append_number(n, out)?;
-    out.extend_from_slice(b"</td></tr>\n")
+    append_grouped(n, out)?;
+    append_end(out)
 }
 
 // Appends the row of a greatest number, where there is one.
@@ -37,7 +37,7 @@ pub(crate) fn append_greatest(
     greatest: Option<u64>,
     out: &mut Vec<u8>,
 ) -> Result<(), NoMemory>
-    ensures { OnOk result (out.new.items ≡ out.old.items ++ row_html name.now (greatest_text greatest)) }
+    ensures { OnOk result (out.new.items ≡ out.old.items ++ most_html name.now greatest) }
 {
     match greatest {
         Some(greatest) => append_count(name, greatest, out),

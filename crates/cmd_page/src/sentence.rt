@@ -1,10 +1,10 @@
 // The sentence that says what a tree shows once it is complete.
-ghost use Rattle.std.specs.Prelude.{◌≡◌, ◌∷◌, ◌++◌, OnOk};
-ghost use Rattle.cmd_page.specs.Sentence.{comma_before, in_groups, grouped, named_html, rado_html, tables_html, ones_html, below_html, none_html, shown_html, sentence_html};
+ghost use Rattle.std.specs.Prelude.{◌≡◌, ◌++◌, OnOk};
+ghost use Rattle.cmd_page.specs.Sentence.{named_html, rado_html, tables_html, ones_html, below_html, none_html, shown_html, sentence_html};
 
 use crate::entries::entry_count;
+use crate::groups::append_grouped;
 use crate::rows::append_code;
-use itoa::Buffer;
 use kind_evidence::NoMemory;
 use ledger::Status;
 use machine_text::Table;
@@ -87,34 +87,4 @@ fn append_none(root: &Table, out: &mut Vec<u8>) -> Result<(), NoMemory>
 {
     append_tables(root, out)?;
     out.extend_from_slice(b" none halts.</p>\n")
-}
-
-// Appends a number with a comma before every three digits.
-fn append_grouped(n: u64, out: &mut Vec<u8>) -> Result<(), NoMemory>
-    ensures { OnOk result (out.new.items ≡ out.old.items ++ grouped n) }
-{
-    let mut buffer = Buffer::new();
-    append_groups(buffer.format(n).as_bytes(), out)
-}
-
-fn append_groups(digits: &[u8], out: &mut Vec<u8>) -> Result<(), NoMemory>
-    ensures { OnOk result (out.new.items ≡ out.old.items ++ in_groups digits.now) }
-{
-    let mut left = digits;
-    'groups: while let Some((digit, others)) = left.split_first() {
-        append_digit(*digit, others, out)?;
-        left = others;
-    }
-    Ok(())
-}
-
-// Appends a digit, and what stands before those that are left behind it.
-fn append_digit(digit: u8, left: &[u8], out: &mut Vec<u8>) -> Result<(), NoMemory>
-    ensures { OnOk result (out.new.items ≡ out.old.items ++ (digit ∷ comma_before left.now)) }
-{
-    out.push(digit)?;
-    if !left.is_empty() && left.len() % 3 == 0 {
-        out.push(b',')?;
-    }
-    Ok(())
 }

@@ -35,7 +35,7 @@ td+td,th+td,thead th+th{text-align:right;padding-right:0}\n\
 .left{padding:.5rem .75rem;background:var(--mark)}\n\
 .figures{display:flex;flex-wrap:wrap;gap:1.5rem 2rem}\n\
 figure{margin:0;min-width:0;max-width:100%}\n\
-figure svg{display:block;height:min(70vh,32rem);max-width:100%;margin-bottom:.5rem;border:1px solid var(--line)}\n\
+figure svg{display:block;max-width:100%;height:auto;margin-bottom:.5rem;border:1px solid var(--line)}\n\
 ul{margin:0;padding-left:1.25rem}\n\
 .tools{display:flex;flex-wrap:wrap;align-items:baseline;gap:.5rem 1rem;margin-bottom:.75rem}\n\
 .tools[hidden]{display:none}\n\

@@ -1,7 +1,7 @@
 use Rattle.std.proofs.Common.{◌++◌}
-use Rattle.cmd_page.specs.Sentence.{in_groups}
-use Rattle.cmd_page.proofs.Groups.{one_digit_more, no_digit_left}
-use Rattle.cmd_page.proofs.sentence.append_groups.Goals as goal
+use Rattle.cmd_page.specs.Groups.{in_groups}
+use Rattle.cmd_page.proofs.Digits.{one_digit_more, no_digit_left}
+use Rattle.cmd_page.proofs.groups.append_groups.Goals as goal
 
 pub groups-preserved : goal.groups-preserved
 groups-preserved c = one_digit_more c.groups.out.items c.append_digit.new.out.items (c.args.out.now.items ++ in_groups c.args.digits.now)

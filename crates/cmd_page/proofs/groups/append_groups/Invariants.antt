@@ -1,6 +1,6 @@
 use Rattle.std.proofs.Common.{◌≡◌, ◌++◌, length}
-use Rattle.cmd_page.specs.Sentence.{in_groups}
-use Rattle.cmd_page.proofs.sentence.append_groups.Given as goal
+use Rattle.cmd_page.specs.Groups.{in_groups}
+use Rattle.cmd_page.proofs.groups.append_groups.Given as goal
 
 -- what was appended, and the groups of the digits that are left, are those of all
 abbrev pub invariant-groups : goal.invariant-groups

@@ -1,6 +1,6 @@
 -- Digits that are written in groups of three.
 use Rattle.std.proofs.Common.{◌≡◌, ℕ, suc, List, [], ◌∷◌, ◌++◌, length, sym, ap, ◌∙◌, append_assoc, append-nil, arith}
-use Rattle.cmd_page.specs.Sentence.{comma_before, in_groups}
+use Rattle.cmd_page.specs.Groups.{comma_before, in_groups}
 
 -- one more digit, and what stands behind it
 pub one_digit_more : (old new all left others : List ℕ) (digit : ℕ) → left ≡ digit ∷ others → new ≡ old ++ (digit ∷ comma_before others)

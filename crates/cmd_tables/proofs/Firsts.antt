@@ -6,7 +6,7 @@ use Rattle.std.specs.Io.KnownBytes.{Appends}
 use Rattle.std.specs.List.{list_any}
 use Rattle.indexmap.specs.IndexSet.{insert_key}
 use Rattle.machine_text.specs.Packed.{Packed}
-use Rattle.machine_text.specs.Text.{text_of, table_of}
+use Rattle.machine_text.specs.Text.{table_of}
 use Rattle.machine_text.specs.declared.faults.TextFault.{TextFault}
 use Rattle.text.specs.Lines.{bounded_line}
 use Rattle.cmd_options.specs.declared.outcome.Outcome.{Outcome}

@@ -1,5 +1,5 @@
 -- What `bb tables` says to a text: the tables in it, each one where it comes first, a line each.
-use Rattle.std.specs.Prelude.{◌≡◌, ℕ, ◌&&◌, nat_eq, Bool, List, [], ◌∷◌, ◌++◌, Option, cond, flat_map}
+use Rattle.std.specs.Prelude.{ℕ, ◌&&◌, nat_eq, Bool, List, [], ◌∷◌, ◌++◌, Option, cond, flat_map}
 use Rattle.std.specs.List.{list_any}
 use Rattle.std.specs.Cmp.Lexicographic.{pointwise}
 use Rattle.std.specs.Io.KnownBytes.{Consumes, Appends, IsAtEnd}

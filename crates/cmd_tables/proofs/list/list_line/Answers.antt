@@ -1,6 +1,5 @@
 use Rattle.std.proofs.Common.{◌≡◌, ◌++◌, ◌∷◌, [], List, ℕ, Option, Some, sym, ◌∙◌, ap, append-nil, refl}
 use Rattle.std.specs.Borrow.{Bor}
-use Rattle.machine_text.specs.Packed.{Packed}
 use Rattle.cmd_tables.specs.Words.{tables_among}
 use Rattle.cmd_tables.specs.inside.{tables_left}
 use Rattle.cmd_tables.proofs.Firsts.{lists_nothing, lists_both, left_more, grown}

@@ -1,0 +1,39 @@
+-- Lines that are answered by one who keeps what is asked for.
+use Rattle.std.proofs.Common.{ℕ, List, [], ◌∷◌, Option, subst}
+use Rattle.cmd_options.specs.declared.options.Showing.{Showing}
+use Rattle.cmd_options.specs.declared.outcome.Outcome.{Outcome}
+use Rattle.cmd_taking.specs.Said.{AreTakenBy, TakesStream}
+use Rattle.cmd_lines.specs.Stream.{AnswersStream, SaysAnswer}
+use Rattle.cmd_lines.proofs.Answering.{stream_answered}
+use Rattle.cmd_show.specs.Shown.{SaysShown}
+use Rattle.cmd_show.specs.inside.{KeepsAsked}
+
+module _ {D : Type 0} (asked : D → Showing) where
+  lines_kept : (old : D) (lines : List (List ℕ)) (o : Outcome) (new : D) (said : List ℕ) → AreTakenBy (KeepsAsked asked) old lines o new said
+      → AreTakenBy (SaysAnswer (SaysShown (asked old))) old lines o new said
+  lines_kept old [] o new said so = so
+  lines_kept old (line ∷ lines) o new said (first, middle, more, later, others, (same, answer, says, is), so, outcome, text) = (
+    first,
+    middle,
+    more,
+    later,
+    others,
+    (answer, says, is),
+    subst (λ (s : Showing). AreTakenBy (SaysAnswer (SaysShown s)) middle lines later new others) same (lines_kept middle lines later new others so),
+    outcome,
+    text,
+  )
+
+  pub stream_kept : (old new : D) (read new_read held new_held : Option (List ℕ)) (o : Outcome) → TakesStream (KeepsAsked asked) old new read new_read held new_held o
+      → AnswersStream (SaysShown (asked old)) read new_read held new_held o
+  stream_kept old new read new_read held new_held o so =
+      stream_answered (SaysShown (asked old)) old new read new_read held new_held o (record {
+        text = so.text;
+        lines = so.lines;
+        said = so.said;
+        consumed = so.consumed;
+        whole = so.whole;
+        are_lines = so.are_lines;
+        taken = lines_kept old so.lines o new so.said so.taken;
+        written = so.written;
+      })

@@ -1,0 +1,4 @@
+pub mod Folding
+pub mod Painting
+pub mod Lines
+pub mod Keeping

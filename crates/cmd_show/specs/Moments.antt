@@ -1,0 +1,56 @@
+-- Which configurations of a run are shown, and the line of each. A line has its newline (10) in front.
+use Rattle.std.specs.Prelude.{◌≡◌, ◌⊎◌, ℕ, ◌+◌, ◌-◌, ◌<◌, min, max, Bool, ◌≤◌, Option, Some, None, List, [], ◌∷◌, ◌++◌, codes, decimal}
+use Rattle.law_turing.specs.Machine.{Machine}
+use Rattle.law_turing.specs.Run.{Config, next, after}
+use Rattle.law_turing.specs.Halting.{HaltsAt}
+use Rattle.law_turing.specs.Score.{score_of}
+use Rattle.run.specs.Limits.{run_step_limit}
+use Rattle.cmd_picture.specs.declared.times.Times.{Times}
+use Rattle.cmd_picture.specs.Times.{due, last_time}
+use Rattle.cmd_options.specs.declared.options.Showing.{Showing}
+use Rattle.cmd_show.specs.Tape.{IsTapeText}
+
+-- the times that are asked for, as far as a run is carried out: time number n is `every` steps behind number n - 1
+abbrev pub times_from : ℕ → Showing → Times
+times_from from s = record {
+  from = from;
+  steps = min s.steps (run_step_limit - from);
+  every = min (max s.every 1) (run_step_limit + 1);
+}
+
+abbrev pub times_of : Showing → Times
+times_of s = times_from (min s.from run_step_limit) s
+
+-- a configuration of a run, and its time
+pub record Moment : Type 0 where
+  pub time : ℕ
+  pub at : Config
+
+-- moment number n is at its time, or at the last one of a run that halts before it
+pub record IsMoment (m : Machine) (t : Times) (n : ℕ) (now : Moment) : Type 0 where
+  pub asked : due t n ≤ last_time t
+  pub time : (now.time ≡ due t n) ⊎ ((now.time < due t n) × HaltsAt m (now.time + 1))
+  pub is : after m now.time ≡ Some now.at
+
+-- where the machine halts with the next step: in how many steps, and with how many ones
+abbrev pub ending : Option Config → Moment → List ℕ
+ending None now = codes "\nhalts " ++ decimal (now.time + 1) ++ codes " ones " ++ decimal (score_of now.at)
+ending (Some later) now = []
+
+-- the time, two spaces, and the tape
+pub record IsLine (m : Machine) (fold : Bool) (now : Moment) (line : List ℕ) : Type 0 where
+  pub tape : List ℕ
+  pub tape_is : IsTapeText fold now.at tape
+  pub is : line ≡ codes "\n" ++ decimal now.time ++ codes "  " ++ tape ++ ending (next m now.at) now
+
+-- what follows a moment: nothing where the machine halts
+abbrev pub Follows : Option Config → Type 0 → Type 0 → Type 0
+Follows None Nothing More = Nothing
+Follows (Some later) Nothing More = More
+
+-- the lines of the moments from number n on, up to the last time that is asked for or to the halting
+unfoldable pub AreLinesOf : Machine → Times → Bool → ℕ → List Moment → List ℕ → Type 0
+AreLinesOf m t fold n [] text = (last_time t < due t n) × (text ≡ [])
+AreLinesOf m t fold n (now ∷ later) text = IsMoment m t n now × (line others : List ℕ) × IsLine m fold now line
+    × (text ≡ line ++ others)
+    × Follows (next m now.at) ((later ≡ []) × (others ≡ [])) (AreLinesOf m t fold (n + 1) later others)

@@ -1,0 +1,74 @@
+// The run of a table as text.
+ghost use Rattle.std.specs.Prelude.{◌≡◌, ◌++◌, ◌≤◌, false, ℕ, List, IfOk, OnOk};
+ghost use Rattle.machine_text.specs.Packed.{entry_of};
+ghost use Rattle.cmd_picture.specs.Times.{AreWithinRuns};
+ghost use Rattle.cmd_show.specs.Moments.{AreLinesOf, Moment, times_of};
+ghost use Rattle.cmd_show.specs.Shown.{IsShown};
+ghost use Rattle.cmd_show.specs.inside.{whole};
+
+use crate::line::append_line;
+use cert::append_table;
+use cmd_options::Showing;
+use cmd_picture::{Row, Rows, Times, View};
+use machine_text::Table;
+use std::alloc::Global;
+use tape::NoMemory;
+
+/// Appends a table's text, and behind it a line for each time of its run from the blank tape that is asked for: the time, and
+/// the tape with the head in it. A run that halts ends with its last configuration, and with a line that says so.
+pub fn append_shown(
+    alloc: Global,
+    showing: &Showing,
+    t: &Table,
+    out: &mut Vec<u8>,
+) -> Result<(), NoMemory>
+    ensures { OnOk result ((answer : List ℕ) × IsShown showing.now t.now answer
+        × (out.new.items ≡ out.old.items ++ answer)) }
+{
+    append_table(t, out)?;
+    let mut rows = Rows::new(alloc, *t, whole(), times_of(showing))?;
+    append_lines(alloc, t, showing.fold, &mut rows, out)
+}
+
+// The times that are shown.
+fn times_of(showing: &Showing) -> Times
+    ensures is { result ≡ times_of showing.now }
+    ensures within { AreWithinRuns result }
+{
+    Times::new(showing.from, showing.steps, showing.every)
+}
+
+// A view of all cells to which a run can come.
+fn whole() -> View
+    ensures { result ≡ whole }
+{
+    View {
+        left: -0x4000_0000_0000_0000,
+        width: 0x8000_0000_0000_0001,
+    }
+}
+
+// Appends the lines of all rows, from the first one on.
+fn append_lines(
+    alloc: Global,
+    t: &Table,
+    fold: bool,
+    rows: &mut Rows,
+    out: &mut Vec<u8>,
+) -> Result<(), NoMemory>
+    requires table { rows.old.table ≡ t.now }
+    requires view { rows.old.view ≡ whole }
+    requires within { AreWithinRuns rows.old.times }
+    requires first { rows.old.number ≡ 0 }
+    requires begins { rows.old.over ≡ false }
+    ensures { OnOk result ((moments : List Moment) × (lines : List ℕ)
+        × AreLinesOf (entry_of t.now) rows.old.times fold 0 moments lines
+        × (out.new.items ≡ out.old.items ++ lines)) }
+{
+    let mut row = Row::new(alloc);
+    let mut cells = Vec::new(alloc);
+    'each: while rows.next_row(&mut row)? {
+        append_line(alloc, t, fold, &row, &mut cells, out)?;
+    }
+    Ok(())
+}

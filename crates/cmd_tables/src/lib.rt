@@ -1,0 +1,10 @@
+//! `bb tables`: takes the tables from a text of any form, and prints each one once, a line each.
+//!
+//! `specs/Words` says which tables stand in a text, `specs/Listed` what is printed of them.
+#![tactic(auto)]
+
+mod list;
+mod passed;
+mod words;
+
+pub use list::{cmd_tables, list_tables};

@@ -1,0 +1,149 @@
+// `bb tables`: a text in, tables out.
+ghost use Rattle.std.specs.Prelude.{◌≡◌, ◌⊎◌, ◌∷◌, [], ◌++◌, ℕ, List, not, IfErr, IfOk, OnOk};
+ghost use Rattle.std.specs.List.{list_any};
+ghost use Rattle.indexmap.specs.IndexSet.{insert_key};
+ghost use Rattle.cmd_taking.specs.Taken.{lent};
+ghost use Rattle.cmd_tables.specs.Listed.{ListsTables, same_packed};
+ghost use Rattle.cmd_tables.specs.Words.{tables_among, tables_in, tables_of_line};
+ghost use Rattle.cmd_tables.specs.inside.{Lists};
+
+use crate::passed::Passed;
+use crate::words::cut_word;
+use cert::append_table;
+use cmd_options::{Ended, Outcome, told};
+use cmd_taking::{PIECE_BYTES, Sayer, say_lines};
+use indexmap::IndexSet;
+use machine_text::Table;
+use std::alloc::Global;
+use std::io::{Read, Write};
+
+/// Reads a text of any form, and prints the tables in it in the standard form, a line each, where they come first. How many
+/// lines had none, and how many tables had come before, is said on `faults` at the end, and what a failed stream or refused
+/// memory ends.
+pub fn cmd_tables<R: Read, W: Write, E: Write>(
+    alloc: Global,
+    input: &mut R,
+    answers: &mut W,
+    faults: &mut E,
+) -> Outcome
+    ensures { ((result ≡ Outcome.Accepted) × ListsTables (R.remaining input.old) (R.remaining input.new)
+        (W.contents answers.old) (W.contents answers.new))
+        ⊎ (result ≡ Outcome.NoMemory) ⊎ (result ≡ Outcome.Failed) }
+{
+    told(list_tables(alloc, input, answers, faults), faults)
+}
+
+/// Lists as `cmd_tables` does, but answers what ends it early, and doesn't say it.
+pub fn list_tables<R: Read, W: Write, E: Write>(
+    alloc: Global,
+    input: &mut R,
+    answers: &mut W,
+    faults: &mut E,
+) -> Result<Outcome, Ended>
+    ensures ok { IfOk result (λ o. (o ≡ Outcome.Accepted) × ListsTables (R.remaining input.old) (R.remaining input.new)
+        (W.contents answers.old) (W.contents answers.new)) }
+    ensures err { IfErr result (λ e. (e ≡ Ended.NoMemory) ⊎ (e ≡ Ended.Stream)) }
+{
+    let lister = Lister {
+        came: IndexSet::new(alloc),
+        passed: Passed {
+            lines: 0,
+            doubles: 0,
+        },
+    };
+    let (outcome, lister) = say_lines(alloc, lister, PIECE_BYTES, input, answers)?;
+    lister.passed.tell(alloc, faults)?;
+    Ok(outcome)
+}
+
+// Which tables came, and what was passed over.
+#[derive(Drop)]
+struct Lister {
+    came: IndexSet<Table>,
+    passed: Passed,
+}
+
+impl Sayer for Lister {
+    ghost use Rattle.std.specs.Prelude.{◌≡◌};
+    ghost use Rattle.cmd_options.specs.declared.ended.Ended.TheVariants.{NoMemory as WantsMemory};
+    ghost use Rattle.cmd_tables.specs.inside.{ListsLine};
+
+    ghost takes = { ListsLine (λ l. l.came.keys) };
+
+    ghost ends = { λ e. e ≡ WantsMemory };
+
+    fn take_line(&mut self, line: Option<&[u8]>, said: &mut Vec<u8>) -> Result<Outcome, Ended> {
+        let count = list_line(line, &mut self.came, said)?;
+        if count.tables == 0 {
+            self.passed.lines = self.passed.lines.saturating_add(1);
+        }
+        self.passed.doubles = self.passed.doubles.saturating_add(count.doubles);
+        Ok(Outcome::Accepted)
+    }
+}
+
+// How many tables a line has, and how many of them came before.
+#[derive(Clone, Copy, Drop)]
+struct Count {
+    tables: u64,
+    doubles: u64,
+}
+
+// Appends the tables of a line, which is none where it was too long, that come first.
+fn list_line(
+    line: Option<&[u8]>,
+    came: &mut IndexSet<Table>,
+    said: &mut Vec<u8>,
+) -> Result<Count, Ended>
+    ensures ok { OnOk result ((more : List ℕ) × Lists came.old.keys (tables_of_line (lent line.entry)) came.new.keys more
+        × (said.new.items ≡ said.old.items ++ more)) }
+    ensures err { IfErr result (λ e. e ≡ Ended.NoMemory) }
+{
+    let mut left = line;
+    let mut count = Count {
+        tables: 0,
+        doubles: 0,
+    };
+    'words: while let Some(text) = left {
+        let (word, rest) = cut_word(text);
+        list_word(word, came, &mut count, said)?;
+        left = rest;
+    }
+    Ok(count)
+}
+
+// Appends a word that is a table and comes first.
+fn list_word(
+    word: &[u8],
+    came: &mut IndexSet<Table>,
+    count: &mut Count,
+    said: &mut Vec<u8>,
+) -> Result<(), Ended>
+    ensures ok { OnOk result ((more : List ℕ) × Lists came.old.keys (tables_among (word.now ∷ [])) came.new.keys more
+        × (said.new.items ≡ said.old.items ++ more)) }
+    ensures err { IfErr result (λ e. e ≡ Ended.NoMemory) }
+{
+    let Ok(t) = Table::parse(word) else {
+        return Ok(());
+    };
+    count.tables = count.tables.saturating_add(1);
+    if !put_first(&t, came)? {
+        count.doubles = count.doubles.saturating_add(1);
+        return Ok(());
+    }
+    append_table(&t, said)?;
+    said.extend_from_slice(b"\n")?;
+    Ok(())
+}
+
+// Puts a table among those that came, and answers whether it is the first.
+fn put_first(t: &Table, came: &mut IndexSet<Table>) -> Result<bool, Ended>
+    ensures ok { IfOk result (λ first. (first ≡ not (list_any (same_packed t.now) came.old.keys))
+        × (came.new.keys ≡ insert_key same_packed came.old.keys t.now)) }
+    ensures err { IfErr result (λ e. e ≡ Ended.NoMemory) }
+{
+    match came.insert(*t) {
+        Ok(first) => Ok(first),
+        Err(_) => Err(Ended::NoMemory),
+    }
+}

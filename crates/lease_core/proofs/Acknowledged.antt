@@ -43,13 +43,13 @@ acknowledged : (new : Leased) (r : Recorded) (out : Out) → out.frames.items �
 acknowledged new r out frames recorded = one_sent out (Some new.board) (Ack r.table) frames (λ t same. let one : r.table ≡ t = cc in subst (λ (t : Packed). IsSome (claim_in new.board.records t)) one recorded)
 
 offer_sends : (old new : Leased) (r : Recorded) (out : Out) → OfferRow old r out new → AcknowledgesRecorded out (Some new.board)
-offer_sends old new r out (Ok New, gives, root, format, leases, row) = acknowledged new r out row.frames_are (answered old.board.root old.board.records new.board.records r New gives)
-offer_sends old new r out (Ok Settled, gives, root, format, leases, row) = acknowledged new r out row.frames_are (answered old.board.root old.board.records new.board.records r Settled gives)
-offer_sends old new r out (Ok Known, gives, root, format, leases, row) = acknowledged new r out row.frames_are (answered old.board.root old.board.records new.board.records r Known gives)
-offer_sends old new r out (Err NotOpen, gives, root, format, leases, row) = one_sent out (Some new.board) (Later (Some r.table)) row.frames_are (λ t other. cc)
-offer_sends old new r out (Err WrongSize, gives, root, format, leases, row) = none_sent out (Some new.board) row.frames_are
-offer_sends old new r out (Err (NotStanding f), gives, root, format, leases, row) = none_sent out (Some new.board) (refusal_says (refused_number f) out row).1.frames_are
-offer_sends old new r out (Err OfferNoMemory, gives, root, format, leases, row) = absurd row
+offer_sends old new r out (Ok New, gives, kept, leases, row) = acknowledged new r out row.frames_are (answered old.board.root old.board.records new.board.records r New gives)
+offer_sends old new r out (Ok Settled, gives, kept, leases, row) = acknowledged new r out row.frames_are (answered old.board.root old.board.records new.board.records r Settled gives)
+offer_sends old new r out (Ok Known, gives, kept, leases, row) = acknowledged new r out row.frames_are (answered old.board.root old.board.records new.board.records r Known gives)
+offer_sends old new r out (Err NotOpen, gives, kept, leases, row) = one_sent out (Some new.board) (Later (Some r.table)) row.frames_are (λ t other. cc)
+offer_sends old new r out (Err WrongSize, gives, kept, leases, row) = none_sent out (Some new.board) row.frames_are
+offer_sends old new r out (Err (NotStanding f), gives, kept, leases, row) = none_sent out (Some new.board) (refusal_says (refused_number f) out row).1.frames_are
+offer_sends old new r out (Err OfferNoMemory, gives, kept, leases, row) = absurd row
 
 reply_sends : (era : ℕ) (reply : Reply) (out : Out) (board : Option Contents) → out.frames.items ≡ frames_of (reply_of era reply ∷ []) → AcknowledgesRecorded out board
 reply_sends era ToStop out board frames = one_sent out board Stop frames (λ t other. cc)

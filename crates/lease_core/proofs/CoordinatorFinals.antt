@@ -26,7 +26,7 @@ done_keeps false number old new out row = ap (λ (l : Leased). l.board) row.1
 message_keeps : (era : ℕ) (old new : Leased) (m : Message) (out : Out) → MessageRow era old m out new → IsCompleteBoard old.board → new.board ≡ old.board
 message_keeps era old new (Ask id) out row complete = row.2
 message_keeps era old new (Rec r) out row complete =
-    same_board old.board new.board row.2 (offer_is_final old.board.root old.board.records new.board.records r row.0 complete row.1) row.3
+    same_board old.board new.board row.2.root (offer_is_final old.board.root old.board.records new.board.records r row.0 complete row.1) row.2.format
 message_keeps era old new (Done named number) out row complete = done_keeps (nat_eq named era) number old new out row
 message_keeps era old new (Grant named number table) out row complete = ap (λ (l : Leased). l.board) row.1
 message_keeps era old new (Ack table) out row complete = ap (λ (l : Leased). l.board) row.1

@@ -62,14 +62,14 @@ same_board old new root records format = λ i. record { root = root i; records =
 
 module _ (old new : Leased) (board : IsBoard old.board) (out : Out) (text : List ℕ) (stands : Stands old.board text) where
   offer_step : (r : Recorded) → OfferRow old r out new → Stands new.board (text_after out text)
-  offer_step r (Ok New, gives, root, format, leases, row) = more_text old.board new.board r out _ _ text row (grows old.board text r new.board.records board stands (inl gives)) root format
-  offer_step r (Ok Settled, gives, root, format, leases, row) = more_text old.board new.board r out _ _ text row (grows old.board text r new.board.records board stands (inr gives)) root format
-  offer_step r (Ok Known, gives, root, format, leases, row) = same_text old.board new.board out _ _ text row (same_board old.board new.board root gives.1 format) stands
-  offer_step r (Err NotOpen, gives, root, format, leases, row) = same_text old.board new.board out _ _ text row (same_board old.board new.board root gives.2 format) stands
-  offer_step r (Err WrongSize, gives, root, format, leases, row) = same_text old.board new.board out _ _ text row (same_board old.board new.board root gives.1 format) stands
-  offer_step r (Err (NotStanding f), gives, root, format, leases, row) =
-      same_text old.board new.board out _ _ text (refusal_says (refused_number f) out row).1 (same_board old.board new.board root gives.2 format) stands
-  offer_step r (Err OfferNoMemory, gives, root, format, leases, row) = absurd row
+  offer_step r (Ok New, gives, kept, leases, row) = more_text old.board new.board r out _ _ text row (grows old.board text r new.board.records board stands (inl gives)) kept.root kept.format
+  offer_step r (Ok Settled, gives, kept, leases, row) = more_text old.board new.board r out _ _ text row (grows old.board text r new.board.records board stands (inr gives)) kept.root kept.format
+  offer_step r (Ok Known, gives, kept, leases, row) = same_text old.board new.board out _ _ text row (same_board old.board new.board kept.root gives.1 kept.format) stands
+  offer_step r (Err NotOpen, gives, kept, leases, row) = same_text old.board new.board out _ _ text row (same_board old.board new.board kept.root gives.2 kept.format) stands
+  offer_step r (Err WrongSize, gives, kept, leases, row) = same_text old.board new.board out _ _ text row (same_board old.board new.board kept.root gives.1 kept.format) stands
+  offer_step r (Err (NotStanding f), gives, kept, leases, row) =
+      same_text old.board new.board out _ _ text (refusal_says (refused_number f) out row).1 (same_board old.board new.board kept.root gives.2 kept.format) stands
+  offer_step r (Err OfferNoMemory, gives, kept, leases, row) = absurd row
 
   noted_step : (note : Note) → Says out None [] [] note × (new ≡ old) → Stands new.board (text_after out text)
   noted_step note row = same_text old.board new.board out [] note text row.0 (ap (λ (l : Leased). l.board) row.1) stands

@@ -3,7 +3,7 @@ use Rattle.std.specs.Prelude.{◌≡◌, ℕ, ◌==◌, Bool, true, false, max, 
 use Rattle.cert.specs.Claim.{Recorded}
 use Rattle.cert.specs.Scored.{with_score}
 use Rattle.ledger.specs.Faults.{offer_fault_number}
-use Rattle.ledger.specs.Offers.{OfferGives}
+use Rattle.ledger.specs.Offers.{KeepsTree, OfferGives}
 use Rattle.ledger.specs.declared.format.Format.{Format}
 use Rattle.ledger.specs.declared.taken.Taken.{Taken}
 use Rattle.ledger.specs.declared.taken.Taken.TheVariants.{New, Known, Settled}
@@ -50,8 +50,7 @@ RecRow format r (Err OfferNoMemory) out = ⊥
 abbrev pub OfferRow : Leased → Recorded → Out → Leased → Type 0
 OfferRow old r out new =
     (said : Result Taken OfferFault) × OfferGives old.board.root old.board.records r said new.board.records
-    × (new.board.root ≡ old.board.root)
-    × (new.board.format ≡ old.board.format) × LeasesAfter r.table said old new × RecRow old.board.format r said out
+    × KeepsTree old.board new.board × LeasesAfter r.table said old new × RecRow old.board.format r said out
 
 -- DONE of its own era: the lease of that number ends, if it lives; else it is stale
 abbrev pub note_of : Bool → Note

@@ -1,0 +1,3 @@
+pub mod Quantity
+pub mod Cycling
+pub mod Shifting

@@ -8,6 +8,7 @@ use Rattle.law_turing.specs.Run.{Config, cell, after}
 use Rattle.law_turing.specs.Translated.{Beyond}
 use Rattle.loops.specs.declared.translated.Translated.{Translated}
 use Rattle.cmd_explain.specs.Quantity.{sentence, quantity}
+use Rattle.cmd_explain.specs.Sides.{ahead, behind}
 
 -- so many cells to a side
 abbrev pub cells_to : Dir → ℕ → ℤ
@@ -27,14 +28,6 @@ pub record IsMovedEachPeriod (m : Machine) (side : Dir) (from period shift : ℕ
   pub bound : ℤ
   pub moved : (k : ℕ) → from ≤ k → (c d : Config) × (after m k ≡ Some c) × (after m (k + period) ≡ Some d)
       × IsMoved side bound (cells_to side shift) c d
-
-abbrev pub ahead : Dir → List ℕ
-ahead L = codes "left"
-ahead R = codes "right"
-
-abbrev pub behind : Dir → List ℕ
-behind L = codes "right"
-behind R = codes "left"
 
 -- how the configuration differs: by a shift, unless it stays where it is
 abbrev pub shift_words : Dir → ℕ → List ℕ

@@ -6,9 +6,10 @@ ghost use Rattle.law_turing.specs.Halting.{Never};
 ghost use Rattle.law_turing.specs.Run.{after};
 ghost use Rattle.law_turing.specs.Translated.{Translated as IsTranslated};
 ghost use Rattle.loops.specs.Limits.{time_limit};
-ghost use Rattle.cmd_explain.specs.Shifting.{IsMovedEachPeriod, IsHeadAt, TellsTranslated, ahead, behind, shift_words, translated_words};
+ghost use Rattle.cmd_explain.specs.Shifting.{IsMovedEachPeriod, IsHeadAt, TellsTranslated, shift_words, translated_words};
 
 use crate::quantity::Quantity;
+use crate::sides::{ahead, behind};
 use kind_evidence::NoMemory;
 use loops::Translated;
 use machine_text::{Dir, Table};
@@ -96,24 +97,4 @@ fn shift_words(alloc: Global, side: Dir, shift: u64) -> Result<String, NoMemory>
     };
     let ahead = ahead(side);
     format!(in alloc; "but for a shift of {cells} to the {ahead} and ")
-}
-
-// The side to which a translated cycle looks.
-fn ahead(side: Dir) -> &'static str
-    ensures { result.now ≡ ahead side }
-{
-    match side {
-        Dir::L => "left",
-        Dir::R => "right",
-    }
-}
-
-// The other one.
-fn behind(side: Dir) -> &'static str
-    ensures { result.now ≡ behind side }
-{
-    match side {
-        Dir::L => "right",
-        Dir::R => "left",
-    }
 }

@@ -1,7 +1,7 @@
 -- A run that comes to one configuration twice goes round for ever.
-use Rattle.std.proofs.Common.{◌≡◌, ℕ, ◌+◌, ◌-◌, ◌<◌, ◌≤◌, Some, sym, ◌∙◌, ap, arith}
+use Rattle.std.proofs.Common.{◌≡◌, ℕ, ◌+◌, ◌-◌, sym, ◌∙◌, ap, arith}
 use Rattle.law_turing.specs.Machine.{Machine}
-use Rattle.law_turing.specs.Run.{Config, start, from, after}
+use Rattle.law_turing.specs.Run.{start, from, after}
 use Rattle.law_turing.specs.Cycle.{Cycle}
 use Rattle.law_turing.proofs.CycleLaws.{cycle_never}
 use Rattle.law_turing.proofs.RunLaws.{from_add, exists_at}

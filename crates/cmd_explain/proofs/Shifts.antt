@@ -61,13 +61,13 @@ held_next m side b t i p n some from_i onward held =
     let follows : Follows m side b t here' held.there = moved_steps m side b t held.here held.there here' held.moved steps in
     let same_time : suc n + p ≡ suc (n + p) = omega arith in
     let bound : (k : ℕ) (c : Config) → i ≤ k → k < suc n + p → after m k ≡ Some c → Beyond side b c.tape.head =
-        λ k c after_i below is. elim (cases_lt k (n + p)) [
-          | inl old ↦ held.bound k c after_i old is
-          | inr new ↦
-              let now : k ≡ n + p = omega arith in
-              let same : held.there ≡ c = same_Some held.there c (sym held.at_there ∙ ap (after m) (sym now) ∙ is) in
-              subst (λ x. Beyond side b x) (sym held.moved.head ∙ ap (λ (x : Config). x.tape.head) same) (beyond_moved side b held.here.tape.head t held.moved.beyond onward)
-        ] in
+    λ k c after_i below is. elim (cases_lt k (n + p)) [
+      | inl old ↦ held.bound k c after_i old is
+      | inr new ↦
+          let now : k ≡ n + p = omega arith in
+          let same : held.there ≡ c = same_Some held.there c (sym held.at_there ∙ ap (after m) (sym now) ∙ is) in
+          subst (λ x. Beyond side b x) (sym held.moved.head ∙ ap (λ (x : Config). x.tape.head) same) (beyond_moved side b held.here.tape.head t held.moved.beyond onward)
+    ] in
     record {
       here = here';
       there = follows.to;
@@ -117,7 +117,7 @@ moved_each_period m i j side n cycle shift_is = record { bound = cycle.bound; mo
     moved k from_i =
         let here : i + (k - i) ≡ k = omega arith in
         let held : Held m side cycle.bound cycle.shift i (j - i) k =
-            subst (Held m side cycle.bound cycle.shift i (j - i)) here (held_on m side cycle.bound cycle.shift i (j - i) (omega arith) cycle.onward first (k - i)) in
+        subst (Held m side cycle.bound cycle.shift i (j - i)) here (held_on m side cycle.bound cycle.shift i (j - i) (omega arith) cycle.onward first (k - i)) in
         (held.here, held.there, held.at_here, held.at_there, subst (λ t. IsMoved side cycle.bound t held.here held.there) (sym shift_is) held.moved)
 
 -- so many cells to the side onward are the shift

@@ -1,5 +1,5 @@
 -- The run of a table with a closed position set stays within it, and how many items its lists have.
-use Rattle.std.proofs.Common.{◌≡◌, ℕ, ◌+◌, ◌*◌, ◌/◌, ◌<◌, List, length, Some, sym, ◌∙◌, ap, subst, arith}
+use Rattle.std.proofs.Common.{◌≡◌, ℕ, ◌+◌, ◌*◌, ◌/◌, List, length, Some, sym, ◌∙◌, ap, subst, arith}
 use Rattle.std.proofs.lemmas.Nat.{div-mul-add}
 use Rattle.machine_text.specs.Packed.{Packed, entry_of}
 use Rattle.law_turing.specs.Run.{Config, start, after}
@@ -21,7 +21,7 @@ counted w count text listing =
 pub stays_within : (s : Lists) (p : Packed) → IsPositionSet s p → (k : ℕ) → (c : Config) × (after (entry_of p) k ≡ Some c) × IsWithinLists s c
 stays_within s p set k =
     stays_inside (entry_of p) (λ w. IsItem s.width s.left (word_text w)) (λ w. IsItem s.width s.right (word_text w)) (IsLocalItem s) s.width set.closed start
-        (start_inside (entry_of p) (λ w. IsItem s.width s.left (word_text w)) (λ w. IsItem s.width s.right (word_text w)) (IsLocalItem s) s.width set.closed) k
+    (start_inside (entry_of p) (λ w. IsItem s.width s.left (word_text w)) (λ w. IsItem s.width s.right (word_text w)) (IsLocalItem s) s.width set.closed) k
 
 pub lists_tell : (s : Lists) (p : Packed) (words : List ℕ) → AreLists s → IsPositionSet s p →
     words ≡ words_of_lists s → TellsNgram p s words

@@ -1,6 +1,5 @@
 // What is told of a cycle.
 ghost use Rattle.std.specs.Prelude.{◌≡◌, IfOk, string_bytes};
-
 ghost use Rattle.machine_text.specs.Packed.{entry_of};
 ghost use Rattle.law_turing.specs.Cycle.{Cycle as IsCycle};
 ghost use Rattle.cmd_explain.specs.Cycling.{TellsCycle, cycle_words};

@@ -36,18 +36,18 @@ fn words(alloc: Global, steps: u64, ones: u64, pair: Pair) -> Result<String, NoM
     requires { pair.state.0 < state_limit }
     ensures { IfOk result (λ words. string_bytes words ≡ halting_words steps ones pair) }
 {
-    let words = text(alloc, steps, ones, letter_of(pair.state), digit_of(pair.symbol))?;
+    let words = text(
+        alloc,
+        steps,
+        ones,
+        letter_of(pair.state),
+        digit_of(pair.symbol),
+    )?;
     Ok(words)
 }
 
 #[tactic(auto, unfolding(crate::specs::Halting::halting_text))]
-fn text(
-    alloc: Global,
-    steps: u64,
-    ones: u64,
-    state: &str,
-    symbol: &str,
-) -> Result<String, NoMemory>
+fn text(alloc: Global, steps: u64, ones: u64, state: &str, symbol: &str) -> Result<String, NoMemory>
     ensures { IfOk result (λ words. string_bytes words ≡ halting_text steps ones state.now symbol.now) }
 {
     let steps = Quantity {

@@ -46,7 +46,8 @@ fn text(alloc: Global, machine: ProvedMachine, form: &str, file: &str) -> Result
     )
 }
 
-const COUNTER: &str = "a shift overflow counter, two binary counters on both sides of the head, of which the right one \
+const COUNTER: &str =
+    "a shift overflow counter, two binary counters on both sides of the head, of which the right one \
                        overflows into the left one";
 
 // What its configurations look like.

@@ -42,13 +42,7 @@ fn count_of(width: u8, text: &[u8]) -> u64
 }
 
 #[tactic(auto, unfolding(crate::specs::Ngrams::ngram_words))]
-fn words(
-    alloc: Global,
-    width: u8,
-    left: u64,
-    right: u64,
-    local: u64,
-) -> Result<String, NoMemory>
+fn words(alloc: Global, width: u8, left: u64, right: u64, local: u64) -> Result<String, NoMemory>
     ensures { IfOk result (λ words. string_bytes words ≡ ngram_words width left right local) }
 {
     let cells = Quantity {

@@ -25,11 +25,7 @@ use run::HaltsIn;
 use std::alloc::Global;
 
 /// The words for a record whose certificate stands.
-pub(crate) fn record_words(
-    alloc: Global,
-    r: &Record,
-    judged: &Judged,
-) -> Result<String, NoMemory>
+pub(crate) fn record_words(alloc: Global, r: &Record, judged: &Judged) -> Result<String, NoMemory>
     requires { IsShownBy (recorded r.now) judged.now }
     ensures { IfOk result (λ words. TellsClaim (claim_of r.now.certificate) r.now.table (string_bytes words)) }
 {
@@ -48,12 +44,7 @@ pub(crate) fn record_words(
 }
 
 // The words for a table that halts, by what its check has shown.
-fn judged_words(
-    alloc: Global,
-    t: &Table,
-    e: &HaltsIn,
-    judged: &Judged,
-) -> Result<String, NoMemory>
+fn judged_words(alloc: Global, t: &Table, e: &HaltsIn, judged: &Judged) -> Result<String, NoMemory>
     requires stands { HaltsAsClaimed e.now t.now }
     requires verdict { judged.now.verdict ≡ Some (Halts e.now.steps (score_at (entry_of t.now) e.now.steps)) }
     requires pair { IsPairOf (Some (Halting e.now.steps)) t.now judged.now.halts_on }

@@ -11,7 +11,6 @@ use Rattle.cert.specs.Claim.{Recorded, score_by, shown_by}
 use Rattle.cert.specs.Certified.{IsCertified, IsRefusedBy}
 use Rattle.kind_evidence.specs.Verdict.{IsTrueOf}
 use Rattle.kind_evidence.specs.Verdict as verdict
-use Rattle.std.specs.Borrow.{Bor}
 use Rattle.cert.specs.Grammar.{record_of}
 use Rattle.cert.specs.declared.judgement.Judged.{Judged}
 use Rattle.cert.specs.Fault as record_fault

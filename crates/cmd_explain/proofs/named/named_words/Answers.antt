@@ -8,7 +8,7 @@ pub returns-in_ok-words-in-None : goal.returns-in_ok-words-in-None
 returns-in_ok-words-in-None c = elim c.requires [
   | inl proved ↦ absurd (none-some proved.0 (sym c.in-None.is ∙ (c.of.ensures.text proved.0).1 proved.1))
   | inr seen ↦ record {
-      never = subst (λ (p : Packed). Never (entry_of p)) (sym seen.0) seen.1;
-      is = inr (seen.0, c.in_ok-words-in-None.ensures);
-    }
+    never = subst (λ (p : Packed). Never (entry_of p)) (sym seen.0) seen.1;
+    is = inr (seen.0, c.in_ok-words-in-None.ensures);
+  }
 ]

@@ -1,6 +1,4 @@
-use Rattle.std.proofs.Common.{◌≡◌, Some, ap, subst, sym, ◌∙◌}
-use Rattle.machine_text.specs.Packed.{entry_of}
-use Rattle.law_turing.specs.Run.{after}
+use Rattle.std.proofs.Common.{subst}
 use Rattle.run.specs.Steps.{RunsTo}
 use Rattle.cmd_explain.proofs.shifting.arrive.Goals as goal
 

@@ -14,7 +14,7 @@ counter_form = codes "a shift overflow counter, two binary counters on both side
 
 -- what its configurations look like
 abbrev pub form_of : ProvedMachine → List ℕ
-form_of Skelet10 = codes "again and again its tape is 1 1 (11)^k 0^k 10, with the head in state E on the second one, for k = 1, 2, 3, .."
+form_of Skelet10 = codes "again and again its tape is 1 1 (11)^k 0^k 10, with the head in state E on the second one, for k = 1, 2, 3 and so on"
 form_of Skelet15 = counter_form
 form_of Skelet17 = codes "its tape is a list of numbers, each a group of so many words 10, with a one between two groups; their parities are the digits of a Gray code"
 form_of Skelet26 = counter_form

@@ -13,3 +13,7 @@ plural n = if n == 1 then [] else codes "s"
 -- so many of what a noun names
 abbrev pub quantity : ℕ → List ℕ → List ℕ
 quantity n noun = sentence (decimal n ∷ codes " " ∷ noun ∷ plural n ∷ [])
+
+-- and behind `every`: the noun alone for one
+abbrev pub interval : ℕ → List ℕ → List ℕ
+interval n noun = if n == 1 then noun else quantity n noun

@@ -7,7 +7,7 @@ use Rattle.law_turing.specs.Machine.{Machine}
 use Rattle.law_turing.specs.Run.{Config, cell, after}
 use Rattle.law_turing.specs.Translated.{Beyond}
 use Rattle.loops.specs.declared.translated.Translated.{Translated}
-use Rattle.cmd_explain.specs.Quantity.{sentence, quantity}
+use Rattle.cmd_explain.specs.Quantity.{sentence, quantity, interval}
 use Rattle.cmd_explain.specs.Sides.{ahead, behind}
 
 -- so many cells to a side
@@ -37,7 +37,7 @@ shift_words side shift =
 
 abbrev pub translated_words : Dir → ℕ → ℕ → ℕ → List ℕ
 translated_words side from period shift = sentence (
-    codes "From step " ∷ decimal from ∷ codes " on, every " ∷ quantity period (codes "step")
+    codes "From step " ∷ decimal from ∷ codes " on, every " ∷ interval period (codes "step")
     ∷ codes " the configuration is the same " ∷ shift_words side shift ∷ codes "for cells on the " ∷ behind side
     ∷ codes ", to which the head never comes back.\nSo it never halts.\n" ∷ [])
 

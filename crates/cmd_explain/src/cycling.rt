@@ -4,7 +4,7 @@ ghost use Rattle.machine_text.specs.Packed.{entry_of};
 ghost use Rattle.law_turing.specs.Cycle.{Cycle as IsCycle};
 ghost use Rattle.cmd_explain.specs.Cycling.{TellsCycle, cycle_words};
 
-use crate::quantity::Quantity;
+use crate::quantity::Interval;
 use kind_evidence::NoMemory;
 use loops::Cycle;
 use machine_text::Table;
@@ -23,7 +23,7 @@ pub fn cycle_words(alloc: Global, t: &Table, e: &Cycle) -> Result<String, NoMemo
 fn words(alloc: Global, from: u64, period: u64) -> Result<String, NoMemory>
     ensures { IfOk result (λ words. string_bytes words ≡ cycle_words from period) }
 {
-    let period = Quantity {
+    let period = Interval {
         number: period,
         noun: "step",
     };

@@ -56,7 +56,7 @@ fn form_of(machine: ProvedMachine) -> &'static str
 {
     match machine {
         ProvedMachine::Skelet10 => {
-            "again and again its tape is 1 1 (11)^k 0^k 10, with the head in state E on the second one, for k = 1, 2, 3, .."
+            "again and again its tape is 1 1 (11)^k 0^k 10, with the head in state E on the second one, for k = 1, 2, 3 and so on"
         }
         ProvedMachine::Skelet17 => {
             "its tape is a list of numbers, each a group of so many words 10, with a one between two groups; their \

@@ -19,3 +19,28 @@ impl fmt::Display for Quantity {
         write!(f, "{} {}{ending}", self.number, self.noun)
     }
 }
+
+/// The same behind `every`, as `step` and `2 steps`.
+#[derive(Clone, Copy, Debug)]
+pub(crate) struct Interval {
+    pub number: u64,
+    pub noun: &'static str,
+}
+
+impl fmt::Display for Interval {
+    ghost use Rattle.std.specs.Prelude.{Some};
+    ghost use Rattle.cmd_explain.specs.Quantity.{interval};
+
+    ghost output = { λ q. Some (interval q.number q.noun.now) };
+
+    fn fmt<W: fmt::Write>(&self, f: &mut fmt::Formatter<W>) -> fmt::Result {
+        if self.number == 1 {
+            return f.write_str(self.noun);
+        }
+        let quantity = Quantity {
+            number: self.number,
+            noun: self.noun,
+        };
+        write!(f, "{quantity}")
+    }
+}

@@ -8,7 +8,7 @@ ghost use Rattle.law_turing.specs.Translated.{Translated as IsTranslated};
 ghost use Rattle.loops.specs.Limits.{time_limit};
 ghost use Rattle.cmd_explain.specs.Shifting.{IsMovedEachPeriod, IsHeadAt, TellsTranslated, shift_words, translated_words};
 
-use crate::quantity::Quantity;
+use crate::quantity::{Interval, Quantity};
 use crate::sides::{ahead, behind};
 use kind_evidence::NoMemory;
 use loops::Translated;
@@ -72,7 +72,7 @@ fn arrive(runner: &mut Runner, time: u64) -> Result<(), NoMemory>
 fn words(alloc: Global, side: Dir, from: u64, period: u64, shift: u64) -> Result<String, NoMemory>
     ensures { IfOk result (λ words. string_bytes words ≡ translated_words side from period shift) }
 {
-    let period = Quantity {
+    let period = Interval {
         number: period,
         noun: "step",
     };

@@ -3,19 +3,23 @@
 # order of their names. The SHA-256 of what is printed is said on standard error:
 #   contrib/pack.sh DIR | xz -T0 > DIR.xz
 #   xz -dc DIR.xz | bb join -
+# A part that was compressed (PART.xz) is read so; where PART stands too, that counts.
 set -e
 folder=${1:?"contrib/pack.sh DIR"}
 export LC_ALL=C
 [ -r "$folder/trunk.ledger" ] || { echo "no $folder/trunk.ledger" >&2; exit 1; }
 ledgers() {
   echo "$folder/trunk.ledger"
-  find "$folder" -name '*.ledger' ! -name trunk.ledger | sort
+  find "$folder" \( -name '*.ledger' -o -name '*.ledger.xz' \) ! -name trunk.ledger | sort
 }
 # A last line without newline gets one, so that the next header stands on a line of its own.
 printed() {
   ledgers | while IFS= read -r ledger; do
-    cat "$ledger"
-    [ -z "$(tail -c 1 "$ledger")" ] || echo
+    case $ledger in
+      *.xz) [ -e "${ledger%.xz}" ] || xz -dc "$ledger" | awk 1 ;;
+      *) cat "$ledger"
+         [ -z "$(tail -c 1 "$ledger")" ] || echo ;;
+    esac
   done
 }
 exec 3>&1

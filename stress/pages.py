@@ -1,10 +1,11 @@
 #!/usr/bin/env python3
 """What `bb page` says of ledgers and of folders of parts, damaged at random, against stress/tree.py: how the tree stands, the
-sentence of a complete one, each row of numbers, the champions and the holdouts; and that the page of a folder is that of the
+sentence of a complete one, each row of numbers, the version and the sums, the champions and the holdouts; and that the page of a folder is that of the
 one ledger which `bb join` writes of it.
 
 stress/pages.py [SEED [TIMES]]: prints how many pages were compared, and the first that differs, and then ends with 1.
 """
+import hashlib
 import os
 import re
 import shutil
@@ -18,6 +19,8 @@ from tree import Loaded
 
 LETTERS = "HCTBNFAWPU"
 STATUS = {"working": "Working", "holdouts": "Holdouts", "complete": "Complete"}
+SUMS = re.compile(r"<tr><th scope='row'>SHA-256 of the l.*\n")
+VERSION = subprocess.run([PROGRAM, "--version"], capture_output=True, check=True).stdout.decode().strip()
 ROW = re.compile(r"<tr><th scope='row'>(.*?)</th><td>(.*?)</td></tr>")
 
 
@@ -32,7 +35,7 @@ def sentence(root, best, ones):
     return f"Of the tables below <code>{root}</code> that halt, the most steps are {best} and the most ones {ones}."
 
 
-def expected(board, left):
+def expected(board, left, origin):
     """The paragraphs of the status, all rows, the champions by steps and by scores, the holdouts."""
     report = [line.split(" ", 1) for line in board.report(None).split("\n")[:-1]]
     told = dict(report)
@@ -44,11 +47,25 @@ def expected(board, left):
     texts += [f"Root <code>{root}</code>"]
     rows = [("Tables", told["nodes"]), ("Halting", told["halting"]), ("Never halting", told["never"]), ("Holdouts", told["holdouts"])]
     rows += [("Open", told["open"]), ("Most steps", told["best"]), ("Most ones", told["ones"])]
+    rows += [("Made by", VERSION), ("SHA-256 of the program", f"<code>{sum_of(PROGRAM)}</code>"), origin]
     kinds = [line.split(b" ")[1].decode() for line in board.lines]
     rows += [(letter, str(kinds.count(letter))) for letter in LETTERS]
     entries = [filled(line.split(b" ")[0]) for line in board.lines]
     rows += [(str(k), str(entries.count(k))) for k in range(2 * len(board.root) + 1)]
     return texts, rows, of("champion"), of("ones_champion"), of("holdout")
+
+
+def sum_of(path):
+    with open(path, "rb") as file:
+        return hashlib.sha256(file.read()).hexdigest()
+
+
+def list_sum(folder, roots):
+    """The sum of what `sha256sum` prints of the parts under a trunk, and of the trunk, without other files of the folder."""
+    names = [name for name in sorted(os.listdir(folder)) if name.endswith(".ledger") and name != "trunk.ledger"]
+    names = [name for name in names if name[:-len(".ledger")] in roots] + ["trunk.ledger"]
+    lines = "".join(f"{sum_of(os.path.join(folder, name))}  {name}\n" for name in names)
+    return hashlib.sha256(lines.encode()).hexdigest()
 
 
 def told_by(page):
@@ -62,9 +79,9 @@ def told_by(page):
     return (texts, rows, [table for table, _ in figures], ones, [table for table, _ in holdouts]), page.count("<svg "), figures, holdouts
 
 
-def differs(page, board, left, title):
+def differs(page, board, left, title, origin):
     """What a page has wrong, if anything."""
-    due = expected(board, left)
+    due = expected(board, left, origin)
     told, pictures, figures, holdouts = told_by(page)
     if told != due:
         return f"{told!r}, and not {due!r}"
@@ -92,7 +109,8 @@ def compare_ledger(rng, lines, path, counts):
     if ledger.fault:
         counts["a ledger: refused"] += 1
         return None if (page, said, status) == ("", ledger.fault, 1) else f"page of {text!r}: {said!r}, {status}"
-    wrong = differs(page, ledger.board, ledger.left, path)
+    origin = ("SHA-256 of the ledger", f"<code>{sum_of(path)}</code>")
+    wrong = differs(page, ledger.board, ledger.left, path, origin)
     complete = "\nstatus complete\n" in ledger.board.report(None)
     counts["a ledger: " + ("complete" if complete else "not complete")] += 1
     if wrong is None and (said, status) != ("", 0 if complete and ledger.left is None else 1):
@@ -111,12 +129,13 @@ def compare_folder(rng, lines, folder, counts):
         return None if (page, told, status) == ("", said, 1) else f"page of {texts!r}: {told!r}, {status}"
     complete = "\nstatus complete\n" in board.report(None)
     counts["a folder: " + ("complete" if complete else "not complete")] += 1
-    wrong = differs(page, board, None, folder)
+    origin = ("SHA-256 of the list of its ledgers", f"<code>{list_sum(folder, Loaded(texts["trunk"]).board.open)}</code>")
+    wrong = differs(page, board, None, folder, origin)
     if wrong is None and (told, status) != (said, 0 if said == "" and complete else 1):
         wrong = f"{told!r}, {status}"
     out = folder + ".out"
     subprocess.run([PROGRAM, "join", folder, "--ledger", out], capture_output=True, check=False)
-    if wrong is None and page_of(out)[0].replace(out, folder) != page:
+    if wrong is None and SUMS.sub("", page_of(out)[0].replace(out, folder)) != SUMS.sub("", page):
         wrong = "not that of the one ledger"
     return None if wrong is None else f"page of {texts!r}: {wrong}"
 

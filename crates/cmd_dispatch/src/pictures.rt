@@ -3,11 +3,12 @@ use crate::call::Call;
 use crate::ledgers::STANDARD_INPUT;
 use cmd_draw::draw_asked;
 use cmd_folder_page::folder_page_at;
-use cmd_options::{Drawing, Ended, Outcome, ended_by};
-use cmd_page::write_ledger_page;
-use files::{Disk, Files};
+use cmd_options::{Drawing, Ended, Outcome, VERSION, ended_by};
+use cmd_page::{Heading, LedgerSum, Program, write_ledger_page};
+use files::{Disk, Files, Opened};
 use std::alloc::Global;
 use std::io::{Read, Write};
+use sums::sum_of;
 
 // `bb draw`.
 pub(crate) fn draw<S: Disk, R: Read, W: Write, E: Write>(
@@ -30,8 +31,12 @@ pub(crate) fn page<S: Disk, R: Read, W: Write, E: Write>(
     call: Call<'_, S, R, W, E>,
     path: &str,
 ) -> Result<Outcome, Ended> {
+    let program = Program {
+        version: VERSION,
+        sum: call.system.program_sum(),
+    };
     if path == STANDARD_INPUT {
-        return page_of_stream(call);
+        return page_of_stream(call, program);
     }
     let files = call.files();
     let Call {
@@ -40,38 +45,68 @@ pub(crate) fn page<S: Disk, R: Read, W: Write, E: Write>(
         faults,
         ..
     } = call;
-    match page_of_file(alloc, path, &files, answers) {
+    match page_of_file(alloc, program, path, &files, answers) {
         // Nothing was written: a folder can't be read as a file.
-        Err(Ended::File) => folder_page_at(alloc, path, &files, answers, faults),
+        Err(Ended::File) => folder_page_at(alloc, &program, path, &files, answers, faults),
         ended => ended,
     }
 }
 
 fn page_of_file<H: Files, W: Write>(
     alloc: Global,
+    program: Program<'_>,
     path: &str,
     files: &H,
     answers: &mut W,
 ) -> Result<Outcome, Ended> {
-    let mut file = match files.open_to_end(path) {
-        Ok(file) => file,
-        Err(fault) => return Err(ended_by(&fault, Ended::File)),
+    let heading = Heading {
+        title: path,
+        program,
+        ledgers: ledger_sum(path, files)?,
     };
-    match write_ledger_page(alloc, path, &mut file.reader, file.length, answers) {
+    let mut file = opened(path, files)?;
+    match write_ledger_page(alloc, &heading, &mut file.reader, file.length, answers) {
         Ok((outcome, _)) => Ok(outcome),
         Err(stopped) => Err(stopped.ended(Ended::File)),
     }
 }
 
+// The sum of a ledger's bytes; not known of what is no plain file, whose bytes come but once.
+fn ledger_sum<H: Files>(path: &str, files: &H) -> Result<LedgerSum, Ended> {
+    let mut file = opened(path, files)?;
+    if file.length == u64::MAX {
+        return Ok(LedgerSum::Unknown);
+    }
+    match sum_of(&mut file.reader, file.length) {
+        Ok(sum) => Ok(LedgerSum::Ledger(sum)),
+        Err(fault) => Err(ended_by(&fault, Ended::File)),
+    }
+}
+
+fn opened<H: Files>(path: &str, files: &H) -> Result<Opened<H::Reader>, Ended> {
+    match files.open_to_end(path) {
+        Ok(file) => Ok(file),
+        Err(fault) => Err(ended_by(&fault, Ended::File)),
+    }
+}
+
 // Of the ledger that a stream has up to its end.
-fn page_of_stream<S, R: Read, W: Write, E>(call: Call<'_, S, R, W, E>) -> Result<Outcome, Ended> {
+fn page_of_stream<S, R: Read, W: Write, E>(
+    call: Call<'_, S, R, W, E>,
+    program: Program<'_>,
+) -> Result<Outcome, Ended> {
     let Call {
         alloc,
         input,
         answers,
         ..
     } = call;
-    match write_ledger_page(alloc, "standard input", input, u64::MAX, answers) {
+    let heading = Heading {
+        title: "standard input",
+        program,
+        ledgers: LedgerSum::Unknown,
+    };
+    match write_ledger_page(alloc, &heading, input, u64::MAX, answers) {
         Ok((outcome, _)) => Ok(outcome),
         Err(stopped) => Err(stopped.ended(Ended::Stream)),
     }

@@ -7,11 +7,13 @@ use cmd_nodes::Sockets;
 use cmd_options::{Ended, ended_by};
 use files::Disk;
 use std::cell::RefCell;
+use std::env;
 use std::fs::{self, Files, OpenFile, OpenOptions, TryLockError};
 use std::io::{self, ErrorKind, IsTerminal, Write};
 use std::net::{TcpListener, TcpStream};
 use std::os::unix::fs::MetadataExt;
 use std::time::{Clock, Duration};
+use sums::sum_of;
 
 /// The files, the clock and the sockets of the system.
 #[derive(Drop)]
@@ -226,6 +228,12 @@ impl<'a> Disk for System<'a> {
 
     fn make_folder(&self, path: &str) -> io::Result<()> {
         self.noted(path, fs::create_dir_all(self.rt, path))
+    }
+
+    fn program_sum(&self) -> Option<[u8; 32]> {
+        let path = env::current_exe(self.rt).ok()?;
+        let mut file = fs::open(self.rt, path).ok()?;
+        sum_of(&mut file, u64::MAX).ok()
     }
 
     fn tells_terminal(&self) -> bool {

@@ -1,14 +1,53 @@
--- What is printed of a folder.
-use Rattle.std.specs.Prelude.{ℕ, List, Option, None}
+-- The page of a folder, and the list of its ledgers, by whose sum it is cited.
+use Rattle.std.specs.Prelude.{◌≡◌, ◌⊎◌, ℕ, List, [], ◌∷◌, ◌++◌, Option, None, Some, codes}
+use Rattle.sha2.specs.Sha256.{sha256}
+use Rattle.machine_text.specs.Packed.{Packed}
+use Rattle.machine_text.specs.Text.{text_of}
+use Rattle.ledger.specs.Contents.{IsOpenOn}
+use Rattle.ledger.specs.Tally.{AreAll}
+use Rattle.sums.specs.Sums.{IsSumOf, line_text}
 use Rattle.cmd_options.specs.declared.outcome.Outcome.{Outcome}
-use Rattle.cmd_page.specs.Page.{IsPageWith}
+use Rattle.cmd_page.specs.Heading.{Headed}
+use Rattle.cmd_page.specs.Page.{IsPage}
+use Rattle.cmd_page.specs.declared.heading.LedgerSum.TheVariants.{Folder}
 use Rattle.cmd_parts.specs.Join.{Findings, TellsAll}
+use Rattle.cmd_parts.specs.Split.{path_within}
+
+-- the line of the ledger that is found at a path, under its name in the folder; none where nothing is found
+abbrev pub IsLine : Findings → List ℕ → List ℕ → List ℕ → Type 0
+IsLine Finds path name line =
+    (Finds path None × (line ≡ []))
+    ⊎ ((has : Option (List ℕ)) × (size : ℕ) × (sum : List ℕ) × Finds path (Some (has, size)) × IsSumOf has size sum
+    × (line ≡ line_text sum (name ++ codes ".ledger")))
+
+-- those of the parts of these roots
+abbrev pub AreLines : Findings → List ℕ → List Packed → List ℕ → Type 0
+AreLines Finds folder [] lines = lines ≡ []
+AreLines Finds folder (root ∷ roots) lines =
+    (line : List ℕ) × (more : List ℕ) × IsLine Finds (path_within folder (text_of root)) (text_of root) line
+    × AreLines Finds folder roots more × (lines ≡ line ++ more)
+
+-- the SHA-256 of the list that `sha256sum *.ledger` prints in a folder: of its parts, in the order of their roots, and then
+-- of its trunk
+pub record IsListSum (Finds : Findings) (folder : List ℕ) (roots : List Packed) (sum : List ℕ) : Type 0 where
+  pub parts : List ℕ
+  pub trunk : List ℕ
+  pub are_parts : AreLines Finds folder roots parts
+  pub is_trunk : IsLine Finds (path_within folder (codes "trunk")) (codes "trunk") trunk
+  pub is : sum ≡ sha256 (parts ++ trunk)
+
+-- the page of a folder, under its path: of a version of the program with this sum of its bytes
+abbrev pub heading_of : List ℕ → List ℕ → Option (List ℕ) → List ℕ → Headed
+heading_of folder version program sum =
+    record { title = folder; version = version; program = program; ledgers = Folder sum }
 
 -- of the trunk that a folder holds and of the parts that count the page is printed that one ledger has which holds all of
--- their records, under the folder's path, but that the numbers of kinds and entries may be any; what is wrong with them is
--- said
-abbrev pub TellsPage : Findings → List ℕ → Option (List ℕ) → Option (List ℕ) → Option (List ℕ) → Option (List ℕ)
-    → Outcome → Type 0
-TellsPage Finds folder said new_said faults new_faults o =
-    (kinds entries : ℕ → ℕ) × TellsAll (IsPageWith kinds entries folder) Finds folder None None said new_said faults
-    new_faults o
+-- their records, with the sum of the list of its ledgers; what is wrong with them is said
+pub record TellsFolder (version : List ℕ) (program : Option (List ℕ)) (Finds : Findings) (folder : List ℕ)
+    (said new_said faults new_faults : Option (List ℕ)) (o : Outcome) : Type 0 where
+  pub roots : List Packed
+  pub sum : List ℕ
+  pub is_sum : IsListSum Finds folder roots sum
+  pub tells : TellsAll (IsPage (heading_of folder version program sum)) Finds folder None None said new_said faults
+      new_faults o
+  pub are_open : AreAll (IsOpenOn tells.trunk) roots

@@ -3,29 +3,32 @@ ghost use Rattle.std.specs.Prelude.{◌^◌, ◌<◌, IfErr, IfOk, List, None, l
 ghost use Rattle.ledger.specs.Contents.{Contents};
 ghost use Rattle.parts.specs.Parts.{joined_with};
 ghost use Rattle.parts.specs.Whole.{IsWhole};
-ghost use Rattle.cmd_page.specs.Page.{IsPage};
 ghost use Rattle.cmd_parts.specs.AtPaths.{finds_at};
-ghost use Rattle.cmd_parts.specs.Join.{EndsTelling, TellsAll};
+ghost use Rattle.cmd_parts.specs.Join.{EndsTelling};
+ghost use Rattle.cmd_folder_page.specs.Page.{TellsFolder};
 
 use crate::counting::Counting;
+use crate::sums::list_sum;
 use cmd_options::{Ended, Outcome};
-use cmd_page::{Census, Page};
-use cmd_parts::{PartLedgers, PartsAt, gather, tell_whole};
+use cmd_page::{Census, Heading, LedgerSum, Page, Program};
+use cmd_parts::{PartLedgers, PartsAt, gather, open_tables, tell_whole};
 use files::Files;
 use parts::Whole;
 use std::alloc::Global;
 use std::io::Write;
 
-/// Writes the page of the trunk in a folder and of the parts beside it, under the folder's path as its title. What is
+/// Writes the page of the trunk in a folder and of the parts beside it, under the folder's path as its title, with the
+/// SHA-256 of the list of its ledgers, which are read once more for that. What is
 /// wrong with the trunk or a part is said on `faults` behind its path, as `join_parts` has it, and so is what it answers.
 pub fn write_folder_page<S: PartLedgers, W: Write, E: Write>(
     alloc: Global,
+    program: &Program<'_>,
     folder: &str,
     parts: &S,
     answers: &mut W,
     faults: &mut E,
 ) -> Result<Outcome, Ended>
-    ensures tells { IfOk result (TellsAll (IsPage folder.now) (S.finds parts.now) folder.now None None
+    ensures tells { IfOk result (TellsFolder program.now.version.now program.now.sum (S.finds parts.now) folder.now
         (W.contents answers.old) (W.contents answers.new) (E.contents faults.old) (E.contents faults.new)) }
     ensures ended { IfErr result (λ e. EndsTelling (S.finds parts.now) folder.now e (W.contents answers.old)
         (W.contents answers.new) (E.contents faults.old) (E.contents faults.new)) }
@@ -35,8 +38,14 @@ pub fn write_folder_page<S: PartLedgers, W: Write, E: Write>(
     };
     let (whole, is_sound) = gather(alloc, folder, parts, &mut counting, faults)?;
     count_fits(&whole);
+    let roots = open_tables(alloc, whole.trunk())?;
+    let sum = list_sum(alloc, folder, parts, &roots)?;
     let page = Page {
-        title: folder,
+        heading: Heading {
+            title: folder,
+            program: *program,
+            ledgers: LedgerSum::Folder(sum),
+        },
         census: &counting.census,
     };
     tell_whole(alloc, &page, &whole, is_sound, answers)
@@ -53,13 +62,15 @@ fn count_fits(whole: &Whole)
 /// Writes the page of a folder of a host's files, as `write_folder_page` does.
 pub fn folder_page_at<H: Files, W: Write, E: Write>(
     alloc: Global,
+    program: &Program<'_>,
     folder: &str,
     host: &H,
     answers: &mut W,
     faults: &mut E,
 ) -> Result<Outcome, Ended>
-    ensures tells { IfOk result (TellsAll (IsPage folder.now) (finds_at (H.holds host.now)) folder.now None None
-        (W.contents answers.old) (W.contents answers.new) (E.contents faults.old) (E.contents faults.new)) }
+    ensures tells { IfOk result (TellsFolder program.now.version.now program.now.sum (finds_at (H.holds host.now))
+        folder.now (W.contents answers.old) (W.contents answers.new) (E.contents faults.old)
+        (E.contents faults.new)) }
     ensures ended { IfErr result (λ e. EndsTelling (finds_at (H.holds host.now)) folder.now e (W.contents answers.old)
         (W.contents answers.new) (E.contents faults.old) (E.contents faults.new)) }
 {
@@ -67,5 +78,5 @@ pub fn folder_page_at<H: Files, W: Write, E: Write>(
         host,
         written: None,
     };
-    write_folder_page(alloc, folder, &parts, answers, faults)
+    write_folder_page(alloc, program, folder, &parts, answers, faults)
 }

@@ -1,7 +1,7 @@
 -- The ranges of the options' numbers.
 use Rattle.std.specs.Prelude.{◌≡◌, ◌≤◌, None, IfSome}
 use Rattle.cmd_options.specs.declared.options.Options.{Options}
-use Rattle.cmd_options.specs.declared.options.Options.TheVariants.{Check, Decide, Explain, Show, Tables, Coord, Run, Loop, Retry, Merge, Carry, Mend, Split, Settle, Join, Look, Draw, Page, RecordPage, Report}
+use Rattle.cmd_options.specs.declared.options.Options.TheVariants.{Check, Decide, Explain, Show, Tables, Coord, Run, Loop, Retry, Merge, Carry, Mend, Split, Settle, Join, Look, Draw, Page, Report}
 use Rattle.cmd_options.specs.declared.options.Search.{Search}
 use Rattle.cmd_options.specs.declared.drawing.Drawing.{Drawing}
 use Rattle.cmd_options.specs.declared.options.Beginning.{Beginning}
@@ -65,5 +65,4 @@ AreWithinRanges (Join joining) = Unit {0}
 AreWithinRanges (Look looking) = Unit {0}
 AreWithinRanges (Draw drawing) = IsDrawing drawing
 AreWithinRanges (Page file) = Unit {0}
-AreWithinRanges RecordPage = Unit {0}
 AreWithinRanges (Report file json why) = Unit {0}

@@ -13,6 +13,7 @@ mod number;
 mod options;
 mod outcome;
 mod stopped;
+mod version;
 
 pub use drawing::Drawing;
 pub use ended::Ended;
@@ -27,3 +28,4 @@ pub use options::{
 pub use outcome::Outcome;
 pub use std::alloc::AllocError as NoMemory;
 pub use stopped::Stopped;
+pub use version::VERSION;

@@ -73,8 +73,6 @@ pub enum Options<'a> {
         /// The path of a ledger or of a folder of a trunk and its parts, or `-`: a ledger is read from standard input.
         file: &'a str,
     },
-    /// `bb page --table`: records are read from standard input
-    RecordPage,
     /// `bb report FILE [--json] [--why]`
     Report {
         /// The ledger's path, or `-`: it is read from standard input.

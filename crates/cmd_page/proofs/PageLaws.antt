@@ -11,7 +11,9 @@ use Rattle.ledger.specs.declared.left.Left.{Left}
 use Rattle.cmd_ledgers.specs.declared.told.Told.{Told}
 use Rattle.cmd_options.specs.Kinds.{kind_letters, kind_label}
 use Rattle.cmd_page.specs.Census.{of_kind, with_entries, letter_of, entry_count}
-use Rattle.cmd_page.specs.Page.{IsPage, IsPageWith, count_html, kind_html, kinds_html, entries_html, census_html, opening_html, summary_html, champions_html, head_html, holdouts_html}
+use Rattle.cmd_page.specs.Heading.{Headed, origin_html}
+use Rattle.cmd_page.specs.Row.{count_html}
+use Rattle.cmd_page.specs.Page.{IsPage, IsPageWith, kind_html, kinds_html, entries_html, census_html, opening_html, summary_html, champions_html, head_html, holdouts_html}
 use Rattle.cmd_page.specs.Counting.{HasCounted}
 use Rattle.cmd_page.specs.inside.{IsCensus}
 use Rattle.cmd_page.specs.declared.census.Census.{Census}
@@ -58,18 +60,21 @@ same_kinds : (f g : ℕ → ℕ) → ((k : ℕ) → k < 256 → f k ≡ g k) →
 same_kinds f g same = same_rows f g same kind_letters refl
 
 -- all before the rows of the holdouts, part by part
-pub whole_head : (title : List ℕ) (left : Left) (told : Told) (figures : List ℕ) (kinds entries : ℕ → ℕ) (n : ℕ) (h0 h1 h2 h3 h4 : List ℕ)
-    → h0 ≡ [] → h1 ≡ h0 ++ opening_html title → h2 ≡ h1 ++ summary_html told.root told.status told.tally left
-    → h3 ≡ h2 ++ census_html n kinds entries → h4 ≡ h3 ++ champions_html figures (into_iter_items told.ones_champions)
-    → n ≡ told.root.states → h4 ≡ head_html title kinds entries left told figures
+pub whole_head : (heading : Headed) (left : Left) (told : Told) (figures : List ℕ) (kinds entries : ℕ → ℕ) (n : ℕ) (h0 h1 h2 h3 h4 h5 : List ℕ)
+    → h0 ≡ [] → h1 ≡ h0 ++ opening_html heading.title → h2 ≡ h1 ++ summary_html told.root told.status told.tally left
+    → h3 ≡ h2 ++ origin_html heading → h4 ≡ h3 ++ census_html n kinds entries
+    → h5 ≡ h4 ++ champions_html figures (into_iter_items told.ones_champions)
+    → n ≡ told.root.states → h5 ≡ head_html heading kinds entries left told figures
 unfolding head_html
-whole_head title left told figures kinds entries n h0 h1 h2 h3 h4 e0 e1 e2 e3 e4 states =
-    let first : h1 ≡ opening_html title = e1 ∙ ap (λ (l : List ℕ). l ++ opening_html title) e0 in
+whole_head heading left told figures kinds entries n h0 h1 h2 h3 h4 h5 e0 e1 e2 e3 e4 e5 states =
+    let opening = opening_html heading.title in
+    let first : h1 ≡ opening = e1 ∙ ap (λ (l : List ℕ). l ++ opening) e0 in
     let summary = summary_html told.root told.status told.tally left in
-    let second : h2 ≡ opening_html title ++ summary = e2 ∙ ap (λ (l : List ℕ). l ++ summary) first in
-    let third : h3 ≡ opening_html title ++ summary ++ census_html told.root.states kinds entries =
-    e3 ∙ (ap (λ (m : ℕ). h2 ++ census_html m kinds entries) states ∙ ap (λ (l : List ℕ). l ++ census_html told.root.states kinds entries) second) in
-    e4 ∙ ap (λ (l : List ℕ). l ++ champions_html figures (into_iter_items told.ones_champions)) third
+    let second : h2 ≡ opening ++ summary = e2 ∙ ap (λ (l : List ℕ). l ++ summary) first in
+    let third : h3 ≡ opening ++ summary ++ origin_html heading = e3 ∙ ap (λ (l : List ℕ). l ++ origin_html heading) second in
+    let fourth : h4 ≡ opening ++ summary ++ origin_html heading ++ census_html told.root.states kinds entries =
+    e4 ∙ (ap (λ (m : ℕ). h3 ++ census_html m kinds entries) states ∙ ap (λ (l : List ℕ). l ++ census_html told.root.states kinds entries) third) in
+    e5 ∙ ap (λ (l : List ℕ). l ++ champions_html figures (into_iter_items told.ones_champions)) fourth
 
 pub exact_census : (rs : List Recorded) (census : Census) → HasCounted rs census → length rs < 2 ^ 64 → IsCensus rs census
 exact_census rs census counted few = record {
@@ -78,10 +83,10 @@ exact_census rs census counted few = record {
 }
 
 -- a page with the numbers that are counted of its records is the page of these
-pub counted_page : (title : List ℕ) (root : Packed) (rs : List Recorded) (left : Left) (text : List ℕ) (census : Census) → IsCensus rs census → root.states ≤ state_limit
-    → IsPageWith (λ k. get_or census.kinds k 0) (λ k. get_or census.entries k 0) title root rs left text → IsPage title root rs left text
+pub counted_page : (heading : Headed) (root : Packed) (rs : List Recorded) (left : Left) (text : List ℕ) (census : Census) → IsCensus rs census → root.states ≤ state_limit
+    → IsPageWith (λ k. get_or census.kinds k 0) (λ k. get_or census.entries k 0) heading root rs left text → IsPage heading root rs left text
 unfolding head_html
-counted_page title root rs left text census counted limit page =
+counted_page heading root rs left text census counted limit page =
     let told = page.told in
     let n = told.root.states in
     let same_root : n ≡ root.states = ap (λ (p : Packed). p.states) page.is_told.root_is in
@@ -92,7 +97,7 @@ counted_page title root rs left text census counted limit page =
     let census_is : census_html n of_kinds of_entries ≡ census_html n (of_kind rs) (with_entries rs) =
     ap (λ (l : List ℕ). kinds_text ++ l ++ entries_text ++ entries_html n of_entries) kinds
     ∙ ap (λ (l : List ℕ). kinds_text ++ kinds_html (of_kind rs) ++ entries_text ++ l) entries in
-    let before = opening_html title ++ summary_html told.root told.status told.tally left in
+    let before = opening_html heading.title ++ summary_html told.root told.status told.tally left ++ origin_html heading in
     let champions = champions_html page.figures (into_iter_items told.ones_champions) in
     record {
       told = told;

@@ -3,6 +3,8 @@ pub mod Census
 pub mod Figures
 pub mod Style
 pub mod Sentence
+pub mod Row
+pub mod Heading
 pub mod Page
 pub mod Counting
 pub mod inside

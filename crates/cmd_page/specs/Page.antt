@@ -17,19 +17,14 @@ use Rattle.cmd_options.specs.Kinds.{kind_letters, kind_label}
 use Rattle.cmd_page.specs.Census.{of_kind, with_entries, entry_count}
 use Rattle.cmd_page.specs.Escaped.{escaped, code_html}
 use Rattle.cmd_page.specs.Figures.{AreFigures}
+use Rattle.cmd_page.specs.Heading.{Headed, origin_html}
+use Rattle.cmd_page.specs.Row.{count_html, row_html}
 use Rattle.cmd_page.specs.Sentence.{sentence_html}
 use Rattle.cmd_page.specs.Style.{opening_text, heading_text, parts_text, kinds_text, entries_text, champions_text, ones_champions_text, holdouts_text, ending_text}
 
 -- the title, in the title bar and as the heading
 abbrev pub opening_html : List ℕ → List ℕ
 opening_html title = opening_text ++ escaped title ++ heading_text ++ escaped title ++ parts_text
-
--- a row of a name and a value
-abbrev pub row_html : List ℕ → List ℕ → List ℕ
-row_html name value = codes "<tr><th scope='row'>" ++ name ++ codes "</th><td>" ++ value ++ codes "</td></tr>\n"
-
-abbrev pub count_html : List ℕ → ℕ → List ℕ
-count_html name n = row_html name (decimal n)
 
 abbrev pub root_html : Packed → List ℕ
 root_html root = codes "<p>Root " ++ code_html root ++ codes "</p>\n<table>\n"
@@ -107,27 +102,28 @@ abbrev pub holdouts_html : List Packed → List ℕ
 holdouts_html tables = flat_map holdout_html tables
 
 -- all before the rows of the holdouts, by how many records there are of each kind and of tables with so many entries
-unfoldable pub head_html : List ℕ → (ℕ → ℕ) → (ℕ → ℕ) → Left → Told → List ℕ → List ℕ
-head_html title kinds entries left told figures =
-    opening_html title
+unfoldable pub head_html : Headed → (ℕ → ℕ) → (ℕ → ℕ) → Left → Told → List ℕ → List ℕ
+head_html heading kinds entries left told figures =
+    opening_html heading.title
     ++ summary_html told.root told.status told.tally left
+    ++ origin_html heading
     ++ census_html told.root.states kinds entries
     ++ champions_html figures (into_iter_items told.ones_champions)
 
-abbrev pub page_html : List ℕ → (ℕ → ℕ) → (ℕ → ℕ) → Left → Told → List ℕ → List ℕ
-page_html title kinds entries left told figures =
-    head_html title kinds entries left told figures ++ holdouts_html (into_iter_items told.holdouts) ++ ending_text
+abbrev pub page_html : Headed → (ℕ → ℕ) → (ℕ → ℕ) → Left → Told → List ℕ → List ℕ
+page_html heading kinds entries left told figures =
+    head_html heading kinds entries left told figures ++ holdouts_html (into_iter_items told.holdouts) ++ ending_text
 
--- a page of a root and the records held from it, under a title, but that these are the numbers of kinds and entries
-pub record IsPageWith (kinds entries : ℕ → ℕ) (title : List ℕ) (root : Packed) (rs : List Recorded) (left : Left)
+-- a page of a root and the records held from it, under a heading, but that these are the numbers of kinds and entries
+pub record IsPageWith (kinds entries : ℕ → ℕ) (heading : Headed) (root : Packed) (rs : List Recorded) (left : Left)
     (text : List ℕ) : Type 0 where
   pub told : Told
   pub is_told : IsToldOf root rs told
   pub figures : List ℕ
   pub are_figures : AreFigures told.tally.best (into_iter_items told.champions) figures
-  pub is : text ≡ page_html title kinds entries left told figures
+  pub is : text ≡ page_html heading kinds entries left told figures
 
--- the page of a root and the records held from it, under a title: all that a report tells of them, the numbers of their
+-- the page of a root and the records held from it, under a heading: all that a report tells of them, the numbers of their
 -- kinds and entries, the champions with their pictures, and exactly the holdouts, in the order of their texts
-abbrev pub IsPage : List ℕ → Packed → List Recorded → Left → List ℕ → Type 0
-IsPage title root rs left text = IsPageWith (of_kind rs) (with_entries rs) title root rs left text
+abbrev pub IsPage : Headed → Packed → List Recorded → Left → List ℕ → Type 0
+IsPage heading root rs left text = IsPageWith (of_kind rs) (with_entries rs) heading root rs left text

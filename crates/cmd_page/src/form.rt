@@ -1,5 +1,6 @@
 // A page as a form of a report.
 use crate::census::Census;
+use crate::heading::Heading;
 use crate::making::{MadePage, told_page};
 use crate::writing::write_made;
 use cmd_ledgers::{ReportForm, Told};
@@ -11,8 +12,8 @@ use std::io::{self, Write};
 /// A report as a page, of records that were counted.
 #[derive(Drop)]
 pub struct Page<'a> {
-    /// The title, which may have any bytes.
-    pub title: &'a str,
+    /// What it is of.
+    pub heading: Heading<'a>,
     /// How many records there are.
     pub census: &'a Census,
 }
@@ -25,12 +26,12 @@ impl ReportForm for Page<'_> {
     type Made = MadePage;
 
     ghost is_text = { λ page. IsPageWith (slice_index page.census.now.kinds)
-        (slice_index page.census.now.entries) page.title.now };
+        (slice_index page.census.now.entries) page.heading };
 
     ghost bytes = { bytes_of_page };
 
     fn make(&self, alloc: Global, told: Told, left: &Left) -> Result<MadePage, NoMemory> {
-        told_page(alloc, self.title.as_bytes(), self.census, told, left)
+        told_page(alloc, &self.heading, self.census, told, left)
     }
 
     fn write<W: Write>(&self, made: MadePage, answers: &mut W) -> io::Result<()> {

@@ -12,6 +12,7 @@ ghost use Rattle.cmd_page.specs.inside.{bytes_of_page};
 use crate::census::{Census, census_of};
 use crate::counts::append_census;
 use crate::figures::append_figures;
+use crate::heading::{Heading, append_origin};
 use crate::rows::append_items;
 use crate::style;
 use crate::summary::{append_opening, append_summary};
@@ -34,26 +35,26 @@ pub struct MadePage {
 // Makes the page of a board, and of what wasn't kept of its ledger.
 pub(crate) fn page_of(
     alloc: Global,
-    title: &[u8],
+    heading: &Heading<'_>,
     board: &Board,
     left: &Left,
 ) -> Result<MadePage, NoMemory>
-    ensures { IfOk result (λ made. IsPage title.now board.now.root board.now.records left.now (bytes_of_page made)) }
+    ensures { IfOk result (λ made. IsPage heading.now board.now.root board.now.records left.now (bytes_of_page made)) }
 {
-    told_page(alloc, title, &census_of(board), Told::of(board)?, left)
+    told_page(alloc, heading, &census_of(board), Told::of(board)?, left)
 }
 
 // Makes the page of what is counted and told.
 pub(crate) fn told_page(
     alloc: Global,
-    title: &[u8],
+    heading: &Heading<'_>,
     census: &Census,
     told: Told,
     left: &Left,
 ) -> Result<MadePage, NoMemory>
     ensures { IfOk result (λ made. (told.root.states ≤ state_limit)
         × ((root : Packed) (rs : List Recorded) → IsToldOf root rs told
-        → IsPageWith (slice_index census.now.kinds) (slice_index census.now.entries) title.now root rs left.now
+        → IsPageWith (slice_index census.now.kinds) (slice_index census.now.entries) heading.now root rs left.now
         (bytes_of_page made))) }
 {
     let Told {
@@ -65,8 +66,9 @@ pub(crate) fn told_page(
         holdouts,
     } = told;
     let mut head = Vec::with_capacity(alloc, PIECE_BYTES)?;
-    append_opening(title, &mut head)?;
+    append_opening(heading.title.as_bytes(), &mut head)?;
     append_summary(&root, status, &tally, left, &mut head)?;
+    append_origin(heading, &mut head)?;
     append_census(root.states(), census, &mut head)?;
     append_champions(alloc, tally.best, champions, ones_champions, &mut head)?;
     Ok(MadePage { head, holdouts })

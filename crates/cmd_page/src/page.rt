@@ -5,6 +5,7 @@ ghost use Rattle.cmd_ledgers.specs.LedgerReport.{WritesLedger};
 ghost use Rattle.cmd_ledgers.specs.Reading.{AreFirstBytes, EndsReading};
 ghost use Rattle.cmd_page.specs.Page.{IsPage};
 
+use crate::heading::Heading;
 use crate::making::page_of;
 use crate::writing::write_made;
 use cmd_ledgers::{load_from, outcome_by};
@@ -13,39 +14,39 @@ use ledger::{Board, Left};
 use std::alloc::Global;
 use std::io::{Read, Write};
 
-/// Writes the page of a board under a title, which may have any bytes, and says what wasn't kept of its ledger. What
+/// Writes the page of a board under a heading, and says what wasn't kept of its ledger. What
 /// grows with the number of holdouts is written a piece at a time. Where memory is refused, nothing was written.
 pub fn write_page<W: Write>(
     alloc: Global,
-    title: &str,
+    heading: &Heading<'_>,
     board: &Board,
     left: &Left,
     answers: &mut W,
 ) -> Result<(), Ended>
-    ensures ok { OnOk result ((text : List ℕ) × IsPage title.now board.now.root board.now.records left.now text
+    ensures ok { OnOk result ((text : List ℕ) × IsPage heading.now board.now.root board.now.records left.now text
         × Appends (W.contents answers.old) (W.contents answers.new) text) }
     ensures err { IfErr result (λ e. ((e ≡ Ended.NoMemory) × (answers.new ≡ answers.old)) ⊎ (e ≡ Ended.Stream)) }
 {
-    let made = page_of(alloc, title.as_bytes(), board, left)?;
+    let made = page_of(alloc, heading, board, left)?;
     write_made(made, answers)?;
     Ok(())
 }
 
-/// Writes the page of the ledger that a reader has in its first bytes, up to a limit, under a title: accepted where the
+/// Writes the page of the ledger that a reader has in its first bytes, up to a limit, under a heading: accepted where the
 /// board is complete and all was kept. Answers what is left as well.
 pub fn write_ledger_page<R: Read, W: Write>(
     alloc: Global,
-    title: &str,
+    heading: &Heading<'_>,
     from: &mut R,
     limit: u64,
     answers: &mut W,
 ) -> Result<(Outcome, Left), Stopped>
     ensures ok { IfOk result (λ r. (text : List ℕ) × AreFirstBytes (R.remaining from.old) limit text
-        × WritesLedger (IsPage title.now) text r.0 r.1 (W.contents answers.old) (W.contents answers.new)) }
+        × WritesLedger (IsPage heading.now) text r.0 r.1 (W.contents answers.old) (W.contents answers.new)) }
     ensures err { IfErr result (λ e. (e ≡ Stopped.Ended Ended.Stream)
         ⊎ (EndsReading (R.remaining from.old) limit e × (answers.new ≡ answers.old))) }
 {
     let (board, left) = load_from(alloc, from, limit)?;
-    write_page(alloc, title, &board, &left, answers)?;
+    write_page(alloc, heading, &board, &left, answers)?;
     Ok((outcome_by(board.status(), &left), left))
 }

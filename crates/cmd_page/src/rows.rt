@@ -3,7 +3,8 @@ ghost use Rattle.std.specs.Prelude.{◌≡◌, ◌++◌, codes, decimal, OnOk};
 ghost use Rattle.std.specs.Vec.Iter.{into_iter_items};
 ghost use Rattle.cmd_ledgers.specs.Report.{greatest_text};
 ghost use Rattle.cmd_page.specs.Escaped.{code_html};
-ghost use Rattle.cmd_page.specs.Page.{row_html, count_html, item_html, items_html};
+ghost use Rattle.cmd_page.specs.Page.{item_html, items_html};
+ghost use Rattle.cmd_page.specs.Row.{count_html, row_html};
 
 use kind_evidence::NoMemory;
 use machine_text::{TEXT_BYTES, Table};
@@ -50,11 +51,18 @@ fn append_row(name: &[u8], value: &[u8], out: &mut Vec<u8>) -> Result<(), NoMemo
 {
     append_name(name, out)?;
     out.extend_from_slice(value)?;
+    append_end(out)
+}
+
+// Appends what stands behind the value of a row.
+pub(crate) fn append_end(out: &mut Vec<u8>) -> Result<(), NoMemory>
+    ensures { OnOk result (out.new.items ≡ out.old.items ++ codes "</td></tr>\n") }
+{
     out.extend_from_slice(b"</td></tr>\n")
 }
 
 // Appends what stands before the value of a row.
-fn append_name(name: &[u8], out: &mut Vec<u8>) -> Result<(), NoMemory>
+pub(crate) fn append_name(name: &[u8], out: &mut Vec<u8>) -> Result<(), NoMemory>
     ensures { OnOk result (out.new.items ≡ out.old.items
         ++ (codes "<tr><th scope='row'>" ++ name.now ++ codes "</th><td>")) }
 {

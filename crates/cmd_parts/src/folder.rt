@@ -1,5 +1,5 @@
 // A folder of ledgers, one for each part of a tree.
-ghost use Rattle.std.specs.Prelude.{◌≡◌, ℕ, List, IfErr, IfOk, None, OnOk, Some, string_bytes};
+ghost use Rattle.std.specs.Prelude.{◌≡◌, ℕ, List, codes, IfErr, IfOk, None, OnOk, Some, string_bytes};
 ghost use Rattle.machine_text.specs.Packed.{Packed};
 ghost use Rattle.machine_text.specs.Text.{text_of};
 ghost use Rattle.ledger.specs.Contents.{IsOpenOn};
@@ -163,6 +163,13 @@ pub fn part_path(alloc: Global, folder: &str, root: &Table) -> Result<String, No
         Ok(name) => path_within(alloc, folder, name),
         Err(_) => unreachable!(),
     }
+}
+
+/// The path of the trunk's ledger in a folder.
+pub fn trunk_path(alloc: Global, folder: &str) -> Result<String, NoMemory>
+    ensures { IfOk result (λ path. string_bytes path ≡ path_within folder.now (codes "trunk")) }
+{
+    path_within(alloc, folder, TRUNK)
 }
 
 // The path of a ledger in a folder.

@@ -18,7 +18,7 @@ mod split;
 mod trunk;
 
 pub use collector::{Collector, Nowhere, OneLedger};
-pub use folder::{Folder, FolderAt, begin_part, begin_parts, part_path};
+pub use folder::{Folder, FolderAt, begin_part, begin_parts, part_path, trunk_path};
 pub use join::{cmd_join, gather, join_at, join_into, join_parts, open_tables, tell_whole};
 pub use part_files::{PartLedgers, PartsAt, Written};
 pub use settle::settle_ledger;

@@ -1,10 +1,10 @@
 // The commands with their arguments and options, by clap's builder.
 use crate::commands::{COMMANDS, CommandWords, SEARCH, SEARCH_BY_STAGES};
-use crate::help::{STATUSES, VERSION};
+use crate::help::STATUSES;
 use crate::words::{Argument, Flag, Text};
 use clap::builder::ValueParser;
 use clap::{Arg, ArgAction, Command};
-use cmd_options::{NoMemory, Number, REACHES};
+use cmd_options::{NoMemory, Number, REACHES, VERSION};
 use std::alloc::Global;
 
 /// The program with its commands.

@@ -1,8 +1,5 @@
 // What help says of the program and of each command.
 
-// The program's version, and the kit by which it is proved.
-pub(crate) const VERSION: &str = "0.2.0, proved with rattle-kit-13f logic dac8208d650f15bf";
-
 pub(crate) const STATUSES: &str =
     "Exit status: 0 all accepted; 1 something was refused; 2 a wrong command line; \
 3 out of memory; 4 a stream or a file failed.";

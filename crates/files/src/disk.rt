@@ -99,6 +99,9 @@ pub trait Disk {
     /// Makes a folder where there is none at the path.
     fn make_folder(&self, path: &str) -> io::Result<()>;
 
+    /// The SHA-256 of the running program's own bytes; none where they can't be read.
+    fn program_sum(&self) -> Option<[u8; 32]>;
+
     /// Whether what is said on standard error is shown on a terminal.
     fn tells_terminal(&self) -> bool;
 

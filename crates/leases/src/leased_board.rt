@@ -50,6 +50,7 @@ impl LeasedBoard {
     ghost use Rattle.std.specs.Prelude.{Some, None};
     ghost use Rattle.cert.specs.Kinds.{recorded};
     ghost use Rattle.ledger.specs.LedgerText.{gained_line};
+    ghost use Rattle.ledger.specs.Offers.{KeepsTree};
     ghost use Rattle.leases.specs.Offers.{BoardGives, LeasesAfter};
     ghost use Rattle.leases.specs.Asks.{Asks};
     ghost use Rattle.leases.specs.Leases.{AreLeases, SomeEnds, no_leases, is_live, lease_of, ended, ticked, IsDone};
@@ -180,8 +181,7 @@ impl LeasedBoard {
         ensures gives { BoardGives self.old.board.root self.old.board.records (recorded r.now) result
             self.new.board.records }
         ensures line { out.new.items ≡ out.old.items ++ gained_line self.old.board.format (recorded r.now) result }
-        ensures root { self.new.board.root ≡ self.old.board.root }
-        ensures format { self.new.board.format ≡ self.old.board.format }
+        ensures kept { KeepsTree self.old.board self.new.board }
         ensures leases { LeasesAfter r.now.table result self.old self.new }
     {
         match lease_of(&self.came_under, &self.live, None, &r.table) {
@@ -196,8 +196,7 @@ impl LeasedBoard {
         ensures gives { BoardGives self.old.board.root self.old.board.records (recorded r.now) result
             self.new.board.records }
         ensures line { out.new.items ≡ out.old.items ++ gained_line self.old.board.format (recorded r.now) result }
-        ensures root { self.new.board.root ≡ self.old.board.root }
-        ensures format { self.new.board.format ≡ self.old.board.format }
+        ensures kept { KeepsTree self.old.board self.new.board }
         ensures leases { LeasesAfter r.now.table result self.old self.new }
     {
         child_is_table();
@@ -230,8 +229,7 @@ impl LeasedBoard {
         ensures gives { BoardGives self.old.board.root self.old.board.records (recorded r.now) result
             self.new.board.records }
         ensures line { out.new.items ≡ out.old.items ++ gained_line self.old.board.format (recorded r.now) result }
-        ensures root { self.new.board.root ≡ self.old.board.root }
-        ensures format { self.new.board.format ≡ self.old.board.format }
+        ensures kept { KeepsTree self.old.board self.new.board }
         ensures leases { LeasesAfter r.now.table result self.old self.new }
     {
         child_is_table();

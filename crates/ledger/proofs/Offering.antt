@@ -1,5 +1,5 @@
 -- Where an offered record stands, and what becomes of it.
-use Rattle.std.proofs.Common.{◌≡◌, List, [], ◌∷◌, ◌++◌, Option, Some, None, option_map, IsSome, inl, inr, ◌⊎◌, Result, Ok, Err, IfOk, IfErr, OnErr, refl, sym, ap, subst}
+use Rattle.std.proofs.Common.{◌≡◌, ℕ, List, [], ◌∷◌, ◌++◌, Option, Some, None, option_map, IsSome, inl, inr, ◌⊎◌, Result, Ok, Err, IfOk, IfErr, OnErr, refl, sym, ap, subst}
 use Rattle.machine_text.specs.Packed.{Packed}
 use Rattle.kind_evidence.specs.declared.verdicts.Ending.{Ending}
 use Rattle.kind_evidence.specs.declared.verdicts.Ending.TheVariants.{Halts, Never}
@@ -9,6 +9,7 @@ use Rattle.ledger.specs.Records.{claim_in, mark_in, mark_of, mark_by}
 use Rattle.cert.specs.Scored.{with_score}
 use Rattle.ledger.specs.Held.{IsFit, IsHoldout, Resolves, resolved}
 use Rattle.ledger.specs.Offers.{IsJudged, OfferGives}
+use Rattle.ledger.specs.inside.Open.{IsOpener}
 use Rattle.ledger.specs.inside.Places.{IsWhyRefused, IsFooting, footing_by}
 use Rattle.ledger.specs.declared.footing.Footing.{Footing}
 use Rattle.ledger.specs.declared.footing.Footing.TheVariants.{Open, Elsewhere}
@@ -30,9 +31,10 @@ pub stands_recorded : (root : Packed) (rs : List Recorded) (r : Recorded) (c : C
 stands_recorded root rs r c place claimed is = subst (IsFooting root rs r) (sym is) (by_shown root rs r (ending_by c) (ending_by r.claim) (ap (option_map mark_of) claimed) refl)
 
 pub stands_unrecorded : (root : Packed) (rs : List Recorded) (r : Recorded) (place : Footing) → claim_in rs r.table ≡ None
-    → (IsOpen root (mark_in rs) r.table × (place ≡ Open)) ⊎ ((IsOpen root (mark_in rs) r.table → ⊥) × (place ≡ Elsewhere))
+    → ((opener : ℕ) × IsOpen root (mark_in rs) r.table × IsOpener root rs r.table opener × (place ≡ Open opener))
+    ⊎ ((IsOpen root (mark_in rs) r.table → ⊥) × (place ≡ Elsewhere))
     → IsFooting root rs r place
-stands_unrecorded root rs r place none (inl h) = subst (IsFooting root rs r) (sym h.1) h.0
+stands_unrecorded root rs r place none (inl h) = subst (IsFooting root rs r) (sym h.3) (h.1, h.2)
 stands_unrecorded root rs r place none (inr h) = subst (IsFooting root rs r) (sym h.1) (record { unrecorded = none; not_open = h.0 })
 
 refusal_gives : (root : Packed) (old new : List Recorded) (r : Recorded) (f : OfferFault) → IsWhyRefused f r → IsJudged root old r → new ≡ old → OfferGives root old r (Err f) new

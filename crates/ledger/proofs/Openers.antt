@@ -14,9 +14,12 @@ use Rattle.machine_text.specs.Packed.{Packed}
 use Rattle.law_tree.specs.Tables.{IsChildTable}
 use Rattle.cert.specs.Claim.{Claim, Recorded, ending_by}
 use Rattle.ledger.specs.Records.{same_table, claim_in}
+use Rattle.ledger.specs.Contents.{Contents}
 use Rattle.ledger.specs.Held.{resolved}
 use Rattle.ledger.specs.inside.Counting.{is_halting, says_halts}
 use Rattle.machine_text.specs.Order.{table_cmp}
+use Rattle.ledger.specs.inside.Stored.{records_of}
+use Rattle.ledger.specs.declared.stored_record.StoredRecord.{StoredRecord}
 use Rattle.ledger.specs.inside.Open.{others, AreChildrenAt, IsOpener}
 use Rattle.ledger.proofs.Same.{same_is, same_at}
 use Rattle.ledger.proofs.Claims.{claim_here, claim_past, settled_here, settled_past}
@@ -162,3 +165,11 @@ settled_slot (y ∷ ys) r x (suc i) apart at table =
       | true ↦ λ here. absurd (not_member y ys r x i apart at table here)
       | false ↦ λ other. ap (λ (l : List Recorded). slice_get l (suc i)) (settled_past y ys r other) ∙ settled_slot ys r x i (λ a b d less below. apart (suc a) (suc b) d (omega arith) (omega arith)) at table
     ] refl
+
+-- what opened a table of the view opened it among the entries, before and after room was made
+pub opener_now : (root : Packed) (old es : List (Packed × StoredRecord)) (now : Contents) (t : Packed) (opener : ℕ)
+    → record { root = root; records = records_of old; format = now.format } ≡ now → es ≡ old
+    → IsOpener now.root now.records t opener → IsOpener root (records_of es) t opener
+opener_now root old es now t opener view same is =
+    subst (λ (l : List (Packed × StoredRecord)). IsOpener root (records_of l) t opener) (sym same)
+    (subst (λ (b : Contents). IsOpener b.root b.records t opener) (sym view) is)

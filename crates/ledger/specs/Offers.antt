@@ -1,10 +1,11 @@
 -- What an offered record does to the records held, and why it is refused.
 use Rattle.std.specs.Prelude.{◌≡◌, ◌≢◌, ◌⊎◌, List, [], ◌∷◌, ◌++◌, None, Result, Ok, Err, IsSome}
 use Rattle.machine_text.specs.Packed.{Packed}
-use Rattle.law_tree.specs.Closed.{IsVerdict, IsOpen}
+use Rattle.law_tree.specs.Closed.{IsComplete, IsVerdict, IsOpen}
 use Rattle.cert.specs.Claim.{Recorded, ending_by}
 use Rattle.cert.specs.Certified.{IsRefusedBy}
 use Rattle.cert.specs.Scored.{with_score}
+use Rattle.ledger.specs.Contents.{Contents}
 use Rattle.ledger.specs.Records.{claim_in, mark_in}
 use Rattle.ledger.specs.Held.{IsFit, IsHoldout, Resolves, resolved}
 use Rattle.ledger.specs.declared.taken.Taken.{Taken}
@@ -24,6 +25,12 @@ pub record IsJudged (root : Packed) (rs : List Recorded) (r : Recorded) : Type 0
 pub record IsElsewhere (root : Packed) (rs : List Recorded) (t : Packed) : Type 0 where
   pub unrecorded : claim_in rs t ≡ None
   pub not_open : IsOpen root (mark_in rs) t → ⊥
+
+-- what stays: the root, the version, and the records of a board that was complete
+pub record KeepsTree (old new : Contents) : Type 0 where
+  pub root : new.root ≡ old.root
+  pub format : new.format ≡ old.format
+  pub complete : IsComplete old.root (mark_in old.records) → new.records ≡ old.records
 
 -- what an offered record does; it is held with its score, whether it came with it or not
 abbrev pub OfferGives : Packed → List Recorded → Recorded → Result Taken OfferFault → List Recorded → Type 0

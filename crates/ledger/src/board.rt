@@ -25,7 +25,7 @@ use crate::index::{
     certificate_for, pair_for, place_and_count_of, place_of, tree_count_of, verdict_in,
 };
 use crate::open::Open;
-use crate::open_tables::{only, open_children, opener_of, opener_place};
+use crate::open_tables::{only, open_children, opener_place};
 use crate::records::Records;
 use crate::selected::{
     listed_tables, sorted_tables, tables_with, tables_with_ones, undecided_tables,
@@ -88,14 +88,15 @@ impl Model for Board {
 
 impl Board {
     ghost use Rattle.std.specs.Prelude.{[], ◌∷◌, ◌++◌, OnOk, OnErr, IfErr, ◌⊎◌, IsSome};
-    ghost use Rattle.law_tree.specs.Closed.{IsComplete, IsOpen};
+    ghost use Rattle.law_tree.specs.Closed.{IsOpen};
     ghost use Rattle.cert.specs.Claim.{ending_by};
     ghost use Rattle.cert.specs.Certified.{IsCertified};
     ghost use Rattle.cert.specs.Kinds.{claim_of, recorded};
     ghost use Rattle.cert.specs.Scored.{with_score};
     ghost use Rattle.ledger.specs.Records.{claim_in, mark_in, verdict_in};
     ghost use Rattle.ledger.specs.Held.{IsFit, IsHoldout, Resolves, resolved};
-    ghost use Rattle.ledger.specs.Offers.{OfferGives};
+    ghost use Rattle.ledger.specs.Offers.{KeepsTree, OfferGives};
+    ghost use Rattle.ledger.specs.inside.Open.{IsOpener};
     ghost use Rattle.ledger.specs.inside.Places.{IsJudgedSo, IsWhyRefused};
     ghost use Rattle.ledger.specs.inside.Trees.{IsTreeCount};
 
@@ -347,9 +348,7 @@ impl Board {
     /// error nothing has changed, and no offer changes a complete board.
     pub fn offer(&mut self, r: &Record) -> Result<Taken, OfferFault>
         ensures gives { OfferGives self.old.root self.old.records (recorded r.now) result self.new.records }
-        ensures root { self.new.root ≡ self.old.root }
-        ensures format { self.new.format ≡ self.old.format }
-        ensures complete { IsComplete self.old.root (mark_in self.old.records) → self.new.records ≡ self.old.records }
+        ensures kept { KeepsTree self.old self.new }
     {
         self.put(r, Judging::Due)
     }
@@ -359,9 +358,7 @@ impl Board {
     pub fn offer_certified(&mut self, r: &Record) -> Result<Taken, OfferFault>
         requires { IsCertified (recorded r.now) }
         ensures gives { OfferGives self.old.root self.old.records (recorded r.now) result self.new.records }
-        ensures root { self.new.root ≡ self.old.root }
-        ensures format { self.new.format ≡ self.old.format }
-        ensures complete { IsComplete self.old.root (mark_in self.old.records) → self.new.records ≡ self.old.records }
+        ensures kept { KeepsTree self.old self.new }
     {
         self.put(r, Judging::Done)
     }
@@ -370,17 +367,32 @@ impl Board {
     pub(crate) fn put(&mut self, r: &Record, judging: Judging) -> Result<Taken, OfferFault>
         requires { IsJudgedSo judging (recorded r.now) }
         ensures gives { OfferGives self.old.root self.old.records (recorded r.now) result self.new.records }
-        ensures root { self.new.root ≡ self.old.root }
-        ensures format { self.new.format ≡ self.old.format }
-        ensures complete { IsComplete self.old.root (mark_in self.old.records) → self.new.records ≡ self.old.records }
+        ensures kept { KeepsTree self.old self.new }
     {
         if r.table.states() != self.root.states() {
             return Err(OfferFault::WrongSize);
         }
-        match self.footing(r) {
+        let footing = self.footing(r);
+        self.put_at(footing, r, judging)
+    }
+
+    // Offers a record of as many states that stands there, by whether it is yet to be judged.
+    pub(crate) fn put_at(
+        &mut self,
+        footing: Footing,
+        r: &Record,
+        judging: Judging,
+    ) -> Result<Taken, OfferFault>
+        requires size { r.now.table.states ≡ self.old.root.states }
+        requires footing { IsFooting self.old.root self.old.records (recorded r.now) footing }
+        requires judged { IsJudgedSo judging (recorded r.now) }
+        ensures gives { OfferGives self.old.root self.old.records (recorded r.now) result self.new.records }
+        ensures kept { KeepsTree self.old self.new }
+    {
+        match footing {
             Footing::Known => Ok(Taken::Known),
             Footing::Elsewhere => Err(OfferFault::NotOpen),
-            Footing::Open => self.take(r, judging),
+            Footing::Open { opener } => self.take(r, judging, opener),
             Footing::Holdout => self.resolve(r, judging),
         }
     }
@@ -397,19 +409,20 @@ impl Board {
 
     // Where a table without a record stands.
     fn unrecorded_footing(&self, t: &Table) -> Footing
-        ensures { (IsOpen self.now.root (mark_in self.now.records) t.now × (result ≡ Footing.Open))
+        ensures { ((opener : ℕ) × IsOpen self.now.root (mark_in self.now.records) t.now
+            × IsOpener self.now.root self.now.records t.now opener × (result ≡ Footing.Open opener))
             ⊎ ((IsOpen self.now.root (mark_in self.now.records) t.now → ⊥) × (result ≡ Footing.Elsewhere)) }
     {
-        if self.is_open(t) {
-            Footing::Open
-        } else {
-            Footing::Elsewhere
+        match self.open_tables.get(t) {
+            Some(opener) => Footing::Open { opener: *opener },
+            None => Footing::Elsewhere,
         }
     }
 
-    // Takes a record of an open table.
-    fn take(&mut self, r: &Record, judging: Judging) -> Result<Taken, OfferFault>
+    // Takes a record of an open table, which the record at this place opened.
+    fn take(&mut self, r: &Record, judging: Judging, opener: u32) -> Result<Taken, OfferFault>
         requires is_open { IsOpen self.old.root (mark_in self.old.records) r.now.table }
+        requires opener { IsOpener self.old.root self.old.records r.now.table opener }
         requires judged { IsJudgedSo judging (recorded r.now) }
         ensures ok { IfOk result (λ taken. (taken ≡ Taken.New) × IsFit self.old.root self.old.records (recorded r.now)
             × (self.new.records ≡ self.old.records ++ (with_score (recorded r.now) ∷ []))) }
@@ -419,8 +432,7 @@ impl Board {
         ensures refusal { IfErr result (λ f. IsWhyRefused f (recorded r.now)) }
     {
         child_is_table();
-        let parent = opener_of(&self.open_tables, &r.table);
-        let stored = StoredRecord::of(self.alloc, r, judging, parent, TreeCount::first())?;
+        let stored = StoredRecord::of(self.alloc, r, judging, opener, TreeCount::first())?;
         let held = Record {
             table: r.table,
             certificate: stored.certificate.lent(),

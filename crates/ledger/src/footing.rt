@@ -10,8 +10,8 @@ use cert::Certificate;
 pub(crate) enum Footing {
     // its table has a verdict, or is a holdout and no verdict is offered
     Known,
-    // its table is open
-    Open,
+    // its table is open; the record at this place opened it
+    Open { opener: u32 },
     // its table is a holdout, and a verdict is offered
     Holdout,
     // its table is neither

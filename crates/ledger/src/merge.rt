@@ -1,8 +1,7 @@
 // Two boards of one root, joined.
 ghost use Rattle.std.specs.Prelude.{◌≡◌};
-ghost use Rattle.law_tree.specs.Closed.{IsComplete};
-ghost use Rattle.ledger.specs.Records.{mark_in};
 ghost use Rattle.ledger.specs.Merging.{MergeGives};
+ghost use Rattle.ledger.specs.Offers.{KeepsTree};
 
 use crate::board::Board;
 use crate::faults::{MergeFault, OfferFault};
@@ -19,9 +18,7 @@ impl Board {
     /// then a beginning of the other's records was offered, and the same call may be repeated.
     pub fn merge(&mut self, other: &Board) -> Result<(), MergeFault>
         ensures gives { MergeGives self.old other.now result self.new }
-        ensures root { self.new.root ≡ self.old.root }
-        ensures format { self.new.format ≡ self.old.format }
-        ensures complete { IsComplete self.old.root (mark_in self.old.records) → self.new.records ≡ self.old.records }
+        ensures kept { KeepsTree self.old self.new }
     {
         child_is_table();
         standing_claims_are_true();

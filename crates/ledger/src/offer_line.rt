@@ -1,12 +1,10 @@
 // An offer together with the line that a ledger gains by it.
 ghost use Rattle.std.specs.Prelude.{◌≡◌, ◌++◌, IfErr, IfOk, take, length};
-ghost use Rattle.law_tree.specs.Closed.{IsComplete};
 ghost use Rattle.cert.specs.Certified.{IsCertified, IsShownBy};
 ghost use Rattle.cert.specs.Kinds.{recorded};
-ghost use Rattle.ledger.specs.Records.{mark_in};
-ghost use Rattle.ledger.specs.Offers.{IsJudged, OfferGives};
+ghost use Rattle.ledger.specs.Offers.{IsJudged, KeepsTree, OfferGives};
 ghost use Rattle.ledger.specs.LedgerText.{gained_line};
-ghost use Rattle.ledger.specs.inside.Places.{IsJudgedSo};
+ghost use Rattle.ledger.specs.inside.Places.{IsFooting, IsJudgedSo};
 
 use crate::board::Board;
 use crate::faults::OfferFault;
@@ -23,9 +21,7 @@ impl Board {
     pub fn offer_line(&mut self, r: &Record, out: &mut Vec<u8>) -> Result<Taken, OfferFault>
         ensures gives { OfferGives self.old.root self.old.records (recorded r.now) result self.new.records }
         ensures line { out.new.items ≡ out.old.items ++ gained_line self.old.format (recorded r.now) result }
-        ensures root { self.new.root ≡ self.old.root }
-        ensures format { self.new.format ≡ self.old.format }
-        ensures complete { IsComplete self.old.root (mark_in self.old.records) → self.new.records ≡ self.old.records }
+        ensures kept { KeepsTree self.old self.new }
     {
         self.put_line(r, Judging::Due, out)
     }
@@ -39,9 +35,7 @@ impl Board {
         requires { IsCertified (recorded r.now) }
         ensures gives { OfferGives self.old.root self.old.records (recorded r.now) result self.new.records }
         ensures line { out.new.items ≡ out.old.items ++ gained_line self.old.format (recorded r.now) result }
-        ensures root { self.new.root ≡ self.old.root }
-        ensures format { self.new.format ≡ self.old.format }
-        ensures complete { IsComplete self.old.root (mark_in self.old.records) → self.new.records ≡ self.old.records }
+        ensures kept { KeepsTree self.old self.new }
     {
         self.put_line(r, Judging::Done, out)
     }
@@ -57,9 +51,7 @@ impl Board {
         requires { IsShownBy (recorded r.now) judged }
         ensures gives { OfferGives self.old.root self.old.records (recorded r.now) result self.new.records }
         ensures line { out.new.items ≡ out.old.items ++ gained_line self.old.format (recorded r.now) result }
-        ensures root { self.new.root ≡ self.old.root }
-        ensures format { self.new.format ≡ self.old.format }
-        ensures complete { IsComplete self.old.root (mark_in self.old.records) → self.new.records ≡ self.old.records }
+        ensures kept { KeepsTree self.old self.new }
     {
         self.put_line(r, Judging::Seen(judged), out)
     }
@@ -74,9 +66,7 @@ impl Board {
         requires { IsJudgedSo judging (recorded r.now) }
         ensures gives { OfferGives self.old.root self.old.records (recorded r.now) result self.new.records }
         ensures line { out.new.items ≡ out.old.items ++ gained_line self.old.format (recorded r.now) result }
-        ensures root { self.new.root ≡ self.old.root }
-        ensures format { self.new.format ≡ self.old.format }
-        ensures complete { IsComplete self.old.root (mark_in self.old.records) → self.new.records ≡ self.old.records }
+        ensures kept { KeepsTree self.old self.new }
     {
         if r.table.states() != self.root().states() {
             return Err(OfferFault::WrongSize);
@@ -84,34 +74,35 @@ impl Board {
         match self.footing(r) {
             Footing::Known => Ok(Taken::Known),
             Footing::Elsewhere => Err(OfferFault::NotOpen),
-            Footing::Open | Footing::Holdout => {
+            footing @ (Footing::Open { .. } | Footing::Holdout) => {
                 let judged = judged_as(self.alloc(), r, judging)?;
-                self.put_judged(r, judged, out)
+                self.put_judged(footing, r, judged, out)
             }
         }
     }
 
-    // Offers a record that is judged, and appends its line.
+    // Offers a record that is judged and stands there, and appends its line.
     fn put_judged(
         &mut self,
+        footing: Footing,
         r: &Record,
         judged: Judged,
         out: &mut Vec<u8>,
     ) -> Result<Taken, OfferFault>
         requires due { IsJudged self.old.root self.old.records (recorded r.now) }
+        requires size { r.now.table.states ≡ self.old.root.states }
+        requires footing { IsFooting self.old.root self.old.records (recorded r.now) footing }
         requires judged { IsJudgedSo (Judging.Seen judged) (recorded r.now) }
         ensures gives { OfferGives self.old.root self.old.records (recorded r.now) result self.new.records }
         ensures line { out.new.items ≡ out.old.items ++ gained_line self.old.format (recorded r.now) result }
-        ensures root { self.new.root ≡ self.old.root }
-        ensures format { self.new.format ≡ self.old.format }
-        ensures complete { IsComplete self.old.root (mark_in self.old.records) → self.new.records ≡ self.old.records }
+        ensures kept { KeepsTree self.old self.new }
     {
         let len = out.len();
         let Ok(()) = append_scored(self.version(), r, judged.verdict, out) else {
             out.truncate(len);
             return Err(OfferFault::NoMemory);
         };
-        let answer = self.put(r, Judging::Seen(judged));
+        let answer = self.put_at(footing, r, Judging::Seen(judged));
         match answer {
             Ok(Taken::New | Taken::Settled) => {}
             Ok(Taken::Known) | Err(_) => out.truncate(len),

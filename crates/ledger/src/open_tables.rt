@@ -48,17 +48,6 @@ pub(crate) fn opener_place(place: usize) -> Result<u32, NoMemory>
     }
 }
 
-// The place of the record that opened a table, which is open.
-pub(crate) fn opener_of(tables: &BTreeMap<Table, u32>, t: &Table) -> u32
-    requires { ContainsKey table_cmp tables.now t.now }
-    ensures { lookup (is_at (table_cmp t.now)) tables.now.entries ≡ Some result }
-{
-    match tables.get(t) {
-        Some(place) => *place,
-        None => unreachable!(),
-    }
-}
-
 // Opens the children of a record's table, which halts on this pair if it is known to: those that have no
 // record and aren't open already. The record stands at this place, or will. Where memory is refused, the
 // tables are as they were.

@@ -1,7 +1,7 @@
 // A record as a board stores it, under its table.
 ghost use Rattle.std.specs.Prelude.{◌≡◌, IfOk, IfErr, OnOk};
 ghost use Rattle.cert.specs.Claim.{ending_by, shown_by};
-ghost use Rattle.cert.specs.Certified.{IsCertified, IsPairOf};
+ghost use Rattle.cert.specs.Certified.{IsCertified, IsPairOf, IsShownBy};
 ghost use Rattle.cert.specs.Kinds.{claim_of, owned_claim, recorded};
 ghost use Rattle.cert.specs.Scored.{scored};
 ghost use Rattle.ledger.specs.Held.{HasScore};
@@ -87,10 +87,7 @@ impl StoredRecord {
 // What a record's certificate shows, where it stands.
 pub(crate) fn judged_as(alloc: Global, r: &Record, judging: Judging) -> Result<Judged, OfferFault>
     requires { IsJudgedSo judging (recorded r.now) }
-    ensures certified { OnOk result (IsCertified (recorded r.now)) }
-    ensures verdict { IfOk result (λ judged. judged.verdict ≡ shown_by (claim_of r.now.certificate) r.now.table) }
-    ensures pair { IfOk result (λ judged. IsPairOf (ending_by (claim_of r.now.certificate)) r.now.table
-        judged.halts_on) }
+    ensures shown { IfOk result (IsShownBy (recorded r.now)) }
     ensures refusal { IfErr result (λ f. IsWhyRefused f (recorded r.now)) }
 {
     match judging {
@@ -102,10 +99,7 @@ pub(crate) fn judged_as(alloc: Global, r: &Record, judging: Judging) -> Result<J
 
 // What a record's certificate shows, once it is judged.
 fn judged(alloc: Global, r: &Record) -> Result<Judged, OfferFault>
-    ensures certified { OnOk result (IsCertified (recorded r.now)) }
-    ensures verdict { IfOk result (λ judged. judged.verdict ≡ shown_by (claim_of r.now.certificate) r.now.table) }
-    ensures pair { IfOk result (λ judged. IsPairOf (ending_by (claim_of r.now.certificate)) r.now.table
-        judged.halts_on) }
+    ensures shown { IfOk result (IsShownBy (recorded r.now)) }
     ensures refusal { IfErr result (λ f. IsWhyRefused f (recorded r.now)) }
 {
     match judge_on(alloc, r) {
@@ -117,9 +111,8 @@ fn judged(alloc: Global, r: &Record) -> Result<Judged, OfferFault>
 
 // What a certificate shows that is known to stand: only a table that halts is run, for its score and its children.
 fn certified(alloc: Global, r: &Record) -> Result<Judged, OfferFault>
-    ensures verdict { IfOk result (λ judged. judged.verdict ≡ shown_by (claim_of r.now.certificate) r.now.table) }
-    ensures pair { IfOk result (λ judged. IsPairOf (ending_by (claim_of r.now.certificate)) r.now.table
-        judged.halts_on) }
+    requires { IsCertified (recorded r.now) }
+    ensures shown { IfOk result (IsShownBy (recorded r.now)) }
     ensures refusal { IfErr result (λ f. IsWhyRefused f (recorded r.now)) }
 {
     match r.certificate.ending() {

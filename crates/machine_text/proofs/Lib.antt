@@ -7,3 +7,4 @@ pub mod Holes
 pub mod RoundTrip
 pub mod Order
 pub mod Ascii
+mod Differences

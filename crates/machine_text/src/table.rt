@@ -1,5 +1,7 @@
 // A table, one byte an entry.
 ghost use Rattle.std.specs.Prelude.{◌≡◌, ℕ, None, ◌==◌, ◌+◌, ◌*◌, ◌<◌, ◌≤◌, ◌≢◌, IfSome, Ok, length, slice_index, EachIndex, count_by};
+ghost use Rattle.std.specs.Ordering.{nat_cmp};
+ghost use Rattle.std.specs.Cmp.Lexicographic.{slice_cmp};
 ghost use Rattle.machine_text.specs.Limits.{state_limit, text_byte_limit};
 ghost use Rattle.machine_text.specs.Packed.{pair_place};
 
@@ -8,15 +10,15 @@ use crate::faults::TextFault;
 use crate::grammar;
 use crate::limits::{MAX_ENTRIES, TEXT_BYTES};
 use crate::transition::{Dir, Entry, State, Sym};
+use std::cmp::Ordering;
 use std::marker::Model;
 
 /// The table of an n-state two-symbol machine (Radó 1962): at each pair of a state and a symbol read
 /// an entry or none. A pair without an entry halts.
 ///
 /// Tables are compared by the bytes of their texts.
-#[derive(Clone, Copy, Debug, PartialEq, Eq, PartialOrd, Ord, Hash)]
+#[derive(Clone, Copy, Debug, PartialEq, Eq, Hash)]
 pub struct Table {
-    // The codes come first: they decide the order before the number of states does.
     codes: [Code; MAX_ENTRIES],
     states: u8,
 }
@@ -31,6 +33,47 @@ impl Model for Table {
     ghost invariant = { λ a. IsTable (record { codes = a.codes; states = a.states }) };
 
     ghost inverse = { λ p. record { codes = p.codes; states = p.states } };
+}
+
+impl PartialOrd for Table {
+    ghost use Rattle.std.specs.Cmp.{partial_order_from_own_ties};
+    ghost use Rattle.std.specs.Ordering.{as_partial_cmp};
+    ghost use Rattle.std.specs.Cmp.Rules.{comparing};
+    ghost use Rattle.std.proofs.Common.{rules};
+    ghost use Rattle.machine_text.specs.Order.{table_cmp};
+    ghost use Rattle.machine_text.specs.OrderLaws.{table_ties};
+
+    ghost partial_cmp = { as_partial_cmp table_cmp };
+
+    ghost laws = { partial_order_from_own_ties (Prim.search (comparing, rules)) table_ties };
+
+    fn partial_cmp(&self, other: &Table) -> Option<Ordering> {
+        Some(self.cmp(other))
+    }
+}
+
+// By hand, since maps of tables compare them all the time: codes that are the same are passed over in one loop.
+impl Ord for Table {
+    ghost use Rattle.std.specs.Cmp.Rules.{comparing};
+    ghost use Rattle.std.proofs.Common.{rules};
+    ghost use Rattle.machine_text.specs.Order.{table_cmp};
+    ghost use Rattle.machine_text.specs.OrderLaws.{table_ties};
+
+    ghost cmp = { table_cmp };
+
+    ghost total = { Prim.search (comparing, rules) };
+
+    ghost matches_partial_cmp = { Prim.search (comparing, rules) };
+
+    ghost matches_eq = { table_ties };
+
+    fn cmp(&self, other: &Table) -> Ordering {
+        // The codes come first: they decide the order before the number of states does.
+        match first_difference(&self.codes, &other.codes) {
+            Some((mine, its)) => mine.cmp(&its),
+            None => self.states.cmp(&other.states),
+        }
+    }
 }
 
 impl Table {
@@ -141,6 +184,20 @@ impl Table {
     {
         undefined_among(&self.codes[..2 * self.states as usize]) as u8
     }
+}
+
+// The first two codes that differ, if any do.
+fn first_difference(a: &[Code; MAX_ENTRIES], b: &[Code; MAX_ENTRIES]) -> Option<(Code, Code)>
+    ensures some { IfSome result (λ pair. (slice_cmp nat_cmp a.now b.now ≡ nat_cmp pair.0 pair.1) × (pair.0 ≢ pair.1)) }
+    ensures none { result ≡ None → a.now ≡ b.now }
+{
+    for place in 0..MAX_ENTRIES {
+        let (mine, its) = (a[place], b[place]);
+        if mine != its {
+            return Some((mine, its));
+        }
+    }
+    None
 }
 
 // How many of the codes are those of no entry.

@@ -149,6 +149,10 @@ impl<'a> Disk for CaseHost<'a> {
         Ok(())
     }
 
+    fn program_sum(&self) -> Option<[u8; 32]> {
+        None
+    }
+
     fn tells_terminal(&self) -> bool {
         self.room.conditions.is_terminal
     }

@@ -7,6 +7,7 @@ use Rattle.cert.specs.Claim.{Recorded, ending_by}
 use Rattle.ledger.specs.Records.{mark_in}
 use Rattle.ledger.specs.Held.{IsHoldout}
 use Rattle.ledger.specs.Offers.{IsKnown, IsElsewhere}
+use Rattle.ledger.specs.inside.Open.{IsOpener}
 use Rattle.cert.specs.Certified.{IsCertified, IsRefusedBy, IsShownBy}
 use Rattle.ledger.specs.declared.faults.OfferFault.{OfferFault}
 use Rattle.ledger.specs.declared.faults.OfferFault.TheVariants.{WrongSize, NotOpen, Refused as IsRefused, NoMemory}
@@ -17,7 +18,7 @@ use Rattle.ledger.specs.declared.footing.Footing.TheVariants.{Known, Open, Holdo
 
 abbrev pub IsFooting : Packed → List Recorded → Recorded → Footing → Type 0
 IsFooting root rs r Known = IsKnown rs r
-IsFooting root rs r Open = IsOpen root (mark_in rs) r.table
+IsFooting root rs r (Open opener) = IsOpen root (mark_in rs) r.table × IsOpener root rs r.table opener
 IsFooting root rs r Holdout = IsHoldout rs r.table × IsSome (ending_by r.claim)
 IsFooting root rs r Elsewhere = IsElsewhere root rs r.table
 

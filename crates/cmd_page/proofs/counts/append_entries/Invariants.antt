@@ -1,6 +1,7 @@
 use Rattle.std.proofs.Common.{◌≡◌, ◌++◌, ◌+◌, ◌-◌, ◌*◌, decimal, flat_map, slice_index}
 use Rattle.std.specs.List.{range_with_len}
-use Rattle.cmd_page.specs.Page.{count_html, entries_html}
+use Rattle.cmd_page.specs.Page.{entries_html}
+use Rattle.cmd_page.specs.Row.{count_html}
 use Rattle.cmd_page.proofs.counts.append_entries.Given as goal
 
 -- what was appended, and the rows that are left, are all rows

@@ -1,7 +1,8 @@
 use Rattle.std.proofs.Common.{◌≡◌, ℕ, List, ◌∷◌, ◌++◌, ◌+◌, ◌<◌, suc, flat_map, slice_index, drop, length, sym, ap, ◌∙◌, append_assoc, arith}
 use Rattle.std.proofs.Math.Seq.{drop-cons}
 use Rattle.cmd_options.specs.Kinds.{kind_letters}
-use Rattle.cmd_page.specs.Page.{count_html, kind_html}
+use Rattle.cmd_page.specs.Page.{kind_html}
+use Rattle.cmd_page.specs.Row.{count_html}
 use Rattle.cmd_page.proofs.counts.append_kinds.Goals as goal
 
 pub loop-letter-preserved : goal.loop-letter-preserved

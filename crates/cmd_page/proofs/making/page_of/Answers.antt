@@ -10,5 +10,5 @@ pub returns : goal.returns
 returns c =
     let board = c.args.board.now in
     let tells = c.in_ok-of.ensures in
-    if_ok c.told_page.result (λ made so. counted_page c.args.title.now board.root board.records c.args.left.now (bytes_of_page made) c.census_of.result c.census_of.ensures
+    if_ok c.told_page.result (λ made so. counted_page c.args.heading.now board.root board.records c.args.left.now (bytes_of_page made) c.census_of.result c.census_of.ensures
     (subst (λ (p : Packed). p.states ≤ state_limit) tells.root_is so.0) (so.1 board.root board.records tells)) c.told_page.ensures

@@ -15,7 +15,7 @@ returns-in-Ok-New-clause-ok c =
     let r = recorded c.args.r.now in
     let gives = rw c.in-Ok-New.field-0-is at c.in-Ok-New.ensures.gives in
     let line = rw c.in-Ok-New.field-0-is at c.in-Ok-New.ensures.line in
-    makes b c.offer_judged_line.new.self r _ c.root.ensures.board c.requires.first c.requires.few c.requires.scored gives c.in-Ok-New.ensures.root c.in-Ok-New.ensures.format (record {
+    makes b c.offer_judged_line.new.self r _ c.root.ensures.board c.requires.first c.requires.few c.requires.scored gives c.in-Ok-New.ensures.kept.root c.in-Ok-New.ensures.kept.format (record {
       cut_is = refl;
       append_is = line ∙ ap (λ (l : List ℕ). l ++ gained_line b.format r (Ok New)) c.new-append.ensures.items;
       frames_are = c.in_ok-frames.ensures;

@@ -17,7 +17,7 @@ returns-in_err-reserve-clause-gives c = inr (err_is c.from_residual.result NoMem
 
 pub invariant_of-self-in-Err : goal.invariant_of-self-in-Err
 invariant_of-self-in-Err c =
-    let same = same_board c.offer_line.new.self c.self.inside.board c.in-Err.ensures.root (refused_board c.self.inside.board.root c.self.inside.board.records c.offer_line.new.self.records (recorded c.args.r.now) c.in-Err.fault c.in-Err.ensures.gives) c.in-Err.ensures.format in (
+    let same = same_board c.offer_line.new.self c.self.inside.board c.in-Err.ensures.kept.root (refused_board c.self.inside.board.root c.self.inside.board.records c.offer_line.new.self.records (recorded c.args.r.now) c.in-Err.fault c.in-Err.ensures.gives) c.in-Err.ensures.kept.format in (
       subst (λ (b : Contents). AreLeases b (as_leases c.self.inside.live c.self.inside.came_under.entries c.self.inside.moment c.self.inside.given) × AreStored b c.self.inside.live c.self.inside.came_under.entries c.reserve.new.self.tables) (sym same)
           (subst (λ (free : List Packed). AreLeases c.self.inside.board (as_leases c.self.inside.live c.self.inside.came_under.entries c.self.inside.moment c.self.inside.given) × AreStored c.self.inside.board c.self.inside.live c.self.inside.came_under.entries free) (sym c.in_ok-reserve.ensures.tables) c.self.invariant.0),
       c.self.invariant.1,
@@ -35,7 +35,7 @@ invariant_of-self-in-Ok-New c =
     let more = c.free_children.new.free.tables in
     let t = c.args.r.now.table in
     let gives = rw c.in-Ok-New.field-0-is at c.in-Ok-New.ensures.gives in
-    let opens : Opens old new t = opens_new old new (recorded c.args.r.now) c.child_is_table.ensures.below c.root.ensures.board c.in-Ok-New.ensures.root c.in-Ok-New.ensures.format gives.0 gives.1 in
+    let opens : Opens old new t = opens_new old new (recorded c.args.r.now) c.child_is_table.ensures.below c.root.ensures.board c.in-Ok-New.ensures.kept.root c.in-Ok-New.ensures.kept.format gives.0 gives.1 in
     let keeps : KeepsAll free more = λ q h. c.free_children.ensures.more q (subst (λ (l : List Packed). Contains l q) (sym c.in_ok-reserve.ensures.tables) h) in
     let out : GoesOut came t next = λ q. c.swap_remove.ensures.updates.0 q in (
       (
@@ -57,7 +57,7 @@ returns-in-Ok-New-clause-leases c =
     let more = c.free_children.new.free.tables in
     let t = c.args.r.now.table in
     let gives = rw c.in-Ok-New.field-0-is at c.in-Ok-New.ensures.gives in
-    let opens : Opens old new t = opens_new old new (recorded c.args.r.now) c.child_is_table.ensures.below c.root.ensures.board c.in-Ok-New.ensures.root c.in-Ok-New.ensures.format gives.0 gives.1 in
+    let opens : Opens old new t = opens_new old new (recorded c.args.r.now) c.child_is_table.ensures.below c.root.ensures.board c.in-Ok-New.ensures.kept.root c.in-Ok-New.ensures.kept.format gives.0 gives.1 in
     let keeps : KeepsAll free more = λ q h. c.free_children.ensures.more q (subst (λ (l : List Packed). Contains l q) (sym c.in_ok-reserve.ensures.tables) h) in
     let out : GoesOut came t next = λ q. c.swap_remove.ensures.updates.0 q in
     let none = subst (λ (s : Leased). lease_of s.leases t ≡ None) (sym c.self.view_is) c.requires in
@@ -74,7 +74,7 @@ invariant_of-self-in-Ok-Settled c =
     let more = c.free_children-in-Ok-Settled.new.free.tables in
     let t = c.args.r.now.table in
     let gives = rw c.in-Ok-Settled.field-0-is at c.in-Ok-Settled.ensures.gives in
-    let opens : Opens old new t = opens_settled old new (recorded c.args.r.now) c.child_is_table.ensures.below c.root.ensures.board c.in-Ok-Settled.ensures.root c.in-Ok-Settled.ensures.format gives.0 gives.1 in
+    let opens : Opens old new t = opens_settled old new (recorded c.args.r.now) c.child_is_table.ensures.below c.root.ensures.board c.in-Ok-Settled.ensures.kept.root c.in-Ok-Settled.ensures.kept.format gives.0 gives.1 in
     let keeps : KeepsAll free more = λ q h. c.free_children-in-Ok-Settled.ensures.more q (subst (λ (l : List Packed). Contains l q) (sym c.in_ok-reserve.ensures.tables) h) in (
       (
         settled_leases old new ls came came free more c.self.inside.moment c.self.inside.given t opens c.self.invariant.0.0 c.self.invariant.0.1 keeps c.free_children-in-Ok-Settled.ensures.all (holdout_not_open old t gives.0.is_holdout),
@@ -93,7 +93,7 @@ returns-in-Ok-Settled-clause-leases c =
     let more = c.free_children-in-Ok-Settled.new.free.tables in
     let t = c.args.r.now.table in
     let gives = rw c.in-Ok-Settled.field-0-is at c.in-Ok-Settled.ensures.gives in
-    let opens : Opens old new t = opens_settled old new (recorded c.args.r.now) c.child_is_table.ensures.below c.root.ensures.board c.in-Ok-Settled.ensures.root c.in-Ok-Settled.ensures.format gives.0 gives.1 in
+    let opens : Opens old new t = opens_settled old new (recorded c.args.r.now) c.child_is_table.ensures.below c.root.ensures.board c.in-Ok-Settled.ensures.kept.root c.in-Ok-Settled.ensures.kept.format gives.0 gives.1 in
     let keeps : KeepsAll free more = λ q h. c.free_children-in-Ok-Settled.ensures.more q (subst (λ (l : List Packed). Contains l q) (sym c.in_ok-reserve.ensures.tables) h) in
     subst (λ (s : Leased). TakesSettled s (record { board = new; leases = as_leases ls came c.self.inside.moment c.self.inside.given })) c.self.view_is
     (settled_takes old new ls came came free more c.self.inside.moment c.self.inside.given t opens c.self.invariant.0.0 c.self.invariant.0.1 keeps c.free_children-in-Ok-Settled.ensures.all)

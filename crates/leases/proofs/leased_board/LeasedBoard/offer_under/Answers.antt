@@ -64,7 +64,7 @@ invariant_of-self-in-Ok-New c =
     let mid = c.swap_remove.new.self.entries in
     let next = c.renew.new.came.entries in
     let gives = rw c.in-Ok-New.field-0-is at c.in-Ok-New.ensures.gives in
-    let opens : Opens old new t = opens_new old new (recorded c.args.r.now) c.child_is_table.ensures.below c.root.ensures.board c.in-Ok-New.ensures.root c.in-Ok-New.ensures.format gives.0 gives.1 in
+    let opens : Opens old new t = opens_new old new (recorded c.args.r.now) c.child_is_table.ensures.below c.root.ensures.board c.in-Ok-New.ensures.kept.root c.in-Ok-New.ensures.kept.format gives.0 gives.1 in
     let out : GoesOut came t mid = λ q. c.swap_remove.ensures.updates.0 q in
     let put : RenewsOne new t c.args.number moment ls c.renew.new.self mid next = c.renew.ensures in
     let at = put.0 in
@@ -92,7 +92,7 @@ invariant_of-self-in-Err c =
     let t = c.args.r.now.table in
     let same : map shown ls ≡ map shown first = c.make_room.ensures.shown in
     let same_came : came ≡ before = c.in_ok-reserve.ensures.entries in
-    let same_now = same_board c.offer_line.new.self old c.in-Err.ensures.root (refused_board old.root old.records c.offer_line.new.self.records (recorded c.args.r.now) c.in-Err.fault c.in-Err.ensures.gives) c.in-Err.ensures.format in (
+    let same_now = same_board c.offer_line.new.self old c.in-Err.ensures.kept.root (refused_board old.root old.records c.offer_line.new.self.records (recorded c.args.r.now) c.in-Err.fault c.in-Err.ensures.gives) c.in-Err.ensures.kept.format in (
       subst (λ (b : Contents). AreLeases b (as_leases ls came moment given) × AreStored b ls came free) (sym same_now) (holds_shown old first ls before came free moment given same same_came c.self.invariant.0),
       shown_not_ahead moment first ls same c.self.invariant.1,
     )
@@ -116,7 +116,7 @@ returns-in-Ok-New-clause-leases c =
     let mid = c.swap_remove.new.self.entries in
     let next = c.renew.new.came.entries in
     let gives = rw c.in-Ok-New.field-0-is at c.in-Ok-New.ensures.gives in
-    let opens : Opens old new t = opens_new old new (recorded c.args.r.now) c.child_is_table.ensures.below c.root.ensures.board c.in-Ok-New.ensures.root c.in-Ok-New.ensures.format gives.0 gives.1 in
+    let opens : Opens old new t = opens_new old new (recorded c.args.r.now) c.child_is_table.ensures.below c.root.ensures.board c.in-Ok-New.ensures.kept.root c.in-Ok-New.ensures.kept.format gives.0 gives.1 in
     let out : GoesOut came t mid = λ q. c.swap_remove.ensures.updates.0 q in
     let put : RenewsOne new t c.args.number moment ls c.renew.new.self mid next = c.renew.ensures in
     let at = put.0 in

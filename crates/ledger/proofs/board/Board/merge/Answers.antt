@@ -26,8 +26,8 @@ loop-r-preserved c = record {
   so_far = one_more c.args.self.now.root c.args.other.now c.args.self.now.records c.loop-r.r-iterator c.next.new.self c.loop-r.self.records c.offer_certified.new.self.records (recorded c.in-Some.r) c.in_default.field-0
       c.root-2.ensures.board c.loop-r.invariant.so_far c.in-Some.ensures.steps
       (subst (λ (p : Packed). OfferGives p c.loop-r.self.records (recorded c.in-Some.r) (Ok c.in_default.field-0) c.offer_certified.new.self.records) c.loop-r.invariant.root c.in_default.ensures.gives);
-  root = c.in_default.ensures.root ∙ c.loop-r.invariant.root;
-  format = c.in_default.ensures.format ∙ c.loop-r.invariant.format;
+  root = c.in_default.ensures.kept.root ∙ c.loop-r.invariant.root;
+  format = c.in_default.ensures.kept.format ∙ c.loop-r.invariant.format;
 }
 
 pub unreachable-requires : goal.unreachable-requires
@@ -49,10 +49,14 @@ returns-in-NoMemory-clause-gives c =
     let some = merged_some c.args.self.now.root c.args.self.now.records c.args.other.now.records c.loop-r.r-iterator c.loop-r.self.records c.offer_certified.new.self.records c.one_true_verdict.ensures mine its c.loop-r.invariant.so_far unchanged in
     (same, some.0, some.1, some.2, some.3, some.4)
 
-pub returns-in-NoMemory-clause-complete : goal.returns-in-NoMemory-clause-complete
-returns-in-NoMemory-clause-complete c = λ complete.
-    unchanged_for_memory c.loop-r.self.root c.loop-r.self.records c.offer_certified.new.self.records (recorded c.in-Some.r) c.in-Err.fault c.in-NoMemory.is c.in-Err.ensures.gives
-    ∙ so_far_is_final c.args.self.now.root c.args.self.now.records c.args.other.now.records c.loop-r.r-iterator c.loop-r.self.records c.loop-r.invariant.so_far complete
+pub returns-in-NoMemory-clause-kept : goal.returns-in-NoMemory-clause-kept
+returns-in-NoMemory-clause-kept c = record {
+  root = c.in-Err.ensures.kept.root ∙ c.loop-r.invariant.root;
+  format = c.in-Err.ensures.kept.format ∙ c.loop-r.invariant.format;
+  complete = λ complete.
+      unchanged_for_memory c.loop-r.self.root c.loop-r.self.records c.offer_certified.new.self.records (recorded c.in-Some.r) c.in-Err.fault c.in-NoMemory.is c.in-Err.ensures.gives
+      ∙ so_far_is_final c.args.self.now.root c.args.self.now.records c.args.other.now.records c.loop-r.r-iterator c.loop-r.self.records c.loop-r.invariant.so_far complete;
+}
 
 pub returns-clause-gives : goal.returns-clause-gives
 unfolding same_table
@@ -63,8 +67,12 @@ returns-clause-gives c =
     let all = merged_all c.args.self.now.root c.args.self.now.records c.args.other.now.records c.loop-r.r-iterator c.loop-r.self.records c.one_true_verdict.ensures mine its c.loop-r.invariant.so_far c.in-None.ensures.steps.0 in
     (same, all.0, all.1)
 
-pub returns-clause-complete : goal.returns-clause-complete
-returns-clause-complete c = so_far_is_final c.args.self.now.root c.args.self.now.records c.args.other.now.records c.loop-r.r-iterator c.loop-r.self.records c.loop-r.invariant.so_far
+pub returns-clause-kept : goal.returns-clause-kept
+returns-clause-kept c = record {
+  root = c.loop-r.invariant.root;
+  format = c.loop-r.invariant.format;
+  complete = so_far_is_final c.args.self.now.root c.args.self.now.records c.args.other.now.records c.loop-r.r-iterator c.loop-r.self.records c.loop-r.invariant.so_far;
+}
 
 pub offer_certified-requires : goal.offer_certified-requires
 offer_certified-requires c =

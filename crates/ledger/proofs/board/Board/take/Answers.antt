@@ -17,14 +17,11 @@ use Rattle.ledger.proofs.Carried.{IsStored, taking_carried, taking_room}
 use Rattle.ledger.proofs.HeldLaws.{unmarked}
 use Rattle.ledger.proofs.Indexed.{ready_earlier, ready_records, ready_there}
 use Rattle.ledger.proofs.LentRecord.{as_lent, lent_certified, lent_is, lent_pair}
-use Rattle.ledger.proofs.Openers.{opener_at}
+use Rattle.ledger.proofs.Openers.{opener_now}
 use Rattle.ledger.proofs.Ready.{ready_taken}
 use Rattle.ledger.proofs.Sets.{removed}
 use Rattle.ledger.proofs.Taking.{open_in_order, same_map}
 use Rattle.ledger.proofs.board.Board.take.Goals as goal
-
-pub opener_of-parent-requires : goal.opener_of-parent-requires
-opener_of-parent-requires c = (c.self.invariant.1.exact c.args.r.now.table).1 (subst (λ (b : Contents). IsOpen b.root (mark_in b.records) c.args.r.now.table) (sym c.self.view_is) c.requires.is_open)
 
 pub child_count-opened-requires-clause-in_order : goal.child_count-opened-requires-clause-in_order
 child_count-opened-requires-clause-in_order c = open_in_order c.args.self.now c.args.r.now.table c.child_is_table.ensures.below c.child_is_table.ensures.order (subst IsBoard c.self.view_is c.self.invariant.0) c.requires.is_open
@@ -54,7 +51,7 @@ change_chain-requires-clause-there c =
     let open_now = subst (λ (l : List (Packed × StoredRecord)). IsOpen root (mark_in (records_of l)) c.args.r.now.table) (sym c.in_ok-reserve.ensures.entries)
     (subst (λ (b : Contents). IsOpen b.root (mark_in b.records) c.args.r.now.table) (sym c.self.view_is) c.requires.is_open) in
     let opener = subst (IsOpener root (records_of es) c.args.r.now.table) (sym c.in_ok-stored.ensures.parent)
-    (opener_at root (records_of es) c.args.r.now.table c.opener_of-parent.result c.self.inside.open_tables.entries now.1.openers c.opener_of-parent.ensures) in
+    (opener_now c.self.inside.root c.self.inside.records.entries es c.args.self.now c.args.r.now.table c.args.opener c.self.view_is c.in_ok-reserve.ensures.entries c.requires.opener) in
     let ready = ready_taken root es c.insert.new.self.entries r c.in_ok-stored.stored c.in_ok-place.place now.0 now.4 open_now certified.0 certified.1 (sym c.lent.ensures) opener
     (c.in_ok-stored.ensures.tree ∙ c.first.ensures) c.in-Ok.ensures.entries (c.in_ok-place.ensures.is ∙ many) c.in_ok-place.ensures.small in
     ready_there root (records_of es) c.insert.new.self.entries r c.in_ok-place.place ready
@@ -71,7 +68,7 @@ change_chain-requires-clause-earlier c =
     let open_now = subst (λ (l : List (Packed × StoredRecord)). IsOpen root (mark_in (records_of l)) c.args.r.now.table) (sym c.in_ok-reserve.ensures.entries)
     (subst (λ (b : Contents). IsOpen b.root (mark_in b.records) c.args.r.now.table) (sym c.self.view_is) c.requires.is_open) in
     let opener = subst (IsOpener root (records_of es) c.args.r.now.table) (sym c.in_ok-stored.ensures.parent)
-    (opener_at root (records_of es) c.args.r.now.table c.opener_of-parent.result c.self.inside.open_tables.entries now.1.openers c.opener_of-parent.ensures) in
+    (opener_now c.self.inside.root c.self.inside.records.entries es c.args.self.now c.args.r.now.table c.args.opener c.self.view_is c.in_ok-reserve.ensures.entries c.requires.opener) in
     let ready = ready_taken root es c.insert.new.self.entries r c.in_ok-stored.stored c.in_ok-place.place now.0 now.4 open_now certified.0 certified.1 (sym c.lent.ensures) opener
     (c.in_ok-stored.ensures.tree ∙ c.first.ensures) c.in-Ok.ensures.entries (c.in_ok-place.ensures.is ∙ many) c.in_ok-place.ensures.small in
     ready_earlier root (records_of es) c.insert.new.self.entries r c.in_ok-place.place ready
@@ -88,7 +85,7 @@ change_chain-requires-clause-room c =
     let open_now = subst (λ (l : List (Packed × StoredRecord)). IsOpen root (mark_in (records_of l)) c.args.r.now.table) (sym c.in_ok-reserve.ensures.entries)
     (subst (λ (b : Contents). IsOpen b.root (mark_in b.records) c.args.r.now.table) (sym c.self.view_is) c.requires.is_open) in
     let opener = subst (IsOpener root (records_of es) c.args.r.now.table) (sym c.in_ok-stored.ensures.parent)
-    (opener_at root (records_of es) c.args.r.now.table c.opener_of-parent.result c.self.inside.open_tables.entries now.1.openers c.opener_of-parent.ensures) in
+    (opener_now c.self.inside.root c.self.inside.records.entries es c.args.self.now c.args.r.now.table c.args.opener c.self.view_is c.in_ok-reserve.ensures.entries c.requires.opener) in
     let ready = ready_taken root es c.insert.new.self.entries r c.in_ok-stored.stored c.in_ok-place.place now.0 now.4 open_now certified.0 certified.1 (sym c.lent.ensures) opener
     (c.in_ok-stored.ensures.tree ∙ c.first.ensures) c.in-Ok.ensures.entries (c.in_ok-place.ensures.is ∙ many) c.in_ok-place.ensures.small in
     let change = c.of_taking.ensures ∙ (ap (λ (o : Option Ending). taking_change c.child_count-opened.result o c.ones-score.result) c.ending-shown.ensures
@@ -119,7 +116,7 @@ invariant_of-self-2 c =
     let open_now = subst (λ (l : List (Packed × StoredRecord)). IsOpen root (mark_in (records_of l)) c.args.r.now.table) (sym c.in_ok-reserve.ensures.entries)
     (subst (λ (b : Contents). IsOpen b.root (mark_in b.records) c.args.r.now.table) (sym c.self.view_is) c.requires.is_open) in
     let opener = subst (IsOpener root (records_of es) c.args.r.now.table) (sym c.in_ok-stored.ensures.parent)
-    (opener_at root (records_of es) c.args.r.now.table c.opener_of-parent.result c.self.inside.open_tables.entries now.1.openers c.opener_of-parent.ensures) in
+    (opener_now c.self.inside.root c.self.inside.records.entries es c.args.self.now c.args.r.now.table c.args.opener c.self.view_is c.in_ok-reserve.ensures.entries c.requires.opener) in
     let ready = ready_taken root es c.insert.new.self.entries r c.in_ok-stored.stored c.in_ok-place.place now.0 now.4 open_now certified.0 certified.1 (sym c.lent.ensures) opener
     (c.in_ok-stored.ensures.tree ∙ c.first.ensures) c.in-Ok.ensures.entries (c.in_ok-place.ensures.is ∙ many) c.in_ok-place.ensures.small in
     let change = c.of_taking.ensures ∙ (ap (λ (o : Option Ending). taking_change c.child_count-opened.result o c.ones-score.result) c.ending-shown.ensures
@@ -145,7 +142,7 @@ returns-clause-ok c =
     let open_now = subst (λ (l : List (Packed × StoredRecord)). IsOpen root (mark_in (records_of l)) c.args.r.now.table) (sym c.in_ok-reserve.ensures.entries)
     (subst (λ (b : Contents). IsOpen b.root (mark_in b.records) c.args.r.now.table) (sym c.self.view_is) c.requires.is_open) in
     let opener = subst (IsOpener root (records_of es) c.args.r.now.table) (sym c.in_ok-stored.ensures.parent)
-    (opener_at root (records_of es) c.args.r.now.table c.opener_of-parent.result c.self.inside.open_tables.entries now.1.openers c.opener_of-parent.ensures) in
+    (opener_now c.self.inside.root c.self.inside.records.entries es c.args.self.now c.args.r.now.table c.args.opener c.self.view_is c.in_ok-reserve.ensures.entries c.requires.opener) in
     let ready = ready_taken root es c.insert.new.self.entries r c.in_ok-stored.stored c.in_ok-place.place now.0 now.4 open_now certified.0 certified.1 (sym c.lent.ensures) opener
     (c.in_ok-stored.ensures.tree ∙ c.first.ensures) c.in-Ok.ensures.entries (c.in_ok-place.ensures.is ∙ many) c.in_ok-place.ensures.small in
     let before = ap records_of c.in_ok-reserve.ensures.entries ∙ ap (λ (b : Contents). b.records) c.self.view_is in (

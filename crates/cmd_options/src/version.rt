@@ -1,0 +1,4 @@
+// Which program it is.
+
+/// The program's version, and the kit by which it is proved.
+pub const VERSION: &str = "0.2.0, proved with rattle-kit-13f logic dac8208d650f15bf";

@@ -1,13 +1,15 @@
 // `bb check --why`: the answers of `bb check`, and beside them why records are refused, in words.
-ghost use Rattle.std.specs.Prelude.{◌≡◌, ◌⊎◌, IfErr, IfOk, IfSome, Ok, Some, option_map, string_bytes};
+ghost use Rattle.std.specs.Prelude.{◌≡◌, ◌⊎◌, ◌≤◌, ℕ, IfErr, IfNone, IfOk, IfSome, Ok, Some, option_map, string_bytes};
 ghost use Rattle.machine_text.specs.Packed.{entry_of};
 ghost use Rattle.law_turing.specs.Halting.{HaltsAt};
 ghost use Rattle.law_turing.specs.Score.{score_at};
-ghost use Rattle.cert.specs.Kinds.{recorded};
+ghost use Rattle.run.specs.Limits.{halt_step_limit};
+ghost use Rattle.cert.specs.Certified.{IsRefusedBy};
+ghost use Rattle.cert.specs.Kinds.{claim_of, recorded};
 ghost use Rattle.cmd_lines.specs.Answer.{SaysOfRecord, read_line};
 ghost use Rattle.cmd_lines.specs.Stream.{AnswersStream};
 ghost use Rattle.cmd_taking.specs.Taken.{lent};
-ghost use Rattle.cmd_explain.specs.Why.{TellsRight, TellsWhy, refused_words, right_words, why_line};
+ghost use Rattle.cmd_explain.specs.Why.{HasRight, TellsRight, TellsWhy, refused_words, right_words, why_line};
 
 use crate::quantity::Quantity;
 use cert::{Certificate, Record, judge};
@@ -94,18 +96,42 @@ fn why_of_record(alloc: Global, r: &Record) -> Result<Option<String>, NoMemory>
         Err(Refused::NoMemory) => return Err(NoMemory),
         Err(refused) => refused,
     };
-    if let Certificate::Halts(_) = r.certificate {
-        if let Some(words) = right_of(alloc, &r.table)? {
-            return Ok(Some(words));
-        }
+    match right_of_claim(alloc, r)? {
+        Some(words) => Ok(Some(words)),
+        None => words_of_refusal(alloc, r, refused),
     }
-    let words = refused_words(alloc, refused)?;
+}
+
+// For what a record is refused of whose table nothing better can be said.
+fn words_of_refusal(
+    alloc: Global,
+    r: &Record,
+    why: Refused,
+) -> Result<Option<String>, NoMemory>
+    requires refused { IsRefusedBy why (recorded r.now) }
+    requires no_right { HasRight (claim_of r.now.certificate) r.now.table → ⊥ }
+    ensures { IfOk result (λ words. TellsWhy (Ok (recorded r.now)) (option_map string_bytes words)) }
+{
+    let words = refused_words(alloc, why)?;
     Ok(Some(words))
+}
+
+// What is right of a table that is said to halt, if it does.
+fn right_of_claim(alloc: Global, r: &Record) -> Result<Option<String>, NoMemory>
+    ensures some { IfOk result (λ words. IfSome words (λ words. TellsRight r.now.table (string_bytes words))) }
+    ensures none { IfOk result (λ words. IfNone words (HasRight (claim_of r.now.certificate) r.now.table → ⊥)) }
+{
+    match &r.certificate {
+        Certificate::Halts(_) => right_of(alloc, &r.table),
+        _ => Ok(None),
+    }
 }
 
 // When a table halts, and with how many ones, if it does within the limit of records.
 fn right_of(alloc: Global, t: &Table) -> Result<Option<String>, NoMemory>
-    ensures { IfOk result (λ words. IfSome words (λ words. TellsRight t.now (string_bytes words))) }
+    ensures some { IfOk result (λ words. IfSome words (λ words. TellsRight t.now (string_bytes words))) }
+    ensures none { IfOk result (λ words. IfNone words ((k : ℕ) → k ≤ halt_step_limit
+        → HaltsAt (entry_of t.now) k → ⊥)) }
 {
     match HaltFinder::new(alloc, MAX_HALT_STEPS).search(t, MAX_HALT_STEPS)? {
         Some(e) => {

@@ -103,11 +103,7 @@ fn why_of_record(alloc: Global, r: &Record) -> Result<Option<String>, NoMemory>
 }
 
 // For what a record is refused of whose table nothing better can be said.
-fn words_of_refusal(
-    alloc: Global,
-    r: &Record,
-    why: Refused,
-) -> Result<Option<String>, NoMemory>
+fn words_of_refusal(alloc: Global, r: &Record, why: Refused) -> Result<Option<String>, NoMemory>
     requires refused { IsRefusedBy why (recorded r.now) }
     requires no_right { HasRight (claim_of r.now.certificate) r.now.table → ⊥ }
     ensures { IfOk result (λ words. TellsWhy (Ok (recorded r.now)) (option_map string_bytes words)) }

@@ -17,6 +17,6 @@ returns-in-Halts-clause-none c =
     let Never : Type 0 = (k : ℕ) → k ≤ halt_step_limit → HaltsAt (entry_of c.args.r.now.table) k → ⊥ in
     let Wrong : Type 0 = HasRight (claim_of c.args.r.now.certificate) c.args.r.now.table → ⊥ in
     let wrong : Never → Wrong = λ never right.
-        let halts = subst (λ (x : Certificate). HasRight (claim_of x) c.args.r.now.table) c.in-Halts.is right in
-        never halts.0 halts.1 halts.2 in
+    let halts = subst (λ (x : Certificate). HasRight (claim_of x) c.args.r.now.table) c.in-Halts.is right in
+    never halts.0 halts.1 halts.2 in
     none_from {P = Never} {Q = Wrong} wrong c.right_of.result c.right_of.ensures.none

@@ -9,3 +9,4 @@ pub mod Reduction
 pub mod Counts
 pub mod Named
 pub mod Explained
+pub mod Why

@@ -15,6 +15,8 @@ mod quantity;
 mod reduction;
 mod shifting;
 mod sides;
+mod why;
 mod words;
 
 pub use explain::{cmd_explain, explain_for, explain_line};
+pub use why::{check_why_for, why_of};

@@ -1,5 +1,5 @@
 -- Answers to the lines of a stream.
-use Rattle.std.proofs.Common.{◌≡◌, ℕ, List, [], ◌∷◌, ◌++◌, Option, ◌∙◌, ap, append_assoc}
+use Rattle.std.proofs.Common.{ℕ, List, [], ◌∷◌, ◌++◌, Option, ◌∙◌, ap, append_assoc}
 use Rattle.text.specs.Lines.{BoundedLine}
 use Rattle.cmd_options.specs.declared.outcome.Outcome.{Outcome}
 use Rattle.cmd_taking.specs.Said.{AreTakenBy, TakesStream}

@@ -11,8 +11,8 @@ use Rattle.cert.specs.Claim.{Recorded, score_by, shown_by}
 use Rattle.cert.specs.Certified.{IsCertified, IsRefusedBy}
 use Rattle.kind_evidence.specs.Verdict.{IsTrueOf}
 use Rattle.kind_evidence.specs.Verdict as verdict
-use Rattle.std.specs.Borrow.{Bor}
 use Rattle.cert.specs.Grammar.{record_of}
+use Rattle.cert.specs.declared.judgement.Judged.{Judged}
 use Rattle.cert.specs.Fault as record_fault
 use Rattle.cert.specs.declared.record_fault.RecordFault.{RecordFault}
 use Rattle.cert.specs.declared.record_fault.RecordFault.TheVariants.{BadTable, BadKind, BadNumber, BadList, TooLong}
@@ -62,6 +62,11 @@ AnswersRecord r Refused answer = (why : Refusal) × (number : ℕ) × IsRefusedB
 AnswersRecord r BadLine answer = ⊥
 AnswersRecord r NoMemory answer = ⊥
 AnswersRecord r Failed answer = ⊥
+
+-- whether it is accepted, by what its certificate shows, if it stands
+abbrev pub outcome_by : Option Judged → Outcome
+outcome_by (Some judged) = Accepted
+outcome_by None = Refused
 
 -- what is read of a line, which is none where it was too long
 abbrev pub read_line : Option (List ℕ) → Result Recorded RecordFault

@@ -1,14 +1,15 @@
 // The answer to a line: what is printed for it, and whether it was accepted.
-ghost use Rattle.std.specs.Prelude.{◌≡◌, ◌∷◌, [], ◌++◌, List, ℕ, decimal, OnOk, IfOk};
+ghost use Rattle.std.specs.Prelude.{◌≡◌, ◌∷◌, [], ◌++◌, List, ℕ, decimal, OnOk, IfOk, IfSome};
 ghost use Rattle.machine_text.specs.Text.{text_of};
+ghost use Rattle.cert.specs.Certified.{IsShownBy};
 ghost use Rattle.cert.specs.Claim.{score_by};
 ghost use Rattle.cert.specs.Kinds.{recorded, read_as};
-ghost use Rattle.cmd_lines.specs.Answer.{Answers, AnswersRecord, ones_text, read_line, verdict_text, text_fault_text, fault_text};
+ghost use Rattle.cmd_lines.specs.Answer.{Answers, AnswersRecord, outcome_by, ones_text, read_line, verdict_text, text_fault_text, fault_text};
 ghost use Rattle.cmd_taking.specs.Taken.{lent};
 
-use cert::{Record, RecordFault, append_table, judge, standing_claims_are_true};
+use cert::{Judged, Record, RecordFault, append_table, judge_on, standing_claims_are_true};
 use cmd_options::Outcome;
-use kind_evidence::{NoMemory, Refused, Verdict};
+use kind_evidence::{NoMemory, Verdict};
 use machine_text::TextFault;
 use std::alloc::Global;
 use text::append_number;
@@ -19,7 +20,7 @@ pub fn answer(alloc: Global, line: Option<&[u8]>, out: &mut Vec<u8>) -> Result<O
         × (out.new.items ≡ out.old.items ++ answer ++ 10 ∷ [])) }
 {
     let outcome = match read_line(line) {
-        Ok(record) => answer_record(alloc, &record, out)?,
+        Ok(record) => outcome_by(&answer_record(alloc, &record, out)?),
         Err(fault) => {
             append_fault(fault, out)?;
             Outcome::Refused
@@ -29,8 +30,8 @@ pub fn answer(alloc: Global, line: Option<&[u8]>, out: &mut Vec<u8>) -> Result<O
     Ok(outcome)
 }
 
-// The record of a line.
-fn read_line(line: Option<&[u8]>) -> Result<Record<'_>, RecordFault>
+/// The record of a line, which is none where it was too long.
+pub fn read_line(line: Option<&[u8]>) -> Result<Record<'_>, RecordFault>
     ensures { read_as result ≡ read_line (lent line.entry) }
 {
     match line {
@@ -39,26 +40,41 @@ fn read_line(line: Option<&[u8]>) -> Result<Record<'_>, RecordFault>
     }
 }
 
-// Appends what the record's certificate shows, or why it is refused.
-fn answer_record(alloc: Global, r: &Record, out: &mut Vec<u8>) -> Result<Outcome, NoMemory>
-    ensures { IfOk result (λ o. (answer : List ℕ) × AnswersRecord (recorded r.now) o answer
+/// Appends the answer to a record: what its certificate shows, or why it is refused. Gives what it shows, where it stands.
+pub fn answer_record(
+    alloc: Global,
+    r: &Record,
+    out: &mut Vec<u8>,
+) -> Result<Option<Judged>, NoMemory>
+    ensures answer { IfOk result (λ judged. (answer : List ℕ) × AnswersRecord (recorded r.now) (outcome_by judged) answer
         × (out.new.items ≡ out.old.items ++ answer)) }
+    ensures shown { IfOk result (λ judged. IfSome judged (IsShownBy (recorded r.now))) }
 {
     standing_claims_are_true();
     // The proof needs that it is a table.
     let _ = r.table.states();
-    match judge(alloc, r) {
-        Ok(verdict) => {
-            append_shown(r, verdict, out)?;
-            Ok(Outcome::Accepted)
+    match judge_on(alloc, r) {
+        Ok(judged) => {
+            append_shown(r, judged.verdict, out)?;
+            Ok(Some(judged))
         }
         Err(refused) => match refused.number() {
             Some(number) => {
                 append_named(b"refused ", u64::from(number), out)?;
-                Ok(Outcome::Refused)
+                Ok(None)
             }
             None => Err(NoMemory),
         },
+    }
+}
+
+/// Whether a record was accepted, by what its certificate shows.
+pub fn outcome_by(judged: &Option<Judged>) -> Outcome
+    ensures { result ≡ outcome_by judged.now }
+{
+    match judged {
+        Some(_) => Outcome::Accepted,
+        None => Outcome::Refused,
     }
 }
 

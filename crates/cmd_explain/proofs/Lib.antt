@@ -1,0 +1,4 @@
+pub mod Periods
+pub mod Shifts
+pub mod Within
+pub mod Keeping

@@ -1,0 +1,12 @@
+pub mod Quantity
+pub mod Sides
+pub mod Halting
+pub mod Cycling
+pub mod Shifting
+pub mod Backward
+pub mod Ngrams
+pub mod Reduction
+pub mod Counts
+pub mod Named
+pub mod Explained
+pub mod Why

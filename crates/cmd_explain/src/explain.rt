@@ -1,0 +1,121 @@
+// `bb explain`: records in, what has been shown of them out.
+ghost use Rattle.std.specs.Prelude.{◌≡◌, ◌⊎◌, ◌∷◌, [], ◌++◌, List, ℕ, IfErr, IfOk};
+ghost use Rattle.cert.specs.Kinds.{recorded};
+ghost use Rattle.cmd_lines.specs.Answer.{AnswersRecord};
+ghost use Rattle.cmd_lines.specs.Stream.{AnswersStream};
+ghost use Rattle.cmd_taking.specs.Taken.{lent};
+ghost use Rattle.cmd_explain.specs.Explained.{SaysExplained, TellsRecord};
+
+use crate::words::record_words;
+use cert::Record;
+use cmd_lines::{answer_record, append_fault, read_line};
+use cmd_options::{Ended, Outcome, told};
+use cmd_taking::{PIECE_BYTES, Sayer, say_lines};
+use kind_evidence::NoMemory;
+use std::alloc::Global;
+use std::io::{Read, Write};
+
+/// Reads a record a line and prints the answer of `bb check` to it, then what its check has shown, in words, and then an
+/// empty line; of a record that is refused the answer alone. A last line without newline is read too. What a failed
+/// stream or refused memory ends is said on `faults`; else what was printed is what is said to the lines of the input, in
+/// their order, and what the words say is so.
+pub fn cmd_explain<R: Read, W: Write, E: Write>(
+    alloc: Global,
+    input: &mut R,
+    answers: &mut W,
+    faults: &mut E,
+) -> Outcome
+    ensures { AnswersStream SaysExplained (R.remaining input.old) (R.remaining input.new) (W.contents answers.old)
+        (W.contents answers.new) result
+        ⊎ (result ≡ Outcome.NoMemory) ⊎ (result ≡ Outcome.Failed) }
+{
+    told(explain_for(alloc, input, answers), faults)
+}
+
+/// Explains as `cmd_explain` does, but answers what ends it early, and doesn't say it.
+pub fn explain_for<R: Read, W: Write>(
+    alloc: Global,
+    input: &mut R,
+    answers: &mut W,
+) -> Result<Outcome, Ended>
+    ensures ok { IfOk result (AnswersStream SaysExplained (R.remaining input.old) (R.remaining input.new)
+        (W.contents answers.old) (W.contents answers.new)) }
+    ensures err { IfErr result (λ e. (e ≡ Ended.NoMemory) ⊎ (e ≡ Ended.Stream)) }
+{
+    let (outcome, _) = say_lines(alloc, Explainer { alloc }, PIECE_BYTES, input, answers)?;
+    Ok(outcome)
+}
+
+#[derive(Drop)]
+struct Explainer {
+    alloc: Global,
+}
+
+impl Sayer for Explainer {
+    ghost use Rattle.std.specs.Prelude.{◌≡◌};
+    ghost use Rattle.cmd_options.specs.declared.ended.Ended.TheVariants.{NoMemory as WantsMemory};
+    ghost use Rattle.cmd_explain.specs.Explained.{SaysExplained};
+    ghost use Rattle.cmd_lines.specs.Stream.{SaysAnswer};
+
+    ghost takes = { SaysAnswer SaysExplained };
+
+    ghost ends = { λ e. e ≡ WantsMemory };
+
+    fn take_line(&mut self, line: Option<&[u8]>, said: &mut Vec<u8>) -> Result<Outcome, Ended> {
+        Ok(explain_line(self.alloc, line, said)?)
+    }
+}
+
+/// Appends what is said to a line, which is none where it was too long, with a newline.
+pub fn explain_line(
+    alloc: Global,
+    line: Option<&[u8]>,
+    out: &mut Vec<u8>,
+) -> Result<Outcome, NoMemory>
+    ensures { IfOk result (λ o. (answer : List ℕ) × SaysExplained (lent line.entry) o answer
+        × (out.new.items ≡ out.old.items ++ answer ++ 10 ∷ [])) }
+{
+    let outcome = match read_line(line) {
+        Ok(record) => explain_record(alloc, &record, out)?,
+        Err(fault) => {
+            append_fault(fault, out)?;
+            out.push(b'\n')?;
+            Outcome::Refused
+        }
+    };
+    out.push(b'\n')?;
+    Ok(outcome)
+}
+
+// Appends the answer to a record, and behind it what has been shown.
+fn explain_record(alloc: Global, r: &Record, out: &mut Vec<u8>) -> Result<Outcome, NoMemory>
+    ensures { IfOk result (λ o. (first words : List ℕ) × AnswersRecord (recorded r.now) o first
+        × TellsRecord (recorded r.now) o words × (out.new.items ≡ out.old.items ++ first ++ 10 ∷ words)) }
+{
+    let Some(judged) = answer_record(alloc, r, out)? else {
+        out.push(b'\n')?;
+        return Ok(Outcome::Refused);
+    };
+    let words = record_words(alloc, r, &judged)?;
+    out.push(b'\n')?;
+    out.extend_from_slice(words.as_bytes())?;
+    Ok(Outcome::Accepted)
+}
+
+#[cfg(test)]
+mod tests {
+    use super::*;
+    use std::test::Fail;
+
+    #[test]
+    fn a_halting_record_is_explained(rt: HostRuntime) -> Result<(), Fail> {
+        let mut out = Vec::new(rt.alloc());
+        let outcome = explain_line(rt.alloc(), Some(b"1RB1LB_1LA--- H 6 4"), &mut out)?;
+        assert!(rt; outcome == Outcome::Accepted);
+        let wanted =
+            "1RB1LB_1LA--- halts 6 ones 4\nIt halts after 6 steps, the halting step counted, with 4 ones on \
+                      its tape.\nIt halts in state B on the symbol 1, for which it has no entry.\n\n";
+        assert_eq!(rt; out.as_slice(), wanted.as_bytes());
+        Ok(())
+    }
+}

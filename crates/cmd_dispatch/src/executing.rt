@@ -50,10 +50,10 @@ impl<S: Disk + Clock + Sockets, R: Read, W: Write, E: Write> Call<'_, S, R, W, E
     {
         match asked {
             Options::Check(checking) => lines::check(self, checking),
-            Options::Decide { search, json } => lines::decide(self, &search, json),
-            Options::Explain { json } => texts::explain(self, json),
+            Options::Decide { search, .. } => lines::decide(self, &search),
+            Options::Explain { .. } => texts::explain(self),
             Options::Show(showing) => texts::show(self, &showing),
-            Options::Tables(listing) => texts::tables(self, &listing),
+            Options::Tables(_) => texts::tables(self),
             Options::Draw(drawing) => pictures::draw(self, &drawing),
             Options::Coord { beginning, ledger } => nodes::coord(self, beginning, ledger),
             Options::Run { settling, ledger } => nodes::run(self, &settling, ledger),

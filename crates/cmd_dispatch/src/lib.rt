@@ -19,6 +19,7 @@ mod nodes;
 mod pictures;
 mod stages;
 mod system;
+mod texts;
 mod watched_file;
 
 pub use executing::execute;

@@ -1,14 +1,16 @@
 // `bb check` and `bb decide`.
 use crate::any_finder::decider_for;
 use crate::call::Call;
+use cmd_explain::check_why_for;
 use cmd_lines::{Reader, check_for, decide_for};
-use cmd_options::{Ended, Outcome, Search};
+use cmd_options::{Checking, Ended, Outcome, Search};
 use files::Disk;
 use std::io::{Read, Write};
 
-// `bb check`.
+// `bb check`, with `--why` or without.
 pub(crate) fn check<S: Disk, R: Read, W: Write, E: Write>(
     call: Call<'_, S, R, W, E>,
+    checking: Checking,
 ) -> Result<Outcome, Ended> {
     let Call {
         alloc,
@@ -18,6 +20,9 @@ pub(crate) fn check<S: Disk, R: Read, W: Write, E: Write>(
         faults,
         ..
     } = call;
+    if checking.why {
+        return check_why_for(alloc, input, answers, faults);
+    }
     check_for(alloc, reader_of(system), input, answers, faults)
 }
 

@@ -29,18 +29,16 @@ mod rows {
     pub(crate) const WIDTH: Number = Number { name: "width", value: Some("W"), least: 0, most: 1_000_000, default: Some("0"),
         help: "Draw so many cells, the first head in the middle; with 0 those that the head visits" };
 
-    pub(crate) const COLUMNS: Number = Number { name: "columns", value: Some("C"), least: 1, most: 1_000_000,
+    pub(crate) const COLUMNS: Number = Number { name: "columns", value: Some("C"), least: 1, most: 100_000,
         default: Some("1000"), help: "The most columns; where there are more cells, neighbours share one" };
-    pub(crate) const SQUARE: Number = Number { name: "square", value: Some("P"), least: 1, most: 1_000, default: Some("8"),
+    pub(crate) const SQUARE: Number = Number { name: "square", value: Some("P"), least: 1, most: 1_000, default: Some("16"),
         help: "The most pixels that a cell is wide and high" };
-    pub(crate) const HEIGHT: Number = Number { name: "height", value: Some("H"), least: 1, most: 100_000, default: None,
+    pub(crate) const HEIGHT: Number = Number { name: "height", value: Some("H"), least: 1, most: 65_535, default: None,
         help: "The most pixels that the picture is high (without it cells are squares)" };
     pub(crate) const SHOWN: Number = Number { name: "steps", value: Some("K"), least: 0, most: 100_000_000,
         default: Some("100"), help: "Show so many steps from there on" };
     pub(crate) const EVERY: Number = Number { name: "every", value: Some("E"), least: 1, most: 100_000_000,
         default: Some("1"), help: "Show every E-th configuration" };
-    pub(crate) const RUN_STEPS: Number = Number { name: "steps", value: Some("K"), least: 0, most: 100_000_000,
-        default: Some("1000000"), help: "With --normal, run a table for so many steps at most" };
 
     pub(crate) const FILE: Text = Text { name: "FILE", value: None, help: "The ledger file" };
     pub(crate) const READ: Text = Text { name: "FILE", value: None, help: "The ledger file, or `-` for standard input" };
@@ -77,17 +75,11 @@ mod rows {
     pub(crate) const HARD: Flag = Flag { name: "hard", needs: &[], excludes: REACH_NAMES,
         help: "Go by stages, from cheap searches to dear ones; --steps scales them" };
     pub(crate) const JSON: Flag = Flag { name: "json", needs: &[], excludes: &[], help: "Print the report as JSON" };
-    pub(crate) const LINES_JSON: Flag = Flag { name: "json", needs: &[], excludes: &[],
-        help: "Print an object of JSON a line" };
     pub(crate) const RECORD_WHY: Flag = Flag { name: "why", needs: &[], excludes: &[],
         help: "Say on standard error, in words, what is wrong with a record" };
     pub(crate) const FOLD: Flag = Flag { name: "fold", needs: &[], excludes: &[],
         help: "Fold words that repeat, as in 1^12 (01)^5" };
-    pub(crate) const NORMAL: Flag = Flag { name: "normal", needs: &[], excludes: &["records"],
-        help: "Name the states of each table in the order in which its run reaches them" };
-    pub(crate) const RECORDS: Flag = Flag { name: "records", needs: &[], excludes: &[],
-        help: "Keep the records of tables behind them" };
-    pub(crate) const PNG: Flag = Flag { name: "png", needs: &[], excludes: &[],
+    pub(crate) const PNG: Flag = Flag { name: "png", needs: &[], excludes: &["height"],
         help: "Draw a PNG in place of an SVG" };
     pub(crate) const HOLDOUTS: Flag = Flag { name: "holdouts", needs: &[], excludes: &[],
         help: "Print the tables that are recorded without a verdict, and read no lines" };

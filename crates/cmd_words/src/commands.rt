@@ -1,8 +1,8 @@
 // The commands, a row each.
 use crate::arguments::*;
 use crate::help::{
-    CARRY, COORD, DECIDE, DRAW, EXPLAIN, JOIN, LOOK, LOOP, MEND, MERGE, PAGE, RECORDS as RECORD_HELP,
-    REPORT, RETRY, RUN, SETTLE, SHOW, SPLIT, TABLES,
+    CARRY, COORD, DECIDE, DRAW, EXPLAIN, JOIN, LOOK, LOOP, MEND, MERGE, PAGE, RECORDS, REPORT,
+    RETRY, RUN, SETTLE, SHOW, SPLIT, TABLES,
 };
 use crate::words::Argument::{self, Flag, Number, Text};
 
@@ -25,21 +25,21 @@ pub(crate) const SEARCH_BY_STAGES: [Argument; 1] = [Flag(HARD)];
 
 #[rattlefmt::skip]
 pub(crate) const COMMANDS: [CommandWords; 19] = [
-    CommandWords { name: "check", searches: false, after_help: RECORD_HELP,
+    CommandWords { name: "check", searches: false, after_help: RECORDS,
         about: "Checks a record a line on standard input, and prints an answer a line.",
-        arguments: &[Flag(LINES_JSON), Flag(RECORD_WHY)] },
+        arguments: &[Flag(RECORD_WHY)] },
     CommandWords { name: "decide", searches: true, after_help: DECIDE,
         about: "Reads a table a line on standard input, and prints a record a line.",
-        arguments: &[Flag(LINES_JSON)] },
+        arguments: &[] },
     CommandWords { name: "explain", searches: false, after_help: EXPLAIN,
         about: "Checks a record a line on standard input, and says in words what its check has shown.",
-        arguments: &[Flag(LINES_JSON)] },
+        arguments: &[] },
     CommandWords { name: "show", searches: false, after_help: SHOW,
         about: "Reads a table or a record a line on standard input, and prints its run as text.",
         arguments: &[Number(FROM), Number(SHOWN), Number(EVERY), Flag(FOLD)] },
     CommandWords { name: "tables", searches: false, after_help: TABLES,
         about: "Reads any text on standard input, and prints the tables in it, a line each.",
-        arguments: &[Flag(NORMAL), Number(RUN_STEPS), Flag(RECORDS)] },
+        arguments: &[] },
     CommandWords { name: "run", searches: true, after_help: RUN,
         about: "Settles the tree of all machines of N states in this process, and prints the report.",
         arguments: &[Number(STATES), Number(WORKERS), Text(LEDGER), Flag(LEDGER_SYNC), Number(LOSE), Number(ROUNDS),

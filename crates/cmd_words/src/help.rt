@@ -113,8 +113,9 @@ table, `refused 405` its table doesn't name its states in order); 2 a wrong comm
 
 pub(crate) const DRAW: &str =
     "Time goes downwards, a row for each time, cells to the right; ones are dark, the head has the colour of its state, and
-a bar beneath the last row says that the machine halts with its next step. Where there are more steps than rows, only
-every so many-th is drawn. The whole first picture goes to standard output, and a table after the first is refused
+a line beneath the last row says that the machine halts with its next step. Where there are more steps than rows, only
+every so many-th is drawn; where there are more cells than columns, neighbours share one, which is dark where more than
+half of them hold a one, and pale where some do. The whole first picture goes to standard output, and a table after the first is refused
 (`refused 306`); with --out each table has a file, and its line the answer `TABLE drawn`.
 
   echo 1RB1LB_1LA--- | bb draw > champion.svg
@@ -251,3 +252,29 @@ An answer is one of
 
 Exit status: 0 all accepted; 1 a line was refused; 2 a wrong command line; 3 out of memory
 (`refused memory` on standard error); 4 a stream failed (`refused 603`).";
+
+pub(crate) const EXPLAIN: &str =
+    "Prints for each line the answer of `bb check`; behind it, of a record that stands, what its check has shown, in words;
+and then an empty line.
+
+  echo 1RB1LB_1LA--- H 6 4 | bb explain
+
+Exit status: as that of `bb check`.";
+
+pub(crate) const SHOW: &str =
+    "The table; then a line for each time: the time, and the tape from the first to the last cell that holds a one or has the
+head, with the state's letter and `>` before the head's cell. A run that halts ends with its last configuration and
+`halts K ones S`.
+
+  echo 1RB1LB_1LA--- | bb show --steps 10 --fold
+
+Exit status: 0 each line was a table or a record; 1 a line was refused; 2 a wrong command line; 3 out of memory
+(`refused memory`); 4 a stream failed (`refused 603`).";
+
+pub(crate) const TABLES: &str =
+    "Each table in a text of any form (comments, links, CSV, CR LF) is printed once, where it comes first. How many lines had
+none, and how many tables had come before, is said at the end on standard error.
+
+  bb tables < list.txt | bb decide --hard
+
+Exit status: 0; 2 a wrong command line; 3 out of memory (`refused memory`); 4 a stream failed (`refused 603`).";

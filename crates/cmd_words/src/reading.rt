@@ -4,9 +4,9 @@ ghost use Rattle.cmd_options.specs.Ranges.{AreWithinRanges, IsSettling, IsWithin
 
 use crate::arguments::{
     CARRIED, COLUMNS, DAMAGED, DRAWN, ERA, EVERY, FILE, FILLED, FIRST, FOLD, FOLDER, FROM, HARD,
-    HEIGHT, HOLDOUTS, JOIN_READ, JOINED, JSON, KNOWN, LEDGER, LINES_JSON, LOOKED, LOSE, MENDED,
-    MERGED, NORMAL, OLD, PICTURES, PNG, PROGRESS, READ, RECORD_WHY, RECORDS, ROUNDS, ROWS,
-    RUN_STEPS, SECOND, SHOWN, SQUARE, STATES, STEPS, SYNC, WHY, WIDTH, WORKERS,
+    HEIGHT, HOLDOUTS, JOIN_READ, JOINED, JSON, KNOWN, LEDGER, LOOKED, LOSE, MENDED, MERGED, OLD,
+    PICTURES, PNG, PROGRESS, READ, RECORD_WHY, ROUNDS, ROWS, SECOND, SHOWN, SQUARE, STATES, STEPS,
+    SYNC, WHY, WIDTH, WORKERS,
 };
 use crate::grammar::program;
 use crate::line_fault::LineFault;
@@ -45,9 +45,9 @@ fn asked<'a>(name: &str, command: &ArgMatches<'a>) -> Result<Options<'a>, LineFa
     match name {
         "check" => Ok(check_options(command)),
         "decide" => decide_options(command),
-        "explain" => Ok(explain_options(command)),
+        "explain" => Ok(Options::Explain { json: false }),
         "show" => show_options(command),
-        "tables" => tables_options(command),
+        "tables" => Ok(tables_options()),
         "coord" => coord_options(command),
         "run" => run_options(command),
         "loop" => loop_options(command),
@@ -159,7 +159,7 @@ fn check_options<'a>(check: &ArgMatches<'a>) -> Options<'a>
     ensures { AreWithinRanges result }
 {
     Options::Check(Checking {
-        json: check.get_flag(LINES_JSON.name),
+        json: false,
         why: check.get_flag(RECORD_WHY.name),
     })
 }
@@ -169,16 +169,8 @@ fn decide_options<'a>(decide: &ArgMatches<'a>) -> Result<Options<'a>, LineFault>
 {
     Ok(Options::Decide {
         search: search_of(decide)?,
-        json: decide.get_flag(LINES_JSON.name),
+        json: false,
     })
-}
-
-fn explain_options<'a>(explain: &ArgMatches<'a>) -> Options<'a>
-    ensures { AreWithinRanges result }
-{
-    Options::Explain {
-        json: explain.get_flag(LINES_JSON.name),
-    }
 }
 
 fn show_options<'a>(show: &ArgMatches<'a>) -> Result<Options<'a>, LineFault>
@@ -192,14 +184,15 @@ fn show_options<'a>(show: &ArgMatches<'a>) -> Result<Options<'a>, LineFault>
     }))
 }
 
-fn tables_options<'a>(tables: &ArgMatches<'a>) -> Result<Options<'a>, LineFault>
-    ensures { IfOk result AreWithinRanges }
+// All tables as they stand.
+fn tables_options<'a>() -> Options<'a>
+    ensures { AreWithinRanges result }
 {
-    Ok(Options::Tables(Listing {
-        normal: tables.get_flag(NORMAL.name),
-        steps: number_of(tables, RUN_STEPS)?,
-        records: tables.get_flag(RECORDS.name),
-    }))
+    Options::Tables(Listing {
+        normal: false,
+        steps: 0,
+        records: false,
+    })
 }
 
 fn coord_options<'a>(coord: &ArgMatches<'a>) -> Result<Options<'a>, LineFault>

@@ -43,5 +43,6 @@ skelet1_words = codes "It is Skelet 1, a counter to the base 4 on a tape of word
 -- the table is one of those that are proved, or Skelet 1; and it never halts
 pub record TellsNamed (p : Packed) (words : List ℕ) : Type 0 where
   pub never : Never (entry_of p)
-  pub is : ((m : ProvedMachine) × (text_of p ≡ table_text m) × (words ≡ named_text (machine_name m) (form_of m) (file_of m)))
+  pub is : ((m : ProvedMachine) × (text_of p ≡ table_text m)
+      × (words ≡ named_text (machine_name m) (form_of m) (file_of m)))
       ⊎ ((p ≡ skelet1) × (words ≡ skelet1_words))

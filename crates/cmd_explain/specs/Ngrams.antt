@@ -11,8 +11,8 @@ use Rattle.cmd_explain.specs.Quantity.{sentence, quantity}
 
 -- a configuration is within the lists: what stands around its head, and each word wholly on one side of it
 abbrev pub IsWithinLists : Lists → Config → Type 0
-IsWithinLists s c = IsInside s.width (λ w. IsItem s.width s.left (word_text w)) (λ w. IsItem s.width s.right (word_text w))
-    (IsLocalItem s) c
+IsWithinLists s c = IsInside s.width (λ w. IsItem s.width s.left (word_text w))
+    (λ w. IsItem s.width s.right (word_text w)) (IsLocalItem s) c
 
 unfoldable pub ngram_words : ℕ → ℕ → ℕ → ℕ → List ℕ
 ngram_words width left right local = sentence (

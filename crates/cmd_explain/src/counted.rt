@@ -16,10 +16,10 @@ pub fn counted_words(alloc: Global, t: &Table, e: &CountedCosets) -> Result<Stri
 {
     let words = String::from_str(
         alloc,
-        "Counted automata: two automata read the half tapes, each from far away to the head, and count how often some of \
-         their transitions are taken.\nEach context of the head (a state, the symbol read, and the states of both \
-         automata) comes with a coset in which the counts lie: they differ by sums of its rows alone.\nThe blank tape is \
-         in its coset, and no step leads out of the cosets.\nSo it never halts.\n",
+        "Counted automata: two automata read the half tapes, each from far away to the head, and count how often \
+         some of their transitions are taken.\nEach context of the head (a state, the symbol read, and the states of \
+         both automata) comes with a coset in which the counts lie: they differ by sums of its rows alone.\nThe blank \
+         tape is in its coset, and no step leads out of the cosets.\nSo it never halts.\n",
     )?;
     Ok(words)
 }

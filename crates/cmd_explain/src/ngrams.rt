@@ -62,8 +62,9 @@ fn words(alloc: Global, width: u8, left: u64, right: u64, local: u64) -> Result<
         noun: "context",
     };
     format!(in alloc;
-        "A closed position set (n-gram CPS): left of the head stand only {left} of {cells}, right of it only {right}, and \
-         around it there are {contexts}: a word, the state, the symbol read, and a word.\nThe blank tape is of this kind, \
-         each step from such a configuration leads to one, and none of the contexts lacks an entry.\nSo it never halts.\n"
+        "A closed position set (n-gram CPS): left of the head stand only {left} of {cells}, right of it only \
+         {right}, and around it there are {contexts}: a word, the state, the symbol read, and a word.\nThe blank tape \
+         is of this kind, each step from such a configuration leads to one, and none of the contexts lacks an \
+         entry.\nSo it never halts.\n"
     )
 }

@@ -20,7 +20,7 @@ impl fmt::Display for Quantity {
     }
 }
 
-/// The same behind `every`, as `step` and `2 steps`.
+/// A count behind `every`, as `step` and `2 steps`.
 #[derive(Clone, Copy, Debug)]
 pub(crate) struct Interval {
     pub number: u64,

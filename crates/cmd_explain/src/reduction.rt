@@ -68,9 +68,10 @@ fn text(alloc: Global, size: u64, behind: &str, ahead: &str) -> Result<String, N
         noun: "state",
     };
     format!(in alloc;
-        "Finite automata reduction (FAR): a first automaton, of {states}, reads the half tape on the {behind} of the head, \
-         from far away to the head.\nFrom the pair of its last state and the machine's a second one reads on: the symbol \
-         under the head, and then those on the {ahead}.\nKept are the configurations from which that cannot come to its \
-         halt state: the start is one, and none that halts, at once or later.\nSo it never halts.\n"
+        "Finite automata reduction (FAR): a first automaton, of {states}, reads the half tape on the {behind} of the \
+         head, from far away to the head.\nFrom the pair of its last state and the machine's a second one reads on: \
+         the symbol under the head, and then those on the {ahead}.\nKept are the configurations from which that \
+         cannot come to its halt state: the start is one, and none that halts, at once or later.\nSo it never \
+         halts.\n"
     )
 }

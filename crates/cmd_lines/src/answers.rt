@@ -46,8 +46,8 @@ pub fn answer_record(
     r: &Record,
     out: &mut Vec<u8>,
 ) -> Result<Option<Judged>, NoMemory>
-    ensures answer { IfOk result (λ judged. (answer : List ℕ) × AnswersRecord (recorded r.now) (outcome_by judged) answer
-        × (out.new.items ≡ out.old.items ++ answer)) }
+    ensures answer { IfOk result (λ judged. (answer : List ℕ)
+        × AnswersRecord (recorded r.now) (outcome_by judged) answer × (out.new.items ≡ out.old.items ++ answer)) }
     ensures shown { IfOk result (λ judged. IfSome judged (IsShownBy (recorded r.now))) }
 {
     standing_claims_are_true();

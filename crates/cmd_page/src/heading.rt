@@ -24,14 +24,18 @@ impl<'a> Model for Heading<'a> {
 
     ghost Value = { Headed };
 
-    ghost view = { λ h. record { title = h.title.now; version = h.program.version.now;
-        program = h.program.sum; ledgers = h.ledgers } };
+    ghost view = { λ h. record {
+      title = h.title.now;
+      version = h.program.version.now;
+      program = h.program.sum;
+      ledgers = h.ledgers;
+    } };
 }
 
 /// A program that makes pages.
 #[derive(Clone, Copy, Debug)]
 pub struct Program<'a> {
-    /// Its version.
+    /// The version.
     pub version: &'a str,
     /// The SHA-256 of its own bytes; none where they can't be read.
     pub sum: Option<[u8; 32]>,

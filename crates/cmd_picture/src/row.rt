@@ -20,7 +20,7 @@ pub struct Row {
     pub halts: bool,
     /// The columns in which most cells hold a one, from left to right.
     pub dark: Vec<Stretch>,
-    /// Those in which some do, but not most: none where each cell has a column of its own.
+    /// The columns in which some do, but not most: none where each cell has a column of its own.
     pub pale: Vec<Stretch>,
 }
 

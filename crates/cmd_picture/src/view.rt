@@ -35,7 +35,7 @@ impl View {
         }
     }
 
-    /// The same cells, of which as many share a column that there are no more than `columns` columns; one at least.
+    /// All of the cells, of which as many share a column that there are no more than `columns` columns; one at least.
     pub fn in_columns(self, columns: u64) -> View
         ensures is { result ≡ record self { share = share_in columns self.width } }
         ensures some { 0 < result.share }

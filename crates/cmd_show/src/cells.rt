@@ -4,7 +4,6 @@ ghost use Rattle.cmd_picture.specs.Runs.{AreApart};
 ghost use Rattle.cmd_show.specs.inside.{painted, first_column};
 
 use cmd_picture::Stretch;
-use std::alloc::AllocError;
 use tape::NoMemory;
 
 // The first column that holds a one or has the head.
@@ -45,6 +44,6 @@ fn append_many(byte: u8, count: u64, out: &mut Vec<u8>) -> Result<(), NoMemory>
 {
     match out.len().checked_add(count as usize) {
         Some(len) => out.resize(len, byte),
-        None => Err(AllocError),
+        None => Err(NoMemory),
     }
 }

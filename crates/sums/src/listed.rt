@@ -6,10 +6,10 @@ ghost use Rattle.sums.specs.Sums.{line_text};
 
 use hex::encode_to_slice;
 use sha2::{Digest, Sha256};
-use std::alloc::AllocError;
+use std::alloc::AllocError as NoMemory;
 
 /// Appends a sum as 64 hexadecimal digits, with lower case letters.
-pub fn append_hex(sum: &[u8; 32], out: &mut Vec<u8>) -> Result<(), AllocError>
+pub fn append_hex(sum: &[u8; 32], out: &mut Vec<u8>) -> Result<(), NoMemory>
     ensures { OnOk result (out.new.items ≡ out.old.items ++ encode_lower sum.now) }
 {
     let mut digits = [0; 64];
@@ -20,7 +20,7 @@ pub fn append_hex(sum: &[u8; 32], out: &mut Vec<u8>) -> Result<(), AllocError>
 }
 
 /// Appends the line of a file of this sum and name, as `sha256sum` prints it.
-pub fn append_line(sum: &[u8; 32], name: &[u8], out: &mut Vec<u8>) -> Result<(), AllocError>
+pub fn append_line(sum: &[u8; 32], name: &[u8], out: &mut Vec<u8>) -> Result<(), NoMemory>
     ensures { OnOk result (out.new.items ≡ out.old.items ++ line_text sum.now name.now) }
 {
     append_hex(sum, out)?;

@@ -4,7 +4,7 @@ use crate::ledgers::STANDARD_INPUT;
 use cmd_draw::draw_asked;
 use cmd_folder_page::folder_page_at;
 use cmd_options::{Drawing, Ended, Outcome, VERSION, ended_by};
-use cmd_page::{Heading, LedgerSum, Program, write_ledger_page};
+use cmd_page::{Heading, LedgerSum, Maker, write_ledger_page};
 use files::{Disk, Files, Opened};
 use std::alloc::Global;
 use std::io::{Read, Write};
@@ -31,12 +31,12 @@ pub(crate) fn page<S: Disk, R: Read, W: Write, E: Write>(
     call: Call<'_, S, R, W, E>,
     path: &str,
 ) -> Result<Outcome, Ended> {
-    let program = Program {
+    let maker = Maker {
         version: VERSION,
         sum: call.system.program_sum(),
     };
     if path == STANDARD_INPUT {
-        return page_of_stream(call, program);
+        return page_of_stream(call, maker);
     }
     let files = call.files();
     let Call {
@@ -45,23 +45,23 @@ pub(crate) fn page<S: Disk, R: Read, W: Write, E: Write>(
         faults,
         ..
     } = call;
-    match page_of_file(alloc, program, path, &files, answers) {
+    match page_of_file(alloc, maker, path, &files, answers) {
         // Nothing was written: a folder can't be read as a file.
-        Err(Ended::File) => folder_page_at(alloc, &program, path, &files, answers, faults),
+        Err(Ended::File) => folder_page_at(alloc, &maker, path, &files, answers, faults),
         ended => ended,
     }
 }
 
 fn page_of_file<H: Files, W: Write>(
     alloc: Global,
-    program: Program<'_>,
+    maker: Maker<'_>,
     path: &str,
     files: &H,
     answers: &mut W,
 ) -> Result<Outcome, Ended> {
     let heading = Heading {
         title: path,
-        program,
+        maker,
         ledgers: ledger_sum(path, files)?,
     };
     let mut file = opened(path, files)?;
@@ -93,7 +93,7 @@ fn opened<H: Files>(path: &str, files: &H) -> Result<Opened<H::Reader>, Ended> {
 // Of the ledger that a stream has up to its end.
 fn page_of_stream<S, R: Read, W: Write, E>(
     call: Call<'_, S, R, W, E>,
-    program: Program<'_>,
+    maker: Maker<'_>,
 ) -> Result<Outcome, Ended> {
     let Call {
         alloc,
@@ -103,7 +103,7 @@ fn page_of_stream<S, R: Read, W: Write, E>(
     } = call;
     let heading = Heading {
         title: "standard input",
-        program,
+        maker,
         ledgers: LedgerSum::Unknown,
     };
     match write_ledger_page(alloc, &heading, input, u64::MAX, answers) {

@@ -22,7 +22,7 @@ pub page_told : (version : List ℕ) (program : Option (List ℕ)) (roots : List
     → IsGathered Finds folder whole sound None None faults new_faults (λ (rs : List Recorded). HasCounted rs census)
     → ((parts : List Contents) → IsWhole whole parts → length (joined_with whole.trunk.records parts) < 2 ^ 64)
     → IfOk r (λ o. (parts : List Contents) → IsWhole whole parts
-        → TellsParts (IsPageWith (λ k. get_or census.kinds k 0) (λ k. get_or census.entries k 0) (heading_of folder version program sum)) whole.trunk parts sound said new_said o)
+    → TellsParts (IsPageWith (λ k. get_or census.kinds k 0) (λ k. get_or census.entries k 0) (heading_of folder version program sum)) whole.trunk parts sound said new_said o)
     → IsListSum Finds folder roots sum → AreAll (IsOpenOn whole.trunk) roots
     → IfOk r (TellsFolder version program Finds folder said new_said faults new_faults)
 page_told version program roots sum Finds folder said new_said faults new_faults whole sound census (Ok o) gathered few tells is_sum are_open =

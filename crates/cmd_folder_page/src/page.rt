@@ -10,7 +10,7 @@ ghost use Rattle.cmd_folder_page.specs.Page.{TellsFolder};
 use crate::counting::Counting;
 use crate::sums::list_sum;
 use cmd_options::{Ended, Outcome};
-use cmd_page::{Census, Heading, LedgerSum, Page, Program};
+use cmd_page::{Census, Heading, LedgerSum, Maker, Page};
 use cmd_parts::{PartLedgers, PartsAt, gather, open_tables, tell_whole};
 use files::Files;
 use parts::Whole;
@@ -22,13 +22,13 @@ use std::io::Write;
 /// wrong with the trunk or a part is said on `faults` behind its path, as `join_parts` has it, and so is what it answers.
 pub fn write_folder_page<S: PartLedgers, W: Write, E: Write>(
     alloc: Global,
-    program: &Program<'_>,
+    maker: &Maker<'_>,
     folder: &str,
     parts: &S,
     answers: &mut W,
     faults: &mut E,
 ) -> Result<Outcome, Ended>
-    ensures tells { IfOk result (TellsFolder program.now.version.now program.now.sum (S.finds parts.now) folder.now
+    ensures tells { IfOk result (TellsFolder maker.now.version.now maker.now.sum (S.finds parts.now) folder.now
         (W.contents answers.old) (W.contents answers.new) (E.contents faults.old) (E.contents faults.new)) }
     ensures ended { IfErr result (λ e. EndsTelling (S.finds parts.now) folder.now e (W.contents answers.old)
         (W.contents answers.new) (E.contents faults.old) (E.contents faults.new)) }
@@ -40,12 +40,13 @@ pub fn write_folder_page<S: PartLedgers, W: Write, E: Write>(
     count_fits(&whole);
     let roots = open_tables(alloc, whole.trunk())?;
     let sum = list_sum(alloc, folder, parts, &roots)?;
+    let heading = Heading {
+        title: folder,
+        maker: *maker,
+        ledgers: LedgerSum::Folder(sum),
+    };
     let page = Page {
-        heading: Heading {
-            title: folder,
-            program: *program,
-            ledgers: LedgerSum::Folder(sum),
-        },
+        heading: &heading,
         census: &counting.census,
     };
     tell_whole(alloc, &page, &whole, is_sound, answers)
@@ -62,13 +63,13 @@ fn count_fits(whole: &Whole)
 /// Writes the page of a folder of a host's files, as `write_folder_page` does.
 pub fn folder_page_at<H: Files, W: Write, E: Write>(
     alloc: Global,
-    program: &Program<'_>,
+    maker: &Maker<'_>,
     folder: &str,
     host: &H,
     answers: &mut W,
     faults: &mut E,
 ) -> Result<Outcome, Ended>
-    ensures tells { IfOk result (TellsFolder program.now.version.now program.now.sum (finds_at (H.holds host.now))
+    ensures tells { IfOk result (TellsFolder maker.now.version.now maker.now.sum (finds_at (H.holds host.now))
         folder.now (W.contents answers.old) (W.contents answers.new) (E.contents faults.old)
         (E.contents faults.new)) }
     ensures ended { IfErr result (λ e. EndsTelling (finds_at (H.holds host.now)) folder.now e (W.contents answers.old)
@@ -78,5 +79,5 @@ pub fn folder_page_at<H: Files, W: Write, E: Write>(
         host,
         written: None,
     };
-    write_folder_page(alloc, program, folder, &parts, answers, faults)
+    write_folder_page(alloc, maker, folder, &parts, answers, faults)
 }

@@ -26,7 +26,13 @@ pub(crate) fn list_sum<S: PartLedgers>(
 {
     let mut list = Vec::new(alloc);
     append_parts(alloc, folder, parts, roots, &mut list)?;
-    append_ledger(alloc, parts, &trunk_path(alloc, folder)?, b"trunk", &mut list)?;
+    append_ledger(
+        alloc,
+        parts,
+        &trunk_path(alloc, folder)?,
+        b"trunk",
+        &mut list,
+    )?;
     Ok(sum_of_list(&list))
 }
 

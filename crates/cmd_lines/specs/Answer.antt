@@ -64,9 +64,9 @@ AnswersRecord r NoMemory answer = ⊥
 AnswersRecord r Failed answer = ⊥
 
 -- whether it is accepted, by what its certificate shows, if it stands
-abbrev pub outcome_by : Option Judged → Outcome
-outcome_by (Some judged) = Accepted
-outcome_by None = Refused
+abbrev pub outcome_shown : Option Judged → Outcome
+outcome_shown (Some judged) = Accepted
+outcome_shown None = Refused
 
 -- what is read of a line, which is none where it was too long
 abbrev pub read_line : Option (List ℕ) → Result Recorded RecordFault

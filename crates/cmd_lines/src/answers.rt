@@ -4,7 +4,7 @@ ghost use Rattle.machine_text.specs.Text.{text_of};
 ghost use Rattle.cert.specs.Certified.{IsShownBy};
 ghost use Rattle.cert.specs.Claim.{score_by};
 ghost use Rattle.cert.specs.Kinds.{recorded, read_as};
-ghost use Rattle.cmd_lines.specs.Answer.{Answers, AnswersRecord, outcome_by, ones_text, read_line, verdict_text, text_fault_text, fault_text};
+ghost use Rattle.cmd_lines.specs.Answer.{Answers, AnswersRecord, outcome_shown, ones_text, read_line, verdict_text, text_fault_text, fault_text};
 ghost use Rattle.cmd_taking.specs.Taken.{lent};
 
 use cert::{Judged, Record, RecordFault, append_table, judge_on, standing_claims_are_true};
@@ -20,7 +20,7 @@ pub fn answer(alloc: Global, line: Option<&[u8]>, out: &mut Vec<u8>) -> Result<O
         × (out.new.items ≡ out.old.items ++ answer ++ 10 ∷ [])) }
 {
     let outcome = match read_line(line) {
-        Ok(record) => outcome_by(&answer_record(alloc, &record, out)?),
+        Ok(record) => outcome_shown(&answer_record(alloc, &record, out)?),
         Err(fault) => {
             append_fault(fault, out)?;
             Outcome::Refused
@@ -47,7 +47,7 @@ pub fn answer_record(
     out: &mut Vec<u8>,
 ) -> Result<Option<Judged>, NoMemory>
     ensures answer { IfOk result (λ judged. (answer : List ℕ)
-        × AnswersRecord (recorded r.now) (outcome_by judged) answer × (out.new.items ≡ out.old.items ++ answer)) }
+        × AnswersRecord (recorded r.now) (outcome_shown judged) answer × (out.new.items ≡ out.old.items ++ answer)) }
     ensures shown { IfOk result (λ judged. IfSome judged (IsShownBy (recorded r.now))) }
 {
     standing_claims_are_true();
@@ -69,8 +69,8 @@ pub fn answer_record(
 }
 
 /// Whether a record was accepted, by what its certificate shows.
-pub fn outcome_by(judged: &Option<Judged>) -> Outcome
-    ensures { result ≡ outcome_by judged.now }
+pub fn outcome_shown(judged: &Option<Judged>) -> Outcome
+    ensures { result ≡ outcome_shown judged.now }
 {
     match judged {
         Some(_) => Outcome::Accepted,

@@ -13,7 +13,7 @@ use std::io::{self, Write};
 #[derive(Drop)]
 pub struct Page<'a> {
     /// What it is of.
-    pub heading: Heading<'a>,
+    pub heading: &'a Heading<'a>,
     /// How many records there are.
     pub census: &'a Census,
 }
@@ -26,12 +26,12 @@ impl ReportForm for Page<'_> {
     type Made = MadePage;
 
     ghost is_text = { λ page. IsPageWith (slice_index page.census.now.kinds)
-        (slice_index page.census.now.entries) page.heading };
+        (slice_index page.census.now.entries) page.heading.now };
 
     ghost bytes = { bytes_of_page };
 
     fn make(&self, alloc: Global, told: Told, left: &Left) -> Result<MadePage, NoMemory> {
-        told_page(alloc, &self.heading, self.census, told, left)
+        told_page(alloc, self.heading, self.census, told, left)
     }
 
     fn write<W: Write>(&self, made: MadePage, answers: &mut W) -> io::Result<()> {

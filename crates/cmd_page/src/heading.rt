@@ -9,12 +9,12 @@ use std::marker::Model;
 use sums::append_hex;
 
 /// What a page is of, and what it is made from, so that it can be cited.
-#[derive(Clone, Copy, Debug)]
+#[derive(Drop)]
 pub struct Heading<'a> {
     /// The title, which may have any bytes.
     pub title: &'a str,
     /// The program that makes it.
-    pub program: Program<'a>,
+    pub maker: Maker<'a>,
     /// The SHA-256 of what the page is of.
     pub ledgers: LedgerSum,
 }
@@ -26,15 +26,15 @@ impl<'a> Model for Heading<'a> {
 
     ghost view = { λ h. record {
       title = h.title.now;
-      version = h.program.version.now;
-      program = h.program.sum;
+      version = h.maker.version.now;
+      program = h.maker.sum;
       ledgers = h.ledgers;
     } };
 }
 
 /// A program that makes pages.
 #[derive(Clone, Copy, Debug)]
-pub struct Program<'a> {
+pub struct Maker<'a> {
     /// The version.
     pub version: &'a str,
     /// The SHA-256 of its own bytes; none where they can't be read.
@@ -58,9 +58,9 @@ pub(crate) fn append_origin(heading: &Heading<'_>, out: &mut Vec<u8>) -> Result<
 {
     append_name(b"Made by", out)?;
     out.extend_from_slice(b"bb ")?;
-    append_escaped(heading.program.version.as_bytes(), out)?;
+    append_escaped(heading.maker.version.as_bytes(), out)?;
     append_end(out)?;
-    append_program(heading.program.sum, out)?;
+    append_program(heading.maker.sum, out)?;
     append_ledgers(heading.ledgers, out)
 }
 

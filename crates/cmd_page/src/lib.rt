@@ -27,7 +27,7 @@ mod writing;
 
 pub use census::Census;
 pub use form::Page;
-pub use heading::{Heading, LedgerSum, Program};
+pub use heading::{Heading, LedgerSum, Maker};
 pub use laws::{escaped_is_plain, tables_need_no_escape};
 pub use making::MadePage;
 pub use page::{write_ledger_page, write_page};

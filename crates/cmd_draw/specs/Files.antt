@@ -10,22 +10,22 @@ use Rattle.cmd_options.specs.declared.outcome.Outcome.{Outcome}
 use Rattle.cmd_options.specs.declared.outcome.Outcome.TheVariants.{Accepted, Refused}
 use Rattle.cmd_taking.specs.Said.{TakesStream}
 use Rattle.files.specs.Paths.{IsKept, IsToldStill, SameFile, Shelf}
-use Rattle.cmd_draw.specs.Asked.{table_asked}
+use Rattle.cmd_show.specs.Asked.{table_asked}
 use Rattle.cmd_draw.specs.Picture.{IsPicture}
 use Rattle.cmd_draw.specs.Placing.{PutsFile}
 
 -- what the name of a picture ends with: of a PNG, or of an SVG
-abbrev pub ending : Bool → List ℕ
-ending true = codes ".png"
-ending false = codes ".svg"
+abbrev pub name_ending : Bool → List ℕ
+name_ending true = codes ".png"
+name_ending false = codes ".svg"
 
 -- the path of a picture in a folder
-abbrev pub path_within : Bool → List ℕ → List ℕ → List ℕ
-path_within png folder name = folder ++ codes "/" ++ name ++ ending png
+abbrev pub named_path : Bool → List ℕ → List ℕ → List ℕ
+named_path png folder name = folder ++ codes "/" ++ name ++ name_ending png
 
 -- that of the picture of a table
 abbrev pub picture_path : Bool → List ℕ → Packed → List ℕ
-picture_path png folder t = path_within png folder (text_of t)
+picture_path png folder t = named_path png folder (text_of t)
 
 abbrev pub drawn_text : Packed → List ℕ
 drawn_text t = text_of t ++ codes " drawn"

@@ -1,5 +1,4 @@
 pub mod Picture
-pub mod Asked
 pub mod Said
 pub mod Placing
 pub mod Files

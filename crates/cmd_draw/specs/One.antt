@@ -9,7 +9,7 @@ use Rattle.cmd_options.specs.declared.drawing.Drawing.{Drawing}
 use Rattle.cmd_options.specs.declared.outcome.Outcome.{Outcome}
 use Rattle.cmd_options.specs.declared.outcome.Outcome.TheVariants.{Accepted, Refused}
 use Rattle.cmd_draw.specs.declared.one.First.{First}
-use Rattle.cmd_draw.specs.Asked.{table_asked}
+use Rattle.cmd_show.specs.Asked.{table_asked}
 use Rattle.cmd_draw.specs.Picture.{IsPicture}
 use Rattle.cmd_taking.specs.Said.{TakesStream}
 

@@ -47,9 +47,9 @@ abbrev pub size_of : Drawing → Size
 size_of d = record { square = d.square; height = d.height }
 
 -- a document, or a PNG file
-abbrev pub bytes_of : Bool → Packed → View → Size → List Shown → List ℕ
-bytes_of false t v size rows = svg_text t v size rows
-bytes_of true t v size rows = png_text v size.square rows
+abbrev pub picture_bytes : Bool → Packed → View → Size → List Shown → List ℕ
+picture_bytes false t v size rows = svg_text t v size rows
+picture_bytes true t v size rows = png_text v size.square rows
 
 -- the picture of a table's run from the blank tape: at these times, of these cells
 pub record IsPicture (d : Drawing) (t : Packed) (text : List ℕ) : Type 0 where
@@ -57,4 +57,4 @@ pub record IsPicture (d : Drawing) (t : Packed) (text : List ℕ) : Type 0 where
   pub rows : List Shown
   pub cells_are : IsViewOf d.width (entry_of t) (times_of d) cells
   pub rows_are : AreRows (entry_of t) (in_columns d.columns cells) (times_of d) 0 rows
-  pub is : text ≡ bytes_of d.png t (in_columns d.columns cells) (size_of d) rows
+  pub is : text ≡ picture_bytes d.png t (in_columns d.columns cells) (size_of d) rows

@@ -3,17 +3,17 @@ ghost use Rattle.std.specs.Prelude.{◌≡◌, ◌++◌, ℕ, IfErr, IfOk, List,
 ghost use Rattle.cmd_taking.specs.Said.{TakesStream};
 ghost use Rattle.cmd_taking.specs.Taken.{lent};
 ghost use Rattle.files.specs.Paths.{IsKept, IsToldStill};
-ghost use Rattle.cmd_draw.specs.Asked.{table_asked};
-ghost use Rattle.cmd_draw.specs.Files.{AnswersAsked, DrawsFiles, DrawsLine, DrawsTable, drawn_text, ending, path_within, picture_path};
+ghost use Rattle.cmd_show.specs.Asked.{table_asked};
+ghost use Rattle.cmd_draw.specs.Files.{AnswersAsked, DrawsFiles, DrawsLine, DrawsTable, drawn_text, name_ending, named_path, picture_path};
 ghost use Rattle.cmd_draw.specs.Placing.{PutsFile};
 ghost use Rattle.cmd_draw.specs.Said.{EndsDrawing};
 
-use crate::asked::table_asked;
 use crate::picturing::picture_of;
 use crate::placing::put_file;
 use cert::append_table;
 use cmd_lines::append_fault;
 use cmd_options::{Drawing, Ended, Outcome, ended_by};
+use cmd_show::table_asked;
 use cmd_taking::{Sayer, say_lines};
 use files::Files;
 use machine_text::{TEXT_BYTES, Table};
@@ -161,43 +161,33 @@ pub fn put_picture<H: Files>(
 }
 
 /// The path of the picture of a table in a folder, a PNG or an SVG.
-pub fn picture_path(
-    alloc: Global,
-    folder: &str,
-    t: &Table,
-    png: bool,
-) -> Result<String, NoMemory>
+pub fn picture_path(alloc: Global, folder: &str, t: &Table, png: bool) -> Result<String, NoMemory>
     ensures { IfOk result (λ path. string_bytes path ≡ picture_path png folder.now t.now) }
 {
     // The proof needs that it is a table.
     let _ = t.states();
     let mut buffer = [0; TEXT_BYTES];
     match str::from_utf8(t.text(&mut buffer)) {
-        Ok(name) => path_within(alloc, folder, name, png),
+        Ok(name) => named_path(alloc, folder, name, png),
         Err(_) => unreachable!(),
     }
 }
 
 // The path of a picture in a folder.
-fn path_within(
-    alloc: Global,
-    folder: &str,
-    name: &str,
-    png: bool,
-) -> Result<String, NoMemory>
-    ensures { IfOk result (λ path. string_bytes path ≡ path_within png folder.now name.now) }
+fn named_path(alloc: Global, folder: &str, name: &str, png: bool) -> Result<String, NoMemory>
+    ensures { IfOk result (λ path. string_bytes path ≡ named_path png folder.now name.now) }
 {
     let mut path = String::new(alloc);
     path.push_str(folder)?;
     path.push_str("/")?;
     path.push_str(name)?;
-    path.push_str(ending(png))?;
+    path.push_str(name_ending(png))?;
     Ok(path)
 }
 
 // What the name of a picture ends with.
-fn ending(png: bool) -> &'static str
-    ensures { result.now ≡ ending png }
+fn name_ending(png: bool) -> &'static str
+    ensures { result.now ≡ name_ending png }
 {
     if png { ".png" } else { ".svg" }
 }

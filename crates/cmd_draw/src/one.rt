@@ -4,11 +4,11 @@ ghost use Rattle.cmd_lines.specs.Answer.{fault_text};
 ghost use Rattle.cmd_draw.specs.One.{DrawsFirst, PicksTable, WritesPicture};
 ghost use Rattle.cmd_draw.specs.Said.{EndsDrawing};
 
-use crate::asked::table_asked;
 use crate::picturing::picture_of;
 use cert::RecordFault;
 use cmd_lines::append_fault;
 use cmd_options::{Drawing, Ended, Outcome};
+use cmd_show::table_asked;
 use cmd_taking::{PIECE_BYTES, Sayer, say_lines};
 use machine_text::Table;
 use std::alloc::Global;

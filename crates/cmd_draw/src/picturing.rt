@@ -3,7 +3,7 @@ ghost use Rattle.std.specs.Prelude.{◌≡◌, ◌<◌, List, IfOk};
 ghost use Rattle.machine_text.specs.Packed.{entry_of};
 ghost use Rattle.cmd_picture.specs.Rows.{Shown, AreRows};
 ghost use Rattle.cmd_picture.specs.Times.{AreWithinRuns};
-ghost use Rattle.cmd_draw.specs.Picture.{IsPicture, IsViewOf, bytes_of, centred, size_of, times_of};
+ghost use Rattle.cmd_draw.specs.Picture.{IsPicture, IsViewOf, picture_bytes, centred, size_of, times_of};
 
 use cmd_options::Drawing;
 use cmd_picture::{Size, Times, View, placement, png_file, svg};
@@ -19,11 +19,11 @@ pub fn picture_of(alloc: Global, t: &Table, drawing: &Drawing<'_>) -> Result<Vec
     let times = times_of(drawing);
     let cells = view_of(alloc, t, times, drawing.width)?;
     let view = cells.in_columns(drawing.columns);
-    bytes_of(alloc, *t, view, times, drawing)
+    picture_bytes(alloc, *t, view, times, drawing)
 }
 
 // The picture at these times, in these columns: a document, or a PNG file.
-fn bytes_of(
+fn picture_bytes(
     alloc: Global,
     t: Table,
     view: View,
@@ -33,7 +33,7 @@ fn bytes_of(
     requires times { AreWithinRuns times }
     requires share { 0 < view.share }
     ensures { IfOk result (λ text. (rows : List Shown) × AreRows (entry_of t) view times 0 rows
-        × (text.items ≡ bytes_of drawing.now.png t view (size_of drawing.now) rows)) }
+        × (text.items ≡ picture_bytes drawing.now.png t view (size_of drawing.now) rows)) }
 {
     if drawing.png {
         png_file(alloc, t, view, times, drawing.square)

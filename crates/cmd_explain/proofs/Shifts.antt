@@ -16,7 +16,7 @@ use Rattle.law_turing.proofs.Steps.{takes, taken_takes, next_taken}
 use Rattle.law_turing.proofs.RunLaws.{next_is, before}
 use Rattle.law_turing.proofs.Exchanges.{shift_moved, shift_apart}
 use Rattle.law_turing.proofs.TranslatedLaws.{beyond_moved}
-use Rattle.cmd_explain.specs.Shifting.{IsMoved, IsMovedEachPeriod, IsHeadAt, cells_to}
+use Rattle.cmd_explain.specs.Shifting.{IsShiftedBy, IsMovedEachPeriod, HasHeadAt, cells_to}
 
 -- steps from two configurations of which one is the other moved are by one entry; where the head of the first is then
 -- isn't said
@@ -27,7 +27,7 @@ record Follows (m : Machine) (side : Dir) (b t : ℤ) (c d : Config) : Type 0 wh
   head : to.tape.head ≡ c.tape.head +ℤ t
   cells : (x : ℤ) → Beyond side b x → cell to (x +ℤ t) ≡ cell c x
 
-moved_steps : (m : Machine) (side : Dir) (b t : ℤ) (c d c' : Config) → IsMoved side b t c d → next m c ≡ Some c' → Follows m side b t c' d
+moved_steps : (m : Machine) (side : Dir) (b t : ℤ) (c d c' : Config) → IsShiftedBy side b t c d → next m c ≡ Some c' → Follows m side b t c' d
 moved_steps m side b t c d c' moved is =
     let (e, s) = takes m c c' is in
     let read : symbol_read d.tape ≡ symbol_read c.tape = ap (cell d) moved.head ∙ moved.cells c.tape.head moved.beyond in
@@ -51,7 +51,7 @@ record Held (m : Machine) (side : Dir) (b t : ℤ) (i p n : ℕ) : Type 0 where
   there : Config
   at_here : after m n ≡ Some here
   at_there : after m (n + p) ≡ Some there
-  moved : IsMoved side b t here there
+  moved : IsShiftedBy side b t here there
   bound : (k : ℕ) (c : Config) → i ≤ k → k < n + p → after m k ≡ Some c → Beyond side b c.tape.head
 
 held_next : (m : Machine) (side : Dir) (b t : ℤ) (i p n : ℕ) → 0 < p → i ≤ n → Beyond side (pos 0) t → Held m side b t i p n → Held m side b t i p (suc n)
@@ -113,12 +113,12 @@ moved_each_period m i j side n cycle shift_is = record { bound = cycle.bound; mo
     }
 
     moved : (k : ℕ) → i ≤ k → (c d : Config) × (after m k ≡ Some c) × (after m (k + (j - i)) ≡ Some d)
-        × IsMoved side cycle.bound (cells_to side n) c d
+        × IsShiftedBy side cycle.bound (cells_to side n) c d
     moved k from_i =
         let here : i + (k - i) ≡ k = omega arith in
         let held : Held m side cycle.bound cycle.shift i (j - i) k =
         subst (Held m side cycle.bound cycle.shift i (j - i)) here (held_on m side cycle.bound cycle.shift i (j - i) (omega arith) cycle.onward first (k - i)) in
-        (held.here, held.there, held.at_here, held.at_there, subst (λ t. IsMoved side cycle.bound t held.here held.there) (sym shift_is) held.moved)
+        (held.here, held.there, held.at_here, held.at_there, subst (λ t. IsShiftedBy side cycle.bound t held.here held.there) (sym shift_is) held.moved)
 
 -- so many cells to the side onward are the shift
 shift_of : (side : Dir) (t : ℤ) → Beyond side (pos 0) t → (a b : ℤ) → b ≡ a +ℤ t → cells_to side (unsigned_abs (a -ℤ b)) ≡ t
@@ -126,7 +126,7 @@ shift_of R t onward a b moved = omega (arith, ints)
 shift_of L t onward a b moved = omega (arith, ints)
 
 -- where the head is at both times, and the shift by that
-pub moved_between : (m : Machine) (i j : ℕ) (side : Dir) (a b : ℤ) (n : ℕ) → Translated m i j side → IsHeadAt m i a → IsHeadAt m j b →
+pub moved_between : (m : Machine) (i j : ℕ) (side : Dir) (a b : ℤ) (n : ℕ) → Translated m i j side → HasHeadAt m i a → HasHeadAt m j b →
     n ≡ unsigned_abs (a -ℤ b) → IsMovedEachPeriod m side i (j - i) n
 moved_between m i j side a b n cycle begin end is =
     let begin_is : a ≡ cycle.begin.tape.head = begin.here ∙ ap (λ (c : Config). c.tape.head) (same_Some begin.at cycle.begin (sym begin.is ∙ cycle.begins)) in

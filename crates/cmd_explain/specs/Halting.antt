@@ -9,8 +9,8 @@ use Rattle.run.specs.declared.halts_in.HaltsIn.{HaltsIn}
 use Rattle.cmd_explain.specs.Quantity.{sentence, quantity}
 
 -- states have letters, from A on, which is 65
-abbrev pub letter_of : ℕ → List ℕ
-letter_of q = (65 + q) ∷ []
+abbrev pub letter_of_state : ℕ → List ℕ
+letter_of_state q = (65 + q) ∷ []
 
 -- so many steps and ones, the letter of the last state, and the symbol that it reads
 unfoldable pub halting_text : ℕ → ℕ → List ℕ → List ℕ → List ℕ
@@ -20,7 +20,7 @@ halting_text steps ones state symbol = sentence (
     ∷ codes " on the symbol " ∷ symbol ∷ codes ", for which it has no entry.\n" ∷ [])
 
 abbrev pub halting_words : ℕ → ℕ → Pair → List ℕ
-halting_words steps ones pair = halting_text steps ones (letter_of pair.state.0) (symbol_byte pair.symbol ∷ [])
+halting_words steps ones pair = halting_text steps ones (letter_of_state pair.state.0) (symbol_byte pair.symbol ∷ [])
 
 pub record TellsHalting (p : Packed) (e : HaltsIn) (words : List ℕ) : Type 0 where
   pub ones : ℕ

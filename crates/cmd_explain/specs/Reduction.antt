@@ -9,7 +9,7 @@ use Rattle.far.specs.Automata.{Automata, described}
 use Rattle.kind_listed.specs.Automata.{ListedAutomata, described_by}
 use Rattle.kind_listed.specs.Texts.{ListedTexts, automata_of_texts}
 use Rattle.cmd_explain.specs.Quantity.{sentence, quantity}
-use Rattle.cmd_explain.specs.Sides.{ahead, behind}
+use Rattle.cmd_explain.specs.Sides.{ahead, side_behind}
 
 -- the configurations that don't lead to the halt state are kept: the start is one of them, and none that comes to a
 -- halting pair is
@@ -20,16 +20,16 @@ pub record KeepsFromHalting (n : ℕ) (m : Machine) (side : Dir) (a : TwoAutomat
 
 -- so many states of the first automaton, the side that it reads, and the other one
 unfoldable pub reduction_text : ℕ → List ℕ → List ℕ → List ℕ
-reduction_text size behind ahead = sentence (
+reduction_text size side_behind ahead = sentence (
     codes "Finite automata reduction (FAR): a first automaton, of " ∷ quantity size (codes "state")
-    ∷ codes ", reads the half tape on the " ∷ behind
+    ∷ codes ", reads the half tape on the " ∷ side_behind
     ∷ codes " of the head, from far away to the head.\nFrom the pair of its last state and the machine's a second one "
     ∷ codes "reads on: the symbol under the head, and then those on the " ∷ ahead
     ∷ codes ".\nKept are the configurations from which that cannot come to its halt state: the start is one, and none "
     ∷ codes "that halts, at once or later.\nSo it never halts.\n" ∷ [])
 
 abbrev pub reduction_words : Dir → ℕ → List ℕ
-reduction_words side size = reduction_text size (behind side) (ahead side)
+reduction_words side size = reduction_text size (side_behind side) (ahead side)
 
 pub record TellsFar (p : Packed) (a : Automata) (words : List ℕ) : Type 0 where
   pub keeps : KeepsFromHalting p.states (entry_of p) a.side (described a)

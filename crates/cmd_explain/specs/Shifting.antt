@@ -8,7 +8,7 @@ use Rattle.law_turing.specs.Run.{Config, cell, after}
 use Rattle.law_turing.specs.Translated.{Beyond}
 use Rattle.loops.specs.declared.translated.Translated.{Translated}
 use Rattle.cmd_explain.specs.Quantity.{sentence, quantity, interval}
-use Rattle.cmd_explain.specs.Sides.{ahead, behind}
+use Rattle.cmd_explain.specs.Sides.{ahead, side_behind}
 
 -- so many cells to a side
 abbrev pub cells_to : Dir → ℕ → ℤ
@@ -16,7 +16,7 @@ cells_to R n = pos n
 cells_to L n = pos 0 -ℤ pos n
 
 -- one configuration is another one moved so many cells, but for the cells before a bound, where the head isn't
-pub record IsMoved (side : Dir) (bound shift : ℤ) (c d : Config) : Type 0 where
+pub record IsShiftedBy (side : Dir) (bound shift : ℤ) (c d : Config) : Type 0 where
   pub state : d.state ≡ c.state
   pub head : d.tape.head ≡ c.tape.head +ℤ shift
   pub beyond : Beyond side bound c.tape.head
@@ -27,7 +27,7 @@ pub record IsMoved (side : Dir) (bound shift : ℤ) (c d : Config) : Type 0 wher
 pub record IsMovedEachPeriod (m : Machine) (side : Dir) (from period shift : ℕ) : Type 0 where
   pub bound : ℤ
   pub moved : (k : ℕ) → from ≤ k → (c d : Config) × (after m k ≡ Some c) × (after m (k + period) ≡ Some d)
-      × IsMoved side bound (cells_to side shift) c d
+      × IsShiftedBy side bound (cells_to side shift) c d
 
 -- how the configuration differs: by a shift, unless it stays where it is
 abbrev pub shift_words : Dir → ℕ → List ℕ
@@ -38,11 +38,11 @@ shift_words side shift =
 abbrev pub translated_words : Dir → ℕ → ℕ → ℕ → List ℕ
 translated_words side from period shift = sentence (
     codes "From step " ∷ decimal from ∷ codes " on, every " ∷ interval period (codes "step")
-    ∷ codes " the configuration is the same " ∷ shift_words side shift ∷ codes "for cells on the " ∷ behind side
+    ∷ codes " the configuration is the same " ∷ shift_words side shift ∷ codes "for cells on the " ∷ side_behind side
     ∷ codes ", to which the head never comes back.\nSo it never halts.\n" ∷ [])
 
 -- where the head is at a time
-pub record IsHeadAt (m : Machine) (time : ℕ) (head : ℤ) : Type 0 where
+pub record HasHeadAt (m : Machine) (time : ℕ) (head : ℤ) : Type 0 where
   pub at : Config
   pub is : after m time ≡ Some at
   pub here : head ≡ at.tape.head

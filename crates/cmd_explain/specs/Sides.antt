@@ -8,6 +8,6 @@ abbrev pub ahead : Dir → List ℕ
 ahead L = codes "left"
 ahead R = codes "right"
 
-abbrev pub behind : Dir → List ℕ
-behind L = codes "right"
-behind R = codes "left"
+abbrev pub side_behind : Dir → List ℕ
+side_behind L = codes "right"
+side_behind R = codes "left"

@@ -5,7 +5,7 @@ ghost use Rattle.machine_text.specs.Packed.{entry_of};
 ghost use Rattle.machine_text.specs.Text.{symbol_byte};
 ghost use Rattle.law_turing.specs.Halting.{HaltsOn};
 ghost use Rattle.law_turing.specs.Score.{HaltsWith};
-ghost use Rattle.cmd_explain.specs.Halting.{TellsHalting, halting_text, halting_words, letter_of};
+ghost use Rattle.cmd_explain.specs.Halting.{TellsHalting, halting_text, halting_words, letter_of_state};
 
 use crate::quantity::Quantity;
 use kind_evidence::NoMemory;
@@ -40,7 +40,7 @@ fn words(alloc: Global, steps: u64, ones: u64, pair: Pair) -> Result<String, NoM
         alloc,
         steps,
         ones,
-        letter_of(pair.state),
+        letter_of_state(pair.state),
         digit_of(pair.symbol),
     )?;
     Ok(words)
@@ -65,9 +65,9 @@ fn text(alloc: Global, steps: u64, ones: u64, state: &str, symbol: &str) -> Resu
 }
 
 /// The letter of a state.
-pub(crate) fn letter_of(state: State) -> &'static str
+pub(crate) fn letter_of_state(state: State) -> &'static str
     requires { state.0 < state_limit }
-    ensures { result.now ≡ letter_of state.0 }
+    ensures { result.now ≡ letter_of_state state.0 }
 {
     match state.0 {
         0 => "A",

@@ -3,7 +3,7 @@ ghost use Rattle.std.specs.Prelude.{◌≡◌, IfOk, string_bytes};
 ghost use Rattle.machine_text.specs.Packed.{IsTable};
 ghost use Rattle.kind_named.specs.Named.{NeverByName};
 ghost use Rattle.law_machines.specs.Tables.{machine_name};
-ghost use Rattle.cmd_explain.specs.Named.{TellsNamed, file_of, form_of, named_text, skelet1_words};
+ghost use Rattle.cmd_explain.specs.Named.{TellsNamed, proof_file, machine_form, named_text, skelet1_words};
 
 use kind_evidence::NoMemory;
 use law_machines::ProvedMachine;
@@ -31,9 +31,9 @@ pub fn named_words(alloc: Global, t: &Table) -> Result<String, NoMemory>
 
 fn proved_words(alloc: Global, machine: ProvedMachine) -> Result<String, NoMemory>
     ensures { IfOk result (λ words. string_bytes words
-        ≡ named_text (machine_name machine) (form_of machine) (file_of machine)) }
+        ≡ named_text (machine_name machine) (machine_form machine) (proof_file machine)) }
 {
-    let words = text(alloc, machine, form_of(machine), file_of(machine))?;
+    let words = text(alloc, machine, machine_form(machine), proof_file(machine))?;
     Ok(words)
 }
 
@@ -51,8 +51,8 @@ const COUNTER: &str =
                        overflows into the left one";
 
 // What its configurations look like.
-fn form_of(machine: ProvedMachine) -> &'static str
-    ensures { result.now ≡ form_of machine }
+fn machine_form(machine: ProvedMachine) -> &'static str
+    ensures { result.now ≡ machine_form machine }
 {
     match machine {
         ProvedMachine::Skelet10 => {
@@ -67,8 +67,8 @@ fn form_of(machine: ProvedMachine) -> &'static str
 }
 
 // Where its proof stands.
-fn file_of(machine: ProvedMachine) -> &'static str
-    ensures { result.now ≡ file_of machine }
+fn proof_file(machine: ProvedMachine) -> &'static str
+    ensures { result.now ≡ proof_file machine }
 {
     match machine {
         ProvedMachine::Skelet10 => "crates/law_machines/proofs/Skelet10.antt",

@@ -6,7 +6,7 @@ ghost use Rattle.kind_listed.specs.Listed.{AreTextsOf, texts_of};
 ghost use Rattle.cmd_explain.specs.Reduction.{TellsFar, TellsListed, reduction_text, reduction_words};
 
 use crate::quantity::Quantity;
-use crate::sides::{ahead, behind};
+use crate::sides::{ahead, side_behind};
 use far::Far;
 use kind_evidence::NoMemory;
 use kind_listed::Listed;
@@ -55,7 +55,7 @@ fn words_of_listed(alloc: Global, e: &Listed) -> Result<String, NoMemory>
 fn words(alloc: Global, side: Dir, size: u64) -> Result<String, NoMemory>
     ensures { IfOk result (λ words. string_bytes words ≡ reduction_words side size) }
 {
-    let words = text(alloc, size, behind(side), ahead(side))?;
+    let words = text(alloc, size, side_behind(side), ahead(side))?;
     Ok(words)
 }
 

@@ -6,10 +6,10 @@ ghost use Rattle.law_turing.specs.Halting.{Never};
 ghost use Rattle.law_turing.specs.Run.{after};
 ghost use Rattle.law_turing.specs.Translated.{Translated as IsTranslated};
 ghost use Rattle.loops.specs.Limits.{time_limit};
-ghost use Rattle.cmd_explain.specs.Shifting.{IsMovedEachPeriod, IsHeadAt, TellsTranslated, shift_words, translated_words};
+ghost use Rattle.cmd_explain.specs.Shifting.{IsMovedEachPeriod, HasHeadAt, TellsTranslated, shift_words, translated_words};
 
 use crate::quantity::{Interval, Quantity};
-use crate::sides::{ahead, behind};
+use crate::sides::{ahead, side_behind};
 use kind_evidence::NoMemory;
 use loops::Translated;
 use machine_text::{Dir, Table};
@@ -49,7 +49,7 @@ fn apart(a: i64, b: i64) -> u64
 fn head_at(alloc: Global, t: &Table, time: u64) -> Result<i64, NoMemory>
     requires never { Never (entry_of t.now) }
     requires within { time ≤ time_limit }
-    ensures { IfOk result (IsHeadAt (entry_of t.now) time) }
+    ensures { IfOk result (HasHeadAt (entry_of t.now) time) }
 {
     let mut runner = Runner::new(alloc, *t)?;
     arrive(&mut runner, time)?;
@@ -77,7 +77,7 @@ fn words(alloc: Global, side: Dir, from: u64, period: u64, shift: u64) -> Result
         noun: "step",
     };
     let shift = shift_words(alloc, side, shift)?;
-    let behind = behind(side);
+    let behind = side_behind(side);
     format!(in alloc;
         "From step {from} on, every {period} the configuration is the same {shift}for cells on the {behind}, to which the \
          head never comes back.\nSo it never halts.\n"

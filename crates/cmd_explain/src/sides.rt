@@ -1,6 +1,6 @@
 // Sides in words.
 ghost use Rattle.std.specs.Prelude.{◌≡◌};
-ghost use Rattle.cmd_explain.specs.Sides.{ahead, behind};
+ghost use Rattle.cmd_explain.specs.Sides.{ahead, side_behind};
 
 use machine_text::Dir;
 
@@ -15,8 +15,8 @@ pub(crate) fn ahead(side: Dir) -> &'static str
 }
 
 /// The other one.
-pub(crate) fn behind(side: Dir) -> &'static str
-    ensures { result.now ≡ behind side }
+pub(crate) fn side_behind(side: Dir) -> &'static str
+    ensures { result.now ≡ side_behind side }
 {
     match side {
         Dir::L => "right",

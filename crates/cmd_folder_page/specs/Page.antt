@@ -14,26 +14,26 @@ use Rattle.cmd_parts.specs.Join.{Findings, TellsAll}
 use Rattle.cmd_parts.specs.Split.{path_within}
 
 -- the line of the ledger that is found at a path, under its name in the folder; none where nothing is found
-abbrev pub IsLine : Findings → List ℕ → List ℕ → List ℕ → Type 0
-IsLine Finds path name line =
+abbrev pub IsListLine : Findings → List ℕ → List ℕ → List ℕ → Type 0
+IsListLine Finds path name line =
     (Finds path None × (line ≡ []))
     ⊎ ((has : Option (List ℕ)) × (size : ℕ) × (sum : List ℕ) × Finds path (Some (has, size)) × IsSumOf has size sum
     × (line ≡ line_text sum (name ++ codes ".ledger")))
 
 -- those of the parts of these roots
-abbrev pub AreLines : Findings → List ℕ → List Packed → List ℕ → Type 0
-AreLines Finds folder [] lines = lines ≡ []
-AreLines Finds folder (root ∷ roots) lines =
-    (line : List ℕ) × (more : List ℕ) × IsLine Finds (path_within folder (text_of root)) (text_of root) line
-    × AreLines Finds folder roots more × (lines ≡ line ++ more)
+abbrev pub AreListLines : Findings → List ℕ → List Packed → List ℕ → Type 0
+AreListLines Finds folder [] lines = lines ≡ []
+AreListLines Finds folder (root ∷ roots) lines =
+    (line : List ℕ) × (more : List ℕ) × IsListLine Finds (path_within folder (text_of root)) (text_of root) line
+    × AreListLines Finds folder roots more × (lines ≡ line ++ more)
 
 -- the SHA-256 of the list that `sha256sum *.ledger` prints in a folder: of its parts, in the order of their roots, and then
 -- of its trunk
 pub record IsListSum (Finds : Findings) (folder : List ℕ) (roots : List Packed) (sum : List ℕ) : Type 0 where
   pub parts : List ℕ
   pub trunk : List ℕ
-  pub are_parts : AreLines Finds folder roots parts
-  pub is_trunk : IsLine Finds (path_within folder (codes "trunk")) (codes "trunk") trunk
+  pub are_parts : AreListLines Finds folder roots parts
+  pub is_trunk : IsListLine Finds (path_within folder (codes "trunk")) (codes "trunk") trunk
   pub is : sum ≡ sha256 (parts ++ trunk)
 
 -- the page of a folder, under its path: of a version of the program with this sum of its bytes

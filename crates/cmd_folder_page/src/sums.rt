@@ -3,7 +3,7 @@ ghost use Rattle.std.specs.Prelude.{◌≡◌, ◌++◌, codes, IfErr, IfOk, Lis
 ghost use Rattle.machine_text.specs.Text.{text_of};
 ghost use Rattle.cmd_parts.specs.Join.{FailsFile};
 ghost use Rattle.cmd_parts.specs.Split.{path_within};
-ghost use Rattle.cmd_folder_page.specs.Page.{AreLines, IsLine, IsListSum};
+ghost use Rattle.cmd_folder_page.specs.Page.{AreListLines, IsListLine, IsListSum};
 
 use cmd_options::{Ended, ended_by};
 use cmd_parts::{PartLedgers, part_path, trunk_path};
@@ -44,7 +44,7 @@ fn append_parts<S: PartLedgers>(
     roots: &[Table],
     list: &mut Vec<u8>,
 ) -> Result<(), Ended>
-    ensures ok { OnOk result ((lines : List ℕ) × AreLines (S.finds parts.now) folder.now roots.now lines
+    ensures ok { OnOk result ((lines : List ℕ) × AreListLines (S.finds parts.now) folder.now roots.now lines
         × (list.new.items ≡ list.old.items ++ lines)) }
     ensures err { IfErr result FailsFile }
 {
@@ -63,7 +63,7 @@ fn append_part<S: PartLedgers>(
     list: &mut Vec<u8>,
 ) -> Result<(), Ended>
     ensures ok { OnOk result ((line : List ℕ)
-        × IsLine (S.finds parts.now) (path_within folder.now (text_of root.now)) (text_of root.now) line
+        × IsListLine (S.finds parts.now) (path_within folder.now (text_of root.now)) (text_of root.now) line
         × (list.new.items ≡ list.old.items ++ line)) }
     ensures err { IfErr result FailsFile }
 {
@@ -80,7 +80,7 @@ fn append_ledger<S: PartLedgers>(
     name: &[u8],
     list: &mut Vec<u8>,
 ) -> Result<(), Ended>
-    ensures ok { OnOk result ((line : List ℕ) × IsLine (S.finds parts.now) path.now name.now line
+    ensures ok { OnOk result ((line : List ℕ) × IsListLine (S.finds parts.now) path.now name.now line
         × (list.new.items ≡ list.old.items ++ line)) }
     ensures err { IfErr result FailsFile }
 {

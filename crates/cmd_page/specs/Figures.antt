@@ -36,8 +36,8 @@ abbrev pub picture_times : ℕ → Times
 picture_times best = halting_times (min best halt_step_limit)
 
 -- all cells that a run visits, as many of them in a column as make it so few columns
-abbrev pub in_columns : View → View
-in_columns visited = record visited { share = share_in column_limit visited.width }
+abbrev pub columns_view : View → View
+columns_view visited = record visited { share = share_in column_limit visited.width }
 
 -- what is said of how a run is sampled
 abbrev pub every_text : ℕ → List ℕ
@@ -53,9 +53,9 @@ pub record IsChampionPicture (t : Packed) (best : ℕ) (html : List ℕ) : Type 
   pub visited : View
   pub rows : List Shown
   pub is_visited : IsPlaced (entry_of t) (picture_times best) visited
-  pub are_rows : AreRows (entry_of t) (in_columns visited) (picture_times best) 0 rows
-  pub is : html ≡ svg_text t (in_columns visited) picture_size rows
-      ++ sampling_html (in_columns visited) (picture_times best)
+  pub are_rows : AreRows (entry_of t) (columns_view visited) (picture_times best) 0 rows
+  pub is : html ≡ svg_text t (columns_view visited) picture_size rows
+      ++ sampling_html (columns_view visited) (picture_times best)
 
 -- a picture where there is to be one
 abbrev pub IsPictureIf : Bool → Packed → ℕ → List ℕ → Type 0

@@ -11,7 +11,7 @@ use Rattle.law_turing.specs.Tape.{cell_of}
 use Rattle.cmd_picture.specs.declared.tone.Tone.{Tone}
 use Rattle.cmd_picture.specs.declared.tone.Tone.TheVariants.{Pale, Dark}
 use Rattle.cmd_picture.specs.declared.view.View.{View}
-use Rattle.cmd_picture.specs.Tones.{ones_at, ones_from, is_toned, has_tone}
+use Rattle.cmd_picture.specs.Tones.{ones_at, ones_in_cells, is_toned, has_tone}
 use Rattle.cmd_picture.specs.View.{place, first_cell, cells_in}
 
 -- a column before that of a cell ends before the cell
@@ -33,23 +33,23 @@ pub place_more : (v : View) (i k : ℕ) → place v i +ℤ pos k ≡ place v (i 
 place_more v i k = omega (arith, ints)
 
 -- cells that are all blank hold no one
-pub no_ones_from : (ones : set.FinSet int_cmp) (x : ℤ) (n : ℕ) → ((k : ℕ) → k < n → cell_of ones (x +ℤ pos k) ≡ Zero) → ones_from ones x n ≡ 0
-unfolding ones_from
+pub no_ones_from : (ones : set.FinSet int_cmp) (x : ℤ) (n : ℕ) → ((k : ℕ) → k < n → cell_of ones (x +ℤ pos k) ≡ Zero) → ones_in_cells ones x n ≡ 0
+unfolding ones_in_cells
 no_ones_from ones x zero blank = refl
 no_ones_from ones x (suc n) blank =
-    let less : ones_from ones x n ≡ 0 = no_ones_from ones x n (λ k low. blank k (omega (arith, low))) in
+    let less : ones_in_cells ones x n ≡ 0 = no_ones_from ones x n (λ k low. blank k (omega (arith, low))) in
     let last : ones_at (cell_of ones (x +ℤ pos n)) ≡ 0 = ap ones_at (blank n (omega arith)) in
     omega (arith, less, last)
 
 -- nor do blank ones behind others hold more
-pub ones_from_longer : (ones : set.FinSet int_cmp) (x : ℤ) (m n : ℕ) → m ≤ n → ((k : ℕ) → m ≤ k → k < n → cell_of ones (x +ℤ pos k) ≡ Zero) → ones_from ones x n ≡ ones_from ones x m
-unfolding ones_from
-ones_from_longer ones x m zero less blank = ap (ones_from ones x) (let e : 0 ≡ m = omega arith in e)
+pub ones_from_longer : (ones : set.FinSet int_cmp) (x : ℤ) (m n : ℕ) → m ≤ n → ((k : ℕ) → m ≤ k → k < n → cell_of ones (x +ℤ pos k) ≡ Zero) → ones_in_cells ones x n ≡ ones_in_cells ones x m
+unfolding ones_in_cells
+ones_from_longer ones x m zero less blank = ap (ones_in_cells ones x) (let e : 0 ≡ m = omega arith in e)
 ones_from_longer ones x m (suc n) less blank =
     elim (cases_lt n m) [
-      | inl last ↦ ap (ones_from ones x) (let e : suc n ≡ m = omega arith in e)
+      | inl last ↦ ap (ones_in_cells ones x) (let e : suc n ≡ m = omega arith in e)
       | inr more ↦
-          let same : ones_from ones x n ≡ ones_from ones x m = ones_from_longer ones x m n more (λ k low high. blank k low (omega (arith, high))) in
+          let same : ones_in_cells ones x n ≡ ones_in_cells ones x m = ones_from_longer ones x m n more (λ k low high. blank k low (omega (arith, high))) in
           let none : ones_at (cell_of ones (x +ℤ pos n)) ≡ 0 = ap ones_at (blank n more (omega arith)) in
           omega (arith, same, none)
     ]
@@ -69,12 +69,12 @@ blank_column tone v ones j blank =
 
 -- a cell more
 pub ones_more : (ones : set.FinSet int_cmp) (v : View) (first cell : ℕ) → first ≤ cell
-    → ones_from ones (place v first) (cell + 1 - first) ≡ ones_from ones (place v first) (cell - first) + ones_at (cell_of ones (place v cell))
-unfolding ones_from
+    → ones_in_cells ones (place v first) (cell + 1 - first) ≡ ones_in_cells ones (place v first) (cell - first) + ones_at (cell_of ones (place v cell))
+unfolding ones_in_cells
 ones_more ones v first cell onward =
     let next : cell + 1 - first ≡ suc (cell - first) = omega arith in
     let here : place v first +ℤ pos (cell - first) ≡ place v cell = omega (arith, ints, onward) in
-    ap (ones_from ones (place v first)) next ∙ ap (λ (x : ℤ). ones_from ones (place v first) (cell - first) + ones_at (cell_of ones x)) here
+    ap (ones_in_cells ones (place v first)) next ∙ ap (λ (x : ℤ). ones_in_cells ones (place v first) (cell - first) + ones_at (cell_of ones x)) here
 
 -- cells have no more columns than those of a view
 pub column_within : (w s e : ℕ) → 0 < s → 0 < e → e ≤ w → (e - 1) / s + 1 ≤ (if nat_eq w 0 then 0 else (w - 1) / s + 1)

@@ -4,7 +4,7 @@ use Rattle.std.proofs.lemmas.List.{take_more}
 use Rattle.cmd_picture.specs.declared.ones.Stretch.{Stretch}
 use Rattle.cmd_picture.specs.declared.tone.Tone.{Tone}
 use Rattle.cmd_picture.specs.Runs.{drawn}
-use Rattle.cmd_picture.specs.Svg.{joined}
+use Rattle.cmd_picture.specs.Svg.{joined_runs}
 
 -- whether a run has a column
 abbrev pub covers : Stretch → ℕ → Bool
@@ -36,8 +36,8 @@ pub drawn_next_run : (runs : List Stretch) (i j : ℕ) (d : Stretch) → i < len
 drawn_next_run runs i j d low = ap (λ (rs : List Stretch). drawn rs j) (take_more runs i d low) ∙ drawn_with (take i runs) (get_or runs i d) j
 
 -- a byte more of a line
-pub line_more : (f : ℕ → List ℕ) (old now new : List ℕ) (k byte : ℕ) → now ≡ old ++ (0 ∷ joined f k) → new ≡ now ++ byte ∷ [] → byte ∷ [] ≡ f k → new ≡ old ++ (0 ∷ joined f (k + 1))
-unfolding joined
+pub line_more : (f : ℕ → List ℕ) (old now new : List ℕ) (k byte : ℕ) → now ≡ old ++ (0 ∷ joined_runs f k) → new ≡ now ++ byte ∷ [] → byte ∷ [] ≡ f k → new ≡ old ++ (0 ∷ joined_runs f (k + 1))
+unfolding joined_runs
 line_more f old now new k byte so is same =
-    is ∙ (ap (λ s. s ++ byte ∷ []) so ∙ (append_assoc old (0 ∷ joined f k) (byte ∷ [])
-    ∙ (ap (λ s. old ++ (0 ∷ (joined f k ++ s))) same ∙ ap (λ n. old ++ (0 ∷ joined f n)) (sym (add-one k)))))
+    is ∙ (ap (λ s. s ++ byte ∷ []) so ∙ (append_assoc old (0 ∷ joined_runs f k) (byte ∷ [])
+    ∙ (ap (λ s. old ++ (0 ∷ (joined_runs f k ++ s))) same ∙ ap (λ n. old ++ (0 ∷ joined_runs f n)) (sym (add-one k)))))

@@ -13,9 +13,9 @@ use Rattle.cmd_picture.specs.declared.times.Times.{Times}
 use Rattle.cmd_picture.specs.declared.view.View.{View}
 use Rattle.cmd_picture.specs.Rows.{Shown, IsRow, AreRows, Progress, GivesRow}
 use Rattle.png.specs.File.{png_file}
-use Rattle.cmd_picture.specs.Bitmap.{palette, row_lines, file_of, png_text}
+use Rattle.cmd_picture.specs.Bitmap.{palette, row_lines, bitmap_file, png_text}
 use Rattle.cmd_picture.specs.Pixels.{pixels_each, side_limit, pixels_of}
-use Rattle.cmd_picture.specs.Svg.{dark_svg, pale_svg, halt_svg, head_in, joined, width_in, height_in, body_svg, closing, document, drawn_svg, svg_text}
+use Rattle.cmd_picture.specs.Svg.{dark_svg, pale_svg, halt_svg, head_in, joined_runs, svg_width, height_in, body_svg, closing, document, drawn_svg, svg_text}
 use Rattle.cmd_picture.specs.drawn.{HasRow, HasRows}
 use Rattle.cmd_picture.specs.Times.{AreWithinRuns, due, last_time}
 use Rattle.cmd_picture.specs.View.{columns_of}
@@ -206,14 +206,14 @@ whole t v times size rows number d text table same view drawn is =
     )
 
 -- something for a state more
-pub state_more : (f : ℕ → List ℕ) (old now new : List ℕ) (q : ℕ) → now ≡ old ++ joined f q → new ≡ now ++ f q → new ≡ old ++ joined f (q + 1)
-unfolding joined
+pub state_more : (f : ℕ → List ℕ) (old now new : List ℕ) (q : ℕ) → now ≡ old ++ joined_runs f q → new ≡ now ++ f q → new ≡ old ++ joined_runs f (q + 1)
+unfolding joined_runs
 state_more f old now new q is more =
-    more ∙ ap (λ s. s ++ f q) is ∙ append_assoc old (joined f q) (f q) ∙ ap (λ n. old ++ joined f n) (sym (add-one q))
+    more ∙ ap (λ s. s ++ f q) is ∙ append_assoc old (joined_runs f q) (f q) ∙ ap (λ n. old ++ joined_runs f n) (sym (add-one q))
 
 -- and for none
-pub no_state : (f : ℕ → List ℕ) (old : List ℕ) → old ≡ old ++ joined f 0
-unfolding joined
+pub no_state : (f : ℕ → List ℕ) (old : List ℕ) → old ≡ old ++ joined_runs f 0
+unfolding joined_runs
 no_state f old = sym (append-nil old)
 
 -- three parts, one behind another
@@ -223,11 +223,11 @@ three_parts old a b c first second third one two three =
 
 -- a document in the pixels that a size gives its columns and rows
 pub sized : (t : Packed) (v : View) (size : Size) (number columns states width height : ℕ) (p : Pixels) (dark pale line : List ℕ) (heads : List Head) → columns ≡ columns_of v → states ≡ t.states
-    → p ≡ pixels_of size columns number → width ≡ width_in states p columns → height ≡ height_in p number
+    → p ≡ pixels_of size columns number → width ≡ svg_width states p columns → height ≡ height_in p number
     → document t p width height dark pale heads line ≡ drawn_svg t (pixels_of size (columns_of v) number) (columns_of v) number dark pale heads line
 sized t v size number columns states width height p dark pale line heads are count pixels wide high =
-    ap (λ w. document t p w height dark pale heads line) (wide ∙ ap (λ n. width_in n p columns) count)
-    ∙ ap (λ h. document t p (width_in t.states p columns) h dark pale heads line) high
+    ap (λ w. document t p w height dark pale heads line) (wide ∙ ap (λ n. svg_width n p columns) count)
+    ∙ ap (λ h. document t p (svg_width t.states p columns) h dark pale heads line) high
     ∙ ap (λ (q : Pixels). drawn_svg t q columns number dark pale heads line) pixels
     ∙ ap (λ n. drawn_svg t (pixels_of size n number) n number dark pale heads line) are
 
@@ -249,5 +249,5 @@ file_is v square columns side number width height colours bytes lines shown wide
     ∙ ap (λ n. png_file (columns * side) n colours bytes) (high ∙ ap (λ n. n * side) count)
     ∙ ap (λ (s : List ℕ). png_file (columns * side) (length shown * side) s bytes) same
     ∙ ap (λ (s : List ℕ). png_file (columns * side) (length shown * side) palette s) (are ∙ drawn)
-    ∙ ap (λ n. file_of columns n shown) each
-    ∙ ap (λ n. file_of n (pixels_each square side_limit n) shown) of
+    ∙ ap (λ n. bitmap_file columns n shown) each
+    ∙ ap (λ n. bitmap_file n (pixels_each square side_limit n) shown) of

@@ -37,12 +37,12 @@ abbrev pub halt_svg : View → Shown → List ℕ
 halt_svg v r = line_svg (columns_of v) r.number r.halts
 
 -- the heads of the rows that have one in the view
-abbrev pub head_at : ℕ → ℕ → Option ℕ → List Head
-head_at y q None = []
-head_at y q (Some column) = record { state = record { 0 = q }; column = column; row = y } ∷ []
+abbrev pub head_svg_at : ℕ → ℕ → Option ℕ → List Head
+head_svg_at y q None = []
+head_svg_at y q (Some column) = record { state = record { 0 = q }; column = column; row = y } ∷ []
 
 abbrev pub head_in : Shown → List Head
-head_in r = head_at r.number r.state r.head
+head_in r = head_svg_at r.number r.state r.head
 
 -- a head is the middle of its cell where that has room, so that its symbol is seen beside it; else the whole cell
 abbrev pub middle_svg : ℕ → ℕ → List ℕ
@@ -64,12 +64,12 @@ abbrev pub class_svg : ℕ → List ℕ → List ℕ
 class_svg q path = begin_svg q ++ path ++ codes "'/>\n"
 
 -- something for each of so many numbers, from 0 on, one behind another
-unfoldable pub joined : (ℕ → List ℕ) → ℕ → List ℕ
-joined f zero = []
-joined f (suc n) = joined f n ++ f n
+unfoldable pub joined_runs : (ℕ → List ℕ) → ℕ → List ℕ
+joined_runs f zero = []
+joined_runs f (suc n) = joined_runs f n ++ f n
 
 abbrev pub heads_svg : Bool → ℕ → List Head → List ℕ
-heads_svg room states heads = joined (λ q. class_svg q (marks_svg room q heads)) states
+heads_svg room states heads = joined_runs (λ q. class_svg q (marks_svg room q heads)) states
 
 abbrev pub letter_svg : ℕ → List ℕ
 letter_svg q = codes "'>" ++ (65 + q) ∷ [] ++ codes "</text>\n"
@@ -89,7 +89,7 @@ abbrev pub state_legend : ℕ → ℕ → List ℕ
 state_legend y q = swatch_svg y q ++ name_svg y q
 
 abbrev pub legend_svg : ℕ → ℕ → List ℕ
-legend_svg y states = joined (state_legend y) states
+legend_svg y states = joined_runs (state_legend y) states
 
 abbrev pub title_svg : Packed → List ℕ
 title_svg p = codes "<title>" ++ text_of p ++ codes "</title>\n"
@@ -103,8 +103,8 @@ abbrev pub scale_svg : Pixels → List ℕ
 scale_svg p = codes "scale(" ++ decimal p.across ++ codes " " ++ decimal p.down ++ codes ")'"
 
 -- so many pixels wide are so many columns, and at least the legend
-abbrev pub width_in : ℕ → Pixels → ℕ → ℕ
-width_in states p columns = max (columns * p.across) (32 * states)
+abbrev pub svg_width : ℕ → Pixels → ℕ → ℕ
+svg_width states p columns = max (columns * p.across) (32 * states)
 
 -- so many pixels high are so many rows
 abbrev pub height_in : Pixels → ℕ → ℕ
@@ -142,7 +142,7 @@ document t p width height dark pale heads line = opening t width height ++ body_
 
 -- the columns and rows of a document, in so many pixels each
 abbrev pub drawn_svg : Packed → Pixels → ℕ → ℕ → List ℕ → List ℕ → List Head → List ℕ → List ℕ
-drawn_svg t p columns rows = document t p (width_in t.states p columns) (height_in p rows)
+drawn_svg t p columns rows = document t p (svg_width t.states p columns) (height_in p rows)
 
 abbrev pub svg_text : Packed → View → Size → List Shown → List ℕ
 svg_text t v size rows = drawn_svg t (pixels_of size (columns_of v) (length rows)) (columns_of v) (length rows)

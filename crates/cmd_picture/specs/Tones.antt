@@ -16,13 +16,13 @@ ones_at Zero = 0
 ones_at One = 1
 
 -- how many ones stand in so many cells from a place on
-unfoldable pub ones_from : set.FinSet int_cmp → ℤ → ℕ → ℕ
-ones_from ones x zero = 0
-ones_from ones x (suc n) = ones_from ones x n + ones_at (cell_of ones (x +ℤ pos n))
+unfoldable pub ones_in_cells : set.FinSet int_cmp → ℤ → ℕ → ℕ
+ones_in_cells ones x zero = 0
+ones_in_cells ones x (suc n) = ones_in_cells ones x n + ones_at (cell_of ones (x +ℤ pos n))
 
 -- how many of a column's cells hold a one
 abbrev pub ones_in : View → set.FinSet int_cmp → ℕ → ℕ
-ones_in v ones j = ones_from ones (place v (first_cell v j)) (cells_in v j)
+ones_in v ones j = ones_in_cells ones (place v (first_cell v j)) (cells_in v j)
 
 -- of so many cells so many hold a one: it is dark where that is more than half, and pale where it is one at least and
 -- not more than half; a cell that has a column of its own is dark where it holds a one, and never pale

@@ -2,7 +2,7 @@
 ghost use Rattle.std.specs.Prelude.{◌≡◌, ◌-◌, ◌^◌, ◌<◌, ◌++◌, OnOk, [], IfOk, false, List, length, flat_map};
 ghost use Rattle.machine_text.specs.Packed.{entry_of};
 ghost use Rattle.cmd_picture.specs.Rows.{Shown, AreRows};
-ghost use Rattle.cmd_picture.specs.Svg.{head_at, line_svg};
+ghost use Rattle.cmd_picture.specs.Svg.{head_svg_at, line_svg};
 ghost use Rattle.cmd_picture.specs.Times.{AreWithinRuns};
 ghost use Rattle.cmd_picture.specs.View.{columns_of};
 
@@ -85,7 +85,7 @@ fn push_head(
     head: Option<u64>,
     heads: &mut Vec<Head>,
 ) -> Result<(), NoMemory>
-    ensures { OnOk result (heads.new.items ≡ heads.old.items ++ head_at row state.0 head) }
+    ensures { OnOk result (heads.new.items ≡ heads.old.items ++ head_svg_at row state.0 head) }
 {
     if let Some(column) = head {
         heads.push(Head { state, column, row })?;

@@ -1,7 +1,7 @@
 // The ones of a row, as runs of columns that are as dark.
 ghost use Rattle.std.specs.Prelude.{◌≡◌, ◌≢◌, ℕ, ◌+◌, ◌-◌, ◌*◌, ◌^◌, ◌<◌, ◌≤◌, pos, ◌≤ℤ◌, OnOk};
 ghost use Rattle.cmd_picture.specs.Runs.{drawn, AreApart};
-ghost use Rattle.cmd_picture.specs.Tones.{has_tone, is_toned, ones_at, ones_from};
+ghost use Rattle.cmd_picture.specs.Tones.{has_tone, is_toned, ones_at, ones_in_cells};
 ghost use Rattle.cmd_picture.specs.View.{columns_of, place};
 ghost use Rattle.cmd_picture.specs.inside.{HasOnesIn, AreBlankBefore, AreBlankFrom};
 
@@ -134,7 +134,7 @@ fn ones_among(tape: &Tape, view: &View, first: u64, cells: u64, reached: (u64, u
     requires places { (i : ℕ) → i < reached.1 → place view.now i ≤ℤ pos (2 ^ 63 - 1) }
     requires before { AreBlankBefore reached.0 view.now tape.now.ones }
     requires blank { AreBlankFrom reached.1 view.now tape.now.ones }
-    ensures { result ≡ ones_from tape.now.ones (place view.now first) cells }
+    ensures { result ≡ ones_in_cells tape.now.ones (place view.now first) cells }
 {
     let start = start_of(first, cells, reached.0);
     let mut ones = 0;

@@ -10,12 +10,12 @@ pub struct Pixels {
 
 impl Pixels {
     ghost use Rattle.cmd_picture.specs.Pixels.{has_room};
-    ghost use Rattle.cmd_picture.specs.Svg.{height_in, width_in};
+    ghost use Rattle.cmd_picture.specs.Svg.{height_in, svg_width};
 
     // So many pixels wide are so many columns, and at least the legend of so many states.
     pub(crate) fn width(&self, columns: u64, states: u8) -> u64
         requires { columns * self.now.across < 2 ^ 64 }
-        ensures { result ≡ width_in states self.now columns }
+        ensures { result ≡ svg_width states self.now columns }
     {
         (columns * self.across).max(32 * u64::from(states))
     }

@@ -3,7 +3,7 @@ use Rattle.std.proofs.Common.{◌≡◌, ◌⊎◌, inl, inr, ℕ, zero, suc, �
 use Rattle.std.proofs.lemmas.Bool.{cases_lt}
 use Rattle.std.proofs.lemmas.List.{append_cancel_left, take_at, drop_at, length-take-le, take-append-drop}
 use Rattle.std.proofs.Math.Nat.{suc-mul, mul_comm}
-use Rattle.cmd_show.specs.Fold.{Term, power, unfolded, BeginsWith, Repeats, IsPower, IsSymbol, AreTerms, terms_text, between, term_text, least_count, word_limit}
+use Rattle.cmd_show.specs.Fold.{Term, power, unfolded, BeginsWith, RepeatsWord, IsPower, IsSymbol, AreTerms, terms_text, between, term_text, least_count, word_limit}
 
 -- a power with one word more
 power_behind : (n : ℕ) (w : List ℕ) → power n w ++ w ≡ w ++ power n w
@@ -47,20 +47,20 @@ begins_lower k n w text low begins =
     lower k (n - k) w text (subst (λ j. BeginsWith text (power j w)) e begins)
 
 -- a word at the beginning of a text
-pub word_at : (w text : List ℕ) (len : ℕ) → length w ≡ len → Repeats text w → w ≡ take len text
+pub word_at : (w text : List ℕ) (len : ℕ) → length w ≡ len → RepeatsWord text w → w ≡ take len text
 word_at w text len size repeats =
     let begins : BeginsWith text (power 1 w) = begins_lower 1 least_count w text (omega arith) repeats.often in
     let is : text ≡ w ++ begins.0 = begins.1 ∙ ap (λ t. t ++ begins.0) (append-nil w) in
     sym (ap (take len) is ∙ take_at w begins.0 len size)
 
 -- one that doesn't stand often enough
-pub too_few : (w text : List ℕ) (len count : ℕ) → length w ≡ len → count < least_count → (BeginsWith text (power (count + 1) (take len text)) → ⊥) → Repeats text w → ⊥
+pub too_few : (w text : List ℕ) (len count : ℕ) → length w ≡ len → count < least_count → (BeginsWith text (power (count + 1) (take len text)) → ⊥) → RepeatsWord text w → ⊥
 too_few w text len count size few most repeats =
     most (subst (λ v. BeginsWith text (power (count + 1) v)) (word_at w text len size repeats) (begins_lower (count + 1) least_count w text (omega arith) repeats.often))
 
 -- no word of fewer symbols repeats
 abbrev pub NoneBelow : List ℕ → ℕ → Type 0
-NoneBelow text len = (w : List ℕ) → length w < len → Repeats text w → ⊥
+NoneBelow text len = (w : List ℕ) → length w < len → RepeatsWord text w → ⊥
 
 pub none_more : (text : List ℕ) (len count : ℕ) → NoneBelow text len → count < least_count → (BeginsWith text (power (count + 1) (take len text)) → ⊥) → NoneBelow text (len + 1)
 none_more text len count none few most w less repeats =
@@ -70,12 +70,12 @@ none_more text len count none few most w less repeats =
     ]
 
 -- a word that repeats isn't longer than the text
-repeats_within : (w text : List ℕ) → Repeats text w → length w ≤ length text
+repeats_within : (w text : List ℕ) → RepeatsWord text w → length w ≤ length text
 repeats_within w text repeats =
     let all = power_within least_count w text repeats.often in
     omega arith
 
-pub none_at_all : (text : List ℕ) (len : ℕ) → NoneBelow text len → (length text < len) ⊎ (word_limit < len) → (w : List ℕ) → Repeats text w → ⊥
+pub none_at_all : (text : List ℕ) (len : ℕ) → NoneBelow text len → (length text < len) ⊎ (word_limit < len) → (w : List ℕ) → RepeatsWord text w → ⊥
 none_at_all text len none far w repeats =
     let within = repeats_within w text repeats in
     let short = repeats.short in

@@ -17,7 +17,7 @@ use Rattle.cmd_picture.specs.declared.times.Times.{Times}
 use Rattle.cmd_picture.specs.declared.view.View.{View}
 use Rattle.cmd_picture.specs.Rows.{Shown, Shows, IsRow, Progress, GivesRow}
 use Rattle.cmd_picture.specs.Times.{due, last_time}
-use Rattle.cmd_show.specs.Moments.{Moment, IsMoment, IsLine, AreLinesOf, Follows, ending}
+use Rattle.cmd_show.specs.Moments.{ShownMoment, IsMoment, IsLine, AreLinesOf, ComesBehind, ending}
 use Rattle.cmd_show.specs.Tape.{AreSides, IsMarked, IsTapeText}
 use Rattle.cmd_show.specs.inside.{whole, AreLeft, AreTold}
 
@@ -52,8 +52,8 @@ ending_is None false time at iff = absurd (let e : false ≡ true = iff.1 refl i
 ending_is (Some d) true time at iff = absurd (let e : Some d ≡ None = iff.0 refl in cc)
 ending_is (Some d) false time at iff = refl
 
-follows : (m : Machine) (t : Times) (fold : Bool) (n : ℕ) (later : List Moment) (rest : List ℕ) (o : Option Config) (halts : Bool) → IsTrue halts ↔ (o ≡ None)
-    → AreLeft m t fold halts n later rest → Follows o ((later ≡ []) × (rest ≡ [])) (AreLinesOf m t fold n later rest)
+follows : (m : Machine) (t : Times) (fold : Bool) (n : ℕ) (later : List ShownMoment) (rest : List ℕ) (o : Option Config) (halts : Bool) → IsTrue halts ↔ (o ≡ None)
+    → AreLeft m t fold halts n later rest → ComesBehind o ((later ≡ []) × (rest ≡ [])) (AreLinesOf m t fold n later rest)
 follows m t fold n later rest None true iff left = left
 follows m t fold n later rest None false iff left = absurd (let e : false ≡ true = iff.1 refl in cc)
 follows m t fold n later rest (Some d) true iff left = absurd (let e : Some d ≡ None = iff.0 refl in cc)
@@ -73,7 +73,7 @@ told_row : (m : Machine) (t : Times) (fold over : Bool) (n : ℕ) (done line : L
 unfolding AreLinesOf
 told_row m t fold over n done line row told goes is at there of = record {
   with_rest = λ later rest left.
-      let now : Moment = record { time = row.time; at = at } in
+      let now : ShownMoment = record { time = row.time; at = at } in
       let same : is.shows.at ≡ at = same_Some is.shows.at at (sym is.shows.is ∙ there) in
       let iff : IsTrue row.halts ↔ (next m at ≡ None) = subst (λ (c : Config). IsTrue row.halts ↔ (next m c ≡ None)) same is.shows.halts in
       let moment : IsMoment m t n now = record { asked = is.asked; time = is.time; is = there } in
@@ -107,7 +107,7 @@ none_left m t fold false n past = (past, refl)
 -- where none is given those are all
 pub told_all : (p : Packed) (t : Times) (fold : Bool) (old new : Progress) (given : Bool) (row : Shown) (done : List ℕ) → old.times ≡ t
     → AreTold (entry_of p) t fold old.over old.number done → GivesRow (entry_of old.table) old given row new → given ≡ false
-    → (all : List Moment) × AreLinesOf (entry_of p) t fold 0 all done
+    → (all : List ShownMoment) × AreLinesOf (entry_of p) t fold 0 all done
 unfolding AreLinesOf
 told_all p t fold old new given row done times told gives is =
     let g : GivesRow (entry_of old.table) old false row new = subst (λ (b : Bool). GivesRow (entry_of old.table) old b row new) is gives in

@@ -25,21 +25,21 @@ abbrev pub BeginsWith : List ℕ → List ℕ → Type 0
 BeginsWith text front = (rest : List ℕ) × (text ≡ front ++ rest)
 
 -- a word that is short enough stands often enough where a text begins
-pub record Repeats (text w : List ℕ) : Type 0 where
+pub record RepeatsWord (text w : List ℕ) : Type 0 where
   pub some : 1 ≤ length w
   pub short : length w ≤ word_limit
   pub often : BeginsWith text (power least_count w)
 
 -- a text begins with a power: of the shortest word that repeats there, as often as it does
 pub record IsPower (text : List ℕ) (t : Term) : Type 0 where
-  pub repeats : Repeats text t.word
-  pub shortest : (w : List ℕ) → Repeats text w → length t.word ≤ length w
+  pub repeats : RepeatsWord text t.word
+  pub shortest : (w : List ℕ) → RepeatsWord text w → length t.word ≤ length w
   pub count : BeginsWith text (power t.count t.word)
   pub most : BeginsWith text (power (t.count + 1) t.word) → ⊥
 
 -- or, where no word repeats, with one symbol
 pub record IsSymbol (text : List ℕ) (t : Term) : Type 0 where
-  pub none : (w : List ℕ) → Repeats text w → ⊥
+  pub none : (w : List ℕ) → RepeatsWord text w → ⊥
   pub word : t.word ≡ take 1 text
   pub count : t.count ≡ 1
 
@@ -53,11 +53,11 @@ AreTerms text (t ∷ terms) = (IsPower text t ⊎ IsSymbol text t)
 abbrev pub IsUnfolded : Type 0
 IsUnfolded = (text : List ℕ) (terms : List Term) → AreTerms text terms → flat_map unfolded terms ≡ text
 
-abbrev pub word_text : List ℕ → List ℕ
-word_text w = if length w == 1 then w else codes "(" ++ w ++ codes ")"
+abbrev pub bracketed : List ℕ → List ℕ
+bracketed w = if length w == 1 then w else codes "(" ++ w ++ codes ")"
 
 unfoldable pub term_text : Term → List ℕ
-term_text t = if t.count == 1 then t.word else word_text t.word ++ codes "^" ++ decimal t.count
+term_text t = if t.count == 1 then t.word else bracketed t.word ++ codes "^" ++ decimal t.count
 
 -- what stands between two terms, by their counts (0 where there is none): nothing between symbols
 unfoldable pub between : ℕ → ℕ → List ℕ

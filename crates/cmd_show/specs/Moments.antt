@@ -18,39 +18,39 @@ times_from from s = record {
   every = min (max s.every 1) (run_step_limit + 1);
 }
 
-abbrev pub times_of : Showing → Times
-times_of s = times_from (min s.from run_step_limit) s
+abbrev pub shown_times : Showing → Times
+shown_times s = times_from (min s.from run_step_limit) s
 
 -- a configuration of a run, and its time
-pub record Moment : Type 0 where
+pub record ShownMoment : Type 0 where
   pub time : ℕ
   pub at : Config
 
 -- moment number n is at its time, or at the last one of a run that halts before it
-pub record IsMoment (m : Machine) (t : Times) (n : ℕ) (now : Moment) : Type 0 where
+pub record IsMoment (m : Machine) (t : Times) (n : ℕ) (now : ShownMoment) : Type 0 where
   pub asked : due t n ≤ last_time t
   pub time : (now.time ≡ due t n) ⊎ ((now.time < due t n) × HaltsAt m (now.time + 1))
   pub is : after m now.time ≡ Some now.at
 
 -- where the machine halts with the next step: in how many steps, and with how many ones
-abbrev pub ending : Option Config → Moment → List ℕ
+abbrev pub ending : Option Config → ShownMoment → List ℕ
 ending None now = codes "\nhalts " ++ decimal (now.time + 1) ++ codes " ones " ++ decimal (score_of now.at)
 ending (Some later) now = []
 
 -- the time, two spaces, and the tape
-pub record IsLine (m : Machine) (fold : Bool) (now : Moment) (line : List ℕ) : Type 0 where
+pub record IsLine (m : Machine) (fold : Bool) (now : ShownMoment) (line : List ℕ) : Type 0 where
   pub tape : List ℕ
   pub tape_is : IsTapeText fold now.at tape
   pub is : line ≡ codes "\n" ++ decimal now.time ++ codes "  " ++ tape ++ ending (next m now.at) now
 
 -- what follows a moment: nothing where the machine halts
-abbrev pub Follows : Option Config → Type 0 → Type 0 → Type 0
-Follows None Nothing More = Nothing
-Follows (Some later) Nothing More = More
+abbrev pub ComesBehind : Option Config → Type 0 → Type 0 → Type 0
+ComesBehind None Nothing More = Nothing
+ComesBehind (Some later) Nothing More = More
 
 -- the lines of the moments from number n on, up to the last time that is asked for or to the halting
-unfoldable pub AreLinesOf : Machine → Times → Bool → ℕ → List Moment → List ℕ → Type 0
+unfoldable pub AreLinesOf : Machine → Times → Bool → ℕ → List ShownMoment → List ℕ → Type 0
 AreLinesOf m t fold n [] text = (last_time t < due t n) × (text ≡ [])
 AreLinesOf m t fold n (now ∷ later) text = IsMoment m t n now × (line others : List ℕ) × IsLine m fold now line
     × (text ≡ line ++ others)
-    × Follows (next m now.at) ((later ≡ []) × (others ≡ [])) (AreLinesOf m t fold (n + 1) later others)
+    × ComesBehind (next m now.at) ((later ≡ []) × (others ≡ [])) (AreLinesOf m t fold (n + 1) later others)

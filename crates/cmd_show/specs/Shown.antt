@@ -8,18 +8,18 @@ use Rattle.cmd_options.specs.declared.options.Showing.{Showing}
 use Rattle.cmd_options.specs.declared.outcome.Outcome.{Outcome}
 use Rattle.cmd_options.specs.declared.outcome.Outcome.TheVariants.{Accepted, Refused}
 use Rattle.cmd_show.specs.Asked.{table_asked}
-use Rattle.cmd_show.specs.Moments.{Moment, AreLinesOf, times_of}
+use Rattle.cmd_show.specs.Moments.{ShownMoment, AreLinesOf, shown_times}
 
 -- a table's text, and behind it the lines of its run from the blank tape
-pub record IsShown (s : Showing) (t : Packed) (answer : List ℕ) : Type 0 where
-  pub moments : List Moment
+pub record IsShownRun (s : Showing) (t : Packed) (answer : List ℕ) : Type 0 where
+  pub moments : List ShownMoment
   pub lines : List ℕ
-  pub are : AreLinesOf (entry_of t) (times_of s) s.fold 0 moments lines
+  pub are : AreLinesOf (entry_of t) (shown_times s) s.fold 0 moments lines
   pub is : answer ≡ text_of t ++ lines
 
 -- of what isn't a table, nor a record of one, the fault
 abbrev pub ShowsAsked : Showing → Result Packed RecordFault → Outcome → List ℕ → Type 0
-ShowsAsked s (Ok t) o answer = (o ≡ Accepted) × IsShown s t answer
+ShowsAsked s (Ok t) o answer = (o ≡ Accepted) × IsShownRun s t answer
 ShowsAsked s (Err f) o answer = (o ≡ Refused) × (answer ≡ fault_text f)
 
 abbrev pub SaysShown : Showing → Option (List ℕ) → Outcome → List ℕ → Type 0

@@ -7,7 +7,7 @@ use Rattle.cmd_picture.specs.declared.times.Times.{Times}
 use Rattle.cmd_picture.specs.declared.view.View.{View}
 use Rattle.cmd_options.specs.declared.options.Showing.{Showing}
 use Rattle.cmd_options.specs.declared.outcome.Outcome.{Outcome}
-use Rattle.cmd_show.specs.Moments.{Moment, AreLinesOf}
+use Rattle.cmd_show.specs.Moments.{ShownMoment, AreLinesOf}
 use Rattle.cmd_show.specs.Shown.{SaysShown}
 
 -- a view of all cells to which a run can come
@@ -26,14 +26,14 @@ painted column (r ∷ runs) least = replicate (r.first - column) 48 ++ replicate
     ++ painted (r.first + r.count) runs least
 
 -- the lines that may follow when so many moments are told, where the machine has halted or not
-abbrev pub AreLeft : Machine → Times → Bool → Bool → ℕ → List Moment → List ℕ → Type 0
+abbrev pub AreLeft : Machine → Times → Bool → Bool → ℕ → List ShownMoment → List ℕ → Type 0
 AreLeft m t fold true n later text = (later ≡ []) × (text ≡ [])
 AreLeft m t fold false n later text = AreLinesOf m t fold n later text
 
 -- lines that were told: with any that may follow they are all
 pub record AreTold (m : Machine) (t : Times) (fold over : Bool) (n : ℕ) (told : List ℕ) : Type 0 where
-  pub with_rest : (later : List Moment) (rest : List ℕ) → AreLeft m t fold over n later rest
-      → (all : List Moment) × AreLinesOf m t fold 0 all (told ++ rest)
+  pub with_rest : (later : List ShownMoment) (rest : List ℕ) → AreLeft m t fold over n later rest
+      → (all : List ShownMoment) × AreLinesOf m t fold 0 all (told ++ rest)
 
 -- one who says what is asked for, and keeps that
 abbrev pub KeepsAsked : {D : Type 0} → (D → Showing) → D → BoundedLine → Outcome → D → List ℕ → Type 0

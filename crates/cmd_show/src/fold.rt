@@ -1,6 +1,6 @@
 // Words that repeat are folded.
 ghost use Rattle.std.specs.Prelude.{◌≡◌, ◌⊎◌, ◌++◌, ◌+◌, ◌*◌, ◌<◌, ◌≤◌, ◌^◌, ℕ, List, ◌≢◌, length, take, MatchOption, OnOk};
-ghost use Rattle.cmd_show.specs.Fold.{AreTerms, BeginsWith, IsFolded, IsPower, IsSymbol, Repeats, Term, between, least_count, power, term_text, terms_text, word_limit, word_text};
+ghost use Rattle.cmd_show.specs.Fold.{AreTerms, BeginsWith, IsFolded, IsPower, IsSymbol, RepeatsWord, Term, between, least_count, power, term_text, terms_text, word_limit, bracketed};
 
 use tape::NoMemory;
 use text::append_number;
@@ -109,7 +109,7 @@ fn append_power(word: &[u8], count: usize, out: &mut Vec<u8>) -> Result<(), NoMe
 
 // Appends a word, in parentheses unless it is one symbol.
 fn append_word(word: &[u8], out: &mut Vec<u8>) -> Result<(), NoMemory>
-    ensures { OnOk result (out.new.items ≡ out.old.items ++ word_text word.now) }
+    ensures { OnOk result (out.new.items ≡ out.old.items ++ bracketed word.now) }
 {
     if word.len() == 1 {
         return out.extend_from_slice(word);

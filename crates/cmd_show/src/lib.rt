@@ -12,6 +12,7 @@ mod line;
 mod show;
 mod shown;
 
+pub use asked::table_asked;
 pub use fold::append_folded;
 pub use laws::folded_is_all;
 pub use show::{cmd_show, show_for};

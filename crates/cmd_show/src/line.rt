@@ -5,7 +5,7 @@ ghost use Rattle.law_turing.specs.Run.{Config, after};
 ghost use Rattle.law_turing.specs.Score.{score_of};
 ghost use Rattle.run.specs.Limits.{run_step_limit};
 ghost use Rattle.cmd_picture.specs.Rows.{Shows, shown_row};
-ghost use Rattle.cmd_show.specs.Moments.{IsLine, Moment};
+ghost use Rattle.cmd_show.specs.Moments.{IsLine, ShownMoment};
 ghost use Rattle.cmd_show.specs.Tape.{AreSides, IsMarked, IsTapeText, space_behind};
 ghost use Rattle.cmd_show.specs.inside.{whole};
 

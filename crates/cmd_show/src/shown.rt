@@ -2,8 +2,8 @@
 ghost use Rattle.std.specs.Prelude.{◌≡◌, ◌++◌, ◌≤◌, false, ℕ, List, IfOk, OnOk};
 ghost use Rattle.machine_text.specs.Packed.{entry_of};
 ghost use Rattle.cmd_picture.specs.Times.{AreWithinRuns};
-ghost use Rattle.cmd_show.specs.Moments.{AreLinesOf, Moment, times_of};
-ghost use Rattle.cmd_show.specs.Shown.{IsShown};
+ghost use Rattle.cmd_show.specs.Moments.{AreLinesOf, ShownMoment, shown_times};
+ghost use Rattle.cmd_show.specs.Shown.{IsShownRun};
 ghost use Rattle.cmd_show.specs.inside.{whole};
 
 use crate::line::append_line;
@@ -22,17 +22,17 @@ pub fn append_shown(
     t: &Table,
     out: &mut Vec<u8>,
 ) -> Result<(), NoMemory>
-    ensures { OnOk result ((answer : List ℕ) × IsShown showing.now t.now answer
+    ensures { OnOk result ((answer : List ℕ) × IsShownRun showing.now t.now answer
         × (out.new.items ≡ out.old.items ++ answer)) }
 {
     append_table(t, out)?;
-    let mut rows = Rows::new(alloc, *t, whole(), times_of(showing))?;
+    let mut rows = Rows::new(alloc, *t, whole(), shown_times(showing))?;
     append_lines(alloc, t, showing.fold, &mut rows, out)
 }
 
 // The times that are shown.
-fn times_of(showing: &Showing) -> Times
-    ensures is { result ≡ times_of showing.now }
+fn shown_times(showing: &Showing) -> Times
+    ensures is { result ≡ shown_times showing.now }
     ensures within { AreWithinRuns result }
 {
     Times::new(showing.from, showing.steps, showing.every)
@@ -61,7 +61,7 @@ fn append_lines(
     requires within { AreWithinRuns rows.old.times }
     requires first { rows.old.number ≡ 0 }
     requires begins { rows.old.over ≡ false }
-    ensures { OnOk result ((moments : List Moment) × (lines : List ℕ)
+    ensures { OnOk result ((moments : List ShownMoment) × (lines : List ℕ)
         × AreLinesOf (entry_of t.now) rows.old.times fold 0 moments lines
         × (out.new.items ≡ out.old.items ++ lines)) }
 {

@@ -15,7 +15,7 @@ returns c =
       record {
         moments = told.0;
         lines = told.1;
-        are = subst (λ (t : Times). AreLinesOf (entry_of c.args.t.now) t c.args.showing.now.fold 0 told.0 told.1) (ap (λ (p : Progress). p.times) c.in_ok-rows.ensures ∙ c.times_of.ensures.is) told.2;
+        are = subst (λ (t : Times). AreLinesOf (entry_of c.args.t.now) t c.args.showing.now.fold 0 told.0 told.1) (ap (λ (p : Progress). p.times) c.in_ok-rows.ensures ∙ c.shown_times.ensures.is) told.2;
         is = refl;
       },
       grown c.args.out.now.items (text_of c.args.t.now) c.append_table.new.out.items told.1 c.append_lines.new.out.items c.in_ok-append_table.ensures.ok told.3,

@@ -4,7 +4,7 @@ ghost use Rattle.cmd_picture.specs.Runs.{AreApart};
 ghost use Rattle.cmd_show.specs.inside.{painted, first_column};
 
 use cmd_picture::Stretch;
-use tape::NoMemory;
+use std::alloc::AllocError as NoMemory;
 
 // The first column that holds a one or has the head.
 #[tactic(auto, unfolding(crate::specs::inside::first_column))]

@@ -1,5 +1,5 @@
 -- Digits that are written in groups of three.
-use Rattle.std.proofs.Common.{◌≡◌, ℕ, suc, List, [], ◌∷◌, ◌++◌, length, sym, ap, ◌∙◌, append_assoc, append-nil, arith}
+use Rattle.std.proofs.Common.{◌≡◌, ℕ, List, [], ◌∷◌, ◌++◌, length, sym, ap, ◌∙◌, append_assoc, append-nil, arith}
 use Rattle.cmd_page.specs.Groups.{comma_before, in_groups}
 
 -- one more digit, and what stands behind it

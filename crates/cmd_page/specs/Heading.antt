@@ -1,5 +1,5 @@
 -- What a page is made from, in rows of its first table, so that it can be cited.
-use Rattle.std.specs.Prelude.{◌≡◌, ℕ, List, [], ◌++◌, Option, Some, None, codes}
+use Rattle.std.specs.Prelude.{ℕ, List, [], ◌++◌, Option, Some, None, codes}
 use Rattle.hex.specs.Hex.{encode_lower}
 use Rattle.cmd_page.specs.Escaped.{escaped}
 use Rattle.cmd_page.specs.Row.{row_html}

@@ -1,5 +1,5 @@
 -- The sentence that says what a tree shows once it is complete. Bytes are those of UTF-8: 206 163 `Σ`.
-use Rattle.std.specs.Prelude.{ℕ, ◌==◌, if◌then◌else◌, Option, Some, None, List, [], ◌∷◌, ◌++◌, codes, decimal}
+use Rattle.std.specs.Prelude.{ℕ, ◌==◌, if◌then◌else◌, Some, None, List, [], ◌∷◌, ◌++◌, codes, decimal}
 use Rattle.machine_text.specs.Packed.{Packed}
 use Rattle.ledger.specs.declared.status.Status.{Status}
 use Rattle.ledger.specs.declared.status.Status.TheVariants.{Working, Holdouts, Complete}

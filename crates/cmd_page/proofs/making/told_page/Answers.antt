@@ -1,6 +1,6 @@
-use Rattle.std.proofs.Common.{ℕ, List, ◌++◌, get_or, ap, subst}
+use Rattle.std.proofs.Common.{ℕ, List, ◌++◌, ◌∙◌, get_or, ap}
 use Rattle.std.specs.Vec.Iter.{into_iter_items}
-use Rattle.machine_text.specs.Limits.{state_limit}
+use Rattle.cmd_page.specs.Heading.{Headed}
 use Rattle.cmd_page.specs.Page.{holdouts_html, opening_html}
 use Rattle.cmd_page.specs.Style.{ending_text}
 use Rattle.cmd_page.proofs.PageLaws.{whole_head}
@@ -12,7 +12,7 @@ returns c =
     let census = c.args.census.now in
     let head = whole_head c.args.heading.now c.args.left.now c.args.told champions.0 (λ k. get_or census.kinds k 0) (λ k. get_or census.entries k 0) c.states.result
     c.in_ok-head.head.items c.append_opening.new.out.items c.append_summary.new.out.items c.append_origin.new.out.items c.append_census.new.out.items c.append_champions.new.out.items
-    c.in_ok-head.ensures.items (c.in_ok-append_opening.ensures ∙ ap (λ (t : List ℕ). c.in_ok-head.head.items ++ opening_html t) c.as_bytes.ensures.value) c.in_ok-append_summary.ensures c.in_ok-append_origin.ensures c.in_ok-append_census.ensures champions.2
+    c.in_ok-head.ensures.items (c.in_ok-append_opening.ensures ∙ ap (λ (t : List ℕ). c.in_ok-head.head.items ++ opening_html t) c.as_bytes.ensures.value ∙ ap (λ (h : Headed). c.in_ok-head.head.items ++ opening_html h.title) c.heading.view_is) c.in_ok-append_summary.ensures c.in_ok-append_origin.ensures c.in_ok-append_census.ensures champions.2
     c.states.ensures.states in (
       c.states.ensures.table.limit,
       λ root rs tells. record {

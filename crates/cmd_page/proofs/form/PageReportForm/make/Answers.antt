@@ -1,4 +1,3 @@
-use Rattle.std.proofs.Common.{ℕ, List}
 use Rattle.cmd_ledgers.proofs.Reports.{if_ok}
 use Rattle.cmd_page.proofs.form.PageReportForm.make.Goals as goal
 

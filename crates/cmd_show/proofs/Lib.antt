@@ -1,3 +1,4 @@
+pub mod Symbols
 pub mod Folding
 pub mod Painting
 pub mod Lines

@@ -19,9 +19,9 @@ use Rattle.law_turing.proofs.Steps.{takes}
 use Rattle.cmd_picture.specs.declared.ones.Stretch.{Stretch}
 use Rattle.cmd_picture.specs.declared.view.View.{View}
 use Rattle.cmd_picture.specs.View.{place, IsHeadAt}
-use Rattle.cmd_picture.specs.Runs.{drawn, AreApart}
+use Rattle.cmd_picture.specs.Runs.{AreApart}
 use Rattle.cmd_picture.specs.Rows.{Shown, Shows}
-use Rattle.cmd_picture.proofs.RunLaws.{drawn_none, drawn_beyond, not_one}
+use Rattle.cmd_show.proofs.Symbols.{drawn, drawn_none, not_one, shown_cells, shown_apart}
 use Rattle.cmd_show.specs.Tape.{cells_from, AreSides}
 use Rattle.cmd_show.specs.inside.{whole, first_column, painted}
 
@@ -93,6 +93,15 @@ apart_order from (r ∷ runs) limit apart =
     let order = apart_order (r.first + r.count + 1) runs limit apart.2 in
     let low = apart.0 in
     omega arith
+
+-- behind all runs nothing is drawn
+drawn_beyond : (from : ℕ) (runs : List Stretch) (end i : ℕ) → AreApart from runs end → end ≤ i + 1 → drawn runs i ≡ Zero
+unfolding AreApart
+drawn_beyond from [] end i apart late = drawn_none i
+drawn_beyond from (r ∷ runs) end i apart late =
+    let order = apart_order (r.first + r.count + 1) runs end apart.2 in
+    let past : r.first + r.count ≤ i = omega arith in
+    drawn_behind r runs i past ∙ drawn_beyond (r.first + r.count + 1) runs end i apart.2 late
 
 pub apart_lower : (from lower : ℕ) (runs : List Stretch) (limit : ℕ) → lower ≤ from → AreApart from runs limit → AreApart lower runs limit
 unfolding AreApart
@@ -292,14 +301,20 @@ sides_at m k c runs head is near within at apart cells =
           ];
     }))
 
+-- the head's column is its cell
+head_cell : (x : ℤ) (head : ℕ) → IsHeadAt whole x (Some head) → (head < 2 ^ 63 + 1) × (place whole head ≡ x)
+head_cell x head (i, within, at, is) =
+    let same : head ≡ i = omega (arith, is) in
+    (omega (arith, same, within), ap (place whole) same ∙ at)
+
 -- of a row that shows a configuration
 pub sides_shown : (m : Machine) (row : Shown) (c : Config) (head : ℕ) → Shows m whole row → row.time ≤ 2 ^ 62 → after m row.time ≡ Some c → row.head ≡ Some head
-    → AreSides c (take (head - first_column row.runs head) (painted (first_column row.runs head) row.runs (head + 1))) (drop (head - first_column row.runs head) (painted (first_column row.runs head) row.runs (head + 1)))
+    → AreSides c (take (head - first_column row.dark head) (painted (first_column row.dark head) row.dark (head + 1))) (drop (head - first_column row.dark head) (painted (first_column row.dark head) row.dark (head + 1)))
 sides_shown m row c head shows near is at =
     let same : shows.at ≡ c = same_Some shows.at c (sym shows.is ∙ is) in
-    let there : IsHeadAt whole c.tape.head (Some head) = subst (λ (d : Config). IsHeadAt whole d.tape.head (Some head)) same (subst (IsHeadAt whole shows.at.tape.head) at shows.head) in
-    sides_at m row.time c row.runs head is near there.0 there.1 shows.apart
-    (subst (λ (d : Config). (i : ℕ) → i < 2 ^ 63 + 1 → drawn row.runs i ≡ cell d (place whole i)) same shows.cells)
+    let there = head_cell c.tape.head head (subst (λ (d : Config). IsHeadAt whole d.tape.head (Some head)) same (subst (IsHeadAt whole shows.at.tape.head) at shows.head)) in
+    sides_at m row.time c row.dark head is near there.0 there.1 (shown_apart m row shows)
+    (subst (λ (d : Config). (i : ℕ) → i < 2 ^ 63 + 1 → drawn row.dark i ≡ cell d (place whole i)) same (shown_cells m row shows))
 
 -- one more run is painted
 pub painted_more : (cells all : List ℕ) (column least : ℕ) (r : Stretch) (runs : List Stretch) → cells ++ painted column (r ∷ runs) least ≡ all
@@ -342,14 +357,13 @@ head_none m row shows near none =
 
 pub head_low : (m : Machine) (row : Shown) (head : ℕ) → Shows m whole row → row.head ≡ Some head → head < 2 ^ 63 + 1
 head_low m row head shows is =
-    let there : IsHeadAt whole shows.at.tape.head (Some head) = subst (IsHeadAt whole shows.at.tape.head) is shows.head in
-    there.0
+    (head_cell shows.at.tape.head head (subst (IsHeadAt whole shows.at.tape.head) is shows.head)).0
 
 pub first_begins : (m : Machine) (row : Shown) (head : ℕ) → Shows m whole row → row.head ≡ Some head
-    → (first_column row.runs head ≤ head) × AreApart (first_column row.runs head) row.runs (2 ^ 63 + 2)
+    → (first_column row.dark head ≤ head) × AreApart (first_column row.dark head) row.dark (2 ^ 63 + 2)
 first_begins m row head shows is =
     let low = head_low m row head shows is in
-    first_low row.runs head (2 ^ 63 + 2) shows.apart (omega arith)
+    first_low row.dark head (2 ^ 63 + 2) (shown_apart m row shows) (omega arith)
 
 -- and at last what is asked for
 pub painted_last : (new cells all : List ℕ) (column least n i : ℕ) (runs : List Stretch) → length runs ≤ i → cells ++ painted column (drop i runs) least ≡ all → n ≡ least - column → new ≡ cells ++ replicate n 48 → new ≡ all

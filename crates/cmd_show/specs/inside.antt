@@ -12,7 +12,7 @@ use Rattle.cmd_show.specs.Shown.{SaysShown}
 
 -- a view of all cells to which a run can come
 abbrev pub whole : View
-whole = record { left = pos 0 -ℤ pos (2 ^ 62); width = 2 ^ 63 + 1 }
+whole = record { left = pos 0 -ℤ pos (2 ^ 62); width = 2 ^ 63 + 1; share = 1 }
 
 -- the first column that holds a one or has the head
 unfoldable pub first_column : List Stretch → ℕ → ℕ

@@ -74,8 +74,8 @@ fn paint_row(t: &Table, row: &Row, cells: &mut Vec<u8>) -> Result<usize, NoMemor
     ensures within { IfOk result (λ n. n ≤ length cells.new.items) }
 {
     let Some(head) = row.head else { unreachable!() };
-    let first = first_column(&row.runs, head);
-    paint(&row.runs, first, head + 1, cells)?;
+    let first = first_column(&row.dark, head);
+    paint(&row.dark, first, head + 1, cells)?;
     Ok((head - first) as usize)
 }
 

@@ -45,6 +45,7 @@ fn whole() -> View
     View {
         left: -0x4000_0000_0000_0000,
         width: 0x8000_0000_0000_0001,
+        share: 1,
     }
 }
 

@@ -13,7 +13,7 @@ unreachable-requires c = head_none (entry_of c.args.t.now) (shown_row c.args.row
 
 pub paint-requires : goal.paint-requires
 paint-requires c =
-    let runs = c.args.row.now.runs.items in
+    let runs = c.args.row.now.dark.items in
     let head = c.in-Some.head in
     let first : c.first_column-first.result ≡ first_column runs head = c.first_column-first.ensures ∙ ap (λ (rs : List Stretch). first_column rs head) c.deref.ensures.value in
     let begins = (first_begins (entry_of c.args.t.now) (shown_row c.args.row.now) head c.requires.shows c.in-Some.is).1 in
@@ -22,7 +22,7 @@ paint-requires c =
 
 pub overflow_sub-result : goal.overflow_sub-result
 overflow_sub-result c =
-    let runs = c.args.row.now.runs.items in
+    let runs = c.args.row.now.dark.items in
     let head = c.in-Some.head in
     let first : c.first_column-first.result ≡ first_column runs head = c.first_column-first.ensures ∙ ap (λ (rs : List Stretch). first_column rs head) c.deref.ensures.value in
     let low = (first_begins (entry_of c.args.t.now) (shown_row c.args.row.now) head c.requires.shows c.in-Some.is).0 in
@@ -30,7 +30,7 @@ overflow_sub-result c =
 
 pub returns-clause-sides : goal.returns-clause-sides
 returns-clause-sides c at there =
-    let runs = c.args.row.now.runs.items in
+    let runs = c.args.row.now.dark.items in
     let head = c.in-Some.head in
     let first : c.first_column-first.result ≡ first_column runs head = c.first_column-first.ensures ∙ ap (λ (rs : List Stretch). first_column rs head) c.deref.ensures.value in
     let cells : c.paint.new.cells.items ≡ painted (first_column runs head) runs (head + 1) =

@@ -1,1 +1,2 @@
 pub mod PageTold
+pub mod Listing

@@ -1,5 +1,5 @@
 -- The page of a whole is that of the records of all.
-use Rattle.std.proofs.Common.{◌≡◌, ℕ, ◌<◌, ◌^◌, Bool, List, length, get_or, Option, None, IfOk, Result, Ok, Err, [], inl, inr, refl, sym, subst, ap, ◌∙◌, append-nil}
+use Rattle.std.proofs.Common.{ℕ, ◌<◌, ◌^◌, Bool, List, length, get_or, Option, None, IfOk, Result, Ok, Err, [], inl, inr, refl, sym, subst, ap, ◌∙◌, append-nil}
 use Rattle.machine_text.specs.Packed.{Packed}
 use Rattle.cert.specs.Claim.{Recorded}
 use Rattle.ledger.specs.Contents.{Contents, IsOpenOn}

@@ -1,5 +1,8 @@
-use Rattle.std.proofs.Common.{inl, sym, subst}
+use Rattle.std.proofs.Common.{List, inl, sym, subst}
 use Rattle.std.proofs.lemmas.Result.{err_from_is_err_and}
+use Rattle.machine_text.specs.Packed.{Packed}
+use Rattle.ledger.specs.Contents.{Contents, IsOpenOn}
+use Rattle.ledger.specs.Tally.{AreAll}
 use Rattle.ledger.proofs.StageLaws.{if_err}
 use Rattle.cmd_options.specs.declared.ended.Ended.{Ended}
 use Rattle.cmd_parts.specs.Join.{EndsTelling}
@@ -8,9 +11,11 @@ use Rattle.cmd_folder_page.proofs.PageTold.{ends_unlisted, page_told}
 use Rattle.cmd_folder_page.proofs.page.write_folder_page.Goals as goal
 
 pub returns-clause-tells : goal.returns-clause-tells
-returns-clause-tells g c = page_told c.args.maker.now.version.now c.args.maker.now.sum c.in_ok-roots.roots.items c.in_ok-sum.sum (g.S.PartLedgers.finds c.args.parts.now) c.args.folder.now
+returns-clause-tells g c = page_told c.args.maker.now.version.now c.args.maker.now.sum c.deref.result.now c.in_ok-sum.sum (g.S.PartLedgers.finds c.args.parts.now) c.args.folder.now
     (g.W.Write.contents c.args.answers.now) (g.W.Write.contents c.tell_whole.new.answers) (g.E.Write.contents c.args.faults.now) (g.E.Write.contents c.gather.new.faults)
-    c.in_ok-whole.whole c.in_ok-whole.is_sound c.gather.new.collector.census c.tell_whole.result c.in_ok-whole.ensures.ok c.count_fits.ensures c.tell_whole.ensures.ok c.in_ok-sum.ensures.ok c.in_ok-roots.ensures
+    c.in_ok-whole.whole c.in_ok-whole.is_sound c.gather.new.collector.census c.tell_whole.result c.in_ok-whole.ensures.ok c.count_fits.ensures c.tell_whole.ensures.ok c.in_ok-sum.ensures.ok
+    (subst (λ (l : List Packed). AreAll (IsOpenOn c.in_ok-whole.whole.trunk) l) (sym c.deref.ensures.value)
+    (subst (λ (b : Contents). AreAll (IsOpenOn b) c.in_ok-roots.roots.items) c.trunk.ensures c.in_ok-roots.ensures))
 
 pub returns-in_err-whole-clause-ended : goal.returns-in_err-whole-clause-ended
 returns-in_err-whole-clause-ended g c =

@@ -1,2 +1,4 @@
 pub mod Firsts
 pub mod Cutting
+pub mod Naming
+pub mod Changing

@@ -65,22 +65,22 @@ named_both : (first second : ℕ → ℕ) (o : Option Entry) → named_entry sec
 named_both first second None = refl
 named_both first second (Some e) = refl
 
-named_same : (o : Option Entry) → o ≡ named_entry (λ q. q) o
+pub named_same : (o : Option Entry) → o ≡ named_entry (λ q. q) o
 named_same None = refl
 named_same (Some e) = refl
 
 -- where the second of two that are alike is there, so is the first
-alike_back : (Like : Config → Config → Type 0) (o : Option Config) (d : Config) → Alike Like o (Some d) → (c : Config) × (o ≡ Some c) × Like c d
+pub alike_back : (Like : Config → Config → Type 0) (o : Option Config) (d : Config) → Alike Like o (Some d) → (c : Config) × (o ≡ Some c) × Like c d
 alike_back Like None d a = absurd a
 alike_back Like (Some c) d a = (c, refl, a)
 
 module _ (name : ℕ → ℕ) (m new : Machine) (entries : (q : ℕ) (s : Sym) → new (name q) s ≡ named_entry name (m q s)) (first : name 0 ≡ 0) where
-  alike_times : (i : ℕ) → Alike (Carried name (λ x. x)) (after m i) (after new i)
+  pub alike_times : (i : ℕ) → Alike (Carried name (λ x. x)) (after m i) (after new i)
   alike_times i =
       alike_from (Carried name (λ x. x)) m new (carried_step name (λ x. x) (λ d. d) m new (renames name m new entries)) i start start
       (carried_start name (λ x. x) first refl).carried
 
-  stays_below : (k low : ℕ) → ((q : ℕ) → q < low → name q < low) → StaysBelow m k low → StaysBelow new k low
+  pub stays_below : (k low : ℕ) → ((q : ℕ) → q < low → name q < low) → StaysBelow m k low → StaysBelow new k low
   stays_below k low kept stays i d before is =
       let (c, there, like) = alike_back (Carried name (λ x. x)) (after m i) d (subst (Alike (Carried name (λ x. x)) (after m i)) is (alike_times i)) in
       subst (λ q. q < low) (sym like.state) (kept c.state (stays i c before there))

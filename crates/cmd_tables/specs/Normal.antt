@@ -63,3 +63,9 @@ pub record IsNormalForm (steps : ℕ) (t new : Packed) : Type 0 where
   pub states : new.states ≡ t.states
   pub renamed : IsRenamed named (turned (entry_of t)) (entry_of new)
   pub in_order : IsInOrder (entry_of new) steps named
+
+-- t is in normal form by so many steps: its first move isn't to the left, and its run comes to its states in their order
+pub record IsInNormalForm (steps : ℕ) (t : Packed) : Type 0 where
+  pub right : moves_left (entry_of t 0 Zero) ≡ false
+  pub named : ℕ
+  pub in_order : IsInOrder (entry_of t) steps named

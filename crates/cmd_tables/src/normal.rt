@@ -5,7 +5,7 @@ ghost use Rattle.machine_text.specs.Packed.{entry_of};
 ghost use Rattle.law_turing.specs.Run.{start};
 ghost use Rattle.law_turing.specs.Score.{HaltsWith};
 ghost use Rattle.run.specs.Limits.{run_step_limit};
-ghost use Rattle.cmd_tables.specs.Normal.{ComesTo, IsNormalForm, StaysBelow, turned};
+ghost use Rattle.cmd_tables.specs.Normal.{ComesTo, IsInNormalForm, IsNormalForm, StaysBelow, turned};
 
 use crate::change::{Change, table_changed};
 use machine_text::{Dir, State, Sym, Table};
@@ -14,9 +14,10 @@ use std::alloc::Global;
 
 /// A table mirrored where its first move is to the left, and its states named in the order in which its run comes to them
 /// in at most so many steps, and in `MAX_RUN_STEPS`: the others are the last, in their old order. So it runs as the table
-/// does.
+/// does, and is the table itself where that is in this form.
 pub fn normal_form(alloc: Global, t: &Table, steps: u64) -> Result<Table, NoMemory>
     ensures form { IfOk result (λ new. IsNormalForm (min steps run_step_limit) t.now new) }
+    ensures same { IfOk result (λ new. IsInNormalForm (min steps run_step_limit) t.now → new ≡ t.now) }
     ensures alike { IfOk result (λ new. (k s : ℕ) → HaltsWith (entry_of t.now) k s ↔ HaltsWith (entry_of new) k s) }
 {
     let steps = steps.min(MAX_RUN_STEPS);
@@ -24,6 +25,8 @@ pub fn normal_form(alloc: Global, t: &Table, steps: u64) -> Result<Table, NoMemo
     let mut form = turned(t);
     let mut runner = Runner::new(alloc, form)?;
     for named in 1..states {
+        // Opens the invariant of the table.
+        let _ = form.states();
         // Each table that is renamed runs from the start: the names are given early in most runs.
         runner.restart(form);
         match first_from(&mut runner, named, steps)? {

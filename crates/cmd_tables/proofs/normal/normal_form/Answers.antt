@@ -4,6 +4,7 @@ use Rattle.machine_text.specs.declared.transition.State.{State}
 use Rattle.run.specs.RunState.{RunState}
 use Rattle.cmd_tables.specs.Normal.{ComesTo, IsNormalForm, StaysBelow, turned}
 use Rattle.cmd_tables.proofs.Naming.{IsNamed, came_some, came_none, named_first, named_more, named_whole, named_all, normal_alike}
+use Rattle.cmd_tables.proofs.Unchanged.{unchanged}
 use Rattle.cmd_tables.proofs.normal.normal_form.Goals as goal
 
 pub loop-named-init : goal.loop-named-init
@@ -47,10 +48,16 @@ returns-clause-form c =
     let states : form.states ≡ c.args.t.now.states = c.loop-named.invariant.states in
     let all : named ≡ form.states = omega arith in
     subst (λ (k : ℕ). IsNormalForm k c.args.t.now form) c.min-steps.ensures
-    (named_all steps c.args.t.now form c.states.ensures.table states (subst (λ (k : ℕ). IsNamed k steps (turned (entry_of c.args.t.now)) (entry_of form)) all c.loop-named.invariant.named))
+    (named_all steps c.args.t.now form c.states-2.ensures.table states (subst (λ (k : ℕ). IsNamed k steps (turned (entry_of c.args.t.now)) (entry_of form)) all c.loop-named.invariant.named))
 
 pub returns-in-None-clause-alike : goal.returns-in-None-clause-alike
 returns-in-None-clause-alike c k s = normal_alike _ c.args.t.now c.loop-named.form (returns-in-None-clause-form c) k s
 
 pub returns-clause-alike : goal.returns-clause-alike
 returns-clause-alike c k s = normal_alike _ c.args.t.now c.loop-named.form (returns-clause-form c) k s
+
+pub returns-in-None-clause-same : goal.returns-in-None-clause-same
+returns-in-None-clause-same c = unchanged _ c.args.t.now c.loop-named.form c.states-states.ensures.table c.states.ensures.table (returns-in-None-clause-form c)
+
+pub returns-clause-same : goal.returns-clause-same
+returns-clause-same c = unchanged _ c.args.t.now c.loop-named.form c.states-states.ensures.table c.states-2.ensures.table (returns-clause-form c)

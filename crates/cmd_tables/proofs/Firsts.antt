@@ -13,9 +13,10 @@ use Rattle.cmd_options.specs.declared.outcome.Outcome.{Outcome}
 use Rattle.cmd_options.specs.declared.outcome.Outcome.TheVariants.{Accepted}
 use Rattle.cmd_taking.specs.Said.{AreTakenBy, TakesStream, first_fault}
 use Rattle.cmd_taking.specs.Taken.{lent}
-use Rattle.cmd_tables.specs.Listed.{first_ones, table_line, same_packed, ListsTables}
+use Rattle.cmd_options.specs.declared.options.Listing.{Listing}
+use Rattle.cmd_tables.specs.Listed.{first_ones, table_line, same_packed, IsPrinted, ArePrinted, ListsTables}
 use Rattle.cmd_tables.specs.Words.{words, onto, tables_among, tables_of_line}
-use Rattle.cmd_tables.specs.inside.{Lists, ListsLine, words_left, tables_left}
+use Rattle.cmd_tables.specs.inside.{Lists, ListsFor, ListsLine, words_left, tables_left}
 
 -- a table that came before, and one that didn't
 first_came : (came : List Packed) (t : Packed) (tables : List Packed) → list_any (same_packed t) came ≡ true → first_ones came (t ∷ tables) ≡ first_ones came tables
@@ -60,33 +61,58 @@ lists_both a xs b ys c s u first second =
       said_new = ap (λ (t : List ℕ). t ++ u) first.said_new ∙ (ap (λ (t : List ℕ). flat_map table_line f ++ t) second.said_new ∙ (sym (flat_both f (first_ones b ys)) ∙ ap (flat_map table_line) all));
     }
 
+-- what is printed of some tables, and of others behind them
+printed_both : (l : Listing) (xs ys ps qs : List Packed) → ArePrinted l xs ps → ArePrinted l ys qs → ArePrinted l (xs ++ ys) (ps ++ qs)
+printed_both l [] ys ps qs none so = subst (λ (k : List Packed). ArePrinted l ys (k ++ qs)) (sym none) so
+printed_both l (t ∷ xs) ys ps qs (first, others, is, printed, more) so =
+    (first, others ++ qs, ap (λ (k : List Packed). k ++ qs) is, printed, printed_both l xs ys others qs more so)
+
+pub lists_for_both : (l : Listing) (a xs b ys c : List Packed) (s u : List ℕ) → ListsFor l a xs b s → ListsFor l b ys c u → ListsFor l a (xs ++ ys) c (s ++ u)
+lists_for_both l a xs b ys c s u (ps, first_printed, first) (qs, second_printed, second) =
+    (ps ++ qs, printed_both l xs ys ps qs first_printed second_printed, lists_both a ps b qs c s u first second)
+
 pub lists_nothing : (came : List Packed) → Lists came [] came []
 lists_nothing came = record {
   came_new = sym (ap (λ (k : List Packed). came ++ k) (first_none came) ∙ append-nil came);
   said_new = sym (ap (flat_map table_line) (first_none came));
 }
 
--- a word that is no table, one that came before, and one that comes first
-pub lists_none : (came : List Packed) (r : Result Packed TextFault) (f : TextFault) → r ≡ Err f → Lists came (onto r []) came []
-lists_none came r f is = subst (λ (k : Result Packed TextFault). Lists came (onto k []) came []) (sym is) (lists_nothing came)
+pub lists_for_nothing : (l : Listing) (came : List Packed) → ListsFor l came [] came []
+lists_for_nothing l came = ([], refl, lists_nothing came)
 
-pub lists_double : (came new : List Packed) (r : Result Packed TextFault) (t : Packed) → r ≡ Ok t → list_any (same_packed t) came ≡ true → new ≡ insert_key same_packed came t → Lists came (onto r []) new []
-lists_double came new r t is double put =
-    let kept : new ≡ came = put ∙ ap (λ (b : Bool). cond b came (came ++ t ∷ [])) double in
-    let none : first_ones came (t ∷ []) ≡ [] = first_came came t [] double ∙ first_none came in
-    subst (λ (k : Result Packed TextFault). Lists came (onto k []) new []) (sym is) (record {
-      came_new = kept ∙ sym (ap (λ (k : List Packed). came ++ k) none ∙ append-nil came);
-      said_new = sym (ap (flat_map table_line) none);
-    })
+-- a word that is no table, one of which what is printed came before, and one of which it comes first
+pub lists_none : (l : Listing) (came : List Packed) (r : Result Packed TextFault) (f : TextFault) → r ≡ Err f → ListsFor l came (onto r []) came []
+lists_none l came r f is = subst (λ (k : Result Packed TextFault). ListsFor l came (onto k []) came []) (sym is) (lists_for_nothing l came)
 
-pub lists_first : (came new : List Packed) (r : Result Packed TextFault) (t : Packed) → r ≡ Ok t → list_any (same_packed t) came ≡ false → new ≡ insert_key same_packed came t → Lists came (onto r []) new (table_line t)
-lists_first came new r t is first put =
-    let grown : new ≡ came ++ t ∷ [] = put ∙ ap (λ (b : Bool). cond b came (came ++ t ∷ [])) first in
-    let one : first_ones came (t ∷ []) ≡ t ∷ [] = first_new came t [] first ∙ ap (λ (k : List Packed). t ∷ k) (first_none (came ++ t ∷ [])) in
-    subst (λ (k : Result Packed TextFault). Lists came (onto k []) new (table_line t)) (sym is) (record {
-      came_new = grown ∙ sym (ap (λ (k : List Packed). came ++ k) one);
-      said_new = sym (ap (flat_map table_line) one ∙ append-nil (table_line t));
-    })
+printed_one : (l : Listing) (t p : Packed) → IsPrinted l t p → ArePrinted l (t ∷ []) (p ∷ [])
+printed_one l t p is = (p, [], refl, is, refl)
+
+pub lists_double : (l : Listing) (came new : List Packed) (r : Result Packed TextFault) (t p : Packed) → r ≡ Ok t → IsPrinted l t p → list_any (same_packed p) came ≡ true → new ≡ insert_key same_packed came p → ListsFor l came (onto r []) new []
+lists_double l came new r t p is printed double put =
+    let kept : new ≡ came = put ∙ ap (λ (b : Bool). cond b came (came ++ p ∷ [])) double in
+    let none : first_ones came (p ∷ []) ≡ [] = first_came came p [] double ∙ first_none came in
+    subst (λ (k : Result Packed TextFault). ListsFor l came (onto k []) new []) (sym is) (
+      p ∷ [],
+      printed_one l t p printed,
+      record {
+        came_new = kept ∙ sym (ap (λ (k : List Packed). came ++ k) none ∙ append-nil came);
+        said_new = sym (ap (flat_map table_line) none);
+      },
+    )
+
+pub lists_first : (l : Listing) (came new : List Packed) (r : Result Packed TextFault) (t p : Packed) → r ≡ Ok t → IsPrinted l t p → list_any (same_packed p) came ≡ false → new ≡ insert_key same_packed came p
+    → ListsFor l came (onto r []) new (table_line p)
+lists_first l came new r t p is printed first put =
+    let grown : new ≡ came ++ p ∷ [] = put ∙ ap (λ (b : Bool). cond b came (came ++ p ∷ [])) first in
+    let one : first_ones came (p ∷ []) ≡ p ∷ [] = first_new came p [] first ∙ ap (λ (k : List Packed). p ∷ k) (first_none (came ++ p ∷ [])) in
+    subst (λ (k : Result Packed TextFault). ListsFor l came (onto k []) new (table_line p)) (sym is) (
+      p ∷ [],
+      printed_one l t p printed,
+      record {
+        came_new = grown ∙ sym (ap (λ (k : List Packed). came ++ k) one);
+        said_new = sym (ap (flat_map table_line) one ∙ append-nil (table_line p));
+      },
+    )
 
 -- what `put_first` answers, the other way round
 pub came_before : (came : List Packed) (t : Packed) (first : Bool) → first ≡ not (list_any (same_packed t) came) → first ≡ false → list_any (same_packed t) came ≡ true
@@ -126,32 +152,36 @@ grown old done out line new is more = more ∙ (ap (λ t. t ++ line) is ∙ appe
 abbrev all_tables : List (List ℕ) → List Packed
 all_tables lines = flat_map (λ line. tables_of_line (bounded_line line)) lines
 
-module _ {D : Type 0} (came : D → List Packed) where
-  lines_listed : (old : D) (lines : List (List ℕ)) (o : Outcome) (new : D) (said : List ℕ) → AreTakenBy (ListsLine came) old lines o new said
-      → (o ≡ Accepted) × Lists (came old) (all_tables lines) (came new) said
+module _ {D : Type 0} (listing : D → Listing) (came : D → List Packed) where
+  lines_listed : (old : D) (lines : List (List ℕ)) (o : Outcome) (new : D) (said : List ℕ) → AreTakenBy (ListsLine listing came) old lines o new said
+      → (o ≡ Accepted) × ListsFor (listing old) (came old) (all_tables lines) (came new) said
   lines_listed old [] o new said (is, same, none) = (
     is,
-    subst (λ (k : List Packed). Lists (came old) [] k said) (sym (ap came same)) (subst (Lists (came old) [] (came old)) (sym none) (lists_nothing (came old))),
+    subst (λ (k : List Packed). ListsFor (listing old) (came old) [] k said) (sym (ap came same)) (subst (ListsFor (listing old) (came old) [] (came old)) (sym none) (lists_for_nothing (listing old) (came old))),
   )
-  lines_listed old (line ∷ lines) o new said (first, middle, more, later, others, (accepted, lists), so, outcome, text) =
-      let all = lines_listed middle lines later new others so in (
+  lines_listed old (line ∷ lines) o new said (first, middle, more, later, others, (accepted, kept, lists), so, outcome, text) =
+      let all = lines_listed middle lines later new others so in
+      let rest : ListsFor (listing old) (came middle) (all_tables lines) (came new) others = subst (λ (l : Listing). ListsFor l (came middle) (all_tables lines) (came new) others) kept all.1 in (
         outcome ∙ (ap (λ (k : Outcome). first_fault k later) accepted ∙ all.0),
-        subst (Lists (came old) (all_tables (line ∷ lines)) (came new)) (sym text)
-            (lists_both (came old) (tables_of_line (bounded_line line)) (came middle) (all_tables lines) (came new) more others lists all.1),
+        subst (ListsFor (listing old) (came old) (all_tables (line ∷ lines)) (came new)) (sym text)
+            (lists_for_both (listing old) (came old) (tables_of_line (bounded_line line)) (came middle) (all_tables lines) (came new) more others lists rest),
       )
 
-  pub stream_listed : (old new : D) (read new_read held new_held : Option (List ℕ)) (o : Outcome) → came old ≡ [] → TakesStream (ListsLine came) old new read new_read held new_held o
-      → (o ≡ Accepted) × ListsTables read new_read held new_held
+  pub stream_listed : (old new : D) (read new_read held new_held : Option (List ℕ)) (o : Outcome) → came old ≡ [] → TakesStream (ListsLine listing came) old new read new_read held new_held o
+      → (o ≡ Accepted) × ListsTables (listing old) read new_read held new_held
   stream_listed old new read new_read held new_held o none so =
       let all = lines_listed old so.lines o new so.said so.taken in
-      let said : so.said ≡ flat_map table_line (first_ones [] (all_tables so.lines)) = all.1.said_new ∙ ap (λ (k : List Packed). flat_map table_line (first_ones k (all_tables so.lines))) none in (
+      let (printed, are_printed, lists) = all.1 in
+      let said : so.said ≡ flat_map table_line (first_ones [] printed) = lists.said_new ∙ ap (λ (k : List Packed). flat_map table_line (first_ones k printed)) none in (
         all.0,
         record {
           text = so.text;
           lines = so.lines;
+          printed = printed;
           consumed = so.consumed;
           whole = so.whole;
           are_lines = so.are_lines;
+          are_printed = are_printed;
           written = subst (Appends held new_held) said so.written;
         },
       )

@@ -1,2 +1,5 @@
 pub mod Firsts
 pub mod Cutting
+pub mod Naming
+pub mod Unchanged
+pub mod Changing

@@ -1,3 +1,4 @@
 pub mod Words
+pub mod Normal
 pub mod Listed
 pub mod inside

@@ -1,12 +1,20 @@
 -- What only the code needs: how far a text is gone through.
-use Rattle.std.specs.Prelude.{◌≡◌, ℕ, suc, List, [], ◌++◌, length, Option, Some, None, flat_map}
+use Rattle.std.specs.Prelude.{◌≡◌, ℕ, suc, ◌+◌, ◌-◌, ◌<◌, ◌≤◌, ◌==◌, ◌&&◌, nat_le, ltb, if◌then◌else◌, List, [], ◌++◌, length, Option, Some, None, flat_map}
 use Rattle.std.specs.Borrow.{Bor}
-use Rattle.machine_text.specs.Packed.{Packed}
+use Rattle.machine_text.specs.declared.transition.Sym.{Sym}
+use Rattle.machine_text.specs.declared.transition.Entry.{Entry}
+use Rattle.machine_text.specs.Packed.{Packed, filled}
+use Rattle.law_turing.specs.Machine.{Machine}
+use Rattle.law_turing.specs.Mirror.{mirrored_entry}
 use Rattle.text.specs.Lines.{BoundedLine}
+use Rattle.cmd_options.specs.declared.options.Listing.{Listing}
 use Rattle.cmd_options.specs.declared.outcome.Outcome.{Outcome}
 use Rattle.cmd_options.specs.declared.outcome.Outcome.TheVariants.{Accepted}
-use Rattle.cmd_tables.specs.Listed.{first_ones, table_line}
+use Rattle.cmd_tables.specs.Listed.{ArePrinted, first_ones, table_line}
+use Rattle.cmd_tables.specs.Normal.{named_entry}
 use Rattle.cmd_tables.specs.Words.{words, tables_in, tables_of_line}
+use Rattle.cmd_tables.specs.declared.change.Change.{Change}
+use Rattle.cmd_tables.specs.declared.change.Change.TheVariants.{Mirrored, Lowered}
 
 -- what is left of a text
 abbrev pub words_left : Option (Bor (List ℕ)) → List (List ℕ)
@@ -26,5 +34,32 @@ pub record Lists (came tables new : List Packed) (said : List ℕ) : Type 0 wher
   pub came_new : new ≡ came ++ first_ones came tables
   pub said_new : said ≡ flat_map table_line (first_ones came tables)
 
-abbrev pub ListsLine : {D : Type 0} → (D → List Packed) → D → BoundedLine → Outcome → D → List ℕ → Type 0
-ListsLine {D} came old line o new said = (o ≡ Accepted) × Lists (came old) (tables_of_line line) (came new) said
+-- and that, of what is printed of some tables
+abbrev pub ListsFor : Listing → List Packed → List Packed → List Packed → List ℕ → Type 0
+ListsFor l came tables new said = (printed : List Packed) × ArePrinted l tables printed × Lists came printed new said
+
+abbrev pub ListsLine : {D : Type 0} → (D → Listing) → (D → List Packed) → D → BoundedLine → Outcome → D → List ℕ → Type 0
+ListsLine {D} listing came old line o new said =
+    (o ≡ Accepted) × (listing new ≡ listing old) × ListsFor (listing old) (came old) (tables_of_line line) (came new) said
+
+-- the names where a state is named `low`, and those from there on up to it are named one higher; and the old names
+abbrev pub lowered : ℕ → ℕ → ℕ → ℕ
+lowered low state q = if q == state then low else if nat_le low q && ltb q state then q + 1 else q
+
+abbrev pub raised : ℕ → ℕ → ℕ → ℕ
+raised low state q = if q == low then state else if ltb low q && nat_le q state then q - 1 else q
+
+-- the machine that a change makes of another
+abbrev pub changed : Change → Machine → ℕ → Sym → Option Entry
+changed Mirrored m q s = mirrored_entry (m q s)
+changed (Lowered low state) m q s = named_entry (lowered low state) (m (raised low state q) s)
+
+-- the states that a change names are among so many
+abbrev pub Fits : Change → ℕ → Type 0
+Fits Mirrored n = Unit {0}
+Fits (Lowered low state) n = (low ≤ state) × (state < n)
+
+-- a machine with an entry at a pair, if there is one
+abbrev pub put_entry : Machine → ℕ → Sym → Option Entry → ℕ → Sym → Option Entry
+put_entry m q s None p r = m p r
+put_entry m q s (Some e) p r = filled m q s e p r

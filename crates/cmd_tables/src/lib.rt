@@ -3,8 +3,11 @@
 //! `specs/Words` says which tables stand in a text, `specs/Listed` what is printed of them.
 #![tactic(auto)]
 
+mod change;
 mod list;
+mod normal;
 mod passed;
 mod words;
 
 pub use list::{cmd_tables, list_tables};
+pub use normal::normal_form;

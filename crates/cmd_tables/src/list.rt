@@ -3,48 +3,56 @@ ghost use Rattle.std.specs.Prelude.{◌≡◌, ◌⊎◌, ◌∷◌, [], ◌++�
 ghost use Rattle.std.specs.List.{list_any};
 ghost use Rattle.indexmap.specs.IndexSet.{insert_key};
 ghost use Rattle.cmd_taking.specs.Taken.{lent};
-ghost use Rattle.cmd_tables.specs.Listed.{ListsTables, same_packed};
+ghost use Rattle.cmd_tables.specs.Listed.{IsPrinted, ListsTables, same_packed};
 ghost use Rattle.cmd_tables.specs.Words.{tables_among, tables_in, tables_of_line};
-ghost use Rattle.cmd_tables.specs.inside.{Lists};
+ghost use Rattle.cmd_tables.specs.inside.{ListsFor};
 
+use crate::normal::normal_form;
 use crate::passed::Passed;
 use crate::words::cut_word;
 use cert::append_table;
-use cmd_options::{Ended, Outcome, told};
+use cmd_options::{Ended, Listing, Outcome, told};
 use cmd_taking::{PIECE_BYTES, Sayer, say_lines};
 use indexmap::IndexSet;
+use kind_evidence::NoMemory;
 use machine_text::Table;
 use std::alloc::Global;
 use std::io::{Read, Write};
 
-/// Reads a text of any form, and prints the tables in it in the standard form, a line each, where they come first. How many
-/// lines had none, and how many tables had come before, is said on `faults` at the end, and what a failed stream or refused
-/// memory ends.
+/// Reads a text of any form, and prints the tables in it in the standard form, a line each, where they come first: renamed
+/// and mirrored as their runs ask for, if that is wanted. How many lines had none, and how many tables had come before, is
+/// said on `faults` at the end, and what a failed stream or refused memory ends.
 pub fn cmd_tables<R: Read, W: Write, E: Write>(
     alloc: Global,
+    listing: &Listing,
     input: &mut R,
     answers: &mut W,
     faults: &mut E,
 ) -> Outcome
-    ensures { ((result ≡ Outcome.Accepted) × ListsTables (R.remaining input.old) (R.remaining input.new)
+    ensures { ((result ≡ Outcome.Accepted) × ListsTables listing.now (R.remaining input.old) (R.remaining input.new)
         (W.contents answers.old) (W.contents answers.new))
         ⊎ (result ≡ Outcome.NoMemory) ⊎ (result ≡ Outcome.Failed) }
 {
-    told(list_tables(alloc, input, answers, faults), faults)
+    told(list_tables(alloc, listing, input, answers, faults), faults)
 }
 
 /// Lists as `cmd_tables` does, but answers what ends it early, and doesn't say it.
 pub fn list_tables<R: Read, W: Write, E: Write>(
     alloc: Global,
+    listing: &Listing,
     input: &mut R,
     answers: &mut W,
     faults: &mut E,
 ) -> Result<Outcome, Ended>
-    ensures ok { IfOk result (λ o. (o ≡ Outcome.Accepted) × ListsTables (R.remaining input.old) (R.remaining input.new)
-        (W.contents answers.old) (W.contents answers.new)) }
+    ensures ok { IfOk result (λ o. (o ≡ Outcome.Accepted) × ListsTables listing.now (R.remaining input.old)
+        (R.remaining input.new) (W.contents answers.old) (W.contents answers.new)) }
     ensures err { IfErr result (λ e. (e ≡ Ended.NoMemory) ⊎ (e ≡ Ended.Stream)) }
 {
     let lister = Lister {
+        form: Form {
+            alloc,
+            listing: *listing,
+        },
         came: IndexSet::new(alloc),
         passed: Passed {
             lines: 0,
@@ -56,9 +64,10 @@ pub fn list_tables<R: Read, W: Write, E: Write>(
     Ok(outcome)
 }
 
-// Which tables came, and what was passed over.
+// In which form tables are printed, which ones came, and what was passed over.
 #[derive(Drop)]
 struct Lister {
+    form: Form,
     came: IndexSet<Table>,
     passed: Passed,
 }
@@ -68,17 +77,37 @@ impl Sayer for Lister {
     ghost use Rattle.cmd_options.specs.declared.ended.Ended.TheVariants.{NoMemory as WantsMemory};
     ghost use Rattle.cmd_tables.specs.inside.{ListsLine};
 
-    ghost takes = { ListsLine (λ l. l.came.keys) };
+    ghost takes = { ListsLine (λ l. l.form.listing) (λ l. l.came.keys) };
 
     ghost ends = { λ e. e ≡ WantsMemory };
 
     fn take_line(&mut self, line: Option<&[u8]>, said: &mut Vec<u8>) -> Result<Outcome, Ended> {
-        let count = list_line(line, &mut self.came, said)?;
+        let count = list_line(&self.form, line, &mut self.came, said)?;
         if count.tables == 0 {
             self.passed.lines = self.passed.lines.saturating_add(1);
         }
         self.passed.doubles = self.passed.doubles.saturating_add(count.doubles);
         Ok(Outcome::Accepted)
+    }
+}
+
+// The form in which tables are printed.
+#[derive(Drop)]
+struct Form {
+    alloc: Global,
+    listing: Listing,
+}
+
+impl Form {
+    // What is printed of a table.
+    fn of(&self, t: &Table) -> Result<Table, NoMemory>
+        ensures { IfOk result (IsPrinted self.now.listing t.now) }
+    {
+        if self.listing.normal {
+            normal_form(self.alloc, t, self.listing.steps)
+        } else {
+            Ok(*t)
+        }
     }
 }
 
@@ -91,12 +120,13 @@ struct Count {
 
 // Appends the tables of a line, which is none where it was too long, that come first.
 fn list_line(
+    form: &Form,
     line: Option<&[u8]>,
     came: &mut IndexSet<Table>,
     said: &mut Vec<u8>,
 ) -> Result<Count, Ended>
-    ensures ok { OnOk result ((more : List ℕ) × Lists came.old.keys (tables_of_line (lent line.entry)) came.new.keys more
-        × (said.new.items ≡ said.old.items ++ more)) }
+    ensures ok { OnOk result ((more : List ℕ) × ListsFor form.now.listing came.old.keys
+        (tables_of_line (lent line.entry)) came.new.keys more × (said.new.items ≡ said.old.items ++ more)) }
     ensures err { IfErr result (λ e. e ≡ Ended.NoMemory) }
 {
     let mut left = line;
@@ -106,7 +136,7 @@ fn list_line(
     };
     'words: while let Some(text) = left {
         let (word, rest) = cut_word(text);
-        list_word(word, came, &mut count, said)?;
+        list_word(form, word, came, &mut count, said)?;
         left = rest;
     }
     Ok(count)
@@ -114,19 +144,21 @@ fn list_line(
 
 // Appends a word that is a table and comes first.
 fn list_word(
+    form: &Form,
     word: &[u8],
     came: &mut IndexSet<Table>,
     count: &mut Count,
     said: &mut Vec<u8>,
 ) -> Result<(), Ended>
-    ensures ok { OnOk result ((more : List ℕ) × Lists came.old.keys (tables_among (word.now ∷ [])) came.new.keys more
-        × (said.new.items ≡ said.old.items ++ more)) }
+    ensures ok { OnOk result ((more : List ℕ) × ListsFor form.now.listing came.old.keys
+        (tables_among (word.now ∷ [])) came.new.keys more × (said.new.items ≡ said.old.items ++ more)) }
     ensures err { IfErr result (λ e. e ≡ Ended.NoMemory) }
 {
     let Ok(t) = Table::parse(word) else {
         return Ok(());
     };
     count.tables = count.tables.saturating_add(1);
+    let t = form.of(&t)?;
     if !put_first(&t, came)? {
         count.doubles = count.doubles.saturating_add(1);
         return Ok(());

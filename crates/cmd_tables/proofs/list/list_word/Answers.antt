@@ -7,7 +7,7 @@ use Rattle.cmd_tables.proofs.list.list_word.Goals as goal
 pub returns-in_default-clause-ok : goal.returns-in_default-clause-ok
 returns-in_default-clause-ok c = (
   [],
-  lists_none c.args.came.now.keys (table_of c.args.word.now) c.in_default.field-0 (sym c.parse.ensures ∙ c.in_default.is),
+  lists_none c.args.form.now.listing c.args.came.now.keys (table_of c.args.word.now) c.in_default.field-0 (sym c.parse.ensures ∙ c.in_default.is),
   sym (append-nil c.args.said.now.items),
 )
 
@@ -16,8 +16,8 @@ returns-then-not-branch-clause-ok c =
     let first = c.in_ok-put_first.field-0 in
     let none : first ≡ false = search rules in (
       [],
-      lists_double c.args.came.now.keys c.put_first.new.came.keys (table_of c.args.word.now) c.in-Ok.t (sym c.parse.ensures ∙ c.in-Ok.is)
-          (came_before c.args.came.now.keys c.in-Ok.t first c.in_ok-put_first.ensures.ok.0 none) c.in_ok-put_first.ensures.ok.1,
+      lists_double c.args.form.now.listing c.args.came.now.keys c.put_first.new.came.keys (table_of c.args.word.now) c.in-Ok.t c.in_ok-t.t (sym c.parse.ensures ∙ c.in-Ok.is) c.in_ok-t.ensures
+          (came_before c.args.came.now.keys c.in_ok-t.t first c.in_ok-put_first.ensures.ok.0 none) c.in_ok-put_first.ensures.ok.1,
       sym (append-nil c.args.said.now.items),
     )
 
@@ -25,8 +25,8 @@ pub returns-clause-ok : goal.returns-clause-ok
 returns-clause-ok c =
     let first = c.in_ok-put_first.field-0 in
     let some : first ≡ true = search rules in (
-      table_line c.in-Ok.t,
-      lists_first c.args.came.now.keys c.put_first.new.came.keys (table_of c.args.word.now) c.in-Ok.t (sym c.parse.ensures ∙ c.in-Ok.is)
-          (came_not c.args.came.now.keys c.in-Ok.t first c.in_ok-put_first.ensures.ok.0 some) c.in_ok-put_first.ensures.ok.1,
-      c.in_ok-extend_from_slice.ensures.items ∙ (ap (λ (t : List ℕ). t ++ 10 ∷ []) c.in_ok-append_table.ensures.ok ∙ append_assoc c.args.said.now.items (text_of c.in-Ok.t) (10 ∷ [])),
+      table_line c.in_ok-t.t,
+      lists_first c.args.form.now.listing c.args.came.now.keys c.put_first.new.came.keys (table_of c.args.word.now) c.in-Ok.t c.in_ok-t.t (sym c.parse.ensures ∙ c.in-Ok.is) c.in_ok-t.ensures
+          (came_not c.args.came.now.keys c.in_ok-t.t first c.in_ok-put_first.ensures.ok.0 some) c.in_ok-put_first.ensures.ok.1,
+      c.in_ok-extend_from_slice.ensures.items ∙ (ap (λ (t : List ℕ). t ++ 10 ∷ []) c.in_ok-append_table.ensures.ok ∙ append_assoc c.args.said.now.items (text_of c.in_ok-t.t) (10 ∷ [])),
     )

@@ -53,7 +53,7 @@ impl<S: Disk + Clock + Sockets, R: Read, W: Write, E: Write> Call<'_, S, R, W, E
             Options::Decide { search, .. } => lines::decide(self, &search),
             Options::Explain { .. } => texts::explain(self),
             Options::Show(showing) => texts::show(self, &showing),
-            Options::Tables(_) => texts::tables(self),
+            Options::Tables(listing) => texts::tables(self, &listing),
             Options::Draw(drawing) => pictures::draw(self, &drawing),
             Options::Coord { beginning, ledger } => nodes::coord(self, beginning, ledger),
             Options::Run { settling, ledger } => nodes::run(self, &settling, ledger),

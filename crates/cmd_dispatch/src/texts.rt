@@ -1,7 +1,7 @@
 // `bb explain`, `bb show` and `bb tables`.
 use crate::call::Call;
 use cmd_explain::explain_for;
-use cmd_options::{Ended, Outcome, Showing};
+use cmd_options::{Ended, Listing, Outcome, Showing};
 use cmd_show::show_for;
 use cmd_tables::list_tables;
 use std::io::{Read, Write};
@@ -36,6 +36,7 @@ pub(crate) fn show<S, R: Read, W: Write, E: Write>(
 // `bb tables`.
 pub(crate) fn tables<S, R: Read, W: Write, E: Write>(
     call: Call<'_, S, R, W, E>,
+    listing: &Listing,
 ) -> Result<Outcome, Ended> {
     let Call {
         alloc,
@@ -44,5 +45,5 @@ pub(crate) fn tables<S, R: Read, W: Write, E: Write>(
         faults,
         ..
     } = call;
-    list_tables(alloc, input, answers, faults)
+    list_tables(alloc, listing, input, answers, faults)
 }

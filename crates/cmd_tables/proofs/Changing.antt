@@ -9,7 +9,7 @@ use Rattle.machine_text.specs.Packed.{filled, same_symbol}
 use Rattle.law_turing.specs.Machine.{Machine, IsMachine}
 use Rattle.law_turing.specs.Mirror.{mirrored_entry}
 use Rattle.cmd_tables.specs.Normal.{named_entry}
-use Rattle.cmd_tables.specs.inside.{Fits, changed, lowered, raised, put_entry}
+use Rattle.cmd_tables.specs.inside.{FitsForm, changed, lowered, raised, put_entry}
 use Rattle.cmd_tables.specs.declared.change.Change.{Change}
 use Rattle.cmd_tables.specs.declared.change.Change.TheVariants.{Mirrored, Lowered}
 
@@ -76,7 +76,7 @@ raised_beyond : (low state q : ℕ) → low ≤ state → state < q → raised l
 raised_beyond low state q order past = grind (arith, nat_tests)
 
 -- no state beyond those of a machine has an entry in the changed one
-changed_beyond : (change : Change) (n : ℕ) (m : Machine) → IsMachine n m → Fits change n → (p : ℕ) (r : Sym) → n ≤ p → changed change m p r ≡ None
+changed_beyond : (change : Change) (n : ℕ) (m : Machine) → IsMachine n m → FitsForm change n → (p : ℕ) (r : Sym) → n ≤ p → changed change m p r ≡ None
 changed_beyond Mirrored n m machine fits p r past = ap mirrored_entry (machine.beyond p r past)
 changed_beyond (Lowered low state) n m machine fits p r past =
     let order = fits.0 in
@@ -84,7 +84,7 @@ changed_beyond (Lowered low state) n m machine fits p r past =
     let is : raised low state p ≡ p = raised_beyond low state p order (omega arith) in
     ap (λ q. named_entry (lowered low state) (m q r)) is ∙ ap (named_entry (lowered low state)) (machine.beyond p r past)
 
-pub changed_all : (change : Change) (n k : ℕ) (m new : Machine) → IsMachine n m → Fits change n → k ≡ n → AreChanged change m k new → (p : ℕ) (r : Sym) → new p r ≡ changed change m p r
+pub changed_all : (change : Change) (n k : ℕ) (m new : Machine) → IsMachine n m → FitsForm change n → k ≡ n → AreChanged change m k new → (p : ℕ) (r : Sym) → new p r ≡ changed change m p r
 changed_all change n k m new machine fits whole so p r = elim (cases_lt p k) [
   | inl less ↦ so.below p r less
   | inr past ↦ so.beyond p r past ∙ sym (changed_beyond change n m machine fits p r (omega arith))

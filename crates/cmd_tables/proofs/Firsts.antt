@@ -16,7 +16,7 @@ use Rattle.cmd_taking.specs.Taken.{lent}
 use Rattle.cmd_options.specs.declared.options.Listing.{Listing}
 use Rattle.cmd_tables.specs.Listed.{first_ones, table_line, same_packed, IsPrinted, ArePrinted, ListsTables}
 use Rattle.cmd_tables.specs.Words.{words, onto, tables_among, tables_of_line}
-use Rattle.cmd_tables.specs.inside.{Lists, ListsFor, ListsLine, words_left, tables_left}
+use Rattle.cmd_tables.specs.inside.{ListsFirst, ListsFor, ListsLine, words_left, left_tables}
 
 -- a table that came before, and one that didn't
 first_came : (came : List Packed) (t : Packed) (tables : List Packed) → list_any (same_packed t) came ≡ true → first_ones came (t ∷ tables) ≡ first_ones came tables
@@ -51,7 +51,7 @@ flat_both : (xs ys : List Packed) → flat_map table_line (xs ++ ys) ≡ flat_ma
 flat_both [] ys = refl
 flat_both (t ∷ xs) ys = ap (λ (s : List ℕ). table_line t ++ s) (flat_both xs ys) ∙ sym (append_assoc (table_line t) (flat_map table_line xs) (flat_map table_line ys))
 
-pub lists_both : (a xs b ys c : List Packed) (s u : List ℕ) → Lists a xs b s → Lists b ys c u → Lists a (xs ++ ys) c (s ++ u)
+pub lists_both : (a xs b ys c : List Packed) (s u : List ℕ) → ListsFirst a xs b s → ListsFirst b ys c u → ListsFirst a (xs ++ ys) c (s ++ u)
 lists_both a xs b ys c s u first second =
     let f = first_ones a xs in
     let g : first_ones b ys ≡ first_ones (a ++ f) ys = ap (λ (k : List Packed). first_ones k ys) first.came_new in
@@ -71,7 +71,7 @@ pub lists_for_both : (l : Listing) (a xs b ys c : List Packed) (s u : List ℕ) 
 lists_for_both l a xs b ys c s u (ps, first_printed, first) (qs, second_printed, second) =
     (ps ++ qs, printed_both l xs ys ps qs first_printed second_printed, lists_both a ps b qs c s u first second)
 
-pub lists_nothing : (came : List Packed) → Lists came [] came []
+pub lists_nothing : (came : List Packed) → ListsFirst came [] came []
 lists_nothing came = record {
   came_new = sym (ap (λ (k : List Packed). came ++ k) (first_none came) ∙ append-nil came);
   said_new = sym (ap (flat_map table_line) (first_none came));
@@ -122,11 +122,11 @@ pub came_not : (came : List Packed) (t : Packed) (first : Bool) → first ≡ no
 came_not came t first is some = by_test (list_any (same_packed t) came) (λ held. absurd (let e : true ≡ false = sym some ∙ (is ∙ ap not held) in cc)) (λ missed. missed)
 
 -- what is left of a line
-pub line_left : (o : Option (Bor (List ℕ))) → tables_of_line (lent o) ≡ tables_left o
+pub line_left : (o : Option (Bor (List ℕ))) → tables_of_line (lent o) ≡ left_tables o
 line_left None = refl
 line_left (Some text) = refl
 
-left_words : (o : Option (Bor (List ℕ))) → tables_among (words_left o) ≡ tables_left o
+left_words : (o : Option (Bor (List ℕ))) → tables_among (words_left o) ≡ left_tables o
 left_words None = refl
 left_words (Some text) = refl
 
@@ -135,15 +135,15 @@ onto_both (Ok t) tables = refl
 onto_both (Err f) tables = refl
 
 pub left_more : (all done : List Packed) (text word : List ℕ) (rest : Option (Bor (List ℕ))) → all ≡ done ++ tables_among (words text) → words text ≡ word ∷ words_left rest
-    → all ≡ (done ++ tables_among (word ∷ [])) ++ tables_left rest
+    → all ≡ (done ++ tables_among (word ∷ [])) ++ left_tables rest
 left_more all done text word rest is cut =
-    let one : tables_among (words text) ≡ onto (table_of word) [] ++ tables_left rest =
+    let one : tables_among (words text) ≡ onto (table_of word) [] ++ left_tables rest =
     ap tables_among cut ∙ (onto_both (table_of word) (tables_among (words_left rest)) ∙ ap (λ (k : List Packed). onto (table_of word) [] ++ k) (left_words rest))
     in
-    is ∙ (ap (λ (k : List Packed). done ++ k) one ∙ sym (append_assoc done (onto (table_of word) []) (tables_left rest)))
+    is ∙ (ap (λ (k : List Packed). done ++ k) one ∙ sym (append_assoc done (onto (table_of word) []) (left_tables rest)))
 
-pub left_none : (all done : List Packed) (o : Option (Bor (List ℕ))) → all ≡ done ++ tables_left o → o ≡ None → all ≡ done
-left_none all done o is none = is ∙ (ap (λ (k : Option (Bor (List ℕ))). done ++ tables_left k) none ∙ append-nil done)
+pub left_none : (all done : List Packed) (o : Option (Bor (List ℕ))) → all ≡ done ++ left_tables o → o ≡ None → all ≡ done
+left_none all done o is none = is ∙ (ap (λ (k : Option (Bor (List ℕ))). done ++ left_tables k) none ∙ append-nil done)
 
 pub grown : (old done out line new : List ℕ) → out ≡ old ++ done → new ≡ out ++ line → new ≡ old ++ (done ++ line)
 grown old done out line new is more = more ∙ (ap (λ t. t ++ line) is ∙ append_assoc old done line)

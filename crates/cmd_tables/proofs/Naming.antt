@@ -22,7 +22,7 @@ use Rattle.run.specs.RunState.{RunState, OnRun}
 use Rattle.run.specs.Steps.{StepsTo}
 use Rattle.run.specs.declared.runner.Step.{Step}
 use Rattle.run.specs.declared.runner.Step.TheVariants.{Halts}
-use Rattle.cmd_tables.specs.Normal.{StaysBelow, ComesTo, named_entry, IsRenamed, moves_left, turned, IsNormalForm}
+use Rattle.cmd_tables.specs.Normal.{StaysBelow, ComesFirstTo, named_entry, IsRenamed, moves_left, facing_right, IsNormalForm}
 use Rattle.cmd_tables.specs.inside.{lowered, raised}
 
 -- the names of a change
@@ -85,7 +85,7 @@ module _ (name : ℕ → ℕ) (m new : Machine) (entries : (q : ℕ) (s : Sym) �
       let (c, there, like) = alike_back (Carried name (λ x. x)) (after m i) d (subst (Alike (Carried name (λ x. x)) (after m i)) is (alike_times i)) in
       subst (λ q. q < low) (sym like.state) (kept c.state (stays i c before there))
 
-  comes_to : (steps low q : ℕ) → ((p : ℕ) → p < low → name p < low) → ComesTo m steps low q → ComesTo new steps low (name q)
+  comes_to : (steps low q : ℕ) → ((p : ℕ) → p < low → name p < low) → ComesFirstTo m steps low q → ComesFirstTo new steps low (name q)
   comes_to steps low q kept c =
       let (d, there, like) = alike_at (Carried name (λ x. x)) m new (carried_step name (λ x. x) (λ d. d) m new (renames name m new entries)) c.time start start c.at
       (carried_start name (λ x. x) first refl).carried c.is
@@ -102,7 +102,7 @@ module _ (name : ℕ → ℕ) (m new : Machine) (entries : (q : ℕ) (s : Sym) �
 -- a machine in which the states below `named` have the names that they are to have, and are come to in their order
 pub record IsNamed (named steps : ℕ) (m new : Machine) : Type 0 where
   pub renamed : IsRenamed named m new
-  pub each : (q : ℕ) → q < named → ComesTo new steps q q
+  pub each : (q : ℕ) → q < named → ComesFirstTo new steps q q
 
 pub named_first : (steps : ℕ) (m new : Machine) → ((q : ℕ) (s : Sym) → new q s ≡ m q s) → IsNamed 1 steps m new
 named_first steps m new same = record {
@@ -125,7 +125,7 @@ named_first steps m new same = record {
   };
 }
 
-pub named_more : (named steps state : ℕ) (m cur new : Machine) → 0 < named → named ≤ state → IsNamed named steps m cur → ComesTo cur steps named state
+pub named_more : (named steps state : ℕ) (m cur new : Machine) → 0 < named → named ≤ state → IsNamed named steps m cur → ComesFirstTo cur steps named state
     → ((q : ℕ) (s : Sym) → new q s ≡ named_entry (lowered named state) (cur (raised named state q) s)) → IsNamed (named + 1) steps m new
 named_more named steps state m cur new some order so comes made =
     let name = lowered named state in
@@ -149,18 +149,18 @@ named_more named steps state m cur new some order so comes made =
       };
       each = λ q below. elim (cases_lt q named) [
         | inl less ↦
-            subst (ComesTo new steps q) (same q less)
+            subst (ComesFirstTo new steps q) (same q less)
             (comes_to name cur new entries first steps q q (λ p lower. subst (λ x. x < q) (sym (same p (omega arith))) lower) (so.each q less))
         | inr more ↦
             let is : named ≡ q = omega arith in
-            subst (λ x. ComesTo new steps x x) is
-            (subst (ComesTo new steps named) (lowered_at named state)
+            subst (λ x. ComesFirstTo new steps x x) is
+            (subst (ComesFirstTo new steps named) (lowered_at named state)
             (comes_to name cur new entries first steps named state (λ p lower. subst (λ x. x < named) (sym (same p lower)) lower) comes))
       ];
     }
 
 -- no state is left to be named: the run comes to no other, or there is none
-pub named_whole : (named steps : ℕ) (t new : Packed) → new.states ≡ t.states → IsNamed named steps (turned (entry_of t)) (entry_of new) → StaysBelow (entry_of new) (suc steps) named → IsNormalForm steps t new
+pub named_whole : (named steps : ℕ) (t new : Packed) → new.states ≡ t.states → IsNamed named steps (facing_right (entry_of t)) (entry_of new) → StaysBelow (entry_of new) (suc steps) named → IsNormalForm steps t new
 named_whole named steps t new states so stays = record {
   named = named;
   states = states;
@@ -168,7 +168,7 @@ named_whole named steps t new states so stays = record {
   in_order = record { each = so.each; only = stays };
 }
 
-pub named_all : (steps : ℕ) (t new : Packed) → IsTable new → new.states ≡ t.states → IsNamed new.states steps (turned (entry_of t)) (entry_of new) → IsNormalForm steps t new
+pub named_all : (steps : ℕ) (t new : Packed) → IsTable new → new.states ≡ t.states → IsNamed new.states steps (facing_right (entry_of t)) (entry_of new) → IsNormalForm steps t new
 named_all steps t new is_table states so =
     named_whole new.states steps t new states so
     (λ i c before is. states_within new.states (entry_of new) (table_machine new is_table) i start c (is_table.some) is)
@@ -192,7 +192,7 @@ pub normal_alike : (steps : ℕ) (t new : Packed) → IsNormalForm steps t new �
 normal_alike steps t new form k s =
     let m = entry_of t in
     let turn = turned_alike m (moves_left (m 0 Zero)) k s in
-    let names = renamed_alike form.named (turned m) (entry_of new) form.renamed k s in
+    let names = renamed_alike form.named (facing_right m) (entry_of new) form.renamed k s in
     (λ h. names.0 (turn.0 h), λ h. turn.1 (names.1 h))
 
 -- what stands behind an option

@@ -12,7 +12,7 @@ use Rattle.law_turing.specs.Mirror.{mirrored}
 use Rattle.law_turing.specs.Run.{Config, after}
 use Rattle.law_turing.proofs.Renaming.{Carried}
 use Rattle.law_turing.proofs.Simulation.{Alike, alike_some}
-use Rattle.cmd_tables.specs.Normal.{StaysBelow, IsInOrder, named_entry, IsRenamed, moves_left, turned, IsNormalForm, IsInNormalForm}
+use Rattle.cmd_tables.specs.Normal.{StaysBelow, IsInRunOrder, named_entry, IsRenamed, moves_left, facing_right, IsNormalForm, IsInNormalForm}
 use Rattle.cmd_tables.proofs.Naming.{alike_back, alike_times, stays_below}
 
 -- names that rise from a number on, and not below it, are no less than what they name
@@ -30,7 +30,7 @@ named_alike : (name : ℕ → ℕ) → ((q : ℕ) → name q ≡ q) → (o : Opt
 named_alike name same None = refl
 named_alike name same (Some e) = ap (λ q. Some (record { write = e.write; dir = e.dir; next = record { 0 = q } })) (same e.next.0)
 
-module _ (m new : Machine) (steps n k : ℕ) (r : IsRenamed k m new) (old_order : IsInOrder m steps n) (order : IsInOrder new steps k) where
+module _ (m new : Machine) (steps n k : ℕ) (r : IsRenamed k m new) (old_order : IsInRunOrder m steps n) (order : IsInRunOrder new steps k) where
   there : (i : ℕ) (c : Config) → after m i ≡ Some c → (d : Config) × (after new i ≡ Some d) × (d.state ≡ r.name c.state)
   there i c is =
       let (d, at, like) = alike_some (Carried r.name (λ x. x)) (after new i) c (subst (λ o. Alike (Carried r.name (λ x. x)) o (after new i)) is (alike_times r.name m new r.entries r.first i)) in
@@ -156,6 +156,6 @@ module _ (m new : Machine) (steps n k : ℕ) (r : IsRenamed k m new) (old_order 
 pub unchanged : (steps : ℕ) (t new : Packed) → IsTable t → IsTable new → IsNormalForm steps t new → IsInNormalForm steps t → new ≡ t
 unchanged steps t new is_table is_new form already =
     let same : (left : Bool) → left ≡ false → cond left (mirrored (entry_of t)) (entry_of t) ≡ entry_of t = λ left is. ap (λ b. cond b (mirrored (entry_of t)) (entry_of t)) is in
-    let straight : turned (entry_of t) ≡ entry_of t = same (moves_left (entry_of t 0 Zero)) already.right in
+    let straight : facing_right (entry_of t) ≡ entry_of t = same (moves_left (entry_of t 0 Zero)) already.right in
     let renamed : IsRenamed form.named (entry_of t) (entry_of new) = subst (λ (m : Machine). IsRenamed form.named m (entry_of new)) straight form.renamed in
     same_table new t is_new is_table form.states (same_machine (entry_of t) (entry_of new) steps already.named form.named renamed already.in_order form.in_order)

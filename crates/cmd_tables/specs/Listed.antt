@@ -38,7 +38,8 @@ IsPrinted l t new = IsInForm l.normal (min l.steps run_step_limit) t new
 abbrev pub ArePrinted : Listing → List Packed → List Packed → Type 0
 ArePrinted l [] printed = printed ≡ []
 ArePrinted l (t ∷ tables) printed =
-    (first : Packed) × (others : List Packed) × (printed ≡ first ∷ others) × IsPrinted l t first × ArePrinted l tables others
+    (first : Packed) × (others : List Packed) × (printed ≡ first ∷ others) × IsPrinted l t first
+    × ArePrinted l tables others
 
 -- a reader is read to its end, and what is printed of the tables in its lines is written behind what a writer held, the
 -- first of each; of no line more is read than may be kept

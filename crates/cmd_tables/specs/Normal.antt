@@ -16,7 +16,7 @@ abbrev pub StaysBelow : Machine → ℕ → ℕ → Type 0
 StaysBelow m k low = (i : ℕ) (c : Config) → i < k → after m i ≡ Some c → c.state < low
 
 -- the run comes to the state q in at most so many steps, and is in states below low before
-pub record ComesTo (m : Machine) (steps low q : ℕ) : Type 0 where
+pub record ComesFirstTo (m : Machine) (steps low q : ℕ) : Type 0 where
   pub time : ℕ
   pub within : time ≤ steps
   pub at : Config
@@ -25,8 +25,8 @@ pub record ComesTo (m : Machine) (steps low q : ℕ) : Type 0 where
   pub before : StaysBelow m time low
 
 -- in so many steps the run comes to the states below `named`, to each one after those below it, and to no other
-pub record IsInOrder (m : Machine) (steps named : ℕ) : Type 0 where
-  pub each : (q : ℕ) → q < named → ComesTo m steps q q
+pub record IsInRunOrder (m : Machine) (steps named : ℕ) : Type 0 where
+  pub each : (q : ℕ) → q < named → ComesFirstTo m steps q q
   pub only : StaysBelow m (suc steps) named
 
 -- the entry with another name for its next state
@@ -54,18 +54,18 @@ moves_left None = false
 moves_left (Some e) = is_left e.dir
 
 -- the machine, mirrored where its first move is to the left
-abbrev pub turned : Machine → Machine
-turned m = cond (moves_left (m 0 Zero)) (mirrored m) m
+abbrev pub facing_right : Machine → Machine
+facing_right m = cond (moves_left (m 0 Zero)) (mirrored m) m
 
 -- new is the normal form of t by so many steps of its run
 pub record IsNormalForm (steps : ℕ) (t new : Packed) : Type 0 where
   pub named : ℕ
   pub states : new.states ≡ t.states
-  pub renamed : IsRenamed named (turned (entry_of t)) (entry_of new)
-  pub in_order : IsInOrder (entry_of new) steps named
+  pub renamed : IsRenamed named (facing_right (entry_of t)) (entry_of new)
+  pub in_order : IsInRunOrder (entry_of new) steps named
 
 -- t is in normal form by so many steps: its first move isn't to the left, and its run comes to its states in their order
 pub record IsInNormalForm (steps : ℕ) (t : Packed) : Type 0 where
   pub right : moves_left (entry_of t 0 Zero) ≡ false
   pub named : ℕ
-  pub in_order : IsInOrder (entry_of t) steps named
+  pub in_order : IsInRunOrder (entry_of t) steps named

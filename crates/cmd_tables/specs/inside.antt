@@ -21,26 +21,29 @@ abbrev pub words_left : Option (Bor (List ℕ)) → List (List ℕ)
 words_left None = []
 words_left (Some rest) = words rest.now
 
-abbrev pub tables_left : Option (Bor (List ℕ)) → List Packed
-tables_left None = []
-tables_left (Some rest) = tables_in rest.now
+abbrev pub left_tables : Option (Bor (List ℕ)) → List Packed
+left_tables None = []
+left_tables (Some rest) = tables_in rest.now
 
 abbrev pub size_left : Option (Bor (List ℕ)) → ℕ
 size_left None = 0
 size_left (Some rest) = suc (length rest.now)
 
 -- some tables, behind those that came: the first of each comes too, and is said
-pub record Lists (came tables new : List Packed) (said : List ℕ) : Type 0 where
+pub record ListsFirst (came tables new : List Packed) (said : List ℕ) : Type 0 where
   pub came_new : new ≡ came ++ first_ones came tables
   pub said_new : said ≡ flat_map table_line (first_ones came tables)
 
 -- and that, of what is printed of some tables
 abbrev pub ListsFor : Listing → List Packed → List Packed → List Packed → List ℕ → Type 0
-ListsFor l came tables new said = (printed : List Packed) × ArePrinted l tables printed × Lists came printed new said
+ListsFor l came tables new said =
+    (printed : List Packed) × ArePrinted l tables printed × ListsFirst came printed new said
 
-abbrev pub ListsLine : {D : Type 0} → (D → Listing) → (D → List Packed) → D → BoundedLine → Outcome → D → List ℕ → Type 0
+abbrev pub ListsLine : {D : Type 0} → (D → Listing) → (D → List Packed) → D → BoundedLine → Outcome → D → List ℕ
+    → Type 0
 ListsLine {D} listing came old line o new said =
-    (o ≡ Accepted) × (listing new ≡ listing old) × ListsFor (listing old) (came old) (tables_of_line line) (came new) said
+    (o ≡ Accepted) × (listing new ≡ listing old)
+    × ListsFor (listing old) (came old) (tables_of_line line) (came new) said
 
 -- the names where a state is named `low`, and those from there on up to it are named one higher; and the old names
 abbrev pub lowered : ℕ → ℕ → ℕ → ℕ
@@ -55,9 +58,9 @@ changed Mirrored m q s = mirrored_entry (m q s)
 changed (Lowered low state) m q s = named_entry (lowered low state) (m (raised low state q) s)
 
 -- the states that a change names are among so many
-abbrev pub Fits : Change → ℕ → Type 0
-Fits Mirrored n = Unit {0}
-Fits (Lowered low state) n = (low ≤ state) × (state < n)
+abbrev pub FitsForm : Change → ℕ → Type 0
+FitsForm Mirrored n = Unit {0}
+FitsForm (Lowered low state) n = (low ≤ state) × (state < n)
 
 -- a machine with an entry at a pair, if there is one
 abbrev pub put_entry : Machine → ℕ → Sym → Option Entry → ℕ → Sym → Option Entry

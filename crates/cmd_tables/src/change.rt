@@ -3,7 +3,7 @@ ghost use Rattle.std.specs.Prelude.{◌≡◌, ℕ, ◌<◌, ◌≤◌, Some, No
 ghost use Rattle.machine_text.specs.declared.transition.Sym.{Sym as Symbol};
 ghost use Rattle.machine_text.specs.Packed.{entry_of};
 ghost use Rattle.law_turing.specs.Mirror.{opposite};
-ghost use Rattle.cmd_tables.specs.inside.{Fits, changed, lowered, raised, put_entry};
+ghost use Rattle.cmd_tables.specs.inside.{FitsForm, changed, lowered, raised, put_entry};
 
 use machine_text::{Dir, Entry, State, Sym, Table};
 
@@ -18,7 +18,7 @@ pub(crate) enum Change {
 
 // The table that a change makes of another.
 pub(crate) fn table_changed(t: &Table, change: Change) -> Table
-    requires { Fits change t.now.states }
+    requires { FitsForm change t.now.states }
     ensures states { result.states ≡ t.now.states }
     ensures entries { (q : ℕ) (s : Symbol) → entry_of result q s ≡ changed change (entry_of t.now) q s }
 {
@@ -48,7 +48,7 @@ impl Change {
     // The entry of the changed table at a pair.
     fn entry(self, t: &Table, q: State, s: Sym) -> Option<Entry>
         requires at { q.0 < t.now.states }
-        requires change { Fits self t.now.states }
+        requires change { FitsForm self t.now.states }
         ensures entry { result ≡ changed self (entry_of t.now) q.0 s }
         ensures next { IfSome result (λ e. e.next.0 < t.now.states) }
     {

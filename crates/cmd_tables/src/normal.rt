@@ -5,7 +5,7 @@ ghost use Rattle.machine_text.specs.Packed.{entry_of};
 ghost use Rattle.law_turing.specs.Run.{start};
 ghost use Rattle.law_turing.specs.Score.{HaltsWith};
 ghost use Rattle.run.specs.Limits.{run_step_limit};
-ghost use Rattle.cmd_tables.specs.Normal.{ComesTo, IsInNormalForm, IsNormalForm, StaysBelow, turned};
+ghost use Rattle.cmd_tables.specs.Normal.{ComesFirstTo, IsInNormalForm, IsNormalForm, StaysBelow, facing_right};
 
 use crate::change::{Change, table_changed};
 use machine_text::{Dir, State, Sym, Table};
@@ -22,7 +22,7 @@ pub fn normal_form(alloc: Global, t: &Table, steps: u64) -> Result<Table, NoMemo
 {
     let steps = steps.min(MAX_RUN_STEPS);
     let states = t.states();
-    let mut form = turned(t);
+    let mut form = facing_right(t);
     let mut runner = Runner::new(alloc, form)?;
     for named in 1..states {
         // Opens the invariant of the table.
@@ -48,9 +48,9 @@ pub fn normal_form(alloc: Global, t: &Table, steps: u64) -> Result<Table, NoMemo
 }
 
 // The table, mirrored where its first move is to the left.
-fn turned(t: &Table) -> Table
+fn facing_right(t: &Table) -> Table
     ensures states { result.states ≡ t.now.states }
-    ensures entries { (q : ℕ) (s : Symbol) → entry_of result q s ≡ turned (entry_of t.now) q s }
+    ensures entries { (q : ℕ) (s : Symbol) → entry_of result q s ≡ facing_right (entry_of t.now) q s }
 {
     // Opens the invariant of the table: it has a first state.
     let _ = t.states();
@@ -65,7 +65,7 @@ fn first_from(runner: &mut Runner, named: u8, steps: u64) -> Result<Option<State
     requires begins { runner.old.steps ≡ 0 }
     requires limit { steps ≤ run_step_limit }
     ensures some { IfOk result (λ o. IfSome o (λ q. (named ≤ q.0) × (q.0 < runner.old.table.states)
-        × ComesTo (entry_of runner.old.table) steps named q.0)) }
+        × ComesFirstTo (entry_of runner.old.table) steps named q.0)) }
     ensures none { IfOk result (λ o. IfNone o (StaysBelow (entry_of runner.old.table) (suc steps) named)) }
 {
     // Opens the invariant of the runner.

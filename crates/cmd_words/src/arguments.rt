@@ -40,6 +40,9 @@ mod rows {
     pub(crate) const EVERY: Number = Number { name: "every", value: Some("E"), least: 1, most: 100_000_000,
         default: Some("1"), help: "Show every E-th configuration" };
 
+    pub(crate) const RUN_STEPS: Number = Number { name: "steps", value: Some("K"), least: 0, most: 100_000_000,
+        default: Some("1000000"), help: "With --normal, run a table for so many steps at most" };
+
     pub(crate) const FILE: Text = Text { name: "FILE", value: None, help: "The ledger file" };
     pub(crate) const READ: Text = Text { name: "FILE", value: None, help: "The ledger file, or `-` for standard input" };
     pub(crate) const FOLDER: Text = Text { name: "DIR", value: None, help: "The folder of the trunk and the parts" };
@@ -79,6 +82,8 @@ mod rows {
         help: "Say on standard error, in words, what is wrong with a record" };
     pub(crate) const FOLD: Flag = Flag { name: "fold", needs: &[], excludes: &[],
         help: "Fold words that repeat, as in 1^12 (01)^5" };
+    pub(crate) const NORMAL: Flag = Flag { name: "normal", needs: &[], excludes: &[],
+        help: "Name the states as the run reaches them, and mirror a table whose first move is to the left" };
     pub(crate) const PNG: Flag = Flag { name: "png", needs: &[], excludes: &["height"],
         help: "Draw a PNG in place of an SVG" };
     pub(crate) const HOLDOUTS: Flag = Flag { name: "holdouts", needs: &[], excludes: &[],

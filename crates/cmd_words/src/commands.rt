@@ -39,7 +39,7 @@ pub(crate) const COMMANDS: [CommandWords; 19] = [
         arguments: &[Number(FROM), Number(SHOWN), Number(EVERY), Flag(FOLD)] },
     CommandWords { name: "tables", searches: false, after_help: TABLES,
         about: "Reads any text on standard input, and prints the tables in it, a line each.",
-        arguments: &[] },
+        arguments: &[Flag(NORMAL), Number(RUN_STEPS)] },
     CommandWords { name: "run", searches: true, after_help: RUN,
         about: "Settles the tree of all machines of N states in this process, and prints the report.",
         arguments: &[Number(STATES), Number(WORKERS), Text(LEDGER), Flag(LEDGER_SYNC), Number(LOSE), Number(ROUNDS),

@@ -5,8 +5,8 @@ ghost use Rattle.cmd_options.specs.Ranges.{AreWithinRanges, IsSettling, IsWithin
 use crate::arguments::{
     CARRIED, COLUMNS, DAMAGED, DRAWN, ERA, EVERY, FILE, FILLED, FIRST, FOLD, FOLDER, FROM, HARD,
     HEIGHT, HOLDOUTS, JOIN_READ, JOINED, JSON, KNOWN, LEDGER, LOOKED, LOSE, MENDED, MERGED, OLD,
-    PICTURES, PNG, PROGRESS, READ, RECORD_WHY, ROUNDS, ROWS, SECOND, SHOWN, SQUARE, STATES, STEPS,
-    SYNC, WHY, WIDTH, WORKERS,
+    PICTURES, PNG, PROGRESS, READ, RECORD_WHY, ROUNDS, ROWS, RUN_STEPS, SECOND, SHOWN, SQUARE,
+    STATES, STEPS, SYNC, WHY, WIDTH, WORKERS,
 };
 use crate::grammar::program;
 use crate::line_fault::LineFault;
@@ -47,7 +47,7 @@ fn asked<'a>(name: &str, command: &ArgMatches<'a>) -> Result<Options<'a>, LineFa
         "decide" => decide_options(command),
         "explain" => Ok(Options::Explain { json: false }),
         "show" => show_options(command),
-        "tables" => Ok(tables_options()),
+        "tables" => tables_options(command),
         "coord" => coord_options(command),
         "run" => run_options(command),
         "loop" => loop_options(command),
@@ -184,15 +184,14 @@ fn show_options<'a>(show: &ArgMatches<'a>) -> Result<Options<'a>, LineFault>
     }))
 }
 
-// All tables as they stand.
-fn tables_options<'a>() -> Options<'a>
-    ensures { AreWithinRanges result }
+fn tables_options<'a>(tables: &ArgMatches<'a>) -> Result<Options<'a>, LineFault>
+    ensures { IfOk result AreWithinRanges }
 {
-    Options::Tables(Listing {
-        normal: false,
-        steps: 0,
+    Ok(Options::Tables(Listing {
+        normal: tables.get_flag(NORMAL.name),
+        steps: number_of(tables, RUN_STEPS)?,
         records: false,
-    })
+    }))
 }
 
 fn coord_options<'a>(coord: &ArgMatches<'a>) -> Result<Options<'a>, LineFault>

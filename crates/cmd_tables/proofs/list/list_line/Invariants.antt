@@ -1,12 +1,12 @@
 use Rattle.std.proofs.Common.{◌≡◌, ℕ, List, ◌++◌}
 use Rattle.machine_text.specs.Packed.{Packed}
-use Rattle.cmd_tables.specs.inside.{ListsFor, tables_left, size_left}
+use Rattle.cmd_tables.specs.inside.{ListsFor, left_tables, size_left}
 use Rattle.cmd_tables.proofs.list.list_line.Given as goal
 
 -- the tables of the words before what is left were listed
 abbrev pub invariant-words : goal.invariant-words
 invariant-words l = (done : List Packed) × (more : List ℕ) × ListsFor l.form.listing l.fn.came.keys done l.came.keys more × (l.said.items ≡ l.fn.said.items ++ more)
-    × (tables_left l.line ≡ done ++ tables_left l.left)
+    × (left_tables l.line ≡ done ++ left_tables l.left)
 
 abbrev pub decreases-words : goal.decreases-words
 decreases-words l = size_left l.left

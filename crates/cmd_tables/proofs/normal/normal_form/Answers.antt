@@ -2,7 +2,7 @@ use Rattle.std.proofs.Common.{◌≡◌, ℕ, suc, ◌<◌, ◌≤◌, ◌∙◌
 use Rattle.machine_text.specs.Packed.{Packed, entry_of}
 use Rattle.machine_text.specs.declared.transition.State.{State}
 use Rattle.run.specs.RunState.{RunState}
-use Rattle.cmd_tables.specs.Normal.{ComesTo, IsNormalForm, StaysBelow, turned}
+use Rattle.cmd_tables.specs.Normal.{ComesFirstTo, IsNormalForm, StaysBelow, facing_right}
 use Rattle.cmd_tables.proofs.Naming.{IsNamed, came_some, came_none, named_first, named_more, named_whole, named_all, normal_alike}
 use Rattle.cmd_tables.proofs.Unchanged.{unchanged}
 use Rattle.cmd_tables.proofs.normal.normal_form.Goals as goal
@@ -10,8 +10,8 @@ use Rattle.cmd_tables.proofs.normal.normal_form.Goals as goal
 pub loop-named-init : goal.loop-named-init
 loop-named-init c = record {
   some = omega arith;
-  states = c.turned-form.ensures.states;
-  named = named_first c.min-steps.result (turned (entry_of c.args.t.now)) (entry_of c.turned-form.result) c.turned-form.ensures.entries;
+  states = c.facing_right-form.ensures.states;
+  named = named_first c.min-steps.result (facing_right (entry_of c.args.t.now)) (entry_of c.facing_right-form.result) c.facing_right-form.ensures.entries;
 }
 
 pub loop-named-preserved : goal.loop-named-preserved
@@ -21,12 +21,12 @@ loop-named-preserved c =
     let steps = c.min-steps.result in
     let state = c.in-Some.state.0 in
     let same : c.restart.new.self.table ≡ form = ap (λ (r : RunState). r.table) c.restart.ensures in
-    let found = came_some (λ (q : State). (named ≤ q.0) × (q.0 < c.restart.new.self.table.states) × ComesTo (entry_of c.restart.new.self.table) steps named q.0) c.in_ok-state.field-0 c.in-Some.state c.in-Some.is c.in_ok-state.ensures.some in
-    let comes : ComesTo (entry_of form) steps named state = subst (λ (t : Packed). ComesTo (entry_of t) steps named state) same found.2 in
+    let found = came_some (λ (q : State). (named ≤ q.0) × (q.0 < c.restart.new.self.table.states) × ComesFirstTo (entry_of c.restart.new.self.table) steps named q.0) c.in_ok-state.field-0 c.in-Some.state c.in-Some.is c.in_ok-state.ensures.some in
+    let comes : ComesFirstTo (entry_of form) steps named state = subst (λ (t : Packed). ComesFirstTo (entry_of t) steps named state) same found.2 in
     record {
       some = omega arith;
       states = c.table_changed-form.ensures.states ∙ c.loop-named.invariant.states;
-      named = named_more named steps state (turned (entry_of c.args.t.now)) (entry_of form) (entry_of c.table_changed-form.result) c.loop-named.invariant.some found.0 c.loop-named.invariant.named comes c.table_changed-form.ensures.entries;
+      named = named_more named steps state (facing_right (entry_of c.args.t.now)) (entry_of form) (entry_of c.table_changed-form.result) c.loop-named.invariant.some found.0 c.loop-named.invariant.named comes c.table_changed-form.ensures.entries;
     }
 
 pub returns-in-None-clause-form : goal.returns-in-None-clause-form
@@ -48,7 +48,7 @@ returns-clause-form c =
     let states : form.states ≡ c.args.t.now.states = c.loop-named.invariant.states in
     let all : named ≡ form.states = omega arith in
     subst (λ (k : ℕ). IsNormalForm k c.args.t.now form) c.min-steps.ensures
-    (named_all steps c.args.t.now form c.states-2.ensures.table states (subst (λ (k : ℕ). IsNamed k steps (turned (entry_of c.args.t.now)) (entry_of form)) all c.loop-named.invariant.named))
+    (named_all steps c.args.t.now form c.states-2.ensures.table states (subst (λ (k : ℕ). IsNamed k steps (facing_right (entry_of c.args.t.now)) (entry_of form)) all c.loop-named.invariant.named))
 
 pub returns-in-None-clause-alike : goal.returns-in-None-clause-alike
 returns-in-None-clause-alike c k s = normal_alike _ c.args.t.now c.loop-named.form (returns-in-None-clause-form c) k s

@@ -1,6 +1,6 @@
 use Rattle.std.proofs.Common.{◌≡◌, ◌<◌}
 use Rattle.machine_text.specs.Packed.{entry_of}
-use Rattle.cmd_tables.specs.Normal.{turned}
+use Rattle.cmd_tables.specs.Normal.{facing_right}
 use Rattle.cmd_tables.proofs.Naming.{IsNamed}
 use Rattle.cmd_tables.proofs.normal.normal_form.Given as goal
 
@@ -9,5 +9,5 @@ abbrev pub invariant-loop-named : goal.invariant-loop-named
 invariant-loop-named l = record {
   some : 0 < l.named;
   states : l.form.states ≡ l.fn.t.states;
-  named : IsNamed l.named l.steps (turned (entry_of l.fn.t)) (entry_of l.form);
+  named : IsNamed l.named l.steps (facing_right (entry_of l.fn.t)) (entry_of l.form);
 }

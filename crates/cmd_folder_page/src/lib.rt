@@ -5,8 +5,8 @@
 #![tactic(auto)]
 
 mod counting;
+mod ledger_list;
 mod page;
-mod sums;
 
 pub use counting::Counting;
 pub use page::{folder_page_at, write_folder_page};

@@ -8,7 +8,7 @@ ghost use Rattle.cmd_parts.specs.Join.{EndsTelling};
 ghost use Rattle.cmd_folder_page.specs.Page.{TellsFolder};
 
 use crate::counting::Counting;
-use crate::sums::list_sum;
+use crate::ledger_list::list_sum;
 use cmd_options::{Ended, Outcome};
 use cmd_page::{Census, Heading, LedgerSum, Maker, Page};
 use cmd_parts::{PartLedgers, PartsAt, gather, open_tables, tell_whole};

@@ -1,4 +1,5 @@
 -- A coordinator's answers keep the root of its board.
+use Rattle.ledger.specs.Offers.{KeepsTree}
 use Rattle.std.proofs.Common.{◌≡◌, ℕ, Bool, true, false, List, [], ◌∷◌, Option, Some, None, Result, Ok, Err, refl, ◌∙◌, ap, sym, subst, ◌==◌}
 use Rattle.machine_text.specs.Packed.{Packed}
 use Rattle.wire.specs.Fulfilled.{Reply}
@@ -25,7 +26,7 @@ done_root false number old out new row = ap (λ l. l.board.root) row.1
 message_root : (era : ℕ) (old : Leased) (m : Message) (out : Out) (new : Leased) → MessageRow era old m out new → root_of new ≡ root_of old
 unfolding root_of
 message_root era old (Ask id) out new row = ap (λ b. b.root) row.2
-message_root era old (Rec r) out new row = row.2
+message_root era old (Rec r) out new row = row.2.root
 message_root era old (Done named number) out new row = done_root (named == era) number old out new row
 message_root era old (Grant named number table) out new row = ap (λ l. l.board.root) row.1
 message_root era old (Ack table) out new row = ap (λ l. l.board.root) row.1

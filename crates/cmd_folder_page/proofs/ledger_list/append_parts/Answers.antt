@@ -2,7 +2,7 @@ use Rattle.std.proofs.Common.{◌+◌, ◌∷◌, drop, sym, ◌∙◌, ap, leng
 use Rattle.std.proofs.lemmas.List.{drop_all, drop_more}
 use Rattle.machine_text.specs.Packed.{Packed}
 use Rattle.cmd_folder_page.proofs.Listing.{begun_all, begun_more}
-use Rattle.cmd_folder_page.proofs.sums.append_parts.Goals as goal
+use Rattle.cmd_folder_page.proofs.ledger_list.append_parts.Goals as goal
 
 pub loop-root-preserved : goal.loop-root-preserved
 loop-root-preserved g c =

@@ -129,7 +129,7 @@ def compare_folder(rng, lines, folder, counts):
         return None if (page, told, status) == ("", said, 1) else f"page of {texts!r}: {told!r}, {status}"
     complete = "\nstatus complete\n" in board.report(None)
     counts["a folder: " + ("complete" if complete else "not complete")] += 1
-    origin = ("SHA-256 of the list of its ledgers", f"<code>{list_sum(folder, Loaded(texts["trunk"]).board.open)}</code>")
+    origin = ("SHA-256 of the list of its ledgers", f"<code>{list_sum(folder, Loaded(texts['trunk']).board.open)}</code>")
     wrong = differs(page, board, None, folder, origin)
     if wrong is None and (told, status) != (said, 0 if said == "" and complete else 1):
         wrong = f"{told!r}, {status}"

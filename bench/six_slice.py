@@ -63,6 +63,13 @@ def counted(path):
     return kinds, size, [table.decode() for table in last]
 
 
+def spread(parts, kind, share):
+    """How far a kind's share of all tables may be off, by how it differs from part to part."""
+    count, mean = len(parts), sum(sum(kinds.values()) for kinds in parts) / len(parts)
+    off = sum((kinds[kind] - share * sum(kinds.values())) ** 2 for kinds in parts)
+    return (off / max(1, count - 1) / count) ** 0.5 / mean
+
+
 def main():
     folder, count = sys.argv[1].rstrip("/"), int(sys.argv[2])
     seed = int(sys.argv[3]) if len(sys.argv) > 3 else 1
@@ -75,20 +82,21 @@ def main():
     began = time.monotonic()
     seconds, memory = settled(slice_folder, names, jobs, options)
     clock = time.monotonic() - began
-    kinds, sizes, size, left = collections.Counter(), [], 0, []
+    parts, size, left = [], 0, []
     for name in names:
         of_part, bytes_of_part, of_left = counted(os.path.join(slice_folder, name + ".xz"))
-        kinds += of_part
-        sizes.append(sum(of_part.values()))
+        parts.append(of_part)
         size += bytes_of_part
         left += of_left
     packed = sum(os.path.getsize(os.path.join(slice_folder, name + ".xz")) for name in names)
+    kinds, sizes = sum(parts, collections.Counter()), [sum(of_part.values()) for of_part in parts]
     whole = sum(sizes)
     mean = whole / count
     error = (sum((one - mean) ** 2 for one in sizes) / max(1, count - 1) / count) ** 0.5
     print(f"{count} parts of {len(every):,}, seed {seed}: {whole:,} tables, the largest {max(sizes):,}, the median {sorted(sizes)[count // 2]:,}")
     print(f"the tree: {mean * len(every) / 1e10:.2f}·10^10, give or take {error * len(every) / 1e10:.2f}")
-    print("of a million: " + ", ".join(f"`{kind}` {1e6 * kinds[kind] / whole:,.1f}" for kind in KINDS if kinds[kind]))
+    shares = {kind: kinds[kind] / whole for kind in KINDS if kinds[kind]}
+    print("of a million: " + ", ".join(f"`{kind}` {1e6 * share:,.1f} ± {1e6 * spread(parts, kind, share):,.1f}" for kind, share in shares.items()))
     print(f"{1e6 * seconds / whole:.1f} microseconds a table, {seconds:.0f} processor seconds, {clock:.0f} on the clock with {jobs} at once; the largest process {memory / 1e6:.0f} megabytes")
     print(f"{size / whole:.1f} bytes a table, compressed {packed / whole:.2f} ({packed / size:.3f})")
     print(f"{len(left)} left")

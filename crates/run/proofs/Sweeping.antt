@@ -1,27 +1,25 @@
 -- A sweep of the tape, by an entry that keeps its state, is as many steps of the run.
-use Rattle.std.proofs.Common.{◌≡◌, ℕ, zero, suc, pos, ◌+ℤ◌, ◌-ℤ◌, ◌+◌, ◌-◌, ◌<◌, ◌≤◌, Some, sym, subst, refl, arith}
+use Rattle.std.proofs.Common.{◌≡◌, ℕ, zero, suc, ◌+◌, ◌-◌, ◌<◌, ◌≤◌, Some, sym, subst, refl, arith}
 use Rattle.std.proofs.lemmas.Int.{ints}
 use Rattle.machine_text.specs.Packed.{entry_of}
 use Rattle.machine_text.specs.declared.transition.Entry.{Entry}
 use Rattle.law_turing.specs.Tape.{Tape, symbol_read, written, moved}
 use Rattle.law_turing.specs.Run.{start, next}
 use Rattle.law_turing.proofs.Heads.{head_reach}
-use Rattle.tape.specs.Places.{IsWithinLimit}
-use Rattle.tape.specs.Sweeps.{swept, Sweeps}
+use Rattle.tape.specs.Sweeps.{HasRoom, swept, Sweeps}
 use Rattle.run.specs.Limits.{run_step_limit}
 use Rattle.run.specs.RunState.{RunState, OnRun}
 use Rattle.run.proofs.Standings.{stands_next, step_is}
 
--- as far as steps are left, the head stays within the limit
-pub room_left : (r : RunState) (k : ℕ) → OnRun r → r.steps ≤ k → k ≤ run_step_limit → IsWithinLimit (r.config.tape.head -ℤ pos (k - r.steps))
-room_left r k stands onward limit =
+-- for as many moves as steps are left, the head stays within the limit
+pub has_room : (r : RunState) (k : ℕ) → OnRun r → r.steps < k → k ≤ run_step_limit → HasRoom (k - r.steps) r.config.tape
+has_room r k stands onward limit =
     let reach = head_reach (entry_of r.table) r.steps start r.config stands.at in
-    record { low = omega (arith, ints, reach.0, onward, limit); high = omega (arith, ints, reach.1, onward, limit) }
-
-pub room_right : (r : RunState) (k : ℕ) → OnRun r → r.steps ≤ k → k ≤ run_step_limit → IsWithinLimit (r.config.tape.head +ℤ pos (k - r.steps))
-room_right r k stands onward limit =
-    let reach = head_reach (entry_of r.table) r.steps start r.config stands.at in
-    record { low = omega (arith, ints, reach.0, onward, limit); high = omega (arith, ints, reach.1, onward, limit) }
+    record {
+      some = omega (arith, onward);
+      left = record { low = omega (arith, ints, reach.0, onward, limit); high = omega (arith, ints, reach.1, onward, limit) };
+      right = record { low = omega (arith, ints, reach.0, onward, limit); high = omega (arith, ints, reach.1, onward, limit) };
+    }
 
 -- so many steps later, in the same state, on this tape
 abbrev pub later : RunState → ℕ → Tape → RunState

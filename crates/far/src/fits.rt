@@ -3,7 +3,7 @@ ghost use Rattle.std.specs.Prelude.{◌≡◌, ◌↔◌, ◌+◌, ◌*◌, ◌<
 ghost use Rattle.machine_text.specs.Packed.{entry_of, symbol_number};
 ghost use Rattle.far.specs.Automata.{AreAutomataOf, has, row_at, target};
 ghost use Rattle.far.specs.Limits.{pair_limit, word_bits};
-ghost use Rattle.far.specs.inside.Steps.{last, ReachesIn, FitsEntry, FitsPair, EachFits, KeepsBlank};
+ghost use Rattle.far.specs.inside.Steps.{last, ReachesIn, HaveStates, FitsEntry, FitsPair, EachFits, KeepsBlank};
 ghost use Rattle.far.specs.inside.Unpacked.{unpacked_of};
 
 use crate::limits::Set;
@@ -74,9 +74,7 @@ impl Unpacked {
 
     // Whether it has those that an entry asks for.
     fn fits_entry(&self, q: usize, f: usize, r: Sym, entry: Entry) -> bool
-        requires first { q < self.now.size }
-        requires second { f < self.now.states }
-        requires next { entry.next.0 < self.now.states }
+        requires { HaveStates (unpacked_of self.now) q f entry }
         ensures { IsTrue result ↔ FitsEntry (unpacked_of self.now) q f r entry }
     {
         if !self.fits_ahead(q, f, r, entry) {
@@ -90,9 +88,7 @@ impl Unpacked {
 
     // An entry that moves ahead: the first automaton reads the written symbol.
     fn fits_ahead(&self, q: usize, f: usize, r: Sym, entry: Entry) -> bool
-        requires first { q < self.now.size }
-        requires second { f < self.now.states }
-        requires next { entry.next.0 < self.now.states }
+        requires { HaveStates (unpacked_of self.now) q f entry }
         ensures { IsTrue result ↔ (entry.dir ≡ self.now.side
             → IsTrue (has (row_at (unpacked_of self.now) (q * self.now.states + f) r)
             (target (unpacked_of self.now) q entry.write * self.now.states + entry.next.0))) }
@@ -107,9 +103,7 @@ impl Unpacked {
     // An entry that moves back, where the first automaton has read b last: the second reads that again, and
     // then the written symbol.
     fn fits_back(&self, q: usize, f: usize, r: Sym, entry: Entry, b: Sym) -> bool
-        requires first { q < self.now.size }
-        requires second { f < self.now.states }
-        requires next { entry.next.0 < self.now.states }
+        requires { HaveStates (unpacked_of self.now) q f entry }
         ensures { IsTrue result ↔ ((entry.dir ≡ self.now.side → ⊥)
             → ReachesIn (unpacked_of self.now) (row_at (unpacked_of self.now) (q * self.now.states + entry.next.0) b)
             entry.write (row_at (unpacked_of self.now) (target (unpacked_of self.now) q b * self.now.states + f) r)) }

@@ -41,3 +41,9 @@ pub record IsPositionSet (s : Lists) (p : Packed) : Type 0 where
   pub states : s.states ≡ p.states
   pub closed : IsClosedSet s.width (entry_of p) (λ w. IsItem s.width s.left (word_text w))
       (λ w. IsItem s.width s.right (word_text w)) (IsLocalItem s)
+
+-- lists of a closed position set of the table, together no longer than they may be
+pub record AreClosedLists (s : Lists) (p : Packed) : Type 0 where
+  pub lists : AreLists s
+  pub closed : IsPositionSet s p
+  pub short : length s.left + length s.right + length s.local ≤ list_byte_limit

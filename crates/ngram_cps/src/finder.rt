@@ -1,7 +1,7 @@
 // The search for a closed position set.
-ghost use Rattle.std.specs.Prelude.{◌≡◌, ◌+◌, ◌≤◌, min, length, IfSome, IfOk};
-ghost use Rattle.ngram_cps.specs.Limits.{width_limit, list_byte_limit};
-ghost use Rattle.ngram_cps.specs.Lists.{AreLists, IsPositionSet};
+ghost use Rattle.std.specs.Prelude.{◌≡◌, ◌≤◌, min, IfSome, IfOk};
+ghost use Rattle.ngram_cps.specs.Limits.{width_limit};
+ghost use Rattle.ngram_cps.specs.Lists.{AreClosedLists};
 ghost use Rattle.ngram_cps.specs.Owned.{owned_lists};
 
 use crate::least_set::LeastSet;
@@ -56,12 +56,8 @@ impl NgramFinder {
     /// sets take time in proportion to their members, and what is given is judged once. No contract says
     /// what is found or how long it takes.
     pub fn search(&mut self, t: &Table, budget: u64) -> Result<Option<OwnedNgram>, NoMemory>
-        ensures found { IfOk result (λ o. IfSome o (λ e. IsPositionSet (owned_lists e) t.now)) }
-        ensures lists { IfOk result (λ o. IfSome o (λ e. AreLists (owned_lists e))) }
+        ensures found { IfOk result (λ o. IfSome o (λ e. AreClosedLists (owned_lists e) t.now)) }
         ensures width { IfOk result (λ o. IfSome o (λ e. (owned_lists e).width ≤ min self.old.width width_limit)) }
-        ensures short { IfOk result (λ o. IfSome o (λ e.
-            length (owned_lists e).left + length (owned_lists e).right + length (owned_lists e).local
-            ≤ list_byte_limit)) }
         ensures same { self.new.width ≡ self.old.width }
     {
         let widest = self.width.min(MAX_WIDTH as u64) as u8;
@@ -84,12 +80,8 @@ impl NgramFinder {
         width: u64,
         budget: u64,
     ) -> Result<Option<OwnedNgram>, NoMemory>
-        ensures found { IfOk result (λ o. IfSome o (λ e. IsPositionSet (owned_lists e) t.now)) }
-        ensures lists { IfOk result (λ o. IfSome o (λ e. AreLists (owned_lists e))) }
+        ensures found { IfOk result (λ o. IfSome o (λ e. AreClosedLists (owned_lists e) t.now)) }
         ensures width { IfOk result (λ o. IfSome o (λ e. (owned_lists e).width ≡ width)) }
-        ensures short { IfOk result (λ o. IfSome o (λ e.
-            length (owned_lists e).left + length (owned_lists e).right + length (owned_lists e).local
-            ≤ list_byte_limit)) }
         ensures same { self.new.width ≡ self.old.width }
     {
         if width == 0 || width > self.width.min(MAX_WIDTH as u64) {
@@ -110,12 +102,8 @@ impl NgramFinder {
         width: Width,
         members: u64,
     ) -> Result<Option<OwnedNgram>, NoMemory>
-        ensures found { IfOk result (λ o. IfSome o (λ e. IsPositionSet (owned_lists e) t.now)) }
-        ensures lists { IfOk result (λ o. IfSome o (λ e. AreLists (owned_lists e))) }
+        ensures found { IfOk result (λ o. IfSome o (λ e. AreClosedLists (owned_lists e) t.now)) }
         ensures width { IfOk result (λ o. IfSome o (λ e. (owned_lists e).width ≡ width.symbols)) }
-        ensures short { IfOk result (λ o. IfSome o (λ e.
-            length (owned_lists e).left + length (owned_lists e).right + length (owned_lists e).local
-            ≤ list_byte_limit)) }
         ensures same { self.new.width ≡ self.old.width }
     {
         // A member and its comma have so many bytes.
@@ -130,12 +118,8 @@ impl NgramFinder {
 
     // The lists that the texts are, if they are a closed position set.
     fn checked(&self, t: &Table, width: Width) -> Result<Option<OwnedNgram>, NoMemory>
-        ensures found { IfOk result (λ o. IfSome o (λ e. IsPositionSet (owned_lists e) t.now)) }
-        ensures lists { IfOk result (λ o. IfSome o (λ e. AreLists (owned_lists e))) }
+        ensures found { IfOk result (λ o. IfSome o (λ e. AreClosedLists (owned_lists e) t.now)) }
         ensures width { IfOk result (λ o. IfSome o (λ e. (owned_lists e).width ≡ width.symbols)) }
-        ensures short { IfOk result (λ o. IfSome o (λ e.
-            length (owned_lists e).left + length (owned_lists e).right + length (owned_lists e).local
-            ≤ list_byte_limit)) }
     {
         let ListTexts { left, right, local } = &self.texts;
         if !Ngram::are_short(left, right, local) {

@@ -1,17 +1,16 @@
 // The texts that a step of a table asks for, from the bytes of one local configuration: what the words are
 // after it, and what then stands around the head.
-ghost use Rattle.std.specs.Prelude.{◌≡◌, ◌+◌, ◌*◌, ◌≤◌, [], ◌∷◌, ◌++◌, length, replicate};
+ghost use Rattle.std.specs.Prelude.{◌≡◌, ◌≤◌, [], ◌∷◌, ◌++◌, length, replicate};
 ghost use Rattle.machine_text.specs.Text.{symbol_byte};
 ghost use Rattle.ngram_cps.specs.Limits.{width_limit};
-ghost use Rattle.ngram_cps.specs.inside.Steps.{left_after, right_seen, local_right, right_after, left_seen, local_left};
+ghost use Rattle.ngram_cps.specs.inside.Steps.{HasWidth, left_after, right_seen, local_right, right_after, left_seen, local_left};
 
 use crate::draft::Draft;
 use machine_text::Sym;
 
 // The left word after a move to the right, which ends with the written symbol.
 pub(crate) fn left_after(g: usize, bytes: &[u8], write: u8) -> Draft
-    requires width { (1 ≤ g) × (g ≤ width_limit) }
-    requires size { length bytes.now ≡ 2 * g + 2 }
+    requires { HasWidth g bytes.now }
     ensures text { result ≡ left_after g bytes.now write }
     ensures size { length result ≡ g }
 {
@@ -23,8 +22,7 @@ pub(crate) fn left_after(g: usize, bytes: &[u8], write: u8) -> Draft
 
 // The right word after it, which ends with the symbol that comes into view.
 pub(crate) fn right_seen(g: usize, bytes: &[u8], seen: u8) -> Draft
-    requires width { (1 ≤ g) × (g ≤ width_limit) }
-    requires size { length bytes.now ≡ 2 * g + 2 }
+    requires { HasWidth g bytes.now }
     ensures text { result ≡ right_seen g bytes.now seen }
     ensures size { length result ≡ g }
 {
@@ -36,8 +34,7 @@ pub(crate) fn right_seen(g: usize, bytes: &[u8], seen: u8) -> Draft
 
 // What then stands around the head.
 pub(crate) fn local_right(g: usize, bytes: &[u8], write: u8, next: u8, seen: u8) -> Draft
-    requires width { (1 ≤ g) × (g ≤ width_limit) }
-    requires size { length bytes.now ≡ 2 * g + 2 }
+    requires { HasWidth g bytes.now }
     ensures { result ≡ local_right g bytes.now write next seen }
 {
     let mut local = left_after(g, bytes, write);
@@ -49,8 +46,7 @@ pub(crate) fn local_right(g: usize, bytes: &[u8], write: u8, next: u8, seen: u8)
 
 // The right word after a move to the left, which begins with the written symbol.
 pub(crate) fn right_after(g: usize, bytes: &[u8], write: u8) -> Draft
-    requires width { (1 ≤ g) × (g ≤ width_limit) }
-    requires size { length bytes.now ≡ 2 * g + 2 }
+    requires { HasWidth g bytes.now }
     ensures text { result ≡ right_after g bytes.now write }
     ensures size { length result ≡ g }
 {
@@ -62,8 +58,7 @@ pub(crate) fn right_after(g: usize, bytes: &[u8], write: u8) -> Draft
 
 // The left word after it, which begins with the symbol that comes into view.
 pub(crate) fn left_seen(g: usize, bytes: &[u8], seen: u8) -> Draft
-    requires width { (1 ≤ g) × (g ≤ width_limit) }
-    requires size { length bytes.now ≡ 2 * g + 2 }
+    requires { HasWidth g bytes.now }
     ensures text { result ≡ left_seen g bytes.now seen }
     ensures size { length result ≡ g }
 {
@@ -75,8 +70,7 @@ pub(crate) fn left_seen(g: usize, bytes: &[u8], seen: u8) -> Draft
 
 // What then stands around the head.
 pub(crate) fn local_left(g: usize, bytes: &[u8], write: u8, next: u8, seen: u8) -> Draft
-    requires width { (1 ≤ g) × (g ≤ width_limit) }
-    requires size { length bytes.now ≡ 2 * g + 2 }
+    requires { HasWidth g bytes.now }
     ensures { result ≡ local_left g bytes.now write next seen }
 {
     let mut local = left_seen(g, bytes, seen);

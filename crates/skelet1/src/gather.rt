@@ -2,8 +2,8 @@
 ghost use Rattle.std.specs.Prelude.{◌≡◌, ◌≤◌, length, IfOk, OnOk, IsTrue};
 ghost use Rattle.skelet1.specs.inside.Words.{c_left, separator_left};
 ghost use Rattle.skelet1.specs.inside.Arena.{RopesAdded};
-ghost use Rattle.skelet1.specs.inside.Tokens.{RopesBelow, SameLeft};
-ghost use Rattle.skelet1.specs.inside.Sections.{SectionsRopesBelow, TakesOff, PutsSeparator};
+ghost use Rattle.skelet1.specs.inside.Tokens.{RopesBelow, OnlyOpens};
+ghost use Rattle.skelet1.specs.inside.Sections.{TokensAndSectionsBelow, TakesOff, PutsSeparator};
 
 use crate::answer::Answer;
 use crate::given_up::GivenUp;
@@ -30,8 +30,7 @@ fn gather_one(
     taken: &mut Vec<Section>,
     want: Answer,
 ) -> Result<Option<Answer>, GivenUp>
-    requires left { RopesBelow (length ropes.old) left.old.items }
-    requires taken { SectionsRopesBelow (length ropes.old) taken.old.items }
+    requires { TokensAndSectionsBelow ropes.old left.old.items taken.old.items }
     ensures old { RopesAdded ropes.old ropes.new }
     ensures gathers { OnOk result
         (TakesOff (λ l. l) ropes.old ropes.new left.old.items left.new.items taken.old.items taken.new.items) }
@@ -82,8 +81,7 @@ fn gather_cut(
     taken: &mut Vec<Section>,
     want: Answer,
 ) -> Result<Option<Answer>, GivenUp>
-    requires left { RopesBelow (length ropes.old) left.old.items }
-    requires taken { SectionsRopesBelow (length ropes.old) taken.old.items }
+    requires { TokensAndSectionsBelow ropes.old left.old.items taken.old.items }
     ensures old { RopesAdded ropes.old ropes.new }
     ensures gathers { OnOk result
         (TakesOff (λ l. c_left l) ropes.old ropes.new left.old.items left.new.items taken.old.items taken.new.items) }
@@ -117,8 +115,7 @@ fn gather_token(
     digit: u8,
     want: Answer,
 ) -> Result<Option<Answer>, GivenUp>
-    requires left { RopesBelow (length ropes.old) left.old.items }
-    requires taken { SectionsRopesBelow (length ropes.old) taken.old.items }
+    requires { TokensAndSectionsBelow ropes.old left.old.items taken.old.items }
     ensures old { RopesAdded ropes.old ropes.new }
     ensures gathers { OnOk result
         (TakesOff (λ l. separator_left digit l) ropes.old ropes.new left.old.items left.new.items taken.old.items
@@ -138,8 +135,7 @@ fn gather_separator(
     taken: &mut Vec<Section>,
     digit: u8,
 ) -> Result<Option<Answer>, GivenUp>
-    requires left { RopesBelow (length ropes.old) left.old.items }
-    requires taken { SectionsRopesBelow (length ropes.old) taken.old.items }
+    requires { TokensAndSectionsBelow ropes.old left.old.items taken.old.items }
     ensures old { RopesAdded ropes.old ropes.new }
     ensures gathers { OnOk result
         (TakesOff (λ l. separator_left digit l) ropes.old ropes.new left.old.items left.new.items taken.old.items
@@ -166,8 +162,7 @@ fn gather_separator(
 // Opens ropes at the end of the left half tape, but none that was read in C: that would be wound up for nothing.
 fn open_ropes(ropes: &mut Ropes, left: &mut Vec<Token>) -> Result<(), GivenUp>
     requires { RopesBelow (length ropes.old) left.old.items }
-    ensures old { RopesAdded ropes.old ropes.new }
-    ensures same { OnOk result (SameLeft ropes.old ropes.new left.old.items left.new.items) }
+    ensures { OnlyOpens result ropes.old ropes.new left.old.items left.new.items }
 {
     if is_rope_last(left) {
         return open_left(ropes, left);
@@ -211,8 +206,7 @@ pub(crate) fn gather(
     left: &mut Vec<Token>,
     taken: &mut Vec<Section>,
 ) -> Result<u128, GivenUp>
-    requires left { RopesBelow (length ropes.old) left.old.items }
-    requires taken { SectionsRopesBelow (length ropes.old) taken.old.items }
+    requires { TokensAndSectionsBelow ropes.old left.old.items taken.old.items }
     ensures old { RopesAdded ropes.old ropes.new }
     ensures gathers { OnOk result
         (TakesOff (λ l. l) ropes.old ropes.new left.old.items left.new.items taken.old.items taken.new.items) }
@@ -243,8 +237,7 @@ fn glides_behind(
     taken: &[Section],
 ) -> Result<u128, GivenUp>
     requires { RopesBelow (length ropes.old) left.old.items }
-    ensures old { RopesAdded ropes.old ropes.new }
-    ensures same { OnOk result (SameLeft ropes.old ropes.new left.old.items left.new.items) }
+    ensures { OnlyOpens result ropes.old ropes.new left.old.items left.new.items }
 {
     let periods = periods_of(taken);
     if periods == 0 {

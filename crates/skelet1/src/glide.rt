@@ -1,10 +1,9 @@
 // A jump of the glider: so many of its periods at once. What was before it is forgotten, since it is never read again.
-ghost use Rattle.std.specs.Prelude.{◌≡◌, ◌++◌, ◌∷◌, [], ◌*◌, ◌<◌, ◌≤◌, length, ℕ, IfOk, OnOk};
+ghost use Rattle.std.specs.Prelude.{◌≡◌, ◌++◌, ◌∷◌, [], ◌*◌, ◌<◌, ◌≤◌, ℕ, IfOk, OnOk};
 ghost use Rattle.skelet1.specs.inside.Arena.{RopesAdded};
 ghost use Rattle.skelet1.specs.inside.Glider.{glider_gap, GliderGlides};
 ghost use Rattle.skelet1.specs.declared.section.Section.TheVariants.{Group, Separator};
-ghost use Rattle.skelet1.specs.inside.Tokens.{RopesBelow};
-ghost use Rattle.skelet1.specs.inside.Sections.{SectionsRopesBelow, Glided};
+ghost use Rattle.skelet1.specs.inside.Sections.{TokensAndSectionsBelow, Glided};
 
 use crate::given_up::GivenUp;
 use crate::glider::{FALL, GAP, VISITS, block, glider, put_glider};
@@ -54,8 +53,7 @@ pub(crate) fn glide(
     taken: &mut Vec<Section>,
     periods: u128,
 ) -> Result<u128, GivenUp>
-    requires left { RopesBelow (length ropes.old) left.old.items }
-    requires taken { SectionsRopesBelow (length ropes.old) taken.old.items }
+    requires below { TokensAndSectionsBelow ropes.old left.old.items taken.old.items }
     requires some { 1 ≤ periods }
     requires glides { GliderGlides }
     ensures old { RopesAdded ropes.old ropes.new }

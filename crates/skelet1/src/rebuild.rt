@@ -9,7 +9,7 @@ ghost use Rattle.skelet1.specs.inside.Jumps.{separator_answer, paid};
 ghost use Rattle.skelet1.specs.declared.answer.Answer.TheVariants.{A, C};
 ghost use Rattle.skelet1.specs.declared.section.Section.TheVariants.{Separator};
 ghost use Rattle.skelet1.specs.inside.Tokens.{RopesBelow, tokens_left};
-ghost use Rattle.skelet1.specs.inside.Sections.{SectionRopeBelow, SectionsRopesBelow, Rebuilds, PutsSeparator, sections_left};
+ghost use Rattle.skelet1.specs.inside.Sections.{SectionRopeBelow, TokensAndSectionsBelow, Rebuilds, PutsSeparator, sections_left};
 
 use crate::answer::Answer;
 use crate::gather::put_back;
@@ -139,8 +139,7 @@ pub(crate) fn rebuild(
     inside: u128,
     given: Answer,
 ) -> Result<u128, GivenUp>
-    requires left { RopesBelow (length ropes.old) left.old.items }
-    requires taken { SectionsRopesBelow (length ropes.old) taken.old.items }
+    requires { TokensAndSectionsBelow ropes.old left.old.items taken.old.items }
     ensures within { OnOk result (RopesBelow (length ropes.new) left.new.items) }
     ensures old { RopesAdded ropes.old ropes.new }
     ensures visits { IfOk result

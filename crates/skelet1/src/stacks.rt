@@ -1,8 +1,8 @@
 // The two stacks of tokens, the nearest one last: what is put before a half tape, and what is taken off it.
-ghost use Rattle.std.specs.Prelude.{◌≡◌, ◌<◌, ◌≤◌, ◌+◌, ◌-◌, ◌∷◌, [], ℕ, length, IfOk, OnOk, IfSome, IsTrue};
+ghost use Rattle.std.specs.Prelude.{◌≡◌, ◌≤◌, ◌+◌, ◌-◌, ◌∷◌, [], ℕ, length, IfOk, OnOk, IfSome, IsTrue};
 ghost use Rattle.skelet1.specs.inside.Arena.{RopesAdded};
 ghost use Rattle.skelet1.specs.declared.token.Token.TheVariants.{X, Separator, Rope, Wound};
-ghost use Rattle.skelet1.specs.inside.Tokens.{RopeBelow, RopesBelow, Merges, PutsLeft, PutsRight, SameLeft, Pays};
+ghost use Rattle.skelet1.specs.inside.Tokens.{RopeBelow, RopesBelow, RopeAndTokensBelow, Merges, PutsLeft, PutsRight, OnlyOpens, Pays};
 
 use crate::given_up::GivenUp;
 use crate::numbers::sum;
@@ -78,8 +78,7 @@ fn put_plain(ropes: &Ropes, left: &mut Vec<Token>, token: Token) -> Result<(), G
 /// Opens ropes at the end of the left half tape, until its last token is none.
 pub(crate) fn open_left(ropes: &mut Ropes, left: &mut Vec<Token>) -> Result<(), GivenUp>
     requires { RopesBelow (length ropes.old) left.old.items }
-    ensures old { RopesAdded ropes.old ropes.new }
-    ensures same { OnOk result (SameLeft ropes.old ropes.new left.old.items left.new.items) }
+    ensures { OnlyOpens result ropes.old ropes.new left.old.items left.new.items }
 {
     for _ in 0..MAX_OPENINGS {
         if !open_once(ropes, left)? {
@@ -92,8 +91,7 @@ pub(crate) fn open_left(ropes: &mut Ropes, left: &mut Vec<Token>) -> Result<(), 
 // Opens a rope at the end of the left half tape once; whether there was one.
 fn open_once(ropes: &mut Ropes, left: &mut Vec<Token>) -> Result<bool, GivenUp>
     requires { RopesBelow (length ropes.old) left.old.items }
-    ensures old { RopesAdded ropes.old ropes.new }
-    ensures same { OnOk result (SameLeft ropes.old ropes.new left.old.items left.new.items) }
+    ensures { OnlyOpens result ropes.old ropes.new left.old.items left.new.items }
 {
     let Some(top) = left.pop() else {
         return Ok(false);
@@ -116,8 +114,7 @@ fn open_once(ropes: &mut Ropes, left: &mut Vec<Token>) -> Result<bool, GivenUp>
 
 // Puts a rope before the left half tape in parts.
 fn open_rope(ropes: &mut Ropes, left: &mut Vec<Token>, i: usize) -> Result<(), GivenUp>
-    requires left { RopesBelow (length ropes.old) left.old.items }
-    requires token { i < length ropes.old }
+    requires { RopeAndTokensBelow ropes.old i left.old.items }
     ensures old { RopesAdded ropes.old ropes.new }
     ensures put { OnOk result (PutsLeft ropes.old ropes.new (Rope i) left.old.items left.new.items) }
 {
@@ -134,8 +131,7 @@ fn open_rope(ropes: &mut Ropes, left: &mut Vec<Token>, i: usize) -> Result<(), G
 
 // Puts a rope that was read in C before the left half tape in parts.
 pub(crate) fn open_wound(ropes: &mut Ropes, left: &mut Vec<Token>, i: usize) -> Result<(), GivenUp>
-    requires left { RopesBelow (length ropes.old) left.old.items }
-    requires token { i < length ropes.old }
+    requires { RopeAndTokensBelow ropes.old i left.old.items }
     ensures old { RopesAdded ropes.old ropes.new }
     ensures put { OnOk result (PutsLeft ropes.old ropes.new (Wound i) left.old.items left.new.items) }
 {
@@ -158,8 +154,7 @@ pub(crate) fn open_wound(ropes: &mut Ropes, left: &mut Vec<Token>, i: usize) -> 
 
 // Puts a rope before the left half tape: with one that stands there it is one rope.
 fn put_rope(ropes: &mut Ropes, left: &mut Vec<Token>, i: usize) -> Result<(), GivenUp>
-    requires left { RopesBelow (length ropes.old) left.old.items }
-    requires token { i < length ropes.old }
+    requires { RopeAndTokensBelow ropes.old i left.old.items }
     ensures old { RopesAdded ropes.old ropes.new }
     ensures put { OnOk result (PutsLeft ropes.old ropes.new (Rope i) left.old.items left.new.items) }
 {
@@ -255,8 +250,7 @@ pub(crate) fn put_one(ropes: &mut Ropes, left: &mut Vec<Token>) -> Result<(), Gi
 
 /// Puts a rope before the right half tape in parts.
 pub(crate) fn open_right(ropes: &mut Ropes, right: &mut Vec<Token>, i: usize) -> Result<(), GivenUp>
-    requires right { RopesBelow (length ropes.old) right.old.items }
-    requires token { i < length ropes.old }
+    requires { RopeAndTokensBelow ropes.old i right.old.items }
     ensures old { RopesAdded ropes.old ropes.new }
     ensures put { OnOk result (PutsRight ropes.old ropes.new (Rope i) right.old.items right.new.items) }
 {

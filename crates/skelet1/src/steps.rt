@@ -6,7 +6,7 @@ ghost use Rattle.skelet1.specs.declared.beyond.Beyond.{Beyond};
 ghost use Rattle.skelet1.specs.declared.answer.Answer.TheVariants.{A, C};
 ghost use Rattle.skelet1.specs.declared.heading.Heading.TheVariants.{Left, Right};
 ghost use Rattle.skelet1.specs.declared.token.Token.TheVariants.{X};
-ghost use Rattle.skelet1.specs.inside.Tokens.{RopesBelow, RopeBelow, BothRopesBelow, TurnsAt, PassesTo, Winds, Leads, IsPlain};
+ghost use Rattle.skelet1.specs.inside.Tokens.{RopesBelow, RopeAndTokensBelow, RopeBelow, BothRopesBelow, TurnsAt, PassesTo, Winds, Leads, IsPlain};
 
 use crate::answer::Answer;
 use crate::beyond::Beyond;
@@ -137,8 +137,7 @@ fn ends_with_x(tokens: &[Token]) -> bool {
 
 // Puts a long rope before the left half tape that was read in C, behind an x.
 fn wind(ropes: &mut Ropes, left: &mut Vec<Token>, i: usize) -> Result<(), GivenUp>
-    requires left { RopesBelow (length ropes.old) left.old.items }
-    requires token { i < length ropes.old }
+    requires below { RopeAndTokensBelow ropes.old i left.old.items }
     requires long { AreLong (groups_at ropes.old i) }
     ensures old { RopesAdded ropes.old ropes.new }
     ensures winds { OnOk result (Winds (groups_at ropes.old i) ropes.old ropes.new left.old.items left.new.items) }

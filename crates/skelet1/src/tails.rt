@@ -2,7 +2,7 @@
 ghost use Rattle.std.specs.Prelude.{◌≡◌, ◌≤◌, ◌∷◌, [], ℕ, List, false, length, drop, IfOk, OnOk, IsTrue};
 ghost use Rattle.machine_text.specs.declared.transition.Sym.{Sym};
 ghost use Rattle.skelet1.specs.inside.Arena.{RopesAdded};
-ghost use Rattle.skelet1.specs.inside.Tokens.{RopesBelow, SameLeft, EndsWith};
+ghost use Rattle.skelet1.specs.inside.Tokens.{RopesBelow, SameLeft, OnlyOpens, EndsWith};
 
 use crate::given_up::GivenUp;
 use crate::ropes::Ropes;
@@ -75,8 +75,7 @@ pub(crate) fn ends_with(
 ) -> Result<bool, GivenUp>
     requires left { RopesBelow (length ropes.old) left.old.items }
     requires tail { (n : ℕ) → RopesBelow n tail.now }
-    ensures old { RopesAdded ropes.old ropes.new }
-    ensures same { OnOk result (SameLeft ropes.old ropes.new left.old.items left.new.items) }
+    ensures { OnlyOpens result ropes.old ropes.new left.old.items left.new.items }
 {
     if take_tail(ropes, left, tail)? {
         left.extend_from_slice(tail)?;

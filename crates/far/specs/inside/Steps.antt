@@ -15,6 +15,12 @@ pub record ReachesIn (a : Automata) (set : ℕ) (s : Sym) (row : ℕ) : Type 0 w
   pub pairs : (j k : ℕ) → j < last a → IsTrue (has set j) → IsTrue (has (row_at a j s) k) → IsTrue (has row k)
   pub halt : IsTrue (has set (last a)) → IsTrue (has row (last a))
 
+-- q is a state of the first automaton; f, and where an entry goes, are states of the machine
+pub record HaveStates (a : Automata) (q f : ℕ) (e : Entry) : Type 0 where
+  pub first : q < a.size
+  pub second : f < a.states
+  pub next : e.next.0 < a.states
+
 -- the edges that an entry at the machine state f and the symbol r asks for, with the first automaton in q
 pub record FitsEntry (a : Automata) (q f : ℕ) (r : Sym) (e : Entry) : Type 0 where
   pub ahead : e.dir ≡ a.side → IsTrue (has (row_at a (q * a.states + f) r) (target a q e.write * a.states + e.next.0))

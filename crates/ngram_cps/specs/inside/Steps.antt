@@ -1,13 +1,20 @@
 -- What a step of a table asks of three lists, over the bytes of one local configuration.
-use Rattle.std.specs.Prelude.{ℕ, ◌+◌, ◌-◌, ◌*◌, ◌<◌, List, [], ◌∷◌, ◌++◌, take, drop, replicate, slice_index, Option, Some, None}
+use Rattle.std.specs.Prelude.{◌≡◌, ℕ, ◌+◌, ◌-◌, ◌*◌, ◌<◌, ◌≤◌, List, [], ◌∷◌, ◌++◌, length, take, drop, replicate, slice_index, Option, Some, None}
 use Rattle.machine_text.specs.declared.transition.Dir.{Dir}
 use Rattle.machine_text.specs.declared.transition.Dir.TheVariants.{L, R}
 use Rattle.machine_text.specs.declared.transition.Entry.{Entry}
 use Rattle.machine_text.specs.Packed.{symbol_of}
 use Rattle.machine_text.specs.Text.{symbol_byte}
 use Rattle.law_turing.specs.Machine.{Machine}
+use Rattle.ngram_cps.specs.Limits.{width_limit}
 use Rattle.ngram_cps.specs.Listing.{item, IsItem}
 use Rattle.ngram_cps.specs.Lists.{Lists}
+
+-- a width that may be, and as many bytes as a local configuration of it has
+pub record HasWidth (g : ℕ) (bytes : List ℕ) : Type 0 where
+  pub some : 1 ≤ g
+  pub narrow : g ≤ width_limit
+  pub size : length bytes ≡ 2 * g + 2
 
 -- after a move to the right: the left word, with the written symbol; the right word, with one that comes into
 -- view; what then stands around the head

@@ -32,6 +32,11 @@ unfoldable pub SectionsRopesBelow : ℕ → List Section → Type 0
 SectionsRopesBelow n [] = Unit {0}
 SectionsRopesBelow n (s ∷ ss) = SectionRopeBelow n s × SectionsRopesBelow n ss
 
+-- the ropes of what is left of the half tape are there, and so are those of the sections that were taken off it
+pub record TokensAndSectionsBelow (ropes : List (List ℕ)) (lefts : List Token) (taken : List Section) : Type 0 where
+  pub within : RopesBelow (length ropes) lefts
+  pub taken_within : SectionsRopesBelow (length ropes) taken
+
 -- words went over from the left half tape, with start before it, to the sections: all together are the same
 pub record TakesOff (start : List Sym → List Sym) (old new : List (List ℕ)) (before after : List Token)
     (taken taken' : List Section) : Type 0 where

@@ -1,18 +1,19 @@
 -- What tokens mean: words of the left half tape and of the right one. A list of tokens ends with the one nearest to the
 -- head, so it is pushed to and popped from.
-use Rattle.std.specs.Prelude.{◌≡◌, ℕ, ◌+◌, ◌%◌, ◌<◌, List, [], ◌∷◌, length}
+use Rattle.std.specs.Prelude.{◌≡◌, ℕ, ◌+◌, ◌%◌, ◌<◌, List, [], ◌∷◌, length, Result, OnOk}
 use Rattle.machine_text.specs.declared.transition.Sym.{Sym}
 use Rattle.law_rules.specs.Zipper.{Zipper}
 use Rattle.law_rules.specs.Rules.{Comes}
 use Rattle.skelet1.specs.inside.Words.{machine, leftward, rightward, xs_left, c_left, separator_left, xs_right, c_right, rope_left, rope_right, wound_left}
 use Rattle.skelet1.specs.inside.Visits.{AnswersBy, Visits}
-use Rattle.skelet1.specs.inside.Arena.{groups_at}
+use Rattle.skelet1.specs.inside.Arena.{groups_at, RopesAdded}
 use Rattle.skelet1.specs.declared.answer.Answer.{Answer}
 use Rattle.skelet1.specs.declared.answer.Answer.TheVariants.{A, C}
 use Rattle.skelet1.specs.declared.heading.Heading.{Heading}
 use Rattle.skelet1.specs.declared.heading.Heading.TheVariants.{Left, Right}
 use Rattle.skelet1.specs.declared.beyond.Beyond.{Beyond}
 use Rattle.skelet1.specs.declared.beyond.Beyond.TheVariants.{Blank}
+use Rattle.skelet1.specs.declared.given_up.GivenUp.{GivenUp}
 use Rattle.skelet1.specs.declared.token.Token.{Token}
 use Rattle.skelet1.specs.declared.token.Token.TheVariants.{X, Y, Cut, Separator, Rope, Wound}
 
@@ -56,6 +57,11 @@ unfoldable pub RopesBelow : ℕ → List Token → Type 0
 RopesBelow n [] = Unit {0}
 RopesBelow n (t ∷ ts) = RopeBelow n t × RopesBelow n ts
 
+-- the rope of a number is there, and so are those of tokens
+pub record RopeAndTokensBelow (ropes : List (List ℕ)) (i : ℕ) (tokens : List Token) : Type 0 where
+  pub rope : i < length ropes
+  pub within : RopesBelow (length ropes) tokens
+
 -- one token has the word of two, the top one and one put before it, on either side
 pub record Merges (top token both : Token) : Type 0 where
   pub left : (b : ℕ) (ropes : List (List ℕ)) (l : List Sym) →
@@ -77,6 +83,12 @@ pub record PutsRight (old new : List (List ℕ)) (token : Token) (before after :
 pub record SameLeft (old new : List (List ℕ)) (before after : List Token) : Type 0 where
   pub within : RopesBelow (length new) after
   pub text : (b : ℕ) (l : List Sym) → tokens_left b new after l ≡ tokens_left b old before l
+
+-- ropes were opened at most: there may be new ones, and where no error came it is the same half tape
+pub record OnlyOpens {A : Type 0} (result : Result A GivenUp) (old new : List (List ℕ))
+    (before after : List Token) : Type 0 where
+  pub extends : RopesAdded old new
+  pub same : OnOk result (SameLeft old new before after)
 
 -- these tokens were taken off the end
 pub record EndsWith (tail : List Token) (old new : List (List ℕ)) (before after : List Token) : Type 0 where

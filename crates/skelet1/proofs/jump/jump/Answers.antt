@@ -2,8 +2,8 @@ use Rattle.skelet1.proofs.SectionLaws.{withinS_none}
 use Rattle.skelet1.proofs.Jumping.{jumps_plain, jumps_glide}
 use Rattle.skelet1.proofs.jump.jump.Goals as goal
 
-pub gather-requires-clause-taken : goal.gather-requires-clause-taken
-gather-requires-clause-taken c = withinS_none _ _ c.clear.ensures.items
+pub gather-requires : goal.gather-requires
+gather-requires c = record { within = c.requires.left; taken_within = withinS_none _ _ c.clear.ensures.items }
 
 pub returns-then-periods-eq0 : goal.returns-then-periods-eq0
 returns-then-periods-eq0 c =

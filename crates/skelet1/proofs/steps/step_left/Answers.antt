@@ -15,8 +15,8 @@ returns-in-Separator c = lead_separator _ _ _ c.at_separator.ensures.old _ _ _ c
 
 pub open_wound-requires : goal.open_wound-requires
 open_wound-requires c = record {
-  left = within_rest _ _ _ _ c.in-Some.ensures.items c.requires.on_left;
-  token = wound_taken _ _ _ _ _ c.in-Some.ensures.items c.in-Wound.is c.requires.on_left;
+  within = within_rest _ _ _ _ c.in-Some.ensures.items c.requires.on_left;
+  rope = wound_taken _ _ _ _ _ c.in-Some.ensures.items c.in-Wound.is c.requires.on_left;
 }
 
 pub returns-in-Wound : goal.returns-in-Wound

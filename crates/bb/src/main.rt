@@ -4,7 +4,7 @@
 //! `cmd_nodes`.
 #![tactic(auto)]
 
-use cmd_dispatch::{Failures, System};
+use cmd_dispatch::{Failures, System, Watch};
 pub use cmd_json::report_json;
 pub use cmd_ledgers::{cmd_carry, cmd_merge, cmd_report, cmd_retry, report};
 pub use cmd_lines::{cmd_check, cmd_decide};
@@ -17,10 +17,11 @@ use std::process::ExitCode;
 
 fn main(rt: HostRuntime) -> ExitCode {
     let failures = Failures::new(rt.alloc());
+    let watch = Watch::new();
     let outcome = obey(
         rt.alloc(),
         words_of(&rt),
-        &System::of(&rt, &failures),
+        &System::of(&rt, &failures, &watch),
         &mut rt.stdin(),
         &mut rt.stdout(),
         &mut rt.stderr(),

@@ -6,15 +6,17 @@ use crate::known_file::KnownFile;
 use crate::{folders, ledgers, lines, nodes, pictures, texts};
 use cmd_nodes::Sockets;
 use cmd_options::{Ended, Options, Outcome, told};
+use cmd_progress::ReadingTold;
 use files::Disk;
 use std::alloc::Global;
 use std::io::{Read, Write};
 use std::time::Clock;
 
 /// Does what is asked for: `bb check`, `bb decide`, `bb explain`, `bb show`, `bb tables`, `bb draw` and `bb coord` read
-/// `input`, and so do `bb report -`, `bb page -`, `bb mend -` and `bb join -`. The answer goes to `answers`, and what ends the command early to `faults`. Each end is an
-/// `Outcome`: want of memory and a stream or a file that fails too.
-pub fn execute<S: Disk + Clock + Sockets, R: Read, W: Write, E: Write>(
+/// `input`, and so do `bb report -`, `bb page -`, `bb page --table`, `bb mend -` and `bb join -`. The answer goes to
+/// `answers`, and what ends the command early to `faults`. Each end is an `Outcome`: want of memory and a stream or a file
+/// that fails too.
+pub fn execute<S: Disk + Clock + Sockets + ReadingTold, R: Read, W: Write, E: Write>(
     alloc: Global,
     asked: Options<'_>,
     system: &S,
@@ -43,27 +45,27 @@ pub fn execute<S: Disk + Clock + Sockets, R: Read, W: Write, E: Write>(
     told(ended, faults)
 }
 
-impl<S: Disk + Clock + Sockets, R: Read, W: Write, E: Write> Call<'_, S, R, W, E> {
+impl<S: Disk + Clock + Sockets + ReadingTold, R: Read, W: Write, E: Write> Call<'_, S, R, W, E> {
     // Each command, by what it is asked for.
     fn done(self, asked: Options<'_>) -> Result<Outcome, Ended>
         requires { AreWithinRanges asked }
     {
         match asked {
             Options::Check(checking) => lines::check(self, checking),
-            Options::Decide { search, .. } => lines::decide(self, &search),
-            Options::Explain { .. } => texts::explain(self),
+            Options::Decide(deciding) => lines::decide(self, &deciding),
+            Options::Explain { json } => texts::explain(self, json),
             Options::Show(showing) => texts::show(self, &showing),
             Options::Tables(listing) => texts::tables(self, &listing),
             Options::Draw(drawing) => pictures::draw(self, &drawing),
             Options::Coord { beginning, ledger } => nodes::coord(self, beginning, ledger),
             Options::Run { settling, ledger } => nodes::run(self, &settling, ledger),
             Options::Loop { settling, ledger } => nodes::run_over_sockets(self, &settling, ledger),
-            Options::Retry { file, search } => ledgers::retry(self, file, &search),
+            Options::Retry(retrying) => ledgers::retry(self, &retrying),
             Options::Merge(merging) => ledgers::merge(self, merging),
             Options::Carry(carrying) => ledgers::carry(self, carrying),
             Options::Mend(mending) => ledgers::mend(self, mending),
-            Options::Report { file, json, why } => ledgers::report(self, file, json, why),
-            Options::Page { file } => pictures::page(self, file),
+            Options::Report(reporting) => ledgers::report(self, &reporting),
+            Options::Page(paging) => pictures::page(self, &paging),
             Options::Split(splitting) => folders::split(self, &splitting),
             Options::Settle(settling) => folders::settle(self, &settling),
             Options::Join(joining) => folders::join(self, &joining),

@@ -9,12 +9,13 @@ use cmd_look::look_at;
 use cmd_options::{Ended, Joining, LedgerSettling, Looking, Outcome, Splitting};
 use cmd_parts::{join_at, settle_ledger_at, split_in};
 use cmd_stream::join_stream;
-use files::{Disk, Silent, Telling, TimedProgress};
+use cmd_progress::{ReadingTold, Telling, TimedProgress};
+use files::Disk;
 use std::io::{Read, Write};
 use std::time::Clock;
 
 // `bb split`.
-pub(crate) fn split<S: Disk, R, W: Write, E>(
+pub(crate) fn split<S: Disk + Clock, R, W: Write, E: Write>(
     call: Call<'_, S, R, W, E>,
     splitting: &Splitting<'_>,
 ) -> Result<Outcome, Ended>
@@ -22,14 +23,18 @@ pub(crate) fn split<S: Disk, R, W: Write, E>(
 {
     let mut decider = decider_for(call.alloc, call.known, &splitting.search)?;
     let mut files = call.files();
-    split_in(
+    let telling = Telling::of(splitting.progress, call.system.tells_terminal());
+    let mut progress = TimedProgress::new(call.alloc, telling, call.system, call.faults);
+    let ended = split_in(
         call.alloc,
         splitting,
         &mut files,
         &mut decider,
-        &mut Silent,
+        &mut progress,
         call.answers,
-    )
+    );
+    progress.end();
+    ended
 }
 
 // `bb settle`; how far it is, is told on `faults` where that is wanted.
@@ -41,7 +46,7 @@ pub(crate) fn settle<S: Disk + Clock, R, W: Write, E: Write>(
     let mut files = call.files();
     let (alloc, file, answers) = (call.alloc, settling.file, call.answers);
     let telling = Telling::of(settling.progress, call.system.tells_terminal());
-    let mut progress = TimedProgress::new(alloc, telling, 0, call.system, call.faults);
+    let mut progress = TimedProgress::new(alloc, telling, call.system, call.faults);
     let ended = settle_ledger_at(
         alloc,
         file,
@@ -55,7 +60,7 @@ pub(crate) fn settle<S: Disk + Clock, R, W: Write, E: Write>(
 }
 
 // `bb join`, of a folder or of `input`.
-pub(crate) fn join<S: Disk, R: Read, W: Write, E: Write>(
+pub(crate) fn join<S: Disk + ReadingTold, R: Read, W: Write, E: Write>(
     call: Call<'_, S, R, W, E>,
     joining: &Joining<'_>,
 ) -> Result<Outcome, Ended> {
@@ -63,6 +68,7 @@ pub(crate) fn join<S: Disk, R: Read, W: Write, E: Write>(
     let mut files = call.files();
     let Call {
         alloc,
+        system,
         input,
         answers,
         faults,
@@ -71,7 +77,11 @@ pub(crate) fn join<S: Disk, R: Read, W: Write, E: Write>(
     if joining.folder == STANDARD_INPUT {
         return join_stream(alloc, &form, input, answers, faults);
     }
-    join_at(alloc, &form, joining, &mut files, answers, faults)
+    let telling = Telling::of(joining.progress, system.tells_terminal());
+    system.tell_reading(telling, joining.folder);
+    let ended = join_at(alloc, &form, joining, &mut files, answers, faults);
+    system.end_reading();
+    ended
 }
 
 // `bb look`, in a ledger or in a folder.

@@ -47,7 +47,8 @@ impl<'a> KnownFile<'a> {
 // Where a command that searches for certificates is to look first.
 fn path_in<'a>(asked: &Options<'a>) -> Option<&'a str> {
     match asked {
-        Options::Decide { search, .. } | Options::Retry { search, .. } => search.known,
+        Options::Decide(deciding) => deciding.search.known,
+        Options::Retry(retrying) => retrying.search.known,
         Options::Run { settling, .. } | Options::Loop { settling, .. } => settling.search.known,
         Options::Split(splitting) => splitting.search.known,
         Options::Settle(settling) => settling.search.known,

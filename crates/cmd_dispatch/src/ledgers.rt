@@ -5,22 +5,34 @@ use crate::call::Call;
 use cmd_json::Form;
 use cmd_ledgers::{carry_at, merge_at, report_at, report_stream, retry_at};
 use cmd_mend::{mend_at, mend_stream};
-use cmd_options::{Carrying, Ended, LedgerFile, Mending, Merging, Outcome, Search};
+use cmd_options::{Carrying, Ended, Mending, Merging, Outcome, Reporting, Retrying};
+use cmd_progress::{ReadingTold, Telling, TriedProgress};
 use files::{Disk, lock_ledger};
 use std::io::{Read, Write};
+use std::time::Clock;
 
 // In place of a ledger's path: it is read from `input`.
 pub(crate) const STANDARD_INPUT: &str = "-";
 
 // `bb retry`, over a ledger that has to be there.
-pub(crate) fn retry<S: Disk, R, W: Write, E>(
+pub(crate) fn retry<S: Disk + Clock, R, W: Write, E: Write>(
     call: Call<'_, S, R, W, E>,
-    file: LedgerFile<'_>,
-    search: &Search<'_>,
+    retrying: &Retrying<'_>,
 ) -> Result<Outcome, Ended> {
-    let mut decider = decider_for(call.alloc, call.known, search)?;
+    let mut decider = decider_for(call.alloc, call.known, &retrying.search)?;
     let mut files = call.files();
-    retry_at(call.alloc, file, &mut files, &mut decider, call.answers)
+    let telling = Telling::of(retrying.progress, call.system.tells_terminal());
+    let mut progress = TriedProgress::new(call.alloc, telling, call.system, call.faults);
+    let ended = retry_at(
+        call.alloc,
+        retrying.file,
+        &mut files,
+        &mut decider,
+        &mut progress,
+        call.answers,
+    );
+    progress.end();
+    ended
 }
 
 // `bb merge`.
@@ -64,15 +76,15 @@ pub(crate) fn mend<S: Disk, R: Read, W: Write, E>(
 }
 
 // `bb report`, of a file or of `input`.
-pub(crate) fn report<S: Disk, R: Read, W: Write, E: Write>(
+pub(crate) fn report<S: Disk + ReadingTold, R: Read, W: Write, E: Write>(
     call: Call<'_, S, R, W, E>,
-    path: &str,
-    json: bool,
-    why: bool,
+    reporting: &Reporting<'_>,
 ) -> Result<Outcome, Ended> {
-    let (files, form) = (call.files(), Form::of(json));
+    let (files, form) = (call.files(), Form::of(reporting.json));
+    let (path, why) = (reporting.file, reporting.why);
     let Call {
         alloc,
+        system,
         input,
         answers,
         faults,
@@ -81,5 +93,9 @@ pub(crate) fn report<S: Disk, R: Read, W: Write, E: Write>(
     if path == STANDARD_INPUT {
         return report_stream(alloc, &form, why, input, answers, faults);
     }
-    report_at(alloc, &form, why, path, &files, answers, faults)
+    let telling = Telling::of(reporting.progress, system.tells_terminal());
+    system.tell_reading(telling, path);
+    let ended = report_at(alloc, &form, why, path, &files, answers, faults);
+    system.end_reading();
+    ended
 }

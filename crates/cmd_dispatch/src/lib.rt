@@ -20,6 +20,7 @@ mod pictures;
 mod stages;
 mod system;
 mod texts;
+mod watch;
 mod watched_file;
 
 pub use executing::execute;
@@ -27,4 +28,5 @@ pub use failures::Failures;
 pub use named_file::NamedFile;
 pub use named_socket::NamedSocket;
 pub use system::{FileLock, System};
+pub use watch::Watch;
 pub use watched_file::WatchedFile;

@@ -9,8 +9,9 @@ use cert::Finders;
 use cmd_json::Form;
 use cmd_nodes::{MaybeLedger, Run, Sockets, coordinate, loop_tree, run_tree};
 use cmd_options::{Beginning, Ended, LedgerFile, Outcome, Settling};
+use cmd_progress::Telling;
 use files::{
-    Disk, DiskLedger, Files, Held, OnDisk, Opened, Telling, held_at, ledger_at, lock_ledger,
+    Disk, DiskLedger, Files, Held, OnDisk, Opened, held_at, ledger_at, lock_ledger,
 };
 use lease_core::Worker;
 use std::alloc::Global;

@@ -2,9 +2,11 @@
 use crate::failures::Failures;
 use crate::named_file::NamedFile;
 use crate::named_socket::{LOOPBACK, NamedSocket};
+use crate::watch::Watch;
 use crate::watched_file::WatchedFile;
 use cmd_nodes::Sockets;
 use cmd_options::{Ended, ended_by};
+use cmd_progress::{ReadingTold, Telling};
 use files::Disk;
 use std::cell::RefCell;
 use std::env;
@@ -20,12 +22,18 @@ use sums::sum_of;
 pub struct System<'a> {
     rt: &'a HostRuntime,
     failures: &'a Failures,
+    watch: &'a Watch,
 }
 
 impl<'a> System<'a> {
-    /// The system's files, clock and sockets that the program was given; what fails is remembered.
-    pub fn of(rt: &'a HostRuntime, failures: &'a Failures) -> System<'a> {
-        System { rt, failures }
+    /// The system's files, clock and sockets that the program was given; what fails is remembered, and what is read is
+    /// watched.
+    pub fn of(rt: &'a HostRuntime, failures: &'a Failures, watch: &'a Watch) -> System<'a> {
+        System {
+            rt,
+            failures,
+            watch,
+        }
     }
 
     // Remembers why something at a path failed.
@@ -123,6 +131,7 @@ impl<'a> Disk for System<'a> {
         Ok(WatchedFile {
             file: self.named(file, path),
             rt: self.rt,
+            watch: self.watch,
             come: 0,
         })
     }
@@ -257,6 +266,32 @@ impl<'a> Disk for System<'a> {
     fn reason(&self) -> Option<String> {
         self.failures.take()
     }
+}
+
+impl ReadingTold for System<'_> {
+    fn tell_reading(&self, telling: Telling, path: &str) {
+        let total = match fs::metadata(self.rt, path) {
+            Ok(found) if found.is_dir() => folder_bytes(self.rt, path).ok(),
+            Ok(found) if found.is_file() => Some(found.len()),
+            _ => None,
+        };
+        if let Some(total) = total {
+            self.watch.begin(self.rt, telling, total);
+        }
+    }
+
+    fn end_reading(&self) {
+        self.watch.end(self.rt);
+    }
+}
+
+// How many bytes the files in a folder have together.
+fn folder_bytes(rt: &HostRuntime, path: &str) -> io::Result<u64> {
+    let mut total: u64 = 0;
+    for entry in fs::read_dir(rt, path)? {
+        total = total.saturating_add(entry?.metadata()?.len());
+    }
+    Ok(total)
 }
 
 impl<'a> Clock for System<'a> {

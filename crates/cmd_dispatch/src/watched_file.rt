@@ -1,5 +1,6 @@
 // A file that is read, and tells of what takes long to judge.
 use crate::named_file::NamedFile;
+use crate::watch::Watch;
 use std::fs::Metadata;
 use std::io::{self, IsTerminal, Read, Write};
 
@@ -9,12 +10,13 @@ const SKELET_1: &[u8] = b"\n1RB1RD_1LC0RC_1RA1LD_0RE0LB_---1RC P";
 // The letter of its kind, which few lines have.
 const LETTER: u8 = b'P';
 
-/// A file of the system that is only read. Where standard error is a terminal, it says that Skelet 1 is about to be
-/// judged, before it passes its line on.
+/// A file of the system that is only read. It is told how far the reading is, where that is asked for; and where standard
+/// error is a terminal, that Skelet 1 is about to be judged, before its line is passed on.
 #[derive(Drop)]
 pub struct WatchedFile<'a> {
     pub(crate) file: NamedFile<'a>,
     pub(crate) rt: &'a HostRuntime,
+    pub(crate) watch: &'a Watch,
     // how many bytes of that line have come last
     pub(crate) come: usize,
 }
@@ -53,6 +55,7 @@ impl WatchedFile<'_> {
     fn tell(&self) {
         let mut terminal = self.rt.stderr();
         if terminal.is_terminal() {
+            self.watch.pause(self.rt);
             // Nothing hangs on whether it can be said.
             let _ = writeln!(terminal, "judging Skelet 1, some half a minute ..");
         }
@@ -71,6 +74,7 @@ fn has_letter(bytes: &[u8]) -> bool {
 impl Read for WatchedFile<'_> {
     fn read(&mut self, buf: &mut [u8]) -> io::Result<usize> {
         let count = self.file.read(buf)?;
+        self.watch.tell(self.rt, count);
         self.follow(&buf[..count]);
         Ok(count)
     }

@@ -1,5 +1,5 @@
 -- A board and its ledger, while holdouts are tried again.
-use Rattle.std.specs.Prelude.{◌≡◌, ◌⊎◌, ℕ, Bool, true, false, List, [], ◌∷◌, ◌++◌, Option, Some, None, IfSome}
+use Rattle.std.specs.Prelude.{◌≡◌, ◌≢◌, ◌⊎◌, ℕ, Bool, true, false, List, [], ◌∷◌, ◌++◌, Option, Some, None, IfSome, Result, Err, OnOk}
 use Rattle.machine_text.specs.Packed.{Packed}
 use Rattle.kind_evidence.specs.declared.verdicts.Ending.{Ending}
 use Rattle.cert.specs.Claim.{Recorded, ending_by}
@@ -17,6 +17,18 @@ use Rattle.cmd_options.specs.declared.ended.Ended.TheVariants.{Ledger, NoMemory}
 -- where a ledger's text was known and in step with the old board, it is in step with the new one
 abbrev pub StaysInStep : Contents → Option (List ℕ) → Contents → Option (List ℕ) → Type 0
 StaysInStep old before new after = IfSome before (IsLedgerOf old) → IfSome after (IsLedgerOf new)
+
+-- a board keeps its root and its version, and where nothing ended it early, its ledger has stayed in step
+pub record KeepsInStep {T : Type 0} (result : Result T Ended) (old : Contents) (before : Option (List ℕ))
+    (new : Contents) (after : Option (List ℕ)) : Type 0 where
+  pub root : new.root ≡ old.root
+  pub format : new.format ≡ old.format
+  pub step : OnOk result (StaysInStep old before new after)
+
+-- a ledger that is said to have failed has counted that, and one that isn't has counted nothing
+pub record CountsFailures {T : Type 0} (result : Result T Ended) (old new : ℕ) : Type 0 where
+  pub works : OnOk result (new ≡ old)
+  pub failed : result ≡ Err Ledger → old ≢ new
 
 -- the line of a record that a ledger gains, with its score in version 2
 abbrev pub gained : Format → Recorded → List ℕ

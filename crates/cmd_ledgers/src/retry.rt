@@ -8,7 +8,7 @@ ghost use Rattle.cmd_options.specs.declared.outcome.Outcome.{Outcome as Outcomes
 ghost use Rattle.cmd_options.specs.declared.ended.Ended.{Ended as Ends};
 ghost use Rattle.cmd_options.specs.Ends.{EndsTold};
 ghost use Rattle.files.specs.Paths.{IsKeptBut};
-ghost use Rattle.cmd_ledgers.specs.Retry.{ResolvesOrStays, StaysInStep, AtSomeTime, ChangesBy, ChangesNothing, EndsAtHoldout, EndsRetrying, IsTried, AreRetried, TearsLineOf};
+ghost use Rattle.cmd_ledgers.specs.Retry.{ResolvesOrStays, KeepsInStep, CountsFailures, AtSomeTime, ChangesBy, ChangesNothing, EndsAtHoldout, EndsRetrying, IsTried, AreRetried, TearsLineOf};
 ghost use Rattle.cmd_ledgers.specs.RetryAt.{EndsRetriedLedger, EndsRetriedWhole, RetriesAt, RetriesLedger, RetriesWhole};
 
 use crate::going_on::{cut_off, load_held, open_held};
@@ -17,6 +17,7 @@ use crate::ledger_report::report_board;
 use crate::report_form::AsLines;
 use cert::{Decided, Decider, Judged, Record};
 use cmd_options::{Ended, LedgerFile, Outcome, told};
+use cmd_progress::Progress;
 use files::{Files, Opened, ledger_at, lock_ledger};
 use ledger::{Board, Left, Taken};
 use machine_text::Table;
@@ -28,11 +29,12 @@ use wire::LedgerOut;
 /// holdouts in the order of their texts, and appends a line for each that is resolved. Then it prints the report:
 /// accepted where that says complete. What becomes open stays open. The ledger is locked before it is read; where
 /// another process has it locked, nothing is done. What ends the command early is said on `faults`.
-pub fn cmd_retry<H: Files, D: Decider, W: Write, E: Write>(
+pub fn cmd_retry<H: Files, D: Decider, P: Progress, W: Write, E: Write>(
     alloc: Global,
     file: LedgerFile<'_>,
     host: &mut H,
     decider: &mut D,
+    progress: &mut P,
     answers: &mut W,
     faults: &mut E,
 ) -> Outcome
@@ -43,15 +45,19 @@ pub fn cmd_retry<H: Files, D: Decider, W: Write, E: Write>(
         (W.contents answers.old) (W.contents answers.new) ended
         × EndsTold ended (E.contents faults.old) (E.contents faults.new) result }
 {
-    told(retry_at(alloc, file, host, decider, answers), faults)
+    told(
+        retry_at(alloc, file, host, decider, progress, answers),
+        faults,
+    )
 }
 
 /// Retries as `cmd_retry` does, but answers what ends it early, and doesn't say it.
-pub fn retry_at<H: Files, D: Decider, W: Write>(
+pub fn retry_at<H: Files, D: Decider, P: Progress, W: Write>(
     alloc: Global,
     file: LedgerFile<'_>,
     host: &mut H,
     decider: &mut D,
+    progress: &mut P,
     answers: &mut W,
 ) -> Result<Outcome, Ended>
     ensures others { IsKeptBut (H.tells_same host.old) file.entry.path.now (H.holds host.old) (H.holds host.new) }
@@ -62,18 +68,19 @@ pub fn retry_at<H: Files, D: Decider, W: Write>(
     let _lock = lock_ledger(host, file.path)?;
     let held = open_held(host, file.path)?;
     let mut ledger = ledger_at(host, &file)?;
-    let retried = retry_ledger(alloc, held, &mut ledger, decider, answers);
+    let retried = retry_ledger(alloc, held, &mut ledger, decider, progress, answers);
     host.close(file.path, ledger);
     retried
 }
 
 /// Cuts a ledger to the bytes that are kept of it, tries its holdouts as `retry_holdouts` does, and prints the report.
 /// `held` reads what the ledger holds. What ends it early leaves in the ledger what was resolved before.
-pub fn retry_ledger<F: Read + Drop, L: LedgerOut, D: Decider, W: Write>(
+pub fn retry_ledger<F: Read + Drop, L: LedgerOut, D: Decider, P: Progress, W: Write>(
     alloc: Global,
     held: Opened<F>,
     ledger: &mut L,
     decider: &mut D,
+    progress: &mut P,
     answers: &mut W,
 ) -> Result<Outcome, Ended>
     ensures retries { IfOk result (RetriesLedger (AtSomeTime D D.answers) (F.remaining held.reader) held.length
@@ -83,16 +90,19 @@ pub fn retry_ledger<F: Read + Drop, L: LedgerOut, D: Decider, W: Write>(
         (L.text ledger.old) (L.text ledger.new) (W.contents answers.old) (W.contents answers.new)) }
 {
     let (mut board, left) = load_held(alloc, held)?;
-    retry_loaded(alloc, &mut board, &left, ledger, decider, answers)
+    retry_loaded(
+        alloc, &mut board, &left, ledger, decider, progress, answers,
+    )
 }
 
 // Retries from the board of the ledger, and what of it wasn't kept.
-fn retry_loaded<L: LedgerOut, D: Decider, W: Write>(
+fn retry_loaded<L: LedgerOut, D: Decider, P: Progress, W: Write>(
     alloc: Global,
     board: &mut Board,
     left: &Left,
     ledger: &mut L,
     decider: &mut D,
+    progress: &mut P,
     answers: &mut W,
 ) -> Result<Outcome, Ended>
     ensures retries { IfOk result (RetriesWhole (AtSomeTime D D.answers) board.old left.now (L.text ledger.old)
@@ -102,31 +112,30 @@ fn retry_loaded<L: LedgerOut, D: Decider, W: Write>(
         (L.text ledger.old) (L.text ledger.new) (W.contents answers.old) (W.contents answers.new)) }
 {
     cut_off(left, ledger)?;
-    retry_holdouts(alloc, board, decider, ledger)?;
+    retry_holdouts(alloc, board, decider, ledger, progress)?;
     report_board(alloc, &AsLines, board, &Left::Nothing, answers)
 }
 
 /// Asks the decider for each holdout of a board, in the order of their texts. What it answers is taken where
 /// it has a verdict, and its line is appended to the ledger in the ledger's version, so that a ledger that was in step
 /// with the board is so again; else nothing changes. What ends it early, refused memory or a ledger that failed, leaves
-/// what was resolved before.
-pub fn retry_holdouts<L: LedgerOut, D: Decider>(
+/// what was resolved before. It is told of the board before each of them.
+pub fn retry_holdouts<L: LedgerOut, D: Decider, P: Progress>(
     alloc: Global,
     board: &mut Board,
     decider: &mut D,
     ledger: &mut L,
+    progress: &mut P,
 ) -> Result<(), Ended>
-    ensures root { board.new.root ≡ board.old.root }
-    ensures format { board.new.format ≡ board.old.format }
-    ensures step { OnOk result (StaysInStep board.old (L.text ledger.old) board.new (L.text ledger.new)) }
+    ensures kept { KeepsInStep result board.old (L.text ledger.old) board.new (L.text ledger.new) }
     ensures order { OnOk result (AreRetried (AtSomeTime D D.answers) board.old (L.text ledger.old) board.new
         (L.text ledger.new)) }
     ensures ended { IfErr result (λ e. EndsRetrying (AtSomeTime D D.answers) e board.old
         (L.text ledger.old) board.new (L.text ledger.new)) }
-    ensures works { OnOk result (L.failures ledger.new ≡ L.failures ledger.old) }
-    ensures failed { result ≡ Err Ended.Ledger → L.failures ledger.old ≢ L.failures ledger.new }
+    ensures counted { CountsFailures result (L.failures ledger.old) (L.failures ledger.new) }
 {
     for table in board.holdouts()? {
+        progress.tell(board);
         retry(alloc, board, decider, &table, ledger)?;
     }
     Ok(())
@@ -141,16 +150,13 @@ fn retry<L: LedgerOut, D: Decider>(
     ledger: &mut L,
 ) -> Result<(), Ended>
     requires { IsHoldout board.old.records t.now }
-    ensures root { board.new.root ≡ board.old.root }
-    ensures format { board.new.format ≡ board.old.format }
-    ensures step { OnOk result (StaysInStep board.old (L.text ledger.old) board.new (L.text ledger.new)) }
+    ensures kept { KeepsInStep result board.old (L.text ledger.old) board.new (L.text ledger.new) }
     ensures tried { OnOk result (IsTried (AtSomeTime D D.answers) board.old.format t.now board.old.records
         (L.text ledger.old) board.new.records (L.text ledger.new)) }
     ensures ended { IfErr result (λ e. EndsAtHoldout
         (AtSomeTime D D.answers) board.old.format t.now e board.old.records (L.text ledger.old) board.new.records
         (L.text ledger.new)) }
-    ensures works { OnOk result (L.failures ledger.new ≡ L.failures ledger.old) }
-    ensures failed { result ≡ Err Ended.Ledger → L.failures ledger.old ≢ L.failures ledger.new }
+    ensures counted { CountsFailures result (L.failures ledger.old) (L.failures ledger.new) }
 {
     let Decided {
         record: made,
@@ -173,17 +179,14 @@ fn take<L: LedgerOut>(
 ) -> Result<(), Ended>
     requires holdout { IsHoldout board.old.records (recorded r.now).table }
     requires shown { IsShownBy (recorded r.now) judged }
-    ensures root { board.new.root ≡ board.old.root }
-    ensures format { board.new.format ≡ board.old.format }
-    ensures step { OnOk result (StaysInStep board.old (L.text ledger.old) board.new (L.text ledger.new)) }
+    ensures kept { KeepsInStep result board.old (L.text ledger.old) board.new (L.text ledger.new) }
     ensures changes { OnOk result (ChangesBy board.old.format (ending_by (recorded r.now).claim) (recorded r.now)
         board.old.records (L.text ledger.old) board.new.records (L.text ledger.new)) }
     ensures ended { IfErr result (λ e. ChangesNothing e board.old.records (L.text ledger.old) board.new.records
         (L.text ledger.new)
         ⊎ TearsLineOf board.old.format (recorded r.now) e board.old.records (L.text ledger.old) board.new.records
         (L.text ledger.new)) }
-    ensures works { OnOk result (L.failures ledger.new ≡ L.failures ledger.old) }
-    ensures failed { result ≡ Err Ended.Ledger → L.failures ledger.old ≢ L.failures ledger.new }
+    ensures counted { CountsFailures result (L.failures ledger.old) (L.failures ledger.new) }
 {
     // The proof needs that it is a board.
     let _ = board.root();

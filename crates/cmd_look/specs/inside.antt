@@ -18,6 +18,11 @@ abbrev pub IsPicked : Contents → Packed → Option Contents → Type 0
 IsPicked part root None = part.root ≢ root
 IsPicked part root (Some picked) = (picked ≡ part) × (part.root ≡ root)
 
+-- tables are looked up in the same folder, by what is found there, and with the same trunk
+abbrev pub IsSamePlace : {S : Type 0} → S → List ℕ → Contents → S → List ℕ → Contents → Type 0
+IsSamePlace {S} parts folder trunk new_parts new_folder new_trunk =
+    (new_parts ≡ parts) × (new_folder ≡ folder) × (new_trunk ≡ trunk)
+
 -- the part of its root, where one is kept
 abbrev pub KeepsPart : Findings → List ℕ → Option Contents → Type 0
 KeepsPart Finds folder None = ⊤

@@ -4,7 +4,7 @@ ghost use Rattle.cmd_parts.specs.Join.{FailsFile};
 ghost use Rattle.cmd_taking.specs.Taken.{lent};
 ghost use Rattle.cmd_look.specs.Tables.{SaysOfLine};
 ghost use Rattle.cmd_look.specs.Look.{SaysByFolder, SaysByPart};
-ghost use Rattle.cmd_look.specs.inside.{HoldsPartOf, IsFound, KeepsPart};
+ghost use Rattle.cmd_look.specs.inside.{HoldsPartOf, IsFound, IsSamePlace, KeepsPart};
 
 use crate::answer::{append_by_board, append_unknown, refuse, table_of_line};
 use crate::extension::root_above;
@@ -48,9 +48,8 @@ impl<S: PartLedgers> Sayer for FolderLook<'_, S> {
 impl<S: PartLedgers> FolderLook<'_, S> {
     // Appends what is said to a line, without a newline.
     fn answer(&mut self, line: Option<&[u8]>, out: &mut Vec<u8>) -> Result<Outcome, Ended>
-        ensures parts { OnOk result (self.new.parts.now ≡ self.old.parts.now) }
-        ensures folder { OnOk result (self.new.folder.now ≡ self.old.folder.now) }
-        ensures trunk { OnOk result (self.new.trunk ≡ self.old.trunk) }
+        ensures place { OnOk result (IsSamePlace self.old.parts.now self.old.folder.now self.old.trunk
+            self.new.parts.now self.new.folder.now self.new.trunk) }
         ensures kept { OnOk result (KeepsPart (S.finds self.old.parts.now) self.old.folder.now self.old.part
             → KeepsPart (S.finds self.old.parts.now) self.old.folder.now self.new.part) }
         ensures says { IfOk result (λ o. (answer : List ℕ)
@@ -67,9 +66,8 @@ impl<S: PartLedgers> FolderLook<'_, S> {
 
     // Appends what is said of a table.
     fn look_up(&mut self, t: &Table, out: &mut Vec<u8>) -> Result<Outcome, Ended>
-        ensures parts { OnOk result (self.new.parts.now ≡ self.old.parts.now) }
-        ensures folder { OnOk result (self.new.folder.now ≡ self.old.folder.now) }
-        ensures trunk { OnOk result (self.new.trunk ≡ self.old.trunk) }
+        ensures place { OnOk result (IsSamePlace self.old.parts.now self.old.folder.now self.old.trunk
+            self.new.parts.now self.new.folder.now self.new.trunk) }
         ensures kept { OnOk result (KeepsPart (S.finds self.old.parts.now) self.old.folder.now self.old.part
             → KeepsPart (S.finds self.old.parts.now) self.old.folder.now self.new.part) }
         ensures says { IfOk result (λ o. (answer : List ℕ)
@@ -92,9 +90,8 @@ impl<S: PartLedgers> FolderLook<'_, S> {
 
     // Makes the part of a root the one that is kept, or none where it can't be had.
     fn bring(&mut self, root: &Table) -> Result<(), Ended>
-        ensures parts { OnOk result (self.new.parts.now ≡ self.old.parts.now) }
-        ensures folder { OnOk result (self.new.folder.now ≡ self.old.folder.now) }
-        ensures trunk { OnOk result (self.new.trunk ≡ self.old.trunk) }
+        ensures place { OnOk result (IsSamePlace self.old.parts.now self.old.folder.now self.old.trunk
+            self.new.parts.now self.new.folder.now self.new.trunk) }
         ensures found { OnOk result (KeepsPart (S.finds self.old.parts.now) self.old.folder.now self.old.part
             → IsFound (S.finds self.old.parts.now) self.old.folder.now root.now self.new.part) }
         ensures err { IfErr result FailsFile }

@@ -7,7 +7,7 @@ use crate::faults::by_turn;
 use crate::station::Station;
 use cmd_ledgers::keep_answer;
 use cmd_options::Ended;
-use files::Progress;
+use cmd_progress::Progress;
 use lease_core::Coordinator;
 use ledger::Status;
 use wire::{Event, LedgerOut, Node, TurnFault};
@@ -29,7 +29,7 @@ pub(crate) fn run_rounds<N: Node, Y: Courier, L: LedgerOut, P: Progress>(
         }
         run_round(coordinator, ledger, stations, round)?;
         if let Some(board) = coordinator.board() {
-            progress.tell(&board.tally());
+            progress.tell(board);
         }
     }
     Ok(())

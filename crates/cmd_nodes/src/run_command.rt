@@ -14,7 +14,8 @@ use crate::rounds::run_rounds;
 use crate::station::Station;
 use cmd_ledgers::ReportForm;
 use cmd_options::{Beginning, Ended, Outcome, Settling, told};
-use files::{Opened, Telling, TimedProgress};
+use cmd_progress::{Telling, TimedProgress};
+use files::Opened;
 use lease_core::Coordinator;
 use std::alloc::Global;
 use std::io::{self, Read, Write};
@@ -145,8 +146,7 @@ fn run_workers<P, L: LedgerOut, N: Node + Drop, C: Clock, Y: Couriers, E: Write>
 {
     let settling = run.settling;
     let mut stations = stations(alloc, run.workers, couriers)?;
-    let records = recorded(node);
-    let mut progress = TimedProgress::new(alloc, run.telling, records, run.clock, faults);
+    let mut progress = TimedProgress::new(alloc, run.telling, run.clock, faults);
     let ended = run_rounds(node, ledger, &mut stations, settling.rounds, &mut progress);
     progress.end();
     ended
@@ -167,15 +167,4 @@ fn stations<N: Node + Drop, Y: Couriers>(
         }
     }
     Ok(stations)
-}
-
-// How many records a coordinator begins with.
-fn recorded(node: &Coordinator) -> u64 {
-    match node.board() {
-        Some(board) => {
-            let tally = board.tally();
-            tally.nodes.saturating_sub(tally.open_count)
-        }
-        None => 0,
-    }
 }

@@ -48,14 +48,14 @@ pub record IsDrawing (d : Drawing) : Type 0 where
 
 abbrev pub AreWithinRanges : Options → Type 0
 AreWithinRanges (Check checking) = Unit {0}
-AreWithinRanges (Decide search json) = IsWithinRange search
+AreWithinRanges (Decide deciding) = IsWithinRange deciding.search
 AreWithinRanges (Explain json) = Unit {0}
 AreWithinRanges (Show showing) = 1 ≤ showing.every
 AreWithinRanges (Tables listing) = listing.steps ≤ 100000000
 AreWithinRanges (Coord beginning ledger) = IsBeginning beginning
 AreWithinRanges (Run settling ledger) = IsSettling settling
 AreWithinRanges (Loop settling ledger) = IsSettling settling × (settling.lose ≡ None)
-AreWithinRanges (Retry file search) = IsWithinRange search
+AreWithinRanges (Retry retrying) = IsWithinRange retrying.search
 AreWithinRanges (Merge merging) = Unit {0}
 AreWithinRanges (Carry carrying) = Unit {0}
 AreWithinRanges (Mend mending) = Unit {0}
@@ -64,5 +64,5 @@ AreWithinRanges (Settle s) = IsWithinRange s.search
 AreWithinRanges (Join joining) = Unit {0}
 AreWithinRanges (Look looking) = Unit {0}
 AreWithinRanges (Draw drawing) = IsDrawing drawing
-AreWithinRanges (Page file) = Unit {0}
-AreWithinRanges (Report file json why) = Unit {0}
+AreWithinRanges (Page paging) = Unit {0}
+AreWithinRanges (Report reporting) = Unit {0}

@@ -3,6 +3,7 @@ ghost use Rattle.std.specs.Prelude.{◌≡◌};
 ghost use Rattle.cmd_options.specs.Kinds.{kind_label};
 
 use crate::number::Number;
+use crate::ranged;
 
 /// The letters of the kinds, in the order in which a page has them (`kind_letters`).
 pub const LETTERS: &[u8] = b"HCTBNFAWPU";
@@ -28,27 +29,27 @@ pub fn kind_label(letter: u8) -> &'static [u8]
 
 /// How far backward reasoning goes.
 #[rattlefmt::skip]
-pub const DEPTH: Number = Number { name: "depth", value: Some("D"), least: 0, most: 1_000, default: Some("20"),
+pub const DEPTH: Number = ranged! { name: "depth", value: Some("D"), least: 0, most: 1_000, default: Some("20"),
     help: "Greatest depth of backward reasoning" };
 
 /// How wide the words in closed position sets are.
 #[rattlefmt::skip]
-pub const GRAM: Number = Number { name: "gram", value: Some("G"), least: 0, most: 8, default: Some("3"),
-    help: "Greatest width of words in closed position sets; 0 for none" };
+pub const GRAM: Number = ranged! { name: "gram", value: Some("G"), least: 0, most: 8, default: Some("3"),
+    help: "Greatest width of words in closed position sets (n-gram CPS); 0 for none" };
 
 /// How large automata are.
 #[rattlefmt::skip]
-pub const FAR: Number = Number { name: "far", value: Some("M"), least: 0, most: 16, default: Some("2"),
+pub const FAR: Number = ranged! { name: "far", value: Some("M"), least: 0, most: 16, default: Some("2"),
     help: "Most states of a first automaton, in finite automata reduction; 0 for none" };
 
 /// How many stages of automata from words there are.
 #[rattlefmt::skip]
-pub const WORDS: Number = Number { name: "words", value: Some("W"), least: 0, most: 11, default: Some("0"),
-    help: "Stages of automata that are made from words, in finite automata reduction; 0 for none" };
+pub const WORDS: Number = ranged! { name: "words", value: Some("W"), least: 0, most: 11, default: Some("0"),
+    help: "Stages of automata from words, in finite automata reduction; 0 for none" };
 
 /// How many counts automata that count have.
 #[rattlefmt::skip]
-pub const COUNT: Number = Number { name: "count", value: Some("C"), least: 0, most: 12, default: Some("0"),
+pub const COUNT: Number = ranged! { name: "count", value: Some("C"), least: 0, most: 12, default: Some("0"),
     help: "Most counts of counted automata; 0 for none" };
 
 /// The options that say how far the certificates of a kind are searched for, in the order in which help has them.

@@ -13,6 +13,33 @@ pub struct Number {
     pub most: u64,
     /// The number where none is given.
     pub default: Option<&'static str>,
-    /// What help says of it.
+    /// What help says of it, its range too.
     pub help: &'static str,
+}
+
+/// A `Number` whose help ends with its range: ` [1 to 7]`, or ` [from 1 on]` where the most is `u64::MAX`.
+#[macro_export]
+macro_rules! ranged {
+    (name: $name:literal, value: $value:expr, least: $least:literal, most: u64::MAX, default: $default:expr,
+        help: $help:literal) => {
+        $crate::Number {
+            name: $name,
+            value: $value,
+            least: $least,
+            most: u64::MAX,
+            default: $default,
+            help: concat!($help, " [from ", $least, " on]"),
+        }
+    };
+    (name: $name:literal, value: $value:expr, least: $least:literal, most: $most:literal, default: $default:expr,
+        help: $help:literal) => {
+        $crate::Number {
+            name: $name,
+            value: $value,
+            least: $least,
+            most: $most,
+            default: $default,
+            help: concat!($help, " [", $least, " to ", $most, "]"),
+        }
+    };
 }

@@ -7,13 +7,9 @@ use crate::ledger_file::LedgerFile;
 pub enum Options<'a> {
     /// `bb check [--json] [--why]`
     Check(Checking),
-    /// `bb decide [--json] [--known FILE] [--steps K] [--depth D] [--gram G] [--far M] [--words W] [--count C] [--hard]`
-    Decide {
-        /// How far certificates are searched for.
-        search: Search<'a>,
-        /// Whether each answer is an object of JSON.
-        json: bool,
-    },
+    /// `bb decide [--json] [--progress] [--known FILE] [--steps K] [--depth D] [--gram G] [--far M] [--words W]
+    /// [--count C] [--hard]`
+    Decide(Deciding<'a>),
     /// `bb explain [--json]`
     Explain {
         /// Whether each answer is an object of JSON.
@@ -31,7 +27,7 @@ pub enum Options<'a> {
         ledger: Option<LedgerFile<'a>>,
     },
     /// `bb run N [--workers W] [--ledger FILE] [--sync] [--lose K] [--rounds R] [--json] [--progress]` and the
-    /// options of `decide`
+    /// options of a search of `decide`
     Run {
         /// How the tree is settled.
         settling: Settling<'a>,
@@ -45,43 +41,28 @@ pub enum Options<'a> {
         /// The coordinator's ledger; none where it is kept in memory.
         ledger: Option<LedgerFile<'a>>,
     },
-    /// `bb retry FILE [--sync]` and the options of `decide`
-    Retry {
-        /// The ledger.
-        file: LedgerFile<'a>,
-        /// How far certificates are searched for.
-        search: Search<'a>,
-    },
+    /// `bb retry FILE [--sync] [--progress]` and the options of a search of `decide`
+    Retry(Retrying<'a>),
     /// `bb merge A B OUT`
     Merge(Merging<'a>),
     /// `bb carry IN OUT`
     Carry(Carrying<'a>),
     /// `bb mend IN OUT`
     Mend(Mending<'a>),
-    /// `bb split N DIR [--filled D]` and the options of `decide`
+    /// `bb split N DIR [--filled D] [--progress]` and the options of a search of `decide`
     Split(Splitting<'a>),
-    /// `bb settle FILE [--sync] [--progress]` and the options of `decide`
+    /// `bb settle FILE [--sync] [--progress]` and the options of a search of `decide`
     Settle(LedgerSettling<'a>),
-    /// `bb join DIR [--json] [--ledger OUT]`
+    /// `bb join DIR [--json] [--ledger OUT] [--progress]`
     Join(Joining<'a>),
     /// `bb look PATH [--holdouts]`
     Look(Looking<'a>),
     /// `bb draw [--from T] [--steps K] [--rows R] [--width W] [--columns C] [--square P] [--height H] [--png] [--out DIR]`
     Draw(Drawing<'a>),
-    /// `bb page FILE`
-    Page {
-        /// The path of a ledger or of a folder of a trunk and its parts, or `-`: a ledger is read from standard input.
-        file: &'a str,
-    },
-    /// `bb report FILE [--json] [--why]`
-    Report {
-        /// The ledger's path, or `-`: it is read from standard input.
-        file: &'a str,
-        /// Whether to print the report as JSON.
-        json: bool,
-        /// Whether to say why the first line that isn't kept isn't.
-        why: bool,
-    },
+    /// `bb page FILE [--title TITLE]` or `bb page --table [--title TITLE]`
+    Page(Paging<'a>),
+    /// `bb report FILE [--json] [--why] [--progress]`
+    Report(Reporting<'a>),
 }
 
 /// What is said of records that are judged.
@@ -91,6 +72,51 @@ pub struct Checking {
     pub json: bool,
     /// Whether it is said in words what is right where a record is wrong.
     pub why: bool,
+}
+
+/// How records of given tables are looked for.
+#[derive(Clone, Copy, Debug, PartialEq, Eq)]
+pub struct Deciding<'a> {
+    /// How far certificates are searched for.
+    pub search: Search<'a>,
+    /// Whether each answer is an object of JSON.
+    pub json: bool,
+    /// Whether to tell on standard error, while it goes on, how far it is.
+    pub progress: bool,
+}
+
+/// How the holdouts of a ledger are tried again.
+#[derive(Clone, Copy, Debug, PartialEq, Eq)]
+pub struct Retrying<'a> {
+    /// The ledger.
+    pub file: LedgerFile<'a>,
+    /// How far certificates are searched for.
+    pub search: Search<'a>,
+    /// Whether to tell on standard error, while it goes on, how far it is.
+    pub progress: bool,
+}
+
+/// How the report of a ledger is printed.
+#[derive(Clone, Copy, Debug, PartialEq, Eq)]
+pub struct Reporting<'a> {
+    /// The ledger's path, or `-`: it is read from standard input.
+    pub file: &'a str,
+    /// Whether to print the report as JSON.
+    pub json: bool,
+    /// Whether to say why the first line that isn't kept isn't.
+    pub why: bool,
+    /// Whether to tell on standard error, while it goes on, how far it is.
+    pub progress: bool,
+}
+
+/// Which page is made.
+#[derive(Clone, Copy, Debug, PartialEq, Eq)]
+pub struct Paging<'a> {
+    /// The path of a ledger or of a folder of a trunk and its parts, or `-`: a ledger is read from standard input. None where
+    /// records are, a line each, and the page is of these.
+    pub ledger: Option<&'a str>,
+    /// What the page is called; none where it is called by what it is of.
+    pub title: Option<&'a str>,
 }
 
 /// Which configurations of a table's run are shown, and how.
@@ -168,6 +194,8 @@ pub struct Splitting<'a> {
     pub filled: u8,
     /// How far certificates are searched for in the trunk.
     pub search: Search<'a>,
+    /// Whether to tell on standard error, while it goes on, how far it is.
+    pub progress: bool,
 }
 
 /// What is said of a trunk and its parts together.
@@ -179,6 +207,8 @@ pub struct Joining<'a> {
     pub out: Option<&'a str>,
     /// Whether to print the report as JSON.
     pub json: bool,
+    /// Whether to tell on standard error, while it goes on, how far it is.
+    pub progress: bool,
 }
 
 /// Where tables are looked up.

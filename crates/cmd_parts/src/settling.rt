@@ -7,13 +7,13 @@ ghost use Rattle.ledger.specs.Contents.{IsOpenOn};
 ghost use Rattle.ledger.specs.Held.{IsFit};
 ghost use Rattle.ledger.specs.Tally.{AreAll};
 ghost use Rattle.wire.specs.Device.{IsBegun, grown};
-ghost use Rattle.cmd_ledgers.specs.Retry.{AtSomeTime, StaysInStep, gained};
+ghost use Rattle.cmd_ledgers.specs.Retry.{AtSomeTime, CountsFailures, StaysInStep, gained};
 ghost use Rattle.cmd_parts.specs.Settling.{ComesFirst, EndsAtOne, EndsSettling, IsOpenBelow, SettlesMany, SettlesOne, filled_count, with_last};
 ghost use Rattle.cmd_parts.specs.inside.{is_below};
 
 use cert::{Decided, Decider, Judged, Record};
 use cmd_options::Ended;
-use files::Progress;
+use cmd_progress::Progress;
 use kind_evidence::NoMemory;
 use ledger::{Board, Open, Taken};
 use machine_text::Table;
@@ -36,13 +36,12 @@ pub fn settle_board<L: LedgerOut, D: Decider, P: Progress>(
     ensures step { OnOk result (StaysInStep board.old (L.text ledger.old) board.new (L.text ledger.new)) }
     ensures ended { IfErr result (λ e. EndsSettling (AtSomeTime D D.answers) ComesFirst e board.old (L.text ledger.old)
         board.new (L.text ledger.new)) }
-    ensures works { OnOk result (L.failures ledger.new ≡ L.failures ledger.old) }
-    ensures failed { result ≡ Err Ended.Ledger → L.failures ledger.old ≢ L.failures ledger.new }
+    ensures counted { CountsFailures result (L.failures ledger.old) (L.failures ledger.new) }
 {
     let before = record_count(board);
     while let Some(t) = first_open(board) {
         settle(alloc, board, decider, &t, ledger)?;
-        progress.tell(&board.tally());
+        progress.tell(board);
     }
     Ok(record_count(board) - before)
 }
@@ -65,8 +64,7 @@ pub fn settle_below<L: LedgerOut, D: Decider, P: Progress>(
     ensures step { OnOk result (StaysInStep board.old (L.text ledger.old) board.new (L.text ledger.new)) }
     ensures ended { IfErr result (λ e. EndsSettling (AtSomeTime D D.answers) (IsOpenBelow limit) e board.old
         (L.text ledger.old) board.new (L.text ledger.new)) }
-    ensures works { OnOk result (L.failures ledger.new ≡ L.failures ledger.old) }
-    ensures failed { result ≡ Err Ended.Ledger → L.failures ledger.old ≢ L.failures ledger.new }
+    ensures counted { CountsFailures result (L.failures ledger.old) (L.failures ledger.new) }
 {
     let before = record_count(board);
     let mut due = open_below(alloc, board, limit)?;
@@ -95,12 +93,11 @@ fn settle_all<L: LedgerOut, D: Decider, P: Progress>(
     ensures step { OnOk result (StaysInStep board.old (L.text ledger.old) board.new (L.text ledger.new)) }
     ensures ended { IfErr result (λ e. EndsSettling (AtSomeTime D D.answers) (IsOpenBelow limit) e board.old
         (L.text ledger.old) board.new (L.text ledger.new)) }
-    ensures works { OnOk result (L.failures ledger.new ≡ L.failures ledger.old) }
-    ensures failed { result ≡ Err Ended.Ledger → L.failures ledger.old ≢ L.failures ledger.new }
+    ensures counted { CountsFailures result (L.failures ledger.old) (L.failures ledger.new) }
 {
     for t in due {
         settle(alloc, board, decider, t, ledger)?;
-        progress.tell(&board.tally());
+        progress.tell(board);
     }
     Ok(())
 }
@@ -165,8 +162,7 @@ fn settle<L: LedgerOut, D: Decider>(
     ensures step { OnOk result (StaysInStep board.old (L.text ledger.old) board.new (L.text ledger.new)) }
     ensures ended { IfErr result (λ e. EndsAtOne (AtSomeTime D D.answers) (λ b q. q ≡ t.now) e board.old
         (L.text ledger.old) board.new (L.text ledger.new)) }
-    ensures works { OnOk result (L.failures ledger.new ≡ L.failures ledger.old) }
-    ensures failed { result ≡ Err Ended.Ledger → L.failures ledger.old ≢ L.failures ledger.new }
+    ensures counted { CountsFailures result (L.failures ledger.old) (L.failures ledger.new) }
 {
     // The proof needs that it is a board.
     let _ = board.root();

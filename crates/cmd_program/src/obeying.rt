@@ -7,6 +7,7 @@ use crate::named::Named;
 use cmd_dispatch::execute;
 use cmd_nodes::Sockets;
 use cmd_options::{Ended, NoMemory, Options, Outcome};
+use cmd_progress::ReadingTold;
 use cmd_words::{LineFault, options};
 use files::Disk;
 use std::alloc::Global;
@@ -15,7 +16,7 @@ use std::time::Clock;
 
 /// Does what the words ask for, the program's name first, and answers how it ended. Each end is an
 /// `Outcome`: a line that can't be read or is refused too, and a stream that fails.
-pub fn obey<S: Disk + Clock + Sockets, R: Read, W: Write, E: Write>(
+pub fn obey<S: Disk + Clock + Sockets + ReadingTold, R: Read, W: Write, E: Write>(
     alloc: Global,
     words: Result<Vec<String>, LineFault>,
     system: &S,
@@ -43,7 +44,7 @@ pub fn obey<S: Disk + Clock + Sockets, R: Read, W: Write, E: Write>(
 }
 
 // Does what is asked for; which of the streams fails is remembered.
-fn carried_out<S: Disk + Clock + Sockets, R: Read, W: Write, E: Write>(
+fn carried_out<S: Disk + Clock + Sockets + ReadingTold, R: Read, W: Write, E: Write>(
     alloc: Global,
     asked: Options<'_>,
     system: &S,

@@ -1,4 +1,4 @@
-//! Where the files stand that a command line names, and how far a long run is.
+//! Where the files stand that a command line names.
 //!
 //! `Files` is what commands see of them. `OnDisk` is that over the calls of a file system, `MemFiles` over files in memory.
 //! `specs/Paths` has what is known to stand at paths and how that changes, `specs/Opened` what is read of it,
@@ -17,9 +17,6 @@ mod memory;
 mod on_disk;
 mod opened;
 mod place;
-mod progress;
-mod telling;
-mod timed;
 mod writing;
 
 pub use cmd_options::ended_by;
@@ -33,7 +30,4 @@ pub use memory::MemFiles;
 pub use on_disk::OnDisk;
 pub use opened::{Held, Opened, held_at};
 pub use place::Place;
-pub use progress::{Progress, Silent};
-pub use telling::Telling;
-pub use timed::TimedProgress;
 pub use writing::{ledger_at, made_for, put_at};

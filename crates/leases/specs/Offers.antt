@@ -1,19 +1,27 @@
 -- What becomes of the leases when a record is offered to the board.
-use Rattle.std.specs.Prelude.{◌≡◌, ◌⊎◌, ℕ, ◌+◌, ◌==◌, if◌then◌else◌, List, Option, Some, None, Result, Ok, Err, map}
+use Rattle.std.specs.Prelude.{◌≡◌, ◌⊎◌, ℕ, ◌+◌, ◌==◌, if◌then◌else◌, List, ◌++◌, Option, Some, None, Result, Ok, Err, map}
 use Rattle.machine_text.specs.Packed.{Packed}
 use Rattle.ledger.specs.declared.taken.Taken.{Taken}
 use Rattle.ledger.specs.declared.taken.Taken.TheVariants.{New, Known, Settled}
 use Rattle.cert.specs.Claim.{Recorded}
-use Rattle.ledger.specs.Offers.{OfferGives}
+use Rattle.ledger.specs.LedgerText.{gained_line}
+use Rattle.ledger.specs.Offers.{KeepsTree, OfferGives}
 use Rattle.ledger.specs.declared.faults.OfferFault.{OfferFault}
 use Rattle.ledger.specs.declared.faults.OfferFault.TheVariants.{NoMemory}
 use Rattle.leases.specs.Limits.{lease_time}
-use Rattle.ledger.specs.Contents.{IsOpenOn}
+use Rattle.ledger.specs.Contents.{Contents, IsOpenOn}
 use Rattle.leases.specs.Leases.{Lease, Leased, lease_of}
 
 -- what becomes of the records: as the board says of an offer; or memory was refused, and they stay as they were
 abbrev pub BoardGives : Packed → List Recorded → Recorded → Result Taken OfferFault → List Recorded → Type 0
 BoardGives root old r result new = OfferGives root old r result new ⊎ ((result ≡ Err NoMemory) × (new ≡ old))
+
+-- an offer to the board, or memory refused before it, together with the line that a ledger gains by it, and what stays
+pub record OffersBoardLine (r : Recorded) (result : Result Taken OfferFault) (old : Contents) (text : List ℕ)
+    (new : Contents) (new_text : List ℕ) : Type 0 where
+  pub gives : BoardGives old.root old.records r result new.records
+  pub line : new_text ≡ text ++ gained_line old.format r result
+  pub kept : KeepsTree old new
 
 -- the lease of this number is renewed: its deadline counts from the moment
 abbrev pub renewed : Option ℕ → ℕ → List Lease → List Lease

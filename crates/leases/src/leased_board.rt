@@ -1,5 +1,5 @@
 // A board, and the leases on its open tables.
-ghost use Rattle.std.specs.Prelude.{◌≡◌, ◌==◌, ◌++◌, IfOk, OnOk, OnErr, max, true};
+ghost use Rattle.std.specs.Prelude.{◌≡◌, ◌==◌, IfOk, OnOk, OnErr, max, true};
 
 use crate::board_calls::{has_open, open_tables};
 use crate::children::free_children;
@@ -49,9 +49,7 @@ impl Model for LeasedBoard {
 impl LeasedBoard {
     ghost use Rattle.std.specs.Prelude.{Some, None};
     ghost use Rattle.cert.specs.Kinds.{recorded};
-    ghost use Rattle.ledger.specs.LedgerText.{gained_line};
-    ghost use Rattle.ledger.specs.Offers.{KeepsTree};
-    ghost use Rattle.leases.specs.Offers.{BoardGives, LeasesAfter};
+    ghost use Rattle.leases.specs.Offers.{LeasesAfter, OffersBoardLine};
     ghost use Rattle.leases.specs.Asks.{Asks};
     ghost use Rattle.leases.specs.Leases.{AreLeases, SomeEnds, no_leases, is_live, lease_of, ended, ticked, IsDone};
 
@@ -178,10 +176,7 @@ impl LeasedBoard {
     ///
     /// Room for the children is made before the board is asked, so `NoMemory` may come for any record.
     pub fn offer_line(&mut self, r: &Record, out: &mut Vec<u8>) -> Result<Taken, OfferFault>
-        ensures gives { BoardGives self.old.board.root self.old.board.records (recorded r.now) result
-            self.new.board.records }
-        ensures line { out.new.items ≡ out.old.items ++ gained_line self.old.board.format (recorded r.now) result }
-        ensures kept { KeepsTree self.old.board self.new.board }
+        ensures offer { OffersBoardLine (recorded r.now) result self.old.board out.old.items self.new.board out.new.items }
         ensures leases { LeasesAfter r.now.table result self.old self.new }
     {
         match lease_of(&self.came_under, &self.live, None, &r.table) {
@@ -193,10 +188,7 @@ impl LeasedBoard {
     // Offers a record of a table that is under none.
     fn offer_free(&mut self, r: &Record, out: &mut Vec<u8>) -> Result<Taken, OfferFault>
         requires { lease_of self.old.leases r.now.table ≡ None }
-        ensures gives { BoardGives self.old.board.root self.old.board.records (recorded r.now) result
-            self.new.board.records }
-        ensures line { out.new.items ≡ out.old.items ++ gained_line self.old.board.format (recorded r.now) result }
-        ensures kept { KeepsTree self.old.board self.new.board }
+        ensures offer { OffersBoardLine (recorded r.now) result self.old.board out.old.items self.new.board out.new.items }
         ensures leases { LeasesAfter r.now.table result self.old self.new }
     {
         child_is_table();
@@ -226,10 +218,7 @@ impl LeasedBoard {
         out: &mut Vec<u8>,
     ) -> Result<Taken, OfferFault>
         requires { lease_of self.old.leases r.now.table ≡ Some number }
-        ensures gives { BoardGives self.old.board.root self.old.board.records (recorded r.now) result
-            self.new.board.records }
-        ensures line { out.new.items ≡ out.old.items ++ gained_line self.old.board.format (recorded r.now) result }
-        ensures kept { KeepsTree self.old.board self.new.board }
+        ensures offer { OffersBoardLine (recorded r.now) result self.old.board out.old.items self.new.board out.new.items }
         ensures leases { LeasesAfter r.now.table result self.old self.new }
     {
         child_is_table();

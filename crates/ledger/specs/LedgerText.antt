@@ -10,7 +10,7 @@ use Rattle.ledger.specs.Versions.{header_words, ledger_record, ledger_line}
 use Rattle.ledger.specs.Contents.{Contents}
 use Rattle.text.specs.Lines.{joined, HasNoNewline, BeginsWithLine}
 use Rattle.ledger.specs.Held.{IsFit, Resolves, resolved}
-use Rattle.ledger.specs.Offers.{OfferGives}
+use Rattle.ledger.specs.Offers.{KeepsTree, OfferGives}
 use Rattle.ledger.specs.declared.format.Format.{Format}
 use Rattle.ledger.specs.declared.format.Format.TheVariants.{Two}
 use Rattle.ledger.specs.declared.taken.Taken.{Taken}
@@ -163,3 +163,11 @@ gained_line format r (Ok New) = ledger_line format (with_score r) ++ (10 ∷ [])
 gained_line format r (Ok Settled) = ledger_line format (with_score r) ++ (10 ∷ [])
 gained_line format r (Ok Known) = []
 gained_line format r (Err fault) = []
+
+-- an offer together with the line that a ledger gains by it: what it does to the records, the line behind a text, and
+-- what stays
+pub record OffersLine (r : Recorded) (result : Result Taken OfferFault) (old : Contents) (text : List ℕ) (new : Contents)
+    (new_text : List ℕ) : Type 0 where
+  pub gives : OfferGives old.root old.records r result new.records
+  pub line : new_text ≡ text ++ gained_line old.format r result
+  pub kept : KeepsTree old new

@@ -1,9 +1,9 @@
 // An offer together with the line that a ledger gains by it.
-ghost use Rattle.std.specs.Prelude.{◌≡◌, ◌++◌, IfErr, IfOk, take, length};
+ghost use Rattle.std.specs.Prelude.{◌≡◌};
 ghost use Rattle.cert.specs.Certified.{IsCertified, IsShownBy};
 ghost use Rattle.cert.specs.Kinds.{recorded};
-ghost use Rattle.ledger.specs.Offers.{IsJudged, KeepsTree, OfferGives};
-ghost use Rattle.ledger.specs.LedgerText.{gained_line};
+ghost use Rattle.ledger.specs.LedgerText.{OffersLine};
+ghost use Rattle.ledger.specs.Offers.{IsJudged};
 ghost use Rattle.ledger.specs.inside.Places.{IsFooting, IsJudgedSo};
 
 use crate::board::Board;
@@ -19,9 +19,7 @@ impl Board {
     /// with the score in version 2, whether the record came with it or not. The line is there before the board changes, so
     /// nothing is refused once it has. Else `out` is as it was.
     pub fn offer_line(&mut self, r: &Record, out: &mut Vec<u8>) -> Result<Taken, OfferFault>
-        ensures gives { OfferGives self.old.root self.old.records (recorded r.now) result self.new.records }
-        ensures line { out.new.items ≡ out.old.items ++ gained_line self.old.format (recorded r.now) result }
-        ensures kept { KeepsTree self.old self.new }
+        ensures { OffersLine (recorded r.now) result self.old out.old.items self.new out.new.items }
     {
         self.put_line(r, Judging::Due, out)
     }
@@ -33,9 +31,7 @@ impl Board {
         out: &mut Vec<u8>,
     ) -> Result<Taken, OfferFault>
         requires { IsCertified (recorded r.now) }
-        ensures gives { OfferGives self.old.root self.old.records (recorded r.now) result self.new.records }
-        ensures line { out.new.items ≡ out.old.items ++ gained_line self.old.format (recorded r.now) result }
-        ensures kept { KeepsTree self.old self.new }
+        ensures { OffersLine (recorded r.now) result self.old out.old.items self.new out.new.items }
     {
         self.put_line(r, Judging::Done, out)
     }
@@ -49,9 +45,7 @@ impl Board {
         out: &mut Vec<u8>,
     ) -> Result<Taken, OfferFault>
         requires { IsShownBy (recorded r.now) judged }
-        ensures gives { OfferGives self.old.root self.old.records (recorded r.now) result self.new.records }
-        ensures line { out.new.items ≡ out.old.items ++ gained_line self.old.format (recorded r.now) result }
-        ensures kept { KeepsTree self.old self.new }
+        ensures { OffersLine (recorded r.now) result self.old out.old.items self.new out.new.items }
     {
         self.put_line(r, Judging::Seen(judged), out)
     }
@@ -64,9 +58,7 @@ impl Board {
         out: &mut Vec<u8>,
     ) -> Result<Taken, OfferFault>
         requires { IsJudgedSo judging (recorded r.now) }
-        ensures gives { OfferGives self.old.root self.old.records (recorded r.now) result self.new.records }
-        ensures line { out.new.items ≡ out.old.items ++ gained_line self.old.format (recorded r.now) result }
-        ensures kept { KeepsTree self.old self.new }
+        ensures { OffersLine (recorded r.now) result self.old out.old.items self.new out.new.items }
     {
         if r.table.states() != self.root().states() {
             return Err(OfferFault::WrongSize);
@@ -93,9 +85,7 @@ impl Board {
         requires size { r.now.table.states ≡ self.old.root.states }
         requires footing { IsFooting self.old.root self.old.records (recorded r.now) footing }
         requires judged { IsJudgedSo (Judging.Seen judged) (recorded r.now) }
-        ensures gives { OfferGives self.old.root self.old.records (recorded r.now) result self.new.records }
-        ensures line { out.new.items ≡ out.old.items ++ gained_line self.old.format (recorded r.now) result }
-        ensures kept { KeepsTree self.old self.new }
+        ensures { OffersLine (recorded r.now) result self.old out.old.items self.new out.new.items }
     {
         let len = out.len();
         let Ok(()) = append_scored(self.version(), r, judged.verdict, out) else {

@@ -5,6 +5,7 @@ use crate::sheets::{Page, Sheet, sheet_at, synced};
 use crate::sockets::Socket;
 use cmd_nodes::Sockets;
 use cmd_options::Ended;
+use cmd_progress::{ReadingTold, Telling};
 use files::{Disk, DiskFile};
 use std::io::{self, ErrorKind};
 use std::time::{Clock, Duration};
@@ -182,6 +183,12 @@ fn renamed(room: &HostRoom<'_>, from: &str, to: &str) -> io::Result<()> {
     }
     let text = format!(in room.alloc; "{from} {to}")?;
     room.note("put", &text)
+}
+
+impl ReadingTold for CaseHost<'_> {
+    fn tell_reading(&self, _telling: Telling, _path: &str) {}
+
+    fn end_reading(&self) {}
 }
 
 impl Clock for CaseHost<'_> {

@@ -1,5 +1,5 @@
 -- What a turn does: a piece comes over the link, and the lines that it ends are handed to the node.
-use Rattle.std.specs.Prelude.{◌≡◌, ◌⊎◌, ℕ, List, [], ◌∷◌, Some, None, Result, Ok, Err, map}
+use Rattle.std.specs.Prelude.{◌≡◌, ◌≢◌, ◌⊎◌, ℕ, List, [], ◌∷◌, Option, Some, None, IfSome, Result, Ok, Err, map}
 use Rattle.wire.specs.declared.turned.Turn.{Turn}
 use Rattle.wire.specs.declared.turned.Turn.TheVariants.{More, End}
 use Rattle.wire.specs.declared.turned.TurnFault.{TurnFault}
@@ -51,3 +51,36 @@ Turned answers is_stopped old lines piece (Err LedgerFault) left new =
 Turned answers is_stopped old lines piece (Err (Node fault)) left new =
     IsBroken answers is_stopped old (fed lines piece) (Node fault) left new
 Turned answers is_stopped old lines piece (Err NoMemory) left new = IsUntouched old lines left new
+
+-- how the taking of a piece ended: all lines that then were whole were handed over; or it ended at one of them; or the
+-- lines of the piece weren't taken
+abbrev pub TakesPiece : {N : Type 0} → Answering N → (N → Type 0) → Scene N → Stream → List ℕ
+    → Result (Unit {0}) TurnFault → Stream → Scene N → Type 0
+TakesPiece answers is_stopped old lines piece (Ok done) left new =
+    Handed answers old (events_of (fed lines piece).waiting) [] new
+    × (left ≡ record { waiting = []; rest = (fed lines piece).rest })
+TakesPiece answers is_stopped old lines piece (Err LinkFault) left new =
+    IsBroken answers is_stopped old (fed lines piece) LinkFault left new
+TakesPiece answers is_stopped old lines piece (Err LedgerFault) left new =
+    IsBroken answers is_stopped old (fed lines piece) LedgerFault left new
+TakesPiece answers is_stopped old lines piece (Err (Node fault)) left new =
+    IsBroken answers is_stopped old (fed lines piece) (Node fault) left new
+TakesPiece answers is_stopped old lines piece (Err NoMemory) left new = IsUntouched old lines left new
+
+-- a node with the ledger behind it, and how many failures of its link and of that ledger were counted
+pub record Devices (N : Type 0) : Type 0 where
+  pub node : N
+  pub text : Option (List ℕ)
+  pub link_failures : ℕ
+  pub ledger_failures : ℕ
+
+abbrev pub devices : {N : Type 0} → N → Option (List ℕ) → ℕ → ℕ → Devices N
+devices node text link ledger = record { node = node; text = text; link_failures = link; ledger_failures = ledger }
+
+-- however it ended: a device that is said to have failed has counted that; and a ledger that was in step with the node is
+-- so still, unless it failed
+pub record EndsInStep {N T : Type 0} (in_step : N → List ℕ → Type 0) (result : Result T TurnFault)
+    (old new : Devices N) : Type 0 where
+  pub step : result ≢ Err LedgerFault → IfSome old.text (in_step old.node) → IfSome new.text (in_step new.node)
+  pub link : result ≡ Err LinkFault → old.link_failures ≢ new.link_failures
+  pub ledger : result ≡ Err LedgerFault → old.ledger_failures ≢ new.ledger_failures

@@ -1,9 +1,9 @@
 // The engine: what runs a node over its link and its ledger.
-ghost use Rattle.std.specs.Prelude.{◌≡◌, ◌≢◌, ◌≤◌, ℕ, List, [], length, Ok, Err, OnOk, OnErr, IfErr, IfSome};
+ghost use Rattle.std.specs.Prelude.{◌≡◌, ◌≢◌, ◌≤◌, ℕ, List, [], length, Ok, OnOk, OnErr, IfErr, IfSome};
 ghost use Rattle.wire.specs.Fulfilled.{kept_text, IsPartlyKept, scene};
 ghost use Rattle.wire.specs.Device.{preceded};
 ghost use Rattle.wire.specs.Limits.{piece_byte_limit};
-ghost use Rattle.wire.specs.Turned.{Turned};
+ghost use Rattle.wire.specs.Turned.{EndsInStep, TakesPiece, Turned, devices};
 
 use crate::fulfilling::keep;
 use crate::handing::hand_all;
@@ -29,6 +29,27 @@ pub fn begin<W: LedgerOut>(first: &Out, ledger: &mut W) -> Result<(), TurnFault>
     }
 }
 
+/// Takes the next piece of a stream, and hands each line that then is whole to the node, in order, a line that is too long
+/// as an empty frame. Each answer is fulfilled before the next line is handed over: first its ledger's part, whole, and
+/// then its frames are sent. Nothing is received over the link. What a fault leaves is as after one of `turn`.
+pub fn hand_piece<N: Node, L: Link, W: LedgerOut>(
+    node: &mut N,
+    lines: &mut Lines,
+    piece: &[u8],
+    link: &mut L,
+    ledger: &mut W,
+) -> Result<(), TurnFault>
+    ensures taken { TakesPiece N.answers N.is_stopped (scene node.old (W.text ledger.old) (L.sent link.old)) lines.old
+        piece.now result lines.new (scene node.new (W.text ledger.new) (L.sent link.new)) }
+    ensures ends { EndsInStep N.in_step result
+        (devices node.old (W.text ledger.old) (L.failures link.old) (W.failures ledger.old))
+        (devices node.new (W.text ledger.new) (L.failures link.new) (W.failures ledger.new)) }
+    ensures waiting { L.waiting link.new ≡ L.waiting link.old }
+{
+    lines.feed(piece)?;
+    hand_all(node, lines, link, ledger)
+}
+
 /// Receives once, at most `MAX_PIECE_BYTES` bytes, and hands each line that then is whole to the node, in
 /// order, a line that is too long as an empty frame. Each answer is fulfilled before the next line is
 /// handed over: first its ledger's part, whole, and then its frames are sent. `Turn::End` where no byte
@@ -49,18 +70,16 @@ pub fn turn<N: Node, L: Link, W: LedgerOut>(
         × (L.waiting link.old ≡ preceded piece (L.waiting link.new))
         × Turned N.answers N.is_stopped (scene node.old (W.text ledger.old) (L.sent link.old)) lines.old piece result
         lines.new (scene node.new (W.text ledger.new) (L.sent link.new)) }
-    ensures step { result ≢ Err TurnFault.LedgerFault → IfSome (W.text ledger.old) (N.in_step node.old)
-        → IfSome (W.text ledger.new) (N.in_step node.new) }
+    ensures ends { EndsInStep N.in_step result
+        (devices node.old (W.text ledger.old) (L.failures link.old) (W.failures ledger.old))
+        (devices node.new (W.text ledger.new) (L.failures link.new) (W.failures ledger.new)) }
     ensures end { result ≡ Ok Turn.End → IfSome (L.waiting link.new) (λ bytes. bytes ≡ []) }
-    ensures link { result ≡ Err TurnFault.LinkFault → L.failures link.old ≢ L.failures link.new }
-    ensures ledger { result ≡ Err TurnFault.LedgerFault → W.failures ledger.old ≢ W.failures ledger.new }
 {
     let mut piece = [0; MAX_PIECE_BYTES];
     let Ok(count) = link.receive(&mut piece) else {
         return Err(TurnFault::LinkFault);
     };
-    lines.feed(&piece[..count])?;
-    hand_all(node, lines, link, ledger)?;
+    hand_piece(node, lines, &piece[..count], link, ledger)?;
     if count == 0 {
         Ok(Turn::End)
     } else {

@@ -1,9 +1,9 @@
 // Handing lines to a node, and fulfilling out what it answers.
-ghost use Rattle.std.specs.Prelude.{◌≡◌, ◌≢◌, ◌∷◌, [], length, Ok, Err, IfErr, IfSome, OnOk};
+ghost use Rattle.std.specs.Prelude.{◌≡◌, ◌∷◌, [], length, Ok, IfErr, OnOk};
 ghost use Rattle.wire.specs.Fulfilled.{Faulted, Handed, kept_text, scene};
 ghost use Rattle.wire.specs.Device.{grown};
 ghost use Rattle.wire.specs.Lines.{known};
-ghost use Rattle.wire.specs.Turned.{IsBroken, event_of, events_of, frame_of};
+ghost use Rattle.wire.specs.Turned.{EndsInStep, IsBroken, devices, event_of, events_of, frame_of};
 ghost use Rattle.wire.specs.declared.node.Out.{Out as Answer};
 
 use crate::fulfilling::fulfil;
@@ -38,10 +38,9 @@ pub(crate) fn hand<N: Node, L: Link, W: LedgerOut>(
     ensures err { IfErr result (λ fault. Faulted N.answers N.is_stopped
         (scene node.old (W.text ledger.old) (L.sent link.old)) (event_of (known line)) fault
         (scene node.new (W.text ledger.new) (L.sent link.new))) }
-    ensures step { result ≢ Err TurnFault.LedgerFault → IfSome (W.text ledger.old) (N.in_step node.old)
-        → IfSome (W.text ledger.new) (N.in_step node.new) }
-    ensures link { result ≡ Err TurnFault.LinkFault → L.failures link.old ≢ L.failures link.new }
-    ensures ledger { result ≡ Err TurnFault.LedgerFault → W.failures ledger.old ≢ W.failures ledger.new }
+    ensures ends { EndsInStep N.in_step result
+        (devices node.old (W.text ledger.old) (L.failures link.old) (W.failures ledger.old))
+        (devices node.new (W.text ledger.new) (L.failures link.new) (W.failures ledger.new)) }
     ensures waiting { L.waiting link.new ≡ L.waiting link.old }
 {
     let out = node.on(Event::Frame(frame_of(&line)))?;
@@ -61,10 +60,9 @@ pub(crate) fn hand_all<N: Node, L: Link, W: LedgerOut>(
     ensures err { IfErr result (λ fault. IsBroken N.answers N.is_stopped
         (scene node.old (W.text ledger.old) (L.sent link.old)) lines.old fault lines.new
         (scene node.new (W.text ledger.new) (L.sent link.new))) }
-    ensures step { result ≢ Err TurnFault.LedgerFault → IfSome (W.text ledger.old) (N.in_step node.old)
-        → IfSome (W.text ledger.new) (N.in_step node.new) }
-    ensures link { result ≡ Err TurnFault.LinkFault → L.failures link.old ≢ L.failures link.new }
-    ensures ledger { result ≡ Err TurnFault.LedgerFault → W.failures ledger.old ≢ W.failures ledger.new }
+    ensures ends { EndsInStep N.in_step result
+        (devices node.old (W.text ledger.old) (L.failures link.old) (W.failures ledger.old))
+        (devices node.new (W.text ledger.new) (L.failures link.new) (W.failures ledger.new)) }
     ensures waiting { L.waiting link.new ≡ L.waiting link.old }
 {
     'lines: while let Some(line) = lines.next() {

@@ -5,8 +5,8 @@
 //! messages as nodes' rules speak of them, `specs/Grammar` the text of each.
 //!
 //! A [`Node`] answers events, and does nothing else: each answer says what is to be cut from its ledger,
-//! what to be appended, and which frames to be sent. `begin`, `fulfil` and `turn` fulfil answers, the ledger's
-//! part first; `specs/Fulfilled` and `specs/Turned` say what that means.
+//! what to be appended, and which frames to be sent. `begin`, `fulfil`, `hand_piece` and `turn` fulfil answers,
+//! the ledger's part first; `specs/Fulfilled` and `specs/Turned` say what that means.
 #![tactic(auto)]
 
 mod decoder;
@@ -31,7 +31,7 @@ mod turned;
 
 pub use decoder::decode;
 pub use encoder::encode;
-pub use engine::{begin, turn};
+pub use engine::{begin, hand_piece, turn};
 pub use fault::Fault;
 pub use fulfilling::{append_all, fulfil};
 pub use kind_evidence::NoMemory;

@@ -30,10 +30,10 @@ loop-table-preserved g c =
     let here : IsTried A format c.in-Some.table c.loop-table.board.records before c.retry.new.board.records (g.L.LedgerOut.text c.retry.new.ledger) =
     subst (λ (f : Format). IsTried A f c.in-Some.table c.loop-table.board.records before c.retry.new.board.records (g.L.LedgerOut.text c.retry.new.ledger)) was took in
     let (more, all_more, are_more) = one_tried (IsHoldout c.args.board.now.records) A format tried c.in-Some.table _ _ _ _ _ _ _ _ is all are here in (
-      c.retry.ensures.root ∙ root,
-      c.retry.ensures.format ∙ was,
-      λ s. c.in_ok-retry.ensures.step (step s),
-      c.in_ok-retry.ensures.works ∙ works,
+      c.retry.ensures.kept.root ∙ root,
+      c.retry.ensures.kept.format ∙ was,
+      λ s. c.in_ok-retry.ensures.kept.step (step s),
+      c.in_ok-retry.ensures.counted.works ∙ works,
       others_wait _ _ _ _ _ took.0 _ _ took.2 took.3 waiting,
       more,
       all_more,

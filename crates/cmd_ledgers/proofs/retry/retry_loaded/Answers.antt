@@ -14,9 +14,9 @@ returns-clause-retries g c =
     let cut = c.in_ok-cut_off.ensures.ok.0 in
     if_ok c.report_board.result (λ o reports. record {
       board = new;
-      root = c.retry_holdouts.ensures.root;
+      root = c.retry_holdouts.ensures.kept.root;
       tried = subst (λ (t : Option (List ℕ)). AreRetried A old t new after) cut c.in_ok-retry_holdouts.ensures.order;
-      step = λ reads. c.in_ok-retry_holdouts.ensures.step
+      step = λ reads. c.in_ok-retry_holdouts.ensures.kept.step
           (subst (λ (t : Option (List ℕ)). IfSome t (IsLedgerOf old)) (sym cut) (cut_reads old c.args.left.now (g.L.LedgerOut.text c.args.ledger.now) reads));
       reports = reports;
     }) c.report_board.ensures.ok

@@ -7,14 +7,18 @@ use Rattle.cmd_ledgers.proofs.Reports.{on_ok}
 use Rattle.cmd_ledgers.proofs.Retrying.{stays_by, one_line, changes_settled, torn_line}
 use Rattle.cmd_ledgers.proofs.retry.take.Goals as goal
 
-pub returns-clause-step : goal.returns-clause-step
-returns-clause-step g c =
+pub returns-clause-kept : goal.returns-clause-kept
+returns-clause-kept g c =
     let old = c.args.board.now in
     let r = recorded c.args.r.now in
     let before = g.L.LedgerOut.text c.args.ledger.now in
     let taken = subst (λ (b : Bool). ResolvesOrStays old.format r b old.records c.new-line.result.items c.gains.new.board.records c.gains.new.line.items) c.if-not-branch.false c.in_ok-gains.ensures.ok in
-    on_ok c.append_to.result (λ kept. stays_by old c.gains.new.board r before _ c.root.ensures.board (inr (taken.0, taken.1)) c.gains.ensures.root c.gains.ensures.format
-    (one_line old.format r _ _ before _ taken.2 c.new-line.ensures.items (kept ∙ ap (grown before) c.deref.ensures.value))) c.append_to.ensures.ok
+    record {
+      root = c.gains.ensures.root;
+      format = c.gains.ensures.format;
+      step = on_ok c.append_to.result (λ kept. stays_by old c.gains.new.board r before _ c.root.ensures.board (inr (taken.0, taken.1)) c.gains.ensures.root c.gains.ensures.format
+          (one_line old.format r _ _ before _ taken.2 c.new-line.ensures.items (kept ∙ ap (grown before) c.deref.ensures.value))) c.append_to.ensures.ok;
+    }
 
 pub returns-clause-changes : goal.returns-clause-changes
 returns-clause-changes g c =

@@ -43,7 +43,7 @@ loop-t-preserved g c =
       omega (arith, number, more),
       λ some. bound,
       λ s. c.in_ok-settle.ensures.step (step s),
-      c.in_ok-settle.ensures.works ∙ works,
+      c.in_ok-settle.ensures.counted.works ∙ works,
       λ k d low below. stays_below c.args.limit _ _ took.made (get_or ts k d) took.next.fit took.board
           (λ e. all_apart (IsOpenBelow c.args.limit c.args.board.now) ts c.requires i k d (omega (arith, low)) below (sym (get_or_read_under ts i _ c.t-item.result d c.t-item.is c.loop-t-test.true refl) ∙ (sym took.next.due ∙ sym e)))
           (due k d (omega (arith, low)) below),

@@ -36,6 +36,6 @@ rounds-preserved g c =
       many_more_settled A IsDue k j (k + j) _ _ _ _ _ _ refl many took.settled,
       omega (arith, number, took.records),
       λ s. took.step (step s),
-      took.works ∙ works,
+      took.counted.works ∙ works,
       c.in_ok-due-2.ensures,
     )

@@ -17,7 +17,7 @@ loop-t-preserved g c =
       one_more_settled A ComesFirst k (suc k) _ _ _ _ _ _ refl many one,
       omega (arith, number, more),
       λ s. c.in_ok-settle.ensures.step (step s),
-      c.in_ok-settle.ensures.works ∙ works,
+      c.in_ok-settle.ensures.counted.works ∙ works,
     )
 
 pub returns-in_err-settle-clause-ended : goal.returns-in_err-settle-clause-ended

@@ -11,7 +11,7 @@ loop-cell-init c = record {
       let within = c.start_of-start.ensures.high in
       let inside = c.requires.within in
       let before : c.args.first + k < c.args.reached.0 = c.start_of-start.ensures.before (c.args.first + k) (omega arith) (omega (arith, low)) in
-      ap (cell_of c.args.tape.now.ones) (place_more c.args.view.now c.args.first k) ∙ c.requires.before (c.args.first + k) before (omega (arith, low, within, inside))));
+      ap (cell_of c.args.tape.now.ones) (place_more c.args.view.now c.args.first k) ∙ c.requires.blank.before (c.args.first + k) before (omega (arith, low, within, inside))));
   few = omega arith;
   high = c.start_of-start.ensures.high;
 }
@@ -41,4 +41,4 @@ returns c =
     let on = c.loop-cell.auto.cell in
     c.loop-cell.invariant.is
     ∙ sym (ones_from_longer c.args.tape.now.ones (place v c.args.first) (c.loop-cell.cell - c.args.first) c.args.cells (omega arith) (λ k low less.
-    ap (cell_of c.args.tape.now.ones) (place_more v c.args.first k) ∙ c.requires.blank (c.args.first + k) (omega arith) (omega arith)))
+    ap (cell_of c.args.tape.now.ones) (place_more v c.args.first k) ∙ c.requires.blank.behind (c.args.first + k) (omega arith) (omega arith)))

@@ -23,7 +23,7 @@ lines-preserved g c =
           handed_more g.N.Node.answers old at new (events_of c.args.lines.now.waiting) (events_of c.next.new.self.waiting)
           (event_of (known c.in-Some.line)) done.0 before done.1 done.2 done.3;
       rest = sym (ap (λ (s : Stream). s.rest) took) ∙ c.lines.invariant.rest;
-      step = λ h. c.in_ok-hand.ensures.step (λ e. cc) (c.lines.invariant.step h);
+      step = λ h. c.in_ok-hand.ensures.ends.step (λ e. cc) (c.lines.invariant.step h);
       link_count = done.5 ∙ c.lines.invariant.link_count;
       ledger_count = done.4 ∙ c.lines.invariant.ledger_count;
       waiting = c.hand.ensures.waiting ∙ c.lines.invariant.waiting;

@@ -6,9 +6,9 @@ returns-clause-ok g c =
     let said = c.in_ok-outcome.ensures.says in (
       said.0 ++ 10 ∷ [],
       (
-        c.in_ok-outcome.ensures.parts,
-        c.in_ok-outcome.ensures.folder,
-        c.in_ok-outcome.ensures.trunk,
+        c.in_ok-outcome.ensures.place.0,
+        c.in_ok-outcome.ensures.place.1,
+        c.in_ok-outcome.ensures.place.2,
         λ kept. (c.in_ok-outcome.ensures.kept kept, (said.0, said.1 kept, refl)),
       ),
       c.in_ok-extend_from_slice.ensures.items ∙ (ap (λ (l : List ℕ). l ++ 10 ∷ []) said.2 ∙ append_assoc c.args.said.now.items said.0 (10 ∷ [])),

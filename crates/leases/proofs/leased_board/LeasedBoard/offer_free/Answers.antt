@@ -12,8 +12,12 @@ use Rattle.leases.proofs.OfferLaws.{KeepsAll}
 use Rattle.leases.proofs.Offering.{err_is, GoesOut, same_board, refused_board, holdout_not_open, free_new_leases, free_new_kept, free_new_takes, settled_leases, settled_kept, settled_takes}
 use Rattle.leases.proofs.leased_board.LeasedBoard.offer_free.Goals as goal
 
-pub returns-in_err-reserve-clause-gives : goal.returns-in_err-reserve-clause-gives
-returns-in_err-reserve-clause-gives c = inr (err_is c.from_residual.result NoMemory c.from_residual.ensures.1, ap (λ (s : Leased). s.board.records) c.self.view_is)
+pub returns-in_err-reserve-clause-offer : goal.returns-in_err-reserve-clause-offer
+returns-in_err-reserve-clause-offer c = record {
+  gives = inr (err_is c.from_residual.result NoMemory c.from_residual.ensures.1, ap (λ (s : Leased). s.board.records) c.self.view_is);
+  line = search rules;
+  kept = search rules;
+}
 
 pub invariant_of-self-in-Err : goal.invariant_of-self-in-Err
 invariant_of-self-in-Err c =

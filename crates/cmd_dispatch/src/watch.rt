@@ -1,0 +1,51 @@
+// How far the reading of files is, told on standard error.
+use cmd_progress::{ReadingProgress, Telling};
+use std::cell::RefCell;
+
+/// What is told of how much of some files is read, while that is asked for.
+#[derive(Drop)]
+pub struct Watch {
+    reading: RefCell<Option<ReadingProgress>>,
+}
+
+impl Watch {
+    /// Nothing is told.
+    pub fn new() -> Watch {
+        Watch {
+            reading: RefCell::new(None),
+        }
+    }
+
+    // It is told from now on, of so many bytes.
+    pub(crate) fn begin(&self, rt: &HostRuntime, telling: Telling, total: u64) {
+        if let Ok(mut reading) = self.reading.try_borrow_mut() {
+            *reading = Some(ReadingProgress::new(rt.alloc(), telling, total, rt));
+        }
+    }
+
+    // So many bytes more are read.
+    pub(crate) fn tell(&self, rt: &HostRuntime, count: usize) {
+        if let Ok(mut reading) = self.reading.try_borrow_mut()
+            && let Some(progress) = reading.as_mut()
+        {
+            progress.tell(count as u64, rt, &mut rt.stderr());
+        }
+    }
+
+    // What is told next has a line of its own.
+    pub(crate) fn pause(&self, rt: &HostRuntime) {
+        if let Ok(mut reading) = self.reading.try_borrow_mut()
+            && let Some(progress) = reading.as_mut()
+        {
+            progress.end(&mut rt.stderr());
+        }
+    }
+
+    // It isn't told any more.
+    pub(crate) fn end(&self, rt: &HostRuntime) {
+        self.pause(rt);
+        if let Ok(mut reading) = self.reading.try_borrow_mut() {
+            *reading = None;
+        }
+    }
+}

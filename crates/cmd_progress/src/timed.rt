@@ -1,0 +1,111 @@
+// How far a board is settled, told on a stream.
+use crate::progress::Progress;
+use crate::share::{WHOLE, open_weight};
+use crate::teller::{Teller, clock_text};
+use crate::telling::Telling;
+use ledger::Board;
+use std::alloc::{AllocError as NoMemory, Global};
+use std::io::Write;
+use std::time::Clock;
+
+/// Tells on a stream how far a tree is settled: how much of it by Knuth's estimate, how long the rest takes if it goes on so,
+/// and how many tables are recorded, open and holdouts.
+#[derive(Drop)]
+pub struct TimedProgress<'a, C, E> {
+    alloc: Global,
+    teller: Teller,
+    clock: &'a C,
+    stream: &'a mut E,
+    // what was told first
+    first: Option<Settled>,
+}
+
+// How much of a tree was settled, after so many milliseconds.
+#[derive(Clone, Copy)]
+struct Settled {
+    weight: u64,
+    milliseconds: u64,
+}
+
+impl<'a, C: Clock, E: Write> TimedProgress<'a, C, E> {
+    /// Progress from now on.
+    pub fn new(
+        alloc: Global,
+        telling: Telling,
+        clock: &'a C,
+        stream: &'a mut E,
+    ) -> TimedProgress<'a, C, E> {
+        TimedProgress {
+            alloc,
+            teller: Teller::new(alloc, telling, clock),
+            clock,
+            stream,
+            first: None,
+        }
+    }
+
+    /// Ends what was told, so that what comes next has a line of its own.
+    pub fn end(&mut self) {
+        self.teller.end(self.stream);
+    }
+
+    fn say(&mut self, board: &Board, milliseconds: u64) -> Result<(), NoMemory> {
+        let tally = board.tally();
+        let records = tally.nodes.saturating_sub(tally.open_count);
+        let weight = WHOLE.saturating_sub(open_weight(self.alloc, board)?);
+        let now = Settled {
+            weight,
+            milliseconds,
+        };
+        let share = share_text(self.alloc, weight, WHOLE)?;
+        let left = self.left_text(now)?;
+        let told = format!(in self.alloc;
+            "{share} of the tree{left}: {records} recorded, {} open, {} holdouts", tally.open_count, tally.holdouts
+        )?;
+        self.teller.say(self.stream, milliseconds, &told)
+    }
+
+    // How long the rest takes, if it goes on as since the first time; nothing where that isn't seen yet.
+    fn left_text(&mut self, now: Settled) -> Result<String, NoMemory> {
+        let first = match self.first {
+            Some(first) => first,
+            None => {
+                self.first = Some(now);
+                now
+            }
+        };
+        let gone = now.milliseconds.saturating_sub(first.milliseconds);
+        let gained = now.weight.saturating_sub(first.weight);
+        rest_text(self.alloc, gone, gained, WHOLE.saturating_sub(now.weight))
+    }
+}
+
+impl<'a, C: Clock, E: Write> Progress for TimedProgress<'a, C, E> {
+    fn tell(&mut self, board: &Board) {
+        if let Some(milliseconds) = self.teller.due(self.clock) {
+            // What can't be told for want of memory isn't.
+            let _ = self.say(board, milliseconds);
+        }
+    }
+}
+
+/// A part of some whole in per cent, with one digit behind the point.
+pub(crate) fn share_text(alloc: Global, part: u64, whole: u64) -> Result<String, NoMemory> {
+    let thousandths = u128::from(part) * 1_000 / u128::from(whole.max(1));
+    format!(in alloc; "{}.{}%", thousandths / 10, thousandths % 10)
+}
+
+/// How long what is left takes, where so much was gained in so many milliseconds; nothing where nothing was.
+pub(crate) fn rest_text(
+    alloc: Global,
+    milliseconds: u64,
+    gained: u64,
+    left: u64,
+) -> Result<String, NoMemory> {
+    if gained == 0 {
+        return Ok(String::new(alloc));
+    }
+    let rest = u128::from(milliseconds) * u128::from(left) / u128::from(gained) / 1_000;
+    let rest = clock_text(alloc, u64::try_from(rest).unwrap_or(u64::MAX))?;
+    format!(in alloc; ", {rest} left")
+}

@@ -16,7 +16,7 @@ impl Watch {
         }
     }
 
-    // It is told from now on, of so many bytes.
+    // How much of so many bytes is read is told from now on.
     pub(crate) fn begin(&self, rt: &HostRuntime, telling: Telling, total: u64) {
         if let Ok(mut reading) = self.reading.try_borrow_mut() {
             *reading = Some(ReadingProgress::new(rt.alloc(), telling, total, rt));
@@ -41,7 +41,7 @@ impl Watch {
         }
     }
 
-    // It isn't told any more.
+    // Nothing is told any more.
     pub(crate) fn end(&self, rt: &HostRuntime) {
         self.pause(rt);
         if let Ok(mut reading) = self.reading.try_borrow_mut() {

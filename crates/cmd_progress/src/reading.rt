@@ -11,7 +11,7 @@ pub trait ReadingTold {
     /// How much is read of the file at a path, or of the files in the folder there, is told so from now on.
     fn tell_reading(&self, telling: Telling, path: &str);
 
-    /// It isn't told any more.
+    /// Nothing is told any more.
     fn end_reading(&self);
 }
 

@@ -51,7 +51,7 @@ fn weight_of(runner: &mut Runner, root: &Table, t: &Table) -> Result<u64, NoMemo
         }
         runner.step()?;
     }
-    // It wasn't seen in which order the others came.
+    // In which order the others came wasn't seen.
     for _ in t.undefined_count()..way.undefined() {
         weight /= way.child_count();
     }

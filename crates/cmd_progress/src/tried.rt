@@ -9,7 +9,7 @@ use cert::{Decided, Decider, OwnedRecord};
 use kind_evidence::NoMemory;
 use ledger::Board;
 use machine_text::Table;
-use std::alloc::{AllocError, Global};
+use std::alloc::Global;
 use std::io::Write;
 use std::time::Clock;
 
@@ -58,7 +58,7 @@ impl<'a, D: Decider, C: Clock, E: Write> TriedDecider<'a, D, C, E> {
         }
     }
 
-    fn say(&mut self, milliseconds: u64) -> Result<(), AllocError> {
+    fn say(&mut self, milliseconds: u64) -> Result<(), NoMemory> {
         let decided = self.decided;
         let rate = u128::from(decided) * 1_000 / u128::from(milliseconds.max(1));
         let told = format!(in self.alloc; "{decided} tables decided, {rate} a second")?;
@@ -116,7 +116,7 @@ impl<'a, C: Clock, E: Write> TriedProgress<'a, C, E> {
         self.teller.end(self.stream);
     }
 
-    fn say(&mut self, holdouts: u64, milliseconds: u64) -> Result<(), AllocError> {
+    fn say(&mut self, holdouts: u64, milliseconds: u64) -> Result<(), NoMemory> {
         let (alloc, tried) = (self.alloc, self.tried);
         let share = share_text(alloc, tried, holdouts)?;
         let left = rest_text(alloc, milliseconds, tried, holdouts.saturating_sub(tried))?;

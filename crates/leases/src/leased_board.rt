@@ -176,7 +176,8 @@ impl LeasedBoard {
     ///
     /// Room for the children is made before the board is asked, so `NoMemory` may come for any record.
     pub fn offer_line(&mut self, r: &Record, out: &mut Vec<u8>) -> Result<Taken, OfferFault>
-        ensures offer { OffersBoardLine (recorded r.now) result self.old.board out.old.items self.new.board out.new.items }
+        ensures offer { OffersBoardLine (recorded r.now) result self.old.board out.old.items self.new.board
+            out.new.items }
         ensures leases { LeasesAfter r.now.table result self.old self.new }
     {
         match lease_of(&self.came_under, &self.live, None, &r.table) {
@@ -188,7 +189,8 @@ impl LeasedBoard {
     // Offers a record of a table that is under none.
     fn offer_free(&mut self, r: &Record, out: &mut Vec<u8>) -> Result<Taken, OfferFault>
         requires { lease_of self.old.leases r.now.table ≡ None }
-        ensures offer { OffersBoardLine (recorded r.now) result self.old.board out.old.items self.new.board out.new.items }
+        ensures offer { OffersBoardLine (recorded r.now) result self.old.board out.old.items self.new.board
+            out.new.items }
         ensures leases { LeasesAfter r.now.table result self.old self.new }
     {
         child_is_table();
@@ -218,7 +220,8 @@ impl LeasedBoard {
         out: &mut Vec<u8>,
     ) -> Result<Taken, OfferFault>
         requires { lease_of self.old.leases r.now.table ≡ Some number }
-        ensures offer { OffersBoardLine (recorded r.now) result self.old.board out.old.items self.new.board out.new.items }
+        ensures offer { OffersBoardLine (recorded r.now) result self.old.board out.old.items self.new.board
+            out.new.items }
         ensures leases { LeasesAfter r.now.table result self.old self.new }
     {
         child_is_table();

@@ -166,8 +166,8 @@ gained_line format r (Err fault) = []
 
 -- an offer together with the line that a ledger gains by it: what it does to the records, the line behind a text, and
 -- what stays
-pub record OffersLine (r : Recorded) (result : Result Taken OfferFault) (old : Contents) (text : List ℕ) (new : Contents)
-    (new_text : List ℕ) : Type 0 where
+pub record OffersLine (r : Recorded) (result : Result Taken OfferFault) (old : Contents) (text : List ℕ)
+    (new : Contents) (new_text : List ℕ) : Type 0 where
   pub gives : OfferGives old.root old.records r result new.records
   pub line : new_text ≡ text ++ gained_line old.format r result
   pub kept : KeepsTree old new

@@ -6,14 +6,14 @@ use Rattle.machine_text.specs.declared.transition.Entry.{Entry}
 use Rattle.law_turing.specs.Tape.{Tape, symbol_read, written, moved}
 use Rattle.law_turing.specs.Run.{start, next}
 use Rattle.law_turing.proofs.Heads.{head_reach}
-use Rattle.tape.specs.Sweeps.{HasRoom, swept, Sweeps}
+use Rattle.tape.specs.Sweeps.{swept, MaySweep, Sweeps}
 use Rattle.run.specs.Limits.{run_step_limit}
 use Rattle.run.specs.RunState.{RunState, OnRun}
 use Rattle.run.proofs.Standings.{stands_next, step_is}
 
 -- for as many moves as steps are left, the head stays within the limit
-pub has_room : (r : RunState) (k : ℕ) → OnRun r → r.steps < k → k ≤ run_step_limit → HasRoom (k - r.steps) r.config.tape
-has_room r k stands onward limit =
+pub may_sweep : (r : RunState) (k : ℕ) → OnRun r → r.steps < k → k ≤ run_step_limit → MaySweep (k - r.steps) r.config.tape
+may_sweep r k stands onward limit =
     let reach = head_reach (entry_of r.table) r.steps start r.config stands.at in
     record {
       some = omega (arith, onward);

@@ -12,7 +12,7 @@ swept d s t zero = t
 swept d s t (suc n) = moved (written (swept d s t n) s) d
 
 -- the head may be moved so many times to either side, once at least, and it is still within the limit
-pub record HasRoom (limit : ℕ) (t : Tape) : Type 0 where
+pub record MaySweep (limit : ℕ) (t : Tape) : Type 0 where
   pub some : 0 < limit
   pub left : IsWithinLimit (t.head -ℤ pos limit)
   pub right : IsWithinLimit (t.head +ℤ pos limit)

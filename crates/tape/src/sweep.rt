@@ -7,7 +7,7 @@ use crate::tape::{LAST_BIT, NoMemory, Tape, next_word};
 use machine_text::{Dir, Sym};
 
 impl Tape {
-    ghost use Rattle.tape.specs.Sweeps.{HasRoom, Sweeps, EndsSweep};
+    ghost use Rattle.tape.specs.Sweeps.{MaySweep, Sweeps, EndsSweep};
 
     /// Makes several moves to a side at once, at most `limit` of them: as long as the head reads what it read
     /// before the first one, it writes a symbol and moves. It answers how many moves it made, one at least; it
@@ -17,7 +17,7 @@ impl Tape {
     ///
     /// A machine that stays in its state on such cells does just these steps. Long runs consist of little else.
     pub fn sweep(&mut self, dir: Dir, s: Sym, limit: u64) -> Result<u64, NoMemory>
-        requires { HasRoom limit self.old }
+        requires { MaySweep limit self.old }
         ensures ok { IfOk result (λ count. Sweeps dir s self.old count self.new × count ≤ limit) }
         ensures all { IfOk result (λ count. EndsSweep dir limit self.old count self.new) }
         ensures err { OnErr result (self.new ≡ self.old) }
@@ -29,7 +29,7 @@ impl Tape {
     }
 
     fn sweep_left(&mut self, s: Sym, limit: u64) -> Result<u64, NoMemory>
-        requires { HasRoom limit self.old }
+        requires { MaySweep limit self.old }
         ensures ok { IfOk result (λ count. Sweeps L s self.old count self.new × count ≤ limit) }
         ensures all { IfOk result (λ count. EndsSweep L limit self.old count self.new) }
         ensures err { OnErr result (self.new ≡ self.old) }
@@ -48,7 +48,7 @@ impl Tape {
     }
 
     fn sweep_right(&mut self, s: Sym, limit: u64) -> Result<u64, NoMemory>
-        requires { HasRoom limit self.old }
+        requires { MaySweep limit self.old }
         ensures ok { IfOk result (λ count. Sweeps R s self.old count self.new × count ≤ limit) }
         ensures all { IfOk result (λ count. EndsSweep R limit self.old count self.new) }
         ensures err { OnErr result (self.new ≡ self.old) }

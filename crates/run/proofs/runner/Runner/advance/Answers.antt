@@ -1,13 +1,13 @@
 use Rattle.std.proofs.Common.{rules, ◌≤◌, ◌-◌, ◌≡◌, sym, ◌∙◌, ap, arith}
 use Rattle.machine_text.specs.Packed.{entry_of}
 use Rattle.run.specs.RunState.{RunState}
-use Rattle.run.proofs.Sweeping.{has_room, stands_swept}
+use Rattle.run.proofs.Sweeping.{may_sweep, stands_swept}
 use Rattle.run.proofs.runner.Runner.advance.Goals as goal
 
 pub sweep-requires : goal.sweep-requires
 sweep-requires c =
     let began : c.self.inside.steps ≡ c.args.self.now.steps = ap (λ (r : RunState). r.steps) c.self.view_is in
-    has_room _ c.args.k c.self.invariant (omega (arith, began, c.requires.onward)) c.requires.limit
+    may_sweep _ c.args.k c.self.invariant (omega (arith, began, c.requires.onward)) c.requires.limit
 
 -- a sweep is as many steps
 pub invariant_of-self-then-eq : goal.invariant_of-self-then-eq

@@ -17,6 +17,7 @@ mod named_socket;
 mod named_tables;
 mod nodes;
 mod pictures;
+mod shared_stream;
 mod stages;
 mod system;
 mod texts;

@@ -1,13 +1,20 @@
 // `bb check` and `bb decide`.
 use crate::any_finder::decider_for;
 use crate::call::Call;
+use crate::shared_stream::SharedStream;
+use cert::Decider;
 use cmd_explain::check_why_for;
+use cmd_json::{check_json_for, decide_json_for};
 use cmd_lines::{Reader, check_for, decide_for};
-use cmd_options::{Checking, Ended, Outcome, Search};
+use cmd_options::{Checking, Deciding, Ended, Outcome};
+use cmd_progress::{Telling, TriedDecider};
 use files::Disk;
+use std::alloc::Global;
+use std::cell::RefCell;
 use std::io::{Read, Write};
+use std::time::Clock;
 
-// `bb check`, with `--why` or without.
+// `bb check`, with `--json` or `--why` or without.
 pub(crate) fn check<S: Disk, R: Read, W: Write, E: Write>(
     call: Call<'_, S, R, W, E>,
     checking: Checking,
@@ -20,16 +27,19 @@ pub(crate) fn check<S: Disk, R: Read, W: Write, E: Write>(
         faults,
         ..
     } = call;
+    if checking.json {
+        return check_json_for(alloc, checking.why, input, answers);
+    }
     if checking.why {
         return check_why_for(alloc, input, answers, faults);
     }
     check_for(alloc, reader_of(system), input, answers, faults)
 }
 
-// `bb decide`.
-pub(crate) fn decide<S: Disk, R: Read, W: Write, E: Write>(
+// `bb decide`; how many tables are decided is told on `faults`, where that is wanted.
+pub(crate) fn decide<S: Disk + Clock, R: Read, W: Write, E: Write>(
     call: Call<'_, S, R, W, E>,
-    search: &Search<'_>,
+    deciding: &Deciding<'_>,
 ) -> Result<Outcome, Ended> {
     let Call {
         alloc,
@@ -39,9 +49,38 @@ pub(crate) fn decide<S: Disk, R: Read, W: Write, E: Write>(
         answers,
         faults,
     } = call;
-    let mut decider = decider_for(alloc, known, search)?;
-    let reader = reader_of(system);
-    decide_for(alloc, reader, &mut decider, input, answers, faults)
+    let mut decider = decider_for(alloc, known, &deciding.search)?;
+    let telling = Telling::of(deciding.progress, system.tells_terminal());
+    let stream = RefCell::new(faults);
+    let mut progress = SharedStream { stream: &stream };
+    let mut told = TriedDecider::new(alloc, &mut decider, telling, system, &mut progress);
+    let ended = decided(
+        alloc,
+        deciding,
+        reader_of(system),
+        &mut told,
+        input,
+        answers,
+        &mut SharedStream { stream: &stream },
+    );
+    told.end();
+    ended
+}
+
+// Decides, with `--json` or without.
+fn decided<D: Decider, R: Read, W: Write, E: Write>(
+    alloc: Global,
+    deciding: &Deciding<'_>,
+    reader: Reader,
+    decider: &mut D,
+    input: &mut R,
+    answers: &mut W,
+    faults: &mut E,
+) -> Result<Outcome, Ended> {
+    if deciding.json {
+        return decide_json_for(alloc, decider, input, answers);
+    }
+    decide_for(alloc, reader, decider, input, answers, faults)
 }
 
 // Who reads what is said on standard error.

@@ -1,0 +1,228 @@
+#!/usr/bin/env python3
+"""The ways of a new user, on the built program in an empty folder: stress/user.py [PROGRAM].
+
+README's first steps (packaging/first_steps); the help of each command that README's table has, long and short; a list
+as people keep it, with CR LF, comments, CSV, links, blank and doubled lines, through `bb tables`, `bb decide --hard`
+and `bb check`, each of its lines accounted for; answers of which only the beginning is read; wrong command lines; a
+file given where lines are read, and lines where a file is. What has to come is from README, docs/FORMATS.md,
+docs/TOUR.md and docs/FIVE.md. Prints what differs, and how much was tried; ends with 1 where anything differs.
+"""
+import os
+import re
+import subprocess
+import sys
+import tempfile
+
+TOP = os.path.dirname(os.path.dirname(os.path.abspath(__file__)))
+sys.path.insert(0, os.path.join(TOP, "bench"))
+from program import PROGRAM  # noqa: E402
+
+WIDEST = 120
+# Enough answers that a pipe doesn't hold them.
+MANY = 20_000
+
+# Each line of a list, and the tables in it, as they are printed.
+LIST = [
+    ("# Machines that I was told of", []),
+    ("", []),
+    ("https://bbchallenge.org/1RB1LB_1LA---", ["1RB1LB_1LA---"]),
+    ("id,machine,said", []),
+    ("1,1RB1RC_1LB1LA_---0RB,never", ["1RB1RC_1LB1LA_---0RB"]),
+    ('2,"1RB---_1LB0RC_1LC1LA","halts, it seems"', ["1RB---_1LB0RC_1LC1LA"]),
+    ("1RB1LB_1LA---   # once more", ["1RB1LB_1LA---"]),
+    ("   0RB---_0LA---\t", ["0RB---_0LA---"]),
+    ("", []),
+    ("1RB1LB_1LA1RZ", ["1RB1LB_1LA---"]),
+    ("1rb1lb_1la---", []),
+    ("0RB---_0LA--- 1RB---_0RB1RB", ["0RB---_0LA---", "1RB---_0RB1RB"]),
+    ("1RB1LC_1RC1RB_1RD0LE_1LA1LD_1RH0LA H 47176870 4098", ["1RB1LC_1RC1RB_1RD0LE_1LA1LD_---0LA"]),
+    ("1RB1LB_1LA", []),
+]
+# What `bb check` has to say of the record that is found for each: the champions, and three that never halt.
+VERDICTS = {
+    "1RB1LB_1LA---": "halts 6 ones 4",
+    "1RB1RC_1LB1LA_---0RB": "never",
+    "1RB---_1LB0RC_1LC1LA": "halts 21 ones 5",
+    "0RB---_0LA---": "never",
+    "1RB---_0RB1RB": "never",
+    "1RB1LC_1RC1RB_1RD0LE_1LA1LD_---0LA": "halts 47176870 ones 4098",
+}
+
+# Command lines that are wrong, and what has to stand in what is said of each.
+WRONG = [
+    ("", "Usage:"),
+    ("chek", "'check'"),
+    ("--verbose", "--verbose"),
+    ("run", "<N>"),
+    ("run three", "three"),
+    ("run 0", "1..=7"),
+    ("run 8", "1..=7"),
+    ("run 3 4", "4"),
+    ("run 3 --ledger", "--ledger"),
+    ("run 3 --sync", "--ledger"),
+    ("run 3 --hard --far 3", "--far"),
+    ("run three.ledger", "--ledger"),
+    ("run 3 --far 17", "0..=16"),
+    ("decide --steps 1e6", "1e6"),
+    ("decide --steps 1,000", "1,000"),
+    ("decide --known -", "--known"),
+    ("decide --gram 9", "0..=8"),
+    ("draw --rows 0", "1..=10000"),
+    ("draw --png --height 9", "--height"),
+    ("split two 3", "two"),
+    ("split 2 two --filled 15", "0..=14"),
+    ("merge a b", "<OUT>"),
+    ("join - --ledger one", "--ledger"),
+    ("report a b", "b"),
+    ("look", "<PATH>"),
+]
+# Commands that read lines, and those that read a ledger.
+OF_LINES = ["check", "decide", "explain", "show", "tables", "draw"]
+OF_LEDGERS = ["report", "page", "retry", "settle", "look", "mend"]
+
+
+class Tries:
+    """What was tried in a folder with the program as `bb`, and what differed."""
+
+    def __init__(self, program, folder):
+        self.folder, self.count, self.found = folder, 0, []
+        programs = os.path.join(folder, "bin")
+        os.mkdir(programs)
+        os.symlink(program, os.path.join(programs, "bb"))
+        self.here = os.path.join(folder, "here")
+        os.mkdir(self.here)
+        self.environment = {**os.environ, "PATH": f"{programs}:{os.environ['PATH']}", "LC_ALL": "C"}
+
+    def run(self, command, given=""):
+        """What a line of the shell makes of this standard input."""
+        self.count += 1
+        given = given if isinstance(given, bytes) else given.encode()
+        done = subprocess.run(["sh", "-c", command], cwd=self.here, env=self.environment, input=given, capture_output=True, check=False)
+        return done.returncode, done.stdout.decode(), done.stderr.decode()
+
+    def expect(self, holds, text):
+        if not holds:
+            self.found.append(text)
+
+    def write(self, name, text):
+        with open(os.path.join(self.here, name), "wb") as file:
+            file.write(text.encode())
+
+
+def first_steps(tries):
+    tries.count += 1
+    steps = os.path.join(TOP, "packaging", "first_steps")
+    done = subprocess.run([steps, os.path.join(tries.folder, "bin")], capture_output=True, text=True, check=False)
+    tries.expect(done.returncode == 0, done.stderr.strip())
+
+
+def commands():
+    """The commands of README's table."""
+    with open(os.path.join(TOP, "README.md"), encoding="utf-8") as file:
+        part = file.read().split("\n## Commands\n")[1].split("\n## ")[0]
+    rows = [line.split("|")[1] for line in part.split("\n") if line.startswith("| `bb ")]
+    return sorted({name for row in rows for name in re.findall(r"`bb ([a-z]+)", row)})
+
+
+def helps(tries):
+    _, top, _ = tries.run("bb --help")
+    listed = re.findall(r"^  ([a-z]+)  ", top, re.MULTILINE)
+    tries.expect(sorted({*listed} - {"help"}) == commands(), f"bb --help has {listed}, README {commands()}")
+    asked = [("--help", ""), ("-h", ""), ("help", "")]
+    asked += [(words, name) for name in commands() for words in (f"{name} --help", f"{name} -h", f"help {name}")]
+    wide = set()
+    for words, name in asked:
+        status, said, faults = tries.run(f"bb {words}")
+        tries.expect((status, faults) == (0, ""), f"bb {words}: {status}, {faults!r}")
+        tries.expect(re.search(rf"^Usage: \S+ {name}\b", said, re.MULTILINE) or not name, f"bb {words}: no usage of {name}")
+        for line in {line for line in said.split("\n") if len(line) > WIDEST} - wide:
+            wide.add(line)
+            tries.expect(False, f"bb {words}: {len(line)} columns: {line!r}")
+    status, said, faults = tries.run("bb --version")
+    tries.expect(status == 0 and faults == "" and re.fullmatch(r"bb \d+\.\d+\.\d+, .*\n", said), f"bb --version: {status} {said!r} {faults!r}")
+
+
+def lists(tries):
+    text = b"\xef\xbb\xbf" + "".join(line + "\r\n" for line, _ in LIST).encode()
+    tables = [table for _, found in LIST for table in found]
+    firsts = list(dict.fromkeys(tables))
+    status, said, faults = tries.run("bb tables", text)
+    without, doubles = sum(not found for _, found in LIST), len(tables) - len(firsts)
+    tries.expect(status == 0, f"bb tables: {status}")
+    tries.expect(said == "".join(table + "\n" for table in firsts), f"bb tables: {said!r}, not {firsts}")
+    tries.expect(faults == f"passed over: lines without a table {without}, doubles {doubles}\n", f"bb tables: {faults!r}")
+    status, said, faults = tries.run("bb tables 2> passed | bb decide --hard", text)
+    tries.expect((status, faults) == (0, ""), f"bb tables | bb decide --hard: {status}, {faults!r}")
+    tries.expect([line.split(" ")[0] for line in said.splitlines()] == firsts, f"bb decide --hard: the records are not of {firsts}: {said!r}")
+    status, said, faults = tries.run("bb check", said)
+    right = "".join(f"{table} {VERDICTS[table]}\n" for table in firsts)
+    tries.expect((status, said, faults) == (0, right, ""), f"bb check of what was found: {status}, {said!r}, {faults!r}")
+    # Without `bb tables` no line is a table alone, and each has its answer all the same.
+    status, said, faults = tries.run("bb decide --hard", text)
+    refused = sum(line.startswith("refused 301 ") for line in said.splitlines())
+    tries.expect((status, refused, faults) == (1, len(LIST), ""), f"bb decide --hard of the whole list: {status}, {refused} refused, {faults!r}")
+
+
+def beginnings(tries):
+    """Answers of which only the beginning is read: it comes, and nobody complains."""
+    with open(os.path.join(tries.here, "many"), "w", encoding="ascii") as file:
+        file.write("1RB1LB_1LA---\n" * MANY)
+    with open(os.path.join(tries.here, "records"), "w", encoding="ascii") as file:
+        file.write("1RB1LB_1LA--- H 6 4\n" * MANY)
+    ledger = os.path.join(TOP, "examples", "three-states.ledger")
+    for command, first in [
+        ("bb decide < many", "1RB1LB_1LA--- H 6 4"),
+        ("bb check < records", "1RB1LB_1LA--- halts 6 ones 4"),
+        ("bb explain < records", "1RB1LB_1LA--- halts 6 ones 4"),
+        ("bb show < many", "1RB1LB_1LA---"),
+        (f"bb report {ledger}", "root ------_------_------"),
+        ("bb run 3 --far 3", "root ------_------_------"),
+        (f"bb page {ledger}", "<!DOCTYPE html>"),
+        (f"cut -d' ' -f1 {ledger} | bb tables", "------_------_------"),
+    ]:
+        _, said, faults = tries.run(f"{command} | head -n 1")
+        tries.expect(said.rstrip("\n").lower() == first.lower(), f"{command} | head -n 1: {said!r}")
+        # A stream that fails is said, as FORMATS has it, and nothing else.
+        tries.expect(faults in ("", "refused 603\n") or faults.startswith("passed over: "), f"{command} | head -n 1: {faults!r}")
+
+
+def wrong_lines(tries):
+    for words, told in WRONG:
+        status, said, faults = tries.run(f"bb {words}")
+        tries.expect((status, said) == (2, ""), f"bb {words}: {status}, {said!r}")
+        tries.expect(told in faults, f"bb {words}: says nothing of {told}: {faults!r}")
+    left = os.listdir(tries.here)
+    tries.expect(left == [], f"wrong command lines leave {left}")
+
+
+def mixed_up(tries):
+    """A file where lines are read, and lines where a file is."""
+    tries.write("tables.txt", "1RB1LB_1LA---\n")
+    for name in OF_LINES:
+        status, said, faults = tries.run(f"bb {name} tables.txt")
+        tries.expect((status, said) == (2, ""), f"bb {name} FILE: {status}, {said!r}")
+        tries.expect("standard input" in faults or "< tables.txt" in faults, f"bb {name} FILE: doesn't say that lines are read on standard input: {faults!r}")
+    for name in OF_LEDGERS:
+        status, said, faults = tries.run(f"bb {name} < tables.txt")
+        tries.expect((status, said) == (2, ""), f"bb {name} < FILE: {status}, {said!r}")
+        tries.expect(re.search(r"<(FILE|PATH|IN)>", faults), f"bb {name} < FILE: doesn't say that a file is to be named: {faults!r}")
+
+
+def main():
+    program = os.path.abspath(sys.argv[1]) if len(sys.argv) > 1 else PROGRAM
+    with tempfile.TemporaryDirectory(prefix="bb-user-") as folder:
+        tries = Tries(program, folder)
+        first_steps(tries)
+        wrong_lines(tries)
+        helps(tries)
+        lists(tries)
+        beginnings(tries)
+        mixed_up(tries)
+    for text in tries.found:
+        print(text)
+    print(f"{tries.count} commands of a new user, {len(tries.found)} answers differ")
+    sys.exit(1 if tries.found else 0)
+
+
+if __name__ == "__main__":
+    main()

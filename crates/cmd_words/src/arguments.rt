@@ -4,47 +4,48 @@ pub(crate) use rows::*;
 #[rattlefmt::skip]
 mod rows {
     use crate::words::{Flag, Text};
-    use cmd_options::{Number, REACH_NAMES};
+    use cmd_options::{Number, REACH_NAMES, ranged};
 
-    pub(crate) const STATES: Number = Number { name: "N", value: None, least: 1, most: 7, default: None,
+    pub(crate) const STATES: Number = ranged! { name: "N", value: None, least: 1, most: 7, default: None,
         help: "How many states the machines have" };
-    pub(crate) const WORKERS: Number = Number { name: "workers", value: Some("W"), least: 1, most: 64, default: Some("2"),
-        help: "How many workers there are" };
-    pub(crate) const LOSE: Number = Number { name: "lose", value: Some("K"), least: 2, most: 1_000, default: None,
+    pub(crate) const WORKERS: Number = ranged! { name: "workers", value: Some("W"), least: 1, most: 64,
+        default: Some("2"), help: "How many workers there are; all run on one processor (contrib/ uses more)" };
+    pub(crate) const LOSE: Number = ranged! { name: "lose", value: Some("K"), least: 2, most: 1_000, default: None,
         help: "Lose every K-th of the first 1,000 frames, in each direction of each link" };
-    pub(crate) const ROUNDS: Number = Number { name: "rounds", value: Some("R"), least: 1, most: 1_000_000_000,
+    pub(crate) const ROUNDS: Number = ranged! { name: "rounds", value: Some("R"), least: 1, most: 1_000_000_000,
         default: Some("1000000"), help: "Stop after so many rounds" };
-    pub(crate) const ERA: Number = Number { name: "era", value: Some("E"), least: 1, most: u64::MAX, default: Some("1"),
-        help: "Tells this run's leases from those of an earlier one" };
-    pub(crate) const FILLED: Number = Number { name: "filled", value: Some("D"), least: 0, most: 14, default: Some("4"),
-        help: "Decide the tables with fewer filled entries, and leave the others to the parts" };
-    pub(crate) const STEPS: Number = Number { name: "steps", value: Some("K"), least: 1, most: 100_000_000,
+    pub(crate) const ERA: Number = ranged! { name: "era", value: Some("E"), least: 1, most: u64::MAX,
+        default: Some("1"), help: "Tells this run's leases from those of an earlier one" };
+    pub(crate) const FILLED: Number = ranged! { name: "filled", value: Some("D"), least: 0, most: 14,
+        default: Some("4"), help: "Decide the tables with fewer filled entries, leave the others to the parts" };
+    pub(crate) const STEPS: Number = ranged! { name: "steps", value: Some("K"), least: 1, most: 100_000_000,
         default: Some("1000"), help: "Steps that each search runs a table at most" };
-    pub(crate) const FROM: Number = Number { name: "from", value: Some("T"), least: 0, most: 100_000_000, default: Some("0"),
-        help: "Begin at this time" };
-    pub(crate) const DRAWN: Number = Number { name: "steps", value: Some("K"), least: 0, most: 100_000_000, default: None,
-        help: "Draw so many steps from there on (default one less than --rows)" };
-    pub(crate) const ROWS: Number = Number { name: "rows", value: Some("R"), least: 1, most: 10_000, default: Some("500"),
-        help: "The most rows" };
-    pub(crate) const WIDTH: Number = Number { name: "width", value: Some("W"), least: 0, most: 1_000_000, default: Some("0"),
-        help: "Draw so many cells, the first head in the middle; with 0 those that the head visits" };
-
-    pub(crate) const COLUMNS: Number = Number { name: "columns", value: Some("C"), least: 1, most: 100_000,
+    pub(crate) const FROM: Number = ranged! { name: "from", value: Some("T"), least: 0, most: 100_000_000,
+        default: Some("0"), help: "Begin at this time" };
+    pub(crate) const DRAWN: Number = ranged! { name: "steps", value: Some("K"), least: 0, most: 100_000_000,
+        default: None, help: "Draw so many steps from there on (default one less than --rows)" };
+    pub(crate) const ROWS: Number = ranged! { name: "rows", value: Some("R"), least: 1, most: 10_000,
+        default: Some("500"), help: "The most rows" };
+    pub(crate) const WIDTH: Number = ranged! { name: "width", value: Some("W"), least: 0, most: 1_000_000,
+        default: Some("0"), help: "How many cells, the first head in the middle; 0 for those it visits" };
+    pub(crate) const COLUMNS: Number = ranged! { name: "columns", value: Some("C"), least: 1, most: 100_000,
         default: Some("1000"), help: "The most columns; where there are more cells, neighbours share one" };
-    pub(crate) const SQUARE: Number = Number { name: "square", value: Some("P"), least: 1, most: 1_000, default: Some("16"),
-        help: "The most pixels that a cell is wide and high" };
-    pub(crate) const HEIGHT: Number = Number { name: "height", value: Some("H"), least: 1, most: 65_535, default: None,
-        help: "The most pixels that the picture is high (without it cells are squares)" };
-    pub(crate) const SHOWN: Number = Number { name: "steps", value: Some("K"), least: 0, most: 100_000_000,
+    pub(crate) const SQUARE: Number = ranged! { name: "square", value: Some("P"), least: 1, most: 1_000,
+        default: Some("16"), help: "The most pixels that a cell is wide and high" };
+    pub(crate) const HEIGHT: Number = ranged! { name: "height", value: Some("H"), least: 1, most: 65_535,
+        default: None, help: "The most pixels that the picture is high (without it cells are squares)" };
+    pub(crate) const SHOWN: Number = ranged! { name: "steps", value: Some("K"), least: 0, most: 100_000_000,
         default: Some("100"), help: "Show so many steps from there on" };
-    pub(crate) const EVERY: Number = Number { name: "every", value: Some("E"), least: 1, most: 100_000_000,
+    pub(crate) const EVERY: Number = ranged! { name: "every", value: Some("E"), least: 1, most: 100_000_000,
         default: Some("1"), help: "Show every E-th configuration" };
-
-    pub(crate) const RUN_STEPS: Number = Number { name: "steps", value: Some("K"), least: 0, most: 100_000_000,
+    pub(crate) const RUN_STEPS: Number = ranged! { name: "steps", value: Some("K"), least: 0, most: 100_000_000,
         default: Some("1000000"), help: "With --normal, run a table for so many steps at most" };
 
     pub(crate) const FILE: Text = Text { name: "FILE", value: None, help: "The ledger file" };
-    pub(crate) const READ: Text = Text { name: "FILE", value: None, help: "The ledger file, or `-` for standard input" };
+    pub(crate) const READ: Text = Text { name: "FILE", value: None,
+        help: "The ledger file, or `-` for standard input" };
+    pub(crate) const PAGED: Text = Text { name: "FILE", value: None,
+        help: "The ledger file, the folder of a trunk and its parts, or `-` for a ledger on standard input" };
     pub(crate) const FOLDER: Text = Text { name: "DIR", value: None, help: "The folder of the trunk and the parts" };
     pub(crate) const JOIN_READ: Text = Text { name: "DIR", value: None,
         help: "The folder of the trunk and the parts, or `-` for a stream of them on standard input" };
@@ -66,7 +67,7 @@ mod rows {
     pub(crate) const JOINED: Text = Text { name: "ledger", value: Some("OUT"), help: "Write the one ledger too" };
     pub(crate) const PICTURES: Text = Text { name: "out", value: Some("DIR"),
         help: "Make a file of each picture, DIR/TABLE.svg" };
-
+    pub(crate) const TITLE: Text = Text { name: "title", value: Some("TITLE"), help: "What the page is called" };
     pub(crate) const KNOWN: Text = Text { name: "known", value: Some("FILE"),
         help: "Look for the record of a table in this file first; it is judged like any other" };
 
@@ -78,18 +79,25 @@ mod rows {
     pub(crate) const HARD: Flag = Flag { name: "hard", needs: &[], excludes: REACH_NAMES,
         help: "Go by stages, from cheap searches to dear ones; --steps scales them" };
     pub(crate) const JSON: Flag = Flag { name: "json", needs: &[], excludes: &[], help: "Print the report as JSON" };
+    pub(crate) const LINE_JSON: Flag = Flag { name: "json", needs: &[], excludes: &[],
+        help: "Print an object of JSON for each line" };
     pub(crate) const RECORD_WHY: Flag = Flag { name: "why", needs: &[], excludes: &[],
         help: "Say on standard error, in words, what is wrong with a record" };
     pub(crate) const FOLD: Flag = Flag { name: "fold", needs: &[], excludes: &[],
         help: "Fold words that repeat, as in 1^12 (01)^5" };
     pub(crate) const NORMAL: Flag = Flag { name: "normal", needs: &[], excludes: &[],
         help: "Name the states as the run reaches them, and mirror a table whose first move is to the left" };
+    // A certificate is of the table as it stands.
+    pub(crate) const WITH_RECORDS: Flag = Flag { name: "records", needs: &[], excludes: &["normal"],
+        help: "Keep the record that stands behind a table" };
     pub(crate) const PNG: Flag = Flag { name: "png", needs: &[], excludes: &["height"],
         help: "Draw a PNG in place of an SVG" };
+    pub(crate) const TABLE: Flag = Flag { name: "table", needs: &[], excludes: &[],
+        help: "Read records on standard input, a line each, in place of a ledger" };
     pub(crate) const HOLDOUTS: Flag = Flag { name: "holdouts", needs: &[], excludes: &[],
         help: "Print the tables that are recorded without a verdict, and read no lines" };
     pub(crate) const PROGRESS: Flag = Flag { name: "progress", needs: &[], excludes: &[],
-        help: "Say on standard error, once a second, how far it is" };
+        help: "Say on standard error how far it is, a line a second, where that isn't a terminal too" };
     pub(crate) const WHY: Flag = Flag { name: "why", needs: &[], excludes: &[],
         help: "Say on standard error why the first line that isn't kept isn't" };
 }

@@ -4,14 +4,14 @@ use crate::help::{
     CARRY, COORD, DECIDE, DRAW, EXPLAIN, JOIN, LOOK, LOOP, MEND, MERGE, PAGE, RECORDS, REPORT,
     RETRY, RUN, SETTLE, SHOW, SPLIT, TABLES,
 };
-use crate::words::Argument::{self, Flag, Number, Text};
+use crate::words::Argument::{self, Flag, Number, Text, TextUnless};
 
 /// A command with its arguments and options, in the order in which help has them.
 pub(crate) struct CommandWords {
     pub(crate) name: &'static str,
     /// What it does.
     pub(crate) about: &'static str,
-    /// What help says last.
+    /// What the long help says last.
     pub(crate) after_help: &'static str,
     pub(crate) arguments: &'static [Argument],
     /// Whether the options of a search for certificates follow.
@@ -27,19 +27,19 @@ pub(crate) const SEARCH_BY_STAGES: [Argument; 1] = [Flag(HARD)];
 pub(crate) const COMMANDS: [CommandWords; 19] = [
     CommandWords { name: "check", searches: false, after_help: RECORDS,
         about: "Checks a record a line on standard input, and prints an answer a line.",
-        arguments: &[Flag(RECORD_WHY)] },
+        arguments: &[Flag(LINE_JSON), Flag(RECORD_WHY)] },
     CommandWords { name: "decide", searches: true, after_help: DECIDE,
         about: "Reads a table a line on standard input, and prints a record a line.",
-        arguments: &[] },
+        arguments: &[Flag(LINE_JSON), Flag(PROGRESS)] },
     CommandWords { name: "explain", searches: false, after_help: EXPLAIN,
         about: "Checks a record a line on standard input, and says in words what its check has shown.",
-        arguments: &[] },
+        arguments: &[Flag(LINE_JSON)] },
     CommandWords { name: "show", searches: false, after_help: SHOW,
         about: "Reads a table or a record a line on standard input, and prints its run as text.",
         arguments: &[Number(FROM), Number(SHOWN), Number(EVERY), Flag(FOLD)] },
     CommandWords { name: "tables", searches: false, after_help: TABLES,
         about: "Reads any text on standard input, and prints the tables in it, a line each.",
-        arguments: &[Flag(NORMAL), Number(RUN_STEPS)] },
+        arguments: &[Flag(NORMAL), Number(RUN_STEPS), Flag(WITH_RECORDS)] },
     CommandWords { name: "run", searches: true, after_help: RUN,
         about: "Settles the tree of all machines of N states in this process, and prints the report.",
         arguments: &[Number(STATES), Number(WORKERS), Text(LEDGER), Flag(LEDGER_SYNC), Number(LOSE), Number(ROUNDS),
@@ -53,7 +53,7 @@ pub(crate) const COMMANDS: [CommandWords; 19] = [
         arguments: &[Number(STATES), Text(LEDGER), Flag(LEDGER_SYNC), Number(ERA)] },
     CommandWords { name: "retry", searches: true, after_help: RETRY,
         about: "Tries the holdouts of a ledger again, and prints its report.",
-        arguments: &[Text(FILE), Flag(SYNC)] },
+        arguments: &[Text(FILE), Flag(SYNC), Flag(PROGRESS)] },
     CommandWords { name: "merge", searches: false, after_help: MERGE,
         about: "Writes the ledger of what two ledgers hold together.",
         arguments: &[Text(FIRST), Text(SECOND), Text(MERGED)] },
@@ -65,13 +65,13 @@ pub(crate) const COMMANDS: [CommandWords; 19] = [
         arguments: &[Text(DAMAGED), Text(MENDED)] },
     CommandWords { name: "split", searches: true, after_help: SPLIT,
         about: "Cuts the tree of all machines of N states into a trunk and parts, ledgers of their own.",
-        arguments: &[Number(STATES), Text(FOLDER), Number(FILLED)] },
+        arguments: &[Number(STATES), Text(FOLDER), Number(FILLED), Flag(PROGRESS)] },
     CommandWords { name: "settle", searches: true, after_help: SETTLE,
         about: "Decides the open tables of a ledger, until none is open.",
         arguments: &[Text(FILE), Flag(SYNC), Flag(PROGRESS)] },
     CommandWords { name: "join", searches: false, after_help: JOIN,
         about: "Prints the report of a trunk and its parts together, as of one ledger that holds all.",
-        arguments: &[Text(JOIN_READ), Flag(JSON), Text(JOINED)] },
+        arguments: &[Text(JOIN_READ), Flag(JSON), Text(JOINED), Flag(PROGRESS)] },
     CommandWords { name: "look", searches: false, after_help: LOOK,
         about: "Reads a table a line on standard input, and prints its record in a ledger, or in a tree in parts.",
         arguments: &[Text(LOOKED), Flag(HOLDOUTS)] },
@@ -80,9 +80,9 @@ pub(crate) const COMMANDS: [CommandWords; 19] = [
         arguments: &[Number(FROM), Number(DRAWN), Number(ROWS), Number(WIDTH), Number(COLUMNS), Number(SQUARE),
             Number(HEIGHT), Flag(PNG), Text(PICTURES)] },
     CommandWords { name: "page", searches: false, after_help: PAGE,
-        about: "Prints the report of a ledger as one HTML page, with pictures.",
-        arguments: &[Text(READ)] },
+        about: "Prints the report of a ledger, or what records show, as one HTML page with pictures.",
+        arguments: &[TextUnless(PAGED, "table"), Flag(TABLE), Text(TITLE)] },
     CommandWords { name: "report", searches: false, after_help: REPORT,
         about: "Prints the report of a ledger.",
-        arguments: &[Text(READ), Flag(JSON), Flag(WHY)] },
+        arguments: &[Text(READ), Flag(JSON), Flag(WHY), Flag(PROGRESS)] },
 ];

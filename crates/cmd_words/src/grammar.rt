@@ -1,6 +1,6 @@
 // The commands with their arguments and options, by clap's builder.
 use crate::commands::{COMMANDS, CommandWords, SEARCH, SEARCH_BY_STAGES};
-use crate::help::STATUSES;
+use crate::help::{BRIEF, STATUSES};
 use crate::words::{Argument, Flag, Text};
 use clap::builder::ValueParser;
 use clap::{Arg, ArgAction, Command};
@@ -68,7 +68,8 @@ fn with_reaches<'a>(alloc: Global, command: Command<'a>) -> Result<Command<'a>, 
 fn empty_command<'a>(alloc: Global, words: &CommandWords) -> Command<'a> {
     Command::new(alloc, words.name)
         .about(words.about)
-        .after_help(words.after_help)
+        .after_help(BRIEF)
+        .after_long_help(words.after_help)
 }
 
 fn with_arguments<'a>(
@@ -95,6 +96,7 @@ fn built<'a>(alloc: Global, argument: &Argument) -> Result<Arg<'a>, NoMemory> {
     match argument {
         Argument::Number(number) => Ok(number_arg(alloc, number)),
         Argument::Text(text) => Ok(text_arg(alloc, text)),
+        Argument::TextUnless(text, flag) => text_unless(alloc, text, *flag),
         Argument::Flag(flag) => flag_arg(alloc, flag),
     }
 }
@@ -111,6 +113,14 @@ fn number_arg<'a>(alloc: Global, number: &Number) -> Arg<'a> {
 
 fn text_arg<'a>(alloc: Global, text: &Text) -> Arg<'a> {
     valued(alloc, text.name, text.value).help(text.help)
+}
+
+// A text in whose place the flag may stand.
+fn text_unless<'a>(alloc: Global, text: &Text, flag: &'static str) -> Result<Arg<'a>, NoMemory> {
+    text_arg(alloc, text)
+        .required(false)
+        .required_unless_present(flag)?
+        .conflicts_with(flag)
 }
 
 // An option, where help has a name for its value; else an argument.

@@ -1,8 +1,11 @@
 // What help says of the program and of each command.
 
 pub(crate) const STATUSES: &str =
-    "Exit status: 0 all accepted; 1 something was refused; 2 a wrong command line; \
-3 out of memory; 4 a stream or a file failed.";
+    "Exit status: 0 all accepted; 1 something was refused; 2 a wrong command line; 3 out of memory; 4 a stream or a file
+failed.";
+
+/// What the short help of each command says last.
+pub(crate) const BRIEF: &str = "bb COMMAND --help says more.";
 
 pub(crate) const REPORT: &str =
     "A ledger is the line `bb-ledger 2 TABLE`, which names the root of a tree, and then records, one a
@@ -32,6 +35,9 @@ With --json it is one object and a newline: best (a number or null), champions, 
 holdouts, never, nodes, ones (a number or null), ones_champions, open, root, status. It doesn't say what
 wasn't kept; the status is the same.
 
+Standard error says how far it is: at a terminal on one line that is written over, elsewhere with --progress, a line a
+second.
+
 Exit status: 0 the report says complete, and all was kept; 1 it doesn't, or the ledger was refused
 (`refused 404` no header with a readable table, `refused 405` its table doesn't name its states in order);
 2 a wrong command line; 3 out of memory (`refused memory`); 4 the file couldn't be read (`refused 605`)
@@ -51,6 +57,11 @@ pub(crate) const RUN: &str =
     "A coordinator grants tables to workers; each looks for certificates as `bb decide` does, and the coordinator
 judges what they send. At the end comes the report, as by `bb report`. It is the same however many workers
 there are and whatever frames are lost. With --ledger a run that was stopped goes on where it was.
+Standard error says how far it is: at a terminal on one line that is written over, elsewhere with --progress, a line a
+second.
+
+All workers run in this process, on one processor. To use all processors, cut the tree into parts by `bb split`, and
+work them off by `contrib/parallel.sh DIR`; or let `contrib/tree.sh N DIR` do both and join them.
 
 Exit status: 0 the report says complete; 1 it doesn't, or the ledger was refused (`refused 404` no header
 with a readable table, `refused 405` another root); 2 a wrong command line; 3 out of memory
@@ -69,6 +80,8 @@ pub(crate) const RETRY: &str =
 record with a verdict is appended to FILE. What follows the last line that can be kept is cut off first; but for a
 torn last line it is kept in FILE.cut, and `bb mend` reads it.
 What becomes open below a settled table stays open: `bb run --ledger FILE` goes on with it.
+Standard error says how far it is: at a terminal on one line that is written over, elsewhere with --progress, a line a
+second.
 
 Exit status: 0 the report says complete; 1 it doesn't, or the ledger was refused (`refused 404` no header
 with a readable table, `refused 405` its table doesn't name its states in order); 2 a wrong command line;
@@ -98,9 +111,9 @@ table, `refused 405` its table doesn't name its states in order); 2 a wrong comm
 (`refused 603`), or another process writes OUT (`refused 606`).";
 
 pub(crate) const MEND: &str =
-    "Each line of IN behind its header is read by itself and offered in turn, and OUT gets the records that are taken, as a
-ledger of version 2: so a line that is spoilt costs itself and the tables below its own, and none behind it. Then comes
-the line `mended R dropped D`: how many records OUT has, and how many lines weren't taken.
+    "Each line of IN behind its header is read by itself and offered in turn, and OUT gets the records that are taken,
+as a ledger of version 2: so a line that is spoilt costs itself and the tables below its own, and none behind it. Then
+comes the line `mended R dropped D`: how many records OUT has, and how many lines weren't taken.
 Commands that cut a damaged ledger keep what they cut off in a file beside it, FILE.cut.
 
   bb mend damaged.ledger whole.ledger
@@ -112,11 +125,11 @@ table, `refused 405` its table doesn't name its states in order); 2 a wrong comm
 (`refused 603`), or another process writes OUT (`refused 606`).";
 
 pub(crate) const DRAW: &str =
-    "Time goes downwards, a row for each time, cells to the right; ones are dark, the head has the colour of its state, and
-a line beneath the last row says that the machine halts with its next step. Where there are more steps than rows, only
-every so many-th is drawn; where there are more cells than columns, neighbours share one, which is dark where more than
-half of them hold a one, and pale where some do. The whole first picture goes to standard output, and a table after the first is refused
-(`refused 306`); with --out each table has a file, and its line the answer `TABLE drawn`.
+    "Time goes downwards, a row for each time, cells to the right; ones are dark, the head has the colour of its state,
+and a line beneath the last row says that the machine halts with its next step. Where there are more steps than rows,
+only every so many-th is drawn; where there are more cells than columns, neighbours share one, which is dark where more
+than half of them hold a one, and pale where some do. The whole first picture goes to standard output, and a table after
+the first is refused (`refused 306`); with --out each table has a file, and its line the answer `TABLE drawn`.
 
   echo 1RB1LB_1LA--- | bb draw > champion.svg
   bb draw --out pictures < tables.txt
@@ -127,13 +140,17 @@ line; 3 out of memory (`refused memory`); 4 a stream failed (`refused 603`), or 
 
 pub(crate) const PAGE: &str =
     "The page needs no server and loads nothing: how the tree stands, how many records there are of each kind and by how
-many entries are filled, the champions with pictures of their runs, and the holdouts, in a table that can be searched and
-sorted; and what a tree shows that is complete. The ledger is read as by `bb report`. FILE may be a folder that `bb split`
-made: its page is that of all its ledgers together, which are read as by `bb join`.
+many entries are filled, the champions with pictures of their runs, and the holdouts, in a table that can be searched
+and sorted; and what a tree shows that is complete. The ledger is read as by `bb report`. FILE may be a folder that
+`bb split` made: its page is that of all its ledgers together, which are read as by `bb join`.
 
-  bb page four.ledger > four.html
+With --table no ledger is read but records on standard input, a line each, and the page has the picture of each one's
+run, its transitions, what its certificate says in words, and the record to copy. With --title the page has that title.
 
-Exit status: as that of `bb report`.";
+  bb page four.ledger --title 'Four states' > four.html
+  bb decide --hard < tables.txt | bb page --table > tables.html
+
+Exit status: as that of `bb report`, and with --table as that of `bb check`.";
 
 pub(crate) const SPLIT: &str =
     "DIR/trunk.ledger is the trunk, a ledger from the root: it holds all tables with fewer than D filled entries. Each
@@ -141,6 +158,10 @@ other table that is open then is the root of a part, DIR/TABLE.ledger, which beg
 worked off by `bb settle` anywhere, in any order, and begun again where it was stopped; `bb join DIR` says how all
 stand together. On a folder that is there already only what is missing is added. Then comes the line
 `trunk R parts P`: how many records the trunk has, and how many parts there are.
+To use all processors, work the parts off by `contrib/parallel.sh DIR`, as many at once as there are processors; or
+let `contrib/tree.sh N DIR` split, work off and join.
+Standard error says how far it is: at a terminal on one line that is written over, elsewhere with --progress, a line a
+second.
 
 Exit status: 0 trunk and parts are there; 1 the trunk was refused (`refused 404` no header with a readable table,
 `refused 405` another root), or a table with fewer than D filled entries has a part (`refused 407`); 2 a wrong
@@ -152,6 +173,8 @@ pub(crate) const SETTLE: &str =
 none is open. What follows the last line that can be kept is cut off first; but for a torn last line it is kept in
 FILE.cut, and `bb mend` reads it. It can be stopped at any time, and goes on where it was. Then comes the line
 `settled R holdouts H`: how many records came, and how many tables of the ledger are recorded without a verdict.
+Standard error says how far it is: at a terminal on one line that is written over, elsewhere with --progress, a line a
+second.
 
 Exit status: 0 no table is open, with or without holdouts; 1 the ledger was refused (`refused 404` no header with a
 readable table, `refused 405` its table doesn't name its states in order); 2 a wrong command line; 3 out of memory
@@ -169,6 +192,9 @@ Standard input (`-`) is read to its end: the trunk's ledger first, and then thos
 any order. What is wrong with a part is said behind its root: `missing`, `left LINE`, `added before` where one of that
 root came already, `not under the trunk`; or, where it has no root, behind its number in the stream (`refused 404`,
 `refused 405`). A folder that is named so is `./-`.
+
+Standard error says how far it is: at a terminal on one line that is written over, elsewhere with --progress, a line a
+second.
 
 Exit status: 0 the report says complete, and all was kept; 1 it doesn't, or a ledger was refused; 2 a wrong command
 line; 3 out of memory (`refused memory`); 4 a file couldn't be read (`refused 605`) or written (`refused 604`), or a
@@ -197,10 +223,15 @@ pub(crate) const DECIDE: &str = "  $ echo 1RB1LB_1LA--- | bb decide
 A line is a table in the bbchallenge standard format. Its record has the first certificate that is
 found and stands, looked for in this order: that it halts, a cycle, a translated cycle, backward
 reasoning, a closed position set, finite automata, automata from words, counted automata; or `U`, undecided.
-First of all comes what is known: with --known the file's record of the table, where that stands. How many of the file's
-lines were refused, and which was the first, is said on standard error at the end.
+First of all comes what is known: with --known the file's record of the table, where that stands. How many of the
+file's lines were refused, and which was the first, is said on standard error at the end.
 A text that is no table is answered `refused 301` with its fault, as by `bb check`, and a line over 65,536 bytes
 `refused 305`.
+
+With --json each answer is an object, as by `bb check --json`, with the record as the member `record` in place of
+`ones` and `steps`.
+Standard error says how far it is: at a terminal on one line that is written over, elsewhere with --progress, a line a
+second.
 
 Exit status: 0 each line was a table; 1 some wasn't; 2 a wrong command line; 3 out of memory
 (`refused memory` on standard error); 4 a stream failed (`refused 603`), or known records couldn't be
@@ -225,7 +256,8 @@ A record is a table in the bbchallenge standard format, a space and a certificat
               goes where the digits of delta say; rows and keep are sets of states of the second, in hexadecimal
   A side m delta rows keep
               the same with m from 1 to 4,096 and numbers in decimal, joined by commas: where the first goes; of each
-              state of the second and symbol `-` for edges to all, `.` for none, or a list joined by dots; and what is kept
+              state of the second and symbol `-` for edges to all, `.` for none, or a list joined by dots; and what is
+              kept
   W i j left right cosets
               two automata, one for each half tape, that count some of their transitions, i and j counts, together up
               to 52; and for each local configuration the coset in which the counts lie
@@ -250,21 +282,30 @@ An answer is one of
   refused 304        no list
   refused 305        the line is too long, or the lists are
 
+With --json each answer is an object on a line of its own, its members in the order of their names and no space between
+them. Where 1RB1LB_1LA--- H 7 4 is the third line, its object is, in one line,
+  {\"code\":201,\"kind\":\"H\",\"line\":3,\"meaning\":\"it doesn't hold for the table\",\"ones\":null,
+  \"steps\":null,\"table\":\"1RB1LB_1LA---\",\"text\":\"1RB1LB_1LA--- H 7 4\",\"verdict\":\"refused\"}
+`text` is the line and `line` its number; `verdict` is halts, never, undecided or refused; `steps` and `ones` are
+null where the answer has no such number, `code` and `meaning` where the line is accepted, `kind` and `table` where it
+is no record. With --why the words stand in the object too, and nothing is said of the line on standard error.
+
 Exit status: 0 all accepted; 1 a line was refused; 2 a wrong command line; 3 out of memory
 (`refused memory` on standard error); 4 a stream failed (`refused 603`).";
 
 pub(crate) const EXPLAIN: &str =
-    "Prints for each line the answer of `bb check`; behind it, of a record that stands, what its check has shown, in words;
-and then an empty line.
+    "Prints for each line the answer of `bb check`; behind it, of a record that stands, what its check has shown, in
+words; and then an empty line. With --json each line has an object, that of `bb check --json` with the words as the
+member `words`.
 
   echo 1RB1LB_1LA--- H 6 4 | bb explain
 
 Exit status: as that of `bb check`.";
 
 pub(crate) const SHOW: &str =
-    "The table; then a line for each time: the time, and the tape from the first to the last cell that holds a one or has the
-head, with the state's letter and `>` before the head's cell. A run that halts ends with its last configuration and
-`halts K ones S`.
+    "The table; then a line for each time: the time, and the tape from the first to the last cell that holds a one or
+has the head, with the state's letter and `>` before the head's cell. A run that halts ends with its last configuration
+and `halts K ones S`.
 
   echo 1RB1LB_1LA--- | bb show --steps 10 --fold
 
@@ -272,9 +313,13 @@ Exit status: 0 each line was a table or a record; 1 a line was refused; 2 a wron
 (`refused memory`); 4 a stream failed (`refused 603`).";
 
 pub(crate) const TABLES: &str =
-    "Each table in a text of any form (comments, links, CSV, CR LF) is printed once, where it comes first. How many lines had
-none, and how many tables had come before, is said at the end on standard error.
+    "Each table in a text of any form (comments, links, CSV, CR LF) is printed once, where it comes first. How many
+lines had none, and how many tables had come before, is said at the end on standard error.
+
+With --records a record keeps what stands behind its table. A certificate is of the table as it stands, so --normal
+can't be given with it.
 
   bb tables < list.txt | bb decide --hard
+  bb tables --records < list.txt | bb check
 
 Exit status: 0; 2 a wrong command line; 3 out of memory (`refused memory`); 4 a stream failed (`refused 603`).";

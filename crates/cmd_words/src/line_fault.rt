@@ -9,14 +9,14 @@ use std::io::{self, Write};
 use thiserror::Error as Fault;
 
 /// Why there are no options: clap refused the words, also for a path where a number belongs, or was asked for help or
-/// the version, the one ledger of a stream was asked for, a word isn't text, clap let through a command or a number that it should have refused, known records
-/// would be read from standard input, or memory was refused.
+/// the version, the one ledger of a stream was asked for, a word isn't text, clap let through a command or a number
+/// that it should have refused, known records would be read from standard input, or memory was refused.
 #[derive(Debug, Drop, Fault)]
 pub enum LineFault {
     #[error("{0}")]
     Refused(Error),
-    #[error("{0}\nA number belongs there, and that is a path: a ledger is named as FILE where the command has one, else behind \
---ledger.\n")]
+    #[error("{0}\nA number belongs there, and that is a path: a ledger is named as FILE where the command has one, \
+else behind --ledger.\n")]
     PathForNumber(Error),
     #[error("error: --ledger needs a folder: of standard input (`-`) no one ledger is written\n")]
     LedgerOfStream,

@@ -4,18 +4,18 @@ ghost use Rattle.cmd_options.specs.Ranges.{AreWithinRanges, IsSettling, IsWithin
 
 use crate::arguments::{
     CARRIED, COLUMNS, DAMAGED, DRAWN, ERA, EVERY, FILE, FILLED, FIRST, FOLD, FOLDER, FROM, HARD,
-    HEIGHT, HOLDOUTS, JOIN_READ, JOINED, JSON, KNOWN, LEDGER, LOOKED, LOSE, MENDED, MERGED, NORMAL,
-    OLD, PICTURES, PNG, PROGRESS, READ, RECORD_WHY, ROUNDS, ROWS, RUN_STEPS, SECOND, SHOWN, SQUARE,
-    STATES, STEPS, SYNC, WHY, WIDTH, WORKERS,
+    HEIGHT, HOLDOUTS, JOIN_READ, JOINED, JSON, KNOWN, LEDGER, LINE_JSON, LOOKED, LOSE, MENDED,
+    MERGED, NORMAL, OLD, PAGED, PICTURES, PNG, PROGRESS, READ, RECORD_WHY, ROUNDS, ROWS, RUN_STEPS,
+    SECOND, SHOWN, SQUARE, STATES, STEPS, SYNC, TITLE, WHY, WIDTH, WITH_RECORDS, WORKERS,
 };
 use crate::grammar::program;
 use crate::line_fault::LineFault;
 use clap::error::ErrorKind;
 use clap::{ArgMatches, Error};
 use cmd_options::{
-    Beginning, COUNT, Carrying, Checking, DEPTH, Drawing, Durability, FAR, GRAM, Joining,
+    Beginning, COUNT, Carrying, Checking, DEPTH, Deciding, Drawing, Durability, FAR, GRAM, Joining,
     LedgerFile, LedgerSettling, Listing, Looking, Mending, Merging, NoMemory, Number, Options,
-    Search, Settling, Showing, Splitting, WORDS,
+    Paging, Reporting, Retrying, Search, Settling, Showing, Splitting, WORDS,
 };
 use std::alloc::Global;
 
@@ -37,15 +37,15 @@ pub fn options<'a>(alloc: Global, words: &'a [&'a str]) -> Result<Options<'a>, L
     }
 }
 
-// What the command of a name asks for. A function of its own: the proof of so many ways out of one that owns clap's matches
-// would be dear.
+// What the command of a name asks for. A function of its own: the proof of so many ways out of one that owns clap's
+// matches would be dear.
 fn asked<'a>(name: &str, command: &ArgMatches<'a>) -> Result<Options<'a>, LineFault>
     ensures { IfOk result AreWithinRanges }
 {
     match name {
         "check" => Ok(check_options(command)),
         "decide" => decide_options(command),
-        "explain" => Ok(Options::Explain { json: false }),
+        "explain" => Ok(explain_options(command)),
         "show" => show_options(command),
         "tables" => tables_options(command),
         "coord" => coord_options(command),
@@ -159,7 +159,7 @@ fn check_options<'a>(check: &ArgMatches<'a>) -> Options<'a>
     ensures { AreWithinRanges result }
 {
     Options::Check(Checking {
-        json: false,
+        json: check.get_flag(LINE_JSON.name),
         why: check.get_flag(RECORD_WHY.name),
     })
 }
@@ -167,10 +167,19 @@ fn check_options<'a>(check: &ArgMatches<'a>) -> Options<'a>
 fn decide_options<'a>(decide: &ArgMatches<'a>) -> Result<Options<'a>, LineFault>
     ensures { IfOk result AreWithinRanges }
 {
-    Ok(Options::Decide {
+    Ok(Options::Decide(Deciding {
         search: search_of(decide)?,
-        json: false,
-    })
+        json: decide.get_flag(LINE_JSON.name),
+        progress: decide.get_flag(PROGRESS.name),
+    }))
+}
+
+fn explain_options<'a>(explain: &ArgMatches<'a>) -> Options<'a>
+    ensures { AreWithinRanges result }
+{
+    Options::Explain {
+        json: explain.get_flag(LINE_JSON.name),
+    }
 }
 
 fn show_options<'a>(show: &ArgMatches<'a>) -> Result<Options<'a>, LineFault>
@@ -190,7 +199,7 @@ fn tables_options<'a>(tables: &ArgMatches<'a>) -> Result<Options<'a>, LineFault>
     Ok(Options::Tables(Listing {
         normal: tables.get_flag(NORMAL.name),
         steps: number_of(tables, RUN_STEPS)?,
-        records: false,
+        records: tables.get_flag(WITH_RECORDS.name),
     }))
 }
 
@@ -245,10 +254,11 @@ fn settling_of<'a>(matches: &ArgMatches<'a>, lose: Option<u64>) -> Result<Settli
 fn retry_options<'a>(retry: &ArgMatches<'a>) -> Result<Options<'a>, LineFault>
     ensures { IfOk result AreWithinRanges }
 {
-    Ok(Options::Retry {
+    Ok(Options::Retry(Retrying {
         file: written_of(retry, retry.get_str(FILE.name).unwrap_or_default()),
         search: search_of(retry)?,
-    })
+        progress: retry.get_flag(PROGRESS.name),
+    }))
 }
 
 fn merge_options<'a>(merge: &ArgMatches<'a>) -> Options<'a>
@@ -287,6 +297,7 @@ fn split_options<'a>(split: &ArgMatches<'a>) -> Result<Options<'a>, LineFault>
         folder: split.get_str(FOLDER.name).unwrap_or_default(),
         filled: number_of(split, FILLED)? as u8,
         search: search_of(split)?,
+        progress: split.get_flag(PROGRESS.name),
     }))
 }
 
@@ -307,6 +318,7 @@ fn join_options<'a>(join: &ArgMatches<'a>) -> Result<Options<'a>, LineFault>
         folder: join.get_str(JOIN_READ.name).unwrap_or_default(),
         out: join.get_str(JOINED.name),
         json: join.get_flag(JSON.name),
+        progress: join.get_flag(PROGRESS.name),
     };
     if joining.folder == STANDARD_INPUT && joining.out.is_some() {
         return Err(LineFault::LedgerOfStream);
@@ -342,17 +354,20 @@ fn draw_options<'a>(draw: &ArgMatches<'a>) -> Result<Options<'a>, LineFault>
 fn page_options<'a>(page: &ArgMatches<'a>) -> Options<'a>
     ensures { AreWithinRanges result }
 {
-    Options::Page {
-        file: page.get_str(READ.name).unwrap_or_default(),
-    }
+    // No ledger is named exactly where --table is given: clap has refused both and neither.
+    Options::Page(Paging {
+        ledger: page.get_str(PAGED.name),
+        title: page.get_str(TITLE.name),
+    })
 }
 
 fn report_options<'a>(report: &ArgMatches<'a>) -> Options<'a>
     ensures { AreWithinRanges result }
 {
-    Options::Report {
+    Options::Report(Reporting {
         file: report.get_str(READ.name).unwrap_or_default(),
         json: report.get_flag(JSON.name),
         why: report.get_flag(WHY.name),
-    }
+        progress: report.get_flag(PROGRESS.name),
+    })
 }

@@ -6,10 +6,12 @@ use cmd_options::Number;
 pub(crate) enum Argument {
     Number(Number),
     Text(Text),
+    /// A text that is given where the flag of the name isn't, and only there.
+    TextUnless(Text, &'static str),
     Flag(Flag),
 }
 
-/// Any text, as a path.
+/// Any text, as a path or a title.
 #[derive(Clone, Copy)]
 pub(crate) struct Text {
     /// What it is read by, and the word of an option.

@@ -3,8 +3,9 @@ use crate::call::Call;
 use crate::ledgers::STANDARD_INPUT;
 use cmd_draw::draw_asked;
 use cmd_folder_page::folder_page_at;
-use cmd_options::{Drawing, Ended, Outcome, VERSION, ended_by};
+use cmd_options::{Drawing, Ended, Outcome, Paging, VERSION, ended_by};
 use cmd_page::{Heading, LedgerSum, Maker, write_ledger_page};
+use cmd_record_page::record_page_for;
 use files::{Disk, Files, Opened};
 use std::alloc::Global;
 use std::io::{Read, Write};
@@ -26,41 +27,71 @@ pub(crate) fn draw<S: Disk, R: Read, W: Write, E: Write>(
     draw_asked(alloc, drawing, &mut files, input, answers, faults)
 }
 
-// `bb page`, of a file, of the folder at a path where no file can be read, or of `input`.
+// `bb page`, of the ledger at a path, or of the records of `input`.
 pub(crate) fn page<S: Disk, R: Read, W: Write, E: Write>(
     call: Call<'_, S, R, W, E>,
-    path: &str,
+    paging: &Paging<'_>,
 ) -> Result<Outcome, Ended> {
     let maker = Maker {
         version: VERSION,
         sum: call.system.program_sum(),
     };
+    match paging.ledger {
+        Some(path) => page_at(call, maker, path, paging.title),
+        None => page_of_records(call, maker, paging.title),
+    }
+}
+
+// Of a file, of the folder at a path where no file can be read, or of the ledger that `input` has.
+fn page_at<S: Disk, R: Read, W: Write, E: Write>(
+    call: Call<'_, S, R, W, E>,
+    maker: Maker<'_>,
+    path: &str,
+    title: Option<&str>,
+) -> Result<Outcome, Ended> {
     if path == STANDARD_INPUT {
-        return page_of_stream(call, maker);
+        return page_of_stream(call, maker, title.unwrap_or("standard input"));
     }
     let files = call.files();
+    let title = title.unwrap_or(path);
     let Call {
         alloc,
         answers,
         faults,
         ..
     } = call;
-    match page_of_file(alloc, maker, path, &files, answers) {
+    match page_of_file(alloc, maker, path, title, &files, answers) {
         // Nothing was written: a folder can't be read as a file.
-        Err(Ended::File) => folder_page_at(alloc, &maker, path, &files, answers, faults),
+        Err(Ended::File) => folder_page_at(alloc, &maker, title, path, &files, answers, faults),
         ended => ended,
     }
+}
+
+// Of the records that a stream has, a line each.
+fn page_of_records<S, R: Read, W: Write, E>(
+    call: Call<'_, S, R, W, E>,
+    maker: Maker<'_>,
+    title: Option<&str>,
+) -> Result<Outcome, Ended> {
+    let Call {
+        alloc,
+        input,
+        answers,
+        ..
+    } = call;
+    record_page_for(alloc, title.unwrap_or("Records"), maker, input, answers)
 }
 
 fn page_of_file<H: Files, W: Write>(
     alloc: Global,
     maker: Maker<'_>,
     path: &str,
+    title: &str,
     files: &H,
     answers: &mut W,
 ) -> Result<Outcome, Ended> {
     let heading = Heading {
-        title: path,
+        title,
         maker,
         ledgers: ledger_sum(path, files)?,
     };
@@ -94,6 +125,7 @@ fn opened<H: Files>(path: &str, files: &H) -> Result<Opened<H::Reader>, Ended> {
 fn page_of_stream<S, R: Read, W: Write, E>(
     call: Call<'_, S, R, W, E>,
     maker: Maker<'_>,
+    title: &str,
 ) -> Result<Outcome, Ended> {
     let Call {
         alloc,
@@ -102,7 +134,7 @@ fn page_of_stream<S, R: Read, W: Write, E>(
         ..
     } = call;
     let heading = Heading {
-        title: "standard input",
+        title,
         maker,
         ledgers: LedgerSum::Unknown,
     };

@@ -1,11 +1,12 @@
 // How far the reading of files is, told on standard error.
 use cmd_progress::{ReadingProgress, Telling};
-use std::cell::RefCell;
+use std::cell::{Cell, RefCell};
 
-/// What is told of how much of some files is read, while that is asked for.
+/// What is told of how much of some files is read, while that is asked for, and whether it was said that Skelet 1 is judged.
 #[derive(Drop)]
 pub struct Watch {
     reading: RefCell<Option<ReadingProgress>>,
+    has_named: Cell<bool>,
 }
 
 impl Watch {
@@ -13,7 +14,13 @@ impl Watch {
     pub fn new() -> Watch {
         Watch {
             reading: RefCell::new(None),
+            has_named: Cell::new(false),
         }
+    }
+
+    // Whether it is to be said that Skelet 1 is judged: a file that is read twice, for its sum too, names it once.
+    pub(crate) fn names_first(&self) -> bool {
+        !self.has_named.replace(true)
     }
 
     // How much of so many bytes is read is told from now on.

@@ -34,7 +34,7 @@ impl WatchedFile<'_> {
             self.come = 0;
             recent = &piece[piece.len() - SKELET_1.len()..];
         }
-        if self.comes_in(recent) {
+        if self.comes_in(recent) && self.watch.names_first() {
             self.tell();
         }
     }

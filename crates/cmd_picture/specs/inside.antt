@@ -1,5 +1,5 @@
 -- What only the code needs: that all ones stand in a span, and how the rows of a run are gone through.
-use Rattle.std.specs.Prelude.{◌≡◌, ℕ, ◌+◌, ◌-◌, ◌^◌, ◌<◌, ◌≤◌, ℤ, pos, ◌≤ℤ◌}
+use Rattle.std.specs.Prelude.{◌≡◌, ℕ, ◌+◌, ◌<◌, ◌≤◌, ℤ, ◌≤ℤ◌}
 use Rattle.std.specs.Ordering.{int_cmp}
 use Rattle.std.specs.FinSet as set
 use Rattle.machine_text.specs.Packed.{entry_of}
@@ -27,10 +27,8 @@ AreBlankBefore first v ones = (i : ℕ) → i < first → i < v.width → cell_o
 abbrev pub AreBlankFrom : ℕ → View → set.FinSet int_cmp → Type 0
 AreBlankFrom end v ones = (i : ℕ) → end ≤ i → i < v.width → cell_of ones (place v i) ≡ Zero
 
--- of a view's cells only some, from the first number to before the second, may hold a one; and each of these has a place
--- that the tape can have
+-- of a view's cells only some, from the first number to before the second, may hold a one
 pub record IsBlankOutside (reached : ℕ × ℕ) (v : View) (ones : set.FinSet int_cmp) : Type 0 where
-  pub places : (i : ℕ) → i < reached.1 → place v i ≤ℤ pos (2 ^ 63 - 1)
   pub before : AreBlankBefore reached.0 v ones
   pub behind : AreBlankFrom reached.1 v ones
 

@@ -87,6 +87,7 @@ fn pass(
     requires order { from ≤ end }
     requires share { 0 < view.now.share }
     requires columns { end ≤ columns_of view.now }
+    requires places { (i : ℕ) → i < reached.1 → place view.now i ≤ℤ pos (2 ^ 63 - 1) }
     requires blank { IsBlankOutside reached view.now tape.now.ones }
     ensures onward { from ≤ result }
     ensures bound { result ≤ end }
@@ -105,6 +106,7 @@ fn pass(
 fn has_tone(tape: &Tape, view: &View, tone: Tone, column: u64, reached: (u64, u64)) -> bool
     requires share { 0 < view.now.share }
     requires column { column < columns_of view.now }
+    requires places { (i : ℕ) → i < reached.1 → place view.now i ≤ℤ pos (2 ^ 63 - 1) }
     requires blank { IsBlankOutside reached view.now tape.now.ones }
     ensures { result ≡ has_tone tone view.now tape.now.ones column }
 {
@@ -127,6 +129,7 @@ fn is_toned(tone: Tone, cells: u64, ones: u64) -> bool
 // How many of so many cells hold a one. Those before one, and those from one on, are blank.
 fn ones_among(tape: &Tape, view: &View, first: u64, cells: u64, reached: (u64, u64)) -> u64
     requires within { first + cells ≤ view.now.width }
+    requires places { (i : ℕ) → i < reached.1 → place view.now i ≤ℤ pos (2 ^ 63 - 1) }
     requires blank { IsBlankOutside reached view.now tape.now.ones }
     ensures { result ≡ ones_in_cells tape.now.ones (place view.now first) cells }
 {

@@ -66,12 +66,17 @@ impl Teller {
         milliseconds: u64,
         told: &str,
     ) -> Result<(), NoMemory> {
-        let line = match self.telling {
-            Telling::Nothing => return Ok(()),
-            Telling::Lines => format!(in self.alloc; "{told}\n")?,
-            Telling::OneLine => self.over(told, milliseconds / 1_000)?,
-        };
-        let _ = stream.write_all(line.as_bytes());
+        match self.telling {
+            Telling::Nothing => {}
+            Telling::Lines => {
+                let line = format!(in self.alloc; "{told}\n")?;
+                let _ = stream.write_all(line.as_bytes());
+            }
+            Telling::OneLine => {
+                let line = self.over(told, milliseconds / 1_000)?;
+                let _ = stream.write_all(&line);
+            }
+        }
         Ok(())
     }
 
@@ -84,16 +89,17 @@ impl Teller {
     }
 
     // What writes a line over the last one, behind the time since the start.
-    fn over(&mut self, told: &str, seconds: u64) -> Result<String, NoMemory> {
+    fn over(&mut self, told: &str, seconds: u64) -> Result<Vec<u8>, NoMemory> {
         let time = clock_text(self.alloc, seconds)?;
-        let mut line = format!(in self.alloc; "{time} {told}")?;
-        line.truncate(COLUMNS.min(line.len()));
-        let width = line.len();
+        let said = format!(in self.alloc; "\r{time} {told}")?;
+        let width = said.len().min(COLUMNS + 1);
+        let mut line = Vec::new(self.alloc);
+        line.extend_from_slice(&said.as_bytes()[..width])?;
         for _ in width..self.width {
-            line.push(' ')?;
+            line.push(b' ')?;
         }
         self.width = width;
-        format!(in self.alloc; "\r{line}")
+        Ok(line)
     }
 }
 

@@ -50,7 +50,9 @@ impl<'a, D: Decider, C: Clock, E: Write> TriedDecider<'a, D, C, E> {
         self.teller.end(self.stream);
     }
 
-    fn tell(&mut self) {
+    fn tell(&mut self)
+        ensures { self.new.decider ≡ self.old.decider }
+    {
         self.decided = self.decided.saturating_add(1);
         if let Some(milliseconds) = self.teller.due(self.clock) {
             // What can't be told for want of memory isn't.
@@ -58,7 +60,9 @@ impl<'a, D: Decider, C: Clock, E: Write> TriedDecider<'a, D, C, E> {
         }
     }
 
-    fn say(&mut self, milliseconds: u64) -> Result<(), NoMemory> {
+    fn say(&mut self, milliseconds: u64) -> Result<(), NoMemory>
+        ensures { self.new.decider ≡ self.old.decider }
+    {
         let decided = self.decided;
         let rate = u128::from(decided) * 1_000 / u128::from(milliseconds.max(1));
         let told = format!(in self.alloc; "{decided} tables decided, {rate} a second")?;

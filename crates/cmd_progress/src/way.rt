@@ -5,6 +5,7 @@ use machine_text::{Entry, MAX_STATES, State, Sym, Table};
 use tnf::used;
 
 /// A table on the way from a root: which of its pairs have entries, and how many states it uses.
+#[derive(Drop)]
 pub(crate) struct Way {
     states: u8,
     used: u8,

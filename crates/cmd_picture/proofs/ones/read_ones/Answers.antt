@@ -65,3 +65,10 @@ returns-clause-tones c i low =
           drawn_beyond 0 c.loop-column.runs.items (c.loop-column.column + 1) i c.loop-column.invariant.apart (omega (arith, more))
           ∙ sym (blank_column c.args.tone c.args.view.now c.args.tape.now.ones i (λ k within from to. outside c.args.view.now c.args.cells c.args.tape.now.ones _ _ c.requires.span c.reached-reached.ensures.all k within (inr (c.columns_with-first.ensures.behind k i (omega (arith, more, end)) from))))
     ]
+
+pub pass-column-requires-in-loop-column-clause-blank :
+    goal.pass-column-requires-in-loop-column-clause-blank
+pass-column-requires-in-loop-column-clause-blank c = record {
+  before = λ i low within. outside c.args.view.now c.args.cells c.args.tape.now.ones _ _ c.requires.span c.reached-reached.ensures.all i within (inl low);
+  behind = λ i onward within. outside c.args.view.now c.args.cells c.args.tape.now.ones _ _ c.requires.span c.reached-reached.ensures.all i within (inr onward);
+}

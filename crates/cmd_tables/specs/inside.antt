@@ -1,5 +1,5 @@
 -- What only the code needs: how far a text is gone through.
-use Rattle.std.specs.Prelude.{◌≡◌, ℕ, suc, ◌+◌, ◌-◌, ◌<◌, ◌≤◌, ◌==◌, ◌&&◌, nat_le, ltb, if◌then◌else◌, List, [], ◌++◌, length, Option, Some, None, flat_map}
+use Rattle.std.specs.Prelude.{◌≡◌, ℕ, suc, ◌+◌, ◌-◌, ◌<◌, ◌≤◌, ◌==◌, ◌&&◌, nat_le, ltb, if◌then◌else◌, List, [], ◌∷◌, ◌++◌, length, map, Option, Some, None, flat_map}
 use Rattle.std.specs.Borrow.{Bor}
 use Rattle.machine_text.specs.declared.transition.Sym.{Sym}
 use Rattle.machine_text.specs.declared.transition.Entry.{Entry}
@@ -10,7 +10,9 @@ use Rattle.text.specs.Lines.{BoundedLine}
 use Rattle.cmd_options.specs.declared.options.Listing.{Listing}
 use Rattle.cmd_options.specs.declared.outcome.Outcome.{Outcome}
 use Rattle.cmd_options.specs.declared.outcome.Outcome.TheVariants.{Accepted}
-use Rattle.cmd_tables.specs.Listed.{ArePrinted, first_ones, table_line}
+use Rattle.cert.specs.Kinds.{recorded}
+use Rattle.cert.specs.declared.record.Record.{Record}
+use Rattle.cmd_tables.specs.Listed.{Found, ArePrinted, IsFoundIn, alone, first_ones, found_line, of_record, tables_of}
 use Rattle.cmd_tables.specs.Normal.{named_entry}
 use Rattle.cmd_tables.specs.Words.{words, tables_in, tables_of_line}
 use Rattle.cmd_tables.specs.declared.change.Change.{Change}
@@ -29,21 +31,27 @@ abbrev pub size_left : Option (Bor (List ℕ)) → ℕ
 size_left None = 0
 size_left (Some rest) = suc (length rest.now)
 
--- some tables, behind those that came: the first of each comes too, and is said
-pub record ListsFirst (came tables new : List Packed) (said : List ℕ) : Type 0 where
-  pub came_new : new ≡ came ++ first_ones came tables
-  pub said_new : said ≡ flat_map table_line (first_ones came tables)
+-- what is found behind the tables that came: the first of each comes too, and is said
+pub record ListsFirst (came : List Packed) (found : List Found) (new : List Packed) (said : List ℕ) : Type 0 where
+  pub came_new : new ≡ came ++ tables_of (first_ones came found)
+  pub said_new : said ≡ flat_map found_line (first_ones came found)
 
--- and that, of what is printed of some tables
-abbrev pub ListsFor : Listing → List Packed → List Packed → List Packed → List ℕ → Type 0
-ListsFor l came tables new said =
-    (printed : List Packed) × ArePrinted l tables printed × ListsFirst came printed new said
+-- and that, of what is printed of what is found
+abbrev pub ListsFor : Listing → List Packed → List Found → List Packed → List ℕ → Type 0
+ListsFor l came found new said =
+    (printed : List Found) × ArePrinted l found printed × ListsFirst came printed new said
+
+-- what a line is found to have, as its record, if it is one, or by its tables
+abbrev pub found_if : Option Record → List Packed → List Found
+found_if None tables = map alone tables
+found_if (Some r) tables = of_record (recorded r) ∷ []
 
 abbrev pub ListsLine : {D : Type 0} → (D → Listing) → (D → List Packed) → D → BoundedLine → Outcome → D → List ℕ
     → Type 0
 ListsLine {D} listing came old line o new said =
     (o ≡ Accepted) × (listing new ≡ listing old)
-    × ListsFor (listing old) (came old) (tables_of_line line) (came new) said
+    × (found : List Found) × IsFoundIn (listing old).records line found
+    × ListsFor (listing old) (came old) found (came new) said
 
 -- the names where a state is named `low`, and those from there on up to it are named one higher; and the old names
 abbrev pub lowered : ℕ → ℕ → ℕ → ℕ

@@ -1,4 +1,5 @@
-//! `bb tables`: takes the tables from a text of any form, and prints each one once, a line each.
+//! `bb tables`: takes the tables from a text of any form, and prints each one once, a line each; or the records among its
+//! lines.
 //!
 //! `specs/Words` says which tables stand in a text, `specs/Listed` what is printed of them.
 #![tactic(auto)]

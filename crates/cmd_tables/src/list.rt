@@ -1,16 +1,19 @@
 // `bb tables`: a text in, tables out.
-ghost use Rattle.std.specs.Prelude.{◌≡◌, ◌⊎◌, ◌∷◌, [], ◌++◌, ℕ, List, not, IfErr, IfOk, OnOk};
+ghost use Rattle.std.specs.Prelude.{◌≡◌, ◌⊎◌, ◌∷◌, [], ◌++◌, ℕ, List, map, min, not, IfErr, IfOk, OnOk};
 ghost use Rattle.std.specs.List.{list_any};
 ghost use Rattle.indexmap.specs.IndexSet.{insert_key};
 ghost use Rattle.cmd_taking.specs.Taken.{lent};
-ghost use Rattle.cmd_tables.specs.Listed.{IsPrinted, ListsTables, same_packed};
+ghost use Rattle.run.specs.Limits.{run_step_limit};
+ghost use Rattle.cert.specs.Kinds.{recorded};
+ghost use Rattle.cmd_tables.specs.Listed.{Found, IsFoundIn, IsInForm, ListsTables, alone, of_record, same_packed};
 ghost use Rattle.cmd_tables.specs.Words.{tables_among, tables_in, tables_of_line};
-ghost use Rattle.cmd_tables.specs.inside.{ListsFor};
+ghost use Rattle.cmd_tables.specs.inside.{ListsFor, found_if};
 
 use crate::normal::normal_form;
 use crate::passed::Passed;
 use crate::words::cut_word;
-use cert::append_table;
+use cert::{Record, append_table};
+use cmd_lines::read_line;
 use cmd_options::{Ended, Listing, Outcome, told};
 use cmd_taking::{PIECE_BYTES, Sayer, say_lines};
 use indexmap::IndexSet;
@@ -20,7 +23,8 @@ use std::alloc::Global;
 use std::io::{Read, Write};
 
 /// Reads a text of any form, and prints the tables in it in the standard form, a line each, where they come first: renamed
-/// and mirrored as their runs ask for, if that is wanted. How many lines had none, and how many tables had come before, is
+/// and mirrored as their runs ask for, if that is wanted; and a line that is a record, but for white space at its ends, as
+/// it stands, if records are kept. How many lines had none, and how many tables had come before, is
 /// said on `faults` at the end, and what a failed stream or refused memory ends.
 pub fn cmd_tables<R: Read, W: Write, E: Write>(
     alloc: Global,
@@ -101,12 +105,27 @@ struct Form {
 impl Form {
     // What is printed of a table.
     fn of(&self, t: &Table) -> Result<Table, NoMemory>
-        ensures { IfOk result (IsPrinted self.now.listing t.now) }
+        ensures { IfOk result (IsInForm self.now.listing.normal (min self.now.listing.steps run_step_limit) t.now) }
     {
         if self.listing.normal {
             normal_form(self.alloc, t, self.listing.steps)
         } else {
             Ok(*t)
+        }
+    }
+
+    // The record that a line is, where records are kept.
+    fn record_in<'a>(&self, line: Option<&'a [u8]>) -> Option<Record<'a>>
+        ensures { IsFoundIn self.now.listing.records (lent line.entry)
+            (found_if result (tables_of_line (lent line.entry))) }
+    {
+        if !self.listing.records {
+            return None;
+        }
+        let text = line?;
+        match read_line(Some(text.trim_ascii())) {
+            Ok(record) => Some(record),
+            Err(_) => None,
         }
     }
 }
@@ -118,15 +137,60 @@ struct Count {
     doubles: u64,
 }
 
-// Appends the tables of a line, which is none where it was too long, that come first.
+// Appends what a line has, which is none where it was too long: the record that it is, or the tables in it, where they come
+// first.
 fn list_line(
     form: &Form,
     line: Option<&[u8]>,
     came: &mut IndexSet<Table>,
     said: &mut Vec<u8>,
 ) -> Result<Count, Ended>
+    ensures ok { OnOk result ((found : List Found) × IsFoundIn form.now.listing.records (lent line.entry) found
+        × (more : List ℕ) × ListsFor form.now.listing came.old.keys found came.new.keys more
+        × (said.new.items ≡ said.old.items ++ more)) }
+    ensures err { IfErr result (λ e. e ≡ Ended.NoMemory) }
+{
+    match form.record_in(line) {
+        Some(record) => list_record(form, &record, came, said),
+        None => list_tables_in(form, line, came, said),
+    }
+}
+
+// Appends a record whose table comes first.
+fn list_record(
+    form: &Form,
+    r: &Record<'_>,
+    came: &mut IndexSet<Table>,
+    said: &mut Vec<u8>,
+) -> Result<Count, Ended>
     ensures ok { OnOk result ((more : List ℕ) × ListsFor form.now.listing came.old.keys
-        (tables_of_line (lent line.entry)) came.new.keys more × (said.new.items ≡ said.old.items ++ more)) }
+        (of_record (recorded r.now) ∷ []) came.new.keys more × (said.new.items ≡ said.old.items ++ more)) }
+    ensures err { IfErr result (λ e. e ≡ Ended.NoMemory) }
+{
+    if !put_first(&r.table, came)? {
+        return Ok(Count {
+            tables: 1,
+            doubles: 1,
+        });
+    }
+    r.write_text(said)?;
+    said.extend_from_slice(b"\n")?;
+    Ok(Count {
+        tables: 1,
+        doubles: 0,
+    })
+}
+
+// Appends the tables in a line that come first.
+fn list_tables_in(
+    form: &Form,
+    line: Option<&[u8]>,
+    came: &mut IndexSet<Table>,
+    said: &mut Vec<u8>,
+) -> Result<Count, Ended>
+    ensures ok { OnOk result ((more : List ℕ) × ListsFor form.now.listing came.old.keys
+        (map alone (tables_of_line (lent line.entry))) came.new.keys more
+        × (said.new.items ≡ said.old.items ++ more)) }
     ensures err { IfErr result (λ e. e ≡ Ended.NoMemory) }
 {
     let mut left = line;
@@ -151,7 +215,7 @@ fn list_word(
     said: &mut Vec<u8>,
 ) -> Result<(), Ended>
     ensures ok { OnOk result ((more : List ℕ) × ListsFor form.now.listing came.old.keys
-        (tables_among (word.now ∷ [])) came.new.keys more × (said.new.items ≡ said.old.items ++ more)) }
+        (map alone (tables_among (word.now ∷ []))) came.new.keys more × (said.new.items ≡ said.old.items ++ more)) }
     ensures err { IfErr result (λ e. e ≡ Ended.NoMemory) }
 {
     let Ok(t) = Table::parse(word) else {

@@ -3,7 +3,7 @@ use Rattle.std.specs.Borrow.{Bor}
 use Rattle.cmd_tables.specs.Words.{tables_among}
 use Rattle.cmd_tables.specs.inside.{left_tables}
 use Rattle.cmd_tables.proofs.Firsts.{lists_for_nothing, lists_for_both, left_more, grown}
-use Rattle.cmd_tables.proofs.list.list_line.Goals as goal
+use Rattle.cmd_tables.proofs.list.list_tables_in.Goals as goal
 
 pub words-init : goal.words-init
 words-init c = ([], [], lists_for_nothing c.args.form.now.listing c.args.came.now.keys, sym (append-nil c.args.said.now.items), refl)

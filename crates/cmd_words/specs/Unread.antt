@@ -6,7 +6,7 @@ use Rattle.clap.specs.declared.error.kind.ErrorKind.TheVariants.{DisplayHelp, Di
 use Rattle.cmd_options.specs.declared.outcome.Outcome.{Outcome}
 use Rattle.cmd_options.specs.declared.outcome.Outcome.TheVariants.{Accepted, BadLine, NoMemory, Failed}
 use Rattle.cmd_words.specs.declared.line_fault.LineFault.{LineFault}
-use Rattle.cmd_words.specs.declared.line_fault.LineFault.TheVariants.{Refused, PathForNumber, LedgerOfStream, NotText, NoSuchCommand, OutOfRange, KnownFromInput, NoMemory as WantsMemory}
+use Rattle.cmd_words.specs.declared.line_fault.LineFault.TheVariants.{Refused, PathForNumber, FileForInput, LedgerOfStream, NotText, NoSuchCommand, OutOfRange, KnownFromInput, NoMemory as WantsMemory}
 
 -- memory was refused, or a stream failed when the fault was to be said
 abbrev pub EndsGravely : Outcome → Type 0
@@ -21,6 +21,7 @@ abbrev pub EndsUnread : LineFault → Outcome → Type 0
 EndsUnread (Refused told) o = (IsAskedFor told × (o ≡ Accepted)) ⊎ ((IsAskedFor told → ⊥) × (o ≡ BadLine))
     ⊎ EndsGravely o
 EndsUnread (PathForNumber told) o = (o ≡ BadLine) ⊎ EndsGravely o
+EndsUnread (FileForInput told) o = (o ≡ BadLine) ⊎ EndsGravely o
 EndsUnread LedgerOfStream o = (o ≡ BadLine) ⊎ EndsGravely o
 EndsUnread NotText o = (o ≡ BadLine) ⊎ EndsGravely o
 EndsUnread NoSuchCommand o = (o ≡ BadLine) ⊎ EndsGravely o

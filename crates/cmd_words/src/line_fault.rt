@@ -8,8 +8,8 @@ use std::alloc::{AllocFailed, Global};
 use std::io::{self, Write};
 use thiserror::Error as Fault;
 
-/// Why there are no options: clap refused the words, also for a path where a number belongs, or was asked for help or
-/// the version, the one ledger of a stream was asked for, a word isn't text, clap let through a command or a number
+/// Why there are no options: clap refused the words, also for a path where a number belongs or where lines are read on
+/// standard input, or was asked for help or the version, the one ledger of a stream was asked for, a word isn't text, clap let through a command or a number
 /// that it should have refused, known records would be read from standard input, or memory was refused.
 #[derive(Debug, Drop, Fault)]
 pub enum LineFault {
@@ -18,6 +18,8 @@ pub enum LineFault {
     #[error("{0}\nA number belongs there, and that is a path: a ledger is named as FILE where the command has one, \
 else behind --ledger.\n")]
     PathForNumber(Error),
+    #[error("{0}\nThe lines are read on standard input: a file is given as in `bb check < FILE`.\n")]
+    FileForInput(Error),
     #[error("error: --ledger needs a folder: of standard input (`-`) no one ledger is written\n")]
     LedgerOfStream,
     #[error("error: a word of the command line isn't UTF-8\n")]
@@ -42,6 +44,7 @@ impl LineFault {
         let is_answer = match &self {
             LineFault::Refused(refused) => !refused.use_stderr(),
             LineFault::PathForNumber(_)
+            | LineFault::FileForInput(_)
             | LineFault::LedgerOfStream
             | LineFault::NotText
             | LineFault::NoSuchCommand

@@ -66,16 +66,43 @@ fn asked<'a>(name: &str, command: &ArgMatches<'a>) -> Result<Options<'a>, LineFa
     }
 }
 
-// What clap refuses; named where it is a path in the place of a number.
+// What clap refuses; named where it is a path in the place of a number, or a file of lines.
 fn refused(alloc: Global, fault: Error, words: &[&str]) -> LineFault {
-    if fault.kind() != ErrorKind::ValueValidation {
-        return LineFault::from(fault);
+    match fault.kind() {
+        ErrorKind::ValueValidation => match has_path(alloc, &fault, words) {
+            Ok(true) => LineFault::PathForNumber(fault),
+            Ok(false) => LineFault::from(fault),
+            Err(NoMemory) => LineFault::NoMemory,
+        },
+        ErrorKind::UnknownArgument if reads_lines(words) => match has_file(alloc, &fault, words) {
+            Ok(true) => LineFault::FileForInput(fault),
+            Ok(false) => LineFault::from(fault),
+            Err(NoMemory) => LineFault::NoMemory,
+        },
+        _ => LineFault::from(fault),
     }
-    match has_path(alloc, &fault, words) {
-        Ok(true) => LineFault::PathForNumber(fault),
-        Ok(false) => LineFault::from(fault),
-        Err(NoMemory) => LineFault::NoMemory,
+}
+
+// Whether the command is one that reads lines on standard input and has no file as an argument.
+fn reads_lines(words: &[&str]) -> bool {
+    match words.get(1) {
+        Some(command) => matches!(
+            *command,
+            "check" | "decide" | "explain" | "show" | "tables" | "draw"
+        ),
+        None => false,
     }
+}
+
+// Whether clap speaks of a word that is no option.
+fn has_file(alloc: Global, fault: &Error, words: &[&str]) -> Result<bool, NoMemory> {
+    let said = format!(in alloc; "{fault}")?;
+    for word in words.iter().skip(2) {
+        if !word.starts_with('-') && quotes(alloc, &said, word)? {
+            return Ok(true);
+        }
+    }
+    Ok(false)
 }
 
 // Whether a word of which clap speaks is a path.

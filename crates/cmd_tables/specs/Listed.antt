@@ -4,7 +4,7 @@ use Rattle.std.specs.Prelude.{◌≡◌, ℕ, ◌&&◌, nat_eq, min, Bool, true,
 use Rattle.std.specs.List.{list_any}
 use Rattle.std.specs.Cmp.Lexicographic.{pointwise}
 use Rattle.std.specs.Io.KnownBytes.{Consumes, Appends, IsAtEnd}
-use Rattle.core.specs.Str.{IsTrimAscii}
+use Rattle.std.specs.Str.{IsTrimAscii}
 use Rattle.machine_text.specs.Packed.{Packed}
 use Rattle.machine_text.specs.Text.{text_of}
 use Rattle.text.specs.Lines.{BoundedLine, bounded_line}

@@ -10,9 +10,7 @@ use cmd_json::Form;
 use cmd_nodes::{MaybeLedger, Run, Sockets, coordinate, loop_tree, run_tree};
 use cmd_options::{Beginning, Ended, LedgerFile, Outcome, Settling};
 use cmd_progress::Telling;
-use files::{
-    Disk, DiskLedger, Files, Held, OnDisk, Opened, held_at, ledger_at, lock_ledger,
-};
+use files::{Disk, DiskLedger, Files, Held, OnDisk, Opened, held_at, ledger_at, lock_ledger};
 use lease_core::Worker;
 use std::alloc::Global;
 use std::io::{self, ErrorKind, Read, Write};

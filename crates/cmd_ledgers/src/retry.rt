@@ -90,9 +90,7 @@ pub fn retry_ledger<F: Read + Drop, L: LedgerOut, D: Decider, P: Progress, W: Wr
         (L.text ledger.old) (L.text ledger.new) (W.contents answers.old) (W.contents answers.new)) }
 {
     let (mut board, left) = load_held(alloc, held)?;
-    retry_loaded(
-        alloc, &mut board, &left, ledger, decider, progress, answers,
-    )
+    retry_loaded(alloc, &mut board, &left, ledger, decider, progress, answers)
 }
 
 // Retries from the board of the ledger, and what of it wasn't kept.

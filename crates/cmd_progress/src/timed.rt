@@ -60,7 +60,8 @@ impl<'a, C: Clock, E: Write> TimedProgress<'a, C, E> {
         let share = share_text(self.alloc, weight, WHOLE)?;
         let left = self.left_text(now)?;
         let told = format!(in self.alloc;
-            "{share} of the tree{left}: {records} recorded, {} open, {} holdouts", tally.open_count, tally.holdouts
+            "{share} of the tree{left}: {records} recorded, {} open, {} holdouts",
+            tally.open_count, tally.holdouts
         )?;
         self.teller.say(self.stream, milliseconds, &told)
     }

@@ -50,7 +50,11 @@ impl Way {
         ensures { 1 ≤ result }
     {
         let targets = u64::from(self.states.min(self.used.saturating_add(1)));
-        let ways = if self.undefined / 2 == self.states { 2 } else { 4 };
+        let ways = if self.undefined / 2 == self.states {
+            2
+        } else {
+            4
+        };
         (ways * targets).max(1)
     }
 

@@ -1,4 +1,4 @@
-use Rattle.std.proofs.Common.{sym, ap, subst, inr, List, Contains, None, ◌≡◌}
+use Rattle.std.proofs.Common.{rules, sym, ap, subst, inr, List, Contains, None, ◌≡◌}
 use Rattle.machine_text.specs.Packed.{Packed}
 use Rattle.cert.specs.Kinds.{recorded}
 use Rattle.ledger.specs.Contents.{Contents}

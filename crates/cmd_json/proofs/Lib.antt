@@ -2,3 +2,9 @@ pub mod Texts
 pub mod Floats
 pub mod Appended
 pub mod TreeJsons
+pub mod Characters
+pub mod Numbering
+pub mod WholeNumbers
+pub mod FirstLines
+pub mod Explaining
+pub mod Deciding

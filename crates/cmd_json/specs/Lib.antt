@@ -1,3 +1,8 @@
 pub mod JsonReport
 pub mod Forms
 pub mod TreeJson
+pub mod Ascii
+pub mod Numbered
+pub mod Found
+pub mod Objects
+pub mod LineObjects

@@ -1,0 +1,9 @@
+use Rattle.std.proofs.Common.{refl}
+use Rattle.cmd_json.specs.LineObjects.{SaysChecked}
+use Rattle.cmd_json.specs.declared.checked.Checker.{Checker}
+use Rattle.cmd_json.proofs.Numbering.{stream_kept}
+use Rattle.cmd_json.proofs.checked.check_json_for.Goals as goal
+
+pub returns-clause-ok : goal.returns-clause-ok
+returns-clause-ok g c =
+    stream_kept (λ (d : Checker). d.with_why) (λ (d : Checker). d.lines) SaysChecked _ _ _ _ _ _ _ refl c.in_ok-outcome.ensures.ok

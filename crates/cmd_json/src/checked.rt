@@ -1,0 +1,112 @@
+// `bb check --json`: records in, an object each out.
+ghost use Rattle.std.specs.Prelude.{◌≡◌, ◌⊎◌, ◌∷◌, [], ◌++◌, List, ℕ, IfErr, IfOk};
+ghost use Rattle.cmd_taking.specs.Taken.{lent};
+ghost use Rattle.cmd_json.specs.LineObjects.{SaysChecked};
+ghost use Rattle.cmd_json.specs.Numbered.{AnswersNumbered};
+
+use crate::finding::find;
+use crate::numbered::number_behind;
+use crate::objects::{append_object, check_value};
+use cmd_lines::read_line;
+use cmd_options::{Ended, Outcome};
+use cmd_taking::{PIECE_BYTES, Sayer, say_lines};
+use kind_evidence::NoMemory;
+use std::alloc::Global;
+use std::io::{Read, Write};
+
+/// Checks as `check_for` of `cmd_lines` does, and says each answer as an object of JSON, a line each, with the number
+/// of its own line; where it is asked for why, what is right of a table whose count or score is wrong stands in it too.
+pub fn check_json_for<R: Read, W: Write>(
+    alloc: Global,
+    with_why: bool,
+    input: &mut R,
+    answers: &mut W,
+) -> Result<Outcome, Ended>
+    ensures ok { IfOk result (AnswersNumbered (SaysChecked with_why) (R.remaining input.old) (R.remaining input.new)
+        (W.contents answers.old) (W.contents answers.new)) }
+    ensures err { IfErr result (λ e. (e ≡ Ended.NoMemory) ⊎ (e ≡ Ended.Stream)) }
+{
+    let checker = Checker {
+        alloc,
+        with_why,
+        lines: 0,
+    };
+    let (outcome, _) = say_lines(alloc, checker, PIECE_BYTES, input, answers)?;
+    Ok(outcome)
+}
+
+#[derive(Drop)]
+struct Checker {
+    alloc: Global,
+    with_why: bool,
+    // how many lines there were
+    lines: u64,
+}
+
+impl Sayer for Checker {
+    ghost use Rattle.std.specs.Prelude.{◌≡◌};
+    ghost use Rattle.cmd_options.specs.declared.ended.Ended.TheVariants.{NoMemory as WantsMemory};
+    ghost use Rattle.cmd_json.specs.LineObjects.{SaysChecked};
+    ghost use Rattle.cmd_json.specs.Numbered.{SaysNumbered};
+
+    ghost takes = { λ old line o new said. (new.with_why ≡ old.with_why)
+        × SaysNumbered (SaysChecked old.with_why) old.lines line o new.lines said };
+
+    ghost ends = { λ e. e ≡ WantsMemory };
+
+    fn take_line(&mut self, line: Option<&[u8]>, said: &mut Vec<u8>) -> Result<Outcome, Ended> {
+        self.lines = number_behind(self.lines);
+        Ok(check_json_line(self.alloc, self.with_why, self.lines, line, said)?)
+    }
+}
+
+/// Appends the object that is said to the line with such a number, which is none where it was too long, with a
+/// newline.
+pub fn check_json_line(
+    alloc: Global,
+    with_why: bool,
+    number: u64,
+    line: Option<&[u8]>,
+    out: &mut Vec<u8>,
+) -> Result<Outcome, NoMemory>
+    ensures { IfOk result (λ o. (answer : List ℕ) × SaysChecked with_why number (lent line.entry) o answer
+        × (out.new.items ≡ out.old.items ++ answer ++ 10 ∷ [])) }
+{
+    let read = read_line(line);
+    let finding = find(alloc, with_why, line, &read)?;
+    let object = check_value(alloc, number, line, &read, &finding)?;
+    append_object(alloc, &object, out)?;
+    Ok(finding.outcome())
+}
+
+#[cfg(test)]
+mod tests {
+    use super::*;
+    use std::test::Fail;
+
+    #[test]
+    fn a_wrong_count_is_an_object(rt: HostRuntime) -> Result<(), Fail> {
+        let mut out = Vec::new(rt.alloc());
+        let line = Some(b"1RB1LB_1LA--- H 7 4".as_slice());
+        let outcome = check_json_line(rt.alloc(), false, 3, line, &mut out)?;
+        assert!(rt; outcome == Outcome::Refused);
+        let wanted =
+            "{\"code\":201,\"kind\":\"H\",\"line\":3,\"meaning\":\"it doesn't hold for the table\",\
+                      \"ones\":null,\"steps\":null,\"table\":\"1RB1LB_1LA---\",\
+                      \"text\":\"1RB1LB_1LA--- H 7 4\",\"verdict\":\"refused\"}\n";
+        assert_eq!(rt; out.as_slice(), wanted.as_bytes());
+        Ok(())
+    }
+
+    #[test]
+    fn other_bytes_are_escaped(rt: HostRuntime) -> Result<(), Fail> {
+        let mut out = Vec::new(rt.alloc());
+        let outcome = check_json_line(rt.alloc(), true, 1, Some(b"\x7f\x80\xff\""), &mut out)?;
+        assert!(rt; outcome == Outcome::Refused);
+        let wanted = "{\"code\":301,\"kind\":null,\"line\":1,\
+                      \"meaning\":\"there is no table before the first space\",\"ones\":null,\"steps\":null,\
+                      \"table\":null,\"text\":\"\x7f\\u0080\\u00ff\\\"\",\"verdict\":\"refused\"}\n";
+        assert_eq!(rt; out.as_slice(), wanted.as_bytes());
+        Ok(())
+    }
+}

@@ -21,6 +21,8 @@ LETTERS = "HCTBNFAWPU"
 STATUS = {"working": "Working", "holdouts": "Holdouts", "complete": "Complete"}
 SUMS = re.compile(r"<tr><th scope='row'>SHA-256 of the l.*\n")
 VERSION = subprocess.run([PROGRAM, "--version"], capture_output=True, check=True).stdout.decode().strip()
+TRANSITIONS = re.compile(r"<table class='transitions'>\n.*?</table>\n", re.S)
+STATE = re.compile(r"<tr><th scope='row'>[A-G]</th><td>(...)</td><td>(...)</td></tr>")
 ROW = re.compile(r"<tr><th scope='row'>(.*?)</th><td>(.*?)</td></tr>")
 
 
@@ -49,9 +51,9 @@ def expected(board, left, origin):
     rows += [("Open", told["open"]), ("Most steps", told["best"]), ("Most ones", told["ones"])]
     rows += [("Made by", VERSION), ("SHA-256 of the program", f"<code>{sum_of(PROGRAM)}</code>"), origin]
     kinds = [line.split(b" ")[1].decode() for line in board.lines]
-    rows += [(letter, str(kinds.count(letter))) for letter in LETTERS]
+    rows += [(letter, str(kinds.count(letter))) for letter in LETTERS if letter in kinds]
     entries = [filled(line.split(b" ")[0]) for line in board.lines]
-    rows += [(str(k), str(entries.count(k))) for k in range(2 * len(board.root) + 1)]
+    rows += [(str(k), str(entries.count(k))) for k in range(2 * len(board.root) + 1) if entries]
     return texts, rows, of("champion"), of("ones_champion"), of("holdout")
 
 
@@ -72,11 +74,18 @@ def told_by(page):
     """The same by a page's text, and how many pictures it has."""
     texts = re.findall(r"<p(?: class='left')?>(.*?)</p>", page.split("<h2>Status</h2>")[1].split("</section>")[0])
     texts[0] = texts[0].split("</strong>")[0] + "</strong>"
-    rows = [(re.sub(r"<code>(.)</code>.*", r"\1", name), value) for name, value in ROW.findall(page)]
+    rows = [(re.sub(r"<code>(.)</code>.*", r"\1", name), value) for name, value in ROW.findall(TRANSITIONS.sub("", page))]
     figures = re.findall(r"<figcaption><code>(.*?)</code><br>(\d+) steps</figcaption>", page)
     ones = re.findall(r"<li><code>(.*?)</code></li>", page)
-    holdouts = re.findall(r"<tr id='(.*?)'><td><a href='#\1'>\1</a></td><td>(\d+)</td></tr>", page)
+    holdouts = re.findall(r"<tr id='(.*?)'><td><a href='https://bbchallenge.org/\1'>\1</a></td><td>(\d+)</td></tr>", page)
     return (texts, rows, [table for table, _ in figures], ones, [table for table, _ in holdouts]), page.count("<svg "), figures, holdouts
+
+
+def parts_of(due):
+    """The parts of a page beside the first, and whether there is something in them."""
+    rows = dict(due[1])
+    has_records = "0" in rows
+    return [("kinds", has_records), ("entries", has_records), ("champions", rows["Most steps"] != "none"), ("holdouts", rows["Holdouts"] != "0")]
 
 
 def differs(page, board, left, title, origin):
@@ -88,6 +97,10 @@ def differs(page, board, left, title, origin):
     best = dict(due[1])["Most steps"]
     if pictures != min(8, len(due[2])) or any(steps != best for _, steps in figures) or any(int(n) != filled(t) for t, n in holdouts):
         return f"{pictures} pictures, {figures!r}, {holdouts!r}"
+    if ["_".join(map("".join, STATE.findall(table))) for table in TRANSITIONS.findall(page)] != due[2]:
+        return "not the transitions of the champions"
+    if any((f"<section id='{name}'>" in page) != there or (f"<a href='#{name}'>" in page) != there for name, there in parts_of(due)):
+        return "not the parts in which there is something"
     if page.count(f"<title>{title}</title>") != 1 or page.count(f"<h1>{title}</h1>") != 1:
         return f"not the title {title!r}"
     return None

@@ -79,7 +79,7 @@ fn page_of_records<S, R: Read, W: Write, E>(
         answers,
         ..
     } = call;
-    record_page_for(alloc, title.unwrap_or("Records"), maker, input, answers)
+    record_page_for(alloc, title.unwrap_or("Records"), &maker, input, answers)
 }
 
 fn page_of_file<H: Files, W: Write>(

@@ -18,19 +18,19 @@ use Rattle.std.specs.Io.KnownBytes.{Appends}
 use Rattle.cmd_parts.specs.Gather.{IsGathered}
 use Rattle.cmd_folder_page.specs.Page.{IsListSum, TellsFolder, heading_of}
 
-pub page_told : (version : List ℕ) (program : Option (List ℕ)) (roots : List Packed) (sum : List ℕ) (Finds : Findings) (folder : List ℕ) (said new_said faults new_faults : Option (List ℕ)) (whole : Collected) (sound : Bool) (census : Census) (r : Result Outcome Ended)
+pub page_told : (title version : List ℕ) (program : Option (List ℕ)) (roots : List Packed) (sum : List ℕ) (Finds : Findings) (folder : List ℕ) (said new_said faults new_faults : Option (List ℕ)) (whole : Collected) (sound : Bool) (census : Census) (r : Result Outcome Ended)
     → IsGathered Finds folder whole sound None None faults new_faults (λ (rs : List Recorded). HasCounted rs census)
     → ((parts : List Contents) → IsWhole whole parts → length (joined_with whole.trunk.records parts) < 2 ^ 64)
     → IfOk r (λ o. (parts : List Contents) → IsWhole whole parts
-    → TellsParts (IsPageWith (λ k. get_or census.kinds k 0) (λ k. get_or census.entries k 0) (heading_of folder version program sum)) whole.trunk parts sound said new_said o)
+    → TellsParts (IsPageWith (λ k. get_or census.kinds k 0) (λ k. get_or census.entries k 0) (heading_of title version program sum)) whole.trunk parts sound said new_said o)
     → IsListSum Finds folder roots sum → AreAll (IsOpenOn whole.trunk) roots
-    → IfOk r (TellsFolder version program Finds folder said new_said faults new_faults)
-page_told version program roots sum Finds folder said new_said faults new_faults whole sound census (Ok o) gathered few tells is_sum are_open =
+    → IfOk r (TellsFolder title version program Finds folder said new_said faults new_faults)
+page_told title version program roots sum Finds folder said new_said faults new_faults whole sound census (Ok o) gathered few tells is_sum are_open =
     let parts = gathered.parts in
     let is = gathered.whole_is in
     let told = tells parts is in
     let rs = joined_with whole.trunk.records parts in
-    let all : TellsAll (IsPage (heading_of folder version program sum)) Finds folder None None said new_said faults new_faults o = record {
+    let all : TellsAll (IsPage (heading_of title version program sum)) Finds folder None None said new_said faults new_faults o = record {
       trunk = whole.trunk;
       parts = parts;
       lines = gathered.lines;
@@ -39,7 +39,7 @@ page_told version program roots sum Finds folder said new_said faults new_faults
       are_parts = is.are_parts;
       tells = record {
         text = told.text;
-        is_text = counted_page (heading_of folder version program sum) whole.trunk.root rs Nothing told.text census (exact_census rs census gathered.counts (few parts is)) is.trunk_is.is_table.limit told.is_text;
+        is_text = counted_page (heading_of title version program sum) whole.trunk.root rs Nothing told.text census (exact_census rs census gathered.counts (few parts is)) is.trunk_is.is_table.limit told.is_text;
         says = told.says;
         status = told.status;
         stands = told.stands;
@@ -49,7 +49,7 @@ page_told version program roots sum Finds folder said new_said faults new_faults
       writes = gathered.writes;
     } in
     record { roots = roots; sum = sum; is_sum = is_sum; tells = all; are_open = are_open }
-page_told version program roots sum Finds folder said new_said faults new_faults whole sound census (Err e) gathered few tells is_sum are_open = tt
+page_told title version program roots sum Finds folder said new_said faults new_faults whole sound census (Err e) gathered few tells is_sum are_open = tt
 
 -- all is gathered, but the list of the ledgers isn't summed up
 pub ends_unlisted : (Finds : Findings) (folder : List ℕ) (e : Ended) (trunk : Contents) (parts : List Contents) (lines : List ℕ) (said faults new_faults : Option (List ℕ))

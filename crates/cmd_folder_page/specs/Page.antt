@@ -36,18 +36,18 @@ pub record IsListSum (Finds : Findings) (folder : List ℕ) (roots : List Packed
   pub is_trunk : IsListLine Finds (path_within folder (codes "trunk")) (codes "trunk") trunk
   pub is : sum ≡ sha256 (parts ++ trunk)
 
--- the page of a folder, under its path: of a version of the program with this sum of its bytes
+-- the page of a folder, under a title: of a version of the program with this sum of its bytes
 abbrev pub heading_of : List ℕ → List ℕ → Option (List ℕ) → List ℕ → Headed
-heading_of folder version program sum =
-    record { title = folder; version = version; program = program; ledgers = Folder sum }
+heading_of title version program sum =
+    record { title = title; version = version; program = program; ledgers = Folder sum }
 
 -- of the trunk that a folder holds and of the parts that count the page is printed that one ledger has which holds all of
 -- their records, with the sum of the list of its ledgers; what is wrong with them is said
-pub record TellsFolder (version : List ℕ) (program : Option (List ℕ)) (Finds : Findings) (folder : List ℕ)
+pub record TellsFolder (title version : List ℕ) (program : Option (List ℕ)) (Finds : Findings) (folder : List ℕ)
     (said new_said faults new_faults : Option (List ℕ)) (o : Outcome) : Type 0 where
   pub roots : List Packed
   pub sum : List ℕ
   pub is_sum : IsListSum Finds folder roots sum
-  pub tells : TellsAll (IsPage (heading_of folder version program sum)) Finds folder None None said new_said faults
+  pub tells : TellsAll (IsPage (heading_of title version program sum)) Finds folder None None said new_said faults
       new_faults o
   pub are_open : AreAll (IsOpenOn tells.trunk) roots

@@ -17,19 +17,19 @@ use parts::Whole;
 use std::alloc::Global;
 use std::io::Write;
 
-/// Writes the page of the trunk in a folder and of the parts beside it, under the folder's path as its title, with the
-/// SHA-256 of the list of its ledgers, which are read once more for that. What is
-/// wrong with the trunk or a part is said on `faults` behind its path, as `join_parts` has it, and so is what it answers.
+/// Writes the page of the trunk in a folder and of the parts beside it, under a title, with the SHA-256 of the list of its
+/// ledgers, which are read once more for that. What is wrong with the trunk or a part is said on `faults` behind its path, as `join_parts` has it, and so is what it answers.
 pub fn write_folder_page<S: PartLedgers, W: Write, E: Write>(
     alloc: Global,
     maker: &Maker<'_>,
+    title: &str,
     folder: &str,
     parts: &S,
     answers: &mut W,
     faults: &mut E,
 ) -> Result<Outcome, Ended>
-    ensures tells { IfOk result (TellsFolder maker.now.version.now maker.now.sum (S.finds parts.now) folder.now
-        (W.contents answers.old) (W.contents answers.new) (E.contents faults.old) (E.contents faults.new)) }
+    ensures tells { IfOk result (TellsFolder title.now maker.now.version.now maker.now.sum (S.finds parts.now)
+        folder.now (W.contents answers.old) (W.contents answers.new) (E.contents faults.old) (E.contents faults.new)) }
     ensures ended { IfErr result (λ e. EndsTelling (S.finds parts.now) folder.now e (W.contents answers.old)
         (W.contents answers.new) (E.contents faults.old) (E.contents faults.new)) }
 {
@@ -41,7 +41,7 @@ pub fn write_folder_page<S: PartLedgers, W: Write, E: Write>(
     let roots = open_tables(alloc, whole.trunk())?;
     let sum = list_sum(alloc, folder, parts, &roots)?;
     let heading = Heading {
-        title: folder,
+        title,
         maker: *maker,
         ledgers: LedgerSum::Folder(sum),
     };
@@ -64,12 +64,13 @@ fn count_fits(whole: &Whole)
 pub fn folder_page_at<H: Files, W: Write, E: Write>(
     alloc: Global,
     maker: &Maker<'_>,
+    title: &str,
     folder: &str,
     host: &H,
     answers: &mut W,
     faults: &mut E,
 ) -> Result<Outcome, Ended>
-    ensures tells { IfOk result (TellsFolder maker.now.version.now maker.now.sum (finds_at (H.holds host.now))
+    ensures tells { IfOk result (TellsFolder title.now maker.now.version.now maker.now.sum (finds_at (H.holds host.now))
         folder.now (W.contents answers.old) (W.contents answers.new) (E.contents faults.old)
         (E.contents faults.new)) }
     ensures ended { IfErr result (λ e. EndsTelling (finds_at (H.holds host.now)) folder.now e (W.contents answers.old)
@@ -79,5 +80,5 @@ pub fn folder_page_at<H: Files, W: Write, E: Write>(
         host,
         written: None,
     };
-    write_folder_page(alloc, maker, folder, &parts, answers, faults)
+    write_folder_page(alloc, maker, title, folder, &parts, answers, faults)
 }

@@ -5,3 +5,4 @@ pub mod Counted
 pub mod FigureLaws
 pub mod PageLaws
 pub mod Digits
+pub mod NextStates

@@ -9,16 +9,16 @@ use Rattle.machine_text.specs.Packed.{Packed}
 use Rattle.cert.specs.Claim.{Recorded}
 use Rattle.ledger.specs.declared.left.Left.{Left}
 use Rattle.cmd_ledgers.specs.declared.told.Told.{Told}
-use Rattle.cmd_options.specs.Kinds.{kind_letters, kind_label}
+use Rattle.cmd_options.specs.Kinds.{kind_letters}
 use Rattle.cmd_page.specs.Census.{of_kind, with_entries, letter_of, entry_count}
 use Rattle.cmd_page.specs.Heading.{Headed, origin_html}
 use Rattle.cmd_page.specs.Row.{count_html}
-use Rattle.cmd_page.specs.Page.{IsPage, IsPageWith, kind_html, kinds_html, entries_html, census_html, opening_html, summary_html, champions_html, head_html, holdouts_html}
+use Rattle.cmd_page.specs.Page.{IsPage, IsPageWith, kind_html, kinds_html, entries_html, census_html, opening_html, parts_html, record_count, where_some, summary_html, champions_html, head_html, holdouts_html, ending_html}
 use Rattle.cmd_page.specs.Counting.{HasCounted}
 use Rattle.cmd_page.specs.inside.{IsCensus}
 use Rattle.cmd_page.specs.declared.census.Census.{Census}
 use Rattle.cmd_page.proofs.Counted.{all_counted}
-use Rattle.cmd_page.specs.Style.{kinds_text, entries_text, ending_text}
+use Rattle.cmd_page.specs.Style.{kinds_text, entries_text, rows_end_text, holdouts_text}
 
 -- a text that is appended last
 pub ended : {T E : Type 0} (r : Result T E) (old text new : List ℕ) → new ≡ cond (is_ok r) (old ++ text) old → OnOk r (new ≡ old ++ text)
@@ -45,36 +45,49 @@ rows_end row k m past =
     let none : m - k ≡ 0 = omega (arith, past) in
     ap (λ (n : ℕ). flat_map row (range_with_len k n)) none
 
+-- the rows of kinds, by numbers
+abbrev rows_of : ℕ → (ℕ → ℕ) → List ℕ → List ℕ
+rows_of total f letters = flat_map (λ letter. kind_html total (f letter) letter) letters
+
 -- a letter is a byte
-same_rows : (f g : ℕ → ℕ) → ((k : ℕ) → k < 256 → f k ≡ g k) → (letters : List ℕ) → list_all (λ letter. ltb letter 256) letters ≡ true → flat_map (kind_html f) letters ≡ flat_map (kind_html g) letters
-same_rows f g same [] bytes = refl
-same_rows f g same (letter ∷ letters) bytes =
-    elim (ltb letter 256) as (λ v. ltb letter 256 ≡ v → (v && list_all (λ letter. ltb letter 256) letters) ≡ true → flat_map (kind_html f) (letter ∷ letters) ≡ flat_map (kind_html g) (letter ∷ letters)) [
+same_rows : (total : ℕ) (f g : ℕ → ℕ) → ((k : ℕ) → k < 256 → f k ≡ g k) → (letters : List ℕ) → list_all (λ letter. ltb letter 256) letters ≡ true → rows_of total f letters ≡ rows_of total g letters
+same_rows total f g same [] bytes = refl
+same_rows total f g same (letter ∷ letters) bytes =
+    elim (ltb letter 256) as (λ v. ltb letter 256 ≡ v → (v && list_all (λ letter. ltb letter 256) letters) ≡ true → rows_of total f (letter ∷ letters) ≡ rows_of total g (letter ∷ letters)) [
       | true ↦ λ is rest.
-          ap (λ (n : ℕ). count_html (kind_label letter) n ++ flat_map (kind_html f) letters) (same letter (grind (arith, nat_tests)))
-          ∙ ap (λ (l : List ℕ). count_html (kind_label letter) (g letter) ++ l) (same_rows f g same letters rest)
+          ap (λ (n : ℕ). kind_html total n letter ++ rows_of total f letters) (same letter (grind (arith, nat_tests)))
+          ∙ ap (λ (l : List ℕ). kind_html total (g letter) letter ++ l) (same_rows total f g same letters rest)
       | false ↦ λ is rest. absurd (cc)
     ] refl bytes
 
-same_kinds : (f g : ℕ → ℕ) → ((k : ℕ) → k < 256 → f k ≡ g k) → kinds_html f ≡ kinds_html g
-same_kinds f g same = same_rows f g same kind_letters refl
+same_kinds : (total : ℕ) (f g : ℕ → ℕ) → ((k : ℕ) → k < 256 → f k ≡ g k) → kinds_html total f ≡ kinds_html total g
+same_kinds total f g same = same_rows total f g same kind_letters refl
 
 -- all before the rows of the holdouts, part by part
-pub whole_head : (heading : Headed) (left : Left) (told : Told) (figures : List ℕ) (kinds entries : ℕ → ℕ) (n : ℕ) (h0 h1 h2 h3 h4 h5 : List ℕ)
-    → h0 ≡ [] → h1 ≡ h0 ++ opening_html heading.title → h2 ≡ h1 ++ summary_html told.root told.status told.tally left
-    → h3 ≡ h2 ++ origin_html heading → h4 ≡ h3 ++ census_html n kinds entries
-    → h5 ≡ h4 ++ champions_html figures (into_iter_items told.ones_champions)
-    → n ≡ told.root.states → h5 ≡ head_html heading kinds entries left told figures
+pub whole_head : (heading : Headed) (left : Left) (told : Told) (figures : List ℕ) (kinds entries : ℕ → ℕ) (n : ℕ) (h0 h1 h2 h3 h4 h5 h6 h7 h8 : List ℕ)
+    → h0 ≡ [] → h1 ≡ h0 ++ opening_html heading.title → h2 ≡ h1 ++ parts_html told.tally → h3 ≡ h2 ++ summary_html told.root told.status told.tally left
+    → h4 ≡ h3 ++ origin_html heading → h5 ≡ h4 ++ rows_end_text
+    → h6 ≡ h5 ++ where_some (record_count told.tally) (census_html n (record_count told.tally) kinds entries)
+    → h7 ≡ h6 ++ champions_html told.tally.best figures (into_iter_items told.ones_champions)
+    → h8 ≡ h7 ++ where_some told.tally.holdouts holdouts_text
+    → n ≡ told.root.states → h8 ≡ head_html heading kinds entries left told figures
 unfolding head_html
-whole_head heading left told figures kinds entries n h0 h1 h2 h3 h4 h5 e0 e1 e2 e3 e4 e5 states =
+whole_head heading left told figures kinds entries n h0 h1 h2 h3 h4 h5 h6 h7 h8 e0 e1 e2 e3 e4 e5 e6 e7 e8 states =
     let opening = opening_html heading.title in
-    let first : h1 ≡ opening = e1 ∙ ap (λ (l : List ℕ). l ++ opening) e0 in
+    let parts = parts_html told.tally in
     let summary = summary_html told.root told.status told.tally left in
-    let second : h2 ≡ opening ++ summary = e2 ∙ ap (λ (l : List ℕ). l ++ summary) first in
-    let third : h3 ≡ opening ++ summary ++ origin_html heading = e3 ∙ ap (λ (l : List ℕ). l ++ origin_html heading) second in
-    let fourth : h4 ≡ opening ++ summary ++ origin_html heading ++ census_html told.root.states kinds entries =
-    e4 ∙ (ap (λ (m : ℕ). h3 ++ census_html m kinds entries) states ∙ ap (λ (l : List ℕ). l ++ census_html told.root.states kinds entries) third) in
-    e5 ∙ ap (λ (l : List ℕ). l ++ champions_html figures (into_iter_items told.ones_champions)) fourth
+    let origin = origin_html heading in
+    let census : ℕ → List ℕ = λ m. where_some (record_count told.tally) (census_html m (record_count told.tally) kinds entries) in
+    let champions = champions_html told.tally.best figures (into_iter_items told.ones_champions) in
+    let p1 : h1 ≡ opening = e1 ∙ ap (λ (l : List ℕ). l ++ opening) e0 in
+    let p2 : h2 ≡ opening ++ parts = e2 ∙ ap (λ (l : List ℕ). l ++ parts) p1 in
+    let p3 : h3 ≡ opening ++ parts ++ summary = e3 ∙ ap (λ (l : List ℕ). l ++ summary) p2 in
+    let p4 : h4 ≡ opening ++ parts ++ summary ++ origin = e4 ∙ ap (λ (l : List ℕ). l ++ origin) p3 in
+    let p5 : h5 ≡ opening ++ parts ++ summary ++ origin ++ rows_end_text = e5 ∙ ap (λ (l : List ℕ). l ++ rows_end_text) p4 in
+    let p6 : h6 ≡ opening ++ parts ++ summary ++ origin ++ rows_end_text ++ census told.root.states =
+    e6 ∙ (ap (λ (m : ℕ). h5 ++ census m) states ∙ ap (λ (l : List ℕ). l ++ census told.root.states) p5) in
+    let p7 : h7 ≡ opening ++ parts ++ summary ++ origin ++ rows_end_text ++ census told.root.states ++ champions = e7 ∙ ap (λ (l : List ℕ). l ++ champions) p6 in
+    e8 ∙ ap (λ (l : List ℕ). l ++ where_some told.tally.holdouts holdouts_text) p7
 
 pub exact_census : (rs : List Recorded) (census : Census) → HasCounted rs census → length rs < 2 ^ 64 → IsCensus rs census
 exact_census rs census counted few = record {
@@ -92,17 +105,18 @@ counted_page heading root rs left text census counted limit page =
     let same_root : n ≡ root.states = ap (λ (p : Packed). p.states) page.is_told.root_is in
     let of_kinds : ℕ → ℕ = λ k. get_or census.kinds k 0 in
     let of_entries : ℕ → ℕ = λ k. get_or census.entries k 0 in
-    let kinds = same_kinds of_kinds (of_kind rs) counted.kinds in
+    let total = record_count told.tally in
+    let kinds = same_kinds total of_kinds (of_kind rs) counted.kinds in
     let entries = same_entries of_entries (with_entries rs) 0 (2 * n + 1) (λ k within. counted.entries k (omega (arith, within, limit, same_root))) in
-    let census_is : census_html n of_kinds of_entries ≡ census_html n (of_kind rs) (with_entries rs) =
-    ap (λ (l : List ℕ). kinds_text ++ l ++ entries_text ++ entries_html n of_entries) kinds
-    ∙ ap (λ (l : List ℕ). kinds_text ++ kinds_html (of_kind rs) ++ entries_text ++ l) entries in
-    let before = opening_html heading.title ++ summary_html told.root told.status told.tally left ++ origin_html heading in
-    let champions = champions_html page.figures (into_iter_items told.ones_champions) in
+    let census_is : census_html n total of_kinds of_entries ≡ census_html n total (of_kind rs) (with_entries rs) =
+    ap (λ (l : List ℕ). kinds_text ++ l ++ rows_end_text ++ entries_text ++ entries_html n of_entries ++ rows_end_text) kinds
+    ∙ ap (λ (l : List ℕ). kinds_text ++ kinds_html total (of_kind rs) ++ rows_end_text ++ entries_text ++ l ++ rows_end_text) entries in
+    let before = opening_html heading.title ++ parts_html told.tally ++ summary_html told.root told.status told.tally left ++ origin_html heading ++ rows_end_text in
+    let champions = champions_html told.tally.best page.figures (into_iter_items told.ones_champions) in
     record {
       told = told;
       is_told = page.is_told;
       figures = page.figures;
       are_figures = page.are_figures;
-      is = page.is ∙ ap (λ (l : List ℕ). before ++ l ++ champions ++ holdouts_html (into_iter_items told.holdouts) ++ ending_text) census_is;
+      is = page.is ∙ ap (λ (l : List ℕ). before ++ where_some total l ++ champions ++ where_some told.tally.holdouts holdouts_text ++ holdouts_html (into_iter_items told.holdouts) ++ ending_html told.tally.holdouts) census_is;
     }

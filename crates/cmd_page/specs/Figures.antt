@@ -11,6 +11,7 @@ use Rattle.cmd_page.specs.Groups.{grouped}
 use Rattle.cmd_picture.specs.Rows.{Shown, AreRows}
 use Rattle.cmd_picture.specs.Svg.{svg_text}
 use Rattle.cmd_picture.specs.Visits.{IsPlaced}
+use Rattle.cmd_page.specs.Transitions.{transitions_html}
 
 -- how many champions have a picture
 abbrev pub picture_limit : ℕ
@@ -47,8 +48,8 @@ abbrev pub sampling_html : View → Times → List ℕ
 sampling_html v times = codes "<p class='sampled'>A row " ++ every_text times.every ++ codes ", " ++ grouped v.width
     ++ codes " cells in " ++ grouped (columns_of v) ++ codes " columns</p>\n"
 
--- a picture of a table's run up to its halting: the configurations at these times, in all cells that it visits, and how
--- they are sampled
+-- a picture of a table's run up to its halting, or of so many of its steps: the configurations at these times, in all
+-- cells that it visits, and how they are sampled
 pub record IsChampionPicture (t : Packed) (best : ℕ) (html : List ℕ) : Type 0 where
   pub visited : View
   pub rows : List Shown
@@ -66,9 +67,10 @@ abbrev pub caption_html : Packed → ℕ → List ℕ
 caption_html t best = codes "<figcaption><code>" ++ text_of t ++ codes "</code><br>" ++ grouped best
     ++ codes " steps</figcaption>\n"
 
--- a table with its picture and its number of steps
+-- a table with its picture, its transitions and its number of steps
 unfoldable pub figure_html : Packed → ℕ → List ℕ → List ℕ
-figure_html t best svg = codes "<figure>\n" ++ svg ++ caption_html t best ++ codes "</figure>\n"
+figure_html t best svg =
+    codes "<figure>\n" ++ svg ++ transitions_html t ++ caption_html t best ++ codes "</figure>\n"
 
 -- a figure for each table, with a picture for as many as may have one
 unfoldable pub AreFiguresOf : ℕ → ℕ → List Packed → List ℕ → Type 0

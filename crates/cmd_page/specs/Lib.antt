@@ -1,8 +1,11 @@
 pub mod Escaped
 pub mod Census
 pub mod Groups
+pub mod Transitions
 pub mod Figures
 pub mod Style
+pub mod Script
+pub mod KindWords
 pub mod Sentence
 pub mod Row
 pub mod Heading

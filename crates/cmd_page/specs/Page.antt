@@ -1,5 +1,5 @@
--- The text of a page, to the byte.
-use Rattle.std.specs.Prelude.{◌≡◌, ℕ, ◌+◌, ◌*◌, List, [], ◌++◌, codes, decimal, flat_map}
+-- The text of a page, to the byte. A part in which there would be nothing isn't there.
+use Rattle.std.specs.Prelude.{◌≡◌, ℕ, ◌+◌, ◌-◌, ◌*◌, ◌==◌, if◌then◌else◌, List, [], ◌++◌, Option, Some, None, codes, decimal, flat_map}
 use Rattle.std.specs.List.{range_with_len}
 use Rattle.std.specs.Vec.Iter.{into_iter_items}
 use Rattle.machine_text.specs.Packed.{Packed}
@@ -19,11 +19,35 @@ use Rattle.cmd_page.specs.Figures.{AreFigures}
 use Rattle.cmd_page.specs.Heading.{Headed, origin_html}
 use Rattle.cmd_page.specs.Row.{count_html, most_html}
 use Rattle.cmd_page.specs.Sentence.{sentence_html}
-use Rattle.cmd_page.specs.Style.{opening_text, heading_text, parts_text, kinds_text, entries_text, champions_text, ones_champions_text, holdouts_text, ending_text}
+use Rattle.cmd_page.specs.KindWords.{kind_words}
+use Rattle.cmd_page.specs.Script.{script_text}
+use Rattle.cmd_page.specs.Style.{opening_text, heading_text, parts_text, record_links_text, champions_link_text, holdouts_link_text, status_text}
+use Rattle.cmd_page.specs.Style.{rows_end_text, kinds_text, entries_text, champions_text, ones_champions_text, items_end_text, holdouts_text, ending_text}
 
 -- the title, in the title bar and as the heading
 abbrev pub opening_html : List ℕ → List ℕ
-opening_html title = opening_text ++ escaped title ++ heading_text ++ escaped title ++ parts_text
+opening_html title = opening_text ++ escaped title ++ heading_text ++ escaped title
+
+-- what stands where there are some, and where there is a greatest number
+abbrev pub where_some : ℕ → List ℕ → List ℕ
+where_some n text = if n == 0 then [] else text
+
+abbrev pub where_found : Option ℕ → List ℕ → List ℕ
+where_found None text = []
+where_found (Some n) text = text
+
+-- of how many tables there are records
+abbrev pub record_count : Tally → ℕ
+record_count tally = tally.nodes - tally.open_count
+
+-- the links to the parts that are there
+abbrev pub parts_html : Tally → List ℕ
+parts_html tally =
+    parts_text
+    ++ where_some (record_count tally) record_links_text
+    ++ where_found tally.best champions_link_text
+    ++ where_some tally.holdouts holdouts_link_text
+    ++ status_text
 
 abbrev pub root_html : Packed → List ℕ
 root_html root = codes "<p>Root " ++ code_html root ++ codes "</p>\n<table>\n"
@@ -57,19 +81,30 @@ abbrev pub summary_html : Packed → Status → Tally → Left → List ℕ
 summary_html root status tally left =
     status_html status ++ sentence_html root status ++ left_html left ++ root_html root ++ tally_html tally
 
--- a row for each kind, by how many there are of its letter
-abbrev pub kind_html : (ℕ → ℕ) → ℕ → List ℕ
-kind_html number letter = count_html (kind_label letter) (number letter)
+-- how large a share of all records is
+abbrev pub share_html : ℕ → ℕ → List ℕ
+share_html total n = codes "<meter max='" ++ decimal total ++ codes "' value='" ++ decimal n ++ codes "'></meter>"
 
-abbrev pub kinds_html : (ℕ → ℕ) → List ℕ
-kinds_html number = flat_map (kind_html number) kind_letters
+-- what a kind is, beneath its share
+abbrev pub means_html : ℕ → ℕ → ℕ → List ℕ
+means_html total n letter =
+    codes "<tr><td class='means' colspan='2'>" ++ share_html total n ++ kind_words letter ++ codes "</td></tr>\n"
+
+-- the rows of a kind, by how many there are of its letter, where there are some
+abbrev pub kind_html : ℕ → ℕ → ℕ → List ℕ
+kind_html total n letter = where_some n (count_html (kind_label letter) n ++ means_html total n letter)
+
+-- those of each kind
+abbrev pub kinds_html : ℕ → (ℕ → ℕ) → List ℕ
+kinds_html total number = flat_map (λ letter. kind_html total (number letter) letter) kind_letters
 
 -- a row for each number of entries that a table of n states may have
 abbrev pub entries_html : ℕ → (ℕ → ℕ) → List ℕ
 entries_html n number = flat_map (λ k. count_html (decimal k) (number k)) (range_with_len 0 (2 * n + 1))
 
-abbrev pub census_html : ℕ → (ℕ → ℕ) → (ℕ → ℕ) → List ℕ
-census_html n kinds entries = kinds_text ++ kinds_html kinds ++ entries_text ++ entries_html n entries
+abbrev pub census_html : ℕ → ℕ → (ℕ → ℕ) → (ℕ → ℕ) → List ℕ
+census_html n total kinds entries =
+    kinds_text ++ kinds_html total kinds ++ rows_end_text ++ entries_text ++ entries_html n entries ++ rows_end_text
 
 -- tables in a list
 abbrev pub item_html : Packed → List ℕ
@@ -78,16 +113,18 @@ item_html t = codes "<li>" ++ code_html t ++ codes "</li>\n"
 abbrev pub items_html : List Packed → List ℕ
 items_html tables = flat_map item_html tables
 
--- the champions by scores, and what stands before the rows of the holdouts
+-- the champions by scores
 abbrev pub ones_champions_html : List Packed → List ℕ
-ones_champions_html tables = ones_champions_text ++ items_html tables ++ holdouts_text
+ones_champions_html tables = ones_champions_text ++ items_html tables ++ items_end_text
 
-abbrev pub champions_html : List ℕ → List Packed → List ℕ
-champions_html figures ones_champions = champions_text ++ figures ++ ones_champions_html ones_champions
+-- the champions, where there is a greatest number of steps
+abbrev pub champions_html : Option ℕ → List ℕ → List Packed → List ℕ
+champions_html best figures ones_champions =
+    where_found best (champions_text ++ figures ++ ones_champions_html ones_champions)
 
--- a holdout's row, to which its text is the link
+-- a holdout's text, as a link to what others know of it
 abbrev pub link_html : List ℕ → List ℕ
-link_html text = codes "<td><a href='#" ++ text ++ codes "'>" ++ text ++ codes "</a></td>"
+link_html text = codes "<td><a href='https://bbchallenge.org/" ++ text ++ codes "'>" ++ text ++ codes "</a></td>"
 
 -- and how many entries it has
 abbrev pub last_cell_html : ℕ → List ℕ
@@ -99,18 +136,25 @@ holdout_html t = codes "<tr id='" ++ text_of t ++ codes "'>" ++ link_html (text_
 abbrev pub holdouts_html : List Packed → List ℕ
 holdouts_html tables = flat_map holdout_html tables
 
+-- what stands behind them; nothing but the end of the page where there is none
+abbrev pub ending_html : ℕ → List ℕ
+ending_html n = if n == 0 then ending_text else script_text
+
 -- all before the rows of the holdouts, by how many records there are of each kind and of tables with so many entries
 unfoldable pub head_html : Headed → (ℕ → ℕ) → (ℕ → ℕ) → Left → Told → List ℕ → List ℕ
 head_html heading kinds entries left told figures =
     opening_html heading.title
+    ++ parts_html told.tally
     ++ summary_html told.root told.status told.tally left
-    ++ origin_html heading
-    ++ census_html told.root.states kinds entries
-    ++ champions_html figures (into_iter_items told.ones_champions)
+    ++ origin_html heading ++ rows_end_text
+    ++ where_some (record_count told.tally) (census_html told.root.states (record_count told.tally) kinds entries)
+    ++ champions_html told.tally.best figures (into_iter_items told.ones_champions)
+    ++ where_some told.tally.holdouts holdouts_text
 
 abbrev pub page_html : Headed → (ℕ → ℕ) → (ℕ → ℕ) → Left → Told → List ℕ → List ℕ
 page_html heading kinds entries left told figures =
-    head_html heading kinds entries left told figures ++ holdouts_html (into_iter_items told.holdouts) ++ ending_text
+    head_html heading kinds entries left told figures ++ holdouts_html (into_iter_items told.holdouts)
+    ++ ending_html told.tally.holdouts
 
 -- a page of a root and the records held from it, under a heading, but that these are the numbers of kinds and entries
 pub record IsPageWith (kinds entries : ℕ → ℕ) (heading : Headed) (root : Packed) (rs : List Recorded) (left : Left)

@@ -3,10 +3,9 @@ use Rattle.std.specs.Prelude.{◌≡◌, ℕ, ◌<◌, List, ◌++◌, slice_ind
 use Rattle.std.specs.Vec.Iter.{into_iter_items}
 use Rattle.cert.specs.Claim.{Recorded}
 use Rattle.cmd_page.specs.Census.{of_kind, with_entries}
-use Rattle.cmd_page.specs.Page.{holdouts_html}
+use Rattle.cmd_page.specs.Page.{ending_html, holdouts_html}
 use Rattle.cmd_page.specs.declared.census.Census.{Census}
 use Rattle.cmd_page.specs.declared.making.MadePage.{MadePage}
-use Rattle.cmd_page.specs.Style.{ending_text}
 
 -- what is counted of records
 pub record IsCensus (rs : List Recorded) (census : Census) : Type 0 where
@@ -15,4 +14,6 @@ pub record IsCensus (rs : List Recorded) (census : Census) : Type 0 where
 
 -- the bytes of a page that is made
 abbrev pub bytes_of_page : MadePage → List ℕ
-bytes_of_page made = made.head.items ++ holdouts_html (into_iter_items made.holdouts) ++ ending_text
+bytes_of_page made =
+    made.head.items ++ holdouts_html (into_iter_items made.holdouts)
+    ++ ending_html made.holdout_count

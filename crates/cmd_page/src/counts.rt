@@ -1,34 +1,87 @@
 // The rows of what is counted.
 ghost use Rattle.std.specs.Prelude.{◌≡◌, ◌++◌, ◌≤◌, slice_index, OnOk};
 ghost use Rattle.machine_text.specs.Limits.{state_limit};
-ghost use Rattle.cmd_page.specs.Page.{kinds_html, entries_html, census_html};
+ghost use Rattle.cmd_page.specs.Page.{census_html, entries_html, kind_html, kinds_html, means_html, share_html, where_some};
 
 use crate::census::Census;
+use crate::kind_words::kind_words;
 use crate::rows::{append_count, append_numbered};
 use crate::style;
 use cmd_options::{LETTERS, kind_label};
 use kind_evidence::NoMemory;
+use text::append_number;
 
-// Appends what is counted of the records of a board, whose tables have so many states.
-pub(crate) fn append_census(states: u8, census: &Census, out: &mut Vec<u8>) -> Result<(), NoMemory>
+// Appends what is counted of the records of a board, of which there are so many and whose tables have so many states,
+// where there are records.
+pub(crate) fn append_census(
+    states: u8,
+    total: u64,
+    census: &Census,
+    out: &mut Vec<u8>,
+) -> Result<(), NoMemory>
     requires { states ≤ state_limit }
-    ensures { OnOk result (out.new.items ≡ out.old.items
-        ++ census_html states (slice_index census.now.kinds) (slice_index census.now.entries)) }
+    ensures { OnOk result (out.new.items ≡ out.old.items ++ where_some total
+        (census_html states total (slice_index census.now.kinds) (slice_index census.now.entries))) }
 {
-    out.extend_from_slice(style::kinds())?;
-    append_kinds(&census.kinds, out)?;
-    out.extend_from_slice(style::entries())?;
-    append_entries(states, &census.entries, out)
+    if total == 0 {
+        return Ok(());
+    }
+    append_counts(states, total, census, out)
 }
 
-// Appends a row for each kind.
-fn append_kinds(kinds: &[u64; 256], out: &mut Vec<u8>) -> Result<(), NoMemory>
-    ensures { OnOk result (out.new.items ≡ out.old.items ++ kinds_html (slice_index kinds.now)) }
+fn append_counts(states: u8, total: u64, census: &Census, out: &mut Vec<u8>) -> Result<(), NoMemory>
+    requires { states ≤ state_limit }
+    ensures { OnOk result (out.new.items ≡ out.old.items
+        ++ census_html states total (slice_index census.now.kinds) (slice_index census.now.entries)) }
+{
+    out.extend_from_slice(style::kinds())?;
+    append_kinds(total, &census.kinds, out)?;
+    out.extend_from_slice(style::rows_end())?;
+    out.extend_from_slice(style::entries())?;
+    append_entries(states, &census.entries, out)?;
+    out.extend_from_slice(style::rows_end())
+}
+
+// Appends the rows of each kind.
+fn append_kinds(total: u64, kinds: &[u64; 256], out: &mut Vec<u8>) -> Result<(), NoMemory>
+    ensures { OnOk result (out.new.items ≡ out.old.items ++ kinds_html total (slice_index kinds.now)) }
 {
     for letter in LETTERS {
-        append_count(kind_label(*letter), kinds[*letter as usize], out)?;
+        append_kind(total, kinds[*letter as usize], *letter, out)?;
     }
     Ok(())
+}
+
+// Appends the rows of a kind, where there are records of it.
+fn append_kind(total: u64, n: u64, letter: u8, out: &mut Vec<u8>) -> Result<(), NoMemory>
+    ensures { OnOk result (out.new.items ≡ out.old.items ++ kind_html total n letter) }
+{
+    if n == 0 {
+        return Ok(());
+    }
+    append_count(kind_label(letter), n, out)?;
+    append_means(total, n, letter, out)
+}
+
+// Appends what a kind is, beneath its share.
+fn append_means(total: u64, n: u64, letter: u8, out: &mut Vec<u8>) -> Result<(), NoMemory>
+    ensures { OnOk result (out.new.items ≡ out.old.items ++ means_html total n letter) }
+{
+    out.extend_from_slice(b"<tr><td class='means' colspan='2'>")?;
+    append_share(total, n, out)?;
+    out.extend_from_slice(kind_words(letter))?;
+    out.extend_from_slice(b"</td></tr>\n")
+}
+
+// Appends how large a share of all records is.
+fn append_share(total: u64, n: u64, out: &mut Vec<u8>) -> Result<(), NoMemory>
+    ensures { OnOk result (out.new.items ≡ out.old.items ++ share_html total n) }
+{
+    out.extend_from_slice(b"<meter max='")?;
+    append_number(total, out)?;
+    out.extend_from_slice(b"' value='")?;
+    append_number(n, out)?;
+    out.extend_from_slice(b"'></meter>")
 }
 
 // Appends a row for each number of entries.

@@ -2,9 +2,10 @@
 ghost use Rattle.std.specs.Prelude.{◌≡◌, ℕ, ◌<◌, ◌++◌, List, IfOk, OnOk};
 ghost use Rattle.std.specs.Vec.Iter.{into_iter_items};
 ghost use Rattle.cmd_picture.specs.Times.{AreWithinRuns};
-ghost use Rattle.cmd_page.specs.Figures.{AreFigures, AreFiguresOf, IsChampionPicture, IsPictureIf, caption_html, every_text, figure_html, picture_limit, picture_times, sampling_html};
+ghost use Rattle.cmd_page.specs.Figures.{AreFiguresOf, IsChampionPicture, IsPictureIf, caption_html, every_text, figure_html, picture_limit, picture_times, sampling_html};
 
 use crate::groups::append_grouped;
+use crate::transitions::append_transitions;
 use cmd_picture::{Size, Times, View, placement, svg};
 use kind_evidence::NoMemory;
 use ledger::Champions;
@@ -28,24 +29,8 @@ const PICTURE_SIZE: Size = Size {
 // The most steps of a picture: those that a record of a table that halts may claim.
 const MAX_PICTURE_STEPS: u64 = 100_000_000;
 
-// Appends a figure for each champion by steps, as many as have room with a picture.
+// Appends a figure for each champion, which halts in so many steps: as many as have room with a picture.
 pub(crate) fn append_figures(
-    alloc: Global,
-    best: Option<u64>,
-    champions: Champions,
-    out: &mut Vec<u8>,
-) -> Result<(), NoMemory>
-    ensures { OnOk result ((html : List ℕ) × AreFigures best (into_iter_items champions) html
-        × (out.new.items ≡ out.old.items ++ html)) }
-{
-    match best {
-        Some(best) => append_figures_of(alloc, best, champions, out),
-        None => Ok(()),
-    }
-}
-
-// Appends the figures of champions that halt in so many steps.
-fn append_figures_of(
     alloc: Global,
     best: u64,
     champions: Champions,
@@ -63,13 +48,14 @@ fn append_figures_of(
     Ok(())
 }
 
-// Appends the figure of a table with its picture.
+// Appends the figure of a table with its picture and its transitions.
 #[tactic(auto, unfolding(crate::specs::Figures::figure_html))]
 fn append_figure(t: &Table, best: u64, picture: &[u8], out: &mut Vec<u8>) -> Result<(), NoMemory>
     ensures { OnOk result (out.new.items ≡ out.old.items ++ figure_html t.now best picture.now) }
 {
     out.extend_from_slice(b"<figure>\n")?;
     out.extend_from_slice(picture)?;
+    append_transitions(t, out)?;
     append_caption(t, best, out)?;
     out.extend_from_slice(b"</figure>\n")
 }
@@ -90,14 +76,15 @@ fn picture_if(alloc: Global, wanted: bool, t: Table, best: u64) -> Result<Vec<u8
     ensures { IfOk result (λ svg. IsPictureIf wanted t best svg.items) }
 {
     if wanted {
-        picture_of(alloc, t, best)
+        run_picture(alloc, t, best)
     } else {
         Ok(Vec::new(alloc))
     }
 }
 
-// The picture of a table's run up to its halting, which is recorded to come with so many steps, and how it is sampled.
-fn picture_of(alloc: Global, t: Table, best: u64) -> Result<Vec<u8>, NoMemory>
+/// The picture of a table's run up to its halting, which is recorded to come with so many steps, and how it is sampled;
+/// where it doesn't halt then, of so many steps.
+pub fn run_picture(alloc: Global, t: Table, best: u64) -> Result<Vec<u8>, NoMemory>
     ensures { IfOk result (λ html. IsChampionPicture t best html.items) }
 {
     let times = picture_times(best);

@@ -52,8 +52,8 @@ pub enum LedgerSum {
     Folder([u8; 32]),
 }
 
-// Appends the rows that say what a page is made from.
-pub(crate) fn append_origin(heading: &Heading<'_>, out: &mut Vec<u8>) -> Result<(), NoMemory>
+/// Appends the rows that say what a page is made from.
+pub fn append_origin(heading: &Heading<'_>, out: &mut Vec<u8>) -> Result<(), NoMemory>
     ensures { OnOk result (out.new.items ≡ out.old.items ++ origin_html heading.now) }
 {
     append_name(b"Made by", out)?;

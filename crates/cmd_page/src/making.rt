@@ -5,8 +5,9 @@ ghost use Rattle.machine_text.specs.Limits.{state_limit};
 ghost use Rattle.machine_text.specs.Packed.{Packed};
 ghost use Rattle.cert.specs.Claim.{Recorded};
 ghost use Rattle.cmd_ledgers.specs.Told.{IsToldOf};
-ghost use Rattle.cmd_page.specs.Figures.{AreFigures};
+ghost use Rattle.cmd_page.specs.Figures.{AreFigures, AreFiguresOf, picture_limit};
 ghost use Rattle.cmd_page.specs.Page.{IsPage, IsPageWith, champions_html, ones_champions_html};
+ghost use Rattle.cmd_page.specs.Style.{champions_text};
 ghost use Rattle.cmd_page.specs.inside.{bytes_of_page};
 
 use crate::census::{Census, census_of};
@@ -15,7 +16,9 @@ use crate::figures::append_figures;
 use crate::heading::{Heading, append_origin};
 use crate::rows::append_items;
 use crate::style;
-use crate::summary::{append_opening, append_summary};
+use crate::summary::{
+    append_opening, append_parts, append_summary, append_where_some, record_count,
+};
 use cmd_ledgers::Told;
 use kind_evidence::NoMemory;
 use ledger::{Board, Champions, Holdouts, Left};
@@ -30,6 +33,7 @@ pub struct MadePage {
     // all before the rows of the holdouts
     pub(crate) head: Vec<u8>,
     pub(crate) holdouts: Holdouts,
+    pub(crate) holdout_count: u64,
 }
 
 // Makes the page of a board, and of what wasn't kept of its ledger.
@@ -67,14 +71,21 @@ pub(crate) fn told_page(
     } = told;
     let mut head = Vec::with_capacity(alloc, PIECE_BYTES)?;
     append_opening(heading.title.as_bytes(), &mut head)?;
+    append_parts(&tally, &mut head)?;
     append_summary(&root, status, &tally, left, &mut head)?;
     append_origin(heading, &mut head)?;
-    append_census(root.states(), census, &mut head)?;
+    head.extend_from_slice(style::rows_end())?;
+    append_census(root.states(), record_count(&tally), census, &mut head)?;
     append_champions(alloc, tally.best, champions, ones_champions, &mut head)?;
-    Ok(MadePage { head, holdouts })
+    append_where_some(tally.holdouts, style::holdouts(), &mut head)?;
+    Ok(MadePage {
+        head,
+        holdouts,
+        holdout_count: tally.holdouts,
+    })
 }
 
-// Appends the champions by steps and by scores, and what stands before the rows of the holdouts.
+// Appends the champions by steps and by scores, where there are any.
 fn append_champions(
     alloc: Global,
     best: Option<u64>,
@@ -83,7 +94,25 @@ fn append_champions(
     out: &mut Vec<u8>,
 ) -> Result<(), NoMemory>
     ensures { OnOk result ((figures : List ℕ) × AreFigures best (into_iter_items champions) figures
-        × (out.new.items ≡ out.old.items ++ champions_html figures (into_iter_items ones_champions))) }
+        × (out.new.items ≡ out.old.items ++ champions_html best figures (into_iter_items ones_champions))) }
+{
+    match best {
+        Some(best) => append_champions_of(alloc, best, champions, ones_champions, out),
+        None => Ok(()),
+    }
+}
+
+// Appends those that halt in so many steps, and those by scores.
+fn append_champions_of(
+    alloc: Global,
+    best: u64,
+    champions: Champions,
+    ones_champions: Champions,
+    out: &mut Vec<u8>,
+) -> Result<(), NoMemory>
+    ensures { OnOk result ((figures : List ℕ) × AreFiguresOf best picture_limit (into_iter_items champions) figures
+        × (out.new.items ≡ out.old.items
+        ++ (champions_text ++ figures ++ ones_champions_html (into_iter_items ones_champions)))) }
 {
     out.extend_from_slice(style::champions())?;
     append_figures(alloc, best, champions, out)?;
@@ -95,5 +124,5 @@ fn append_ones_champions(ones_champions: Champions, out: &mut Vec<u8>) -> Result
 {
     out.extend_from_slice(style::ones_champions())?;
     append_items(ones_champions, out)?;
-    out.extend_from_slice(style::holdouts())
+    out.extend_from_slice(style::items_end())
 }

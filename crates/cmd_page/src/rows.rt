@@ -90,8 +90,8 @@ fn append_item(t: &Table, out: &mut Vec<u8>) -> Result<(), NoMemory>
     out.extend_from_slice(b"</li>\n")
 }
 
-// Appends a table's text as code. It needs no escaping.
-pub(crate) fn append_code(t: &Table, out: &mut Vec<u8>) -> Result<(), NoMemory>
+/// Appends a table's text as code. It needs no escaping.
+pub fn append_code(t: &Table, out: &mut Vec<u8>) -> Result<(), NoMemory>
     ensures { OnOk result (out.new.items ≡ out.old.items ++ code_html t.now) }
 {
     let mut buf = [0; TEXT_BYTES];

@@ -1,16 +1,19 @@
-// How a page looks, and what it does. Nothing comes from elsewhere, and the page forbids itself to ask for it.
+// How a page looks. Nothing comes from elsewhere, and the page forbids itself to ask for it.
 ghost use Rattle.std.specs.Prelude.{◌≡◌};
-ghost use Rattle.cmd_page.specs.Style.{opening_text, heading_text, parts_text, kinds_text, entries_text, champions_text, ones_champions_text, holdouts_text, ending_text};
+ghost use Rattle.cmd_page.specs.Style.{opening_text, heading_text, parts_text, record_links_text, champions_link_text, holdouts_link_text, status_text, rows_end_text, kinds_text, entries_text, champions_text, ones_champions_text, items_end_text, holdouts_text, ending_text};
 
 // The beginning, up to the title. Light or dark, as the reader has it; on a narrow screen one part beneath the other.
 #[tactic(auto, unfolding(crate::specs::Style::opening_text))]
 pub(crate) fn opening() -> &'static [u8]
     ensures { result.now ≡ opening_text }
 {
-    b"<!doctype html>\n<html lang='en'>\n<head>\n<meta charset='utf-8'>\n\
+    b"<!doctype html>\n\
+<html lang='en'>\n\
+<head>\n\
+<meta charset='utf-8'>\n\
 <meta name='viewport' content='width=device-width,initial-scale=1'>\n\
-<meta http-equiv='Content-Security-Policy' content=\"default-src 'none';style-src 'unsafe-inline';\
-script-src 'unsafe-inline';base-uri 'none';form-action 'none'\">\n\
+<meta name='referrer' content='no-referrer'>\n\
+<meta http-equiv='Content-Security-Policy' content=\"default-src 'none';style-src 'unsafe-inline';script-src 'unsafe-inline';base-uri 'none';form-action 'none'\">\n\
 <style>\n\
 :root{color-scheme:light dark;--ink:#1b1f24;--faint:#59636e;--line:#d8dee4;--ground:#fff;--raised:#f4f6f8;--link:#0550ae;--mark:#fff4c2}\n\
 @media(prefers-color-scheme:dark){:root{--ink:#e6e9ec;--faint:#9aa4af;--line:#383f47;--ground:#13161a;--raised:#1d2227;--link:#7ab7ff;--mark:#4a3f0a}}\n\
@@ -19,34 +22,49 @@ body{max-width:70rem;margin:0 auto;padding:1.5rem 1rem 4rem;font:1rem/1.5 system
 header{border-bottom:1px solid var(--line);margin-bottom:1.5rem;padding-bottom:.75rem}\n\
 header p{margin:0;color:var(--faint)}\n\
 h1{margin:0 0 .5rem;font-size:1.6rem;line-height:1.25;overflow-wrap:anywhere}\n\
-h2{margin:0 0 .75rem;font-size:1.2rem}\n\
+h2{margin:0 0 .75rem;font-size:1.2rem;overflow-wrap:anywhere}\n\
 h3{margin:1.25rem 0 .5rem;font-size:1rem}\n\
 nav{display:flex;flex-wrap:wrap;gap:.25rem 1.25rem}\n\
 a{color:var(--link)}\n\
 main{display:grid;grid-template-columns:repeat(auto-fit,minmax(min(100%,19rem),1fr));gap:2rem}\n\
 section{min-width:0;scroll-margin-top:1rem}\n\
-#champions,#holdouts{grid-column:1/-1}\n\
-code,td a{font-family:ui-monospace,monospace;font-size:.9rem;overflow-wrap:anywhere}\n\
+#champions,#holdouts,.record{grid-column:1/-1}\n\
+code,pre,td a{font-family:ui-monospace,monospace;font-size:.9rem;overflow-wrap:anywhere}\n\
+pre{margin:0;padding:.5rem .75rem;white-space:pre-wrap;background:var(--raised)}\n\
 table{border-collapse:collapse;width:100%}\n\
 th,td{padding:.3rem .75rem .3rem 0;border-bottom:1px solid var(--line);text-align:left;vertical-align:top;font-weight:normal}\n\
 thead th,th button{color:var(--faint)}\n\
 td{font-variant-numeric:tabular-nums}\n\
 td+td,th+td,thead th+th{text-align:right;padding-right:0}\n\
+#kinds th,#kinds td{border-bottom:0}\n\
+#kinds .means{padding:0 0 .6rem;font-size:.9rem;color:var(--faint);border-bottom:1px solid var(--line)}\n\
+meter{display:block;width:100%;height:.5rem;margin-bottom:.25rem;appearance:none;background:var(--raised)}\n\
+meter::-webkit-meter-bar{height:.5rem;background:var(--raised);border:0;border-radius:0}\n\
+meter::-webkit-meter-optimum-value{background:var(--link)}\n\
+meter::-moz-meter-bar{background:var(--link)}\n\
 .left{padding:.5rem .75rem;background:var(--mark)}\n\
+.words{white-space:pre-line}\n\
+.sampled{margin:.25rem 0;font-size:.9rem;color:var(--faint)}\n\
 .figures{display:flex;flex-wrap:wrap;gap:1.5rem 2rem}\n\
 figure{margin:0;min-width:0;max-width:100%}\n\
 figure svg{display:block;max-width:100%;height:auto;margin-bottom:.5rem;border:1px solid var(--line)}\n\
+.transitions{width:auto;margin:.5rem 0;font-family:ui-monospace,monospace;font-size:.9rem}\n\
+.transitions tr>*{padding:.1rem .7rem;text-align:center;border:1px solid var(--line)}\n\
+.transitions th{color:var(--faint)}\n\
 ul{margin:0;padding-left:1.25rem}\n\
 .tools{display:flex;flex-wrap:wrap;align-items:baseline;gap:.5rem 1rem;margin-bottom:.75rem}\n\
-.tools[hidden]{display:none}\n\
+[hidden]{display:none!important}\n\
 input{flex:1 1 12rem;max-width:28rem;padding:.4rem .6rem;font:inherit;color:inherit;background:var(--raised);border:1px solid var(--line);border-radius:.25rem}\n\
-th button{padding:0;font:inherit;background:none;border:0;cursor:pointer;text-decoration:underline dotted}\n\
+button{padding:.2rem .6rem;font:inherit;color:inherit;background:var(--raised);border:1px solid var(--line);border-radius:.25rem;cursor:pointer}\n\
+td button{margin-left:.5rem;padding:0 .4rem;font-size:.8rem}\n\
+th button{padding:0;background:none;border:0;text-decoration:underline dotted}\n\
+.more{margin-top:.75rem}\n\
+canvas{display:block;max-width:100%;margin-top:.5rem;border:1px solid var(--line);image-rendering:pixelated}\n\
 [aria-sort=ascending] button::after{content:' \\2191'}\n\
 [aria-sort=descending] button::after{content:' \\2193'}\n\
 tr:target{background:var(--mark)}\n\
-#holdouts:not(:has(tbody tr)) table,#holdouts:has(tbody tr) .none{display:none}\n\
 :focus-visible{outline:2px solid var(--link);outline-offset:2px}\n\
-@media print{nav,.tools{display:none}}\n\
+@media print{nav,.tools,button{display:none}}\n\
 </style>\n\
 <title>"
 }
@@ -56,17 +74,68 @@ tr:target{background:var(--mark)}\n\
 pub(crate) fn heading() -> &'static [u8]
     ensures { result.now ≡ heading_text }
 {
-    b"</title>\n</head>\n<body>\n<header>\n<p>Busy beaver report</p>\n<h1>"
+    b"</title>\n\
+</head>\n\
+<body>\n\
+<header>\n\
+<p>Busy beaver report</p>\n\
+<h1>"
 }
 
-// From the heading to how the board stands.
+// Behind the heading: where the parts of the page are.
 #[tactic(auto, unfolding(crate::specs::Style::parts_text))]
 pub(crate) fn parts() -> &'static [u8]
     ensures { result.now ≡ parts_text }
 {
-    b"</h1>\n<nav aria-label='Parts of this page'>\n<a href='#status'>Status</a>\n\
-<a href='#kinds'>Certificates</a>\n<a href='#entries'>Filled entries</a>\n<a href='#champions'>Champions</a>\n\
-<a href='#holdouts'>Holdouts</a>\n</nav>\n</header>\n<main>\n<section id='status'>\n<h2>Status</h2>\n"
+    b"</h1>\n\
+<nav aria-label='Parts of this page'>\n\
+<a href='#status'>Status</a>\n"
+}
+
+// Where there are records.
+#[tactic(auto, unfolding(crate::specs::Style::record_links_text))]
+pub(crate) fn record_links() -> &'static [u8]
+    ensures { result.now ≡ record_links_text }
+{
+    b"<a href='#kinds'>Certificates</a>\n\
+<a href='#entries'>Filled entries</a>\n"
+}
+
+// Where there are champions.
+#[tactic(auto, unfolding(crate::specs::Style::champions_link_text))]
+pub(crate) fn champions_link() -> &'static [u8]
+    ensures { result.now ≡ champions_link_text }
+{
+    b"<a href='#champions'>Champions</a>\n"
+}
+
+// Where there are holdouts.
+#[tactic(auto, unfolding(crate::specs::Style::holdouts_link_text))]
+pub(crate) fn holdouts_link() -> &'static [u8]
+    ensures { result.now ≡ holdouts_link_text }
+{
+    b"<a href='#holdouts'>Holdouts</a>\n"
+}
+
+// Before how the board stands.
+#[tactic(auto, unfolding(crate::specs::Style::status_text))]
+pub(crate) fn status() -> &'static [u8]
+    ensures { result.now ≡ status_text }
+{
+    b"</nav>\n\
+</header>\n\
+<main>\n\
+<section id='status'>\n\
+<h2>Status</h2>\n"
+}
+
+// Behind the rows of a part.
+#[tactic(auto, unfolding(crate::specs::Style::rows_end_text))]
+pub(crate) fn rows_end() -> &'static [u8]
+    ensures { result.now ≡ rows_end_text }
+{
+    b"</table>\n\
+</section>\n"
 }
 
 // Before the rows of the kinds.
@@ -74,7 +143,9 @@ pub(crate) fn parts() -> &'static [u8]
 pub(crate) fn kinds() -> &'static [u8]
     ensures { result.now ≡ kinds_text }
 {
-    b"</table>\n</section>\n<section id='kinds'>\n<h2>Records by kind of certificate</h2>\n<table>\n"
+    b"<section id='kinds'>\n\
+<h2>Records by kind of certificate</h2>\n\
+<table>\n"
 }
 
 // Before the rows of the numbers of entries.
@@ -82,7 +153,9 @@ pub(crate) fn kinds() -> &'static [u8]
 pub(crate) fn entries() -> &'static [u8]
     ensures { result.now ≡ entries_text }
 {
-    b"</table>\n</section>\n<section id='entries'>\n<h2>Records by filled entries</h2>\n<table>\n"
+    b"<section id='entries'>\n\
+<h2>Records by filled entries</h2>\n\
+<table>\n"
 }
 
 // Before the pictures of the champions.
@@ -90,7 +163,10 @@ pub(crate) fn entries() -> &'static [u8]
 pub(crate) fn champions() -> &'static [u8]
     ensures { result.now ≡ champions_text }
 {
-    b"</table>\n</section>\n<section id='champions'>\n<h2>Champions</h2>\n<h3>Most steps</h3>\n<div class='figures'>\n"
+    b"<section id='champions'>\n\
+<h2>Champions</h2>\n\
+<h3>Most steps</h3>\n\
+<div class='figures'>\n"
 }
 
 // Before the champions by scores.
@@ -98,58 +174,43 @@ pub(crate) fn champions() -> &'static [u8]
 pub(crate) fn ones_champions() -> &'static [u8]
     ensures { result.now ≡ ones_champions_text }
 {
-    b"</div>\n<h3>Most ones</h3>\n<ul>\n"
+    b"</div>\n\
+<h3>Most ones</h3>\n\
+<ul>\n"
 }
 
-// Before the rows of the holdouts. The tools are shown by what makes them work.
+// Behind them.
+#[tactic(auto, unfolding(crate::specs::Style::items_end_text))]
+pub(crate) fn items_end() -> &'static [u8]
+    ensures { result.now ≡ items_end_text }
+{
+    b"</ul>\n\
+</section>\n"
+}
+
+// Before the rows of the holdouts; the tools are shown by what makes them work.
 #[tactic(auto, unfolding(crate::specs::Style::holdouts_text))]
 pub(crate) fn holdouts() -> &'static [u8]
     ensures { result.now ≡ holdouts_text }
 {
-    b"</ul>\n</section>\n<section id='holdouts'>\n<h2>Holdouts</h2>\n<p class='none'>There is none.</p>\n\
-<div class='tools' hidden>\n<label for='search'>Search</label>\n\
+    b"<section id='holdouts'>\n\
+<h2>Holdouts</h2>\n\
+<div class='tools' hidden>\n\
+<label for='search'>Search</label>\n\
 <input type='search' id='search' autocomplete='off' spellcheck='false' placeholder='part of a table, or several'>\n\
-<output for='search'></output>\n</div>\n<table>\n\
-<thead><tr><th scope='col' aria-sort='ascending'>Table</th><th scope='col'>Filled entries</th></tr></thead>\n<tbody>\n"
+<output for='search'></output>\n\
+</div>\n\
+<table>\n\
+<thead><tr><th scope='col' aria-sort='ascending'>Table</th><th scope='col'>Filled entries</th></tr></thead>\n\
+<tbody>\n"
 }
 
-// Behind the rows of the holdouts: what searches and sorts them.
+/// The end of a page without a script.
 #[tactic(auto, unfolding(crate::specs::Style::ending_text))]
-pub(crate) fn ending() -> &'static [u8]
+pub fn ending() -> &'static [u8]
     ensures { result.now ≡ ending_text }
 {
-    b"</tbody>\n</table>\n</section>\n</main>\n<script>\n'use strict';\n\
-const part = document.getElementById('holdouts'), body = part.querySelector('tbody'), rows = [...body.rows];\n\
-const field = part.querySelector('input'), found = part.querySelector('output'), heads = [...part.querySelectorAll('th')];\n\
-function search() {\n\
-  const words = field.value.toUpperCase().split(/\\s+/);\n\
-  let count = 0;\n\
-  for (const row of rows) {\n\
-    row.hidden = !words.every(word => row.id.includes(word));\n\
-    if (!row.hidden) count++;\n\
-  }\n\
-  found.value = count + ' of ' + rows.length;\n\
-}\n\
-function sort(head, key) {\n\
-  const sign = head.getAttribute('aria-sort') === 'ascending' ? -1 : 1;\n\
-  for (const other of heads) other.removeAttribute('aria-sort');\n\
-  head.setAttribute('aria-sort', sign > 0 ? 'ascending' : 'descending');\n\
-  const keyed = rows.map((row, place) => [key(row, place), row]).sort((a, b) => sign * (a[0] - b[0]));\n\
-  for (const [, row] of keyed) body.append(row);\n\
-}\n\
-function makeButton(head, key) {\n\
-  const button = document.createElement('button');\n\
-  button.type = 'button';\n\
-  button.append(...head.childNodes);\n\
-  button.addEventListener('click', () => sort(head, key));\n\
-  head.append(button);\n\
-}\n\
-if (rows.length) {\n\
-  makeButton(heads[0], (row, place) => place);\n\
-  makeButton(heads[1], row => Number(row.cells[1].textContent));\n\
-  field.addEventListener('input', search);\n\
-  part.querySelector('.tools').hidden = false;\n\
-  search();\n\
-}\n\
-</script>\n</body>\n</html>\n"
+    b"</main>\n\
+</body>\n\
+</html>\n"
 }

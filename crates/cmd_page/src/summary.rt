@@ -1,25 +1,62 @@
 // What a page says before it counts: its title, and how the board stands.
 ghost use Rattle.std.specs.Prelude.{◌≡◌, ◌++◌, OnOk};
-ghost use Rattle.cmd_page.specs.Page.{opening_html, root_html, status_html, left_html, left_line_html, verdicts_html, greatest_html, tally_html, summary_html};
+ghost use Rattle.cmd_page.specs.Page.{opening_html, parts_html, record_count, where_found, where_some, root_html, status_html, left_html, left_line_html, verdicts_html, greatest_html, tally_html, summary_html};
 
 use crate::escape::append_escaped;
 use crate::rows::{append_code, append_count, append_greatest};
 use crate::sentence::append_sentence;
-use crate::style::{heading, opening, parts};
+use crate::style;
 use kind_evidence::NoMemory;
 use ledger::{Left, Status, Tally};
 use machine_text::Table;
 use text::append_number;
 
-// Appends the beginning of a page under a title, of any bytes.
-pub(crate) fn append_opening(title: &[u8], out: &mut Vec<u8>) -> Result<(), NoMemory>
+/// Appends the beginning of a page under a title, of any bytes, up to the end of its heading.
+pub fn append_opening(title: &[u8], out: &mut Vec<u8>) -> Result<(), NoMemory>
     ensures { OnOk result (out.new.items ≡ out.old.items ++ opening_html title.now) }
 {
-    out.extend_from_slice(opening())?;
+    out.extend_from_slice(style::opening())?;
     append_escaped(title, out)?;
-    out.extend_from_slice(heading())?;
-    append_escaped(title, out)?;
-    out.extend_from_slice(parts())
+    out.extend_from_slice(style::heading())?;
+    append_escaped(title, out)
+}
+
+// Appends the links to the parts that are there, and what stands before how the board stands.
+pub(crate) fn append_parts(tally: &Tally, out: &mut Vec<u8>) -> Result<(), NoMemory>
+    ensures { OnOk result (out.new.items ≡ out.old.items ++ parts_html tally.now) }
+{
+    out.extend_from_slice(style::parts())?;
+    append_where_some(record_count(tally), style::record_links(), out)?;
+    append_where_found(tally.best, style::champions_link(), out)?;
+    append_where_some(tally.holdouts, style::holdouts_link(), out)?;
+    out.extend_from_slice(style::status())
+}
+
+// Of how many tables there are records.
+pub(crate) fn record_count(tally: &Tally) -> u64
+    ensures { result ≡ record_count tally.now }
+{
+    tally.nodes.saturating_sub(tally.open_count)
+}
+
+// Appends a text where there are some.
+pub(crate) fn append_where_some(n: u64, text: &[u8], out: &mut Vec<u8>) -> Result<(), NoMemory>
+    ensures { OnOk result (out.new.items ≡ out.old.items ++ where_some n text.now) }
+{
+    if n == 0 {
+        return Ok(());
+    }
+    out.extend_from_slice(text)
+}
+
+// Appends a text where there is a greatest number.
+fn append_where_found(greatest: Option<u64>, text: &[u8], out: &mut Vec<u8>) -> Result<(), NoMemory>
+    ensures { OnOk result (out.new.items ≡ out.old.items ++ where_found greatest text.now) }
+{
+    match greatest {
+        Some(_) => out.extend_from_slice(text),
+        None => Ok(()),
+    }
 }
 
 // Appends how a board stands, what its tree shows, and what wasn't kept of its ledger.

@@ -1,13 +1,14 @@
 // A page that is made, written a piece at a time.
-ghost use Rattle.std.specs.Prelude.{OnOk};
+ghost use Rattle.std.specs.Prelude.{◌≡◌, OnOk};
 ghost use Rattle.std.specs.Vec.Iter.{into_iter_items};
 ghost use Rattle.std.specs.Io.KnownBytes.{Appends};
 ghost use Rattle.cmd_ledgers.specs.Passing.{Passes};
-ghost use Rattle.cmd_page.specs.Page.{holdout_html, holdouts_html, last_cell_html, link_html};
+ghost use Rattle.cmd_page.specs.Page.{ending_html, holdout_html, holdouts_html, last_cell_html, link_html};
 ghost use Rattle.cmd_page.specs.inside.{bytes_of_page};
 
 use crate::entries::entry_count;
 use crate::making::MadePage;
+use crate::script::script;
 use crate::style;
 use cmd_ledgers::pass;
 use itoa::Buffer;
@@ -19,11 +20,26 @@ use std::io::{self, Write};
 pub(crate) fn write_made<W: Write>(made: MadePage, answers: &mut W) -> io::Result<()>
     ensures { OnOk result (Appends (W.contents answers.old) (W.contents answers.new) (bytes_of_page made)) }
 {
-    let MadePage { head, holdouts } = made;
+    let MadePage {
+        head,
+        holdouts,
+        holdout_count,
+    } = made;
     let mut piece = head;
     pass_holdouts(holdouts, &mut piece, answers)?;
-    pass(style::ending(), &mut piece, answers)?;
+    pass(ending(holdout_count), &mut piece, answers)?;
     answers.write_all(&piece)
+}
+
+// What stands behind the rows of so many holdouts.
+fn ending(holdouts: u64) -> &'static [u8]
+    ensures { result.now ≡ ending_html holdouts }
+{
+    if holdouts == 0 {
+        style::ending()
+    } else {
+        script()
+    }
 }
 
 // Passes on a row for each holdout.
@@ -55,12 +71,12 @@ fn pass_holdout<W: Write>(t: &Table, piece: &mut Vec<u8>, answers: &mut W) -> io
     pass_entries(entry_count(t), piece, answers)
 }
 
-// Passes on a table's text as a link to its row.
+// Passes on a table's text as a link to what others know of it.
 fn pass_link<W: Write>(text: &[u8], piece: &mut Vec<u8>, answers: &mut W) -> io::Result<()>
     ensures { OnOk result (Passes (W.contents answers.old) piece.old.items (W.contents answers.new) piece.new.items
         (link_html text.now)) }
 {
-    pass(b"<td><a href='#", piece, answers)?;
+    pass(b"<td><a href='https://bbchallenge.org/", piece, answers)?;
     pass(text, piece, answers)?;
     pass(b"'>", piece, answers)?;
     pass(text, piece, answers)?;

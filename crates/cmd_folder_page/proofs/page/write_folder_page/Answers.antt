@@ -11,7 +11,7 @@ use Rattle.cmd_folder_page.proofs.PageTold.{ends_unlisted, page_told}
 use Rattle.cmd_folder_page.proofs.page.write_folder_page.Goals as goal
 
 pub returns-clause-tells : goal.returns-clause-tells
-returns-clause-tells g c = page_told c.args.maker.now.version.now c.args.maker.now.sum c.deref.result.now c.in_ok-sum.sum (g.S.PartLedgers.finds c.args.parts.now) c.args.folder.now
+returns-clause-tells g c = page_told c.args.title.now c.args.maker.now.version.now c.args.maker.now.sum c.deref.result.now c.in_ok-sum.sum (g.S.PartLedgers.finds c.args.parts.now) c.args.folder.now
     (g.W.Write.contents c.args.answers.now) (g.W.Write.contents c.tell_whole.new.answers) (g.E.Write.contents c.args.faults.now) (g.E.Write.contents c.gather.new.faults)
     c.in_ok-whole.whole c.in_ok-whole.is_sound c.gather.new.collector.census c.tell_whole.result c.in_ok-whole.ensures.ok c.count_fits.ensures c.tell_whole.ensures.ok c.in_ok-sum.ensures.ok
     (subst (λ (l : List Packed). AreAll (IsOpenOn c.in_ok-whole.whole.trunk) l) (sym c.deref.ensures.value)

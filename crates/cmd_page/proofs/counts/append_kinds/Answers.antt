@@ -2,20 +2,17 @@ use Rattle.std.proofs.Common.{◌≡◌, ℕ, List, ◌∷◌, ◌++◌, ◌+◌
 use Rattle.std.proofs.Math.Seq.{drop-cons}
 use Rattle.cmd_options.specs.Kinds.{kind_letters}
 use Rattle.cmd_page.specs.Page.{kind_html}
-use Rattle.cmd_page.specs.Row.{count_html}
 use Rattle.cmd_page.proofs.counts.append_kinds.Goals as goal
 
 pub loop-letter-preserved : goal.loop-letter-preserved
 loop-letter-preserved c =
     let k = c.loop-letter.letter-index in
     let letter = slice_index kind_letters k in
-    let row : ℕ → List ℕ = kind_html (slice_index c.args.kinds.now) in
+    let row : ℕ → List ℕ = λ letter. kind_html c.args.total (slice_index c.args.kinds.now letter) letter in
     let rest = flat_map row (drop (k + 1) kind_letters) in
     let out = c.loop-letter.out.items in
     let within : k < length kind_letters = omega (arith, c.loop-letter-test.true) in
     let next : k + 1 ≡ suc k = omega arith in
-    let more : c.append_count.new.out.items ≡ out ++ row letter =
-    c.in_ok-append_count.ensures ∙ ap (λ (name : List ℕ). out ++ count_html name (slice_index c.args.kinds.now letter)) c.kind_label.ensures in
-    ap (λ (l : List ℕ). l ++ rest) more
+    ap (λ (l : List ℕ). l ++ rest) c.in_ok-append_kind.ensures
     ∙ (append_assoc out (row letter) rest
     ∙ (ap (λ (l : List ℕ). out ++ flat_map row l) (ap (λ (i : ℕ). letter ∷ drop i kind_letters) next ∙ sym (drop-cons kind_letters k 0 within)) ∙ c.loop-letter.invariant))

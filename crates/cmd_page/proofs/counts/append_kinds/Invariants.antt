@@ -6,4 +6,5 @@ use Rattle.cmd_page.proofs.counts.append_kinds.Given as goal
 -- what was appended, and the rows that are left, are all rows
 abbrev pub invariant-loop-letter : goal.invariant-loop-letter
 invariant-loop-letter l =
-    l.out.items ++ flat_map (kind_html (slice_index l.kinds)) (drop l.letter-index kind_letters) ≡ l.fn.out.items ++ kinds_html (slice_index l.kinds)
+    l.out.items ++ flat_map (λ letter. kind_html l.total (slice_index l.kinds letter) letter) (drop l.letter-index kind_letters)
+    ≡ l.fn.out.items ++ kinds_html l.total (slice_index l.kinds)

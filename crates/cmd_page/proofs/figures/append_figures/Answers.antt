@@ -2,7 +2,7 @@ use Rattle.std.proofs.Common.{List, ℕ, ltb, sym, ap, ◌∙◌, subst}
 use Rattle.std.specs.Vec.Iter.{into_iter_items}
 use Rattle.cmd_page.specs.Figures.{IsPictureIf}
 use Rattle.cmd_page.proofs.FigureLaws.{begun_none, begun_more, begun_all}
-use Rattle.cmd_page.proofs.figures.append_figures_of.Goals as goal
+use Rattle.cmd_page.proofs.figures.append_figures.Goals as goal
 
 pub loop-table-init : goal.loop-table-init
 loop-table-init c = begun_none c.args.best (into_iter_items c.args.champions) (into_iter_items c.into_iter-table-iterator.result) c.args.out.now.items (ap (λ tables. into_iter_items tables) c.into_iter-table-iterator.ensures.into_iter_gives)

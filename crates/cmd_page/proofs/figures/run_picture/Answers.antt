@@ -6,7 +6,7 @@ use Rattle.cmd_picture.specs.Visits.{IsPlaced}
 use Rattle.cmd_picture.specs.declared.times.Times.{Times}
 use Rattle.cmd_picture.specs.declared.view.View.{View}
 use Rattle.cmd_page.specs.Figures.{columns_view, picture_size, sampling_html}
-use Rattle.cmd_page.proofs.figures.picture_of.Goals as goal
+use Rattle.cmd_page.proofs.figures.run_picture.Goals as goal
 
 pub returns : goal.returns
 returns c =

@@ -3,7 +3,7 @@ use Rattle.std.specs.Vec.Iter.{into_iter_items}
 use Rattle.cmd_ledgers.proofs.Reports.{on_ok, one_more}
 use Rattle.cmd_page.specs.Page.{ones_champions_html}
 use Rattle.cmd_page.specs.Style.{champions_text}
-use Rattle.cmd_page.proofs.making.append_champions.Goals as goal
+use Rattle.cmd_page.proofs.making.append_champions_of.Goals as goal
 
 pub returns : goal.returns
 returns c =

@@ -1,0 +1,114 @@
+// What a page does.
+ghost use Rattle.std.specs.Prelude.{◌≡◌};
+ghost use Rattle.cmd_page.specs.Script.{script_text};
+
+// Behind the rows of the holdouts: what searches and sorts them, shows some at a time, and draws their runs.
+#[tactic(auto, unfolding(crate::specs::Script::script_text))]
+pub(crate) fn script() -> &'static [u8]
+    ensures { result.now ≡ script_text }
+{
+    b"</tbody>\n\
+</table>\n\
+<button type='button' class='more' hidden>Show 500 more</button>\n\
+</section>\n\
+</main>\n\
+<script>\n\
+'use strict';\n\
+const part = document.getElementById('holdouts'), body = part.querySelector('tbody');\n\
+const field = part.querySelector('input'), found = part.querySelector('output');\n\
+const more = part.querySelector('.more'), heads = [...part.querySelectorAll('th')];\n\
+const colours = ['#e66950', '#195feb', '#696400', '#d76ebe', '#2391fa', '#a52daa', '#c3870f'];\n\
+const reach = 10000, every = 10, widest = 1200, some = 500;\n\
+const entriesOf = row => Number(row.cells[1].textContent);\n\
+const rows = [...body.rows].map((row, place) => ({row, text: row.id, keys: [place, entriesOf(row)]}));\n\
+let room = some;\n\
+function told(number) {\n\
+return number.toLocaleString('en');\n\
+}\n\
+function show() {\n\
+const words = field.value.toUpperCase().split(/\\s+/);\n\
+const matches = rows.filter(({text}) => words.every(word => text.includes(word)));\n\
+const shown = document.createDocumentFragment();\n\
+for (const {row} of matches.slice(0, room)) {\n\
+if (!row.querySelector('button')) addDrawing(row);\n\
+shown.append(row);\n\
+}\n\
+body.replaceChildren(shown);\n\
+found.value = told(matches.length) + ' of ' + told(rows.length);\n\
+more.hidden = matches.length <= room;\n\
+}\n\
+function sort(head, column) {\n\
+const sign = head.getAttribute('aria-sort') === 'ascending' ? -1 : 1;\n\
+for (const other of heads) other.removeAttribute('aria-sort');\n\
+head.setAttribute('aria-sort', sign > 0 ? 'ascending' : 'descending');\n\
+rows.sort((a, b) => sign * (a.keys[column] - b.keys[column]) || a.keys[0] - b.keys[0]);\n\
+show();\n\
+}\n\
+function button(text, act) {\n\
+const made = document.createElement('button');\n\
+made.type = 'button';\n\
+made.append(...text);\n\
+made.addEventListener('click', act);\n\
+return made;\n\
+}\n\
+function timesOf(text) {\n\
+const table = text.split('_'), cells = new Uint8Array(2 * reach + 1), times = [];\n\
+let head = reach, state = 0, low = reach, high = reach;\n\
+for (let step = 0; ; step++) {\n\
+if (step % every === 0) times.push({first: low, cells: cells.slice(low, high + 1), head, state});\n\
+const entry = table[state].substr(3 * cells[head], 3);\n\
+if (step === reach || entry === '---') return {times, step, low, high};\n\
+cells[head] = Number(entry[0]);\n\
+head += entry[1] === 'R' ? 1 : -1;\n\
+state = entry.charCodeAt(2) - 65;\n\
+low = Math.min(low, head);\n\
+high = Math.max(high, head);\n\
+}\n\
+}\n\
+function drawing(text) {\n\
+const {times, step, low, high} = timesOf(text), visited = high - low + 1;\n\
+const left = Math.max(low, Math.min(reach - widest / 2, high - widest + 1)), width = Math.min(visited, widest);\n\
+const made = document.createElement('div'), canvas = document.createElement('canvas'), pen = canvas.getContext('2d');\n\
+made.className = 'sampled';\n\
+canvas.width = width;\n\
+canvas.height = times.length;\n\
+canvas.setAttribute('role', 'img');\n\
+canvas.setAttribute('aria-label', 'the run of ' + text);\n\
+const ink = getComputedStyle(part).color;\n\
+times.forEach(({first, cells, head, state}, y) => {\n\
+pen.fillStyle = ink;\n\
+cells.forEach((cell, place) => cell && pen.fillRect(first + place - left, y, 1, 1));\n\
+pen.fillStyle = colours[state];\n\
+pen.fillRect(head - left, y, 1, 1);\n\
+});\n\
+const cells = told(width) + ' of ' + told(visited) + ' cells';\n\
+made.append(canvas, 'The first ' + told(step) + ' steps, a row every ' + every + ', ' + cells);\n\
+return made;\n\
+}\n\
+function addDrawing(row) {\n\
+const opener = button(['Run'], () => {\n\
+const shown = row.querySelector('div');\n\
+if (shown) shown.remove();\n\
+else row.cells[0].append(drawing(row.id));\n\
+opener.setAttribute('aria-expanded', !shown);\n\
+});\n\
+opener.setAttribute('aria-expanded', false);\n\
+row.cells[0].append(opener);\n\
+}\n\
+heads.forEach((head, column) => head.append(button([...head.childNodes], () => sort(head, column))));\n\
+field.addEventListener('input', () => {\n\
+room = some;\n\
+show();\n\
+});\n\
+more.addEventListener('click', () => {\n\
+room += some;\n\
+show();\n\
+});\n\
+part.querySelector('.tools').hidden = false;\n\
+const named = location.hash.slice(1);\n\
+if (rows.some(({text}) => text === named)) field.value = named;\n\
+show();\n\
+</script>\n\
+</body>\n\
+</html>\n"
+}

@@ -41,6 +41,8 @@ pub fn settle_board<L: LedgerOut, D: Decider, P: Progress>(
     let before = record_count(board);
     while let Some(t) = first_open(board) {
         settle(alloc, board, decider, &t, ledger)?;
+        // The proof needs how many records there can be.
+        let _ = board.tally();
         progress.tell(board);
     }
     Ok(record_count(board) - before)
@@ -97,6 +99,8 @@ fn settle_all<L: LedgerOut, D: Decider, P: Progress>(
 {
     for t in due {
         settle(alloc, board, decider, t, ledger)?;
+        // The proof needs how many records there can be.
+        let _ = board.tally();
         progress.tell(board);
     }
     Ok(())

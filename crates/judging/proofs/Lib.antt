@@ -1,0 +1,3 @@
+mod Complete
+mod Gives
+mod Greatest

@@ -1,0 +1,50 @@
+//! The judge as C functions, which other languages call: one judges a record, one a ledger. `packaging/c/bb.h` says to a
+//! caller what he gives and gets. Each is a call of `judging` with its contract once more.
+//!
+//! No function keeps anything between two calls, and none waits for another: threads may make them side by side.
+#![tactic(auto)]
+
+ghost use Rattle.std.specs.Prelude.{◌≡◌, Ok};
+ghost use Rattle.machine_text.specs.Packed.{entry_of};
+ghost use Rattle.law_turing.specs.Halting.{IsRado, Never};
+ghost use Rattle.law_turing.specs.Score.{HaltsWith};
+ghost use Rattle.cert.specs.Claim.{Recorded};
+ghost use Rattle.cert.specs.Grammar.{record_of};
+ghost use Rattle.ledger.specs.Sigma.{IsSigma};
+ghost use Rattle.judging.specs.Answer.{TellsOfRead};
+ghost use Rattle.judging.specs.TreeAnswer.{Reports};
+
+use judging::{Answer, TreeAnswer, check_text, report_text};
+use std::alloc::Global;
+
+/// The number of this interface: it grows with each change of what is declared in `bb.h`.
+#[unsafe(no_mangle)]
+pub extern "C" fn bb_version() -> u32
+    ensures { result ≡ 1 }
+{
+    1
+}
+
+/// Judges one record, a text without a newline.
+#[unsafe(no_mangle)]
+pub extern "C" fn bb_check(alloc: Global, text: &[u8], out: &mut Answer)
+    ensures answers { TellsOfRead (record_of text.now) out.new }
+    ensures halts { out.new.outcome ≡ 0 → (r : Recorded) × (record_of text.now ≡ Ok r)
+        × HaltsWith (entry_of r.table) out.new.steps out.new.ones }
+    ensures never { out.new.outcome ≡ 1 → (r : Recorded) × (record_of text.now ≡ Ok r) × Never (entry_of r.table) }
+{
+    *out = check_text(alloc, text);
+}
+
+/// Reports a whole ledger's text. Where it is complete and its root is the empty table of n states, its best is S(n) and
+/// its ones are Σ(n).
+#[unsafe(no_mangle)]
+pub extern "C" fn bb_report(alloc: Global, text: &[u8], out: &mut TreeAnswer)
+    ensures reports { Reports text.now out.new }
+    ensures rado { out.new.outcome ≡ 0 → out.new.is_whole ≡ 1 → out.new.has_best ≡ 1
+        → IsRado out.new.states out.new.best }
+    ensures sigma { out.new.outcome ≡ 0 → out.new.is_whole ≡ 1 → out.new.has_ones ≡ 1
+        → IsSigma out.new.states out.new.ones }
+{
+    *out = report_text(alloc, text);
+}

@@ -79,22 +79,3 @@ impl Sayer for Sections {
         Ok(append_section(self.alloc, line, said)?)
     }
 }
-
-#[cfg(test)]
-mod tests {
-    use super::*;
-    use std::test::Fail;
-
-    #[test]
-    fn what_would_be_markup_is_escaped(rt: HostRuntime) -> Result<(), Fail> {
-        let mut out = Vec::new(rt.alloc());
-        let outcome = append_section(rt.alloc(), Some(b"<b>'&\""), &mut out)?;
-        assert!(rt; outcome == Outcome::Refused);
-        let wanted =
-            "<section class='record'>\n<h2>Refused</h2>\n<p class='words'>refused 301 101\n</p>\n\
-                      <p class='words'>there is no table before the first space</p>\n\
-                      <pre>&lt;b&gt;&#39;&amp;&quot;</pre>\n</section>\n";
-        assert_eq!(rt; out.as_slice(), wanted.as_bytes());
-        Ok(())
-    }
-}

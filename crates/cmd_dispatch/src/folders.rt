@@ -21,17 +21,25 @@ pub(crate) fn split<S: Disk + Clock, R, W: Write, E: Write>(
 ) -> Result<Outcome, Ended>
     requires { IsSplitting splitting.now }
 {
-    let mut decider = decider_for(call.alloc, call.known, &splitting.search)?;
     let mut files = call.files();
-    let telling = Telling::of(splitting.progress, call.system.tells_terminal());
-    let mut progress = TimedProgress::new(call.alloc, telling, call.system, call.faults);
+    let Call {
+        alloc,
+        system,
+        known,
+        answers,
+        faults,
+        ..
+    } = call;
+    let mut decider = decider_for(alloc, known, &splitting.search)?;
+    let telling = Telling::of(splitting.progress, system.tells_terminal());
+    let mut progress = TimedProgress::new(alloc, telling, system, faults);
     let ended = split_in(
-        call.alloc,
+        alloc,
         splitting,
         &mut files,
         &mut decider,
         &mut progress,
-        call.answers,
+        answers,
     );
     progress.end();
     ended

@@ -19,17 +19,25 @@ pub(crate) fn retry<S: Disk + Clock, R, W: Write, E: Write>(
     call: Call<'_, S, R, W, E>,
     retrying: &Retrying<'_>,
 ) -> Result<Outcome, Ended> {
-    let mut decider = decider_for(call.alloc, call.known, &retrying.search)?;
     let mut files = call.files();
-    let telling = Telling::of(retrying.progress, call.system.tells_terminal());
-    let mut progress = TriedProgress::new(call.alloc, telling, call.system, call.faults);
+    let Call {
+        alloc,
+        system,
+        known,
+        answers,
+        faults,
+        ..
+    } = call;
+    let mut decider = decider_for(alloc, known, &retrying.search)?;
+    let telling = Telling::of(retrying.progress, system.tells_terminal());
+    let mut progress = TriedProgress::new(alloc, telling, system, faults);
     let ended = retry_at(
-        call.alloc,
+        alloc,
         retrying.file,
         &mut files,
         &mut decider,
         &mut progress,
-        call.answers,
+        answers,
     );
     progress.end();
     ended

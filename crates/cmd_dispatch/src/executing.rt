@@ -3,8 +3,8 @@ ghost use Rattle.cmd_options.specs.Ranges.{AreWithinRanges};
 
 use crate::call::Call;
 use crate::known_file::KnownFile;
-use crate::{folders, ledgers, lines, nodes, pictures, texts};
-use cmd_nodes::Sockets;
+use crate::{folders, ledgers, lines, nodes, pictures, texts, working};
+use cmd_nodes::{Network, Sockets};
 use cmd_options::{Ended, Options, Outcome, told};
 use cmd_progress::ReadingTold;
 use files::Disk;
@@ -13,10 +13,10 @@ use std::io::{Read, Write};
 use std::time::Clock;
 
 /// Does what is asked for: `bb check`, `bb decide`, `bb explain`, `bb show`, `bb tables`, `bb draw` and `bb coord` read
-/// `input`, and so do `bb report -`, `bb page -`, `bb page --table`, `bb mend -` and `bb join -`. The answer goes to
+/// `input`, and so do `bb work`, `bb report -`, `bb page -`, `bb page --table`, `bb mend -` and `bb join -`. The answer goes to
 /// `answers`, and what ends the command early to `faults`. Each end is an `Outcome`: want of memory and a stream or a file
 /// that fails too.
-pub fn execute<S: Disk + Clock + Sockets + ReadingTold, R: Read, W: Write, E: Write>(
+pub fn execute<S: Disk + Clock + Sockets + Network + ReadingTold, R: Read, W: Write, E: Write>(
     alloc: Global,
     asked: Options<'_>,
     system: &S,
@@ -45,7 +45,7 @@ pub fn execute<S: Disk + Clock + Sockets + ReadingTold, R: Read, W: Write, E: Wr
     told(ended, faults)
 }
 
-impl<S: Disk + Clock + Sockets + ReadingTold, R: Read, W: Write, E: Write> Call<'_, S, R, W, E> {
+impl<S: Disk + Clock + Sockets + Network + ReadingTold, R: Read, W: Write, E: Write> Call<'_, S, R, W, E> {
     // Each command, by what it is asked for.
     fn done(self, asked: Options<'_>) -> Result<Outcome, Ended>
         requires { AreWithinRanges asked }
@@ -57,7 +57,17 @@ impl<S: Disk + Clock + Sockets + ReadingTold, R: Read, W: Write, E: Write> Call<
             Options::Show(showing) => texts::show(self, &showing),
             Options::Tables(listing) => texts::tables(self, &listing),
             Options::Draw(drawing) => pictures::draw(self, &drawing),
-            Options::Coord { beginning, ledger } => nodes::coord(self, beginning, ledger),
+            Options::Coord {
+                beginning,
+                ledger,
+                listening: None,
+            } => nodes::coord(self, beginning, ledger),
+            Options::Coord {
+                beginning,
+                ledger,
+                listening: Some(listening),
+            } => nodes::serve(self, beginning, ledger, listening),
+            Options::Work(options) => working::work(self, &options),
             Options::Run { settling, ledger } => nodes::run(self, &settling, ledger),
             Options::Loop { settling, ledger } => nodes::run_over_sockets(self, &settling, ledger),
             Options::Retry(retrying) => ledgers::retry(self, &retrying),

@@ -23,6 +23,7 @@ mod system;
 mod texts;
 mod watch;
 mod watched_file;
+mod working;
 
 pub use executing::execute;
 pub use failures::Failures;

@@ -1,4 +1,4 @@
-// `bb run`, `bb loop` and `bb coord`.
+// `bb run`, `bb loop`, `bb coord` and `bb work`.
 ghost use Rattle.std.specs.Prelude.{◌≡◌};
 ghost use Rattle.cmd_options.specs.Ranges.{IsBeginning, IsSettling};
 
@@ -7,15 +7,21 @@ use crate::call::Call;
 use crate::known_file::KnownFile;
 use cert::Finders;
 use cmd_json::Form;
-use cmd_nodes::{MaybeLedger, Run, Sockets, coordinate, loop_tree, run_tree};
-use cmd_options::{Beginning, Ended, LedgerFile, Outcome, Settling};
+use cmd_nodes::{
+    MaybeLedger, Network, Run, Serving, Sockets, by_start, coordinate, loop_tree, run_tree,
+    serve_tree,
+};
+use cmd_options::{Beginning, Ended, LedgerFile, Listening, Outcome, Search, Settling};
 use cmd_progress::Telling;
 use files::{Disk, DiskLedger, Files, Held, OnDisk, Opened, held_at, ledger_at, lock_ledger};
 use lease_core::Worker;
 use std::alloc::Global;
 use std::io::{self, ErrorKind, Read, Write};
 use std::time::Clock;
-use wire::Node;
+use wire::{Node, Out};
+
+/// A worker that asks all finders.
+pub(crate) type SearchingWorker<'a> = Worker<Finders<AnyFinder<'a>>>;
 
 // `bb coord`.
 pub(crate) fn coord<S: Disk, R: Read, W: Write, E>(
@@ -37,6 +43,45 @@ pub(crate) fn coord<S: Disk, R: Read, W: Write, E>(
         ..
     } = call;
     coordinate(alloc, beginning, held, &mut ledger, input, answers)
+}
+
+// `bb coord --listen`. It listens before the ledger is begun, so that no ledger is begun where it can't.
+pub(crate) fn serve<S: Disk + Clock + Network, R, W: Write, E: Write>(
+    call: Call<'_, S, R, W, E>,
+    beginning: Beginning,
+    ledger: Option<LedgerFile<'_>>,
+    listening: Listening<'_>,
+) -> Result<Outcome, Ended>
+    requires { IsBeginning beginning }
+{
+    let mut connections = call.system.listen_at(listening.address)?;
+    let Kept {
+        held,
+        mut ledger,
+        lock: _lock,
+    } = Kept::of(call.files(), ledger)?;
+    let Call {
+        alloc,
+        system,
+        answers,
+        faults,
+        ..
+    } = call;
+    let serving = Serving {
+        beginning,
+        form: &Form::of(listening.json),
+        telling: Telling::of(listening.progress, system.tells_terminal()),
+        clock: system,
+    };
+    serve_tree(
+        alloc,
+        serving,
+        held,
+        &mut ledger,
+        &mut connections,
+        answers,
+        faults,
+    )
 }
 
 // `bb run`.
@@ -141,16 +186,16 @@ fn run_of<'a, N, S: Disk>(
     }
 }
 
-// The ledger of a coordinator, locked for as long as it is written, and what it held; or none.
+// The ledger of a node, locked for as long as it is written, and what it held; or none.
 #[derive(Drop)]
-struct Kept<'a, D: Disk> {
-    held: io::Result<Opened<Held<D::Reader>>>,
-    ledger: MaybeLedger<DiskLedger<'a, D>>,
-    lock: Option<D::Lock>,
+pub(crate) struct Kept<'a, D: Disk> {
+    pub held: io::Result<Opened<Held<D::Reader>>>,
+    pub ledger: MaybeLedger<DiskLedger<'a, D>>,
+    pub lock: Option<D::Lock>,
 }
 
 impl<'a, D: Disk> Kept<'a, D> {
-    fn of(files: OnDisk<'a, D>, file: Option<LedgerFile<'_>>) -> Result<Kept<'a, D>, Ended> {
+    pub fn of(files: OnDisk<'a, D>, file: Option<LedgerFile<'_>>) -> Result<Kept<'a, D>, Ended> {
         match file {
             Some(file) => Kept::at(files, file),
             None => Ok(Kept::nowhere()),
@@ -186,17 +231,31 @@ fn workers_of<'a>(
     alloc: Global,
     known: Option<&'a KnownFile<'a>>,
     settling: &Settling<'_>,
-) -> Result<Vec<Worker<Finders<AnyFinder<'a>>>>, Ended> {
+) -> Result<Vec<SearchingWorker<'a>>, Ended> {
     let mut workers = Vec::new(alloc);
     for id in 1..=u32::from(settling.workers) {
-        let finders = decider_for(alloc, known, &settling.search)?;
-        let (worker, started) = Worker::over(alloc, id, b"", finders);
-        // An empty ledger is refused for want of memory alone.
-        if started.is_err() || workers.push(worker).is_err() {
+        let (worker, _) = worker_of(alloc, known, &settling.search, id, b"")?;
+        if workers.push(worker).is_err() {
             return Err(Ended::NoMemory);
         }
     }
     Ok(workers)
+}
+
+// A worker that is started from what its ledger holds, and what it asks for then.
+pub(crate) fn worker_of<'a>(
+    alloc: Global,
+    known: Option<&'a KnownFile<'a>>,
+    search: &Search<'_>,
+    id: u32,
+    held: &[u8],
+) -> Result<(SearchingWorker<'a>, Out), Ended> {
+    let finders = decider_for(alloc, known, search)?;
+    let (worker, started) = Worker::over(alloc, id, held, finders);
+    match started {
+        Ok(first) => Ok((worker, first)),
+        Err(fault) => Err(by_start(fault)),
+    }
 }
 
 // Locks a ledger that is begun where it isn't there, so that no two begin it.

@@ -4,10 +4,11 @@ use crate::named_file::NamedFile;
 use crate::named_socket::{LOOPBACK, NamedSocket};
 use crate::watch::Watch;
 use crate::watched_file::WatchedFile;
-use cmd_nodes::Sockets;
+use cmd_nodes::{Network, Sockets};
 use cmd_options::{Ended, ended_by};
 use cmd_progress::{ReadingTold, Telling};
 use files::Disk;
+use peer_sockets::{Address, CoordinatorStream, PeerSockets};
 use std::cell::RefCell;
 use std::env;
 use std::fs::{self, Files, OpenFile, OpenOptions, TryLockError};
@@ -295,6 +296,10 @@ fn folder_bytes(rt: &HostRuntime, path: &str) -> io::Result<u64> {
 }
 
 impl<'a> Clock for System<'a> {
+    fn sleep(&self, duration: Duration) {
+        self.rt.sleep(duration)
+    }
+
     fn monotonic(&self) -> io::Result<Duration> {
         self.rt.monotonic()
     }
@@ -321,6 +326,23 @@ impl<'a> Sockets for System<'a> {
     fn accept(&self, listener: &TcpListener) -> io::Result<NamedSocket<'a>> {
         let stream = self.noted(LOOPBACK, accepted(listener))?;
         Ok(self.named_socket(stream))
+    }
+}
+
+impl<'a> Network for System<'a> {
+    type Connections = PeerSockets<'a>;
+
+    type Stream = CoordinatorStream;
+
+    fn listen_at(&self, address: &str) -> io::Result<PeerSockets<'a>> {
+        self.noted(address, PeerSockets::at(self.rt, Address::of(address)))
+    }
+
+    fn call(&self, address: &str) -> io::Result<CoordinatorStream> {
+        self.noted(
+            address,
+            CoordinatorStream::connect(self.rt, Address::of(address)),
+        )
     }
 }
 

@@ -5,7 +5,7 @@ use Rattle.wire.specs.Fulfilled.{Answering, Fulfilled, Handed, Reply, Scene, ful
 use Rattle.cmd_nodes.specs.inside.{Becomes, BecomesBy}
 
 -- a node that was fulfilled on by answers has became them
-carried_becomes : {N : Type 0} (answers : Answering N) (old : Scene N) (replies : List Reply) (new : Scene N) → Fulfilled answers old replies new → BecomesBy answers old.node replies new.node
+pub carried_becomes : {N : Type 0} (answers : Answering N) (old : Scene N) (replies : List Reply) (new : Scene N) → Fulfilled answers old replies new → BecomesBy answers old.node replies new.node
 carried_becomes answers old [] new is = ap (λ s. s.node) is
 carried_becomes answers old (reply ∷ replies) new is = (is.0, is.1, carried_becomes answers (fulfilled reply.out is.0 old) replies new is.2)
 

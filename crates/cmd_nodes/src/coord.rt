@@ -107,12 +107,13 @@ fn start<F: Read + Drop, L: LedgerOut>(
         &mut held,
         length,
     );
-    fulfil_first(first, held.fault(), ledger)?;
+    begin_ledger(first, held.fault(), ledger)?;
     Ok(node)
 }
 
-// Does what a node asks for when it has started. What a read of its ledger came to, where one failed, is told apart.
-fn fulfil_first<L: LedgerOut>(
+/// Does to a ledger what a node asks for when it has started: `BadHeader` or `WrongRoot` where that was refused so, `fault`
+/// where a read of the ledger came to that, `Ledger` where it fails.
+pub fn begin_ledger<L: LedgerOut>(
     first: Result<Out, StartFault>,
     fault: Option<Ended>,
     ledger: &mut L,

@@ -6,8 +6,8 @@ use cmd_options::Ended;
 use lease_core::StartFault;
 use wire::{NodeFault, TurnFault};
 
-// A node's start is refused.
-pub(crate) fn by_start(fault: StartFault) -> Ended
+/// What ends a command where the start of a node is refused.
+pub fn by_start(fault: StartFault) -> Ended
     ensures { result ≡ ended_by_start fault }
 {
     match fault {

@@ -1,33 +1,43 @@
-//! The commands of `bb` that serve a tree, over readers, writers and links: `coord`, a coordinator alone, and `run` and
-//! `loop`, a coordinator and workers in one process, whose frames stay in memory or go over sockets.
+//! The commands of `bb` that serve a tree, over readers, writers and links: `coord`, a coordinator alone, whose workers' frames
+//! come on a stream or who connect; `work`, the workers of a process alone; and `run` and `loop`, a coordinator and workers in
+//! one process, whose frames stay in memory or go over sockets.
 //!
 //! `specs/Losses` says which frames of a link are lost on purpose, `specs/Rounds` what happens to a worker in a round,
 //! `specs/Moving` what has become of bytes that were to be moved from one end of a link through a stream to the other,
 //! `specs/Settled` what is printed of the board to which a tree is settled.
 #![tactic(auto)]
 
+mod calling;
 mod coord;
 mod couriers;
 mod faults;
 mod held_ledger;
+mod listening;
 mod loop_command;
 mod losses;
 mod maybe_ledger;
 mod moving;
+mod network;
 mod no_ledger;
+mod pause;
 mod reporting;
 mod rounds;
 mod run_command;
 mod sockets;
 mod station;
 mod streams;
+mod two_streams;
 mod working;
 
-pub use coord::{cmd_coord, coordinate};
+pub use calling::{work_at, work_between};
+pub use coord::{begin_ledger, cmd_coord, coordinate};
+pub use faults::by_start;
+pub use listening::{Serving, serve_tree};
 pub use loop_command::{cmd_loop, loop_tree};
 pub use losses::{Losses, deliver};
 pub use maybe_ledger::MaybeLedger;
 pub use moving::move_all;
+pub use network::Network;
 pub use no_ledger::NoLedger;
 pub use run_command::{Run, cmd_run, run_tree};
 pub use sockets::{SocketPair, Sockets, connected};

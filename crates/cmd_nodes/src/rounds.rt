@@ -64,7 +64,7 @@ fn tick<L: LedgerOut>(
     }
 }
 
-fn has_open(coordinator: &Coordinator) -> bool {
+pub(crate) fn has_open(coordinator: &Coordinator) -> bool {
     match coordinator.board() {
         Some(board) => matches!(board.status(), Status::Working { .. }),
         None => false,

@@ -1,12 +1,13 @@
 -- The ranges of the options' numbers.
 use Rattle.std.specs.Prelude.{◌≡◌, ◌≤◌, None, IfSome}
 use Rattle.cmd_options.specs.declared.options.Options.{Options}
-use Rattle.cmd_options.specs.declared.options.Options.TheVariants.{Check, Decide, Explain, Show, Tables, Coord, Run, Loop, Retry, Merge, Carry, Mend, Split, Settle, Join, Look, Draw, Page, Report}
+use Rattle.cmd_options.specs.declared.options.Options.TheVariants.{Check, Decide, Explain, Show, Tables, Coord, Work, Run, Loop, Retry, Merge, Carry, Mend, Split, Settle, Join, Look, Draw, Page, Report}
 use Rattle.cmd_options.specs.declared.options.Search.{Search}
 use Rattle.cmd_options.specs.declared.drawing.Drawing.{Drawing}
 use Rattle.cmd_options.specs.declared.options.Beginning.{Beginning}
 use Rattle.cmd_options.specs.declared.options.Settling.{Settling}
 use Rattle.cmd_options.specs.declared.options.Splitting.{Splitting}
+use Rattle.cmd_options.specs.declared.options.Working.{Working}
 
 pub record IsWithinRange (s : Search) : Type 0 where
   pub some_steps : 1 ≤ s.steps
@@ -32,6 +33,14 @@ pub record IsSettling (s : Settling) : Type 0 where
   pub rounds : s.rounds ≤ 1000000000
   pub search : IsWithinRange s.search
 
+pub record IsWorking (w : Working) : Type 0 where
+  pub some_tries : 1 ≤ w.tries
+  pub tries : w.tries ≤ 1000000
+  pub first_id : IfSome w.first_id (λ id. id ≤ 4294967232)
+  pub some_workers : 1 ≤ w.workers
+  pub workers : w.workers ≤ 64
+  pub search : IsWithinRange w.search
+
 pub record IsSplitting (s : Splitting) : Type 0 where
   pub some_states : 1 ≤ s.states
   pub states : s.states ≤ 7
@@ -52,7 +61,8 @@ AreWithinRanges (Decide deciding) = IsWithinRange deciding.search
 AreWithinRanges (Explain json) = Unit {0}
 AreWithinRanges (Show showing) = 1 ≤ showing.every
 AreWithinRanges (Tables listing) = listing.steps ≤ 100000000
-AreWithinRanges (Coord beginning ledger) = IsBeginning beginning
+AreWithinRanges (Coord beginning ledger listening) = IsBeginning beginning
+AreWithinRanges (Work working) = IsWorking working
 AreWithinRanges (Run settling ledger) = IsSettling settling
 AreWithinRanges (Loop settling ledger) = IsSettling settling × (settling.lose ≡ None)
 AreWithinRanges (Retry retrying) = IsWithinRange retrying.search

@@ -22,8 +22,9 @@ pub use kinds::{COUNT, DEPTH, FAR, GRAM, LETTERS, REACH_NAMES, REACHES, WORDS, k
 pub use ledger_file::{Durability, LedgerFile};
 pub use number::Number;
 pub use options::{
-    Beginning, Carrying, Checking, Deciding, Joining, LedgerSettling, Listing, Looking, Mending,
-    Merging, Options, Paging, Reporting, Retrying, Search, Settling, Showing, Splitting,
+    Beginning, Carrying, Checking, Deciding, Joining, LedgerSettling, Listening, Listing, Looking,
+    Mending, Merging, Options, Paging, Reporting, Retrying, Search, Settling, Showing, Splitting,
+    Working,
 };
 pub use outcome::Outcome;
 pub use std::alloc::AllocError as NoMemory;

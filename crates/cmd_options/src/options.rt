@@ -19,13 +19,18 @@ pub enum Options<'a> {
     Show(Showing),
     /// `bb tables [--normal] [--steps K] [--records]`
     Tables(Listing),
-    /// `bb coord N [--ledger FILE] [--sync] [--era E]`
+    /// `bb coord N [--ledger FILE] [--sync] [--era E] [--listen ADDR [--json] [--progress]]`
     Coord {
         /// How a coordinator is begun.
         beginning: Beginning,
         /// The ledger; none where it is kept in memory.
         ledger: Option<LedgerFile<'a>>,
+        /// Where it listens for workers; none where their frames come on standard input.
+        listening: Option<Listening<'a>>,
     },
+    /// `bb work [--connect ADDR [--tries T]] [--id I] [--ids K] [--ledger FILE] [--sync]` and the options of a search of
+    /// `decide`
+    Work(Working<'a>),
     /// `bb run N [--workers W] [--ledger FILE] [--sync] [--lose K] [--rounds R] [--json] [--progress]` and the
     /// options of a search of `decide`
     Run {
@@ -249,6 +254,36 @@ pub struct Beginning {
     pub states: u8,
     /// The number by which its leases are told from those of an earlier run: 1 or more.
     pub era: u64,
+}
+
+/// How a coordinator serves workers that connect with it.
+#[derive(Clone, Copy, Debug, PartialEq, Eq)]
+pub struct Listening<'a> {
+    /// Where it listens: `HOST:PORT`, a port of 127.0.0.1, or the path of a socket file, which has a `/`.
+    pub address: &'a str,
+    /// Whether to print the report at the end as JSON.
+    pub json: bool,
+    /// Whether to tell on standard error, while it goes on, how far it is.
+    pub progress: bool,
+}
+
+/// How a process works for a coordinator.
+#[derive(Clone, Copy, Debug, PartialEq, Eq)]
+pub struct Working<'a> {
+    /// Where the coordinator listens: `HOST:PORT`, a port of 127.0.0.1, or the path of a socket file, which has a `/`. None
+    /// where its frames come on standard input, and those to it go to standard output.
+    pub connect: Option<&'a str>,
+    /// How often in a row it is tried to connect: 1 to 1,000,000.
+    pub tries: u64,
+    /// The id of the first worker, the others have those that follow: at most 4,294,967,232. None where it is drawn by the
+    /// clock.
+    pub first_id: Option<u32>,
+    /// How many workers the process is: 1 to 64.
+    pub workers: u8,
+    /// The ledger of a single worker, or what the names of those of several begin with; none where they are kept in memory.
+    pub ledger: Option<LedgerFile<'a>>,
+    /// How far each worker searches for certificates.
+    pub search: Search<'a>,
 }
 
 /// How a tree is settled by a coordinator and workers in one process.

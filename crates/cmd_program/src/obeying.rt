@@ -5,7 +5,7 @@ ghost use Rattle.cmd_options.specs.Ranges.{AreWithinRanges};
 
 use crate::named::Named;
 use cmd_dispatch::execute;
-use cmd_nodes::Sockets;
+use cmd_nodes::{Network, Sockets};
 use cmd_options::{Ended, NoMemory, Options, Outcome};
 use cmd_progress::ReadingTold;
 use cmd_words::{LineFault, options};
@@ -16,7 +16,7 @@ use std::time::Clock;
 
 /// Does what the words ask for, the program's name first, and answers how it ended. Each end is an
 /// `Outcome`: a line that can't be read or is refused too, and a stream that fails.
-pub fn obey<S: Disk + Clock + Sockets + ReadingTold, R: Read, W: Write, E: Write>(
+pub fn obey<S: Disk + Clock + Sockets + Network + ReadingTold, R: Read, W: Write, E: Write>(
     alloc: Global,
     words: Result<Vec<String>, LineFault>,
     system: &S,
@@ -44,7 +44,7 @@ pub fn obey<S: Disk + Clock + Sockets + ReadingTold, R: Read, W: Write, E: Write
 }
 
 // Does what is asked for; which of the streams fails is remembered.
-fn carried_out<S: Disk + Clock + Sockets + ReadingTold, R: Read, W: Write, E: Write>(
+fn carried_out<S: Disk + Clock + Sockets + Network + ReadingTold, R: Read, W: Write, E: Write>(
     alloc: Global,
     asked: Options<'_>,
     system: &S,

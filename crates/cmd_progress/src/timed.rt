@@ -9,23 +9,34 @@ use std::io::Write;
 use std::time::Clock;
 
 /// Tells on a stream how far a tree is settled: how much of it by Knuth's estimate, how long the rest takes if it goes on so,
-/// and how many tables are recorded, open and holdouts.
+/// and how many tables are recorded, open and holdouts. Where workers connect, it tells how many there are, and how many
+/// records come in a second, in place of the holdouts.
 #[derive(Drop)]
 pub struct TimedProgress<'a, C, E> {
     alloc: Global,
     teller: Teller,
     clock: &'a C,
     stream: &'a mut E,
-    // what was told first
+    // what was told first, and last
     first: Option<Settled>,
+    last: Settled,
+    // how many workers are connected; none where they don't connect
+    workers: Option<usize>,
 }
 
-// How much of a tree was settled, after so many milliseconds.
+// How much of a tree was settled, and how many tables recorded, after so many milliseconds.
 #[derive(Clone, Copy)]
 struct Settled {
     weight: u64,
+    records: u64,
     milliseconds: u64,
 }
+
+const NOTHING_SETTLED: Settled = Settled {
+    weight: 0,
+    records: 0,
+    milliseconds: 0,
+};
 
 impl<'a, C: Clock, E: Write> TimedProgress<'a, C, E> {
     /// Progress from now on.
@@ -41,7 +52,14 @@ impl<'a, C: Clock, E: Write> TimedProgress<'a, C, E> {
             clock,
             stream,
             first: None,
+            last: NOTHING_SETTLED,
+            workers: None,
         }
+    }
+
+    /// So many workers are connected.
+    pub fn count_workers(&mut self, workers: usize) {
+        self.workers = Some(workers);
     }
 
     /// Ends what was told, so that what comes next has a line of its own.
@@ -51,19 +69,31 @@ impl<'a, C: Clock, E: Write> TimedProgress<'a, C, E> {
 
     fn say(&mut self, board: &Board, milliseconds: u64) -> Result<(), NoMemory> {
         let tally = board.tally();
-        let records = tally.nodes.saturating_sub(tally.open_count);
-        let weight = WHOLE.saturating_sub(open_weight(self.alloc, board)?);
         let now = Settled {
-            weight,
+            weight: WHOLE.saturating_sub(open_weight(self.alloc, board)?),
+            records: tally.nodes.saturating_sub(tally.open_count),
             milliseconds,
         };
-        let share = share_text(self.alloc, weight, WHOLE)?;
-        let left = self.left_text(now)?;
-        let told = format!(in self.alloc;
-            "{share} of the tree{left}: {records} recorded, {} open, {} holdouts",
-            tally.open_count, tally.holdouts
-        )?;
+        let told = self.text_of(now, tally.open_count, tally.holdouts)?;
+        self.last = now;
         self.teller.say(self.stream, milliseconds, &told)
+    }
+
+    fn text_of(&mut self, now: Settled, open: u64, holdouts: u64) -> Result<String, NoMemory> {
+        let share = share_text(self.alloc, now.weight, WHOLE)?;
+        let left = self.left_text(now)?;
+        let records = now.records;
+        match self.workers {
+            None => format!(in self.alloc;
+                "{share}{left}: {records} recorded, {open} open, {holdouts} holdouts"
+            ),
+            Some(workers) => {
+                let rate = rate_between(self.last, now);
+                format!(in self.alloc;
+                    "{workers} workers, {share}{left}: {records} recorded, {rate} a second, {open} open"
+                )
+            }
+        }
     }
 
     // How long the rest takes, if it goes on as since the first time; nothing where that isn't seen yet.
@@ -79,6 +109,12 @@ impl<'a, C: Clock, E: Write> TimedProgress<'a, C, E> {
         let gained = now.weight.saturating_sub(first.weight);
         rest_text(self.alloc, gone, gained, WHOLE.saturating_sub(now.weight))
     }
+}
+
+// How many records came in a second.
+fn rate_between(last: Settled, now: Settled) -> u128 {
+    let gone = now.milliseconds.saturating_sub(last.milliseconds).max(1);
+    u128::from(now.records.saturating_sub(last.records)) * 1_000 / u128::from(gone)
 }
 
 impl<'a, C: Clock, E: Write> Progress for TimedProgress<'a, C, E> {

@@ -16,6 +16,12 @@ mod rows {
         default: Some("1000000"), help: "Stop after so many rounds" };
     pub(crate) const ERA: Number = ranged! { name: "era", value: Some("E"), least: 1, most: u64::MAX,
         default: Some("1"), help: "Tells this run's leases from those of an earlier one" };
+    pub(crate) const TRIES: Number = ranged! { name: "tries", value: Some("T"), least: 1, most: 1_000_000,
+        default: Some("20"), help: "Give up where so many tries in a row to connect have failed" };
+    pub(crate) const ID: Number = ranged! { name: "id", value: Some("I"), least: 0, most: 4_294_967_232, default: None,
+        help: "The id of the first worker; without it one is drawn by the clock" };
+    pub(crate) const IDS: Number = ranged! { name: "ids", value: Some("K"), least: 1, most: 64,
+        default: Some("16"), help: "How many workers this process is, whose frames go over one stream" };
     pub(crate) const FILLED: Number = ranged! { name: "filled", value: Some("D"), least: 0, most: 14,
         default: Some("4"), help: "Decide the tables with fewer filled entries, leave the others to the parts" };
     pub(crate) const STEPS: Number = ranged! { name: "steps", value: Some("K"), least: 1, most: 100_000_000,
@@ -64,6 +70,12 @@ mod rows {
         help: "The ledger file that is written; it may be the same" };
     pub(crate) const LEDGER: Text = Text { name: "ledger", value: Some("FILE"),
         help: "The ledger file, which is created where it isn't there; none is kept without it" };
+    pub(crate) const LISTEN: Text = Text { name: "listen", value: Some("ADDR"),
+        help: "Serve workers that connect at HOST:PORT, at a port of 127.0.0.1, or at a socket file (its path has a `/`)" };
+    pub(crate) const CONNECT: Text = Text { name: "connect", value: Some("ADDR"),
+        help: "Connect with the coordinator at HOST:PORT, at a port of 127.0.0.1, or at a socket file (its path has a `/`)" };
+    pub(crate) const WORK_LEDGER: Text = Text { name: "ledger", value: Some("FILE"),
+        help: "The ledger file of one worker; those of several are FILE.1, FILE.2 and so on; none are kept without it" };
     pub(crate) const JOINED: Text = Text { name: "ledger", value: Some("OUT"), help: "Write the one ledger too" };
     pub(crate) const PICTURES: Text = Text { name: "out", value: Some("DIR"),
         help: "Make a file of each picture, DIR/TABLE.svg" };
@@ -79,6 +91,8 @@ mod rows {
     pub(crate) const HARD: Flag = Flag { name: "hard", needs: &[], excludes: REACH_NAMES,
         help: "Go by stages, from cheap searches to dear ones; --steps scales them" };
     pub(crate) const JSON: Flag = Flag { name: "json", needs: &[], excludes: &[], help: "Print the report as JSON" };
+    // Without `listen` there is no report.
+    pub(crate) const SERVED_JSON: Flag = Flag { needs: &["listen"], ..JSON };
     pub(crate) const LINE_JSON: Flag = Flag { name: "json", needs: &[], excludes: &[],
         help: "Print an object of JSON for each line" };
     pub(crate) const RECORD_WHY: Flag = Flag { name: "why", needs: &[], excludes: &[],
@@ -98,6 +112,7 @@ mod rows {
         help: "Print the tables that are recorded without a verdict, and read no lines" };
     pub(crate) const PROGRESS: Flag = Flag { name: "progress", needs: &[], excludes: &[],
         help: "Say on standard error how far it is, a line a second, where that isn't a terminal too" };
+    pub(crate) const SERVED_PROGRESS: Flag = Flag { needs: &["listen"], ..PROGRESS };
     pub(crate) const WHY: Flag = Flag { name: "why", needs: &[], excludes: &[],
         help: "Say on standard error why the first line that isn't kept isn't" };
 }

@@ -2,7 +2,7 @@
 use crate::arguments::*;
 use crate::help::{
     CARRY, COORD, DECIDE, DRAW, EXPLAIN, JOIN, LOOK, LOOP, MEND, MERGE, PAGE, RECORDS, REPORT,
-    RETRY, RUN, SETTLE, SHOW, SPLIT, TABLES,
+    RETRY, RUN, SETTLE, SHOW, SPLIT, TABLES, WORK,
 };
 use crate::words::Argument::{self, Flag, Number, Text, TextUnless};
 
@@ -24,7 +24,7 @@ pub(crate) const SEARCH: [Argument; 2] = [Text(KNOWN), Number(STEPS)];
 pub(crate) const SEARCH_BY_STAGES: [Argument; 1] = [Flag(HARD)];
 
 #[rattlefmt::skip]
-pub(crate) const COMMANDS: [CommandWords; 19] = [
+pub(crate) const COMMANDS: [CommandWords; 20] = [
     CommandWords { name: "check", searches: false, after_help: RECORDS,
         about: "Checks a record a line on standard input, and prints an answer a line.",
         arguments: &[Flag(LINE_JSON), Flag(RECORD_WHY)] },
@@ -49,8 +49,12 @@ pub(crate) const COMMANDS: [CommandWords; 19] = [
         arguments: &[Number(STATES), Number(WORKERS), Text(LEDGER), Flag(LEDGER_SYNC), Number(ROUNDS), Flag(JSON),
             Flag(PROGRESS)] },
     CommandWords { name: "coord", searches: false, after_help: COORD,
-        about: "Answers workers: frames on standard input, a line each, and frames on standard output.",
-        arguments: &[Number(STATES), Text(LEDGER), Flag(LEDGER_SYNC), Number(ERA)] },
+        about: "Answers workers: frames on standard input, a line each, and frames on standard output; or those that connect.",
+        arguments: &[Number(STATES), Text(LISTEN), Text(LEDGER), Flag(LEDGER_SYNC), Number(ERA), Flag(SERVED_JSON),
+            Flag(SERVED_PROGRESS)] },
+    CommandWords { name: "work", searches: true, after_help: WORK,
+        about: "Works for a coordinator: looks for the records of the tables that it grants.",
+        arguments: &[Text(CONNECT), Number(TRIES), Number(ID), Number(IDS), Text(WORK_LEDGER), Flag(LEDGER_SYNC)] },
     CommandWords { name: "retry", searches: true, after_help: RETRY,
         about: "Tries the holdouts of a ledger again, and prints its report.",
         arguments: &[Text(FILE), Flag(SYNC), Flag(PROGRESS)] },

@@ -46,12 +46,38 @@ or a stream failed (`refused 603`).";
 pub(crate) const COORD: &str =
     "A frame is a line; docs/FORMATS.md has the messages. A worker that asks (`ASK ID`) is granted the first open
 table that no other worker has; a record that it sends (`REC RECORD`) is judged, appended to the ledger where
-it is new, and then acknowledged. There is no clock: a lease ends where its worker asks again or is done.
+it is new, and then acknowledged. Over standard input there is no clock: a lease ends where its worker asks again
+or is done.
 
-Exit status: 0 at the end of the input the board is complete; 1 it isn't, or the ledger was refused
+With --listen workers connect (`bb work --connect ADDR`), 1,000 at most; a lease that isn't renewed ends after a minute.
+Where the tree is settled each worker is told to stop, and the report is printed, as by `bb report`. Standard error says
+how far it is: at a terminal on one line that is written over, elsewhere with --progress, a line a second.
+Frames aren't encrypted, and nobody is asked who he is; no verdict can be made false by it, since each record is judged
+here. docs/CLUSTER.md has more.
+
+  bb coord 4 --listen 127.0.0.1:7007 --ledger four.ledger
+  bb work --connect 127.0.0.1:7007 --hard
+
+Exit status: 0 at the end the board is complete; 1 it isn't, or the ledger was refused
 (`refused 404` no header with a readable table, `refused 405` another root); 2 a wrong command line;
-3 out of memory (`refused memory`); 4 a stream failed (`refused 603`), or the ledger did (`refused 604`), or
-another process writes it (`refused 606`).";
+3 out of memory (`refused memory`); 4 a stream or the listening failed (`refused 603`), or the ledger did
+(`refused 604`), or another process writes it (`refused 606`).";
+
+pub(crate) const WORK: &str =
+    "Frames of the coordinator come on standard input, a line each, and frames to it go to standard output; with --connect
+both go over a connection. Each worker of the process asks for a table, looks for the records of its tree as
+`bb decide` does, and hands them in; the coordinator judges them. So that the way there and back costs little, several
+workers share the process and the stream. Where a connection is lost, or can't be had, it is tried again, after 1, 2, 4
+seconds and so on, up to a minute.
+
+  bb work --connect coordinator.example:7007 --hard
+  bb work --connect /tmp/bb.socket --id 17 --ids 16
+
+Exit status: 0 each worker was told to stop, since the tree is settled; 1 a ledger was refused (`refused 404` no header
+with a readable table, `refused 405` its table doesn't name its states in order); 2 a wrong command line; 3 out of
+memory (`refused memory`); 4 the stream ended or failed before that, or the connection couldn't be had (`refused 603`),
+or a ledger failed (`refused 604`), or another process writes it (`refused 606`), or known records couldn't be read
+(`refused 605`).";
 
 pub(crate) const RUN: &str =
     "A coordinator grants tables to workers; each looks for certificates as `bb decide` does, and the coordinator

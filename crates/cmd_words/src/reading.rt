@@ -3,10 +3,11 @@ ghost use Rattle.std.specs.Prelude.{◌≡◌, ◌≤◌, IfOk, IfSome};
 ghost use Rattle.cmd_options.specs.Ranges.{AreWithinRanges, IsSettling, IsWithinRange};
 
 use crate::arguments::{
-    CARRIED, COLUMNS, DAMAGED, DRAWN, ERA, EVERY, FILE, FILLED, FIRST, FOLD, FOLDER, FROM, HARD,
-    HEIGHT, HOLDOUTS, JOIN_READ, JOINED, JSON, KNOWN, LEDGER, LINE_JSON, LOOKED, LOSE, MENDED,
-    MERGED, NORMAL, OLD, PAGED, PICTURES, PNG, PROGRESS, READ, RECORD_WHY, ROUNDS, ROWS, RUN_STEPS,
-    SECOND, SHOWN, SQUARE, STATES, STEPS, SYNC, TITLE, WHY, WIDTH, WITH_RECORDS, WORKERS,
+    CARRIED, COLUMNS, CONNECT, DAMAGED, DRAWN, ERA, EVERY, FILE, FILLED, FIRST, FOLD, FOLDER, FROM,
+    HARD, HEIGHT, HOLDOUTS, ID, IDS, JOIN_READ, JOINED, JSON, KNOWN, LEDGER, LINE_JSON, LISTEN,
+    LOOKED, LOSE, MENDED, MERGED, NORMAL, OLD, PAGED, PICTURES, PNG, PROGRESS, READ, RECORD_WHY,
+    ROUNDS, ROWS, RUN_STEPS, SECOND, SHOWN, SQUARE, STATES, STEPS, SYNC, TITLE, TRIES, WHY, WIDTH,
+    WITH_RECORDS, WORKERS,
 };
 use crate::grammar::program;
 use crate::line_fault::LineFault;
@@ -14,8 +15,8 @@ use clap::error::ErrorKind;
 use clap::{ArgMatches, Error};
 use cmd_options::{
     Beginning, COUNT, Carrying, Checking, DEPTH, Deciding, Drawing, Durability, FAR, GRAM, Joining,
-    LedgerFile, LedgerSettling, Listing, Looking, Mending, Merging, NoMemory, Number, Options,
-    Paging, Reporting, Retrying, Search, Settling, Showing, Splitting, WORDS,
+    LedgerFile, LedgerSettling, Listening, Listing, Looking, Mending, Merging, NoMemory, Number,
+    Options, Paging, Reporting, Retrying, Search, Settling, Showing, Splitting, WORDS, Working,
 };
 use std::alloc::Global;
 
@@ -49,6 +50,7 @@ fn asked<'a>(name: &str, command: &ArgMatches<'a>) -> Result<Options<'a>, LineFa
         "show" => show_options(command),
         "tables" => tables_options(command),
         "coord" => coord_options(command),
+        "work" => work_options(command),
         "run" => run_options(command),
         "loop" => loop_options(command),
         "retry" => retry_options(command),
@@ -240,7 +242,40 @@ fn coord_options<'a>(coord: &ArgMatches<'a>) -> Result<Options<'a>, LineFault>
     Ok(Options::Coord {
         beginning,
         ledger: ledger_of(coord),
+        listening: listening_of(coord),
     })
+}
+
+// Where a coordinator listens, if it does.
+fn listening_of<'a>(coord: &ArgMatches<'a>) -> Option<Listening<'a>> {
+    Some(Listening {
+        address: coord.get_str(LISTEN.name)?,
+        json: coord.get_flag(JSON.name),
+        progress: coord.get_flag(PROGRESS.name),
+    })
+}
+
+fn work_options<'a>(work: &ArgMatches<'a>) -> Result<Options<'a>, LineFault>
+    ensures { IfOk result AreWithinRanges }
+{
+    Ok(Options::Work(Working {
+        connect: work.get_str(CONNECT.name),
+        tries: number_of(work, TRIES)?,
+        first_id: first_id_of(work)?,
+        workers: number_of(work, IDS)? as u8,
+        ledger: ledger_of(work),
+        search: search_of(work)?,
+    }))
+}
+
+// The id of the first worker, where one is given.
+fn first_id_of(work: &ArgMatches<'_>) -> Result<Option<u32>, LineFault>
+    ensures { IfOk result (λ id. IfSome id (λ id. id ≤ 4294967232)) }
+{
+    match number_if_given(work, ID)? {
+        Some(id) => Ok(Some(id as u32)),
+        None => Ok(None),
+    }
 }
 
 fn run_options<'a>(run: &ArgMatches<'a>) -> Result<Options<'a>, LineFault>

@@ -1,9 +1,10 @@
 // The host of a case: its files, locks, sockets and clock.
 use crate::device::{Call, failed};
+use crate::network::{ScriptedCall, ScriptedPeers};
 use crate::room::HostRoom;
 use crate::sheets::{Page, Sheet, sheet_at, synced};
 use crate::sockets::Socket;
-use cmd_nodes::Sockets;
+use cmd_nodes::{Network, Sockets};
 use cmd_options::Ended;
 use cmd_progress::{ReadingTold, Telling};
 use files::{Disk, DiskFile};
@@ -224,5 +225,44 @@ impl<'a> Sockets for CaseHost<'a> {
     fn accept(&self, _listener: &()) -> io::Result<Socket<'a>> {
         self.room.check_link()?;
         Ok(Socket { room: self.room })
+    }
+}
+
+// What a file of the disk holds.
+fn script_at(room: &HostRoom<'_>, path: &str) -> io::Result<Vec<u8>> {
+    let Ok(disk) = room.disk.try_borrow() else {
+        return Err(failed());
+    };
+    match disk.text_at(path) {
+        Some(text) => Ok(text.to_vec(room.alloc)?),
+        None => Err(io::Error::from(ErrorKind::ConnectionRefused)),
+    }
+}
+
+impl<'a> Network for CaseHost<'a> {
+    type Connections = ScriptedPeers<'a>;
+
+    type Stream = ScriptedCall<'a>;
+
+    // An address is the path of a file that says what comes of it.
+    fn listen_at(&self, address: &str) -> io::Result<ScriptedPeers<'a>> {
+        let script = self.room.noted(address, script_at(self.room, address))?;
+        Ok(ScriptedPeers::of(self.room, script))
+    }
+
+    // The first call finds the file ADDRESS, the next ones ADDRESS.2, ADDRESS.3 and so on.
+    fn call(&self, address: &str) -> io::Result<ScriptedCall<'a>> {
+        let call = self.room.next_call();
+        let said = if call == 1 {
+            script_at(self.room, address)
+        } else {
+            let path = format!(in self.room.alloc; "{address}.{call}")?;
+            script_at(self.room, &path)
+        };
+        Ok(ScriptedCall {
+            room: self.room,
+            said: self.room.noted(address, said)?,
+            read: 0,
+        })
     }
 }

@@ -4,5 +4,5 @@ use Rattle.cmd_nodes.proofs.coord.start.Goals as goal
 
 pub returns-clause-step : goal.returns-clause-step
 returns-clause-step g c =
-    let done = c.in_ok-fulfil_first.ensures in
+    let done = c.in_ok-begin_ledger.ensures in
     rw (sym c.of-held.ensures) (start_step _ _ _ _ _ _ _ done.0 c.start_from-node.ensures done.1 _ _ done.2)

@@ -1,0 +1,26 @@
+#!/bin/sh
+# Settles the tree of N states by a coordinator and a process of workers for each processor of this machine, and prints the
+# report:
+#   contrib/all.sh N [OPTIONS OF bb work..]
+# Where there are no options they are --hard. LEDGER names the coordinator's ledger, which a run that was stopped goes on from
+# (none is kept if it isn't set). BB names the program (./bb if it isn't set), JOBS how many processes work (one for each
+# processor). The report comes on standard output, how far it is on standard error, and the exit status is that of bb coord.
+set -e
+states=${1:?"contrib/all.sh N [OPTIONS..]"}
+shift
+[ $# -gt 0 ] || set -- --hard
+# The script ./bb sums up its sources each time: it is asked once which program it runs.
+bb=${BB:-$(./bb --where)}
+jobs=${JOBS:-$(getconf _NPROCESSORS_ONLN)}
+folder=$(mktemp -d)
+workers=
+trap 'kill $workers 2> /dev/null || true; rm -rf "$folder"' EXIT
+trap 'kill $coordinator 2> /dev/null; exit 130' INT TERM
+"$bb" coord "$states" --listen "$folder/socket" ${LEDGER:+--ledger "$LEDGER"} &
+coordinator=$!
+until [ -S "$folder/socket" ] || ! kill -0 "$coordinator" 2> /dev/null; do sleep 0.05; done
+for job in $(seq "$jobs"); do
+    "$bb" work --connect "$folder/socket" --id $((job * 64)) "$@" &
+    workers="$workers $!"
+done
+wait "$coordinator" && exit 0 || exit $?

@@ -1,0 +1,128 @@
+// `bb work`.
+ghost use Rattle.cmd_options.specs.Ranges.{IsWorking};
+
+use crate::call::Call;
+use crate::nodes::{Kept, SearchingWorker, worker_of};
+use cmd_ledgers::keep_answer;
+use cmd_nodes::{MaybeLedger, Network, work_at, work_between};
+use cmd_options::{Ended, LedgerFile, Outcome, Working, ended_by};
+use files::{Disk, DiskLedger, Held, Opened};
+use std::alloc::Global;
+use std::io::{self, Read, Write};
+use std::time::{Clock, SystemTime};
+use worker_pool::Pool;
+
+// The workers of a process, each with its ledger, and the locks of these.
+#[derive(Drop)]
+struct Workers<'a, 'b, D: Disk> {
+    pool: Pool<SearchingWorker<'b>, MaybeLedger<DiskLedger<'a, D>>>,
+    locks: Vec<D::Lock>,
+}
+
+// `bb work`.
+pub(crate) fn work<S: Disk + Clock + Network, R: Read, W: Write, E>(
+    call: Call<'_, S, R, W, E>,
+    working: &Working<'_>,
+) -> Result<Outcome, Ended>
+    requires { IsWorking working.now }
+{
+    let Workers {
+        mut pool,
+        locks: _locks,
+    } = workers_of(&call, working)?;
+    let Call {
+        alloc,
+        system,
+        input,
+        answers,
+        ..
+    } = call;
+    match working.connect {
+        Some(address) => work_at(alloc, &mut pool, system, address, working.tries),
+        None => work_between(alloc, &mut pool, input, answers, system),
+    }
+}
+
+// All workers of the process, with ids that follow one another.
+fn workers_of<'a, S: Disk + Clock, R, W, E>(
+    call: &Call<'a, S, R, W, E>,
+    working: &Working<'_>,
+) -> Result<Workers<'a, 'a, S>, Ended>
+    requires { IsWorking working.now }
+{
+    let first_id = match working.first_id {
+        Some(id) => id,
+        None => drawn_id(call.system)?,
+    };
+    let mut workers = Workers {
+        pool: Pool::new(call.alloc),
+        locks: Vec::new(call.alloc),
+    };
+    for place in 0..u32::from(working.workers) {
+        let path = ledger_path(call.alloc, working, place)?;
+        add_worker(&mut workers, call, working, first_id.saturating_add(place), path.as_deref())?;
+    }
+    Ok(workers)
+}
+
+// A worker, started from its ledger, where it has one.
+fn add_worker<'a, S: Disk, R, W, E>(
+    workers: &mut Workers<'a, 'a, S>,
+    call: &Call<'a, S, R, W, E>,
+    working: &Working<'_>,
+    id: u32,
+    path: Option<&str>,
+) -> Result<(), Ended> {
+    let file = match (path, working.ledger) {
+        (Some(path), Some(ledger)) => Some(LedgerFile { path, ..ledger }),
+        _ => None,
+    };
+    let Kept {
+        held,
+        mut ledger,
+        lock,
+    } = Kept::of(call.files(), file)?;
+    let text = text_of(call.alloc, held)?;
+    let (worker, first) = worker_of(call.alloc, call.known, &working.search, id, &text)?;
+    keep_answer(&first, &mut ledger)?;
+    if let Some(lock) = lock
+        && workers.locks.push(lock).is_err()
+    {
+        return Err(Ended::NoMemory);
+    }
+    Ok(workers.pool.add(worker, ledger)?)
+}
+
+// All that a ledger holds.
+fn text_of<F: Read + Drop>(alloc: Global, held: io::Result<Opened<Held<F>>>) -> Result<Vec<u8>, Ended> {
+    let mut text = Vec::new(alloc);
+    match held {
+        Ok(Opened { mut reader, .. }) => match reader.read_to_end(&mut text) {
+            Ok(_) => Ok(text),
+            Err(fault) => Err(ended_by(&fault, Ended::Ledger)),
+        },
+        Err(fault) => Err(ended_by(&fault, Ended::Ledger)),
+    }
+}
+
+// The path of the ledger of the worker at a place: that which is asked for where it is the only one, and the same with its
+// number where there are several.
+fn ledger_path(alloc: Global, working: &Working<'_>, place: u32) -> Result<Option<String>, Ended> {
+    let Some(ledger) = working.ledger else {
+        return Ok(None);
+    };
+    let path = if working.workers == 1 {
+        ledger.path.to_string(alloc)?
+    } else {
+        format!(in alloc; "{}.{}", ledger.path, place.saturating_add(1))?
+    };
+    Ok(Some(path))
+}
+
+// An id by the clock, so that two processes that are begun at different moments hardly have the same: 64 ids each, below
+// 4,294,967,232.
+fn drawn_id<C: Clock>(clock: &C) -> Result<u32, Ended> {
+    let moment = clock.since_1970()?;
+    let ticks = moment.as_nanos() / 1_000 % (1 << 25);
+    Ok(u32::try_from(ticks * 64 + 64).unwrap_or(64))
+}

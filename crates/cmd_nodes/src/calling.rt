@@ -1,0 +1,182 @@
+// `bb work`: the workers of a process, over a stream to their coordinator.
+ghost use Rattle.std.specs.Prelude.{◌≡◌, Ok, IfOk};
+ghost use Rattle.worker_pool.specs.Waiting.{waits_of};
+
+use crate::faults::in_memory;
+use crate::network::Network;
+use crate::pause::Pause;
+use crate::two_streams::TwoStreams;
+use cmd_options::{Ended, Outcome};
+use std::alloc::Global;
+use std::io::{self, ErrorKind, Read, Write};
+use std::thread;
+use std::time::{Clock, Duration};
+use wire::{LedgerOut, MAX_PIECE_BYTES, MemLink, Node, TurnFault};
+use worker_pool::{Pool, Waits};
+
+// The longest wait before it is tried again to connect, in seconds.
+const MOST_SECONDS: u64 = 60;
+
+// How a conversation with a coordinator ended.
+#[derive(Clone, Copy, Debug, PartialEq, Eq)]
+enum Parting {
+    // Each worker was told to stop.
+    Stopped,
+    // The stream ended or failed before that, after something had come.
+    Lost,
+    // It ended or failed before anything came.
+    Unanswered,
+}
+
+// What a read of a stream brought.
+#[derive(Clone, Copy, Debug, PartialEq, Eq)]
+enum Heard {
+    Something,
+    // nothing for a while
+    Nothing,
+    // the stream has ended or failed
+    End,
+}
+
+/// Works for the coordinator whose frames come on `input`, and to whom those of the workers go by `output`. Accepted once
+/// each worker was told to stop; `Stream` where a stream ends or fails before that.
+pub fn work_between<N: Node, L: LedgerOut, R: Read, W: Write, C: Clock>(
+    alloc: Global,
+    pool: &mut Pool<N, L>,
+    input: &mut R,
+    output: &mut W,
+    clock: &C,
+) -> Result<Outcome, Ended>
+    ensures { IfOk result (λ o. (o ≡ Outcome.Accepted) × (waits_of pool.new.crew.cores ≡ Waits.Nothing)) }
+{
+    let mut stream = TwoStreams { input, output };
+    match converse(alloc, pool, &mut stream, clock)? {
+        Parting::Stopped => Ok(Outcome::Accepted),
+        Parting::Lost | Parting::Unanswered => Err(Ended::Stream),
+    }
+}
+
+/// Works for the coordinator that listens at an address. A connection that can't be had, or is lost, is tried again after 1, 2,
+/// 4 seconds and so on, at most a minute. Accepted once each worker was told to stop; `Stream` where so many in a row brought
+/// nothing.
+pub fn work_at<N: Node, L: LedgerOut, H: Network + Clock>(
+    alloc: Global,
+    pool: &mut Pool<N, L>,
+    host: &H,
+    address: &str,
+    tries: u64,
+) -> Result<Outcome, Ended>
+    ensures { IfOk result (λ o. (o ≡ Outcome.Accepted) × (waits_of pool.new.crew.cores ≡ Waits.Nothing)) }
+{
+    let mut failed: u64 = 0;
+    for _ in 0..u64::MAX {
+        match call_once(alloc, pool, host, address)? {
+            Parting::Stopped => return Ok(Outcome::Accepted),
+            Parting::Lost => failed = 1,
+            Parting::Unanswered => failed = failed.saturating_add(1),
+        }
+        if failed >= tries {
+            break;
+        }
+        thread::sleep(host, wait_after(failed));
+    }
+    Err(Ended::Stream)
+}
+
+// Connects once with the coordinator at an address, and works as long as that lasts.
+fn call_once<N: Node, L: LedgerOut, H: Network + Clock>(
+    alloc: Global,
+    pool: &mut Pool<N, L>,
+    host: &H,
+    address: &str,
+) -> Result<Parting, Ended>
+    ensures { result ≡ Ok Parting.Stopped → waits_of pool.new.crew.cores ≡ Waits.Nothing }
+{
+    let Ok(mut stream) = host.call(address) else {
+        return Ok(Parting::Unanswered);
+    };
+    pool.reconnect();
+    converse(alloc, pool, &mut stream, host)
+}
+
+// How long it is waited after so many tries in a row that failed.
+fn wait_after(failed: u64) -> Duration {
+    let mut seconds: u64 = 1;
+    for _ in 1..failed.min(MOST_SECONDS) {
+        seconds = seconds.saturating_mul(2).min(MOST_SECONDS);
+    }
+    Duration::from_secs(seconds)
+}
+
+// Works over a stream, until each worker is told to stop, or the stream is lost.
+fn converse<N: Node, L: LedgerOut, S: Read + Write, C: Clock>(
+    alloc: Global,
+    pool: &mut Pool<N, L>,
+    stream: &mut S,
+    clock: &C,
+) -> Result<Parting, Ended>
+    ensures { result ≡ Ok Parting.Stopped → waits_of pool.new.crew.cores ≡ Waits.Nothing }
+{
+    let mut link = MemLink::new(alloc);
+    let mut pause = Pause::new(clock)?;
+    let mut parting = Parting::Unanswered;
+    for _ in 0..u64::MAX {
+        if pause.is_over()? {
+            pause.begin(pool.later_count())?;
+            pool.wake();
+        }
+        kept(pool.work(&mut link))?;
+        if stream.write_all(link.sent()).is_err() || stream.flush().is_err() {
+            break;
+        }
+        link.clear_sent();
+        match pool.waits() {
+            Waits::Nothing => return Ok(Parting::Stopped),
+            Waits::Later => pause.wait()?,
+            Waits::Answers => match hear(pool, stream, &mut link)? {
+                Heard::Something => parting = Parting::Lost,
+                Heard::Nothing => {}
+                Heard::End => break,
+            },
+        }
+    }
+    Ok(parting)
+}
+
+// Takes what came from the coordinator.
+fn hear<N: Node, L: LedgerOut, S: Read>(
+    pool: &mut Pool<N, L>,
+    stream: &mut S,
+    link: &mut MemLink,
+) -> Result<Heard, Ended> {
+    let mut piece = [0; MAX_PIECE_BYTES];
+    match stream.read(&mut piece) {
+        Ok(0) => Ok(Heard::End),
+        Ok(count) => {
+            kept(pool.hear(&piece[..count], link))?;
+            Ok(Heard::Something)
+        }
+        // What was sent is sent again: an answer may be lost, or the coordinator be busy.
+        Err(fault) if has_waited(&fault) => {
+            pool.forget_due();
+            Ok(Heard::Nothing)
+        }
+        Err(_) => Ok(Heard::End),
+    }
+}
+
+// Whether nothing came for a while.
+fn has_waited(fault: &io::Error) -> bool {
+    matches!(
+        fault.kind(),
+        ErrorKind::WouldBlock | ErrorKind::TimedOut | ErrorKind::Interrupted
+    )
+}
+
+// The link of a pool is in memory.
+fn kept(done: Result<(), TurnFault>) -> Result<(), Ended> {
+    match done {
+        Ok(()) => Ok(()),
+        Err(fault) => Err(in_memory(fault)),
+    }
+}

@@ -1,0 +1,94 @@
+// What waits for connections.
+use crate::address::Address;
+use crate::peer_socket::PeerStream;
+use mio::event::Source;
+use mio::{Interest, Registry, Token};
+use std::fs;
+use std::io::{self, ErrorKind};
+use std::net::{self, Ipv4Addr};
+use std::os::unix::net::UnixStream;
+
+// A listener whose `accept` doesn't wait.
+#[derive(Drop)]
+pub(crate) enum Listener {
+    Tcp(mio::net::TcpListener),
+    Unix(mio::net::UnixListener),
+}
+
+impl Listener {
+    // Listens at an address. A socket file that nobody listens at any more is made anew.
+    pub fn at(rt: &HostRuntime, address: Address<'_>) -> io::Result<Listener> {
+        match address {
+            Address::Host(host) => Listener::over(net::TcpListener::bind(rt, host)?),
+            Address::Port(port) => {
+                Listener::over(net::TcpListener::bind(rt, (Ipv4Addr::LOCALHOST, port))?)
+            }
+            Address::File(path) => {
+                remove_left_over(rt, path)?;
+                Ok(Listener::Unix(mio::net::UnixListener::bind(rt, path)?))
+            }
+        }
+    }
+
+    fn over(listener: net::TcpListener) -> io::Result<Listener> {
+        listener.set_nonblocking(true)?;
+        Ok(Listener::Tcp(mio::net::TcpListener::from_std(listener)))
+    }
+
+    // The connection that has waited longest; `WouldBlock` where none waits.
+    pub fn accept(&self) -> io::Result<PeerStream> {
+        match self {
+            Listener::Tcp(listener) => {
+                let (stream, _) = listener.accept()?;
+                // What is written goes out at once: answers aren't held back until the last is acknowledged.
+                stream.set_nodelay(true)?;
+                Ok(PeerStream::Tcp(stream))
+            }
+            Listener::Unix(listener) => {
+                let (stream, _) = listener.accept()?;
+                Ok(PeerStream::Unix(stream))
+            }
+        }
+    }
+}
+
+// Removes the socket file of a listener that is gone: nobody answers at it.
+fn remove_left_over(rt: &HostRuntime, path: &str) -> io::Result<()> {
+    match UnixStream::connect(rt, path) {
+        Err(fault) if fault.kind() == ErrorKind::ConnectionRefused => fs::remove_file(rt, path),
+        _ => Ok(()),
+    }
+}
+
+impl Source for Listener {
+    fn register(
+        &mut self,
+        registry: &Registry,
+        token: Token,
+        interests: Interest,
+    ) -> io::Result<()> {
+        match self {
+            Listener::Tcp(listener) => listener.register(registry, token, interests),
+            Listener::Unix(listener) => listener.register(registry, token, interests),
+        }
+    }
+
+    fn reregister(
+        &mut self,
+        registry: &Registry,
+        token: Token,
+        interests: Interest,
+    ) -> io::Result<()> {
+        match self {
+            Listener::Tcp(listener) => listener.reregister(registry, token, interests),
+            Listener::Unix(listener) => listener.reregister(registry, token, interests),
+        }
+    }
+
+    fn deregister(&mut self, registry: &Registry) -> io::Result<()> {
+        match self {
+            Listener::Tcp(listener) => listener.deregister(registry),
+            Listener::Unix(listener) => listener.deregister(registry),
+        }
+    }
+}

@@ -1,0 +1,219 @@
+-- The lines of the peer at a place are those of all that came from it, whatever came between from others.
+use Rattle.std.proofs.Common.{◌≡◌, ◌∙◌, refl, sym, subst, ap, inl, inr, ℕ, ◌<◌, List, [], ◌∷◌, ◌++◌, length, append_assoc, append-nil}
+use Rattle.std.specs.Prelude.{◌⊎◌, Option, Some, None, set, map}
+use Rattle.std.proofs.Math.ListN.{get_or-append}
+use Rattle.std.proofs.lemmas.Bool.{cases_eq, cases_lt, ne_eqb, eq-eqb}
+use Rattle.std.proofs.lemmas.List.{map-append, length-set, get_or-set_same, get_or-set_other, get_or_past}
+use Rattle.wire.specs.Happening.{Happening}
+use Rattle.wire.specs.Lines.{Stream, fed, lines_from, parts_from, rest_from}
+use Rattle.wire.specs.Turned.{event_of, events_of}
+use Rattle.wire.specs.Fulfilled.{Answering, Reply}
+use Rattle.wire.proofs.Cutting.{joins}
+use Rattle.text.specs.Lines.{BoundedLine}
+use Rattle.peers.specs.Connections.{Incoming, Opened, Came, Gone, Passed, Room}
+use Rattle.peers.specs.Peers.{PeerState, at_first, peer_at, drained, drained_at}
+use Rattle.peers.specs.Served.{Served, Exchange, AnswersPiece, AnswersWhereThere, TakesArrival, Flushes, Rounds, asker, served}
+use Rattle.peers.specs.Sent.{IsGone, answers_to, replies_to}
+use Rattle.peers.proofs.Sending.{Becomes, Adds, Leaves, becomes, gone_sent}
+use Rattle.peers.specs.Heard.{bytes_from, all_from, HasSaid, SaysMore}
+
+-- one step of what a peer says
+record Says (place : ℕ) (said : List ℕ) (came : Incoming) (replies : List Reply) (new : PeerState) : Type 0 where
+  lines : events_of (lines_from (Some []) said) ++ map (λ (reply : Reply). reply.to) (answers_to place came replies)
+      ≡ events_of (lines_from (Some []) (said ++ bytes_from place came))
+  says : HasSaid (said ++ bytes_from place came) new
+
+events_from : List ℕ → List Happening
+events_from bytes = events_of (lines_from (Some []) bytes)
+
+stream_from : List ℕ → Stream
+stream_from bytes = record { waiting = []; rest = rest_from (Some []) bytes }
+
+-- nothing comes from it
+silent : (place : ℕ) (said : List ℕ) (came : Incoming) (replies : List Reply) (new : PeerState)
+    → bytes_from place came ≡ [] → answers_to place came replies ≡ [] → HasSaid said new → Says place said came replies new
+silent place said came replies new no_bytes no_answers is =
+    let same : said ≡ said ++ bytes_from place came = sym (ap (λ (b : List ℕ). said ++ b) no_bytes ∙ append-nil said) in
+    record {
+      lines = ap (λ (rs : List Reply). events_of (lines_from (Some []) said) ++ map (λ (reply : Reply). reply.to) rs) no_answers
+          ∙ append-nil (events_of (lines_from (Some []) said)) ∙ ap (λ (b : List ℕ). events_of (lines_from (Some []) b)) same;
+      says = is ∙ ap (λ (b : List ℕ). record { waiting = []; rest = rest_from (Some []) b }) same;
+    }
+
+-- a piece comes from it
+module _ {N : Type 0} (answers : Answering N) (old new : Served N) (said piece : List ℕ) (peer next : PeerState) (replies : List Reply)
+    (is : HasSaid said peer) (told : AnswersPiece answers old peer piece replies new next) where
+  spoken_lines : events_of (lines_from (Some []) said) ++ map (λ (reply : Reply). reply.to) replies ≡ events_of (lines_from (Some []) (said ++ piece))
+  spoken_lines =
+      let asked : map (λ (reply : Reply). reply.to) replies ≡ events_of (lines_from (rest_from (Some []) said) piece) =
+      sym told.asked ∙ ap (λ (s : Stream). events_of (fed s piece).waiting) is in
+      ap (λ (events : List Happening). events_of (lines_from (Some []) said) ++ events) asked
+      ∙ sym (map-append event_of (lines_from (Some []) said) (lines_from (rest_from (Some []) said) piece))
+      ∙ ap events_of (sym (joins said piece (Some [])).lines)
+
+  spoken_rest : HasSaid (said ++ piece) next
+  spoken_rest =
+      told.lines ∙ ap (λ (s : Stream). record { waiting = []; rest = (fed s piece).rest }) is
+      ∙ ap (λ (rest : BoundedLine). record { waiting = []; rest = rest }) (sym (joins said piece (Some [])).rest)
+
+-- a peer that is there is at one of the places
+place_below : (peers : List (Option PeerState)) (place : ℕ) (peer : PeerState) → peer_at peers place ≡ Some peer → place < length peers
+place_below peers place peer is = elim (cases_lt place (length peers)) as (λ _. place < length peers) [
+  | inl below ↦ below
+  | inr past ↦ absurd (let e : None ≡ Some peer = sym (get_or_past peers place None past) ∙ is in cc)
+]
+
+-- what becomes of it: it is gone, or is there
+abbrev StaysOr : (List (Option PeerState)) → ℕ → (PeerState → Type 0) → Type 0
+StaysOr peers place P = IsGone peers place ⊎ ((next : PeerState) × (peer_at peers place ≡ Some next) × P next)
+
+says : {N : Type 0} (answers : Answering N) (old : Served N) (came : Incoming) (replies : List Reply) (new : Served N) (place : ℕ) (said : List ℕ)
+    (peer : PeerState) → peer_at old.peers place ≡ Some peer → HasSaid said peer → TakesArrival answers old came replies new
+    → StaysOr new.peers place (λ next. Says place said came replies next)
+says {N} answers old Opened replies new place said peer was is (none, e) =
+    inr (
+      peer,
+      ap (λ (s : Served N). peer_at s.peers place) e ∙ get_or-append old.peers (Some at_first ∷ []) None place (place_below old.peers place peer was) ∙ was,
+      silent place said Opened replies peer refl refl is,
+    )
+says answers old (Came from piece) replies new place said peer was is (told, kept) =
+    elim (cases_eq from place) as (λ _. StaysOr new.peers place (λ next. Says place said (Came from piece) replies next)) [
+      | inl e ↦
+          let here : AnswersWhereThere answers old (Some peer) piece replies new (peer_at new.peers place) =
+          subst (λ (before : Option PeerState). AnswersWhereThere answers old before piece replies new (peer_at new.peers place)) was
+          (subst (λ p. AnswersWhereThere answers old (peer_at old.peers p) piece replies new (peer_at new.peers p)) e told) in
+          inr (
+            here.0,
+            here.1,
+            record {
+              lines = rw (eq-eqb from place e) (spoken_lines answers old new said piece peer here.0 replies is here.2);
+              says = rw (eq-eqb from place e) (spoken_rest answers old new said piece peer here.0 replies is here.2);
+            },
+          )
+      | inr other ↦
+          inr (
+            peer,
+            ap (λ (ps : List (Option PeerState)). peer_at ps place) kept
+                ∙ get_or-set_other old.peers from place (peer_at new.peers from) None (λ e. other (sym e)) ∙ was,
+            silent place said (Came from piece) replies peer (rw (ne_eqb from place other) refl) (rw (ne_eqb from place other) refl) is,
+          )
+    ]
+says {N} answers old (Gone from) replies new place said peer was is (none, e) =
+    let peers : new.peers ≡ set old.peers from None = ap (λ (s : Served N). s.peers) e in
+    elim (cases_eq from place) as (λ _. StaysOr new.peers place (λ next. Says place said (Gone from) replies next)) [
+      | inl here ↦
+          let below = place_below old.peers place peer was in
+          inl (
+            subst (λ n. place < n) (sym (ap length peers ∙ length-set old.peers from None)) below,
+            ap (λ (ps : List (Option PeerState)). peer_at ps place) (peers ∙ ap (λ p. set old.peers p None) here)
+                ∙ get_or-set_same old.peers place None None below,
+          )
+      | inr other ↦
+          inr (
+            peer,
+            ap (λ (ps : List (Option PeerState)). peer_at ps place) peers ∙ get_or-set_other old.peers from place None None (λ e. other (sym e)) ∙ was,
+            silent place said (Gone from) replies peer refl refl is,
+          )
+    ]
+says answers old (Passed moment) replies new place said peer was is ticks =
+    inr (
+      peer,
+      ap (λ (ps : List (Option PeerState)). peer_at ps place) ticks.peers ∙ was,
+      silent place said (Passed moment) replies peer refl refl is,
+    )
+says {N} answers old (Room from) replies new place said peer was is (none, e) =
+    inr (
+      peer,
+      ap (λ (s : Served N). peer_at s.peers place) e ∙ was,
+      silent place said (Room from) replies peer refl refl is,
+    )
+
+-- what is sent to peers changes nothing of what they say
+flushed_there : (asked : Option ℕ) (old new : List (Option PeerState)) (place : ℕ) (peer : PeerState) → Flushes asked old new
+    → peer_at old place ≡ Some peer → (next : PeerState) × (peer_at new place ≡ Some next) × (next.lines ≡ peer.lines)
+flushed_there None old new place peer e was = (peer, ap (λ (ps : List (Option PeerState)). peer_at ps place) e ∙ was, refl)
+flushed_there (Some to) old new place peer (count, e) was =
+    elim (cases_eq to place) as (λ _. (next : PeerState) × (peer_at new place ≡ Some next) × (next.lines ≡ peer.lines)) [
+      | inl here ↦ (
+        drained count peer,
+        ap (λ (ps : List (Option PeerState)). peer_at ps place) (e ∙ ap (λ p. set old p (drained_at count (peer_at old p))) here)
+            ∙ get_or-set_same old place (drained_at count (peer_at old place)) None (place_below old place peer was) ∙ ap (drained_at count) was,
+        refl,
+      )
+      | inr other ↦ (
+        peer,
+        ap (λ (ps : List (Option PeerState)). peer_at ps place) e
+            ∙ get_or-set_other old to place (drained_at count (peer_at old to)) None (λ e. other (sym e)) ∙ was,
+        refl,
+      )
+    ]
+
+flushed_gone : (asked : Option ℕ) (old new : List (Option PeerState)) (place : ℕ) → Flushes asked old new → IsGone old place → IsGone new place
+flushed_gone None old new place e gone = subst (λ (ps : List (Option PeerState)). IsGone ps place) (sym e) gone
+flushed_gone (Some to) old new place (count, e) gone =
+    let next = drained_at count (peer_at old to) in
+    elim (cases_eq to place) as (λ _. IsGone new place) [
+      | inl here ↦
+          subst (λ (ps : List (Option PeerState)). IsGone ps place) (sym (e ∙ ap (λ p. set old p (drained_at count (peer_at old p))) here))
+          (gone_sent old place count gone)
+      | inr other ↦ (
+        subst (λ n. place < n) (sym (ap length e ∙ length-set old to next)) gone.0,
+        ap (λ (ps : List (Option PeerState)). peer_at ps place) e ∙ get_or-set_other old to place next None (λ e. other (sym e)) ∙ gone.1,
+      )
+    ]
+
+-- a place is used once
+becomes_gone : (old new : List (Option PeerState)) (place : ℕ) (frames : List ℕ) → Becomes old new place frames → IsGone old place → IsGone new place
+becomes_gone old new place frames (Adds adds still) gone = still gone
+becomes_gone old new place frames (Leaves none left) gone = left
+
+rounds_gone : {N : Type 0} (answers : Answering N) (old : Served N) (exchanges : List Exchange) (new : Served N) (place : ℕ)
+    → Rounds answers old exchanges new → IsGone old.peers place → IsGone new.peers place
+rounds_gone {N} answers old [] new place e gone = subst (λ (s : Served N). IsGone s.peers place) (sym e) gone
+rounds_gone answers old (exchange ∷ exchanges) new place (at, (peers, takes, flushes), others) gone =
+    let taken = becomes_gone old.peers peers place _
+    (becomes answers old exchange.came exchange.replies (served at.node at.text peers) place takes) gone in
+    rounds_gone answers at exchanges new place others (flushed_gone (asker exchange.came) peers at.peers place flushes taken)
+
+goes_on_more : (place : ℕ) (said : List ℕ) (exchange : Exchange) (exchanges : List Exchange) (at new : PeerState)
+    → Says place said exchange.came exchange.replies at → SaysMore place (said ++ bytes_from place exchange.came) exchanges new
+    → SaysMore place said (exchange ∷ exchanges) new
+goes_on_more place said exchange exchanges at new one others =
+    let here = answers_to place exchange.came exchange.replies in
+    let bytes = bytes_from place exchange.came in
+    let joined = append_assoc said bytes (all_from place exchanges) in
+    let to = λ (reply : Reply). reply.to in
+    record {
+      lines = ap (λ (events : List Happening). events_of (lines_from (Some []) said) ++ events) (map-append to here (replies_to place exchanges))
+          ∙ sym (append_assoc (events_of (lines_from (Some []) said)) (map to here) (map to (replies_to place exchanges)))
+          ∙ ap (λ (events : List Happening). events ++ map to (replies_to place exchanges)) one.lines ∙ others.lines
+          ∙ ap (λ (b : List ℕ). events_of (lines_from (Some []) b)) joined;
+      says = others.says ∙ ap (λ (b : List ℕ). record { waiting = []; rest = rest_from (Some []) b }) joined;
+    }
+
+pub goes_on : {N : Type 0} (answers : Answering N) (old : Served N) (exchanges : List Exchange) (new : Served N) (place : ℕ) (said : List ℕ)
+    (before after : PeerState) → Rounds answers old exchanges new → peer_at old.peers place ≡ Some before → HasSaid said before
+    → peer_at new.peers place ≡ Some after → SaysMore place said exchanges after
+goes_on {N} answers old [] new place said before after e was is now =
+    let same : Some before ≡ Some after = sym was ∙ ap (λ (s : Served N). peer_at s.peers place) (sym e) ∙ now in
+    let peer : before ≡ after = cc in
+    let end : said ≡ said ++ [] = sym (append-nil said) in
+    record {
+      lines = append-nil (events_of (lines_from (Some []) said)) ∙ ap (λ (b : List ℕ). events_of (lines_from (Some []) b)) end;
+      says = subst (λ p. HasSaid (said ++ []) p) peer (is ∙ ap (λ (b : List ℕ). record { waiting = []; rest = rest_from (Some []) b }) end);
+    }
+goes_on answers old (exchange ∷ exchanges) new place said before after (at, (peers, takes, flushes), others) was is now =
+    elim (says answers old exchange.came exchange.replies (served at.node at.text peers) place said before was is takes) as
+    (λ _. SaysMore place said (exchange ∷ exchanges) after) [
+      | inl gone ↦
+          let left = rounds_gone answers at exchanges new place others (flushed_gone (asker exchange.came) peers at.peers place flushes gone) in
+          absurd (let e : None ≡ Some after = sym left.1 ∙ now in cc)
+      | inr there ↦
+          let kept = flushed_there (asker exchange.came) peers at.peers place there.0 flushes there.1 in
+          goes_on_more place said exchange exchanges there.0 after there.2
+          (goes_on answers at exchanges new place (said ++ bytes_from place exchange.came) kept.0 after others kept.1 (kept.2 ∙ there.2.says) now)
+    ]
+
+pub said_nothing : HasSaid [] at_first
+unfolding rest_from parts_from
+said_nothing = refl

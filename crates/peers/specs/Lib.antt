@@ -1,0 +1,9 @@
+pub mod Connections
+pub mod Waits
+pub mod Peers
+pub mod Slot
+pub mod Served
+pub mod Sent
+pub mod inside
+pub mod Heard
+pub mod Memory

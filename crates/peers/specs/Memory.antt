@@ -1,0 +1,32 @@
+-- Connections in memory.
+use Rattle.std.specs.Prelude.{ℕ, List, [], ◌∷◌, get_or}
+use Rattle.peers.specs.declared.mem_connections.Scripted.{Scripted}
+use Rattle.peers.specs.declared.mem_connections.Scripted.TheVariants.{Opened as ScriptOpened, Came as ScriptCame, Gone as ScriptGone, Passed as ScriptPassed, Room as ScriptRoom}
+use Rattle.peers.specs.Connections.{Incoming, Opened, Came, Gone, Passed, Room}
+
+-- what a script says comes
+abbrev pub scripted : Scripted → Incoming
+scripted ScriptOpened = Opened
+scripted (ScriptCame place piece) = Came place piece.items
+scripted (ScriptGone place) = Gone place
+scripted (ScriptPassed moment) = Passed moment
+scripted (ScriptRoom place) = Room place
+
+-- all that comes, how much of it has come, what each peer was sent, and how many bytes one takes at once
+pub record MemoryConnections : Type 0 where
+  pub script : List Incoming
+  pub come : ℕ
+  pub sent : List (List ℕ)
+  pub most : ℕ
+  pub failures : ℕ
+
+abbrev pub sent_at : MemoryConnections → ℕ → List ℕ
+sent_at connections place = get_or connections.sent place []
+
+-- a script in which a peer comes has room for what that is sent
+abbrev pub rooms : Incoming → List (List ℕ)
+rooms Opened = [] ∷ []
+rooms (Came place piece) = []
+rooms (Gone place) = []
+rooms (Passed moment) = []
+rooms (Room place) = []

@@ -1,0 +1,60 @@
+-- What is sent to whom.
+use Rattle.std.specs.Prelude.{◌≡◌, ◌⊎◌, ◌<◌, ℕ, List, [], ◌++◌, Option, None, if◌then◌else◌, length, take, set, nat_eq}
+use Rattle.std.specs.List.{flat_map}
+use Rattle.wire.specs.declared.turned.TurnFault.{TurnFault}
+use Rattle.wire.specs.Device.{grown}
+use Rattle.wire.specs.Fulfilled.{Answering, Reply}
+use Rattle.peers.specs.Connections.{Incoming, Opened, Came, Gone, Passed, Room, noted}
+use Rattle.peers.specs.Peers.{PeerState, peer_at, due_at, drained_at}
+use Rattle.peers.specs.Served.{Served, Exchange, Rounds, Fails, all_came, noted_if}
+
+-- the first of what waits for the peer at a place was sent to it, and waits no more
+abbrev pub Sends : ℕ → List (Option PeerState) → List (Option PeerState) → Option (List ℕ) → Option (List ℕ) → Type 0
+Sends place old new sent sent' =
+    (count : ℕ) × (new ≡ set old place (drained_at count (peer_at old place)))
+    × (sent' ≡ grown sent (take count (due_at (peer_at old place))))
+
+-- the answers to what came from the peer at a place
+abbrev pub answers_to : ℕ → Incoming → List Reply → List Reply
+answers_to place Opened replies = []
+answers_to place (Came from piece) replies = if nat_eq from place then replies else []
+answers_to place (Gone from) replies = []
+answers_to place (Passed moment) replies = []
+answers_to place (Room from) replies = []
+
+abbrev pub replies_to : ℕ → List Exchange → List Reply
+replies_to place exchanges = flat_map (λ exchange. answers_to place exchange.came exchange.replies) exchanges
+
+-- their frames
+abbrev pub answer_frames : List Reply → List ℕ
+answer_frames replies = flat_map (λ reply. reply.out.frames.items) replies
+
+-- the peer at a place is gone
+abbrev pub IsGone : List (Option PeerState) → ℕ → Type 0
+IsGone peers place = (place < length peers) × (peer_at peers place ≡ None)
+
+-- what waited for the peer at a place, and then the frames of the answers to it, fall in two: the first part was sent to
+-- it, and the other waits, unless it is gone
+pub record IsSent (place : ℕ) (exchanges : List Exchange) (old new : List (Option PeerState))
+    (before after : Option (List ℕ)) : Type 0 where
+  pub done : List ℕ
+  pub left : List ℕ
+  pub all : due_at (peer_at old place) ++ answer_frames (replies_to place exchanges) ≡ done ++ left
+  pub sent : after ≡ grown before done
+  pub waits : (left ≡ due_at (peer_at new place)) ⊎ IsGone new place
+
+-- what came was served, one after another, and its answers sent to those that asked
+pub record Serves {N : Type 0} (answers : Answering N) (old : Served N) (exchanges : List Exchange) (new : Served N)
+    (before after : ℕ → Option (List ℕ)) : Type 0 where
+  pub rounds : Rounds answers old exchanges new
+  pub sent : (place : ℕ) → IsSent place exchanges old.peers new.peers (before place) (after place)
+
+-- what came was served as far as what brought a fault; of the answers to that nothing was sent
+pub record BreaksOff {N : Type 0} (answers : Answering N) (is_stopped : N → Type 0) (old : Served N) (fault : TurnFault)
+    (new : Served N) (sent sent' : ℕ → Option (List ℕ)) (arrived arrived' : Option (List Incoming)) : Type 0 where
+  pub exchanges : List Exchange
+  pub at : Served N
+  pub last : Option Incoming
+  pub before : Serves answers old exchanges at sent sent'
+  pub fails : Fails answers is_stopped at last fault new
+  pub came : arrived' ≡ noted_if (noted arrived (all_came exchanges)) last

@@ -1,0 +1,43 @@
+// What all connections promise.
+use crate::arrival::Arrival;
+use wire::Fault;
+
+/// Peers that come and go, and what passes between them and a coordinator. Places are counted from 0 and given to peers
+/// in the order in which they come; none is given twice.
+///
+/// Of a peer that took less than it was sent no bytes come until a later `send` has taken all, so that what waits for it is
+/// bounded by what one piece can bring: what keeps this promise is the implementation, which reads no more from that peer
+/// until then, and says by `Arrival::Room` that it takes bytes again.
+pub trait Connections {
+    ghost use Rattle.std.specs.Prelude.{◌≡◌, ◌≢◌, ◌≤◌, ◌∷◌, ℕ, List, [], Option, IfOk, OnErr, length, take};
+    ghost use Rattle.wire.specs.Device.{grown};
+    ghost use Rattle.peers.specs.Connections.{Incoming, FitsIn, incoming, noted};
+
+    /// What has come so far, in its order, where that is known.
+    ghost arrived: { Self → Option (List Incoming) };
+
+    /// What the peer at a place has been sent so far, where that is known.
+    ghost sent: { Self → ℕ → Option (List ℕ) };
+
+    /// A count of its failures, by which one is told.
+    ghost failures: { Self → ℕ };
+
+    /// What comes next. It waits for no peer: where nothing comes for a while, it says what time it is. After a fault
+    /// nothing is lost.
+    fn next_arrival(&mut self, buf: &mut [u8]) -> Result<Arrival, Fault>
+        ensures came { IfOk result (λ arrival. FitsIn (length buf.new) arrival
+            × (arrived self.new ≡ noted (arrived self.old) (incoming arrival buf.new ∷ []))) }
+        ensures sent { (place : ℕ) → sent self.new place ≡ sent self.old place }
+        ensures count { IfOk result (λ arrival. failures self.new ≡ failures self.old) }
+        ensures err { OnErr result ((failures self.old ≢ failures self.new)
+            × (arrived self.new ≡ arrived self.old)) };
+
+    /// Sends bytes to the peer at a place, from the front of these, and says how many: as many as it takes at once, and
+    /// none where that peer is gone.
+    fn send(&mut self, place: usize, bytes: &[u8]) -> usize
+        ensures took { (result ≤ length bytes.now)
+            × (sent self.new place ≡ grown (sent self.old place) (take result bytes.now)) }
+        ensures others { (other : ℕ) → other ≢ place → sent self.new other ≡ sent self.old other }
+        ensures arrived { arrived self.new ≡ arrived self.old }
+        ensures count { failures self.new ≡ failures self.old };
+}

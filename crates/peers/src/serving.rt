@@ -1,0 +1,164 @@
+// What comes from peers, and what is sent to them.
+ghost use Rattle.std.specs.Prelude.{◌≡◌, ◌≢◌, ◌∷◌, ℕ, List, [], Option, Some, None, Ok, Err, OnOk, IfOk, OnErr, IfErr, IfSome, length};
+ghost use Rattle.wire.specs.Fulfilled.{Faulted, kept_text, scene};
+ghost use Rattle.wire.specs.Happening.{Ticked};
+ghost use Rattle.wire.specs.Turned.{EndsInStep, devices};
+ghost use Rattle.wire.specs.declared.node.Out.{Out as Answer};
+ghost use Rattle.wire.specs.declared.turned.TurnFault.TheVariants.{LinkFault as Unlinked};
+ghost use Rattle.peers.specs.Connections.{Incoming, noted};
+ghost use Rattle.peers.specs.Served.{CountsFailure, Exchange, Fails, TakesArrival, all_came, asker, noted_if, served};
+ghost use Rattle.peers.specs.inside.{SendsTo, ServesOne};
+ghost use Rattle.peers.specs.Sent.{BreaksOff, Sends, Serves};
+
+use crate::arrival::Arrival;
+use crate::connections::Connections;
+use crate::peers::Peers;
+use wire::{Event, LedgerOut, Node, TurnFault, begin};
+
+/// Takes what comes next: a piece is cut into lines, which the node is handed in their order, and its answers wait for
+/// the peer that asked. Nothing is sent. Answers the place of the peer to which there may be something to send.
+///
+/// `LinkFault` where the connections failed, and nothing came, or where memory was refused for answers. `NoMemory` where it
+/// was refused for a new peer, or for the lines of a piece, which are lost. `LedgerFault` where the ledger failed: no frame
+/// of that answer waits, and the node is stopped. `Node` where the node didn't answer.
+pub fn take_arrival<C: Connections, N: Node, W: LedgerOut>(
+    connections: &mut C,
+    buf: &mut [u8],
+    peers: &mut Peers,
+    node: &mut N,
+    ledger: &mut W,
+) -> Result<Option<usize>, TurnFault>
+    ensures ok { IfOk result (λ place. (exchange : Exchange)
+        × (C.arrived connections.new ≡ noted (C.arrived connections.old) (exchange.came ∷ []))
+        × TakesArrival N.answers (served node.old (W.text ledger.old) peers.old) exchange.came exchange.replies
+        (served node.new (W.text ledger.new) peers.new) × (place ≡ asker exchange.came)) }
+    ensures err { IfErr result (λ fault. (came : Option Incoming)
+        × (C.arrived connections.new ≡ noted_if (C.arrived connections.old) came)
+        × Fails N.answers N.is_stopped (served node.old (W.text ledger.old) peers.old) came fault
+        (served node.new (W.text ledger.new) peers.new)) }
+    ensures sent { (place : ℕ) → C.sent connections.new place ≡ C.sent connections.old place }
+    ensures step { result ≢ Err TurnFault.LedgerFault → IfSome (W.text ledger.old) (N.in_step node.old)
+        → IfSome (W.text ledger.new) (N.in_step node.new) }
+    ensures ledger { result ≡ Err TurnFault.LedgerFault → W.failures ledger.old ≢ W.failures ledger.new }
+    ensures link { result ≡ Err TurnFault.LinkFault
+        → CountsFailure (C.failures connections.old) (C.failures connections.new) peers.old peers.new }
+{
+    let Ok(arrival) = connections.next_arrival(buf) else {
+        return Err(TurnFault::LinkFault);
+    };
+    match arrival {
+        Arrival::Opened => {
+            peers.open()?;
+            Ok(None)
+        }
+        Arrival::Came { place, count } => {
+            peers.take(place, &buf[..count], node, ledger)?;
+            Ok(Some(place))
+        }
+        Arrival::Gone { place } => {
+            peers.leave(place);
+            Ok(None)
+        }
+        Arrival::Passed(moment) => {
+            tick(node, ledger, moment)?;
+            Ok(None)
+        }
+        Arrival::Room { place } => Ok(Some(place)),
+    }
+}
+
+// Time has passed. What a node would send then, nobody asked for.
+fn tick<N: Node, W: LedgerOut>(node: &mut N, ledger: &mut W, moment: u64) -> Result<(), TurnFault>
+    ensures ok { OnOk result ((out : Answer) × N.answers node.old (Ticked moment) (Ok out) node.new
+        × (W.text ledger.new ≡ kept_text out (W.text ledger.old))) }
+    ensures err { IfErr result (λ fault. (fault ≢ Unlinked) × Faulted N.answers N.is_stopped
+        (scene node.old (W.text ledger.old) None) (Ticked moment) fault (scene node.new (W.text ledger.new) None)) }
+    ensures ends { EndsInStep N.in_step result (devices node.old (W.text ledger.old) 0 (W.failures ledger.old))
+        (devices node.new (W.text ledger.new) 0 (W.failures ledger.new)) }
+{
+    let out = node.on(Event::Tick(moment))?;
+    match begin(&out, ledger) {
+        Ok(()) => Ok(()),
+        Err(_) => {
+            node.stop();
+            Err(TurnFault::LedgerFault)
+        }
+    }
+}
+
+/// Sends a peer as much of what waits for it as it takes now; that waits no more.
+pub fn flush<C: Connections>(connections: &mut C, peers: &mut Peers, place: usize)
+    ensures sent { Sends place peers.old peers.new (C.sent connections.old place) (C.sent connections.new place) }
+    ensures others { (other : ℕ) → other ≢ place → C.sent connections.new other ≡ C.sent connections.old other }
+    ensures arrived { C.arrived connections.new ≡ C.arrived connections.old }
+    ensures count { C.failures connections.new ≡ C.failures connections.old }
+{
+    let count = connections.send(place, peers.due(place));
+    peers.wrote(place, count);
+}
+
+/// Takes so many arrivals, one after another, and after each sends the peer that asked as much of its answers as it
+/// takes. What a node would send as time passes is sent to nobody.
+///
+/// After a fault, as of `take_arrival`, each arrival but the last was served, and of the answers to the last nothing was
+/// sent.
+pub fn serve<C: Connections, N: Node, W: LedgerOut>(
+    connections: &mut C,
+    buf: &mut [u8],
+    peers: &mut Peers,
+    node: &mut N,
+    ledger: &mut W,
+    turns: u64,
+) -> Result<(), TurnFault>
+    ensures ok { OnOk result ((exchanges : List Exchange) × (length exchanges ≡ turns)
+        × (C.arrived connections.new ≡ noted (C.arrived connections.old) (all_came exchanges))
+        × Serves N.answers (served node.old (W.text ledger.old) peers.old) exchanges
+        (served node.new (W.text ledger.new) peers.new) (C.sent connections.old) (C.sent connections.new)) }
+    ensures err { IfErr result (λ fault. BreaksOff N.answers N.is_stopped
+        (served node.old (W.text ledger.old) peers.old) fault (served node.new (W.text ledger.new) peers.new)
+        (C.sent connections.old) (C.sent connections.new) (C.arrived connections.old) (C.arrived connections.new)) }
+    ensures step { result ≢ Err TurnFault.LedgerFault → IfSome (W.text ledger.old) (N.in_step node.old)
+        → IfSome (W.text ledger.new) (N.in_step node.new) }
+{
+    let mut left = turns;
+    'turns: while left > 0 {
+        serve_next(connections, buf, peers, node, ledger)?;
+        left -= 1;
+    }
+    Ok(())
+}
+
+// Takes one arrival, and sends the peer that asked what it takes.
+fn serve_next<C: Connections, N: Node, W: LedgerOut>(
+    connections: &mut C,
+    buf: &mut [u8],
+    peers: &mut Peers,
+    node: &mut N,
+    ledger: &mut W,
+) -> Result<(), TurnFault>
+    ensures ok { OnOk result ((exchange : Exchange)
+        × (C.arrived connections.new ≡ noted (C.arrived connections.old) (exchange.came ∷ []))
+        × ServesOne N.answers (served node.old (W.text ledger.old) peers.old) exchange
+        (served node.new (W.text ledger.new) peers.new) (C.sent connections.old) (C.sent connections.new)) }
+    ensures err { IfErr result (λ fault. (came : Option Incoming)
+        × (C.arrived connections.new ≡ noted_if (C.arrived connections.old) came)
+        × Fails N.answers N.is_stopped (served node.old (W.text ledger.old) peers.old) came fault
+        (served node.new (W.text ledger.new) peers.new)) }
+    ensures unsent { OnErr result ((place : ℕ) → C.sent connections.new place ≡ C.sent connections.old place) }
+    ensures step { result ≢ Err TurnFault.LedgerFault → IfSome (W.text ledger.old) (N.in_step node.old)
+        → IfSome (W.text ledger.new) (N.in_step node.new) }
+{
+    let asker = take_arrival(connections, buf, peers, node, ledger)?;
+    answer_asker(connections, peers, asker);
+    Ok(())
+}
+
+// Sends the peer that asked what it takes.
+fn answer_asker<C: Connections>(connections: &mut C, peers: &mut Peers, asker: Option<usize>)
+    ensures sent { SendsTo asker peers.old peers.new (C.sent connections.old) (C.sent connections.new) }
+    ensures arrived { C.arrived connections.new ≡ C.arrived connections.old }
+{
+    if let Some(place) = asker {
+        flush(connections, peers, place);
+    }
+}

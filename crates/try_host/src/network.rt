@@ -1,0 +1,127 @@
+// A network in memory, whose files say what comes of it.
+use crate::device::failed;
+use crate::room::HostRoom;
+use peers::{Arrival, Connections};
+use std::io::{self, Read, Write};
+use wire::Fault;
+
+/// What comes from peers, as the lines of a file say it: `+` a peer comes; `0 < ASK 7` the peer at place 0 sends a line, and
+/// `0 . AS` a piece of one; `0 -` it is gone; `0 !` it takes bytes again; `@ 61` it is second 61. Behind the last line listening
+/// fails. What is sent is written down, line by line.
+#[derive(Drop)]
+pub struct ScriptedPeers<'a> {
+    room: &'a HostRoom<'a>,
+    script: Vec<u8>,
+    // how many bytes of the script were played
+    played: usize,
+    failures: u64,
+}
+
+impl<'a> ScriptedPeers<'a> {
+    pub(crate) fn of(room: &'a HostRoom<'a>, script: Vec<u8>) -> ScriptedPeers<'a> {
+        ScriptedPeers {
+            room,
+            script,
+            played: 0,
+            failures: 0,
+        }
+    }
+
+    // Plays the next line; nothing behind the last, or where it can't be read.
+    fn play(&mut self, buf: &mut [u8]) -> Option<Arrival> {
+        let rest = self.script.get(self.played..)?;
+        let (line, _) = text::cut_at(b'\n', rest)?;
+        self.played = self.played.saturating_add(line.len()).saturating_add(1);
+        if line == b"+".as_slice() {
+            return Some(Arrival::Opened);
+        }
+        let (place, said) = text::cut_at(b' ', line)?;
+        if place == b"@".as_slice() {
+            return Some(Arrival::Passed(text::decimal_value(said)?));
+        }
+        let place = usize::try_from(text::decimal_value(place)?).ok()?;
+        match said {
+            [b'-'] => Some(Arrival::Gone { place }),
+            [b'!'] => Some(Arrival::Room { place }),
+            [b'<', b' ', sent @ ..] => Some(came(place, buf, sent, b"\n")),
+            [b'.', b' ', sent @ ..] => Some(came(place, buf, sent, b"")),
+            _ => None,
+        }
+    }
+}
+
+// Bytes that come, as many as the buffer has room for.
+fn came(place: usize, buf: &mut [u8], sent: &[u8], end: &[u8]) -> Arrival {
+    let mut count: usize = 0;
+    for (to, byte) in buf.iter_mut().zip(sent.iter().chain(end)) {
+        *to = *byte;
+        count = count.saturating_add(1);
+    }
+    Arrival::Came {
+        place,
+        count: count.min(buf.len()),
+    }
+}
+
+impl Connections for ScriptedPeers<'_> {
+    ghost use Rattle.std.specs.Prelude.{None};
+
+    ghost arrived = { λ peers. None };
+
+    ghost sent = { λ peers place. None };
+
+    ghost failures = { λ peers. peers.failures };
+
+    fn next_arrival(&mut self, buf: &mut [u8]) -> Result<Arrival, Fault> {
+        if let Some(arrival) = self.play(buf) {
+            return Ok(arrival);
+        }
+        self.failures = self.failures.wrapping_add(1);
+        Err(Fault)
+    }
+
+    fn send(&mut self, place: usize, bytes: &[u8]) -> usize {
+        let count = self.room.sockets.count(bytes.len()).min(bytes.len());
+        let _ = self.room.note_sent(place, &bytes[..count]);
+        count
+    }
+}
+
+/// What a coordinator says over a connection, a file of it; what it is told is written down.
+#[derive(Drop)]
+pub struct ScriptedCall<'a> {
+    pub(crate) room: &'a HostRoom<'a>,
+    pub(crate) said: Vec<u8>,
+    // how many bytes of it were read
+    pub(crate) read: usize,
+}
+
+impl Read for ScriptedCall<'_> {
+    fn read(&mut self, buf: &mut [u8]) -> io::Result<usize> {
+        self.room.check_link()?;
+        let rest = self.said.get(self.read..).unwrap_or(&[]);
+        let count = self.room.sockets.count(buf.len().min(rest.len()));
+        let mut copied: usize = 0;
+        for (to, byte) in buf.iter_mut().zip(rest.iter().take(count)) {
+            *to = *byte;
+            copied = copied.saturating_add(1);
+        }
+        let copied = copied.min(buf.len());
+        self.read = self.read.saturating_add(copied);
+        Ok(copied)
+    }
+}
+
+impl Write for ScriptedCall<'_> {
+    fn write(&mut self, buf: &[u8]) -> io::Result<usize> {
+        self.room.check_link()?;
+        match self.room.note_sent(0, buf) {
+            Ok(()) => Ok(buf.len()),
+            Err(_) => Err(failed()),
+        }
+    }
+
+    fn flush(&mut self) -> io::Result<()> {
+        Ok(())
+    }
+}

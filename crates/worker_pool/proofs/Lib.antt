@@ -1,0 +1,4 @@
+pub mod Counting
+pub mod Cores
+pub mod Turns
+pub mod Offers

@@ -1,0 +1,51 @@
+-- What a pool waits for, and what becomes of its cores between the turns.
+use Rattle.std.specs.Prelude.{not, Bool, true, false, if◌then◌else◌, List, [], map}
+use Rattle.std.specs.List.{list_any}
+use Rattle.worker_pool.specs.declared.pool_core.Core.{Core}
+use Rattle.worker_pool.specs.declared.stage.Stage.{Stage}
+use Rattle.worker_pool.specs.declared.stage.Stage.TheVariants.{Working, Later, Stopped}
+use Rattle.worker_pool.specs.declared.waits.Waits.{Waits}
+use Rattle.worker_pool.specs.declared.waits.Waits.TheVariants.{Answers, Later as Pause, Nothing}
+use Rattle.worker_pool.specs.Crew.{Crewed}
+use Rattle.worker_pool.specs.Due.{is_none, none}
+
+abbrev pub is_stopped_at : Stage → Bool
+is_stopped_at Working = false
+is_stopped_at Later = false
+is_stopped_at Stopped = true
+
+abbrev pub is_later_at : Stage → Bool
+is_later_at Working = false
+is_later_at Later = true
+is_later_at Stopped = false
+
+abbrev pub woken_at : Stage → Stage
+woken_at Working = Working
+woken_at Later = Working
+woken_at Stopped = Stopped
+
+module _ {N W : Type 0} where
+  abbrev pub is_awaiting : Core N W → Bool
+  is_awaiting core = not (is_none core.due)
+
+  abbrev pub is_going : Core N W → Bool
+  is_going core = not (is_stopped_at core.stage)
+
+  abbrev pub is_later : Core N W → Bool
+  is_later core = is_later_at core.stage
+
+  -- for answers where some core has a frame that is unanswered, else for a later moment where some core wasn't told to
+  -- stop
+  abbrev pub waits_of : List (Core N W) → Waits
+  waits_of cores = if list_any is_awaiting cores then Answers else if list_any is_going cores then Pause else Nothing
+
+  -- who was told to come later is to work again
+  abbrev pub woken : Core N W → Core N W
+  woken core = record core { stage = woken_at core.stage }
+
+  -- nothing that was sent counts as unanswered
+  abbrev pub forgiven : Core N W → Core N W
+  forgiven core = record core { due = none }
+
+  abbrev pub with_nothing_due : Crewed N W → Crewed N W
+  with_nothing_due crew = record { cores = map forgiven crew.cores; asks = []; latest = crew.latest }

@@ -14,7 +14,7 @@ returns c =
     let line = lent c.args.line in
     let explains = c.in_ok-outcome.ensures in
     let shown = c.in_ok-append_shown.ensures in
-    let all = c.explain_line-outcome.new.out in
+    let all = c.explain_line.new.out in
     let ended : all.items ≡ explains.0 ++ 10 ∷ [] = explains.2 ∙ ap (λ (l : List ℕ). l ++ explains.0 ++ 10 ∷ []) c.new-explained.ensures.items in
     let told : c.deref.result.now ≡ explains.0 =
     c.deref.ensures.value ∙ (c.pop.ensures.rest ∙ (ap (λ (n : ℕ). take (n - 1) all.items) all.ok.0 ∙ without_last explains.0 all.items 10 ended)) in

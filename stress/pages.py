@@ -1,7 +1,7 @@
 #!/usr/bin/env python3
 """What `bb page` says of ledgers and of folders of parts, damaged at random, against stress/tree.py: how the tree stands, the
-sentence of a complete one, each row of numbers, the version and the sums, the champions and the holdouts; and that the page of a folder is that of the
-one ledger which `bb join` writes of it.
+sentence of a complete one, each row of numbers, each bar of the steps, the version and the sums, the champions and the holdouts;
+and that the page of a folder is that of the one ledger which `bb join` writes of it.
 
 stress/pages.py [SEED [TIMES]]: prints how many pages were compared, and the first that differs, and then ends with 1.
 """
@@ -24,6 +24,9 @@ VERSION = subprocess.run([PROGRAM, "--version"], capture_output=True, check=True
 TRANSITIONS = re.compile(r"<table class='transitions'>\n.*?</table>\n", re.S)
 STATE = re.compile(r"<tr><th scope='row'>[A-G]</th><td>(...)</td><td>(...)</td></tr>")
 ROW = re.compile(r"<tr><th scope='row'>(.*?)</th><td>(.*?)</td></tr>")
+PLOT = re.compile(r"<svg class='plot' width='336' height='(\d+)' viewBox='0 0 336 \1'>\n(.*?)</svg>\n", re.S)
+BAR = re.compile(r"<g transform='translate\(0 (\d+)\)'><title>Steps (.*?) to (.*?): (.*?)</title>"
+                 r"<text class='from' x='76' y='15'>\2</text><rect x='84' width='(\d+)' height='20'/><text x='(\d+)' y='15'>\4</text></g>")
 
 
 def sentence(root, best, ones):
@@ -57,6 +60,21 @@ def expected(board, left, origin):
     return texts, rows, of("champion"), of("ones_champion"), of("holdout")
 
 
+def bars(board, best):
+    """The bars of a plot: each with its place, its steps, how many tables halt in so many, its length and its number's place."""
+    if best == "none":
+        return []
+    words = [line.split(b" ") for line in board.lines]
+    halting = [int(fields[2]) for fields in words if fields[1] == b"H"]
+    due, first = [], 1
+    while first <= int(best):
+        number = sum(first <= steps < 2 * first for steps in halting)
+        length = 5 * sum(2**k <= number for k in range(64))
+        due.append((str(24 + 20 * len(due)), f"{first:,}", f"{2 * first - 1:,}", f"{number:,}", str(length), str(length + 90)))
+        first *= 2
+    return due
+
+
 def sum_of(path):
     with open(path, "rb") as file:
         return hashlib.sha256(file.read()).hexdigest()
@@ -78,14 +96,15 @@ def told_by(page):
     figures = re.findall(r"<figcaption><code>(.*?)</code><br>(\d+) steps</figcaption>", page)
     ones = re.findall(r"<li><code>(.*?)</code></li>", page)
     holdouts = re.findall(r"<tr id='(.*?)'><td><a href='https://bbchallenge.org/\1'>\1</a></td><td>(\d+)</td></tr>", page)
-    return (texts, rows, [table for table, _ in figures], ones, [table for table, _ in holdouts]), page.count("<svg "), figures, holdouts
+    return (texts, rows, [table for table, _ in figures], ones, [table for table, _ in holdouts]), page.count("<svg xmlns"), figures, holdouts
 
 
 def parts_of(due):
     """The parts of a page beside the first, and whether there is something in them."""
     rows = dict(due[1])
-    has_records = "0" in rows
-    return [("kinds", has_records), ("entries", has_records), ("champions", rows["Most steps"] != "none"), ("holdouts", rows["Holdouts"] != "0")]
+    has_records, has_halting = "0" in rows, rows["Most steps"] != "none"
+    there = [("kinds", has_records), ("entries", has_records), ("steps", has_halting), ("champions", has_halting)]
+    return there + [("holdouts", rows["Holdouts"] != "0")]
 
 
 def differs(page, board, left, title, origin):
@@ -97,6 +116,9 @@ def differs(page, board, left, title, origin):
     best = dict(due[1])["Most steps"]
     if pictures != min(8, len(due[2])) or any(steps != best for _, steps in figures) or any(int(n) != filled(t) for t, n in holdouts):
         return f"{pictures} pictures, {figures!r}, {holdouts!r}"
+    plots, due_bars = PLOT.findall(page), bars(board, best)
+    if [(int(height), BAR.findall(inner)) for height, inner in plots] != ([(24 + 20 * len(due_bars), due_bars)] if due_bars else []):
+        return f"the bars {plots!r}, and not {due_bars!r}"
     if ["_".join(map("".join, STATE.findall(table))) for table in TRANSITIONS.findall(page)] != due[2]:
         return "not the transitions of the champions"
     if any((f"<section id='{name}'>" in page) != there or (f"<a href='#{name}'>" in page) != there for name, there in parts_of(due)):

@@ -1,5 +1,5 @@
 -- The page of a whole is that of the records of all.
-use Rattle.std.proofs.Common.{ℕ, ◌<◌, ◌^◌, Bool, List, length, get_or, Option, None, IfOk, Result, Ok, Err, [], inl, inr, refl, sym, subst, ap, ◌∙◌, append-nil}
+use Rattle.std.proofs.Common.{ℕ, ◌<◌, ◌^◌, Bool, List, length, Option, None, IfOk, Result, Ok, Err, [], inl, inr, refl, sym, subst, ap, ◌∙◌, append-nil}
 use Rattle.machine_text.specs.Packed.{Packed}
 use Rattle.cert.specs.Claim.{Recorded}
 use Rattle.ledger.specs.Contents.{Contents, IsOpenOn}
@@ -10,7 +10,7 @@ use Rattle.parts.specs.Whole.{Collected, IsWhole}
 use Rattle.cmd_options.specs.declared.ended.Ended.{Ended}
 use Rattle.cmd_options.specs.declared.outcome.Outcome.{Outcome}
 use Rattle.cmd_page.specs.Page.{IsPage, IsPageWith}
-use Rattle.cmd_page.specs.Counting.{HasCounted}
+use Rattle.cmd_page.specs.Counting.{HasCounted, census_numbers}
 use Rattle.cmd_page.specs.declared.census.Census.{Census}
 use Rattle.cmd_page.proofs.PageLaws.{counted_page, exact_census}
 use Rattle.cmd_parts.specs.Join.{EndsTelling, FailsFile, Findings, HoldsTree, SaysFirst, TellsAll, TellsParts, ended_by}
@@ -22,7 +22,7 @@ pub page_told : (title version : List ℕ) (program : Option (List ℕ)) (roots 
     → IsGathered Finds folder whole sound None None faults new_faults (λ (rs : List Recorded). HasCounted rs census)
     → ((parts : List Contents) → IsWhole whole parts → length (joined_with whole.trunk.records parts) < 2 ^ 64)
     → IfOk r (λ o. (parts : List Contents) → IsWhole whole parts
-    → TellsParts (IsPageWith (λ k. get_or census.kinds k 0) (λ k. get_or census.entries k 0) (heading_of title version program sum)) whole.trunk parts sound said new_said o)
+    → TellsParts (IsPageWith (census_numbers census) (heading_of title version program sum)) whole.trunk parts sound said new_said o)
     → IsListSum Finds folder roots sum → AreAll (IsOpenOn whole.trunk) roots
     → IfOk r (TellsFolder title version program Finds folder said new_said faults new_faults)
 page_told title version program roots sum Finds folder said new_said faults new_faults whole sound census (Ok o) gathered few tells is_sum are_open =

@@ -1,4 +1,5 @@
-// How many records a trunk and its parts have of each kind, and of tables with so many entries.
+// How many records a trunk and its parts have of each kind, of tables with so many entries, and of tables that halt in so
+// many steps.
 use cmd_options::Ended;
 use cmd_page::Census;
 use cmd_parts::Collector;

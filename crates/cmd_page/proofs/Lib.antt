@@ -2,6 +2,7 @@ pub mod EntryLaws
 pub mod Escapes
 pub mod TableTexts
 pub mod Counted
+pub mod Powers
 pub mod FigureLaws
 pub mod PageLaws
 pub mod Digits

@@ -1,10 +1,10 @@
--- How many records of a list are of each kind, and of tables with so many entries.
-use Rattle.std.specs.Prelude.{◌≡◌, ℕ, zero, suc, ◌+◌, ◌-◌, ◌^◌, ◌<◌, ◌==◌, min, List, Option, Some, None, count_by, slice_index}
+-- How many records of a list are of each kind, of tables with so many entries, and of tables that halt in so many steps.
+use Rattle.std.specs.Prelude.{◌≡◌, ℕ, zero, suc, ◌+◌, ◌-◌, ◌^◌, ◌<◌, ◌==◌, ◌&&◌, nat_le, nat_lt, Bool, false, min, List, Option, Some, None, count_by, slice_index}
 use Rattle.machine_text.specs.Packed.{Packed, entry_of}
 use Rattle.machine_text.specs.declared.transition.Sym.{Sym}
 use Rattle.machine_text.specs.declared.transition.Sym.TheVariants.{Zero, One}
 use Rattle.machine_text.specs.declared.transition.Entry.{Entry}
-use Rattle.cert.specs.Claim.{Claim, Recorded}
+use Rattle.cert.specs.Claim.{Claim, HaltsClaim, NeverClaim, NoClaim, Recorded}
 use Rattle.cert.specs.Grammar.{kind_text}
 
 -- the letter of a claim's kind, as a byte
@@ -35,6 +35,30 @@ of_kind rs letter = how_many (λ r. letter_of r.claim) letter rs
 -- how many are of a table with so many entries
 abbrev pub with_entries : List Recorded → ℕ → ℕ
 with_entries rs k = how_many (λ r. entry_count r.table) k rs
+
+-- whether a number is 2^k or more, and less than 2^(k + 1)
+abbrev pub reaches : ℕ → ℕ → Bool
+reaches k n = nat_le (2 ^ k) n && nat_lt n (2 ^ (k + 1))
+
+-- whether a table is said to halt in so many steps
+abbrev pub halts_from : ℕ → Claim → Bool
+halts_from k (HaltsClaim e) = reaches k e.steps
+halts_from k (NeverClaim r) = false
+halts_from k NoClaim = false
+
+-- how many are
+abbrev pub halting_from : List Recorded → ℕ → ℕ
+halting_from rs k = count_by (λ r. halts_from k r.claim) rs
+
+-- numbers of records: by kinds, by entries, and by steps
+pub record Numbers : Type 0 where
+  pub kinds : ℕ → ℕ
+  pub entries : ℕ → ℕ
+  pub steps : ℕ → ℕ
+
+-- those of a list
+abbrev pub numbers_of : List Recorded → Numbers
+numbers_of rs = record { kinds = of_kind rs; entries = with_entries rs; steps = halting_from rs }
 
 -- numbers at the first n places to which others were added, as far as 64 bits hold them
 abbrev pub AreMore : ℕ → List ℕ → (ℕ → ℕ) → List ℕ → Type 0

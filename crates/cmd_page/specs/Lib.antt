@@ -4,6 +4,7 @@ pub mod Groups
 pub mod Transitions
 pub mod Figures
 pub mod Style
+pub mod Steps
 pub mod Script
 pub mod KindWords
 pub mod Sentence

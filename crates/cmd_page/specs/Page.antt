@@ -13,15 +13,16 @@ use Rattle.ledger.specs.declared.status.Status.TheVariants.{Working, Holdouts, C
 use Rattle.cmd_ledgers.specs.Told.{IsToldOf}
 use Rattle.cmd_ledgers.specs.declared.told.Told.{Told}
 use Rattle.cmd_options.specs.Kinds.{kind_letters, kind_label}
-use Rattle.cmd_page.specs.Census.{of_kind, with_entries, entry_count}
+use Rattle.cmd_page.specs.Census.{Numbers, entry_count, numbers_of}
 use Rattle.cmd_page.specs.Escaped.{escaped, code_html}
 use Rattle.cmd_page.specs.Figures.{AreFigures}
 use Rattle.cmd_page.specs.Heading.{Headed, origin_html}
 use Rattle.cmd_page.specs.Row.{count_html, most_html}
 use Rattle.cmd_page.specs.Sentence.{sentence_html}
+use Rattle.cmd_page.specs.Steps.{steps_html}
 use Rattle.cmd_page.specs.KindWords.{kind_words}
 use Rattle.cmd_page.specs.Script.{script_text}
-use Rattle.cmd_page.specs.Style.{opening_text, heading_text, parts_text, record_links_text, champions_link_text, holdouts_link_text, status_text}
+use Rattle.cmd_page.specs.Style.{opening_text, heading_text, parts_text, record_links_text, halting_links_text, holdouts_link_text, status_text}
 use Rattle.cmd_page.specs.Style.{rows_end_text, kinds_text, entries_text, champions_text, ones_champions_text, items_end_text, holdouts_text, ending_text}
 
 -- the title, in the title bar and as the heading
@@ -45,7 +46,7 @@ abbrev pub parts_html : Tally → List ℕ
 parts_html tally =
     parts_text
     ++ where_some (record_count tally) record_links_text
-    ++ where_found tally.best champions_link_text
+    ++ where_found tally.best halting_links_text
     ++ where_some tally.holdouts holdouts_link_text
     ++ status_text
 
@@ -140,32 +141,34 @@ holdouts_html tables = flat_map holdout_html tables
 abbrev pub ending_html : ℕ → List ℕ
 ending_html n = if n == 0 then ending_text else script_text
 
--- all before the rows of the holdouts, by how many records there are of each kind and of tables with so many entries
-unfoldable pub head_html : Headed → (ℕ → ℕ) → (ℕ → ℕ) → Left → Told → List ℕ → List ℕ
-head_html heading kinds entries left told figures =
+-- all before the rows of the holdouts, by numbers of records
+unfoldable pub head_html : Headed → Numbers → Left → Told → List ℕ → List ℕ
+head_html heading numbers left told figures =
     opening_html heading.title
     ++ parts_html told.tally
     ++ summary_html told.root told.status told.tally left
     ++ origin_html heading ++ rows_end_text
-    ++ where_some (record_count told.tally) (census_html told.root.states (record_count told.tally) kinds entries)
+    ++ where_some (record_count told.tally)
+    (census_html told.root.states (record_count told.tally) numbers.kinds numbers.entries)
+    ++ steps_html told.tally.best numbers.steps
     ++ champions_html told.tally.best figures (into_iter_items told.ones_champions)
     ++ where_some told.tally.holdouts holdouts_text
 
-abbrev pub page_html : Headed → (ℕ → ℕ) → (ℕ → ℕ) → Left → Told → List ℕ → List ℕ
-page_html heading kinds entries left told figures =
-    head_html heading kinds entries left told figures ++ holdouts_html (into_iter_items told.holdouts)
+abbrev pub page_html : Headed → Numbers → Left → Told → List ℕ → List ℕ
+page_html heading numbers left told figures =
+    head_html heading numbers left told figures ++ holdouts_html (into_iter_items told.holdouts)
     ++ ending_html told.tally.holdouts
 
--- a page of a root and the records held from it, under a heading, but that these are the numbers of kinds and entries
-pub record IsPageWith (kinds entries : ℕ → ℕ) (heading : Headed) (root : Packed) (rs : List Recorded) (left : Left)
+-- a page of a root and the records held from it, under a heading, but that these are the numbers of records
+pub record IsPageWith (numbers : Numbers) (heading : Headed) (root : Packed) (rs : List Recorded) (left : Left)
     (text : List ℕ) : Type 0 where
   pub told : Told
   pub is_told : IsToldOf root rs told
   pub figures : List ℕ
   pub are_figures : AreFigures told.tally.best (into_iter_items told.champions) figures
-  pub is : text ≡ page_html heading kinds entries left told figures
+  pub is : text ≡ page_html heading numbers left told figures
 
 -- the page of a root and the records held from it, under a heading: all that a report tells of them, the numbers of their
--- kinds and entries, the champions with their pictures, and exactly the holdouts, in the order of their texts
+-- kinds, entries and steps, the champions with their pictures, and exactly the holdouts, in the order of their texts
 abbrev pub IsPage : Headed → Packed → List Recorded → Left → List ℕ → Type 0
-IsPage heading root rs left text = IsPageWith (of_kind rs) (with_entries rs) heading root rs left text
+IsPage heading root rs left text = IsPageWith (numbers_of rs) heading root rs left text

@@ -2,7 +2,7 @@
 use Rattle.std.specs.Prelude.{ℕ, List, ◌++◌, codes}
 
 -- the rows, each with its text and what it is sorted by
-abbrev table_script : List ℕ
+unfoldable pub table_script : List ℕ
 table_script =
     codes "'use strict';\n"
     ++ codes "const part = document.getElementById('holdouts'), body = part.querySelector('tbody');\n"
@@ -16,14 +16,14 @@ table_script =
     ++ codes "let room = some;\n"
 
 -- a number as 47,176,870
-abbrev told_script : List ℕ
+unfoldable pub told_script : List ℕ
 told_script =
     codes "function told(number) {\n"
     ++ codes "return number.toLocaleString('en');\n"
     ++ codes "}\n"
 
 -- shows the first rows that match, in their order
-abbrev show_script : List ℕ
+unfoldable pub show_script : List ℕ
 show_script =
     codes "function show() {\n"
     ++ codes "const words = field.value.toUpperCase().split(/\\s+/);\n"
@@ -39,7 +39,7 @@ show_script =
     ++ codes "}\n"
 
 -- puts the rows into the order of a column
-abbrev sort_script : List ℕ
+unfoldable pub sort_script : List ℕ
 sort_script =
     codes "function sort(head, column) {\n"
     ++ codes "const sign = head.getAttribute('aria-sort') === 'ascending' ? -1 : 1;\n"
@@ -50,7 +50,7 @@ sort_script =
     ++ codes "}\n"
 
 -- makes a button
-abbrev button_script : List ℕ
+unfoldable pub button_script : List ℕ
 button_script =
     codes "function button(text, act) {\n"
     ++ codes "const made = document.createElement('button');\n"
@@ -61,7 +61,7 @@ button_script =
     ++ codes "}\n"
 
 -- the times of a run that are drawn
-abbrev times_script : List ℕ
+unfoldable pub times_script : List ℕ
 times_script =
     codes "function timesOf(text) {\n"
     ++ codes "const table = text.split('_'), cells = new Uint8Array(2 * reach + 1), times = [];\n"
@@ -80,7 +80,7 @@ times_script =
     ++ codes "}\n"
 
 -- draws a run, a pixel a cell
-abbrev drawing_script : List ℕ
+unfoldable pub drawing_script : List ℕ
 drawing_script =
     codes "function drawing(text) {\n"
     ++ codes "const {times, step, low, high} = timesOf(text), visited = high - low + 1;\n"
@@ -107,7 +107,7 @@ drawing_script =
     ++ codes "}\n"
 
 -- puts a button into a row that draws its run
-abbrev opener_script : List ℕ
+unfoldable pub opener_script : List ℕ
 opener_script =
     codes "function addDrawing(row) {\n"
     ++ codes "const opener = button(['Run'], () => {\n"
@@ -121,7 +121,7 @@ opener_script =
     ++ codes "}\n"
 
 -- makes the tools work and shows them
-abbrev start_script : List ℕ
+unfoldable pub start_script : List ℕ
 start_script =
     codes "heads.forEach((head, column) => head.append(button([...head.childNodes], () => sort(head, "
     ++ codes "column))));\n"
@@ -138,14 +138,18 @@ start_script =
     ++ codes "if (rows.some(({text}) => text === named)) field.value = named;\n"
     ++ codes "show();\n"
 
-abbrev script : List ℕ
-script =
-    table_script ++ told_script ++ show_script ++ sort_script ++ button_script
-    ++ times_script ++ drawing_script ++ opener_script ++ start_script
+-- what goes through the rows, and what draws their runs
+unfoldable pub rows_script : List ℕ
+rows_script = table_script ++ told_script ++ show_script ++ sort_script ++ button_script
 
--- behind the rows of the holdouts
-unfoldable pub script_text : List ℕ
-script_text =
+unfoldable pub runs_script : List ℕ
+runs_script = times_script ++ drawing_script ++ opener_script
+
+-- behind the rows of the holdouts, up to the script
+unfoldable pub rows_end_script : List ℕ
+rows_end_script =
     codes "</tbody>\n</table>\n<button type='button' class='more' hidden>Show 500 more</button>\n"
     ++ codes "</section>\n</main>\n<script>\n"
-    ++ script ++ codes "</script>\n</body>\n</html>\n"
+
+unfoldable pub script_text : List ℕ
+script_text = rows_end_script ++ rows_script ++ runs_script ++ start_script ++ codes "</script>\n</body>\n</html>\n"

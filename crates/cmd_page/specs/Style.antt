@@ -9,15 +9,15 @@ policy =
     ++ codes "'unsafe-inline';script-src 'unsafe-inline';base-uri 'none';form-action 'none'\">\n"
 
 -- light or dark, as the reader has it
-abbrev page_colours : List ℕ
+unfoldable pub page_colours : List ℕ
 page_colours =
     codes ":root{color-scheme:light dark;--ink:#1b1f24;--faint:#59636e;--line:#d8dee4;--ground:#fff;"
     ++ codes "--raised:#f4f6f8;--link:#0550ae;--mark:#fff4c2}\n"
     ++ codes "@media(prefers-color-scheme:dark){:root{--ink:#e6e9ec;--faint:#9aa4af;--line:#383f47;"
     ++ codes "--ground:#13161a;--raised:#1d2227;--link:#7ab7ff;--mark:#4a3f0a}}\n"
 
--- on a narrow screen one part beneath the other
-abbrev places : List ℕ
+-- on a narrow screen one part beneath the other; on a wide one the steps stand beneath the entries
+unfoldable pub places : List ℕ
 places =
     codes "*{box-sizing:border-box}\n"
     ++ codes "body{max-width:70rem;margin:0 auto;padding:1.5rem 1rem 4rem;font:1rem/1.5 system-ui,"
@@ -29,19 +29,22 @@ places =
     ++ codes "h3{margin:1.25rem 0 .5rem;font-size:1rem}\n"
     ++ codes "nav{display:flex;flex-wrap:wrap;gap:.25rem 1.25rem}\n"
     ++ codes "a{color:var(--link)}\n"
-    ++ codes "main{display:grid;grid-template-columns:repeat(auto-fit,minmax(min(100%,19rem),1fr));gap:2rem}\n"
+    ++ codes "main{display:grid;grid-template:auto 1fr/repeat(auto-fit,minmax(min(100%,19rem),1fr));gap:2rem}\n"
     ++ codes "section{min-width:0;scroll-margin-top:1rem}\n"
+    ++ codes "#status,#kinds{grid-row:span 2}\n"
     ++ codes "#champions,#holdouts,.record{grid-column:1/-1}\n"
     ++ codes "code,pre,td a{font-family:ui-monospace,monospace;font-size:.9rem;overflow-wrap:anywhere}\n"
     ++ codes "pre{margin:0;padding:.5rem .75rem;white-space:pre-wrap;background:var(--raised)}\n"
 
-abbrev tables : List ℕ
+-- rows of names and values, and the bars of kinds
+unfoldable pub tables : List ℕ
 tables =
     codes "table{border-collapse:collapse;width:100%}\n"
     ++ codes "th,td{padding:.3rem .75rem .3rem 0;border-bottom:1px solid var(--line);text-align:left;"
     ++ codes "vertical-align:top;font-weight:normal}\n"
     ++ codes "thead th,th button{color:var(--faint)}\n"
     ++ codes "td{font-variant-numeric:tabular-nums}\n"
+    ++ codes "#status th{min-width:7.5rem}\n"
     ++ codes "td+td,th+td,thead th+th{text-align:right;padding-right:0}\n"
     ++ codes "#kinds th,#kinds td{border-bottom:0}\n"
     ++ codes "#kinds .means{padding:0 0 .6rem;font-size:.9rem;color:var(--faint);border-bottom:1px solid "
@@ -55,8 +58,8 @@ tables =
     ++ codes ".words{white-space:pre-line}\n"
     ++ codes ".sampled{margin:.25rem 0;font-size:.9rem;color:var(--faint)}\n"
 
--- pictures, and tables of transitions
-abbrev figures : List ℕ
+-- pictures, tables of transitions, and the plot of steps
+unfoldable pub figures : List ℕ
 figures =
     codes ".figures{display:flex;flex-wrap:wrap;gap:1.5rem 2rem}\n"
     ++ codes "figure{margin:0;min-width:0;max-width:100%}\n"
@@ -65,10 +68,15 @@ figures =
     ++ codes ".transitions{width:auto;margin:.5rem 0;font-family:ui-monospace,monospace;font-size:.9rem}\n"
     ++ codes ".transitions tr>*{padding:.1rem .7rem;text-align:center;border:1px solid var(--line)}\n"
     ++ codes ".transitions th{color:var(--faint)}\n"
+    ++ codes "figure .plot{border:0}\n"
+    ++ codes ".plot rect{fill:var(--link);shape-rendering:crispEdges}\n"
+    ++ codes ".plot text{fill:var(--ink);font-size:13px;font-variant-numeric:tabular-nums}\n"
+    ++ codes ".plot .from{text-anchor:end}\n"
+    ++ codes ".plot .from,.plot .head{fill:var(--faint)}\n"
     ++ codes "ul{margin:0;padding-left:1.25rem}\n"
 
 -- the field that searches, the heads that sort, and the buttons
-abbrev tools : List ℕ
+unfoldable pub tools : List ℕ
 tools =
     codes ".tools{display:flex;flex-wrap:wrap;align-items:baseline;gap:.5rem 1rem;margin-bottom:.75rem}\n"
     ++ codes "[hidden]{display:none!important}\n"
@@ -77,7 +85,7 @@ tools =
     ++ codes "button{padding:.2rem .6rem;font:inherit;color:inherit;background:var(--raised);border:1px "
     ++ codes "solid var(--line);border-radius:.25rem;cursor:pointer}\n"
     ++ codes "td button{margin-left:.5rem;padding:0 .4rem;font-size:.8rem}\n"
-    ++ codes "th button{padding:0;background:none;border:0;text-decoration:underline dotted}\n"
+    ++ codes "th button{padding:0;background:none;border:0;text-align:inherit;text-decoration:underline dotted}\n"
     ++ codes ".more{margin-top:.75rem}\n"
     ++ codes "canvas{display:block;max-width:100%;margin-top:.5rem;border:1px solid var(--line);"
     ++ codes "image-rendering:pixelated}\n"
@@ -87,13 +95,21 @@ tools =
     ++ codes ":focus-visible{outline:2px solid var(--link);outline-offset:2px}\n"
     ++ codes "@media print{nav,.tools,button{display:none}}\n"
 
--- the beginning, up to the title
-unfoldable pub opening_text : List ℕ
-opening_text =
+-- the beginning, up to how the page looks
+unfoldable pub page_start_text : List ℕ
+page_start_text =
     codes "<!doctype html>\n<html lang='en'>\n<head>\n<meta charset='utf-8'>\n"
     ++ codes "<meta name='viewport' content='width=device-width,initial-scale=1'>\n"
     ++ codes "<meta name='referrer' content='no-referrer'>\n"
-    ++ policy ++ codes "<style>\n" ++ page_colours ++ places ++ tables ++ figures ++ tools ++ codes "</style>\n<title>"
+    ++ policy ++ codes "<style>\n"
+
+-- how it looks
+unfoldable pub look_text : List ℕ
+look_text = page_colours ++ places ++ tables ++ figures ++ tools
+
+-- the beginning, up to the title
+abbrev pub opening_text : List ℕ
+opening_text = page_start_text ++ look_text ++ codes "</style>\n<title>"
 
 -- from the title to the heading
 unfoldable pub heading_text : List ℕ
@@ -118,9 +134,11 @@ record_links_text =
     codes "<a href='#kinds'>Certificates</a>\n"
     ++ codes "<a href='#entries'>Filled entries</a>\n"
 
--- where there are champions
-unfoldable pub champions_link_text : List ℕ
-champions_link_text = codes "<a href='#champions'>Champions</a>\n"
+-- where a table halts
+unfoldable pub halting_links_text : List ℕ
+halting_links_text =
+    codes "<a href='#steps'>Steps</a>\n"
+    ++ codes "<a href='#champions'>Champions</a>\n"
 
 -- where there are holdouts
 unfoldable pub holdouts_link_text : List ℕ
@@ -154,6 +172,31 @@ entries_text =
     codes "<section id='entries'>\n"
     ++ codes "<h2>Records by filled entries</h2>\n"
     ++ codes "<table>\n"
+
+-- before the plot of the steps, up to its height
+unfoldable pub plot_text : List ℕ
+plot_text =
+    codes "<section id='steps'>\n"
+    ++ codes "<h2>Halting tables by steps</h2>\n"
+    ++ codes "<figure>\n"
+    ++ codes "<svg class='plot' width='336' height='"
+
+-- the heads above its bars
+unfoldable pub plot_heads_text : List ℕ
+plot_heads_text =
+    codes "'>\n"
+    ++ codes "<text class='from head' x='76' y='15'>Steps from</text>"
+    ++ codes "<text class='head' x='84' y='15'>Tables</text>\n"
+
+-- behind its bars
+unfoldable pub plot_end_text : List ℕ
+plot_end_text =
+    codes "</svg>\n"
+    ++ codes "<figcaption class='sampled'>A bar has the tables that halt in as many steps as stand before it or more, and "
+    ++ codes "in fewer than before the next. Both scales are logarithmic: a bar is longer by the same length "
+    ++ codes "whenever its number has doubled.</figcaption>\n"
+    ++ codes "</figure>\n"
+    ++ codes "</section>\n"
 
 -- before the pictures of the champions
 unfoldable pub champions_text : List ℕ

@@ -2,7 +2,7 @@
 use Rattle.std.specs.Prelude.{◌≡◌, ℕ, ◌<◌, List, ◌++◌, slice_index}
 use Rattle.std.specs.Vec.Iter.{into_iter_items}
 use Rattle.cert.specs.Claim.{Recorded}
-use Rattle.cmd_page.specs.Census.{of_kind, with_entries}
+use Rattle.cmd_page.specs.Census.{halting_from, of_kind, with_entries}
 use Rattle.cmd_page.specs.Page.{ending_html, holdouts_html}
 use Rattle.cmd_page.specs.declared.census.Census.{Census}
 use Rattle.cmd_page.specs.declared.making.MadePage.{MadePage}
@@ -11,6 +11,7 @@ use Rattle.cmd_page.specs.declared.making.MadePage.{MadePage}
 pub record IsCensus (rs : List Recorded) (census : Census) : Type 0 where
   pub kinds : (letter : ℕ) → letter < 256 → slice_index census.kinds letter ≡ of_kind rs letter
   pub entries : (k : ℕ) → k < 15 → slice_index census.entries k ≡ with_entries rs k
+  pub steps : (k : ℕ) → k < 64 → slice_index census.steps k ≡ halting_from rs k
 
 -- the bytes of a page that is made
 abbrev pub bytes_of_page : MadePage → List ℕ

@@ -1,18 +1,20 @@
-// How many records there are of each kind, and of tables with so many entries.
-ghost use Rattle.std.specs.Prelude.{◌≡◌, ℕ, ◌+◌, ◌-◌, ◌^◌, ◌<◌, ◌==◌, if◌then◌else◌, slice_index, length};
+// How many records there are of each kind, of tables with so many entries, and of tables that halt in so many steps.
+ghost use Rattle.std.specs.Prelude.{◌≡◌, ℕ, ◌+◌, ◌-◌, ◌^◌, ◌<◌, ◌==◌, if◌then◌else◌, slice_index, length, IsTrue};
 ghost use Rattle.cert.specs.Kinds.{claim_of};
-ghost use Rattle.cmd_page.specs.Census.{AreMore, letter_of};
+ghost use Rattle.cmd_page.specs.Census.{AreMore, halts_from, letter_of, reaches};
 ghost use Rattle.cmd_page.specs.inside.{IsCensus};
 
 use crate::entries::entry_count;
 use cert::Certificate;
 use ledger::{Board, Records};
 
-/// How many records there are of each kind, by its letter, and of tables with so many entries, by that number.
+/// How many records there are: of each kind, by its letter; of tables with so many entries, by that number; and of tables
+/// that halt in 2^k steps or more and in fewer than 2^(k + 1), by k.
 #[derive(Drop)]
 pub struct Census {
     pub kinds: [u64; 256],
     pub entries: [u64; 15],
+    pub steps: [u64; 64],
 }
 
 impl Census {
@@ -27,6 +29,7 @@ impl Census {
         Census {
             kinds: [0; 256],
             entries: [0; 15],
+            steps: [0; 64],
         }
     }
 
@@ -37,6 +40,7 @@ impl Census {
         let more = census_of(board);
         add_up(&mut self.kinds, &more.kinds);
         add_up(&mut self.entries, &more.entries);
+        add_up(&mut self.steps, &more.steps);
     }
 }
 
@@ -67,11 +71,44 @@ fn count_records(records: Records<'_>) -> Census
 {
     let mut kinds = [0; 256];
     let mut entries = [0; 15];
+    let mut steps = [0; 64];
     for r in records {
         count_up(&mut kinds, letter_of(&r.certificate));
         count_up(&mut entries, entry_count(&r.table) as usize);
+        count_steps(&mut steps, &r.certificate);
     }
-    Census { kinds, entries }
+    Census {
+        kinds,
+        entries,
+        steps,
+    }
+}
+
+// One more at the power of two that a table's steps reach, where it halts.
+fn count_steps(counts: &mut [u64], certificate: &Certificate<'_>)
+    requires length { length counts.old ≡ 64 }
+    requires room { (k : ℕ) → k < 64 → IsTrue (halts_from k (claim_of certificate.now))
+        → slice_index counts.old k < 2 ^ 64 - 1 }
+    ensures { (k : ℕ) → k < 64 → slice_index counts.new k
+        ≡ slice_index counts.old k + (if halts_from k (claim_of certificate.now) then 1 else 0) }
+{
+    match certificate {
+        Certificate::Halts(e) => count_power(counts, e.steps),
+        _ => {}
+    }
+}
+
+// One more at the power of two that a number reaches.
+fn count_power(counts: &mut [u64], n: u64)
+    requires length { length counts.old ≡ 64 }
+    requires room { (k : ℕ) → k < 64 → IsTrue (reaches k n) → slice_index counts.old k < 2 ^ 64 - 1 }
+    ensures { (k : ℕ) → k < 64 → slice_index counts.new k
+        ≡ slice_index counts.old k + (if reaches k n then 1 else 0) }
+{
+    match n.checked_ilog2() {
+        Some(k) => count_up(counts, k as usize),
+        None => {}
+    }
 }
 
 // One more at a place.

@@ -19,14 +19,13 @@ pub struct Page<'a> {
 }
 
 impl ReportForm for Page<'_> {
-    ghost use Rattle.std.specs.Prelude.{slice_index};
+    ghost use Rattle.cmd_page.specs.Counting.{census_numbers};
     ghost use Rattle.cmd_page.specs.Page.{IsPageWith};
     ghost use Rattle.cmd_page.specs.inside.{bytes_of_page};
 
     type Made = MadePage;
 
-    ghost is_text = { λ page. IsPageWith (slice_index page.census.now.kinds)
-        (slice_index page.census.now.entries) page.heading.now };
+    ghost is_text = { λ page. IsPageWith (census_numbers page.census.now) page.heading.now };
 
     ghost bytes = { bytes_of_page };
 

@@ -24,6 +24,7 @@ mod page;
 mod rows;
 mod script;
 mod sentence;
+mod steps;
 mod style;
 mod summary;
 mod transitions;

@@ -1,10 +1,11 @@
 // A page as it is made, before it is written.
-ghost use Rattle.std.specs.Prelude.{◌≡◌, ◌≤◌, ℕ, ◌++◌, List, IfOk, OnOk, slice_index};
+ghost use Rattle.std.specs.Prelude.{◌≡◌, ◌≤◌, ℕ, ◌++◌, List, IfOk, OnOk};
 ghost use Rattle.std.specs.Vec.Iter.{into_iter_items};
 ghost use Rattle.machine_text.specs.Limits.{state_limit};
 ghost use Rattle.machine_text.specs.Packed.{Packed};
 ghost use Rattle.cert.specs.Claim.{Recorded};
 ghost use Rattle.cmd_ledgers.specs.Told.{IsToldOf};
+ghost use Rattle.cmd_page.specs.Counting.{census_numbers};
 ghost use Rattle.cmd_page.specs.Figures.{AreFigures, AreFiguresOf, picture_limit};
 ghost use Rattle.cmd_page.specs.Page.{IsPage, IsPageWith, champions_html, ones_champions_html};
 ghost use Rattle.cmd_page.specs.Style.{champions_text};
@@ -15,6 +16,7 @@ use crate::counts::append_census;
 use crate::figures::append_figures;
 use crate::heading::{Heading, append_origin};
 use crate::rows::append_items;
+use crate::steps::append_steps;
 use crate::style;
 use crate::summary::{
     append_opening, append_parts, append_summary, append_where_some, record_count,
@@ -58,8 +60,7 @@ pub(crate) fn told_page(
 ) -> Result<MadePage, NoMemory>
     ensures { IfOk result (λ made. (told.root.states ≤ state_limit)
         × ((root : Packed) (rs : List Recorded) → IsToldOf root rs told
-        → IsPageWith (slice_index census.now.kinds) (slice_index census.now.entries) heading.now root rs left.now
-        (bytes_of_page made))) }
+        → IsPageWith (census_numbers census.now) heading.now root rs left.now (bytes_of_page made))) }
 {
     let Told {
         root,
@@ -76,6 +77,7 @@ pub(crate) fn told_page(
     append_origin(heading, &mut head)?;
     head.extend_from_slice(style::rows_end())?;
     append_census(root.states(), record_count(&tally), census, &mut head)?;
+    append_steps(tally.best, &census.steps, &mut head)?;
     append_champions(alloc, tally.best, champions, ones_champions, &mut head)?;
     append_where_some(tally.holdouts, style::holdouts(), &mut head)?;
     Ok(MadePage {

@@ -1,11 +1,34 @@
 // How a page looks. Nothing comes from elsewhere, and the page forbids itself to ask for it.
-ghost use Rattle.std.specs.Prelude.{◌≡◌};
-ghost use Rattle.cmd_page.specs.Style.{opening_text, heading_text, parts_text, record_links_text, champions_link_text, holdouts_link_text, status_text, rows_end_text, kinds_text, entries_text, champions_text, ones_champions_text, items_end_text, holdouts_text, ending_text};
+ghost use Rattle.std.specs.Prelude.{◌≡◌, ◌++◌, OnOk};
+ghost use Rattle.cmd_page.specs.Style.{page_start_text, figures, heading_text, look_text, opening_text, page_colours, places, tables, tools, parts_text, record_links_text, halting_links_text, holdouts_link_text, status_text, rows_end_text, kinds_text, entries_text, plot_text, plot_heads_text, plot_end_text, champions_text, ones_champions_text, items_end_text, holdouts_text, ending_text};
 
-// The beginning, up to the title. Light or dark, as the reader has it; on a narrow screen one part beneath the other.
-#[tactic(auto, unfolding(crate::specs::Style::opening_text))]
-pub(crate) fn opening() -> &'static [u8]
-    ensures { result.now ≡ opening_text }
+use kind_evidence::NoMemory;
+
+// Appends the beginning, up to the title.
+pub(crate) fn append_opening(out: &mut Vec<u8>) -> Result<(), NoMemory>
+    ensures { OnOk result (out.new.items ≡ out.old.items ++ opening_text) }
+{
+    out.extend_from_slice(page_start())?;
+    append_look(out)?;
+    out.extend_from_slice(b"</style>\n<title>")
+}
+
+// Appends how the page looks.
+#[tactic(auto, unfolding(crate::specs::Style::look_text))]
+fn append_look(out: &mut Vec<u8>) -> Result<(), NoMemory>
+    ensures { OnOk result (out.new.items ≡ out.old.items ++ look_text) }
+{
+    out.extend_from_slice(page_colours())?;
+    out.extend_from_slice(places())?;
+    out.extend_from_slice(tables())?;
+    out.extend_from_slice(figures())?;
+    out.extend_from_slice(tools())
+}
+
+// The beginning, up to how the page looks.
+#[tactic(auto, unfolding(crate::specs::Style::page_start_text))]
+fn page_start() -> &'static [u8]
+    ensures { result.now ≡ page_start_text }
 {
     b"<!doctype html>\n\
 <html lang='en'>\n\
@@ -14,10 +37,24 @@ pub(crate) fn opening() -> &'static [u8]
 <meta name='viewport' content='width=device-width,initial-scale=1'>\n\
 <meta name='referrer' content='no-referrer'>\n\
 <meta http-equiv='Content-Security-Policy' content=\"default-src 'none';style-src 'unsafe-inline';script-src 'unsafe-inline';base-uri 'none';form-action 'none'\">\n\
-<style>\n\
-:root{color-scheme:light dark;--ink:#1b1f24;--faint:#59636e;--line:#d8dee4;--ground:#fff;--raised:#f4f6f8;--link:#0550ae;--mark:#fff4c2}\n\
-@media(prefers-color-scheme:dark){:root{--ink:#e6e9ec;--faint:#9aa4af;--line:#383f47;--ground:#13161a;--raised:#1d2227;--link:#7ab7ff;--mark:#4a3f0a}}\n\
-*{box-sizing:border-box}\n\
+<style>\n"
+}
+
+// Light or dark, as the reader has it.
+#[tactic(auto, unfolding(crate::specs::Style::page_colours))]
+fn page_colours() -> &'static [u8]
+    ensures { result.now ≡ page_colours }
+{
+    b":root{color-scheme:light dark;--ink:#1b1f24;--faint:#59636e;--line:#d8dee4;--ground:#fff;--raised:#f4f6f8;--link:#0550ae;--mark:#fff4c2}\n\
+@media(prefers-color-scheme:dark){:root{--ink:#e6e9ec;--faint:#9aa4af;--line:#383f47;--ground:#13161a;--raised:#1d2227;--link:#7ab7ff;--mark:#4a3f0a}}\n"
+}
+
+// On a narrow screen one part beneath the other; on a wide one the steps stand beneath the entries.
+#[tactic(auto, unfolding(crate::specs::Style::places))]
+fn places() -> &'static [u8]
+    ensures { result.now ≡ places }
+{
+    b"*{box-sizing:border-box}\n\
 body{max-width:70rem;margin:0 auto;padding:1.5rem 1rem 4rem;font:1rem/1.5 system-ui,sans-serif;color:var(--ink);background:var(--ground)}\n\
 header{border-bottom:1px solid var(--line);margin-bottom:1.5rem;padding-bottom:.75rem}\n\
 header p{margin:0;color:var(--faint)}\n\
@@ -26,15 +63,24 @@ h2{margin:0 0 .75rem;font-size:1.2rem;overflow-wrap:anywhere}\n\
 h3{margin:1.25rem 0 .5rem;font-size:1rem}\n\
 nav{display:flex;flex-wrap:wrap;gap:.25rem 1.25rem}\n\
 a{color:var(--link)}\n\
-main{display:grid;grid-template-columns:repeat(auto-fit,minmax(min(100%,19rem),1fr));gap:2rem}\n\
+main{display:grid;grid-template:auto 1fr/repeat(auto-fit,minmax(min(100%,19rem),1fr));gap:2rem}\n\
 section{min-width:0;scroll-margin-top:1rem}\n\
+#status,#kinds{grid-row:span 2}\n\
 #champions,#holdouts,.record{grid-column:1/-1}\n\
 code,pre,td a{font-family:ui-monospace,monospace;font-size:.9rem;overflow-wrap:anywhere}\n\
-pre{margin:0;padding:.5rem .75rem;white-space:pre-wrap;background:var(--raised)}\n\
-table{border-collapse:collapse;width:100%}\n\
+pre{margin:0;padding:.5rem .75rem;white-space:pre-wrap;background:var(--raised)}\n"
+}
+
+// Rows of names and values, and the bars of kinds.
+#[tactic(auto, unfolding(crate::specs::Style::tables))]
+fn tables() -> &'static [u8]
+    ensures { result.now ≡ tables }
+{
+    b"table{border-collapse:collapse;width:100%}\n\
 th,td{padding:.3rem .75rem .3rem 0;border-bottom:1px solid var(--line);text-align:left;vertical-align:top;font-weight:normal}\n\
 thead th,th button{color:var(--faint)}\n\
 td{font-variant-numeric:tabular-nums}\n\
+#status th{min-width:7.5rem}\n\
 td+td,th+td,thead th+th{text-align:right;padding-right:0}\n\
 #kinds th,#kinds td{border-bottom:0}\n\
 #kinds .means{padding:0 0 .6rem;font-size:.9rem;color:var(--faint);border-bottom:1px solid var(--line)}\n\
@@ -44,29 +90,46 @@ meter::-webkit-meter-optimum-value{background:var(--link)}\n\
 meter::-moz-meter-bar{background:var(--link)}\n\
 .left{padding:.5rem .75rem;background:var(--mark)}\n\
 .words{white-space:pre-line}\n\
-.sampled{margin:.25rem 0;font-size:.9rem;color:var(--faint)}\n\
-.figures{display:flex;flex-wrap:wrap;gap:1.5rem 2rem}\n\
+.sampled{margin:.25rem 0;font-size:.9rem;color:var(--faint)}\n"
+}
+
+// Pictures, tables of transitions, and the plot of steps.
+#[tactic(auto, unfolding(crate::specs::Style::figures))]
+fn figures() -> &'static [u8]
+    ensures { result.now ≡ figures }
+{
+    b".figures{display:flex;flex-wrap:wrap;gap:1.5rem 2rem}\n\
 figure{margin:0;min-width:0;max-width:100%}\n\
 figure svg{display:block;max-width:100%;height:auto;margin-bottom:.5rem;border:1px solid var(--line)}\n\
 .transitions{width:auto;margin:.5rem 0;font-family:ui-monospace,monospace;font-size:.9rem}\n\
 .transitions tr>*{padding:.1rem .7rem;text-align:center;border:1px solid var(--line)}\n\
 .transitions th{color:var(--faint)}\n\
-ul{margin:0;padding-left:1.25rem}\n\
-.tools{display:flex;flex-wrap:wrap;align-items:baseline;gap:.5rem 1rem;margin-bottom:.75rem}\n\
+figure .plot{border:0}\n\
+.plot rect{fill:var(--link);shape-rendering:crispEdges}\n\
+.plot text{fill:var(--ink);font-size:13px;font-variant-numeric:tabular-nums}\n\
+.plot .from{text-anchor:end}\n\
+.plot .from,.plot .head{fill:var(--faint)}\n\
+ul{margin:0;padding-left:1.25rem}\n"
+}
+
+// The field that searches, the heads that sort, and the buttons.
+#[tactic(auto, unfolding(crate::specs::Style::tools))]
+fn tools() -> &'static [u8]
+    ensures { result.now ≡ tools }
+{
+    b".tools{display:flex;flex-wrap:wrap;align-items:baseline;gap:.5rem 1rem;margin-bottom:.75rem}\n\
 [hidden]{display:none!important}\n\
 input{flex:1 1 12rem;max-width:28rem;padding:.4rem .6rem;font:inherit;color:inherit;background:var(--raised);border:1px solid var(--line);border-radius:.25rem}\n\
 button{padding:.2rem .6rem;font:inherit;color:inherit;background:var(--raised);border:1px solid var(--line);border-radius:.25rem;cursor:pointer}\n\
 td button{margin-left:.5rem;padding:0 .4rem;font-size:.8rem}\n\
-th button{padding:0;background:none;border:0;text-decoration:underline dotted}\n\
+th button{padding:0;background:none;border:0;text-align:inherit;text-decoration:underline dotted}\n\
 .more{margin-top:.75rem}\n\
 canvas{display:block;max-width:100%;margin-top:.5rem;border:1px solid var(--line);image-rendering:pixelated}\n\
 [aria-sort=ascending] button::after{content:' \\2191'}\n\
 [aria-sort=descending] button::after{content:' \\2193'}\n\
 tr:target{background:var(--mark)}\n\
 :focus-visible{outline:2px solid var(--link);outline-offset:2px}\n\
-@media print{nav,.tools,button{display:none}}\n\
-</style>\n\
-<title>"
+@media print{nav,.tools,button{display:none}}\n"
 }
 
 // From the title to the heading.
@@ -101,12 +164,13 @@ pub(crate) fn record_links() -> &'static [u8]
 <a href='#entries'>Filled entries</a>\n"
 }
 
-// Where there are champions.
-#[tactic(auto, unfolding(crate::specs::Style::champions_link_text))]
-pub(crate) fn champions_link() -> &'static [u8]
-    ensures { result.now ≡ champions_link_text }
+// Where a table halts.
+#[tactic(auto, unfolding(crate::specs::Style::halting_links_text))]
+pub(crate) fn halting_links() -> &'static [u8]
+    ensures { result.now ≡ halting_links_text }
 {
-    b"<a href='#champions'>Champions</a>\n"
+    b"<a href='#steps'>Steps</a>\n\
+<a href='#champions'>Champions</a>\n"
 }
 
 // Where there are holdouts.
@@ -156,6 +220,38 @@ pub(crate) fn entries() -> &'static [u8]
     b"<section id='entries'>\n\
 <h2>Records by filled entries</h2>\n\
 <table>\n"
+}
+
+// Before the plot of the steps, up to its height.
+#[tactic(auto, unfolding(crate::specs::Style::plot_text))]
+pub(crate) fn plot() -> &'static [u8]
+    ensures { result.now ≡ plot_text }
+{
+    b"<section id='steps'>\n\
+<h2>Halting tables by steps</h2>\n\
+<figure>\n\
+<svg class='plot' width='336' height='"
+}
+
+// The heads above its bars.
+#[tactic(auto, unfolding(crate::specs::Style::plot_heads_text))]
+pub(crate) fn plot_heads() -> &'static [u8]
+    ensures { result.now ≡ plot_heads_text }
+{
+    b"'>\n\
+<text class='from head' x='76' y='15'>Steps from</text><text class='head' x='84' y='15'>Tables</text>\n"
+}
+
+// Behind its bars.
+#[tactic(auto, unfolding(crate::specs::Style::plot_end_text))]
+pub(crate) fn plot_end() -> &'static [u8]
+    ensures { result.now ≡ plot_end_text }
+{
+    b"</svg>\n\
+<figcaption class='sampled'>A bar has the tables that halt in as many steps as stand before it or more, and in fewer than \
+before the next. Both scales are logarithmic: a bar is longer by the same length whenever its number has doubled.</figcaption>\n\
+</figure>\n\
+</section>\n"
 }
 
 // Before the pictures of the champions.

@@ -15,7 +15,7 @@ use text::append_number;
 pub fn append_opening(title: &[u8], out: &mut Vec<u8>) -> Result<(), NoMemory>
     ensures { OnOk result (out.new.items ≡ out.old.items ++ opening_html title.now) }
 {
-    out.extend_from_slice(style::opening())?;
+    style::append_opening(out)?;
     append_escaped(title, out)?;
     out.extend_from_slice(style::heading())?;
     append_escaped(title, out)
@@ -27,7 +27,7 @@ pub(crate) fn append_parts(tally: &Tally, out: &mut Vec<u8>) -> Result<(), NoMem
 {
     out.extend_from_slice(style::parts())?;
     append_where_some(record_count(tally), style::record_links(), out)?;
-    append_where_found(tally.best, style::champions_link(), out)?;
+    append_where_found(tally.best, style::halting_links(), out)?;
     append_where_some(tally.holdouts, style::holdouts_link(), out)?;
     out.extend_from_slice(style::status())
 }

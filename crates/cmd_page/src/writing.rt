@@ -1,5 +1,5 @@
 // A page that is made, written a piece at a time.
-ghost use Rattle.std.specs.Prelude.{◌≡◌, OnOk};
+ghost use Rattle.std.specs.Prelude.{OnOk};
 ghost use Rattle.std.specs.Vec.Iter.{into_iter_items};
 ghost use Rattle.std.specs.Io.KnownBytes.{Appends};
 ghost use Rattle.cmd_ledgers.specs.Passing.{Passes};
@@ -8,7 +8,7 @@ ghost use Rattle.cmd_page.specs.inside.{bytes_of_page};
 
 use crate::entries::entry_count;
 use crate::making::MadePage;
-use crate::script::script;
+use crate::script::pass_script;
 use crate::style;
 use cmd_ledgers::pass;
 use itoa::Buffer;
@@ -27,18 +27,19 @@ pub(crate) fn write_made<W: Write>(made: MadePage, answers: &mut W) -> io::Resul
     } = made;
     let mut piece = head;
     pass_holdouts(holdouts, &mut piece, answers)?;
-    pass(ending(holdout_count), &mut piece, answers)?;
+    pass_ending(holdout_count, &mut piece, answers)?;
     answers.write_all(&piece)
 }
 
-// What stands behind the rows of so many holdouts.
-fn ending(holdouts: u64) -> &'static [u8]
-    ensures { result.now ≡ ending_html holdouts }
+// Passes on what stands behind the rows of so many holdouts.
+fn pass_ending<W: Write>(holdouts: u64, piece: &mut Vec<u8>, answers: &mut W) -> io::Result<()>
+    ensures { OnOk result (Passes (W.contents answers.old) piece.old.items (W.contents answers.new) piece.new.items
+        (ending_html holdouts)) }
 {
     if holdouts == 0 {
-        style::ending()
+        pass(style::ending(), piece, answers)
     } else {
-        script()
+        pass_script(piece, answers)
     }
 }
 

@@ -1,5 +1,5 @@
 -- The page of records: a section for each line of a stream.
-use Rattle.std.specs.Prelude.{◌≡◌, ℕ, List, ◌++◌, Option, codes}
+use Rattle.std.specs.Prelude.{ℕ, List, ◌++◌, Option, codes}
 use Rattle.std.specs.Io.KnownBytes.{Appends, Consumes, IsAtEnd}
 use Rattle.cmd_lines.specs.Stream.{AreAnswered}
 use Rattle.cmd_options.specs.declared.outcome.Outcome.{Outcome}

@@ -1,6 +1,6 @@
 -- The section of a line on a page of records: what `bb explain` says of it, the picture of its run and the transitions where
 -- its record is accepted, why it is refused where it is, and the line itself, to be copied.
-use Rattle.std.specs.Prelude.{◌≡◌, ℕ, List, [], ◌∷◌, ◌++◌, Option, Some, None, Result, Ok, Err, codes}
+use Rattle.std.specs.Prelude.{◌≡◌, ℕ, List, [], ◌++◌, Option, Some, None, Result, Ok, Err, codes}
 use Rattle.machine_text.specs.Packed.{Packed}
 use Rattle.cert.specs.Claim.{Claim, HaltsClaim, NeverClaim, NoClaim, Recorded}
 use Rattle.cert.specs.declared.record_fault.RecordFault.{RecordFault}
@@ -68,5 +68,5 @@ pub record SaysSection (line : Option (List ℕ)) (o : Outcome) (html : List ℕ
   pub explained : List ℕ
   pub shown : List ℕ
   pub explains : SaysExplained line o explained
-  pub is_shown : IsShownOf (accepted_by o (read_line line)) (read_line line) (explained ++ 10 ∷ []) shown
+  pub is_shown : IsShownOf (accepted_by o (read_line line)) (read_line line) explained shown
   pub is : html ≡ section_html shown line

@@ -29,6 +29,8 @@ pub(crate) fn append_section(
 {
     let mut explained = Vec::new(alloc);
     let outcome = explain_line(alloc, line, &mut explained)?;
+    // The empty line that parts an answer from the next isn't shown.
+    explained.pop();
     out.extend_from_slice(b"<section class='record'>\n")?;
     append_shown(alloc, line, outcome, &explained, out)?;
     append_line(line, out)?;

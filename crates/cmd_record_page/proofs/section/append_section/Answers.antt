@@ -1,9 +1,10 @@
-use Rattle.std.proofs.Common.{◌≡◌, ℕ, List, [], ◌∷◌, ◌++◌, refl, sym, subst, ap, ◌∙◌, append_assoc}
+use Rattle.std.proofs.Common.{◌≡◌, ℕ, List, [], ◌∷◌, ◌++◌, refl, sym, subst, ap, ◌∙◌, ◌-◌, take, append_assoc}
 use Rattle.std.specs.Prelude.{codes}
 use Rattle.cmd_ledgers.proofs.Reports.{one_more}
 use Rattle.cmd_lines.specs.Answer.{read_line}
 use Rattle.cmd_taking.specs.Taken.{lent}
 use Rattle.cmd_record_page.specs.Section.{IsShownOf, accepted_by, line_html, section_html}
+use Rattle.cmd_record_page.proofs.Last.{without_last}
 use Rattle.cmd_record_page.proofs.section.append_section.Goals as goal
 
 pub returns : goal.returns
@@ -13,8 +14,10 @@ returns c =
     let line = lent c.args.line in
     let explains = c.in_ok-outcome.ensures in
     let shown = c.in_ok-append_shown.ensures in
-    let told : c.deref.result.now ≡ explains.0 ++ 10 ∷ [] =
-    c.deref.ensures.value ∙ (explains.2 ∙ ap (λ (l : List ℕ). l ++ explains.0 ++ 10 ∷ []) c.new-explained.ensures.items) in
+    let all = c.explain_line.new.out in
+    let ended : all.items ≡ explains.0 ++ 10 ∷ [] = explains.2 ∙ ap (λ (l : List ℕ). l ++ explains.0 ++ 10 ∷ []) c.new-explained.ensures.items in
+    let told : c.deref.result.now ≡ explains.0 =
+    c.deref.ensures.value ∙ (c.pop.ensures.rest ∙ (ap (λ (n : ℕ). take (n - 1) all.items) all.ok.0 ∙ without_last explains.0 all.items 10 ended)) in
     let first : List ℕ = codes "<section class='record'>\n" in
     let last : List ℕ = codes "</section>" in
     let above = first ++ shown.0 ++ line_html line in

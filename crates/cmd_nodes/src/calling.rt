@@ -24,7 +24,7 @@ enum Parting {
     Stopped,
     // The stream ended or failed before that, after something had come.
     Lost,
-    // It ended or failed before anything came.
+    // The stream ended or failed before anything came.
     Unanswered,
 }
 

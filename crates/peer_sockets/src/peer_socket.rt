@@ -71,11 +71,11 @@ impl Source for PeerStream {
 #[derive(Drop)]
 pub(crate) struct PeerSocket {
     pub stream: PeerStream,
-    // It took fewer bytes than it was given: nothing is read from it until it takes more.
+    // Fewer bytes were taken than were given: nothing is read until more are.
     pub is_full: bool,
-    // It stands among those that are read next.
+    // Whether the peer stands among those that are read next.
     pub is_ready: bool,
-    // A write to it failed.
+    // Whether a write failed.
     pub is_broken: bool,
 }
 

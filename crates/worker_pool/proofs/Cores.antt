@@ -5,7 +5,7 @@ use Rattle.std.proofs.lemmas.Bool.Decides.{nat_tests}
 use Rattle.std.proofs.lemmas.List.Elements.{All-head, All-set, All-tail}
 use Rattle.std.proofs.lemmas.Option.{slice_get_read}
 use Rattle.worker_pool.specs.declared.pool_core.Core.{Core}
-use Rattle.worker_pool.specs.Crew.{AreWithin, IsWithin}
+use Rattle.worker_pool.specs.Crew.{ArePlaces, IsLatest}
 use Rattle.worker_pool.specs.Handed.{Replaces}
 use Rattle.worker_pool.specs.Hearing.{next_place}
 
@@ -39,17 +39,17 @@ next_within count place within =
 
 -- more cores, or as many: each place is still one of a core
 pub within_more : {N W : Type 0} (places : List ℕ) (latest : ℕ) (old new : List (Core N W)) → length old ≤ length new
-    → AreWithin places old × IsWithin latest old → AreWithin places new × IsWithin latest new
+    → ArePlaces places old × IsLatest latest old → ArePlaces places new × IsLatest latest new
 within_more places latest old new more before = (
   λ k d lt. let h = before.0 k d lt in omega arith,
   let h = before.1 in omega arith,
 )
 
 -- the first place is one of a core, and so are the others
-pub oldest_within : {N W : Type 0} (places rest : List ℕ) (place : ℕ) (cores : List (Core N W)) → AreWithin places cores
-    → places ≡ place ∷ rest → (place < length cores) × AreWithin rest cores
+pub oldest_within : {N W : Type 0} (places rest : List ℕ) (place : ℕ) (cores : List (Core N W)) → ArePlaces places cores
+    → places ≡ place ∷ rest → (place < length cores) × ArePlaces rest cores
 oldest_within places rest place cores within is =
-    let all = subst (λ ps. AreWithin ps cores) is within in
+    let all = subst (λ ps. ArePlaces ps cores) is within in
     (All-head (λ p. p < length cores) place rest all, All-tail (λ p. p < length cores) place rest all)
 
 -- a list that may have got more elements has no fewer

@@ -9,12 +9,12 @@ use Rattle.wire.specs.Happening.{Came}
 use Rattle.wire.specs.Fulfilled.{Answering}
 use Rattle.wire.specs.Turned.{frame_of}
 use Rattle.worker_pool.specs.declared.pool_core.Core.{Core}
-use Rattle.worker_pool.specs.declared.stage.Stage.{Stage}
+use Rattle.worker_pool.specs.declared.course.Course.{Course}
 use Rattle.worker_pool.specs.declared.frames.Heard.{Heard}
 use Rattle.worker_pool.specs.Crew.{Hall, hall}
 use Rattle.worker_pool.specs.Frames.{heard_as}
-use Rattle.worker_pool.specs.Handed.{Handed, ended}
-use Rattle.worker_pool.specs.Hearing.{AfterNote, AnswersOldest, HearsAll, HearsAs, HearsLine, Offers, Takes, has_it, next_place, with_told}
+use Rattle.worker_pool.specs.Handed.{Handed, without_answer}
+use Rattle.worker_pool.specs.Hearing.{AfterNote, AnswersOldest, HearsAll, HearsAs, HearsLine, Offers, TakesWord, has_it, next_place, with_course}
 
 module _ {N W : Type 0} (answers : Answering N) (is_stopped : N → Type 0) (text : W → Option (List ℕ)) where
   pub offers_none : (place : ℕ) (frame : List ℕ) (old : Hall N W) → Offers answers is_stopped text 0 place frame (Ok tt) old old
@@ -40,7 +40,7 @@ module _ {N W : Type 0} (answers : Answering N) (is_stopped : N → Type 0) (tex
   -- one that has it
   pub offers_taken : (left place : ℕ) (frame : List ℕ) (old at new : Hall N W) (out : Out)
       → 0 < left → Handed answers is_stopped text place (Came frame) (Ok out) old at → has_it out.note ≡ true
-      → Takes place at.crew new.crew → new.sent ≡ at.sent
+      → TakesWord place at.crew new.crew → new.sent ≡ at.sent
       → Offers answers is_stopped text left place frame (Ok tt) old new
   unfolding Offers
   offers_taken zero place frame old at new out some handed has taken sent = absurd (let none : ⊥ = omega arith in none)
@@ -60,19 +60,19 @@ module _ {N W : Type 0} (answers : Answering N) (is_stopped : N → Type 0) (tex
   offers_fault (suc left) place frame old at fault some handed = (Err fault, at, handed, (refl, refl))
 
   -- the oldest `ASK` is answered
-  pub oldest_answered : (stage : Stage) (frame asks rest : List ℕ) (place : ℕ) (core : Core N W) (answer : Result Out TurnFault) (old new mid : Hall N W)
-      → asks ≡ place ∷ rest → slice_get old.crew.cores place ≡ Some core → mid ≡ hall (with_told stage place rest core old.crew) old.sent
+  pub oldest_answered : (course : Course) (frame asks rest : List ℕ) (place : ℕ) (core : Core N W) (answer : Result Out TurnFault) (old new mid : Hall N W)
+      → asks ≡ place ∷ rest → slice_get old.crew.cores place ≡ Some core → mid ≡ hall (with_course course place rest core old.crew) old.sent
       → Handed answers is_stopped text place (Came frame) answer mid new
-      → AnswersOldest answers is_stopped text stage frame asks (ended answer) old new
-  oldest_answered stage frame asks rest place core answer old new mid is stands told handed =
-      subst (λ (asks : List ℕ). AnswersOldest answers is_stopped text stage frame asks (ended answer) old new) (sym is)
-      (core, stands, answer, subst (λ h. Handed answers is_stopped text place (Came frame) answer h new) told handed, refl)
+      → AnswersOldest answers is_stopped text course frame asks (without_answer answer) old new
+  oldest_answered course frame asks rest place core answer old new mid is stands same handed =
+      subst (λ (asks : List ℕ). AnswersOldest answers is_stopped text course frame asks (without_answer answer) old new) (sym is)
+      (core, stands, answer, subst (λ h. Handed answers is_stopped text place (Came frame) answer h new) same handed, refl)
 
   -- none was unanswered
-  pub none_answered : (stage : Stage) (frame asks : List ℕ) (old new : Hall N W) → asks ≡ [] → new ≡ old
-      → AnswersOldest answers is_stopped text stage frame asks (Ok tt) old new
-  none_answered stage frame asks old new is same =
-      subst (λ (asks : List ℕ). AnswersOldest answers is_stopped text stage frame asks (Ok tt) old new) (sym is) (refl, same)
+  pub none_answered : (course : Course) (frame asks : List ℕ) (old new : Hall N W) → asks ≡ [] → new ≡ old
+      → AnswersOldest answers is_stopped text course frame asks (Ok tt) old new
+  none_answered course frame asks old new is same =
+      subst (λ (asks : List ℕ). AnswersOldest answers is_stopped text course frame asks (Ok tt) old new) (sym is) (refl, same)
 
   -- a line, by what was made of it
   pub line_heard : (line : BoundedLine) (frame : List ℕ) (heard : Heard) (result : Result (Unit {0}) TurnFault) (old new : Hall N W)

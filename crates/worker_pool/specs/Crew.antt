@@ -3,8 +3,8 @@ use Rattle.std.specs.Prelude.{ℕ, ◌-◌, ◌<◌, ◌≤◌, Bool, false, Lis
 use Rattle.wire.specs.Lines.{Stream}
 use Rattle.worker_pool.specs.declared.awaited.Awaited.{Awaited}
 use Rattle.worker_pool.specs.declared.pool_core.Core.{Core}
-use Rattle.worker_pool.specs.declared.stage.Stage.{Stage}
-use Rattle.worker_pool.specs.declared.stage.Stage.TheVariants.{Working, Later, Stopped}
+use Rattle.worker_pool.specs.declared.course.Course.{Course}
+use Rattle.worker_pool.specs.declared.course.Course.TheVariants.{Work, Later, Stop}
 use Rattle.worker_pool.specs.Due.{is_none, none}
 
 -- the cores; the places of those whose `ASK`s are unanswered, the oldest first; and the place of the one that took the
@@ -28,33 +28,33 @@ abbrev pub hall : {N W : Type 0} → Crewed N W → Option (List ℕ) → Hall N
 hall crew sent = record { crew = crew; sent = sent }
 
 -- each place is one of a core
-abbrev pub AreWithin : {N W : Type 0} → List ℕ → List (Core N W) → Type 0
-AreWithin places cores = All (λ place. place < length cores) places
+abbrev pub ArePlaces : {N W : Type 0} → List ℕ → List (Core N W) → Type 0
+ArePlaces places cores = All (λ place. place < length cores) places
 
 -- and the place of the last word is one where there is one
-abbrev pub IsWithin : {N W : Type 0} → ℕ → List (Core N W) → Type 0
-IsWithin latest cores = latest ≤ length cores - 1
+abbrev pub IsLatest : {N W : Type 0} → ℕ → List (Core N W) → Type 0
+IsLatest latest cores = latest ≤ length cores - 1
 
 -- a core that joins: nothing of it is due
-abbrev pub at_first : {N W : Type 0} → N → W → Core N W
-at_first node ledger = record { node = node; ledger = ledger; due = none; stage = Working }
+abbrev pub joining : {N W : Type 0} → N → W → Core N W
+joining node ledger = record { node = node; ledger = ledger; due = none; course = Work }
 
 -- a word came on one of its records
-abbrev pub answered : {N W : Type 0} → Core N W → Core N W
-answered core = record core { due = record core.due { records = core.due.records - 1 } }
+abbrev pub with_word : {N W : Type 0} → Core N W → Core N W
+with_word core = record core { due = record core.due { records = core.due.records - 1 } }
 
--- an `ASK` of it was answered, which told it how to go on
-abbrev pub told : {N W : Type 0} → Stage → Core N W → Core N W
-told stage core = record core { due = record core.due { asks = core.due.asks - 1 }; stage = stage }
+-- an `ASK` of it was answered, which says how it goes on
+abbrev pub directed : {N W : Type 0} → Course → Core N W → Core N W
+directed course core = record core { due = record core.due { asks = core.due.asks - 1 }; course = course }
 
 -- a core is ticked where nothing of it is due, and it wasn't told to come later or to stop
-abbrev pub is_ready_at : Stage → Awaited → Bool
-is_ready_at Working due = is_none due
+abbrev pub is_ready_at : Course → Awaited → Bool
+is_ready_at Work due = is_none due
 is_ready_at Later due = false
-is_ready_at Stopped due = false
+is_ready_at Stop due = false
 
 abbrev pub is_ready : {N W : Type 0} → Core N W → Bool
-is_ready core = is_ready_at core.stage core.due
+is_ready core = is_ready_at core.course core.due
 
 -- each ledger whose text is known is in step with its node
 abbrev pub AreInStep : {N W : Type 0} → (N → List ℕ → Type 0) → (W → Option (List ℕ)) → List (Core N W) → Type 0

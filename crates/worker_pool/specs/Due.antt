@@ -9,8 +9,8 @@ abbrev pub is_none : Awaited → Bool
 is_none due = (due.asks == 0) && (due.records == 0)
 
 -- a sum, as far as 64 bits go
-abbrev pub counted : ℕ → ℕ → ℕ
-counted count more = min (count + more) (2 ^ 64 - 1)
+abbrev pub capped_sum : ℕ → ℕ → ℕ
+capped_sum count more = min (count + more) (2 ^ 64 - 1)
 
 abbrev pub added : Awaited → Awaited → Awaited
-added due more = record { asks = counted due.asks more.asks; records = counted due.records more.records }
+added due more = record { asks = capped_sum due.asks more.asks; records = capped_sum due.records more.records }

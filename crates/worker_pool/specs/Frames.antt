@@ -9,7 +9,7 @@ use Rattle.worker_pool.specs.declared.frames.Sent.{Sent}
 use Rattle.worker_pool.specs.declared.frames.Sent.TheVariants.{Ask as AskSent, Record as RecordSent, Other as OtherSent}
 use Rattle.worker_pool.specs.declared.frames.Heard.{Heard}
 use Rattle.worker_pool.specs.declared.frames.Heard.TheVariants.{Answer, Receipt, Other}
-use Rattle.worker_pool.specs.declared.stage.Stage.TheVariants.{Working, Later as ToldLater, Stopped}
+use Rattle.worker_pool.specs.declared.course.Course.TheVariants.{Work, Later as LaterCourse, Stop as StopCourse}
 
 -- a message that is sent
 abbrev pub sent_as : Result Message MsgFault → Sent
@@ -49,11 +49,11 @@ records_in frames = count_by is_record (parts_of 10 frames)
 -- for a core
 abbrev pub heard_as : Result Message MsgFault → Heard
 heard_as (Ok (Ask id)) = Other
-heard_as (Ok (Grant era lease table)) = Answer Working
+heard_as (Ok (Grant era lease table)) = Answer Work
 heard_as (Ok (Rec r)) = Other
 heard_as (Ok (Ack table)) = Receipt
-heard_as (Ok (Later None)) = Answer ToldLater
+heard_as (Ok (Later None)) = Answer LaterCourse
 heard_as (Ok (Later (Some table))) = Receipt
 heard_as (Ok (Done era lease)) = Other
-heard_as (Ok Stop) = Answer Stopped
+heard_as (Ok Stop) = Answer StopCourse
 heard_as (Err fault) = Other

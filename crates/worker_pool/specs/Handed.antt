@@ -28,9 +28,9 @@ Then (Ok done) at result new more = more
 Then (Err fault) at result new more = (result ≡ Err fault) × (new ≡ at)
 
 -- an answer, without what it says
-abbrev pub ended : Result Out TurnFault → Result (Unit {0}) TurnFault
-ended (Ok out) = Ok tt
-ended (Err fault) = Err fault
+abbrev pub without_answer : Result Out TurnFault → Result (Unit {0}) TurnFault
+without_answer (Ok out) = Ok tt
+without_answer (Err fault) = Err fault
 
 module _ {N W : Type 0} (answers : Answering N) (is_stopped : N → Type 0) (text : W → Option (List ℕ)) where
   -- a core's answer is fulfilled whole: its ledger has its part, its frames were sent, and so many more of them are due
@@ -38,7 +38,7 @@ module _ {N W : Type 0} (answers : Answering N) (is_stopped : N → Type 0) (tex
   abbrev pub Fulfils : Core N W → Happening → Out → Core N W → Option (List ℕ) → Option (List ℕ) → Type 0
   Fulfils core event out next old new =
       answers core.node event (Ok out) next.node × (text next.ledger ≡ kept_text out (text core.ledger))
-      × (next.due ≡ added core.due (due_in out.frames.items)) × (next.stage ≡ core.stage)
+      × (next.due ≡ added core.due (due_in out.frames.items)) × (next.course ≡ core.course)
       × (new ≡ grown old out.frames.items)
 
   -- or it isn't, as `wire` says of a node, its ledger and its link; or memory was refused for the places of its `ASK`s

@@ -14,12 +14,12 @@ use Rattle.wire.specs.Lines.{fed}
 use Rattle.wire.specs.Turned.{frame_of}
 use Rattle.wire.specs.Fulfilled.{Answering}
 use Rattle.worker_pool.specs.declared.pool_core.Core.{Core}
-use Rattle.worker_pool.specs.declared.stage.Stage.{Stage}
+use Rattle.worker_pool.specs.declared.course.Course.{Course}
 use Rattle.worker_pool.specs.declared.frames.Heard.{Heard}
 use Rattle.worker_pool.specs.declared.frames.Heard.TheVariants.{Answer, Receipt, Other}
-use Rattle.worker_pool.specs.Crew.{Crewed, Hall, Pooled, answered, hall, told}
+use Rattle.worker_pool.specs.Crew.{Crewed, Hall, Pooled, directed, hall, with_word}
 use Rattle.worker_pool.specs.Frames.{heard_as}
-use Rattle.worker_pool.specs.Handed.{Handed, ended}
+use Rattle.worker_pool.specs.Handed.{Handed, without_answer}
 
 -- the place behind a place, the first behind the last
 abbrev pub next_place : ℕ → ℕ → ℕ
@@ -33,34 +33,34 @@ has_it Strange = true
 has_it (Refused number) = true
 
 module _ {N W : Type 0} where
-  -- the core at a place was told how to go on, which answers the oldest `ASK`
-  abbrev pub with_told : Stage → ℕ → List ℕ → Core N W → Crewed N W → Crewed N W
-  with_told stage place asks core crew =
-      record { cores = set crew.cores place (told stage core); asks = asks; latest = crew.latest }
+  -- the oldest `ASK` is answered, that of the core at a place, which goes on so
+  abbrev pub with_course : Course → ℕ → List ℕ → Core N W → Crewed N W → Crewed N W
+  with_course course place asks core crew =
+      record { cores = set crew.cores place (directed course core); asks = asks; latest = crew.latest }
 
   -- a word is due on a record of a core
   abbrev pub is_word_due : Core N W → Bool
   is_word_due core = not (core.due.records == 0)
 
-  -- as whose a word on a record counts: as that of the core that took it, or, where none is due on a record of that one,
-  -- of the first on whose record one is
+  -- as whose a word on a record counts: as that of the core that took it, or, where none is due on a record of that
+  -- one, of the first on whose record one is
   abbrev pub owing : ℕ → Core N W → List (Core N W) → ℕ
   owing place core cores = if is_word_due core then place else unwrap_or (position is_word_due cores) place
 
 -- the core at a place took the word on a record
-pub record Takes {N W : Type 0} (place : ℕ) (old new : Crewed N W) : Type 0 where
+pub record TakesWord {N W : Type 0} (place : ℕ) (old new : Crewed N W) : Type 0 where
   pub core : Core N W
   pub at : slice_get old.cores place ≡ Some core
   pub other : Core N W
   pub owes : slice_get old.cores (owing place core old.cores) ≡ Some other
-  pub cores : new.cores ≡ set old.cores (owing place core old.cores) (answered other)
+  pub cores : new.cores ≡ set old.cores (owing place core old.cores) (with_word other)
   pub asks : new.asks ≡ old.asks
   pub latest : new.latest ≡ place
 
 module _ {N W : Type 0} where
   -- a core that has the record took the word; else the next one is asked
   abbrev pub AfterNote : Bool → ℕ → Hall N W → Result (Unit {0}) TurnFault → Hall N W → Type 0 → Type 0
-  AfterNote true place at result new more = Takes place at.crew new.crew × (new.sent ≡ at.sent) × (result ≡ Ok tt)
+  AfterNote true place at result new more = TakesWord place at.crew new.crew × (new.sent ≡ at.sent) × (result ≡ Ok tt)
   AfterNote false place at result new more = more
 
   abbrev pub AfterOffer : Result Out TurnFault → ℕ → Hall N W → Result (Unit {0}) TurnFault → Hall N W → Type 0 → Type 0
@@ -75,13 +75,13 @@ module _ {N W : Type 0} where
 
 module _ {N W : Type 0} (answers : Answering N) (is_stopped : N → Type 0) (text : W → Option (List ℕ)) where
   -- the answer to an `ASK`: nobody gets one that nobody asked for
-  abbrev pub AnswersOldest : Stage → List ℕ → List ℕ → Result (Unit {0}) TurnFault → Hall N W → Hall N W → Type 0
-  AnswersOldest stage frame [] result old new = (result ≡ Ok tt) × (new ≡ old)
-  AnswersOldest stage frame (place ∷ asks) result old new =
+  abbrev pub AnswersOldest : Course → List ℕ → List ℕ → Result (Unit {0}) TurnFault → Hall N W → Hall N W → Type 0
+  AnswersOldest course frame [] result old new = (result ≡ Ok tt) × (new ≡ old)
+  AnswersOldest course frame (place ∷ asks) result old new =
       (core : Core N W) × (slice_get old.crew.cores place ≡ Some core) × (answer : Result Out TurnFault)
       × Handed answers is_stopped text place (Came frame) answer
-      (hall (with_told stage place asks core old.crew) old.sent) new
-      × (result ≡ ended answer)
+      (hall (with_course course place asks core old.crew) old.sent) new
+      × (result ≡ without_answer answer)
 
   -- the word on a record is handed to so many cores in turn from a place on, as far as one that took it
   unfoldable pub Offers : ℕ → ℕ → List ℕ → Result (Unit {0}) TurnFault → Hall N W → Hall N W → Type 0
@@ -94,7 +94,7 @@ module _ {N W : Type 0} (answers : Answering N) (is_stopped : N → Type 0) (tex
 
   -- a line, by what it is
   abbrev pub HearsAs : Heard → List ℕ → Result (Unit {0}) TurnFault → Hall N W → Hall N W → Type 0
-  HearsAs (Answer stage) frame result old new = AnswersOldest stage frame old.crew.asks result old new
+  HearsAs (Answer course) frame result old new = AnswersOldest course frame old.crew.asks result old new
   HearsAs Receipt frame result old new = Offers (length old.crew.cores) old.crew.latest frame result old new
   HearsAs Other frame result old new = (result ≡ Ok tt) × (new ≡ old)
 

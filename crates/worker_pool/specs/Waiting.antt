@@ -2,37 +2,37 @@
 use Rattle.std.specs.Prelude.{not, Bool, true, false, if◌then◌else◌, List, [], map}
 use Rattle.std.specs.List.{list_any}
 use Rattle.worker_pool.specs.declared.pool_core.Core.{Core}
-use Rattle.worker_pool.specs.declared.stage.Stage.{Stage}
-use Rattle.worker_pool.specs.declared.stage.Stage.TheVariants.{Working, Later, Stopped}
+use Rattle.worker_pool.specs.declared.course.Course.{Course}
+use Rattle.worker_pool.specs.declared.course.Course.TheVariants.{Work, Later, Stop}
 use Rattle.worker_pool.specs.declared.waits.Waits.{Waits}
 use Rattle.worker_pool.specs.declared.waits.Waits.TheVariants.{Answers, Later as Pause, Nothing}
 use Rattle.worker_pool.specs.Crew.{Crewed}
 use Rattle.worker_pool.specs.Due.{is_none, none}
 
-abbrev pub is_stopped_at : Stage → Bool
-is_stopped_at Working = false
+abbrev pub is_stopped_at : Course → Bool
+is_stopped_at Work = false
 is_stopped_at Later = false
-is_stopped_at Stopped = true
+is_stopped_at Stop = true
 
-abbrev pub is_later_at : Stage → Bool
-is_later_at Working = false
+abbrev pub is_later_at : Course → Bool
+is_later_at Work = false
 is_later_at Later = true
-is_later_at Stopped = false
+is_later_at Stop = false
 
-abbrev pub woken_at : Stage → Stage
-woken_at Working = Working
-woken_at Later = Working
-woken_at Stopped = Stopped
+abbrev pub woken_at : Course → Course
+woken_at Work = Work
+woken_at Later = Work
+woken_at Stop = Stop
 
 module _ {N W : Type 0} where
   abbrev pub is_awaiting : Core N W → Bool
   is_awaiting core = not (is_none core.due)
 
   abbrev pub is_going : Core N W → Bool
-  is_going core = not (is_stopped_at core.stage)
+  is_going core = not (is_stopped_at core.course)
 
   abbrev pub is_later : Core N W → Bool
-  is_later core = is_later_at core.stage
+  is_later core = is_later_at core.course
 
   -- for answers where some core has a frame that is unanswered, else for a later moment where some core wasn't told to
   -- stop
@@ -41,7 +41,7 @@ module _ {N W : Type 0} where
 
   -- who was told to come later is to work again
   abbrev pub woken : Core N W → Core N W
-  woken core = record core { stage = woken_at core.stage }
+  woken core = record core { course = woken_at core.course }
 
   -- nothing that was sent counts as unanswered
   abbrev pub forgiven : Core N W → Core N W

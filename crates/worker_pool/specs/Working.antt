@@ -8,7 +8,7 @@ use Rattle.wire.specs.Fulfilled.{Answering}
 use Rattle.worker_pool.specs.declared.pool_core.Core.{Core}
 use Rattle.worker_pool.specs.Crew.{Hall, is_ready}
 use Rattle.worker_pool.specs.Limits.{work_turn_limit}
-use Rattle.worker_pool.specs.Handed.{Handed, Then, ended}
+use Rattle.worker_pool.specs.Handed.{Handed, Then, without_answer}
 
 module _ {N W : Type 0} where
   -- by the frames of an answer: none, and the turns end; or more turns follow
@@ -32,7 +32,7 @@ module _ {N W : Type 0} (answers : Answering N) (is_stopped : N → Type 0) (tex
   abbrev pub TicksWhen : Bool → ℕ → Result (Unit {0}) TurnFault → Hall N W → Hall N W → Type 0
   TicksWhen true place result old new =
       (answer : Result Out TurnFault) × Handed answers is_stopped text place (Ticked 0) answer old new
-      × (result ≡ ended answer)
+      × (result ≡ without_answer answer)
   TicksWhen false place result old new = (result ≡ Ok tt) × (new ≡ old)
 
   abbrev pub Ticks : ℕ → Result (Unit {0}) TurnFault → Hall N W → Hall N W → Type 0

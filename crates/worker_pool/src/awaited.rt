@@ -31,7 +31,7 @@ impl Awaited {
         self.asks == 0 && self.records == 0
     }
 
-    // Those of more frames are awaited too.
+    // More answers are awaited.
     pub fn add(&mut self, more: Awaited)
         ensures { self.new ≡ added self.old more }
     {

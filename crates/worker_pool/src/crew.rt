@@ -2,7 +2,7 @@
 ghost use Rattle.std.specs.Prelude.{◌≡◌, ◌≢◌, ◌++◌, ◌∷◌, ◌<◌, [], Err, IfOk, IfErr, OnOk, OnErr, IfSome, length, map, position, replicate};
 ghost use Rattle.std.specs.List.{count_by, list_any};
 ghost use Rattle.wire.specs.Happening.{seen};
-ghost use Rattle.worker_pool.specs.Crew.{AreInStep, at_first, hall};
+ghost use Rattle.worker_pool.specs.Crew.{AreInStep, joining, hall};
 ghost use Rattle.worker_pool.specs.Handed.{Handed};
 ghost use Rattle.worker_pool.specs.Hearing.{is_word_due};
 ghost use Rattle.worker_pool.specs.Waiting.{is_awaiting, is_going, is_later, with_nothing_due, woken};
@@ -25,13 +25,13 @@ pub(crate) struct Crew<N, W> {
 }
 
 impl<N, W> Model for Crew<N, W> {
-    ghost use Rattle.worker_pool.specs.Crew.{AreWithin, Crewed, IsWithin};
+    ghost use Rattle.worker_pool.specs.Crew.{ArePlaces, Crewed, IsLatest};
 
     ghost Value = { Crewed N W };
 
     ghost view = { λ a. record { cores = a.cores.items; asks = a.asks.items; latest = a.latest } };
 
-    ghost invariant = { λ a. AreWithin a.asks.items a.cores.items × IsWithin a.latest a.cores.items };
+    ghost invariant = { λ a. ArePlaces a.asks.items a.cores.items × IsLatest a.latest a.cores.items };
 }
 
 impl<N, W> Crew<N, W> {
@@ -81,7 +81,7 @@ impl<N, W> Crew<N, W> {
         self.cores.iter().filter(|core| core.is_later()).count()
     }
 
-    // Those who were told to come later work again.
+    // Tells each core to work that was told to come later.
     pub fn wake(&mut self)
         ensures { self.new ≡ record self.old { cores = map woken self.old.cores } }
     {
@@ -117,7 +117,7 @@ impl<N: Drop, W: Drop> Crew<N, W> {
     // One more core.
     pub fn add(&mut self, node: N, ledger: W) -> Result<(), NoMemory>
         ensures ok { OnOk result (self.new ≡ record self.old
-            { cores = self.old.cores ++ (at_first node ledger ∷ []) }) }
+            { cores = self.old.cores ++ (joining node ledger ∷ []) }) }
         ensures err { OnErr result (self.new ≡ self.old) }
     {
         match self.cores.push(Core::new(node, ledger)) {

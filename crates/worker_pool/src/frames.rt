@@ -4,7 +4,7 @@ ghost use Rattle.wire.specs.Grammar.{message_of};
 ghost use Rattle.wire.specs.Meaning.{said};
 ghost use Rattle.worker_pool.specs.Frames.{heard_as, sent_as};
 
-use crate::stage::Stage;
+use crate::course::Course;
 use wire::{Msg, decode};
 
 // A frame that a core sends, by how the coordinator answers it.
@@ -22,7 +22,7 @@ pub(crate) enum Sent {
 #[derive(Clone, Copy)]
 pub(crate) enum Heard {
     // The answer to an `ASK`, and how its core goes on.
-    Answer(Stage),
+    Answer(Course),
     // The word on a record.
     Receipt,
     // Nobody.
@@ -64,9 +64,9 @@ fn heard_by(m: &Msg<'_>) -> Heard
     ensures { result ≡ heard_as (Ok (said m.now)) }
 {
     match m {
-        Msg::Grant { .. } => Heard::Answer(Stage::Working),
-        Msg::Later(None) => Heard::Answer(Stage::Later),
-        Msg::Stop => Heard::Answer(Stage::Stopped),
+        Msg::Grant { .. } => Heard::Answer(Course::Work),
+        Msg::Later(None) => Heard::Answer(Course::Later),
+        Msg::Stop => Heard::Answer(Course::Stop),
         Msg::Ack(_) | Msg::Later(Some(_)) => Heard::Receipt,
         Msg::Ask { .. } | Msg::Rec(_) | Msg::Done { .. } => Heard::Other,
     }

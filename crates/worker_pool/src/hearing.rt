@@ -3,12 +3,12 @@ ghost use Rattle.std.specs.Prelude.{◌≡◌, ◌≢◌, ◌∷◌, ◌<◌, []
 ghost use Rattle.wire.specs.Lines.{known};
 ghost use Rattle.wire.specs.Turned.{frame_of};
 ghost use Rattle.worker_pool.specs.Crew.{AreInStep, hall};
-ghost use Rattle.worker_pool.specs.Hearing.{AnswersOldest, HearsLine, Offers, Takes, has_it, next_place, owing, with_told};
+ghost use Rattle.worker_pool.specs.Hearing.{AnswersOldest, HearsLine, Offers, TakesWord, has_it, next_place, owing, with_course};
 ghost use Rattle.worker_pool.specs.declared.pool_core.Core.{Core};
 
+use crate::course::Course;
 use crate::crew::Crew;
 use crate::frames::{Heard, heard_as};
-use crate::stage::Stage;
 use wire::{Event, LedgerOut, Line, Link, Node, Note, Out, TurnFault};
 
 // A line as a frame.
@@ -41,34 +41,34 @@ fn has_it(out: &Out) -> bool
 
 impl<N: Node, W: LedgerOut> Crew<N, W> {
     // Takes out the oldest `ASK`, if one is unanswered, and tells its core how to go on.
-    fn take_oldest(&mut self, stage: Stage) -> Option<usize>
+    fn take_oldest(&mut self, course: Course) -> Option<usize>
         ensures none { IfNone result ((self.old.asks ≡ []) × (self.new ≡ self.old)) }
         ensures some { IfSome result (λ place. (core : Core N W) × (asks : List ℕ) × (self.old.asks ≡ place ∷ asks)
-            × (slice_get self.old.cores place ≡ Some core) × (self.new ≡ with_told stage place asks core self.old)) }
+            × (slice_get self.old.cores place ≡ Some core) × (self.new ≡ with_course course place asks core self.old)) }
         ensures within { IfSome result (λ place. place < length self.new.cores) }
         ensures step { AreInStep N.in_step W.text self.old.cores → AreInStep N.in_step W.text self.new.cores }
         ensures count { length self.new.cores ≡ length self.old.cores }
     {
         let place = self.asks.pop_front()?;
-        self.cores[place].tell(stage);
+        self.cores[place].tell(course);
         Some(place)
     }
 
     // The answer to the oldest `ASK`; nobody gets one that nobody asked for.
     fn answer_oldest<L: Link>(
         &mut self,
-        stage: Stage,
+        course: Course,
         frame: &[u8],
         link: &mut L,
     ) -> Result<(), TurnFault>
-        ensures answers { AnswersOldest N.answers N.is_stopped W.text stage frame.now self.old.asks result
+        ensures answers { AnswersOldest N.answers N.is_stopped W.text course frame.now self.old.asks result
             (hall self.old (L.sent link.old)) (hall self.new (L.sent link.new)) }
         ensures step { result ≢ Err TurnFault.LedgerFault → AreInStep N.in_step W.text self.old.cores
             → AreInStep N.in_step W.text self.new.cores }
         ensures count { length self.new.cores ≡ length self.old.cores }
         ensures waiting { L.waiting link.new ≡ L.waiting link.old }
     {
-        let Some(place) = self.take_oldest(stage) else {
+        let Some(place) = self.take_oldest(course) else {
             return Ok(());
         };
         self.hand(place, Event::Frame(frame), link)?;
@@ -76,8 +76,8 @@ impl<N: Node, W: LedgerOut> Crew<N, W> {
     }
 
     // As whose a word on a record counts that the core at a place took. A worker takes any `LATER` with a table, so the
-    // first that is asked takes it. Where it isn't that one's, one count is too high and another too low, and a tick comes
-    // late or early; but all counts together are right, so none is left above zero by the last word.
+    // first that is asked takes it. Where it isn't that one's, one count is too high and another too low, and a tick
+    // comes late or early; but all counts together are right, so none is left above zero by the last word.
     fn owing(&self, place: usize) -> usize
         requires { place < length self.now.cores }
         ensures owing { (core : Core N W) × (slice_get self.now.cores place ≡ Some core)
@@ -94,7 +94,7 @@ impl<N: Node, W: LedgerOut> Crew<N, W> {
     // The core at a place took the word on a record.
     fn take_word(&mut self, place: usize)
         requires { place < length self.old.cores }
-        ensures taken { Takes place self.old self.new }
+        ensures taken { TakesWord place self.old self.new }
         ensures step { AreInStep N.in_step W.text self.old.cores → AreInStep N.in_step W.text self.new.cores }
         ensures count { length self.new.cores ≡ length self.old.cores }
     {
@@ -138,7 +138,7 @@ impl<N: Node, W: LedgerOut> Crew<N, W> {
     {
         let frame = frame_of(&line);
         match heard_as(frame) {
-            Heard::Answer(stage) => self.answer_oldest(stage, frame, link),
+            Heard::Answer(course) => self.answer_oldest(course, frame, link),
             Heard::Receipt => self.offer(frame, link),
             Heard::Other => Ok(()),
         }

@@ -1,7 +1,7 @@
 // Pools.
 ghost use Rattle.std.specs.Prelude.{◌≡◌, ◌≢◌, ◌++◌, ◌∷◌, [], Err, Some, OnOk, OnErr, map};
 ghost use Rattle.std.specs.List.{count_by};
-ghost use Rattle.worker_pool.specs.Crew.{AreInStep, at_first, hall};
+ghost use Rattle.worker_pool.specs.Crew.{AreInStep, joining, hall};
 ghost use Rattle.worker_pool.specs.Hearing.{Hears, HearsAll};
 ghost use Rattle.worker_pool.specs.Waiting.{is_later, waits_of, with_nothing_due, woken};
 ghost use Rattle.worker_pool.specs.Working.{Works};
@@ -64,15 +64,15 @@ impl<N, W> Pool<N, W> {
         self.crew.later_count()
     }
 
-    /// Those who were told to come later are ticked again.
+    /// Who was told to come later is ticked again by the next `work`.
     pub fn wake(&mut self)
         ensures { self.new ≡ record self.old { crew = record self.old.crew { cores = map woken self.old.crew.cores } } }
     {
         self.crew.wake();
     }
 
-    /// Answers don't come: nothing that was sent counts as unanswered, so all is sent again. An answer that comes all the
-    /// same finds no `ASK`, or a later one.
+    /// Answers don't come: nothing that was sent counts as unanswered, so it is sent again. An answer that comes all
+    /// the same finds no `ASK`, or a later one.
     pub fn forget_due(&mut self)
         ensures { self.new ≡ record self.old { crew = with_nothing_due self.old.crew } }
     {
@@ -97,7 +97,7 @@ impl<N: Drop, W: Drop> Pool<N, W> {
     pub fn add(&mut self, node: N, ledger: W) -> Result<(), NoMemory>
         ensures ok { OnOk result (self.new ≡ record self.old {
           crew = record self.old.crew
-              { cores = self.old.crew.cores ++ (at_first node ledger ∷ []) };
+              { cores = self.old.crew.cores ++ (joining node ledger ∷ []) };
         }) }
         ensures err { OnErr result (self.new ≡ self.old) }
     {
@@ -109,7 +109,8 @@ impl<N: Node, W: LedgerOut> Pool<N, W> {
     /// Serves each core in its turn: it gets work turns until one's answer has no frames, but `MAX_WORK_TURNS` at most,
     /// and then, where nothing of it is unanswered and it wasn't told to come later or to stop, a tick. Each answer is
     /// fulfilled before anything else happens: its ledger's part first, whole, and then its frames are sent. After a
-    /// fault of the core at a place the cores behind it weren't served, and the connection has to be made anew.
+    /// fault the cores behind the one that brought it weren't served, what was handed over before stands, and the
+    /// connection has to be made anew.
     pub fn work<L: Link>(&mut self, link: &mut L) -> Result<(), TurnFault>
         ensures works { Works N.answers N.is_stopped W.text result
             (hall self.old.crew (L.sent link.old)) (hall self.new.crew (L.sent link.new)) }
@@ -123,10 +124,10 @@ impl<N: Node, W: LedgerOut> Pool<N, W> {
 
     /// Takes a piece of what comes from the coordinator. Each line that then is whole goes, in order, to the core to
     /// which it belongs: `GRANT`, `STOP` and `LATER` alone to the one whose `ASK` is the oldest that is unanswered,
-    /// `ACK` and `LATER` with a table to one after another, as far as one that has the record. Any other line goes to
-    /// nobody, and neither does the answer to an `ASK` where none is unanswered. Each answer is fulfilled before anything
-    /// else happens, as by `work`. After a fault at a line those behind it are left; the connection has to be made anew,
-    /// and what was handed over before stands.
+    /// `ACK` and `LATER` with a table to one after another, as far as one that has the record. Any other line is
+    /// dropped, and so is the answer to an `ASK` where none is unanswered. Each answer is fulfilled before anything
+    /// else happens, as by `work`. After a fault at a line those behind it are left, what was handed over before
+    /// stands, and the connection has to be made anew.
     pub fn hear<L: Link>(&mut self, piece: &[u8], link: &mut L) -> Result<(), TurnFault>
         ensures hears { Hears N.answers N.is_stopped W.text self.old (L.sent link.old) piece.now result
             self.new (L.sent link.new) }

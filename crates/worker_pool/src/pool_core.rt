@@ -2,60 +2,60 @@
 ghost use Rattle.std.specs.Prelude.{◌≡◌, ◌≢◌, Err, IfErr, IfOk, IfSome};
 ghost use Rattle.wire.specs.Fulfilled.{Faulted, scene};
 ghost use Rattle.wire.specs.Happening.{seen};
-ghost use Rattle.worker_pool.specs.Crew.{answered, at_first, is_ready, told};
+ghost use Rattle.worker_pool.specs.Crew.{joining, directed, is_ready, with_word};
 ghost use Rattle.worker_pool.specs.Frames.{asks_in};
 ghost use Rattle.worker_pool.specs.Handed.{Fulfils};
 ghost use Rattle.worker_pool.specs.Hearing.{is_word_due};
 ghost use Rattle.worker_pool.specs.Waiting.{forgiven, is_awaiting, is_going, is_later, woken};
 
 use crate::awaited::{Awaited, awaited_in};
-use crate::stage::Stage;
+use crate::course::Course;
 use wire::{Event, LedgerOut, Link, Node, Out, TurnFault, fulfil};
 
-/// A core of a pool: a worker and its ledger, how many of its frames are unanswered, and what it was told.
+/// A core of a pool: a worker and its ledger, how many of its frames are unanswered, and how it goes on.
 #[derive(Drop)]
 pub struct Core<N, W> {
     pub(crate) node: N,
     pub(crate) ledger: W,
     pub(crate) due: Awaited,
-    pub(crate) stage: Stage,
+    pub(crate) course: Course,
 }
 
 impl<N, W> Core<N, W> {
     // A core that joins.
     pub(crate) fn new(node: N, ledger: W) -> Core<N, W>
-        ensures { result ≡ at_first node ledger }
+        ensures { result ≡ joining node ledger }
     {
         Core {
             node,
             ledger,
             due: Awaited::none(),
-            stage: Stage::Working,
+            course: Course::Work,
         }
     }
 
-    // It was told how to go on, which answers its `ASK`.
-    pub(crate) fn tell(&mut self, stage: Stage)
-        ensures { self.new ≡ told stage self.old }
+    // An `ASK` of it was answered, which says how it goes on.
+    pub(crate) fn tell(&mut self, course: Course)
+        ensures { self.new ≡ directed course self.old }
     {
         self.due.asks = self.due.asks.saturating_sub(1);
-        self.stage = stage;
+        self.course = course;
     }
 
     // A word came on one of its records.
     pub(crate) fn count_answered(&mut self)
-        ensures { self.new ≡ answered self.old }
+        ensures { self.new ≡ with_word self.old }
     {
         self.due.records = self.due.records.saturating_sub(1);
     }
 
-    // It works again, where it was told to come later.
+    // Tells it to work, where it was told to come later.
     pub(crate) fn wake(&mut self)
         ensures { self.new ≡ woken self.old }
     {
-        match self.stage {
-            Stage::Later => self.stage = Stage::Working,
-            Stage::Working | Stage::Stopped => {}
+        match self.course {
+            Course::Later => self.course = Course::Work,
+            Course::Work | Course::Stop => {}
         }
     }
 
@@ -84,9 +84,9 @@ impl<N, W> Core<N, W> {
     pub(crate) fn is_going(&self) -> bool
         ensures { result ≡ is_going self.now }
     {
-        match self.stage {
-            Stage::Working | Stage::Later => true,
-            Stage::Stopped => false,
+        match self.course {
+            Course::Work | Course::Later => true,
+            Course::Stop => false,
         }
     }
 
@@ -94,9 +94,9 @@ impl<N, W> Core<N, W> {
     pub(crate) fn is_later(&self) -> bool
         ensures { result ≡ is_later self.now }
     {
-        match self.stage {
-            Stage::Later => true,
-            Stage::Working | Stage::Stopped => false,
+        match self.course {
+            Course::Later => true,
+            Course::Work | Course::Stop => false,
         }
     }
 
@@ -104,9 +104,9 @@ impl<N, W> Core<N, W> {
     pub(crate) fn is_ready(&self) -> bool
         ensures { result ≡ is_ready self.now }
     {
-        match self.stage {
-            Stage::Working => self.due.is_none(),
-            Stage::Later | Stage::Stopped => false,
+        match self.course {
+            Course::Work => self.due.is_none(),
+            Course::Later | Course::Stop => false,
         }
     }
 }

@@ -12,7 +12,7 @@ returns-in_err-hand-clause-answers g c =
     let new = hall c.hand.new.self (g.L.Link.sent c.hand.new.link) in
     let took = c.in-Some.ensures.some in
     rw (p.1, p.2)
-    (oldest_answered g.N.Node.answers g.N.Node.is_stopped g.W.LedgerOut.text c.args.stage c.args.frame.now c.args.self.now.asks took.1 c.in-Some.place took.0
+    (oldest_answered g.N.Node.answers g.N.Node.is_stopped g.W.LedgerOut.text c.args.course c.args.frame.now c.args.self.now.asks took.1 c.in-Some.place took.0
     (Err c.in_err-hand.field-0.0) old new mid took.2 took.3
     (ap (λ (crew : Crewed g.row.N.Denot g.row.W.Denot). hall crew (g.L.Link.sent c.args.link.now)) took.4) c.in_err-hand.ensures.handed)
 
@@ -22,6 +22,6 @@ returns-clause-answers g c =
     let mid = hall c.take_oldest.new.self (g.L.Link.sent c.args.link.now) in
     let new = hall c.hand.new.self (g.L.Link.sent c.hand.new.link) in
     let took = c.in-Some.ensures.some in
-    oldest_answered g.N.Node.answers g.N.Node.is_stopped g.W.LedgerOut.text c.args.stage c.args.frame.now c.args.self.now.asks took.1 c.in-Some.place took.0
+    oldest_answered g.N.Node.answers g.N.Node.is_stopped g.W.LedgerOut.text c.args.course c.args.frame.now c.args.self.now.asks took.1 c.in-Some.place took.0
     (Ok c.in_ok-hand.field-0) old new mid took.2 took.3
     (ap (λ (crew : Crewed g.row.N.Denot g.row.W.Denot). hall crew (g.L.Link.sent c.args.link.now)) took.4) c.in_ok-hand.ensures.handed

@@ -2,7 +2,7 @@ use Rattle.std.proofs.Common.{arith, ◌<◌, ◌≤◌, ◌∙◌, ap, sym, sub
 use Rattle.std.specs.Prelude.{IfSome}
 use Rattle.worker_pool.specs.declared.pool_core.Core.{Core}
 use Rattle.worker_pool.specs.Crew.{Crewed}
-use Rattle.worker_pool.specs.Hearing.{with_told}
+use Rattle.worker_pool.specs.Hearing.{with_course}
 use Rattle.worker_pool.proofs.Cores.{all_replaced, oldest_within, stands, within_more}
 use Rattle.worker_pool.proofs.crew.Crew.take_oldest.Goals as goal
 
@@ -27,7 +27,7 @@ returns-clause-some g c =
         asks = c.pop_front.new.self.items;
         latest = c.self.inside.latest;
       }) c.tell.ensures
-          ∙ ap (λ (crew : Crewed g.row.N.Denot g.row.W.Denot). with_told c.args.stage c.in_ok-place.place c.pop_front.new.self.items c.index_mut.result.now crew)
+          ∙ ap (λ (crew : Crewed g.row.N.Denot g.row.W.Denot). with_course c.args.course c.in_ok-place.place c.pop_front.new.self.items c.index_mut.result.now crew)
           c.self.view_is,
     )
 

@@ -1,7 +1,7 @@
 use Rattle.std.proofs.Common.{◌≡◌, ◌∙◌, ap, subst, refl, set, List, ℕ}
 use Rattle.std.specs.Prelude.{Some, slice_get}
 use Rattle.worker_pool.specs.declared.pool_core.Core.{Core}
-use Rattle.worker_pool.specs.Crew.{Crewed, answered}
+use Rattle.worker_pool.specs.Crew.{Crewed, with_word}
 use Rattle.worker_pool.proofs.Cores.{stands}
 use Rattle.worker_pool.proofs.crew.Crew.take_word.Goals as goal
 
@@ -17,8 +17,8 @@ returns-clause-taken g c =
       owes = subst (λ (place : ℕ). slice_get c.args.self.now.cores place ≡ Some c.index_mut.result.now) whose.2 other;
       cores =
           ap (λ (core : Core g.row.N.Denot g.row.W.Denot). set c.self.inside.cores.items c.owing-owing.result core) c.count_answered.ensures
-          ∙ ap (λ (cores : List (Core g.row.N.Denot g.row.W.Denot)). set cores c.owing-owing.result (answered c.index_mut.result.now)) is
-          ∙ ap (λ (place : ℕ). set c.args.self.now.cores place (answered c.index_mut.result.now)) whose.2;
+          ∙ ap (λ (cores : List (Core g.row.N.Denot g.row.W.Denot)). set cores c.owing-owing.result (with_word c.index_mut.result.now)) is
+          ∙ ap (λ (place : ℕ). set c.args.self.now.cores place (with_word c.index_mut.result.now)) whose.2;
       asks = ap (λ (crew : Crewed g.row.N.Denot g.row.W.Denot). crew.asks) c.self.view_is;
       latest = refl;
     }

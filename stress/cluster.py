@@ -209,11 +209,13 @@ def hostile_peer(kind, port, stop, chance):
                         time.sleep(0.5)
                         continue
                     elif kind == "stolen":
-                        one.sendall(b"".join(b"ASK %d\nDONE 1 %d\n" % (chance.randrange(1, 70), chance.randrange(1, 3000))
-                                             for _ in range(20)))
+                        # Each ends a lease of a worker or takes a table for a minute; more of that, and nothing gets done.
+                        one.sendall(b"ASK %d\nDONE 1 %d\n" % (chance.randrange(1, 70), chance.randrange(1, 3000)))
                         one.recv(65536)
+                        time.sleep(1)
                     elif kind == "deaf":
                         one.sendall(b"ASK 4000000000\n" * 500)
+                        time.sleep(1)
                     elif kind == "liar":
                         one.sendall(b"REC ---------_------ H 1 1\nREC 1RB---_------ C 3 4\nACK ------\nSTOP\nLATER\nGRANT 1 1 ------\n")
                     time.sleep(0.05)

@@ -45,7 +45,13 @@ pub fn execute<S: Disk + Clock + Sockets + Network + ReadingTold, R: Read, W: Wr
     told(ended, faults)
 }
 
-impl<S: Disk + Clock + Sockets + Network + ReadingTold, R: Read, W: Write, E: Write> Call<'_, S, R, W, E> {
+impl<S: Disk + Clock + Sockets + Network + ReadingTold, R: Read, W: Write, E: Write> Call<
+    '_,
+    S,
+    R,
+    W,
+    E,
+> {
     // Each command, by what it is asked for.
     fn done(self, asked: Options<'_>) -> Result<Outcome, Ended>
         requires { AreWithinRanges asked }

@@ -60,7 +60,13 @@ fn workers_of<'a, S: Disk + Clock, R, W, E>(
     };
     for place in 0..u32::from(working.workers) {
         let path = ledger_path(call.alloc, working, place)?;
-        add_worker(&mut workers, call, working, first_id.saturating_add(place), path.as_deref())?;
+        add_worker(
+            &mut workers,
+            call,
+            working,
+            first_id.saturating_add(place),
+            path.as_deref(),
+        )?;
     }
     Ok(workers)
 }
@@ -94,7 +100,10 @@ fn add_worker<'a, S: Disk, R, W, E>(
 }
 
 // All that a ledger holds.
-fn text_of<F: Read + Drop>(alloc: Global, held: io::Result<Opened<Held<F>>>) -> Result<Vec<u8>, Ended> {
+fn text_of<F: Read + Drop>(
+    alloc: Global,
+    held: io::Result<Opened<Held<F>>>,
+) -> Result<Vec<u8>, Ended> {
     let mut text = Vec::new(alloc);
     match held {
         Ok(Opened { mut reader, .. }) => match reader.read_to_end(&mut text) {

@@ -1,7 +1,6 @@
 // How long those who were told to come later wait.
-use std::io;
-use std::thread;
 use std::time::{Clock, Duration, Instant};
+use std::{io, thread};
 
 // The longest pause, in milliseconds.
 const MOST_MILLISECONDS: u64 = 1_000;

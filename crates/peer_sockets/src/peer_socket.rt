@@ -112,8 +112,5 @@ impl PeerSocket {
 
 // Whether a socket would have to be waited for.
 pub(crate) fn waits(fault: &io::Error) -> bool {
-    matches!(
-        fault.kind(),
-        ErrorKind::WouldBlock | ErrorKind::Interrupted
-    )
+    matches!(fault.kind(), ErrorKind::WouldBlock | ErrorKind::Interrupted)
 }

@@ -86,6 +86,8 @@ COMMANDS = [
     (["run", "1", "--ledger", "one"], b"", {"one": ONE}, "one"),
     (["coord", "1", "--ledger", "new"], FRAMES, {}, "new"),
     (["coord", "1"], FRAMES, {}, None),
+    (["work", "--id", "7", "--ids", "2"], b"STOP\nSTOP\n", {}, None),
+    (["work", "--id", "7", "--ids", "1", "--far", "3"], b"GRANT 1 1 ------\n", {}, None),
     (["retry", "one"], b"", {"one": ONE + b"torn"}, "one"),
     (["retry", "--far", "2", "first"], b"", {"first": FIRST}, "first"),
     (["merge", "first", "second", "out"], b"", {"first": FIRST, "second": SECOND}, "out"),

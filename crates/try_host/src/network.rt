@@ -1,4 +1,7 @@
 // A network in memory, whose files say what comes of it.
+ghost use Rattle.std.specs.Prelude.{IfSome, length};
+ghost use Rattle.peers.specs.Connections.{FitsIn};
+
 use crate::device::failed;
 use crate::room::HostRoom;
 use peers::{Arrival, Connections};
@@ -11,25 +14,33 @@ use wire::Fault;
 #[derive(Drop)]
 pub struct ScriptedPeers<'a> {
     room: &'a HostRoom<'a>,
-    script: Vec<u8>,
-    // how many bytes of the script were played
-    played: usize,
+    script: Script,
     failures: u64,
 }
 
+// The lines that say what comes, and how many bytes of them were played.
+#[derive(Drop)]
+struct Script {
+    text: Vec<u8>,
+    played: usize,
+}
+
 impl<'a> ScriptedPeers<'a> {
-    pub(crate) fn of(room: &'a HostRoom<'a>, script: Vec<u8>) -> ScriptedPeers<'a> {
+    pub(crate) fn of(room: &'a HostRoom<'a>, text: Vec<u8>) -> ScriptedPeers<'a> {
         ScriptedPeers {
             room,
-            script,
-            played: 0,
+            script: Script { text, played: 0 },
             failures: 0,
         }
     }
+}
 
+impl Script {
     // Plays the next line; nothing behind the last, or where it can't be read.
-    fn play(&mut self, buf: &mut [u8]) -> Option<Arrival> {
-        let rest = self.script.get(self.played..)?;
+    fn play(&mut self, buf: &mut [u8]) -> Option<Arrival>
+        ensures { IfSome result (FitsIn (length buf.new)) }
+    {
+        let rest = self.text.get(self.played..)?;
         let (line, _) = text::cut_at(b'\n', rest)?;
         self.played = self.played.saturating_add(line.len()).saturating_add(1);
         if line == b"+".as_slice() {
@@ -51,7 +62,9 @@ impl<'a> ScriptedPeers<'a> {
 }
 
 // Bytes that come, as many as the buffer has room for.
-fn came(place: usize, buf: &mut [u8], sent: &[u8], end: &[u8]) -> Arrival {
+fn came(place: usize, buf: &mut [u8], sent: &[u8], end: &[u8]) -> Arrival
+    ensures { FitsIn (length buf.new) result }
+{
     let mut count: usize = 0;
     for (to, byte) in buf.iter_mut().zip(sent.iter().chain(end)) {
         *to = *byte;
@@ -73,7 +86,7 @@ impl Connections for ScriptedPeers<'_> {
     ghost failures = { λ peers. peers.failures };
 
     fn next_arrival(&mut self, buf: &mut [u8]) -> Result<Arrival, Fault> {
-        if let Some(arrival) = self.play(buf) {
+        if let Some(arrival) = self.script.play(buf) {
             return Ok(arrival);
         }
         self.failures = self.failures.wrapping_add(1);

@@ -4,7 +4,7 @@
 `crates/cases` plays all cases over files in memory, and is proved; here those that need no failing device are played once more
 by the program itself, each in an empty folder: files, symbolic and hard links, locks that another process holds, a device that
 is full (`unsaid`), words that are no text. What a case says of standard input, of both outputs, of the exit status and of the
-files is compared as there. A step that fails a device, sets a clock, is a talk or has a terminal ends its case early, and it is
+files is compared as there. A step that fails a device, sets a clock, is a talk, has a terminal or a network ends its case early, and it is
 said how many cases were played to their end. Ends with 1 at the first that differs.
 """
 import errno
@@ -207,7 +207,8 @@ def play(case):
         for step in steps:
             if step.asked:
                 continue
-            if any(not PLAIN.fullmatch(it) for it in step.conditions):
+            # An address is a file in memory there.
+            if any(not PLAIN.fullmatch(it) for it in step.conditions) or {"--listen", "--connect"} & {*step.words}:
                 return False
             differs = play_step(folder, step, answers)
             if differs:

@@ -71,11 +71,11 @@ mod rows {
     pub(crate) const LEDGER: Text = Text { name: "ledger", value: Some("FILE"),
         help: "The ledger file, which is created where it isn't there; none is kept without it" };
     pub(crate) const LISTEN: Text = Text { name: "listen", value: Some("ADDR"),
-        help: "Serve workers that connect at HOST:PORT, at a port of 127.0.0.1, or at a socket file (its path has a `/`)" };
-    pub(crate) const CONNECT: Text = Text { name: "connect", value: Some("ADDR"),
-        help: "Connect with the coordinator at HOST:PORT, at a port of 127.0.0.1, or at a socket file (its path has a `/`)" };
+        help: "Serve workers at HOST:PORT, at a port of 127.0.0.1, or at a socket file (its path has a `/`)" };
+    pub(crate) const CONNECT: Text = Text { name: "connect", value: Some("TO"),
+        help: "The coordinator's HOST:PORT, port of 127.0.0.1, or socket file (its path has a `/`)" };
     pub(crate) const WORK_LEDGER: Text = Text { name: "ledger", value: Some("FILE"),
-        help: "The ledger file of one worker; those of several are FILE.1, FILE.2 and so on; none are kept without it" };
+        help: "The ledger file of one worker; of several FILE.1, FILE.2 and so on; none are kept without it" };
     pub(crate) const JOINED: Text = Text { name: "ledger", value: Some("OUT"), help: "Write the one ledger too" };
     pub(crate) const PICTURES: Text = Text { name: "out", value: Some("DIR"),
         help: "Make a file of each picture, DIR/TABLE.svg" };

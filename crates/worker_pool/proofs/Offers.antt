@@ -14,7 +14,7 @@ use Rattle.worker_pool.specs.declared.frames.Heard.{Heard}
 use Rattle.worker_pool.specs.Crew.{Hall, hall}
 use Rattle.worker_pool.specs.Frames.{heard_as}
 use Rattle.worker_pool.specs.Handed.{Handed, without_answer}
-use Rattle.worker_pool.specs.Hearing.{AfterNote, AnswersOldest, HearsAll, HearsAs, HearsLine, Offers, TakesWord, has_it, next_place, with_course}
+use Rattle.worker_pool.specs.Hearing.{AfterAnswer, AfterNote, AnswersOldest, HearsAll, HearsAs, HearsLine, Offers, TakesWord, has_it, next_place, with_course}
 
 module _ {N W : Type 0} (answers : Answering N) (is_stopped : N → Type 0) (text : W → Option (List ℕ)) where
   pub offers_none : (place : ℕ) (frame : List ℕ) (old : Hall N W) → Offers answers is_stopped text 0 place frame (Ok tt) old old
@@ -60,13 +60,13 @@ module _ {N W : Type 0} (answers : Answering N) (is_stopped : N → Type 0) (tex
   offers_fault (suc left) place frame old at fault some handed = (Err fault, at, handed, (refl, refl))
 
   -- the oldest `ASK` is answered
-  pub oldest_answered : (course : Course) (frame asks rest : List ℕ) (place : ℕ) (core : Core N W) (answer : Result Out TurnFault) (old new mid : Hall N W)
+  pub oldest_answered : (course : Course) (frame asks rest : List ℕ) (place : ℕ) (core : Core N W) (answer : Result Out TurnFault) (old mid at new : Hall N W)
       → asks ≡ place ∷ rest → slice_get old.crew.cores place ≡ Some core → mid ≡ hall (with_course course place rest core old.crew) old.sent
-      → Handed answers is_stopped text place (Came frame) answer mid new
+      → Handed answers is_stopped text place (Came frame) answer mid at → AfterAnswer answer place at new
       → AnswersOldest answers is_stopped text course frame asks (without_answer answer) old new
-  oldest_answered course frame asks rest place core answer old new mid is stands same handed =
+  oldest_answered course frame asks rest place core answer old mid at new is stands same handed after =
       subst (λ (asks : List ℕ). AnswersOldest answers is_stopped text course frame asks (without_answer answer) old new) (sym is)
-      (core, stands, answer, subst (λ h. Handed answers is_stopped text place (Came frame) answer h new) same handed, refl)
+      (core, stands, answer, at, subst (λ h. Handed answers is_stopped text place (Came frame) answer h at) same handed, after, refl)
 
   -- none was unanswered
   pub none_answered : (course : Course) (frame asks : List ℕ) (old new : Hall N W) → asks ≡ [] → new ≡ old

@@ -20,6 +20,7 @@ use Rattle.worker_pool.specs.declared.frames.Heard.TheVariants.{Answer, Receipt,
 use Rattle.worker_pool.specs.Crew.{Crewed, Hall, Pooled, directed, hall, with_word}
 use Rattle.worker_pool.specs.Frames.{heard_as}
 use Rattle.worker_pool.specs.Handed.{Handed, without_answer}
+use Rattle.worker_pool.specs.Waiting.{heeding}
 
 -- the place behind a place, the first behind the last
 abbrev pub next_place : ℕ → ℕ → ℕ
@@ -57,7 +58,19 @@ pub record TakesWord {N W : Type 0} (place : ℕ) (old new : Crewed N W) : Type 
   pub asks : new.asks ≡ old.asks
   pub latest : new.latest ≡ place
 
+-- the core at a place goes on as it notes the answer to its `ASK`
+pub record Heeds {N W : Type 0} (place : ℕ) (note : Note) (old new : Crewed N W) : Type 0 where
+  pub core : Core N W
+  pub at : slice_get old.cores place ≡ Some core
+  pub cores : new.cores ≡ set old.cores place (heeding note core)
+  pub asks : new.asks ≡ old.asks
+  pub latest : new.latest ≡ old.latest
+
 module _ {N W : Type 0} where
+  abbrev pub AfterAnswer : Result Out TurnFault → ℕ → Hall N W → Hall N W → Type 0
+  AfterAnswer (Ok out) place at new = Heeds place out.note at.crew new.crew × (new.sent ≡ at.sent)
+  AfterAnswer (Err fault) place at new = new ≡ at
+
   -- a core that has the record took the word; else the next one is asked
   abbrev pub AfterNote : Bool → ℕ → Hall N W → Result (Unit {0}) TurnFault → Hall N W → Type 0 → Type 0
   AfterNote true place at result new more = TakesWord place at.crew new.crew × (new.sent ≡ at.sent) × (result ≡ Ok tt)
@@ -74,14 +87,14 @@ module _ {N W : Type 0} where
   AfterLine (Err fault) behind at result left new more = (result ≡ Err fault) × (left ≡ behind) × (new ≡ at)
 
 module _ {N W : Type 0} (answers : Answering N) (is_stopped : N → Type 0) (text : W → Option (List ℕ)) where
-  -- the answer to an `ASK`: nobody gets one that nobody asked for
+  -- the answer to an `ASK`: nobody gets one that nobody asked for, and who doesn't take it asks again later
   abbrev pub AnswersOldest : Course → List ℕ → List ℕ → Result (Unit {0}) TurnFault → Hall N W → Hall N W → Type 0
   AnswersOldest course frame [] result old new = (result ≡ Ok tt) × (new ≡ old)
   AnswersOldest course frame (place ∷ asks) result old new =
       (core : Core N W) × (slice_get old.crew.cores place ≡ Some core) × (answer : Result Out TurnFault)
-      × Handed answers is_stopped text place (Came frame) answer
-      (hall (with_course course place asks core old.crew) old.sent) new
-      × (result ≡ without_answer answer)
+      × (at : Hall N W) × Handed answers is_stopped text place (Came frame) answer
+      (hall (with_course course place asks core old.crew) old.sent) at
+      × AfterAnswer answer place at new × (result ≡ without_answer answer)
 
   -- the word on a record is handed to so many cores in turn from a place on, as far as one that took it
   unfoldable pub Offers : ℕ → ℕ → List ℕ → Result (Unit {0}) TurnFault → Hall N W → Hall N W → Type 0

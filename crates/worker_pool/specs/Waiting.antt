@@ -1,6 +1,8 @@
 -- What a pool waits for, and what becomes of its cores between the turns.
 use Rattle.std.specs.Prelude.{not, Bool, true, false, if◌then◌else◌, List, [], map}
 use Rattle.std.specs.List.{list_any}
+use Rattle.wire.specs.declared.node.Note.{Note}
+use Rattle.wire.specs.declared.node.Note.TheVariants.{Quiet, Strange, Stale, Refused}
 use Rattle.worker_pool.specs.declared.pool_core.Core.{Core}
 use Rattle.worker_pool.specs.declared.course.Course.{Course}
 use Rattle.worker_pool.specs.declared.course.Course.TheVariants.{Work, Later, Stop}
@@ -18,6 +20,12 @@ abbrev pub is_later_at : Course → Bool
 is_later_at Work = false
 is_later_at Later = true
 is_later_at Stop = false
+
+-- told to ask again later, whoever wasn't told to stop
+abbrev pub later_at : Course → Course
+later_at Work = Later
+later_at Later = Later
+later_at Stop = Stop
 
 abbrev pub woken_at : Course → Course
 woken_at Work = Work
@@ -42,6 +50,13 @@ module _ {N W : Type 0} where
   -- who was told to come later is to work again
   abbrev pub woken : Core N W → Core N W
   woken core = record core { course = woken_at core.course }
+
+  -- who doesn't take the answer to its `ASK` asks again later
+  abbrev pub heeding : Note → Core N W → Core N W
+  heeding Quiet core = core
+  heeding Strange core = record core { course = later_at core.course }
+  heeding Stale core = record core { course = later_at core.course }
+  heeding (Refused number) core = record core { course = later_at core.course }
 
   -- nothing that was sent counts as unanswered
   abbrev pub forgiven : Core N W → Core N W

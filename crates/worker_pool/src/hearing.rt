@@ -3,7 +3,7 @@ ghost use Rattle.std.specs.Prelude.{◌≡◌, ◌≢◌, ◌∷◌, ◌<◌, []
 ghost use Rattle.wire.specs.Lines.{known};
 ghost use Rattle.wire.specs.Turned.{frame_of};
 ghost use Rattle.worker_pool.specs.Crew.{AreInStep, hall};
-ghost use Rattle.worker_pool.specs.Hearing.{AnswersOldest, HearsLine, Offers, TakesWord, has_it, next_place, owing, with_course};
+ghost use Rattle.worker_pool.specs.Hearing.{AnswersOldest, HearsLine, Heeds, Offers, TakesWord, has_it, next_place, owing, with_course};
 ghost use Rattle.worker_pool.specs.declared.pool_core.Core.{Core};
 
 use crate::course::Course;
@@ -54,7 +54,17 @@ impl<N: Node, W: LedgerOut> Crew<N, W> {
         Some(place)
     }
 
-    // The answer to the oldest `ASK`; nobody gets one that nobody asked for.
+    // The core at a place goes on as it notes the answer to its `ASK`.
+    fn heed(&mut self, place: usize, out: &Out)
+        requires { place < length self.old.cores }
+        ensures heeds { Heeds place out.now.note self.old self.new }
+        ensures step { AreInStep N.in_step W.text self.old.cores → AreInStep N.in_step W.text self.new.cores }
+        ensures count { length self.new.cores ≡ length self.old.cores }
+    {
+        self.cores[place].heed(out.note);
+    }
+
+    // The answer to the oldest `ASK`; nobody gets one that nobody asked for, and who doesn't take it asks again later.
     fn answer_oldest<L: Link>(
         &mut self,
         course: Course,
@@ -71,7 +81,8 @@ impl<N: Node, W: LedgerOut> Crew<N, W> {
         let Some(place) = self.take_oldest(course) else {
             return Ok(());
         };
-        self.hand(place, Event::Frame(frame), link)?;
+        let out = self.hand(place, Event::Frame(frame), link)?;
+        self.heed(place, &out);
         Ok(())
     }
 

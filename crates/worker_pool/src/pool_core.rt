@@ -6,11 +6,11 @@ ghost use Rattle.worker_pool.specs.Crew.{joining, directed, is_ready, with_word}
 ghost use Rattle.worker_pool.specs.Frames.{asks_in};
 ghost use Rattle.worker_pool.specs.Handed.{Fulfils};
 ghost use Rattle.worker_pool.specs.Hearing.{is_word_due};
-ghost use Rattle.worker_pool.specs.Waiting.{forgiven, is_awaiting, is_going, is_later, woken};
+ghost use Rattle.worker_pool.specs.Waiting.{forgiven, heeding, is_awaiting, is_going, is_later, later_at, woken};
 
 use crate::awaited::{Awaited, awaited_in};
 use crate::course::Course;
-use wire::{Event, LedgerOut, Link, Node, Out, TurnFault, fulfil};
+use wire::{Event, LedgerOut, Link, Node, Note, Out, TurnFault, fulfil};
 
 /// A core of a pool: a worker and its ledger, how many of its frames are unanswered, and how it goes on.
 #[derive(Drop)]
@@ -40,6 +40,27 @@ impl<N, W> Core<N, W> {
     {
         self.due.asks = self.due.asks.saturating_sub(1);
         self.course = course;
+    }
+
+    // Goes on as it notes the answer to an `ASK`. Where it doesn't take it, it asks again later: whoever sends such answers
+    // isn't asked as fast as they come.
+    pub(crate) fn heed(&mut self, note: Note)
+        ensures { self.new ≡ heeding note self.old }
+    {
+        match note {
+            Note::Quiet => {}
+            Note::Strange | Note::Stale | Note::Refused(_) => self.put_off(),
+        }
+    }
+
+    // Asks again later, unless it was told to stop.
+    fn put_off(&mut self)
+        ensures { self.new ≡ record self.old { course = later_at self.old.course } }
+    {
+        match self.course {
+            Course::Work => self.course = Course::Later,
+            Course::Later | Course::Stop => {}
+        }
     }
 
     // A word came on one of its records.

@@ -7,6 +7,10 @@ import tempfile
 
 OPTION = re.compile(r"^ {2,6}(?:(-\w)(?:, )?)?(--[\w-]+)?(?: <(\w+)>)?  +(.*)$")
 LAST_OPTION = re.compile(r"^ +(?:-h, --help|-V, --version)\b")
+# The longest that one call may take, in seconds: what is asked here is said at once.
+LONGEST = 30
+# What an option is given where it isn't 2: one try to connect, where nobody listens, ends at once.
+GIVEN = {"--connect": "./nobody", "--tries": "1"}
 
 
 def kind_of(name):
@@ -59,7 +63,7 @@ class Command:
 
 
 def said(program, *words):
-    return subprocess.run([program, *words], capture_output=True, check=True, text=True).stdout
+    return subprocess.run([program, *words], capture_output=True, check=True, text=True, timeout=LONGEST).stdout
 
 
 def names(top):
@@ -74,6 +78,13 @@ def commands(program):
     return Command("", said(program, "-h"), top), [Command(name, said(program, name, "-h"), said(program, name, "--help")) for name in parts]
 
 
+def asking(options):
+    """Options as they are given, each with a value where it takes one. A connection is tried once alone."""
+    words = [word for it in options for word in ([it.name, GIVEN.get(it.name, "2")] if it.value else [it.name])]
+    tried = "--connect" in words and "--tries" not in words
+    return words + ["--tries", GIVEN["--tries"]] if tried else words
+
+
 def excluded(program, command):
     """Of each option of a command those that the program refuses beside it. It is asked with no argument and with
     nothing on standard input, in a folder of its own: so it does nothing else."""
@@ -81,8 +92,9 @@ def excluded(program, command):
     asked = [option for option in command.options if option.name != "--help"]
     with tempfile.TemporaryDirectory() as folder:
         for pair in itertools.combinations(asked, 2):
-            words = [word for it in pair for word in ([it.name, "2"] if it.value else [it.name])]
-            run = subprocess.run([program, command.name, *words], cwd=folder, stdin=subprocess.DEVNULL, capture_output=True, text=True, check=False)
+            run = subprocess.run(
+                [program, command.name, *asking(pair)], cwd=folder, stdin=subprocess.DEVNULL, capture_output=True, text=True, check=False,
+                timeout=LONGEST)
             if "cannot be used with" in run.stderr:
                 found[pair[0].name].add(pair[1].name)
                 found[pair[1].name].add(pair[0].name)

@@ -1,6 +1,7 @@
 #!/usr/bin/env python3
 """What might lose a ledger, on the built program with what a system has: symbolic and hard links, other spellings of a path, a
-FIFO, standard input under its path, /dev/full, a folder that can't be written, a terminal. A part of `./ci`.
+FIFO, standard input under its path, /dev/full, a folder that can't be written, a terminal, what stands where a coordinator is
+told to listen. A part of `./ci`.
 
 stress/losses.py: prints how many commands were tried, and ends with 1 at the first that answers otherwise or leaves a file
 otherwise than docs/FORMATS.md says.
@@ -9,6 +10,7 @@ import fcntl
 import os
 import pty
 import shutil
+import socket
 import subprocess
 import sys
 import tempfile
@@ -42,6 +44,8 @@ ones 1
 ones_champion ------
 """
 NOBODY = 65534
+# Longer than a command takes that has nothing to wait for, in seconds.
+PATIENCE = 20
 
 
 class Room:
@@ -319,6 +323,88 @@ def without_network():
             sys.exit(f"losses: {words} without a network: {shown!r}, {ran!r}")
 
 
+def nodes(room):
+    """Which file stands at each path, since when, of what sort and with which rights."""
+    found = {}
+    for top, folders, names in os.walk(room.folder):
+        for name in folders + names:
+            node = os.lstat(os.path.join(top, name))
+            found[os.path.relpath(os.path.join(top, name), room.folder)] = (node.st_ino, node.st_mtime_ns, node.st_mode)
+    return found
+
+
+def not_listened_at(room, name, *more):
+    """A coordinator that is told to listen at this path is refused, and nothing changes there."""
+    Room.tried += 1
+    words = ["coord", "1", "--listen", name, *more]
+    due = (room.held(), nodes(room))
+    reader, writer = pty.openpty()
+    ran = subprocess.Popen([PROGRAM, *words], stdin=subprocess.DEVNULL, stdout=subprocess.PIPE, stderr=writer, cwd=room.folder)
+    os.close(writer)
+    try:
+        answers = ran.communicate(timeout=PATIENCE)[0]
+    except subprocess.TimeoutExpired:
+        ran.kill()
+        answers = ran.communicate()[0]
+    told = os.read(reader, 4096).replace(b"\r\n", b"\n")
+    os.close(reader)
+    if (room.held(), nodes(room)) != due:
+        sys.exit(f"losses: {words}: leaves {room.held()!r}, {nodes(room)!r}, and not {due!r}")
+    if ran.returncode != 4 or answers != b"" or not told.startswith(b"refused 603\n" + name.encode() + b": ") or told.count(b"\n") != 2:
+        sys.exit(f"losses: {words}: {ran.returncode}, {answers!r}, {told!r}")
+    room.run(words, 4, faults=b"refused 603\n", timeout=PATIENCE)
+    if nodes(room) != due[1]:
+        sys.exit(f"losses: {words}: leaves {nodes(room)!r}, and not {due[1]!r}")
+
+
+def places_to_listen():
+    """Only a socket at which nobody listens gives way to a coordinator; whatever else stands at the path stays as it is."""
+    room = Room({"some.ledger": TRUNK, "locked": TRUNK, "read-only": TRUNK, "folder/a": TRUNK})
+    os.chmod(room.at("read-only"), 0o444)
+    os.symlink("some.ledger", room.at("link"))
+    os.symlink("nowhere", room.at("dangling"))
+    os.link(room.at("some.ledger"), room.at("second"))
+    os.mkfifo(room.at("fifo"))
+    for name in ("./some.ledger", room.at("some.ledger"), "folder/a", "./read-only", "./link", "./dangling", "./second", "./folder", "./fifo"):
+        not_listened_at(room, name)
+    not_listened_at(room, "./some.ledger", "--ledger", "some.ledger")
+    not_listened_at(room, "./link", "--ledger", "some.ledger")
+    not_listened_at(room, "./second", "--ledger", "some.ledger")
+    with open(room.at("locked"), "ab") as held:
+        fcntl.flock(held, fcntl.LOCK_EX)
+        not_listened_at(room, "./locked")
+    room = Room({})
+    with socket.socket(socket.AF_UNIX) as one, socket.socket(socket.AF_UNIX, socket.SOCK_DGRAM) as other:
+        one.bind(room.at("listened"))
+        one.listen()
+        other.bind(room.at("datagrams"))
+        os.symlink("listened", room.at("link"))
+        for name in ("./listened", "./link", "./datagrams"):
+            not_listened_at(room, name)
+        with socket.socket(socket.AF_UNIX) as near:
+            near.connect(room.at("listened"))
+            one.accept()[0].close()
+    # Nobody listens at it any more.
+    os.remove(room.at("link"))
+    os.symlink("listened", room.at("link"))
+    not_listened_at(room, "./link")
+    before = nodes(room)["listened"]
+    Room.tried += 2
+    coordinator = subprocess.Popen(
+        [PROGRAM, "coord", "1", "--listen", "./listened"], stdin=subprocess.DEVNULL, stdout=subprocess.PIPE, stderr=subprocess.PIPE,
+        cwd=room.folder)
+    worked = subprocess.run([PROGRAM, "work", "--connect", "./listened", "--tries", "5"], stdin=subprocess.DEVNULL, capture_output=True,
+                            cwd=room.folder, timeout=PATIENCE, check=False)
+    try:
+        told = coordinator.communicate(timeout=PATIENCE)
+    except subprocess.TimeoutExpired:
+        coordinator.kill()
+        told = coordinator.communicate()
+    ended = (coordinator.returncode, *told, worked.returncode, worked.stdout)
+    if ended != (0, REPORT, b"", 0, b"") or nodes(room).get("listened") == before:
+        sys.exit(f"losses: at a socket that nobody listens at: {ended!r}, {worked.stderr!r}")
+
+
 def by_links():
     """`./bb` runs through links, and says which program it is; where dist/ is stale that would build one, and isn't tried."""
     if subprocess.run([os.path.join(TOP, "dist", "refresh"), "--check"], capture_output=True, check=False).returncode != 0:
@@ -336,7 +422,7 @@ def by_links():
 
 
 def main():
-    for play in (over_what_is_read, beside_out, through_links, devices, pipes, cuts, without_leave, reasons, without_network, by_links):
+    for play in (over_what_is_read, beside_out, through_links, devices, pipes, cuts, without_leave, reasons, without_network, places_to_listen, by_links):
         play()
     for folder in Room.folders:
         shutil.rmtree(folder, ignore_errors=True)

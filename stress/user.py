@@ -4,11 +4,13 @@
 README's first steps (packaging/first_steps); the help of each command that README's table has, long and short; a list
 as people keep it, with CR LF, comments, CSV, links, blank and doubled lines, through `bb tables`, `bb decide --hard`
 and `bb check`, each of its lines accounted for; answers of which only the beginning is read; wrong command lines; a
-file given where lines are read, and lines where a file is. What has to come is from README, docs/FORMATS.md,
-docs/TOUR.md and docs/FIVE.md. Prints what differs, and how much was tried; ends with 1 where anything differs.
+file given where lines are read, and lines where a file is; what bash completes, and the Debian package, which are made
+of the kept program where bash and dpkg-deb are there. What has to come is from README, docs/FORMATS.md, docs/TOUR.md
+and docs/FIVE.md. Prints what differs, and how much was tried; ends with 1 where anything differs.
 """
 import os
 import re
+import shutil
 import subprocess
 import sys
 import tempfile
@@ -20,6 +22,15 @@ from program import PROGRAM  # noqa: E402
 WIDEST = 120
 # Enough answers that a pipe doesn't hold them.
 MANY = 20_000
+# Longer than the package takes on a machine that is busy, in seconds.
+PATIENCE = 300
+# What the package has to have, below /usr.
+PACKED = [
+    "bin/bb", "share/man/man1/bb.1.gz", "share/bash-completion/completions/bb", "share/zsh/vendor-completions/_bb",
+    "share/fish/vendor_completions.d/bb.fish", "share/doc/busy-beaver/README.md", "share/doc/busy-beaver/docs/FORMATS.md",
+    "share/doc/busy-beaver/examples/four-states.ledger.xz", "share/busy-beaver/examples/five-states.known",
+    "share/busy-beaver/contrib/tree.sh", "share/busy-beaver/contrib/import/dfa.py", "share/busy-beaver/contrib/import/README.md",
+]
 
 # Each line of a list, and the tables in it, as they are printed.
 LIST = [
@@ -213,6 +224,42 @@ def mixed_up(tries):
         tries.expect(re.search(r"<(FILE|PATH|IN)>", faults), f"bb {name} < FILE: doesn't say that a file is to be named: {faults!r}")
 
 
+def made(tries, words, folder=None):
+    """What a script of packaging/ prints, within a time that it never needs."""
+    tries.count += 1
+    try:
+        done = subprocess.run([os.path.join(TOP, "packaging", *words[0].split("/")), *words[1:]], cwd=folder, capture_output=True, text=True,
+                              timeout=PATIENCE, check=False)
+    except subprocess.TimeoutExpired:
+        tries.expect(False, f"packaging/{words[0]} isn't done in {PATIENCE} seconds")
+        return ""
+    tries.expect(done.returncode == 0, f"packaging/{words[0]}: {done.returncode}, {done.stderr.strip()!r}")
+    return done.stdout
+
+
+def packages(tries, program):
+    """What bash completes, and the package with all that README and FORMATS say it has."""
+    completed = made(tries, ["completions", program, "bash"])
+    for name in commands():
+        tries.expect(re.search(rf"^        {name}\)$", completed, re.MULTILINE), f"packaging/completions has no {name}")
+    tries.expect(re.search(r"^ +refused='.*--far:--hard", completed, re.MULTILINE), "packaging/completions: --hard beside --far")
+    if shutil.which("bash"):
+        tries.count += 1
+        read = subprocess.run(["bash", "-n"], input=completed, capture_output=True, text=True, check=False)
+        tries.expect((read.returncode, read.stderr) == (0, ""), f"bash doesn't read what it should complete: {read.stderr!r}")
+    if not shutil.which("dpkg-deb"):
+        print("user: there is no dpkg-deb, and the package wasn't made")
+        return
+    out = os.path.join(tries.folder, "package")
+    made(tries, ["deb/make", out])
+    packed = [os.path.join(out, name) for name in os.listdir(out)] if os.path.isdir(out) else []
+    tries.expect(len(packed) == 1, f"packaging/deb/make leaves {packed}")
+    for package in packed:
+        listed = subprocess.run(["dpkg-deb", "--contents", package], capture_output=True, text=True, check=True).stdout
+        for path in PACKED:
+            tries.expect(f" ./usr/{path}\n" in listed, f"the package has no /usr/{path}")
+
+
 def main():
     program = os.path.abspath(sys.argv[1]) if len(sys.argv) > 1 else PROGRAM
     with tempfile.TemporaryDirectory(prefix="bb-user-") as folder:
@@ -223,6 +270,7 @@ def main():
         lists(tries)
         beginnings(tries)
         mixed_up(tries)
+        packages(tries, program)
     for text in tries.found:
         print(text)
     print(f"{tries.count} commands of a new user, {len(tries.found)} answers differ")

@@ -52,6 +52,19 @@ fn path_in<'a>(asked: &Options<'a>) -> Option<&'a str> {
         Options::Run { settling, .. } | Options::Loop { settling, .. } => settling.search.known,
         Options::Split(splitting) => splitting.search.known,
         Options::Settle(settling) => settling.search.known,
-        _ => None,
+        Options::Work(working) => working.search.known,
+        Options::Check(_)
+        | Options::Explain { .. }
+        | Options::Show(_)
+        | Options::Tables(_)
+        | Options::Draw(_)
+        | Options::Coord { .. }
+        | Options::Merge(_)
+        | Options::Carry(_)
+        | Options::Mend(_)
+        | Options::Report(_)
+        | Options::Page(_)
+        | Options::Join(_)
+        | Options::Look(_) => None,
     }
 }

@@ -42,7 +42,7 @@ pub(crate) fn page<S: Disk, R: Read, W: Write, E: Write>(
     }
 }
 
-// Of a file, of the folder at a path where no file can be read, or of the ledger that `input` has.
+// Of the folder or the file at a path, or of the ledger that `input` has.
 fn page_at<S: Disk, R: Read, W: Write, E: Write>(
     call: Call<'_, S, R, W, E>,
     maker: Maker<'_>,
@@ -60,10 +60,10 @@ fn page_at<S: Disk, R: Read, W: Write, E: Write>(
         faults,
         ..
     } = call;
-    match page_of_file(alloc, maker, path, title, &files, answers) {
-        // Nothing was written: a folder can't be read as a file.
-        Err(Ended::File) => folder_page_at(alloc, &maker, title, path, &files, answers, faults),
-        ended => ended,
+    if files.is_folder(path) {
+        folder_page_at(alloc, &maker, title, path, &files, answers, faults)
+    } else {
+        page_of_file(alloc, maker, path, title, &files, answers)
     }
 }
 

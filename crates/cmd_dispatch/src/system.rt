@@ -150,6 +150,10 @@ impl<'a> Disk for System<'a> {
         })
     }
 
+    fn is_folder(&self, path: &str) -> bool {
+        fs::metadata(self.rt, path).is_ok_and(|found| found.is_dir())
+    }
+
     fn is_same(&self, one: &str, other: &str) -> bool {
         match (fs::metadata(self.rt, one), fs::metadata(self.rt, other)) {
             (Ok(one), Ok(other)) => one.dev() == other.dev() && one.ino() == other.ino(),
@@ -335,7 +339,14 @@ impl<'a> Network for System<'a> {
     type Stream = CoordinatorStream;
 
     fn listen_at(&self, address: &str) -> io::Result<PeerSockets<'a>> {
-        self.noted(address, PeerSockets::at(self.rt, Address::of(address)))
+        let address_of = Address::of(address);
+        let sockets = self.noted(address, PeerSockets::at(self.rt, address_of))?;
+        if address_of.has_any_port() {
+            let place = self.noted(address, sockets.place())?;
+            // Nothing else says where it listens: a script reads it too.
+            let _ = writeln!(self.rt.stderr(), "listening at {place}");
+        }
+        Ok(sockets)
     }
 
     fn call(&self, address: &str) -> io::Result<CoordinatorStream> {
@@ -343,6 +354,24 @@ impl<'a> Network for System<'a> {
             address,
             CoordinatorStream::connect(self.rt, Address::of(address)),
         )
+    }
+
+    fn remember_loss(&self, address: &str, why: &str) {
+        self.failures.remember(address, &io::Error::other(why));
+    }
+
+    fn tell_again(&self, wait: Duration) {
+        if self.tells_terminal()
+            && let Some(reason) = self.failures.take()
+        {
+            // Nothing hangs on whether it can be said.
+            let _ = writeln!(
+                self.rt.stderr(),
+                "{}; trying again in {} s",
+                reason.trim_end(),
+                wait.as_secs()
+            );
+        }
     }
 }
 

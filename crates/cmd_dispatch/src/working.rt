@@ -9,7 +9,7 @@ use cmd_options::{Ended, LedgerFile, Outcome, Working, ended_by};
 use files::{Disk, DiskLedger, Held, Opened};
 use std::alloc::Global;
 use std::io::{self, Read, Write};
-use std::time::{Clock, SystemTime};
+use std::time::Clock;
 use worker_pool::Pool;
 
 // The workers of a process, each with its ledger, and the locks of these.
@@ -20,7 +20,7 @@ struct Workers<'a, 'b, D: Disk> {
 }
 
 // `bb work`.
-pub(crate) fn work<S: Disk + Clock + Network, R: Read, W: Write, E>(
+pub(crate) fn work<S: Disk + Clock + Network, R: Read, W: Write, E: Write>(
     call: Call<'_, S, R, W, E>,
     working: &Working<'_>,
 ) -> Result<Outcome, Ended>
@@ -35,10 +35,17 @@ pub(crate) fn work<S: Disk + Clock + Network, R: Read, W: Write, E>(
         system,
         input,
         answers,
+        faults,
         ..
     } = call;
     match working.connect {
-        Some(address) => work_at(alloc, &mut pool, system, address, working.tries),
+        Some(address) => {
+            if system.tells_terminal() {
+                // Nothing hangs on whether it can be said.
+                let _ = writeln!(faults, "connecting with {address}");
+            }
+            work_at(alloc, &mut pool, system, address, working.tries)
+        }
         None => work_between(alloc, &mut pool, input, answers, system),
     }
 }

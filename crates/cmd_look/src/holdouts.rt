@@ -28,15 +28,12 @@ pub(crate) fn print_at<S: PartLedgers, W: Write, E: Write>(
         (E.contents faults.old) (E.contents faults.new)) }
     ensures err { IfErr result (EndsLookUp (S.finds parts.now) path.now) }
 {
-    match board_at(alloc, parts, path) {
-        Ok(board) => {
-            print_holdouts(alloc, board.holdouts()?, answers)?;
-            Ok(Outcome::Accepted)
-        }
-        // A folder can't be read as a file.
-        Err(Ended::File) => print_of_folder(alloc, path, parts, answers, faults),
-        Err(ended) => Err(ended),
+    if parts.is_folder(path) {
+        return print_of_folder(alloc, path, parts, answers, faults);
     }
+    let board = board_at(alloc, parts, path)?;
+    print_holdouts(alloc, board.holdouts()?, answers)?;
+    Ok(Outcome::Accepted)
 }
 
 // Prints those of the folder at a path. What is wrong with its trunk and parts is said on `faults`.

@@ -16,8 +16,8 @@ use std::alloc::Global;
 use std::io::{Read, Write};
 
 /// Reads tables, a line each, and says to each what the ledger at a path has recorded of it: its record, that it is open,
-/// or that it is unknown. Where no file can be read there, the path is that of a folder: what its trunk has no record of is
-/// looked for in the part that it belongs to. For holdouts no line is read: those of all are printed, and what is wrong with
+/// or that it is unknown. Of a folder, what its trunk has no record of is looked for in the part that it
+/// belongs to. For holdouts no line is read: those of all are printed, and what is wrong with
 /// the parts of a folder is said on `faults`. Errors: `File` where nothing can be read, `BadHeader` and `WrongRoot` where a
 /// ledger, or the trunk, has no root in order, `NoMemory`, `Stream`.
 pub fn look_at<H: Files, R: Read, W: Write, E: Write>(
@@ -77,15 +77,12 @@ fn answer_at<S: PartLedgers, R: Read, W: Write>(
         (W.contents answers.old) (W.contents answers.new)) }
     ensures err { IfErr result (EndsLookUp (S.finds parts.now) path.now) }
 {
-    match board_at(alloc, parts, path) {
-        Ok(board) => {
-            let (outcome, _) = say_lines(alloc, LedgerLook { board }, PIECE_BYTES, input, answers)?;
-            Ok(outcome)
-        }
-        // A folder can't be read as a file.
-        Err(Ended::File) => answer_in_folder(alloc, path, parts, input, answers),
-        Err(ended) => Err(ended),
+    if parts.is_folder(path) {
+        return answer_in_folder(alloc, path, parts, input, answers);
     }
+    let board = board_at(alloc, parts, path)?;
+    let (outcome, _) = say_lines(alloc, LedgerLook { board }, PIECE_BYTES, input, answers)?;
+    Ok(outcome)
 }
 
 // Answers lines by the trunk and the parts in a folder.

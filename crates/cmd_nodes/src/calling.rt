@@ -1,12 +1,14 @@
 // `bb work`: the workers of a process, over a stream to their coordinator.
-ghost use Rattle.std.specs.Prelude.{◌≡◌, Ok, IfOk};
+ghost use Rattle.std.specs.Prelude.{◌≡◌, ◌≢◌, Ok, IfOk};
 ghost use Rattle.worker_pool.specs.Waiting.{waits_of};
 
+use crate::answerer::{Answered, Answerer};
 use crate::faults::in_memory;
 use crate::network::Network;
 use crate::pause::Pause;
 use crate::two_streams::TwoStreams;
 use cmd_options::{Ended, Outcome};
+use kind_evidence::NoMemory;
 use std::alloc::Global;
 use std::io::{self, ErrorKind, Read, Write};
 use std::thread;
@@ -22,20 +24,19 @@ const MOST_SECONDS: u64 = 60;
 enum Parting {
     // Each worker was told to stop.
     Stopped,
-    // The stream ended or failed before that, after something had come.
+    // The stream ended or failed before that.
     Lost,
-    // The stream ended or failed before anything came.
-    Unanswered,
 }
 
-// What a read of a stream brought.
+// What came of a call.
 #[derive(Clone, Copy, Debug, PartialEq, Eq)]
-enum Heard {
-    Something,
-    // nothing for a while
-    Nothing,
-    // the stream has ended or failed
-    End,
+enum Called {
+    // Each worker was told to stop.
+    Stopped,
+    // The connection was lost before that, after a coordinator had answered.
+    Lost,
+    // No coordinator answered.
+    Unanswered,
 }
 
 /// Works for the coordinator whose frames come on `input`, and to whom those of the workers go by `output`. Accepted once
@@ -52,13 +53,13 @@ pub fn work_between<N: Node, L: LedgerOut, R: Read, W: Write, C: Clock>(
     let mut stream = TwoStreams { input, output };
     match converse(alloc, pool, &mut stream, clock)? {
         Parting::Stopped => Ok(Outcome::Accepted),
-        Parting::Lost | Parting::Unanswered => Err(Ended::Stream),
+        Parting::Lost => Err(Ended::Stream),
     }
 }
 
 /// Works for the coordinator that listens at an address. A connection that can't be had, or is lost, is tried again after 1, 2,
-/// 4 seconds and so on, at most a minute. Accepted once each worker was told to stop; `Stream` where so many in a row brought
-/// nothing.
+/// 4 seconds and so on, at most a minute, and so is one with something that isn't a coordinator. Accepted once each worker was
+/// told to stop; `Stream` where so many in a row found no coordinator.
 pub fn work_at<N: Node, L: LedgerOut, H: Network + Clock>(
     alloc: Global,
     pool: &mut Pool<N, L>,
@@ -71,32 +72,79 @@ pub fn work_at<N: Node, L: LedgerOut, H: Network + Clock>(
     let mut failed: u64 = 0;
     for _ in 0..u64::MAX {
         match call_once(alloc, pool, host, address)? {
-            Parting::Stopped => return Ok(Outcome::Accepted),
-            Parting::Lost => failed = 1,
-            Parting::Unanswered => failed = failed.saturating_add(1),
+            Called::Stopped => return Ok(Outcome::Accepted),
+            Called::Lost => failed = 1,
+            Called::Unanswered => failed = failed.saturating_add(1),
         }
         if failed >= tries {
             break;
         }
-        thread::sleep(host, wait_after(failed));
+        let wait = wait_after(failed);
+        host.tell_again(wait);
+        thread::sleep(host, wait);
     }
     Err(Ended::Stream)
 }
 
-// Connects once with the coordinator at an address, and works as long as that lasts.
+// Connects once with what listens at an address, and works as long as a coordinator answers there.
 fn call_once<N: Node, L: LedgerOut, H: Network + Clock>(
     alloc: Global,
     pool: &mut Pool<N, L>,
     host: &H,
     address: &str,
-) -> Result<Parting, Ended>
-    ensures { result ≡ Ok Parting.Stopped → waits_of pool.new.crew.cores ≡ Waits.Nothing }
+) -> Result<Called, Ended>
+    ensures { result ≡ Ok Called.Stopped → waits_of pool.new.crew.cores ≡ Waits.Nothing }
 {
-    let Ok(mut stream) = host.call(address) else {
-        return Ok(Parting::Unanswered);
+    let Ok(stream) = host.call(address) else {
+        return Ok(Called::Unanswered);
     };
     pool.reconnect();
-    converse(alloc, pool, &mut stream, host)
+    let mut answered = Answered::over(alloc, stream);
+    match converse(alloc, pool, &mut answered, host)? {
+        Parting::Stopped => Ok(Called::Stopped),
+        Parting::Lost => Ok(lost(alloc, host, address, &answered)?),
+    }
+}
+
+// What came of a call whose connection is lost. The host remembers why.
+fn lost<H: Network, S>(
+    alloc: Global,
+    host: &H,
+    address: &str,
+    answered: &Answered<S>,
+) -> Result<Called, NoMemory>
+    ensures { IfOk result (λ called. called ≢ Called.Stopped) }
+{
+    match answered.answerer() {
+        Answerer::Coordinator => {
+            host.remember_loss(address, "the connection was lost");
+            Ok(Called::Lost)
+        }
+        Answerer::Nobody => {
+            host.remember_loss(address, "the connection was lost before anything came");
+            Ok(Called::Unanswered)
+        }
+        Answerer::Stranger => {
+            let line = shown(alloc, answered.line())?;
+            let told = format!(in alloc; "no coordinator, it says `{line}`")?;
+            host.remember_loss(address, &told);
+            Ok(Called::Unanswered)
+        }
+    }
+}
+
+// A line as a terminal can show it.
+fn shown(alloc: Global, line: &[u8]) -> Result<String, NoMemory> {
+    let mut text = String::new(alloc);
+    for byte in line {
+        let character = if byte.is_ascii_graphic() || *byte == b' ' {
+            char::from(*byte)
+        } else {
+            '?'
+        };
+        text.push(character)?;
+    }
+    Ok(text)
 }
 
 // How long it is waited after so many tries in a row that failed.
@@ -119,7 +167,6 @@ fn converse<N: Node, L: LedgerOut, S: Read + Write, C: Clock>(
 {
     let mut link = MemLink::new(alloc);
     let mut pause = Pause::new(clock)?;
-    let mut parting = Parting::Unanswered;
     for _ in 0..u64::MAX {
         if pause.is_over()? {
             pause.begin(pool.later_count())?;
@@ -133,35 +180,35 @@ fn converse<N: Node, L: LedgerOut, S: Read + Write, C: Clock>(
         match pool.waits() {
             Waits::Nothing => return Ok(Parting::Stopped),
             Waits::Later => pause.wait()?,
-            Waits::Answers => match hear(pool, stream, &mut link)? {
-                Heard::Something => parting = Parting::Lost,
-                Heard::Nothing => {}
-                Heard::End => break,
-            },
+            Waits::Answers => {
+                if !hear(pool, stream, &mut link)? {
+                    break;
+                }
+            }
         }
     }
-    Ok(parting)
+    Ok(Parting::Lost)
 }
 
-// Takes what came from the coordinator.
+// Takes what came from the coordinator. Whether the stream goes on.
 fn hear<N: Node, L: LedgerOut, S: Read>(
     pool: &mut Pool<N, L>,
     stream: &mut S,
     link: &mut MemLink,
-) -> Result<Heard, Ended> {
+) -> Result<bool, Ended> {
     let mut piece = [0; MAX_PIECE_BYTES];
     match stream.read(&mut piece) {
-        Ok(0) => Ok(Heard::End),
+        Ok(0) => Ok(false),
         Ok(count) => {
             kept(pool.hear(&piece[..count], link))?;
-            Ok(Heard::Something)
+            Ok(true)
         }
         // What was sent is sent again: an answer may be lost, or the coordinator be busy.
         Err(fault) if has_waited(&fault) => {
             pool.forget_due();
-            Ok(Heard::Nothing)
+            Ok(true)
         }
-        Err(_) => Ok(Heard::End),
+        Err(_) => Ok(false),
     }
 }
 

@@ -7,6 +7,7 @@
 //! `specs/Settled` what is printed of the board to which a tree is settled.
 #![tactic(auto)]
 
+mod answerer;
 mod calling;
 mod coord;
 mod couriers;

@@ -22,6 +22,9 @@ pub trait PartLedgers {
             (Self.File.remaining file.reader, file.length)) found)) }
         ensures err { IfErr result FailsFile };
 
+    /// Whether a folder stands at a path.
+    fn is_folder(&self, path: &str) -> bool;
+
     /// Whether the ledger at a path is the one that is to be written, or would be lost where that is made. Errors: a link there
     /// that can't be followed, refused memory.
     fn is_written(&self, path: &str) -> Result<bool, Ended>
@@ -58,6 +61,10 @@ impl<H: Files> PartLedgers for PartsAt<'_, H> {
             Err(fault) if fault.kind() == ErrorKind::NotFound => Ok(None),
             Err(fault) => Err(ended_by(&fault, Ended::File)),
         }
+    }
+
+    fn is_folder(&self, path: &str) -> bool {
+        self.host.is_folder(path)
     }
 
     fn is_written(&self, path: &str) -> Result<bool, Ended> {

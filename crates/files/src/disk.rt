@@ -58,6 +58,9 @@ pub trait Disk {
     /// whatever comes until its end.
     fn extent(&self, file: &Self::Reader) -> io::Result<u64>;
 
+    /// Whether a folder stands at a path.
+    fn is_folder(&self, path: &str) -> bool;
+
     /// Whether two paths lead to one file.
     fn is_same(&self, one: &str, other: &str) -> bool
         ensures { same self.now one.now other.now result };

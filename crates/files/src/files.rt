@@ -48,6 +48,9 @@ pub trait Files {
         ensures ok { IfOk result (λ o. IsOpenedOn (holds self.now path.now) (Self.Reader.remaining o.reader) o.length) }
         ensures missing { IfErr result (λ e. error_kind e ≡ NotFound → IsMissing (holds self.now path.now)) };
 
+    /// Whether a folder stands at a path.
+    fn is_folder(&self, path: &str) -> bool;
+
     /// Whether two paths are those of one file.
     fn is_same(&self, one: &str, other: &str) -> bool
         ensures { tells_same self.now one.now other.now result };

@@ -113,6 +113,11 @@ impl Files for MemFiles {
         self.open(path)
     }
 
+    // There are no folders.
+    fn is_folder(&self, _path: &str) -> bool {
+        false
+    }
+
     fn is_same(&self, one: &str, other: &str) -> bool {
         one == other
     }

@@ -53,6 +53,10 @@ impl<'a, D: Disk> Files for OnDisk<'a, D> {
         Ok(Opened { reader, length })
     }
 
+    fn is_folder(&self, path: &str) -> bool {
+        self.disk.is_folder(path)
+    }
+
     fn is_same(&self, one: &str, other: &str) -> bool {
         self.disk.is_same(one, other)
     }

@@ -22,4 +22,13 @@ impl<'a> Address<'a> {
             Err(_) => Address::Host(text),
         }
     }
+
+    /// Whether any port will do: the system picks one for port 0.
+    pub fn has_any_port(&self) -> bool {
+        match self {
+            Address::Host(host) => host.ends_with(":0"),
+            Address::Port(port) => *port == 0,
+            Address::File(_) => false,
+        }
+    }
 }

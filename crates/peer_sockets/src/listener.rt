@@ -5,7 +5,8 @@ use mio::event::Source;
 use mio::{Interest, Registry, Token};
 use std::fs;
 use std::io::{self, ErrorKind};
-use std::net::{self, Ipv4Addr};
+use std::net::{self, Ipv4Addr, SocketAddr};
+use std::os::unix::fs::FileTypeExt;
 use std::os::unix::net::UnixStream;
 
 // A listener whose `accept` doesn't wait.
@@ -35,6 +36,14 @@ impl Listener {
         Ok(Listener::Tcp(mio::net::TcpListener::from_std(listener)))
     }
 
+    // The address and the port at which it listens; an error of a socket file.
+    pub fn place(&self) -> io::Result<SocketAddr> {
+        match self {
+            Listener::Tcp(listener) => listener.local_addr(),
+            Listener::Unix(_) => Err(io::Error::from(ErrorKind::Unsupported)),
+        }
+    }
+
     // The connection that has waited longest; `WouldBlock` where none waits.
     pub fn accept(&self) -> io::Result<PeerStream> {
         match self {
@@ -52,11 +61,23 @@ impl Listener {
     }
 }
 
-// Removes the socket file of a listener that is gone: nobody answers at it.
+// Removes the socket file of a listener that is gone: nobody answers at it. Whatever else stands there stays: of a file that is
+// no socket, and of a link, a connection is refused too.
 fn remove_left_over(rt: &HostRuntime, path: &str) -> io::Result<()> {
+    match fs::symlink_metadata(rt, path) {
+        Ok(found) if found.file_type().is_socket() => remove_unheard(rt, path),
+        Ok(_) => Err(io::Error::other("what stands there is no socket")),
+        Err(fault) if fault.kind() == ErrorKind::NotFound => Ok(()),
+        Err(fault) => Err(fault),
+    }
+}
+
+// Removes a socket file, unless somebody listens at it.
+fn remove_unheard(rt: &HostRuntime, path: &str) -> io::Result<()> {
     match UnixStream::connect(rt, path) {
         Err(fault) if fault.kind() == ErrorKind::ConnectionRefused => fs::remove_file(rt, path),
-        _ => Ok(()),
+        Err(fault) => Err(fault),
+        Ok(_) => Err(io::Error::from(ErrorKind::AddrInUse)),
     }
 }
 

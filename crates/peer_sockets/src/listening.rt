@@ -9,6 +9,7 @@ use crate::seconds::Seconds;
 use mio::{Events, Interest, Poll, Token};
 use peers::Arrival;
 use std::io;
+use std::net::SocketAddr;
 
 // How many peers there are at most.
 const MAX_PEERS: usize = 1_000;
@@ -44,6 +45,11 @@ impl<'a> Listening<'a> {
             places: Places::new(rt.alloc()),
             seconds: Seconds::new(rt)?,
         })
+    }
+
+    // The address and the port at which it listens.
+    pub fn place(&self) -> io::Result<SocketAddr> {
+        self.listener.place()
     }
 
     // What has come, where nothing has to be waited for.

@@ -3,6 +3,7 @@ use crate::address::Address;
 use crate::listening::Listening;
 use peers::{Arrival, Connections};
 use std::io;
+use std::net::SocketAddr;
 use wire::Fault;
 
 /// The peers that connect at an address, 1,000 at most at once. None of them is waited for, each is read in its turn, and
@@ -14,12 +15,18 @@ pub struct PeerSockets<'a> {
 }
 
 impl<'a> PeerSockets<'a> {
-    /// Listens at an address. A socket file at which nobody listens any more is made anew.
+    /// Listens at an address. A socket file at which nobody listens any more is made anew; whatever else stands at the path of
+    /// one stays, and is an error.
     pub fn at(rt: &'a HostRuntime, address: Address<'_>) -> io::Result<PeerSockets<'a>> {
         Ok(PeerSockets {
             listening: Listening::at(rt, address)?,
             failures: 0,
         })
+    }
+
+    /// The address and the port at which it listens; an error where it is a socket file.
+    pub fn place(&self) -> io::Result<SocketAddr> {
+        self.listening.place()
     }
 }
 

@@ -61,6 +61,14 @@ impl<'a> Disk for CaseHost<'a> {
         self.length(file)
     }
 
+    // A folder is what a name stands in.
+    fn is_folder(&self, path: &str) -> bool {
+        self.room
+            .disk
+            .try_borrow()
+            .is_ok_and(|disk| disk.is_folder(path))
+    }
+
     fn is_same(&self, one: &str, other: &str) -> bool {
         match self.room.disk.try_borrow() {
             Ok(disk) => {
@@ -264,5 +272,19 @@ impl<'a> Network for CaseHost<'a> {
             said: self.room.noted(address, said)?,
             read: 0,
         })
+    }
+
+    fn remember_loss(&self, address: &str, why: &str) {
+        self.room.remember(address, &io::Error::other(why));
+    }
+
+    fn tell_again(&self, wait: Duration) {
+        if self.tells_terminal()
+            && let Some(reason) = self.room.reason()
+        {
+            let _ = self
+                .room
+                .note_bytes("again in", reason.trim_end(), wait.as_secs());
+        }
     }
 }

@@ -91,6 +91,16 @@ impl MemDisk {
         self.files.get_mut(place)
     }
 
+    // Whether some name stands in the folder of a path.
+    pub(crate) fn is_folder(&self, path: &str) -> bool {
+        let path = plain(path);
+        self.names.iter().any(|name| {
+            name.path
+                .strip_prefix(path)
+                .is_some_and(|rest| rest.starts_with('/'))
+        })
+    }
+
     /// Whether a symbolic link stands at a path.
     pub fn is_link(&self, path: &str) -> bool {
         match self.name_at(path) {

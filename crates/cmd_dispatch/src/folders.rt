@@ -3,13 +3,15 @@ ghost use Rattle.cmd_options.specs.Ranges.{IsSplitting};
 
 use crate::any_finder::decider_for;
 use crate::call::Call;
+use crate::late::Late;
 use crate::ledgers::STANDARD_INPUT;
+use crate::own_line::OwnLine;
 use cmd_json::Form;
 use cmd_look::look_at;
 use cmd_options::{Ended, Joining, LedgerSettling, Looking, Outcome, Splitting};
-use cmd_parts::{join_at, settle_ledger_at, split_in};
+use cmd_parts::{cmd_join, cmd_split, settle_ledger_at};
 use cmd_progress::{ReadingTold, Telling, TimedProgress};
-use cmd_stream::join_stream;
+use cmd_stream::cmd_join_stream;
 use files::Disk;
 use std::io::{Read, Write};
 use std::time::Clock;
@@ -32,17 +34,19 @@ pub(crate) fn split<S: Disk + Clock, R, W: Write, E: Write>(
     } = call;
     let mut decider = decider_for(alloc, known, &splitting.search)?;
     let telling = Telling::of(splitting.progress, system.tells_terminal());
-    let mut progress = TimedProgress::new(alloc, telling, system, faults);
-    let ended = split_in(
+    let mut late = Late::new(alloc)?;
+    let mut progress = TimedProgress::new(alloc, telling, system, &mut *faults);
+    let outcome = cmd_split(
         alloc,
         splitting,
         &mut files,
         &mut decider,
         &mut progress,
         answers,
+        &mut late.words,
     );
     progress.end();
-    ended
+    Ok(late.say(outcome, faults))
 }
 
 // `bb settle`; how far it is, is told on `faults` where that is wanted.
@@ -83,13 +87,17 @@ pub(crate) fn join<S: Disk + ReadingTold, R: Read, W: Write, E: Write>(
         ..
     } = call;
     if joining.folder == STANDARD_INPUT {
-        return join_stream(alloc, &form, input, answers, faults);
+        return Ok(cmd_join_stream(alloc, &form, input, answers, faults));
     }
     let telling = Telling::of(joining.progress, system.tells_terminal());
     system.tell_reading(telling, joining.folder);
-    let ended = join_at(alloc, &form, joining, &mut files, answers, faults);
+    let mut faults = OwnLine {
+        system,
+        stream: faults,
+    };
+    let outcome = cmd_join(alloc, &form, joining, &mut files, answers, &mut faults);
     system.end_reading();
-    ended
+    Ok(outcome)
 }
 
 // `bb look`, in a ledger or in a folder.

@@ -2,9 +2,11 @@
 // as long as it is written: another process would begin from what this one hasn't written yet.
 use crate::any_finder::decider_for;
 use crate::call::Call;
+use crate::late::Late;
+use crate::own_line::OwnLine;
 use cmd_json::Form;
-use cmd_ledgers::{carry_at, merge_at, report_at, report_stream, retry_at};
-use cmd_mend::{mend_at, mend_stream};
+use cmd_ledgers::{cmd_carry, cmd_merge, cmd_report, cmd_report_stream, cmd_retry};
+use cmd_mend::{cmd_mend, cmd_mend_stream};
 use cmd_options::{Carrying, Ended, Mending, Merging, Outcome, Reporting, Retrying};
 use cmd_progress::{ReadingTold, Telling, TriedProgress};
 use files::{Disk, lock_ledger};
@@ -30,41 +32,55 @@ pub(crate) fn retry<S: Disk + Clock, R, W: Write, E: Write>(
     } = call;
     let mut decider = decider_for(alloc, known, &retrying.search)?;
     let telling = Telling::of(retrying.progress, system.tells_terminal());
-    let mut progress = TriedProgress::new(alloc, telling, system, faults);
-    let ended = retry_at(
+    let mut late = Late::new(alloc)?;
+    let mut progress = TriedProgress::new(alloc, telling, system, &mut *faults);
+    let outcome = cmd_retry(
         alloc,
         retrying.file,
         &mut files,
         &mut decider,
         &mut progress,
         answers,
+        &mut late.words,
     );
     progress.end();
-    ended
+    Ok(late.say(outcome, faults))
 }
 
 // `bb merge`.
-pub(crate) fn merge<S: Disk, R, W: Write, E>(
+pub(crate) fn merge<S: Disk, R, W: Write, E: Write>(
     call: Call<'_, S, R, W, E>,
     merging: Merging<'_>,
 ) -> Result<Outcome, Ended> {
     let mut files = call.files();
     let _lock = lock_ledger(&files, merging.out)?;
-    merge_at(call.alloc, merging, &mut files, call.answers)
+    Ok(cmd_merge(
+        call.alloc,
+        merging,
+        &mut files,
+        call.answers,
+        call.faults,
+    ))
 }
 
 // `bb carry`.
-pub(crate) fn carry<S: Disk, R, W: Write, E>(
+pub(crate) fn carry<S: Disk, R, W: Write, E: Write>(
     call: Call<'_, S, R, W, E>,
     carrying: Carrying<'_>,
 ) -> Result<Outcome, Ended> {
     let mut files = call.files();
     let _lock = lock_ledger(&files, carrying.out)?;
-    carry_at(call.alloc, carrying, &mut files, call.answers)
+    Ok(cmd_carry(
+        call.alloc,
+        carrying,
+        &mut files,
+        call.answers,
+        call.faults,
+    ))
 }
 
 // `bb mend`, of a file or of `input`.
-pub(crate) fn mend<S: Disk, R: Read, W: Write, E>(
+pub(crate) fn mend<S: Disk, R: Read, W: Write, E: Write>(
     call: Call<'_, S, R, W, E>,
     mending: Mending<'_>,
 ) -> Result<Outcome, Ended> {
@@ -74,13 +90,16 @@ pub(crate) fn mend<S: Disk, R: Read, W: Write, E>(
         alloc,
         input,
         answers,
+        faults,
         ..
     } = call;
     if mending.ledger == STANDARD_INPUT {
-        mend_stream(alloc, mending.out, &mut files, input, answers)
-    } else {
-        mend_at(alloc, mending, &mut files, answers)
+        let out = mending.out;
+        return Ok(cmd_mend_stream(
+            alloc, out, &mut files, input, answers, faults,
+        ));
     }
+    Ok(cmd_mend(alloc, mending, &mut files, answers, faults))
 }
 
 // `bb report`, of a file or of `input`.
@@ -99,11 +118,15 @@ pub(crate) fn report<S: Disk + ReadingTold, R: Read, W: Write, E: Write>(
         ..
     } = call;
     if path == STANDARD_INPUT {
-        return report_stream(alloc, &form, why, input, answers, faults);
+        return Ok(cmd_report_stream(alloc, &form, why, input, answers, faults));
     }
     let telling = Telling::of(reporting.progress, system.tells_terminal());
     system.tell_reading(telling, path);
-    let ended = report_at(alloc, &form, why, path, &files, answers, faults);
+    let mut faults = OwnLine {
+        system,
+        stream: faults,
+    };
+    let outcome = cmd_report(alloc, &form, why, path, &files, answers, &mut faults);
     system.end_reading();
-    ended
+    Ok(outcome)
 }

@@ -1,16 +1,14 @@
 // `bb check` and `bb decide`.
 use crate::any_finder::decider_for;
 use crate::call::Call;
-use crate::shared_stream::SharedStream;
-use cert::Decider;
+use crate::late::Late;
 use cmd_explain::check_why_for;
 use cmd_json::{check_json_for, decide_json_for};
-use cmd_lines::{Reader, check_for, decide_for};
+use cmd_lines::{Reader, cmd_check, cmd_decide};
 use cmd_options::{Checking, Deciding, Ended, Outcome};
 use cmd_progress::{Telling, TriedDecider};
 use files::Disk;
 use std::alloc::Global;
-use std::cell::RefCell;
 use std::io::{Read, Write};
 use std::time::Clock;
 
@@ -33,7 +31,13 @@ pub(crate) fn check<S: Disk, R: Read, W: Write, E: Write>(
     if checking.why {
         return check_why_for(alloc, input, answers, faults);
     }
-    check_for(alloc, reader_of(system), input, answers, faults)
+    Ok(cmd_check(
+        alloc,
+        reader_of(system),
+        input,
+        answers,
+        faults,
+    ))
 }
 
 // `bb decide`; how many tables are decided is told on `faults`, where that is wanted.
@@ -51,36 +55,24 @@ pub(crate) fn decide<S: Disk + Clock, R: Read, W: Write, E: Write>(
     } = call;
     let mut decider = decider_for(alloc, known, &deciding.search)?;
     let telling = Telling::of(deciding.progress, system.tells_terminal());
-    let stream = RefCell::new(faults);
-    let mut progress = SharedStream { stream: &stream };
-    let mut told = TriedDecider::new(alloc, &mut decider, telling, system, &mut progress);
-    let ended = decided(
+    let mut told = TriedDecider::new(alloc, &mut decider, telling, system, &mut *faults);
+    if deciding.json {
+        let ended = decide_json_for(alloc, &mut told, input, answers);
+        told.end();
+        return ended;
+    }
+    let mut late = Late::new(alloc)?;
+    let reader = reader_of(system);
+    let outcome = cmd_decide(
         alloc,
-        deciding,
-        reader_of(system),
+        reader,
         &mut told,
         input,
         answers,
-        &mut SharedStream { stream: &stream },
+        &mut late.words,
     );
     told.end();
-    ended
-}
-
-// Decides, with `--json` or without.
-fn decided<D: Decider, R: Read, W: Write, E: Write>(
-    alloc: Global,
-    deciding: &Deciding<'_>,
-    reader: Reader,
-    decider: &mut D,
-    input: &mut R,
-    answers: &mut W,
-    faults: &mut E,
-) -> Result<Outcome, Ended> {
-    if deciding.json {
-        return decide_json_for(alloc, decider, input, answers);
-    }
-    decide_for(alloc, reader, decider, input, answers, faults)
+    Ok(late.say(outcome, faults))
 }
 
 // Who reads what is said on standard error.

@@ -8,8 +8,7 @@ use crate::known_file::KnownFile;
 use cert::Finders;
 use cmd_json::Form;
 use cmd_nodes::{
-    MaybeLedger, Network, Run, Serving, Sockets, by_start, coordinate, loop_tree, run_tree,
-    serve_tree,
+    MaybeLedger, Network, Run, Serving, Sockets, by_start, cmd_coord, cmd_loop, cmd_run, serve_tree,
 };
 use cmd_options::{Beginning, Ended, LedgerFile, Listening, Outcome, Search, Settling};
 use cmd_progress::Telling;
@@ -24,7 +23,7 @@ use wire::{Node, Out};
 pub(crate) type SearchingWorker<'a> = Worker<Finders<AnyFinder<'a>>>;
 
 // `bb coord`.
-pub(crate) fn coord<S: Disk, R: Read, W: Write, E>(
+pub(crate) fn coord<S: Disk, R: Read, W: Write, E: Write>(
     call: Call<'_, S, R, W, E>,
     beginning: Beginning,
     ledger: Option<LedgerFile<'_>>,
@@ -40,9 +39,18 @@ pub(crate) fn coord<S: Disk, R: Read, W: Write, E>(
         alloc,
         input,
         answers,
+        faults,
         ..
     } = call;
-    coordinate(alloc, beginning, held, &mut ledger, input, answers)
+    Ok(cmd_coord(
+        alloc,
+        beginning,
+        held,
+        &mut ledger,
+        input,
+        answers,
+        faults,
+    ))
 }
 
 // `bb coord --listen`. It listens before the ledger is begun, so that no ledger is begun where it can't.
@@ -123,7 +131,7 @@ fn run_kept<N: Node + Drop, S: Disk + Clock, W: Write, E: Write>(
         mut ledger,
         lock: _lock,
     } = kept;
-    run_tree(alloc, run, held, &mut ledger, answers, faults)
+    Ok(cmd_run(alloc, run, held, &mut ledger, answers, faults))
 }
 
 // `bb loop`.
@@ -165,7 +173,15 @@ fn loop_kept<N: Node + Drop, S: Disk + Clock + Sockets, W: Write, E: Write>(
         mut ledger,
         lock: _lock,
     } = kept;
-    loop_tree(alloc, run, system, held, &mut ledger, answers, faults)
+    Ok(cmd_loop(
+        alloc,
+        run,
+        system,
+        held,
+        &mut ledger,
+        answers,
+        faults,
+    ))
 }
 
 // What is run, by the system's clock.

@@ -1,7 +1,7 @@
 // `bb draw` and `bb page`.
 use crate::call::Call;
 use crate::ledgers::STANDARD_INPUT;
-use cmd_draw::draw_asked;
+use cmd_draw::cmd_draw;
 use cmd_folder_page::folder_page_at;
 use cmd_options::{Drawing, Ended, Outcome, Paging, VERSION, ended_by};
 use cmd_page::{Heading, LedgerSum, Maker, write_ledger_page};
@@ -24,7 +24,9 @@ pub(crate) fn draw<S: Disk, R: Read, W: Write, E: Write>(
         faults,
         ..
     } = call;
-    draw_asked(alloc, drawing, &mut files, input, answers, faults)
+    Ok(cmd_draw(
+        alloc, drawing, &mut files, input, answers, faults,
+    ))
 }
 
 // `bb page`, of the ledger at a path, or of the records of `input`.

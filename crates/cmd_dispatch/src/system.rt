@@ -285,6 +285,10 @@ impl ReadingTold for System<'_> {
         }
     }
 
+    fn pause_reading(&self) {
+        self.watch.pause(self.rt);
+    }
+
     fn end_reading(&self) {
         self.watch.end(self.rt);
     }

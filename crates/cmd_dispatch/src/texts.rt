@@ -1,10 +1,10 @@
 // `bb explain`, `bb show` and `bb tables`.
 use crate::call::Call;
-use cmd_explain::explain_for;
+use cmd_explain::cmd_explain;
 use cmd_json::explain_json_for;
 use cmd_options::{Ended, Listing, Outcome, Showing};
-use cmd_show::show_for;
-use cmd_tables::list_tables;
+use cmd_show::cmd_show;
+use cmd_tables::cmd_tables;
 use std::io::{Read, Write};
 
 // `bb explain`, with `--json` or without.
@@ -16,12 +16,13 @@ pub(crate) fn explain<S, R: Read, W: Write, E: Write>(
         alloc,
         input,
         answers,
+        faults,
         ..
     } = call;
     if json {
         return explain_json_for(alloc, input, answers);
     }
-    explain_for(alloc, input, answers)
+    Ok(cmd_explain(alloc, input, answers, faults))
 }
 
 // `bb show`.
@@ -33,9 +34,10 @@ pub(crate) fn show<S, R: Read, W: Write, E: Write>(
         alloc,
         input,
         answers,
+        faults,
         ..
     } = call;
-    show_for(alloc, showing, input, answers)
+    Ok(cmd_show(alloc, showing, input, answers, faults))
 }
 
 // `bb tables`.
@@ -50,5 +52,5 @@ pub(crate) fn tables<S, R: Read, W: Write, E: Write>(
         faults,
         ..
     } = call;
-    list_tables(alloc, listing, input, answers, faults)
+    Ok(cmd_tables(alloc, listing, input, answers, faults))
 }

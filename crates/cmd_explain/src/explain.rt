@@ -32,8 +32,8 @@ pub fn cmd_explain<R: Read, W: Write, E: Write>(
     told(explain_for(alloc, input, answers), faults)
 }
 
-/// Explains as `cmd_explain` does, but answers what ends it early, and doesn't say it.
-pub fn explain_for<R: Read, W: Write>(
+// Explains as `cmd_explain` does, but answers what ends it early, and doesn't say it.
+fn explain_for<R: Read, W: Write>(
     alloc: Global,
     input: &mut R,
     answers: &mut W,

@@ -18,5 +18,5 @@ mod sides;
 mod why;
 mod words;
 
-pub use explain::{cmd_explain, explain_for, explain_line};
+pub use explain::{cmd_explain, explain_line};
 pub use why::{check_why_for, why_of};

@@ -22,7 +22,7 @@ use run::{HaltFinder, HaltsIn, MAX_HALT_STEPS};
 use std::alloc::Global;
 use std::io::{Read, Write};
 
-/// Checks as `check_for` of `cmd_lines` does, and says on `faults` of each record that is refused why it is, on a line with
+/// Checks as `cmd_check` of `cmd_lines` does, and says on `faults` of each record that is refused why it is, on a line with
 /// the number of its own (`why_of`).
 pub fn check_why_for<R: Read, W: Write, E: Write>(
     alloc: Global,

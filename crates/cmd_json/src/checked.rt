@@ -14,7 +14,7 @@ use kind_evidence::NoMemory;
 use std::alloc::Global;
 use std::io::{Read, Write};
 
-/// Checks as `check_for` of `cmd_lines` does, and says each answer as an object of JSON, a line each, with the number
+/// Checks as `cmd_check` of `cmd_lines` does, and says each answer as an object of JSON, a line each, with the number
 /// of its own line; where it is asked for why, what is right of a table whose count or score is wrong stands in it too.
 pub fn check_json_for<R: Read, W: Write>(
     alloc: Global,

@@ -18,7 +18,7 @@ use machine_text::Table;
 use std::alloc::Global;
 use std::io::{Read, Write};
 
-/// Decides as `decide_for` of `cmd_lines` does, and says each record, or the fault of a text that is no table, as an
+/// Decides as `cmd_decide` of `cmd_lines` does, and says each record, or the fault of a text that is no table, as an
 /// object of JSON, a line each, with the number of its own line.
 pub fn decide_json_for<D: Decider, R: Read, W: Write>(
     alloc: Global,

@@ -24,7 +24,7 @@ use std::alloc::Global;
 use std::io::{Read, Write};
 use text::first_line;
 
-/// Explains as `explain_for` of `cmd_explain` does, and says each answer with its words as an object of JSON, a line
+/// Explains as `cmd_explain` of `cmd_explain` does, and says each answer with its words as an object of JSON, a line
 /// each, with the number of its own line.
 pub fn explain_json_for<R: Read, W: Write>(
     alloc: Global,

@@ -42,8 +42,8 @@ pub fn cmd_carry<H: Files, W: Write, E: Write>(
     told(carry_at(alloc, carrying, host, answers), faults)
 }
 
-/// Carries as `cmd_carry` does, but answers what ends it early, and doesn't say it.
-pub fn carry_at<H: Files, W: Write>(
+// Carries as `cmd_carry` does, but answers what ends it early, and doesn't say it.
+fn carry_at<H: Files, W: Write>(
     alloc: Global,
     carrying: Carrying<'_>,
     host: &mut H,

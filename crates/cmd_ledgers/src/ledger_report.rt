@@ -66,8 +66,8 @@ pub fn cmd_report_stream<P: ReportForm, R: Read, W: Write, E: Write>(
     )
 }
 
-/// What `cmd_report` does, but that what ends it early isn't said.
-pub fn report_at<H: Files, P: ReportForm, W: Write, E: Write>(
+// What `cmd_report` does, but that what ends it early isn't said.
+fn report_at<H: Files, P: ReportForm, W: Write, E: Write>(
     alloc: Global,
     form: &P,
     why: bool,
@@ -84,8 +84,8 @@ pub fn report_at<H: Files, P: ReportForm, W: Write, E: Write>(
     report_loaded(alloc, form, why, &board, &left, answers, faults)
 }
 
-/// What `cmd_report_stream` does, but that what ends it early isn't said.
-pub fn report_stream<P: ReportForm, R: Read, W: Write, E: Write>(
+// What `cmd_report_stream` does, but that what ends it early isn't said.
+fn report_stream<P: ReportForm, R: Read, W: Write, E: Write>(
     alloc: Global,
     form: &P,
     why: bool,

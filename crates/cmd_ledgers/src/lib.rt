@@ -26,19 +26,18 @@ mod told;
 mod tree_reports;
 
 pub use board_report::{report, status_name};
-pub use carry::{carry_at, carry_into, cmd_carry};
+pub use carry::{carry_into, cmd_carry};
 pub use faults::by_load;
 pub use going_on::{cut_off, load_held, open_held};
 pub use ledger_changes::keep_answer;
 pub use ledger_report::{
-    cmd_report, cmd_report_stream, outcome_by, report_at, report_board, report_ledger,
-    report_stream,
-};
-pub use merge::{cmd_merge, merge_at, merge_into, merge_of};
+    cmd_report, cmd_report_stream, outcome_by, report_board, report_ledger,
+    };
+pub use merge::{cmd_merge, merge_into, merge_of};
 pub use reading::{MAX_HEADER_BYTES, begin_reading, load_from};
 pub use report_form::{AsLines, ReportForm, write_report, write_told};
 pub use report_writer::{LineReport, pass};
-pub use retry::{cmd_retry, retry_at, retry_holdouts, retry_ledger};
+pub use retry::{cmd_retry, retry_holdouts, retry_ledger};
 pub use rewriting::write_whole;
 pub use source::LedgerSource;
 pub use told::Told;

@@ -44,8 +44,8 @@ pub fn cmd_merge<H: Files, W: Write, E: Write>(
     told(merge_at(alloc, merging, host, answers), faults)
 }
 
-/// Merges as `cmd_merge` does, but answers what ends it early, and doesn't say it.
-pub fn merge_at<H: Files, W: Write>(
+// Merges as `cmd_merge` does, but answers what ends it early, and doesn't say it.
+fn merge_at<H: Files, W: Write>(
     alloc: Global,
     merging: Merging<'_>,
     host: &mut H,

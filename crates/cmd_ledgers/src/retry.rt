@@ -51,8 +51,8 @@ pub fn cmd_retry<H: Files, D: Decider, P: Progress, W: Write, E: Write>(
     )
 }
 
-/// Retries as `cmd_retry` does, but answers what ends it early, and doesn't say it.
-pub fn retry_at<H: Files, D: Decider, P: Progress, W: Write>(
+// Retries as `cmd_retry` does, but answers what ends it early, and doesn't say it.
+fn retry_at<H: Files, D: Decider, P: Progress, W: Write>(
     alloc: Global,
     file: LedgerFile<'_>,
     host: &mut H,

@@ -17,11 +17,12 @@ const TABLE_ALONE: Remark = Remark {
     behind: b" is a table alone: bb decide looks for its record\n",
 };
 
-/// Reads a record a line and prints an answer a line. A last line without newline is read too. What a
-/// failed stream or refused memory ends is said on `faults`; else what was printed is the answers to the lines of
+/// Reads a record a line and prints an answer a line. A last line without newline is read too. A person is told on `faults` at
+/// the end which line was the first that is a table alone. What a failed stream or refused memory ends is said there too; else what was printed is the answers to the lines of
 /// the input, in their order, and each `halts K` and each `never` of them is true of its table.
 pub fn cmd_check<R: Read, W: Write, E: Write>(
     alloc: Global,
+    reader: Reader,
     input: &mut R,
     answers: &mut W,
     faults: &mut E,
@@ -30,15 +31,11 @@ pub fn cmd_check<R: Read, W: Write, E: Write>(
         (W.contents answers.new) result
         ⊎ (result ≡ Outcome.NoMemory) ⊎ (result ≡ Outcome.Failed) }
 {
-    told(
-        check_for(alloc, Reader::Script, input, answers, faults),
-        faults,
-    )
+    told(check_for(alloc, reader, input, answers, faults), faults)
 }
 
-/// Checks as `cmd_check` does, for a script or a person, who is told on `faults` at the end which line was the first
-/// that is a table alone; but answers what ends it early, and doesn't say it.
-pub fn check_for<R: Read, W: Write, E: Write>(
+// Checks as `cmd_check` does, but answers what ends it early, and doesn't say it.
+fn check_for<R: Read, W: Write, E: Write>(
     alloc: Global,
     reader: Reader,
     input: &mut R,

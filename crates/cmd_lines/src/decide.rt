@@ -21,10 +21,11 @@ const RECORD: Remark = Remark {
 };
 
 /// Reads a table a line and prints a record a line, as the decider answers: certified, or undecided. Lines are
-/// answered as they come, and a last line without newline is read too. What a failed stream or refused memory ends
-/// is said on `faults`; else what was printed is the answers to the lines of the input, in their order.
+/// answered as they come, and a last line without newline is read too. A person is told on `faults` at the end which line
+/// was the first that is a record. What a failed stream or refused memory ends is said there too; else what was printed is the answers to the lines of the input, in their order.
 pub fn cmd_decide<D: Decider, R: Read, W: Write, E: Write>(
     alloc: Global,
+    reader: Reader,
     decider: &mut D,
     input: &mut R,
     answers: &mut W,
@@ -35,14 +36,13 @@ pub fn cmd_decide<D: Decider, R: Read, W: Write, E: Write>(
         ⊎ (result ≡ Outcome.NoMemory) ⊎ (result ≡ Outcome.Failed) }
 {
     told(
-        decide_for(alloc, Reader::Script, decider, input, answers, faults),
+        decide_for(alloc, reader, decider, input, answers, faults),
         faults,
     )
 }
 
-/// Decides as `cmd_decide` does, for a script or a person, who is told on `faults` at the end which line was the first
-/// that is a record; but answers what ends it early, and doesn't say it.
-pub fn decide_for<D: Decider, R: Read, W: Write, E: Write>(
+// Decides as `cmd_decide` does, but answers what ends it early, and doesn't say it.
+fn decide_for<D: Decider, R: Read, W: Write, E: Write>(
     alloc: Global,
     reader: Reader,
     decider: &mut D,

@@ -9,6 +9,6 @@ mod decide;
 mod misplaced;
 
 pub use answers::{answer, answer_record, append_fault, outcome_shown, read_line};
-pub use check::{check_for, cmd_check};
-pub use decide::{cmd_decide, decide_for, decide_line};
+pub use check::cmd_check;
+pub use decide::{cmd_decide, decide_line};
 pub use misplaced::Reader;

@@ -7,5 +7,5 @@ mod mend;
 mod mender;
 mod mending;
 
-pub use mend::{cmd_mend, cmd_mend_stream, mend_at, mend_stream};
+pub use mend::{cmd_mend, cmd_mend_stream};
 pub use mending::{mend_from, mend_into};

@@ -61,8 +61,8 @@ pub fn cmd_mend_stream<H: Files, R: Read, W: Write, E: Write>(
     told(mend_stream(alloc, out, host, input, answers), faults)
 }
 
-/// What `cmd_mend` does, but that what ends it early isn't said.
-pub fn mend_at<H: Files, W: Write>(
+// What `cmd_mend` does, but that what ends it early isn't said.
+fn mend_at<H: Files, W: Write>(
     alloc: Global,
     mending: Mending<'_>,
     host: &mut H,
@@ -78,8 +78,8 @@ pub fn mend_at<H: Files, W: Write>(
     put_and_tell(alloc, host, made, mending.out, &tally, dropped, answers)
 }
 
-/// What `cmd_mend_stream` does, but that what ends it early isn't said.
-pub fn mend_stream<H: Files, R: Read, W: Write>(
+// What `cmd_mend_stream` does, but that what ends it early isn't said.
+fn mend_stream<H: Files, R: Read, W: Write>(
     alloc: Global,
     out: &str,
     host: &mut H,

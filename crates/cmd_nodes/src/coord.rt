@@ -51,8 +51,8 @@ pub fn cmd_coord<F: Read + Drop, L: LedgerOut, R: Read, W: Write, E: Write>(
     )
 }
 
-/// Coordinates as `cmd_coord` does, but answers what ends it early, and doesn't say it.
-pub fn coordinate<F: Read + Drop, L: LedgerOut, R: Read, W: Write>(
+// Coordinates as `cmd_coord` does, but answers what ends it early, and doesn't say it.
+fn coordinate<F: Read + Drop, L: LedgerOut, R: Read, W: Write>(
     alloc: Global,
     beginning: Beginning,
     held: io::Result<Opened<F>>,

@@ -54,8 +54,8 @@ pub fn cmd_loop<
     )
 }
 
-/// Settles as `cmd_loop` does, but answers what ends it early, and doesn't say it.
-pub fn loop_tree<
+// Settles as `cmd_loop` does, but answers what ends it early, and doesn't say it.
+fn loop_tree<
     P: ReportForm,
     F: Read + Drop,
     L: LedgerOut,

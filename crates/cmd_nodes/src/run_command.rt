@@ -71,8 +71,8 @@ pub fn cmd_run<
     told(run_tree(alloc, run, held, ledger, answers, faults), faults)
 }
 
-/// Settles as `cmd_run` does, but answers what ends it early, and doesn't say it.
-pub fn run_tree<
+// Settles as `cmd_run` does, but answers what ends it early, and doesn't say it.
+fn run_tree<
     P: ReportForm,
     F: Read + Drop,
     L: LedgerOut,

@@ -61,8 +61,8 @@ pub fn cmd_join<H: Files, P: ReportForm, W: Write, E: Write>(
     told(join_at(alloc, form, joining, host, answers, faults), faults)
 }
 
-/// Joins as `cmd_join` does, but answers what ends it early, and doesn't say it.
-pub fn join_at<H: Files, P: ReportForm, W: Write, E: Write>(
+// Joins as `cmd_join` does, but answers what ends it early, and doesn't say it.
+fn join_at<H: Files, P: ReportForm, W: Write, E: Write>(
     alloc: Global,
     form: &P,
     joining: &Joining<'_>,

@@ -19,10 +19,10 @@ mod trunk;
 
 pub use collector::{Collector, Nowhere, OneLedger};
 pub use folder::{Folder, FolderAt, begin_part, begin_parts, part_path, trunk_path};
-pub use join::{cmd_join, gather, join_at, join_into, join_parts, open_tables, tell_whole};
+pub use join::{cmd_join, gather, join_into, join_parts, open_tables, tell_whole};
 pub use part_files::{PartLedgers, PartsAt, Written};
 pub use settle::settle_ledger;
 pub use settle_at::settle_ledger_at;
 pub use settling::{settle_below, settle_board};
-pub use split::{cmd_split, split_in, split_off};
+pub use split::{cmd_split, split_off};
 pub use trunk::grow_trunk;

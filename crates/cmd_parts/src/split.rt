@@ -55,8 +55,8 @@ pub fn cmd_split<H: Files, D: Decider, P: Progress, W: Write, E: Write>(
     )
 }
 
-/// Splits as `cmd_split` does, but answers what ends it early, and doesn't say it.
-pub fn split_in<H: Files, D: Decider, P: Progress, W: Write>(
+// Splits as `cmd_split` does, but answers what ends it early, and doesn't say it.
+fn split_in<H: Files, D: Decider, P: Progress, W: Write>(
     alloc: Global,
     splitting: &Splitting<'_>,
     host: &mut H,

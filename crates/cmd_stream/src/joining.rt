@@ -35,8 +35,8 @@ pub fn cmd_join_stream<P: ReportForm, R: Read, W: Write, E: Write>(
     told(join_stream(alloc, form, input, answers, faults), faults)
 }
 
-/// What `cmd_join_stream` does, but that what ends it early isn't said.
-pub fn join_stream<P: ReportForm, R: Read, W: Write, E: Write>(
+// What `cmd_join_stream` does, but that what ends it early isn't said.
+fn join_stream<P: ReportForm, R: Read, W: Write, E: Write>(
     alloc: Global,
     form: &P,
     input: &mut R,

@@ -14,4 +14,4 @@ mod loading;
 mod missing;
 mod remarks;
 
-pub use joining::{cmd_join_stream, join_stream};
+pub use joining::cmd_join_stream;

@@ -10,5 +10,5 @@ mod normal;
 mod passed;
 mod words;
 
-pub use list::{cmd_tables, list_tables};
+pub use list::cmd_tables;
 pub use normal::normal_form;

@@ -40,8 +40,8 @@ pub fn cmd_tables<R: Read, W: Write, E: Write>(
     told(list_tables(alloc, listing, input, answers, faults), faults)
 }
 
-/// Lists as `cmd_tables` does, but answers what ends it early, and doesn't say it.
-pub fn list_tables<R: Read, W: Write, E: Write>(
+// Lists as `cmd_tables` does, but answers what ends it early, and doesn't say it.
+fn list_tables<R: Read, W: Write, E: Write>(
     alloc: Global,
     listing: &Listing,
     input: &mut R,

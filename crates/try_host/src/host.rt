@@ -197,6 +197,8 @@ fn renamed(room: &HostRoom<'_>, from: &str, to: &str) -> io::Result<()> {
 impl ReadingTold for CaseHost<'_> {
     fn tell_reading(&self, _telling: Telling, _path: &str) {}
 
+    fn pause_reading(&self) {}
+
     fn end_reading(&self) {}
 }
 

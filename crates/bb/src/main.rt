@@ -4,7 +4,6 @@
 //! `cmd_nodes`.
 #![tactic(auto)]
 
-use cmd_dispatch::{Failures, System, Watch};
 pub use cmd_json::report_json;
 pub use cmd_ledgers::{cmd_carry, cmd_merge, cmd_report, cmd_retry, report};
 pub use cmd_lines::{cmd_check, cmd_decide};
@@ -14,6 +13,7 @@ use cmd_program::obey;
 pub use cmd_words::{LineFault, options};
 use std::env;
 use std::process::ExitCode;
+use system::{Failures, System, Watch};
 
 fn main(rt: HostRuntime) -> ExitCode {
     let failures = Failures::new(rt.alloc());

@@ -1,5 +1,5 @@
 // A command that is carried out, with all that it meets.
-use crate::known_file::KnownFile;
+use find_search::KnownFile;
 use files::{Disk, OnDisk};
 use std::alloc::Global;
 

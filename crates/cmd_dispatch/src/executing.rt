@@ -2,7 +2,7 @@
 ghost use Rattle.cmd_options.specs.Ranges.{AreWithinRanges};
 
 use crate::call::Call;
-use crate::known_file::KnownFile;
+use find_search::KnownFile;
 use crate::{folders, ledgers, lines, nodes, pictures, texts, working};
 use cmd_nodes::{Network, Sockets};
 use cmd_options::{Ended, Options, Outcome, told};

@@ -1,7 +1,7 @@
 // `bb split`, `bb settle` and `bb join`.
 ghost use Rattle.cmd_options.specs.Ranges.{IsSplitting};
 
-use crate::any_finder::decider_for;
+use find_search::decider_for;
 use crate::call::Call;
 use crate::late::Late;
 use crate::ledgers::STANDARD_INPUT;

@@ -1,6 +1,6 @@
 // `bb retry`, `bb merge`, `bb carry`, `bb mend` and `bb report`. A ledger that is written is locked before it is read, and for
 // as long as it is written: another process would begin from what this one hasn't written yet.
-use crate::any_finder::decider_for;
+use find_search::decider_for;
 use crate::call::Call;
 use crate::late::Late;
 use crate::own_line::OwnLine;

@@ -1,5 +1,5 @@
 // `bb check` and `bb decide`.
-use crate::any_finder::decider_for;
+use find_search::decider_for;
 use crate::call::Call;
 use crate::late::Late;
 use cmd_explain::check_why_for;

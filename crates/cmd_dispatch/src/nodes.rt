@@ -2,9 +2,8 @@
 ghost use Rattle.std.specs.Prelude.{◌≡◌};
 ghost use Rattle.cmd_options.specs.Ranges.{IsBeginning, IsSettling};
 
-use crate::any_finder::{AnyFinder, decider_for};
 use crate::call::Call;
-use crate::known_file::KnownFile;
+use find_search::{AnyFinder, KnownFile, decider_for};
 use cert::Finders;
 use cmd_json::Form;
 use cmd_nodes::{

@@ -1,5 +1,5 @@
 use Rattle.std.proofs.Common.{length}
-use Rattle.peer_sockets.proofs.places.Places.read.Goals as goal
+use Rattle.system.proofs.places.Places.read.Goals as goal
 
 pub returns-then-deref : goal.returns-then-deref
 returns-then-deref c = c.close.ensures (length c.args.buf.now)

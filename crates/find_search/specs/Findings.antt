@@ -6,8 +6,8 @@ use Rattle.law_turing.specs.Translated.{Translated as IsTranslated}
 use Rattle.run.specs.Halts.{HaltsAsClaimed}
 use Rattle.run.specs.Limits.{halt_step_limit}
 use Rattle.loops.specs.Limits.{time_limit}
-use Rattle.find_loops.specs.declared.finder.Found.{Found}
-use Rattle.find_loops.specs.declared.finder.Found.TheVariants.{Halts, Cycle, Translated}
+use Rattle.find_search.specs.declared.loop_finder.Found.{Found}
+use Rattle.find_search.specs.declared.loop_finder.Found.TheVariants.{Halts, Cycle, Translated}
 
 -- what was found is so of the table, within the limit of its kind
 abbrev pub IsShown : Packed → Found → Type 0

@@ -14,9 +14,9 @@ use ngram_cps::NgramFinder;
 use run::HaltFinder;
 use std::alloc::Global;
 
-// A finder of any kind, so that a list of them needs no boxes.
+/// A finder of any kind, so that a list of them needs no boxes.
 #[derive(Drop)]
-pub(crate) enum AnyFinder<'a> {
+pub enum AnyFinder<'a> {
     Known(&'a KnownFile<'a>),
     Halts(HaltFinder),
     Cycle(CycleFinder),
@@ -92,8 +92,8 @@ fn finder_of<'a>(alloc: Global, letter: u8, search: &Search<'_>) -> Option<AnyFi
     }
 }
 
-// What decides tables by them.
-pub(crate) fn decider_for<'a>(
+/// What decides tables by what is known, and then by the finders that are asked for.
+pub fn decider_for<'a>(
     alloc: Global,
     known: Option<&'a KnownFile<'a>>,
     search: &Search<'_>,

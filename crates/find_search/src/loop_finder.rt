@@ -1,7 +1,7 @@
 // The search of one run.
 ghost use Rattle.std.specs.Prelude.{◌≡◌, IfOk, IfSome, IsTrue};
 ghost use Rattle.law_turing.specs.Run.{start};
-ghost use Rattle.find_loops.specs.Findings.{IsShown};
+ghost use Rattle.find_search.specs.Findings.{IsShown};
 
 use crate::borders::Borders;
 use crate::history::History;

@@ -1,14 +1,16 @@
 // The files, the clock and the sockets of the system.
+use crate::address::Address;
+use crate::call::CoordinatorStream;
 use crate::failures::Failures;
 use crate::named_file::NamedFile;
 use crate::named_socket::{LOOPBACK, NamedSocket};
+use crate::peer_sockets::PeerSockets;
 use crate::watch::Watch;
 use crate::watched_file::WatchedFile;
 use cmd_nodes::{Network, Sockets};
 use cmd_options::{Ended, ended_by};
 use cmd_progress::{ReadingTold, Telling};
 use files::Disk;
-use peer_sockets::{Address, CoordinatorStream, PeerSockets};
 use std::cell::RefCell;
 use std::env;
 use std::fs::{self, Files, OpenFile, OpenOptions, TryLockError};

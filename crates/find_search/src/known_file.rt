@@ -6,15 +6,16 @@ use std::alloc::Global;
 use std::cell::RefCell;
 use std::io::Write;
 
-// What is known by it. All finders of a command look tables up in it, each worker's too.
+/// The file of records that were found elsewhere, read to its end. All finders of a command look tables up in it, each
+/// worker's too.
 #[derive(Drop)]
-pub(crate) struct KnownFile<'a> {
+pub struct KnownFile<'a> {
     path: &'a str,
-    pub known: RefCell<Known>,
+    pub(crate) known: RefCell<Known>,
 }
 
 impl<'a> KnownFile<'a> {
-    // The one that is asked for, read to its end; none where none is.
+    /// The one that is asked for; none where none is. Errors: `File` where it can't be read, `NoMemory`.
     pub fn asked<S: Disk>(
         alloc: Global,
         asked: &Options<'a>,
@@ -36,7 +37,7 @@ impl<'a> KnownFile<'a> {
         }
     }
 
-    // Says what was refused of it. Nothing hangs on whether that can be said.
+    /// Says what was refused of it. Nothing hangs on whether that can be said.
     pub fn tell<E: Write>(&self, alloc: Global, faults: &mut E) {
         if let Ok(known) = self.known.try_borrow() {
             let _ = tell_refusals(alloc, self.path, known.refused(), faults);

@@ -1,5 +1,5 @@
 use Rattle.std.proofs.Common.{length, ◌-◌, ◌≤◌}
-use Rattle.peer_sockets.proofs.peer_socket.PeerSocket.write_all_now.Given as goal
+use Rattle.system.proofs.peer_socket.PeerSocket.write_all_now.Given as goal
 
 abbrev pub invariant-writes : goal.invariant-writes
 invariant-writes l = l.written ≤ length l.bytes

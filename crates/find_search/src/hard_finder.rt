@@ -6,7 +6,7 @@ use cert::{Finder, OwnedCertificate};
 use far::{FarFinder, OwnedFar};
 use find_automata::Stage as Automata;
 use find_counted::CountedFinder;
-use find_loops::{Found, LoopFinder};
+use crate::loop_finder::{Found, LoopFinder};
 use find_words::{WORD_STAGES, WordFinder, WordStage};
 use kind_evidence::NoMemory;
 use loops::{CycleFinder, MAX_TIME, TranslatedFinder};
@@ -14,9 +14,9 @@ use machine_text::Table;
 use run::HaltFinder;
 use std::alloc::Global;
 
-// What the stages ask. One of each kind serves all of its stages.
+/// What the stages ask. One of each kind serves all of its stages.
 #[derive(Drop)]
-pub(crate) struct HardFinder {
+pub struct HardFinder {
     alloc: Global,
     named: NamedTables,
     loops: LoopFinder,

@@ -1,4 +1,4 @@
-use Rattle.find_loops.proofs.borders.Borders.longest.Given as goal
+use Rattle.find_search.proofs.borders.Borders.longest.Given as goal
 
 -- each turn falls back to a shorter border
 abbrev pub decreases-loop-length : goal.decreases-loop-length

@@ -1,0 +1,22 @@
+//! What the program asks for certificates: the finders of all kinds, as a command line asks for them; a hard search, which goes
+//! through stages; the records of a file, which are known before any search.
+//!
+//! One run of a table serves three searches: whether it halts, comes to a cycle, or to a translated cycle. What repeats is
+//! seen in what the run reads and in which states: a run that goes on for ever in the same way does so with the same pairs of
+//! state and symbol, period by period. The periods in which the end of a run repeats are those of its pairs in reverse, which
+//! the borders of Knuth, Morris and Pratt (1977) tell in one pass. `specs/Findings` says what is so of a table for which
+//! something was found.
+#![tactic(auto)]
+
+mod any_finder;
+mod borders;
+mod hard_finder;
+mod history;
+mod known_file;
+mod loop_finder;
+mod named_tables;
+mod stages;
+
+pub use any_finder::{AnyFinder, decider_for};
+pub use known_file::KnownFile;
+pub use loop_finder::{Found, LoopFinder};

@@ -1,10 +1,9 @@
 // A command of a step, carried out.
-use cmd_program::obey;
+use cmd_dispatch::obey;
 use cmd_words::{LineFault, options};
 use std::alloc::{AllocError as NoMemory, Global};
 use std::cell::RefCell;
-use try_host::{CaseHost, Failing, HostRoom, Input, MemDisk, Output};
-use try_text::{CaseStep, Limits};
+use try_host::{CaseHost, Failing, HostRoom, Input, MemDisk, Output, CaseStep, Limits};
 
 /// What came of a command.
 #[derive(Drop)]

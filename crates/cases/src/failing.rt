@@ -2,8 +2,7 @@
 use crate::carrying::Found;
 use crate::comparing::{Difference, status_differs};
 use std::alloc::{AllocError as NoMemory, Global};
-use try_host::MemDisk;
-use try_text::{CaseStep, Expected};
+use try_host::{MemDisk, CaseStep, Expected};
 
 // The exit status where a stream or a file fails.
 const FAILED: u8 = 4;

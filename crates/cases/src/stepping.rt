@@ -9,8 +9,7 @@ use crate::trial::Trial;
 use std::alloc::Global;
 use std::cell::RefCell;
 use std::io::{self, ErrorKind};
-use try_host::{Failing, MemDisk};
-use try_text::{CaseStep, Expected, Limits, Variant};
+use try_host::{Failing, MemDisk, CaseStep, Expected, Limits, Variant};
 
 /// What came of a step.
 #[derive(Drop)]

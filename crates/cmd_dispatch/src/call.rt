@@ -1,6 +1,6 @@
 // A command that is carried out, with all that it meets.
-use find_search::KnownFile;
 use files::{Disk, OnDisk};
+use find_search::KnownFile;
 use std::alloc::Global;
 
 // What a command meets: the system, its input, and where its answers and faults go.

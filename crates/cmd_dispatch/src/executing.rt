@@ -2,12 +2,12 @@
 ghost use Rattle.cmd_options.specs.Ranges.{AreWithinRanges};
 
 use crate::call::Call;
-use find_search::KnownFile;
 use crate::{folders, ledgers, lines, nodes, pictures, texts, working};
 use cmd_nodes::{Network, Sockets};
 use cmd_options::{Ended, Options, Outcome, told};
 use cmd_progress::ReadingTold;
 use files::Disk;
+use find_search::KnownFile;
 use std::alloc::Global;
 use std::io::{Read, Write};
 use std::time::Clock;

@@ -1,18 +1,16 @@
 // `bb split`, `bb settle` and `bb join`.
 ghost use Rattle.cmd_options.specs.Ranges.{IsSplitting};
 
-use find_search::decider_for;
 use crate::call::Call;
 use crate::late::Late;
 use crate::ledgers::STANDARD_INPUT;
 use crate::own_line::OwnLine;
 use cmd_json::Form;
-use cmd_look::look_at;
 use cmd_options::{Ended, Joining, LedgerSettling, Looking, Outcome, Splitting};
-use cmd_parts::{cmd_join, cmd_split, settle_ledger_at};
+use cmd_parts::{cmd_join, cmd_join_stream, cmd_split, look_at, settle_ledger_at};
 use cmd_progress::{ReadingTold, Telling, TimedProgress};
-use cmd_stream::cmd_join_stream;
 use files::Disk;
+use find_search::decider_for;
 use std::io::{Read, Write};
 use std::time::Clock;
 

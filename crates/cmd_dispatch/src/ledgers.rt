@@ -1,15 +1,16 @@
 // `bb retry`, `bb merge`, `bb carry`, `bb mend` and `bb report`. A ledger that is written is locked before it is read, and for
 // as long as it is written: another process would begin from what this one hasn't written yet.
-use find_search::decider_for;
 use crate::call::Call;
 use crate::late::Late;
 use crate::own_line::OwnLine;
 use cmd_json::Form;
-use cmd_ledgers::{cmd_carry, cmd_merge, cmd_report, cmd_report_stream, cmd_retry};
-use cmd_mend::{cmd_mend, cmd_mend_stream};
+use cmd_ledgers::{
+    cmd_carry, cmd_mend, cmd_mend_stream, cmd_merge, cmd_report, cmd_report_stream, cmd_retry,
+};
 use cmd_options::{Carrying, Ended, Mending, Merging, Outcome, Reporting, Retrying};
 use cmd_progress::{ReadingTold, Telling, TriedProgress};
 use files::{Disk, lock_ledger};
+use find_search::decider_for;
 use std::io::{Read, Write};
 use std::time::Clock;
 
@@ -54,13 +55,7 @@ pub(crate) fn merge<S: Disk, R, W: Write, E: Write>(
 ) -> Result<Outcome, Ended> {
     let mut files = call.files();
     let _lock = lock_ledger(&files, merging.out)?;
-    Ok(cmd_merge(
-        call.alloc,
-        merging,
-        &mut files,
-        call.answers,
-        call.faults,
-    ))
+    Ok(cmd_merge(call.alloc, merging, &mut files, call.answers, call.faults))
 }
 
 // `bb carry`.
@@ -70,13 +65,7 @@ pub(crate) fn carry<S: Disk, R, W: Write, E: Write>(
 ) -> Result<Outcome, Ended> {
     let mut files = call.files();
     let _lock = lock_ledger(&files, carrying.out)?;
-    Ok(cmd_carry(
-        call.alloc,
-        carrying,
-        &mut files,
-        call.answers,
-        call.faults,
-    ))
+    Ok(cmd_carry(call.alloc, carrying, &mut files, call.answers, call.faults))
 }
 
 // `bb mend`, of a file or of `input`.
@@ -95,9 +84,7 @@ pub(crate) fn mend<S: Disk, R: Read, W: Write, E: Write>(
     } = call;
     if mending.ledger == STANDARD_INPUT {
         let out = mending.out;
-        return Ok(cmd_mend_stream(
-            alloc, out, &mut files, input, answers, faults,
-        ));
+        return Ok(cmd_mend_stream(alloc, out, &mut files, input, answers, faults));
     }
     Ok(cmd_mend(alloc, mending, &mut files, answers, faults))
 }

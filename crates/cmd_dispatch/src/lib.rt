@@ -1,6 +1,5 @@
-//! From what a command line asks for to the command, with the finders, the files and the ledger that it uses.
-//!
-//! Nothing here reads words, so that nothing here loads what reads them.
+//! From the words of a command line to what they ask for, done: `obey` reads the words, by `cmd_words`, and `execute` does what
+//! they ask for, with the finders, the files and the ledger that it uses.
 #![tactic(auto)]
 
 mod call;
@@ -9,10 +8,13 @@ mod folders;
 mod late;
 mod ledgers;
 mod lines;
+mod named;
 mod nodes;
+mod obeying;
 mod own_line;
 mod pictures;
 mod texts;
 mod working;
 
 pub use executing::execute;
+pub use obeying::obey;

@@ -1,5 +1,4 @@
 // `bb check` and `bb decide`.
-use find_search::decider_for;
 use crate::call::Call;
 use crate::late::Late;
 use cmd_explain::check_why_for;
@@ -8,6 +7,7 @@ use cmd_lines::{Reader, cmd_check, cmd_decide};
 use cmd_options::{Checking, Deciding, Ended, Outcome};
 use cmd_progress::{Telling, TriedDecider};
 use files::Disk;
+use find_search::decider_for;
 use std::alloc::Global;
 use std::io::{Read, Write};
 use std::time::Clock;
@@ -31,13 +31,7 @@ pub(crate) fn check<S: Disk, R: Read, W: Write, E: Write>(
     if checking.why {
         return check_why_for(alloc, input, answers, faults);
     }
-    Ok(cmd_check(
-        alloc,
-        reader_of(system),
-        input,
-        answers,
-        faults,
-    ))
+    Ok(cmd_check(alloc, reader_of(system), input, answers, faults))
 }
 
 // `bb decide`; how many tables are decided is told on `faults`, where that is wanted.
@@ -63,14 +57,7 @@ pub(crate) fn decide<S: Disk + Clock, R: Read, W: Write, E: Write>(
     }
     let mut late = Late::new(alloc)?;
     let reader = reader_of(system);
-    let outcome = cmd_decide(
-        alloc,
-        reader,
-        &mut told,
-        input,
-        answers,
-        &mut late.words,
-    );
+    let outcome = cmd_decide(alloc, reader, &mut told, input, answers, &mut late.words);
     told.end();
     Ok(late.say(outcome, faults))
 }

@@ -3,7 +3,6 @@ ghost use Rattle.std.specs.Prelude.{◌≡◌};
 ghost use Rattle.cmd_options.specs.Ranges.{IsBeginning, IsSettling};
 
 use crate::call::Call;
-use find_search::{AnyFinder, KnownFile, decider_for};
 use cert::Finders;
 use cmd_json::Form;
 use cmd_nodes::{
@@ -12,6 +11,7 @@ use cmd_nodes::{
 use cmd_options::{Beginning, Ended, LedgerFile, Listening, Outcome, Search, Settling};
 use cmd_progress::Telling;
 use files::{Disk, DiskLedger, Files, Held, OnDisk, Opened, held_at, ledger_at, lock_ledger};
+use find_search::{AnyFinder, KnownFile, decider_for};
 use lease_core::Worker;
 use std::alloc::Global;
 use std::io::{self, ErrorKind, Read, Write};
@@ -41,15 +41,7 @@ pub(crate) fn coord<S: Disk, R: Read, W: Write, E: Write>(
         faults,
         ..
     } = call;
-    Ok(cmd_coord(
-        alloc,
-        beginning,
-        held,
-        &mut ledger,
-        input,
-        answers,
-        faults,
-    ))
+    Ok(cmd_coord(alloc, beginning, held, &mut ledger, input, answers, faults))
 }
 
 // `bb coord --listen`. It listens before the ledger is begun, so that no ledger is begun where it can't.
@@ -172,15 +164,7 @@ fn loop_kept<N: Node + Drop, S: Disk + Clock + Sockets, W: Write, E: Write>(
         mut ledger,
         lock: _lock,
     } = kept;
-    Ok(cmd_loop(
-        alloc,
-        run,
-        system,
-        held,
-        &mut ledger,
-        answers,
-        faults,
-    ))
+    Ok(cmd_loop(alloc, run, system, held, &mut ledger, answers, faults))
 }
 
 // What is run, by the system's clock.

@@ -24,9 +24,7 @@ pub(crate) fn draw<S: Disk, R: Read, W: Write, E: Write>(
         faults,
         ..
     } = call;
-    Ok(cmd_draw(
-        alloc, drawing, &mut files, input, answers, faults,
-    ))
+    Ok(cmd_draw(alloc, drawing, &mut files, input, answers, faults))
 }
 
 // `bb page`, of the ledger at a path, or of the records of `input`.

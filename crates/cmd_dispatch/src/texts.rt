@@ -2,9 +2,9 @@
 use crate::call::Call;
 use cmd_explain::cmd_explain;
 use cmd_json::explain_json_for;
+use cmd_lines::cmd_tables;
 use cmd_options::{Ended, Listing, Outcome, Showing};
 use cmd_show::cmd_show;
-use cmd_tables::cmd_tables;
 use std::io::{Read, Write};
 
 // `bb explain`, with `--json` or without.

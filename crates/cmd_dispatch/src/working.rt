@@ -7,10 +7,10 @@ use cmd_ledgers::keep_answer;
 use cmd_nodes::{MaybeLedger, Network, work_at, work_between};
 use cmd_options::{Ended, LedgerFile, Outcome, Working, ended_by};
 use files::{Disk, DiskLedger, Held, Opened};
+use peers::Pool;
 use std::alloc::Global;
 use std::io::{self, Read, Write};
 use std::time::Clock;
-use worker_pool::Pool;
 
 // The workers of a process, each with its ledger, and the locks of these.
 #[derive(Drop)]

@@ -8,7 +8,7 @@ use Rattle.cmd_lines.specs.Answer.{fault_text}
 use Rattle.cmd_options.specs.declared.drawing.Drawing.{Drawing}
 use Rattle.cmd_options.specs.declared.outcome.Outcome.{Outcome}
 use Rattle.cmd_options.specs.declared.outcome.Outcome.TheVariants.{Accepted, Refused}
-use Rattle.cmd_taking.specs.Said.{TakesStream}
+use Rattle.cmd_lines.specs.Said.{TakesStream}
 use Rattle.files.specs.Paths.{IsKept, IsToldStill, SameFile, Shelf}
 use Rattle.cmd_show.specs.Asked.{table_asked}
 use Rattle.cmd_draw.specs.Picture.{IsPicture}

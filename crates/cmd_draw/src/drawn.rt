@@ -1,7 +1,7 @@
 // Pictures that are files of a folder.
 ghost use Rattle.std.specs.Prelude.{◌≡◌, ◌++◌, ℕ, IfErr, IfOk, List, OnOk, string_bytes};
-ghost use Rattle.cmd_taking.specs.Said.{TakesStream};
-ghost use Rattle.cmd_taking.specs.Taken.{lent};
+ghost use Rattle.cmd_lines.specs.Said.{TakesStream};
+ghost use Rattle.cmd_lines.specs.Taken.{lent};
 ghost use Rattle.files.specs.Paths.{IsKept, IsToldStill};
 ghost use Rattle.cmd_show.specs.Asked.{table_asked};
 ghost use Rattle.cmd_draw.specs.Files.{AnswersAsked, DrawsFiles, DrawsLine, DrawsTable, drawn_text, name_ending, named_path, picture_path};
@@ -11,10 +11,9 @@ ghost use Rattle.cmd_draw.specs.Said.{EndsDrawing};
 use crate::picturing::picture_of;
 use crate::placing::put_file;
 use cert::append_table;
-use cmd_lines::append_fault;
+use cmd_lines::{append_fault, Sayer, say_lines};
 use cmd_options::{Drawing, Ended, Outcome, ended_by};
 use cmd_show::table_asked;
-use cmd_taking::{Sayer, say_lines};
 use files::Files;
 use machine_text::{TEXT_BYTES, Table};
 use std::alloc::Global;

@@ -3,14 +3,13 @@ ghost use Rattle.std.specs.Prelude.{◌≡◌, ◌⊎◌, ◌∷◌, [], ◌++�
 ghost use Rattle.cert.specs.Kinds.{recorded};
 ghost use Rattle.cmd_lines.specs.Answer.{AnswersRecord};
 ghost use Rattle.cmd_lines.specs.Stream.{AnswersStream};
-ghost use Rattle.cmd_taking.specs.Taken.{lent};
+ghost use Rattle.cmd_lines.specs.Taken.{lent};
 ghost use Rattle.cmd_explain.specs.Explained.{SaysExplained, TellsRecord};
 
 use crate::words::record_words;
 use cert::Record;
-use cmd_lines::{answer_record, append_fault, read_line};
+use cmd_lines::{answer_record, append_fault, read_line, PIECE_BYTES, Sayer, say_lines};
 use cmd_options::{Ended, Outcome, told};
-use cmd_taking::{PIECE_BYTES, Sayer, say_lines};
 use kind_evidence::NoMemory;
 use std::alloc::Global;
 use std::io::{Read, Write};

@@ -8,14 +8,13 @@ ghost use Rattle.cert.specs.Certified.{IsRefusedBy};
 ghost use Rattle.cert.specs.Kinds.{claim_of, recorded};
 ghost use Rattle.cmd_lines.specs.Answer.{SaysOfRecord, read_line};
 ghost use Rattle.cmd_lines.specs.Stream.{AnswersStream};
-ghost use Rattle.cmd_taking.specs.Taken.{lent};
+ghost use Rattle.cmd_lines.specs.Taken.{lent};
 ghost use Rattle.cmd_explain.specs.Why.{HasRight, TellsRight, TellsWhy, refused_words, right_words, why_line};
 
 use crate::quantity::Quantity;
 use cert::{Certificate, Record, judge};
-use cmd_lines::{answer, read_line};
+use cmd_lines::{answer, read_line, PIECE_BYTES, Sayer, say_lines};
 use cmd_options::{Ended, Outcome};
-use cmd_taking::{PIECE_BYTES, Sayer, say_lines};
 use kind_evidence::{NoMemory, Refused};
 use machine_text::Table;
 use run::{HaltFinder, HaltsIn, MAX_HALT_STEPS};

@@ -2,7 +2,7 @@
 use Rattle.std.proofs.Common.{◌≡◌, ℕ, List, [], ◌∷◌, ◌++◌, Option, ◌∙◌, ap, append_assoc, subst}
 use Rattle.text.specs.Lines.{BoundedLine, bounded_line}
 use Rattle.cmd_options.specs.declared.outcome.Outcome.{Outcome}
-use Rattle.cmd_taking.specs.Said.{AreTakenBy, TakesStream}
+use Rattle.cmd_lines.specs.Said.{AreTakenBy, TakesStream}
 use Rattle.cmd_json.specs.Numbered.{AnswersNumbered, AreAnsweredBehind, SaysNumbered}
 
 -- what one says who counts the lines

@@ -4,8 +4,8 @@ use Rattle.std.specs.Io.KnownBytes.{Consumes, Appends, IsAtEnd}
 use Rattle.text.specs.Lines.{BoundedLine, bounded_line}
 use Rattle.cmd_options.specs.declared.outcome.Outcome.{Outcome}
 use Rattle.cmd_options.specs.declared.outcome.Outcome.TheVariants.{Accepted}
-use Rattle.cmd_taking.specs.Lines.{AreLines}
-use Rattle.cmd_taking.specs.Said.{first_fault}
+use Rattle.cmd_lines.specs.Lines.{AreLines}
+use Rattle.cmd_lines.specs.Said.{first_fault}
 
 -- the number of the line behind so many; the greatest number of 64 bits is the last
 abbrev pub number_behind : ℕ → ℕ

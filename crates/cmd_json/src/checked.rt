@@ -1,15 +1,14 @@
 // `bb check --json`: records in, an object each out.
 ghost use Rattle.std.specs.Prelude.{◌≡◌, ◌⊎◌, ◌∷◌, [], ◌++◌, List, ℕ, IfErr, IfOk};
-ghost use Rattle.cmd_taking.specs.Taken.{lent};
+ghost use Rattle.cmd_lines.specs.Taken.{lent};
 ghost use Rattle.cmd_json.specs.LineObjects.{SaysChecked};
 ghost use Rattle.cmd_json.specs.Numbered.{AnswersNumbered};
 
 use crate::finding::find;
 use crate::numbered::number_behind;
 use crate::objects::{append_object, check_value};
-use cmd_lines::read_line;
+use cmd_lines::{read_line, PIECE_BYTES, Sayer, say_lines};
 use cmd_options::{Ended, Outcome};
-use cmd_taking::{PIECE_BYTES, Sayer, say_lines};
 use kind_evidence::NoMemory;
 use std::alloc::Global;
 use std::io::{Read, Write};

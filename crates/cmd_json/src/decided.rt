@@ -3,7 +3,7 @@ ghost use Rattle.std.specs.Prelude.{◌≡◌, ◌⊎◌, ◌∷◌, [], ◌++�
 ghost use Rattle.cert.specs.Claim.{Recorded};
 ghost use Rattle.cert.specs.Kinds.{read_as};
 ghost use Rattle.cmd_lines.specs.Decision.{read_line_table};
-ghost use Rattle.cmd_taking.specs.Taken.{lent};
+ghost use Rattle.cmd_lines.specs.Taken.{lent};
 ghost use Rattle.cmd_json.specs.LineObjects.{IsDecidedRecord, SaysDecided};
 ghost use Rattle.cmd_json.specs.Numbered.{AnswersNumbered};
 ghost use Rattle.cmd_json.specs.Objects.{decide_object, object_text};
@@ -12,7 +12,7 @@ use crate::numbered::number_behind;
 use crate::objects::{append_object, decide_value};
 use cert::{Decider, Record, RecordFault, standing_claims_are_true};
 use cmd_options::{Ended, Outcome};
-use cmd_taking::{PIECE_BYTES, Sayer, say_lines};
+use cmd_lines::{PIECE_BYTES, Sayer, say_lines};
 use kind_evidence::NoMemory;
 use machine_text::Table;
 use std::alloc::Global;

@@ -5,7 +5,7 @@ ghost use Rattle.cert.specs.Fault.{record_fault_number, record_fault_text};
 ghost use Rattle.cert.specs.Claim.{ending_by, score_by};
 ghost use Rattle.cert.specs.Kinds.{claim_of, read_as, recorded};
 ghost use Rattle.cmd_explain.specs.Why.{refused_words};
-ghost use Rattle.cmd_taking.specs.Taken.{lent};
+ghost use Rattle.cmd_lines.specs.Taken.{lent};
 ghost use Rattle.cmd_json.specs.Found.{Finds, FindsRecord, Means, Refuses, Shows, found, outcome_found};
 
 use cert::{Record, RecordFault, judge, standing_claims_are_true};

@@ -13,3 +13,4 @@ pub mod inside
 pub mod AtPath
 pub mod Reporting
 pub mod RetryAt
+pub mod Mend

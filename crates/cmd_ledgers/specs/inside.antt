@@ -1,4 +1,5 @@
 -- For the code: the first bytes of a ledger that is read, by which its root is known.
+pub mod Mending
 use Rattle.std.specs.Prelude.{◌≡◌, ℕ, ◌≤◌, ◌⊎◌, List, Option, length}
 use Rattle.std.specs.Io.KnownBytes.{Consumes, IsAtEnd}
 use Rattle.text.specs.Lines.{HasNoNewline}

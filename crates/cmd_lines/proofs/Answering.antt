@@ -2,7 +2,7 @@
 use Rattle.std.proofs.Common.{ℕ, List, [], ◌∷◌, ◌++◌, Option, ◌∙◌, ap, append_assoc}
 use Rattle.text.specs.Lines.{BoundedLine}
 use Rattle.cmd_options.specs.declared.outcome.Outcome.{Outcome}
-use Rattle.cmd_taking.specs.Said.{AreTakenBy, TakesStream}
+use Rattle.cmd_lines.specs.Said.{AreTakenBy, TakesStream}
 use Rattle.cmd_lines.specs.Stream.{AnswersStream, AreAnswered, SaysAnswer}
 
 -- lines to each of which an answer is said are answered

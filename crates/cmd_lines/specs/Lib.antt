@@ -1,3 +1,10 @@
 pub mod Answer
 pub mod Decision
 pub mod Stream
+pub mod Lines
+pub mod Taken
+pub mod Said
+pub mod inside
+pub mod Words
+pub mod Normal
+pub mod Listed

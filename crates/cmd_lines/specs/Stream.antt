@@ -2,10 +2,10 @@
 use Rattle.std.specs.Prelude.{◌≡◌, ℕ, List, [], ◌∷◌, ◌++◌, Option}
 use Rattle.std.specs.Io.KnownBytes.{Consumes, Appends, IsAtEnd}
 use Rattle.text.specs.Lines.{BoundedLine, bounded_line}
-use Rattle.cmd_taking.specs.Lines.{AreLines}
+use Rattle.cmd_lines.specs.Lines.{AreLines}
 use Rattle.cmd_options.specs.declared.outcome.Outcome.{Outcome}
 use Rattle.cmd_options.specs.declared.outcome.Outcome.TheVariants.{Accepted}
-use Rattle.cmd_taking.specs.Said.{first_fault}
+use Rattle.cmd_lines.specs.Said.{first_fault}
 
 -- what is said to lines, in their order, where this may be said to each, of which no more is read than may be kept:
 -- each answer with its newline. The outcome is that of the first line that isn't accepted

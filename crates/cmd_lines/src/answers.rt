@@ -5,7 +5,7 @@ ghost use Rattle.cert.specs.Certified.{IsShownBy};
 ghost use Rattle.cert.specs.Claim.{score_by};
 ghost use Rattle.cert.specs.Kinds.{recorded, read_as};
 ghost use Rattle.cmd_lines.specs.Answer.{Answers, AnswersRecord, outcome_shown, ones_text, read_line, verdict_text, text_fault_text, fault_text};
-ghost use Rattle.cmd_taking.specs.Taken.{lent};
+ghost use Rattle.cmd_lines.specs.Taken.{lent};
 
 use cert::{Judged, Record, RecordFault, append_table, judge_on, standing_claims_are_true};
 use cmd_options::Outcome;

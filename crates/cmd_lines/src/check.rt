@@ -5,8 +5,8 @@ ghost use Rattle.cmd_lines.specs.Stream.{AnswersStream};
 
 use crate::answers::answer;
 use crate::misplaced::{Misplaced, Reader, Remark};
+use crate::{PIECE_BYTES, Sayer, say_lines};
 use cmd_options::{Ended, Outcome, told};
-use cmd_taking::{PIECE_BYTES, Sayer, say_lines};
 use machine_text::Table;
 use std::alloc::Global;
 use std::io::{Read, Write};

@@ -1,14 +1,14 @@
 // `bb decide`: tables in, records out.
 ghost use Rattle.std.specs.Prelude.{◌≡◌, ◌⊎◌, ◌∷◌, [], ◌++◌, List, ℕ, IfErr, IfOk};
-ghost use Rattle.cmd_taking.specs.Taken.{lent};
+ghost use Rattle.cmd_lines.specs.Taken.{lent};
 ghost use Rattle.cmd_lines.specs.Decision.{Decides, DecidesTable, SaysOfTable, read_line_table, table_read};
 ghost use Rattle.cmd_lines.specs.Stream.{AnswersStream};
 
 use crate::answers::append_fault;
 use crate::misplaced::{Misplaced, Reader, Remark};
+use crate::{PIECE_BYTES, Sayer, say_lines};
 use cert::{Decider, Record, RecordFault};
 use cmd_options::{Ended, Outcome, told};
-use cmd_taking::{PIECE_BYTES, Sayer, say_lines};
 use kind_evidence::NoMemory;
 use machine_text::Table;
 use std::alloc::Global;

@@ -1,6 +1,6 @@
 // `bb work`: the workers of a process, over a stream to their coordinator.
 ghost use Rattle.std.specs.Prelude.{◌≡◌, ◌≢◌, Ok, IfOk};
-ghost use Rattle.worker_pool.specs.Waiting.{waits_of};
+ghost use Rattle.peers.specs.Waiting.{waits_of};
 
 use crate::answerer::{Answered, Answerer};
 use crate::faults::in_memory;
@@ -14,7 +14,7 @@ use std::io::{self, ErrorKind, Read, Write};
 use std::thread;
 use std::time::{Clock, Duration};
 use wire::{LedgerOut, MAX_PIECE_BYTES, MemLink, Node, TurnFault};
-use worker_pool::{Pool, Waits};
+use peers::{Pool, Waits};
 
 // The longest wait before it is tried again to connect, in seconds.
 const MOST_SECONDS: u64 = 60;

@@ -6,3 +6,11 @@ pub mod JoinEnds
 pub mod SettledAt
 pub mod SplitAt
 pub mod JoinAt
+mod Headers
+mod Taking
+mod Telling
+pub mod Claims
+pub mod Extending
+pub mod Kept
+pub mod Parts
+pub mod Printing

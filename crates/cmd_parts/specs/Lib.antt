@@ -5,3 +5,7 @@ pub mod Join
 pub mod Gather
 pub mod inside
 pub mod AtPaths
+pub mod Ledgers
+pub mod Stream
+pub mod Tables
+pub mod Look

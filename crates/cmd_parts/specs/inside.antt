@@ -1,4 +1,7 @@
 -- For the code: tables with few filled entries, and parts that are added to a whole one after another.
+pub mod Looking
+pub mod Taking
+pub mod Joining
 use Rattle.std.specs.Prelude.{◌≡◌, ◌⊎◌, ℕ, Bool, List, [], ◌++◌, Option, None, Some, Ok, nat_lt}
 use Rattle.std.specs.Io.KnownBytes.{Appends}
 use Rattle.machine_text.specs.Packed.{Packed}

@@ -7,7 +7,7 @@ use Rattle.cmd_page.specs.Heading.{Headed, origin_html}
 use Rattle.cmd_page.specs.Page.{opening_html}
 use Rattle.cmd_page.specs.Style.{ending_text}
 use Rattle.cmd_page.specs.declared.heading.LedgerSum.TheVariants.{Unknown}
-use Rattle.cmd_taking.specs.Lines.{AreLines}
+use Rattle.cmd_lines.specs.Lines.{AreLines}
 use Rattle.cmd_record_page.specs.Section.{SaysSection}
 
 -- a page of records has no ledger

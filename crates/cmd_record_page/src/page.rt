@@ -6,7 +6,7 @@ ghost use Rattle.cmd_record_page.specs.Page.{WritesRecords, records_head_html, r
 use crate::section::append_section;
 use cmd_options::{Ended, Outcome};
 use cmd_page::{Heading, LedgerSum, Maker, append_opening, append_origin, ending};
-use cmd_taking::{PIECE_BYTES, Sayer, say_lines};
+use cmd_lines::{PIECE_BYTES, Sayer, say_lines};
 use kind_evidence::NoMemory;
 use std::alloc::Global;
 use std::io::{Read, Write};

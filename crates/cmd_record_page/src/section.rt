@@ -2,7 +2,7 @@
 ghost use Rattle.std.specs.Prelude.{◌≡◌, ◌∷◌, [], ◌++◌, List, ℕ, IfOk, OnOk, Some, None, option_map, string_bytes};
 ghost use Rattle.cert.specs.Kinds.{claim_of, recorded};
 ghost use Rattle.cmd_lines.specs.Answer.{read_line};
-ghost use Rattle.cmd_taking.specs.Taken.{lent};
+ghost use Rattle.cmd_lines.specs.Taken.{lent};
 ghost use Rattle.cmd_record_page.specs.Section.{IsShownOf, SaysSection, accepted_by, accepted_html, record_figure_html, line_html, refused_html, steps_drawn, why_html, words_html};
 
 use cert::{Certificate, Record};

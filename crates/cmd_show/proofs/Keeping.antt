@@ -2,7 +2,7 @@
 use Rattle.std.proofs.Common.{ℕ, List, [], ◌∷◌, Option, subst}
 use Rattle.cmd_options.specs.declared.options.Showing.{Showing}
 use Rattle.cmd_options.specs.declared.outcome.Outcome.{Outcome}
-use Rattle.cmd_taking.specs.Said.{AreTakenBy, TakesStream}
+use Rattle.cmd_lines.specs.Said.{AreTakenBy, TakesStream}
 use Rattle.cmd_lines.specs.Stream.{AnswersStream, SaysAnswer}
 use Rattle.cmd_lines.proofs.Answering.{stream_answered}
 use Rattle.cmd_show.specs.Shown.{SaysShown}

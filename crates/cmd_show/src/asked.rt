@@ -2,7 +2,7 @@
 ghost use Rattle.std.specs.Prelude.{◌≡◌};
 ghost use Rattle.text.specs.Cut.{cut_at};
 ghost use Rattle.cert.specs.Grammar.{record_of};
-ghost use Rattle.cmd_taking.specs.Taken.{lent};
+ghost use Rattle.cmd_lines.specs.Taken.{lent};
 ghost use Rattle.cmd_show.specs.Asked.{table_asked, table_cut, table_recorded};
 
 use cert::{Record, RecordFault};

@@ -1,14 +1,13 @@
 // `bb show`: tables in, their runs out.
 ghost use Rattle.std.specs.Prelude.{◌≡◌, ◌⊎◌, ◌++◌, ℕ, List, IfErr, IfOk};
-ghost use Rattle.cmd_taking.specs.Taken.{lent};
+ghost use Rattle.cmd_lines.specs.Taken.{lent};
 ghost use Rattle.cmd_lines.specs.Stream.{AnswersStream};
 ghost use Rattle.cmd_show.specs.Shown.{SaysShown};
 
 use crate::asked::table_asked;
 use crate::shown::append_shown;
-use cmd_lines::append_fault;
+use cmd_lines::{append_fault, Sayer, say_lines};
 use cmd_options::{Ended, Outcome, Showing, told};
-use cmd_taking::{Sayer, say_lines};
 use std::alloc::Global;
 use std::io::{Read, Write};
 use tape::NoMemory;

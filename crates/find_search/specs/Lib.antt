@@ -1,1 +1,4 @@
 pub mod Findings
+pub mod Refusals
+pub mod Known
+pub mod inside

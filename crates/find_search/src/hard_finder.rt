@@ -1,4 +1,5 @@
 // The finder that goes through the stages.
+use crate::loop_finder::{Found, LoopFinder};
 use crate::named_tables::NamedTables;
 use crate::stages::{COUNTS, DEPTH, HALTING_STEPS, LARGEST, STAGES, Stage};
 use backward::BackwardFinder;
@@ -6,7 +7,6 @@ use cert::{Finder, OwnedCertificate};
 use far::{FarFinder, OwnedFar};
 use find_automata::Stage as Automata;
 use find_counted::CountedFinder;
-use crate::loop_finder::{Found, LoopFinder};
 use find_words::{WORD_STAGES, WordFinder, WordStage};
 use kind_evidence::NoMemory;
 use loops::{CycleFinder, MAX_TIME, TranslatedFinder};

@@ -1,5 +1,5 @@
 // The file of records that were found elsewhere.
-use cmd_known::{Known, read_known, tell_refusals};
+use crate::{Known, read_known, tell_refusals};
 use cmd_options::{Ended, Options, ended_by};
 use files::{Disk, Files, OnDisk};
 use std::alloc::Global;

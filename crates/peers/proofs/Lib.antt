@@ -4,3 +4,7 @@ pub mod Sending
 pub mod Joining
 pub mod Answering
 pub mod Scripts
+pub mod Counting
+pub mod Cores
+pub mod Turns
+pub mod Offers

@@ -7,3 +7,11 @@ pub mod Sent
 pub mod inside
 pub mod Heard
 pub mod Memory
+pub mod Limits
+pub mod Frames
+pub mod Due
+pub mod Crew
+pub mod Handed
+pub mod Working
+pub mod Hearing
+pub mod Waiting

@@ -1,29 +1,49 @@
-//! The peers of a coordinator: what comes from each is cut into lines, which a node is handed in their order, and what
-//! the node answers goes to the peer that asked, and to no other.
+//! A coordinator and its workers over streams. The peers of a coordinator: what comes from each is cut into lines, which a node
+//! is handed in their order, and what the node answers goes to the peer that asked, and to no other. And several workers in one
+//! process, over one stream to a coordinator.
 //!
 //! `specs/Connections` says what comes from outside, `specs/Peers` what is known of a peer, `specs/Served` what becomes
 //! of a node, its ledger and its peers by what comes, `specs/Sent` what is sent to whom, and `specs/Heard` what the node
-//! hears of each.
+//! hears of each. [`Connections`] is all that is asked of the world outside; [`serve`] takes what comes from them and sends
+//! what is answered. It knows of no socket: connections in memory stand beside those of a system.
 //!
-//! [`Connections`] is all that is asked of the world outside; [`serve`] takes what comes from them and sends what is
-//! answered. It knows of no socket: connections in memory stand beside those of a system.
+//! A [`Pool`] has cores, each a worker and its ledger. The coordinator answers the frames of a stream in their order,
+//! so the answer to an `ASK` is for the core whose `ASK` is the oldest that is unanswered, and the word on a record,
+//! `ACK` or `LATER` with its table, is for a core that has it. `specs/Handed` says what it means that a core is handed
+//! an event, `specs/Working` what the cores do where there is time, `specs/Hearing` what is made of the lines that
+//! come, and `specs/Waiting` what the pool waits for.
 #![tactic(auto)]
 
 mod arrival;
+mod awaited;
 mod connections;
+mod course;
+mod crew;
+mod frames;
+mod hearing;
 mod laws;
+mod limits;
 mod mem_connections;
 mod outbox;
 mod peer;
 mod peers;
+mod pool;
+mod pool_core;
 mod serving;
 mod slot;
+mod waits;
+mod working;
 
 pub use arrival::Arrival;
 pub use connections::Connections;
+pub use course::Course;
 pub use laws::{answers_follow, peers_keep_apart};
+pub use limits::MAX_WORK_TURNS;
 pub use mem_connections::{MemConnections, Scripted};
 pub use outbox::Outbox;
 pub use peer::Peer;
 pub use peers::Peers;
+pub use pool::Pool;
+pub use pool_core::Core;
 pub use serving::{flush, serve, take_arrival};
+pub use waits::Waits;

@@ -1,9 +1,9 @@
 // A device whose calls may fail.
 ghost use Rattle.std.specs.Prelude.{◌≤◌};
 
+use crate::Limits;
 use std::cell::Cell;
 use std::io::{self, ErrorKind};
-use try_text::Limits;
 
 /// How much is done of the call in which a device fails.
 #[derive(Clone, Copy, Debug, Drop, PartialEq, Eq)]

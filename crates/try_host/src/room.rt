@@ -1,10 +1,10 @@
 // What a command finds: its files, and the devices of one step.
 use crate::device::{Device, Share, failed};
 use crate::mem_disk::MemDisk;
+use crate::{Conditions, Limits};
 use std::alloc::{AllocError as NoMemory, Global};
 use std::cell::{Cell, RefCell};
 use std::io;
-use try_text::{Conditions, Limits};
 
 // By which name what fails of a socket is remembered.
 const LOOPBACK: &str = "127.0.0.1";

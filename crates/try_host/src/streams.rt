@@ -1,8 +1,8 @@
 // Standard input, standard output and standard error.
 use crate::device::{Device, Share, failed};
 use crate::room::HostRoom;
+use crate::{CaseStep, CaseTurn, Limits};
 use std::io::{self, Read, Write};
-use try_text::{CaseStep, CaseTurn, Limits};
 
 /// Standard input of a step.
 #[derive(Drop)]

@@ -1,7 +1,7 @@
 use Rattle.std.proofs.Common.{ap, ◌∙◌}
 use Rattle.serde_json.specs.Written.{has_float}
 use Rattle.cert.specs.Kinds.{read_as}
-use Rattle.cmd_taking.specs.Taken.{lent}
+use Rattle.cmd_lines.specs.Taken.{lent}
 use Rattle.cmd_json.proofs.WholeNumbers.{decide_has_none}
 use Rattle.cmd_json.proofs.decided.append_object_of.Goals as goal
 

@@ -1,5 +1,5 @@
 use Rattle.std.proofs.Common.{sym, ◌∙◌}
-use Rattle.cmd_taking.specs.Taken.{lent}
+use Rattle.cmd_lines.specs.Taken.{lent}
 use Rattle.cmd_json.proofs.Deciding.{fault_says, table_says}
 use Rattle.cmd_json.proofs.decided.decide_json_line.Goals as goal
 

@@ -2,7 +2,7 @@ use Rattle.std.proofs.Common.{ap, ◌∙◌, option_map}
 use Rattle.std.specs.Vec.{vec_items}
 use Rattle.serde_json.specs.Written.{has_float}
 use Rattle.cert.specs.Kinds.{read_as}
-use Rattle.cmd_taking.specs.Taken.{lent}
+use Rattle.cmd_lines.specs.Taken.{lent}
 use Rattle.cmd_json.specs.Found.{found}
 use Rattle.cmd_json.proofs.WholeNumbers.{explain_has_none}
 use Rattle.cmd_json.proofs.told.explain_json_line.Goals as goal

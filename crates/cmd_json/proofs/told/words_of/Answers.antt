@@ -1,7 +1,7 @@
 use Rattle.std.proofs.Common.{◌≡◌, ℕ, List, [], ◌∷◌, ◌++◌, ap, ◌∙◌, subst}
 use Rattle.cert.specs.Kinds.{recorded}
 use Rattle.cmd_options.specs.declared.outcome.Outcome.{Outcome}
-use Rattle.cmd_taking.specs.Taken.{lent}
+use Rattle.cmd_lines.specs.Taken.{lent}
 use Rattle.cmd_explain.specs.Explained.{SaysExplained}
 use Rattle.cmd_json.proofs.Explaining.{accepted_words}
 use Rattle.cmd_json.proofs.told.words_of.Goals as goal

@@ -2,7 +2,7 @@ use Rattle.std.proofs.Common.{◌≡◌, ℕ, List, [], ◌∷◌, ◌++◌, ref
 use Rattle.std.specs.Prelude.{codes}
 use Rattle.cmd_ledgers.proofs.Reports.{one_more}
 use Rattle.cmd_lines.specs.Answer.{read_line}
-use Rattle.cmd_taking.specs.Taken.{lent}
+use Rattle.cmd_lines.specs.Taken.{lent}
 use Rattle.cmd_record_page.specs.Section.{IsShownOf, accepted_by, line_html, section_html}
 use Rattle.cmd_record_page.proofs.Last.{without_last}
 use Rattle.cmd_record_page.proofs.section.append_section.Goals as goal

@@ -1,9 +1,0 @@
-use Rattle.cmd_ledgers.proofs.Reports.{on_ok, one_more}
-use Rattle.cmd_known.specs.Refusals.{count_behind, first_refused}
-use Rattle.cmd_known.proofs.telling.append_line.Goals as goal
-
-pub returns : goal.returns
-returns c =
-    on_ok c.append_first.result
-    (λ last. one_more c.args.out.now.items (count_behind c.args.path.now c.args.count) (first_refused c.args.first) c.in_ok-append_count.ensures last)
-    c.append_first.ensures

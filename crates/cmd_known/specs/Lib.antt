@@ -1,3 +1,0 @@
-pub mod Refusals
-pub mod Known
-pub mod inside

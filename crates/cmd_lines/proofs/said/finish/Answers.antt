@@ -1,0 +1,13 @@
+use Rattle.std.proofs.Common.{◌≡◌, sym, subst}
+use Rattle.std.specs.Io.KnownBytes.{Appends}
+use Rattle.cmd_options.specs.declared.outcome.Outcome.{Outcome}
+use Rattle.cmd_lines.specs.Said.{TakesStream}
+use Rattle.cmd_lines.proofs.Pieces.{stream_said}
+use Rattle.cmd_lines.proofs.said.finish.Goals as goal
+
+pub returns-clause-ok : goal.returns-clause-ok
+returns-clause-ok g c = λ start read new_read held whole so.
+    let told = stream_said g.S.Sayer.takes start read new_read held (g.W.Write.contents c.args.says.now) (g.W.Write.contents c.write.new.says)
+    c.args.lines c.args.saying c.end-ended.new.taker whole so c.requires c.in_ok-ended.ensures.ok c.in_ok-write.ensures.ok in
+    subst (λ (o : Outcome). TakesStream g.S.Sayer.takes start c.write.new.self.sayer read new_read held (g.W.Write.contents c.write.new.says) o) (sym c.write.ensures.outcome)
+    (subst (λ (s : g.row.S.Denot). TakesStream g.S.Sayer.takes start s read new_read held (g.W.Write.contents c.write.new.says) c.end-ended.new.taker.outcome) (sym c.write.ensures.sayer) told)

@@ -1,0 +1,3 @@
+-- For the code alone.
+pub mod Listing
+pub mod Taking

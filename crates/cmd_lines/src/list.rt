@@ -1,0 +1,244 @@
+// `bb tables`: a text in, tables out.
+ghost use Rattle.std.specs.Prelude.{◌≡◌, ◌⊎◌, ◌∷◌, [], ◌++◌, ℕ, List, map, min, not, IfErr, IfOk, OnOk};
+ghost use Rattle.std.specs.List.{list_any};
+ghost use Rattle.indexmap.specs.IndexSet.{insert_key};
+ghost use Rattle.cmd_lines.specs.Taken.{lent};
+ghost use Rattle.run.specs.Limits.{run_step_limit};
+ghost use Rattle.cert.specs.Kinds.{recorded};
+ghost use Rattle.cmd_lines.specs.Listed.{Found, IsFoundIn, IsInForm, ListsTables, alone, of_record, same_packed};
+ghost use Rattle.cmd_lines.specs.Words.{tables_among, tables_in, tables_of_line};
+ghost use Rattle.cmd_lines.specs.inside.Listing.{ListsFor, found_if};
+
+use crate::normal::normal_form;
+use crate::passed::Passed;
+use crate::words::cut_word;
+use crate::{PIECE_BYTES, Sayer, read_line, say_lines};
+use cert::{Record, append_table};
+use cmd_options::{Ended, Listing, Outcome, told};
+use indexmap::IndexSet;
+use kind_evidence::NoMemory;
+use machine_text::Table;
+use std::alloc::Global;
+use std::io::{Read, Write};
+
+/// Reads a text of any form, and prints the tables in it in the standard form, a line each, where they come first: renamed
+/// and mirrored as their runs ask for, if that is wanted; and a line that is a record, but for white space at its ends, as
+/// it stands, if records are kept. How many lines had none, and how many tables had come before, is
+/// said on `faults` at the end, and what a failed stream or refused memory ends.
+pub fn cmd_tables<R: Read, W: Write, E: Write>(
+    alloc: Global,
+    listing: &Listing,
+    input: &mut R,
+    answers: &mut W,
+    faults: &mut E,
+) -> Outcome
+    ensures { ((result ≡ Outcome.Accepted) × ListsTables listing.now (R.remaining input.old) (R.remaining input.new)
+        (W.contents answers.old) (W.contents answers.new))
+        ⊎ (result ≡ Outcome.NoMemory) ⊎ (result ≡ Outcome.Failed) }
+{
+    told(list_tables(alloc, listing, input, answers, faults), faults)
+}
+
+// Lists as `cmd_tables` does, but answers what ends it early, and doesn't say it.
+fn list_tables<R: Read, W: Write, E: Write>(
+    alloc: Global,
+    listing: &Listing,
+    input: &mut R,
+    answers: &mut W,
+    faults: &mut E,
+) -> Result<Outcome, Ended>
+    ensures ok { IfOk result (λ o. (o ≡ Outcome.Accepted) × ListsTables listing.now (R.remaining input.old)
+        (R.remaining input.new) (W.contents answers.old) (W.contents answers.new)) }
+    ensures err { IfErr result (λ e. (e ≡ Ended.NoMemory) ⊎ (e ≡ Ended.Stream)) }
+{
+    let lister = Lister {
+        form: Form {
+            alloc,
+            listing: *listing,
+        },
+        came: IndexSet::new(alloc),
+        passed: Passed {
+            lines: 0,
+            doubles: 0,
+        },
+    };
+    let (outcome, lister) = say_lines(alloc, lister, PIECE_BYTES, input, answers)?;
+    lister.passed.tell(alloc, faults)?;
+    Ok(outcome)
+}
+
+// In which form tables are printed, which ones came, and what was passed over.
+#[derive(Drop)]
+struct Lister {
+    form: Form,
+    came: IndexSet<Table>,
+    passed: Passed,
+}
+
+impl Sayer for Lister {
+    ghost use Rattle.std.specs.Prelude.{◌≡◌};
+    ghost use Rattle.cmd_options.specs.declared.ended.Ended.TheVariants.{NoMemory as WantsMemory};
+    ghost use Rattle.cmd_lines.specs.inside.Listing.{ListsLine};
+
+    ghost takes = { ListsLine (λ l. l.form.listing) (λ l. l.came.keys) };
+
+    ghost ends = { λ e. e ≡ WantsMemory };
+
+    fn take_line(&mut self, line: Option<&[u8]>, said: &mut Vec<u8>) -> Result<Outcome, Ended> {
+        let count = list_line(&self.form, line, &mut self.came, said)?;
+        if count.tables == 0 {
+            self.passed.lines = self.passed.lines.saturating_add(1);
+        }
+        self.passed.doubles = self.passed.doubles.saturating_add(count.doubles);
+        Ok(Outcome::Accepted)
+    }
+}
+
+// The form in which tables are printed.
+#[derive(Drop)]
+struct Form {
+    alloc: Global,
+    listing: Listing,
+}
+
+impl Form {
+    // What is printed of a table.
+    fn of(&self, t: &Table) -> Result<Table, NoMemory>
+        ensures { IfOk result (IsInForm self.now.listing.normal (min self.now.listing.steps run_step_limit) t.now) }
+    {
+        if self.listing.normal {
+            normal_form(self.alloc, t, self.listing.steps)
+        } else {
+            Ok(*t)
+        }
+    }
+
+    // The record that a line is, where records are kept.
+    fn record_in<'a>(&self, line: Option<&'a [u8]>) -> Option<Record<'a>>
+        ensures { IsFoundIn self.now.listing.records (lent line.entry)
+            (found_if result (tables_of_line (lent line.entry))) }
+    {
+        if !self.listing.records {
+            return None;
+        }
+        let text = line?;
+        match read_line(Some(text.trim_ascii())) {
+            Ok(record) => Some(record),
+            Err(_) => None,
+        }
+    }
+}
+
+// How many tables a line has, and how many of them came before.
+#[derive(Clone, Copy, Drop)]
+struct Count {
+    tables: u64,
+    doubles: u64,
+}
+
+// Appends what a line has, which is none where it was too long: the record that it is, or the tables in it, where they come
+// first.
+fn list_line(
+    form: &Form,
+    line: Option<&[u8]>,
+    came: &mut IndexSet<Table>,
+    said: &mut Vec<u8>,
+) -> Result<Count, Ended>
+    ensures ok { OnOk result ((found : List Found) × IsFoundIn form.now.listing.records (lent line.entry) found
+        × (more : List ℕ) × ListsFor form.now.listing came.old.keys found came.new.keys more
+        × (said.new.items ≡ said.old.items ++ more)) }
+    ensures err { IfErr result (λ e. e ≡ Ended.NoMemory) }
+{
+    match form.record_in(line) {
+        Some(record) => list_record(form, &record, came, said),
+        None => list_tables_in(form, line, came, said),
+    }
+}
+
+// Appends a record whose table comes first.
+fn list_record(
+    form: &Form,
+    r: &Record<'_>,
+    came: &mut IndexSet<Table>,
+    said: &mut Vec<u8>,
+) -> Result<Count, Ended>
+    ensures ok { OnOk result ((more : List ℕ) × ListsFor form.now.listing came.old.keys
+        (of_record (recorded r.now) ∷ []) came.new.keys more × (said.new.items ≡ said.old.items ++ more)) }
+    ensures err { IfErr result (λ e. e ≡ Ended.NoMemory) }
+{
+    if !put_first(&r.table, came)? {
+        return Ok(Count {
+            tables: 1,
+            doubles: 1,
+        });
+    }
+    r.write_text(said)?;
+    said.extend_from_slice(b"\n")?;
+    Ok(Count {
+        tables: 1,
+        doubles: 0,
+    })
+}
+
+// Appends the tables in a line that come first.
+fn list_tables_in(
+    form: &Form,
+    line: Option<&[u8]>,
+    came: &mut IndexSet<Table>,
+    said: &mut Vec<u8>,
+) -> Result<Count, Ended>
+    ensures ok { OnOk result ((more : List ℕ) × ListsFor form.now.listing came.old.keys
+        (map alone (tables_of_line (lent line.entry))) came.new.keys more
+        × (said.new.items ≡ said.old.items ++ more)) }
+    ensures err { IfErr result (λ e. e ≡ Ended.NoMemory) }
+{
+    let mut left = line;
+    let mut count = Count {
+        tables: 0,
+        doubles: 0,
+    };
+    'words: while let Some(text) = left {
+        let (word, rest) = cut_word(text);
+        list_word(form, word, came, &mut count, said)?;
+        left = rest;
+    }
+    Ok(count)
+}
+
+// Appends a word that is a table and comes first.
+fn list_word(
+    form: &Form,
+    word: &[u8],
+    came: &mut IndexSet<Table>,
+    count: &mut Count,
+    said: &mut Vec<u8>,
+) -> Result<(), Ended>
+    ensures ok { OnOk result ((more : List ℕ) × ListsFor form.now.listing came.old.keys
+        (map alone (tables_among (word.now ∷ []))) came.new.keys more × (said.new.items ≡ said.old.items ++ more)) }
+    ensures err { IfErr result (λ e. e ≡ Ended.NoMemory) }
+{
+    let Ok(t) = Table::parse(word) else {
+        return Ok(());
+    };
+    count.tables = count.tables.saturating_add(1);
+    let t = form.of(&t)?;
+    if !put_first(&t, came)? {
+        count.doubles = count.doubles.saturating_add(1);
+        return Ok(());
+    }
+    append_table(&t, said)?;
+    said.extend_from_slice(b"\n")?;
+    Ok(())
+}
+
+// Puts a table among those that came, and answers whether it is the first.
+fn put_first(t: &Table, came: &mut IndexSet<Table>) -> Result<bool, Ended>
+    ensures ok { IfOk result (λ first. (first ≡ not (list_any (same_packed t.now) came.old.keys))
+        × (came.new.keys ≡ insert_key same_packed came.old.keys t.now)) }
+    ensures err { IfErr result (λ e. e ≡ Ended.NoMemory) }
+{
+    match came.insert(*t) {
+        Ok(first) => Ok(first),
+        Err(_) => Err(Ended::NoMemory),
+    }
+}

@@ -1,5 +1,0 @@
-pub mod Claims
-pub mod Extending
-pub mod Kept
-pub mod Parts
-pub mod Printing

@@ -1,2 +1,0 @@
-pub mod Mend
-pub mod inside

@@ -1,0 +1,225 @@
+-- Ledgers that are taken one after another as they come.
+use Rattle.std.proofs.Common.{◌≡◌, ◌≢◌, ◌⊎◌, inl, inr, ℕ, List, [], ◌∷◌, ◌++◌, Option, sym, ◌∙◌, ap, subst, refl, append_assoc, append-nil}
+use Rattle.std.proofs.KnownBytes.{Appends-nil, Appends-trans, Consumes-nil, Consumes-trans}
+use Rattle.std.specs.Io.KnownBytes.{Appends, Consumes, IsAtEnd}
+use Rattle.std.proofs.lemmas.List.Elements.{All-append, All-nil}
+use Rattle.text.specs.Lines.{joined, HasNoNewline, BeginsWithLine}
+use Rattle.ledger.specs.Versions.{header_words}
+use Rattle.ledger.proofs.LinesTaken.{joined-append}
+use Rattle.cmd_lines.specs.Lines.{AreOneLineEach}
+use Rattle.cmd_parts.specs.Ledgers.{AreNoHeads, AreOfOne, BeginsWithLedgers, IsHead, IsWholeLedger}
+use Rattle.cmd_parts.specs.inside.Taking.{LedgersAreTaken, CutsBefore, HasTaken, HasReadLedgers, IsOfIt, TakesAll, TakesMoreLedgers, TakesLedgers}
+
+whole_push : (lines : List (List ℕ)) (line : List ℕ) → AreOneLineEach lines → HasNoNewline line → AreOneLineEach (lines ++ line ∷ [])
+whole_push [] line all one = (one, tt)
+whole_push (l ∷ lines) line all one = (all.0, whole_push lines line all.1 one)
+
+no_heads_push : (lines : List (List ℕ)) (line : List ℕ) → AreNoHeads lines → (IsHead line → ⊥) → AreNoHeads (lines ++ line ∷ [])
+no_heads_push [] line none other = (other, tt)
+no_heads_push (l ∷ lines) line none other = (none.0, no_heads_push lines line none.1 other)
+
+of_one_push : (lines : List (List ℕ)) (line : List ℕ) → AreOfOne lines → (IsHead line → ⊥) ⊎ (lines ≡ []) → AreOfOne (lines ++ line ∷ [])
+of_one_push [] line one of = tt
+of_one_push (l ∷ lines) line one (inl other) = no_heads_push lines line one other
+of_one_push (l ∷ lines) line one (inr none) = absurd cc
+
+no_lines : (lines : List (List ℕ)) → joined lines ≡ [] → lines ≡ []
+no_lines [] e = refl
+no_lines ([] ∷ lines) e = absurd cc
+no_lines ((x ∷ xs) ∷ lines) e = absurd cc
+
+head_more : (text more : List ℕ) → IsHead text → IsHead (text ++ more)
+head_more text more (format, rest, is) = (format, rest ++ more, ap (λ (t : List ℕ). t ++ more) is ∙ append_assoc (header_words format) rest more)
+
+begins_more : (text : List ℕ) (ledgers : List (List ℕ)) (rest more : List ℕ) → BeginsWithLedgers text ledgers rest → BeginsWithLedgers (text ++ more) ledgers (rest ++ more)
+begins_more text [] rest more is = ap (λ (t : List ℕ). t ++ more) is
+begins_more text (ledger ∷ ledgers) rest more (behind, is, whole, head, later) = (
+  behind ++ more,
+  ap (λ (t : List ℕ). t ++ more) is ∙ append_assoc ledger behind more,
+  whole,
+  head_more behind more head,
+  begins_more behind ledgers rest more later,
+)
+
+-- one ledger more
+begins_push : (text : List ℕ) (ledgers : List (List ℕ)) (rest ledger behind : List ℕ) → BeginsWithLedgers text ledgers rest → rest ≡ ledger ++ behind → IsWholeLedger ledger → IsHead behind
+    → BeginsWithLedgers text (ledgers ++ ledger ∷ []) behind
+begins_push text [] rest ledger behind is cut whole head = (behind, is ∙ cut, whole, head, refl)
+begins_push text (l ∷ ledgers) rest ledger behind (b, is, w, h, later) cut whole head = (b, is, w, h, begins_push b ledgers rest ledger behind later cut whole head)
+
+module _ {D : Type 0} (Takes : D → List ℕ → D → List ℕ → Type 0) where
+  -- one ledger more is taken
+  taken_push : (old : D) (ledgers : List (List ℕ)) (ledger : List ℕ) (middle new : D) (said more : List ℕ) → LedgersAreTaken Takes old ledgers middle said
+      → Takes middle ledger new more → LedgersAreTaken Takes old (ledgers ++ ledger ∷ []) new (said ++ more)
+  taken_push old [] ledger middle new said more so takes = (
+    new,
+    more,
+    [],
+    subst (λ (d : D). Takes d ledger new more) so.0 takes,
+    (refl, refl),
+    ap (λ (s : List ℕ). s ++ more) so.1 ∙ sym (append-nil more),
+  )
+  taken_push old (l ∷ ledgers) ledger middle new said more (d, first, others, takes_first, later, is) takes = (
+    d,
+    first,
+    others ++ more,
+    takes_first,
+    taken_push d ledgers ledger middle new others more later takes,
+    ap (λ (s : List ℕ). s ++ more) is ∙ append_assoc first others more,
+  )
+
+  -- nothing has come
+  pub nothing_taken : (start : D) (held : Option (List ℕ)) → HasTaken Takes start held [] [] [] start held
+  nothing_taken start held = record {
+    whole = [];
+    lines = [];
+    said = [];
+    begins = refl;
+    is = refl;
+    are_lines = tt;
+    one_line = All-nil (λ byte. byte ≢ 10);
+    one = tt;
+    taken = (refl, refl);
+    written = Appends-nil held;
+  }
+
+  -- more bytes of the same line
+  pub more_taken : (start : D) (held : Option (List ℕ)) (text before line : List ℕ) (now : D) (new_held : Option (List ℕ)) (more : List ℕ)
+      → HasTaken Takes start held text before line now new_held → HasNoNewline more → HasTaken Takes start held (text ++ more) before (line ++ more) now new_held
+  more_taken start held text before line now new_held more so none = record {
+    whole = so.whole;
+    lines = so.lines;
+    said = so.said;
+    begins = subst (λ (r : List ℕ). BeginsWithLedgers (text ++ more) so.whole r) (append_assoc before line more) (begins_more text so.whole (before ++ line) more so.begins);
+    is = so.is;
+    are_lines = so.are_lines;
+    one_line = All-append (λ byte. byte ≢ 10) line more so.one_line none;
+    one = so.one;
+    taken = so.taken;
+    written = so.written;
+  }
+
+  -- what is kept is taken, where the line begins another ledger
+  pub cut_taken : (start : D) (held : Option (List ℕ)) (text before line : List ℕ) (now : D) (mid : Option (List ℕ)) (new_before : List ℕ) (new : D) (new_held : Option (List ℕ))
+      → HasTaken Takes start held text before line now mid → CutsBefore Takes before line now mid new_before new new_held
+      → HasTaken Takes start held text new_before line new new_held × IsOfIt new_before line
+  cut_taken start held text before line now mid new_before new new_held so (inl (of, same, is, kept)) = (
+    subst (λ (b : List ℕ). HasTaken Takes start held text b line new new_held) (sym same)
+        (subst (λ (d : D). HasTaken Takes start held text before line d new_held) (sym is)
+        (subst (λ (h : Option (List ℕ)). HasTaken Takes start held text before line now h) (sym kept) so)),
+    subst (λ (b : List ℕ). IsOfIt b line) (sym same) of,
+  )
+  cut_taken start held text before line now mid new_before new new_held so (inr (head, some, (said, takes, says), none)) = (
+    subst (λ (b : List ℕ). HasTaken Takes start held text b line new new_held) (sym none) (record {
+      whole = so.whole ++ before ∷ [];
+      lines = [];
+      said = so.said ++ said;
+      begins = begins_push text so.whole (before ++ line) before line so.begins refl
+          (record { lines = so.lines; some = λ empty. some (so.is ∙ ap joined empty); is = so.is; are_lines = so.are_lines; one = so.one }) head;
+      is = refl;
+      are_lines = tt;
+      one_line = so.one_line;
+      one = tt;
+      taken = taken_push start so.whole before now new so.said said so.taken takes;
+      written = Appends-trans held mid new_held so.said said so.written says;
+    }),
+    inr none,
+  )
+
+  line_is_of : (lines : List (List ℕ)) (before line : List ℕ) → before ≡ joined lines → IsOfIt before line → (IsHead line → ⊥) ⊎ (lines ≡ [])
+  line_is_of lines before line is (inl other) = inl other
+  line_is_of lines before line is (inr none) = inr (no_lines lines (sym is ∙ none))
+
+  -- the newline comes, and the line is kept
+  pub line_kept : (start : D) (held : Option (List ℕ)) (text before line : List ℕ) (now : D) (new_held : Option (List ℕ)) → HasTaken Takes start held text before line now new_held
+      → IsOfIt before line → HasTaken Takes start held (text ++ 10 ∷ []) (before ++ line ++ 10 ∷ []) [] now new_held
+  line_kept start held text before line now new_held so of = record {
+    whole = so.whole;
+    lines = so.lines ++ line ∷ [];
+    said = so.said;
+    begins = subst (λ (r : List ℕ). BeginsWithLedgers (text ++ 10 ∷ []) so.whole r) (sym (append-nil ((before ++ line) ++ (10 ∷ [])))) (begins_more text so.whole (before ++ line) (10 ∷ []) so.begins);
+    is = ap (λ (b : List ℕ). (b ++ line) ++ (10 ∷ [])) so.is ∙ (append_assoc (joined so.lines) line (10 ∷ []) ∙ sym (joined-append so.lines (line ∷ [])));
+    are_lines = whole_push so.lines line so.are_lines so.one_line;
+    one_line = All-nil (λ byte. byte ≢ 10);
+    one = of_one_push so.lines line so.one (line_is_of so.lines before line so.is of);
+    taken = so.taken;
+    written = so.written;
+  }
+
+  -- a whole line comes
+  pub whole_line : (start : D) (held : Option (List ℕ)) (all done left part rest before line longer_line : List ℕ) (now : D) (mid : Option (List ℕ)) (new_before kept : List ℕ) (new : D) (new_held : Option (List ℕ))
+      → all ≡ done ++ left → BeginsWithLine left part rest → HasTaken Takes start held done before line now mid → longer_line ≡ line ++ part
+      → CutsBefore Takes before longer_line now mid new_before new new_held → kept ≡ new_before ++ longer_line ++ 10 ∷ []
+      → (x : List ℕ) × (all ≡ x ++ rest) × HasTaken Takes start held x kept [] new new_held
+  whole_line start held all done left part rest before line longer_line now mid new_before kept new new_held is begins so same cuts keeps =
+      let longer = subst (λ (l : List ℕ). HasTaken Takes start held (done ++ part) before l now mid) (sym same)
+      (more_taken start held done before line now mid part so begins.one_line) in
+      let (cut, of) = cut_taken start held (done ++ part) before longer_line now mid new_before new new_held longer cuts in (
+        (done ++ part) ++ 10 ∷ [],
+        is ∙ ap (λ (t : List ℕ). done ++ t) begins.is ∙ sym (append_assoc done part (10 ∷ rest)) ∙ sym (append_assoc (done ++ part) (10 ∷ []) rest),
+        subst (λ (k : List ℕ). HasTaken Takes start held ((done ++ part) ++ 10 ∷ []) k [] new new_held) (sym keeps) (line_kept start held (done ++ part) new_before longer_line new new_held cut of),
+      )
+
+  -- at the end of the text what is kept and the line that is begun are the last ledger
+  pub last_taken : (start : D) (held : Option (List ℕ)) (text before line : List ℕ) (now : D) (mid : Option (List ℕ)) (new_before : List ℕ) (middle : D) (after : Option (List ℕ))
+      (last : List ℕ) (new : D) (new_held : Option (List ℕ)) → HasTaken Takes start held text before line now mid → CutsBefore Takes before line now mid new_before middle after
+      → last ≡ new_before ++ line → (said : List ℕ) × Takes middle last new said × Appends after new_held said → TakesAll Takes start held text new new_held
+  last_taken start held text before line now mid new_before middle after last new new_held so cuts is (said, takes, says) =
+      let (cut, of) = cut_taken start held text before line now mid new_before middle after so cuts in (
+        cut.whole ++ last ∷ [],
+        cut.said ++ said,
+        record {
+          whole = cut.whole;
+          last = last;
+          are_all = refl;
+          begins = subst (λ (r : List ℕ). BeginsWithLedgers text cut.whole r) (sym is) cut.begins;
+          is_last = record {
+            lines = cut.lines;
+            last = line;
+            is = is ∙ ap (λ (b : List ℕ). b ++ line) cut.is;
+            are_lines = cut.are_lines;
+            one_line = cut.one_line;
+            one = of_one_push cut.lines line cut.one (line_is_of cut.lines new_before line cut.is of);
+          };
+        },
+        taken_push start cut.whole last middle new cut.said said cut.taken takes,
+        Appends-trans held after new_held cut.said said cut.written says,
+      )
+
+  -- nothing is read yet
+  pub nothing_read : (start : D) (read held : Option (List ℕ)) (before line : List ℕ) → before ≡ [] → line ≡ [] → HasReadLedgers Takes start read read held before line start held
+  nothing_read start read held before line none nothing = record {
+    text = [];
+    consumed = Consumes-nil read;
+    has = subst (λ (b : List ℕ). HasTaken Takes start held [] b line start held) (sym none)
+        (subst (λ (l : List ℕ). HasTaken Takes start held [] [] l start held) (sym nothing) (nothing_taken start held));
+  }
+
+  -- a piece more is read, and taken
+  pub piece_read : (start : D) (read held : Option (List ℕ)) (mid_read : Option (List ℕ)) (before line : List ℕ) (now : D) (mid : Option (List ℕ))
+      (new_read : Option (List ℕ)) (new_before new_line : List ℕ) (new : D) (new_held : Option (List ℕ)) (piece : List ℕ) → HasReadLedgers Takes start read mid_read held before line now mid
+      → Consumes mid_read new_read piece → TakesMoreLedgers Takes piece before line now mid new_before new_line new new_held → HasReadLedgers Takes start read new_read held new_before new_line new new_held
+  piece_read start read held mid_read before line now mid new_read new_before new_line new new_held piece so reads takes = record {
+    text = so.text ++ piece;
+    consumed = Consumes-trans read mid_read new_read so.text piece so.consumed reads;
+    has = takes start held so.text so.has;
+  }
+
+  -- and the end
+  pub stream_taken : (start : D) (read held : Option (List ℕ)) (mid_read : Option (List ℕ)) (before line : List ℕ) (now : D) (mid : Option (List ℕ))
+      (new_read : Option (List ℕ)) (new : D) (new_held : Option (List ℕ)) → HasReadLedgers Takes start read mid_read held before line now mid → Consumes mid_read new_read [] → IsAtEnd new_read
+      → ((first : D) (begun : Option (List ℕ)) (text : List ℕ) → HasTaken Takes first begun text before line now mid → TakesAll Takes first begun text new new_held)
+      → TakesLedgers Takes start new read new_read held new_held
+  stream_taken start read held mid_read before line now mid new_read new new_held so reads ends takes = record {
+    text = so.text ++ [];
+    consumed = Consumes-trans read mid_read new_read so.text [] so.consumed reads;
+    whole = ends;
+    takes = subst (λ (t : List ℕ). TakesAll Takes start held t new new_held) (sym (append-nil so.text)) (takes start held so.text so.has);
+  }
+
+  -- the rest of a piece has no newline
+  pub rest_taken : (start : D) (held : Option (List ℕ)) (all done left part before line longer_line : List ℕ) (now : D) (mid : Option (List ℕ)) → all ≡ done ++ left → HasNoNewline left × (part ≡ left)
+      → HasTaken Takes start held done before line now mid → longer_line ≡ line ++ part → HasTaken Takes start held all before longer_line now mid
+  rest_taken start held all done left part before line longer_line now mid is (none, same) so longer =
+      subst (λ (t : List ℕ). HasTaken Takes start held t before longer_line now mid) (sym is)
+      (subst (λ (l : List ℕ). HasTaken Takes start held (done ++ left) before l now mid) (sym (longer ∙ ap (λ (p : List ℕ). line ++ p) same)) (more_taken start held done before line now mid left so none))

@@ -1,3 +1,0 @@
-mod Headers
-mod Taking
-mod Telling

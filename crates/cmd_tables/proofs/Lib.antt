@@ -1,5 +1,0 @@
-pub mod Firsts
-pub mod Cutting
-pub mod Naming
-pub mod Unchanged
-pub mod Changing

@@ -1,4 +1,0 @@
-pub mod Words
-pub mod Normal
-pub mod Listed
-pub mod inside

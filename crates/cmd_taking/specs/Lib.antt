@@ -1,4 +1,0 @@
-pub mod Lines
-pub mod Taken
-pub mod Said
-pub mod inside

@@ -1,0 +1,145 @@
+// What is known of tables by the records of a text.
+ghost use Rattle.std.specs.Prelude.{◌≡◌, IfOk, OnErr, OnOk, is_none, option_map};
+ghost use Rattle.machine_text.specs.Packed.{Packed};
+ghost use Rattle.cert.specs.Kinds.{owned_claim, read_as, recorded};
+ghost use Rattle.cmd_lines.specs.Answer.{read_line};
+ghost use Rattle.cmd_lines.specs.Taken.{lent};
+ghost use Rattle.cmd_options.specs.declared.ended.Ended.TheVariants.{NoMemory as WantsMemory};
+ghost use Rattle.find_search.specs.Known.{IsGiven, IsLookedUp, known_of, some_claim};
+ghost use Rattle.find_search.specs.Refusals.{no_refusals};
+ghost use Rattle.find_search.specs.inside.{IsNews, LineTells, RecordKept};
+
+use crate::refusals::Refusals;
+use crate::told::Told;
+use cert::{Certificate, Finder, OwnedCertificate, Record, RecordFault};
+use cmd_lines::LineTaker;
+use cmd_options::Ended;
+use kind_evidence::NoMemory;
+use machine_text::Table;
+use std::alloc::Global;
+use std::collections::BTreeMap;
+
+/// Certificates that were found elsewhere, by their tables, and which lines were refused.
+#[derive(Drop)]
+pub struct Known {
+    alloc: Global,
+    told: BTreeMap<Table, Told>,
+    // how many lines were taken
+    lines: u64,
+    refused: Refusals,
+}
+
+impl Known {
+    ghost use Rattle.std.specs.Prelude.{None};
+
+    // Nothing is known yet.
+    pub(crate) fn new(alloc: Global) -> Known
+        ensures known { (p : Packed) → known_of result p ≡ None }
+        ensures lines { result.lines ≡ 0 }
+        ensures refused { result.refused ≡ no_refusals }
+    {
+        Known {
+            alloc,
+            told: BTreeMap::new(alloc),
+            lines: 0,
+            refused: Refusals::none(),
+        }
+    }
+
+    /// The lines that were refused: those that told nothing when they were read, and those whose record was looked up
+    /// and doesn't stand.
+    pub fn refused(&self) -> Refusals
+        ensures { result ≡ self.now.refused }
+    {
+        self.refused
+    }
+
+    /// What is known of a table, where it stands. Where it doesn't, its line is refused, and nothing is known of the
+    /// table from then on. Where memory is refused nothing changes.
+    pub fn look_up(&mut self, t: &Table) -> Result<Option<OwnedCertificate>, NoMemory>
+        ensures given { IfOk result (λ o. IsGiven (known_of self.old t.now) t.now (option_map owned_claim o)) }
+        ensures changes { IfOk result (λ o. IsLookedUp self.old t.now (option_map owned_claim o) self.new) }
+        ensures err { OnErr result (self.new ≡ self.old) }
+    {
+        let Some(told) = self.told.get(t) else {
+            return Ok(None);
+        };
+        if told.stands(self.alloc, t)? {
+            return Ok(Some(OwnedCertificate::of(self.alloc, &told.certificate.lent())?));
+        }
+        let line = told.line;
+        self.told.remove(t);
+        self.refused = self.refused.with_number(line);
+        Ok(None)
+    }
+
+    // The record of a line, where that tells something: it claims something, and nothing is known of its table.
+    fn news<'a>(&self, line: Option<&'a [u8]>) -> Option<Record<'a>>
+        ensures { IsNews (known_of self.now) (read_line (lent line.entry)) (option_map recorded result) }
+    {
+        let Ok(found) = read_line(line) else {
+            return None;
+        };
+        if claims_nothing(&found) || self.told.contains_key(&found.table) {
+            return None;
+        }
+        Some(found)
+    }
+
+    // Keeps what the record of the last line claims of its table.
+    fn keep(&mut self, found: &Record<'_>) -> Result<(), NoMemory>
+        ensures { OnOk result (RecordKept self.old (recorded found.now) self.new) }
+    {
+        let told = Told {
+            line: self.lines,
+            certificate: OwnedCertificate::of(self.alloc, &found.certificate)?,
+        };
+        self.told.insert(found.table, told)?;
+        Ok(())
+    }
+}
+
+impl LineTaker for Known {
+    ghost takes = { LineTells };
+
+    ghost ends = { λ e. e ≡ WantsMemory };
+
+    fn take_line(&mut self, line: Option<&[u8]>) -> Result<(), Ended> {
+        self.lines = self.lines.saturating_add(1);
+        match self.news(line) {
+            Some(found) => Ok(self.keep(&found)?),
+            None => {
+                self.refused = self.refused.with_number(self.lines);
+                Ok(())
+            }
+        }
+    }
+}
+
+impl Finder for Known {
+    ghost gives = { λ known p budget claim. IsGiven (known_of known p) p claim };
+
+    fn find(&mut self, t: &Table, budget: u64) -> Result<Option<OwnedCertificate>, NoMemory> {
+        self.look_up(t)
+    }
+}
+
+// Whether a record is one that claims nothing.
+fn claims_nothing(found: &Record<'_>) -> bool
+    ensures { result ≡ is_none (some_claim (recorded found.now).claim) }
+{
+    match found.certificate {
+        Certificate::Undecided => true,
+        _ => false,
+    }
+}
+
+// The record of a line, which is none where it was too long.
+fn read_line(line: Option<&[u8]>) -> Result<Record<'_>, RecordFault>
+    ensures { read_as result ≡ read_line (lent line.entry) }
+{
+    match line {
+        Some(line) => Record::parse(line),
+        None => Err(RecordFault::TooLong),
+    }
+}

@@ -1,4 +1,0 @@
-pub mod Counting
-pub mod Cores
-pub mod Turns
-pub mod Offers

@@ -1,13 +1,9 @@
 // A board to which the lines of a damaged ledger are offered.
 ghost use Rattle.std.specs.Prelude.{◌≡◌, ◌+◌, IfErr, OnOk};
-ghost use Rattle.cert.specs.Kinds.{read_as};
-ghost use Rattle.cmd_lines.specs.Taken.{lent};
 ghost use Rattle.cmd_options.specs.declared.ended.Ended.TheVariants.{NoMemory as WantsMemory};
-ghost use Rattle.cmd_lines.specs.Answer.{read_line};
 ghost use Rattle.cmd_ledgers.specs.inside.Mending.{LineMends};
 
-use cert::{Record, RecordFault};
-use cmd_lines::LineTaker;
+use cmd_lines::{LineTaker, read_line};
 use cmd_options::Ended;
 use ledger::{Board, OfferFault, Taken};
 
@@ -51,15 +47,5 @@ impl Mender {
             // No memory has so many lines.
             None => Err(Ended::NoMemory),
         }
-    }
-}
-
-// The record of a line, which is none where it was too long.
-fn read_line(line: Option<&[u8]>) -> Result<Record<'_>, RecordFault>
-    ensures { read_as result ≡ read_line (lent line.entry) }
-{
-    match line {
-        Some(line) => Record::parse(line),
-        None => Err(RecordFault::TooLong),
     }
 }

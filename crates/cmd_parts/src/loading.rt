@@ -1,5 +1,5 @@
 // Ledgers and parts that are loaded from where they stand.
-ghost use Rattle.std.specs.Prelude.{◌≡◌, ◌⊎◌, List, ℕ, IfErr, IfOk, IfSome, codes, string_bytes};
+ghost use Rattle.std.specs.Prelude.{◌≡◌, ◌⊎◌, List, ℕ, IfErr, IfOk, IfSome};
 ghost use Rattle.cmd_parts.specs.Join.{FailsFile, HasNoTrunk, IsMetIn, IsReadAt};
 ghost use Rattle.cmd_parts.specs.Split.{path_within};
 ghost use Rattle.ledger.specs.declared.left.Left.{Left as LeftOver};
@@ -9,23 +9,10 @@ use crate::{PartLedgers, part_path};
 use cmd_ledgers::load_from;
 use cmd_options::{Ended, Stopped, ended_by};
 use files::Opened;
-use kind_evidence::NoMemory;
 use ledger::Board;
 use machine_text::Table;
 use std::alloc::Global;
 use std::io::Read;
-
-// The path of the trunk's ledger in a folder.
-pub(crate) fn trunk_path(alloc: Global, folder: &str) -> Result<String, NoMemory>
-    ensures { IfOk result (λ path. string_bytes path ≡ path_within folder.now (codes "trunk")) }
-{
-    let mut path = String::new(alloc);
-    path.push_str(folder)?;
-    path.push_str("/")?;
-    path.push_str("trunk")?;
-    path.push_str(".ledger")?;
-    Ok(path)
-}
 
 // The board of the ledger at a path, which has to be there.
 pub(crate) fn board_at<S: PartLedgers>(alloc: Global, parts: &S, path: &str) -> Result<Board, Ended>

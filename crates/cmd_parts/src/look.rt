@@ -4,10 +4,11 @@ ghost use Rattle.cmd_parts.specs.AtPaths.{finds_at};
 ghost use Rattle.cmd_parts.specs.Join.{EndsJoining};
 ghost use Rattle.cmd_parts.specs.Look.{AnswersByFolder, AnswersLines, EndsLookUp, PrintsAt};
 
+use crate::folder::trunk_path;
 use crate::folder_look::FolderLook;
 use crate::holdouts::print_at;
 use crate::ledger_look::LedgerLook;
-use crate::loading::{board_at, trunk_path};
+use crate::loading::board_at;
 use crate::{PartLedgers, PartsAt};
 use cmd_lines::{PIECE_BYTES, say_lines};
 use cmd_options::{Ended, Looking, Outcome};

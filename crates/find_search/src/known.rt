@@ -1,7 +1,7 @@
 // What is known of tables by the records of a text.
 ghost use Rattle.std.specs.Prelude.{◌≡◌, IfOk, OnErr, OnOk, is_none, option_map};
 ghost use Rattle.machine_text.specs.Packed.{Packed};
-ghost use Rattle.cert.specs.Kinds.{owned_claim, read_as, recorded};
+ghost use Rattle.cert.specs.Kinds.{owned_claim, recorded};
 ghost use Rattle.cmd_lines.specs.Answer.{read_line};
 ghost use Rattle.cmd_lines.specs.Taken.{lent};
 ghost use Rattle.cmd_options.specs.declared.ended.Ended.TheVariants.{NoMemory as WantsMemory};
@@ -11,8 +11,8 @@ ghost use Rattle.find_search.specs.inside.{IsNews, LineTells, RecordKept};
 
 use crate::refusals::Refusals;
 use crate::told::Told;
-use cert::{Certificate, Finder, OwnedCertificate, Record, RecordFault};
-use cmd_lines::LineTaker;
+use cert::{Certificate, Finder, OwnedCertificate, Record};
+use cmd_lines::{LineTaker, read_line};
 use cmd_options::Ended;
 use kind_evidence::NoMemory;
 use machine_text::Table;
@@ -131,15 +131,5 @@ fn claims_nothing(found: &Record<'_>) -> bool
     match found.certificate {
         Certificate::Undecided => true,
         _ => false,
-    }
-}
-
-// The record of a line, which is none where it was too long.
-fn read_line(line: Option<&[u8]>) -> Result<Record<'_>, RecordFault>
-    ensures { read_as result ≡ read_line (lent line.entry) }
-{
-    match line {
-        Some(line) => Record::parse(line),
-        None => Err(RecordFault::TooLong),
     }
 }

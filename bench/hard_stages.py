@@ -1,13 +1,13 @@
 #!/usr/bin/env python3
 """Prints the table of the stages of --hard that docs/FINDERS.md has, from the program's own list of them
-(crates/cmd_dispatch/src/stages.rt). With --check it says where FINDERS has another one, and ends with 1 then."""
+(crates/find_search/src/stages.rt). With --check it says where FINDERS has another one, and ends with 1 then."""
 import os
 import re
 import sys
 
 from program import TOP
 
-LIST = os.path.join(TOP, "crates", "cmd_dispatch", "src", "stages.rt")
+LIST = os.path.join(TOP, "crates", "find_search", "src", "stages.rt")
 TEXT = os.path.join(TOP, "docs", "FINDERS.md")
 HEAD = "| stage | what is looked for |\n|---|---|\n"
 STAGE = re.compile(r"Stage::(\w+)(?:\s*\{([^}]*)\})?,|(words|automata)!\(([^)]*)\)")

@@ -1,7 +1,6 @@
 //! `bb`, a verified tool for the busy beaver problem: `main` hands the words of the command line, the streams and
-//! the system's files and sockets to `obey` (`cmd_program`). The words are read in the crate `cmd_words`, the command that they
-//! ask for is begun in `cmd_dispatch`, and what the commands do stands in `cmd_lines`, `cmd_ledgers` and
-//! `cmd_nodes`.
+//! the system's files and sockets to `obey` (`cmd_dispatch`). The words are read in the crate `cmd_words`, and what the commands
+//! do stands in `cmd_lines`, `cmd_ledgers`, `cmd_parts` and `cmd_nodes`.
 #![tactic(auto)]
 
 pub use cmd_json::report_json;

@@ -16,7 +16,7 @@ use Rattle.cmd_parts.specs.Join.{EndsJoining, EndsTelling, FailsAny, FailsFile, 
 use Rattle.cmd_parts.specs.Split.{path_within}
 use Rattle.cmd_parts.specs.Gather.{EndsGathering}
 use Rattle.cmd_parts.specs.inside.{AreAdded, EndsAdding, EndsPart}
-use Rattle.cmd_parts.proofs.Joining.{appends_both}
+use Rattle.cmd_parts.proofs.JoinedParts.{appends_both}
 
 -- a ledger isn't loaded: there is no memory, or it has no root, or one that isn't in order
 pub reading_ends : (has : Option (List ℕ)) (size : ℕ) (e : Ended) → EndsReading has size (EndedBy e) → (e ≡ NoMemory) ⊎ ((e ≡ BadHeader) ⊎ (e ≡ WrongRoot))

@@ -1,6 +1,6 @@
 pub mod Settled
 pub mod Trunks
-pub mod Joining
+pub mod JoinedParts
 pub mod BegunAt
 pub mod JoinEnds
 pub mod SettledAt

@@ -21,7 +21,7 @@ use Rattle.cmd_options.specs.declared.ended.Ended.TheVariants.{BadHeader, WrongR
 use Rattle.cmd_options.specs.Outcome.{ended_line}
 use Rattle.cmd_options.specs.declared.outcome.Outcome.{Outcome}
 use Rattle.cmd_parts.specs.Join.{TellsParts, counted_part, is_silent, left_line, line_behind}
-use Rattle.cmd_parts.proofs.Joining.{sound_both, sound_first}
+use Rattle.cmd_parts.proofs.JoinedParts.{sound_both, sound_first}
 use Rattle.cmd_parts.specs.Ledgers.{AreLedgers}
 use Rattle.cmd_parts.specs.Stream.{AreLedgersMet, AreMissed, EndsEarly, EndsStream, IsLoadedAs, IsLedgerMet, IsMissed, IsRefusedAs, JoinsStream, TellsStream, name_of, roots_of}
 use Rattle.cmd_parts.specs.inside.Joining.{AddsBoard, AddsLedger, AddsPart, BeginsTrunk, Joins, JoinsTo, SaysAdding, SaysMissed, SaysRoot}

@@ -1,4 +1,4 @@
-pub mod Hearing
+pub mod HeardLines
 pub mod Arrivals
 pub mod Sending
 pub mod Joining

@@ -5,7 +5,7 @@ use Rattle.ledger.specs.LedgerText.{ledger_text}
 use Rattle.ledger.specs.Versions.{header_words}
 use Rattle.ledger.specs.declared.format.Format.TheVariants.{Two}
 use Rattle.cmd_parts.specs.Join.{record_lines}
-use Rattle.cmd_parts.proofs.Joining.{behind_header}
+use Rattle.cmd_parts.proofs.JoinedParts.{behind_header}
 use Rattle.cmd_parts.proofs.collector.text_and_header.Goals as goal
 
 both : (c : goal.In_ok-write_ledger) → ((length c.as_slice-header.result.now) ≤ length c.write_ledger.new.out.items) × (drop (length c.as_slice-header.result.now) c.write_ledger.new.out.items ≡ record_lines c.args.board.now.records)

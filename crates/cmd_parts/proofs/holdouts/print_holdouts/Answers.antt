@@ -4,7 +4,7 @@ use Rattle.std.specs.Vec.Iter.{into_iter_items}
 use Rattle.text.specs.Lines.{joined}
 use Rattle.machine_text.specs.Packed.{Packed}
 use Rattle.machine_text.specs.Text.{text_of}
-use Rattle.cmd_parts.proofs.Joining.{appends_both}
+use Rattle.cmd_parts.proofs.JoinedParts.{appends_both}
 use Rattle.cmd_parts.proofs.Printing.{appends_none}
 use Rattle.cmd_parts.proofs.holdouts.print_holdouts.Goals as goal
 

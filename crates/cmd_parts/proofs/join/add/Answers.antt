@@ -1,4 +1,4 @@
-use Rattle.cmd_parts.proofs.Joining.{both_ok}
+use Rattle.cmd_parts.proofs.JoinedParts.{both_ok}
 use Rattle.cmd_parts.proofs.join.add.Goals as goal
 
 pub returns-in-Ok-clause-ok : goal.returns-in-Ok-clause-ok

@@ -6,7 +6,7 @@ use Rattle.ledger.specs.Records.{same_table}
 use Rattle.ledger.proofs.Same.{differ}
 use Rattle.cmd_ledgers.proofs.ReadLaws.{no_difference}
 use Rattle.cmd_parts.specs.Join.{IsMetAs}
-use Rattle.cmd_parts.proofs.Joining.{met_loaded, unmet}
+use Rattle.cmd_parts.proofs.JoinedParts.{met_loaded, unmet}
 use Rattle.cmd_parts.proofs.join.add_loaded.Goals as goal
 
 pub returns-then-ne-clause-ok : goal.returns-then-ne-clause-ok

@@ -9,7 +9,7 @@ use Rattle.ledger.proofs.TextOrder.{all_apart}
 use Rattle.cmd_options.specs.declared.ended.Ended.{Ended}
 use Rattle.cmd_parts.specs.inside.{AreAdded, EndsAdding}
 use Rattle.cmd_parts.proofs.JoinEnds.{ends_at_part}
-use Rattle.cmd_parts.proofs.Joining.{added_more, none_added, not_added}
+use Rattle.cmd_parts.proofs.JoinedParts.{added_more, none_added, not_added}
 use Rattle.cmd_parts.proofs.join.add_parts.Goals as goal
 use Rattle.cmd_parts.proofs.join.add_parts.Goals.{then-not-branch, else-not-branch}
 

@@ -5,7 +5,7 @@ use Rattle.cmd_options.specs.declared.stopped.Stopped.{Stopped}
 use Rattle.cmd_options.specs.declared.stopped.Stopped.TheVariants.{Ended as EndedBy}
 use Rattle.cmd_options.specs.declared.ended.Ended.TheVariants.{BadHeader, WrongRoot}
 use Rattle.cmd_parts.specs.Join.{IsMetAs, IsMetIn}
-use Rattle.cmd_parts.proofs.Joining.{met_so, unmet}
+use Rattle.cmd_parts.proofs.JoinedParts.{met_so, unmet}
 use Rattle.cmd_parts.proofs.join.add_read.Goals as goal
 
 pub returns-in-Ok-clause-ok : goal.returns-in-Ok-clause-ok

@@ -8,7 +8,7 @@ use Rattle.cmd_parts.specs.Split.{path_within}
 use Rattle.cmd_options.specs.declared.ended.Ended.{Ended}
 use Rattle.cmd_options.specs.declared.ended.Ended.TheVariants.{NoMemory}
 use Rattle.cmd_parts.specs.Gather.{EndsGathering}
-use Rattle.cmd_parts.proofs.Joining.{appends_nothing, gathered_so}
+use Rattle.cmd_parts.proofs.JoinedParts.{appends_nothing, gathered_so}
 use Rattle.cmd_parts.proofs.JoinEnds.{ends_behind, ends_trunk, none_met}
 use Rattle.cmd_parts.proofs.join.gather.Goals as goal
 use Rattle.cmd_parts.proofs.join.gather.Goals.{then-is_kept, else-is_kept}

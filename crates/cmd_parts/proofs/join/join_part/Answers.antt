@@ -3,7 +3,7 @@ use Rattle.std.specs.Prelude.{codes}
 use Rattle.machine_text.specs.Text.{text_of}
 use Rattle.cmd_parts.specs.Join.{IsMet, IsMetIn}
 use Rattle.cmd_parts.specs.Split.{path_within}
-use Rattle.cmd_parts.proofs.Joining.{met_nothing, met_so, met_there, unmet}
+use Rattle.cmd_parts.proofs.JoinedParts.{met_nothing, met_so, met_there, unmet}
 use Rattle.cmd_parts.proofs.join.join_part.Goals as goal
 
 pub returns-in-Some-clause-ok : goal.returns-in-Some-clause-ok

@@ -4,7 +4,7 @@ use Rattle.ledger.proofs.StageLaws.{if_err}
 use Rattle.cmd_options.specs.declared.ended.Ended.{Ended}
 use Rattle.cmd_parts.specs.Join.{EndsTelling}
 use Rattle.cmd_parts.proofs.JoinEnds.{ends_gathered, ends_untold}
-use Rattle.cmd_parts.proofs.Joining.{all_told}
+use Rattle.cmd_parts.proofs.JoinedParts.{all_told}
 use Rattle.cmd_parts.proofs.join.join_parts.Goals as goal
 
 pub returns-clause-tells : goal.returns-clause-tells

@@ -6,7 +6,7 @@ use Rattle.wire.specs.Happening.{Ticked}
 use Rattle.peers.specs.Connections.{Opened, Came, Gone, Passed, Room}
 use Rattle.peers.specs.Peers.{peer_at}
 use Rattle.peers.specs.Served.{served}
-use Rattle.peers.proofs.Hearing.{heard_whole}
+use Rattle.peers.proofs.HeardLines.{heard_whole}
 use Rattle.peers.proofs.serving.take_arrival.Goals as goal
 
 pub returns-in_ok-open-in-Opened-clause-ok : goal.returns-in_ok-open-in-Opened-clause-ok

@@ -38,6 +38,9 @@ wasn't kept; the status is the same.
 Standard error says how far it is: at a terminal on one line that is written over, elsewhere with --progress, a line a
 second.
 
+With --why standard error says of the first line that isn't kept why it isn't: `line N isn't kept: NUMBER, WORDS`,
+without a number where it is torn off or repeated.
+
 Exit status: 0 the report says complete, and all was kept; 1 it doesn't, or the ledger was refused
 (`refused 404` no header with a readable table, `refused 405` its table doesn't name its states in order);
 2 a wrong command line; 3 out of memory (`refused memory`); 4 the file couldn't be read (`refused 605`)
@@ -58,6 +61,12 @@ here. docs/CLUSTER.md has more.
   bb coord 4 --listen 127.0.0.1:7007 --ledger four.ledger
   bb work --connect 127.0.0.1:7007 --hard
 
+ADDR is HOST:PORT, a port alone of 127.0.0.1, or the path of a socket file, which has a `/`; with port 0 standard
+error says at which port it listens. A socket file at which nobody listens any more is made anew; whatever else stands
+there stays (`refused 603`). Once no table is open it goes on until each worker is gone, or for a minute. SIGINT and
+SIGTERM end it at once; what was acknowledged stands in the ledger. A ledger is cut or appended to only where that is
+due.
+
 Exit status: 0 at the end the board is complete; 1 it isn't, or the ledger was refused
 (`refused 404` no header with a readable table, `refused 405` another root); 2 a wrong command line;
 3 out of memory (`refused memory`); 4 a stream or the listening failed (`refused 603`), or the ledger did
@@ -72,6 +81,11 @@ seconds and so on, up to a minute.
 
   bb work --connect coordinator.example:7007 --hard
   bb work --connect /tmp/bb.socket --id 17 --ids 16
+
+What answers, and isn't a coordinator, counts as a try in vain: there are --tries in a row, 20 unless that is said. At
+a terminal it is said where it connects, and why a try was in vain. SIGINT and SIGTERM end it at once; what wasn't
+handed in is found again, or stands in a ledger of its own. Of several workers --ledger FILE means FILE.1, FILE.2 and
+so on.
 
 Exit status: 0 each worker was told to stop, since the tree is settled; 1 a ledger was refused (`refused 404` no header
 with a readable table, `refused 405` its table doesn't name its states in order); 2 a wrong command line; 3 out of
@@ -88,6 +102,11 @@ second.
 
 All workers run in this process, on one processor. To use all processors, cut the tree into parts by `bb split`, and
 work them off by `contrib/parallel.sh DIR`; or let `contrib/tree.sh N DIR` do both and join them.
+
+The workers have the ids 1, 2 and so on, and keep no ledgers; the coordinator's leases have the era 1. In a round the
+coordinator has a tick; each worker in its turn gets time to work eight times, and a tick; its frames go to the
+coordinator, and the answers come back. Rounds end where nothing is open, or after --rounds. How much is settled is
+Knuth's estimate (1975): a root weighs one, the children of a table share its weight evenly.
 
 Exit status: 0 the report says complete; 1 it doesn't, or the ledger was refused (`refused 404` no header
 with a readable table, `refused 405` another root); 2 a wrong command line; 3 out of memory
@@ -109,6 +128,8 @@ What becomes open below a settled table stays open: `bb run --ledger FILE` goes 
 Standard error says how far it is: at a terminal on one line that is written over, elsewhere with --progress, a line a
 second.
 
+Holdouts are looked at in the order of their texts as they stood at the start. FILE has to be there.
+
 Exit status: 0 the report says complete; 1 it doesn't, or the ledger was refused (`refused 404` no header
 with a readable table, `refused 405` its table doesn't name its states in order); 2 a wrong command line;
 3 out of memory (`refused memory`); 4 the file failed (`refused 604`), or a stream did (`refused 603`), or another
@@ -120,6 +141,11 @@ and then those of B for tables that A has no record of. Each record is judged ag
 `merged R open O holdouts H`: how many records, open tables and holdouts there are; and `left LINE`, as by
 `bb report`, of the first of the two of which not all could be kept.
 
+A is read and judged before B is opened, and both before OUT is touched. Where OUT leads to a plain file or to
+nothing, the ledger is written to a new file beside it, OUT.new, which takes its place once it is on the disk; links
+stay; after a failure the new file is left. A name that stands at OUT.new is removed first; where it leads to A or B,
+one more `.new` stands behind it. A device is written over.
+
 Exit status: 0 all was kept; 1 it wasn't, or a ledger was refused (`refused 404` no header with a readable
 table, `refused 405` the tables of the two headers differ, or one isn't in order); 2 a wrong command line;
 3 out of memory (`refused memory`); 4 a file couldn't be read (`refused 605`) or written (`refused 604`),
@@ -130,6 +156,8 @@ pub(crate) const CARRY: &str =
 tape then. Each record of IN is judged again, and OUT gets all that are kept, each halting one with its score. Then
 comes the line `carried R halting H`: how many records there are, and how many of them say that their table
 halts; and `left LINE`, as by `bb report`, where not all of IN could be kept.
+
+OUT is written as by `bb merge`, once IN was read to its end.
 
 Exit status: 0 all was kept; 1 it wasn't, or the ledger was refused (`refused 404` no header with a readable
 table, `refused 405` its table doesn't name its states in order); 2 a wrong command line; 3 out of memory
@@ -145,6 +173,10 @@ Commands that cut a damaged ledger keep what they cut off in a file beside it, F
   bb mend damaged.ledger whole.ledger
   cat FILE FILE.cut | bb mend - whole.ledger
 
+OUT is written as by `bb merge`, once IN was read to its end. A line of either version is taken; a holdout that a
+later line settles is settled in its place; a last line without a newline is read too. Lines that are dropped are
+spoilt, don't stand, are known already, or empty.
+
 Exit status: 0 each line was taken; 1 one wasn't, or the ledger was refused (`refused 404` no header with a readable
 table, `refused 405` its table doesn't name its states in order); 2 a wrong command line; 3 out of memory
 (`refused memory`); 4 a file couldn't be read (`refused 605`) or written (`refused 604`), or a stream failed
@@ -159,6 +191,15 @@ the first is refused (`refused 306`); with --out each table has a file, and its 
 
   echo 1RB1LB_1LA--- | bb draw > champion.svg
   bb draw --out pictures < tables.txt
+
+Of K steps, for R rows, every E-th time is drawn, where E is one more than the whole part of K/R; in place of the
+first that a run which halts doesn't reach, its last time. Of W cells, for C columns, each column has W/C of them,
+rounded up, and the last what is left. With --width W the first head stands in column W/2, rounded down, from 0 on;
+with --from a run that halts before begins at its last time. --square is as many pixels as make neither side longer
+than 1,000; --height makes rows as high as it allows. With --png the picture has the light colours, without line and
+legend, and isn't given with --height. A record's certificate isn't judged. With --out the folder is made where it
+isn't there; a picture is made beside its place and put there, a link at its place stays, and a picture that can't be
+written ends the command.
 
 Exit status: 0 each line was a table or a record, and one at most without --out; 1 a line was refused; 2 a wrong command
 line; 3 out of memory (`refused memory`); 4 a stream failed (`refused 603`), or a picture couldn't be written
@@ -176,6 +217,14 @@ run, its transitions, what its certificate says in words, and the record to copy
   bb page four.ledger --title 'Four states' > four.html
   bb decide --hard < tables.txt | bb page --table > tables.html
 
+It has the first eight champions with pictures of some 240 rows and at most 320 columns, a bar for each kind's share,
+and a plot of steps with a bar for each power of two, both scales logarithmic; what would be empty isn't there. It
+says what made it: the version, the SHA-256 of the program, and that of the ledger; of a folder the sum of the list of
+its ledgers (`cd DIR && LC_ALL=C sha256sum *.ledger | sha256sum`). Without a script all holdouts are there; with one
+500 at first, with search and sorting, #TABLE for a row, and the first 10,000 steps of a run by a button. A holdout's
+text is a link to bbchallenge.org; nothing is loaded before a reader follows it. With --table a line that is refused
+has a section too.
+
 Exit status: as that of `bb report`, and with --table as that of `bb check`.";
 
 pub(crate) const SPLIT: &str =
@@ -189,6 +238,9 @@ let `contrib/tree.sh N DIR` split, work off and join.
 Standard error says how far it is: at a terminal on one line that is written over, elsewhere with --progress, a line a
 second.
 
+A part that is there already, with as many bytes as its header or more, is left as it is. The open tables with few
+filled entries are decided in rounds, each in the order of their texts; a record without a verdict is appended too.
+
 Exit status: 0 trunk and parts are there; 1 the trunk was refused (`refused 404` no header with a readable table,
 `refused 405` another root), or a table with fewer than D filled entries has a part (`refused 407`); 2 a wrong
 command line; 3 out of memory (`refused memory`); 4 a file failed (`refused 604`), or a stream did (`refused 603`), or
@@ -201,6 +253,8 @@ FILE.cut, and `bb mend` reads it. It can be stopped at any time, and goes on whe
 `settled R holdouts H`: how many records came, and how many tables of the ledger are recorded without a verdict.
 Standard error says how far it is: at a terminal on one line that is written over, elsewhere with --progress, a line a
 second.
+
+FILE has to be there.
 
 Exit status: 0 no table is open, with or without holdouts; 1 the ledger was refused (`refused 404` no header with a
 readable table, `refused 405` its table doesn't name its states in order); 2 a wrong command line; 3 out of memory
@@ -222,6 +276,12 @@ root came already, `not under the trunk`; or, where it has no root, behind its n
 Standard error says how far it is: at a terminal on one line that is written over, elsewhere with --progress, a line a
 second.
 
+One part is in memory at a time; parts are looked for under the trunk's open tables, and other files don't count. A
+trunk that can't be read is `refused 605`, one without a root `refused 404`. The one ledger has the trunk's lines, and
+then those of the parts in the order of their roots; it is written as by `bb merge`, once the last part was judged,
+and not with `-`. An OUT that is the trunk or a part, under whatever name, is refused, and so is one where a link of
+these leads to OUT.new.
+
 Exit status: 0 the report says complete, and all was kept; 1 it doesn't, or a ledger was refused; 2 a wrong command
 line; 3 out of memory (`refused memory`); 4 a file couldn't be read (`refused 605`) or written (`refused 604`), or a
 stream failed (`refused 603`), or another process writes the one ledger (`refused 606`).";
@@ -237,6 +297,9 @@ where that isn't there, its tables are unknown. A line that is no table is refus
 
 With --holdouts no lines are read: the tables that are recorded without a verdict are printed, in the order of their
 texts, of all parts of a folder.
+
+Of a folder the trunk is loaded once, and a part when its tables are asked for; the last one is kept. Nothing is
+written. With --holdouts of a folder what is wrong with it is said as by `bb join`.
 
 Exit status: 0 each table has a record; 1 one has none, or a line or a ledger was refused; 2 a wrong command line; 3 out
 of memory (`refused memory`); 4 a file couldn't be read (`refused 605`), or a stream failed (`refused 603`).";
@@ -258,6 +321,13 @@ With --json each answer is an object, as by `bb check --json`, with the record a
 `ones` and `steps`.
 Standard error says how far it is: at a terminal on one line that is written over, elsewhere with --progress, a line a
 second.
+
+Loops are looked for within 10,000,000 steps at most. Words of n-grams are tried by width from 1 on, automata by
+stages (docs/FINDERS.md); --count is of both sides together. --hard has its own stages, and isn't given with --depth,
+--gram, --far, --words or --count.
+The file of --known is read once, before anything else; its lines stand in any order, and of each table the first
+counts that is a record of it and claims something. One that doesn't stand is forgotten, and the search goes on. At a
+terminal the first line that is a record is named at the end.
 
 Exit status: 0 each line was a table; 1 some wasn't; 2 a wrong command line; 3 out of memory
 (`refused memory` on standard error); 4 a stream failed (`refused 603`), or known records couldn't be
@@ -316,6 +386,10 @@ them. Where 1RB1LB_1LA--- H 7 4 is the third line, its object is, in one line,
 null where the answer has no such number, `code` and `meaning` where the line is accepted, `kind` and `table` where it
 is no record. With --why the words stand in the object too, and nothing is said of the line on standard error.
 
+With --why standard error says of each refused line why it is, as `line N: WORDS`; of a halting record whose number is
+wrong also in how many steps its table halts, where that is within 100,000,000: such a line costs a run of as many. At
+a terminal the first line that is a table alone is named at the end.
+
 Exit status: 0 all accepted; 1 a line was refused; 2 a wrong command line; 3 out of memory
 (`refused memory` on standard error); 4 a stream failed (`refused 603`).";
 
@@ -335,6 +409,11 @@ and `halts K ones S`.
 
   echo 1RB1LB_1LA--- | bb show --steps 10 --fold
 
+Between the time and the tape stand two spaces. The last configuration of a run that halts is shown also where its
+time isn't one of those that are asked for. With --fold a word of at most 16 symbols that stands at least three times
+on one side of the head is written `1^4` or `(01)^3`, the shortest first. A line that is neither a table nor a record
+is refused as by `bb check`.
+
 Exit status: 0 each line was a table or a record; 1 a line was refused; 2 a wrong command line; 3 out of memory
 (`refused memory`); 4 a stream failed (`refused 603`).";
 
@@ -347,5 +426,12 @@ can't be given with it.
 
   bb tables < list.txt | bb decide --hard
   bb tables --records < list.txt | bb check
+
+A word is a longest row of the characters 0 to 9, A to Z, `_` and `-`; Z and H read as undefined. A line over 65,536
+bytes is passed over. What was passed over is said so: `passed over: lines without a table L, doubles D`, where either
+isn't 0; it isn't refused.
+With --normal states that the run doesn't come to in --steps steps are last, in their old order, and entries that it
+doesn't use are renamed and mirrored along; doubles are left out after that. With --records a line that is a record,
+but for white space at its ends, is printed as it is; of any other line the tables are.
 
 Exit status: 0; 2 a wrong command line; 3 out of memory (`refused memory`); 4 a stream failed (`refused 603`).";

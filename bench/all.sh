@@ -3,8 +3,7 @@
 # beside their rows goes to standard error. It needs Python 3.10 and Linux on x86-64, and rustc for the plain programs with
 # which bb is compared; where there is none, it says so, and those rows are left out. The whole takes some five minutes of
 # one processor, `quick`, with fewer records and one sample of five states, two. Not run here, since they make no row of
-# that table: bench/five_states.py (hours), bench/stages.py, bench/loops.py, bench/killed.py, bench/killed_run.py,
-# bench/read_json.py, and bench/parts.py, which installs packages.
+# that table: bench/five_states.py (hours) and bench/stages.py.
 set -e
 cd "$(dirname "$0")"
 said=$(mktemp)

@@ -7,12 +7,14 @@ stress/cluster.py [--states N] [--seed S] [WAY..]: the ways are
     socket    contrib/all.sh, over a socket file
     crowd     50 processes of workers over TCP
     workers   workers that are killed and begun again
-    killed    a coordinator that is killed and begun again, ten times, with its workers behind relays that see each ACK
+    killed    a coordinator that is killed and begun again, ten times, with its workers behind relays that see each ACK; with
+              workers that are killed too it is a way of stress/killed.py
     hostile   random bytes, half frames, lines without end, nothing, frames with others' ids and leases, frames without reading
     cable     two hosts in network namespaces whose link is down for SECONDS (--down, 90 unless said), as root alone
 
 all but `cable` where none is named. Prints a line for each, and ends with 1 at the first that goes wrong."""
 import argparse
+import itertools
 import os
 import random
 import select
@@ -27,6 +29,10 @@ import time
 TOP = os.path.dirname(os.path.dirname(os.path.abspath(__file__)))
 sys.path.insert(0, os.path.join(TOP, "bench"))
 from program import PROGRAM  # noqa: E402
+
+
+# By what programs are ended: none of these is answered, and nothing that was acknowledged may be lost by one.
+ENDS = itertools.cycle((signal.SIGKILL, signal.SIGTERM, signal.SIGINT))
 
 
 def free_port():
@@ -51,8 +57,12 @@ class Coordinator:
                            "--era", str(self.era)], stdout=subprocess.PIPE, stderr=subprocess.PIPE)
 
     def kill(self):
-        self.process.kill()
+        end = next(ENDS)
+        self.process.send_signal(end)
         self.process.communicate()
+        if self.process.returncode not in (-end, 0):
+            print(f"killed: by {end!r} the coordinator ended with {self.process.returncode}")
+            sys.exit(1)
 
     def ended(self, seconds):
         said, faults = self.process.communicate(timeout=seconds)
@@ -171,13 +181,23 @@ def killed_workers(states, expected, folder, chance):
     return f"{killed} killed"
 
 
-def killed_coordinator(states, expected, folder, chance):
+def killed_coordinator(states, expected, folder, chance, kills, of_workers):
+    """Kills the coordinator so often, and on the average so many workers a second between; how often each was killed in the
+    end, and how many tables were acknowledged."""
     port = free_port()
     relay = Relay(port)
     coordinator = Coordinator(states, folder, port)
-    workers, killed = [worker(relay.port, 16) for _ in range(3)], 0
-    while killed < 10 and coordinator.process.poll() is None:
-        time.sleep(chance.uniform(0.3, 1.5))
+    workers, killed, killed_workers_too = [worker(relay.port, 16) for _ in range(3)], 0, 0
+    while killed < kills and coordinator.process.poll() is None:
+        end = time.time() + chance.uniform(0.3, 1.5)
+        while time.time() < end:
+            time.sleep(0.1)
+            if chance.random() < of_workers / 10:
+                place = chance.randrange(len(workers))
+                workers[place].send_signal(next(ENDS))
+                workers[place].communicate()
+                workers[place] = worker(relay.port, 16)
+                killed_workers_too += 1
         if coordinator.process.poll() is not None:
             break
         coordinator.kill()
@@ -190,7 +210,10 @@ def killed_coordinator(states, expected, folder, chance):
             sys.exit(1)
         coordinator.begin()
     check("killed", coordinator, expected, 900, workers)
-    return f"{killed} times; {len(relay.acknowledged)} tables acknowledged, none lost"
+    if relay.acknowledged - coordinator.recorded():
+        print("killed: tables were acknowledged and aren't in the ledger of the end")
+        sys.exit(1)
+    return killed, killed_workers_too, len(relay.acknowledged)
 
 
 def hostile_peer(kind, port, stop, chance):
@@ -278,6 +301,7 @@ def main():
     parser.add_argument("ways", nargs="*")
     asked = parser.parse_args()
     signal.signal(signal.SIGPIPE, signal.SIG_IGN)
+    signal.signal(signal.SIGINT, signal.default_int_handler)
     chance = random.Random(asked.seed)
     states = asked.states
     expected = subprocess.run([PROGRAM, "run", str(states), "--hard"], stdout=subprocess.PIPE, check=True).stdout
@@ -285,7 +309,7 @@ def main():
         "socket": lambda folder: over_socket(states, expected),
         "crowd": lambda folder: crowd(states, expected, folder),
         "workers": lambda folder: killed_workers(states, expected, folder, chance),
-        "killed": lambda folder: killed_coordinator(states, expected, folder, chance),
+        "killed": lambda folder: "%d times, %d workers; %d tables acknowledged, none lost" % killed_coordinator(states, expected, folder, chance, 10, 0),
         "hostile": lambda folder: hostile(states, expected, folder, chance),
         "cable": lambda folder: cable(states, expected, folder, asked.down),
     }

@@ -1,17 +1,19 @@
 #!/usr/bin/env python3
-"""How the records of examples/five-states.known were found, and that they are what is said of them: bench/known.py.
+"""How the records of examples/five-states.known were found, and that they are what is said of them: stress/known.py.
 
 They are those of the tree of five states that no search of bb finds. The searches that found them were plain programs that aren't
 kept here; HOW says what each did, so that they can be made again. Whoever doesn't believe in them needn't: bb judges each record,
-and so do the plain programs of this folder (plain_check.rs), as this script does. It also asks `bb decide --hard` for each table,
+and so do the plain programs of bench/ (plain_check.rs), as this script does. It also asks `bb decide --hard` for each table,
 which finds none, and says what is then to be taken out of the file where it finds one after all. Ends with 1 where something is not so.
 """
 import os
 import sys
 import tempfile
 
-from measured import built, run
-from program import PROGRAM, TOP
+TOP = os.path.dirname(os.path.dirname(os.path.abspath(__file__)))
+sys.path.insert(0, os.path.join(TOP, "bench"))
+from measured import built, run  # noqa: E402
+from program import PROGRAM  # noqa: E402
 
 WORDS = """The first automaton has a state for each word of what was read last, at most 33 symbols, from which the last 10 are dropped
 where they repeat twice; its edges were closed within 60,000 edges and 12,000 states. Then two states were made one, with what their

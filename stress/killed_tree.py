@@ -1,5 +1,5 @@
 #!/usr/bin/env python3
-"""contrib/tree.sh, killed at random moments and gone on with: bench/killed_tree.py N DIR [KILLS [SECONDS [SEED]]] begins it, kills it
+"""contrib/tree.sh, killed at random moments and gone on with: stress/killed_tree.py N DIR [KILLS [SECONDS [SEED]]] begins it, kills it
 with all that it has begun KILLS times (10, if not said), each time after a random time of at most SECONDS (60), and lets it then go on
 to its end. Prints when it was killed, the report, and the time that it took from beginning to end, on the clock and of processors."""
 import os
@@ -10,7 +10,9 @@ import subprocess
 import sys
 import time
 
-from program import PROGRAM, TOP
+TOP = os.path.dirname(os.path.dirname(os.path.abspath(__file__)))
+sys.path.insert(0, os.path.join(TOP, "bench"))
+from program import PROGRAM  # noqa: E402
 
 SCRIPT = os.path.join(TOP, "contrib", "tree.sh")
 

@@ -7,11 +7,12 @@ import shutil
 import subprocess
 import sys
 
-from program import PROGRAM
+TOP = os.path.dirname(os.path.dirname(os.path.abspath(__file__)))
+sys.path.insert(0, os.path.join(TOP, "bench"))
+from program import PROGRAM  # noqa: E402
 
-HERE = os.path.dirname(os.path.abspath(__file__))
 BB = PROGRAM
-EXAMPLES = os.path.join(HERE, "..", "examples")
+EXAMPLES = os.path.join(TOP, "examples")
 REPORTS = [["run", "1"], ["run", "2"], ["run", "3"], ["run", "2", "--rounds", "2"]] + [
     ["report", os.path.join(EXAMPLES, name)] for name in sorted(os.listdir(EXAMPLES)) if name.endswith(".ledger")]
 NUMBERS = ["nodes", "halting", "never", "holdouts", "open"]

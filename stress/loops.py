@@ -1,14 +1,17 @@
 #!/usr/bin/env python3
 """Compares what bb decide finds of halting runs and loops in 1,000 steps with what a search without its allowance of cells finds
-(bench/plain_decide.rs), on random tables of 3 to 5 states: bench/loops.py [SEED [COUNT]], 300,000 tables if not said, which
+(bench/plain_decide.rs), on random tables of 3 to 5 states: stress/loops.py [SEED [COUNT]], 300,000 tables if not said, which
 takes a minute. Prints how many of each kind there were, and the first that differs, and then ends with 1."""
 import collections
+import os
 import random
 import sys
 import tempfile
 
-from measured import built, run
-from program import PROGRAM
+TOP = os.path.dirname(os.path.dirname(os.path.abspath(__file__)))
+sys.path.insert(0, os.path.join(TOP, "bench"))
+from measured import built, run  # noqa: E402
+from program import PROGRAM  # noqa: E402
 
 DECIDE = [PROGRAM, "decide", "--depth", "0", "--gram", "0", "--far", "0"]
 PIECE = 100_000

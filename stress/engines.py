@@ -13,7 +13,9 @@ import sys
 import tempfile
 import time
 
-from program import PROGRAM, TOP
+TOP = os.path.dirname(os.path.dirname(os.path.abspath(__file__)))
+sys.path.insert(0, os.path.join(TOP, "bench"))
+from program import PROGRAM  # noqa: E402
 
 STATES = "4"
 FILLED = "4"

@@ -7,8 +7,10 @@ import subprocess
 import sys
 import tempfile
 
-from measured import built, used
-from program import PROGRAM
+TOP = os.path.dirname(os.path.dirname(os.path.abspath(__file__)))
+sys.path.insert(0, os.path.join(TOP, "bench"))
+from measured import built, used  # noqa: E402
+from program import PROGRAM  # noqa: E402
 
 
 def told(command):

@@ -224,12 +224,12 @@ def mixed_up(tries):
         tries.expect(re.search(r"<(FILE|PATH|IN)>", faults), f"bb {name} < FILE: doesn't say that a file is to be named: {faults!r}")
 
 
-def made(tries, words, folder=None):
-    """What a script of packaging/ prints, within a time that it never needs."""
+def made(tries, words):
+    """What a script of packaging/ prints, within a time that it never needs, and without a commit that says when it is."""
     tries.count += 1
     try:
-        done = subprocess.run([os.path.join(TOP, "packaging", *words[0].split("/")), *words[1:]], cwd=folder, capture_output=True, text=True,
-                              timeout=PATIENCE, check=False)
+        done = subprocess.run([os.path.join(TOP, "packaging", *words[0].split("/")), *words[1:]], capture_output=True, text=True,
+                              env={**os.environ, "SOURCE_DATE_EPOCH": "1"}, timeout=PATIENCE, check=False)
     except subprocess.TimeoutExpired:
         tries.expect(False, f"packaging/{words[0]} isn't done in {PATIENCE} seconds")
         return ""

@@ -1,6 +1,6 @@
 #!/usr/bin/env python3
-"""Times bb check against bench/plain_counted.rs on 20,000 records of the kind W, those that crates/try_counted/data/counted.rows
-has, again and again, and compares what both print."""
+"""Times bb check against bench/plain_counted.rs on 20,000 records of the kind W, those of examples/counted.records again and
+again, and compares what both print."""
 import os
 import sys
 
@@ -12,10 +12,8 @@ COUNT = 20_000
 
 def kept():
     """Records of counted automata that stand."""
-    with open(os.path.join(TOP, "crates", "try_counted", "data", "counted.rows"), "rb") as file:
-        rows = [line[len(b"counted "):-len(b" = never")] for line in file.read().splitlines()
-                if line.startswith(b"counted ") and line.endswith(b" = never")]
-    return [record for record in rows if record.count(b" ") == 6]
+    with open(os.path.join(TOP, "examples", "counted.records"), "rb") as file:
+        return file.read().splitlines()
 
 
 def main():

@@ -7,9 +7,9 @@ all from it on. Such a run ends as the one with ample memory does, or with 3, a 
 ample run's ledger, or what stood there; where it goes on with it, each whole line that stood there is in it, or in the file
 beside it that keeps what is cut off. The same command, again and with ample memory, then comes to the ample run's end.
 
-stress/refused.py --calls: the calls of the crates below, by the programs of `crates/try_records` and `crates/try_nodes`,
-which make those of `calls.rows` again where they are refused: all rows are kept, whichever one request is refused. Of the
-calls of `free.rows` that take no memory none is the first that is refused.
+stress/refused.py --calls: calls of finders, records and both roles, by the program of `crates/try_rows`, which makes those
+of `calls.rows` again where they are refused: all rows are kept, whichever one request is refused. Of the calls of
+`free.rows` that take no memory none is the first that is refused.
 
 Both are a part of `./ci`.
 
@@ -28,7 +28,7 @@ TOP = os.path.dirname(os.path.dirname(os.path.abspath(__file__)))
 sys.path.insert(0, os.path.join(TOP, "bench"))
 from program import PROGRAM  # noqa: E402
 
-ROWS = ["try_records", "try_nodes"]
+ROWS = os.path.join(TOP, "crates", "try_rows")
 
 # The line of `free.rows` behind which no memory is taken.
 FREE = b"\n# From here on no memory is taken.\n"
@@ -204,15 +204,14 @@ def tried(command, folder, shim, is_all):
         spared += is_same
 
 
-def kept(name, rows, refusing=None):
-    """Has a program's file of rows kept; answers how that ended and how many requests were refused."""
-    crate = os.path.join(TOP, "crates", name)
-    return run([rows], b"", os.path.join(crate, "data"), refusing, os.path.join(crate, "out", name))
+def kept(rows, refusing=None):
+    """Has a file of rows kept; answers how that ended and how many requests were refused."""
+    return run([rows], b"", os.path.join(ROWS, "data"), refusing, os.path.join(ROWS, "out", "try_rows"))
 
 
-def calls_wrong(name, shim):
-    """Refuses each request of the calls of a program; answers what was wrong, or how many there were of each call."""
-    ample, _ = kept(name, "calls.rows")
+def calls_wrong(shim):
+    """Refuses each request of the calls; answers what was wrong, or how many there were of each call."""
+    ample, _ = kept("calls.rows")
     if ample.returncode != 0:
         return f"with ample memory: {ample.stdout!r}", {}
     counts = collections.Counter()
@@ -220,13 +219,13 @@ def calls_wrong(name, shim):
     while True:
         number += 1
         refusing = {"LD_PRELOAD": shim, "BB_REFUSE": str(number)}
-        ran, refused = kept(name, "calls.rows", refusing)
+        ran, refused = kept("calls.rows", refusing)
         if not same(ran, ample):
             return f"request {number} refused: {ran.stdout!r}", counts
         if refused == 0:
             return None, counts
         # With all later requests refused too, the call that met it is the first that isn't answered.
-        ran, _ = kept(name, "calls.rows", {**refusing, "BB_REFUSE_ALL": "1"})
+        ran, _ = kept("calls.rows", {**refusing, "BB_REFUSE_ALL": "1"})
         counts[first_refused(ran.stdout).split(b" ")[0].decode()] += 1
 
 
@@ -236,15 +235,15 @@ def first_refused(printed):
     return rest.partition(b": ")[2] if answer == b"refused memory\n" else b"(before the first call)"
 
 
-def free_wrong(name, shim):
+def free_wrong(shim):
     """Refuses all requests from one on, until the rows are kept: which was refused then takes no memory?"""
-    with open(os.path.join(TOP, "crates", name, "data", "free.rows"), "rb") as file:
+    with open(os.path.join(ROWS, "data", "free.rows"), "rb") as file:
         free = file.read().partition(FREE)[2].split(b"\n")
     number = 0
     while True:
         number += 1
         refusing = {"LD_PRELOAD": shim, "BB_REFUSE": str(number), "BB_REFUSE_ALL": "1"}
-        ran, refused = kept(name, "free.rows", refusing)
+        ran, refused = kept("free.rows", refusing)
         if ran.returncode == 0:
             return (f"{refused} requests, and all rows are kept" if refused else None), number - 1
         row = first_refused(ran.stdout)
@@ -253,19 +252,16 @@ def free_wrong(name, shim):
 
 
 def try_calls(shim):
-    total = 0
-    for name in ROWS:
-        found, counts = calls_wrong(name, shim)
-        if not found:
-            for call, count in counts.items():
-                print(f"refused: {count} requests of {call}")
-            total += sum(counts.values())
-            found, count = free_wrong(name, shim)
-        if found:
-            print(f"refused: the calls of {name}: {found}")
-            return 1
-        print(f"refused: {count} requests of {name} before those of its calls that take no memory, and none from them")
-    print(f"refused: {total} requests of calls, one by one: each call made again, with the same answer")
+    found, counts = calls_wrong(shim)
+    if not found:
+        for call, count in counts.items():
+            print(f"refused: {count} requests of {call}")
+        found, count = free_wrong(shim)
+    if found:
+        print(f"refused: {found}")
+        return 1
+    print(f"refused: {count} requests before those of the calls that take no memory, and none from them")
+    print(f"refused: {sum(counts.values())} requests of calls, one by one: each call made again, with the same answer")
     return 0
 
 

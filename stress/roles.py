@@ -1,7 +1,7 @@
 #!/usr/bin/env python3
 """Frames, ticks, turns of work and restarts in random order: a worker and a coordinator against plain models of their rules.
 
-stress/roles.py [SEED [SESSIONS]]: events are handed to a node by the program of `crates/try_nodes`, which has to be built,
+stress/roles.py [SEED [SESSIONS]]: events are handed to a node by the program of `crates/try_rows`, which has to be built,
 and each answer, with what it appends, sends and notes, is compared. A worker gets grants, acknowledgements and forged frames;
 a coordinator of one to three states, for which `nodes.py` has no clock, gets ticks too. Both are begun again from the
 ledgers that they wrote. Prints how many events of each kind were answered, and the first that differs, and then ends with 1.
@@ -19,7 +19,7 @@ from records import damaged, none_differs
 from tree import Board, HEADER, is_in_order
 
 TOP = os.path.dirname(os.path.dirname(os.path.abspath(__file__)))
-DRIVER = os.path.join(TOP, "crates", "try_nodes", "out", "try_nodes")
+DRIVER = os.path.join(TOP, "crates", "try_rows", "out", "try_rows")
 STEPS = 100
 MOST_RECORDS = 32
 MOST_SENT = 64

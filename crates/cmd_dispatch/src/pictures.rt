@@ -1,11 +1,11 @@
 // `bb draw` and `bb page`.
 use crate::call::Call;
 use crate::ledgers::STANDARD_INPUT;
-use cmd_draw::cmd_draw;
 use cmd_folder_page::folder_page_at;
 use cmd_options::{Drawing, Ended, Outcome, Paging, VERSION, ended_by};
 use cmd_page::{Heading, LedgerSum, Maker, write_ledger_page};
 use cmd_record_page::record_page_for;
+use cmd_show::draw_asked;
 use files::{Disk, Files, Opened};
 use std::alloc::Global;
 use std::io::{Read, Write};

@@ -3,14 +3,14 @@ use Rattle.std.specs.Prelude.{◌≡◌, ℕ, ◌+◌, ◌-◌, ◌/◌, ◌==�
 use Rattle.machine_text.specs.Packed.{Packed, entry_of}
 use Rattle.machine_text.specs.Text.{text_of}
 use Rattle.run.specs.Limits.{halt_step_limit}
-use Rattle.cmd_picture.specs.declared.times.Times.{Times}
-use Rattle.cmd_picture.specs.declared.view.View.{View}
-use Rattle.cmd_picture.specs.declared.size.Size.{Size}
-use Rattle.cmd_picture.specs.View.{columns_of, share_in}
+use Rattle.cmd_show.specs.declared.times.Times.{Times}
+use Rattle.cmd_show.specs.declared.view.View.{View}
+use Rattle.cmd_show.specs.declared.size.Size.{Size}
+use Rattle.cmd_show.specs.View.{columns_of, share_in}
 use Rattle.cmd_page.specs.Groups.{grouped}
-use Rattle.cmd_picture.specs.Rows.{Shown, AreRows}
-use Rattle.cmd_picture.specs.Svg.{svg_text}
-use Rattle.cmd_picture.specs.Visits.{IsPlaced}
+use Rattle.cmd_show.specs.Rows.{Shown, AreRows}
+use Rattle.cmd_show.specs.Svg.{svg_text}
+use Rattle.cmd_show.specs.Visits.{IsPlaced}
 use Rattle.cmd_page.specs.Transitions.{transitions_html}
 
 -- how many champions have a picture

@@ -1,12 +1,12 @@
 // Pictures of the runs of champions.
 ghost use Rattle.std.specs.Prelude.{◌≡◌, ℕ, ◌<◌, ◌++◌, List, IfOk, OnOk};
 ghost use Rattle.std.specs.Vec.Iter.{into_iter_items};
-ghost use Rattle.cmd_picture.specs.Times.{AreWithinRuns};
+ghost use Rattle.cmd_show.specs.Times.{AreWithinRuns};
 ghost use Rattle.cmd_page.specs.Figures.{AreFiguresOf, IsChampionPicture, IsPictureIf, caption_html, every_text, figure_html, picture_limit, picture_times, sampling_html};
 
 use crate::groups::append_grouped;
 use crate::transitions::append_transitions;
-use cmd_picture::{Size, Times, View, placement, svg};
+use cmd_show::{Size, Times, View, placement, svg};
 use kind_evidence::NoMemory;
 use ledger::Champions;
 use machine_text::{TEXT_BYTES, Table};

@@ -6,7 +6,7 @@ use Rattle.cmd_lines.specs.Said.{AreTakenBy, TakesStream}
 use Rattle.cmd_lines.specs.Stream.{AnswersStream, SaysAnswer}
 use Rattle.cmd_lines.proofs.Answering.{stream_answered}
 use Rattle.cmd_show.specs.Shown.{SaysShown}
-use Rattle.cmd_show.specs.inside.{KeepsAsked}
+use Rattle.cmd_show.specs.inside.Lines.{KeepsAsked}
 
 module _ {D : Type 0} (asked : D → Showing) where
   lines_kept : (old : D) (lines : List (List ℕ)) (o : Outcome) (new : D) (said : List ℕ) → AreTakenBy (KeepsAsked asked) old lines o new said

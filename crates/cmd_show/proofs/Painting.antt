@@ -16,14 +16,14 @@ use Rattle.law_turing.proofs.Cells.{by_place}
 use Rattle.law_turing.proofs.Heads.{head_reach}
 use Rattle.law_turing.proofs.RunLaws.{from_zero, next_is, before}
 use Rattle.law_turing.proofs.Steps.{takes}
-use Rattle.cmd_picture.specs.declared.ones.Stretch.{Stretch}
-use Rattle.cmd_picture.specs.declared.view.View.{View}
-use Rattle.cmd_picture.specs.View.{place, IsHeadAt}
-use Rattle.cmd_picture.specs.Runs.{AreApart}
-use Rattle.cmd_picture.specs.Rows.{Shown, Shows}
+use Rattle.cmd_show.specs.declared.ones.Stretch.{Stretch}
+use Rattle.cmd_show.specs.declared.view.View.{View}
+use Rattle.cmd_show.specs.View.{place, IsHeadAt}
+use Rattle.cmd_show.specs.Runs.{AreApart}
+use Rattle.cmd_show.specs.Rows.{Shown, Shows}
 use Rattle.cmd_show.proofs.Symbols.{drawn, drawn_none, not_one, shown_cells, shown_apart}
 use Rattle.cmd_show.specs.Tape.{cells_from, AreSides}
-use Rattle.cmd_show.specs.inside.{whole, first_column, painted}
+use Rattle.cmd_show.specs.inside.Lines.{whole, first_column, painted}
 
 length_cells : (c : Config) (n : ℕ) (x : ℤ) → length (cells_from c x n) ≡ n
 unfolding cells_from

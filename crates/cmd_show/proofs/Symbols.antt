@@ -6,14 +6,14 @@ use Rattle.machine_text.specs.declared.transition.Sym.TheVariants.{Zero, One}
 use Rattle.law_turing.specs.Machine.{Machine}
 use Rattle.law_turing.specs.Run.{Config, cell}
 use Rattle.law_turing.specs.Tape.{cell_of}
-use Rattle.cmd_picture.specs.declared.ones.Stretch.{Stretch}
-use Rattle.cmd_picture.specs.declared.tone.Tone.TheVariants.{Dark}
-use Rattle.cmd_picture.specs.Runs.{AreApart}
-use Rattle.cmd_picture.specs.Runs as picture
-use Rattle.cmd_picture.specs.Rows.{Shown, Shows}
-use Rattle.cmd_picture.specs.Tones.{has_tone, is_toned, ones_at, ones_in, ones_in_cells}
-use Rattle.cmd_picture.specs.View.{place}
-use Rattle.cmd_show.specs.inside.{whole}
+use Rattle.cmd_show.specs.declared.ones.Stretch.{Stretch}
+use Rattle.cmd_show.specs.declared.tone.Tone.TheVariants.{Dark}
+use Rattle.cmd_show.specs.Runs.{AreApart}
+use Rattle.cmd_show.specs.Runs as picture
+use Rattle.cmd_show.specs.Rows.{Shown, Shows}
+use Rattle.cmd_show.specs.Tones.{has_tone, is_toned, ones_at, ones_in, ones_in_cells}
+use Rattle.cmd_show.specs.View.{place}
+use Rattle.cmd_show.specs.inside.Lines.{whole}
 
 -- the symbol that runs of ones draw in a column: a one in their columns, a blank elsewhere
 unfoldable pub drawn : List Stretch → ℕ → Sym

@@ -5,8 +5,8 @@ use Rattle.law_turing.specs.Run.{Config, next, after}
 use Rattle.law_turing.specs.Halting.{HaltsAt}
 use Rattle.law_turing.specs.Score.{score_of}
 use Rattle.run.specs.Limits.{run_step_limit}
-use Rattle.cmd_picture.specs.declared.times.Times.{Times}
-use Rattle.cmd_picture.specs.Times.{due, last_time}
+use Rattle.cmd_show.specs.declared.times.Times.{Times}
+use Rattle.cmd_show.specs.Times.{due, last_time}
 use Rattle.cmd_options.specs.declared.options.Showing.{Showing}
 use Rattle.cmd_show.specs.Tape.{IsTapeText}
 

@@ -1,13 +1,13 @@
 // The cells of a row, as bytes.
 ghost use Rattle.std.specs.Prelude.{◌≡◌, ◌+◌, ◌^◌, ◌++◌, replicate, OnOk};
-ghost use Rattle.cmd_picture.specs.Runs.{AreApart};
-ghost use Rattle.cmd_show.specs.inside.{painted, first_column};
+ghost use Rattle.cmd_show.specs.Runs.{AreApart};
+ghost use Rattle.cmd_show.specs.inside.Lines.{painted, first_column};
 
-use cmd_picture::Stretch;
+use crate::ones::Stretch;
 use std::alloc::AllocError as NoMemory;
 
 // The first column that holds a one or has the head.
-#[tactic(auto, unfolding(crate::specs::inside::first_column))]
+#[tactic(auto, unfolding(crate::specs::inside::Lines::first_column))]
 pub(crate) fn first_column(runs: &[Stretch], head: u64) -> u64
     ensures { result ≡ first_column runs.now head }
 {

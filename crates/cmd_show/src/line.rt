@@ -4,14 +4,14 @@ ghost use Rattle.machine_text.specs.Packed.{entry_of};
 ghost use Rattle.law_turing.specs.Run.{Config, after};
 ghost use Rattle.law_turing.specs.Score.{score_of};
 ghost use Rattle.run.specs.Limits.{run_step_limit};
-ghost use Rattle.cmd_picture.specs.Rows.{Shows, shown_row};
+ghost use Rattle.cmd_show.specs.Rows.{Shows, shown_row};
 ghost use Rattle.cmd_show.specs.Moments.{IsLine, ShownMoment};
 ghost use Rattle.cmd_show.specs.Tape.{AreSides, IsMarked, IsTapeText, space_behind};
-ghost use Rattle.cmd_show.specs.inside.{whole};
+ghost use Rattle.cmd_show.specs.inside.Lines.{whole};
 
 use crate::cells::{first_column, paint};
 use crate::fold::append_folded;
-use cmd_picture::Row;
+use crate::row::Row;
 use machine_text::{State, Table};
 use run::Runner;
 use std::alloc::Global;

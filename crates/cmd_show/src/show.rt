@@ -60,7 +60,7 @@ struct Shower {
 impl Sayer for Shower {
     ghost use Rattle.std.specs.Prelude.{◌≡◌};
     ghost use Rattle.cmd_options.specs.declared.ended.Ended.TheVariants.{NoMemory as WantsMemory};
-    ghost use Rattle.cmd_show.specs.inside.{KeepsAsked};
+    ghost use Rattle.cmd_show.specs.inside.Lines.{KeepsAsked};
 
     ghost takes = { KeepsAsked (λ s. s.showing) };
 

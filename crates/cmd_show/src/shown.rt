@@ -1,15 +1,18 @@
 // The run of a table as text.
 ghost use Rattle.std.specs.Prelude.{◌≡◌, ◌++◌, ◌≤◌, false, ℕ, List, IfOk, OnOk};
 ghost use Rattle.machine_text.specs.Packed.{entry_of};
-ghost use Rattle.cmd_picture.specs.Times.{AreWithinRuns};
+ghost use Rattle.cmd_show.specs.Times.{AreWithinRuns};
 ghost use Rattle.cmd_show.specs.Moments.{AreLinesOf, ShownMoment, shown_times};
 ghost use Rattle.cmd_show.specs.Shown.{IsShownRun};
-ghost use Rattle.cmd_show.specs.inside.{whole};
+ghost use Rattle.cmd_show.specs.inside.Lines.{whole};
 
 use crate::line::append_line;
+use crate::row::Row;
+use crate::rows::Rows;
+use crate::times::Times;
+use crate::view::View;
 use cert::append_table;
 use cmd_options::Showing;
-use cmd_picture::{Row, Rows, Times, View};
 use machine_text::Table;
 use std::alloc::Global;
 use tape::NoMemory;

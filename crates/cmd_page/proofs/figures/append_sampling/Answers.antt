@@ -1,7 +1,7 @@
 use Rattle.std.proofs.Common.{ℕ, List, ◌++◌, ◌∙◌, ap}
 use Rattle.std.specs.Prelude.{codes}
 use Rattle.cmd_ledgers.proofs.Reports.{on_ok, one_more}
-use Rattle.cmd_picture.specs.View.{columns_of}
+use Rattle.cmd_show.specs.View.{columns_of}
 use Rattle.cmd_page.specs.Figures.{every_text}
 use Rattle.cmd_page.specs.Groups.{grouped}
 use Rattle.cmd_page.proofs.PageLaws.{ended}

@@ -1,10 +1,10 @@
 use Rattle.std.proofs.Common.{ℕ, List, ◌++◌, ◌∙◌, ap, subst}
 use Rattle.machine_text.specs.Packed.{entry_of}
-use Rattle.cmd_picture.specs.Rows.{AreRows}
-use Rattle.cmd_picture.specs.Svg.{svg_text}
-use Rattle.cmd_picture.specs.Visits.{IsPlaced}
-use Rattle.cmd_picture.specs.declared.times.Times.{Times}
-use Rattle.cmd_picture.specs.declared.view.View.{View}
+use Rattle.cmd_show.specs.Rows.{AreRows}
+use Rattle.cmd_show.specs.Svg.{svg_text}
+use Rattle.cmd_show.specs.Visits.{IsPlaced}
+use Rattle.cmd_show.specs.declared.times.Times.{Times}
+use Rattle.cmd_show.specs.declared.view.View.{View}
 use Rattle.cmd_page.specs.Figures.{columns_view, picture_size, sampling_html}
 use Rattle.cmd_page.proofs.figures.run_picture.Goals as goal
 

@@ -1,9 +1,9 @@
 use Rattle.std.proofs.Common.{rules, ℕ, ◌≡◌, ◌++◌, ◌+◌, ◌-◌, ◌≤◌, ◌<◌, ◌^◌, List, slice_index_or, drop, length, replicate, sym, ◌∙◌, ap, subst}
 use Rattle.std.proofs.lemmas.List.{drop_more}
-use Rattle.cmd_picture.specs.declared.ones.Stretch.{Stretch}
-use Rattle.cmd_picture.specs.Runs.{AreApart}
-use Rattle.cmd_show.specs.inside.{painted}
-use Rattle.cmd_show.proofs.Lines.{ok_then}
+use Rattle.cmd_show.specs.declared.ones.Stretch.{Stretch}
+use Rattle.cmd_show.specs.Runs.{AreApart}
+use Rattle.cmd_show.specs.inside.Lines.{painted}
+use Rattle.cmd_show.proofs.LineLaws.{ok_then}
 use Rattle.cmd_show.proofs.Painting.{apart_more, painted_more, painted_last}
 use Rattle.cmd_show.proofs.cells.paint.Goals as goal
 

@@ -1,6 +1,6 @@
 use Rattle.std.proofs.Common.{◌≡◌, ◌++◌, ◌+◌, ◌^◌, drop}
-use Rattle.cmd_picture.specs.Runs.{AreApart}
-use Rattle.cmd_show.specs.inside.{painted}
+use Rattle.cmd_show.specs.Runs.{AreApart}
+use Rattle.cmd_show.specs.inside.Lines.{painted}
 use Rattle.cmd_show.proofs.cells.paint.Given as goal
 
 -- the runs that are left are painted behind those before them

@@ -3,7 +3,7 @@ use Rattle.machine_text.specs.Packed.{entry_of}
 use Rattle.law_turing.specs.Run.{next}
 use Rattle.law_turing.specs.Score.{score_of}
 use Rattle.cmd_show.specs.Moments.{ending}
-use Rattle.cmd_show.proofs.Lines.{ok_then, ending_is, line_is}
+use Rattle.cmd_show.proofs.LineLaws.{ok_then, ending_is, line_is}
 use Rattle.cmd_show.proofs.line.append_line.Goals as goal
 
 pub returns : goal.returns

@@ -1,7 +1,7 @@
 use Rattle.std.proofs.Common.{take, drop, true, false, ◌∙◌, ap}
 use Rattle.machine_text.specs.Packed.{entry_of}
-use Rattle.cmd_picture.specs.Rows.{shown_row}
-use Rattle.cmd_show.proofs.Lines.{ok_then, state_low, tape_text}
+use Rattle.cmd_show.specs.Rows.{shown_row}
+use Rattle.cmd_show.proofs.LineLaws.{ok_then, state_low, tape_text}
 use Rattle.cmd_show.proofs.line.append_tape.Goals as goal
 
 pub append_both_folded-requires : goal.append_both_folded-requires

@@ -1,10 +1,10 @@
 use Rattle.std.proofs.Common.{◌≡◌, ℕ, ◌+◌, ◌-◌, ◌≤◌, ◌^◌, List, length, take, drop, sym, ◌∙◌, ap, subst, arith}
 use Rattle.machine_text.specs.Packed.{entry_of}
-use Rattle.cmd_picture.specs.declared.ones.Stretch.{Stretch}
-use Rattle.cmd_picture.specs.Rows.{shown_row}
-use Rattle.cmd_picture.specs.Runs.{AreApart}
+use Rattle.cmd_show.specs.declared.ones.Stretch.{Stretch}
+use Rattle.cmd_show.specs.Rows.{shown_row}
+use Rattle.cmd_show.specs.Runs.{AreApart}
 use Rattle.cmd_show.specs.Tape.{AreSides}
-use Rattle.cmd_show.specs.inside.{first_column, painted}
+use Rattle.cmd_show.specs.inside.Lines.{first_column, painted}
 use Rattle.cmd_show.proofs.Painting.{head_none, first_begins, sides_shown, painted_long}
 use Rattle.cmd_show.proofs.line.paint_row.Goals as goal
 

@@ -1,5 +1,5 @@
 use Rattle.std.proofs.Common.{◌∙◌}
-use Rattle.cmd_show.proofs.Lines.{score_there}
+use Rattle.cmd_show.proofs.LineLaws.{score_there}
 use Rattle.cmd_show.proofs.line.score_at.Goals as goal
 
 pub returns : goal.returns

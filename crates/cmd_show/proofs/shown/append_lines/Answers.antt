@@ -1,8 +1,8 @@
 use Rattle.std.proofs.Common.{◌++◌, ◌∙◌}
 use Rattle.machine_text.specs.Packed.{entry_of}
-use Rattle.cmd_picture.specs.Rows.{shown_row}
-use Rattle.cmd_picture.proofs.PictureLaws.{same_rows}
-use Rattle.cmd_show.proofs.Lines.{told_more, told_all, grown}
+use Rattle.cmd_show.specs.Rows.{shown_row}
+use Rattle.cmd_show.proofs.PictureLaws.{same_rows}
+use Rattle.cmd_show.proofs.LineLaws.{told_more, told_all, grown}
 use Rattle.cmd_show.proofs.shown.append_lines.Goals as goal
 
 -- the line of the next row, behind those before it

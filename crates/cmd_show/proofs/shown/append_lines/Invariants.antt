@@ -1,7 +1,7 @@
 use Rattle.std.proofs.Common.{◌≡◌, ◌+◌, ◌-◌, ◌++◌, List, ℕ}
 use Rattle.machine_text.specs.Packed.{entry_of}
 use Rattle.run.specs.Limits.{run_step_limit}
-use Rattle.cmd_show.specs.inside.{AreTold}
+use Rattle.cmd_show.specs.inside.Lines.{AreTold}
 use Rattle.cmd_show.proofs.shown.append_lines.Given as goal
 
 -- the lines of the rows that were given were appended

@@ -1,10 +1,10 @@
 use Rattle.std.proofs.Common.{◌++◌, ◌∙◌, ap, subst, refl}
 use Rattle.machine_text.specs.Packed.{entry_of}
 use Rattle.machine_text.specs.Text.{text_of}
-use Rattle.cmd_picture.specs.declared.times.Times.{Times}
-use Rattle.cmd_picture.specs.Rows.{Progress}
+use Rattle.cmd_show.specs.declared.times.Times.{Times}
+use Rattle.cmd_show.specs.Rows.{Progress}
 use Rattle.cmd_show.specs.Moments.{AreLinesOf}
-use Rattle.cmd_show.proofs.Lines.{ok_then, grown}
+use Rattle.cmd_show.proofs.LineLaws.{ok_then, grown}
 use Rattle.cmd_show.proofs.shown.append_shown.Goals as goal
 
 pub returns : goal.returns

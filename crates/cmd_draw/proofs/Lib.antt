@@ -1,3 +1,0 @@
-mod Endings
-mod Paths
-mod Turns

@@ -1,0 +1,39 @@
+-- The one picture that goes to a stream: of the first table that is asked for.
+use Rattle.std.specs.Prelude.{◌≡◌, ℕ, List, [], ◌∷◌, ◌++◌, Option, Some, None, Result, Ok, Err, codes}
+use Rattle.std.specs.Io.KnownBytes.{Appends}
+use Rattle.machine_text.specs.Packed.{Packed}
+use Rattle.text.specs.Lines.{BoundedLine}
+use Rattle.cert.specs.declared.record_fault.RecordFault.{RecordFault}
+use Rattle.cmd_lines.specs.Answer.{fault_text}
+use Rattle.cmd_options.specs.declared.drawing.Drawing.{Drawing}
+use Rattle.cmd_options.specs.declared.outcome.Outcome.{Outcome}
+use Rattle.cmd_options.specs.declared.outcome.Outcome.TheVariants.{Accepted, Refused}
+use Rattle.cmd_show.specs.declared.one.First.{First}
+use Rattle.cmd_show.specs.Asked.{table_asked}
+use Rattle.cmd_show.specs.Picture.{IsPicture}
+use Rattle.cmd_taking.specs.Said.{TakesStream}
+
+-- what is said to a table, by the one that came first: nothing to that, and that any other is one too many
+abbrev pub PicksTable : Packed → Option Packed → Outcome → Option Packed → List ℕ → Type 0
+PicksTable t None o new said = (new ≡ Some t) × (o ≡ Accepted) × (said ≡ [])
+PicksTable t (Some first) o new said = (new ≡ Some first) × (o ≡ Refused) × (said ≡ codes "refused 306\n")
+
+abbrev pub PicksAsked : Result Packed RecordFault → Option Packed → Outcome → Option Packed → List ℕ → Type 0
+PicksAsked (Ok t) old o new said = PicksTable t old o new said
+PicksAsked (Err f) old o new said = (new ≡ old) × (o ≡ Refused) × (said ≡ fault_text f ++ 10 ∷ [])
+
+-- what `bb draw` says to a line where the picture goes to standard output
+abbrev pub Picks : First → BoundedLine → Outcome → First → List ℕ → Type 0
+Picks old line o new said = PicksAsked (table_asked line) old.table o new.table said
+
+-- the picture of the table, if there is one, is written behind what a writer held
+abbrev pub WritesPicture : Drawing → Option Packed → Option (List ℕ) → Option (List ℕ) → Type 0
+WritesPicture d None held new_held = new_held ≡ held
+WritesPicture d (Some t) held new_held = (picture : List ℕ) × IsPicture d t picture × Appends held new_held picture
+
+-- a reader is read to its end; the picture of the first table is written, and what is said to the lines beside it
+pub record DrawsFirst (d : Drawing) (read new_read held new_held said new_said : Option (List ℕ))
+    (o : Outcome) : Type 0 where
+  pub first : First
+  pub takes : TakesStream Picks (record { table = None }) first read new_read said new_said o
+  pub writes : WritesPicture d first.table held new_held

@@ -1,0 +1,41 @@
+-- What only the code needs.
+use Rattle.std.specs.Prelude.{◌≡◌, ℕ, ◌+◌, ◌-◌, ◌^◌, Bool, true, false, pos, ◌-ℤ◌, min, List, [], ◌∷◌, ◌++◌, replicate}
+use Rattle.law_turing.specs.Machine.{Machine}
+use Rattle.text.specs.Lines.{BoundedLine}
+use Rattle.cmd_show.specs.declared.ones.Stretch.{Stretch}
+use Rattle.cmd_show.specs.declared.times.Times.{Times}
+use Rattle.cmd_show.specs.declared.view.View.{View}
+use Rattle.cmd_options.specs.declared.options.Showing.{Showing}
+use Rattle.cmd_options.specs.declared.outcome.Outcome.{Outcome}
+use Rattle.cmd_show.specs.Moments.{ShownMoment, AreLinesOf}
+use Rattle.cmd_show.specs.Shown.{SaysShown}
+
+-- a view of all cells to which a run can come
+abbrev pub whole : View
+whole = record { left = pos 0 -ℤ pos (2 ^ 62); width = 2 ^ 63 + 1; share = 1 }
+
+-- the first column that holds a one or has the head
+unfoldable pub first_column : List Stretch → ℕ → ℕ
+first_column [] head = head
+first_column (r ∷ runs) head = min r.first head
+
+-- the columns from one on that runs of ones draw, as bytes: up to the last one, and to this many at least
+unfoldable pub painted : ℕ → List Stretch → ℕ → List ℕ
+painted column [] least = replicate (least - column) 48
+painted column (r ∷ runs) least = replicate (r.first - column) 48 ++ replicate r.count 49
+    ++ painted (r.first + r.count) runs least
+
+-- the lines that may follow when so many moments are told, where the machine has halted or not
+abbrev pub AreLeft : Machine → Times → Bool → Bool → ℕ → List ShownMoment → List ℕ → Type 0
+AreLeft m t fold true n later text = (later ≡ []) × (text ≡ [])
+AreLeft m t fold false n later text = AreLinesOf m t fold n later text
+
+-- lines that were told: with any that may follow they are all
+pub record AreTold (m : Machine) (t : Times) (fold over : Bool) (n : ℕ) (told : List ℕ) : Type 0 where
+  pub with_rest : (later : List ShownMoment) (rest : List ℕ) → AreLeft m t fold over n later rest
+      → (all : List ShownMoment) × AreLinesOf m t fold 0 all (told ++ rest)
+
+-- one who says what is asked for, and keeps that
+abbrev pub KeepsAsked : {D : Type 0} → (D → Showing) → D → BoundedLine → Outcome → D → List ℕ → Type 0
+KeepsAsked {D} asked old line o new said = (asked new ≡ asked old)
+    × (answer : List ℕ) × SaysShown (asked old) line o answer × (said ≡ answer ++ 10 ∷ [])

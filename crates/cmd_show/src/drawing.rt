@@ -1,0 +1,193 @@
+// Pictures that are files of a folder.
+ghost use Rattle.std.specs.Prelude.{◌≡◌, ◌++◌, ℕ, IfErr, IfOk, List, OnOk, string_bytes};
+ghost use Rattle.cmd_lines.specs.Said.{TakesStream};
+ghost use Rattle.cmd_lines.specs.Taken.{lent};
+ghost use Rattle.files.specs.Paths.{IsKept, IsToldStill};
+ghost use Rattle.cmd_show.specs.Asked.{table_asked};
+ghost use Rattle.cmd_show.specs.Files.{AnswersAsked, DrawsFiles, DrawsLine, DrawsTable, drawn_text, name_ending, named_path, picture_path};
+ghost use Rattle.cmd_show.specs.Placing.{PutsFile};
+ghost use Rattle.cmd_show.specs.Said.{EndsDrawing};
+
+use crate::asked::table_asked;
+use crate::picturing::picture_of;
+use crate::places::put_file;
+use cert::append_table;
+use cmd_lines::{append_fault, Sayer, say_lines};
+use cmd_options::{Drawing, Ended, Outcome, ended_by};
+use cmd_taking::{Sayer, say_lines};
+use files::Files;
+use machine_text::{TEXT_BYTES, Table};
+use std::alloc::Global;
+use std::io::{Read, Write};
+use tape::NoMemory;
+
+// How many bytes are read at once: of a few tables, so that each is answered before many others are drawn.
+const FEW_BYTES: usize = 64;
+
+/// Reads a table or a record a line, and makes the picture of each table a file of a folder, under the table's text. It
+/// answers a line with what became of it, as soon as it has.
+pub fn draw_files<H: Files, R: Read, W: Write>(
+    alloc: Global,
+    drawing: &Drawing<'_>,
+    folder: &str,
+    host: &mut H,
+    input: &mut R,
+    answers: &mut W,
+) -> Result<Outcome, Ended>
+    ensures ok { IfOk result (DrawsFiles H.tells_same H.holds folder.now drawing.now host.old (R.remaining input.old)
+        (R.remaining input.new) (W.contents answers.old) (W.contents answers.new)) }
+    ensures err { IfErr result EndsDrawing }
+{
+    match host.make_folder(folder) {
+        Ok(()) => draw_within(alloc, drawing, folder, host, input, answers),
+        Err(fault) => Err(ended_by(&fault, Ended::File)),
+    }
+}
+
+// Draws as `draw_files` does, in a folder that is there.
+fn draw_within<H: Files, R: Read, W: Write>(
+    alloc: Global,
+    drawing: &Drawing<'_>,
+    folder: &str,
+    host: &mut H,
+    input: &mut R,
+    answers: &mut W,
+) -> Result<Outcome, Ended>
+    ensures ok { IfOk result (λ o. (last : H)
+        × TakesStream (DrawsLine H.tells_same H.holds folder.now drawing.now) host.old last (R.remaining input.old)
+        (R.remaining input.new) (W.contents answers.old) (W.contents answers.new) o) }
+    ensures err { IfErr result EndsDrawing }
+{
+    let pictures = Pictures {
+        alloc,
+        drawing,
+        folder,
+        host,
+    };
+    let (outcome, _) = say_lines(alloc, pictures, FEW_BYTES, input, answers)?;
+    Ok(outcome)
+}
+
+// The pictures of a folder, which are drawn so.
+#[derive(Drop)]
+struct Pictures<'a, H> {
+    alloc: Global,
+    drawing: &'a Drawing<'a>,
+    folder: &'a str,
+    host: &'a mut H,
+}
+
+impl<H: Files> Sayer for Pictures<'_, H> {
+    ghost use Rattle.std.specs.Prelude.{ℕ, List};
+    ghost use Rattle.cmd_options.specs.declared.drawing.Drawing.{Drawing as Asked};
+    ghost use Rattle.cmd_show.specs.Files.{DrawsLine};
+    ghost use Rattle.cmd_show.specs.inside.Places.{TakesBy};
+    ghost use Rattle.cmd_show.specs.Said.{EndsDrawing};
+
+    ghost takes = { TakesBy {K = List ℕ × Asked} (λ p. (p.folder.now, p.drawing.now)) (λ p. p.host.now)
+        (λ kept. DrawsLine H.tells_same H.holds kept.0 kept.1) };
+
+    ghost ends = { EndsDrawing };
+
+    fn take_line(&mut self, line: Option<&[u8]>, said: &mut Vec<u8>) -> Result<Outcome, Ended> {
+        let outcome = self.answer(line, said)?;
+        said.extend_from_slice(b"\n")?;
+        Ok(outcome)
+    }
+}
+
+impl<H: Files> Pictures<'_, H> {
+    // Draws the table of a line, and appends the answer.
+    fn answer(&mut self, line: Option<&[u8]>, said: &mut Vec<u8>) -> Result<Outcome, Ended>
+        ensures stays { (self.new.folder ≡ self.old.folder) × (self.new.drawing ≡ self.old.drawing) }
+        ensures still { IsToldStill (H.tells_same self.old.host.now) (H.tells_same self.new.host.now) }
+        ensures ok { IfOk result (λ o. (answer : List ℕ)
+            × AnswersAsked (H.tells_same self.old.host.now) self.old.folder.now self.old.drawing.now
+            (H.holds self.old.host.now) (table_asked (lent line.entry)) o (H.holds self.new.host.now) answer
+            × (said.new.items ≡ said.old.items ++ answer)) }
+        ensures err { IfErr result EndsDrawing }
+    {
+        match table_asked(line) {
+            Ok(t) => {
+                self.draw(&t)?;
+                append_drawn(&t, said)?;
+                Ok(Outcome::Accepted)
+            }
+            Err(fault) => {
+                append_fault(fault, said)?;
+                Ok(Outcome::Refused)
+            }
+        }
+    }
+
+    // Puts the picture of a table in the folder.
+    fn draw(&mut self, t: &Table) -> Result<(), Ended>
+        ensures stays { (self.new.folder ≡ self.old.folder) × (self.new.drawing ≡ self.old.drawing) }
+        ensures still { IsToldStill (H.tells_same self.old.host.now) (H.tells_same self.new.host.now) }
+        ensures ok { OnOk result (DrawsTable (H.tells_same self.old.host.now) self.old.folder.now self.old.drawing.now
+            t.now (H.holds self.old.host.now) (H.holds self.new.host.now)) }
+        ensures err { IfErr result EndsDrawing }
+    {
+        let picture = picture_of(self.alloc, t, self.drawing)?;
+        let png = self.drawing.png;
+        put_picture(self.alloc, self.host, self.folder, t, png, &picture)
+    }
+}
+
+// Appends that the picture of a table is drawn.
+fn append_drawn(t: &Table, out: &mut Vec<u8>) -> Result<(), NoMemory>
+    ensures { OnOk result (out.new.items ≡ out.old.items ++ drawn_text t.now) }
+{
+    append_table(t, out)?;
+    out.extend_from_slice(b" drawn")
+}
+
+/// Makes a picture of a table, a PNG or an SVG, a file of a folder, under the table's text.
+pub fn put_picture<H: Files>(
+    alloc: Global,
+    host: &mut H,
+    folder: &str,
+    t: &Table,
+    png: bool,
+    picture: &[u8],
+) -> Result<(), Ended>
+    ensures ok { OnOk result (PutsFile (H.tells_same host.old) (picture_path png folder.now t.now) picture.now
+        (H.holds host.old) (H.holds host.new)) }
+    ensures still { IsToldStill (H.tells_same host.old) (H.tells_same host.new) }
+    ensures err { IfErr result (λ e. EndsDrawing e × IsKept (H.holds host.old) (H.holds host.new)) }
+{
+    let path = picture_path(alloc, folder, t, png)?;
+    put_file(host, &path, picture)
+}
+
+/// The path of the picture of a table in a folder, a PNG or an SVG.
+pub fn picture_path(alloc: Global, folder: &str, t: &Table, png: bool) -> Result<String, NoMemory>
+    ensures { IfOk result (λ path. string_bytes path ≡ picture_path png folder.now t.now) }
+{
+    // The proof needs that it is a table.
+    let _ = t.states();
+    let mut buffer = [0; TEXT_BYTES];
+    match str::from_utf8(t.text(&mut buffer)) {
+        Ok(name) => named_path(alloc, folder, name, png),
+        Err(_) => unreachable!(),
+    }
+}
+
+// The path of a picture in a folder.
+fn named_path(alloc: Global, folder: &str, name: &str, png: bool) -> Result<String, NoMemory>
+    ensures { IfOk result (λ path. string_bytes path ≡ named_path png folder.now name.now) }
+{
+    let mut path = String::new(alloc);
+    path.push_str(folder)?;
+    path.push_str("/")?;
+    path.push_str(name)?;
+    path.push_str(name_ending(png))?;
+    Ok(path)
+}
+
+// What the name of a picture ends with.
+fn name_ending(png: bool) -> &'static str
+    ensures { result.now ≡ name_ending png }
+{
+    if png { ".png" } else { ".svg" }
+}

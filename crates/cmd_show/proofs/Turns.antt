@@ -2,7 +2,7 @@
 use Rattle.std.proofs.Common.{ℕ, List, [], ◌∷◌, Option, ap, subst}
 use Rattle.text.specs.Lines.{BoundedLine}
 use Rattle.cmd_options.specs.declared.outcome.Outcome.{Outcome}
-use Rattle.cmd_taking.specs.Said.{AreTakenBy, TakesStream}
+use Rattle.cmd_lines.specs.Said.{AreTakenBy, TakesStream}
 use Rattle.cmd_show.specs.inside.Places.{TakesBy}
 
 module _ {D K H : Type 0} (keeps : D → K) (changes : D → H) (Takes : K → H → BoundedLine → Outcome → H → List ℕ → Type 0) where

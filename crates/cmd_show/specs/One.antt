@@ -11,7 +11,7 @@ use Rattle.cmd_options.specs.declared.outcome.Outcome.TheVariants.{Accepted, Ref
 use Rattle.cmd_show.specs.declared.one.First.{First}
 use Rattle.cmd_show.specs.Asked.{table_asked}
 use Rattle.cmd_show.specs.Picture.{IsPicture}
-use Rattle.cmd_taking.specs.Said.{TakesStream}
+use Rattle.cmd_lines.specs.Said.{TakesStream}
 
 -- what is said to a table, by the one that came first: nothing to that, and that any other is one too many
 abbrev pub PicksTable : Packed → Option Packed → Outcome → Option Packed → List ℕ → Type 0

@@ -36,8 +36,8 @@ pub fn cmd_draw<H: Files, R: Read, W: Write, E: Write>(
     )
 }
 
-/// Draws as `cmd_draw` does, but answers what ends it early, and doesn't say it.
-pub fn draw_asked<H: Files, R: Read, W: Write, E: Write>(
+// Draws as `cmd_draw` does, but answers what ends it early, and doesn't say it.
+fn draw_asked<H: Files, R: Read, W: Write, E: Write>(
     alloc: Global,
     drawing: &Drawing<'_>,
     host: &mut H,

@@ -14,7 +14,6 @@ use crate::places::put_file;
 use cert::append_table;
 use cmd_lines::{append_fault, Sayer, say_lines};
 use cmd_options::{Drawing, Ended, Outcome, ended_by};
-use cmd_taking::{Sayer, say_lines};
 use files::Files;
 use machine_text::{TEXT_BYTES, Table};
 use std::alloc::Global;

@@ -56,7 +56,7 @@ mod visits;
 
 pub use asked::table_asked;
 pub use bitmap::png_file;
-pub use command::{cmd_draw, draw_asked};
+pub use command::cmd_draw;
 pub use document::svg;
 pub use drawing::{draw_files, picture_path, put_picture};
 pub use drawn::Head;
@@ -69,7 +69,7 @@ pub use pixels::Pixels;
 pub use placing::placement;
 pub use row::Row;
 pub use rows::Rows;
-pub use show::{cmd_show, show_for};
+pub use show::cmd_show;
 pub use shown::append_shown;
 pub use size::Size;
 pub use times::Times;

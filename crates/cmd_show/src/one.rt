@@ -9,7 +9,6 @@ use crate::picturing::picture_of;
 use cert::RecordFault;
 use cmd_lines::{append_fault, PIECE_BYTES, Sayer, say_lines};
 use cmd_options::{Drawing, Ended, Outcome};
-use cmd_taking::{PIECE_BYTES, Sayer, say_lines};
 use machine_text::Table;
 use std::alloc::Global;
 use std::io::{Read, Write};

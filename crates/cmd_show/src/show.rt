@@ -31,8 +31,8 @@ pub fn cmd_show<R: Read, W: Write, E: Write>(
     told(show_for(alloc, showing, input, answers), faults)
 }
 
-/// Shows as `cmd_show` does, but answers what ends it early, and doesn't say it.
-pub fn show_for<R: Read, W: Write>(
+// Shows as `cmd_show` does, but answers what ends it early, and doesn't say it.
+fn show_for<R: Read, W: Write>(
     alloc: Global,
     showing: &Showing,
     input: &mut R,

@@ -5,7 +5,7 @@ use cmd_folder_page::folder_page_at;
 use cmd_options::{Drawing, Ended, Outcome, Paging, VERSION, ended_by};
 use cmd_page::{Heading, LedgerSum, Maker, write_ledger_page};
 use cmd_record_page::record_page_for;
-use cmd_show::draw_asked;
+use cmd_show::cmd_draw;
 use files::{Disk, Files, Opened};
 use std::alloc::Global;
 use std::io::{Read, Write};

@@ -3,12 +3,12 @@
 //! do stands in `cmd_lines`, `cmd_ledgers`, `cmd_parts` and `cmd_nodes`.
 #![tactic(auto)]
 
+use cmd_dispatch::obey;
 pub use cmd_json::report_json;
 pub use cmd_ledgers::{cmd_carry, cmd_merge, cmd_report, cmd_retry, report};
 pub use cmd_lines::{cmd_check, cmd_decide};
 pub use cmd_nodes::{Run, cmd_coord, cmd_loop, cmd_run};
 pub use cmd_options::Options;
-use cmd_dispatch::obey;
 pub use cmd_words::{LineFault, options};
 use std::env;
 use std::process::ExitCode;

@@ -12,7 +12,7 @@ use crate::asked::table_asked;
 use crate::picturing::picture_of;
 use crate::places::put_file;
 use cert::append_table;
-use cmd_lines::{append_fault, Sayer, say_lines};
+use cmd_lines::{Sayer, append_fault, say_lines};
 use cmd_options::{Drawing, Ended, Outcome, ended_by};
 use files::Files;
 use machine_text::{TEXT_BYTES, Table};

@@ -7,7 +7,7 @@ ghost use Rattle.cmd_show.specs.Said.{EndsDrawing};
 use crate::asked::table_asked;
 use crate::picturing::picture_of;
 use cert::RecordFault;
-use cmd_lines::{append_fault, PIECE_BYTES, Sayer, say_lines};
+use cmd_lines::{PIECE_BYTES, Sayer, append_fault, say_lines};
 use cmd_options::{Drawing, Ended, Outcome};
 use machine_text::Table;
 use std::alloc::Global;

@@ -6,7 +6,7 @@ ghost use Rattle.cmd_show.specs.Shown.{SaysShown};
 
 use crate::asked::table_asked;
 use crate::shown::append_shown;
-use cmd_lines::{append_fault, Sayer, say_lines};
+use cmd_lines::{Sayer, append_fault, say_lines};
 use cmd_options::{Ended, Outcome, Showing, told};
 use std::alloc::Global;
 use std::io::{Read, Write};

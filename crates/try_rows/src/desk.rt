@@ -8,6 +8,7 @@ use crate::nodes::Station;
 use crate::records::{say_judged, say_repeats};
 use crate::rounds::say_rounds;
 use crate::said::Said;
+use crate::tapes::{say_steps, say_sweeps};
 use crate::words::{parted, unread};
 use std::alloc::{AllocError as NoMemory, Global};
 
@@ -90,6 +91,8 @@ impl Desk {
 impl Caller for Desk {
     fn call(&mut self, name: &str, rest: &str, said: &mut Said) -> Result<(), NoMemory> {
         match name {
+            "steps" => say_steps(self.alloc, rest, said),
+            "sweeps" => say_sweeps(self.alloc, rest, said),
             "judge" => say_judged(self.alloc, rest, said),
             "repeats" => say_repeats(self.alloc, rest, said),
             "finder" => self.finding.begin(self.alloc, rest, said),

@@ -3,7 +3,7 @@ use cmd_dispatch::obey;
 use cmd_words::{LineFault, options};
 use std::alloc::{AllocError as NoMemory, Global};
 use std::cell::RefCell;
-use try_host::{CaseHost, Failing, HostRoom, Input, MemDisk, Output, CaseStep, Limits};
+use try_host::{CaseHost, CaseStep, Failing, HostRoom, Input, Limits, MemDisk, Output};
 
 /// What came of a command.
 #[derive(Drop)]

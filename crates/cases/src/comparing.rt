@@ -1,7 +1,7 @@
 // What came of a step, compared with what has to come of it.
 use crate::carrying::Found;
 use std::alloc::{AllocError as NoMemory, Global};
-use try_host::{MemDisk, CaseStep, Expected, FileText};
+use try_host::{CaseStep, Expected, FileText, MemDisk};
 
 /// What is different: its name, what has to come, and what came.
 #[derive(Drop)]

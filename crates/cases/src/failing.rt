@@ -2,7 +2,7 @@
 use crate::carrying::Found;
 use crate::comparing::{Difference, status_differs};
 use std::alloc::{AllocError as NoMemory, Global};
-use try_host::{MemDisk, CaseStep, Expected};
+use try_host::{CaseStep, Expected, MemDisk};
 
 // The exit status where a stream or a file fails.
 const FAILED: u8 = 4;

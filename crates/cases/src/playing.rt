@@ -5,7 +5,7 @@ use crate::stepping::{Played, Scene};
 use crate::trial::Trial;
 use std::alloc::Global;
 use std::io::{self, ErrorKind, Write};
-use try_host::{MemDisk, Case, CaseFault, Expected, FileText, cases_of};
+use try_host::{Case, CaseFault, Expected, FileText, MemDisk, cases_of};
 
 /// Plays the cases of a file over the data of its folder. Says how many hold, and of each other what is different; answers
 /// whether all hold.

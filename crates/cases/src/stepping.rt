@@ -9,7 +9,7 @@ use crate::trial::Trial;
 use std::alloc::Global;
 use std::cell::RefCell;
 use std::io::{self, ErrorKind};
-use try_host::{Failing, MemDisk, CaseStep, Expected, Limits, Variant};
+use try_host::{CaseStep, Expected, Failing, Limits, MemDisk, Variant};
 
 /// What came of a step.
 #[derive(Drop)]

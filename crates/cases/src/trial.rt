@@ -1,5 +1,5 @@
 // What is tried of a case: once as it stands, or once for each place in which something goes wrong.
-use try_host::{Failing, Share, Case, Variant};
+use try_host::{Case, Failing, Share, Variant};
 
 /// What goes wrong in the step that has a variant.
 #[derive(Clone, Copy, Debug, Drop, PartialEq, Eq)]

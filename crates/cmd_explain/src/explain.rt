@@ -8,7 +8,7 @@ ghost use Rattle.cmd_explain.specs.Explained.{SaysExplained, TellsRecord};
 
 use crate::words::record_words;
 use cert::Record;
-use cmd_lines::{answer_record, append_fault, read_line, PIECE_BYTES, Sayer, say_lines};
+use cmd_lines::{PIECE_BYTES, Sayer, answer_record, append_fault, read_line, say_lines};
 use cmd_options::{Ended, Outcome, told};
 use kind_evidence::NoMemory;
 use std::alloc::Global;

@@ -13,7 +13,7 @@ ghost use Rattle.cmd_explain.specs.Why.{HasRight, TellsRight, TellsWhy, refused_
 
 use crate::quantity::Quantity;
 use cert::{Certificate, Record, judge};
-use cmd_lines::{answer, read_line, PIECE_BYTES, Sayer, say_lines};
+use cmd_lines::{PIECE_BYTES, Sayer, answer, read_line, say_lines};
 use cmd_options::{Ended, Outcome};
 use kind_evidence::{NoMemory, Refused};
 use machine_text::Table;

@@ -7,7 +7,7 @@ ghost use Rattle.cmd_json.specs.Numbered.{AnswersNumbered};
 use crate::finding::find;
 use crate::numbered::number_behind;
 use crate::objects::{append_object, check_value};
-use cmd_lines::{read_line, PIECE_BYTES, Sayer, say_lines};
+use cmd_lines::{PIECE_BYTES, Sayer, read_line, say_lines};
 use cmd_options::{Ended, Outcome};
 use kind_evidence::NoMemory;
 use std::alloc::Global;

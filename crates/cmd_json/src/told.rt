@@ -16,7 +16,7 @@ use crate::numbered::number_behind;
 use crate::objects::{append_object, explain_value};
 use cert::{Record, RecordFault, certified_claims_are_writable};
 use cmd_explain::explain_line;
-use cmd_lines::{read_line, PIECE_BYTES, Sayer, say_lines};
+use cmd_lines::{PIECE_BYTES, Sayer, read_line, say_lines};
 use cmd_options::{Ended, Outcome};
 use kind_evidence::NoMemory;
 use std::alloc::Global;

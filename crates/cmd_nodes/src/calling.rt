@@ -9,12 +9,12 @@ use crate::pause::Pause;
 use crate::two_streams::TwoStreams;
 use cmd_options::{Ended, Outcome};
 use kind_evidence::NoMemory;
+use peers::{Pool, Waits};
 use std::alloc::Global;
 use std::io::{self, ErrorKind, Read, Write};
 use std::thread;
 use std::time::{Clock, Duration};
 use wire::{LedgerOut, MAX_PIECE_BYTES, MemLink, Node, TurnFault};
-use peers::{Pool, Waits};
 
 // The longest wait before it is tried again to connect, in seconds.
 const MOST_SECONDS: u64 = 60;

@@ -4,9 +4,9 @@ ghost use Rattle.cmd_page.specs.Heading.{origin_html};
 ghost use Rattle.cmd_record_page.specs.Page.{WritesRecords, records_head_html, records_heading, records_tail_html};
 
 use crate::section::append_section;
+use cmd_lines::{PIECE_BYTES, Sayer, say_lines};
 use cmd_options::{Ended, Outcome};
 use cmd_page::{Heading, LedgerSum, Maker, append_opening, append_origin, ending};
-use cmd_lines::{PIECE_BYTES, Sayer, say_lines};
 use kind_evidence::NoMemory;
 use std::alloc::Global;
 use std::io::{Read, Write};

@@ -3,8 +3,10 @@
 
 Each line that begins with `$ ` in an indented block is given to the shell, the commands of a document one after the other in one
 folder, where `bb` and `./bb` are the program, and `examples` and `contrib` the folders of these names; what is printed on both outputs has to be the
-lines below it. Ends with 1 at the first that differs.
+lines below it. A file of `examples` that the cases read too, from crates/cases/data, has to be the same there: the gate takes no
+links. Ends with 1 at the first that differs.
 """
+import filecmp
 import os
 import shutil
 import subprocess
@@ -31,7 +33,18 @@ def examples_of(path):
     return found
 
 
+def twins():
+    """The files of `examples` that stand beside the cases too, each with that one's path."""
+    for name in sorted(os.listdir(os.path.join(TOP, "examples"))):
+        twin = os.path.join(TOP, "crates", "cases", "data", name)
+        if os.path.exists(twin):
+            yield os.path.join(TOP, "examples", name), twin
+
+
 def main():
+    for path, twin in twins():
+        if not filecmp.cmp(path, twin, shallow=False):
+            sys.exit(f"{path} isn't {twin}")
     documents = sys.argv[1:] or [os.path.join(TOP, "README.md"), os.path.join(TOP, "docs", "TOUR.md")]
     count = 0
     for document in documents:

@@ -31,9 +31,13 @@ pub(crate) fn print_at<S: PartLedgers, W: Write, E: Write>(
     if parts.is_folder(path) {
         return print_of_folder(alloc, path, parts, answers, faults);
     }
-    let board = board_at(alloc, parts, path)?;
-    print_holdouts(alloc, board.holdouts()?, answers)?;
-    Ok(Outcome::Accepted)
+    match board_at(alloc, parts, path) {
+        Ok(board) => {
+            print_holdouts(alloc, board.holdouts()?, answers)?;
+            Ok(Outcome::Accepted)
+        }
+        Err(ended) => Err(ended),
+    }
 }
 
 // Prints those of the folder at a path. What is wrong with its trunk and parts is said on `faults`.

@@ -81,9 +81,13 @@ fn answer_at<S: PartLedgers, R: Read, W: Write>(
     if parts.is_folder(path) {
         return answer_in_folder(alloc, path, parts, input, answers);
     }
-    let board = board_at(alloc, parts, path)?;
-    let (outcome, _) = say_lines(alloc, LedgerLook { board }, PIECE_BYTES, input, answers)?;
-    Ok(outcome)
+    match board_at(alloc, parts, path) {
+        Ok(board) => {
+            let (outcome, _) = say_lines(alloc, LedgerLook { board }, PIECE_BYTES, input, answers)?;
+            Ok(outcome)
+        }
+        Err(ended) => Err(ended),
+    }
 }
 
 // Answers lines by the trunk and the parts in a folder.

@@ -1,5 +1,5 @@
 #!/usr/bin/env python3
-"""Times bb check against bench/plain_counted.rs on 20,000 records of the kind W, those of examples/counted-records.txt again and
+"""Times bb check against bench/plain_counted.rs on 20,000 records of the kind W, those of crates/cases/data/counted-records.txt again and
 again, and compares what both print."""
 import os
 import sys
@@ -12,7 +12,7 @@ COUNT = 20_000
 
 def kept():
     """Records of counted automata that stand."""
-    with open(os.path.join(TOP, "examples", "counted-records.txt"), "rb") as file:
+    with open(os.path.join(TOP, "crates", "cases", "data", "counted-records.txt"), "rb") as file:
         return file.read().splitlines()
 
 

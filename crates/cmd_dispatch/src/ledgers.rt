@@ -55,7 +55,13 @@ pub(crate) fn merge<S: Disk, R, W: Write, E: Write>(
 ) -> Result<Outcome, Ended> {
     let mut files = call.files();
     let _lock = lock_ledger(&files, merging.out)?;
-    Ok(cmd_merge(call.alloc, merging, &mut files, call.answers, call.faults))
+    let Call {
+        alloc,
+        answers,
+        faults,
+        ..
+    } = call;
+    Ok(cmd_merge(alloc, merging, &mut files, answers, faults))
 }
 
 // `bb carry`.
@@ -65,7 +71,13 @@ pub(crate) fn carry<S: Disk, R, W: Write, E: Write>(
 ) -> Result<Outcome, Ended> {
     let mut files = call.files();
     let _lock = lock_ledger(&files, carrying.out)?;
-    Ok(cmd_carry(call.alloc, carrying, &mut files, call.answers, call.faults))
+    let Call {
+        alloc,
+        answers,
+        faults,
+        ..
+    } = call;
+    Ok(cmd_carry(alloc, carrying, &mut files, answers, faults))
 }
 
 // `bb mend`, of a file or of `input`.

@@ -1,6 +1,7 @@
 // `bb check` and `bb decide`.
 use crate::call::Call;
 use crate::late::Late;
+use cert::Decider;
 use cmd_explain::check_why_for;
 use cmd_json::{check_json_for, decide_json_for};
 use cmd_lines::{Reader, cmd_check, cmd_decide};
@@ -49,17 +50,38 @@ pub(crate) fn decide<S: Disk + Clock, R: Read, W: Write, E: Write>(
     } = call;
     let mut decider = decider_for(alloc, known, &deciding.search)?;
     let telling = Telling::of(deciding.progress, system.tells_terminal());
-    let mut told = TriedDecider::new(alloc, &mut decider, telling, system, &mut *faults);
-    if deciding.json {
-        let ended = decide_json_for(alloc, &mut told, input, answers);
-        told.end();
-        return ended;
-    }
     let mut late = Late::new(alloc)?;
-    let reader = reader_of(system);
-    let outcome = cmd_decide(alloc, reader, &mut told, input, answers, &mut late.words);
+    let mut told = TriedDecider::new(alloc, &mut decider, telling, system, &mut *faults);
+    let ended = decided(
+        alloc,
+        deciding,
+        reader_of(system),
+        &mut told,
+        input,
+        answers,
+        &mut late.words,
+    );
     told.end();
-    Ok(late.say(outcome, faults))
+    match ended {
+        Ok(outcome) => Ok(late.say(outcome, faults)),
+        Err(ended) => Err(ended),
+    }
+}
+
+// Decides, with `--json` or without.
+fn decided<D: Decider, R: Read, W: Write, E: Write>(
+    alloc: Global,
+    deciding: &Deciding<'_>,
+    reader: Reader,
+    decider: &mut D,
+    input: &mut R,
+    answers: &mut W,
+    faults: &mut E,
+) -> Result<Outcome, Ended> {
+    if deciding.json {
+        return decide_json_for(alloc, decider, input, answers);
+    }
+    Ok(cmd_decide(alloc, reader, decider, input, answers, faults))
 }
 
 // Who reads what is said on standard error.

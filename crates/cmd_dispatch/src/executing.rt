@@ -5,12 +5,12 @@ use crate::call::Call;
 use crate::{folders, ledgers, lines, nodes, pictures, texts, working};
 use cmd_nodes::{Network, Sockets};
 use cmd_options::{Ended, Options, Outcome, told};
-use cmd_progress::ReadingTold;
 use files::Disk;
 use find_search::KnownFile;
 use std::alloc::Global;
 use std::io::{Read, Write};
 use std::time::Clock;
+use system::ReadingTold;
 
 /// Does what is asked for: `bb check`, `bb decide`, `bb explain`, `bb show`, `bb tables`, `bb draw` and `bb coord` read
 /// `input`, and so do `bb work`, `bb report -`, `bb page -`, `bb page --table`, `bb mend -` and `bb join -`. The answer goes to

@@ -8,11 +8,11 @@ use crate::own_line::OwnLine;
 use cmd_json::Form;
 use cmd_options::{Ended, Joining, LedgerSettling, Looking, Outcome, Splitting};
 use cmd_parts::{cmd_join, cmd_join_stream, cmd_split, look_at, settle_ledger_at};
-use cmd_progress::{ReadingTold, Telling, TimedProgress};
 use files::Disk;
 use find_search::decider_for;
 use std::io::{Read, Write};
 use std::time::Clock;
+use system::{ReadingTold, Telling, TimedProgress, Work};
 
 // `bb split`.
 pub(crate) fn split<S: Disk + Clock, R, W: Write, E: Write>(
@@ -33,7 +33,7 @@ pub(crate) fn split<S: Disk + Clock, R, W: Write, E: Write>(
     let mut decider = decider_for(alloc, known, &splitting.search)?;
     let telling = Telling::of(splitting.progress, system.tells_terminal());
     let mut late = Late::new(alloc)?;
-    let mut progress = TimedProgress::new(alloc, telling, system, &mut *faults);
+    let mut progress = TimedProgress::new(alloc, telling, Work::Tree, system, &mut *faults);
     let outcome = cmd_split(
         alloc,
         splitting,
@@ -56,7 +56,7 @@ pub(crate) fn settle<S: Disk + Clock, R, W: Write, E: Write>(
     let mut files = call.files();
     let (alloc, file, answers) = (call.alloc, settling.file, call.answers);
     let telling = Telling::of(settling.progress, call.system.tells_terminal());
-    let mut progress = TimedProgress::new(alloc, telling, call.system, call.faults);
+    let mut progress = TimedProgress::new(alloc, telling, Work::Tree, call.system, call.faults);
     let ended = settle_ledger_at(
         alloc,
         file,

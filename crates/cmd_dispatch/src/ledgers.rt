@@ -8,11 +8,11 @@ use cmd_ledgers::{
     cmd_carry, cmd_mend, cmd_mend_stream, cmd_merge, cmd_report, cmd_report_stream, cmd_retry,
 };
 use cmd_options::{Carrying, Ended, Mending, Merging, Outcome, Reporting, Retrying};
-use cmd_progress::{ReadingTold, Telling, TriedProgress};
 use files::{Disk, lock_ledger};
 use find_search::decider_for;
 use std::io::{Read, Write};
 use std::time::Clock;
+use system::{ReadingTold, Telling, TimedProgress, Work};
 
 // In place of a ledger's path: it is read from `input`.
 pub(crate) const STANDARD_INPUT: &str = "-";
@@ -34,7 +34,7 @@ pub(crate) fn retry<S: Disk + Clock, R, W: Write, E: Write>(
     let mut decider = decider_for(alloc, known, &retrying.search)?;
     let telling = Telling::of(retrying.progress, system.tells_terminal());
     let mut late = Late::new(alloc)?;
-    let mut progress = TriedProgress::new(alloc, telling, system, &mut *faults);
+    let mut progress = TimedProgress::new(alloc, telling, Work::Holdouts, system, &mut *faults);
     let outcome = cmd_retry(
         alloc,
         retrying.file,

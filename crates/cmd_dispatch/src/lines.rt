@@ -6,12 +6,12 @@ use cmd_explain::check_why_for;
 use cmd_json::{check_json_for, decide_json_for};
 use cmd_lines::{Reader, cmd_check, cmd_decide};
 use cmd_options::{Checking, Deciding, Ended, Outcome};
-use cmd_progress::{Telling, TriedDecider};
 use files::Disk;
 use find_search::decider_for;
 use std::alloc::Global;
 use std::io::{Read, Write};
 use std::time::Clock;
+use system::{CountedDecider, Telling, TimedProgress, Work};
 
 // `bb check`, with `--json` or `--why` or without.
 pub(crate) fn check<S: Disk, R: Read, W: Write, E: Write>(
@@ -51,7 +51,8 @@ pub(crate) fn decide<S: Disk + Clock, R: Read, W: Write, E: Write>(
     let mut decider = decider_for(alloc, known, &deciding.search)?;
     let telling = Telling::of(deciding.progress, system.tells_terminal());
     let mut late = Late::new(alloc)?;
-    let mut told = TriedDecider::new(alloc, &mut decider, telling, system, &mut *faults);
+    let progress = TimedProgress::new(alloc, telling, Work::Tables, system, &mut *faults);
+    let mut told = CountedDecider::new(&mut decider, progress);
     let ended = decided(
         alloc,
         deciding,

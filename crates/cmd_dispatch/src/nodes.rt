@@ -3,19 +3,20 @@ ghost use Rattle.std.specs.Prelude.{◌≡◌};
 ghost use Rattle.cmd_options.specs.Ranges.{IsBeginning, IsSettling};
 
 use crate::call::Call;
+use crate::late::Late;
 use cert::Finders;
 use cmd_json::Form;
 use cmd_nodes::{
     MaybeLedger, Network, Run, Serving, Sockets, by_start, cmd_coord, cmd_loop, cmd_run, serve_tree,
 };
 use cmd_options::{Beginning, Ended, LedgerFile, Listening, Outcome, Search, Settling};
-use cmd_progress::Telling;
 use files::{Disk, DiskLedger, Files, Held, OnDisk, Opened, held_at, ledger_at, lock_ledger};
 use find_search::{AnyFinder, KnownFile, decider_for};
 use lease_core::Worker;
 use std::alloc::Global;
 use std::io::{self, ErrorKind, Read, Write};
 use std::time::Clock;
+use system::{Telling, TimedProgress, Work};
 use wire::{Node, Out};
 
 /// A worker that asks all finders.
@@ -69,18 +70,21 @@ pub(crate) fn serve<S: Disk + Clock + Network, R, W: Write, E: Write>(
     let serving = Serving {
         beginning,
         form: &Form::of(listening.json),
-        telling: Telling::of(listening.progress, system.tells_terminal()),
         clock: system,
     };
-    serve_tree(
+    let telling = Telling::of(listening.progress, system.tells_terminal());
+    let mut progress = TimedProgress::new(alloc, telling, Work::Tree, system, faults);
+    let ended = serve_tree(
         alloc,
         serving,
         held,
         &mut ledger,
         &mut connections,
+        &mut progress,
         answers,
-        faults,
-    )
+    );
+    progress.end();
+    ended
 }
 
 // `bb run`.
@@ -115,14 +119,29 @@ fn run_kept<N: Node + Drop, S: Disk + Clock, W: Write, E: Write>(
 ) -> Result<Outcome, Ended>
     requires { IsSettling settling.now }
 {
-    let form = Form::of(settling.json);
-    let run = run_of(settling, &form, workers, system);
+    let run = Run {
+        settling,
+        form: &Form::of(settling.json),
+        workers,
+    };
     let Kept {
         held,
         mut ledger,
         lock: _lock,
     } = kept;
-    Ok(cmd_run(alloc, run, held, &mut ledger, answers, faults))
+    let mut late = Late::new(alloc)?;
+    let mut progress = progress_of(alloc, settling, system, &mut *faults);
+    let outcome = cmd_run(
+        alloc,
+        run,
+        held,
+        &mut ledger,
+        &mut progress,
+        answers,
+        &mut late.words,
+    );
+    progress.end();
+    Ok(late.say(outcome, faults))
 }
 
 // `bb loop`.
@@ -157,32 +176,41 @@ fn loop_kept<N: Node + Drop, S: Disk + Clock + Sockets, W: Write, E: Write>(
 ) -> Result<Outcome, Ended>
     requires { IsSettling settling.now }
 {
-    let form = Form::of(settling.json);
-    let run = run_of(settling, &form, workers, system);
+    let run = Run {
+        settling,
+        form: &Form::of(settling.json),
+        workers,
+    };
     let Kept {
         held,
         mut ledger,
         lock: _lock,
     } = kept;
-    Ok(cmd_loop(alloc, run, system, held, &mut ledger, answers, faults))
+    let mut late = Late::new(alloc)?;
+    let mut progress = progress_of(alloc, settling, system, &mut *faults);
+    let outcome = cmd_loop(
+        alloc,
+        run,
+        system,
+        held,
+        &mut ledger,
+        &mut progress,
+        answers,
+        &mut late.words,
+    );
+    progress.end();
+    Ok(late.say(outcome, faults))
 }
 
-// What is run, by the system's clock.
-fn run_of<'a, N, S: Disk>(
-    settling: &'a Settling<'a>,
-    form: &'a Form,
-    workers: Vec<N>,
+// How far a tree is, by the system's clock.
+fn progress_of<'a, S: Disk + Clock, E: Write>(
+    alloc: Global,
+    settling: &Settling<'_>,
     system: &'a S,
-) -> Run<'a, Form, N, S>
-    ensures { result.settling.now ≡ settling.now }
-{
-    Run {
-        settling,
-        form,
-        workers,
-        telling: Telling::of(settling.progress, system.tells_terminal()),
-        clock: system,
-    }
+    faults: &'a mut E,
+) -> TimedProgress<'a, S, E> {
+    let telling = Telling::of(settling.progress, system.tells_terminal());
+    TimedProgress::new(alloc, telling, Work::Tree, system, faults)
 }
 
 // The ledger of a node, locked for as long as it is written, and what it held; or none.

@@ -7,12 +7,12 @@ use crate::execute;
 use crate::named::Named;
 use cmd_nodes::{Network, Sockets};
 use cmd_options::{Ended, NoMemory, Options, Outcome};
-use cmd_progress::ReadingTold;
 use cmd_words::{LineFault, options};
 use files::Disk;
 use std::alloc::Global;
 use std::io::{Read, Write};
 use std::time::Clock;
+use system::ReadingTold;
 
 /// Does what the words ask for, the program's name first, and answers how it ended. Each end is an
 /// `Outcome`: a line that can't be read or is refused too, and a stream that fails.

@@ -1,6 +1,6 @@
 // A stream on which what is said has a line of its own, while it is told how far the reading is.
-use cmd_progress::ReadingTold;
 use std::io::{self, Write};
+use system::ReadingTold;
 
 // A stream, and who tells on the same terminal how far the reading is.
 #[derive(Drop)]

@@ -11,8 +11,7 @@ use crate::reporting::report_board;
 use crate::rounds::has_open;
 use cmd_ledgers::ReportForm;
 use cmd_options::{Beginning, Ended, Outcome};
-use cmd_progress::{Progress, Telling, TimedProgress};
-use files::Opened;
+use files::{Opened, Progress};
 use lease_core::Coordinator;
 use peers::{Connections, Peers, serve};
 use std::alloc::Global;
@@ -31,32 +30,30 @@ pub struct Serving<'a, P, C> {
     pub beginning: Beginning,
     /// The form of the report.
     pub form: &'a P,
-    /// How it is told how far it is.
-    pub telling: Telling,
-    /// The clock by which that is told.
+    /// The clock by which a minute is over.
     pub clock: &'a C,
 }
 
 /// Settles the tree of the empty table by a coordinator and workers that connect, and prints the report in a form: once no
 /// table is open, and each worker is gone or a minute is over. The coordinator's board begins with what `held` reads, and its
 /// records go to `ledger`, each before it is acknowledged. Accepted where the board is complete at the end. How far it is goes
-/// to `faults`, where that is asked for.
+/// to `progress`.
 pub fn serve_tree<
     P: ReportForm,
     F: Read + Drop,
     L: LedgerOut,
     K: Connections,
     C: Clock,
+    G: Progress,
     W: Write,
-    E: Write,
 >(
     alloc: Global,
     serving: Serving<'_, P, C>,
     held: io::Result<Opened<F>>,
     ledger: &mut L,
     connections: &mut K,
+    progress: &mut G,
     answers: &mut W,
-    faults: &mut E,
 ) -> Result<Outcome, Ended>
     requires { (1 ≤ serving.beginning.states) × (serving.beginning.states ≤ state_limit) }
     ensures { SettlesTree (P.is_text serving.entry.form.now) serving.entry.beginning.states
@@ -64,43 +61,19 @@ pub fn serve_tree<
         (W.contents answers.old) (W.contents answers.new) result }
 {
     let mut node = start_coordinator(alloc, serving.beginning, held, ledger)?;
-    let form = serving.form;
-    serve_workers(alloc, serving, &mut node, ledger, connections, faults)?;
+    let Serving { form, clock, .. } = serving;
+    serve_workers(alloc, clock, &mut node, ledger, connections, progress)?;
     report_board(alloc, form, &node, answers)
 }
 
-// Serves workers, and tells how far it is.
-fn serve_workers<P, L: LedgerOut, K: Connections, C: Clock, E: Write>(
-    alloc: Global,
-    serving: Serving<'_, P, C>,
-    node: &mut Coordinator,
-    ledger: &mut L,
-    connections: &mut K,
-    faults: &mut E,
-) -> Result<(), Ended>
-    ensures { OnOk result (IsServed node.old node.new (L.text ledger.old) (L.text ledger.new)) }
-{
-    let mut progress = TimedProgress::new(alloc, serving.telling, serving.clock, faults);
-    let ended = serve_until_settled(
-        alloc,
-        serving.clock,
-        node,
-        ledger,
-        connections,
-        &mut progress,
-    );
-    progress.end();
-    ended
-}
-
 // Takes what comes, until the tree is settled and nobody is left to be told.
-fn serve_until_settled<L: LedgerOut, K: Connections, C: Clock, E: Write>(
+fn serve_workers<L: LedgerOut, K: Connections, C: Clock, G: Progress>(
     alloc: Global,
     clock: &C,
     node: &mut Coordinator,
     ledger: &mut L,
     connections: &mut K,
-    progress: &mut TimedProgress<'_, C, E>,
+    progress: &mut G,
 ) -> Result<(), Ended>
     ensures { OnOk result (IsServed node.old node.new (L.text ledger.old) (L.text ledger.new)) }
 {

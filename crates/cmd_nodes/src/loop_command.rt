@@ -11,10 +11,9 @@ use crate::run_command::{Run, settle};
 use crate::sockets::Sockets;
 use cmd_ledgers::ReportForm;
 use cmd_options::{Ended, Outcome, told};
-use files::Opened;
+use files::{Opened, Progress};
 use std::alloc::Global;
 use std::io::{self, Read, Write};
-use std::time::Clock;
 use wire::{LedgerOut, Node};
 
 /// Does what `cmd_run` does, but that the frames of each worker go over a connection of its own, and that none is lost.
@@ -25,16 +24,17 @@ pub fn cmd_loop<
     F: Read + Drop,
     L: LedgerOut,
     N: Node + Drop,
-    C: Clock,
     S: Sockets,
+    G: Progress,
     W: Write,
     E: Write,
 >(
     alloc: Global,
-    run: Run<'_, P, N, C>,
+    run: Run<'_, P, N>,
     sockets: &S,
     held: io::Result<Opened<F>>,
     ledger: &mut L,
+    progress: &mut G,
     answers: &mut W,
     faults: &mut E,
 ) -> Outcome
@@ -49,7 +49,7 @@ pub fn cmd_loop<
         × EndsTold ended said (E.contents faults.new) result }
 {
     told(
-        loop_tree(alloc, run, sockets, held, ledger, answers, faults),
+        loop_tree(alloc, run, sockets, held, ledger, progress, answers),
         faults,
     )
 }
@@ -60,18 +60,17 @@ fn loop_tree<
     F: Read + Drop,
     L: LedgerOut,
     N: Node + Drop,
-    C: Clock,
     S: Sockets,
+    G: Progress,
     W: Write,
-    E: Write,
 >(
     alloc: Global,
-    run: Run<'_, P, N, C>,
+    run: Run<'_, P, N>,
     sockets: &S,
     held: io::Result<Opened<F>>,
     ledger: &mut L,
+    progress: &mut G,
     answers: &mut W,
-    faults: &mut E,
 ) -> Result<Outcome, Ended>
     requires { (1 ≤ run.settling.now.states) × (run.settling.now.states ≤ state_limit) }
     ensures { SettlesTree (P.is_text run.entry.form.now) run.entry.settling.now.states
@@ -79,5 +78,5 @@ fn loop_tree<
         (W.contents answers.old) (W.contents answers.new) result }
 {
     let couriers = OverSockets { sockets };
-    settle(alloc, run, &couriers, held, ledger, answers, faults)
+    settle(alloc, run, &couriers, held, ledger, progress, answers)
 }

@@ -7,7 +7,7 @@ use crate::faults::by_turn;
 use crate::station::Station;
 use cmd_ledgers::keep_answer;
 use cmd_options::Ended;
-use cmd_progress::Progress;
+use files::Progress;
 use lease_core::Coordinator;
 use ledger::Status;
 use wire::{Event, LedgerOut, Node, TurnFault};

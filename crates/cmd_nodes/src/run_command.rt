@@ -14,47 +14,41 @@ use crate::rounds::run_rounds;
 use crate::station::Station;
 use cmd_ledgers::ReportForm;
 use cmd_options::{Beginning, Ended, Outcome, Settling, told};
-use cmd_progress::{Telling, TimedProgress};
-use files::Opened;
+use files::{Opened, Progress};
 use lease_core::Coordinator;
 use std::alloc::Global;
 use std::io::{self, Read, Write};
-use std::time::Clock;
 use wire::{LedgerOut, Node};
 
 /// What is run.
 #[derive(Drop)]
-pub struct Run<'a, P, N, C> {
+pub struct Run<'a, P, N> {
     /// How the tree is settled.
     pub settling: &'a Settling<'a>,
     /// The form of the report.
     pub form: &'a P,
     /// The workers, which were started from empty ledgers.
     pub workers: Vec<N>,
-    /// How it is told how far it is.
-    pub telling: Telling,
-    /// The clock by which that is told.
-    pub clock: &'a C,
 }
 
 /// Settles the tree of the empty table by a coordinator and workers, and prints the report in a form. The
 /// coordinator's board begins with what `held` reads, and its records go to `ledger`. Accepted where the board is
-/// complete at the end. What ends the command early is said on `faults`, and so is how far it is, where that is asked
-/// for.
+/// complete at the end. How far it is goes to `progress`; what ends the command early is said on `faults`.
 #[tactic(auto, using(crate::proofs::Settling::tells))]
 pub fn cmd_run<
     P: ReportForm,
     F: Read + Drop,
     L: LedgerOut,
     N: Node + Drop,
-    C: Clock,
+    G: Progress,
     W: Write,
     E: Write,
 >(
     alloc: Global,
-    run: Run<'_, P, N, C>,
+    run: Run<'_, P, N>,
     held: io::Result<Opened<F>>,
     ledger: &mut L,
+    progress: &mut G,
     answers: &mut W,
     faults: &mut E,
 ) -> Outcome
@@ -68,25 +62,20 @@ pub fn cmd_run<
         (W.contents answers.old) (W.contents answers.new) ended
         × EndsTold ended said (E.contents faults.new) result }
 {
-    told(run_tree(alloc, run, held, ledger, answers, faults), faults)
+    told(
+        run_tree(alloc, run, held, ledger, progress, answers),
+        faults,
+    )
 }
 
 // Settles as `cmd_run` does, but answers what ends it early, and doesn't say it.
-fn run_tree<
-    P: ReportForm,
-    F: Read + Drop,
-    L: LedgerOut,
-    N: Node + Drop,
-    C: Clock,
-    W: Write,
-    E: Write,
->(
+fn run_tree<P: ReportForm, F: Read + Drop, L: LedgerOut, N: Node + Drop, G: Progress, W: Write>(
     alloc: Global,
-    run: Run<'_, P, N, C>,
+    run: Run<'_, P, N>,
     held: io::Result<Opened<F>>,
     ledger: &mut L,
+    progress: &mut G,
     answers: &mut W,
-    faults: &mut E,
 ) -> Result<Outcome, Ended>
     requires { (1 ≤ run.settling.now.states) × (run.settling.now.states ≤ state_limit) }
     ensures { SettlesTree (P.is_text run.entry.form.now) run.entry.settling.now.states
@@ -96,7 +85,7 @@ fn run_tree<
     let couriers = InMemory {
         lose: run.settling.lose,
     };
-    settle(alloc, run, &couriers, held, ledger, answers, faults)
+    settle(alloc, run, &couriers, held, ledger, progress, answers)
 }
 
 // A coordinator that is settled by its workers, and its report.
@@ -105,18 +94,17 @@ pub(crate) fn settle<
     F: Read + Drop,
     L: LedgerOut,
     N: Node + Drop,
-    C: Clock,
     Y: Couriers,
+    G: Progress,
     W: Write,
-    E: Write,
 >(
     alloc: Global,
-    run: Run<'_, P, N, C>,
+    run: Run<'_, P, N>,
     couriers: &Y,
     held: io::Result<Opened<F>>,
     ledger: &mut L,
+    progress: &mut G,
     answers: &mut W,
-    faults: &mut E,
 ) -> Result<Outcome, Ended>
     requires { (1 ≤ run.settling.now.states) × (run.settling.now.states ≤ state_limit) }
     ensures { SettlesTree (P.is_text run.entry.form.now) run.entry.settling.now.states
@@ -129,27 +117,24 @@ pub(crate) fn settle<
     };
     let mut node = start_coordinator(alloc, beginning, held, ledger)?;
     let form = run.form;
-    run_workers(alloc, run, couriers, &mut node, ledger, faults)?;
+    run_workers(alloc, run, couriers, &mut node, ledger, progress)?;
     report_board(alloc, form, &node, answers)
 }
 
 // The rounds alone.
-fn run_workers<P, L: LedgerOut, N: Node + Drop, C: Clock, Y: Couriers, E: Write>(
+fn run_workers<P, L: LedgerOut, N: Node + Drop, Y: Couriers, G: Progress>(
     alloc: Global,
-    run: Run<'_, P, N, C>,
+    run: Run<'_, P, N>,
     couriers: &Y,
     node: &mut Coordinator,
     ledger: &mut L,
-    faults: &mut E,
+    progress: &mut G,
 ) -> Result<(), Ended>
     ensures { OnOk result (IsServed node.old node.new (L.text ledger.old) (L.text ledger.new)) }
 {
     let settling = run.settling;
     let mut stations = stations(alloc, run.workers, couriers)?;
-    let mut progress = TimedProgress::new(alloc, run.telling, run.clock, faults);
-    let ended = run_rounds(node, ledger, &mut stations, settling.rounds, &mut progress);
-    progress.end();
-    ended
+    run_rounds(node, ledger, &mut stations, settling.rounds, progress)
 }
 
 // Each worker with a link of its own.

@@ -7,8 +7,7 @@ use crate::settle::settle_ledger;
 use cert::Decider;
 use cmd_ledgers::open_held;
 use cmd_options::{Ended, LedgerFile};
-use cmd_progress::Progress;
-use files::{Files, ledger_at, lock_ledger};
+use files::{Files, Progress, ledger_at, lock_ledger};
 use std::alloc::Global;
 use std::io::Write;
 

@@ -13,7 +13,7 @@ ghost use Rattle.cmd_parts.specs.inside.{is_below};
 
 use cert::{Decided, Decider, Judged, Record};
 use cmd_options::Ended;
-use cmd_progress::Progress;
+use files::Progress;
 use kind_evidence::NoMemory;
 use ledger::{Board, Open, Taken};
 use machine_text::Table;

@@ -17,6 +17,7 @@ mod memory;
 mod on_disk;
 mod opened;
 mod place;
+mod progress;
 mod writing;
 
 pub use cmd_options::ended_by;
@@ -30,4 +31,5 @@ pub use memory::MemFiles;
 pub use on_disk::OnDisk;
 pub use opened::{Held, Opened, held_at};
 pub use place::Place;
+pub use progress::Progress;
 pub use writing::{ledger_at, made_for, put_at};

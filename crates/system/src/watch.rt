@@ -1,11 +1,12 @@
 // How far the reading of files is, told on standard error.
-use cmd_progress::{ReadingProgress, Telling};
+use crate::meter::{Meter, Work};
+use crate::telling::Telling;
 use std::cell::{Cell, RefCell};
 
 /// What is told of how much of some files is read, while that is asked for, and whether it was said that Skelet 1 is judged.
 #[derive(Drop)]
 pub struct Watch {
-    reading: RefCell<Option<ReadingProgress>>,
+    reading: RefCell<Option<Meter>>,
     has_named: Cell<bool>,
 }
 
@@ -26,7 +27,7 @@ impl Watch {
     // How much of so many bytes is read is told from now on.
     pub(crate) fn begin(&self, rt: &HostRuntime, telling: Telling, total: u64) {
         if let Ok(mut reading) = self.reading.try_borrow_mut() {
-            *reading = Some(ReadingProgress::new(rt.alloc(), telling, total, rt));
+            *reading = Some(Meter::new(rt.alloc(), telling, Work::Bytes(total), rt));
         }
     }
 
@@ -35,7 +36,7 @@ impl Watch {
         if let Ok(mut reading) = self.reading.try_borrow_mut()
             && let Some(progress) = reading.as_mut()
         {
-            progress.tell(count as u64, rt, &mut rt.stderr());
+            progress.count(count as u64, rt, &mut rt.stderr());
         }
     }
 

@@ -6,10 +6,10 @@ use crate::sheets::{Page, Sheet, sheet_at, synced};
 use crate::sockets::Socket;
 use cmd_nodes::{Network, Sockets};
 use cmd_options::Ended;
-use cmd_progress::{ReadingTold, Telling};
 use files::{Disk, DiskFile};
 use std::io::{self, ErrorKind};
 use std::time::{Clock, Duration};
+use system::{ReadingTold, Telling};
 
 /// What a command finds, as a host.
 #[derive(Clone, Copy, Drop)]

@@ -5,28 +5,21 @@ use crate::words::{number_of, parted, unread};
 use cmd_ledgers::AsLines;
 use cmd_nodes::{NoLedger, Run, cmd_run};
 use cmd_options::{Outcome, Search, Settling};
-use cmd_progress::Telling;
-use files::Opened;
+use files::{Opened, Progress};
+use ledger::Board;
 use std::alloc::{AllocError as NoMemory, Global};
 use std::cell::RefCell;
-use std::io::{self, ErrorKind};
-use std::time::{Clock, Duration};
+use std::io;
 
 // No row has more rounds.
 const MOST_ROUNDS: u64 = 10_000;
 
-// A clock that stands.
+// Nobody is told how far it is.
 #[derive(Drop)]
-struct StillClock;
+struct Untold;
 
-impl Clock for StillClock {
-    fn monotonic(&self) -> io::Result<Duration> {
-        Ok(Duration::ZERO)
-    }
-
-    fn since_1970(&self) -> io::Result<Duration> {
-        Err(io::Error::from(ErrorKind::Unsupported))
-    }
+impl Progress for Untold {
+    fn tell(&mut self, _board: &Board) {}
 }
 
 /// `rounds N LOSE WORKERS`: what happens to workers in so many rounds at most, who say what was given; every LOSE-th frame
@@ -80,8 +73,6 @@ fn ran(alloc: Global, rounds: u64, lose: Option<u64>, workers: Vec<Probe<'_>>) -
         settling: &settling,
         form: &AsLines,
         workers,
-        telling: Telling::Nothing,
-        clock: &StillClock,
     };
     let held = Ok(Opened {
         length: 0,
@@ -92,6 +83,7 @@ fn ran(alloc: Global, rounds: u64, lose: Option<u64>, workers: Vec<Probe<'_>>) -
         run,
         held,
         &mut NoLedger,
+        &mut Untold,
         &mut io::sink(),
         &mut io::sink(),
     )

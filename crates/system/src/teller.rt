@@ -10,9 +10,9 @@ const MILLISECONDS_BETWEEN: u64 = 1_000;
 // How many columns the line of a terminal has at most, so that it never becomes two.
 const COLUMNS: usize = 79;
 
-/// Tells something on a stream, at most once a second by a clock.
+// Tells something on a stream, at most once a second by a clock.
 #[derive(Drop)]
-pub struct Teller {
+pub(crate) struct Teller {
     alloc: Global,
     telling: Telling,
     // none where nothing is to be told
@@ -29,7 +29,7 @@ struct Times {
 }
 
 impl Teller {
-    /// One that tells so, from now on.
+    // One that tells so, from now on.
     pub fn new<C: Clock>(alloc: Global, telling: Telling, clock: &C) -> Teller {
         let times = match Instant::now(clock) {
             Ok(start) if telling != Telling::Nothing => Some(Times { start, last: 0 }),
@@ -43,8 +43,8 @@ impl Teller {
         }
     }
 
-    /// How many milliseconds have gone by since the start, where a second has since something was told last: then it is time
-    /// to tell something.
+    // How many milliseconds have gone by since the start, where a second has since something was told last: then it is time
+    // to tell something.
     pub fn due<C: Clock>(&mut self, clock: &C) -> Option<u64> {
         let times = self.times?;
         let now = Instant::now(clock).ok()?;
@@ -59,7 +59,7 @@ impl Teller {
         Some(gone)
     }
 
-    /// Tells something, so many milliseconds after the start.
+    // Tells something, so many milliseconds after the start.
     pub fn say<E: Write>(
         &mut self,
         stream: &mut E,
@@ -80,7 +80,7 @@ impl Teller {
         Ok(())
     }
 
-    /// Ends the line that was written over, if there is one, so that what comes next has a line of its own.
+    // Ends the line that was written over, if there is one, so that what comes next has a line of its own.
     pub fn end<E: Write>(&mut self, stream: &mut E) {
         if self.width > 0 {
             let _ = stream.write_all(b"\n");
@@ -108,7 +108,7 @@ fn milliseconds_between(start: Instant, now: Instant) -> u64 {
     u64::try_from(now.duration_since(start).as_millis()).unwrap_or(u64::MAX)
 }
 
-/// So many seconds, as hours, minutes and seconds.
+// So many seconds, as hours, minutes and seconds.
 pub(crate) fn clock_text(alloc: Global, seconds: u64) -> Result<String, NoMemory> {
     let (hours, minutes) = (seconds / 3_600, seconds / 60 % 60);
     format!(in alloc; "{hours}:{minutes:02}:{:02}", seconds % 60)

@@ -1,4 +1,4 @@
-// How it is told how far a run is.
+// How it is told how far a run is, and who tells it of what is read.
 
 /// How it is told how far a run is.
 #[derive(Clone, Copy, Debug, PartialEq, Eq)]
@@ -20,4 +20,16 @@ impl Telling {
             (false, false) => Telling::Nothing,
         }
     }
+}
+
+/// One who can tell how much is read of what stands at a path.
+pub trait ReadingTold {
+    /// How much is read of the file at a path, or of the files in the folder there, is told so from now on.
+    fn tell_reading(&self, telling: Telling, path: &str);
+
+    /// Something else is said: it has a line of its own.
+    fn pause_reading(&self);
+
+    /// Nothing is told any more.
+    fn end_reading(&self);
 }

@@ -10,6 +10,7 @@ said how many cases were played to their end. Ends with 1 at the first that diff
 import errno
 import fcntl
 import glob
+import itertools
 import os
 import re
 import shutil
@@ -57,6 +58,7 @@ class Said:
         if self.kind == "some":
             return found != b""
         if self.kind == "answer":
+            # The answer of the command itself stands last.
             return answers[self.other - 1] == found
         if self.kind == "same":
             return found == read(os.path.join(folder, self.other))
@@ -69,53 +71,98 @@ class Step:
         self.answers, self.faults, self.status, self.after, self.others, self.asked = Said(), Said(), 0, {}, False, False
 
 
+def with_fixtures(path):
+    """The lines of a file with their numbers, and in the place of `with NAME` those of the fixture."""
+    fixtures, name = {}, None
+    with open(path, encoding="utf-8", newline="") as file:
+        for number, line in enumerate(file.read().split("\n"), 1):
+            if name is not None:
+                if line:
+                    fixtures[name].append((number, line))
+                else:
+                    name = None
+            elif line.startswith("fixture "):
+                name = line[8:]
+                fixtures[name] = []
+            elif line.startswith("with "):
+                yield from fixtures[line[5:]]
+            else:
+                yield number, line
+
+
+def in_orders(lines):
+    """The lines of a case, once for each order of its commands."""
+    begins = [place for place, (_, line) in enumerate(lines) if line in ("in each order", "in both orders")]
+    if not begins:
+        return lines
+    (begin,), (end,) = begins, [place for place, (_, line) in enumerate(lines) if line == "end"]
+    commands = []
+    for number, line in lines[begin + 1 : end]:
+        if line.startswith("$ "):
+            commands.append([])
+        commands[-1].append((number, line))
+    orders = itertools.permutations(commands) if lines[begin][1] == "in each order" else (commands, commands[::-1])
+    return [line for order in orders for line in (*lines[:begin], *itertools.chain(*order), *lines[end + 1 :])]
+
+
+def lines_of(path):
+    """The lines of the cases of a file, with their numbers."""
+    case = []
+    for number, line in with_fixtures(path):
+        if line.startswith("case "):
+            yield from in_orders(case)
+            case = []
+        case.append((number, line))
+    yield from in_orders(case)
+
+
 def cases_of(path):
     """The cases of a file: name, files, steps."""
     found, last = [], None
-    with open(path, encoding="utf-8", newline="") as file:
-        for number, line in enumerate(file.read().split("\n"), 1):
-            if not line or line.startswith("#"):
-                continue
-            if line == "\\":
-                last.bytes = last.bytes[:-1]
-                continue
-            mark, _, text = line.partition(" ")
-            if mark == "case":
-                found.append((f"{os.path.basename(path)}:{number}: {text}", {}, []))
-                continue
-            _, files, steps = found[-1]
-            step = steps[-1] if steps else None
-            if mark == "$":
-                steps.append(Step(text.split(" ")[1:]))
-            elif mark in ("file", "gone", "some", "link", "name", "same", "data"):
-                name, _, other = text.partition(" ")
-                last = Said("bytes" if mark == "file" else mark, other)
-                (step.after if step else files)[name] = last
-            elif mark in ("|", "<", ">", "!"):
-                last = last if mark == "|" else {"<": step and step.input, ">": step and step.answers, "!": step and step.faults}[mark]
-                last.bytes += text_of(text) + b"\n"
-            elif mark in ("|~", ">~", "!~", "|*", ">*", "!*"):
-                said = last if mark[0] == "|" else step.answers if mark[0] == ">" else step.faults
-                if mark[1] == "~":
-                    said.kind, said.bytes = "beginning", said.bytes + text_of(text)
-                else:
-                    said.pieces.append(text_of(text))
-            elif mark in (">>", "!!"):
-                (step.answers if mark == ">>" else step.faults).kind = "some"
-            elif mark == ">=":
-                step.answers.kind, step.answers.other = "answer", int(text)
-            elif mark == "<<":
-                step.input_file = text
-            elif mark == "?":
-                step.status = int(text)
-            elif mark == "@":
-                step.conditions.append(text)
-            elif mark == "others":
-                step.others = True
-            elif mark == "=":
-                step.asked = True
-            elif mark != "%":
-                sys.exit(f"{path}:{number}: no line of a case")
+    for number, line in lines_of(path):
+        if not line or line.startswith("#"):
+            continue
+        if line == "\\":
+            last.bytes = last.bytes[:-1]
+            continue
+        mark, _, text = line.partition(" ")
+        if mark == "case":
+            found.append((f"{os.path.basename(path)}:{number}: {text}", {}, []))
+            continue
+        _, files, steps = found[-1]
+        step = steps[-1] if steps else None
+        if mark == "$":
+            steps.append(Step(text.split(" ")[1:]))
+        elif mark in ("file", "gone", "some", "link", "name", "same", "data"):
+            name, _, other = text.partition(" ")
+            last = Said("bytes" if mark == "file" else mark, other)
+            (step.after if step else files)[name] = last
+        elif mark in ("|", "<", ">", "!"):
+            last = last if mark == "|" else {"<": step and step.input, ">": step and step.answers, "!": step and step.faults}[mark]
+            last.bytes += text_of(text) + b"\n"
+        elif mark in ("|~", ">~", "!~", "|*", ">*", "!*"):
+            said = last if mark[0] == "|" else step.answers if mark[0] == ">" else step.faults
+            if mark[1] == "~":
+                said.kind, said.bytes = "beginning", said.bytes + text_of(text)
+            else:
+                said.pieces.append(text_of(text))
+        elif mark in (">>", "!!"):
+            (step.answers if mark == ">>" else step.faults).kind = "some"
+        elif mark == ">=":
+            # So many commands before it, or the one of a number; its own answer stands behind them.
+            step.answers.kind, step.answers.other = "answer", int(text)
+        elif mark == "<<":
+            step.input_file = text
+        elif mark == "?":
+            step.status = int(text)
+        elif mark == "@":
+            step.conditions.append(text)
+        elif mark == "others":
+            step.others = True
+        elif mark == "=":
+            step.asked = True
+        elif mark != "%":
+            sys.exit(f"{path}:{number}: no line of a case")
     return found
 
 

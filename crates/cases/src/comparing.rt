@@ -82,17 +82,33 @@ fn answers_differ(
     let name = "standard output";
     match said {
         Expected::Answer(number) => {
-            let wanted = match earlier.get(number.saturating_sub(1)) {
-                Some(wanted) => wanted.as_slice(),
-                None => b"(no such command)\n",
-            };
-            if wanted == found {
-                return Ok(None);
-            }
-            Ok(Some(Difference::of(alloc, name, wanted, found)?))
+            answer_differs(alloc, earlier.get(number.saturating_sub(1)), found)
+        }
+        Expected::AnswerBefore(count) => {
+            answer_differs(
+                alloc,
+                earlier.iter().rev().nth(count.saturating_sub(1)),
+                found,
+            )
         }
         _ => said_differs(alloc, name, said, Some(found)),
     }
+}
+
+// What is different of standard output that is to be what an earlier command answered.
+fn answer_differs(
+    alloc: Global,
+    wanted: Option<&Vec<u8>>,
+    found: &[u8],
+) -> Result<Option<Difference>, NoMemory> {
+    let wanted = match wanted {
+        Some(wanted) => wanted.as_slice(),
+        None => b"(no such command)\n",
+    };
+    if wanted == found {
+        return Ok(None);
+    }
+    Ok(Some(Difference::of(alloc, "standard output", wanted, found)?))
 }
 
 /// What is different of an exit status.
@@ -150,6 +166,7 @@ fn is_said(said: &Expected, found: Option<&[u8]>) -> bool {
         | Expected::Link(_)
         | Expected::Name(_)
         | Expected::Answer(_)
+        | Expected::AnswerBefore(_)
         | Expected::Same(_) => false,
     }
 }
@@ -163,7 +180,7 @@ fn wanted_of(said: &Expected) -> &[u8] {
         Expected::Pieces(_) => b"(pieces, one behind another)\n",
         Expected::Data(_) | Expected::Link(_) | Expected::Name(_) =>
             b"(what stands before a command alone)\n",
-        Expected::Answer(_) => b"(no such command)\n",
+        Expected::Answer(_) | Expected::AnswerBefore(_) => b"(no such command)\n",
         Expected::Same(_) => b"(no such file)\n",
     }
 }

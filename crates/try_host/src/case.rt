@@ -33,6 +33,8 @@ pub enum Expected {
     Something,
     /// What an earlier command of the case answered; 1 is the first.
     Answer(usize),
+    /// What the command answered that stands so many before it.
+    AnswerBefore(usize),
     /// What the file at another path holds.
     Same(String),
     /// What a file of the program's folder holds.

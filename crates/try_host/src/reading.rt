@@ -2,6 +2,7 @@
 use crate::case::{Case, CaseStep, CaseTurn, Expected, FileText};
 use crate::conditions::Conditions;
 use crate::escapes::append_text;
+use crate::expanding::{Line, expanded};
 use crate::fault::CaseFault;
 use std::alloc::{AllocError as NoMemory, Global};
 
@@ -14,9 +15,8 @@ pub fn cases_of(alloc: Global, text: &str) -> Result<Vec<Case>, CaseFault> {
         cases: Vec::new(alloc),
         last: Place::Nothing,
     };
-    for (place, line) in text.lines().enumerate() {
-        let number = place.saturating_add(1);
-        if !reader.take(number, line)? {
+    for Line { number, text } in expanded(alloc, text)? {
+        if !reader.take(number, text)? {
             return Err(CaseFault::Line(number));
         }
     }
@@ -84,9 +84,9 @@ impl Reader {
             "<<" => step.input_file = Some(text.to_string(alloc)?),
             ">*" => return append_piece(alloc, &mut step.answers, text),
             "!*" => return append_piece(alloc, &mut step.faults, text),
-            ">=" => match text.parse::<usize>() {
-                Ok(number) => step.answers = Expected::Answer(number),
-                Err(_) => return Ok(false),
+            ">=" => match answer_of(text) {
+                Some(answer) => step.answers = answer,
+                None => return Ok(false),
             },
             ">>" => step.answers = Expected::Something,
             "!!" => step.faults = Expected::Something,
@@ -253,6 +253,14 @@ impl Reader {
             Expected::Bytes(bytes) => Some(bytes),
             _ => None,
         }
+    }
+}
+
+// What an earlier command answered: the one of a number, or so many commands before.
+fn answer_of(text: &str) -> Option<Expected> {
+    match text.strip_prefix("-") {
+        Some(before) => Some(Expected::AnswerBefore(before.parse().ok()?)),
+        None => Some(Expected::Answer(text.parse().ok()?)),
     }
 }
 

@@ -1,5 +1,5 @@
 #!/usr/bin/env python3
-"""What the gate takes, by kinds and by crates: bench/gate.py [COMMAND ..], by default `rt ci --anew` at the top.
+"""What the gate takes, by kinds and by crates: bench/gate.py [COMMAND ..], by default `./ci --anew` at the top.
 
 Looks twice a second at the checks that run below the command and adds up their processor time: proofs (a crate's own check and
 build), tests (the check of a crate with its tests), edits (the checks of wrong code, and those that they begin with). What else
@@ -62,7 +62,7 @@ def look(top, found):
 
 
 def main():
-    command = sys.argv[1:] or ["rt", "ci", "--anew"]
+    command = sys.argv[1:] or ["./ci", "--anew"]
     begun, found = time.monotonic(), {}
     with subprocess.Popen(command, cwd=TOP) as done:
         while done.poll() is None:

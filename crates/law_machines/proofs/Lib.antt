@@ -1,3 +1,8 @@
+pub mod Zippers
+pub mod RuleLaws
+pub mod Words
+pub mod Blanks
+pub mod ByText
 pub mod Cells
 pub mod Digits
 pub mod ShiftLists

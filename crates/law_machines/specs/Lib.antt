@@ -1,1 +1,4 @@
+pub mod Zipper
+pub mod Rules
+pub mod Words
 pub mod Tables

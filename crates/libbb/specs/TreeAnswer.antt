@@ -15,8 +15,8 @@ use Rattle.ledger.specs.declared.left.Unkept.TheVariants.{Torn, Unread, Unfit, R
 use Rattle.ledger.specs.declared.status.Status.{Status}
 use Rattle.ledger.specs.declared.status.Status.TheVariants.{Working, Holdouts, Complete}
 use Rattle.ledger.specs.declared.tally.Tally.{Tally}
-use Rattle.judging.specs.Answer.{flag, or_zero}
-use Rattle.judging.specs.declared.tree_answer.TreeAnswer.{TreeAnswer}
+use Rattle.libbb.specs.Answer.{flag, or_zero}
+use Rattle.libbb.specs.declared.tree_answer.TreeAnswer.{TreeAnswer}
 
 abbrev pub status_number : Status → ℕ
 status_number (Complete best ones) = 0

@@ -6,7 +6,7 @@ ghost use Rattle.law_turing.specs.Score.{HaltsWith};
 ghost use Rattle.cert.specs.Claim.{Recorded};
 ghost use Rattle.cert.specs.Grammar.{record_of, kind_text};
 ghost use Rattle.cert.specs.Kinds.{recorded, claim_of};
-ghost use Rattle.judging.specs.Answer.{TellsOfRead, TellsOfRecord, outcome_alone, flag, shown_answer, refused_answer, unread, unread_table};
+ghost use Rattle.libbb.specs.Answer.{TellsOfRead, TellsOfRecord, outcome_alone, flag, shown_answer, refused_answer, unread, unread_table};
 
 use cert::{Certificate, Record, RecordFault, judge, standing_claims_are_true};
 use kind_evidence::Verdict;

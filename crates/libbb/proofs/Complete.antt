@@ -5,9 +5,9 @@ use Rattle.cert.specs.Claim.{Recorded}
 use Rattle.ledger.specs.Tally.{IsGreatestCount, IsGreatestOnes, IsStatus}
 use Rattle.ledger.specs.declared.status.Status.{Status}
 use Rattle.ledger.specs.declared.status.Status.TheVariants.{Working, Holdouts, Complete}
-use Rattle.judging.specs.Answer.{flag, or_zero}
-use Rattle.judging.specs.TreeAnswer.{IsEmptyRoot, status_number}
-use Rattle.judging.proofs.Greatest.{one_count, one_score}
+use Rattle.libbb.specs.Answer.{flag, or_zero}
+use Rattle.libbb.specs.TreeAnswer.{IsEmptyRoot, status_number}
+use Rattle.libbb.proofs.Greatest.{one_count, one_score}
 
 -- the greatest count that is said is that of the status
 pub best_said : (root : Packed) (rs : List Recorded) (status : Status) (best : Option ℕ) (Is : ℕ → Type 0) → IsStatus root rs status → IsGreatestCount rs best

@@ -12,8 +12,8 @@ use Rattle.ledger.specs.declared.faults.LoadFault.{LoadFault}
 use Rattle.ledger.specs.declared.faults.LoadFault.TheVariants.{BadHeader, WrongRoot, NoMemory}
 use Rattle.text.proofs.Lines.{line_has_newline, same_line}
 use Rattle.ledger.proofs.HeaderLaws.{one_format}
-use Rattle.judging.specs.TreeAnswer.{Reports, TellsOf, no_tree}
-use Rattle.judging.specs.declared.tree_answer.TreeAnswer.{TreeAnswer}
+use Rattle.libbb.specs.TreeAnswer.{Reports, TellsOf, no_tree}
+use Rattle.libbb.specs.declared.tree_answer.TreeAnswer.{TreeAnswer}
 
 -- a text has one header
 one_header : (text : List ℕ) (a b : Packed) (rest more : List ℕ) → HasHeader text a rest → HasHeader text b more → a ≡ b

@@ -5,8 +5,8 @@ ghost use Rattle.law_turing.specs.Halting.{IsRado};
 ghost use Rattle.law_tree.specs.Used.{InOrder};
 ghost use Rattle.ledger.specs.LedgerText.{HasHeader};
 ghost use Rattle.ledger.specs.Sigma.{IsSigma};
-ghost use Rattle.judging.specs.Answer.{flag, or_zero};
-ghost use Rattle.judging.specs.TreeAnswer.{IsEmptyRoot, Reports, TellsOf, unkept_code, unkept_line, unkept_why, status_number, told, no_tree, why_code, why_number};
+ghost use Rattle.libbb.specs.Answer.{flag, or_zero};
+ghost use Rattle.libbb.specs.TreeAnswer.{IsEmptyRoot, Reports, TellsOf, unkept_code, unkept_line, unkept_why, status_number, told, no_tree, why_code, why_number};
 
 use crate::answer::flag;
 use ledger::{Board, Left, LoadFault, Status, Tally, Unkept, peek_root};

@@ -1,5 +1,5 @@
-use Rattle.judging.proofs.Gives.{loaded_reports, unloaded_reports}
-use Rattle.judging.proofs.tree_answer.report_of.Goals as goal
+use Rattle.libbb.proofs.Gives.{loaded_reports, unloaded_reports}
+use Rattle.libbb.proofs.tree_answer.report_of.Goals as goal
 
 pub returns-in-Ok-clause-reports : goal.returns-in-Ok-clause-reports
 returns-in-Ok-clause-reports c =

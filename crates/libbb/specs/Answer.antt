@@ -14,7 +14,7 @@ use Rattle.cert.specs.Fault.{record_fault_number}
 use Rattle.cert.specs.Grammar.{kind_text}
 use Rattle.cert.specs.declared.record_fault.RecordFault.{RecordFault}
 use Rattle.cert.specs.declared.record_fault.RecordFault.TheVariants.{BadTable, BadKind, BadNumber, BadList, TooLong}
-use Rattle.judging.specs.declared.answer.Answer.{Answer}
+use Rattle.libbb.specs.declared.answer.Answer.{Answer}
 
 abbrev pub flag : Option ℕ → ℕ
 flag None = 0

@@ -1,3 +1,5 @@
+pub mod Readings
+pub mod CountedLaws
 pub mod Zippers
 pub mod RuleLaws
 pub mod Words

@@ -1,3 +1,5 @@
+pub mod Cosets
+pub mod Counted
 pub mod Zipper
 pub mod Rules
 pub mod Words

@@ -19,12 +19,12 @@ use Rattle.law_turing.specs.Automata.{symbols_ahead}
 use Rattle.law_turing.proofs.Steps.{taken_takes, next_taken}
 use Rattle.law_turing.proofs.OneState.{start_blank}
 use Rattle.law_turing.proofs.Invariants.{invariant_law, never_by_invariant}
-use Rattle.law_counted.specs.Cosets.{Point, Coset, IsMember}
-use Rattle.law_counted.specs.declared.count.Count.{Count}
-use Rattle.law_counted.specs.declared.transition.Transition.{Transition}
-use Rattle.law_counted.specs.declared.local.Local.{Local}
-use Rattle.law_counted.specs.Counted.{Delta, once, Reading, begun, further, reading, IsHalfRead, CountedSystem, HasCoset, delta, IsOf, Remains, Settled, None_remains, Negative, Members, LeadsOn, CountedStand, IsHeldBy}
-use Rattle.law_counted.proofs.Readings.{reading_less, read_same, read_more, read_less, read_blank}
+use Rattle.law_machines.specs.Cosets.{Point, Coset, IsMember}
+use Rattle.law_machines.specs.declared.count.Count.{Count}
+use Rattle.law_machines.specs.declared.transition.Transition.{Transition}
+use Rattle.law_machines.specs.declared.local.Local.{Local}
+use Rattle.law_machines.specs.Counted.{Delta, once, Reading, begun, further, reading, IsHalfRead, CountedSystem, HasCoset, delta, IsOf, Remains, Settled, None_remains, Negative, Members, LeadsOn, CountedStand, IsHeldBy}
+use Rattle.law_machines.proofs.Readings.{reading_less, read_same, read_more, read_less, read_blank}
 
 once_other : (o : Option Count) (x : ℕ) → ((y : Count) → o ≡ Some y → y.number ≡ x → ⊥) → once o x ≡ 0
 once_other None x other = refl

@@ -13,10 +13,10 @@ use Rattle.law_turing.specs.Run.{Config, cell}
 use Rattle.law_turing.specs.Mirror.{opposite}
 use Rattle.law_turing.specs.Translated.{Beyond}
 use Rattle.law_turing.specs.Automata.{behind, symbols_ahead}
-use Rattle.law_counted.specs.Cosets.{Point, zeros, Coset, IsMember}
-use Rattle.law_counted.specs.declared.count.Count.{Count}
-use Rattle.law_counted.specs.declared.transition.Transition.{Transition}
-use Rattle.law_counted.specs.declared.local.Local.{Local}
+use Rattle.law_machines.specs.Cosets.{Point, zeros, Coset, IsMember}
+use Rattle.law_machines.specs.declared.count.Count.{Count}
+use Rattle.law_machines.specs.declared.transition.Transition.{Transition}
+use Rattle.law_machines.specs.declared.local.Local.{Local}
 
 -- the transitions of an automaton; some may be missing
 abbrev pub Delta : Type 0

@@ -12,8 +12,8 @@ use Rattle.law_turing.specs.Mirror.{opposite}
 use Rattle.law_turing.specs.Translated.{Beyond}
 use Rattle.law_turing.specs.Automata.{behind, symbols_ahead}
 use Rattle.law_turing.proofs.OneState.{start_blank}
-use Rattle.law_counted.specs.declared.transition.Transition.{Transition}
-use Rattle.law_counted.specs.Counted.{Delta, Reading, begun, further, further_by, read_on, reading, IsHalfRead}
+use Rattle.law_machines.specs.declared.transition.Transition.{Transition}
+use Rattle.law_machines.specs.Counted.{Delta, Reading, begun, further, further_by, read_on, reading, IsHalfRead}
 
 -- the transition by a blank cell far away
 abbrev pub unmoved : Transition

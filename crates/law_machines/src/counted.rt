@@ -3,7 +3,7 @@ ghost use Rattle.std.specs.Prelude.{◌≡◌, ℕ, Some};
 ghost use Rattle.law_turing.specs.Machine.{Machine};
 ghost use Rattle.law_turing.specs.Run.{Config, from};
 ghost use Rattle.law_turing.specs.Halting.{Never};
-ghost use Rattle.law_counted.specs.Counted.{CountedSystem, CountedStand, IsHeldBy};
+ghost use Rattle.law_machines.specs.Counted.{CountedSystem, CountedStand, IsHeldBy};
 
 /// A machine for which counted automata stand never halts. Nor does its run from any other configuration that
 /// they hold: it goes on for ever, and each configuration of it is held.

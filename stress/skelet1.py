@@ -1,5 +1,5 @@
 #!/usr/bin/env python3
-"""The rules of crates/skelet1 against Skelet 1's own steps.
+"""The rules of crates/kind_named against Skelet 1's own steps.
 
 stress/skelet1.py rules SEED TIMES     random tokens on both sides of the head, and what one rule makes of them: the machine
                                        has to go there, without a look at what is beyond the tokens
@@ -12,7 +12,7 @@ stress/skelet1.py check [PROGRAM ..]   the whole check, by the built program's `
 stress/skelet1.py told [PROGRAM ..]    what `bb report`, `bb retry` and `bb join` say of it before they judge it: a line where
                                        standard error is a terminal, and nothing elsewhere
 
-Written from the definitions in crates/skelet1/specs/inside (Words, Tokens, Visits, Jumps), with a machine that makes one
+Written from the definitions in crates/kind_named/specs/inside (Words, Tokens, Visits, Jumps), with a machine that makes one
 step at a time; no code of the crate is used. Ends with 1 where something differs.
 """
 import os

@@ -6,7 +6,7 @@ use Rattle.loops.proofs.KindLaws.{cycle_is_kind, translated_is_kind}
 use Rattle.backward.proofs.KindLaws.{backward_is_kind}
 use Rattle.ngram_cps.proofs.KindLaws.{ngram_is_kind}
 use Rattle.far.proofs.KindLaws.{far_is_kind}
-use Rattle.kind_listed.proofs.KindLaws.{listed_is_kind}
+use Rattle.far.proofs.ListedKindLaws.{listed_is_kind}
 use Rattle.kind_counted.proofs.KindLaws.{counted_is_kind}
 use Rattle.kind_named.proofs.KindLaws.{named_is_kind}
 use Rattle.cert.specs.Reason.{Reason, CycleReason, TranslatedReason, BackwardReason, NgramReason, FarReason, ListedReason, CountedReason, NamedReason, with_kind, reason_letter, reason_fields, reason_meaning}

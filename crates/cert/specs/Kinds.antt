@@ -6,8 +6,8 @@ use Rattle.far.specs.Far.{automata_of}
 use Rattle.far.specs.OwnedFar.{owned_automata}
 use Rattle.kind_counted.specs.CountedCosets.{coset_texts_of}
 use Rattle.kind_counted.specs.OwnedCosets.{owned_coset_texts}
-use Rattle.kind_listed.specs.Listed.{texts_of}
-use Rattle.kind_listed.specs.OwnedListed.{owned_texts}
+use Rattle.far.specs.Listed.{texts_of}
+use Rattle.far.specs.OwnedListed.{owned_texts}
 use Rattle.ngram_cps.specs.Ngram.{lists_of}
 use Rattle.ngram_cps.specs.Owned.{owned_lists}
 use Rattle.cert.specs.declared.certificate.Certificate.{Certificate}

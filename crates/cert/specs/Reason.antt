@@ -15,8 +15,8 @@ use Rattle.ngram_cps.specs.Lists.{Lists}
 use Rattle.ngram_cps.specs.Kind.{ngram_kind}
 use Rattle.far.specs.Automata.{Automata}
 use Rattle.far.specs.Kind.{far_kind}
-use Rattle.kind_listed.specs.Texts.{ListedTexts}
-use Rattle.kind_listed.specs.Kind.{listed_kind}
+use Rattle.far.specs.ListedTexts.{ListedTexts}
+use Rattle.far.specs.ListedKind.{listed_kind}
 use Rattle.kind_counted.specs.CosetTexts.{CosetTexts}
 use Rattle.kind_counted.specs.Kind.{counted_kind}
 use Rattle.kind_named.specs.declared.named.Named.{Named}

@@ -6,10 +6,9 @@ ghost use Rattle.text.specs.Fields.{made_of};
 ghost use Rattle.cert.specs.Kinds.{claim_of};
 
 use backward::Backward;
-use far::{Far, OwnedFar};
+use far::{Far, Listed, OwnedFar, OwnedListed};
 use kind_counted::{CountedCosets, OwnedCosets};
 use kind_evidence::{Ending, NoMemory, Verdict};
-use kind_listed::{Listed, OwnedListed};
 use kind_named::Named;
 use loops::{Cycle, Translated};
 use ngram_cps::{Ngram, OwnedNgram};

@@ -6,7 +6,7 @@ use Rattle.law_machines.specs.Tables.{machine_name, table_text}
 use Rattle.law_machines.specs.declared.machines.ProvedMachine.{ProvedMachine}
 use Rattle.law_machines.specs.declared.machines.ProvedMachine.TheVariants.{Skelet10, Skelet15, Skelet17, Skelet26, Skelet33, Skelet34, Skelet35}
 use Rattle.law_turing.specs.Halting.{Never}
-use Rattle.skelet1.specs.Table.{skelet1}
+use Rattle.kind_named.specs.Table.{skelet1}
 use Rattle.cmd_explain.specs.Quantity.{sentence}
 
 abbrev pub counter_form : List ℕ
@@ -38,7 +38,7 @@ named_text name form file = sentence (
     ∷ codes ".\nSo it never halts.\n" ∷ [])
 
 abbrev pub skelet1_words : List ℕ
-skelet1_words = codes "It is Skelet 1, a counter to the base 4 on a tape of words 101 and 10 that throws what it has counted to the right.\nIts run was followed, by rules that are proved in crates/skelet1, until it was seen to repeat.\nSo it never halts.\n"
+skelet1_words = codes "It is Skelet 1, a counter to the base 4 on a tape of words 101 and 10 that throws what it has counted to the right.\nIts run was followed, by rules that are proved in crates/kind_named, until it was seen to repeat.\nSo it never halts.\n"
 
 -- the table is one of those that are proved, or Skelet 1; and it never halts
 pub record TellsNamed (p : Packed) (words : List ℕ) : Type 0 where

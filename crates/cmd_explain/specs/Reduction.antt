@@ -6,8 +6,8 @@ use Rattle.law_turing.specs.Automata.{TwoAutomata, LeadsToHalt}
 use Rattle.law_turing.specs.Machine.{Machine}
 use Rattle.law_turing.specs.Run.{Config, start, next, from}
 use Rattle.far.specs.Automata.{Automata, described}
-use Rattle.kind_listed.specs.Automata.{ListedAutomata, described_by}
-use Rattle.kind_listed.specs.Texts.{ListedTexts, automata_of_texts}
+use Rattle.far.specs.ListedAutomata.{ListedAutomata, described_by}
+use Rattle.far.specs.ListedTexts.{ListedTexts, automata_of_texts}
 use Rattle.cmd_explain.specs.Quantity.{sentence, quantity}
 use Rattle.cmd_explain.specs.Sides.{ahead, side_behind}
 

@@ -87,7 +87,7 @@ fn skelet1_words(alloc: Global) -> Result<String, NoMemory>
     String::from_str(
         alloc,
         "It is Skelet 1, a counter to the base 4 on a tape of words 101 and 10 that throws what it has counted to \
-         the right.\nIts run was followed, by rules that are proved in crates/skelet1, until it was seen to \
+         the right.\nIts run was followed, by rules that are proved in crates/kind_named, until it was seen to \
          repeat.\nSo it never halts.\n",
     )
 }

@@ -2,14 +2,13 @@
 ghost use Rattle.std.specs.Prelude.{◌≡◌, IfOk, string_bytes};
 ghost use Rattle.far.specs.Automata.{AreAutomataOf};
 ghost use Rattle.far.specs.Far.{automata_of};
-ghost use Rattle.kind_listed.specs.Listed.{AreTextsOf, texts_of};
+ghost use Rattle.far.specs.Listed.{AreTextsOf, texts_of};
 ghost use Rattle.cmd_explain.specs.Reduction.{TellsFar, TellsListed, reduction_text, reduction_words};
 
 use crate::quantity::Quantity;
 use crate::sides::{ahead, side_behind};
-use far::Far;
+use far::{Far, Listed};
 use kind_evidence::NoMemory;
-use kind_listed::Listed;
 use machine_text::{Dir, Table};
 use std::alloc::Global;
 

@@ -9,3 +9,12 @@ pub mod Tested
 pub mod Blank
 pub mod Written
 pub mod KindLaws
+pub mod Members
+pub mod Listing
+pub mod Transitions
+pub mod ListedEdges
+pub mod ReadLists
+pub mod WellRead
+pub mod HighBytes
+pub mod ListedFieldLaws
+pub mod ListedKindLaws

@@ -6,4 +6,10 @@ pub mod Kind
 pub mod Far
 pub mod TextList
 pub mod OwnedFar
+pub mod ListedAutomata
+pub mod ListedTexts
+pub mod Listed
+pub mod ListedFields
+pub mod ListedKind
+pub mod OwnedListed
 pub mod inside

@@ -4,3 +4,6 @@ pub mod Reading
 pub mod Steps
 pub mod LeastEdges
 pub mod Unpacked
+pub mod Lists
+pub mod ListedSteps
+pub mod ListedUnpacked

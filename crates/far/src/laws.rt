@@ -6,6 +6,7 @@ ghost use Rattle.far.specs.Automata.{Automata, AreAutomata, AreSized};
 ghost use Rattle.far.specs.Kind.{number_fields};
 ghost use Rattle.far.specs.Kind.{far_kind};
 ghost use Rattle.far.specs.Limits.{number_byte_limit};
+ghost use Rattle.far.specs.ListedKind.{listed_kind};
 ghost use Rattle.far.specs.Tests.{are_texts};
 ghost use Rattle.far.specs.Texts.{AreTexts, automata_by, delta_text, rows_text, hex_text};
 
@@ -32,4 +33,10 @@ pub fn texts_are_tested()
 /// Automata are a kind: their fields read back, and where they stand the table never halts.
 pub fn automata_are_a_kind()
     ensures { IsKind far_kind }
+{}
+
+/// Automata with listed edges are a kind: their fields read back, a record has room for them, and where they stand the
+/// table never halts.
+pub fn listed_automata_are_a_kind()
+    ensures { IsKind listed_kind }
 {}

@@ -6,8 +6,8 @@ use Rattle.cert.specs.Reason.{FarReason, ListedReason}
 use Rattle.far.specs.Automata.{AreAutomataOf}
 use Rattle.far.specs.Limits.{size_limit}
 use Rattle.far.specs.OwnedFar.{owned_automata}
-use Rattle.kind_listed.specs.Listed.{AreTextsOf}
-use Rattle.kind_listed.specs.OwnedListed.{owned_texts}
+use Rattle.far.specs.Listed.{AreTextsOf}
+use Rattle.far.specs.OwnedListed.{owned_texts}
 use Rattle.find_words.specs.declared.word_finder.FoundAutomata.{FoundAutomata}
 use Rattle.find_words.specs.declared.word_finder.FoundAutomata.TheVariants.{Far, Listed}
 

@@ -1,16 +1,15 @@
 // The finder: a first automaton made of words, tried on both sides.
 ghost use Rattle.std.specs.Prelude.{◌≡◌, ◌<◌, ◌≤◌, ℕ, slice_index, IfOk, IfSome};
-ghost use Rattle.kind_listed.specs.Limits.{listed_size_limit};
+ghost use Rattle.far.specs.Limits.{listed_size_limit};
 ghost use Rattle.find_words.specs.Findings.{AreFoundOf};
 
 use crate::closing::{Closing, Reduction};
 use crate::stages::{WORD_STAGES, WordStage};
 use crate::writing::append_numbers;
 use cert::{Finder, OwnedCertificate};
-use far::OwnedFar;
+use far::{Listed, OwnedFar, OwnedListed};
 use find_automata::{Automaton, MAX_MOVES};
 use kind_evidence::NoMemory;
-use kind_listed::{Listed, OwnedListed};
 use machine_text::{Dir, Table};
 use std::alloc::Global;
 

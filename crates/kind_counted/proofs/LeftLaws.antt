@@ -3,10 +3,10 @@ use Rattle.std.proofs.Common.{◌≡◌, ℕ, zero, suc, ◌+◌, ◌<◌, ◌�
 use Rattle.std.proofs.lemmas.Int.{ints}
 use Rattle.std.proofs.lemmas.Bool.{cases_lt}
 use Rattle.std.proofs.lemmas.List.{take_more, get_or-map, map-append}
-use Rattle.law_counted.specs.declared.count.Count.{Count}
+use Rattle.law_machines.specs.declared.count.Count.{Count}
 use Rattle.kind_counted.specs.declared.numbers.Counts.{Counts}
-use Rattle.law_counted.specs.Cosets.{Point, zeros, less, IsSum, Coset, IsMember}
-use Rattle.law_counted.specs.Counted.{once}
+use Rattle.law_machines.specs.Cosets.{Point, zeros, less, IsSum, Coset, IsMember}
+use Rattle.law_machines.specs.Counted.{once}
 use Rattle.kind_counted.specs.Numbers.{point_of}
 use Rattle.kind_counted.specs.inside.Spans.{listed}
 use Rattle.kind_counted.specs.inside.Used.{in_set}

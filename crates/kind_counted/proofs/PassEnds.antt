@@ -6,7 +6,7 @@ use Rattle.std.proofs.lemmas.Result.{IfOk-weaker}
 use Rattle.machine_text.specs.declared.transition.Dir.{Dir}
 use Rattle.machine_text.specs.declared.transition.Dir.TheVariants.{L, R}
 use Rattle.law_turing.specs.Machine.{Machine}
-use Rattle.law_counted.specs.Counted.{Delta, CountedSystem, delta, IsUnused}
+use Rattle.law_machines.specs.Counted.{Delta, CountedSystem, delta, IsUnused}
 use Rattle.kind_counted.specs.declared.certificate.CountedAutomata.{CountedAutomata}
 use Rattle.kind_counted.specs.declared.refused.Refused.{Refused}
 use Rattle.kind_counted.specs.declared.refused.Refused.TheVariants.{Fails, TooLarge, NoMemory}

@@ -14,10 +14,10 @@ use Rattle.machine_text.specs.declared.transition.Dir.TheVariants.{L, R}
 use Rattle.machine_text.specs.declared.transition.State.{State}
 use Rattle.law_turing.specs.Machine.{Machine}
 use Rattle.kind_evidence.specs.Tests.{each_below}
-use Rattle.law_counted.specs.declared.transition.Transition.{Transition}
-use Rattle.law_counted.specs.declared.local.Local.{Local}
-use Rattle.law_counted.specs.Cosets.{Point, zeros, Coset}
-use Rattle.law_counted.specs.Counted.{Item as ItemOf, Delta, CountedSystem, delta, moved_to}
+use Rattle.law_machines.specs.declared.transition.Transition.{Transition}
+use Rattle.law_machines.specs.declared.local.Local.{Local}
+use Rattle.law_machines.specs.Cosets.{Point, zeros, Coset}
+use Rattle.law_machines.specs.Counted.{Item as ItemOf, Delta, CountedSystem, delta, moved_to}
 use Rattle.kind_counted.specs.declared.automaton.Exits.{Exits}
 use Rattle.kind_counted.specs.declared.item.Item.{Item}
 use Rattle.kind_counted.specs.declared.numbers.Counts.{Counts}

@@ -8,9 +8,9 @@ use Rattle.std.proofs.lemmas.List.{get_or-set_other}
 use Rattle.std.proofs.lemmas.Result.{err_from_is_err_and}
 use Rattle.std.proofs.lemmas.Bool.Decides.{nat_tests}
 use Rattle.kind_evidence.specs.Tests.{each_below}
-use Rattle.law_counted.specs.declared.count.Count.{Count}
-use Rattle.law_counted.specs.Counted.{once}
-use Rattle.law_counted.specs.Cosets.{Point, less}
+use Rattle.law_machines.specs.declared.count.Count.{Count}
+use Rattle.law_machines.specs.Counted.{once}
+use Rattle.law_machines.specs.Cosets.{Point, less}
 use Rattle.kind_counted.specs.Limits.{number_limit}
 use Rattle.kind_counted.specs.Numbers.{point_of, AreSmall}
 use Rattle.kind_counted.specs.declared.refused.Refused.{Refused}

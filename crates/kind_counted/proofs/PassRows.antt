@@ -2,9 +2,9 @@
 use Rattle.std.proofs.Common.{◌≡◌, ℕ, suc, ◌+◌, ◌-◌, ◌<◌, ◌≤◌, pos, ◌+ℤ◌, ◌-ℤ◌, ◌<ℤ◌, Option, None, List, [], ◌∷◌, ◌++◌, length, take, drop, get_or, Ok, sym, ◌∙◌, ap, arith}
 use Rattle.std.proofs.lemmas.Int.{ints}
 use Rattle.std.proofs.lemmas.List.{get_or-map, length-map, map-append, take_more, drop_all}
-use Rattle.law_counted.specs.declared.count.Count.{Count}
-use Rattle.law_counted.specs.Cosets.{Point, Coset}
-use Rattle.law_counted.specs.Counted.{once}
+use Rattle.law_machines.specs.declared.count.Count.{Count}
+use Rattle.law_machines.specs.Cosets.{Point, Coset}
+use Rattle.law_machines.specs.Counted.{once}
 use Rattle.std.specs.List.{range_with_len}
 use Rattle.kind_counted.specs.Numbers.{point_of}
 use Rattle.kind_counted.specs.Pivots.{points}

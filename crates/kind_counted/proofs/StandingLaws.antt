@@ -5,11 +5,11 @@ use Rattle.std.proofs.lemmas.List.{get_or-map, length-map}
 use Rattle.std.proofs.lemmas.Option.{same_Some, none-some}
 use Rattle.machine_text.specs.declared.transition.Entry.{Entry}
 use Rattle.law_turing.specs.Machine.{Machine}
-use Rattle.law_counted.specs.declared.local.Local.{Local}
+use Rattle.law_machines.specs.declared.local.Local.{Local}
 use Rattle.kind_counted.specs.declared.item.Item.{Item}
 use Rattle.kind_counted.specs.declared.certificate.CountedAutomata.{CountedAutomata}
-use Rattle.law_counted.specs.Cosets.{Coset}
-use Rattle.law_counted.specs.Counted.{Item as ItemOf, HasCoset, LeadsOn, CountedStand}
+use Rattle.law_machines.specs.Cosets.{Coset}
+use Rattle.law_machines.specs.Counted.{Item as ItemOf, HasCoset, LeadsOn, CountedStand}
 use Rattle.kind_counted.specs.Items.{coset_of, item_of}
 use Rattle.kind_counted.specs.Certificate.{counted_of}
 use Rattle.kind_counted.specs.inside.Judging.{HasStep, AllGoOn, StartsInside}

@@ -5,7 +5,7 @@ use Rattle.machine_text.specs.Limits.{state_limit}
 use Rattle.machine_text.specs.Packed.{Packed, entry_of}
 use Rattle.text.specs.Parts.{parts_of}
 use Rattle.kind_counted.specs.Automata.{transitions_of}
-use Rattle.law_counted.specs.Counted.{CountedSystem, CountedStand}
+use Rattle.law_machines.specs.Counted.{CountedSystem, CountedStand}
 use Rattle.kind_counted.specs.Limits.{coset_byte_limit, count_limit}
 use Rattle.kind_counted.specs.Pass.{GetTooLarge}
 use Rattle.kind_counted.specs.Texts.{half_states, automaton_from, items_from}

@@ -1,7 +1,7 @@
 -- Counted automata as a kind of certificates: how their fields are read and written, what they mean, and their law.
 use Rattle.std.specs.Prelude.{◌≡◌, codes}
 use Rattle.machine_text.specs.Packed.{entry_of}
-use Rattle.law_counted.proofs.CountedLaws.{counted_never}
+use Rattle.law_machines.proofs.CountedLaws.{counted_never}
 use Rattle.kind_evidence.specs.Kind.{Kind}
 use Rattle.kind_counted.specs.CosetTexts.{CosetTexts, AreCosetTexts, AreWithinLimits, AreCosetsOf, GetTooLargeFor}
 use Rattle.kind_counted.specs.Fields.{counted_by, counted_fields}

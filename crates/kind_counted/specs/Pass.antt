@@ -1,4 +1,4 @@
--- The pass by which counted automata are judged. Whether they stand is said without it (law_counted's `Counted`). But
+-- The pass by which counted automata are judged. Whether they stand is said without it (law_machines's `Counted`). But
 -- where a number gets too large, it ends (203), and which numbers come up depends on how it goes: so it is said here.
 use Rattle.std.specs.Prelude.{◌≡◌, ℕ, zero, suc, ◌+◌, ◌-◌, ◌<◌, ◌==◌, ◌&&◌, not, nat_le, if◌then◌else◌, Bool, true, pos, ◌+ℤ◌, ◌-ℤ◌, int_lt, int_div, int_rem, unsigned_abs, List, [], ◌∷◌, ◌++◌, Option, Some, None, Result, Ok, Err, IsTrue, ◌↔◌}
 use Rattle.std.specs.List.{range_with_len}
@@ -12,11 +12,11 @@ use Rattle.machine_text.specs.declared.transition.Entry.{Entry}
 use Rattle.law_turing.specs.Machine.{Machine}
 use Rattle.law_turing.specs.Mirror.{opposite}
 use Rattle.kind_evidence.specs.Tests.{each_below}
-use Rattle.law_counted.specs.declared.count.Count.{Count}
-use Rattle.law_counted.specs.declared.transition.Transition.{Transition}
-use Rattle.law_counted.specs.declared.local.Local.{Local}
-use Rattle.law_counted.specs.Cosets.{Point, less, Coset}
-use Rattle.law_counted.specs.Counted.{Delta, once, Item, CountedSystem, delta, IsOf, state_on, moved_to, IsUnused}
+use Rattle.law_machines.specs.declared.count.Count.{Count}
+use Rattle.law_machines.specs.declared.transition.Transition.{Transition}
+use Rattle.law_machines.specs.declared.local.Local.{Local}
+use Rattle.law_machines.specs.Cosets.{Point, less, Coset}
+use Rattle.law_machines.specs.Counted.{Delta, once, Item, CountedSystem, delta, IsOf, state_on, moved_to, IsUnused}
 use Rattle.kind_counted.specs.Limits.{count_limit, half_state_limit, number_limit}
 use Rattle.kind_counted.specs.declared.refused.Refused.{Refused}
 use Rattle.kind_counted.specs.declared.refused.Refused.TheVariants.{Fails, TooLarge}

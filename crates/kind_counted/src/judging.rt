@@ -3,8 +3,8 @@ ghost use Rattle.std.specs.Prelude.{◌≡◌, ◌↔◌, ◌≤◌, length, IsT
 ghost use Rattle.machine_text.specs.Packed.{entry_of};
 ghost use Rattle.law_turing.specs.Halting.{Never};
 ghost use Rattle.law_turing.specs.Mirror.{opposite};
-ghost use Rattle.law_counted.specs.Cosets.{zeros, IsMember};
-ghost use Rattle.law_counted.specs.Counted.{delta, HasCoset, Remains, Settled, LeadsOn, CountedStand, moved_to, state_on};
+ghost use Rattle.law_machines.specs.Cosets.{zeros, IsMember};
+ghost use Rattle.law_machines.specs.Counted.{delta, HasCoset, Remains, Settled, LeadsOn, CountedStand, moved_to, state_on};
 ghost use Rattle.kind_counted.specs.Limits.{count_limit};
 ghost use Rattle.kind_counted.specs.Automata.{transitions_of};
 ghost use Rattle.kind_counted.specs.Items.{coset_of};
@@ -25,7 +25,7 @@ use crate::points::Points;
 use crate::refused::Refused;
 use crate::rows::Row;
 use crate::used::Used;
-use law_counted::{Local, Transition};
+use law_machines::{Local, Transition};
 use machine_text::{Dir, Entry, State, Sym, Table};
 use std::alloc::Global;
 

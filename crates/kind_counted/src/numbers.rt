@@ -1,13 +1,13 @@
 // A whole number for each count.
 ghost use Rattle.std.specs.Prelude.{◌≡◌, ◌↔◌, ℕ, ◌<◌, ◌≤◌, ℤ, pos, ◌-ℤ◌, ◌*ℤ◌, int_div, IsTrue, IfSome, IfNone, IfOk};
 ghost use Rattle.std.specs.Int.RustNames.{unsigned_abs};
-ghost use Rattle.law_counted.specs.Cosets.{Point, less};
+ghost use Rattle.law_machines.specs.Cosets.{Point, less};
 ghost use Rattle.kind_counted.specs.Limits.{number_limit, count_limit};
 ghost use Rattle.kind_counted.specs.Numbers.{AreSmall, no_numbers, point_of};
 
 use crate::limits::{MAX_COUNTS, MAX_NUMBER};
 use crate::refused::Refused;
-use law_counted::Count;
+use law_machines::Count;
 
 /// A number for each count.
 #[derive(Clone, Copy)]
@@ -18,7 +18,7 @@ pub struct Counts {
 
 impl Counts {
     ghost use Rattle.std.specs.Prelude.{◌≢◌, ◌+ℤ◌, set, false};
-    ghost use Rattle.law_counted.specs.Counted.{once};
+    ghost use Rattle.law_machines.specs.Counted.{once};
     ghost use Rattle.kind_counted.specs.States.{IsCount};
     ghost use Rattle.kind_counted.specs.inside.Rows.{IsCleared};
     ghost use Rattle.kind_counted.specs.inside.Spans.{IsLessened};

@@ -1,7 +1,7 @@
 // A base, and all points that are further by multiples of some rows.
 ghost use Rattle.std.specs.Prelude.{◌≡◌, ◌↔◌, ◌+◌, ◌-◌, ◌<◌, ◌≤◌, ℕ, ℤ, pos, List, IsTrue, IfSome, IfOk, OnErr, slice_index, option_map};
 ghost use Rattle.std.specs.Int.RustNames.{unsigned_abs};
-ghost use Rattle.law_counted.specs.Cosets.{Point, IsMember};
+ghost use Rattle.law_machines.specs.Cosets.{Point, IsMember};
 ghost use Rattle.kind_counted.specs.Items.{coset_of};
 ghost use Rattle.kind_counted.specs.States.{IsCount};
 ghost use Rattle.kind_counted.specs.Limits.{count_limit};
@@ -21,7 +21,7 @@ use crate::refused::Refused;
 use crate::rows::Row;
 use crate::splitting::{Split, split_at};
 use crate::used::Used;
-use law_counted::Count;
+use law_machines::Count;
 use std::alloc::Global;
 
 /// The points that are left after a step.

@@ -21,7 +21,7 @@ impl Row {
     ghost use Rattle.std.specs.Prelude.{IfOk, IfSome, IfNone, IsTrue, false};
     ghost use Rattle.kind_counted.specs.Texts.{pivot_of, leads};
     ghost use Rattle.kind_counted.specs.declared.rows.Row.{Row};
-    ghost use Rattle.law_counted.specs.Cosets.{IsSum};
+    ghost use Rattle.law_machines.specs.Cosets.{IsSum};
     ghost use Rattle.kind_counted.specs.Pivots.{points, AreRising};
     ghost use Rattle.kind_counted.specs.Pass.{inside};
     ghost use Rattle.kind_counted.specs.inside.Agreement.{Tells};

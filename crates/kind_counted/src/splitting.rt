@@ -1,7 +1,7 @@
 // Rows of which one alone has a number in a place.
 ghost use Rattle.std.specs.Prelude.{◌≡◌, ◌<◌, List, [], ◌∷◌, ◌++◌, IfSome, IfOk, OnOk};
 ghost use Rattle.std.specs.Int.RustNames.{unsigned_abs};
-ghost use Rattle.law_counted.specs.Cosets.{Point};
+ghost use Rattle.law_machines.specs.Cosets.{Point};
 ghost use Rattle.kind_counted.specs.Limits.{count_limit};
 ghost use Rattle.kind_counted.specs.Numbers.{point_of};
 ghost use Rattle.kind_counted.specs.Pass.{walk, add, split_rows};

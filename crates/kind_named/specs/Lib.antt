@@ -1,2 +1,5 @@
+pub mod Table
+pub mod Followed
+pub mod inside
 pub mod Named
 pub mod Kind

@@ -5,7 +5,7 @@ use Rattle.machine_text.specs.Text.{text_of}
 use Rattle.law_turing.specs.Halting.{Never}
 use Rattle.law_machines.specs.Tables.{table_text}
 use Rattle.law_machines.specs.declared.machines.ProvedMachine.{ProvedMachine}
-use Rattle.skelet1.specs.Table.{skelet1}
+use Rattle.kind_named.specs.Table.{skelet1}
 
 -- one of the seven that are proved, by its text
 abbrev pub IsProved : Packed → Type 0

@@ -2,10 +2,10 @@
 ghost use Rattle.std.specs.Prelude.{◌≡◌, ◌↔◌, is_some, IsTrue};
 ghost use Rattle.kind_named.specs.Named.{IsNamed};
 
+use crate::check::is_skelet1;
 use crate::named::Named;
 use law_machines::is_proved;
 use machine_text::Table;
-use skelet1::is_skelet1;
 
 /// Looks tables up among those that have a proof of their own.
 #[derive(Clone, Copy, Debug)]

@@ -3,10 +3,11 @@ ghost use Rattle.std.specs.Prelude.{◌≡◌, ◌++◌, length, take, OnOk, OnE
 ghost use Rattle.text.specs.Fields.{spaced};
 ghost use Rattle.kind_named.specs.Kind.{named_by, named_fields};
 
+use crate::check::{is_skelet1, never_halts};
+use crate::main_run::TURNS;
 use kind_evidence::{Evidence, NoMemory, Refused, Verdict};
 use law_machines::is_proved;
 use machine_text::Table;
-use skelet1::{TURNS, is_skelet1, never_halts};
 use std::alloc::Global;
 use text::{FieldFault, Parts, end_of};
 

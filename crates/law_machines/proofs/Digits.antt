@@ -3,7 +3,7 @@
 use Rattle.std.proofs.Common.{◌≡◌, ℕ, zero, suc, ◌+◌, ◌*◌, ◌<◌, ◌≤◌, List, [], ◌∷◌, ◌++◌, ◌⊎◌, inl, inr, ap, refl, arith}
 use Rattle.machine_text.specs.declared.transition.Sym.{Sym}
 use Rattle.machine_text.specs.declared.transition.Sym.TheVariants.{Zero, One}
-use Rattle.law_rules.specs.Words.{repeat}
+use Rattle.law_machines.specs.Words.{repeat}
 use Rattle.law_machines.proofs.Cells.{o, i}
 
 abbrev pub twice : ℕ → ℕ

@@ -1,3 +1,10 @@
+pub mod Readings
+pub mod CountedLaws
+pub mod Zippers
+pub mod RuleLaws
+pub mod Words
+pub mod Blanks
+pub mod ByText
 pub mod Cells
 pub mod Digits
 pub mod ShiftLists

@@ -8,7 +8,7 @@ use Rattle.machine_text.specs.Packed.{Packed, IsTable, entry_of, tabulated}
 use Rattle.machine_text.specs.Text.{text_of, table_of, faults_of, fault_at, entry_named}
 use Rattle.machine_text.proofs.RoundTrip.{table_of-text_of}
 use Rattle.law_turing.specs.Halting.{Never}
-use Rattle.law_rules.proofs.ByText.{by_text}
+use Rattle.law_machines.proofs.ByText.{by_text}
 use Rattle.law_machines.specs.declared.machines.ProvedMachine.{ProvedMachine}
 use Rattle.law_machines.specs.declared.machines.ProvedMachine.TheVariants.{Skelet10, Skelet15, Skelet17, Skelet26, Skelet33, Skelet34, Skelet35}
 use Rattle.law_machines.specs.Tables.{table_text}

@@ -41,12 +41,12 @@ use Rattle.machine_text.specs.declared.transition.Sym.{Sym}
 use Rattle.machine_text.specs.declared.transition.Sym.TheVariants.{Zero, One}
 use Rattle.law_turing.specs.Machine.{Machine}
 use Rattle.law_turing.specs.Halting.{Never}
-use Rattle.law_rules.specs.Zipper.{Zipper, AtLeft, blank_zipper}
-use Rattle.law_rules.specs.Rules.{Comes, Goes}
-use Rattle.law_rules.specs.Words.{repeat, SameCells}
-use Rattle.law_rules.proofs.RuleLaws.{same, ◌⨾◌, ◌⨾⁺◌, ◌⁺⨾◌, never_by_rules}
-use Rattle.law_rules.proofs.Words.{repeat_last}
-use Rattle.law_rules.proofs.Blanks.{same_word, same_repeat, same_left}
+use Rattle.law_machines.specs.Zipper.{Zipper, AtLeft, blank_zipper}
+use Rattle.law_machines.specs.Rules.{Comes, Goes}
+use Rattle.law_machines.specs.Words.{repeat, SameCells}
+use Rattle.law_machines.proofs.RuleLaws.{same, ◌⨾◌, ◌⨾⁺◌, ◌⁺⨾◌, never_by_rules}
+use Rattle.law_machines.proofs.Words.{repeat_last}
+use Rattle.law_machines.proofs.Blanks.{same_word, same_repeat, same_left}
 use Rattle.law_machines.proofs.Cells.{o, i, oo, ii, io, oooo, iooo}
 use Rattle.law_machines.proofs.Digits.{val, scaled, full, full_pos, val_below, scaled_two, scaled_val, scaled_room, scaled_top, val_append, full_append, full_gap, val_ones, val_inc, full_inc, scaled_inc, val_grow, full_grow, scaled_grow, scaled_twice, look}
 use Rattle.law_machines.proofs.ShiftLists.{Shift, Near, Far, pairs, behind, digits, older, beyond, pairs_append, pairs_repeat, digits_repeat, digits_ones, older_repeat, same_behind, first_zero}

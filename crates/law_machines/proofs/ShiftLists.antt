@@ -3,10 +3,10 @@
 use Rattle.std.proofs.Common.{◌≡◌, ℕ, zero, suc, ◌*◌, ◌≤◌, List, [], ◌∷◌, ◌++◌, inl, inr, sym, ◌∙◌, ap, refl, arith}
 use Rattle.machine_text.specs.declared.transition.Sym.{Sym}
 use Rattle.machine_text.specs.declared.transition.Sym.TheVariants.{Zero, One}
-use Rattle.law_rules.specs.Zipper.{symbol_at}
-use Rattle.law_rules.specs.Words.{repeat, SameCells}
-use Rattle.law_rules.proofs.Words.{repeat_last}
-use Rattle.law_rules.proofs.Blanks.{same_blank, same_word, same_repeat}
+use Rattle.law_machines.specs.Zipper.{symbol_at}
+use Rattle.law_machines.specs.Words.{repeat, SameCells}
+use Rattle.law_machines.proofs.Words.{repeat_last}
+use Rattle.law_machines.proofs.Blanks.{same_blank, same_word, same_repeat}
 use Rattle.law_machines.proofs.Cells.{o, i, oo, oooo, iooo}
 use Rattle.law_machines.proofs.Digits.{val, full, val_inc, full_inc, val_grow, full_grow, val_zero, look}
 

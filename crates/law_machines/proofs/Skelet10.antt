@@ -41,12 +41,12 @@ use Rattle.machine_text.specs.declared.transition.Sym.TheVariants.{Zero, One}
 use Rattle.machine_text.specs.Packed.{Packed, entry_of}
 use Rattle.law_turing.specs.Machine.{Machine}
 use Rattle.law_turing.specs.Halting.{Never}
-use Rattle.law_rules.specs.Zipper.{Zipper, AtLeft, AtRight, blank_zipper, steps}
-use Rattle.law_rules.specs.Rules.{Comes, Goes}
-use Rattle.law_rules.specs.Words.{repeat}
-use Rattle.law_rules.proofs.RuleLaws.{run, run⁺, same, ◌⨾◌, ◌⨾⁺◌, ◌⁺⨾◌, never_by_rules}
-use Rattle.law_rules.proofs.Words.{repeat_last, repeat_swap, repeat_turned, sweep_right, sweep_left}
-use Rattle.law_rules.proofs.Blanks.{same_blank, same_word, same_repeat, same_right}
+use Rattle.law_machines.specs.Zipper.{Zipper, AtLeft, AtRight, blank_zipper, steps}
+use Rattle.law_machines.specs.Rules.{Comes, Goes}
+use Rattle.law_machines.specs.Words.{repeat}
+use Rattle.law_machines.proofs.RuleLaws.{run, run⁺, same, ◌⨾◌, ◌⨾⁺◌, ◌⁺⨾◌, never_by_rules}
+use Rattle.law_machines.proofs.Words.{repeat_last, repeat_swap, repeat_turned, sweep_right, sweep_left}
+use Rattle.law_machines.proofs.Blanks.{same_blank, same_word, same_repeat, same_right}
 use Rattle.law_machines.proofs.Cells.{o, i, oo, ii, io, oi}
 
 -- the table as it is stored

@@ -37,8 +37,8 @@ use Rattle.law_turing.specs.Machine.{Machine}
 use Rattle.law_turing.specs.Halting.{Never}
 use Rattle.law_turing.specs.Mirror.{mirrored}
 use Rattle.law_turing.proofs.Exchanges.{mirror_keeps}
-use Rattle.law_rules.specs.Zipper.{AtLeft, blank_zipper, steps}
-use Rattle.law_rules.proofs.RuleLaws.{run, run⁺}
+use Rattle.law_machines.specs.Zipper.{AtLeft, blank_zipper, steps}
+use Rattle.law_machines.proofs.RuleLaws.{run, run⁺}
 use Rattle.law_machines.proofs.Cells.{i}
 use Rattle.law_machines.proofs.ShiftLists.{pairs}
 use Rattle.law_machines.proofs.Skelet15And26.{Moves, counts_never}

@@ -14,11 +14,11 @@ use Rattle.machine_text.specs.declared.transition.Sym.{Sym}
 use Rattle.machine_text.specs.declared.transition.Sym.TheVariants.{Zero, One}
 use Rattle.law_turing.specs.Machine.{Machine}
 use Rattle.law_turing.specs.Halting.{Never}
-use Rattle.law_rules.specs.Zipper.{AtLeft, AtRight, blank_zipper}
-use Rattle.law_rules.specs.Rules.{Comes, Goes}
-use Rattle.law_rules.specs.Words.{repeat}
-use Rattle.law_rules.proofs.RuleLaws.{same, weakened, ◌⨾◌, ◌⨾⁺◌, ◌⁺⨾◌}
-use Rattle.law_rules.proofs.Words.{repeat_turned, sweep_right, sweep_left}
+use Rattle.law_machines.specs.Zipper.{AtLeft, AtRight, blank_zipper}
+use Rattle.law_machines.specs.Rules.{Comes, Goes}
+use Rattle.law_machines.specs.Words.{repeat}
+use Rattle.law_machines.proofs.RuleLaws.{same, weakened, ◌⨾◌, ◌⨾⁺◌, ◌⁺⨾◌}
+use Rattle.law_machines.proofs.Words.{repeat_turned, sweep_right, sweep_left}
 use Rattle.law_machines.proofs.Cells.{i, ii, io, oi, oooo, iooo, iiii}
 use Rattle.law_machines.proofs.Digits.{twice, val, full, full_pos, val_grow}
 use Rattle.law_machines.proofs.ShiftLists.{pairs, pairs_repeat}

@@ -34,8 +34,8 @@ use Rattle.machine_text.specs.declared.transition.Sym.TheVariants.{Zero, One}
 use Rattle.machine_text.specs.Packed.{Packed, entry_of}
 use Rattle.law_turing.specs.Machine.{Machine}
 use Rattle.law_turing.specs.Halting.{Never}
-use Rattle.law_rules.specs.Zipper.{AtLeft, blank_zipper, steps}
-use Rattle.law_rules.proofs.RuleLaws.{run, run⁺}
+use Rattle.law_machines.specs.Zipper.{AtLeft, blank_zipper, steps}
+use Rattle.law_machines.proofs.RuleLaws.{run, run⁺}
 use Rattle.law_machines.proofs.Cells.{i}
 use Rattle.law_machines.proofs.ShiftLists.{pairs}
 use Rattle.law_machines.proofs.Skelet15And26.{Moves, counts_never}

@@ -30,11 +30,11 @@ use Rattle.machine_text.specs.declared.transition.Sym.TheVariants.{Zero, One}
 use Rattle.machine_text.specs.Packed.{Packed, entry_of}
 use Rattle.law_turing.specs.Machine.{Machine}
 use Rattle.law_turing.specs.Halting.{Never}
-use Rattle.law_rules.specs.Zipper.{AtLeft, AtRight, blank_zipper, steps}
-use Rattle.law_rules.specs.Rules.{Comes, Goes}
-use Rattle.law_rules.specs.Words.{repeat}
-use Rattle.law_rules.proofs.RuleLaws.{run, run⁺, same, ◌⨾◌, ◌⨾⁺◌, ◌⁺⨾◌}
-use Rattle.law_rules.proofs.Words.{repeat_turned, sweep_right}
+use Rattle.law_machines.specs.Zipper.{AtLeft, AtRight, blank_zipper, steps}
+use Rattle.law_machines.specs.Rules.{Comes, Goes}
+use Rattle.law_machines.specs.Words.{repeat}
+use Rattle.law_machines.proofs.RuleLaws.{run, run⁺, same, ◌⨾◌, ◌⨾⁺◌, ◌⁺⨾◌}
+use Rattle.law_machines.proofs.Words.{repeat_turned, sweep_right}
 use Rattle.law_machines.proofs.Cells.{o, i, ii, io, oi, iooo}
 use Rattle.law_machines.proofs.Digits.{twice, val, val_inc}
 use Rattle.law_machines.proofs.ShiftLists.{pairs, pairs_repeat}

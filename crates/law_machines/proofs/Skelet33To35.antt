@@ -22,11 +22,11 @@ use Rattle.machine_text.specs.declared.transition.Sym.{Sym}
 use Rattle.machine_text.specs.declared.transition.Sym.TheVariants.{Zero, One}
 use Rattle.machine_text.specs.Packed.{Packed, entry_of}
 use Rattle.law_turing.specs.Machine.{Machine}
-use Rattle.law_rules.specs.Zipper.{AtLeft, AtRight, steps}
-use Rattle.law_rules.specs.Rules.{Comes, Goes}
-use Rattle.law_rules.specs.Words.{repeat}
-use Rattle.law_rules.proofs.RuleLaws.{run, run⁺, stay, same, ◌⨾◌}
-use Rattle.law_rules.proofs.Words.{repeat_last, sweep_right, sweep_left}
+use Rattle.law_machines.specs.Zipper.{AtLeft, AtRight, steps}
+use Rattle.law_machines.specs.Rules.{Comes, Goes}
+use Rattle.law_machines.specs.Words.{repeat}
+use Rattle.law_machines.proofs.RuleLaws.{run, run⁺, stay, same, ◌⨾◌}
+use Rattle.law_machines.proofs.Words.{repeat_last, sweep_right, sweep_left}
 use Rattle.law_machines.proofs.Cells.{ii, oi, oooo, iooo, iiii}
 
 -- the table as it is stored, where e is the code of its entry E1

@@ -12,11 +12,11 @@ use Rattle.machine_text.specs.declared.transition.Sym.{Sym}
 use Rattle.machine_text.specs.declared.transition.Sym.TheVariants.{Zero, One}
 use Rattle.machine_text.specs.Packed.{entry_of}
 use Rattle.law_turing.specs.Halting.{Never}
-use Rattle.law_rules.specs.Zipper.{AtLeft, AtRight, blank_zipper, steps}
-use Rattle.law_rules.specs.Rules.{Comes, Goes}
-use Rattle.law_rules.specs.Words.{repeat}
-use Rattle.law_rules.proofs.RuleLaws.{run, run⁺, same, ◌⨾◌, ◌⨾⁺◌, ◌⁺⨾◌}
-use Rattle.law_rules.proofs.Words.{repeat_last, repeat_turned}
+use Rattle.law_machines.specs.Zipper.{AtLeft, AtRight, blank_zipper, steps}
+use Rattle.law_machines.specs.Rules.{Comes, Goes}
+use Rattle.law_machines.specs.Words.{repeat}
+use Rattle.law_machines.proofs.RuleLaws.{run, run⁺, same, ◌⨾◌, ◌⨾⁺◌, ◌⁺⨾◌}
+use Rattle.law_machines.proofs.Words.{repeat_last, repeat_turned}
 use Rattle.law_machines.proofs.Cells.{i, ii, io, oi, iooo}
 use Rattle.law_machines.proofs.Digits.{twice, val, full}
 use Rattle.law_machines.proofs.ShiftLists.{pairs}

@@ -24,9 +24,9 @@ use Rattle.machine_text.specs.declared.transition.Sym.TheVariants.{Zero, One}
 use Rattle.machine_text.specs.Packed.{Packed, entry_of}
 use Rattle.law_turing.specs.Machine.{Machine}
 use Rattle.law_turing.specs.Halting.{Never}
-use Rattle.law_rules.specs.Zipper.{AtLeft, AtRight, blank_zipper, steps}
-use Rattle.law_rules.specs.Rules.{Comes, Goes}
-use Rattle.law_rules.proofs.RuleLaws.{run, run⁺}
+use Rattle.law_machines.specs.Zipper.{AtLeft, AtRight, blank_zipper, steps}
+use Rattle.law_machines.specs.Rules.{Comes, Goes}
+use Rattle.law_machines.proofs.RuleLaws.{run, run⁺}
 use Rattle.law_machines.proofs.Cells.{i}
 use Rattle.law_machines.proofs.ShiftLists.{pairs}
 use Rattle.law_machines.proofs.Skelet33To35.{table}

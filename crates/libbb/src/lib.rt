@@ -1,8 +1,14 @@
 //! The judge as C functions, which other languages call: one judges a record, one a ledger. `packaging/c/bb.h` says to a
-//! caller what he gives and gets. Each is a call of `judging` with its contract once more.
+//! caller what he gives and gets.
+//!
+//! What is said of a record and of a ledger is plain numbers, since a program in another language has no text to read
+//! then: `specs/Answer` says which numbers come of a record's text, `specs/TreeAnswer` which come of a ledger's.
 //!
 //! No function keeps anything between two calls, and none waits for another: threads may make them side by side.
 #![tactic(auto)]
+
+mod answer;
+mod tree_answer;
 
 ghost use Rattle.std.specs.Prelude.{◌≡◌, Ok};
 ghost use Rattle.machine_text.specs.Packed.{entry_of};
@@ -11,11 +17,12 @@ ghost use Rattle.law_turing.specs.Score.{HaltsWith};
 ghost use Rattle.cert.specs.Claim.{Recorded};
 ghost use Rattle.cert.specs.Grammar.{record_of};
 ghost use Rattle.ledger.specs.Sigma.{IsSigma};
-ghost use Rattle.judging.specs.Answer.{TellsOfRead};
-ghost use Rattle.judging.specs.TreeAnswer.{Reports};
+ghost use Rattle.libbb.specs.Answer.{TellsOfRead};
+ghost use Rattle.libbb.specs.TreeAnswer.{Reports};
 
-use judging::{Answer, TreeAnswer, check_text, report_text};
+use answer::{Answer, check_text};
 use std::alloc::Global;
+use tree_answer::{TreeAnswer, report_text};
 
 /// The number of this interface: it grows with each change of what is declared in `bb.h`.
 #[unsafe(no_mangle)]

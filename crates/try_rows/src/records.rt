@@ -3,7 +3,7 @@ use crate::said::Said;
 use crate::words::{number_of, parted, table_of, unread};
 use cert::{Record, judge};
 use kind_evidence::{NoMemory, Verdict};
-use skelet1::{GivenUp, never_halts};
+use kind_named::{GivenUp, never_halts};
 use std::alloc::Global;
 
 /// `judge RECORD`: the verdict, or the number of the refusal.

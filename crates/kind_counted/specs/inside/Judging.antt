@@ -6,15 +6,15 @@ use Rattle.machine_text.specs.declared.transition.Dir.TheVariants.{L, R}
 use Rattle.machine_text.specs.declared.transition.State.{State}
 use Rattle.machine_text.specs.declared.transition.Entry.{Entry}
 use Rattle.law_turing.specs.Machine.{Machine}
-use Rattle.law_counted.specs.declared.count.Count.{Count}
-use Rattle.law_counted.specs.declared.transition.Transition.{Transition}
-use Rattle.law_counted.specs.declared.local.Local.{Local}
+use Rattle.law_machines.specs.declared.count.Count.{Count}
+use Rattle.law_machines.specs.declared.transition.Transition.{Transition}
+use Rattle.law_machines.specs.declared.local.Local.{Local}
 use Rattle.kind_counted.specs.declared.item.Item.{Item}
 use Rattle.kind_counted.specs.Items.{coset_of}
 use Rattle.kind_counted.specs.Limits.{count_limit}
-use Rattle.law_counted.specs.Cosets.{zeros, Coset, IsMember}
+use Rattle.law_machines.specs.Cosets.{zeros, Coset, IsMember}
 use Rattle.kind_counted.specs.Pass.{start_local}
-use Rattle.law_counted.specs.Counted.{Delta, CountedSystem, HasCoset, delta, state_on, moved_to, Remains, Settled, LeadsOn}
+use Rattle.law_machines.specs.Counted.{Delta, CountedSystem, HasCoset, delta, state_on, moved_to, Remains, Settled, LeadsOn}
 
 -- a count is in a range
 pub record IsInRange (low high x : ℕ) : Type 0 where

@@ -1,7 +1,7 @@
 -- Rows with the same sums of multiples; and rows taken off one another until one alone has a number in a place.
 use Rattle.std.specs.Prelude.{◌≡◌, ℕ, ◌<◌, ℤ, pos, List, ◌∷◌, map, get_or, Option, Some, None, IfSome, option_map}
 use Rattle.std.specs.Int.RustNames.{unsigned_abs}
-use Rattle.law_counted.specs.Cosets.{Point, zeros, less, IsSum}
+use Rattle.law_machines.specs.Cosets.{Point, zeros, less, IsSum}
 use Rattle.kind_counted.specs.Numbers.{point_of}
 use Rattle.kind_counted.specs.Pass.{SplitRows, split_rows}
 use Rattle.kind_counted.specs.declared.numbers.Counts.{Counts}

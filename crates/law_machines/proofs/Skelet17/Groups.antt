@@ -24,13 +24,13 @@ use Rattle.machine_text.specs.declared.transition.Sym.{Sym}
 use Rattle.machine_text.specs.declared.transition.Sym.TheVariants.{Zero, One}
 use Rattle.machine_text.specs.Packed.{Packed, entry_of}
 use Rattle.law_turing.specs.Machine.{Machine}
-use Rattle.law_rules.specs.Zipper.{Zipper, AtLeft, AtRight, steps}
-use Rattle.law_rules.specs.Rules.{Comes, Goes}
-use Rattle.law_rules.proofs.RuleLaws.{run, run⁺, stay, same, ◌⨾◌, ◌⁺⨾◌}
-use Rattle.law_rules.proofs.Words.{repeat_last, repeat_swap, sweep_right}
-use Rattle.law_rules.proofs.Blanks.{same_blank, same_right}
+use Rattle.law_machines.specs.Zipper.{Zipper, AtLeft, AtRight, steps}
+use Rattle.law_machines.specs.Rules.{Comes, Goes}
+use Rattle.law_machines.proofs.RuleLaws.{run, run⁺, stay, same, ◌⨾◌, ◌⁺⨾◌}
+use Rattle.law_machines.proofs.Words.{repeat_last, repeat_swap, sweep_right}
+use Rattle.law_machines.proofs.Blanks.{same_blank, same_right}
 use Rattle.law_machines.proofs.Cells.{io, oi}
-use Rattle.law_rules.specs.Words.{repeat, SameCells}
+use Rattle.law_machines.specs.Words.{repeat, SameCells}
 use Rattle.law_machines.proofs.Digits.{twice, twice_is}
 
 -- the table as it is stored

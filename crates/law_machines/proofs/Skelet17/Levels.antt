@@ -26,10 +26,10 @@ use Rattle.machine_text.specs.declared.transition.Sym.{Sym}
 use Rattle.machine_text.specs.declared.transition.Sym.TheVariants.{Zero, One}
 use Rattle.machine_text.specs.Packed.{entry_of}
 use Rattle.law_turing.specs.Halting.{Never}
-use Rattle.law_rules.specs.Zipper.{Zipper, blank_zipper, steps}
-use Rattle.law_rules.specs.Rules.{Goes}
-use Rattle.law_rules.proofs.RuleLaws.{run, never_by_rules}
-use Rattle.law_rules.specs.Words.{repeat}
+use Rattle.law_machines.specs.Zipper.{Zipper, blank_zipper, steps}
+use Rattle.law_machines.specs.Rules.{Goes}
+use Rattle.law_machines.proofs.RuleLaws.{run, never_by_rules}
+use Rattle.law_machines.specs.Words.{repeat}
 use Rattle.law_machines.proofs.Cells.{oi, ii}
 use Rattle.law_machines.proofs.Digits.{twice, bit, val, full, full_pos, val_below}
 use Rattle.law_machines.proofs.Skelet17.Gray.{inc, dec, inc_val, inc_full, dec_val, dec_full, wide, wide_val, wide_full, bit_top, pad_val, pad_full}

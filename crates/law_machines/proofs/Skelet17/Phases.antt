@@ -8,9 +8,9 @@
 use Rattle.std.proofs.Common.{◌≡◌, ℕ, zero, suc, ◌+◌, ◌*◌, ◌≤◌, List, [], ◌∷◌, ap, subst, arith}
 use Rattle.machine_text.specs.declared.transition.Sym.{Sym}
 use Rattle.machine_text.specs.declared.transition.Sym.TheVariants.{Zero, One}
-use Rattle.law_rules.specs.Rules.{Comes, Goes}
-use Rattle.law_rules.proofs.RuleLaws.{same, ◌⨾◌}
-use Rattle.law_rules.specs.Words.{repeat}
+use Rattle.law_machines.specs.Rules.{Comes, Goes}
+use Rattle.law_machines.proofs.RuleLaws.{same, ◌⨾◌}
+use Rattle.law_machines.specs.Words.{repeat}
 use Rattle.law_machines.proofs.Cells.{oi}
 use Rattle.law_machines.proofs.Digits.{twice, bit, val, full, val_below}
 use Rattle.law_machines.proofs.Skelet17.Gray.{inc, dec, ones, inc_val, inc_full, dec_val, dec_full, ones_val, same_digits}

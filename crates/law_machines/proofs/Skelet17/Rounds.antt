@@ -5,10 +5,10 @@
 use Rattle.std.proofs.Common.{◌≡◌, ℕ, zero, suc, ◌+◌, ◌-◌, ◌*◌, ◌≤◌, List, [], ◌∷◌, ◌++◌, ap, subst, refl, arith}
 use Rattle.machine_text.specs.declared.transition.Sym.{Sym}
 use Rattle.machine_text.specs.declared.transition.Sym.TheVariants.{Zero, One}
-use Rattle.law_rules.specs.Zipper.{Zipper, AtRight}
-use Rattle.law_rules.specs.Rules.{Comes, Goes}
-use Rattle.law_rules.proofs.RuleLaws.{same, ◌⨾◌, ◌⨾⁺◌, ◌⁺⨾◌, weakened}
-use Rattle.law_rules.specs.Words.{repeat}
+use Rattle.law_machines.specs.Zipper.{Zipper, AtRight}
+use Rattle.law_machines.specs.Rules.{Comes, Goes}
+use Rattle.law_machines.proofs.RuleLaws.{same, ◌⨾◌, ◌⨾⁺◌, ◌⁺⨾◌, weakened}
+use Rattle.law_machines.specs.Words.{repeat}
 use Rattle.law_machines.proofs.Cells.{oi, ii}
 use Rattle.law_machines.proofs.Digits.{twice, twice_is, bit, val, full, full_pos, val_below}
 use Rattle.law_machines.proofs.Skelet17.Gray.{inc, dec, ones, inc_val, inc_full, dec_val, dec_full, ones_val, ones_full, same_digits, grays, wide, zeros, wide_val, wide_full, zeros_val, zeros_full, bit_top}

@@ -1,6 +1,6 @@
 use Rattle.machine_text.specs.Packed.{entry_of}
 use Rattle.law_turing.proofs.TableLaws.{table_machine}
-use Rattle.kind_listed.specs.Automata.{described_by}
+use Rattle.far.specs.ListedAutomata.{described_by}
 use Rattle.cmd_explain.proofs.Keeping.{keeps_from_halting}
 use Rattle.cmd_explain.proofs.reduction.listed_words.Goals as goal
 

@@ -1,6 +1,6 @@
 use Rattle.std.proofs.Common.{◌∷◌, sym, ◌∙◌, subst}
 use Rattle.std.specs.Int.RustNames.{unsigned_abs, int_div}
-use Rattle.law_counted.specs.Cosets.{Point, less}
+use Rattle.law_machines.specs.Cosets.{Point, less}
 use Rattle.kind_counted.specs.declared.numbers.Counts.{Counts}
 use Rattle.kind_counted.specs.declared.parting.Parted.{Parted}
 use Rattle.kind_counted.specs.Pass.{sized, parted}

@@ -1,6 +1,6 @@
 use Rattle.std.proofs.Common.{◌≡◌, ◌<◌, List, ◌∷◌}
 use Rattle.std.specs.Int.RustNames.{unsigned_abs}
-use Rattle.law_counted.specs.Cosets.{Point}
+use Rattle.law_machines.specs.Cosets.{Point}
 use Rattle.kind_counted.specs.Numbers.{point_of}
 use Rattle.kind_counted.specs.Pass.{parted}
 use Rattle.kind_counted.specs.inside.Spans.{SameSums}

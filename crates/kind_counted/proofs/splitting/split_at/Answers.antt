@@ -1,5 +1,5 @@
 use Rattle.std.proofs.Common.{◌+◌, List, [], None, take, drop, ◌∙◌, ap, subst}
-use Rattle.law_counted.specs.Cosets.{Point}
+use Rattle.law_machines.specs.Cosets.{Point}
 use Rattle.kind_counted.specs.Numbers.{point_of}
 use Rattle.kind_counted.specs.Pass.{◌>>=◌, SplitRows, walk, add, split_rows}
 use Rattle.kind_counted.specs.inside.Spans.{listed, points_in, IsSplit}

@@ -4,7 +4,7 @@ use Rattle.machine_text.specs.declared.transition.Dir.{Dir}
 use Rattle.machine_text.specs.Packed.{entry_of}
 use Rattle.law_turing.specs.Machine.{Machine}
 use Rattle.law_turing.specs.Halting.{Never}
-use Rattle.law_counted.specs.Counted.{CountedSystem, CountedStand, delta}
+use Rattle.law_machines.specs.Counted.{CountedSystem, CountedStand, delta}
 use Rattle.kind_counted.specs.declared.refused.Refused.TheVariants.{Fails, TooLarge}
 use Rattle.kind_counted.specs.Pass.{◌>>=◌, begins_inside, all_go_on, TellsUnused}
 use Rattle.kind_counted.specs.inside.Agreement.{Tells, not_in_both}
@@ -12,7 +12,7 @@ use Rattle.kind_counted.proofs.PassEnds.{both_tell, said_err, judged_on, not_too
 use Rattle.kind_counted.specs.Certificate.{counted_of}
 use Rattle.kind_counted.specs.inside.Judging.{AllGoOn}
 use Rattle.kind_counted.proofs.LeftLaws.{ok_then}
-use Rattle.law_counted.proofs.CountedLaws.{counted_never}
+use Rattle.law_machines.proofs.CountedLaws.{counted_never}
 use Rattle.kind_counted.proofs.StandingLaws.{stands_from, stands_items}
 use Rattle.kind_counted.proofs.certificate.CountedAutomata.check.Goals as goal
 

@@ -2,7 +2,7 @@ use Rattle.std.proofs.Common.{◌≡◌, ◌+◌, ◌<◌, ◌≤◌, ℕ, Bool,
 use Rattle.machine_text.specs.Packed.{entry_of}
 use Rattle.machine_text.specs.declared.transition.Dir.{Dir}
 use Rattle.law_turing.specs.Machine.{Machine}
-use Rattle.law_counted.specs.Counted.{CountedSystem}
+use Rattle.law_machines.specs.Counted.{CountedSystem}
 use Rattle.kind_counted.specs.Certificate.{counted_of}
 use Rattle.kind_counted.specs.Items.{item_of}
 use Rattle.kind_counted.specs.declared.item.Item.{Item}

@@ -1,8 +1,8 @@
 use Rattle.std.proofs.Common.{◌-◌, Ok, Err, sym, subst}
 use Rattle.std.specs.List.{range_with_len}
-use Rattle.law_counted.specs.declared.local.Local.{Local}
-use Rattle.law_counted.specs.Cosets.{Coset, IsMember}
-use Rattle.law_counted.specs.Counted.{CountedSystem, HasCoset, moved_to, Remains, Settled, None_remains}
+use Rattle.law_machines.specs.declared.local.Local.{Local}
+use Rattle.law_machines.specs.Cosets.{Coset, IsMember}
+use Rattle.law_machines.specs.Counted.{CountedSystem, HasCoset, moved_to, Remains, Settled, None_remains}
 use Rattle.kind_counted.specs.Items.{coset_of}
 use Rattle.kind_counted.specs.Certificate.{counted_of}
 use Rattle.kind_counted.specs.inside.Points.{coset_by}

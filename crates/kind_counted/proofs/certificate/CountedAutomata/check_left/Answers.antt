@@ -1,6 +1,6 @@
 use Rattle.std.proofs.Common.{◌≡◌, ◌<◌, ℕ, List, true, false, sym, ◌∙◌, ap, subst, if◌then◌else◌}
-use Rattle.law_counted.specs.Cosets.{Coset, IsMember}
-use Rattle.law_counted.specs.Counted.{CountedSystem, HasCoset, Settled, Negative, Members}
+use Rattle.law_machines.specs.Cosets.{Coset, IsMember}
+use Rattle.law_machines.specs.Counted.{CountedSystem, HasCoset, Settled, Negative, Members}
 use Rattle.kind_counted.specs.Items.{coset_of}
 use Rattle.kind_counted.specs.Certificate.{counted_of}
 use Rattle.kind_counted.specs.inside.Points.{coset_by, IsNegative, LiesWithin}

@@ -1,7 +1,7 @@
 use Rattle.std.proofs.Common.{◌≡◌, ◌+◌, ◌<◌, ◌≤◌, length, ◌∙◌, ap, subst, arith}
-use Rattle.law_counted.specs.Cosets.{Coset}
+use Rattle.law_machines.specs.Cosets.{Coset}
 use Rattle.machine_text.specs.declared.transition.Sym.TheVariants.{Zero, One}
-use Rattle.law_counted.specs.Counted.{CountedSystem, delta}
+use Rattle.law_machines.specs.Counted.{CountedSystem, delta}
 use Rattle.kind_counted.specs.Pass.{◌>>=◌, each, settled_from, settled_at, settled_on, states_from}
 use Rattle.kind_counted.specs.inside.Agreement.{not_in}
 use Rattle.kind_counted.proofs.PassLaws.{refused_as}

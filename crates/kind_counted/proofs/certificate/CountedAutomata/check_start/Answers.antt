@@ -1,6 +1,6 @@
 use Rattle.std.proofs.Common.{◌≡◌, ◌<◌, ℕ, List, sym, ap, subst}
 use Rattle.kind_counted.specs.declared.item.Item.{Item}
-use Rattle.law_counted.specs.Cosets.{zeros, IsMember}
+use Rattle.law_machines.specs.Cosets.{zeros, IsMember}
 use Rattle.kind_counted.specs.Items.{coset_of}
 use Rattle.kind_counted.specs.inside.Judging.{IsItemAt, IsNoItem}
 use Rattle.kind_counted.specs.Pass.{◌>>=◌, inside, start_local}

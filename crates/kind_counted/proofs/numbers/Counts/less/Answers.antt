@@ -2,7 +2,7 @@ use Rattle.std.proofs.Common.{◌≡◌, ◌<◌, ◌≤◌, false, sym, ◌-ℤ
 use Rattle.std.specs.Int.RustNames.{unsigned_abs}
 use Rattle.std.proofs.lemmas.Int.{to_z-of_z, fits_signed_from_abs}
 use Rattle.std.specs.Prelude.{IfNone}
-use Rattle.law_counted.specs.Cosets.{Point, less}
+use Rattle.law_machines.specs.Cosets.{Point, less}
 use Rattle.kind_counted.specs.Limits.{number_limit}
 use Rattle.kind_counted.specs.Pass.{is_small}
 use Rattle.kind_counted.proofs.PassLaws.{large_is}

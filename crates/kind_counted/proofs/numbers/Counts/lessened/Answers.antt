@@ -1,7 +1,7 @@
 use Rattle.std.proofs.Common.{◌≡◌, ◌<◌, ◌≤◌, false, ◌∙◌, ◌-ℤ◌, ◌*ℤ◌, FitsSigned, w64, sym, ap, subst, arith}
 use Rattle.std.specs.Int.RustNames.{unsigned_abs, int_div}
 use Rattle.std.proofs.lemmas.Int.{to_z-of_z, fits_signed_from_abs}
-use Rattle.law_counted.specs.Cosets.{Point, less}
+use Rattle.law_machines.specs.Cosets.{Point, less}
 use Rattle.kind_counted.specs.Numbers.{point_of}
 use Rattle.kind_counted.specs.Pass.{is_small}
 use Rattle.kind_counted.proofs.PointLaws.{small_fits}

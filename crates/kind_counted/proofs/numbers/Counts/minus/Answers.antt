@@ -1,5 +1,5 @@
 use Rattle.std.proofs.Common.{◌≡◌, false, subst, ◌-ℤ◌, ap, ◌∙◌}
-use Rattle.law_counted.specs.Cosets.{Point}
+use Rattle.law_machines.specs.Cosets.{Point}
 use Rattle.kind_counted.specs.Numbers.{point_of}
 use Rattle.kind_counted.specs.Pass.{is_small}
 use Rattle.kind_counted.proofs.Sums.{one-*ℤ}

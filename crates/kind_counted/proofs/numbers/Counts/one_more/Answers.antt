@@ -1,9 +1,9 @@
 use Rattle.std.proofs.Common.{◌≡◌, ◌≤◌, ℕ, None, Some, Option, ℤ, pos, ◌+ℤ◌, sym, subst, arith}
 use Rattle.std.specs.Int.RustNames.{unsigned_abs}
 use Rattle.std.proofs.lemmas.Int.{ints}
-use Rattle.law_counted.specs.declared.count.Count.{Count}
-use Rattle.law_counted.specs.Cosets.{Point}
-use Rattle.law_counted.specs.Counted.{once}
+use Rattle.law_machines.specs.declared.count.Count.{Count}
+use Rattle.law_machines.specs.Cosets.{Point}
+use Rattle.law_machines.specs.Counted.{once}
 use Rattle.kind_counted.specs.Numbers.{point_of}
 use Rattle.kind_counted.specs.declared.numbers.Counts.{Counts}
 use Rattle.kind_counted.specs.Pass.{sized}

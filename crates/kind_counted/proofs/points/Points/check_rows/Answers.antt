@@ -2,7 +2,7 @@ use Rattle.std.proofs.Common.{◌≡◌, ◌+◌, ◌<◌, ◌≤◌, List, leng
 use Rattle.std.proofs.lemmas.Result.{err_from_is_err_and}
 use Rattle.kind_counted.specs.declared.numbers.Counts.{Counts}
 use Rattle.kind_counted.specs.declared.rows.Row.{Row}
-use Rattle.law_counted.specs.Cosets.{Point, IsSum}
+use Rattle.law_machines.specs.Cosets.{Point, IsSum}
 use Rattle.kind_counted.specs.Numbers.{point_of}
 use Rattle.kind_counted.specs.Pivots.{points}
 use Rattle.kind_counted.specs.Pass.{◌>>=◌, each, inside}

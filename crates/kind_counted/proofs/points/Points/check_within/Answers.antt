@@ -1,7 +1,7 @@
 use Rattle.std.proofs.Common.{◌≡◌, ◌-ℤ◌, List, Ok, Err, sym, ◌∙◌, ap, subst}
 use Rattle.std.proofs.lemmas.Result.{err_from_is_err_and}
 use Rattle.kind_counted.specs.declared.rows.Row.{Row}
-use Rattle.law_counted.specs.Cosets.{Point, Coset, IsSum}
+use Rattle.law_machines.specs.Cosets.{Point, Coset, IsSum}
 use Rattle.kind_counted.specs.declared.numbers.Counts.{Counts}
 use Rattle.kind_counted.specs.Pass.{◌>>=◌, each, sized, inside, all_inside}
 use Rattle.kind_counted.specs.inside.Agreement.{Tells}

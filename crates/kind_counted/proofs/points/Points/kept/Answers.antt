@@ -1,6 +1,6 @@
 use Rattle.std.proofs.Common.{◌+◌, ◌-◌, slice_index, ◌∙◌, ap, arith}
 use Rattle.std.specs.List.{range_with_len}
-use Rattle.law_counted.specs.Cosets.{Coset}
+use Rattle.law_machines.specs.Cosets.{Coset}
 use Rattle.kind_counted.specs.declared.points.Points.{Points}
 use Rattle.kind_counted.specs.Pass.{◌>>=◌, walk, kept_at, kept}
 use Rattle.kind_counted.specs.inside.Points.{coset_by}

@@ -1,12 +1,12 @@
 use Rattle.std.proofs.Common.{List, Ok, Err, ◌+ℤ◌, ◌-ℤ◌, pos, sym, ◌∙◌, ap, subst}
-use Rattle.law_counted.specs.Cosets.{Point, Coset}
+use Rattle.law_machines.specs.Cosets.{Point, Coset}
 use Rattle.kind_counted.specs.declared.numbers.Counts.{Counts}
 use Rattle.kind_counted.specs.declared.points.Points.{Points}
 use Rattle.kind_counted.specs.Pass.{◌>>=◌, sized, moved_coset}
 use Rattle.kind_counted.specs.inside.Points.{coset_by}
 use Rattle.kind_counted.proofs.PassLaws.{refused_as}
 use Rattle.kind_counted.proofs.PassRows.{moved_by}
-use Rattle.law_counted.specs.Counted.{once}
+use Rattle.law_machines.specs.Counted.{once}
 use Rattle.kind_counted.specs.Items.{coset_of}
 use Rattle.kind_counted.specs.Numbers.{point_of}
 use Rattle.kind_counted.specs.inside.Points.{AreMoved}

@@ -1,5 +1,5 @@
 use Rattle.std.proofs.Common.{◌≡◌, List, [], None, Ok, Err, sym, subst}
-use Rattle.law_counted.specs.Cosets.{Coset}
+use Rattle.law_machines.specs.Cosets.{Coset}
 use Rattle.kind_counted.specs.declared.numbers.Counts.{Counts}
 use Rattle.kind_counted.specs.declared.points.Points.{Points}
 use Rattle.kind_counted.specs.declared.splitting.Split.{Split}

@@ -1,7 +1,7 @@
 use Rattle.std.proofs.Common.{◌+◌, true, false, drop, List, ◌∙◌, ap, pos, ◌<ℤ◌, arith}
 use Rattle.std.proofs.lemmas.Int.{ints}
 use Rattle.std.proofs.lemmas.Result.{err_from_is_err_and}
-use Rattle.law_counted.specs.Cosets.{Point}
+use Rattle.law_machines.specs.Cosets.{Point}
 use Rattle.kind_counted.specs.Numbers.{point_of}
 use Rattle.kind_counted.specs.Pivots.{points}
 use Rattle.kind_counted.specs.Pass.{◌>>=◌, cleared, taken_off, inside}

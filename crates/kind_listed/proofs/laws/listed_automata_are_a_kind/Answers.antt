@@ -1,5 +1,0 @@
-use Rattle.kind_listed.proofs.KindLaws.{listed_is_kind}
-use Rattle.kind_listed.proofs.laws.listed_automata_are_a_kind.Goals as goal
-
-pub returns : goal.returns
-returns c = listed_is_kind

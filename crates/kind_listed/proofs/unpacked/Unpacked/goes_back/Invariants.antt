@@ -1,6 +1,0 @@
-use Rattle.kind_listed.specs.inside.Unpacked.{numbers_of_unpacked}
-use Rattle.kind_listed.specs.inside.Steps.{BackOverEach, AreSeen}
-use Rattle.kind_listed.proofs.unpacked.Unpacked.goes_back.Given as goal
-
-abbrev pub invariant-loop-k : goal.invariant-loop-k
-invariant-loop-k l = BackOverEach (numbers_of_unpacked l.self) l.f l.r l.entry l.moves l.k × AreSeen (numbers_of_unpacked l.self) l.f l.r l.entry.write l.seen

@@ -1,6 +1,0 @@
-use Rattle.std.proofs.Common.{rules}
-use Rattle.kind_listed.proofs.Transitions.{lead_more}
-use Rattle.kind_listed.proofs.unpacked.Unpacked.lead_into_target.Goals as goal
-
-pub loop-i-preserved : goal.loop-i-preserved
-loop-i-preserved c = (lead_more _ _ _ _ _ c.loop-i.invariant.0 (c.leads_into_target.ensures.fits.0 (search rules)), c.leads_into_target.ensures.seen)

@@ -1,6 +1,0 @@
--- The automata whose numbers are unpacked.
-use Rattle.kind_listed.specs.Automata.{ListedAutomata, listed_automata}
-use Rattle.kind_listed.specs.declared.unpacked.Unpacked.{Unpacked}
-
-abbrev pub numbers_of_unpacked : Unpacked → ListedAutomata
-numbers_of_unpacked e = listed_automata e.states e.side e.size e.delta.items e.rows e.keep.items

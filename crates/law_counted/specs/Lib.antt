@@ -1,2 +1,0 @@
-pub mod Cosets
-pub mod Counted

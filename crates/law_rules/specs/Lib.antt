@@ -1,3 +1,0 @@
-pub mod Zipper
-pub mod Rules
-pub mod Words

@@ -1,6 +1,0 @@
-use Rattle.skelet1.specs.inside.Arena.{RopesAdded}
-use Rattle.skelet1.specs.inside.Tokens.{SameLeft}
-use Rattle.skelet1.proofs.stacks.open_left.Given as goal
-
-abbrev pub invariant-loop : goal.invariant-loop
-invariant-loop l = record { old : RopesAdded l.fn.ropes l.ropes; same : SameLeft l.fn.ropes l.ropes l.fn.left.items l.left.items }

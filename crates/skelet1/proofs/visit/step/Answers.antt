@@ -1,5 +1,0 @@
-use Rattle.skelet1.proofs.Passing.{lead_from}
-use Rattle.skelet1.proofs.visit.step.Goals as goal
-
-pub returns-in_ok-after-in-Right : goal.returns-in_ok-after-in-Right
-returns-in_ok-after-in-Right c = lead_from _ _ _ _ _ _ _ c.in-Right.is (c.in_ok-after-in-Right.ensures c.args.beyond)

@@ -1,8 +1,0 @@
-use Rattle.skelet1.specs.declared.heading.Heading.TheVariants.{Left}
-use Rattle.skelet1.specs.inside.Tokens.{Leads}
-use Rattle.skelet1.proofs.visit.visit.Given as goal
-
-abbrev pub invariant-loop : goal.invariant-loop
-invariant-loop l =
-    Leads l.beyond (record { ropes = l.fn.ropes; lefts = l.fn.left.items; rights = l.fn.right.items; heading = Left })
-    (record { ropes = l.ropes; lefts = l.left.items; rights = l.right.items; heading = l.heading })

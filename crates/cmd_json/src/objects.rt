@@ -38,7 +38,7 @@ fn said_of(
     meaning: Value,
 ) -> Result<Said, NoMemory>
     ensures kind { IfOk result (λ said. view said.kind ≡ words_value (kind_read (read_as read.now))) }
-    ensures meaning { IfOk result (λ said. view said.meaning ≡ view meaning.entry) }
+    ensures means { IfOk result (λ said. view said.meaning ≡ view meaning) }
     ensures table { IfOk result (λ said. view said.table ≡ words_value (read_table_text (read_as read.now))) }
     ensures text { IfOk result (λ said. view said.text ≡ words_value (lent line.entry)) }
 {
